@@ -1,0 +1,6 @@
+pub mod Count
+pub mod Entries
+pub mod Fakes
+pub mod Outside
+pub mod Plan
+pub mod Store

@@ -1,0 +1,36 @@
+//! The outside of the ledger: traits over what it reads, writes, keeps and asks, with an implementation in
+//! memory and one over the machine for each. It passes on want of memory, ids and the fields of byte layouts.
+#![tactic(auto)]
+
+mod clock;
+mod failed;
+mod folder_vault;
+mod gate;
+mod machine_clock;
+mod mem_sink;
+mod mem_source;
+mod mem_vault;
+mod plan;
+mod sink;
+mod source;
+mod stdin_source;
+mod stdout_sink;
+mod vault;
+
+pub use clock::{Clock, FixedClock, MAX_TICKS};
+pub use failed::Failed;
+pub use folder_vault::FolderVault;
+pub use gate::{Gate, OpenGate};
+pub use lg_bytes::{
+    put_hash, put_i128, put_long, put_short, put_u8, put_u16, put_u32, put_u64, put_wide,
+};
+pub use lg_items::{Memory, TableId, TxId};
+pub use machine_clock::MachineClock;
+pub use mem_sink::MemSink;
+pub use mem_source::MemSource;
+pub use mem_vault::MemVault;
+pub use sink::Sink;
+pub use source::Source;
+pub use stdin_source::StdinSource;
+pub use stdout_sink::StdoutSink;
+pub use vault::{Vault, VaultErr};

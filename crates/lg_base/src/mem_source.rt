@@ -1,0 +1,73 @@
+//! A source in memory.
+
+ghost use Rattle.std.specs.Prelude.{◌≡◌, ◌<◌, ◌≤◌, length, Some};
+ghost use Rattle.lg_base.specs.Plan.{planned};
+
+use crate::plan::FailurePlan;
+use crate::{Failed, Source};
+
+/// Gives the bytes that it was made of, in pieces, and fails at the calls that it was told to.
+#[derive(Drop)]
+pub struct MemSource {
+    bytes: Vec<u8>,
+    at: usize,
+    piece: usize,
+    plan: FailurePlan,
+    ghost within: { at ≤ length bytes.items },
+    ghost gives_some: { 0 < piece },
+}
+
+impl MemSource {
+    ghost use Rattle.lg_base.specs.Fakes.{left_of, source_plan};
+
+    /// A source of these bytes. Each read gives at most `piece` of them. `fails` has the numbers of the reads
+    /// that are to fail, counted from 1.
+    pub fn new(bytes: Vec<u8>, piece: usize, fails: Vec<u64>) -> MemSource
+        requires { 0 < piece }
+        ensures left { left_of result ≡ Some bytes.items }
+        ensures plan { source_plan result ≡ planned fails.items }
+    {
+        MemSource {
+            bytes,
+            at: 0,
+            piece,
+            plan: FailurePlan::new(fails),
+        }
+    }
+}
+
+impl Source for MemSource {
+    ghost use Rattle.lg_base.specs.Fakes.{left_of, source_faults};
+
+    ghost left = { left_of };
+
+    ghost faults = { source_faults };
+
+    fn read(&mut self, buf: &mut [u8]) -> Result<usize, Failed> {
+        if self.plan.is_next_failing() {
+            return Err(Failed);
+        }
+        Ok(self.give(buf))
+    }
+}
+
+impl MemSource {
+    ghost use Rattle.lg_base.specs.Fakes.{left_of, source_plan, piece_of};
+    ghost use Rattle.lg_base.specs.Outside.{TellsRead};
+
+    // Moves a piece into the buffer.
+    fn give(&mut self, buf: &mut [u8]) -> usize
+        requires { 0 < length buf.old }
+        ensures piece { result ≡ piece_of self.old (length buf.old) }
+        ensures bytes { TellsRead (left_of self.old) (left_of self.new) buf.new result }
+        ensures room { length buf.new ≡ length buf.old }
+        ensures plan { source_plan self.new ≡ source_plan self.old }
+    {
+        let left = self.bytes.len() - self.at;
+        let n = left.min(self.piece).min(buf.len());
+        let end = self.at + n;
+        buf[..n].copy_from_slice(&self.bytes[self.at..end]);
+        self.at = end;
+        n
+    }
+}

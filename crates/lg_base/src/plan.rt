@@ -1,0 +1,60 @@
+//! The calls of a fake that are to fail.
+
+ghost use Rattle.std.specs.Prelude.{◌≡◌, ◌≤◌, ◌↔◌, IsTrue, Contains};
+ghost use Rattle.lg_base.specs.Count.{Rises, counted};
+ghost use Rattle.lg_base.specs.Plan.{planned, called, failed_once};
+
+use std::marker::Model;
+
+/// Which calls are to fail, counted from 1, how many were made, and how many have failed.
+#[derive(Drop)]
+pub struct FailurePlan {
+    fails: Vec<u64>,
+    calls: u64,
+    failed: u64,
+}
+
+impl Model for FailurePlan {
+    ghost use Rattle.lg_base.specs.Plan.{Plan};
+
+    ghost Value = { Plan };
+
+    ghost view = { λ p. record { fails = p.fails.items; calls = p.calls; failed = p.failed } };
+}
+
+impl FailurePlan {
+    /// No call was made so far.
+    pub fn new(fails: Vec<u64>) -> FailurePlan
+        ensures { result ≡ planned fails.items }
+    {
+        FailurePlan {
+            fails,
+            calls: 0,
+            failed: 0,
+        }
+    }
+
+    /// Counts a call, and says whether it is to fail, which then counts as a failure.
+    pub fn is_next_failing(&mut self) -> bool
+        ensures answer { IsTrue result ↔ Contains self.old.fails (counted self.old.calls) }
+        ensures counts { self.new ≡ called self.old result }
+        ensures later { self.old.failed ≤ self.new.failed }
+        ensures rises { IsTrue result → Rises self.old.failed self.new.failed }
+    {
+        self.calls = self.calls.saturating_add(1);
+        let fails = self.fails.contains(&self.calls);
+        if fails {
+            self.note_failure();
+        }
+        fails
+    }
+
+    /// Counts a failure of the call that was counted last.
+    pub fn note_failure(&mut self)
+        ensures counts { self.new ≡ failed_once self.old }
+        ensures later { self.old.failed ≤ self.new.failed }
+        ensures rises { Rises self.old.failed self.new.failed }
+    {
+        self.failed = self.failed.saturating_add(1);
+    }
+}

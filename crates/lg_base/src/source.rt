@@ -1,0 +1,26 @@
+//! What is read from the outside.
+
+ghost use Rattle.std.specs.Prelude.{◌≡◌, ◌<◌, ◌≤◌, ℕ, List, Option, length, IfOk, OnErr};
+ghost use Rattle.lg_base.specs.Outside.{TellsRead};
+ghost use Rattle.lg_base.specs.Count.{Rises};
+
+use crate::Failed;
+
+/// An input that is read piece by piece.
+pub trait Source {
+    /// The bytes that are left, where the source tells them. One that tells them goes on telling.
+    ghost left: { Self → Option (List ℕ) };
+
+    /// How often the source has failed. At the end of its type the count stands still.
+    ghost faults: { Self → ℕ };
+
+    /// Moves some first bytes of what is left into the buffer and answers their number, which is 0 only at
+    /// the end of the input. A read that fails moves nothing.
+    fn read(&mut self, buf: &mut [u8]) -> Result<usize, Failed>
+        requires { 0 < length buf.old }
+        ensures within { IfOk result (λ n. n ≤ length buf.new) }
+        ensures bytes { IfOk result (TellsRead (left self.old) (left self.new) buf.new) }
+        ensures kept { OnErr result (left self.new ≡ left self.old) }
+        ensures later { faults self.old ≤ faults self.new }
+        ensures cause { OnErr result (Rises (faults self.old) (faults self.new)) };
+}

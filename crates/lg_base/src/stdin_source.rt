@@ -1,0 +1,36 @@
+//! A reader of the machine as a source, as standard input.
+
+ghost use Rattle.std.specs.Prelude.{◌≡◌, None};
+
+use crate::{Failed, Source};
+use std::io::Read;
+
+/// Reads from a reader. It tells nothing of what is left.
+#[derive(Drop)]
+pub struct StdinSource<R: Read + Drop> {
+    reader: R,
+    failed: u64,
+}
+
+impl<R: Read + Drop> StdinSource<R> {
+    /// A source over this reader that has not failed so far.
+    pub fn new(reader: R) -> StdinSource<R> {
+        StdinSource { reader, failed: 0 }
+    }
+}
+
+impl<R: Read + Drop> Source for StdinSource<R> {
+    ghost left = { λ s. None };
+
+    ghost faults = { λ s. s.failed };
+
+    fn read(&mut self, buf: &mut [u8]) -> Result<usize, Failed> {
+        match self.reader.read(buf) {
+            Ok(n) => Ok(n),
+            Err(_) => {
+                self.failed = self.failed.saturating_add(1);
+                Err(Failed)
+            }
+        }
+    }
+}
