@@ -38,8 +38,12 @@ impl<R: Files + AllocGlobal + Drop> Vault for FolderVault<R> {
 
     fn get(&mut self, name: &str, limit: usize) -> Result<Vec<u8>, VaultErr> {
         match read_within(&self.rt, name, limit) {
-            Ok(bytes) if bytes.len() > limit => Err(VaultErr::TooLong),
-            Ok(bytes) => Ok(bytes),
+            Ok(bytes) => {
+                if bytes.len() > limit {
+                    return Err(VaultErr::TooLong);
+                }
+                Ok(bytes)
+            }
             Err(error) => match error.kind() {
                 io::ErrorKind::NotFound => Err(VaultErr::Missing),
                 io::ErrorKind::OutOfMemory => Err(VaultErr::Memory),

@@ -15,6 +15,8 @@ mod sink;
 mod source;
 mod stdin_source;
 mod stdout_sink;
+#[cfg(test)]
+mod tests;
 mod vault;
 
 pub use clock::{Clock, FixedClock, MAX_TICKS};

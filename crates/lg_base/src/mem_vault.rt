@@ -1,6 +1,6 @@
 //! A vault in memory.
 
-ghost use Rattle.std.specs.Prelude.{◌≡◌, ◌≢◌, ◌<◌, length, bytes_eq, Some, Err, OnOk, OnErr, IfSome, IfNone, MatchOption};
+ghost use Rattle.std.specs.Prelude.{◌≡◌, ◌≢◌, ◌<◌, ◌≤◌, length, vec_len, bytes_eq, Some, Err, OnOk, OnErr, IfOk, IfSome, IfNone, MatchOption};
 ghost use Rattle.std.specs.List.{position_from};
 ghost use Rattle.lg_base.specs.Store.{Absent, Bytes};
 ghost use Rattle.lg_base.specs.Outside.{Gets};
@@ -81,7 +81,8 @@ impl Vault for MemVault {
 // A copy of the bytes, if they are at most `limit`.
 fn given(alloc: Global, bytes: &[u8], limit: usize) -> Result<Vec<u8>, VaultErr>
     ensures gives { Gets (Bytes bytes.now) limit result }
-    ensures never { result ≢ Err VaultErr.Failed }
+    ensures within { IfOk result (λ copy. vec_len copy ≤ limit) }
+    ensures unfailing { result ≢ Err VaultErr.Failed }
 {
     if bytes.len() > limit {
         return Err(VaultErr::TooLong);

@@ -34,7 +34,7 @@ impl<W: Write + Drop> Sink for StdoutSink<W> {
     fn write(&mut self, bytes: &[u8]) -> Result<usize, Failed> {
         match self.writer.write(bytes) {
             Ok(n) => {
-                if n == 0 {
+                if n == 0 && !bytes.is_empty() {
                     self.stalled = self.stalled.saturating_add(1);
                 }
                 Ok(n)

@@ -1,6 +1,6 @@
 //! What is kept outside under names.
 
-ghost use Rattle.std.specs.Prelude.{◌≡◌, ◌≤◌, ℕ, List, Option};
+ghost use Rattle.std.specs.Prelude.{◌≡◌, ◌≤◌, ℕ, List, Option, IfOk, vec_len};
 ghost use Rattle.lg_base.specs.Outside.{TellsGet, TellsPut, FailsWithCause};
 ghost use Rattle.lg_base.specs.Store.{Held};
 
@@ -50,6 +50,7 @@ pub trait Vault {
     /// bytes of at most `limit`, or an error other than `Missing` and `TooLong`.
     fn get(&mut self, name: &str, limit: usize) -> Result<Vec<u8>, VaultErr>
         ensures gives { TellsGet (names self.old) name.now limit result }
+        ensures within { IfOk result (λ bytes. vec_len bytes ≤ limit) }
         ensures same { names self.new ≡ names self.old }
         ensures later { faults self.old ≤ faults self.new }
         ensures cause { FailsWithCause result (faults self.old) (faults self.new) };
