@@ -1,0 +1,4 @@
+pub mod Holds
+pub mod PutOn
+pub mod Stack
+pub mod TreeHash

@@ -1,0 +1,14 @@
+//! A hash of 32 bytes, and the Merkle tree hash of RFC 6962 over leaves that come one by one.
+#![tactic(auto)]
+
+mod frontier;
+mod hash;
+mod law;
+mod node;
+
+pub use frontier::{Frontier, FrontierMark};
+pub use hash::{Hash32, Sha256Hash};
+pub use law::{root_of_leaf, tree_hash_law};
+
+#[cfg(test)]
+mod tests;

@@ -1,0 +1,28 @@
+//! Nodes of a tree: the hashes of a leaf and of two nodes, and complete trees.
+
+ghost use Rattle.std.specs.Prelude.{◌≡◌, ◌++◌, ◌∷◌};
+
+use crate::Hash32;
+
+/// The root of a complete tree, and how many leaves it has, a power of two.
+#[derive(Clone, Copy, Debug, Default)]
+pub struct Node {
+    pub size: u64,
+    pub hash: [u8; 32],
+}
+
+/// The hash of a leaf: a zero byte stands before it, so that no leaf reads as a node.
+pub fn leaf_hash<H: Hash32>(h: H, leaf: &[u8]) -> [u8; 32]
+    ensures { result ≡ H.digest h (0 ∷ leaf.now) }
+{
+    h.hash(&[0], leaf)
+}
+
+/// The hash of two nodes: a one byte stands before them.
+pub fn node_hash<H: Hash32>(h: H, left: &[u8; 32], right: &[u8; 32]) -> [u8; 32]
+    ensures { result ≡ H.digest h (1 ∷ left.now ++ right.now) }
+{
+    let mut head = [1u8; 33];
+    head[1..].copy_from_slice(left);
+    h.hash(&head, right)
+}
