@@ -2,14 +2,24 @@
 #![tactic(auto)]
 
 mod column;
+mod conversion;
+mod day;
 mod expr;
+
+mod number;
+mod order;
 mod refusal;
 mod sql_type;
+mod stored;
+mod text;
 mod value;
 
 pub use column::{ColumnDef, TableKind};
+pub use conversion::to_column;
 pub use expr::{Class, Expr, Op};
+pub use stored::fits;
 pub use lg_items::{Blob, Boxed, Items, Memory, Name, TableId, Text, TxId};
+pub use order::compare;
 pub use refusal::{LitErr, Refusal, ValueErr};
 pub use sql_type::SqlType;
 pub use value::Value;

@@ -1,0 +1,5 @@
+mod Days
+mod Numbers
+mod Ranges
+mod Rounding
+mod Texts
