@@ -1,0 +1,9 @@
+pub mod AllOut
+pub mod Closes
+pub mod Gives
+pub mod Leading
+pub mod Owners
+pub mod Parts
+pub mod Rows
+pub mod Starts
+pub mod Takes

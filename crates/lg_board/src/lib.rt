@@ -1,0 +1,20 @@
+//! Cells that threads share. Each thread visits one cell at a time, or several in rising order, and a
+//! rule of the caller's between all cells and all threads holds at every moment. `docs/BOARD.md` explains
+//! how.
+#![tactic(auto)]
+
+mod board;
+mod ends;
+mod laws;
+mod rule;
+mod snapshot;
+mod steps;
+mod threads;
+mod view;
+mod visits;
+mod world;
+
+pub use board::{Board, BoardSeat, Held};
+pub use laws::every_history;
+pub use lg_items::Memory;
+pub use world::{After, World};
