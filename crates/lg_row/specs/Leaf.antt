@@ -1,0 +1,97 @@
+-- The leaf of a row event: its one spelling in bytes.
+use Rattle.std.specs.Prelude.{ℕ, ℤ, Bool, true, false, List, [], ◌∷◌, ◌++◌, length, filter, flat_map, Option, Some, None}
+use Rattle.std.specs.Int.{Width, to_be_bytes, cast_unsigned, w8, w32, w64}
+use Rattle.lg_bytes.specs.Fields.{u8_field, u16_field, u32_field, u64_field, i128_field, long_field}
+use Rattle.lg_value.specs.declared.sql_type.SqlType.{SqlType}
+use Rattle.lg_value.specs.declared.sql_type.SqlType.TheVariants as types
+use Rattle.lg_value.specs.declared.value.Value.{Value}
+use Rattle.lg_value.specs.declared.value.Value.TheVariants as values
+use Rattle.lg_types.specs.declared.event.Event.{Event}
+use Rattle.lg_types.specs.declared.event.FieldOf.{FieldOf}
+
+-- ---- the type of a column: its code, and two parameters
+
+abbrev pub type_code : SqlType → ℕ
+type_code types.Bit = 1
+type_code types.Int = 2
+type_code types.BigInt = 3
+type_code (types.Decimal p s) = 4
+type_code (types.NVarChar n) = 5
+type_code (types.VarBinary n) = 6
+type_code types.Date = 7
+
+-- the digits of a DECIMAL, or the greatest length of a text or of bytes
+abbrev pub first_parameter : SqlType → ℕ
+first_parameter (types.Decimal p s) = p
+first_parameter (types.NVarChar n) = n
+first_parameter (types.VarBinary n) = n
+first_parameter _ = 0
+
+-- the digits of a DECIMAL after the point
+abbrev pub second_parameter : SqlType → ℕ
+second_parameter (types.Decimal p s) = s
+second_parameter _ = 0
+
+-- 1 byte, 2 bytes and 1 byte
+abbrev pub type_bytes : SqlType → List ℕ
+type_bytes ty = (u8_field (type_code ty) ++ u16_field (first_parameter ty)) ++ u8_field (second_parameter ty)
+
+-- ---- a value under its type
+
+-- a number in the bytes of this width, in two's complement
+unfoldable pub signed_field : Width → ℤ → List ℕ
+signed_field w v = to_be_bytes w (cast_unsigned w v)
+
+-- 1, 4 or 8 bytes, and for a DECIMAL the units in 16
+abbrev pub number_bytes : SqlType → ℤ → List ℕ
+number_bytes types.Bit v = signed_field w8 v
+number_bytes types.Int v = signed_field w32 v
+number_bytes types.BigInt v = signed_field w64 v
+number_bytes _ v = i128_field v
+
+-- numbers by their type, texts in UTF-8, bytes as they are, days in 4 bytes
+abbrev pub value_bytes : SqlType → Value → List ℕ
+value_bytes ty values.Null = []
+value_bytes ty (values.Num v s) = number_bytes ty v
+value_bytes ty (values.Text text) = text
+value_bytes ty (values.Bytes bytes) = bytes
+value_bytes ty (values.Date day) = u32_field day
+
+-- the ordinal, the type, and the value behind its length in 4 bytes
+abbrev pub column_bytes : FieldOf → List ℕ
+column_bytes f = u16_field f.ordinal ++ (type_bytes f.ty ++ long_field (value_bytes f.ty f.value))
+
+-- ---- the event
+
+abbrev pub is_told : Value → Bool
+is_told values.Null = false
+is_told _ = true
+
+-- the column is not NULL
+abbrev pub has_value : FieldOf → Bool
+has_value f = is_told f.value
+
+-- the event without its NULL columns
+abbrev pub without_nulls : Event → Event
+without_nulls e = record { table = e.table; op = e.op; tx = e.tx; seq = e.seq; start = e.start; columns = filter has_value e.columns }
+
+-- the transaction and the number of the start of the version that an end ends
+abbrev pub start_bytes : Option (ℕ × ℕ) → List ℕ
+start_bytes None = []
+start_bytes (Some start) = u64_field start.0 ++ u64_field start.1
+
+-- the count of the columns in 2 bytes, and each of them
+abbrev pub columns_bytes : List FieldOf → List ℕ
+columns_bytes columns = u16_field (length columns) ++ flat_map column_bytes columns
+
+-- the number of the format, the table, start or end, the transaction and the number in it
+abbrev pub head_bytes : Event → List ℕ
+head_bytes e = u8_field 1 ++ (u32_field e.table ++ (u8_field e.op ++ (u64_field e.tx ++ u64_field e.seq)))
+
+-- the head, for an end the start, and the columns
+abbrev pub spelled : Event → List ℕ
+spelled e = head_bytes e ++ (start_bytes e.start ++ columns_bytes e.columns)
+
+-- the leaf of an event: NULL columns are left out
+unfoldable pub event_bytes : Event → List ℕ
+event_bytes e = spelled (without_nulls e)

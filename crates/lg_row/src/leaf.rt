@@ -1,0 +1,215 @@
+//! Writing the leaf of an event.
+
+ghost use Rattle.std.specs.Prelude.{◌≡◌, ◌++◌, take, length, filter, flat_map, IfOk, OnOk, OnErr};
+ghost use Rattle.std.specs.Int.{w8, w32, w64};
+ghost use Rattle.lg_bytes.specs.Fields.{long_field, u32_field, i128_field};
+ghost use Rattle.lg_row.specs.Leaf.{event_bytes, spelled, head_bytes, without_nulls, columns_bytes, column_bytes, start_bytes, type_bytes, value_bytes, number_bytes, signed_field, type_code, first_parameter, second_parameter, has_value, is_told};
+
+use lg_bytes::{put_long, put_u8, put_u16, put_u32, put_u64};
+use lg_items::Memory;
+use lg_types::{Event, FieldOf};
+use lg_value::{SqlType, Value};
+
+/// Appends the leaf of an event, which leaves its NULL columns out. For want of memory the bytes are as they
+/// were. That is answered too where the event has no leaf, since a length or a number is greater than its
+/// field: more than 65,535 columns, a value of 4 GiB, a number outside its type.
+#[tactic(auto, unfolding(crate::specs::Leaf::event_bytes))]
+pub fn write_event(e: &Event, out: &mut Vec<u8>) -> Result<(), Memory>
+    ensures ok { OnOk result (out.new.items ≡ out.old.items ++ event_bytes e.now) }
+    ensures err { OnErr result (out.new.items ≡ out.old.items) }
+{
+    let before = out.len();
+    let written = put_parts(e, out);
+    if written.is_err() {
+        out.truncate(before);
+    }
+    written
+}
+
+fn put_parts(e: &Event, out: &mut Vec<u8>) -> Result<(), Memory>
+    ensures ok { OnOk result (out.new.items ≡ out.old.items ++ spelled (without_nulls e.now)) }
+    ensures grows { take (length out.old.items) out.new.items ≡ out.old.items }
+{
+    put_head(e, out)?;
+    put_start(e.start, out)?;
+    put_columns(e.columns.as_slice(), out)
+}
+
+fn put_head(e: &Event, out: &mut Vec<u8>) -> Result<(), Memory>
+    ensures ok { OnOk result (out.new.items ≡ out.old.items ++ head_bytes e.now) }
+    ensures grows { take (length out.old.items) out.new.items ≡ out.old.items }
+{
+    put_u8(out, 1)?;
+    put_u32(out, e.table)?;
+    put_u8(out, e.op)?;
+    put_u64(out, e.tx)?;
+    put_u64(out, e.seq)
+}
+
+// The start of the version that an end ends.
+fn put_start(start: Option<(u64, u64)>, out: &mut Vec<u8>) -> Result<(), Memory>
+    ensures ok { OnOk result (out.new.items ≡ out.old.items ++ start_bytes start) }
+    ensures grows { take (length out.old.items) out.new.items ≡ out.old.items }
+{
+    if let Some((tx, seq)) = start {
+        put_u64(out, tx)?;
+        put_u64(out, seq)?;
+    }
+    Ok(())
+}
+
+// How many columns are not NULL, and these.
+fn put_columns(columns: &[FieldOf], out: &mut Vec<u8>) -> Result<(), Memory>
+    ensures ok { OnOk result (out.new.items ≡ out.old.items ++ columns_bytes (filter has_value columns.now)) }
+    ensures grows { take (length out.old.items) out.new.items ≡ out.old.items }
+{
+    let Ok(told) = u16::try_from(told_of(columns)) else {
+        return Err(Memory);
+    };
+    put_u16(out, told)?;
+    put_each(columns, out)
+}
+
+fn told_of(columns: &[FieldOf]) -> usize
+    ensures { result ≡ length (filter has_value columns.now) }
+{
+    columns
+        .iter()
+        .filter(|column| is_told(&column.value))
+        .count()
+}
+
+fn is_told(value: &Value) -> bool
+    ensures { result ≡ is_told value.now }
+{
+    !matches!(value, Value::Null)
+}
+
+fn put_each(columns: &[FieldOf], out: &mut Vec<u8>) -> Result<(), Memory>
+    ensures ok { OnOk result (out.new.items ≡ out.old.items ++ flat_map column_bytes (filter has_value columns.now)) }
+    ensures grows { take (length out.old.items) out.new.items ≡ out.old.items }
+{
+    for column in columns {
+        if is_told(&column.value) {
+            put_column(column, out)?;
+        }
+    }
+    Ok(())
+}
+
+fn put_column(column: &FieldOf, out: &mut Vec<u8>) -> Result<(), Memory>
+    ensures ok { OnOk result (out.new.items ≡ out.old.items ++ column_bytes column.now) }
+    ensures grows { take (length out.old.items) out.new.items ≡ out.old.items }
+{
+    put_u16(out, column.ordinal)?;
+    put_type(column.ty, out)?;
+    put_value(column.ty, &column.value, out)
+}
+
+fn put_type(ty: SqlType, out: &mut Vec<u8>) -> Result<(), Memory>
+    ensures ok { OnOk result (out.new.items ≡ out.old.items ++ type_bytes ty) }
+    ensures grows { take (length out.old.items) out.new.items ≡ out.old.items }
+{
+    let (code, first, second) = type_parts(ty);
+    let (Ok(first), Ok(second)) = (u16::try_from(first), u8::try_from(second)) else {
+        return Err(Memory);
+    };
+    put_u8(out, code)?;
+    put_u16(out, first)?;
+    put_u8(out, second)
+}
+
+// The code of a type, and its parameters.
+fn type_parts(ty: SqlType) -> (u8, u32, u32)
+    ensures { result ≡ (type_code ty, first_parameter ty, second_parameter ty) }
+{
+    match ty {
+        SqlType::Bit => (1, 0, 0),
+        SqlType::Int => (2, 0, 0),
+        SqlType::BigInt => (3, 0, 0),
+        SqlType::Decimal { p, s } => (4, p, s),
+        SqlType::NVarChar { n } => (5, n, 0),
+        SqlType::VarBinary { n } => (6, n, 0),
+        SqlType::Date => (7, 0, 0),
+    }
+}
+
+fn put_value(ty: SqlType, value: &Value, out: &mut Vec<u8>) -> Result<(), Memory>
+    ensures ok { OnOk result (out.new.items ≡ out.old.items ++ long_field (value_bytes ty value.now)) }
+    ensures grows { take (length out.old.items) out.new.items ≡ out.old.items }
+{
+    match value {
+        Value::Null => put_long(out, &[]),
+        Value::Num { v, .. } => put_number(ty, *v, out),
+        Value::Text(text) => put_bytes(text.bytes(), out),
+        Value::Bytes(bytes) => put_bytes(bytes.bytes(), out),
+        Value::Date(day) => put_day(*day, out),
+    }
+}
+
+fn put_bytes(bytes: &[u8], out: &mut Vec<u8>) -> Result<(), Memory>
+    ensures ok { OnOk result (out.new.items ≡ out.old.items ++ long_field bytes.now) }
+    ensures err { OnErr result (out.new.items ≡ out.old.items) }
+{
+    if bytes.len() > u32::MAX as usize {
+        return Err(Memory);
+    }
+    put_long(out, bytes)
+}
+
+#[tactic(auto, unfolding(lg_bytes::specs::Fields::u32_field))]
+fn put_day(day: u32, out: &mut Vec<u8>) -> Result<(), Memory>
+    ensures ok { OnOk result (out.new.items ≡ out.old.items ++ long_field (u32_field day)) }
+    ensures err { OnErr result (out.new.items ≡ out.old.items) }
+{
+    put_bytes(&day.to_be_bytes(), out)
+}
+
+fn put_number(ty: SqlType, v: i128, out: &mut Vec<u8>) -> Result<(), Memory>
+    ensures ok { OnOk result (out.new.items ≡ out.old.items ++ long_field (number_bytes ty v)) }
+    ensures err { OnErr result (out.new.items ≡ out.old.items) }
+{
+    match ty {
+        SqlType::Bit => put_bytes(&bit_bytes(v)?, out),
+        SqlType::Int => put_bytes(&int_bytes(v)?, out),
+        SqlType::BigInt => put_bytes(&big_int_bytes(v)?, out),
+        _ => put_bytes(&decimal_bytes(v), out),
+    }
+}
+
+#[tactic(auto, unfolding(crate::specs::Leaf::signed_field))]
+fn bit_bytes(v: i128) -> Result<[u8; 1], Memory>
+    ensures { IfOk result (λ bytes. bytes ≡ signed_field w8 v) }
+{
+    match i8::try_from(v) {
+        Ok(v) => Ok(v.to_be_bytes()),
+        Err(_) => Err(Memory),
+    }
+}
+
+#[tactic(auto, unfolding(crate::specs::Leaf::signed_field))]
+fn int_bytes(v: i128) -> Result<[u8; 4], Memory>
+    ensures { IfOk result (λ bytes. bytes ≡ signed_field w32 v) }
+{
+    match i32::try_from(v) {
+        Ok(v) => Ok(v.to_be_bytes()),
+        Err(_) => Err(Memory),
+    }
+}
+
+#[tactic(auto, unfolding(crate::specs::Leaf::signed_field))]
+fn big_int_bytes(v: i128) -> Result<[u8; 8], Memory>
+    ensures { IfOk result (λ bytes. bytes ≡ signed_field w64 v) }
+{
+    match i64::try_from(v) {
+        Ok(v) => Ok(v.to_be_bytes()),
+        Err(_) => Err(Memory),
+    }
+}
+
+#[tactic(auto, unfolding(lg_bytes::specs::Fields::i128_field))]
+fn decimal_bytes(v: i128) -> [u8; 16]
+    ensures { result ≡ i128_field v }
+{
+    v.to_be_bytes()
+}

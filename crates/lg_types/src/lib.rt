@@ -1,0 +1,8 @@
+//! The types that definitions, formats and cells share. No function stands here.
+#![tactic(auto)]
+
+mod event;
+mod table;
+
+pub use event::{Event, FieldOf};
+pub use table::{IndexDef, Part, TableDef};
