@@ -1,0 +1,7 @@
+pub mod AnswerLemmas
+pub mod FilesLemmas
+pub mod Numbers
+pub mod TransferLemmas
+pub mod TwoLinesLemmas
+pub mod TwoLinesPieces
+pub mod Utf8

@@ -1,0 +1,11 @@
+pub mod Answer
+pub mod Files
+pub mod Journal
+pub mod Letters
+pub mod Reserved
+pub mod Run
+pub mod Status
+pub mod Transfer
+pub mod TwoLines
+pub mod TwoLinesReading
+pub mod Words

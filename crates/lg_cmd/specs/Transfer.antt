@@ -1,0 +1,26 @@
+-- Reading a whole input, and writing a whole text, in pieces.
+use Rattle.std.specs.Prelude.{◌≡◌, ◌<◌, ◌≤◌, ◌+◌, ℕ, List, [], ◌++◌, length, take, drop, Option, Some, None, Result, Ok, Err, Vec}
+use Rattle.std.specs.declared.alloc.Global.{Global}
+use Rattle.lg_base.specs.Outside.{TellsTaken}
+use Rattle.lg_cmd.specs.declared.transfer.TheConstants.{INPUT_LIMIT}
+use Rattle.lg_cmd.specs.declared.transfer.ReadErr.{ReadErr}
+use Rattle.lg_cmd.specs.declared.transfer.ReadErr.TheVariants.{Memory, TooMuch, Failed}
+
+-- so much of the input came, where the source tells what is left
+abbrev pub CameSoFar : Option (List ℕ) → Option (List ℕ) → List ℕ → Type 0
+CameSoFar None now came = Unit {0}
+CameSoFar (Some input) None came = ⊥
+CameSoFar (Some input) (Some rest) came = input ≡ came ++ rest
+
+-- what a reading to the end answers, of an input that is told, and what it leaves of it
+abbrev pub Came : List ℕ → Option (List ℕ) → Result (Vec ℕ Global) ReadErr → Type 0
+Came input rest (Ok v) = (v.items ≡ input) × (length input ≤ INPUT_LIMIT) × (rest ≡ Some [])
+-- one byte past the limit is the last that is taken
+Came input rest (Err TooMuch) = (INPUT_LIMIT < length input) × (rest ≡ Some (drop (INPUT_LIMIT + 1) input))
+Came input rest (Err Memory) = (n : ℕ) × (n ≤ INPUT_LIMIT + 1) × (rest ≡ Some (drop n input))
+-- a source doesn't say what is left after a fault
+Came input rest (Err Failed) = Unit {0}
+
+-- a first part of a text was written, where the sink tells what it took
+abbrev pub TellsPart : Option (List ℕ) → Option (List ℕ) → List ℕ → Type 0
+TellsPart old new text = (n : ℕ) × (n ≤ length text) × TellsTaken old new (take n text)

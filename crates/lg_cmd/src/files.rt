@@ -1,0 +1,66 @@
+// Files that are put one after another, and the text that is written behind them.
+ghost use Rattle.std.specs.Prelude.{◌≡◌, ◌≤◌, ◌⊎◌, ℕ, length, IfErr, OnOk};
+ghost use Rattle.lg_base.specs.Count.{Rises};
+ghost use Rattle.lg_base.specs.Outside.{FailsWithCause};
+ghost use Rattle.lg_cmd.specs.Files.{StandFirst, StopsBy};
+ghost use Rattle.lg_cmd.specs.Answer.{HasPut, HasWritten, EndsBy, vault_status};
+
+use crate::Status;
+use crate::transfer::write_all;
+use lg_base::{Failed, Sink, Vault, VaultErr};
+use lg_items::{Blob, Text};
+
+/// Bytes, and the name that they are put under.
+#[derive(Drop)]
+pub struct File {
+    pub name: Text,
+    pub bytes: Blob,
+}
+
+/// Puts the files in their order, up to the first that the vault refuses.
+fn put_all<V: Vault>(vault: &mut V, files: &[File]) -> Result<(), VaultErr>
+    ensures ok { OnOk result (StandFirst files.now (length files.now) (V.names vault.old) (V.names vault.new)) }
+    ensures err { IfErr result (λ error. StopsBy error files.now (V.names vault.old) (V.names vault.new)) }
+    ensures later { V.faults vault.old ≤ V.faults vault.new }
+    ensures cause { FailsWithCause result (V.faults vault.old) (V.faults vault.new) }
+{
+    for file in files {
+        vault.put(file.name.as_str(), file.bytes.bytes())?;
+    }
+    Ok(())
+}
+
+/// How a call ends where the vault refused a file.
+fn status_of(error: VaultErr) -> Status
+    ensures { result ≡ vault_status error }
+{
+    match error {
+        VaultErr::Failed => Status::VaultFault,
+        VaultErr::Memory => Status::Memory,
+        // A put answers neither of these.
+        VaultErr::Missing => Status::Memory,
+        VaultErr::TooLong => Status::Memory,
+    }
+}
+
+/// Puts all files and then writes the text. Nothing is written before all is put.
+pub(crate) fn put_and_write<V: Vault, K: Sink>(
+    vault: &mut V,
+    sink: &mut K,
+    files: &[File],
+    text: &[u8],
+) -> Status
+    ensures cause { EndsBy result (Rises (V.faults vault.old) (V.faults vault.new))
+        (Rises (K.faults sink.old) (K.faults sink.new) ⊎ Rises (K.stalls sink.old) (K.stalls sink.new)) }
+    ensures put { HasPut result files.now (V.names vault.old) (V.names vault.new) }
+    ensures written { HasWritten result text.now (K.taken sink.old) (K.taken sink.new) }
+    ensures unwritten { (result ≡ Status.Done → ⊥) → (result ≡ Status.SinkFault → ⊥) → sink.new ≡ sink.old }
+{
+    if let Err(error) = put_all(vault, files) {
+        return status_of(error);
+    }
+    match write_all(sink, text) {
+        Ok(()) => Status::Done,
+        Err(Failed) => Status::SinkFault,
+    }
+}

@@ -1,0 +1,18 @@
+//! The top call of the server: words and bytes that come in, files and texts that go out.
+#![tactic(auto)]
+
+mod files;
+mod journal;
+mod number;
+mod reserved;
+mod run;
+mod status;
+mod texts;
+mod top;
+mod transfer;
+mod two_lines;
+mod words;
+
+pub use journal::{Journal, JournalItem, Script, write_journal};
+pub use status::Status;
+pub use top::ledgerd;

@@ -1,0 +1,58 @@
+// How a call of the server ends.
+ghost use Rattle.std.specs.Prelude.{◌≡◌};
+ghost use Rattle.lg_cmd.specs.Status.{code_of, text_of};
+
+/// How a call of the server ends. Each but `Done` and `Memory` has its cause in the contract of the top call.
+#[derive(Clone, Copy, Debug, PartialEq, Eq)]
+pub enum Status {
+    /// The command did its work.
+    Done,
+    /// The words have none of the commands' forms.
+    Words,
+    /// A limit was exceeded: more than 4 MiB came as input.
+    Limit,
+    /// Reading the input failed.
+    SourceFault,
+    /// Writing the output failed, or the sink took nothing of a piece.
+    SinkFault,
+    /// Putting a file failed.
+    VaultFault,
+    /// The input is one that isn't built yet.
+    Unbuilt,
+    /// There was no more memory.
+    Memory,
+}
+
+impl Status {
+    /// The status that the program ends with.
+    pub fn code(self) -> u8
+        ensures { result ≡ code_of self }
+    {
+        match self {
+            Status::Done => 0,
+            Status::Words => 2,
+            Status::Limit => 3,
+            Status::SourceFault => 4,
+            Status::SinkFault => 5,
+            Status::VaultFault => 6,
+            Status::Memory => 12,
+            Status::Unbuilt => 13,
+        }
+    }
+
+    /// What the program says of it on standard error, where the code is 2 or more.
+    pub fn text(self) -> &'static str
+        ensures { result.now ≡ text_of self }
+    {
+        match self {
+            Status::Done => "",
+            Status::Words => "the words were refused",
+            Status::Limit => "a limit was exceeded",
+            Status::SourceFault => "reading the input failed",
+            Status::SinkFault => "writing the output failed",
+            Status::VaultFault => "the vault failed",
+            Status::Memory => "out of memory",
+            Status::Unbuilt => "this input is not built yet",
+        }
+    }
+}
