@@ -54,8 +54,7 @@ stand_more files k file a b c within is sofar put =
 
 -- the put of the next file failed
 stop_open : (files : List File) (k : ℕ) (file : File) (a b c : Option Names) → k < length files → file ≡ get_or files k file → StandFirst files k a b → TellsPut b c (Err Failed) file.name file.bytes → StopsOpen files a c
-stop_open files k file a b c within is sofar put =
-    (
+stop_open files k file a b c within is sofar put = (
   k,
   file,
   drop (suc k) files,

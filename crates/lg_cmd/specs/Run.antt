@@ -49,9 +49,9 @@ abbrev pub journal_of : TwoLines → ℕ → ℕ → Journal
 journal_of lines first second = record {
   database = codes "LedgerDB";
   items =
-    Tx 1 lines.session first false ((create_text lines, made_reply) ∷ [])
-    ∷ Tx 2 lines.session second false ((insert_text lines, row_reply) ∷ [])
-    ∷ [];
+      Tx 1 lines.session first false ((create_text lines, made_reply) ∷ [])
+      ∷ Tx 2 lines.session second false ((insert_text lines, row_reply) ∷ [])
+      ∷ [];
 }
 
 -- what is saved under a name, in the order in which it is put

@@ -14,8 +14,7 @@ pub(crate) fn create_text(alloc: Global, lines: &TwoLineParts) -> Result<Text, M
 {
     let table = lines.table;
     let key = lines.key;
-    let text = format!(
-        in alloc;
+    let text = format!(in alloc;
         "CREATE TABLE {table} ({key} INT PRIMARY KEY) WITH (LEDGER = ON (APPEND_ONLY = ON))"
     )?;
     Ok(Text::from_string(text))
@@ -32,13 +31,7 @@ pub(crate) fn insert_text(alloc: Global, lines: &TwoLineParts) -> Result<Text, M
 }
 
 /// A statement with its reply and its end, each on a line behind two blanks.
-fn entry(
-    alloc: Global,
-    session: &str,
-    text: &str,
-    reply: &str,
-    end: &str,
-) -> Result<String, Memory>
+fn entry(alloc: Global, session: &str, text: &str, reply: &str, end: &str) -> Result<String, Memory>
     ensures { IfOk result (λ entry. string_bytes entry ≡ entry_of session.now text.now (reply.now ∷ end.now ∷ [])) }
 {
     Ok(format!(in alloc; "{session}: {text}\n  {reply}\n  {end}\n")?)

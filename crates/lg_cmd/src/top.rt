@@ -40,7 +40,7 @@ fn run_lines<H: Hash32, K: Sink, V: Vault, C: Clock>(
         (Rises (K.faults sink.old) (K.faults sink.new) ⊎ Rises (K.stalls sink.old) (K.stalls sink.new)) }
     ensures ran { RanOrIdle result
         ((first : ℕ) × (second : ℕ) × Ran result (H.digest h) (Some (step_view step.now)) None (C.moment clock.now)
-            (V.names vault.old) (V.names vault.new) (K.taken sink.old) (K.taken sink.new) (two_lines_view lines.now) first second)
+        (V.names vault.old) (V.names vault.new) (K.taken sink.old) (K.taken sink.new) (two_lines_view lines.now) first second)
         ((vault.new ≡ vault.old) × (sink.new ≡ sink.old)) }
     ensures unwritten { (result ≡ Status.Done → ⊥) → (result ≡ Status.SinkFault → ⊥) → sink.new ≡ sink.old }
 {
@@ -81,7 +81,7 @@ pub fn ledgerd<S: Source, K: Sink, V: Vault, C: Clock, G: Gate>(
     ensures read { IfSome (S.left source.old) (λ input. HasRead result input (S.left source.new)) }
     ensures ran { RanOrIdle result
         ((lines : TwoLines) × (first : ℕ) × (second : ℕ) × Ran result sha256 (step_words (map string_bytes words.now)) (S.left source.old) (C.moment clock.now)
-            (V.names vault.old) (V.names vault.new) (K.taken sink.old) (K.taken sink.new) lines first second)
+        (V.names vault.old) (V.names vault.new) (K.taken sink.old) (K.taken sink.new) lines first second)
         ((vault.new ≡ vault.old) × (sink.new ≡ sink.old)) }
 
     // Nothing is written before all is put.

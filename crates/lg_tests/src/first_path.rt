@@ -1,0 +1,431 @@
+// The top call over two lines: its files and text byte for byte, and each status with what it leaves.
+use lg_base::{FixedClock, MemSink, MemSource, MemVault, OpenGate, Vault, VaultErr};
+use lg_cmd::{Status, ledgerd};
+use lg_items::Items;
+use lg_merkle::{Hash32, Sha256Hash};
+use lg_row::write_event;
+use lg_types::{Event, FieldOf};
+use lg_value::{SqlType, Value};
+use std::alloc::{AllocError, Global};
+use std::test::Fail;
+
+const LINES: &[u8] =
+    b"a: CREATE TABLE log (id INT PRIMARY KEY) WITH (LEDGER = ON (APPEND_ONLY = ON))\na: INSERT INTO log VALUES (7)\n";
+
+const TRANSCRIPT: &[u8] =
+    b"a: CREATE TABLE log (id INT PRIMARY KEY) WITH (LEDGER = ON (APPEND_ONLY = ON))\n  made\n  committed 1 at 1\na: INSERT INTO log VALUES (7)\n  1 rows\n  committed 2 at 2\n";
+
+// The fields of the layout one after another: format, table, start, transaction, number, count, and the column's
+// ordinal, type, length and value.
+const LEAF: &[u8] =
+    b"\x01\x00\x00\x00\x03\x01\x00\x00\x00\x00\x00\x00\x00\x02\x00\x00\x00\x00\x00\x00\x00\x00\x00\x01\x00\x01\x02\x00\x00\x00\x00\x00\x00\x04\x00\x00\x00\x07";
+
+// SHA-256 of a zero byte and the leaf, by another program.
+const ROOT: &[u8] =
+    b"\xc2\x8f\xb2\x4d\xd1\x27\x2e\xc8\x81\x7b\x47\x90\xae\x2f\xa4\xf1\xd1\x8b\xdc\xb2\xeb\x40\x7e\x21\xd5\x8a\x95\xd9\xc9\xa8\xa7\x30";
+
+// A head of 23 bytes, and items of 125 and 78.
+const JOURNAL: &[u8] = b"LGJN\x01\x00\x08LedgerDB\x00\x00\x00\x00\x00\x00\x00\x02\
+\x01\x00\x00\x00\x00\x00\x00\x00\x01\x00\x01a\x00\x00\x00\x00\x00\x00\x00\x00\x00\x00\x00\x00\x00\x00\x00\x00\x01\
+\x00\x00\x00\x00\x00\x00\x00\x4bCREATE TABLE log (id INT PRIMARY KEY) WITH (LEDGER = ON (APPEND_ONLY = ON))\
+\x00\x00\x00\x00\x00\x00\x00\x05made\n\
+\x01\x00\x00\x00\x00\x00\x00\x00\x02\x00\x01a\x00\x00\x00\x00\x00\x00\x00\x00\x00\x00\x00\x00\x00\x00\x00\x00\x01\
+\x00\x00\x00\x00\x00\x00\x00\x1aINSERT INTO log VALUES (7)\
+\x00\x00\x00\x00\x00\x00\x00\x07\x31 rows\n";
+
+// Inputs, and whether the two-line form takes them.
+const FORMS: [(&[u8], Status); 25] = [
+    // the least and the greatest of each part
+    (
+        b"a: CREATE TABLE T (K INT PRIMARY KEY) WITH (LEDGER = ON (APPEND_ONLY = ON))\na: INSERT INTO T VALUES (0)\n",
+        Status::Done,
+    ),
+    (
+        b"_9: CREATE TABLE T (T INT PRIMARY KEY) WITH (LEDGER = ON (APPEND_ONLY = ON))\n_9: INSERT INTO T VALUES (-999999999)\n",
+        Status::Done,
+    ),
+    (
+        b"abcdefghijklmnopqrstuvwxyz_01234: CREATE TABLE abcdefghijklmnopqrstuvwxyzABCDEF (ABCDEFGHIJKLMNOPQRSTUVWXYZabcdef INT PRIMARY KEY) WITH (LEDGER = ON (APPEND_ONLY = ON))\nabcdefghijklmnopqrstuvwxyz_01234: INSERT INTO abcdefghijklmnopqrstuvwxyzABCDEF VALUES (000000007)\n",
+        Status::Done,
+    ),
+    (
+        b"a: CREATE TABLE T (K INT PRIMARY KEY) WITH (LEDGER = ON (APPEND_ONLY = ON))\na: INSERT INTO T VALUES (-0)\n",
+        Status::Done,
+    ),
+    // one too many of each
+    (
+        b"abcdefghijklmnopqrstuvwxyz_012345: CREATE TABLE T (K INT PRIMARY KEY) WITH (LEDGER = ON (APPEND_ONLY = ON))\nabcdefghijklmnopqrstuvwxyz_012345: INSERT INTO T VALUES (1)\n",
+        Status::Unbuilt,
+    ),
+    (
+        b"a: CREATE TABLE abcdefghijklmnopqrstuvwxyzABCDEFG (K INT PRIMARY KEY) WITH (LEDGER = ON (APPEND_ONLY = ON))\na: INSERT INTO abcdefghijklmnopqrstuvwxyzABCDEFG VALUES (1)\n",
+        Status::Unbuilt,
+    ),
+    (
+        b"a: CREATE TABLE T (K INT PRIMARY KEY) WITH (LEDGER = ON (APPEND_ONLY = ON))\na: INSERT INTO T VALUES (1234567890)\n",
+        Status::Unbuilt,
+    ),
+    // parts that are missing or of another kind
+    (b"", Status::Unbuilt),
+    (b"\n", Status::Unbuilt),
+    (
+        b"a: CREATE TABLE T (K INT PRIMARY KEY) WITH (LEDGER = ON (APPEND_ONLY = ON))\n",
+        Status::Unbuilt,
+    ),
+    (
+        b": CREATE TABLE T (K INT PRIMARY KEY) WITH (LEDGER = ON (APPEND_ONLY = ON))\n: INSERT INTO T VALUES (1)\n",
+        Status::Unbuilt,
+    ),
+    (
+        b"a-b: CREATE TABLE T (K INT PRIMARY KEY) WITH (LEDGER = ON (APPEND_ONLY = ON))\na-b: INSERT INTO T VALUES (1)\n",
+        Status::Unbuilt,
+    ),
+    (
+        b"a: CREATE TABLE T1 (K INT PRIMARY KEY) WITH (LEDGER = ON (APPEND_ONLY = ON))\na: INSERT INTO T1 VALUES (1)\n",
+        Status::Unbuilt,
+    ),
+    (
+        b"a: CREATE TABLE T (K INT PRIMARY KEY) WITH (LEDGER = ON (APPEND_ONLY = ON))\na: INSERT INTO T VALUES (-)\n",
+        Status::Unbuilt,
+    ),
+    (
+        b"a: CREATE TABLE T (K INT PRIMARY KEY) WITH (LEDGER = ON (APPEND_ONLY = ON))\na: INSERT INTO T VALUES (+1)\n",
+        Status::Unbuilt,
+    ),
+    // reserved words in any case
+    (
+        b"a: CREATE TABLE select (K INT PRIMARY KEY) WITH (LEDGER = ON (APPEND_ONLY = ON))\na: INSERT INTO select VALUES (1)\n",
+        Status::Unbuilt,
+    ),
+    (
+        b"a: CREATE TABLE T (oRDEr INT PRIMARY KEY) WITH (LEDGER = ON (APPEND_ONLY = ON))\na: INSERT INTO T VALUES (1)\n",
+        Status::Unbuilt,
+    ),
+    // the two lines don't agree
+    (
+        b"a: CREATE TABLE T (K INT PRIMARY KEY) WITH (LEDGER = ON (APPEND_ONLY = ON))\nb: INSERT INTO T VALUES (1)\n",
+        Status::Unbuilt,
+    ),
+    (
+        b"a: CREATE TABLE T (K INT PRIMARY KEY) WITH (LEDGER = ON (APPEND_ONLY = ON))\na: INSERT INTO t VALUES (1)\n",
+        Status::Unbuilt,
+    ),
+    // other blanks, cases and ends
+    (
+        b"a: create TABLE T (K INT PRIMARY KEY) WITH (LEDGER = ON (APPEND_ONLY = ON))\na: INSERT INTO T VALUES (1)\n",
+        Status::Unbuilt,
+    ),
+    (
+        b"a:  CREATE TABLE T (K INT PRIMARY KEY) WITH (LEDGER = ON (APPEND_ONLY = ON))\na: INSERT INTO T VALUES (1)\n",
+        Status::Unbuilt,
+    ),
+    (
+        b"a: CREATE TABLE T (K INT PRIMARY KEY) WITH (LEDGER = ON (APPEND_ONLY = ON))\r\na: INSERT INTO T VALUES (1)\r\n",
+        Status::Unbuilt,
+    ),
+    (
+        b"a: CREATE TABLE T (K INT PRIMARY KEY) WITH (LEDGER = ON (APPEND_ONLY = ON))\na: INSERT INTO T VALUES (1)",
+        Status::Unbuilt,
+    ),
+    (
+        b"a: CREATE TABLE T (K INT PRIMARY KEY) WITH (LEDGER = ON (APPEND_ONLY = ON))\na: INSERT INTO T VALUES (1)\n\n",
+        Status::Unbuilt,
+    ),
+    (
+        b"\xff: CREATE TABLE T (K INT PRIMARY KEY) WITH (LEDGER = ON (APPEND_ONLY = ON))\n\xff: INSERT INTO T VALUES (1)\n",
+        Status::Unbuilt,
+    ),
+];
+
+fn words(alloc: Global, texts: &[&str]) -> Result<Vec<String>, AllocError> {
+    let mut words = Vec::new(alloc);
+    for text in texts {
+        words.push(String::from_str(alloc, text)?)?;
+    }
+    Ok(words)
+}
+
+/// What a call is made with. The numbers are those of the calls that fail.
+#[derive(Clone, Copy)]
+struct Given {
+    words: &'static [&'static str],
+    input: &'static [u8],
+    source_fails: &'static [u64],
+    vault_fails: &'static [u64],
+    sink_fails: &'static [u64],
+    sink_piece: usize,
+}
+
+const PLAIN: Given = Given {
+    words: &["step", "--save", "a"],
+    input: LINES,
+    source_fails: &[],
+    vault_fails: &[],
+    sink_fails: &[],
+    sink_piece: 5,
+};
+
+/// What a call answered and left.
+#[derive(Drop)]
+struct Left {
+    status: Status,
+    vault: MemVault,
+    sink: MemSink,
+}
+
+fn call(alloc: Global, given: &Given) -> Result<Left, AllocError> {
+    call_on(alloc, given, given.input.to_vec(alloc)?)
+}
+
+fn call_on(alloc: Global, given: &Given, input: Vec<u8>) -> Result<Left, AllocError> {
+    let words = words(alloc, given.words)?;
+    let mut source = MemSource::new(input, 77, given.source_fails.to_vec(alloc)?);
+    let mut sink = MemSink::new(alloc, given.sink_piece, given.sink_fails.to_vec(alloc)?);
+    let mut vault = MemVault::new(alloc, given.vault_fails.to_vec(alloc)?);
+    let clock = FixedClock { at: 0 };
+    let status = ledgerd(
+        alloc,
+        &words,
+        &mut source,
+        &mut sink,
+        &mut vault,
+        &clock,
+        &OpenGate,
+    );
+    Ok(Left {
+        status,
+        vault,
+        sink,
+    })
+}
+
+#[test]
+fn two_lines_make_these_bytes(rt: HostRuntime) -> Result<(), Fail> {
+    let alloc = rt.alloc();
+    let mut columns = Items::new(alloc);
+    columns.push(FieldOf {
+        ordinal: 1,
+        ty: SqlType::Int,
+        value: Value::Num { v: 7, s: 0 },
+    })?;
+    let event = Event {
+        table: 3,
+        op: 1,
+        tx: 2,
+        seq: 0,
+        start: None,
+        columns,
+    };
+    let mut leaf = Vec::new(alloc);
+    write_event(&event, &mut leaf)?;
+    assert_eq!(rt; leaf.as_slice(), LEAF);
+    assert_eq!(rt; Sha256Hash.hash(b"\0", LEAF).as_slice(), ROOT);
+
+    let mut left = call(alloc, &PLAIN)?;
+    assert_eq!(rt; left.status, Status::Done);
+    assert_eq!(rt; left.sink.bytes(), TRANSCRIPT);
+    assert_eq!(rt; left.vault.get("a.root", 32)?.as_slice(), ROOT);
+    assert_eq!(rt; left.vault.get("a.journal", 226)?.as_slice(), JOURNAL);
+    Ok(())
+}
+
+#[test]
+fn each_status_has_its_cause(rt: HostRuntime) -> Result<(), Fail> {
+    let alloc = rt.alloc();
+    for (given, want) in [
+        (
+            Given {
+                words: &[],
+                ..PLAIN
+            },
+            Status::Words,
+        ),
+        (
+            Given {
+                words: &["frob"],
+                ..PLAIN
+            },
+            Status::Words,
+        ),
+        (
+            Given {
+                words: &["step", "--save"],
+                ..PLAIN
+            },
+            Status::Words,
+        ),
+        (
+            Given {
+                words: &["step", "--save", "a", "b"],
+                ..PLAIN
+            },
+            Status::Words,
+        ),
+        (
+            Given {
+                words: &["step", "--save", ""],
+                ..PLAIN
+            },
+            Status::Words,
+        ),
+        (
+            Given {
+                words: &["step", "--save", "-a"],
+                ..PLAIN
+            },
+            Status::Words,
+        ),
+        (
+            Given {
+                words: &["step", "--save", "a/b"],
+                ..PLAIN
+            },
+            Status::Words,
+        ),
+        (
+            Given {
+                words: &["step", "--save", "9._-Z"],
+                ..PLAIN
+            },
+            Status::Done,
+        ),
+        (
+            Given {
+                source_fails: &[1],
+                ..PLAIN
+            },
+            Status::SourceFault,
+        ),
+        (
+            Given {
+                source_fails: &[3],
+                ..PLAIN
+            },
+            Status::SourceFault,
+        ),
+        (
+            Given {
+                vault_fails: &[1],
+                ..PLAIN
+            },
+            Status::VaultFault,
+        ),
+        (
+            Given {
+                sink_fails: &[1],
+                ..PLAIN
+            },
+            Status::SinkFault,
+        ),
+        (
+            Given {
+                sink_piece: 0,
+                ..PLAIN
+            },
+            Status::SinkFault,
+        ),
+        // The words are looked at first, then the source, then the input, then the vault, then the sink.
+        (
+            Given {
+                words: &[],
+                source_fails: &[1],
+                ..PLAIN
+            },
+            Status::Words,
+        ),
+        (
+            Given {
+                input: b"",
+                source_fails: &[1],
+                ..PLAIN
+            },
+            Status::SourceFault,
+        ),
+        (
+            Given {
+                input: b"",
+                vault_fails: &[1],
+                ..PLAIN
+            },
+            Status::Unbuilt,
+        ),
+        (
+            Given {
+                vault_fails: &[1],
+                sink_fails: &[1],
+                ..PLAIN
+            },
+            Status::VaultFault,
+        ),
+    ] {
+        assert_eq!(rt; call(alloc, &given)?.status, want);
+    }
+    Ok(())
+}
+
+#[test]
+fn an_input_is_built_or_not(rt: HostRuntime) -> Result<(), Fail> {
+    let alloc = rt.alloc();
+    for (input, want) in FORMS {
+        assert_eq!(rt; call(alloc, &Given { input, ..PLAIN })?.status, want);
+    }
+    Ok(())
+}
+
+#[test]
+fn a_fault_leaves_what_was_put(rt: HostRuntime) -> Result<(), Fail> {
+    let alloc = rt.alloc();
+    // The first put failed: its name is open, and the other isn't there.
+    let mut left = call(
+        alloc,
+        &Given {
+            vault_fails: &[1],
+            ..PLAIN
+        },
+    )?;
+    assert_eq!(rt; left.vault.get("a.root", 32).unwrap_err(), VaultErr::Failed);
+    assert_eq!(rt;
+        left.vault.get("a.journal", 226).unwrap_err(),
+        VaultErr::Missing
+    );
+    assert!(rt; left.sink.bytes().is_empty());
+
+    // The second failed: the root stands.
+    let mut left = call(
+        alloc,
+        &Given {
+            vault_fails: &[2],
+            ..PLAIN
+        },
+    )?;
+    assert_eq!(rt; left.status, Status::VaultFault);
+    assert_eq!(rt; left.vault.get("a.root", 32)?.as_slice(), ROOT);
+    assert_eq!(rt;
+        left.vault.get("a.journal", 226).unwrap_err(),
+        VaultErr::Failed
+    );
+    assert!(rt; left.sink.bytes().is_empty());
+
+    // The third write failed: both files stand, and the sink has the first ten bytes.
+    let mut left = call(
+        alloc,
+        &Given {
+            sink_fails: &[3],
+            ..PLAIN
+        },
+    )?;
+    assert_eq!(rt; left.status, Status::SinkFault);
+    assert_eq!(rt; left.vault.get("a.journal", 226)?.as_slice(), JOURNAL);
+    assert_eq!(rt; left.sink.bytes(), &TRANSCRIPT[..10]);
+    Ok(())
+}
+
+#[test]
+fn four_mebibytes_may_come(rt: HostRuntime) -> Result<(), Fail> {
+    let alloc = rt.alloc();
+    for (len, want) in [(4194304, Status::Unbuilt), (4194305, Status::Limit)] {
+        let input = vec![in alloc; b'a'; len]?;
+        assert_eq!(rt; call_on(alloc, &PLAIN, input)?.status, want);
+    }
+    Ok(())
+}

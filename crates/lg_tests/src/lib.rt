@@ -1,0 +1,5 @@
+//! Tests of the whole: the top call over the outside in memory.
+#![tactic(auto)]
+
+#[cfg(test)]
+mod first_path;
