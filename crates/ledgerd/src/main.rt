@@ -33,7 +33,13 @@ fn main(rt: HostRuntime) -> ExitCode {
                 &OpenGate,
             )
         }
-        Err(_) => Status::Words,
+        Err(error) => {
+            if error.kind() == io::ErrorKind::OutOfMemory {
+                Status::Memory
+            } else {
+                Status::Words
+            }
+        }
     };
     if status != Status::Done {
         let text = status.text();

@@ -1,6 +1,6 @@
 //! What is read from the outside.
 
-ghost use Rattle.std.specs.Prelude.{◌≡◌, ◌<◌, ◌≤◌, ℕ, List, Option, length, IfOk, OnErr};
+ghost use Rattle.std.specs.Prelude.{◌≡◌, ◌<◌, ◌≤◌, ℕ, List, Option, length, IfOk, OnOk, OnErr};
 ghost use Rattle.lg_base.specs.Outside.{TellsRead};
 ghost use Rattle.lg_base.specs.Count.{Rises};
 
@@ -15,12 +15,13 @@ pub trait Source {
     ghost faults: { Self → ℕ };
 
     /// Moves some first bytes of what is left into the buffer and answers their number, which is 0 only at
-    /// the end of the input. A read that fails moves nothing.
+    /// the end of the input. A read that fails moves nothing, and one that doesn't fail counts no fault.
     fn read(&mut self, buf: &mut [u8]) -> Result<usize, Failed>
         requires { 0 < length buf.old }
         ensures within { IfOk result (λ n. n ≤ length buf.new) }
         ensures bytes { IfOk result (TellsRead (left self.old) (left self.new) buf.new) }
         ensures kept { OnErr result (left self.new ≡ left self.old) }
         ensures later { faults self.old ≤ faults self.new }
+        ensures calm { OnOk result (faults self.new ≡ faults self.old) }
         ensures cause { OnErr result (Rises (faults self.old) (faults self.new)) };
 }

@@ -1,6 +1,6 @@
 //! What is kept outside under names.
 
-ghost use Rattle.std.specs.Prelude.{◌≡◌, ◌≤◌, ℕ, List, Option, IfOk, vec_len};
+ghost use Rattle.std.specs.Prelude.{◌≡◌, ◌≤◌, ℕ, List, Option, Err, IfOk, OnOk, vec_len};
 ghost use Rattle.lg_base.specs.Outside.{TellsGet, TellsPut, FailsWithCause};
 ghost use Rattle.lg_base.specs.Store.{Held};
 
@@ -11,19 +11,19 @@ use thiserror::Error;
 #[derive(Clone, Copy, Debug, PartialEq, Eq, Error)]
 pub enum VaultErr {
     /// There is no more memory. Nothing changed.
-    #[error("out of memory")]
+    #[error("Memory")]
     Memory,
 
     /// Nothing stands under the name.
-    #[error("no such name")]
+    #[error("Missing")]
     Missing,
 
     /// What stands under the name has more bytes than the limit.
-    #[error("too long")]
+    #[error("TooLong")]
     TooLong,
 
     /// The vault failed. It is answered only where the count of faults rose.
-    #[error("the vault failed")]
+    #[error("Failed")]
     Failed,
 }
 
@@ -53,12 +53,15 @@ pub trait Vault {
         ensures within { IfOk result (λ bytes. vec_len bytes ≤ limit) }
         ensures same { names self.new ≡ names self.old }
         ensures later { faults self.old ≤ faults self.new }
+        ensures calm { OnOk result (faults self.new ≡ faults self.old) }
         ensures cause { FailsWithCause result (faults self.old) (faults self.new) };
 
     /// Puts these bytes under a name, in the place of what was there. After `Failed` the name is open, and after
     /// `Memory` it is as before. It never answers `Missing` or `TooLong`, and no other name changes.
     fn put(&mut self, name: &str, bytes: &[u8]) -> Result<(), VaultErr>
         ensures puts { TellsPut (names self.old) (names self.new) result name.now bytes.now }
+        ensures known { (result ≡ Err VaultErr.Missing → ⊥) × (result ≡ Err VaultErr.TooLong → ⊥) }
         ensures later { faults self.old ≤ faults self.new }
+        ensures calm { OnOk result (faults self.new ≡ faults self.old) }
         ensures cause { FailsWithCause result (faults self.old) (faults self.new) };
 }

@@ -62,12 +62,12 @@ stop_open files k file a b c within is sofar put = (
   left_next (map stands (take k files)) a b c (Err Failed) file.name file.bytes (is_open file).1 sofar put (λ was now is. is),
 )
 
-still : (files : List File) (k : ℕ) (file : File) (e : VaultErr) (a b c : Option Names) → StandFirst files k a b → TellsPut b c (Err e) file.name file.bytes → ((was now : Held) → Leaves (Err e) was file.bytes now → now ≡ was) → (n : ℕ) × StandFirst files n a c
-still files k file e a b c sofar put same = (k, left_same (map stands (take k files)) a b c (Err e) file.name file.bytes sofar put same)
+still : (files : List File) (k : ℕ) (file : File) (e : VaultErr) (a b c : Option Names) → k < length files → StandFirst files k a b → TellsPut b c (Err e) file.name file.bytes → ((was now : Held) → Leaves (Err e) was file.bytes now → now ≡ was) → (n : ℕ) × (n < length files) × StandFirst files n a c
+still files k file e a b c within sofar put same = (k, within, left_same (map stands (take k files)) a b c (Err e) file.name file.bytes sofar put same)
 
 -- the vault refused the next file
 pub stops_at : (files : List File) (k : ℕ) (file : File) (e : VaultErr) (a b c : Option Names) → k < length files → file ≡ get_or files k file → StandFirst files k a b → TellsPut b c (Err e) file.name file.bytes → StopsBy e files a c
 stops_at files k file Failed a b c within is sofar put = stop_open files k file a b c within is sofar put
-stops_at files k file Memory a b c within is sofar put = still files k file Memory a b c sofar put (λ was now is. is)
-stops_at files k file Missing a b c within is sofar put = still files k file Missing a b c sofar put (λ was now is. absurd is)
-stops_at files k file TooLong a b c within is sofar put = still files k file TooLong a b c sofar put (λ was now is. absurd is)
+stops_at files k file Memory a b c within is sofar put = still files k file Memory a b c within sofar put (λ was now is. is)
+stops_at files k file Missing a b c within is sofar put = still files k file Missing a b c within sofar put (λ was now is. absurd is)
+stops_at files k file TooLong a b c within is sofar put = still files k file TooLong a b c within sofar put (λ was now is. absurd is)

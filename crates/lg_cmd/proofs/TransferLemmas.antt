@@ -4,9 +4,8 @@ use Rattle.std.proofs.lemmas.Grind.{common_steps}
 use Rattle.std.proofs.Math.Seq.{drop-append_seam}
 use Rattle.std.proofs.lemmas.List.{length-append}
 use Rattle.lg_base.specs.Outside.{TellsTaken, TellsRead}
-use Rattle.lg_cmd.specs.declared.transfer.TheConstants.{INPUT_LIMIT}
 use Rattle.lg_cmd.specs.declared.transfer.ReadErr.TheVariants.{Memory, TooMuch}
-use Rattle.lg_cmd.specs.Transfer.{CameSoFar, Came}
+use Rattle.lg_cmd.specs.Transfer.{input_limit, CameSoFar, Came}
 
 pub taken_next : (a b c : Option (List ℕ)) (x y z : List ℕ) → z ≡ x ++ y → TellsTaken a b x → TellsTaken b c y → TellsTaken a c z
 taken_next None b c x y z e p q = tt
@@ -26,7 +25,7 @@ came_next (Some i) (Some rest) None came buffer n sofar reads = absurd reads
 came_next (Some i) (Some rest) (Some more) came buffer n sofar reads = sofar ∙ ap (λ x. came ++ x) reads.moved ∙ sym (append_assoc came (take n buffer) more)
 
 -- memory ran out behind a piece
-pub came_short : (input now next : Option (List ℕ)) (came buffer : List ℕ) (n : ℕ) → CameSoFar input now came → TellsRead now next buffer n → length came + length (take n buffer) ≤ INPUT_LIMIT + 1 → IfSome input (λ i. Came i next (Err Memory))
+pub came_short : (input now next : Option (List ℕ)) (came buffer : List ℕ) (n : ℕ) → CameSoFar input now came → TellsRead now next buffer n → length came + length (take n buffer) ≤ input_limit + 1 → IfSome input (λ i. Came i next (Err Memory))
 came_short None now next came buffer n sofar reads few = tt
 came_short (Some i) None next came buffer n sofar reads few = absurd sofar
 came_short (Some i) (Some rest) None came buffer n sofar reads few = absurd reads
@@ -36,13 +35,13 @@ came_short (Some i) (Some rest) (Some more) came buffer n sofar reads few =
     (length taken, omega (arith, length-append came (take n buffer), few), ap Some (sym (ap (drop (length taken)) is ∙ drop-append_seam taken more)))
 
 -- one byte past the limit came
-pub came_past : (input now next : Option (List ℕ)) (came buffer : List ℕ) (n : ℕ) → CameSoFar input now came → TellsRead now next buffer n → length came + length (take n buffer) ≡ INPUT_LIMIT + 1 → IfSome input (λ i. Came i next (Err TooMuch))
+pub came_past : (input now next : Option (List ℕ)) (came buffer : List ℕ) (n : ℕ) → CameSoFar input now came → TellsRead now next buffer n → length came + length (take n buffer) ≡ input_limit + 1 → IfSome input (λ i. Came i next (Err TooMuch))
 came_past None now next came buffer n sofar reads len = tt
 came_past (Some i) None next came buffer n sofar reads len = absurd sofar
 came_past (Some i) (Some rest) None came buffer n sofar reads len = absurd reads
 came_past (Some i) (Some rest) (Some more) came buffer n sofar reads len =
     let is = came_next (Some i) (Some rest) (Some more) came buffer n sofar reads in
     let taken = came ++ take n buffer in
-    let count : length taken ≡ INPUT_LIMIT + 1 = length-append came (take n buffer) ∙ len in
+    let count : length taken ≡ input_limit + 1 = length-append came (take n buffer) ∙ len in
     let whole : length i ≡ length taken + length more = ap length is ∙ length-append taken more in
     (omega (arith, count, whole), ap Some (sym (ap (λ k. drop k i) (sym count) ∙ ap (drop (length taken)) is ∙ drop-append_seam taken more)))

@@ -149,3 +149,11 @@ found_in (Some parts) bytes e = two_lines_sound bytes (two_lines_view parts) (sy
 pub none_in : (r : Option TwoLineParts) (bytes : List ℕ) → option_map two_lines_view r ≡ two_lines_of bytes → IfNone r ((o : TwoLines) → IsTwoLines o → bytes ≡ spelling o → ⊥)
 none_in None bytes e = λ o good is. let all : two_lines_of bytes ≡ Some o = ap two_lines_of is ∙ two_lines_complete o good in cc
 none_in (Some parts) bytes e = tt
+
+-- one input says one thing
+pub same_lines : (one two : TwoLines) → IsTwoLines one → IsTwoLines two → spelling one ≡ spelling two → one ≡ two
+same_lines one two good_one good_two same =
+    let read_one = two_lines_complete one good_one in
+    let read_two = two_lines_complete two good_two in
+    let both = sym read_one ∙ ap two_lines_of same ∙ read_two in
+    cc

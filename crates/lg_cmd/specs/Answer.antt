@@ -7,11 +7,9 @@ use Rattle.lg_base.specs.Outside.{TellsTaken}
 use Rattle.lg_cmd.specs.declared.status.Status.{Status}
 use Rattle.lg_cmd.specs.declared.status.Status.TheVariants.{Done, Words, Limit, SourceFault, SinkFault, VaultFault, Unbuilt, Memory}
 use Rattle.lg_cmd.specs.declared.files.File.{File}
-use Rattle.lg_base.specs.declared.clock.TheConstants.{MAX_TICKS}
-use Rattle.lg_cmd.specs.declared.transfer.TheConstants.{INPUT_LIMIT}
 use Rattle.lg_cmd.specs.Files.{StandFirst, StopsOpen}
 use Rattle.lg_cmd.specs.Run.{files_of, transcript_of}
-use Rattle.lg_cmd.specs.Transfer.{TellsPart}
+use Rattle.lg_cmd.specs.Transfer.{input_limit, TellsPart}
 use Rattle.lg_cmd.specs.TwoLines.{TwoLines, IsTwoLines, spelling}
 use Rattle.lg_cmd.specs.Words.{Step}
 
@@ -23,23 +21,22 @@ LacksForm input = (lines : TwoLines) → IsTwoLines lines → input ≡ spelling
 -- The causes of Done, Words, Limit and Unbuilt exclude one another, so each of these four comes exactly where
 -- its cause stands, unless a fault or want of memory comes before it.
 abbrev pub HasCause : Status → Option Step → Option (List ℕ) → Type 0 → Type 0 → Type 0 → Type 0
-HasCause Done words input source vault sink = IfSome input (λ bytes. (length bytes ≤ INPUT_LIMIT) × (lines : TwoLines) × IsTwoLines lines × (bytes ≡ spelling lines))
+HasCause Done words input source vault sink = IfSome input (λ bytes. (length bytes ≤ input_limit) × (lines : TwoLines) × IsTwoLines lines × (bytes ≡ spelling lines))
 HasCause Words words input source vault sink = words ≡ None
-HasCause Limit words input source vault sink = IfSome input (λ bytes. INPUT_LIMIT < length bytes)
+HasCause Limit words input source vault sink = IfSome input (λ bytes. input_limit < length bytes)
 HasCause SourceFault words input source vault sink = source
 HasCause SinkFault words input source vault sink = sink
 HasCause VaultFault words input source vault sink = vault
-HasCause Unbuilt words input source vault sink = IfSome input (λ bytes. (length bytes ≤ INPUT_LIMIT) × LacksForm bytes)
+HasCause Unbuilt words input source vault sink = IfSome input (λ bytes. (length bytes ≤ input_limit) × LacksForm bytes)
 HasCause Memory words input source vault sink = Unit {0}
 
 -- what is left of an input that is told: nothing was taken where the words were refused, at most one byte past the
 -- limit in any case, and all of it where the lines were run or found to lack their form
 abbrev pub HasRead : Status → List ℕ → Option (List ℕ) → Type 0
 HasRead Words input rest = rest ≡ Some input
-HasRead Limit input rest = rest ≡ Some (drop (INPUT_LIMIT + 1) input)
-HasRead Memory input rest = (n : ℕ) × (n ≤ INPUT_LIMIT + 1) × (rest ≡ Some (drop n input))
--- a source doesn't say what is left after a fault
-HasRead SourceFault input rest = Unit {0}
+HasRead Limit input rest = rest ≡ Some (drop (input_limit + 1) input)
+HasRead Memory input rest = (n : ℕ) × (n ≤ input_limit + 1) × (rest ≡ Some (drop n input))
+HasRead SourceFault input rest = (n : ℕ) × (n ≤ input_limit) × (rest ≡ Some (drop n input))
 HasRead _ input rest = rest ≡ Some []
 
 -- what the vault has: all files where the text was begun, the first of them where it failed or memory ran out
@@ -47,7 +44,7 @@ abbrev pub HasPut : Status → List File → Option Names → Option Names → T
 HasPut Done files old new = StandFirst files (length files) old new
 HasPut SinkFault files old new = StandFirst files (length files) old new
 HasPut VaultFault files old new = StopsOpen files old new
-HasPut Memory files old new = (k : ℕ) × StandFirst files k old new
+HasPut Memory files old new = (k : ℕ) × (k < length files) × StandFirst files k old new
 HasPut _ files old new = ⊥
 
 -- what the sink took: the whole text, a first part of it at a fault of the sink, and nothing before
@@ -58,9 +55,13 @@ HasWritten VaultFault text old new = new ≡ old
 HasWritten Memory text old new = new ≡ old
 HasWritten _ text old new = ⊥
 
+-- the last tick of the year 9999
+abbrev pub max_ticks : ℕ
+max_ticks = 2534023007999999999
+
 -- what the clock answered, at most the greatest moment
 abbrev pub IsMoment : Option ℕ → ℕ → Type 0
-IsMoment clock at = (at ≤ MAX_TICKS) × IfSome clock (λ told. at ≡ min told MAX_TICKS)
+IsMoment clock at = (at ≤ max_ticks) × IfSome clock (λ told. at ≡ min told max_ticks)
 
 -- The two lines were run, at the moments that the clock gave: this is what was put and written of them.
 pub record Ran (status : Status) (h : List ℕ → List ℕ) (words : Option Step) (input : Option (List ℕ)) (clock : Option ℕ)
@@ -79,6 +80,14 @@ RanOrIdle SinkFault ran idle = ran
 RanOrIdle VaultFault ran idle = ran
 RanOrIdle Memory ran idle = ran ⊎ idle
 RanOrIdle _ ran idle = idle
+
+-- A call ends at the first fault or stall that it meets and tries nothing again: these have failed no more than before.
+abbrev pub Unfailed : Status → Type 0 → Type 0 → Type 0 → Type 0
+Unfailed SourceFault source vault sink = vault × sink
+Unfailed VaultFault source vault sink = source × sink
+Unfailed SinkFault source vault sink = source × vault
+Unfailed Memory source vault sink = source × sink
+Unfailed _ source vault sink = source × vault × sink
 
 -- how putting files and writing a text ends, by whose faults rose
 abbrev pub EndsBy : Status → Type 0 → Type 0 → Type 0

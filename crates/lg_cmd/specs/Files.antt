@@ -1,5 +1,5 @@
 -- Files that are put one after another, and what a vault has then.
-use Rattle.std.specs.Prelude.{◌≡◌, ℕ, List, [], ◌∷◌, ◌++◌, map, take, drop, if◌then◌else◌, bytes_eq, Option, Some, None}
+use Rattle.std.specs.Prelude.{◌≡◌, ◌<◌, length, ℕ, List, [], ◌∷◌, ◌++◌, map, take, drop, if◌then◌else◌, bytes_eq, Option, Some, None}
 use Rattle.lg_base.specs.Store.{Held, Bytes, Open, Names}
 use Rattle.lg_base.specs.declared.vault.VaultErr.{VaultErr}
 use Rattle.lg_base.specs.declared.vault.VaultErr.TheVariants.{Failed}
@@ -37,4 +37,4 @@ StopsOpen files old new =
 -- where putting the files stopped, by the vault's answer
 abbrev pub StopsBy : VaultErr → List File → Option Names → Option Names → Type 0
 StopsBy Failed files old new = StopsOpen files old new
-StopsBy _ files old new = (k : ℕ) × StandFirst files k old new
+StopsBy _ files old new = (k : ℕ) × (k < length files) × StandFirst files k old new

@@ -2,9 +2,12 @@
 use Rattle.std.specs.Prelude.{◌≡◌, ◌<◌, ◌≤◌, ◌+◌, ℕ, List, [], ◌++◌, length, take, drop, Option, Some, None, Result, Ok, Err, Vec}
 use Rattle.std.specs.declared.alloc.Global.{Global}
 use Rattle.lg_base.specs.Outside.{TellsTaken}
-use Rattle.lg_cmd.specs.declared.transfer.TheConstants.{INPUT_LIMIT}
 use Rattle.lg_cmd.specs.declared.transfer.ReadErr.{ReadErr}
 use Rattle.lg_cmd.specs.declared.transfer.ReadErr.TheVariants.{Memory, TooMuch, Failed}
+
+-- the most bytes that an input may have: 4 MiB
+abbrev pub input_limit : ℕ
+input_limit = 4194304
 
 -- so much of the input came, where the source tells what is left
 abbrev pub CameSoFar : Option (List ℕ) → Option (List ℕ) → List ℕ → Type 0
@@ -14,13 +17,12 @@ CameSoFar (Some input) (Some rest) came = input ≡ came ++ rest
 
 -- what a reading to the end answers, of an input that is told, and what it leaves of it
 abbrev pub Came : List ℕ → Option (List ℕ) → Result (Vec ℕ Global) ReadErr → Type 0
-Came input rest (Ok v) = (v.items ≡ input) × (length input ≤ INPUT_LIMIT) × (rest ≡ Some [])
+Came input rest (Ok v) = (v.items ≡ input) × (length input ≤ input_limit) × (rest ≡ Some [])
 -- one byte past the limit is the last that is taken
-Came input rest (Err TooMuch) = (INPUT_LIMIT < length input) × (rest ≡ Some (drop (INPUT_LIMIT + 1) input))
-Came input rest (Err Memory) = (n : ℕ) × (n ≤ INPUT_LIMIT + 1) × (rest ≡ Some (drop n input))
--- a source doesn't say what is left after a fault
-Came input rest (Err Failed) = Unit {0}
+Came input rest (Err TooMuch) = (input_limit < length input) × (rest ≡ Some (drop (input_limit + 1) input))
+Came input rest (Err Memory) = (n : ℕ) × (n ≤ input_limit + 1) × (rest ≡ Some (drop n input))
+Came input rest (Err Failed) = (n : ℕ) × (n ≤ input_limit) × (rest ≡ Some (drop n input))
 
--- a first part of a text was written, where the sink tells what it took
+-- a first part of a text was written, and not all of it, where the sink tells what it took
 abbrev pub TellsPart : Option (List ℕ) → Option (List ℕ) → List ℕ → Type 0
-TellsPart old new text = (n : ℕ) × (n ≤ length text) × TellsTaken old new (take n text)
+TellsPart old new text = (n : ℕ) × (n < length text) × TellsTaken old new (take n text)

@@ -1,4 +1,4 @@
--- The same input, read from its front.
+-- The same input, read from its front, as the code reads it. Proofs alone cite it: what is promised stands in TwoLines.
 use Rattle.std.specs.Prelude.{◌+◌, ℕ, ◌&&◌, nat_le, nat_lt, nat_eq, ◌==◌, List, [], ◌∷◌, ◌++◌, length, take, drop, take_while, codes, Option, Some, None, if◌then◌else◌}
 use Rattle.std.specs.List.{starts_with}
 use Rattle.lg_cmd.specs.declared.two_lines.Kind.{Kind}

@@ -1,9 +1,9 @@
 // Files that are put one after another, and the text that is written behind them.
-ghost use Rattle.std.specs.Prelude.{◌≡◌, ◌≤◌, ◌⊎◌, ℕ, length, IfErr, OnOk};
+ghost use Rattle.std.specs.Prelude.{⊤, ◌≡◌, ◌≤◌, ◌⊎◌, ℕ, length, IfErr, OnOk};
 ghost use Rattle.lg_base.specs.Count.{Rises};
 ghost use Rattle.lg_base.specs.Outside.{FailsWithCause};
 ghost use Rattle.lg_cmd.specs.Files.{StandFirst, StopsBy};
-ghost use Rattle.lg_cmd.specs.Answer.{HasPut, HasWritten, EndsBy, vault_status};
+ghost use Rattle.lg_cmd.specs.Answer.{HasPut, HasWritten, EndsBy, Unfailed, vault_status};
 
 use crate::Status;
 use crate::transfer::write_all;
@@ -22,6 +22,7 @@ fn put_all<V: Vault>(vault: &mut V, files: &[File]) -> Result<(), VaultErr>
     ensures ok { OnOk result (StandFirst files.now (length files.now) (V.names vault.old) (V.names vault.new)) }
     ensures err { IfErr result (λ error. StopsBy error files.now (V.names vault.old) (V.names vault.new)) }
     ensures later { V.faults vault.old ≤ V.faults vault.new }
+    ensures calm { OnOk result (V.faults vault.new ≡ V.faults vault.old) }
     ensures cause { FailsWithCause result (V.faults vault.old) (V.faults vault.new) }
 {
     for file in files {
@@ -37,7 +38,7 @@ fn status_of(error: VaultErr) -> Status
     match error {
         VaultErr::Failed => Status::VaultFault,
         VaultErr::Memory => Status::Memory,
-        // A put answers neither of these.
+        // no put answers these
         VaultErr::Missing => Status::Memory,
         VaultErr::TooLong => Status::Memory,
     }
@@ -54,6 +55,8 @@ pub(crate) fn put_and_write<V: Vault, K: Sink>(
         (Rises (K.faults sink.old) (K.faults sink.new) ⊎ Rises (K.stalls sink.old) (K.stalls sink.new)) }
     ensures put { HasPut result files.now (V.names vault.old) (V.names vault.new) }
     ensures written { HasWritten result text.now (K.taken sink.old) (K.taken sink.new) }
+    ensures unfailed { Unfailed result ⊤ (V.faults vault.new ≡ V.faults vault.old)
+        ((K.faults sink.new ≡ K.faults sink.old) × (K.stalls sink.new ≡ K.stalls sink.old)) }
     ensures unwritten { (result ≡ Status.Done → ⊥) → (result ≡ Status.SinkFault → ⊥) → sink.new ≡ sink.old }
 {
     if let Err(error) = put_all(vault, files) {

@@ -93,7 +93,7 @@ fn put_items(items: &[JournalItem], out: &mut Vec<u8>) -> Result<(), Memory>
     Ok(())
 }
 
-/// The bytes of the journal.
+/// The bytes of the journal, whose names are to be shorter than 65,536 bytes. The only error is want of memory.
 pub fn write_journal(alloc: Global, j: &Journal) -> Result<Vec<u8>, Memory>
     requires { IsJournal j.now }
     ensures { IfOk result (λ v. v.items ≡ journal_bytes j.now) }

@@ -16,3 +16,4 @@ mod words;
 pub use journal::{Journal, JournalItem, Script, write_journal};
 pub use status::Status;
 pub use top::ledgerd;
+pub use two_lines::two_lines_law;

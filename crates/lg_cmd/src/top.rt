@@ -1,11 +1,11 @@
 // The top call.
-ghost use Rattle.std.specs.Prelude.{◌≡◌, ◌≤◌, ◌⊎◌, ℕ, map, string_bytes, None, Some, IfSome};
+ghost use Rattle.std.specs.Prelude.{⊤, ◌≡◌, ◌≤◌, ◌⊎◌, ℕ, map, string_bytes, None, Some, IfSome};
 ghost use Rattle.sha2.specs.Sha256.{sha256};
 ghost use Rattle.lg_base.specs.Count.{Rises};
 ghost use Rattle.lg_cmd.specs.TwoLines.{TwoLines, IsTwoLines};
 ghost use Rattle.lg_cmd.specs.TwoLinesReading.{two_lines_view};
 ghost use Rattle.lg_cmd.specs.Words.{step_words, step_view};
-ghost use Rattle.lg_cmd.specs.Answer.{HasCause, HasRead, IsMoment, Ran, RanOrIdle, EndsBy};
+ghost use Rattle.lg_cmd.specs.Answer.{HasCause, HasRead, IsMoment, Ran, RanOrIdle, EndsBy, Unfailed};
 
 use crate::Status;
 use crate::files::put_and_write;
@@ -42,6 +42,8 @@ fn run_lines<H: Hash32, K: Sink, V: Vault, C: Clock>(
         ((first : ℕ) × (second : ℕ) × Ran result (H.digest h) (Some (step_view step.now)) None (C.moment clock.now)
         (V.names vault.old) (V.names vault.new) (K.taken sink.old) (K.taken sink.new) (two_lines_view lines.now) first second)
         ((vault.new ≡ vault.old) × (sink.new ≡ sink.old)) }
+    ensures unfailed { Unfailed result ⊤ (V.faults vault.new ≡ V.faults vault.old)
+        ((K.faults sink.new ≡ K.faults sink.old) × (K.stalls sink.new ≡ K.stalls sink.old)) }
     ensures unwritten { (result ≡ Status.Done → ⊥) → (result ≡ Status.SinkFault → ⊥) → sink.new ≡ sink.old }
 {
     let first = moment(clock);
@@ -58,6 +60,11 @@ fn run_lines<H: Hash32, K: Sink, V: Vault, C: Clock>(
 /// `step --save NAME` reads two lines, with which one session makes an append-only table and inserts one row. It puts
 /// the root of the row's event under `NAME.root` and the journal under `NAME.journal`, and writes the transcript.
 /// Only a run of several threads calls the gate.
+///
+/// `Words` comes before anything is read, and `Limit` and `Unbuilt` before anything is put. After `VaultFault` the
+/// files before the one that failed stand, its name is open, and nothing was written; after `Memory` the first of the
+/// files may stand. After `SinkFault` all files stand and a first part of the text was written. The call takes time
+/// and memory in proportion to the input, which it reads once.
 pub fn ledgerd<S: Source, K: Sink, V: Vault, C: Clock, G: Gate>(
     alloc: Global,
     words: &[String],
@@ -83,6 +90,10 @@ pub fn ledgerd<S: Source, K: Sink, V: Vault, C: Clock, G: Gate>(
         ((lines : TwoLines) × (first : ℕ) × (second : ℕ) × Ran result sha256 (step_words (map string_bytes words.now)) (S.left source.old) (C.moment clock.now)
         (V.names vault.old) (V.names vault.new) (K.taken sink.old) (K.taken sink.new) lines first second)
         ((vault.new ≡ vault.old) × (sink.new ≡ sink.old)) }
+
+    // The first fault or stall ends the call: nothing is tried again.
+    ensures unfailed { Unfailed result (S.faults source.new ≡ S.faults source.old) (V.faults vault.new ≡ V.faults vault.old)
+        ((K.faults sink.new ≡ K.faults sink.old) × (K.stalls sink.new ≡ K.stalls sink.old)) }
 
     // Nothing is written before all is put.
     ensures unwritten { (result ≡ Status.Done → ⊥) → (result ≡ Status.SinkFault → ⊥) → sink.new ≡ sink.old }

@@ -25,6 +25,7 @@ pub(crate) enum ReadErr {
 pub(crate) fn read_input<S: Source>(alloc: Global, source: &mut S) -> Result<Vec<u8>, ReadErr>
     ensures came { IfSome (S.left source.old) (λ input. Came input (S.left source.new) result) }
     ensures later { S.faults source.old ≤ S.faults source.new }
+    ensures calm { (IsErrOf result ReadErr.Failed → ⊥) → S.faults source.new ≡ S.faults source.old }
     ensures cause { IsErrOf result ReadErr.Failed → Rises (S.faults source.old) (S.faults source.new) }
 {
     let mut came = Vec::new(alloc);
@@ -52,6 +53,7 @@ pub(crate) fn read_input<S: Source>(alloc: Global, source: &mut S) -> Result<Vec
 pub(crate) fn write_all<K: Sink>(sink: &mut K, bytes: &[u8]) -> Result<(), Failed>
     ensures taken { OnOk result (TellsTaken (K.taken sink.old) (K.taken sink.new) bytes.now) }
     ensures part { OnErr result (TellsPart (K.taken sink.old) (K.taken sink.new) bytes.now) }
+    ensures calm { OnOk result ((K.faults sink.new ≡ K.faults sink.old) × (K.stalls sink.new ≡ K.stalls sink.old)) }
     ensures cause { OnErr result (Rises (K.faults sink.old) (K.faults sink.new) ⊎ Rises (K.stalls sink.old) (K.stalls sink.new)) }
 {
     let mut at = 0;

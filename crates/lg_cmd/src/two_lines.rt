@@ -146,6 +146,11 @@ fn two_lines_of(bytes: &[u8]) -> Option<TwoLineParts<'_>>
     }
 }
 
+/// An input has the form of the two lines in one way alone.
+pub fn two_lines_law()
+    ensures { (one two : TwoLines) → IsTwoLines one → IsTwoLines two → spelling one ≡ spelling two → one ≡ two }
+{}
+
 /// What the input says, where it has the form of the two lines.
 pub(crate) fn parse(bytes: &[u8]) -> Option<TwoLineParts<'_>>
     ensures found { IfSome result (λ parts. IsTwoLines (two_lines_view parts) × (bytes.now ≡ spelling (two_lines_view parts))) }

@@ -137,6 +137,35 @@ const FORMS: [(&[u8], Status); 25] = [
     ),
 ];
 
+// Words, and whether they are those of a command.
+const WORDS: [(&[&str], Status); 11] = [
+    (&[], Status::Words),
+    (&["frob"], Status::Words),
+    (&["step"], Status::Words),
+    (&["step", "--save"], Status::Words),
+    (&["step", "--save", "a", "b"], Status::Words),
+    (&["--save", "a", "step"], Status::Words),
+    (&["step", "--save", ""], Status::Words),
+    (&["step", "--save", "-a"], Status::Words),
+    (&["step", "--save", ".a"], Status::Words),
+    (&["step", "--save", "a/b"], Status::Words),
+    (&["step", "--save", "9._-Z"], Status::Done),
+];
+
+// The calls of the source, the vault and the sink that fail, an input, and the status. The source is read first, then
+// the input is looked at, then the files are put, and then the text is written.
+const FAULTS: [(&[u64], &[u64], &[u64], &[u8], Status); 9] = [
+    (&[1], &[], &[], LINES, Status::SourceFault),
+    (&[3], &[], &[], LINES, Status::SourceFault),
+    (&[], &[1], &[], LINES, Status::VaultFault),
+    (&[], &[2], &[], LINES, Status::VaultFault),
+    (&[], &[], &[1], LINES, Status::SinkFault),
+    (&[], &[], &[4], LINES, Status::SinkFault),
+    (&[1], &[1], &[1], b"", Status::SourceFault),
+    (&[], &[1], &[1], b"", Status::Unbuilt),
+    (&[], &[1], &[1], LINES, Status::VaultFault),
+];
+
 fn words(alloc: Global, texts: &[&str]) -> Result<Vec<String>, AllocError> {
     let mut words = Vec::new(alloc);
     for text in texts {
@@ -154,6 +183,7 @@ struct Given {
     vault_fails: &'static [u64],
     sink_fails: &'static [u64],
     sink_piece: usize,
+    clock: u64,
 }
 
 const PLAIN: Given = Given {
@@ -163,6 +193,7 @@ const PLAIN: Given = Given {
     vault_fails: &[],
     sink_fails: &[],
     sink_piece: 5,
+    clock: 0,
 };
 
 /// What a call answered and left.
@@ -182,7 +213,7 @@ fn call_on(alloc: Global, given: &Given, input: Vec<u8>) -> Result<Left, AllocEr
     let mut source = MemSource::new(input, 77, given.source_fails.to_vec(alloc)?);
     let mut sink = MemSink::new(alloc, given.sink_piece, given.sink_fails.to_vec(alloc)?);
     let mut vault = MemVault::new(alloc, given.vault_fails.to_vec(alloc)?);
-    let clock = FixedClock { at: 0 };
+    let clock = FixedClock { at: given.clock };
     let status = ledgerd(
         alloc,
         &words,
@@ -230,136 +261,46 @@ fn two_lines_make_these_bytes(rt: HostRuntime) -> Result<(), Fail> {
 }
 
 #[test]
-fn each_status_has_its_cause(rt: HostRuntime) -> Result<(), Fail> {
+fn only_these_words_are_accepted(rt: HostRuntime) -> Result<(), Fail> {
     let alloc = rt.alloc();
-    for (given, want) in [
-        (
-            Given {
-                words: &[],
-                ..PLAIN
-            },
-            Status::Words,
-        ),
-        (
-            Given {
-                words: &["frob"],
-                ..PLAIN
-            },
-            Status::Words,
-        ),
-        (
-            Given {
-                words: &["step", "--save"],
-                ..PLAIN
-            },
-            Status::Words,
-        ),
-        (
-            Given {
-                words: &["step", "--save", "a", "b"],
-                ..PLAIN
-            },
-            Status::Words,
-        ),
-        (
-            Given {
-                words: &["step", "--save", ""],
-                ..PLAIN
-            },
-            Status::Words,
-        ),
-        (
-            Given {
-                words: &["step", "--save", "-a"],
-                ..PLAIN
-            },
-            Status::Words,
-        ),
-        (
-            Given {
-                words: &["step", "--save", "a/b"],
-                ..PLAIN
-            },
-            Status::Words,
-        ),
-        (
-            Given {
-                words: &["step", "--save", "9._-Z"],
-                ..PLAIN
-            },
-            Status::Done,
-        ),
-        (
-            Given {
-                source_fails: &[1],
-                ..PLAIN
-            },
-            Status::SourceFault,
-        ),
-        (
-            Given {
-                source_fails: &[3],
-                ..PLAIN
-            },
-            Status::SourceFault,
-        ),
-        (
-            Given {
-                vault_fails: &[1],
-                ..PLAIN
-            },
-            Status::VaultFault,
-        ),
-        (
-            Given {
-                sink_fails: &[1],
-                ..PLAIN
-            },
-            Status::SinkFault,
-        ),
-        (
-            Given {
-                sink_piece: 0,
-                ..PLAIN
-            },
-            Status::SinkFault,
-        ),
-        // The words are looked at first, then the source, then the input, then the vault, then the sink.
-        (
-            Given {
-                words: &[],
-                source_fails: &[1],
-                ..PLAIN
-            },
-            Status::Words,
-        ),
-        (
-            Given {
-                input: b"",
-                source_fails: &[1],
-                ..PLAIN
-            },
-            Status::SourceFault,
-        ),
-        (
-            Given {
-                input: b"",
-                vault_fails: &[1],
-                ..PLAIN
-            },
-            Status::Unbuilt,
-        ),
-        (
-            Given {
-                vault_fails: &[1],
-                sink_fails: &[1],
-                ..PLAIN
-            },
-            Status::VaultFault,
-        ),
-    ] {
+    for (words, want) in WORDS {
+        assert_eq!(rt; call(alloc, &Given { words, ..PLAIN })?.status, want);
+    }
+    Ok(())
+}
+
+#[test]
+fn a_fault_has_its_status(rt: HostRuntime) -> Result<(), Fail> {
+    let alloc = rt.alloc();
+    for (source_fails, vault_fails, sink_fails, input, want) in FAULTS {
+        let given = Given {
+            source_fails,
+            vault_fails,
+            sink_fails,
+            input,
+            ..PLAIN
+        };
         assert_eq!(rt; call(alloc, &given)?.status, want);
     }
+    let given = Given {
+        sink_piece: 0,
+        ..PLAIN
+    };
+    assert_eq!(rt; call(alloc, &given)?.status, Status::SinkFault);
+    Ok(())
+}
+
+#[test]
+fn the_greatest_moment_is_the_last_tick_of_9999(rt: HostRuntime) -> Result<(), Fail> {
+    let alloc = rt.alloc();
+    let given = Given {
+        clock: u64::MAX,
+        ..PLAIN
+    };
+    let mut left = call(alloc, &given)?;
+    let journal = left.vault.get("a.journal", 226)?;
+    // behind the head, the item's byte, its id and the session
+    assert_eq!(rt; &journal[35..43], b"\x23\x2a\xa8\x7f\xfc\x81\xbf\xff");
     Ok(())
 }
 

@@ -1,4 +1,4 @@
-use Rattle.std.proofs.Common.{arith}
+use Rattle.std.proofs.Common.{◌∙◌}
 use Rattle.std.proofs.lemmas.Result.{err_from_is_err_and}
 use Rattle.lg_cmd.proofs.FilesLemmas.{stand_more, stops_at}
 use Rattle.lg_cmd.proofs.files.put_all.Goals as goal
@@ -6,7 +6,7 @@ use Rattle.lg_cmd.proofs.files.put_all.Goals as goal
 pub loop-file-preserved : goal.loop-file-preserved
 loop-file-preserved g c =
     let put = rw (c.as_str.ensures.value, c.bytes.ensures) at c.in_ok-put.ensures.puts in
-    (stand_more c.args.files.now c.loop-file.file-index c.file-item.result _ _ _ c.loop-file-test.true c.file-item.is c.loop-file.invariant.0 put, omega (arith, c.loop-file.invariant.1, c.in_ok-put.ensures.later))
+    (stand_more c.args.files.now c.loop-file.file-index c.file-item.result _ _ _ c.loop-file-test.true c.file-item.is c.loop-file.invariant.0 put, c.in_ok-put.ensures.calm ∙ c.loop-file.invariant.1)
 
 pub returns-in_err-put-clause-err : goal.returns-in_err-put-clause-err
 returns-in_err-put-clause-err g c =

@@ -1,4 +1,4 @@
-use Rattle.std.proofs.Common.{◌≤◌}
+use Rattle.std.proofs.Common.{◌≡◌}
 use Rattle.lg_cmd.specs.Files.{StandFirst}
 use Rattle.lg_cmd.proofs.files.put_all.Given as goal
 
@@ -6,4 +6,4 @@ use Rattle.lg_cmd.proofs.files.put_all.Given as goal
 abbrev pub invariant-loop-file : goal.invariant-loop-file
 invariant-loop-file g l =
     StandFirst l.files l.file-index (g.V.Vault.names l.initial.vault) (g.V.Vault.names l.vault)
-    × (g.V.Vault.faults l.initial.vault ≤ g.V.Vault.faults l.vault)
+    × (g.V.Vault.faults l.vault ≡ g.V.Vault.faults l.initial.vault)
