@@ -300,7 +300,8 @@ fn the_greatest_moment_is_the_last_tick_of_9999(rt: HostRuntime) -> Result<(), F
     let mut left = call(alloc, &given)?;
     let journal = left.vault.get("a.journal", 226)?;
     // behind the head, the item's byte, its id and the session
-    assert_eq!(rt; &journal[35..43], b"\x23\x2a\xa8\x7f\xfc\x81\xbf\xff");
+    let time: [u8; 8] = *b"\x23\x2a\xa8\x7f\xfc\x81\xbf\xff";
+    assert_eq!(rt; &journal[35..43], time.as_slice());
     Ok(())
 }
 
