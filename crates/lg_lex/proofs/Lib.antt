@@ -1,0 +1,9 @@
+pub mod Best
+pub mod Bytes
+pub mod Found
+pub mod Numbers
+pub mod Quotes
+pub mod Runs
+pub mod Scans
+pub mod Texts
+pub mod Words

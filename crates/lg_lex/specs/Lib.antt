@@ -1,0 +1,4 @@
+pub mod Cut
+pub mod Front
+pub mod IsToken
+pub mod Longest

@@ -1,0 +1,9 @@
+//! Cuts the text of a statement into its tokens.
+#![tactic(auto)]
+
+mod cut;
+mod front;
+mod token;
+
+pub use cut::tokens;
+pub use token::{Kind, LexErr, Token};
