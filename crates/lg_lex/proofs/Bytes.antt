@@ -1,14 +1,13 @@
 -- The longest bytes.
-use Rattle.std.proofs.Common.{◌≡◌, ℕ, zero, suc, ◌+◌, ◌-◌, ◌%◌, ◌<◌, ◌≤◌, ◌==◌, ◌⊎◌, inl, inr, Bool, true, false, cond, ◌&&◌, ◌||◌, List, [], ◌∷◌, length, take, drop, get_or, min, nat_lt, nat_le, Some, None, refl, ap, sym, ◌∙◌, subst, arith, length-drop, length-append}
+use Rattle.std.proofs.Common.{◌≡◌, ℕ, zero, suc, ◌+◌, ◌-◌, ◌%◌, ◌≤◌, ◌==◌, true, false, ◌&&◌, ◌||◌, List, [], ◌∷◌, length, take, Some, None, refl, arith}
 use Rattle.std.proofs.lemmas.Bool.Decides.{nat_tests}
-use Rattle.std.proofs.lemmas.List.{length-take-le, drop-take}
+use Rattle.std.proofs.lemmas.List.{length-take-le}
 use Rattle.std.proofs.lemmas.List.Sums.{prefix_len-le-length}
 use Rattle.std.specs.List.{list_all, prefix_len}
-use Rattle.std.specs.Char.{is_ascii_digit, is_ascii_hexdigit}
-use Rattle.lg_lex.specs.declared.front.Class.TheVariants as class
+use Rattle.std.specs.Char.{is_ascii_hexdigit}
 use Rattle.lg_lex.specs.IsToken.{is_bytes}
-use Rattle.lg_lex.specs.Front.{past, bytes}
-use Rattle.lg_lex.proofs.Runs.{and_true, not_true, run_bound, run_passes}
+use Rattle.lg_lex.specs.Front.{bytes}
+use Rattle.lg_lex.proofs.Runs.{and_true, run_bound, run_passes}
 use Rattle.lg_lex.proofs.Best.{Best, best_same, best_if}
 
 even_below : (j d : ℕ) → j ≤ d → j % 2 ≡ 0 → j ≤ d - d % 2
@@ -45,8 +44,7 @@ bytes_are b x z e =
     let k : ℕ = prefix_len is_ascii_hexdigit z - prefix_len is_ascii_hexdigit z % 2 in
     let part : k ≤ prefix_len is_ascii_hexdigit z = omega arith in
     let len : length (take k z) ≡ k = length-take-le k z (omega (arith, part, run)) in
-    let even : length (take k z) % 2 ≡ 0 = rw len (even_of (prefix_len is_ascii_hexdigit z)) in
-    (
+    let even : length (take k z) % 2 ≡ 0 = rw len (even_of (prefix_len is_ascii_hexdigit z)) in (
       (omega arith),
       (omega (arith, part, run)),
       (rw (e, run_passes is_ascii_hexdigit z k part, even) refl),
@@ -61,7 +59,7 @@ best_bytes b [] =
 best_bytes b (x ∷ z) =
     best_if is_bytes (b ∷ x ∷ z) (b == 48 && (x == 120 || x == 88)) _ None
     (λ e.
-      let d : ℕ = prefix_len is_ascii_hexdigit z in
-      let same : 2 + (2 + prefix_len is_ascii_hexdigit z - 2) - (2 + prefix_len is_ascii_hexdigit z - 2) % 2 ≡ suc (suc (prefix_len is_ascii_hexdigit z - prefix_len is_ascii_hexdigit z % 2)) = omega arith in
-      best_same is_bytes (b ∷ x ∷ z) _ _ same (bytes_are b x z e))
+    let d : ℕ = prefix_len is_ascii_hexdigit z in
+    let same : 2 + (2 + prefix_len is_ascii_hexdigit z - 2) - (2 + prefix_len is_ascii_hexdigit z - 2) % 2 ≡ suc (suc (prefix_len is_ascii_hexdigit z - prefix_len is_ascii_hexdigit z % 2)) = omega arith in
+    best_same is_bytes (b ∷ x ∷ z) _ _ same (bytes_are b x z e))
     (λ e m le. bytes_not b x z e m)

@@ -1,7 +1,7 @@
 -- What is found is the longest token: where a kind has one, the kinds behind it have none or one of one byte.
-use Rattle.std.proofs.Common.{◌≡◌, ℕ, zero, suc, ◌+◌, ◌-◌, ◌<◌, ◌≤◌, ◌==◌, Bool, true, false, cond, ◌&&◌, ◌||◌, List, [], ◌∷◌, length, take, drop, get_or, min, nat_lt, Option, Some, None, refl, ap, sym, ◌∙◌, subst, arith}
+use Rattle.std.proofs.Common.{◌≡◌, ℕ, ◌≤◌, ◌==◌, Bool, true, false, cond, ◌&&◌, ◌||◌, List, [], ◌∷◌, get_or, Option, Some, None, refl, sym, subst, arith}
 use Rattle.std.proofs.lemmas.Bool.Decides.{nat_tests}
-use Rattle.std.specs.Char.{is_ascii_digit, is_ascii_alphabetic}
+use Rattle.std.specs.Char.{is_ascii_digit}
 use Rattle.lg_lex.specs.declared.token.Kind.{Kind}
 use Rattle.lg_lex.specs.declared.token.Kind.TheVariants as kind
 use Rattle.lg_lex.specs.IsToken.{kind_of, is_bytes, is_number, is_text, is_word, is_bracketed, is_sign, begins_word, is_single, is_pair}
@@ -180,13 +180,13 @@ front_is (b ∷ z) =
     let P : Result → Type 0 = λ p. Found of_sign (b ∷ z) p in
     let sign = subst P (or_nothing (signs (b ∷ z))) a in
     let name = ask is_bracketed of_sign kind.Bracketed (b ∷ z) (f.bracketed (b ∷ z)) (signs (b ∷ z)) (best_bracketed b z)
-      (under_by is_bracketed (b ∷ z) (b == 91) (f.bracketed (b ∷ z)) (signs (b ∷ z)) (best_bracketed b z) (behind_bracketed b z) (λ e. rw e refl)) sign in
+    (under_by is_bracketed (b ∷ z) (b == 91) (f.bracketed (b ∷ z)) (signs (b ∷ z)) (best_bracketed b z) (behind_bracketed b z) (λ e. rw e refl)) sign in
     let word = ask is_word of_name kind.Word (b ∷ z) (f.word (b ∷ z)) (names (b ∷ z)) (best_word b z)
-      (under_by is_word (b ∷ z) (begins_word b) (f.word (b ∷ z)) (names (b ∷ z)) (best_word b z) (behind_word b z) (λ e. rw e refl)) name in
+    (under_by is_word (b ∷ z) (begins_word b) (f.word (b ∷ z)) (names (b ∷ z)) (best_word b z) (behind_word b z) (λ e. rw e refl)) name in
     let text = ask is_text of_word kind.Text (b ∷ z) (f.text (b ∷ z)) (words (b ∷ z)) (best_text b z)
-      (under_by is_text (b ∷ z) (begins_text b z) (f.text (b ∷ z)) (words (b ∷ z)) (best_text b z) (behind_text_at b z (b == 39) refl) (not_text b z)) word in
+    (under_by is_text (b ∷ z) (begins_text b z) (f.text (b ∷ z)) (words (b ∷ z)) (best_text b z) (behind_text_at b z (b == 39) refl) (not_text b z)) word in
     let number = ask is_number of_text kind.Number (b ∷ z) (f.number (b ∷ z)) (texts (b ∷ z)) (best_number (b ∷ z))
-      (under_by is_number (b ∷ z) (is_ascii_digit b || b == 46) (f.number (b ∷ z)) (texts (b ∷ z)) (best_number (b ∷ z)) (behind_number_at b z (is_ascii_digit b) refl) (not_number b z)) text in
+    (under_by is_number (b ∷ z) (is_ascii_digit b || b == 46) (f.number (b ∷ z)) (texts (b ∷ z)) (best_number (b ∷ z)) (behind_number_at b z (is_ascii_digit b) refl) (not_number b z)) text in
     let bytes = ask is_bytes of_number kind.Bytes (b ∷ z) (f.bytes (b ∷ z)) (numbers (b ∷ z)) (best_bytes b z)
-      (under_by is_bytes (b ∷ z) (begins_bytes b z) (f.bytes (b ∷ z)) (numbers (b ∷ z)) (best_bytes b z) (behind_bytes b z) (not_bytes b z)) number in
+    (under_by is_bytes (b ∷ z) (begins_bytes b z) (f.bytes (b ∷ z)) (numbers (b ∷ z)) (best_bytes b z) (behind_bytes b z) (not_bytes b z)) number in
     found_is_longest (b ∷ z) (front (b ∷ z)) bytes

@@ -1,9 +1,11 @@
 pub mod Best
 pub mod Bytes
+pub mod Ends
 pub mod Found
 pub mod Numbers
 pub mod Quotes
 pub mod Runs
 pub mod Scans
+pub mod Spans
 pub mod Texts
 pub mod Words

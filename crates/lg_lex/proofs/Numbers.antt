@@ -1,5 +1,5 @@
 -- The longest number.
-use Rattle.std.proofs.Common.{◌≡◌, ℕ, zero, suc, ◌+◌, ◌-◌, ◌<◌, ◌≤◌, ◌==◌, ◌⊎◌, inl, inr, Bool, true, false, cond, ◌&&◌, List, [], ◌∷◌, length, take, drop, get_or, min, nat_lt, nat_le, Some, None, refl, ap, sym, ◌∙◌, subst, arith}
+use Rattle.std.proofs.Common.{◌≡◌, ℕ, zero, suc, ◌+◌, ◌-◌, ◌<◌, ◌≤◌, ◌==◌, ◌⊎◌, inl, inr, Bool, true, false, ◌&&◌, List, [], ◌∷◌, length, take, drop, get_or, min, nat_lt, nat_le, Some, None, refl, ap, sym, ◌∙◌, subst, arith}
 use Rattle.std.proofs.lemmas.Bool.Decides.{nat_tests}
 use Rattle.std.proofs.lemmas.List.{length-take-le, length-drop, drop-take, drop-drop, get_or-drop}
 use Rattle.std.proofs.lemmas.List.Sums.{prefix_len-le-length, prefix_len_passes}
@@ -8,7 +8,7 @@ use Rattle.std.specs.Char.{is_ascii_digit}
 use Rattle.lg_lex.specs.IsToken.{is_fraction, is_number}
 use Rattle.lg_lex.specs.Front.{number}
 use Rattle.lg_lex.proofs.Runs.{and_true, not_true, run_bound, run_passes, run_of_part, run_of_more}
-use Rattle.lg_lex.proofs.Best.{Best, best_same, best_if}
+use Rattle.lg_lex.proofs.Best.{Best, best_if}
 
 abbrev run : List ℕ → ℕ
 run z = prefix_len is_ascii_digit z
@@ -129,8 +129,8 @@ number_most z m le h =
     elim (number_is z m le h) [
       | inl is ↦ omega (arith, is.few, is.inside)
       | inr is ↦ (
-        let n : whole z ≡ run z = omega (arith, is.few, is.some) in
-        rw n (omega (arith, is.size, is.few, is.inside)))
+          let n : whole z ≡ run z = omega (arith, is.few, is.some) in
+          rw n (omega (arith, is.size, is.few, is.inside)))
     ]
 
 pointed_passes : (z : List ℕ) (k m : ℕ) → m ≡ run z + suc k → m ≤ length z → get_or z (run z) 0 ≡ 46 → 1 ≤ k → run z + k ≤ 38 → k ≤ run (drop (run z + 1) z) → is_number (take m z) ≡ true
@@ -156,8 +156,7 @@ number_pointed z e =
     let L : ℕ → Type 0 = λ w. w + 1 + min (38 - w) (run (drop (w + 1) z)) ≤ length z in
     let fits : whole z + 1 + min (38 - whole z) (run (drop (whole z + 1) z)) ≤ length z = omega (arith, within, left, r) in
     let some_at = subst Q n some in
-    let passes = pointed_passes z (min (38 - run z) (run (drop (run z + 1) z))) (run z + 1 + min (38 - run z) (run (drop (run z + 1) z))) (omega arith) (subst L n fits) (subst P n point) (omega (arith, less, some_at)) (omega (arith, less)) (omega arith) in
-    (
+    let passes = pointed_passes z (min (38 - run z) (run (drop (run z + 1) z))) (run z + 1 + min (38 - run z) (run (drop (run z + 1) z))) (omega arith) (subst L n fits) (subst P n point) (omega (arith, less, some_at)) (omega (arith, less)) (omega arith) in (
       (omega arith),
       fits,
       subst S (sym n) passes,
@@ -174,11 +173,11 @@ whole_most z e m le h =
 no_number : (z : List ℕ) → has_point z ≡ false → (whole z == 0) ≡ true → (m : ℕ) → m ≤ length z → is_number (take m z) ≡ false
 no_number z e f m le =
     not_true (is_number (take m z)) (λ h.
-      let none : whole z ≡ 0 = grind (arith, nat_tests, f) in
-      elim (number_is z m le h) [
-        | inl is ↦ omega (arith, is.some, is.few, is.inside, none)
-        | inr is ↦ (let shows = point_shows z m is in cc)
-      ])
+    let none : whole z ≡ 0 = grind (arith, nat_tests, f) in
+    elim (number_is z m le h) [
+      | inl is ↦ omega (arith, is.some, is.few, is.inside, none)
+      | inr is ↦ (let shows = point_shows z m is in cc)
+    ])
 
 number_whole : (z : List ℕ) → has_point z ≡ false → (whole z == 0) ≡ false → Best is_number z (Some (whole z))
 number_whole z e f =
@@ -187,8 +186,7 @@ number_whole z e f =
     let lower : nat_lt 0 (whole z) ≡ true = grind (arith, nat_tests, some) in
     let few : whole z ≤ 38 = omega arith in
     let upper : nat_le (whole z) 38 ≡ true = grind (arith, nat_tests, few) in
-    let both : (nat_lt 0 (whole z) && nat_le (whole z) 38) ≡ true = rw (lower, upper) refl in
-    (
+    let both : (nat_lt 0 (whole z) && nat_le (whole z) 38) ≡ true = rw (lower, upper) refl in (
       some,
       (omega (arith, r)),
       whole_is z (whole z) (omega arith) ∙ both,

@@ -1,5 +1,5 @@
 -- The closing quote that is found is the last that can close the text.
-use Rattle.std.proofs.Common.{◌≡◌, ℕ, zero, suc, ◌+◌, ◌-◌, ◌<◌, ◌≤◌, Bool, true, false, cond, ◌==◌, eqb, ◌&&◌, List, [], ◌∷◌, length, take, Option, Some, None, refl, ap, subst, sym, ◌∙◌, arith, add-one, ◌⊎◌, inl, inr}
+use Rattle.std.proofs.Common.{◌≡◌, ℕ, zero, suc, ◌+◌, ◌≤◌, Bool, true, false, cond, eqb, ◌&&◌, List, [], ◌∷◌, length, take, Option, Some, None, refl, subst, arith, ◌⊎◌, inl, inr}
 use Rattle.lg_lex.specs.Front.{closing}
 use Rattle.lg_lex.specs.IsToken.{is_inside}
 

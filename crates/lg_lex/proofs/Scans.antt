@@ -1,9 +1,9 @@
-use Rattle.std.proofs.Common.{◌≡◌, ℕ, zero, suc, ◌+◌, ◌-◌, ◌≤◌, List, [], ◌∷◌, ◌++◌, drop, refl, ap, append_assoc, arith, length-drop, ◌∙◌, Result, Ok, Err}
+use Rattle.std.proofs.Common.{◌≡◌, ℕ, zero, suc, ◌+◌, ◌-◌, ◌≤◌, List, [], ◌∷◌, ◌++◌, drop, refl, ap, append_assoc, arith, length-drop, ◌∙◌, Ok, Err}
 use Rattle.lg_lex.specs.declared.token.Token.{Token}
-use Rattle.std.proofs.Common.{true, false, cond, length, get_or, Some, None}
+use Rattle.std.proofs.Common.{true, false, length, get_or, Some, None}
 use Rattle.lg_lex.specs.declared.token.Kind.{Kind}
 use Rattle.lg_lex.specs.Longest.{longest}
-use Rattle.lg_lex.specs.Cut.{Scan, scan, with_front, is_blank, begins_comment, goes_on}
+use Rattle.lg_lex.specs.Cut.{Scan, scan, with_front, is_blank, begins_comment}
 
 pub scan-drop : (n at : ℕ) (z : List ℕ) → scan n at z ≡ scan 0 (at + n) (drop n z)
 scan-drop zero at [] = refl

@@ -1,7 +1,7 @@
 -- The longest quoted text.
-use Rattle.std.proofs.Common.{◌≡◌, ℕ, zero, suc, ◌+◌, ◌<◌, ◌≤◌, ◌==◌, ◌⊎◌, inl, inr, Bool, true, false, cond, ◌&&◌, ◌||◌, List, [], ◌∷◌, length, take, drop, get_or, Option, Some, None, refl, ap, sym, ◌∙◌, subst, arith}
+use Rattle.std.proofs.Common.{◌≡◌, ℕ, zero, suc, ◌+◌, ◌≤◌, ◌==◌, inl, inr, Bool, true, false, cond, ◌&&◌, ◌||◌, List, [], ◌∷◌, length, take, drop, get_or, Option, Some, None, refl, sym, ◌∙◌, subst, arith}
 use Rattle.std.proofs.lemmas.Bool.Decides.{nat_tests}
-use Rattle.lg_lex.specs.IsToken.{is_inside, is_quoted, is_text}
+use Rattle.lg_lex.specs.IsToken.{is_inside, is_text}
 use Rattle.lg_lex.specs.Front.{closing, text}
 use Rattle.lg_lex.proofs.Quotes.{covers, finds}
 use Rattle.lg_lex.proofs.Runs.{and_true, not_true}
@@ -73,10 +73,10 @@ no_text b z e f (suc zero) = rw e (and_none (b == 78 || b == 110))
 no_text b [] e f (suc (suc m)) = rw e (and_none (b == 78 || b == 110))
 no_text b (d ∷ z) e f (suc (suc m)) =
     rw e (not_true ((b == 78 || b == 110) && (d == 39 && is_inside false (take m z))) (λ h.
-      let outer = and_true (b == 78 || b == 110) (d == 39 && is_inside false (take m z)) h in
-      let inner = and_true (d == 39) (is_inside false (take m z)) outer.1 in
-      let both : ((b == 78 || b == 110) && d == 39) ≡ true = rw (outer.0, inner.0) refl in
-      cc))
+    let outer = and_true (b == 78 || b == 110) (d == 39 && is_inside false (take m z)) h in
+    let inner = and_true (d == 39) (is_inside false (take m z)) outer.1 in
+    let both : ((b == 78 || b == 110) && d == 39) ≡ true = rw (outer.0, inner.0) refl in
+    cc))
 
 after_letter : (b : ℕ) (z : List ℕ) → (b == 39) ≡ false → ((b == 78 || b == 110) && get_or z 0 0 == 39) ≡ true → Best is_text (b ∷ z) (closing false None 2 (drop 1 z))
 after_letter b [] e f = absurd (let both = and_true (b == 78 || b == 110) (0 == 39) f in let never : (0 == 39) ≡ true = both.1 in cc)
@@ -91,5 +91,5 @@ best_text b z =
     best_if is_text (b ∷ z) (b == 39) (closing false None 1 z) _
     (λ e. let at : b ≡ 39 = grind (arith, nat_tests) in quoted b z (closing false None 1 z) at (closes_by 1 z (closing false None 1 z) refl))
     (λ e. best_if is_text (b ∷ z) ((b == 78 || b == 110) && get_or z 0 0 == 39) (closing false None 2 (drop 1 z)) None
-      (after_letter b z e)
-      (λ f m le. no_text b z e f m))
+    (after_letter b z e)
+    (λ f m le. no_text b z e f m))

@@ -1,14 +1,13 @@
 -- The longest word, bracketed name and sign.
-use Rattle.std.proofs.Common.{◌≡◌, ℕ, zero, suc, ◌+◌, ◌-◌, ◌<◌, ◌≤◌, ◌==◌, Bool, true, false, cond, ◌&&◌, List, [], ◌∷◌, length, take, drop, get_or, nat_lt, Some, None, refl, ap, sym, ◌∙◌, subst, arith}
+use Rattle.std.proofs.Common.{◌≡◌, ℕ, zero, suc, ◌+◌, ◌<◌, ◌≤◌, ◌==◌, Bool, true, false, cond, ◌&&◌, List, [], ◌∷◌, length, take, get_or, nat_lt, Some, None, refl, ap, sym, ◌∙◌, subst, arith}
 use Rattle.std.proofs.lemmas.Bool.Decides.{nat_tests}
 use Rattle.std.proofs.lemmas.List.{length-take-le}
 use Rattle.std.proofs.lemmas.List.Sums.{prefix_len-le-length}
 use Rattle.std.specs.List.{list_all, prefix_len}
-use Rattle.std.specs.Char.{is_ascii_alphabetic, is_ascii_alphanumeric}
 use Rattle.lg_lex.specs.declared.front.Class.TheVariants as class
 use Rattle.lg_lex.specs.IsToken.{begins_word, is_word_byte, is_word, is_name_byte, is_closed, is_bracketed, is_single, is_pair, is_sign}
 use Rattle.lg_lex.specs.Front.{past, word, bracketed, sign}
-use Rattle.lg_lex.proofs.Runs.{and_true, or_false, not_true, run_bound, run_passes}
+use Rattle.lg_lex.proofs.Runs.{and_true, not_true, run_bound, run_passes}
 use Rattle.lg_lex.proofs.Best.{Best, best_same, best_if}
 
 start_is_word_byte : (b : ℕ) → begins_word b ≡ true → is_word_byte b ≡ true
@@ -29,15 +28,15 @@ pub best_word : (b : ℕ) (z : List ℕ) → Best is_word (b ∷ z) (word (b ∷
 best_word b z =
     best_if is_word (b ∷ z) (begins_word b) (Some (past class.Word (b ∷ z) 0)) None
     (λ e.
-      let letter = start_is_word_byte b e in
-      let run = prefix_len-le-length is_word_byte z in
-      let n : past class.Word (b ∷ z) 0 ≡ suc (prefix_len is_word_byte z) = rw letter (omega arith) in
-      best_same is_word (b ∷ z) (past class.Word (b ∷ z) 0) (suc (prefix_len is_word_byte z)) n (
-        (omega arith),
-        (omega (arith, run)),
-        (rw (e, run_passes is_word_byte z (prefix_len is_word_byte z) (omega arith)) refl),
-        word_most b z,
-      ))
+    let letter = start_is_word_byte b e in
+    let run = prefix_len-le-length is_word_byte z in
+    let n : past class.Word (b ∷ z) 0 ≡ suc (prefix_len is_word_byte z) = rw letter (omega arith) in
+    best_same is_word (b ∷ z) (past class.Word (b ∷ z) 0) (suc (prefix_len is_word_byte z)) n (
+      (omega arith),
+      (omega (arith, run)),
+      (rw (e, run_passes is_word_byte z (prefix_len is_word_byte z) (omega arith)) refl),
+      word_most b z,
+    ))
     (λ e m le. word_none b z e m)
 
 closes_at : (b : ℕ) (z : List ℕ) (c : Bool) → is_name_byte b ≡ c → (get_or z (prefix_len is_name_byte z) 0 ≡ 93 → (prefix_len is_name_byte z < length z) × (is_closed (take (suc (prefix_len is_name_byte z)) z) ≡ true))
@@ -101,12 +100,12 @@ bracketed_unless : (b : ℕ) (z : List ℕ) → (nat_lt 1 (1 + prefix_len is_nam
 bracketed_unless b z e zero le = refl
 bracketed_unless b z e (suc m) le =
     not_true (is_bracketed (take (suc m) (b ∷ z))) (λ h.
-      let is = bracketed_is b z m le h in
-      let one : 1 + prefix_len is_name_byte z ≡ suc (prefix_len is_name_byte z) = omega arith in
-      let more : nat_lt 1 (1 + prefix_len is_name_byte z) ≡ true = grind (arith, nat_tests, is.0, is.1) in
-      let close : get_or (b ∷ z) (1 + prefix_len is_name_byte z) 0 ≡ 93 = ap (λ n. get_or (b ∷ z) n 0) one ∙ is.2 in
-      let both : (nat_lt 1 (1 + prefix_len is_name_byte z) && get_or (b ∷ z) (1 + prefix_len is_name_byte z) 0 == 93) ≡ true = rw (more, close) refl in
-      cc)
+    let is = bracketed_is b z m le h in
+    let one : 1 + prefix_len is_name_byte z ≡ suc (prefix_len is_name_byte z) = omega arith in
+    let more : nat_lt 1 (1 + prefix_len is_name_byte z) ≡ true = grind (arith, nat_tests, is.0, is.1) in
+    let close : get_or (b ∷ z) (1 + prefix_len is_name_byte z) 0 ≡ 93 = ap (λ n. get_or (b ∷ z) n 0) one ∙ is.2 in
+    let both : (nat_lt 1 (1 + prefix_len is_name_byte z) && get_or (b ∷ z) (1 + prefix_len is_name_byte z) 0 == 93) ≡ true = rw (more, close) refl in
+    cc)
 
 bracketed_when : (b : ℕ) (z : List ℕ) → (b == 91) ≡ true → (nat_lt 1 (1 + prefix_len is_name_byte z) && get_or (b ∷ z) (1 + prefix_len is_name_byte z) 0 == 93) ≡ true → Best is_bracketed (b ∷ z) (Some (1 + prefix_len is_name_byte z + 1))
 bracketed_when b z open_ e =
@@ -129,8 +128,8 @@ pub best_bracketed : (b : ℕ) (z : List ℕ) → Best is_bracketed (b ∷ z) (b
 best_bracketed b z =
     best_if is_bracketed (b ∷ z) (b == 91) _ None
     (λ open_. best_if is_bracketed (b ∷ z) (nat_lt 1 (1 + prefix_len is_name_byte z) && get_or (b ∷ z) (1 + prefix_len is_name_byte z) 0 == 93) (Some (1 + prefix_len is_name_byte z + 1)) None
-      (bracketed_when b z open_)
-      (bracketed_unless b z))
+    (bracketed_when b z open_)
+    (bracketed_unless b z))
     (λ e m le. bracketed_none b z e m)
 
 sign_last : (b : ℕ) → is_pair b 0 ≡ false
@@ -169,5 +168,5 @@ best_sign b z =
     best_if is_sign (b ∷ z) (is_pair b (get_or z 0 0)) (Some 2) _
     (pair_best b z)
     (λ e. best_if is_sign (b ∷ z) (is_single b) (Some 1) None
-      (λ f. (omega arith, omega arith, f, single_most b z e))
-      (no_sign b z e))
+    (λ f. (omega arith, omega arith, f, single_most b z e))
+    (no_sign b z e))

@@ -1,5 +1,5 @@
 -- All tokens of a text.
-use Rattle.std.specs.Prelude.{◌≤◌, ◌<◌, ℕ, zero, suc, ◌+◌, ◌-◌, Bool, ◌&&◌, ◌||◌, if◌then◌else◌, ◌==◌, List, [], ◌∷◌, ◌++◌, slice_index, Option, Some, None, Result, Ok, Err}
+use Rattle.std.specs.Prelude.{ℕ, zero, suc, ◌+◌, ◌-◌, Bool, ◌&&◌, ◌||◌, if◌then◌else◌, ◌==◌, List, [], ◌∷◌, ◌++◌, slice_index, Option, Some, None, Result, Ok, Err}
 use Rattle.lg_lex.specs.declared.token.Kind.{Kind}
 use Rattle.lg_lex.specs.declared.token.Token.{Token}
 use Rattle.lg_lex.specs.Longest.{longest}
@@ -37,8 +37,3 @@ scan zero at (b ∷ z) =
 -- the tokens of a text
 abbrev pub tokens_of : List ℕ → Scan
 tokens_of text = scan 0 0 text
-
--- each token has a byte or more, begins where the one before ends or behind, and ends at the place or before
-abbrev pub Rise : ℕ → List Token → ℕ → Type 0
-Rise at [] end = at ≤ end
-Rise at (t ∷ ts) end = (at ≤ t.start) × (t.start < t.end) × Rise t.end ts end

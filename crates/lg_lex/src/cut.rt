@@ -1,8 +1,9 @@
 //! All tokens of a text.
 
-ghost use Rattle.std.specs.Prelude.{◌≡◌, ℕ, Ok, Err, IfOk, length};
+ghost use Rattle.std.specs.Prelude.{◌≡◌, ℕ, All, Ok, Err, IfOk, length};
 ghost use Rattle.lg_lex.specs.Cut as spec;
-ghost use Rattle.lg_lex.specs.Cut.{tokens_of, Rise};
+ghost use Rattle.lg_lex.specs.Cut.{tokens_of};
+ghost use Rattle.lg_lex.specs.Spans.{Rise, IsSpan};
 
 use crate::front::{byte, longest};
 use crate::token::{LexErr, Token};
@@ -21,9 +22,8 @@ fn begins_comment(z: &[u8]) -> bool
     byte(z, 0) == b'-' && byte(z, 1) == b'-'
 }
 
-/// The tokens of a text, each the longest that begins at its place, with blanks (spaces and tabs) and a comment at the
-/// end left out. It takes time linear in the text.
-pub fn tokens(alloc: Global, text: &str) -> Result<Items<Token>, LexErr>
+// The tokens, by the definition alone.
+fn cut(alloc: Global, text: &str) -> Result<Items<Token>, LexErr>
     ensures found { IfOk result (λ found. tokens_of text.now ≡ Ok found) }
     ensures bad { (at : ℕ) → result ≡ Err (LexErr.Bad at) → tokens_of text.now ≡ Err at }
 {
@@ -51,4 +51,17 @@ pub fn tokens(alloc: Global, text: &str) -> Result<Items<Token>, LexErr>
         }
     }
     Ok(found)
+}
+
+/// The tokens of a text, each the longest that begins at its place, with blanks (spaces and tabs) and a comment at the
+/// end left out. It takes time linear in the text.
+pub fn tokens(alloc: Global, text: &str) -> Result<Items<Token>, LexErr>
+    ensures found { IfOk result (λ found. tokens_of text.now ≡ Ok found) }
+    ensures bad { (at : ℕ) → result ≡ Err (LexErr.Bad at) → tokens_of text.now ≡ Err at }
+
+    // The tokens are pieces of the text, one behind the other.
+    ensures rise { IfOk result (λ found. Rise 0 found (length text.now)) }
+    ensures spans { IfOk result (All (IsSpan text.now)) }
+{
+    cut(alloc, text)
 }

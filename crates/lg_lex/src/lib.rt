@@ -7,3 +7,6 @@ mod token;
 
 pub use cut::tokens;
 pub use token::{Kind, LexErr, Token};
+
+#[cfg(test)]
+mod tests;
