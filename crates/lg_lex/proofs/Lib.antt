@@ -2,6 +2,7 @@ pub mod Best
 pub mod Bytes
 pub mod Ends
 pub mod Found
+pub mod Laws
 pub mod Numbers
 pub mod Quotes
 pub mod Runs

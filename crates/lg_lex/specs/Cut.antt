@@ -16,6 +16,7 @@ is_blank b = b == 32 || b == 9
 abbrev pub begins_comment : List ℕ → Bool
 begins_comment z = slice_index z 0 == 45 && slice_index z 1 == 45
 
+-- these tokens, then those of the scan
 abbrev pub with_front : List Token → Scan → Scan
 with_front front (Ok ts) = Ok (front ++ ts)
 with_front front (Err at) = Err at

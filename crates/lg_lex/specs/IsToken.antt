@@ -48,6 +48,7 @@ is_inside is_second [] = is_second
 is_inside false (b ∷ z) = if b == 39 then is_inside true z else is_inside false z
 is_inside true (b ∷ z) = b == 39 && is_inside false z
 
+-- a quote and the rest of a text
 abbrev pub is_quoted : List ℕ → Bool
 is_quoted [] = false
 is_quoted (b ∷ z) = b == 39 && is_inside false z
@@ -71,13 +72,14 @@ is_single b = b == 40 || b == 41 || b == 44 || b == 59 || b == 61 || b == 60 || 
 abbrev pub is_pair : ℕ → ℕ → Bool
 is_pair b c = (b == 60 && (c == 62 || c == 61)) || ((b == 62 || b == 33) && c == 61)
 
+-- one byte or two
 abbrev pub is_sign : List ℕ → Bool
 is_sign [] = false
 is_sign (b ∷ []) = is_single b
 is_sign (b ∷ c ∷ []) = is_pair b c
 is_sign (b ∷ c ∷ d ∷ z) = false
 
--- the kind of which these bytes are a token; they are of one kind at most
+-- the kind of which these bytes are a token
 unfoldable pub kind_of : List ℕ → Option Kind
 kind_of z =
     if is_bytes z then Some kind.Bytes

@@ -3,9 +3,11 @@
 
 mod cut;
 mod front;
+mod law;
 mod token;
 
 pub use cut::tokens;
+pub use law::longest_law;
 pub use token::{Kind, LexErr, Token};
 
 #[cfg(test)]
