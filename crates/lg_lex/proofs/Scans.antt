@@ -1,6 +1,6 @@
-use Rattle.std.proofs.Common.{◌≡◌, ℕ, zero, suc, ◌+◌, ◌-◌, ◌≤◌, List, [], ◌∷◌, ◌++◌, drop, refl, ap, append_assoc, arith, length-drop, ◌∙◌, Ok, Err}
+-- One turn of the loop over a text.
+use Rattle.std.proofs.Common.{◌≡◌, ℕ, zero, suc, ◌+◌, ◌-◌, ◌≤◌, true, false, List, [], ◌∷◌, ◌++◌, length, drop, get_or, refl, ap, append_assoc, arith, length-drop, ◌∙◌, Some, None, Ok, Err}
 use Rattle.lg_lex.specs.declared.token.Token.{Token}
-use Rattle.std.proofs.Common.{true, false, length, get_or, Some, None}
 use Rattle.lg_lex.specs.declared.token.Kind.{Kind}
 use Rattle.lg_lex.specs.Longest.{longest}
 use Rattle.lg_lex.specs.Cut.{Scan, scan, with_front, is_blank, begins_comment}
