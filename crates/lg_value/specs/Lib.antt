@@ -1,7 +1,9 @@
 pub mod Conversion
 pub mod Day
+pub mod Literal
 pub mod Number
 pub mod Order
+pub mod Pieces
 pub mod Refusal
 pub mod Stored
 pub mod Text

@@ -6,6 +6,7 @@ mod conversion;
 mod day;
 mod expr;
 
+mod literal;
 mod number;
 mod order;
 mod refusal;
@@ -19,6 +20,7 @@ pub use conversion::to_column;
 pub use expr::{Class, Expr, Op};
 pub use stored::fits;
 pub use lg_items::{Blob, Boxed, Items, Memory, Name, TableId, Text, TxId};
+pub use literal::read_literal;
 pub use order::compare;
 pub use refusal::{LitErr, Refusal, ValueErr};
 pub use sql_type::SqlType;
