@@ -1,5 +1,7 @@
 mod Days
 mod Digits
+mod Doubling
+mod Hexes
 mod Numbers
 mod Ranges
 mod Reading

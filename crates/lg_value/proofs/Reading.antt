@@ -34,10 +34,10 @@ first_n (d ∷ ds) rest h = grind (arith, nat_tests)
 abbrev pub NoQuote : List ℕ → Type 0
 NoQuote bs = (i : ℕ) → i < length bs → get_or bs i 0 ≢ 39
 
-no_quote_tail : (c : ℕ) (cs : List ℕ) → NoQuote (c ∷ cs) → NoQuote cs
+pub no_quote_tail : (c : ℕ) (cs : List ℕ) → NoQuote (c ∷ cs) → NoQuote cs
 no_quote_tail c cs h i small = h (suc i) (omega arith)
 
-no_quote_head : (c : ℕ) (cs : List ℕ) → NoQuote (c ∷ cs) → (c == 39) ≡ false
+pub no_quote_head : (c : ℕ) (cs : List ℕ) → NoQuote (c ∷ cs) → (c == 39) ≡ false
 no_quote_head c cs h = let apart = h 0 (omega arith) in grind (arith, nat_tests)
 
 pub up_to_quote : (piece after before : List ℕ) → NoQuote piece → unquoted_from false before (piece ++ 39 ∷ after) ≡ unquoted_from true (before ++ piece) after

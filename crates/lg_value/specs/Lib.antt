@@ -4,6 +4,7 @@ pub mod Literal
 pub mod Number
 pub mod Order
 pub mod Pieces
+pub mod Printed
 pub mod Refusal
 pub mod Stored
 pub mod Text
