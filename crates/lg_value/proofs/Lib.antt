@@ -3,6 +3,7 @@ mod Digits
 mod Doubling
 mod Hexes
 mod Numbers
+mod OrderLaws
 mod Ranges
 mod Reading
 mod Rounding

@@ -6,6 +6,7 @@ mod conversion;
 mod day;
 mod expr;
 
+mod laws;
 mod literal;
 mod number;
 mod order;
@@ -20,6 +21,7 @@ pub use column::{ColumnDef, TableKind};
 pub use conversion::to_column;
 pub use expr::{Class, Expr, Op};
 pub use stored::fits;
+pub use laws::{order_is_total, order_of_kinds};
 pub use lg_items::{Blob, Boxed, Items, Memory, Name, TableId, Text, TxId};
 pub use literal::read_literal;
 pub use order::compare;
