@@ -1,4 +1,5 @@
 mod Days
+mod DigitTexts
 mod Digits
 mod Doubling
 mod Hexes

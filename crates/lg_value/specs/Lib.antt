@@ -1,6 +1,7 @@
 pub mod Conversion
 pub mod Day
 pub mod Literal
+pub mod Literals
 pub mod Number
 pub mod Order
 pub mod Pieces
