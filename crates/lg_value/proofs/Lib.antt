@@ -7,5 +7,6 @@ mod Numbers
 mod OrderLaws
 mod Ranges
 mod Reading
+mod RoundTrip
 mod Rounding
 mod Texts
