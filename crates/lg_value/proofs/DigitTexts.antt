@@ -138,12 +138,12 @@ pub pointed_read : (whole ds : List ℕ) (s n : ℕ) → digits_after 0 whole �
 unfolding pointed
 pointed_read whole [] s n none is some few also = absurd (omega arith)
 pointed_read whole (d ∷ ds) s n none is some few also = elim (cases_lt s (length (d ∷ ds))) [
-    | inl inside ↦
-        let at = length (d ∷ ds) - s in
-        let parts = take-append-drop at (d ∷ ds) in
-        let size : length (drop at (d ∷ ds)) ≡ s = length-drop at (d ∷ ds) ∙ omega arith in
-        rw (lt-ltb s (length (d ∷ ds)) inside) (tail_pointed (take at (d ∷ ds)) (drop at (d ∷ ds)) d ds n (sym parts) is few ∙ ap (λ x. Some (n, x)) size)
-    | inr outside ↦
-        let total : s - length (d ∷ ds) + length (d ∷ ds) ≡ s = omega arith in
-        rw (le-ltb s (length (d ∷ ds)) outside) (filled whole (d ∷ ds) (s - length (d ∷ ds)) n none is some (omega arith) ∙ ap (λ x. Some (n, x)) total)
-  ]
+  | inl inside ↦
+      let at = length (d ∷ ds) - s in
+      let parts = take-append-drop at (d ∷ ds) in
+      let size : length (drop at (d ∷ ds)) ≡ s = length-drop at (d ∷ ds) ∙ omega arith in
+      rw (lt-ltb s (length (d ∷ ds)) inside) (tail_pointed (take at (d ∷ ds)) (drop at (d ∷ ds)) d ds n (sym parts) is few ∙ ap (λ x. Some (n, x)) size)
+  | inr outside ↦
+      let total : s - length (d ∷ ds) + length (d ∷ ds) ≡ s = omega arith in
+      rw (le-ltb s (length (d ∷ ds)) outside) (filled whole (d ∷ ds) (s - length (d ∷ ds)) n none is some (omega arith) ∙ ap (λ x. Some (n, x)) total)
+]

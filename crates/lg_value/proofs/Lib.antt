@@ -1,3 +1,5 @@
+mod Conversions
+mod DayTexts
 mod Days
 mod DigitTexts
 mod Digits

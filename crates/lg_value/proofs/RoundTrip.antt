@@ -6,7 +6,7 @@ use Rattle.std.specs.Char.{is_ascii_digit, to_ascii_lowercase}
 use Rattle.std.specs.Fmt.{decimal}
 use Rattle.std.proofs.lemmas.Fmt.{length-decimal-le_wide, decimal_by_steps_wide}
 use Rattle.std.proofs.lemmas.List.{take-append-drop}
-use Rattle.std.proofs.lemmas.Bool.{eqb-true, cases_eq, and_parts, cases_lt, lt-ltb, le-ltb}
+use Rattle.std.proofs.lemmas.Bool.{eqb-true, cases_eq, and_parts, cases_lt, lt-ltb, le-ltb, le-leb}
 use Rattle.std.proofs.lemmas.Bool.Decides.{nat_tests}
 use Rattle.hex.specs.Hex.{encode_upper, decode_of, IsBytes}
 use Rattle.hex.proofs.HexLemmas.{decode_of-encode_upper}
@@ -15,6 +15,8 @@ use Rattle.lg_value.specs.declared.value.Value.TheVariants.{Null, Num, Text, Byt
 use Rattle.lg_value.specs.Literal.{literal_of, signed, unsigned, number, minus, unquoted, unquoted_from, digits_after}
 use Rattle.lg_value.specs.Literals.{IsLiteral, HasWholePart}
 use Rattle.lg_value.specs.Printed.{printed, printed_with, literal_text, leading_zero, pointed, behind_point, doubled, number_text, quoted, day_text, sign}
+use Rattle.lg_value.specs.Day.{date_of, date_text, last_day}
+use Rattle.lg_value.proofs.DayTexts.{date_doubled}
 use Rattle.lg_value.proofs.DigitTexts.{decimal_read, all_digits, pointed_read}
 
 -- ---- numbers
@@ -61,13 +63,13 @@ behind_sized (d ∷ ds) h = h
 pointed_sized : (first ds : List ℕ) (s : ℕ) → Sized first → Sized ds → Sized (pointed first ds s)
 unfolding pointed
 pointed_sized first ds s g h = elim (cases_lt s (length ds)) [
-    | inl inside ↦
-        let at = length ds - s in
-        let whole : Sized (take at ds ++ drop at ds) = rw (take-append-drop at ds) h in
-        rw (lt-ltb s (length ds) inside) (sized_append (take at ds) (behind_point (drop at ds)) (sized_front (take at ds) (drop at ds) whole) (behind_sized (drop at ds) (sized_back (take at ds) (drop at ds) whole)))
-    | inr outside ↦
-        rw (le-ltb s (length ds) outside) (sized_append first (46 ∷ (replicate (s - length ds) 48 ++ ds)) g (sized_append (replicate (s - length ds) 48) ds (zeros_sized (s - length ds)) h))
-  ]
+  | inl inside ↦
+      let at = length ds - s in
+      let whole : Sized (take at ds ++ drop at ds) = rw (take-append-drop at ds) h in
+      rw (lt-ltb s (length ds) inside) (sized_append (take at ds) (behind_point (drop at ds)) (sized_front (take at ds) (drop at ds) whole) (behind_sized (drop at ds) (sized_back (take at ds) (drop at ds) whole)))
+  | inr outside ↦
+      rw (le-ltb s (length ds) outside) (sized_append first (46 ∷ (replicate (s - length ds) 48 ++ ds)) g (sized_append (replicate (s - length ds) 48) ds (zeros_sized (s - length ds)) h))
+]
 
 -- such a byte begins no other literal
 abbrev Begins : ℕ → Type 0
@@ -177,9 +179,9 @@ not_38 s h = grind (arith, nat_tests)
 room : (v : Value) → IsLiteral v → Leaves (leading_zero v) v
 room Null is = tt
 room (Num v s) is = elim (cases_eq s 38) [
-    | inl most ↦ rw most (omega arith)
-    | inr less ↦ rw (not_38 s less) (omega (arith, is, less))
-  ]
+  | inl most ↦ rw most (omega arith)
+  | inr less ↦ rw (not_38 s less) (omega (arith, is, less))
+]
 room (Text t) is = tt
 room (Bytes b) is = tt
 room (Date d) is = tt
@@ -187,9 +189,9 @@ room (Date d) is = tt
 first_read : (v : Value) → digits_after 0 (leading_zero v) ≡ Some 0
 first_read Null = refl
 first_read (Num v s) = elim (cases_eq s 38) [
-    | inl most ↦ rw most refl
-    | inr less ↦ rw (not_38 s less) refl
-  ]
+  | inl most ↦ rw most refl
+  | inr less ↦ rw (not_38 s less) refl
+]
 first_read (Text t) = refl
 first_read (Bytes b) = refl
 first_read (Date d) = refl
@@ -210,3 +212,10 @@ whole_room (Date d) is whole = tt
 pub shown_read : (v : Value) → IsLiteral v → HasWholePart v → literal_of (printed v) ≡ Some v
 unfolding printed
 shown_read v is whole = read_with v (48 ∷ []) is refl (whole_room v is whole)
+
+-- a day is shown as a text that is read as its date
+pub day_shown : (d : ℕ) → d ≤ last_day → literal_of (printed (Date d)) ≡ Some (Text (date_text (date_of d)))
+unfolding printed day_text literal_of
+day_shown d h =
+    let same = date_doubled (date_of d) in
+    rw (le-leb d last_day h) (ap (option_map Text) (ap (λ x. unquoted (x ++ 39 ∷ [])) (sym same) ∙ text_read (date_text (date_of d))))

@@ -11,9 +11,9 @@ use Rattle.lg_value.proofs.Numbers.{ten_pos, raised_none}
 -- a unit that 128 bits don't hold is of 39 places or more
 pub many_places : (k : ℕ) → (10 ^ k < 2 ^ 128 → ⊥) → 39 ≤ k
 many_places k out = elim (cases_lt k 39) [
-    | inl few ↦ let most = pow-le-pow_right {n = 10} (lit< tt) {i = k} {j = 38} (omega arith) in absurd (out (omega (arith, most)))
-    | inr many ↦ many
-  ]
+  | inl few ↦ let most = pow-le-pow_right {n = 10} (lit< tt) {i = k} {j = 38} (omega arith) in absurd (out (omega (arith, most)))
+  | inr many ↦ many
+]
 
 -- to such units 128 bits are rounded away
 pub rounded_away : (n k : ℕ) → n ≤ 2 ^ 127 → 39 ≤ k → 0 ≡ rounded_size n k

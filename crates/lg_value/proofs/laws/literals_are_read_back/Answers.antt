@@ -1,0 +1,5 @@
+use Rattle.lg_value.proofs.RoundTrip.{literal_read, shown_read, day_shown}
+use Rattle.lg_value.proofs.laws.literals_are_read_back.Goals as goal
+
+pub returns : goal.returns
+returns c = record { written = literal_read; shown = shown_read; days = day_shown }
