@@ -1,17 +1,16 @@
 -- Storing and conversion.
 use Rattle.std.proofs.Common.{◌≡◌, ◌∙◌, ◌<◌, ◌≤◌, ℕ, zero, suc, ◌+◌, ◌-◌, ◌*◌, ◌/◌, ◌^◌, Bool, true, false, List, length, ap, sym, refl, subst, arith, rules, Option, Some, None, Ok, Err}
-use Rattle.std.specs.Prelude.{ℤ, pos, negsuc, neg_ℤ, unsigned_abs, ◌==◌, ◌&&◌, nat_le, nat_lt, ◌↔◌, if◌then◌else◌}
+use Rattle.std.specs.Prelude.{ℤ, pos, negsuc, neg_ℤ, ◌==◌, nat_le, if◌then◌else◌}
 use Rattle.std.proofs.Math.Nat.{lt-div-mul-add, div-mul-le_self, div-lt_iff_lt-mul, pow-suc}
 use Rattle.std.proofs.lemmas.Bool.{and_parts, eqb-true, le-leb}
 use Rattle.std.proofs.lemmas.Bool.Decides.{nat_tests}
-use Rattle.std.proofs.lemmas.Int.{ints}
 use Rattle.lg_value.specs.declared.value.Value.{Value}
 use Rattle.lg_value.specs.declared.value.Value.TheVariants.{Null, Num, Text, Bytes, Date}
 use Rattle.lg_value.specs.declared.refusal.ValueErr.{ValueErr}
 use Rattle.lg_value.specs.declared.refusal.ValueErr.TheVariants.{Mismatch, OutOfRange, TooLong}
 use Rattle.lg_value.specs.declared.sql_type.SqlType.{SqlType}
 use Rattle.lg_value.specs.declared.sql_type.SqlType.TheVariants as t
-use Rattle.lg_value.specs.Number.{rescaled, rounded, rounded_size, has_digits, raised, with_sign}
+use Rattle.lg_value.specs.Number.{rescaled, rounded, rounded_size, has_digits}
 use Rattle.lg_value.specs.Stored.{is_in_range, is_stored, is_value_of, number_stored, text_stored, bytes_stored, day_stored, in_bits, is_bit}
 use Rattle.lg_value.specs.Conversion.{Converted, conversion_of, number_to, whole_to, text_to, bytes_to, day_to, only_if, bit_of, day_or_mismatch}
 use Rattle.lg_value.specs.Text.{utf16_units}

@@ -1,6 +1,6 @@
 -- Days, their numbers and their texts.
-use Rattle.std.proofs.Common.{◌≡◌, ◌∙◌, ◌<◌, ◌≤◌, ℕ, ◌+◌, ◌-◌, ◌*◌, ◌/◌, ◌%◌, Bool, true, false, List, [], ◌∷◌, ◌++◌, ap, sym, refl, arith, rules, Option, Some, None}
-use Rattle.std.specs.Prelude.{pos, ◌==◌, ◌&&◌, nat_le, option_and_then, if◌then◌else◌}
+use Rattle.std.proofs.Common.{◌≡◌, ◌<◌, ◌≤◌, ℕ, ◌+◌, ◌-◌, ◌*◌, ◌/◌, ◌%◌, Bool, true, false, List, ap, refl, arith, rules, Option, Some, None}
+use Rattle.std.specs.Prelude.{pos, ◌==◌, ◌&&◌, nat_le, option_and_then}
 use Rattle.std.specs.Char.{is_ascii_digit}
 use Rattle.std.proofs.lemmas.Bool.{le-leb, leb-true, and_parts}
 use Rattle.std.proofs.lemmas.Bool.Decides.{nat_tests}
@@ -8,9 +8,9 @@ use Rattle.jiff_core.specs.Calendar.{day_count, days_in_month, IsCivilDate}
 use Rattle.jiff_core.proofs.CalendarLemmas.{day_count_bounds, days_in_month_bounds}
 use Rattle.jiff_core.proofs.SignedLemmas.{signed_arith}
 use Rattle.lg_value.specs.declared.day.Civil.{Civil}
-use Rattle.lg_value.specs.Day.{civil, is_date, number_of, date_of, last_day, two_digits, as_date, written_date, day_if, day_of, date_text}
+use Rattle.lg_value.specs.Day.{is_date, number_of, date_of, last_day, two_digits, written_date, day_if, day_of, date_text}
 use Rattle.lg_value.specs.Printed.{doubled}
-use Rattle.lg_value.proofs.Days.{IsDate, count, date_counts, first_count}
+use Rattle.lg_value.proofs.Days.{IsDate, date_counts, first_count}
 
 read_two : (n : ℕ) → n < 100 → two_digits (48 + n / 10) (48 + n % 10) ≡ Some n
 read_two n h =

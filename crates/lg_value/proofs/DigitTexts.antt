@@ -1,15 +1,15 @@
 -- Texts of digits, with and without a point, are read as their numbers.
-use Rattle.std.proofs.Common.{◌≡◌, ◌∙◌, ◌<◌, ◌≤◌, ℕ, zero, suc, ◌+◌, ◌-◌, ◌*◌, ◌/◌, ◌%◌, ◌^◌, Bool, true, false, List, [], ◌∷◌, ◌++◌, length, take, drop, replicate, ap, sym, refl, subst, arith, rules, Option, Some, None, inl, inr, append-nil, length-append}
-use Rattle.std.specs.Prelude.{◌==◌, ◌&&◌, nat_lt, nat_le, position, option_and_then, option_map}
+use Rattle.std.proofs.Common.{◌≡◌, ◌∙◌, ◌<◌, ◌≤◌, ℕ, zero, suc, ◌+◌, ◌-◌, ◌*◌, ◌/◌, ◌%◌, ◌^◌, Bool, true, false, List, [], ◌∷◌, ◌++◌, length, take, drop, replicate, ap, sym, refl, arith, rules, Some, None, inl, inr, append-nil, length-append}
+use Rattle.std.specs.Prelude.{position, option_and_then}
 use Rattle.std.specs.List.{list_all, position_or_len}
 use Rattle.std.specs.Char.{is_ascii_digit}
 use Rattle.std.specs.Fmt.{decimal}
-use Rattle.std.proofs.lemmas.Fmt.{decimal_by_steps_wide, length-decimal-le_wide}
-use Rattle.std.proofs.lemmas.List.{take-append-drop, take_at, drop_at, length-replicate, length-drop}
+use Rattle.std.proofs.lemmas.Fmt.{decimal_by_steps_wide}
+use Rattle.std.proofs.lemmas.List.{take-append-drop, take_at, length-replicate, length-drop}
 use Rattle.std.proofs.Math.Seq.{drop-append-add}
 use Rattle.std.proofs.lemmas.Bool.{and_parts, cases_lt, lt-ltb, le-ltb, le-leb}
 use Rattle.std.proofs.lemmas.Bool.Decides.{nat_tests}
-use Rattle.lg_value.specs.Literal.{digits_after, sized, unsigned, unsigned_at, with_point, without_point, is_point}
+use Rattle.lg_value.specs.Literal.{digits_after, sized, unsigned, is_point}
 use Rattle.lg_value.specs.Printed.{pointed, behind_point}
 
 one_more : (n c : ℕ) (cs b : List ℕ) (t : Bool) → is_ascii_digit c ≡ t

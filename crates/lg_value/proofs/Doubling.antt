@@ -1,6 +1,6 @@
 -- Texts with each quote twice.
-use Rattle.std.proofs.Common.{◌≡◌, ◌∙◌, ◌<◌, ℕ, zero, suc, ◌+◌, Bool, true, false, List, [], ◌∷◌, ◌++◌, length, get_or, ap, sym, refl, arith, Option, Some, None, length-append}
-use Rattle.std.specs.Prelude.{◌≢◌, ◌==◌, MatchOption}
+use Rattle.std.proofs.Common.{◌≡◌, ◌∙◌, ◌<◌, ℕ, List, [], ◌∷◌, ◌++◌, length, ap, refl, arith, Option, Some, None, length-append}
+use Rattle.std.specs.Prelude.{MatchOption}
 use denote.Ref.{Bor}
 use Rattle.lg_value.specs.Printed.{doubled}
 use Rattle.lg_value.proofs.Reading.{NoQuote, no_quote_head, no_quote_tail}

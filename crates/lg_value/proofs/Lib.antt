@@ -12,3 +12,4 @@ mod Reading
 mod RoundTrip
 mod Rounding
 mod Texts
+mod Trees

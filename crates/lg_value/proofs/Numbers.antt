@@ -1,6 +1,6 @@
 -- Numbers in smaller units.
 use Rattle.std.proofs.Common.{◌≡◌, ℕ, zero, suc, ◌+◌, ◌*◌, ◌^◌, ◌≤◌, ◌<◌, ◌-◌, refl, sym, ap, subst, ◌∙◌, arith, lit<, inl, inr}
-use Rattle.std.specs.Prelude.{ℤ, pos, negsuc, ◌*ℤ◌, ◌<ℤ◌, ◌≤ℤ◌, neg_ℤ, FitsSigned, ◌≢◌}
+use Rattle.std.specs.Prelude.{ℤ, pos, negsuc, ◌<ℤ◌, ◌≤ℤ◌, neg_ℤ, FitsSigned, ◌≢◌}
 use Rattle.std.specs.Int.{w128, int_pow}
 use Rattle.std.specs.Ordering.{int_cmp, MatchOrdering, ordering_reverse}
 use Rattle.std.specs.Cmp.{int_cmp_is, int_ranks, int_cmp_total}

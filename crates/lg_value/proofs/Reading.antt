@@ -1,8 +1,8 @@
 -- Texts in quotes, byte by byte.
-use Rattle.std.proofs.Common.{◌≡◌, ◌∙◌, ◌<◌, ℕ, zero, suc, ◌+◌, Bool, true, false, List, [], ◌∷◌, ◌++◌, length, get_or, ap, sym, refl, arith, rules, Option, Some, None, append_assoc, append-nil, inl, inr, length-append}
-use Rattle.std.specs.Prelude.{◌≢◌, ◌==◌, ◌||◌, MatchOption, if◌then◌else◌}
+use Rattle.std.proofs.Common.{◌≡◌, ◌∙◌, ◌<◌, ℕ, suc, true, false, List, [], ◌∷◌, ◌++◌, length, get_or, ap, sym, refl, arith, rules, Option, Some, None, append_assoc, append-nil, inl, inr, length-append}
+use Rattle.std.specs.Prelude.{◌≢◌, ◌==◌, MatchOption, if◌then◌else◌}
 use Rattle.std.specs.Option.{option_copied}
-use Rattle.std.proofs.lemmas.Bool.{eqb-true, eqb-false, cases_eq}
+use Rattle.std.proofs.lemmas.Bool.{cases_eq}
 use Rattle.std.proofs.lemmas.Bool.Decides.{nat_tests}
 use denote.Ref.{Bor}
 use Rattle.lg_value.specs.Literal.{unquoted_from, after_quote, after_n}

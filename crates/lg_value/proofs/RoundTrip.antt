@@ -1,6 +1,6 @@
 -- What is written of a value is read as the value.
-use Rattle.std.proofs.Common.{◌≡◌, ◌∙◌, ◌<◌, ◌≤◌, ℕ, zero, suc, ◌+◌, ◌-◌, ◌*◌, ◌/◌, ◌%◌, ◌^◌, Bool, true, false, List, [], ◌∷◌, ◌++◌, length, take, drop, replicate, ap, sym, refl, subst, arith, rules, Option, Some, None, inl, inr, append_assoc, append-nil, length-append}
-use Rattle.std.specs.Prelude.{ℤ, pos, negsuc, ◌≢◌, ◌==◌, ◌&&◌, ◌||◌, nat_lt, unsigned_abs, option_map, codes, if◌then◌else◌, ⊤}
+use Rattle.std.proofs.Common.{◌≡◌, ◌∙◌, ◌<◌, ◌≤◌, ℕ, zero, suc, ◌+◌, ◌-◌, ◌%◌, ◌^◌, Bool, true, false, List, [], ◌∷◌, ◌++◌, length, take, drop, replicate, ap, sym, refl, subst, arith, rules, Some, None, inl, inr, append_assoc, append-nil, length-append}
+use Rattle.std.specs.Prelude.{ℤ, pos, negsuc, ◌==◌, ◌&&◌, ◌||◌, unsigned_abs, option_map, codes, ⊤}
 use Rattle.std.specs.List.{list_all}
 use Rattle.std.specs.Char.{is_ascii_digit, to_ascii_lowercase}
 use Rattle.std.specs.Fmt.{decimal}
@@ -8,13 +8,12 @@ use Rattle.std.proofs.lemmas.Fmt.{length-decimal-le_wide, decimal_by_steps_wide}
 use Rattle.std.proofs.lemmas.List.{take-append-drop}
 use Rattle.std.proofs.lemmas.Bool.{eqb-true, cases_eq, and_parts, cases_lt, lt-ltb, le-ltb, le-leb}
 use Rattle.std.proofs.lemmas.Bool.Decides.{nat_tests}
-use Rattle.hex.specs.Hex.{encode_upper, decode_of, IsBytes}
 use Rattle.hex.proofs.HexLemmas.{decode_of-encode_upper}
 use Rattle.lg_value.specs.declared.value.Value.{Value}
 use Rattle.lg_value.specs.declared.value.Value.TheVariants.{Null, Num, Text, Bytes, Date}
 use Rattle.lg_value.specs.Literal.{literal_of, signed, unsigned, number, minus, unquoted, unquoted_from, digits_after}
 use Rattle.lg_value.specs.Literals.{IsLiteral, HasWholePart}
-use Rattle.lg_value.specs.Printed.{printed, printed_with, literal_text, leading_zero, pointed, behind_point, doubled, number_text, quoted, day_text, sign}
+use Rattle.lg_value.specs.Printed.{printed, printed_with, literal_text, leading_zero, pointed, behind_point, doubled, number_text, day_text}
 use Rattle.lg_value.specs.Day.{date_of, date_text, last_day}
 use Rattle.lg_value.proofs.DayTexts.{date_doubled}
 use Rattle.lg_value.proofs.DigitTexts.{decimal_read, all_digits, pointed_read}

@@ -9,3 +9,4 @@ pub mod Printed
 pub mod Refusal
 pub mod Stored
 pub mod Text
+pub mod Tree

@@ -1,5 +1,5 @@
 -- Which values are written as literals.
-use Rattle.std.specs.Prelude.{ℕ, ◌<◌, ◌≤◌, ◌^◌, ◌≢◌, unsigned_abs, ⊤}
+use Rattle.std.specs.Prelude.{◌<◌, ◌≤◌, ◌^◌, ◌≢◌, unsigned_abs, ⊤}
 use Rattle.hex.specs.Hex.{IsBytes}
 use Rattle.lg_value.specs.declared.value.Value.{Value}
 use Rattle.lg_value.specs.declared.value.Value.TheVariants.{Null, Num, Text, Bytes, Date}

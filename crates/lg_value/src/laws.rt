@@ -1,11 +1,16 @@
 //! Laws of the definitions that contracts of this crate cite.
 
-ghost use Rattle.std.specs.Prelude.{◌≡◌, ◌≢◌, ◌↔◌, ◌<◌, ◌≤◌, ◌+◌, ◌*◌, ◌^◌, ℕ, ℤ, pos, neg_ℤ, List, true, Some, Ok, IsTrue};
+ghost use Rattle.std.specs.Prelude.{◌≡◌, ◌≢◌, ◌↔◌, ◌<◌, ◌≤◌, ◌+◌, ◌*◌, ◌^◌, ℕ, ℤ, pos, neg_ℤ, Bool, List, true, Some, Ok, IsTrue};
 ghost use Rattle.std.specs.Ordering.{ordering_reverse, is_le, int_cmp, nat_cmp};
 ghost use Rattle.std.specs.Cmp.Lexicographic.{slice_cmp};
 ghost use Rattle.std.specs.declared.cmp.Ordering.TheVariants.{Less, Equal};
 ghost use Rattle.lg_value.specs.declared.value.Value.{Value};
 ghost use Rattle.lg_value.specs.declared.value.Value.TheVariants.{Null, Num, Text, Bytes, Date};
+ghost use Rattle.lg_value.specs.declared.expr.Op.{Op};
+ghost use Rattle.lg_value.specs.declared.expr.Expr.{Expr};
+ghost use Rattle.lg_value.specs.declared.expr.Expr.TheVariants.{Lit, Col, Neg, Not, IsNull, Bin};
+ghost use Rattle.lg_value.specs.Tree as trees;
+ghost use Rattle.lg_value.specs.Tree.{tree};
 ghost use Rattle.lg_value.specs.declared.sql_type.SqlType.{SqlType};
 ghost use Rattle.lg_value.specs.Number.{raised, rounded, rounded_size};
 ghost use Rattle.lg_value.specs.Stored.{is_stored};
@@ -61,4 +66,15 @@ pub fn literals_are_read_back()
     ensures written { (v : Value) → IsLiteral v → literal_of (literal_text v) ≡ Some v }
     ensures shown { (v : Value) → IsLiteral v → HasWholePart v → literal_of (printed v) ≡ Some v }
     ensures days { (d : ℕ) → d ≤ last_day → literal_of (printed (Date d)) ≡ Some (Text (date_text (date_of d))) }
+{}
+
+/// The trees of expressions, one equation for each kind; expressions of one tree are one expression.
+pub fn expressions_are_trees()
+    ensures literal { (v : Value) → tree (Lit v) ≡ trees.literal v }
+    ensures column { (name : List ℕ) → tree (Col name) ≡ trees.column name }
+    ensures minus { (a : Expr) → tree (Neg a) ≡ trees.minus (tree a) }
+    ensures inverse { (a : Expr) → tree (Not a) ≡ trees.not (tree a) }
+    ensures null_test { (a : Expr) (negated : Bool) → tree (IsNull a negated) ≡ trees.is_null (tree a) negated }
+    ensures binary { (op : Op) (a b : Expr) → tree (Bin op a b) ≡ trees.binary op (tree a) (tree b) }
+    ensures same { (a b : Expr) → tree a ≡ tree b → a ≡ b }
 {}

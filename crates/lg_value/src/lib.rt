@@ -20,8 +20,8 @@ pub use column::{ColumnDef, TableKind};
 pub use conversion::to_column;
 pub use expr::{Class, Expr, Op};
 pub use laws::{
-    conversion_is_stored, days_are_read_back, literals_are_read_back, order_is_total,
-    order_of_kinds, rounding_is_half_away_from_zero,
+    conversion_is_stored, days_are_read_back, expressions_are_trees, literals_are_read_back,
+    order_is_total, order_of_kinds, rounding_is_half_away_from_zero,
 };
 pub use lg_items::{Blob, Boxed, Items, Memory, Name, TableId, Text, TxId};
 pub use literal::read_literal;
