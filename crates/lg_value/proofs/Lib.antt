@@ -8,6 +8,7 @@ mod Hexes
 mod Numbers
 mod OrderLaws
 mod Ranges
+mod ReadValues
 mod Reading
 mod RoundTrip
 mod Rounding

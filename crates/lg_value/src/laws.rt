@@ -60,9 +60,11 @@ pub fn days_are_read_back()
     ensures within { (text : List ℕ) (n : ℕ) → day_of text ≡ Some n → n ≤ last_day }
 {}
 
-/// What is written of a value as a literal is read as the value, and so is what is shown of it, unless all its 38 digits
-/// stand behind the point. A day is shown as a text, which is read as its date.
+/// What is read is a value that literals write. What is written of such a value as a literal is read as the value, and so
+/// is what is shown of it, unless all its 38 digits stand behind the point. A day is shown as a text, which is read as its
+/// date.
 pub fn literals_are_read_back()
+    ensures literal { (text : List ℕ) (v : Value) → literal_of text ≡ Some v → IsLiteral v }
     ensures written { (v : Value) → IsLiteral v → literal_of (literal_text v) ≡ Some v }
     ensures shown { (v : Value) → IsLiteral v → HasWholePart v → literal_of (printed v) ≡ Some v }
     ensures days { (d : ℕ) → d ≤ last_day → literal_of (printed (Date d)) ≡ Some (Text (date_text (date_of d))) }
