@@ -1,7 +1,12 @@
 pub mod Conversion
 pub mod Day
+pub mod Literal
+pub mod Literals
 pub mod Number
 pub mod Order
+pub mod Pieces
+pub mod Printed
 pub mod Refusal
 pub mod Stored
 pub mod Text
+pub mod Tree

@@ -1,5 +1,5 @@
 -- The order of all values.
-use Rattle.std.specs.Prelude.{ℕ, ℤ, pos, ◌-◌, List, []}
+use Rattle.std.specs.Prelude.{ℕ, ℤ, pos, ◌-◌, ◌^◌, ◌<◌, ◌≡◌, ⊤, List, []}
 use Rattle.std.specs.declared.cmp.Ordering.{Ordering}
 use Rattle.std.specs.Ordering.{nat_cmp, int_cmp, on, then_cmp}
 use Rattle.std.specs.Cmp.{IsTotalOrder, then_total, on_total, nat_cmp_total, int_cmp_total}
@@ -40,3 +40,17 @@ value_cmp = then_cmp (on kind nat_cmp) (then_cmp (on exact int_cmp) (on bytes (s
 pub value_total : IsTotalOrder value_cmp
 unfolding value_cmp
 value_total = then_total (on_total kind nat_cmp_total) (then_total (on_total exact int_cmp_total) (on_total bytes nat_list_cmp_total))
+
+-- two values are one: numbers by what they are worth, whatever their scales
+abbrev pub IsSameValue : Value → Value → Type 0
+IsSameValue Null Null = ⊤
+IsSameValue (Num v s) (Num w z) = raised v z ≡ raised w s
+IsSameValue (Text a) (Text b) = a ≡ b
+IsSameValue (Bytes a) (Bytes b) = a ≡ b
+IsSameValue (Date d) (Date e) = d ≡ e
+IsSameValue _ _ = ⊥
+
+-- the scale, if v is a number, is one that a value may have
+abbrev pub HasScale : Value → Type 0
+HasScale (Num v s) = s < 2 ^ 8
+HasScale _ = ⊤

@@ -1,7 +1,8 @@
 //! Days, their dates in the proleptic Gregorian calendar, and the texts of those (ISO 8601, `YYYY-MM-DD`).
 
-ghost use Rattle.std.specs.Prelude.{◌≡◌, ◌↔◌, ◌<◌, ◌-◌, pos, ◌≤ℤ◌, IfSome, IsSome, IsTrue};
+ghost use Rattle.std.specs.Prelude.{◌≡◌, ◌↔◌, ◌<◌, ◌≤◌, ◌+◌, ◌-◌, pos, ◌+ℤ◌, ◌≤ℤ◌, IfSome, IsSome, IsTrue};
 ghost use Rattle.jiff_core.specs.Calendar.{day_count};
+ghost use Rattle.jiff_core.specs.Date.{epoch_day};
 ghost use Rattle.lg_value.specs.Day as spec;
 
 use jiff_core::civil::Date;
@@ -75,4 +76,53 @@ pub fn day_of(text: &[u8]) -> Option<u32>
 {
     let date = calendar_date(written_date(text)?)?;
     Some(number_of(date))
+}
+
+/// The date of a day.
+fn date_of(day: u32) -> Date
+    requires { day ≤ spec.last_day }
+    ensures { epoch_day result +ℤ pos 719162 ≡ pos day }
+{
+    Date::from_unix_epoch_day(i64::from(day) - 719_162).unwrap()
+}
+
+/// The year, month and day of a day's date.
+pub fn civil_of(day: u32) -> Civil
+    requires { day ≤ spec.last_day }
+    ensures value { result ≡ spec.date_of day }
+    ensures small { (result.year < 10000) × (result.month < 100) × (result.day < 100) }
+{
+    let date = date_of(day);
+    Civil {
+        year: date.year as u16,
+        month: date.month,
+        day: date.day,
+    }
+}
+
+fn digit(n: u16) -> u8
+    requires { n < 10 }
+    ensures { result ≡ 48 + n }
+{
+    b'0' + n as u8
+}
+
+/// A date as `YYYY-MM-DD`.
+pub fn date_digits(c: Civil) -> [u8; 10]
+    requires { (c.year < 10000) × (c.month < 100) × (c.day < 100) }
+    ensures { result ≡ spec.date_text c }
+{
+    let (month, day) = (u16::from(c.month), u16::from(c.day));
+    [
+        digit(c.year / 1000),
+        digit(c.year / 100 % 10),
+        digit(c.year % 100 / 10),
+        digit(c.year % 10),
+        b'-',
+        digit(month / 10),
+        digit(month % 10),
+        b'-',
+        digit(day / 10),
+        digit(day % 10),
+    ]
 }
