@@ -1,5 +1,5 @@
 -- Reading so many, one after another, as a loop does.
-use Rattle.std.proofs.Common.{◌≡◌, ℕ, suc, zero, ◌-◌, ◌+◌, ◌≤◌, ◌<◌, List, [], ◌∷◌, ◌++◌, Option, Some, None, refl, sym, ap, ◌∙◌, append_assoc, arith, append-nil}
+use Rattle.std.proofs.Common.{◌≡◌, ℕ, suc, ◌-◌, ◌+◌, ◌≤◌, ◌<◌, List, [], ◌∷◌, ◌++◌, Option, Some, None, refl, sym, ap, ◌∙◌, append_assoc, arith, append-nil}
 use Rattle.lg_bytes.specs.declared.read_error.ReadError.{ReadError}
 use Rattle.lg_bytes.specs.declared.read_error.ReadError.TheVariants.{Memory, Malformed}
 use Rattle.lg_bytes.specs.Readers.{Reader, ◌>>=◌, times}

@@ -1,5 +1,5 @@
 -- A reader is exact for a spelling: what it takes is spelled so, and what is spelled so it takes, whatever follows.
-use Rattle.std.specs.Prelude.{◌≡◌, ◌<◌, ℕ, List, ◌++◌, Option, Some, slice_index}
+use Rattle.std.specs.Prelude.{◌≡◌, ◌<◌, ℕ, List, ◌++◌, Some, slice_index}
 use Rattle.lg_bytes.specs.Readers.{Reader}
 
 -- each number of the list is a byte
