@@ -1,1 +1,10 @@
+pub mod Conversion
+pub mod Day
+pub mod Literal
+pub mod Number
+pub mod Order
+pub mod Pieces
+pub mod Printed
 pub mod Refusal
+pub mod Stored
+pub mod Text

@@ -2,14 +2,30 @@
 #![tactic(auto)]
 
 mod column;
+mod conversion;
+mod day;
 mod expr;
+
+mod laws;
+mod literal;
+mod number;
+mod order;
+mod printing;
 mod refusal;
 mod sql_type;
+mod stored;
+mod text;
 mod value;
 
 pub use column::{ColumnDef, TableKind};
+pub use conversion::to_column;
 pub use expr::{Class, Expr, Op};
+pub use stored::fits;
+pub use laws::{order_is_total, order_of_kinds};
 pub use lg_items::{Blob, Boxed, Items, Memory, Name, TableId, Text, TxId};
+pub use literal::read_literal;
+pub use order::compare;
+pub use printing::{print, print_literal};
 pub use refusal::{LitErr, Refusal, ValueErr};
 pub use sql_type::SqlType;
 pub use value::Value;

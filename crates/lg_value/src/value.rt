@@ -1,6 +1,8 @@
 //! Values.
 
-use lg_items::{Blob, Text};
+ghost use Rattle.std.specs.Prelude.{◌≡◌, IfOk};
+
+use lg_items::{Blob, Memory, Text};
 
 /// A value of a column or of a literal.
 #[derive(Debug, Drop)]
@@ -12,4 +14,19 @@ pub enum Value {
     Bytes(Blob),
     /// The number of a day, where 0 is 0001-01-01.
     Date(u32),
+}
+
+impl Value {
+    /// An equal one, of the same scale where it is a number.
+    pub fn copy(&self) -> Result<Value, Memory>
+        ensures { IfOk result (λ copy. copy ≡ self.now) }
+    {
+        match self {
+            Value::Null => Ok(Value::Null),
+            Value::Num { v, s } => Ok(Value::Num { v: *v, s: *s }),
+            Value::Text(text) => Ok(Value::Text(text.copy()?)),
+            Value::Bytes(blob) => Ok(Value::Bytes(blob.copy()?)),
+            Value::Date(day) => Ok(Value::Date(*day)),
+        }
+    }
 }

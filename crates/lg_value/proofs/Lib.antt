@@ -1,0 +1,10 @@
+mod Days
+mod Digits
+mod Doubling
+mod Hexes
+mod Numbers
+mod OrderLaws
+mod Ranges
+mod Reading
+mod Rounding
+mod Texts

@@ -1,0 +1,8 @@
+use Rattle.std.proofs.Common.{rules, arith}
+use Rattle.std.specs.Int.{w128}
+use Rattle.std.proofs.lemmas.Int.{to_z-of_z}
+use Rattle.lg_value.proofs.Numbers.{no_unit}
+use Rattle.lg_value.proofs.number.raised.Goals as goal
+
+pub returns-in_err-unit : goal.returns-in_err-unit
+returns-in_err-unit c = rw c.from_residual.ensures (no_unit c.args.v c.args.places (simp (c.into.ensures) at c.in_err-unit.ensures) (λ e. absurd (search rules)))
