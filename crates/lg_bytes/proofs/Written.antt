@@ -1,13 +1,13 @@
 -- The fields are read exactly as they are written.
-use Rattle.std.proofs.Common.{◌≡◌, ℕ, ℤ, suc, ◌+◌, ◌^◌, ◌<◌, ◌≤◌, Bool, true, false, cond, ltb, List, [], ◌∷◌, ◌++◌, length, take, drop, Option, Some, None, refl, sym, ap, subst, ◌∙◌, append_assoc, arith, inl, inr}
+use Rattle.std.proofs.Common.{◌≡◌, ℕ, ℤ, suc, ◌+◌, ◌^◌, ◌<◌, ◌≤◌, Bool, true, false, cond, ltb, List, [], ◌∷◌, ◌++◌, length, take, drop, Option, Some, None, refl, sym, ap, subst, ◌∙◌, append_assoc, arith, inl, inr, Fits}
 use Rattle.std.specs.Prelude.{FitsSigned}
-use Rattle.std.specs.Int.{Width, w16, w32, w64, w128, byte_len, bytes_high_first, from_be_bytes, to_be_bytes, cast_signed, cast_unsigned}
+use Rattle.std.specs.Int.{Width, w8, w16, w32, w64, w128, byte_len, bytes_high_first, from_be_bytes, to_be_bytes, cast_signed, cast_unsigned}
 use Rattle.std.proofs.lemmas.Bool.{cases_lt, ltb-false, le-ltb}
 use Rattle.std.proofs.lemmas.List.{take_at, drop_at, take-append-drop, length-append, length-take, get_or-drop, get_or-take, get_or_past}
 use Rattle.std.proofs.lemmas.Int.{to_z-of_z, of_z-to_z}
 use mir.ValLaws as values
-use Rattle.lg_bytes.specs.Fields.{u8_field, u16_field, u32_field, u64_field, i128_field, hash_field, short_field, long_field, wide_field}
-use Rattle.lg_bytes.specs.Readers.{Reader, ◌>>=◌, number, taken, behind, u8_at, u16_at, u32_at, u64_at, i128_at, hash_at, short_at, long_at, wide_at}
+use Rattle.lg_bytes.specs.Fields.{u8_field, u16_field, u32_field, u64_field, signed_field, i128_field, hash_field, short_field, long_field, wide_field}
+use Rattle.lg_bytes.specs.Readers.{Reader, ◌>>=◌, number, signed, taken, behind, u8_at, u16_at, u32_at, u64_at, i128_at, hash_at, short_at, long_at, wide_at}
 use Rattle.lg_bytes.specs.Exact.{IsBytes, Exact, Taken}
 use Rattle.lg_bytes.proofs.Worth.{worth, worth_from, worth_from-all, worth-below, length-bytes_high_first, worth-bytes_high_first, bytes_high_first-worth}
 
@@ -56,6 +56,9 @@ is_wide w k limit len top sums =
           let P : ℕ → Type 0 = λ j. worth bytes < 256 ^ j in
           rw (is bytes (l ∙ len), top) (subst P (l ∙ len) (worth-below bytes fits));
     }
+
+wide8 : IsWide w8 (2 ^ 8)
+wide8 = is_wide w8 1 (2 ^ 8) refl refl (λ bytes. omega arith)
 
 wide16 : IsWide w16 (2 ^ 16)
 wide16 = is_wide w16 2 (2 ^ 16) refl refl (λ bytes. omega arith)
@@ -117,25 +120,41 @@ pub u64_exact : Exact (Below (2 ^ 64)) u64_field u64_at
 unfolding u64_at u64_field
 u64_exact = number_exact w64 (2 ^ 64) wide64
 
-pub i128_exact : Exact (FitsSigned w128) i128_field i128_at
-unfolding i128_at i128_field
-i128_exact = record {
+signed_number_exact : (w : Width) (limit : ℕ) → IsWide w limit → ((n : ℕ) → n < limit → Fits w n) → ((n : ℕ) → Fits w n → n < limit)
+    → Exact (FitsSigned w) (λ z. to_be_bytes w (cast_unsigned w z)) (signed w)
+signed_number_exact w limit wide fits_in fits_out = record {
   takes = λ bytes z rest fits e.
-      let x = bind_some (number w128 bytes) (λ n. Some (cast_signed w128 n.0, n.1)) (z, rest) e in
-      let t = (number_exact w128 (2 ^ 128) wide128).takes bytes x.0.0 x.0.1 fits x.1 in
-      let is = some_is (cast_signed w128 x.0.0, x.0.1) (z, rest) x.2 in
-      let made : Taken (FitsSigned w128) i128_field bytes (cast_signed w128 x.0.0) x.0.1 = record {
-        parts = t.parts ∙ ap (λ n. to_be_bytes w128 n ++ x.0.1) (sym (of_z-to_z w128 x.0.0 t.fits));
+      let x = bind_some (number w bytes) (λ n. Some (cast_signed w n.0, n.1)) (z, rest) e in
+      let t = (number_exact w limit wide).takes bytes x.0.0 x.0.1 fits x.1 in
+      let is = some_is (cast_signed w x.0.0, x.0.1) (z, rest) x.2 in
+      let made : Taken (FitsSigned w) (λ z. to_be_bytes w (cast_unsigned w z)) bytes (cast_signed w x.0.0) x.0.1 = record {
+        parts = t.parts ∙ ap (λ n. to_be_bytes w n ++ x.0.1) (sym (of_z-to_z w x.0.0 (fits_in x.0.0 t.fits).fits));
         rest_fits = t.rest_fits;
-        fits = values.to_z-Fits w128 x.0.0 (record { fits = t.fits });
+        fits = values.to_z-Fits w x.0.0 (fits_in x.0.0 t.fits);
       } in
-      let P : ℤ × List ℕ → Type 0 = λ q. Taken (FitsSigned w128) i128_field bytes q.0 q.1 in
+      let P : ℤ × List ℕ → Type 0 = λ q. Taken (FitsSigned w) (λ z. to_be_bytes w (cast_unsigned w z)) bytes q.0 q.1 in
       subst P is made;
   again = λ z rest fits.
-      let low : cast_unsigned w128 z < 2 ^ 128 = (values.of_z_fits w128 z fits).fits in
-      ap (λ o. o >>= λ (n : ℕ × List ℕ). Some (cast_signed w128 n.0, n.1)) ((number_exact w128 (2 ^ 128) wide128).again (cast_unsigned w128 z) rest low)
-      ∙ ap (λ (y : ℤ). Some (y, rest)) (to_z-of_z w128 z fits);
+      let low : cast_unsigned w z < limit = fits_out (cast_unsigned w z) (values.of_z_fits w z fits) in
+      ap (λ o. o >>= λ (n : ℕ × List ℕ). Some (cast_signed w n.0, n.1)) ((number_exact w limit wide).again (cast_unsigned w z) rest low)
+      ∙ ap (λ (y : ℤ). Some (y, rest)) (to_z-of_z w z fits);
 }
+
+pub signed8_exact : Exact (FitsSigned w8) (signed_field w8) (signed w8)
+unfolding signed_field
+signed8_exact = signed_number_exact w8 (2 ^ 8) wide8 (λ n lt. record { fits = lt }) (λ n f. f.fits)
+
+pub signed32_exact : Exact (FitsSigned w32) (signed_field w32) (signed w32)
+unfolding signed_field
+signed32_exact = signed_number_exact w32 (2 ^ 32) wide32 (λ n lt. record { fits = lt }) (λ n f. f.fits)
+
+pub signed64_exact : Exact (FitsSigned w64) (signed_field w64) (signed w64)
+unfolding signed_field
+signed64_exact = signed_number_exact w64 (2 ^ 64) wide64 (λ n lt. record { fits = lt }) (λ n f. f.fits)
+
+pub i128_exact : Exact (FitsSigned w128) i128_field i128_at
+unfolding i128_at i128_field
+i128_exact = signed_number_exact w128 (2 ^ 128) wide128 (λ n lt. record { fits = lt }) (λ n f. f.fits)
 
 -- ---- bytes
 

@@ -18,6 +18,10 @@ None >>= f = None
 abbrev pub number : Width → Reader ℕ
 number w bytes = if nat_lt (length bytes) (byte_len w) then None else Some (from_be_bytes w (take (byte_len w) bytes), drop (byte_len w) bytes)
 
+-- a signed number of this width, in two's complement
+abbrev pub signed : Width → Reader ℤ
+signed w bytes = number w bytes >>= λ n. Some (cast_signed w n.0, n.1)
+
 -- so many bytes
 abbrev pub taken : ℕ → Reader (List ℕ)
 taken n bytes = if nat_lt (length bytes) n then None else Some (take n bytes, drop n bytes)
@@ -45,7 +49,7 @@ u64_at = number w64
 
 -- a signed number in 16 bytes, in two's complement
 unfoldable pub i128_at : Reader ℤ
-i128_at bytes = number w128 bytes >>= λ n. Some (cast_signed w128 n.0, n.1)
+i128_at = signed w128
 
 -- the 32 bytes of a hash
 unfoldable pub hash_at : Reader (List ℕ)
