@@ -7,7 +7,7 @@ use Rattle.std.proofs.lemmas.Bool.{eqb-true}
 use Rattle.std.proofs.lemmas.Slice.Eq.{bytes_eq-Decides}
 use Rattle.lg_bytes.specs.Readers.{Reader, ◌>>=◌, taken, literal, after, both, depends, mapped, decoded, where_, times, listed, for_each, whole}
 use Rattle.lg_bytes.specs.Exact.{IsBytes, Exact, Taken}
-use Rattle.lg_bytes.proofs.Written.{bind_some, some_is, taken_exact}
+use Rattle.lg_bytes.proofs.Written.{IsBytes-front, bind_some, some_is, taken_exact}
 
 pub test_some : {A : Type 0} (b : Bool) (x y : A) → cond b (Some x) None ≡ Some y → (b ≡ true) × (x ≡ y)
 test_some true x y e = (refl, cc)
@@ -110,7 +110,7 @@ pub record Decodes {A B : Type 0} (FA : A → Type 0) (FB : B → Type 0) (sa : 
   pub there : (b : B) → FB b → f (g b) ≡ Some b
   pub spelled : (b : B) → FB b → sb b ≡ sa (g b)
   pub fit_back : (b : B) → FB b → FA (g b)
-  pub back : (a : A) (b : B) → FA a → f a ≡ Some b → FB b × (sa a ≡ sb b)
+  pub back : (a : A) (b : B) → IsBytes (sa a) → FA a → f a ≡ Some b → FB b × (sa a ≡ sb b)
 
 pub decoded_exact : {A B : Type 0} (FA : A → Type 0) (FB : B → Type 0) (sa : A → List ℕ) (sb : B → List ℕ) (f : A → Option B) (g : B → A) (ra : Reader A) → Decodes FA FB sa sb f g → Exact FA sa ra → Exact FB sb (decoded f ra)
 decoded_exact {A} {B} FA FB sa sb f g ra dec ea = record {
@@ -118,14 +118,15 @@ decoded_exact {A} {B} FA FB sa sb f g ra dec ea = record {
       let x = bind_some (ra bytes) (λ x. f x.0 >>= λ y. Some (y, x.1)) (b, rest) e in
       let y = bind_some (f x.0.0) (λ y. Some (y, x.0.1)) (b, rest) x.2 in
       let t = ea.takes bytes x.0.0 x.0.1 fits x.1 in
-      let back = dec.back x.0.0 y.0 t.fits y.1 in
+      let P : List ℕ → Type 0 = IsBytes in
+      let back = dec.back x.0.0 y.0 (IsBytes-front (sa x.0.0) x.0.1 (subst P t.parts fits)) t.fits y.1 in
       let made : Taken FB sb bytes y.0 x.0.1 = record {
         parts = t.parts ∙ ap (λ z. z ++ x.0.1) back.1;
         rest_fits = t.rest_fits;
         fits = back.0;
       } in
-      let P : B × List ℕ → Type 0 = λ q. Taken FB sb bytes q.0 q.1 in
-      subst P (some_is (y.0, x.0.1) (b, rest) y.2) made;
+      let Q : B × List ℕ → Type 0 = λ q. Taken FB sb bytes q.0 q.1 in
+      subst Q (some_is (y.0, x.0.1) (b, rest) y.2) made;
   again = λ b rest fits.
       ap (λ s. decoded f ra (s ++ rest)) (dec.spelled b fits)
       ∙ ap (λ o. o >>= λ (x : A × List ℕ). f x.0 >>= λ y. Some (y, x.1)) (ea.again (g b) rest (dec.fit_back b fits))

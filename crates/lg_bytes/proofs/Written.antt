@@ -21,6 +21,12 @@ IsBytes-take n bytes h i =
       | inr le ↦ rw (get_or_past (take n bytes) i 0 (omega (arith, length-take n bytes))) (omega arith)
     ]
 
+pub IsBytes-front : (xs ys : List ℕ) → IsBytes (xs ++ ys) → IsBytes xs
+IsBytes-front xs ys h = let P : List ℕ → Type 0 = IsBytes in subst P (take_at xs ys (length xs) refl) (IsBytes-take (length xs) (xs ++ ys) h)
+
+pub IsBytes-back : (xs ys : List ℕ) → IsBytes (xs ++ ys) → IsBytes ys
+IsBytes-back xs ys h = let P : List ℕ → Type 0 = IsBytes in subst P (drop_at xs ys (length xs) refl) (IsBytes-drop (length xs) (xs ++ ys) h)
+
 pub bind_some : {A B : Type 0} (r : Option A) (f : A → Option B) (y : B) → (r >>= f) ≡ Some y → (x : A) × (r ≡ Some x) × (f x ≡ Some y)
 bind_some (Some x) f y e = (x, refl, e)
 bind_some None f y e = absurd cc
