@@ -1,2 +1,5 @@
 pub mod Fronts
+pub mod Loops
+pub mod Parts
 pub mod Worth
+pub mod Written

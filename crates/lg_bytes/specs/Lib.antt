@@ -1,1 +1,4 @@
+pub mod Exact
 pub mod Fields
+pub mod Readers
+pub mod Reading

@@ -3,6 +3,8 @@
 ghost use Rattle.std.specs.Prelude.{◌≡◌, ◌<◌, ◌^◌, ◌++◌, ℕ, ℤ, List, length, FitsSigned};
 ghost use Rattle.std.specs.Int.{w128};
 ghost use Rattle.lg_bytes.specs.Fields.{u8_field, u16_field, u32_field, u64_field, i128_field, hash_field, short_field, long_field, wide_field};
+ghost use Rattle.lg_bytes.specs.Readers.{u8_at, u16_at, u32_at, u64_at, i128_at, hash_at, short_at, long_at, wide_at};
+ghost use Rattle.lg_bytes.specs.Exact.{Exact};
 
 /// Where two byte strings that begin with a field are equal, the fields are of equal values, and what
 /// follows them is equal.
@@ -16,4 +18,18 @@ pub fn equal_fields_are_of_equal_values()
     ensures short { (a b x y : List ℕ) → length a < 2 ^ 16 → length b < 2 ^ 16 → short_field a ++ x ≡ short_field b ++ y → (a ≡ b) × (x ≡ y) }
     ensures long { (a b x y : List ℕ) → length a < 2 ^ 32 → length b < 2 ^ 32 → long_field a ++ x ≡ long_field b ++ y → (a ≡ b) × (x ≡ y) }
     ensures wide { (a b x y : List ℕ) → length a < 2 ^ 64 → length b < 2 ^ 64 → wide_field a ++ x ≡ wide_field b ++ y → (a ≡ b) × (x ≡ y) }
+{}
+
+/// Each field is read exactly as it is written: what a reader takes was spelled so, and what is spelled so it
+/// takes, whatever follows.
+pub fn fields_are_read_as_written()
+    ensures byte { Exact (λ n. n < 256) u8_field u8_at }
+    ensures two_bytes { Exact (λ n. n < 2 ^ 16) u16_field u16_at }
+    ensures four_bytes { Exact (λ n. n < 2 ^ 32) u32_field u32_at }
+    ensures eight_bytes { Exact (λ n. n < 2 ^ 64) u64_field u64_at }
+    ensures signed { Exact (λ z. FitsSigned w128 z) i128_field i128_at }
+    ensures hash { Exact (λ hash. length hash ≡ 32) hash_field hash_at }
+    ensures short { Exact (λ bytes. length bytes < 2 ^ 16) short_field short_at }
+    ensures long { Exact (λ bytes. length bytes < 2 ^ 32) long_field long_at }
+    ensures wide { Exact (λ bytes. length bytes < 2 ^ 64) wide_field wide_at }
 {}

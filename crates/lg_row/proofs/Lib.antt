@@ -1,1 +1,5 @@
 mod Growing
+mod LeafExact
+mod Texts
+mod TypeLaws
+mod ValueLaws

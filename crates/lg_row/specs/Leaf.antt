@@ -1,11 +1,14 @@
 -- The leaf of a row event: its one spelling in bytes.
-use Rattle.std.specs.Prelude.{ℕ, ℤ, Bool, true, false, List, [], ◌∷◌, ◌++◌, length, filter, flat_map, Option, Some, None}
-use Rattle.std.specs.Int.{Width, to_be_bytes, cast_unsigned, w8, w32, w64}
-use Rattle.lg_bytes.specs.Fields.{u8_field, u16_field, u32_field, u64_field, i128_field, long_field}
+use Rattle.std.specs.Prelude.{◌≡◌, ◌<◌, ◌^◌, ◌&&◌, nat_lt, ℕ, ℤ, Bool, true, false, List, [], ◌∷◌, ◌++◌, length, filter, flat_map, Option, Some, None}
+use Rattle.std.specs.List.{AllByRecursion}
+use Rattle.std.specs.Str.{is_utf8}
+use Rattle.std.specs.Int.{w8, w32, w64}
+use Rattle.lg_bytes.specs.Fields.{u8_field, u16_field, u32_field, u64_field, signed_field, i128_field, long_field}
 use Rattle.lg_value.specs.declared.sql_type.SqlType.{SqlType}
 use Rattle.lg_value.specs.declared.sql_type.SqlType.TheVariants as types
 use Rattle.lg_value.specs.declared.value.Value.{Value}
 use Rattle.lg_value.specs.declared.value.Value.TheVariants as values
+use Rattle.lg_value.specs.Stored.{is_stored}
 use Rattle.lg_types.specs.declared.event.Event.{Event}
 use Rattle.lg_types.specs.declared.event.FieldOf.{FieldOf}
 
@@ -37,10 +40,6 @@ abbrev pub type_bytes : SqlType → List ℕ
 type_bytes ty = (u8_field (type_code ty) ++ u16_field (first_parameter ty)) ++ u8_field (second_parameter ty)
 
 -- ---- a value under its type
-
--- a number in the bytes of this width, in two's complement
-unfoldable pub signed_field : Width → ℤ → List ℕ
-signed_field w v = to_be_bytes w (cast_unsigned w v)
 
 -- 1, 4 or 8 bytes, and for a DECIMAL the units in 16
 abbrev pub number_bytes : SqlType → ℤ → List ℕ
@@ -95,3 +94,41 @@ spelled e = head_bytes e ++ (start_bytes e.start ++ columns_bytes e.columns)
 -- the leaf of an event: NULL columns are left out
 unfoldable pub event_bytes : Event → List ℕ
 event_bytes e = spelled (without_nulls e)
+
+-- ---- which events have a leaf
+
+-- a start has no start pair, and an end has that of the version
+abbrev pub IsStart : ℕ → Option (ℕ × ℕ) → Type 0
+IsStart op None = op ≡ 1
+IsStart op (Some start) = (op ≡ 2) × ((start.0 < 2 ^ 64) × (start.1 < 2 ^ 64))
+
+-- a text is UTF-8
+abbrev pub is_text : Value → Bool
+is_text (values.Text text) = is_utf8 text
+is_text _ = true
+
+-- a column that is not NULL, with a value that its type stores
+pub record IsField (f : FieldOf) : Type 0 where
+  pub ordinal : f.ordinal < 2 ^ 16
+  pub told : has_value f ≡ true
+  pub stored : is_stored f.value f.ty ≡ true
+  pub text : is_text f.value ≡ true
+  pub size : length (value_bytes f.ty f.value) < 2 ^ 32
+
+abbrev pub rise_from : ℕ → List FieldOf → Bool
+rise_from last [] = true
+rise_from last (f ∷ fs) = nat_lt last f.ordinal && rise_from f.ordinal fs
+
+-- the ordinals are from 1 and rise strictly
+abbrev pub ordinals_rise : List FieldOf → Bool
+ordinals_rise fs = rise_from 0 fs
+
+-- an event without NULL columns that has a leaf
+pub record IsEvent (e : Event) : Type 0 where
+  pub table : e.table < 2 ^ 32
+  pub start : IsStart e.op e.start
+  pub tx : e.tx < 2 ^ 64
+  pub seq : e.seq < 2 ^ 64
+  pub count : length e.columns < 2 ^ 16
+  pub columns : AllByRecursion IsField e.columns
+  pub rise : ordinals_rise e.columns ≡ true

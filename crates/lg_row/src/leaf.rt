@@ -2,8 +2,8 @@
 
 ghost use Rattle.std.specs.Prelude.{◌≡◌, ◌++◌, take, length, filter, flat_map, IfOk, OnOk, OnErr};
 ghost use Rattle.std.specs.Int.{w8, w32, w64};
-ghost use Rattle.lg_bytes.specs.Fields.{long_field, u32_field, i128_field};
-ghost use Rattle.lg_row.specs.Leaf.{event_bytes, spelled, head_bytes, without_nulls, columns_bytes, column_bytes, start_bytes, type_bytes, value_bytes, number_bytes, signed_field, type_code, first_parameter, second_parameter, has_value, is_told};
+ghost use Rattle.lg_bytes.specs.Fields.{long_field, u32_field, signed_field, i128_field};
+ghost use Rattle.lg_row.specs.Leaf.{event_bytes, spelled, head_bytes, without_nulls, columns_bytes, column_bytes, start_bytes, type_bytes, value_bytes, number_bytes, type_code, first_parameter, second_parameter, has_value, is_told};
 
 use lg_bytes::{put_long, put_u8, put_u16, put_u32, put_u64};
 use lg_items::Memory;
@@ -120,7 +120,7 @@ fn put_type(ty: SqlType, out: &mut Vec<u8>) -> Result<(), Memory>
 }
 
 // The code of a type, and its parameters.
-fn type_parts(ty: SqlType) -> (u8, u32, u32)
+pub(crate) fn type_parts(ty: SqlType) -> (u8, u32, u32)
     ensures { result ≡ (type_code ty, first_parameter ty, second_parameter ty) }
 {
     match ty {
@@ -177,7 +177,7 @@ fn put_number(ty: SqlType, v: i128, out: &mut Vec<u8>) -> Result<(), Memory>
     }
 }
 
-#[tactic(auto, unfolding(crate::specs::Leaf::signed_field))]
+#[tactic(auto, unfolding(lg_bytes::specs::Fields::signed_field))]
 fn bit_bytes(v: i128) -> Result<[u8; 1], Memory>
     ensures { IfOk result (λ bytes. bytes ≡ signed_field w8 v) }
 {
@@ -187,7 +187,7 @@ fn bit_bytes(v: i128) -> Result<[u8; 1], Memory>
     }
 }
 
-#[tactic(auto, unfolding(crate::specs::Leaf::signed_field))]
+#[tactic(auto, unfolding(lg_bytes::specs::Fields::signed_field))]
 fn int_bytes(v: i128) -> Result<[u8; 4], Memory>
     ensures { IfOk result (λ bytes. bytes ≡ signed_field w32 v) }
 {
@@ -197,7 +197,7 @@ fn int_bytes(v: i128) -> Result<[u8; 4], Memory>
     }
 }
 
-#[tactic(auto, unfolding(crate::specs::Leaf::signed_field))]
+#[tactic(auto, unfolding(lg_bytes::specs::Fields::signed_field))]
 fn big_int_bytes(v: i128) -> Result<[u8; 8], Memory>
     ensures { IfOk result (λ bytes. bytes ≡ signed_field w64 v) }
 {
