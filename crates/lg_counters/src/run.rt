@@ -61,11 +61,11 @@ fn run_one<G: Gate, R: Wait>(
     seat
 }
 
-/// Runs each session of the plan in a thread of its own, and returns when all have ended. The number of
-/// the plan's first session is `from`.
-///
-/// The plan is halved, the seat is split between the halves, and joined again when both have ended.
-pub fn run_part<G: Gate + Sync, R: Threads + Wait + Sync>(
+// Runs each session of the plan in a thread of its own, and returns when all have ended. The number of
+// the plan's first session is `from`.
+//
+// The plan is halved, the seat is split between the halves, and joined again when both have ended.
+fn run_part<G: Gate + Sync, R: Threads + Wait + Sync>(
     rt: &R,
     gate: &G,
     from: usize,
