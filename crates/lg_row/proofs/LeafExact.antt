@@ -58,7 +58,7 @@ unfolding column_at
 column_exact = decoded_exact FitParts IsField spell_parts column_bytes field_of parts_of (both u16_at (both type_at long_at))
     (record { there = column_there; spelled = λ f fits. refl; fit_back = column_fits; back = column_back })
     (both_exact (λ (n : ℕ). n < 2 ^ 16) (λ (x : SqlType × List ℕ). FitsFields x.0 × (length x.1 < 2 ^ 32)) u16_field (λ (x : SqlType × List ℕ). type_bytes x.0 ++ long_field x.1) u16_at (both type_at long_at) u16_exact
-      (both_exact FitsFields (λ (x : List ℕ). length x < 2 ^ 32) type_bytes long_field type_at long_at type_exact long_exact))
+    (both_exact FitsFields (λ (x : List ℕ). length x < 2 ^ 32) type_bytes long_field type_at long_at type_exact long_exact))
 
 abbrev Columns : List FieldOf → Type 0
 Columns fs = ((length fs < 2 ^ 16) × AllByRecursion IsField fs) × (ordinals_rise fs ≡ true)
@@ -115,7 +115,7 @@ head_exact : Exact FitHead spell_head head_at
 unfolding head_at
 head_exact = after_exact (u8_field 1) FitHead (λ (h : Head). u32_field h.0 ++ (u8_field h.1.0 ++ (u64_field h.1.1.0 ++ u64_field h.1.1.1))) (both u32_at (both u8_at (both u64_at u64_at)))
     (both_exact (λ (n : ℕ). n < 2 ^ 32) (λ (x : ℕ × (ℕ × ℕ)). (x.0 < 256) × ((x.1.0 < 2 ^ 64) × (x.1.1 < 2 ^ 64))) u32_field (λ (x : ℕ × (ℕ × ℕ)). u8_field x.0 ++ (u64_field x.1.0 ++ u64_field x.1.1)) u32_at (both u8_at (both u64_at u64_at)) u32_exact
-      (both_exact (λ (n : ℕ). n < 256) FitPair u8_field pair_bytes u8_at (both u64_at u64_at) u8_exact pair_exact))
+    (both_exact (λ (n : ℕ). n < 256) FitPair u8_field pair_bytes u8_at (both u64_at u64_at) u8_exact pair_exact))
 
 abbrev Tail : Type 0
 Tail = Option (ℕ × ℕ) × List FieldOf
@@ -143,7 +143,7 @@ event_exact = mapped_exact (λ (x : Head × Tail). FitHead x.0 × FitTail x.0 x.
       fit_back = λ e f. ((f.table, (op_small e.op e.start f.start, (f.tx, f.seq))), (f.start, ((f.count, f.columns), f.rise)));
     })
     (depends_exact FitHead FitTail spell_head spell_tail head_at (λ (h : Head). both (start_at h.1.0) columns_at) head_exact
-      (λ (h : Head). both_exact (IsStart h.1.0) Columns start_bytes columns_bytes (start_at h.1.0) columns_at (start_exact h.1.0) columns_exact))
+    (λ (h : Head). both_exact (IsStart h.1.0) Columns start_bytes columns_bytes (start_at h.1.0) columns_at (start_exact h.1.0) columns_exact))
 
 -- ---- leaves
 

@@ -78,7 +78,7 @@ type_exact = decoded_exact FitParts FitsFields spell_parts type_bytes type_of pa
       back = type_back;
     })
     (both_exact (λ (x : ℕ × ℕ). (x.0 < 256) × (x.1 < 2 ^ 16)) (λ (n : ℕ). n < 256) (λ (x : ℕ × ℕ). u8_field x.0 ++ u16_field x.1) u8_field (both u8_at u16_at) u8_at
-      (both_exact (λ (n : ℕ). n < 256) (λ (n : ℕ). n < 2 ^ 16) u8_field u16_field u8_at u16_at u8_exact u16_exact) u8_exact)
+    (both_exact (λ (n : ℕ). n < 256) (λ (n : ℕ). n < 2 ^ 16) u8_field u16_field u8_at u16_at u8_exact u16_exact) u8_exact)
 
 -- a type in its ranges fits
 pub in_range_fits : (ty : SqlType) → is_in_range ty ≡ true → FitsFields ty
