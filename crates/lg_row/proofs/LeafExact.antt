@@ -17,6 +17,7 @@ use Rattle.lg_types.specs.declared.event.FieldOf.{FieldOf}
 use Rattle.lg_row.specs.Leaf.{type_bytes, value_bytes, column_bytes, columns_bytes, start_bytes, head_bytes, spelled, event_bytes, has_value, is_told, without_nulls, ordinals_rise, IsStart, IsField, IsEvent}
 use Rattle.lg_row.specs.LeafReading.{type_at, value_of, field, field_of, column_at, columns_at, Head, head_at, some_start, start_at, event_of, event_at}
 use Rattle.lg_row.proofs.TypeLaws.{FitsFields, type_exact, in_range_fits}
+use Rattle.lg_row.proofs.Sizes.{value_small}
 use Rattle.lg_row.proofs.ValueLaws.{IsStored, IsSpelled, value_there, value_back, stored_in_range}
 
 -- ---- columns
@@ -37,7 +38,7 @@ column_there : (f : FieldOf) → IsField f → field_of (parts_of f) ≡ Some f
 column_there f fits = rw (value_there f.ty f.value (record { told = fits.told; stored = fits.stored; text = fits.text }), fits.stored) refl
 
 column_fits : (f : FieldOf) → IsField f → FitParts (parts_of f)
-column_fits f fits = (fits.ordinal, (in_range_fits f.ty (stored_in_range f.ty f.value fits.told fits.stored), fits.size))
+column_fits f fits = (fits.ordinal, (in_range_fits f.ty (stored_in_range f.ty f.value fits.told fits.stored), value_small f.ty f.value fits.stored fits.text))
 
 column_back : (x : Parts) (f : FieldOf) → IsBytes (spell_parts x) → FitParts x → field_of x ≡ Some f → IsField f × (spell_parts x ≡ column_bytes f)
 column_back x f bytes fits e =
@@ -47,8 +48,7 @@ column_back x f bytes fits e =
     let long = IsBytes-back (type_bytes x.1.0) (long_field x.1.1) rest in
     let text = IsBytes-back (u32_field (length x.1.1)) x.1.1 long in
     let is = value_back x.1.0 x.1.1 v.0 text v.1 in
-    let size : length (value_bytes x.1.0 v.0) < 2 ^ 32 = rw is.spelled fits.1.1 in
-    let made : IsField (field x.0 x.1.0 v.0) = record { ordinal = fits.0; told = is.told; stored = g.0; text = is.text; size = size } in
+    let made : IsField (field x.0 x.1.0 v.0) = record { ordinal = fits.0; told = is.told; stored = g.0; text = is.text } in
     let same : spell_parts x ≡ column_bytes (field x.0 x.1.0 v.0) = ap (λ bytes. u16_field x.0 ++ (type_bytes x.1.0 ++ long_field bytes)) (sym is.spelled) in
     let P : FieldOf → Type 0 = λ y. IsField y × (spell_parts x ≡ column_bytes y) in
     subst P g.1 (made, same)
