@@ -1,24 +1,23 @@
 -- Leaves are read exactly as they are written.
-use Rattle.std.proofs.Common.{◌≡◌, ◌<◌, ◌^◌, ◌+◌, ◌≤◌, ℕ, Bool, true, false, cond, eqb, List, [], ◌∷◌, ◌++◌, length, Option, Some, None, Result, Ok, Err, refl, sym, ap, subst, ◌∙◌, arith}
-use Rattle.std.specs.Prelude.{filter, flat_map, ◌==◌, IfOk, IfSome}
+use Rattle.std.proofs.Common.{◌≡◌, ◌<◌, ◌^◌, ℕ, Bool, true, false, cond, List, [], ◌∷◌, ◌++◌, length, Option, Some, None, refl, sym, ap, subst, ◌∙◌, arith}
+use Rattle.std.specs.Prelude.{filter, ◌==◌}
 use Rattle.std.specs.List.{AllByRecursion}
 use Rattle.std.proofs.lemmas.Bool.{eqb-true}
 use Rattle.std.proofs.lemmas.List.{append-nil}
 use Rattle.lg_bytes.specs.Fields.{u8_field, u16_field, u32_field, u64_field, long_field}
-use Rattle.lg_bytes.specs.Readers.{Reader, ◌>>=◌, u8_at, u16_at, u32_at, u64_at, long_at, after, both, depends, mapped, decoded, where_, listed, whole}
+use Rattle.lg_bytes.specs.Readers.{◌>>=◌, u8_at, u16_at, u32_at, u64_at, long_at, both, depends, mapped, listed, whole}
 use Rattle.lg_bytes.specs.Exact.{IsBytes, Exact, Taken}
-use Rattle.lg_bytes.proofs.Written.{IsBytes-front, IsBytes-back, bind_some, some_is, u8_exact, u16_exact, u32_exact, u64_exact, long_exact}
-use Rattle.lg_bytes.proofs.Parts.{Decodes, Iso, after_exact, both_exact, depends_exact, decoded_exact, mapped_exact, where_exact, listed_exact, one_value, test_some, whole_sound, whole_complete}
+use Rattle.lg_bytes.proofs.Written.{IsBytes-back, bind_some, some_is, u8_exact, u16_exact, u32_exact, u64_exact, long_exact}
+use Rattle.lg_bytes.proofs.Parts.{after_exact, both_exact, depends_exact, decoded_exact, mapped_exact, where_exact, listed_exact, one_value, test_some, whole_sound, whole_complete}
 use Rattle.lg_value.specs.declared.sql_type.SqlType.{SqlType}
-use Rattle.lg_value.specs.declared.value.Value.{Value}
 use Rattle.lg_value.specs.Stored.{is_stored}
 use Rattle.lg_types.specs.declared.event.Event.{Event}
 use Rattle.lg_types.specs.declared.event.FieldOf.{FieldOf}
-use Rattle.lg_row.specs.Leaf.{type_bytes, value_bytes, column_bytes, columns_bytes, start_bytes, head_bytes, spelled, event_bytes, has_value, is_told, without_nulls, ordinals_rise, IsStart, IsField, IsEvent}
+use Rattle.lg_row.specs.Leaf.{type_bytes, value_bytes, column_bytes, columns_bytes, start_bytes, spelled, event_bytes, has_value, without_nulls, ordinals_rise, IsStart, IsField, IsEvent}
 use Rattle.lg_row.specs.LeafReading.{type_at, value_of, field, field_of, column_at, columns_at, Head, head_at, some_start, start_at, event_of, event_at}
 use Rattle.lg_row.proofs.TypeLaws.{FitsFields, type_exact, in_range_fits}
 use Rattle.lg_row.proofs.Sizes.{value_small}
-use Rattle.lg_row.proofs.ValueLaws.{IsStored, IsSpelled, value_there, value_back, stored_in_range}
+use Rattle.lg_row.proofs.ValueLaws.{value_there, value_back, stored_in_range}
 
 -- ---- columns
 

@@ -1,7 +1,7 @@
 -- A value that a type stores has at most 16,000 bytes.
-use Rattle.std.proofs.Common.{◌≡◌, ◌<◌, ◌^◌, ◌+◌, ◌-◌, ◌*◌, ◌/◌, ◌%◌, ◌≤◌, ℕ, ℤ, Bool, true, false, cond, leb, ltb, List, [], ◌∷◌, ◌++◌, length, refl, sym, ap, subst, ◌∙◌, arith, length-append}
-use Rattle.std.specs.Prelude.{◌&&◌, sum_by}
-use Rattle.std.specs.Str.{IsUtf8, is_utf8, chars, encode_utf8_all}
+use Rattle.std.proofs.Common.{◌≡◌, ◌<◌, ◌^◌, ◌+◌, ◌-◌, ◌*◌, ◌/◌, ◌%◌, ◌≤◌, ℕ, ℤ, Bool, true, false, cond, leb, ltb, List, [], ◌∷◌, length, ap, arith, length-append}
+use Rattle.std.specs.Prelude.{sum_by}
+use Rattle.std.specs.Str.{is_utf8, chars, encode_utf8_all}
 use Rattle.std.specs.Char.Escape.{encode_utf16}
 use Rattle.std.proofs.Math.Utf8.{encode}
 use Rattle.std.proofs.lemmas.Bool.{leb-true}
@@ -14,7 +14,7 @@ use Rattle.lg_value.specs.declared.value.Value.{Value}
 use Rattle.lg_value.specs.declared.value.Value.TheVariants as values
 use Rattle.lg_value.specs.Text.{utf16_units}
 use Rattle.lg_value.specs.Stored.{is_in_range, is_stored, text_stored, bytes_stored}
-use Rattle.lg_row.specs.Leaf.{value_bytes, number_bytes, is_told, is_text}
+use Rattle.lg_row.specs.Leaf.{value_bytes, number_bytes, is_text}
 use Rattle.lg_row.proofs.TypeLaws.{and_parts}
 
 either_small : (b : Bool) (x y : ℕ) → x ≤ 4 → y ≤ 4 → cond b x y ≤ 4

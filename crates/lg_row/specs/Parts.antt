@@ -1,5 +1,5 @@
 -- The columns of a table's parts.
-use Rattle.std.specs.Prelude.{ℕ, ◌+◌, false, List, ◌++◌, length, map}
+use Rattle.std.specs.Prelude.{ℕ, false, List, ◌++◌, length, map}
 use Rattle.lg_value.specs.declared.column.ColumnDef.{ColumnDef}
 use Rattle.lg_value.specs.declared.sql_type.SqlType.{SqlType}
 use Rattle.lg_types.specs.declared.table.TableDef.{TableDef}
