@@ -1,5 +1,5 @@
 -- Days from 0001-01-01.
-use Rattle.std.proofs.Common.{zero, suc, ◌≡◌, ◌∙◌, ◌+◌, ◌-◌, ◌<◌, ◌≤◌, ◌-ℤ◌, ◌+ℤ◌, ◌<ℤ◌, ◌≤ℤ◌, ap, ℕ, ℤ, pos, refl, sym, arith, rules, inl, inr}
+use Rattle.std.proofs.Common.{zero, suc, ◌≡◌, ◌∙◌, ◌+◌, ◌-◌, ◌<◌, ◌≤◌, ◌+ℤ◌, ◌≤ℤ◌, ap, ℕ, ℤ, pos, refl, arith, inl, inr}
 use Rattle.std.specs.Int.{IsInRange}
 use Rattle.jiff_core.specs.Calendar.{IsCivilDate, days_from_civil, day_count, days_in_month}
 use Rattle.jiff_core.proofs.CalendarLemmas.{days_from_civil-day_count, day_count-lt_year, day_count-day_of_year, day_count-day, day_count-next_month, day_count-next_year, day_count-last_of_year, day_count-end, days_in_month_bounds}
@@ -58,32 +58,32 @@ StepsFrom c n = IsDate n × (count n ≡ count c + 1)
 
 step : (y m d : ℕ) → IsDate (civil y m d) → count (civil y m d) < 7304849 → StepsFrom (civil y m d) (next (civil y m d))
 step y m d is early = elim (cases_lt d (days_in_month (pos y) m)) [
-    | inl more ↦
-        rw (next_day y m d more) ((is.0, is.1, is.2, (omega arith, omega arith)), omega (arith, day_count-day (pos y) m d (d + 1) is.3.0 (omega arith)))
-    | inr full ↦
-        let whole : d ≡ days_in_month (pos y) m = omega (arith, is) in
-        elim (cases_lt m 12) [
-          | inl before ↦
-              rw (next_month y m d full before) (
-                (is.0, is.1, (omega arith, omega (arith, is)), (omega arith, omega (arith, days_in_month_bounds (pos y) (m + 1)))),
-                omega (arith, whole, day_count-next_month (pos y) m is.2.0, day_count-day (pos y) m d 1 is.3.0 (omega arith)),
-              )
-          | inr december ↦
-              let last : m ≡ 12 = omega (arith, is) in
-              let day : d ≡ 31 = whole ∙ ap (days_in_month (pos y)) last in
-              let end = day_count-last_of_year (pos y) in
-              let here : count (civil y m d) ≡ day_count (pos y) 12 31 = rw (last, day) refl in
-              let new = day_count-next_year (pos y) (pos (y + 1)) (omega (arith, signed_arith)) (omega (arith, signed_arith)) in
-              let count_next : day_count (pos (y + 1)) 1 1 ≡ count (civil y m d) + 1 = omega (arith, end, here, new) in
-              let in_time : y + 1 ≤ 9999 = elim (cases_lt y 9999) [
-                | inl less ↦ omega arith
-                | inr most ↦
-                    let y9999 : y + 1 ≡ 10000 = omega (arith, is) in
-                    absurd (omega (arith, early, count_next, rw y9999 at count_next, day_count-end))
-              ] in
-              rw (next_year y m d full december) ((omega arith, in_time, (omega arith, omega arith), (omega arith, omega arith)), count_next)
-        ]
-  ]
+  | inl more ↦
+      rw (next_day y m d more) ((is.0, is.1, is.2, (omega arith, omega arith)), omega (arith, day_count-day (pos y) m d (d + 1) is.3.0 (omega arith)))
+  | inr full ↦
+      let whole : d ≡ days_in_month (pos y) m = omega (arith, is) in
+      elim (cases_lt m 12) [
+        | inl before ↦
+            rw (next_month y m d full before) (
+              (is.0, is.1, (omega arith, omega (arith, is)), (omega arith, omega (arith, days_in_month_bounds (pos y) (m + 1)))),
+              omega (arith, whole, day_count-next_month (pos y) m is.2.0, day_count-day (pos y) m d 1 is.3.0 (omega arith)),
+            )
+        | inr december ↦
+            let last : m ≡ 12 = omega (arith, is) in
+            let day : d ≡ 31 = whole ∙ ap (days_in_month (pos y)) last in
+            let end = day_count-last_of_year (pos y) in
+            let here : count (civil y m d) ≡ day_count (pos y) 12 31 = rw (last, day) refl in
+            let new = day_count-next_year (pos y) (pos (y + 1)) (omega (arith, signed_arith)) (omega (arith, signed_arith)) in
+            let count_next : day_count (pos (y + 1)) 1 1 ≡ count (civil y m d) + 1 = omega (arith, end, here, new) in
+            let in_time : y + 1 ≤ 9999 = elim (cases_lt y 9999) [
+              | inl less ↦ omega arith
+              | inr most ↦
+                  let y9999 : y + 1 ≡ 10000 = omega (arith, is) in
+                  absurd (omega (arith, early, count_next, rw y9999 at count_next, day_count-end))
+            ] in
+            rw (next_year y m d full december) ((omega arith, in_time, (omega arith, omega arith), (omega arith, omega arith)), count_next)
+      ]
+]
 
 -- day n is n days after 0001-01-01
 pub date_counts : (n : ℕ) → n ≤ 3652058 → IsDate (date_of n) × (count (date_of n) ≡ 3652791 + n)

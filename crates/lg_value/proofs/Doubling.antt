@@ -1,6 +1,6 @@
 -- Texts with each quote twice.
-use Rattle.std.proofs.Common.{◌≡◌, ◌∙◌, ◌<◌, ℕ, zero, suc, ◌+◌, Bool, true, false, List, [], ◌∷◌, ◌++◌, length, get_or, ap, sym, refl, arith, Option, Some, None, length-append}
-use Rattle.std.specs.Prelude.{◌≢◌, ◌==◌, MatchOption}
+use Rattle.std.proofs.Common.{◌≡◌, ◌∙◌, ◌<◌, ℕ, List, [], ◌∷◌, ◌++◌, length, ap, refl, arith, Option, Some, None, length-append}
+use Rattle.std.specs.Prelude.{MatchOption}
 use denote.Ref.{Bor}
 use Rattle.lg_value.specs.Printed.{doubled}
 use Rattle.lg_value.proofs.Reading.{NoQuote, no_quote_head, no_quote_tail}
@@ -18,6 +18,6 @@ pub doubled_parts : (bs : List ℕ) (r : Option (Bor (List ℕ) × Bor (List ℕ
     → MatchOption r (doubled bs ≡ bs) (λ p. (doubled bs ≡ p.0.now ++ 39 ∷ 39 ∷ doubled p.1.now) × (length p.1.now < length bs))
 doubled_parts bs None h = doubled_same bs h
 doubled_parts bs (Some p) h = (
-    ap doubled h.0 ∙ doubled_at p.0.now p.1.now h.1,
-    omega (arith, ap length h.0, length-append p.0.now (39 ∷ p.1.now)),
-  )
+  ap doubled h.0 ∙ doubled_at p.0.now p.1.now h.1,
+  omega (arith, ap length h.0, length-append p.0.now (39 ∷ p.1.now)),
+)

@@ -1,10 +1,16 @@
+mod Conversions
+mod DayTexts
 mod Days
+mod DigitTexts
 mod Digits
 mod Doubling
 mod Hexes
 mod Numbers
 mod OrderLaws
 mod Ranges
+mod ReadValues
 mod Reading
+mod RoundTrip
 mod Rounding
 mod Texts
+mod Trees

@@ -1,6 +1,6 @@
 -- Numbers in smaller units.
 use Rattle.std.proofs.Common.{◌≡◌, ℕ, zero, suc, ◌+◌, ◌*◌, ◌^◌, ◌≤◌, ◌<◌, ◌-◌, refl, sym, ap, subst, ◌∙◌, arith, lit<, inl, inr}
-use Rattle.std.specs.Prelude.{ℤ, pos, negsuc, ◌*ℤ◌, ◌<ℤ◌, ◌≤ℤ◌, neg_ℤ, FitsSigned, ◌≢◌}
+use Rattle.std.specs.Prelude.{ℤ, pos, negsuc, ◌<ℤ◌, ◌≤ℤ◌, neg_ℤ, FitsSigned, ◌≢◌}
 use Rattle.std.specs.Int.{w128, int_pow}
 use Rattle.std.specs.Ordering.{int_cmp, MatchOrdering, ordering_reverse}
 use Rattle.std.specs.Cmp.{int_cmp_is, int_ranks, int_cmp_total}
@@ -75,9 +75,9 @@ big_neg m out = elim (cases_lt m (2 ^ 127)) [ inl h ↦ absurd (out (record { sf
 -- no power of ten is 2 ^ 127
 past : (k : ℕ) → 2 ^ 127 ≤ 10 ^ k → 2 ^ 127 < 10 ^ k
 past k h = elim (cases_lt k 39) [
-    | inl few ↦ let most = pow-le-pow_right {n = 10} (lit< tt) {i = k} {j = 38} (omega arith) in absurd (omega (arith, most))
-    | inr many ↦ let least = pow-le-pow_right {n = 10} (lit< tt) {i = 39} {j = k} many in omega (arith, least)
-  ]
+  | inl few ↦ let most = pow-le-pow_right {n = 10} (lit< tt) {i = k} {j = 38} (omega arith) in absurd (omega (arith, most))
+  | inr many ↦ let least = pow-le-pow_right {n = 10} (lit< tt) {i = 39} {j = k} many in omega (arith, least)
+]
 
 -- where the unit itself doesn't fit, 0 alone does
 pub no_unit : (v : ℤ) (k : ℕ) → (FitsSigned w128 (int_pow (pos 10) k) → ⊥) → v ≢ pos 0 → FitsSigned w128 (raised v k) → ⊥

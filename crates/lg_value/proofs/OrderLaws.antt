@@ -1,5 +1,5 @@
 -- The order of values as a total order, and kind by kind.
-use Rattle.std.proofs.Common.{◌≡◌, ◌∙◌, ℕ, ◌+◌, ◌-◌, ◌<◌, ◌≤◌, ◌^◌, List, [], ap, sym, refl, arith, rules, true, IsTrue}
+use Rattle.std.proofs.Common.{◌≡◌, ◌∙◌, ℕ, ◌+◌, ◌-◌, ◌<◌, ◌≤◌, ◌^◌, List, ap, sym, refl, arith, rules, IsTrue}
 use Rattle.std.specs.Prelude.{ℤ, pos, ◌≢◌, ◌↔◌, ◌<ℤ◌}
 use Rattle.std.specs.declared.cmp.Ordering.{Ordering}
 use Rattle.std.specs.declared.cmp.Ordering.TheVariants.{Less, Equal, Greater}
@@ -90,9 +90,9 @@ of_kinds Null (Bytes b) g h = (λ e. absurd (search rules), λ e. absurd e)
 of_kinds Null (Date d) g h = (λ e. absurd (search rules), λ e. absurd e)
 of_kinds (Num v s) Null g h = (λ e. absurd (search rules), λ e. absurd e)
 of_kinds (Num v s) (Num w z) g h = (
-    λ e. exact_signed (raised v z) (raised w s) (sym (numbers v w s z g h) ∙ e),
-    λ e. numbers v w s z g h ∙ self_equal int_cmp_total (raised v z) (raised w s) e,
-  )
+  λ e. exact_signed (raised v z) (raised w s) (sym (numbers v w s z g h) ∙ e),
+  λ e. numbers v w s z g h ∙ self_equal int_cmp_total (raised v z) (raised w s) e,
+)
 of_kinds (Num v s) (Text b) g h = (λ e. absurd (search rules), λ e. absurd e)
 of_kinds (Num v s) (Bytes b) g h = (λ e. absurd (search rules), λ e. absurd e)
 of_kinds (Num v s) (Date d) g h = (λ e. absurd (search rules), λ e. absurd e)

@@ -1,5 +1,5 @@
 -- What is in range.
-use Rattle.std.proofs.Common.{◌≡◌, ℕ, suc, ◌^◌, ◌≤◌, ◌<◌, refl, sym, ap, ◌∙◌, arith, lit<, true, false}
+use Rattle.std.proofs.Common.{◌≡◌, ℕ, suc, ◌^◌, ◌≤◌, arith, lit<, true, false}
 use Rattle.std.specs.Prelude.{ℤ, pos, negsuc, FitsSigned}
 use Rattle.std.specs.Int.{w128}
 use Rattle.std.proofs.Math.Nat.{pow-le-pow_right}

@@ -1,8 +1,8 @@
 -- Texts in quotes, byte by byte.
-use Rattle.std.proofs.Common.{◌≡◌, ◌∙◌, ◌<◌, ℕ, zero, suc, ◌+◌, Bool, true, false, List, [], ◌∷◌, ◌++◌, length, get_or, ap, sym, refl, arith, rules, Option, Some, None, append_assoc, append-nil, inl, inr, length-append}
-use Rattle.std.specs.Prelude.{◌≢◌, ◌==◌, ◌||◌, MatchOption, if◌then◌else◌}
+use Rattle.std.proofs.Common.{◌≡◌, ◌∙◌, ◌<◌, ℕ, suc, true, false, List, [], ◌∷◌, ◌++◌, length, get_or, ap, sym, refl, arith, rules, Option, Some, None, append_assoc, append-nil, inl, inr, length-append}
+use Rattle.std.specs.Prelude.{◌≢◌, ◌==◌, MatchOption, if◌then◌else◌}
 use Rattle.std.specs.Option.{option_copied}
-use Rattle.std.proofs.lemmas.Bool.{eqb-true, eqb-false, cases_eq}
+use Rattle.std.proofs.lemmas.Bool.{cases_eq}
 use Rattle.std.proofs.lemmas.Bool.Decides.{nat_tests}
 use denote.Ref.{Bor}
 use Rattle.lg_value.specs.Literal.{unquoted_from, after_quote, after_n}
@@ -16,9 +16,9 @@ pub stripped : (c : ℕ) (bs : List ℕ) (r : Option (Bor (List ℕ))) → Match
 stripped c [] None h = refl
 stripped c [] (Some x) h = absurd (grind (arith, h))
 stripped c (d ∷ ds) None h = elim (cases_eq d c) [
-    | inl same ↦ absurd (h ds (ap (λ y. y ∷ ds) same))
-    | inr apart ↦ grind (arith, nat_tests)
-  ]
+  | inl same ↦ absurd (h ds (ap (λ y. y ∷ ds) same))
+  | inr apart ↦ grind (arith, nat_tests)
+]
 stripped c (d ∷ ds) (Some x) h = grind (arith, nat_tests, h)
 
 -- behind an N or n, one after the other
@@ -66,9 +66,9 @@ more_after (d ∷ ds) more before h = grind (arith, nat_tests)
 pub goes_on : (bs piece after more : List ℕ) → bs ≡ piece ++ 39 ∷ after → NoQuote piece → after_quote after ≡ Some more
     → ((before : List ℕ) → unquoted_from false before bs ≡ unquoted_from false (before ++ piece ++ 39 ∷ []) more) × (length more < length bs)
 goes_on bs piece after more is free h = (
-    λ before. rw (is, up_to_quote piece after before free) (more_after after more (before ++ piece) h).0,
-    rw is (omega (arith, length-append piece (39 ∷ after), (more_after after more [] h).1)),
-  )
+  λ before. rw (is, up_to_quote piece after before free) (more_after after more (before ++ piece) h).0,
+  rw is (omega (arith, length-append piece (39 ∷ after), (more_after after more [] h).1)),
+)
 
 pub empty_from : {X : Type 0} (xs : List X) → (length xs == 0) ≡ true → xs ≡ []
 empty_from [] h = refl

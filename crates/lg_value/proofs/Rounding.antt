@@ -1,19 +1,18 @@
 -- Numbers in greater units.
-use Rattle.std.proofs.Common.{◌≡◌, ℕ, zero, suc, ◌+◌, ◌*◌, ◌/◌, ◌^◌, ◌≤◌, ◌<◌, ◌-◌, refl, sym, ap, ◌∙◌, arith, lit<, inl, inr}
-use Rattle.std.specs.Prelude.{ℤ, pos, negsuc, ◌-ℤ◌, ◌<ℤ◌, ◌≤ℤ◌, neg_ℤ, unsigned_abs, FitsSigned, Option, Some, None, SomeIff}
-use Rattle.std.specs.Int.{w128}
+use Rattle.std.proofs.Common.{◌≡◌, ℕ, suc, ◌+◌, ◌/◌, ◌^◌, ◌≤◌, ◌<◌, ◌-◌, refl, sym, ap, ◌∙◌, arith, lit<, inl, inr}
+use Rattle.std.specs.Prelude.{ℤ, pos, negsuc, ◌-ℤ◌, ◌<ℤ◌, ◌≤ℤ◌, neg_ℤ}
 use Rattle.std.proofs.Math.Nat.{pow-le-pow_right, div-lt_iff_lt-mul}
 use Rattle.std.proofs.lemmas.Int.{ints}
 use Rattle.std.proofs.lemmas.Bool.{cases_lt}
-use Rattle.lg_value.specs.Number.{raised, rounded, rounded_size, rescaled, with_sign, has_digits}
+use Rattle.lg_value.specs.Number.{raised, rounded, rounded_size, rescaled, with_sign}
 use Rattle.lg_value.proofs.Numbers.{ten_pos, raised_none}
 
 -- a unit that 128 bits don't hold is of 39 places or more
 pub many_places : (k : ℕ) → (10 ^ k < 2 ^ 128 → ⊥) → 39 ≤ k
 many_places k out = elim (cases_lt k 39) [
-    | inl few ↦ let most = pow-le-pow_right {n = 10} (lit< tt) {i = k} {j = 38} (omega arith) in absurd (out (omega (arith, most)))
-    | inr many ↦ many
-  ]
+  | inl few ↦ let most = pow-le-pow_right {n = 10} (lit< tt) {i = k} {j = 38} (omega arith) in absurd (out (omega (arith, most)))
+  | inr many ↦ many
+]
 
 -- to such units 128 bits are rounded away
 pub rounded_away : (n k : ℕ) → n ≤ 2 ^ 127 → 39 ≤ k → 0 ≡ rounded_size n k

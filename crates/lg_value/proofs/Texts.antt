@@ -1,5 +1,5 @@
 -- Texts and their characters.
-use Rattle.std.proofs.Common.{◌≡◌, ℕ, ◌≤◌, List, length, ap, arith, IsUtf8}
+use Rattle.std.proofs.Common.{ℕ, ◌≤◌, List, length, ap, arith, IsUtf8}
 use Rattle.std.proofs.lemmas.Str.{encodes-chars, length-le-encodes}
 use Rattle.std.specs.Str.{chars}
 

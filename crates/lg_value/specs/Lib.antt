@@ -1,6 +1,7 @@
 pub mod Conversion
 pub mod Day
 pub mod Literal
+pub mod Literals
 pub mod Number
 pub mod Order
 pub mod Pieces
@@ -8,3 +9,4 @@ pub mod Printed
 pub mod Refusal
 pub mod Stored
 pub mod Text
+pub mod Tree

@@ -1,5 +1,5 @@
 -- A quoted text, piece by piece.
-use Rattle.std.specs.Prelude.{ℕ, ◌<◌, ◌≡◌, Bool, false, List, [], ◌∷◌, ◌++◌, length, Option, Some, None}
+use Rattle.std.specs.Prelude.{ℕ, ◌<◌, ◌≡◌, false, List, [], ◌∷◌, ◌++◌, length, Option, Some, None}
 use Rattle.lg_value.specs.Literal.{unquoted_from}
 
 -- the rest goes on with this piece, and then ends or has a doubled quote before `more`

@@ -1,5 +1,5 @@
 -- How values are written.
-use Rattle.std.specs.Prelude.{ℕ, ℤ, pos, negsuc, ◌-◌, ◌==◌, ◌≡◌, nat_lt, nat_le, if◌then◌else◌, unsigned_abs, List, [], ◌∷◌, ◌++◌, length, take, drop, replicate, codes, vec_len}
+use Rattle.std.specs.Prelude.{ℕ, ℤ, pos, negsuc, ◌-◌, ◌==◌, nat_lt, nat_le, if◌then◌else◌, unsigned_abs, List, [], ◌∷◌, ◌++◌, length, take, drop, replicate, codes}
 use Rattle.std.specs.List.{flat_map}
 use Rattle.std.specs.Fmt.{decimal}
 use Rattle.hex.specs.Hex.{encode_upper}
@@ -22,7 +22,7 @@ behind_point (d ∷ ds) = 46 ∷ d ∷ ds
 unfoldable pub pointed : List ℕ → List ℕ → ℕ → List ℕ
 pointed zero ds s =
     if nat_lt s (length ds) then take (length ds - s) ds ++ behind_point (drop (length ds - s) ds)
-    else zero ++ 46 ∷ replicate (s - length ds) 48 ++ ds
+    else zero ++ 46 ∷ (replicate (s - length ds) 48 ++ ds)
 
 abbrev pub number_text : List ℕ → ℤ → ℕ → List ℕ
 number_text zero v s = sign v ++ pointed zero (decimal (unsigned_abs v)) s

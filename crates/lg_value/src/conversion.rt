@@ -58,7 +58,10 @@ fn whole_to(v: i128, t: &SqlType) -> Result<Value, ValueErr>
     ensures { result ≡ spec.whole_to t.now v }
 {
     match t {
-        SqlType::Bit => Ok(Value::Num { v: i128::from(v != 0), s: 0 }),
+        SqlType::Bit => Ok(Value::Num {
+            v: i128::from(v != 0),
+            s: 0,
+        }),
         SqlType::Int if is_int(v) => Ok(Value::Num { v, s: 0 }),
         SqlType::BigInt if is_big_int(v) => Ok(Value::Num { v, s: 0 }),
         SqlType::Int | SqlType::BigInt => Err(ValueErr::OutOfRange),

@@ -93,7 +93,11 @@ pub fn civil_of(day: u32) -> Civil
     ensures small { (result.year < 10000) × (result.month < 100) × (result.day < 100) }
 {
     let date = date_of(day);
-    Civil { year: date.year as u16, month: date.month, day: date.day }
+    Civil {
+        year: date.year as u16,
+        month: date.month,
+        day: date.day,
+    }
 }
 
 fn digit(n: u16) -> u8

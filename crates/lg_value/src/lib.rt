@@ -5,7 +5,6 @@ mod column;
 mod conversion;
 mod day;
 mod expr;
-
 mod laws;
 mod literal;
 mod number;
@@ -20,12 +19,18 @@ mod value;
 pub use column::{ColumnDef, TableKind};
 pub use conversion::to_column;
 pub use expr::{Class, Expr, Op};
-pub use stored::fits;
-pub use laws::{order_is_total, order_of_kinds};
+pub use laws::{
+    conversion_is_stored, days_are_read_back, expressions_are_trees, literals_are_read_back,
+    order_is_total, order_of_kinds, rounding_is_half_away_from_zero,
+};
 pub use lg_items::{Blob, Boxed, Items, Memory, Name, TableId, Text, TxId};
 pub use literal::read_literal;
 pub use order::compare;
 pub use printing::{print, print_literal};
 pub use refusal::{LitErr, Refusal, ValueErr};
 pub use sql_type::SqlType;
+pub use stored::fits;
 pub use value::Value;
+
+#[cfg(test)]
+mod tests;

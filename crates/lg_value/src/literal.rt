@@ -88,7 +88,10 @@ fn signed(text: &[u8]) -> Option<Value>
     match text {
         [b'-', rest @ ..] => {
             let (size, s) = unsigned(rest)?;
-            Some(Value::Num { v: -(size as i128), s })
+            Some(Value::Num {
+                v: -(size as i128),
+                s,
+            })
         }
         [b'+', rest @ ..] => {
             let (size, s) = unsigned(rest)?;

@@ -163,6 +163,7 @@ fn put_hex(bytes: &[u8], out: &mut Vec<u8>) -> Result<(), Memory>
     ensures ok { OnOk result (out.new.items ≡ out.old.items ++ encode_upper bytes.now) }
     ensures err { OnErr result (take (vec_len out.old) out.new.items ≡ out.old.items) }
 {
+    out.reserve(2 * bytes.len())?;
     for &byte in bytes {
         put(&[hex_digit(byte / 16), hex_digit(byte % 16)], out)?;
     }

@@ -4,7 +4,7 @@ ghost use Rattle.std.specs.Prelude.{◌≡◌, IfOk};
 
 use lg_items::{Blob, Memory, Text};
 
-/// A value of a column or of a literal.
+/// A value of a column or of a literal. `==` and the order are those of `compare`, so 1 and 1.0 are equal.
 #[derive(Debug, Drop)]
 pub enum Value {
     Null,

@@ -1,6 +1,4 @@
-use Rattle.std.proofs.Common.{rules, arith, ◌≡◌, true}
-use Rattle.lg_value.specs.declared.sql_type.SqlType.TheVariants as t
-use Rattle.lg_value.specs.Stored.{is_in_range}
+use Rattle.std.proofs.Common.{rules, arith}
 use Rattle.lg_value.proofs.Ranges.{decimal_range}
 use Rattle.lg_value.proofs.conversion.number_to.Goals as goal
 

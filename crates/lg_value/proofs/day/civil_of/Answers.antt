@@ -1,4 +1,4 @@
-use Rattle.std.proofs.Common.{◌≡◌, pos, arith, refl, FitsSigned}
+use Rattle.std.proofs.Common.{arith, refl, FitsSigned}
 use Rattle.std.specs.Int.{w16}
 use Rattle.std.proofs.lemmas.Int.{to_z-of_z}
 use Rattle.jiff_core.proofs.SignedLemmas.{signed_arith}

@@ -1,6 +1,5 @@
 use Rattle.std.proofs.Common.{◌+ℤ◌, ◌∙◌, pos, ap, arith, refl, FitsSigned, w32}
 use Rattle.std.proofs.lemmas.Int.{to_z-of_z}
-use Rattle.jiff_core.specs.Date.{epoch_day}
 use Rattle.jiff_core.proofs.SignedLemmas.{signed_arith}
 use Rattle.lg_value.proofs.Days.{from_unix}
 use Rattle.lg_value.proofs.day.number_of.Goals as goal

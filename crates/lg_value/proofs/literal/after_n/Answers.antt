@@ -1,6 +1,6 @@
-use Rattle.std.proofs.Common.{arith, ◌∙◌, sym, Some, None}
+use Rattle.std.proofs.Common.{arith, ◌∙◌, sym, None}
 use Rattle.std.proofs.lemmas.Str.Pattern.{strip_prefix_char}
-use Rattle.lg_value.proofs.Reading.{stripped, either, first_n}
+use Rattle.lg_value.proofs.Reading.{stripped, either}
 use Rattle.lg_value.proofs.literal.after_n.Goals as goal
 
 pub returns-in-None : goal.returns-in-None

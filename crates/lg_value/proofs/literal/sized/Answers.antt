@@ -1,4 +1,4 @@
-use Rattle.std.proofs.Common.{arith, rules, length}
+use Rattle.std.proofs.Common.{arith, length}
 use Rattle.lg_value.proofs.Digits.{whole_room, fraction_room}
 use Rattle.lg_value.proofs.literal.sized.Goals as goal
 

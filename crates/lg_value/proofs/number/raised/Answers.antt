@@ -1,6 +1,4 @@
-use Rattle.std.proofs.Common.{rules, arith}
-use Rattle.std.specs.Int.{w128}
-use Rattle.std.proofs.lemmas.Int.{to_z-of_z}
+use Rattle.std.proofs.Common.{rules}
 use Rattle.lg_value.proofs.Numbers.{no_unit}
 use Rattle.lg_value.proofs.number.raised.Goals as goal
 

@@ -1,5 +1,5 @@
-use Rattle.std.proofs.Common.{rules, arith, ◌≡◌, ◌∙◌, sym, subst}
-use Rattle.std.specs.Prelude.{FitsSigned, SomeIff}
+use Rattle.std.proofs.Common.{rules, arith, ◌∙◌, subst}
+use Rattle.std.specs.Prelude.{FitsSigned}
 use Rattle.std.specs.Int.{w128}
 use Rattle.std.proofs.lemmas.Int.{to_z-of_z}
 use Rattle.lg_value.proofs.Rounding.{rescaled_up, rescaled_down}
