@@ -1,6 +1,6 @@
 -- Values are read as they are written.
-use Rattle.std.proofs.Common.{◌≡◌, ◌<◌, ◌^◌, ◌+◌, ◌≤◌, ℕ, ℤ, pos, negsuc, Bool, true, false, cond, eqb, leb, ltb, List, [], ◌∷◌, ◌++◌, length, Option, Some, None, refl, sym, ap, subst, ◌∙◌, arith, unsigned_abs}
-use Rattle.std.specs.Prelude.{◌&&◌, ◌==◌, FitsSigned}
+use Rattle.std.proofs.Common.{◌≡◌, ◌<◌, ◌^◌, ◌≤◌, ℕ, ℤ, pos, negsuc, true, eqb, leb, List, Some, refl, sym, ap, subst, ◌∙◌, arith, unsigned_abs}
+use Rattle.std.specs.Prelude.{◌&&◌, FitsSigned}
 use Rattle.std.specs.Int.{w8, w32, w64, w128}
 use Rattle.std.specs.Str.{is_utf8}
 use Rattle.std.proofs.lemmas.Bool.{eqb-true, leb-true, ltb-true}
@@ -16,9 +16,9 @@ use Rattle.lg_value.specs.declared.sql_type.SqlType.TheVariants as types
 use Rattle.lg_value.specs.declared.value.Value.{Value}
 use Rattle.lg_value.specs.declared.value.Value.TheVariants as values
 use Rattle.lg_value.specs.Number.{has_digits}
-use Rattle.lg_value.specs.Stored.{is_in_range, is_stored, is_value_of, number_stored, text_stored, bytes_stored, day_stored, is_bit, in_bits}
+use Rattle.lg_value.specs.Stored.{is_in_range, is_stored, number_stored, text_stored, bytes_stored, day_stored, is_bit, in_bits}
 use Rattle.lg_row.specs.Leaf.{value_bytes, number_bytes, is_told, is_text}
-use Rattle.lg_row.specs.LeafReading.{number_of, text_of, day_of, value_of}
+use Rattle.lg_row.specs.LeafReading.{number_of, value_of}
 use Rattle.lg_row.proofs.TypeLaws.{and_parts}
 
 -- ---- the range of a type's numbers fits its bytes

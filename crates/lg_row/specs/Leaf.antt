@@ -113,7 +113,6 @@ pub record IsField (f : FieldOf) : Type 0 where
   pub told : has_value f ≡ true
   pub stored : is_stored f.value f.ty ≡ true
   pub text : is_text f.value ≡ true
-  pub size : length (value_bytes f.ty f.value) < 2 ^ 32
 
 abbrev pub rise_from : ℕ → List FieldOf → Bool
 rise_from last [] = true

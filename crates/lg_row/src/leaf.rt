@@ -39,11 +39,21 @@ fn put_head(e: &Event, out: &mut Vec<u8>) -> Result<(), Memory>
     ensures ok { OnOk result (out.new.items ≡ out.old.items ++ head_bytes e.now) }
     ensures grows { take (length out.old.items) out.new.items ≡ out.old.items }
 {
-    put_u8(out, 1)?;
-    put_u32(out, e.table)?;
-    put_u8(out, e.op)?;
-    put_u64(out, e.tx)?;
-    put_u64(out, e.seq)
+    out.extend_from_slice(&head_of(e))?;
+    Ok(())
+}
+
+// One array, so that the head is appended at once.
+#[tactic(auto, unfolding(lg_bytes::specs::Fields::u32_field, lg_bytes::specs::Fields::u64_field))]
+fn head_of(e: &Event) -> [u8; 22]
+    ensures { result ≡ head_bytes e.now }
+{
+    let [a, b, c, d] = e.table.to_be_bytes();
+    let [x0, x1, x2, x3, x4, x5, x6, x7] = e.tx.to_be_bytes();
+    let [y0, y1, y2, y3, y4, y5, y6, y7] = e.seq.to_be_bytes();
+    [
+        1, a, b, c, d, e.op, x0, x1, x2, x3, x4, x5, x6, x7, y0, y1, y2, y3, y4, y5, y6, y7,
+    ]
 }
 
 // The start of the version that an end ends.
