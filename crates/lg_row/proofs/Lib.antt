@@ -4,3 +4,4 @@ mod Sizes
 mod Texts
 mod TypeLaws
 mod ValueLaws
+pub mod Told
