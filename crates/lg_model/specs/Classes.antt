@@ -14,7 +14,7 @@ use Rattle.lg_value.specs.declared.expr.Expr.{Expr}
 use Rattle.lg_value.specs.Stored.{is_in_range}
 use Rattle.lg_value.specs.Tree.{Tree, literal, column, minus, not, is_null, binary, tree}
 use Rattle.lg_model.specs.Refusals.{Checked, and_then, or_refused}
-use Rattle.lg_model.specs.Columns.{column_of}
+use Rattle.lg_model.specs.Columns.{place_of, column_of}
 use Rattle.lg_model.specs.Days.{written_day}
 
 -- ---- columns and literals
@@ -139,7 +139,7 @@ class columns (binary op a b) =
 -- all columns that an expression names are there
 abbrev pub names_columns : List ColumnDef → Tree → Bool
 names_columns columns (literal v) = true
-names_columns columns (column name) = is_some (column_of columns name)
+names_columns columns (column name) = is_some (place_of columns name)
 names_columns columns (minus a) = names_columns columns a
 names_columns columns (not a) = names_columns columns a
 names_columns columns (is_null a negated) = names_columns columns a
