@@ -1,5 +1,5 @@
 -- Classes: what kind of value an expression gives, as far as its columns and literals tell.
-use Rattle.std.specs.Prelude.{ℕ, ◌+◌, max, ◌==◌, nat_le, ◌&&◌, Bool, true, false, if◌then◌else◌, List, Option, Some, None, Result, Ok, Err, option_and_then, is_some}
+use Rattle.std.specs.Prelude.{ℕ, ◌+◌, max, ◌==◌, nat_le, ◌&&◌, Bool, true, if◌then◌else◌, List, Option, Some, Ok, Err, is_some}
 use Rattle.lg_value.specs.declared.value.Value.{Value}
 use Rattle.lg_value.specs.declared.value.Value.TheVariants as val
 use Rattle.lg_value.specs.declared.sql_type.SqlType.{SqlType}

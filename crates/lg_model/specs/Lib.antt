@@ -3,5 +3,7 @@ pub mod Columns
 pub mod Days
 pub mod Meaning
 pub mod Numbers
+pub mod Operators
+pub mod Outcomes
 pub mod Refusals
 pub mod Truths

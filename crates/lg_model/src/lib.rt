@@ -3,4 +3,7 @@
 
 mod expressions;
 
-pub use expressions::{truths_are_kleenes};
+pub use expressions::{
+    classes_foretell_outcomes, comparison_with_null_is_unknown, missing_columns_come_first,
+    truths_are_kleenes,
+};
