@@ -1,32 +1,10 @@
--- The operators by their kinds, and how operands stand to each other.
-use Rattle.std.specs.Prelude.{Option, Some, None, ⊤}
+-- How the operands of a comparison stand to each other.
+use Rattle.std.specs.Prelude.{Option, Some, None}
 use Rattle.std.specs.declared.cmp.Ordering.{Ordering}
-use Rattle.lg_value.specs.declared.expr.Op.{Op}
-use Rattle.lg_value.specs.declared.expr.Op.TheVariants.{Add, Sub, Mul, Eq, Ne, Lt, Le, Gt, Ge, And, Or}
 use Rattle.lg_value.specs.declared.value.Value.TheVariants as val
 use Rattle.lg_types.specs.declared.outcome.Outcome.{Outcome}
 use Rattle.lg_types.specs.declared.outcome.Outcome.TheVariants as out
 use Rattle.lg_value.specs.Order.{value_cmp}
-
-abbrev pub IsArithmetic : Op → Type 0
-IsArithmetic Add = ⊤
-IsArithmetic Sub = ⊤
-IsArithmetic Mul = ⊤
-IsArithmetic _ = ⊥
-
-abbrev pub IsConnective : Op → Type 0
-IsConnective And = ⊤
-IsConnective Or = ⊤
-IsConnective _ = ⊥
-
-abbrev pub IsComparison : Op → Type 0
-IsComparison Eq = ⊤
-IsComparison Ne = ⊤
-IsComparison Lt = ⊤
-IsComparison Le = ⊤
-IsComparison Gt = ⊤
-IsComparison Ge = ⊤
-IsComparison _ = ⊥
 
 -- the order of two values of one kind other than NULL, and none for other outcomes
 abbrev pub order_of : Outcome → Outcome → Option Ordering

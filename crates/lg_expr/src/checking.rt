@@ -73,14 +73,14 @@ fn class(e: &Expr, columns: &[ColumnDef]) -> Result<Class, Refusal>
 }
 
 /// The class of an expression over the columns: E04 exactly where it names a column that isn't there, else E05 exactly
-/// where its classes don't agree.
-#[tactic(auto, unfolding(lg_model::specs::Classes::class_of))]
+/// where its classes don't agree. One pass over the expression serves where it has a class.
+#[tactic(auto, unfolding(lg_model::specs::Classes::class_of), using(lg_model::proofs::Missing::there))]
 pub fn check(e: &Expr, columns: &[ColumnDef]) -> Result<Class, Refusal>
     ensures { result ≡ spec.class_of columns.now e.now }
 {
-    if names_columns(e, columns) {
-        class(e, columns)
-    } else {
-        Err(Refusal::E04)
+    match class(e, columns) {
+        Ok(class) => Ok(class),
+        Err(refusal) if names_columns(e, columns) => Err(refusal),
+        Err(_) => Err(Refusal::E04),
     }
 }

@@ -34,7 +34,9 @@ fn product_class(a: Class, b: Class) -> Result<Class, Refusal>
 {
     match (beside_number(a, b), beside_number(b, a)) {
         (Class::Whole, Class::Whole) => Ok(Class::Whole),
-        (Class::Whole, Class::Dec(s)) | (Class::Dec(s), Class::Whole) if s <= 38 => Ok(Class::Dec(s)),
+        (Class::Whole, Class::Dec(s)) | (Class::Dec(s), Class::Whole) if s <= 38 => Ok(Class::Dec(
+            s,
+        )),
         (Class::Dec(s), Class::Dec(z)) if s <= 38 && z <= 38 - s => Ok(Class::Dec(s + z)),
         (Class::Null, Class::Null) => Ok(Class::Null),
         _ => Err(Refusal::E05),

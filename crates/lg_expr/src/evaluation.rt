@@ -16,11 +16,7 @@ use lg_types::Outcome;
 use lg_value::{ColumnDef, Expr, Name, Refusal, Value, day_of};
 
 /// The value of a row in the column of this name.
-fn value_of<'a>(
-    columns: &[ColumnDef],
-    row: &'a [Value],
-    name: &Name,
-) -> Result<Seen<'a>, Refusal>
+fn value_of<'a>(columns: &[ColumnDef], row: &'a [Value], name: &Name) -> Result<Seen<'a>, Refusal>
     ensures { Shows (and_then (or_refused E05 (columns_of.value_of columns.now row.now name.now)) spec.a_value) result }
 {
     match place_of(columns, name) {

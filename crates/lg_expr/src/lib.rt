@@ -13,3 +13,6 @@ mod truth;
 pub use checking::check;
 pub use evaluation::eval;
 pub use lg_types::Outcome;
+
+#[cfg(test)]
+mod tests;

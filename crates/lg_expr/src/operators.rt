@@ -4,7 +4,8 @@ ghost use Rattle.std.specs.Prelude.{◌≡◌};
 ghost use Rattle.lg_model.specs.Meaning as spec;
 ghost use Rattle.lg_model.specs.Refusals.{and_then};
 ghost use Rattle.lg_model.specs.Meaning.{a_value};
-ghost use Rattle.lg_expr.specs.Operators.{IsArithmetic, IsComparison, IsConnective, order_of as spec_order};
+ghost use Rattle.lg_model.specs.Operators.{IsArithmetic, IsComparison, IsConnective};
+ghost use Rattle.lg_expr.specs.Operators.{order_of as spec_order};
 ghost use Rattle.lg_expr.specs.Seen.{outcome_of, Shows};
 
 use crate::arithmetic::{difference, negative, product, sum};
