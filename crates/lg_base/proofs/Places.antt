@@ -1,8 +1,8 @@
 -- The first entry of a name: where it stands, and what putting another in its place or one at the end changes.
-use Rattle.std.proofs.Common.{◌≡◌, ◌≢◌, ℕ, zero, suc, ◌+◌, ◌<◌, List, [], ◌∷◌, ◌++◌, length, get_or, slice_set, refl, sym, subst, ◌∙◌, Bool, true, false, cond, bytes_eq, Option, Some, None, MatchOption, IfSome, IfNone, arith}
+use Rattle.std.proofs.Common.{◌≡◌, ◌≢◌, ℕ, zero, suc, ◌+◌, ◌<◌, List, [], ◌∷◌, ◌++◌, length, get_or, slice_set, refl, sym, subst, Bool, true, false, cond, bytes_eq, Option, Some, None, MatchOption, IfSome, IfNone, arith}
 use Rattle.std.specs.List.{position_from}
 use Rattle.std.proofs.lemmas.Slice.Eq.{bytes_eq-Decides}
-use Rattle.lg_base.specs.Store.{Held, Absent}
+use Rattle.lg_base.specs.Store.{Absent}
 use Rattle.lg_base.specs.Entries.{shown, held_in, HoldsNow, IsPlaceOf}
 use Rattle.lg_base.specs.declared.mem_vault.Entry.{Entry}
 

@@ -1,5 +1,5 @@
 -- The entries of a vault in memory, one a name.
-use Rattle.std.specs.Prelude.{◌≡◌, ◌≢◌, ℕ, List, [], ◌∷◌, if◌then◌else◌, bytes_eq, zero, suc, true, false, Option, Some, None}
+use Rattle.std.specs.Prelude.{◌≡◌, ℕ, List, [], ◌∷◌, if◌then◌else◌, bytes_eq, zero, suc, true, false, Option, Some, None}
 use Rattle.lg_base.specs.Store.{Held, Absent, Open, Bytes, SameBut}
 use Rattle.lg_base.specs.declared.mem_vault.Entry.{Entry}
 

@@ -16,8 +16,12 @@ pub struct FolderVault<R: Files + AllocGlobal + Drop> {
 }
 
 impl<R: Files + AllocGlobal + Drop> FolderVault<R> {
+    ghost use Rattle.lg_base.specs.Adapters.{folder_faults};
+
     /// A vault over these files that has not failed so far.
-    pub fn new(rt: R) -> FolderVault<R> {
+    pub fn new(rt: R) -> FolderVault<R>
+        ensures { folder_faults result ≡ 0 }
+    {
         FolderVault { rt, failed: 0 }
     }
 }
@@ -32,9 +36,11 @@ fn read_within<R: Files + AllocGlobal>(rt: &R, name: &str, limit: usize) -> io::
 }
 
 impl<R: Files + AllocGlobal + Drop> Vault for FolderVault<R> {
+    ghost use Rattle.lg_base.specs.Adapters.{folder_faults};
+
     ghost names = { λ v. None };
 
-    ghost faults = { λ v. v.failed };
+    ghost faults = { λ v. folder_faults v };
 
     fn get(&mut self, name: &str, limit: usize) -> Result<Vec<u8>, VaultErr> {
         match read_within(&self.rt, name, limit) {

@@ -24,7 +24,8 @@ pub use failed::Failed;
 pub use folder_vault::FolderVault;
 pub use gate::{Gate, OpenGate};
 pub use lg_bytes::{
-    put_hash, put_i128, put_long, put_short, put_u8, put_u16, put_u32, put_u64, put_wide,
+    Fields, ReadError, put_hash, put_i128, put_long, put_short, put_u8, put_u16, put_u32, put_u64,
+    put_wide,
 };
 pub use lg_items::{Memory, TableId, TxId};
 pub use machine_clock::MachineClock;

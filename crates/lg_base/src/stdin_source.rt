@@ -13,16 +13,22 @@ pub struct StdinSource<R: Read + Drop> {
 }
 
 impl<R: Read + Drop> StdinSource<R> {
+    ghost use Rattle.lg_base.specs.Adapters.{reader_faults};
+
     /// A source over this reader that has not failed so far.
-    pub fn new(reader: R) -> StdinSource<R> {
+    pub fn new(reader: R) -> StdinSource<R>
+        ensures { reader_faults result ≡ 0 }
+    {
         StdinSource { reader, failed: 0 }
     }
 }
 
 impl<R: Read + Drop> Source for StdinSource<R> {
+    ghost use Rattle.lg_base.specs.Adapters.{reader_faults};
+
     ghost left = { λ s. None };
 
-    ghost faults = { λ s. s.failed };
+    ghost faults = { λ s. reader_faults s };
 
     fn read(&mut self, buf: &mut [u8]) -> Result<usize, Failed> {
         match self.reader.read(buf) {

@@ -14,8 +14,13 @@ pub struct StdoutSink<W: Write + Drop> {
 }
 
 impl<W: Write + Drop> StdoutSink<W> {
+    ghost use Rattle.lg_base.specs.Adapters.{writer_faults, writer_stalls};
+
     /// A sink over this writer that has neither failed nor stalled so far.
-    pub fn new(writer: W) -> StdoutSink<W> {
+    pub fn new(writer: W) -> StdoutSink<W>
+        ensures faults { writer_faults result ≡ 0 }
+        ensures stalls { writer_stalls result ≡ 0 }
+    {
         StdoutSink {
             writer,
             failed: 0,
@@ -25,11 +30,13 @@ impl<W: Write + Drop> StdoutSink<W> {
 }
 
 impl<W: Write + Drop> Sink for StdoutSink<W> {
+    ghost use Rattle.lg_base.specs.Adapters.{writer_faults, writer_stalls};
+
     ghost taken = { λ s. None };
 
-    ghost faults = { λ s. s.failed };
+    ghost faults = { λ s. writer_faults s };
 
-    ghost stalls = { λ s. s.stalled };
+    ghost stalls = { λ s. writer_stalls s };
 
     fn write(&mut self, bytes: &[u8]) -> Result<usize, Failed> {
         match self.writer.write(bytes) {

@@ -1,5 +1,6 @@
 pub mod AllOut
 pub mod Closes
+pub mod EachStep
 pub mod Gives
 pub mod Leading
 pub mod Owners

@@ -7,7 +7,7 @@ use mathlib.Core.Option.{some, some-injective, some-ne-none}
 use native.Mathlib.Decide.{ℕ_discrete}
 use lib.ListN.{get_elem?}
 use Rattle.atomic_table.specs.Table.{rest}
-use Rattle.atomic_table.proofs.Lists.{set_else}
+pub use Rattle.atomic_table.proofs.Lists.{at_set, at_snoc, at_map, set_again, set_else}
 use Rattle.lg_board.specs.Outs.{OutsStand, AllBelow, IsLastOut}
 
 module _ {A : Type 0} where

@@ -2,6 +2,7 @@
 use Rattle.std.specs.Prelude.{◌≡◌, ℕ, ◌+◌, ◌<◌, List, [], ◌∷◌}
 use mathlib.Core.Option.{some}
 use lib.ListN.{get_elem?}
+pub use Rattle.atomic_table.specs.Table.{rest}
 
 -- each of them stands at its place among the cells
 abbrev pub OutsStand : {C : Type 0} → List C → List (ℕ × C) → Type 0

@@ -5,8 +5,13 @@ use mathlib.Core.Option.{some, none}
 use mathlib.Core.Option as maybe
 use lib.ListN.{get_elem?}
 use Rattle.atomic_table.specs.Table.{State, Me, Step, rest}
+use Rattle.atomic_table.specs.Seated.{TableId}
 use Rattle.lg_board.specs.declared.view.SeatView.{SeatView}
 use Rattle.lg_board.specs.Outs.{OutsStand, IsRising}
+
+-- the first is the table of a seat, the second the table that has a word and a slot i, and both are one
+abbrev pub FitsCell : TableId → TableId → ℕ → Type 0
+FitsCell seat table i = (seat ≡ table) × (i < table.slots) × (table.words ≡ table.slots)
 
 -- a seat of the table: its view, and the slots that are out with it
 abbrev pub Carrier : Type 0 → Type 0 → Type 0

@@ -13,8 +13,8 @@ use lg_items::Memory;
 use std::alloc::{AllocError, Global};
 use std::snapshot::Snapshot;
 
-// The most cells that a board may have.
-const MOST_CELLS: usize = 34;
+/// The most cells that a board may have.
+pub const MOST_CELLS: usize = 34;
 
 // Moves the cells into slots. The cells' row keeps its room.
 fn slots_of<C: Drop>(alloc: Global, cells: &mut Vec<C>) -> Result<Vec<Option<C>>, AllocError>

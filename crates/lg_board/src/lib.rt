@@ -15,6 +15,7 @@ mod visits;
 mod world;
 
 pub use board::{Board, BoardSeat, Held};
-pub use laws::every_history;
+pub use ends::MOST_CELLS;
+pub use laws::{every_history, every_step};
 pub use lg_items::Memory;
 pub use world::{After, World};

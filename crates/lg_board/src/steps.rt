@@ -2,7 +2,7 @@
 ghost use Rattle.std.specs.Prelude.{◌≡◌, ◌≢◌, ℕ, ◌+◌, ◌-◌, ◌<◌, ◌≤◌, [], ◌∷◌, length, Some, IfSome, IfNone};
 ghost use Rattle.atomic_table.specs.Table.{rest};
 ghost use Rattle.lg_board.specs.Outs.{AllBelow, IsLastOut, OutsStand};
-ghost use Rattle.lg_board.specs.Stands.{vacated, seat_view, StandTogether};
+ghost use Rattle.lg_board.specs.Stands.{vacated, seat_view, FitsCell, StandTogether};
 
 use crate::rule::{CellTable, Cut, Divide, Give, TableSeat, Take, Unite};
 use crate::world::{After, World};
@@ -33,8 +33,7 @@ pub(crate) fn try_take<W: World>(
     token: &mut TableSeat<W>,
     i: usize,
 ) -> Option<W::Cell>
-    requires table { (token.old.table_id ≡ table.now.shared.table_id) × (i < table.now.shared.table_id.slots)
-        × (table.now.shared.table_id.words ≡ table.now.shared.table_id.slots) }
+    requires table { FitsCell token.old.table_id table.now.shared.table_id i }
     requires order { AllBelow i token.old.me.0.out }
     requires part { 0 < token.old.me.0.parts }
     requires carried { token.old.me.1 ≡ vacated token.old.me.0.out }
@@ -60,8 +59,7 @@ pub(crate) fn try_take_or_mark<W: World>(
     token: &mut TableSeat<W>,
     i: usize,
 ) -> Option<W::Cell>
-    requires table { (token.old.table_id ≡ table.now.shared.table_id) × (i < table.now.shared.table_id.slots)
-        × (table.now.shared.table_id.words ≡ table.now.shared.table_id.slots) }
+    requires table { FitsCell token.old.table_id table.now.shared.table_id i }
     requires order { AllBelow i token.old.me.0.out }
     requires part { 0 < token.old.me.0.parts }
     requires carried { token.old.me.1 ≡ vacated token.old.me.0.out }
@@ -86,8 +84,7 @@ pub(crate) fn give_back<W: World, P: After<W::Seat>>(
     i: usize,
     cell: W::Cell,
 )
-    requires table { (token.old.table_id ≡ table.now.shared.table_id) × (i < table.now.shared.table_id.slots)
-        × (table.now.shared.table_id.words ≡ table.now.shared.table_id.slots) }
+    requires table { FitsCell token.old.table_id table.now.shared.table_id i }
     requires last { IsLastOut i token.old.me.0.out }
     requires part { 0 < token.old.me.0.parts }
     requires carried { token.old.me.1 ≡ vacated token.old.me.0.out }

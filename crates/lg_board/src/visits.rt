@@ -2,8 +2,7 @@
 ghost use Rattle.std.specs.Prelude.{◌≡◌, ℕ, ◌+◌, ◌<◌, ◌≤◌, [], ◌∷◌, List, length};
 ghost use mathlib.Core.Option.{some};
 ghost use lib.ListN.{get_elem?};
-ghost use Rattle.atomic_table.specs.Table.{rest};
-ghost use Rattle.lg_board.specs.Outs.{AllBelow, IsLastOut, OutsStand};
+ghost use Rattle.lg_board.specs.Outs.{AllBelow, IsLastOut, OutsStand, rest};
 ghost use Rattle.lg_board.specs.Boards.{board_cells, seat_state, seat_parts, seat_out, IsSeatOf, IsSameSeat};
 ghost use Rattle.lg_board.specs.Stands.{StandTogether};
 

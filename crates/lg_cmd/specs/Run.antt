@@ -4,6 +4,7 @@ use Rattle.lg_value.specs.declared.sql_type.SqlType.TheVariants as types
 use Rattle.lg_value.specs.declared.value.Value.TheVariants as values
 use Rattle.lg_merkle.specs.TreeHash.{tree_hash}
 use Rattle.lg_types.specs.declared.event.Event.{Event}
+use Rattle.lg_types.specs.declared.event.FieldOf.{FieldOf}
 use Rattle.lg_row.specs.Leaf.{event_bytes}
 use Rattle.lg_cmd.specs.declared.files.File.{File}
 use Rattle.lg_cmd.specs.declared.journal.Journal.{Journal}
@@ -22,6 +23,10 @@ abbrev pub written : List ℕ → ℤ
 written [] = pos 0
 written (b ∷ bs) = if b == 45 then pos 0 -ℤ pos (number_from 0 bs) else pos (number_from 0 (b ∷ bs))
 
+-- the one column of the row
+abbrev pub row_column : ℤ → FieldOf
+row_column v = record { ordinal = 1; ty = types.Int; value = values.Num v 0 }
+
 -- the INSERT's one event: transaction 2 starts, as its number 0, a version in the first user table
 abbrev pub event_of : TwoLines → Event
 event_of lines = record {
@@ -30,7 +35,7 @@ event_of lines = record {
   tx = 2;
   seq = 0;
   start = None;
-  columns = record { ordinal = 1; ty = types.Int; value = values.Num (written lines.value) 0 } ∷ [];
+  columns = row_column (written lines.value) ∷ [];
 }
 
 -- the tree hash over that event alone

@@ -1,11 +1,12 @@
 // What the two lines make: the journal, the root, and the transcript.
 ghost use Rattle.std.specs.Prelude.{false, ◌≡◌, [], ◌∷◌, ◌++◌, IfOk, IsUtf8, codes};
-ghost use Rattle.lg_row.specs.Leaf.{event_bytes};
+ghost use Rattle.lg_row.specs.Leaf.{HasLeaf, IsField, event_bytes};
 ghost use Rattle.lg_cmd.specs.declared.journal.JournalItem.TheVariants.{Tx};
+ghost use Rattle.lg_cmd.specs.declared.two_lines.Kind.TheVariants.{Digit};
 ghost use Rattle.lg_cmd.specs.Journal.{journal_bytes, IsJournal};
-ghost use Rattle.lg_cmd.specs.TwoLines.{IsTwoLines, create_text, insert_text};
+ghost use Rattle.lg_cmd.specs.TwoLines.{IsTwoLines, IsWord, unsigned_part, create_text, insert_text};
 ghost use Rattle.lg_cmd.specs.TwoLinesReading.{two_lines_view};
-ghost use Rattle.lg_cmd.specs.Run.{event_of, root_of, journal_of, saved_files, files_of, transcript_of};
+ghost use Rattle.lg_cmd.specs.Run.{row_column, written, event_of, root_of, journal_of, saved_files, files_of, transcript_of};
 ghost use Rattle.lg_cmd.specs.Words.{step_view};
 
 use crate::files::File;
@@ -84,21 +85,28 @@ fn journal(
     })
 }
 
+/// The one column of the row, with the number that is written.
+fn row_column(number: &[u8]) -> FieldOf
+    requires { IsWord Digit 9 (unsigned_part number.now) }
+    ensures is { result ≡ row_column (written number.now) }
+    ensures leaf { IsField (row_column (written number.now)) }
+{
+    let v = value_of(number);
+    FieldOf {
+        ordinal: 1,
+        ty: SqlType::Int,
+        value: Value::Num { v, s: 0 },
+    }
+}
+
 /// The event of the INSERT.
 fn event(alloc: Global, lines: &TwoLineParts) -> Result<Event, Memory>
     requires { IsTwoLines (two_lines_view lines.now) }
-    ensures { IfOk result (λ event. event ≡ event_of (two_lines_view lines.now)) }
+    ensures is { IfOk result (λ event. event ≡ event_of (two_lines_view lines.now)) }
+    ensures leaf { IfOk result HasLeaf }
 {
     let mut columns = Items::new(alloc);
-    let value = Value::Num {
-        v: value_of(lines.value.as_bytes()),
-        s: 0,
-    };
-    columns.push(FieldOf {
-        ordinal: 1,
-        ty: SqlType::Int,
-        value,
-    })?;
+    columns.push(row_column(lines.value.as_bytes()))?;
     Ok(Event {
         table: 3,
         op: 1,

@@ -1,23 +1,23 @@
 -- Leaves are read exactly as they are written.
-use Rattle.std.proofs.Common.{◌≡◌, ◌<◌, ◌^◌, ◌+◌, ◌≤◌, ℕ, Bool, true, false, cond, eqb, List, [], ◌∷◌, ◌++◌, length, Option, Some, None, Result, Ok, Err, refl, sym, ap, subst, ◌∙◌, arith}
-use Rattle.std.specs.Prelude.{filter, flat_map, ◌==◌, IfOk, IfSome}
+use Rattle.std.proofs.Common.{◌≡◌, ◌<◌, ◌^◌, ℕ, Bool, true, false, cond, List, [], ◌∷◌, ◌++◌, length, Option, Some, None, refl, sym, ap, subst, ◌∙◌, arith}
+use Rattle.std.specs.Prelude.{filter, ◌==◌}
 use Rattle.std.specs.List.{AllByRecursion}
 use Rattle.std.proofs.lemmas.Bool.{eqb-true}
 use Rattle.std.proofs.lemmas.List.{append-nil}
 use Rattle.lg_bytes.specs.Fields.{u8_field, u16_field, u32_field, u64_field, long_field}
-use Rattle.lg_bytes.specs.Readers.{Reader, ◌>>=◌, u8_at, u16_at, u32_at, u64_at, long_at, after, both, depends, mapped, decoded, where_, listed, whole}
+use Rattle.lg_bytes.specs.Readers.{◌>>=◌, u8_at, u16_at, u32_at, u64_at, long_at, both, depends, mapped, listed, whole}
 use Rattle.lg_bytes.specs.Exact.{IsBytes, Exact, Taken}
-use Rattle.lg_bytes.proofs.Written.{IsBytes-front, IsBytes-back, bind_some, some_is, u8_exact, u16_exact, u32_exact, u64_exact, long_exact}
-use Rattle.lg_bytes.proofs.Parts.{Decodes, Iso, after_exact, both_exact, depends_exact, decoded_exact, mapped_exact, where_exact, listed_exact, one_value, test_some, whole_sound, whole_complete}
+use Rattle.lg_bytes.proofs.Written.{IsBytes-back, bind_some, some_is, u8_exact, u16_exact, u32_exact, u64_exact, long_exact}
+use Rattle.lg_bytes.proofs.Parts.{after_exact, both_exact, depends_exact, decoded_exact, mapped_exact, where_exact, listed_exact, one_value, test_some, whole_sound, whole_complete}
 use Rattle.lg_value.specs.declared.sql_type.SqlType.{SqlType}
-use Rattle.lg_value.specs.declared.value.Value.{Value}
 use Rattle.lg_value.specs.Stored.{is_stored}
 use Rattle.lg_types.specs.declared.event.Event.{Event}
 use Rattle.lg_types.specs.declared.event.FieldOf.{FieldOf}
-use Rattle.lg_row.specs.Leaf.{type_bytes, value_bytes, column_bytes, columns_bytes, start_bytes, head_bytes, spelled, event_bytes, has_value, is_told, without_nulls, ordinals_rise, IsStart, IsField, IsEvent}
+use Rattle.lg_row.specs.Leaf.{type_bytes, value_bytes, column_bytes, columns_bytes, start_bytes, spelled, event_bytes, has_value, without_nulls, ordinals_rise, IsStart, IsField, IsEvent}
 use Rattle.lg_row.specs.LeafReading.{type_at, value_of, field, field_of, column_at, columns_at, Head, head_at, some_start, start_at, event_of, event_at}
 use Rattle.lg_row.proofs.TypeLaws.{FitsFields, type_exact, in_range_fits}
-use Rattle.lg_row.proofs.ValueLaws.{IsStored, IsSpelled, value_there, value_back, stored_in_range}
+use Rattle.lg_row.proofs.Sizes.{value_small}
+use Rattle.lg_row.proofs.ValueLaws.{value_there, value_back, stored_in_range}
 
 -- ---- columns
 
@@ -37,7 +37,7 @@ column_there : (f : FieldOf) → IsField f → field_of (parts_of f) ≡ Some f
 column_there f fits = rw (value_there f.ty f.value (record { told = fits.told; stored = fits.stored; text = fits.text }), fits.stored) refl
 
 column_fits : (f : FieldOf) → IsField f → FitParts (parts_of f)
-column_fits f fits = (fits.ordinal, (in_range_fits f.ty (stored_in_range f.ty f.value fits.told fits.stored), fits.size))
+column_fits f fits = (fits.ordinal, (in_range_fits f.ty (stored_in_range f.ty f.value fits.told fits.stored), value_small f.ty f.value fits.stored fits.text))
 
 column_back : (x : Parts) (f : FieldOf) → IsBytes (spell_parts x) → FitParts x → field_of x ≡ Some f → IsField f × (spell_parts x ≡ column_bytes f)
 column_back x f bytes fits e =
@@ -47,8 +47,7 @@ column_back x f bytes fits e =
     let long = IsBytes-back (type_bytes x.1.0) (long_field x.1.1) rest in
     let text = IsBytes-back (u32_field (length x.1.1)) x.1.1 long in
     let is = value_back x.1.0 x.1.1 v.0 text v.1 in
-    let size : length (value_bytes x.1.0 v.0) < 2 ^ 32 = rw is.spelled fits.1.1 in
-    let made : IsField (field x.0 x.1.0 v.0) = record { ordinal = fits.0; told = is.told; stored = g.0; text = is.text; size = size } in
+    let made : IsField (field x.0 x.1.0 v.0) = record { ordinal = fits.0; told = is.told; stored = g.0; text = is.text } in
     let same : spell_parts x ≡ column_bytes (field x.0 x.1.0 v.0) = ap (λ bytes. u16_field x.0 ++ (type_bytes x.1.0 ++ long_field bytes)) (sym is.spelled) in
     let P : FieldOf → Type 0 = λ y. IsField y × (spell_parts x ≡ column_bytes y) in
     subst P g.1 (made, same)
@@ -58,7 +57,7 @@ unfolding column_at
 column_exact = decoded_exact FitParts IsField spell_parts column_bytes field_of parts_of (both u16_at (both type_at long_at))
     (record { there = column_there; spelled = λ f fits. refl; fit_back = column_fits; back = column_back })
     (both_exact (λ (n : ℕ). n < 2 ^ 16) (λ (x : SqlType × List ℕ). FitsFields x.0 × (length x.1 < 2 ^ 32)) u16_field (λ (x : SqlType × List ℕ). type_bytes x.0 ++ long_field x.1) u16_at (both type_at long_at) u16_exact
-      (both_exact FitsFields (λ (x : List ℕ). length x < 2 ^ 32) type_bytes long_field type_at long_at type_exact long_exact))
+    (both_exact FitsFields (λ (x : List ℕ). length x < 2 ^ 32) type_bytes long_field type_at long_at type_exact long_exact))
 
 abbrev Columns : List FieldOf → Type 0
 Columns fs = ((length fs < 2 ^ 16) × AllByRecursion IsField fs) × (ordinals_rise fs ≡ true)
@@ -115,7 +114,7 @@ head_exact : Exact FitHead spell_head head_at
 unfolding head_at
 head_exact = after_exact (u8_field 1) FitHead (λ (h : Head). u32_field h.0 ++ (u8_field h.1.0 ++ (u64_field h.1.1.0 ++ u64_field h.1.1.1))) (both u32_at (both u8_at (both u64_at u64_at)))
     (both_exact (λ (n : ℕ). n < 2 ^ 32) (λ (x : ℕ × (ℕ × ℕ)). (x.0 < 256) × ((x.1.0 < 2 ^ 64) × (x.1.1 < 2 ^ 64))) u32_field (λ (x : ℕ × (ℕ × ℕ)). u8_field x.0 ++ (u64_field x.1.0 ++ u64_field x.1.1)) u32_at (both u8_at (both u64_at u64_at)) u32_exact
-      (both_exact (λ (n : ℕ). n < 256) FitPair u8_field pair_bytes u8_at (both u64_at u64_at) u8_exact pair_exact))
+    (both_exact (λ (n : ℕ). n < 256) FitPair u8_field pair_bytes u8_at (both u64_at u64_at) u8_exact pair_exact))
 
 abbrev Tail : Type 0
 Tail = Option (ℕ × ℕ) × List FieldOf
@@ -143,7 +142,7 @@ event_exact = mapped_exact (λ (x : Head × Tail). FitHead x.0 × FitTail x.0 x.
       fit_back = λ e f. ((f.table, (op_small e.op e.start f.start, (f.tx, f.seq))), (f.start, ((f.count, f.columns), f.rise)));
     })
     (depends_exact FitHead FitTail spell_head spell_tail head_at (λ (h : Head). both (start_at h.1.0) columns_at) head_exact
-      (λ (h : Head). both_exact (IsStart h.1.0) Columns start_bytes columns_bytes (start_at h.1.0) columns_at (start_exact h.1.0) columns_exact))
+    (λ (h : Head). both_exact (IsStart h.1.0) Columns start_bytes columns_bytes (start_at h.1.0) columns_at (start_exact h.1.0) columns_exact))
 
 -- ---- leaves
 

@@ -1,5 +1,7 @@
 mod Growing
 mod LeafExact
+mod Sizes
 mod Texts
 mod TypeLaws
 mod ValueLaws
+pub mod Told

@@ -1,12 +1,12 @@
 -- Types are read as they are written.
-use Rattle.std.proofs.Common.{◌≡◌, ◌<◌, ◌^◌, ◌+◌, ◌≤◌, ℕ, Bool, true, false, cond, eqb, leb, List, ◌++◌, Option, Some, None, refl, sym, ap, subst, ◌∙◌, arith}
+use Rattle.std.proofs.Common.{◌≡◌, ◌<◌, ◌^◌, ◌≤◌, ℕ, Bool, true, false, leb, List, ◌++◌, Some, refl, subst, arith}
 use Rattle.std.specs.Prelude.{◌&&◌, ◌==◌}
 use Rattle.std.proofs.lemmas.Bool.{eqb-true, eq-eqb, leb-true}
 use Rattle.lg_bytes.specs.Fields.{u8_field, u16_field}
-use Rattle.lg_bytes.specs.Readers.{both, decoded, u8_at, u16_at}
+use Rattle.lg_bytes.specs.Readers.{both, u8_at, u16_at}
 use Rattle.lg_bytes.specs.Exact.{IsBytes, Exact}
 use Rattle.lg_bytes.proofs.Written.{u8_exact, u16_exact}
-use Rattle.lg_bytes.proofs.Parts.{Decodes, both_exact, decoded_exact, test_some}
+use Rattle.lg_bytes.proofs.Parts.{both_exact, decoded_exact, test_some}
 use Rattle.lg_value.specs.declared.sql_type.SqlType.{SqlType}
 use Rattle.lg_value.specs.declared.sql_type.SqlType.TheVariants as types
 use Rattle.lg_value.specs.Stored.{is_in_range}
@@ -78,7 +78,7 @@ type_exact = decoded_exact FitParts FitsFields spell_parts type_bytes type_of pa
       back = type_back;
     })
     (both_exact (λ (x : ℕ × ℕ). (x.0 < 256) × (x.1 < 2 ^ 16)) (λ (n : ℕ). n < 256) (λ (x : ℕ × ℕ). u8_field x.0 ++ u16_field x.1) u8_field (both u8_at u16_at) u8_at
-      (both_exact (λ (n : ℕ). n < 256) (λ (n : ℕ). n < 2 ^ 16) u8_field u16_field u8_at u16_at u8_exact u16_exact) u8_exact)
+    (both_exact (λ (n : ℕ). n < 256) (λ (n : ℕ). n < 2 ^ 16) u8_field u16_field u8_at u16_at u8_exact u16_exact) u8_exact)
 
 -- a type in its ranges fits
 pub in_range_fits : (ty : SqlType) → is_in_range ty ≡ true → FitsFields ty

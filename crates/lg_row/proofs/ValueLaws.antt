@@ -1,6 +1,6 @@
 -- Values are read as they are written.
-use Rattle.std.proofs.Common.{◌≡◌, ◌<◌, ◌^◌, ◌+◌, ◌≤◌, ℕ, ℤ, pos, negsuc, Bool, true, false, cond, eqb, leb, ltb, List, [], ◌∷◌, ◌++◌, length, Option, Some, None, refl, sym, ap, subst, ◌∙◌, arith, unsigned_abs}
-use Rattle.std.specs.Prelude.{◌&&◌, ◌==◌, FitsSigned}
+use Rattle.std.proofs.Common.{◌≡◌, ◌<◌, ◌^◌, ◌≤◌, ℕ, ℤ, pos, negsuc, true, eqb, leb, List, Some, refl, sym, ap, subst, ◌∙◌, arith, unsigned_abs}
+use Rattle.std.specs.Prelude.{◌&&◌, FitsSigned}
 use Rattle.std.specs.Int.{w8, w32, w64, w128}
 use Rattle.std.specs.Str.{is_utf8}
 use Rattle.std.proofs.lemmas.Bool.{eqb-true, leb-true, ltb-true}
@@ -16,9 +16,9 @@ use Rattle.lg_value.specs.declared.sql_type.SqlType.TheVariants as types
 use Rattle.lg_value.specs.declared.value.Value.{Value}
 use Rattle.lg_value.specs.declared.value.Value.TheVariants as values
 use Rattle.lg_value.specs.Number.{has_digits}
-use Rattle.lg_value.specs.Stored.{is_in_range, is_stored, is_value_of, number_stored, text_stored, bytes_stored, day_stored, is_bit, in_bits}
-use Rattle.lg_row.specs.Leaf.{value_bytes, number_bytes, is_told, is_text}
-use Rattle.lg_row.specs.LeafReading.{number_of, text_of, day_of, value_of}
+use Rattle.lg_value.specs.Stored.{is_in_range, is_stored, number_stored, text_stored, bytes_stored, day_stored, is_bit, in_bits}
+use Rattle.lg_row.specs.Leaf.{value_bytes, number_bytes, is_told, is_text, FitsNumber, FitsBytes}
+use Rattle.lg_row.specs.LeafReading.{number_of, value_of}
 use Rattle.lg_row.proofs.TypeLaws.{and_parts}
 
 -- ---- the range of a type's numbers fits its bytes
@@ -40,6 +40,24 @@ digits_fit p v le e =
     let lt : unsigned_abs v < 10 ^ p = ltb-true _ _ e in
     let top : 10 ^ p ≤ 10 ^ 38 = pow-le-pow_right {n = 10} (omega arith) {i = p} {j = 38} le in
     fits_signed_from_abs w128 v (omega arith)
+
+number_fits : (ty : SqlType) (v : ℤ) (s : ℕ) → number_stored ty v s ≡ true → FitsNumber ty v
+number_fits types.Bit v s e = bit_fits v (and_parts (eqb s 0) (is_bit v) e).1
+number_fits types.Int v s e = int_fits v (and_parts (eqb s 0) (in_bits 31 v) e).1
+number_fits types.BigInt v s e = big_int_fits v (and_parts (eqb s 0) (in_bits 63 v) e).1
+number_fits (types.Decimal d z) v s e = tt
+number_fits (types.NVarChar n) v s e = tt
+number_fits (types.VarBinary n) v s e = tt
+number_fits types.Date v s e = tt
+
+-- the number of a stored value fits the bytes of its type
+pub stored_fits : (ty : SqlType) (v : Value) → is_stored v ty ≡ true → FitsBytes ty v
+unfolding is_stored
+stored_fits ty values.Null e = tt
+stored_fits ty (values.Num v s) e = number_fits ty v s (and_parts (is_in_range ty) (number_stored ty v s) e).1
+stored_fits ty (values.Text x) e = tt
+stored_fits ty (values.Bytes x) e = tt
+stored_fits ty (values.Date d) e = tt
 
 -- ---- what is written is read
 

@@ -1,5 +1,5 @@
 -- The leaf of a row event: its one spelling in bytes.
-use Rattle.std.specs.Prelude.{◌≡◌, ◌<◌, ◌^◌, ◌&&◌, nat_lt, ℕ, ℤ, Bool, true, false, List, [], ◌∷◌, ◌++◌, length, filter, flat_map, Option, Some, None}
+use Rattle.std.specs.Prelude.{FitsSigned, ◌≡◌, ◌<◌, ◌^◌, ◌&&◌, nat_lt, ℕ, ℤ, Bool, true, false, List, [], ◌∷◌, ◌++◌, length, filter, flat_map, Option, Some, None}
 use Rattle.std.specs.List.{AllByRecursion}
 use Rattle.std.specs.Str.{is_utf8}
 use Rattle.std.specs.Int.{w8, w32, w64}
@@ -113,7 +113,6 @@ pub record IsField (f : FieldOf) : Type 0 where
   pub told : has_value f ≡ true
   pub stored : is_stored f.value f.ty ≡ true
   pub text : is_text f.value ≡ true
-  pub size : length (value_bytes f.ty f.value) < 2 ^ 32
 
 abbrev pub rise_from : ℕ → List FieldOf → Bool
 rise_from last [] = true
@@ -132,3 +131,22 @@ pub record IsEvent (e : Event) : Type 0 where
   pub count : length e.columns < 2 ^ 16
   pub columns : AllByRecursion IsField e.columns
   pub rise : ordinals_rise e.columns ≡ true
+
+-- an event that has a leaf
+abbrev pub HasLeaf : Event → Type 0
+HasLeaf e = IsEvent (without_nulls e)
+
+-- a column of an event that has a leaf
+abbrev pub IsFieldOrNull : FieldOf → Type 0
+IsFieldOrNull f = has_value f ≡ true → IsField f
+
+-- a number that the bytes of its type can tell
+abbrev pub FitsNumber : SqlType → ℤ → Type 0
+FitsNumber types.Bit v = FitsSigned w8 v
+FitsNumber types.Int v = FitsSigned w32 v
+FitsNumber types.BigInt v = FitsSigned w64 v
+FitsNumber _ v = Unit {0}
+
+abbrev pub FitsBytes : SqlType → Value → Type 0
+FitsBytes ty (values.Num v s) = FitsNumber ty v
+FitsBytes ty _ = Unit {0}

@@ -1,20 +1,20 @@
 //! Writing the leaf of an event.
 
-ghost use Rattle.std.specs.Prelude.{◌≡◌, ◌++◌, take, length, filter, flat_map, IfOk, OnOk, OnErr};
+ghost use Rattle.std.specs.Prelude.{◌≡◌, ◌<◌, ◌^◌, ◌++◌, All, FitsSigned, take, length, filter, flat_map, OnOk, OnErr};
 ghost use Rattle.std.specs.Int.{w8, w32, w64};
 ghost use Rattle.lg_bytes.specs.Fields.{long_field, u32_field, signed_field, i128_field};
-ghost use Rattle.lg_row.specs.Leaf.{event_bytes, spelled, head_bytes, without_nulls, columns_bytes, column_bytes, start_bytes, type_bytes, value_bytes, number_bytes, type_code, first_parameter, second_parameter, has_value, is_told};
+ghost use Rattle.lg_row.specs.Leaf.{event_bytes, spelled, head_bytes, without_nulls, columns_bytes, column_bytes, start_bytes, type_bytes, value_bytes, number_bytes, type_code, first_parameter, second_parameter, has_value, is_told, HasLeaf, IsField, IsFieldOrNull, FitsBytes, FitsNumber};
 
 use lg_bytes::{put_long, put_u8, put_u16, put_u32, put_u64};
 use lg_items::Memory;
 use lg_types::{Event, FieldOf};
 use lg_value::{SqlType, Value};
 
-/// Appends the leaf of an event, which leaves its NULL columns out. For want of memory the bytes are as they
-/// were. That is answered too where the event has no leaf, since a length or a number is greater than its
-/// field: more than 65,535 columns, a value of 4 GiB, a number outside its type.
+/// Appends the leaf of an event, which leaves its NULL columns out. The event is to have one: its values are those of
+/// their types, and their ordinals rise. The only error is want of memory, and then the bytes are as they were.
 #[tactic(auto, unfolding(crate::specs::Leaf::event_bytes))]
 pub fn write_event(e: &Event, out: &mut Vec<u8>) -> Result<(), Memory>
+    requires { HasLeaf e.now }
     ensures ok { OnOk result (out.new.items ≡ out.old.items ++ event_bytes e.now) }
     ensures err { OnErr result (out.new.items ≡ out.old.items) }
 {
@@ -27,6 +27,7 @@ pub fn write_event(e: &Event, out: &mut Vec<u8>) -> Result<(), Memory>
 }
 
 fn put_parts(e: &Event, out: &mut Vec<u8>) -> Result<(), Memory>
+    requires { HasLeaf e.now }
     ensures ok { OnOk result (out.new.items ≡ out.old.items ++ spelled (without_nulls e.now)) }
     ensures grows { take (length out.old.items) out.new.items ≡ out.old.items }
 {
@@ -39,11 +40,21 @@ fn put_head(e: &Event, out: &mut Vec<u8>) -> Result<(), Memory>
     ensures ok { OnOk result (out.new.items ≡ out.old.items ++ head_bytes e.now) }
     ensures grows { take (length out.old.items) out.new.items ≡ out.old.items }
 {
-    put_u8(out, 1)?;
-    put_u32(out, e.table)?;
-    put_u8(out, e.op)?;
-    put_u64(out, e.tx)?;
-    put_u64(out, e.seq)
+    out.extend_from_slice(&head_of(e))?;
+    Ok(())
+}
+
+// One array, so that the head is appended at once.
+#[tactic(auto, unfolding(lg_bytes::specs::Fields::u32_field, lg_bytes::specs::Fields::u64_field))]
+fn head_of(e: &Event) -> [u8; 22]
+    ensures { result ≡ head_bytes e.now }
+{
+    let [a, b, c, d] = e.table.to_be_bytes();
+    let [x0, x1, x2, x3, x4, x5, x6, x7] = e.tx.to_be_bytes();
+    let [y0, y1, y2, y3, y4, y5, y6, y7] = e.seq.to_be_bytes();
+    [
+        1, a, b, c, d, e.op, x0, x1, x2, x3, x4, x5, x6, x7, y0, y1, y2, y3, y4, y5, y6, y7,
+    ]
 }
 
 // The start of the version that an end ends.
@@ -60,13 +71,12 @@ fn put_start(start: Option<(u64, u64)>, out: &mut Vec<u8>) -> Result<(), Memory>
 
 // How many columns are not NULL, and these.
 fn put_columns(columns: &[FieldOf], out: &mut Vec<u8>) -> Result<(), Memory>
+    requires count { length (filter has_value columns.now) < 2 ^ 16 }
+    requires fields { All IsFieldOrNull columns.now }
     ensures ok { OnOk result (out.new.items ≡ out.old.items ++ columns_bytes (filter has_value columns.now)) }
     ensures grows { take (length out.old.items) out.new.items ≡ out.old.items }
 {
-    let Ok(told) = u16::try_from(told_of(columns)) else {
-        return Err(Memory);
-    };
-    put_u16(out, told)?;
+    put_u16(out, told_of(columns) as u16)?;
     put_each(columns, out)
 }
 
@@ -86,6 +96,7 @@ fn is_told(value: &Value) -> bool
 }
 
 fn put_each(columns: &[FieldOf], out: &mut Vec<u8>) -> Result<(), Memory>
+    requires { All IsFieldOrNull columns.now }
     ensures ok { OnOk result (out.new.items ≡ out.old.items ++ flat_map column_bytes (filter has_value columns.now)) }
     ensures grows { take (length out.old.items) out.new.items ≡ out.old.items }
 {
@@ -98,6 +109,7 @@ fn put_each(columns: &[FieldOf], out: &mut Vec<u8>) -> Result<(), Memory>
 }
 
 fn put_column(column: &FieldOf, out: &mut Vec<u8>) -> Result<(), Memory>
+    requires { IsField column.now }
     ensures ok { OnOk result (out.new.items ≡ out.old.items ++ column_bytes column.now) }
     ensures grows { take (length out.old.items) out.new.items ≡ out.old.items }
 {
@@ -107,16 +119,15 @@ fn put_column(column: &FieldOf, out: &mut Vec<u8>) -> Result<(), Memory>
 }
 
 fn put_type(ty: SqlType, out: &mut Vec<u8>) -> Result<(), Memory>
+    requires first { first_parameter ty < 2 ^ 16 }
+    requires second { second_parameter ty < 2 ^ 8 }
     ensures ok { OnOk result (out.new.items ≡ out.old.items ++ type_bytes ty) }
     ensures grows { take (length out.old.items) out.new.items ≡ out.old.items }
 {
     let (code, first, second) = type_parts(ty);
-    let (Ok(first), Ok(second)) = (u16::try_from(first), u8::try_from(second)) else {
-        return Err(Memory);
-    };
     put_u8(out, code)?;
-    put_u16(out, first)?;
-    put_u8(out, second)
+    put_u16(out, first as u16)?;
+    put_u8(out, second as u8)
 }
 
 // The code of a type, and its parameters.
@@ -135,26 +146,18 @@ pub(crate) fn type_parts(ty: SqlType) -> (u8, u32, u32)
 }
 
 fn put_value(ty: SqlType, value: &Value, out: &mut Vec<u8>) -> Result<(), Memory>
+    requires size { length (value_bytes ty value.now) < 2 ^ 32 }
+    requires number { FitsBytes ty value.now }
     ensures ok { OnOk result (out.new.items ≡ out.old.items ++ long_field (value_bytes ty value.now)) }
     ensures grows { take (length out.old.items) out.new.items ≡ out.old.items }
 {
     match value {
         Value::Null => put_long(out, &[]),
         Value::Num { v, .. } => put_number(ty, *v, out),
-        Value::Text(text) => put_bytes(text.bytes(), out),
-        Value::Bytes(bytes) => put_bytes(bytes.bytes(), out),
+        Value::Text(text) => put_long(out, text.bytes()),
+        Value::Bytes(bytes) => put_long(out, bytes.bytes()),
         Value::Date(day) => put_day(*day, out),
     }
-}
-
-fn put_bytes(bytes: &[u8], out: &mut Vec<u8>) -> Result<(), Memory>
-    ensures ok { OnOk result (out.new.items ≡ out.old.items ++ long_field bytes.now) }
-    ensures err { OnErr result (out.new.items ≡ out.old.items) }
-{
-    if bytes.len() > u32::MAX as usize {
-        return Err(Memory);
-    }
-    put_long(out, bytes)
 }
 
 #[tactic(auto, unfolding(lg_bytes::specs::Fields::u32_field))]
@@ -162,49 +165,44 @@ fn put_day(day: u32, out: &mut Vec<u8>) -> Result<(), Memory>
     ensures ok { OnOk result (out.new.items ≡ out.old.items ++ long_field (u32_field day)) }
     ensures err { OnErr result (out.new.items ≡ out.old.items) }
 {
-    put_bytes(&day.to_be_bytes(), out)
+    put_long(out, &day.to_be_bytes())
 }
 
 fn put_number(ty: SqlType, v: i128, out: &mut Vec<u8>) -> Result<(), Memory>
+    requires { FitsNumber ty v }
     ensures ok { OnOk result (out.new.items ≡ out.old.items ++ long_field (number_bytes ty v)) }
     ensures err { OnErr result (out.new.items ≡ out.old.items) }
 {
     match ty {
-        SqlType::Bit => put_bytes(&bit_bytes(v)?, out),
-        SqlType::Int => put_bytes(&int_bytes(v)?, out),
-        SqlType::BigInt => put_bytes(&big_int_bytes(v)?, out),
-        _ => put_bytes(&decimal_bytes(v), out),
+        SqlType::Bit => put_long(out, &bit_bytes(v)),
+        SqlType::Int => put_long(out, &int_bytes(v)),
+        SqlType::BigInt => put_long(out, &big_int_bytes(v)),
+        _ => put_long(out, &decimal_bytes(v)),
     }
 }
 
 #[tactic(auto, unfolding(lg_bytes::specs::Fields::signed_field))]
-fn bit_bytes(v: i128) -> Result<[u8; 1], Memory>
-    ensures { IfOk result (λ bytes. bytes ≡ signed_field w8 v) }
+fn bit_bytes(v: i128) -> [u8; 1]
+    requires { FitsSigned w8 v }
+    ensures { result ≡ signed_field w8 v }
 {
-    match i8::try_from(v) {
-        Ok(v) => Ok(v.to_be_bytes()),
-        Err(_) => Err(Memory),
-    }
+    (v as i8).to_be_bytes()
 }
 
 #[tactic(auto, unfolding(lg_bytes::specs::Fields::signed_field))]
-fn int_bytes(v: i128) -> Result<[u8; 4], Memory>
-    ensures { IfOk result (λ bytes. bytes ≡ signed_field w32 v) }
+fn int_bytes(v: i128) -> [u8; 4]
+    requires { FitsSigned w32 v }
+    ensures { result ≡ signed_field w32 v }
 {
-    match i32::try_from(v) {
-        Ok(v) => Ok(v.to_be_bytes()),
-        Err(_) => Err(Memory),
-    }
+    (v as i32).to_be_bytes()
 }
 
 #[tactic(auto, unfolding(lg_bytes::specs::Fields::signed_field))]
-fn big_int_bytes(v: i128) -> Result<[u8; 8], Memory>
-    ensures { IfOk result (λ bytes. bytes ≡ signed_field w64 v) }
+fn big_int_bytes(v: i128) -> [u8; 8]
+    requires { FitsSigned w64 v }
+    ensures { result ≡ signed_field w64 v }
 {
-    match i64::try_from(v) {
-        Ok(v) => Ok(v.to_be_bytes()),
-        Err(_) => Err(Memory),
-    }
+    (v as i64).to_be_bytes()
 }
 
 #[tactic(auto, unfolding(lg_bytes::specs::Fields::i128_field))]

@@ -277,3 +277,43 @@ fn numbers_of_days(rt: HostRuntime) -> Result<(), Fail> {
     }
     Ok(())
 }
+
+#[test]
+fn copies_and_expressions(rt: HostRuntime) -> Result<(), Fail> {
+    // NOT (-(1.50) IS NOT NULL) = 'it''s'
+    let alloc = rt.alloc();
+    let (Ok(number), Ok(text)) = (read_literal(alloc, "1.50"), read_literal(alloc, "'it''s'"))
+    else {
+        return Err(Fail::from("no literal"));
+    };
+    let (Ok(number), Ok(text)) = (number.copy(), text.copy()) else {
+        return Err(Fail::from("no copy"));
+    };
+    let Ok(number) = Expr::minus(alloc, Expr::Lit(number)) else {
+        return Err(Fail::from("no negation"));
+    };
+    let Ok(test) = Expr::null_test(alloc, number, true) else {
+        return Err(Fail::from("no test"));
+    };
+    let Ok(inverse) = Expr::inverse(alloc, test) else {
+        return Err(Fail::from("no inverse"));
+    };
+    let Ok(whole) = Expr::binary(alloc, Op::Eq, inverse, Expr::Lit(text)) else {
+        return Err(Fail::from("no operator"));
+    };
+    let Expr::Bin(Op::Eq, left, right) = &whole else {
+        return Err(Fail::from("another operator"));
+    };
+    assert!(rt; matches!(right.get(), Expr::Lit(Value::Text(text)) if text.as_str() == "it's"));
+    let Expr::Not(test) = left.get() else {
+        return Err(Fail::from("no inverse on the left"));
+    };
+    let Expr::IsNull { of, negated: true } = test.get() else {
+        return Err(Fail::from("no test that is negated"));
+    };
+    let Expr::Neg(number) = of.get() else {
+        return Err(Fail::from("no negation of the number"));
+    };
+    assert!(rt; matches!(number.get(), Expr::Lit(Value::Num { v: 150, s: 2 })));
+    Ok(())
+}

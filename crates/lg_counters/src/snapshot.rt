@@ -1,0 +1,31 @@
+//! A look at both counters at one moment.
+ghost use Rattle.std.specs.Prelude.{◌≡◌, ℕ, ◌+◌, ◌<◌, ◌≤◌, [], length, IfOk};
+ghost use Rattle.lg_board.specs.Boards.{board_cells, seat_state, seat_parts, seat_out, IsSeatOf, IsSameSeat};
+ghost use Rattle.lg_counters.specs.Shares.{most_counts};
+
+use crate::world::{Counting, Totals, totals_of};
+use lg_board::{Board, BoardSeat, Memory};
+use std::alloc::Global;
+use std::marker::Brand;
+use std::sync::Wait;
+
+/// Both counters as they were at one moment of this call, at which nobody counted. What this seat counted
+/// is in them.
+pub fn look<R: Wait>(
+    rt: &R,
+    alloc: Global,
+    board: &Board<Counting>,
+    seat: &mut BoardSeat<Counting>,
+) -> Result<Totals, Memory>
+    requires board { IsSeatOf board.now seat.old × (board_cells board.now ≡ 2) }
+    requires idle { seat_out seat.old ≡ [] }
+    ensures seat { IsSameSeat seat.old seat.new × (seat_parts seat.new ≡ seat_parts seat.old)
+        × (seat_out seat.new ≡ []) × (seat_state seat.new ≡ seat_state seat.old) }
+    ensures own { IfOk result (λ t. ((seat_state seat.old).first ≤ t.first) × ((seat_state seat.old).second ≤ t.second)) }
+    ensures room { IfOk result (λ t. t.first + t.second ≤ most_counts) }
+{
+    let cells = board.take_all(rt, alloc, seat)?;
+    let totals = totals_of(&cells);
+    board.give_all::<Brand>(seat, cells);
+    Ok(totals)
+}

@@ -1,0 +1,102 @@
+//! Two counters, what each seat counted in them, and the world that ties both.
+ghost use Rattle.std.specs.Prelude.{◌≡◌, [], ◌∷◌, length, map};
+ghost use Rattle.lg_counters.specs.Shares.{count_of};
+
+use lg_board::{After, World};
+use std::marker::Brand;
+
+/// What lies in a cell.
+#[derive(Drop)]
+pub struct Counter {
+    pub count: u64,
+}
+
+/// Which of the two counters, and so which cell.
+#[derive(Clone, Copy, PartialEq, Eq, Drop)]
+pub enum Which {
+    First,
+    Second,
+}
+
+impl Which {
+    ghost use Rattle.std.specs.Prelude.{◌≡◌};
+    ghost use Rattle.lg_counters.specs.Shares.{number_of};
+
+    /// The number of the counter's cell.
+    pub fn number(self) -> usize
+        ensures { result ≡ number_of self }
+    {
+        match self {
+            Which::First => 0,
+            Which::Second => 1,
+        }
+    }
+}
+
+/// What is known of a seat: how often it counted in each counter, and how often it still may count. No
+/// value of this type is made.
+pub struct Share {
+    pub first: u64,
+    pub second: u64,
+    pub left: u64,
+}
+
+/// Both counters at one moment.
+#[derive(Clone, Copy, Debug, PartialEq, Eq, Drop)]
+pub struct Totals {
+    pub first: u64,
+    pub second: u64,
+}
+
+// What both counters hold.
+pub(crate) fn totals_of(counters: &[Counter]) -> Totals
+    requires { length counters.now ≡ 2 }
+    ensures { map count_of counters.now ≡ result.first ∷ result.second ∷ [] }
+{
+    Totals {
+        first: counters[0].count,
+        second: counters[1].count,
+    }
+}
+
+/// The world of the two counters. Cells and seats stand together where each counter is the sum of what
+/// the seats counted there, and what all seats counted and still may count is below 2^64. So no count
+/// is lost, and no counter ever passes its end.
+pub struct Counting;
+
+impl World for Counting {
+    ghost use Rattle.lg_counters.specs.Shares.{share, kept_share, new_share, joined_share, IsCounted, May, most_counts};
+    ghost use Rattle.lg_counters.specs.Laws.{visits_keep, splits_keep, joins_keep};
+
+    type Cell = Counter;
+
+    type Seat = Share;
+
+    ghost first = { λ cells. share 0 0 most_counts };
+
+    ghost stand = { IsCounted };
+
+    ghost may = { May };
+
+    ghost kept = { kept_share };
+
+    ghost split = { new_share };
+
+    ghost may_end = { λ s. Unit {0} };
+
+    ghost joined = { joined_share };
+
+    ghost nobody = { share 0 0 0 };
+
+    ghost visits = { visits_keep };
+
+    ghost splits = { splits_keep };
+
+    ghost joins = { joins_keep };
+}
+
+impl After<Share> for Brand {
+    ghost use Rattle.lg_counters.specs.Shares.{share};
+
+    ghost after = { share 0 0 0 };
+}
