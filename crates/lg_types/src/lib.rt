@@ -2,7 +2,9 @@
 #![tactic(auto)]
 
 mod event;
+mod outcome;
 mod table;
 
 pub use event::{Event, FieldOf};
+pub use outcome::Outcome;
 pub use table::{IndexDef, Part, TableDef};

@@ -18,6 +18,7 @@ mod value;
 
 pub use column::{ColumnDef, TableKind};
 pub use conversion::to_column;
+pub use day::day_of;
 pub use expr::{Class, Expr, Op};
 pub use laws::{
     conversion_is_stored, days_are_read_back, expressions_are_trees, literals_are_read_back,
@@ -25,6 +26,7 @@ pub use laws::{
 };
 pub use lg_items::{Blob, Boxed, Items, Memory, Name, TableId, Text, TxId};
 pub use literal::read_literal;
+pub use number::{compare_numbers, raised};
 pub use order::compare;
 pub use printing::{print, print_literal};
 pub use refusal::{LitErr, Refusal, ValueErr};

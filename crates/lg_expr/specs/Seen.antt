@@ -1,0 +1,23 @@
+-- What `Seen` stands for.
+use Rattle.std.specs.Prelude.{Result, Ok, Err, ◌≡◌}
+use Rattle.lg_value.specs.declared.value.Value.TheVariants as val
+use Rattle.lg_value.specs.declared.refusal.Refusal.{Refusal}
+use Rattle.lg_types.specs.declared.outcome.Outcome.{Outcome}
+use Rattle.lg_types.specs.declared.outcome.Outcome.TheVariants as out
+use Rattle.lg_model.specs.Meaning.{Answer}
+use Rattle.lg_expr.specs.declared.seen.Seen.{Seen}
+use Rattle.lg_expr.specs.declared.seen.Seen.TheVariants.{Null, Number, Text, Bytes, Day, Truth}
+
+-- the outcome that is seen
+abbrev pub outcome_of : Seen → Outcome
+outcome_of Null = out.Value val.Null
+outcome_of (Number v s) = out.Value (val.Num v s)
+outcome_of (Text t) = out.Value (val.Text t.now)
+outcome_of (Bytes b) = out.Value (val.Bytes b.now)
+outcome_of (Day d) = out.Value (val.Date d)
+outcome_of (Truth t) = out.Truth t
+
+-- what is seen is what is meant
+abbrev pub Shows : Answer → Result Seen Refusal → Type 0
+Shows meant (Ok s) = meant ≡ Ok (outcome_of s)
+Shows meant (Err e) = meant ≡ Err e

@@ -1,0 +1,104 @@
+//! Arithmetic on exact numbers in 128 bits.
+
+ghost use Rattle.std.specs.Prelude.{◌≡◌, ◌-◌, Err, SomeIff, MatchOption, FitsSigned, IsTrue};
+ghost use Rattle.std.specs.Int.{w128};
+ghost use Rattle.lg_value.specs.Number.{has_digits, raised as spec_raised};
+ghost use Rattle.lg_value.specs.declared.refusal.Refusal.TheVariants.{E08};
+ghost use Rattle.lg_model.specs.Numbers as spec;
+ghost use Rattle.lg_model.specs.Refusals.{and_then};
+ghost use Rattle.lg_model.specs.Meaning.{a_value};
+ghost use Rattle.lg_expr.specs.Seen.{Shows};
+ghost use Rattle.lg_expr.specs.Arithmetic.{AreInSize};
+
+use crate::seen::Seen;
+use lg_value::{Refusal, raised};
+
+/// No number reaches this size.
+const LIMIT: u128 = 100_000_000_000_000_000_000_000_000_000_000_000_000;
+
+fn is_in_size(v: i128) -> bool
+    ensures { result ≡ has_digits v 38 }
+{
+    v.unsigned_abs() < LIMIT
+}
+
+/// A result, where its size allows; what leaves 128 bits leaves the size too.
+fn sized<'a>(v: Option<i128>, s: u8) -> Result<Seen<'a>, Refusal>
+    ensures { MatchOption v (result ≡ Err E08) (λ v. Shows (and_then (spec.sized v s) a_value) result) }
+{
+    match v {
+        Some(v) if is_in_size(v) => Ok(Seen::Number { v, s }),
+        _ => Err(Refusal::E08),
+    }
+}
+
+/// The number in units that are smaller by so many places, where 128 bits hold it. At 0 places nothing is multiplied.
+#[tactic(auto, unfolding(lg_value::specs::Number::raised))]
+fn in_units(v: i128, places: u8) -> Option<i128>
+    ensures { SomeIff result (FitsSigned w128 (spec_raised v places)) (spec_raised v places) }
+{
+    if places == 0 {
+        Some(v)
+    } else {
+        raised(v, places)
+    }
+}
+
+/// An operand in units that are smaller by so many places, where its size allows.
+fn brought(v: i128, places: u8) -> Option<i128>
+    ensures { SomeIff result (IsTrue (has_digits (spec_raised v places) 38)) (spec_raised v places) }
+{
+    let v = in_units(v, places)?;
+    if is_in_size(v) { Some(v) } else { None }
+}
+
+/// Two operands brought to the greater of their scales, where their sizes allow.
+fn aligned(v: i128, s: u8, w: i128, z: u8) -> Option<(i128, i128)>
+    ensures { SomeIff result (AreInSize v s w z) (spec_raised v (z - s), spec_raised w (s - z)) }
+{
+    let v = brought(v, z.saturating_sub(s))?;
+    let w = brought(w, s.saturating_sub(z))?;
+    Some((v, w))
+}
+
+/// The sum of two numbers.
+#[tactic(auto, unfolding(lg_model::specs::Numbers::sum_of))]
+pub fn sum<'a>(v: i128, s: u8, w: i128, z: u8) -> Result<Seen<'a>, Refusal>
+    ensures { Shows (and_then (spec.sum_of v s w z) a_value) result }
+{
+    match aligned(v, s, w, z) {
+        Some((a, b)) => sized(a.checked_add(b), s.max(z)),
+        None => Err(Refusal::E08),
+    }
+}
+
+/// The first number without the second.
+#[tactic(auto, unfolding(lg_model::specs::Numbers::difference_of))]
+pub fn difference<'a>(v: i128, s: u8, w: i128, z: u8) -> Result<Seen<'a>, Refusal>
+    ensures { Shows (and_then (spec.difference_of v s w z) a_value) result }
+{
+    match aligned(v, s, w, z) {
+        Some((a, b)) => sized(a.checked_sub(b), s.max(z)),
+        None => Err(Refusal::E08),
+    }
+}
+
+/// The product of two numbers.
+#[tactic(auto, unfolding(lg_model::specs::Numbers::product_of))]
+pub fn product<'a>(v: i128, s: u8, w: i128, z: u8) -> Result<Seen<'a>, Refusal>
+    ensures { Shows (and_then (spec.product_of v s w z) a_value) result }
+{
+    if s <= 38 && z <= 38 - s {
+        sized(v.checked_mul(w), s + z)
+    } else {
+        Err(Refusal::E05)
+    }
+}
+
+/// The number with the other sign.
+#[tactic(auto, unfolding(lg_model::specs::Numbers::negative_of))]
+pub fn negative<'a>(v: i128, s: u8) -> Result<Seen<'a>, Refusal>
+    ensures { Shows (and_then (spec.negative_of v s) a_value) result }
+{
+    sized(v.checked_neg(), s)
+}

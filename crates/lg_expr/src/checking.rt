@@ -1,0 +1,86 @@
+//! The class of an expression.
+
+ghost use Rattle.std.specs.Prelude.{◌≡◌};
+ghost use Rattle.lg_value.specs.Tree.{tree};
+ghost use Rattle.lg_model.specs.Classes as spec;
+ghost use Rattle.lg_model.specs.Days as days;
+
+use crate::classes::{binary_class, negation_class, null_test_class, opposite_class};
+use crate::evaluation::written_day;
+use crate::names::{column_of, names_columns};
+use lg_value::{Class, ColumnDef, Expr, Op, Refusal, SqlType, Value};
+
+/// The class of a column.
+#[tactic(auto, unfolding(lg_value::specs::Stored::is_in_range))]
+fn class_of_type(ty: &SqlType) -> Result<Class, Refusal>
+    ensures { result ≡ spec.class_of_type ty.now }
+{
+    match ty {
+        SqlType::Bit | SqlType::Int | SqlType::BigInt => Ok(Class::Whole),
+        SqlType::Decimal { p: _, s } if ty.is_in_range() => Ok(Class::Dec(*s as u8)),
+        SqlType::NVarChar { n: _ } if ty.is_in_range() => Ok(Class::Text),
+        SqlType::VarBinary { n: _ } if ty.is_in_range() => Ok(Class::Bytes),
+        SqlType::Date => Ok(Class::Date),
+        _ => Err(Refusal::E05),
+    }
+}
+
+/// The class of a literal.
+fn class_of_literal(value: &Value) -> Class
+    ensures { result ≡ spec.class_of_literal value.now }
+{
+    match value {
+        Value::Null => Class::Null,
+        Value::Num { v: _, s: 0 } => Class::Whole,
+        Value::Num { v: _, s } => Class::Dec(*s),
+        Value::Text(_) => Class::Text,
+        Value::Bytes(_) => Class::Bytes,
+        Value::Date(_) => Class::Date,
+    }
+}
+
+/// The class of an operand beside another: a text literal that is a date has class Date beside a Date.
+fn beside(e: &Expr, a: Class, b: Class) -> Class
+    ensures { result ≡ spec.beside_day (days.written_day (tree e.now)) a b }
+{
+    if b == Class::Date && written_day(e).is_some() {
+        Class::Date
+    } else {
+        a
+    }
+}
+
+/// The class of an expression, or E05 where its classes don't agree or a column isn't there.
+fn class(e: &Expr, columns: &[ColumnDef]) -> Result<Class, Refusal>
+    ensures { result ≡ spec.class columns.now (tree e.now) }
+{
+    match e {
+        Expr::Lit(value) => Ok(class_of_literal(value)),
+        Expr::Col(name) => match column_of(columns, name) {
+            Some(column) => class_of_type(&column.ty),
+            None => Err(Refusal::E05),
+        },
+        Expr::Neg(a) => negation_class(class(a.get(), columns)?),
+        Expr::Not(a) => opposite_class(class(a.get(), columns)?),
+        Expr::IsNull { of, negated: _ } => null_test_class(class(of.get(), columns)?),
+        Expr::Bin(op, a, b) => {
+            let (a, b) = (a.get(), b.get());
+            let x = class(a, columns)?;
+            let y = class(b, columns)?;
+            binary_class(*op, beside(a, x, y), beside(b, y, x))
+        }
+    }
+}
+
+/// The class of an expression over the columns: E04 exactly where it names a column that isn't there, else E05 exactly
+/// where its classes don't agree. One pass over the expression serves where it has a class.
+#[tactic(auto, unfolding(lg_model::specs::Classes::class_of), using(lg_model::proofs::Missing::there))]
+pub fn check(e: &Expr, columns: &[ColumnDef]) -> Result<Class, Refusal>
+    ensures { result ≡ spec.class_of columns.now e.now }
+{
+    match class(e, columns) {
+        Ok(class) => Ok(class),
+        Err(refusal) if names_columns(e, columns) => Err(refusal),
+        Err(_) => Err(Refusal::E04),
+    }
+}

@@ -1,0 +1,79 @@
+//! The value or truth of an expression in a row.
+
+ghost use Rattle.std.specs.Prelude.{◌≡◌};
+ghost use Rattle.lg_value.specs.Tree.{tree};
+ghost use Rattle.lg_model.specs.Refusals.{Gives, and_then, or_refused};
+ghost use Rattle.lg_model.specs.Columns as columns_of;
+ghost use Rattle.lg_model.specs.Days as days;
+ghost use Rattle.lg_model.specs.Meaning as spec;
+ghost use Rattle.lg_expr.specs.Seen.{outcome_of, Shows};
+ghost use Rattle.lg_value.specs.declared.refusal.Refusal.TheVariants.{E05};
+
+use crate::names::place_of;
+use crate::operators::{applied, inverted, negated, null_test};
+use crate::seen::{Seen, owned, seen_value};
+use lg_types::Outcome;
+use lg_value::{ColumnDef, Expr, Name, Refusal, Value, day_of};
+
+/// The value of a row in the column of this name.
+fn value_of<'a>(columns: &[ColumnDef], row: &'a [Value], name: &Name) -> Result<Seen<'a>, Refusal>
+    ensures { Shows (and_then (or_refused E05 (columns_of.value_of columns.now row.now name.now)) spec.a_value) result }
+{
+    match place_of(columns, name) {
+        Some(place) => match row.get(place) {
+            Some(value) => Ok(seen_value(value)),
+            None => Err(Refusal::E05),
+        },
+        None => Err(Refusal::E05),
+    }
+}
+
+/// The day that an expression writes, where it is a text literal and a date in the form `YYYY-MM-DD`.
+pub fn written_day(e: &Expr) -> Option<u32>
+    ensures { result ≡ days.written_day (tree e.now) }
+{
+    match e {
+        Expr::Lit(Value::Text(text)) => day_of(text.bytes()),
+        _ => None,
+    }
+}
+
+/// The outcome of an operand beside another: a text literal that is a date counts as its day beside a day.
+fn beside<'a>(e: &Expr, x: Seen<'a>, y: Seen<'a>) -> Seen<'a>
+    ensures { outcome_of result ≡ spec.beside_day (days.written_day (tree e.now)) (outcome_of x.entry) (outcome_of y.entry) }
+{
+    match y {
+        Seen::Day(_) => match written_day(e) {
+            Some(day) => Seen::Day(day),
+            None => x,
+        },
+        _ => x,
+    }
+}
+
+/// The value or truth of an expression, with texts and bytes where they lie.
+fn seen<'a>(e: &'a Expr, columns: &[ColumnDef], row: &'a [Value]) -> Result<Seen<'a>, Refusal>
+    ensures { Shows (spec.meaning columns.now row.now (tree e.now)) result }
+{
+    match e {
+        Expr::Lit(value) => Ok(seen_value(value)),
+        Expr::Col(name) => value_of(columns, row, name),
+        Expr::Neg(a) => negated(seen(a.get(), columns, row)?),
+        Expr::Not(a) => inverted(seen(a.get(), columns, row)?),
+        Expr::IsNull { of, negated } => null_test(*negated, seen(of.get(), columns, row)?),
+        Expr::Bin(op, a, b) => {
+            let (a, b) = (a.get(), b.get());
+            let x = seen(a, columns, row)?;
+            let y = seen(b, columns, row)?;
+            applied(*op, beside(a, x, y), beside(b, y, x))
+        }
+    }
+}
+
+/// The value or truth of an expression over the columns, in a row of them.
+#[tactic(auto, unfolding(lg_model::specs::Meaning::meaning_of))]
+pub fn eval(e: &Expr, columns: &[ColumnDef], row: &[Value]) -> Result<Outcome, Refusal>
+    ensures { Gives (spec.meaning_of columns.now row.now e.now) result }
+{
+    Ok(owned(seen(e, columns, row)?)?)
+}

@@ -1,0 +1,18 @@
+//! Checks expressions and evaluates them.
+#![tactic(auto)]
+
+mod arithmetic;
+mod checking;
+mod classes;
+mod evaluation;
+mod names;
+mod operators;
+mod seen;
+mod truth;
+
+pub use checking::check;
+pub use evaluation::eval;
+pub use lg_types::Outcome;
+
+#[cfg(test)]
+mod tests;

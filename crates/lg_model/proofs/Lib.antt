@@ -1,0 +1,3 @@
+mod Classed
+pub mod Missing
+mod Unknown

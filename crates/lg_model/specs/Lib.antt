@@ -1,0 +1,9 @@
+pub mod Classes
+pub mod Columns
+pub mod Days
+pub mod Meaning
+pub mod Numbers
+pub mod Operators
+pub mod Outcomes
+pub mod Refusals
+pub mod Truths
