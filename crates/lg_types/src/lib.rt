@@ -1,8 +1,10 @@
 //! The types that definitions, formats and cells share. No function stands here.
 #![tactic(auto)]
 
+mod entry;
 mod event;
 mod table;
 
+pub use entry::{BlockRecord, TxEntry};
 pub use event::{Event, FieldOf};
 pub use table::{IndexDef, Part, TableDef};
