@@ -1,0 +1,4 @@
+mod EntryExact
+mod Growing
+mod Names
+mod RecordExact

@@ -1,0 +1,4 @@
+pub mod Entry
+pub mod EntryReading
+pub mod Record
+pub mod SessionName

@@ -1,0 +1,24 @@
+-- The record of a block: its 80 bytes.
+use Rattle.std.specs.Prelude.{◌≡◌, ◌<◌, ◌^◌, ℕ, List, ◌++◌, length}
+use Rattle.lg_bytes.specs.Fields.{u64_field, hash_field}
+use Rattle.lg_bytes.specs.Readers.{Reader, u64_at, hash_at, both, mapped}
+use Rattle.lg_types.specs.declared.entry.BlockRecord.{BlockRecord}
+
+-- the number of the block, the root of its entries, how many they are, and the hash of the record before
+unfoldable pub record_bytes : BlockRecord → List ℕ
+record_bytes b = u64_field b.id ++ (hash_field b.root ++ (u64_field b.size ++ hash_field b.previous))
+
+-- the numbers and hashes are as large as a record has them
+pub record IsRecord (b : BlockRecord) : Type 0 where
+  pub id : b.id < 2 ^ 64
+  pub root : length b.root ≡ 32
+  pub size : b.size < 2 ^ 64
+  pub previous : length b.previous ≡ 32
+
+-- ---- reading from left to right
+
+abbrev pub record_of : ℕ × (List ℕ × (ℕ × List ℕ)) → BlockRecord
+record_of x = record { id = x.0; root = x.1.0; size = x.1.1.0; previous = x.1.1.1 }
+
+unfoldable pub record_at : Reader BlockRecord
+record_at = mapped record_of (both u64_at (both hash_at (both u64_at hash_at)))

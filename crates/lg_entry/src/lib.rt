@@ -1,0 +1,17 @@
+//! The bytes of transaction entries and of the records of blocks, and the hash of a block.
+#![tactic(auto)]
+
+mod laws;
+mod reading;
+mod record;
+mod session_name;
+#[cfg(test)]
+mod tests;
+mod writing;
+
+pub use laws::equal_bytes_are_of_equal_values;
+pub use lg_types::{BlockRecord, TxEntry};
+pub use reading::read_entry;
+pub use record::{block_hash, read_record, record_bytes};
+pub use session_name::is_session_name;
+pub use writing::write_entry;
