@@ -4,9 +4,11 @@
 mod entry;
 mod event;
 mod outcome;
+mod statement;
 mod table;
 
 pub use entry::{BlockRecord, TxEntry};
 pub use event::{Event, FieldOf};
 pub use outcome::Outcome;
+pub use statement::{Agg, CreateIndex, CreateTable, RowStmt, Select, Stmt, What};
 pub use table::{IndexDef, Part, TableDef};

@@ -1,0 +1,4 @@
+mod Repeats
+mod Levels
+mod Names
+mod Digits

@@ -1,0 +1,71 @@
+-- SELECT: a rule of the grammar for each definition.
+use Rattle.std.specs.Prelude.{ℕ, Bool, true, false, if◌then◌else◌, List, [], ◌∷◌, Option, Some, None}
+use Rattle.lg_types.specs.declared.statement.Select.{Select}
+use Rattle.lg_types.specs.declared.statement.What.{What}
+use Rattle.lg_types.specs.declared.statement.What.TheVariants.{All, Columns, Aggs}
+use Rattle.lg_types.specs.declared.statement.Agg.{Agg}
+use Rattle.lg_types.specs.declared.statement.Agg.TheVariants as aggregate
+use Rattle.lg_parse.specs.declared.tag.Tag.TheVariants as t
+use Rattle.lg_parse.specs.declared.word.Call.{Call}
+use Rattle.lg_parse.specs.declared.word.Call.TheVariants as call
+use Rattle.lg_parse.specs.Input.{Input, Parser, ◌>>=◌, ◌>>◌, ◌<$>◌, pure, refuse, eat, expect, list, calls}
+use Rattle.lg_parse.specs.Expr.{name}
+use Rattle.lg_parse.specs.Words.{call_word}
+use Rattle.lg_parse.specs.Row.{names, filter}
+
+abbrev pub agg_by : Call → Parser Agg
+agg_by call.Count = expect t.Star >> pure aggregate.Count
+agg_by call.Sum = aggregate.Sum <$> name
+agg_by _ = refuse
+
+-- COUNT '(' '*' ')' | SUM '(' name ')'
+unfoldable pub agg : Parser Agg
+agg = do
+  word ← call_word
+  expect t.Open
+  found ← agg_by word
+  expect t.Close
+  pure found
+
+abbrev pub aggs : Parser (List Agg)
+aggs = list agg
+
+-- '*' | name {',' name} | agg {',' agg}. No name of a column has a '(' behind it.
+unfoldable pub what : Parser What
+what = λ i. if calls i then (Aggs <$> aggs) i else (do star ← eat t.Star; if star then pure All else Columns <$> names) i
+
+-- [ASC | DESC], true for DESC
+unfoldable pub falls : Parser Bool
+falls = do
+  rises ← eat t.Asc
+  if rises then pure false else eat t.Desc
+
+unfoldable pub sort : Parser (List ℕ × Bool)
+sort = do
+  column ← name
+  down ← falls
+  pure (column, down)
+
+abbrev pub sorts : Parser (List (List ℕ × Bool))
+sorts = list sort
+
+-- [ORDER BY name [ASC | DESC] {',' name [ASC | DESC]}]
+unfoldable pub order : Parser (List (List ℕ × Bool))
+order = do
+  sorted ← eat t.Order
+  if sorted then expect t.By >> sorts else pure []
+
+-- none where there are aggregates
+abbrev pub order_of : What → Parser (List (List ℕ × Bool))
+order_of (Aggs all) = pure []
+order_of _ = order
+
+-- what FROM name [WHERE expr] [ORDER BY ..]
+unfoldable pub select : Parser Select
+select = do
+  shown ← what
+  expect t.From
+  from ← name
+  filtered ← filter
+  by ← order_of shown
+  pure (record { table = from; what = shown; cond = filtered; order = by })

@@ -1,0 +1,62 @@
+//! A text as a statement.
+
+ghost use Rattle.std.specs.Prelude.{◌≡◌, IfOk, All, map};
+ghost use Rattle.lg_lex.specs.Spans.{IsSpan};
+ghost use Rattle.lg_parse.specs.Input.{Gives, syms};
+ghost use Rattle.lg_parse.specs.Stmt.{statement_of_tokens};
+ghost use Rattle.lg_parse.specs.Text.{sym_of, statement_of};
+
+use crate::ParseErr;
+use crate::cursor::{Cursor, Piece};
+use crate::stmt::statement;
+use crate::tag::tag_of;
+use lg_items::{Items, Memory};
+use lg_lex::{LexErr, Token, tokens};
+use lg_types::Stmt;
+use std::alloc::Global;
+
+#[tactic(auto, unfolding(crate::specs::Text::sym_of))]
+fn piece<'a>(text: &'a str, token: &Token) -> Piece<'a>
+    requires { IsSpan text.now token.now }
+    ensures { (result.tag, result.text.now) ≡ sym_of text.now token.now }
+{
+    let word = &text[token.start..token.end];
+    Piece {
+        tag: tag_of(token.kind, word.as_bytes()),
+        text: word,
+    }
+}
+
+fn pieces<'a>(alloc: Global, text: &'a str, tokens: &[Token]) -> Result<Items<Piece<'a>>, Memory>
+    requires { All (IsSpan text.now) tokens.now }
+    ensures { IfOk result (λ v. syms v ≡ map (sym_of text.now) tokens.now) }
+{
+    let mut found = Items::new(alloc);
+    for token in tokens {
+        found.push(piece(text, token))?;
+    }
+    Ok(found)
+}
+
+/// The statement of these tokens of the text.
+fn read(alloc: Global, text: &str, tokens: &[Token]) -> Result<Stmt, ParseErr>
+    requires { All (IsSpan text.now) tokens.now }
+    ensures { Gives (statement_of_tokens (map (sym_of text.now) tokens.now)) result }
+{
+    let all = pieces(alloc, text, tokens)?;
+    statement(alloc, &mut Cursor::new(all.as_slice()))
+}
+
+/// The statement that a text is, and `Syntax` exactly for a text that is none. It takes time linear in the text, but for
+/// the names of a CREATE TABLE, each of which is compared with those of its key. Its calls nest no deeper than the
+/// parentheses, of which 256 may.
+#[tactic(auto, unfolding(crate::specs::Text::statement_of))]
+pub fn parse(alloc: Global, text: &str) -> Result<Stmt, ParseErr>
+    ensures { Gives (statement_of text.now) result }
+{
+    match tokens(alloc, text) {
+        Ok(found) => read(alloc, text, found.as_slice()),
+        Err(LexErr::Bad { .. }) => Err(ParseErr::Syntax),
+        Err(LexErr::Memory) => Err(ParseErr::Memory),
+    }
+}
