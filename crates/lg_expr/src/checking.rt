@@ -6,7 +6,7 @@ ghost use Rattle.lg_model.specs.Classes as spec;
 ghost use Rattle.lg_model.specs.Days as days;
 
 use crate::classes::{binary_class, negation_class, null_test_class, opposite_class};
-use crate::evaluation::written_day;
+use crate::days::written_day;
 use crate::names::{column_of, names_columns};
 use lg_value::{Class, ColumnDef, Expr, Op, Refusal, SqlType, Value};
 

@@ -9,11 +9,12 @@ ghost use Rattle.lg_model.specs.Meaning as spec;
 ghost use Rattle.lg_expr.specs.Seen.{outcome_of, Shows};
 ghost use Rattle.lg_value.specs.declared.refusal.Refusal.TheVariants.{E05};
 
+use crate::days::written_day;
 use crate::names::place_of;
 use crate::operators::{applied, inverted, negated, null_test};
 use crate::seen::{Seen, owned, seen_value};
 use lg_types::Outcome;
-use lg_value::{ColumnDef, Expr, Name, Refusal, Value, day_of};
+use lg_value::{ColumnDef, Expr, Name, Refusal, Value};
 
 /// The value of a row in the column of this name.
 fn value_of<'a>(columns: &[ColumnDef], row: &'a [Value], name: &Name) -> Result<Seen<'a>, Refusal>
@@ -25,16 +26,6 @@ fn value_of<'a>(columns: &[ColumnDef], row: &'a [Value], name: &Name) -> Result<
             None => Err(Refusal::E05),
         },
         None => Err(Refusal::E05),
-    }
-}
-
-/// The day that an expression writes, where it is a text literal and a date in the form `YYYY-MM-DD`.
-pub fn written_day(e: &Expr) -> Option<u32>
-    ensures { result ≡ days.written_day (tree e.now) }
-{
-    match e {
-        Expr::Lit(Value::Text(text)) => day_of(text.bytes()),
-        _ => None,
     }
 }
 
@@ -70,7 +61,10 @@ fn seen<'a>(e: &'a Expr, columns: &[ColumnDef], row: &'a [Value]) -> Result<Seen
     }
 }
 
-/// The value or truth of an expression over the columns, in a row of them.
+/// The value or truth of an expression over the columns, in a row of them. Both sides of an operator are always evaluated.
+/// E08 comes exactly where a result of arithmetic, or an operand brought to the greater scale, has size 10^38 or more; E05
+/// where a use is one that classes forbid, so never after `check` in a row that fits; E30 for want of memory alone. Only
+/// the text or the bytes of the answer take memory.
 #[tactic(auto, unfolding(lg_model::specs::Meaning::meaning_of))]
 pub fn eval(e: &Expr, columns: &[ColumnDef], row: &[Value]) -> Result<Outcome, Refusal>
     ensures { Gives (spec.meaning_of columns.now row.now e.now) result }

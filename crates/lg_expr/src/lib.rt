@@ -1,9 +1,10 @@
-//! Checks expressions and evaluates them.
+//! The class of an expression over columns, and its value or truth in a row of them.
 #![tactic(auto)]
 
 mod arithmetic;
 mod checking;
 mod classes;
+mod days;
 mod evaluation;
 mod names;
 mod operators;

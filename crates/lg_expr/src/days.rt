@@ -1,0 +1,17 @@
+//! Text literals that are dates.
+
+ghost use Rattle.std.specs.Prelude.{◌≡◌};
+ghost use Rattle.lg_value.specs.Tree.{tree};
+ghost use Rattle.lg_model.specs.Days as spec;
+
+use lg_value::{Expr, Value, day_of};
+
+/// The day that an expression writes, where it is a text literal and a date in the form `YYYY-MM-DD`.
+pub fn written_day(e: &Expr) -> Option<u32>
+    ensures { result ≡ spec.written_day (tree e.now) }
+{
+    match e {
+        Expr::Lit(Value::Text(text)) => day_of(text.bytes()),
+        _ => None,
+    }
+}
