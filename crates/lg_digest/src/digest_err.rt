@@ -1,0 +1,29 @@
+//! Why no digests are read.
+
+use lg_items::Memory;
+use thiserror::Error;
+
+/// Why no digests are read.
+#[derive(Clone, Copy, Debug, PartialEq, Eq, Error)]
+pub enum DigestErr {
+    /// The bytes are no JSON value.
+    #[error("no JSON value")]
+    Unreadable,
+    /// The item at this place, counted from 0, is the first that isn't a digest.
+    #[error("item {index} is no digest")]
+    Bad { index: u64 },
+    /// There is no more memory.
+    #[error("no more memory")]
+    Memory,
+}
+
+impl From<Memory> for DigestErr {
+    ghost use Rattle.std.specs.Prelude.{◌≡◌};
+    ghost use Rattle.lg_digest.specs.declared.digest_err.DigestErr.TheVariants as errors;
+
+    ghost from_gives = { λ _ e. e ≡ errors.Memory };
+
+    fn from(_: Memory) -> DigestErr {
+        DigestErr::Memory
+    }
+}
