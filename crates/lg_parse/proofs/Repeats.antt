@@ -1,10 +1,9 @@
 -- Tokens of one tag in a row.
-use Rattle.std.proofs.Common.{◌≡◌, ℕ, zero, suc, ◌+◌, ◌-◌, ◌<◌, ◌≤◌, Bool, Err, true, false, cond, List, [], ◌∷◌, Some, None, refl, ap, ◌∙◌, sym, arith, eqb}
+use Rattle.std.proofs.Common.{◌≡◌, ℕ, ◌+◌, ◌-◌, ◌<◌, ◌≤◌, Bool, Err, true, false, cond, List, [], ◌∷◌, Some, None, refl, ap, ◌∙◌, sym, arith, eqb}
 use Rattle.std.proofs.lemmas.Bool.Decides.{nat_tests}
 use Rattle.lg_parse.specs.declared.tag.Tag.{Tag}
 use Rattle.lg_parse.specs.declared.parse_err.ParseErr.{ParseErr}
 use Rattle.lg_parse.specs.declared.parse_err.ParseErr.TheVariants.{Syntax, Memory}
-use Rattle.lg_parse.specs.Tags.{same_tag}
 use Rattle.lg_parse.specs.Input.{Input, Sym, Outcome, repeated_at, one_more, next, after, spend, sees, Reads}
 
 -- with so many before

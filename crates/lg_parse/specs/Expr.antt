@@ -1,5 +1,5 @@
 -- Expressions: a rule of the grammar for each definition.
-use Rattle.std.specs.Prelude.{ℕ, zero, suc, ◌+◌, ◌-◌, ◌==◌, Bool, if◌then◌else◌, List, [], ◌∷◌, Option, Some, None, option_map, option_and_then}
+use Rattle.std.specs.Prelude.{ℕ, zero, suc, ◌+◌, ◌==◌, if◌then◌else◌, List, [], ◌∷◌, Option, Some, None, option_map, option_and_then}
 use Rattle.lg_value.specs.declared.value.Value.{Value}
 use Rattle.lg_value.specs.declared.expr.Op.{Op}
 use Rattle.lg_value.specs.declared.expr.Op.TheVariants as op
@@ -10,7 +10,7 @@ use Rattle.lg_parse.specs.declared.tag.Tag.{Tag}
 use Rattle.lg_parse.specs.declared.tag.Tag.TheVariants as t
 use Rattle.lg_parse.specs.declared.expr.Level.{Level}
 use Rattle.lg_parse.specs.declared.expr.Level.TheVariants as l
-use Rattle.lg_parse.specs.Input.{Input, Parser, ◌>>=◌, ◌>>◌, ◌<$>◌, pure, refuse, required, peek, take_text, eat, expect, spend, repeated, begin}
+use Rattle.lg_parse.specs.Input.{Parser, ◌>>=◌, ◌>>◌, ◌<$>◌, pure, refuse, required, peek, take_text, eat, expect, spend, repeated, begin}
 
 abbrev pub operator : Level → Tag → Option Op
 operator l.Or t.Or = Some op.Or

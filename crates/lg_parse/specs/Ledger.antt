@@ -11,7 +11,7 @@ use Rattle.lg_parse.specs.declared.ledger.Ledger.{Ledger}
 use Rattle.lg_parse.specs.declared.ledger.Choices.{Choices}
 use Rattle.lg_parse.specs.declared.ledger.Choice.{Choice}
 use Rattle.lg_parse.specs.declared.ledger.Choice.TheVariants as choice
-use Rattle.lg_parse.specs.Input.{Input, Parser, ◌>>=◌, ◌>>◌, ◌<$>◌, pure, refuse, required, eat, expect, fold}
+use Rattle.lg_parse.specs.Input.{Parser, ◌>>=◌, ◌>>◌, ◌<$>◌, pure, refuse, required, eat, expect, fold}
 use Rattle.lg_parse.specs.Expr.{name}
 use Rattle.lg_parse.specs.Words.{option_word}
 

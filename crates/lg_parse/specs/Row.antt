@@ -1,5 +1,5 @@
 -- INSERT, UPDATE and DELETE: a rule of the grammar for each definition.
-use Rattle.std.specs.Prelude.{ℕ, neg_ℤ, Bool, if◌then◌else◌, List, [], ◌∷◌, Option, Some, None}
+use Rattle.std.specs.Prelude.{ℕ, neg_ℤ, if◌then◌else◌, List, Option, Some, None}
 use Rattle.lg_value.specs.declared.value.Value.{Value}
 use Rattle.lg_value.specs.declared.value.Value.TheVariants.{Num}
 use Rattle.lg_value.specs.declared.expr.Expr.{Expr}
@@ -7,7 +7,7 @@ use Rattle.lg_types.specs.declared.statement.RowStmt.{RowStmt}
 use Rattle.lg_types.specs.declared.statement.RowStmt.TheVariants.{Insert, Update, Delete}
 use Rattle.lg_parse.specs.declared.tag.Tag.{Tag}
 use Rattle.lg_parse.specs.declared.tag.Tag.TheVariants as t
-use Rattle.lg_parse.specs.Input.{Input, Parser, ◌>>=◌, ◌>>◌, ◌<$>◌, pure, refuse, peek, take_text, eat, expect, list}
+use Rattle.lg_parse.specs.Input.{Parser, ◌>>=◌, ◌>>◌, ◌<$>◌, pure, refuse, peek, take_text, eat, expect, list}
 use Rattle.lg_parse.specs.Expr.{name, literal, whole}
 
 abbrev pub names : Parser (List (List ℕ))

@@ -1,5 +1,5 @@
 -- SELECT: a rule of the grammar for each definition.
-use Rattle.std.specs.Prelude.{ℕ, Bool, true, false, if◌then◌else◌, List, [], ◌∷◌, Option, Some, None}
+use Rattle.std.specs.Prelude.{ℕ, Bool, false, if◌then◌else◌, List, []}
 use Rattle.lg_types.specs.declared.statement.Select.{Select}
 use Rattle.lg_types.specs.declared.statement.What.{What}
 use Rattle.lg_types.specs.declared.statement.What.TheVariants.{All, Columns, Aggs}
@@ -8,7 +8,7 @@ use Rattle.lg_types.specs.declared.statement.Agg.TheVariants as aggregate
 use Rattle.lg_parse.specs.declared.tag.Tag.TheVariants as t
 use Rattle.lg_parse.specs.declared.word.Call.{Call}
 use Rattle.lg_parse.specs.declared.word.Call.TheVariants as call
-use Rattle.lg_parse.specs.Input.{Input, Parser, ◌>>=◌, ◌>>◌, ◌<$>◌, pure, refuse, eat, expect, list, calls}
+use Rattle.lg_parse.specs.Input.{Parser, ◌>>=◌, ◌>>◌, ◌<$>◌, pure, refuse, eat, expect, list, calls}
 use Rattle.lg_parse.specs.Expr.{name}
 use Rattle.lg_parse.specs.Words.{call_word}
 use Rattle.lg_parse.specs.Row.{names, filter}

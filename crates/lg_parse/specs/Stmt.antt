@@ -1,12 +1,12 @@
 -- Statements: a rule of the grammar for each definition.
-use Rattle.std.specs.Prelude.{ℕ, ◌==◌, Bool, true, false, if◌then◌else◌, List, Option, Some, None, option_map}
+use Rattle.std.specs.Prelude.{◌==◌, Bool, true, if◌then◌else◌, List, Option, Some, None, option_map}
 use Rattle.lg_types.specs.declared.statement.Stmt.{Stmt}
 use Rattle.lg_types.specs.declared.statement.Stmt.TheVariants as stmt
 use Rattle.lg_parse.specs.declared.tag.Tag.{Tag}
 use Rattle.lg_parse.specs.declared.tag.Tag.TheVariants as t
 use Rattle.lg_parse.specs.declared.word.Call.{Call}
 use Rattle.lg_parse.specs.declared.word.Call.TheVariants as call
-use Rattle.lg_parse.specs.Input.{Input, Sym, Parser, ◌>>=◌, ◌>>◌, ◌<$>◌, pure, refuse, required, peek, take_text, eat, expect, start, tokens_left}
+use Rattle.lg_parse.specs.Input.{Sym, Parser, ◌>>=◌, ◌>>◌, ◌<$>◌, pure, refuse, required, peek, take_text, eat, expect, start, tokens_left}
 use Rattle.lg_parse.specs.Expr.{name}
 use Rattle.lg_parse.specs.Words.{call_word}
 use Rattle.lg_parse.specs.Row.{insert, update, delete}

@@ -4,8 +4,6 @@ use Rattle.lg_value.specs.Literal.{digits_after}
 use Rattle.lg_value.specs.declared.sql_type.SqlType.{SqlType}
 use Rattle.lg_value.specs.declared.sql_type.SqlType.TheVariants as sql
 use Rattle.lg_value.specs.declared.column.ColumnDef.{ColumnDef}
-use Rattle.lg_value.specs.declared.column.TableKind.{TableKind}
-use Rattle.lg_value.specs.declared.column.TableKind.TheVariants.{AppendOnly, Updatable}
 use Rattle.lg_types.specs.declared.statement.CreateTable.{CreateTable}
 use Rattle.lg_types.specs.declared.statement.CreateIndex.{CreateIndex}
 use Rattle.lg_parse.specs.declared.tag.Tag.{Tag}
@@ -16,7 +14,7 @@ use Rattle.lg_parse.specs.declared.column.Column.{Column}
 use Rattle.lg_parse.specs.declared.column.Draft.{Draft}
 use Rattle.lg_parse.specs.declared.column.Item.{Item}
 use Rattle.lg_parse.specs.declared.column.Item.TheVariants as item
-use Rattle.lg_parse.specs.Input.{Input, Parser, ◌>>=◌, ◌>>◌, ◌<$>◌, pure, refuse, required, peek, take_text, eat, expect, fold, Outcome}
+use Rattle.lg_parse.specs.Input.{Parser, ◌>>=◌, ◌>>◌, ◌<$>◌, pure, refuse, required, peek, take_text, eat, expect, fold}
 use Rattle.lg_parse.specs.Expr.{name}
 use Rattle.lg_parse.specs.Words.{type_word}
 use Rattle.lg_parse.specs.Row.{name_list}

@@ -1,5 +1,5 @@
 -- Which texts are which statements.
-use Rattle.std.specs.Prelude.{ℕ, List, map, slice_range, Option, None, Result, Ok, Err}
+use Rattle.std.specs.Prelude.{ℕ, List, map, slice_range, Option, None, Ok, Err}
 use Rattle.lg_lex.specs.declared.token.Token.{Token}
 use Rattle.lg_lex.specs.Cut.{Scan, tokens_of}
 use Rattle.lg_types.specs.declared.statement.Stmt.{Stmt}

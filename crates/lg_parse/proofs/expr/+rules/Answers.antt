@@ -1,6 +1,5 @@
-use Rattle.std.proofs.Common.{◌≡◌, ◌+◌, ◌-◌, suc, Some, None, rules, arith, ap, ◌∙◌}
+use Rattle.std.proofs.Common.{rules, arith}
 use Rattle.std.proofs.lemmas.Grind.{common_steps}
-use Rattle.lg_parse.specs.Input.{Reads}
 use Rattle.lg_parse.specs.Expr.{more, operator, operand, expr, level}
 use Rattle.lg_parse.proofs.Repeats.{hands_on}
 use Rattle.lg_parse.proofs.Levels.{one_more, starts, refused_first}

@@ -1,4 +1,4 @@
-use Rattle.std.proofs.Common.{◌≡◌, ◌+◌, ◌-◌, ◌<◌, true, false, Some, None, rules, arith, sym, ap, ◌∙◌}
+use Rattle.std.proofs.Common.{◌≡◌, ◌-◌, true, false, Some, None, rules, arith, sym, ap, ◌∙◌}
 use Rattle.std.proofs.lemmas.Grind.{common_steps}
 use Rattle.lg_parse.specs.Input.{repeated, repeated_at, sees, spend}
 use Rattle.lg_parse.proofs.Repeats.{turn, refused, ended, stays, falls, hands_on}
