@@ -1,0 +1,28 @@
+//! Versions of rows: what a row was, from its start to its end.
+
+use lg_items::{Items, TxId};
+use lg_value::{SqlType, Value};
+
+/// The values of a row, one for each column.
+pub type Row = Items<Value>;
+
+/// The transaction of an event, and its number there, from 0. Events are ordered by the transaction and then the number.
+pub type EventId = (TxId, u64);
+
+/// A value other than NULL, with the type of the column that stored it.
+#[derive(Debug, Drop)]
+pub struct Typed {
+    pub ty: SqlType,
+    pub value: Value,
+}
+
+/// One state of one row.
+#[derive(Debug, Drop)]
+pub struct Version {
+    /// One for each column of the table; NULL is none.
+    pub values: Items<Option<Typed>>,
+    /// The event that started it.
+    pub start: EventId,
+    /// The event that ended it, if one did.
+    pub end: Option<EventId>,
+}
