@@ -19,4 +19,4 @@ pub use outcome::Outcome;
 pub use reply::Reply;
 pub use statement::{Agg, CreateIndex, CreateTable, RowStmt, Select, Stmt, What};
 pub use table::{IndexDef, Part, TableDef};
-pub use version::{EventId, Row, Typed, Version};
+pub use version::{EventId, Row, Table, Typed, Version};

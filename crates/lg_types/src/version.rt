@@ -1,5 +1,6 @@
-//! Versions of rows: what a row was, from its start to its end.
+//! Versions of rows, what a row was from its start to its end, and the tables that have them.
 
+use crate::table::TableDef;
 use lg_items::{Items, TxId};
 use lg_value::{SqlType, Value};
 
@@ -25,4 +26,12 @@ pub struct Version {
     pub start: EventId,
     /// The event that ended it, if one did.
     pub end: Option<EventId>,
+}
+
+/// A table: its definition, and all versions of its rows.
+#[derive(Debug, Drop)]
+pub struct Table {
+    pub def: TableDef,
+    /// By rising start.
+    pub versions: Items<Version>,
 }

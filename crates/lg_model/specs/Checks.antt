@@ -1,0 +1,157 @@
+-- What is checked of INSERT, UPDATE and DELETE before any row is looked at.
+use Rattle.std.specs.Prelude.{ℕ, ◌==◌, ◌&&◌, ◌||◌, not, nat_lt, Bool, true, false, if◌then◌else◌, List, [], ◌∷◌, map, length, Option, Some, None, is_some, Ok, Err}
+use Rattle.std.specs.List.{list_any, list_all, filter_map, zip}
+use Rattle.lg_value.specs.declared.value.Value.{Value}
+use Rattle.lg_value.specs.declared.column.ColumnDef.{ColumnDef}
+use Rattle.lg_value.specs.declared.column.TableKind.{TableKind}
+use Rattle.lg_value.specs.declared.column.TableKind.TheVariants.{AppendOnly, Updatable}
+use Rattle.lg_value.specs.declared.sql_type.SqlType.{SqlType}
+use Rattle.lg_value.specs.declared.sql_type.SqlType.TheVariants as t
+use Rattle.lg_value.specs.declared.refusal.Refusal.{Refusal}
+use Rattle.lg_value.specs.declared.refusal.Refusal.TheVariants.{E02, E03, E04, E05, E10, E11, E12, E16, E18}
+use Rattle.lg_value.specs.declared.expr.Class.{Class}
+use Rattle.lg_value.specs.declared.expr.Class.TheVariants.{Whole, Dec, Text, Bytes, Date, Null, Truth}
+use Rattle.lg_value.specs.declared.expr.Expr.{Expr}
+use Rattle.lg_value.specs.Tree.{Tree, literal, tree}
+use Rattle.lg_types.specs.declared.table.TableDef.{TableDef}
+use Rattle.lg_types.specs.declared.table.Part.{Part}
+use Rattle.lg_types.specs.declared.table.Part.TheVariants.{Base}
+use Rattle.lg_types.specs.declared.statement.RowStmt.{RowStmt}
+use Rattle.lg_types.specs.declared.statement.RowStmt.TheVariants.{Insert, Update, Delete}
+use Rattle.lg_model.specs.Refusals.{Checked, and_then, or_refused}
+use Rattle.lg_model.specs.Columns.{column_of, place_of}
+use Rattle.lg_model.specs.Classes.{class, names_columns, class_of_literal}
+use Rattle.lg_model.specs.Days.{written_day}
+use Rattle.lg_model.specs.Limits.{max_rows}
+use Rattle.lg_model.specs.Lists.{repeats}
+use Rattle.lg_model.specs.Rows.{Row}
+use Rattle.lg_model.specs.Parts.{columns_of}
+use Rattle.lg_model.specs.Catalog.{Defs, Named, find_part}
+
+-- a check that fails refuses the statement; the checks go in their order
+abbrev pub refused_if : {A : Type 0} → Bool → Refusal → Checked A → Checked A
+refused_if fails e rest = if fails then Err e else rest
+
+-- ---- classes
+
+-- a column of the type takes values of the class: NULL each, a DECIMAL all numbers, the other number types those without
+-- a point, and a DATE a text literal that is a date
+abbrev pub takes_class : SqlType → Class → Bool → Bool
+takes_class ty Null date = true
+takes_class t.Bit Whole date = true
+takes_class t.Int Whole date = true
+takes_class t.BigInt Whole date = true
+takes_class (t.Decimal p s) Whole date = true
+takes_class (t.Decimal p s) (Dec z) date = true
+takes_class (t.NVarChar n) Text date = true
+takes_class t.Date Text date = date
+takes_class t.Date Date date = true
+takes_class (t.VarBinary n) Bytes date = true
+takes_class _ _ date = false
+
+abbrev pub is_taken_class : SqlType → Tree → Checked Class → Bool
+is_taken_class ty e (Ok c) = takes_class ty c (is_some (written_day e))
+is_taken_class ty e (Err r) = false
+
+-- the column takes what the expression gives
+abbrev pub takes_expr : List ColumnDef → ColumnDef → Tree → Bool
+takes_expr columns c e = is_taken_class c.ty e (class columns e)
+
+abbrev pub takes_value : ColumnDef → Value → Bool
+takes_value c v = takes_class c.ty (class_of_literal v) (is_some (written_day (literal v)))
+
+abbrev pub is_truth : Checked Class → Bool
+is_truth (Ok Truth) = true
+is_truth _ = false
+
+-- ---- conditions
+
+-- the columns that a condition names are there
+abbrev pub cond_names : List ColumnDef → Option Expr → Bool
+cond_names columns None = true
+cond_names columns (Some e) = names_columns columns (tree e)
+
+-- a condition is a truth value
+abbrev pub cond_is_truth : List ColumnDef → Option Expr → Bool
+cond_is_truth columns None = true
+cond_is_truth columns (Some e) = is_truth (class columns (tree e))
+
+-- ---- columns
+
+-- the column is declared
+abbrev pub is_declared : List ColumnDef → List ℕ → Bool
+is_declared columns name = is_some (place_of columns name)
+
+-- the columns to which the values of a row go: those listed, or all
+abbrev pub listed : List ColumnDef → Option (List (List ℕ)) → List ColumnDef
+listed columns None = columns
+listed columns (Some names) = filter_map (column_of columns) names
+
+abbrev pub names_listed : Option (List (List ℕ)) → List (List ℕ)
+names_listed None = []
+names_listed (Some names) = names
+
+abbrev pub is_key_column : Option ColumnDef → Bool
+is_key_column (Some c) = not (c.key_position == 0)
+is_key_column None = false
+
+-- the name is that of a column of the primary key
+abbrev pub is_in_key : List ColumnDef → List ℕ → Bool
+is_in_key columns name = is_key_column (column_of columns name)
+
+abbrev pub sets_taken : List ColumnDef → Option ColumnDef → Expr → Bool
+sets_taken columns None e = false
+sets_taken columns (Some c) e = takes_expr columns c (tree e)
+
+abbrev pub is_base : Part → Bool
+is_base Base = true
+is_base _ = false
+
+abbrev pub is_append_only : TableKind → Bool
+is_append_only AppendOnly = true
+is_append_only Updatable = false
+
+-- ---- the checks, in their order
+
+unfoldable pub insert_check : TableDef → Part → Option (List (List ℕ)) → List Row → Checked TableDef
+insert_check def part names rows =
+    refused_if (repeats (names_listed names)) E03
+    (refused_if (nat_lt max_rows (length rows)) E16
+    (refused_if (not (is_base part)) E11
+    (refused_if (not (list_all (is_declared def.columns) (names_listed names))) E04
+    (refused_if (not (list_all (λ row. length row == length (listed def.columns names)) rows)) E18
+    (refused_if (not (list_all (λ row. list_all (λ p. takes_value p.0 p.1) (zip (listed def.columns names) row)) rows)) E05
+    (Ok def))))))
+
+unfoldable pub update_check : TableDef → Part → List (List ℕ × Expr) → Option Expr → Checked TableDef
+update_check def part sets cond =
+    refused_if (repeats (map (λ s. s.0) sets)) E03
+    (refused_if (not (is_base part)) E11
+    (refused_if (is_append_only def.kind) E10
+    (refused_if (not (list_all (λ s. is_declared def.columns s.0 && names_columns (columns_of def Base) (tree s.1)) sets && cond_names (columns_of def Base) cond)) E04
+    (refused_if (list_any (λ s. is_in_key def.columns s.0) sets) E12
+    (refused_if (not (list_all (λ s. sets_taken (columns_of def Base) (column_of def.columns s.0) s.1) sets && cond_is_truth (columns_of def Base) cond)) E05
+    (Ok def))))))
+
+unfoldable pub delete_check : TableDef → Part → Option Expr → Checked TableDef
+delete_check def part cond =
+    refused_if (not (is_base part)) E11
+    (refused_if (is_append_only def.kind) E10
+    (refused_if (not (cond_names (columns_of def Base) cond)) E04
+    (refused_if (not (cond_is_truth (columns_of def Base) cond)) E05
+    (Ok def))))
+
+-- a row statement on a table or a part of one: the table's definition, where nothing is refused
+abbrev pub row_check : RowStmt → Named → Checked TableDef
+row_check (Insert table names rows) n = insert_check n.0 n.1 names rows
+row_check (Update table sets cond) n = update_check n.0 n.1 sets cond
+row_check (Delete table cond) n = delete_check n.0 n.1 cond
+
+abbrev pub table_of : RowStmt → List ℕ
+table_of (Insert table names rows) = table
+table_of (Update table sets cond) = table
+table_of (Delete table cond) = table
+
+-- all that is checked of a row statement before a row is looked at
+unfoldable pub row_statement_check : Defs → RowStmt → Checked TableDef
+row_statement_check defs stmt = and_then (or_refused E02 (find_part defs (table_of stmt))) (row_check stmt)

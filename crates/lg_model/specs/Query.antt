@@ -1,0 +1,128 @@
+-- SELECT: what is checked, and the rows that it shows.
+use Rattle.std.specs.Prelude.{ℕ, ◌==◌, ◌&&◌, ◌||◌, not, Bool, true, false, if◌then◌else◌, List, [], ◌∷◌, map, take, length, Option, Some, None, Ok, Err}
+use Rattle.std.specs.List.{list_all}
+use Rattle.std.specs.declared.cmp.Ordering.{Ordering}
+use Rattle.std.specs.declared.cmp.Ordering.TheVariants.{Equal}
+use Rattle.std.specs.Ordering.{ordering_then}
+use Rattle.lg_value.specs.declared.value.Value.{Value}
+use Rattle.lg_value.specs.declared.value.Value.TheVariants.{Null, Num}
+use Rattle.lg_value.specs.declared.column.ColumnDef.{ColumnDef}
+use Rattle.lg_value.specs.declared.refusal.Refusal.TheVariants.{E02, E04, E05}
+use Rattle.lg_value.specs.declared.expr.Class.{Class}
+use Rattle.lg_value.specs.declared.expr.Class.TheVariants.{Whole, Dec}
+use Rattle.lg_value.specs.declared.expr.Expr.{Expr}
+use Rattle.lg_value.specs.Order.{value_cmp}
+use Rattle.lg_types.specs.declared.statement.Select.{Select}
+use Rattle.lg_types.specs.declared.statement.What.{What}
+use Rattle.lg_types.specs.declared.statement.What.TheVariants.{All, Columns, Aggs}
+use Rattle.lg_types.specs.declared.statement.Agg.{Agg}
+use Rattle.lg_types.specs.declared.statement.Agg.TheVariants.{Count, Sum}
+use Rattle.lg_model.specs.Refusals.{Checked, and_then, or_refused}
+use Rattle.lg_model.specs.Numbers.{sum_of}
+use Rattle.lg_model.specs.Columns.{column_of, place_of}
+use Rattle.lg_model.specs.Classes.{class_of_type}
+use Rattle.lg_model.specs.Lists.{sorted, checked_map, checked_filter, checked_fold}
+use Rattle.lg_model.specs.Rows.{Row, number}
+use Rattle.lg_model.specs.Keys.{value_at}
+use Rattle.lg_model.specs.Parts.{columns_of}
+use Rattle.lg_model.specs.Where.{holds}
+use Rattle.lg_model.specs.Catalog.{Defs, Named, find_part}
+use Rattle.lg_model.specs.Checks.{refused_if, is_declared, cond_names, cond_is_truth}
+
+-- ---- checks
+
+abbrev pub is_number : Checked Class → Bool
+is_number (Ok Whole) = true
+is_number (Ok (Dec s)) = true
+is_number _ = false
+
+abbrev pub has_sum : Option ColumnDef → Bool
+has_sum (Some c) = is_number (class_of_type c.ty)
+has_sum None = false
+
+abbrev pub agg_names : List ColumnDef → Agg → Bool
+agg_names columns Count = true
+agg_names columns (Sum name) = is_declared columns name
+
+abbrev pub agg_adds : List ColumnDef → Agg → Bool
+agg_adds columns Count = true
+agg_adds columns (Sum name) = has_sum (column_of columns name)
+
+-- the columns that are to be shown are there
+abbrev pub what_names : List ColumnDef → What → Bool
+what_names columns All = true
+what_names columns (Columns names) = list_all (is_declared columns) names
+what_names columns (Aggs aggs) = list_all (agg_names columns) aggs
+
+-- sums are of numbers
+abbrev pub what_adds : List ColumnDef → What → Bool
+what_adds columns (Aggs aggs) = list_all (agg_adds columns) aggs
+what_adds columns _ = true
+
+-- all that is checked of a SELECT over these columns
+unfoldable pub select_check : List ColumnDef → Select → Checked (List ColumnDef)
+select_check columns q =
+    refused_if (not (what_names columns q.what && cond_names columns q.cond && list_all (λ o. is_declared columns o.0) q.order)) E04
+    (refused_if (not (what_adds columns q.what && cond_is_truth columns q.cond)) E05
+    (Ok columns))
+
+abbrev pub part_check : Select → Named → Checked Named
+part_check q n = and_then (select_check (columns_of n.0 n.1) q) (λ columns. Ok n)
+
+-- the table or part that a SELECT reads, where nothing is refused
+unfoldable pub query_check : Defs → Select → Checked Named
+query_check defs q = and_then (or_refused E02 (find_part defs q.table)) (part_check q)
+
+-- ---- ORDER BY
+
+abbrev pub place_in : List ColumnDef → List ℕ → Option ℕ
+place_in columns name = place_of columns name
+
+-- the value of a row in the column of this name, NULL where there is no such column
+abbrev pub value_in : Option ℕ → Row → Value
+value_in (Some place) row = value_at row place
+value_in None row = Null
+
+-- by one column; true is DESC
+abbrev pub column_cmp : List ColumnDef → List ℕ × Bool → Row → Row → Ordering
+column_cmp columns o a b =
+    if o.1 then value_cmp (value_in (place_in columns o.0) b) (value_in (place_in columns o.0) a)
+    else value_cmp (value_in (place_in columns o.0) a) (value_in (place_in columns o.0) b)
+
+-- by the first column, then by the second, and so on
+abbrev pub order_cmp : List ColumnDef → List (List ℕ × Bool) → Row → Row → Ordering
+order_cmp columns [] a b = Equal
+order_cmp columns (o ∷ os) a b = ordering_then (column_cmp columns o a b) (order_cmp columns os a b)
+
+-- ---- COUNT(*) and SUM
+
+-- one value more; NULL is left out
+abbrev pub added_up : Value → Value → Checked Value
+added_up sum Null = Ok sum
+added_up Null v = Ok v
+added_up (Num v s) (Num w z) = sum_of v s w z
+added_up _ _ = Err E05
+
+-- the sum in the order of the rows, NULL over no values
+unfoldable pub total : List Value → Checked Value
+total values = checked_fold added_up Null values
+
+unfoldable pub agg_value : List ColumnDef → List Row → Agg → Checked Value
+agg_value columns rows Count = Ok (number (length rows))
+agg_value columns rows (Sum name) = total (map (value_in (place_in columns name)) rows)
+
+-- ---- the rows shown
+
+abbrev pub projected : List ColumnDef → List (List ℕ) → Row → Row
+projected columns names row = map (λ name. value_in (place_in columns name) row) names
+
+abbrev pub what_shown : List ColumnDef → ℕ → What → List Row → Checked (List Row)
+what_shown columns shown All rows = Ok (map (take shown) rows)
+what_shown columns shown (Columns names) rows = Ok (map (projected columns names) rows)
+what_shown columns shown (Aggs aggs) rows = and_then (checked_map (agg_value columns rows) aggs) (λ values. Ok (values ∷ []))
+
+-- of the rows of a part those that the condition takes, sorted, and of each what is to be shown; `*` shows so many columns
+unfoldable pub selected : List ColumnDef → ℕ → Select → List Row → Checked (List Row)
+selected columns shown q rows =
+    and_then (checked_filter (holds columns q.cond) rows) (λ taken.
+    what_shown columns shown q.what (sorted (order_cmp columns q.order) taken))

@@ -1,0 +1,123 @@
+-- What the texts of a transaction do one after another, with a copy of all tables for each savepoint.
+use Rattle.std.specs.Prelude.{ℕ, nat_lt, Bool, true, false, if◌then◌else◌, List, [], ◌∷◌, ◌++◌, length, Option, Some, None}
+use Rattle.std.specs.Str.{bytes_eq}
+use Rattle.lg_value.specs.declared.refusal.Refusal.{Refusal}
+use Rattle.lg_value.specs.declared.refusal.Refusal.TheVariants.{E01, E13, E14, E15, E16, E17}
+use Rattle.lg_types.specs.declared.statement.Stmt.{Stmt}
+use Rattle.lg_types.specs.declared.statement.Stmt.TheVariants as s
+use Rattle.lg_types.specs.declared.reply.Reply.{Reply}
+use Rattle.lg_types.specs.declared.reply.Reply.TheVariants as r
+use Rattle.lg_model.specs.Limits.{max_savepoints}
+use Rattle.lg_model.specs.Catalog.{Tables}
+use Rattle.lg_model.specs.Effect.{Effect, effect}
+
+-- which statement a text is, by the grammar; none where it is outside
+abbrev pub Reading : Type 0
+Reading = List ℕ → Option Stmt
+
+-- what a savepoint keeps
+pub record Saved : Type 0 where
+  pub name : List ℕ
+  pub tables : Tables
+  pub seq : ℕ
+
+pub record State : Type 0 where
+  pub tables : Tables
+  -- the number of the next event
+  pub seq : ℕ
+  -- the newest first
+  pub saved : List Saved
+
+abbrev pub Step : Type 0
+Step = State × Reply
+
+abbrev pub answered : State → Reply → Step
+answered x reply = (x, reply)
+
+abbrev pub refuses : State → Refusal → Step
+refuses x e = (x, r.Refused e)
+
+abbrev pub by_effect : State → Effect → Step
+by_effect x e = (record { tables = e.tables; seq = e.seq; saved = x.saved }, e.reply)
+
+-- ---- savepoints
+
+-- all tables and the counter are kept under the name
+unfoldable pub saves : State → List ℕ → Step
+saves x name =
+    if nat_lt (length x.saved) max_savepoints
+    then (record { tables = x.tables; seq = x.seq; saved = record { name = name; tables = x.tables; seq = x.seq } ∷ x.saved }, r.Saved)
+    else refuses x E16
+
+-- the most recent savepoint of the name, and those before it
+abbrev pub back_to : List Saved → List ℕ → List Saved
+back_to [] name = []
+back_to (c ∷ cs) name = if bytes_eq c.name name then c ∷ cs else back_to cs name
+
+-- tables and counter are as they were there, and the savepoint stays
+abbrev pub gone_back : State → List Saved → Step
+gone_back x [] = refuses x E15
+gone_back x (c ∷ cs) = (record { tables = c.tables; seq = c.seq; saved = c ∷ cs }, r.Back)
+
+unfoldable pub goes_back : State → List ℕ → Step
+goes_back x name = gone_back x (back_to x.saved name)
+
+-- ---- a statement
+
+-- in a transaction that BEGIN opened
+abbrev pub in_opened : ℕ → State → Stmt → Step
+in_opened tx x (s.Create c) = refuses x E17
+in_opened tx x (s.Index c) = refuses x E17
+in_opened tx x (s.Change stmt) = by_effect x (effect x.tables tx x.seq (s.Change stmt))
+in_opened tx x (s.Select q) = by_effect x (effect x.tables tx x.seq (s.Select q))
+in_opened tx x s.Begin = refuses x E14
+in_opened tx x s.Commit = answered x r.Quiet
+in_opened tx x (s.Save name) = saves x name
+in_opened tx x (s.Rollback (Some name)) = goes_back x name
+in_opened tx x (s.Rollback None) = answered x r.Quiet
+in_opened tx x s.Digest = refuses x E17
+in_opened tx x s.Image = refuses x E17
+
+-- as a transaction of its own
+abbrev pub alone : ℕ → State → Stmt → Step
+alone tx x (s.Create c) = by_effect x (effect x.tables tx x.seq (s.Create c))
+alone tx x (s.Index c) = by_effect x (effect x.tables tx x.seq (s.Index c))
+alone tx x (s.Change stmt) = by_effect x (effect x.tables tx x.seq (s.Change stmt))
+alone tx x (s.Select q) = by_effect x (effect x.tables tx x.seq (s.Select q))
+alone tx x s.Begin = answered x r.Quiet
+alone tx x s.Commit = refuses x E13
+alone tx x (s.Save name) = refuses x E13
+alone tx x (s.Rollback name) = refuses x E13
+alone tx x s.Digest = answered x r.Quiet
+alone tx x s.Image = answered x r.Quiet
+
+abbrev pub by_statement : Bool → ℕ → State → Option Stmt → Step
+by_statement opened tx x None = refuses x E01
+by_statement true tx x (Some stmt) = in_opened tx x stmt
+by_statement false tx x (Some stmt) = alone tx x stmt
+
+-- ---- a script
+
+pub record Outcome : Type 0 where
+  pub state : State
+  pub replies : List Reply
+
+abbrev pub start : Tables → State
+start tables = record { tables = tables; seq = 0; saved = [] }
+
+abbrev pub with_reply : Reply → Outcome → Outcome
+with_reply reply o = record { state = o.state; replies = reply ∷ o.replies }
+
+module _ (reads : Reading) where
+  unfoldable pub text_step : Bool → ℕ → State → List ℕ → Step
+  text_step opened tx x text = by_statement opened tx x (reads text)
+
+  -- the texts in order, each over what those before it left
+  unfoldable pub script_from : Bool → ℕ → State → List (List ℕ) → Outcome
+  script_from opened tx x [] = record { state = x; replies = [] }
+  script_from opened tx x (t ∷ ts) =
+      with_reply (text_step opened tx x t).1 (script_from opened tx (text_step opened tx x t).0 ts)
+
+  -- the script of a transaction over the tables before it
+  abbrev pub script : Bool → Tables → ℕ → List (List ℕ) → Outcome
+  script opened tables tx texts = script_from opened tx (start tables) texts
