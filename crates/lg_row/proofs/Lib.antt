@@ -1,3 +1,4 @@
+pub mod AddedColumns
 mod Growing
 mod LeafExact
 mod Sizes
