@@ -113,7 +113,7 @@ is_append_only Updatable = false
 
 -- ---- the checks, in their order
 
-unfoldable pub insert_check : TableDef → Part → Option (List (List ℕ)) → List Row → Checked TableDef
+unfoldable pub insert_check : TableDef → Part → Option (List (List ℕ)) → List Row → Checked (Unit {0})
 insert_check def part names rows =
     refused_if (repeats (names_listed names)) E03
     (refused_if (nat_lt max_rows (length rows)) E16
@@ -121,9 +121,9 @@ insert_check def part names rows =
     (refused_if (not (list_all (is_declared def.columns) (names_listed names))) E04
     (refused_if (not (list_all (λ row. length row == length (listed def.columns names)) rows)) E18
     (refused_if (not (list_all (λ row. list_all (λ p. takes_value p.0 p.1) (zip (listed def.columns names) row)) rows)) E05
-    (Ok def))))))
+    (Ok tt))))))
 
-unfoldable pub update_check : TableDef → Part → List (List ℕ × Expr) → Option Expr → Checked TableDef
+unfoldable pub update_check : TableDef → Part → List (List ℕ × Expr) → Option Expr → Checked (Unit {0})
 update_check def part sets cond =
     refused_if (repeats (map (λ s. s.0) sets)) E03
     (refused_if (not (is_base part)) E11
@@ -131,27 +131,28 @@ update_check def part sets cond =
     (refused_if (not (list_all (λ s. is_declared def.columns s.0 && names_columns (columns_of def Base) (tree s.1)) sets && cond_names (columns_of def Base) cond)) E04
     (refused_if (list_any (λ s. is_in_key def.columns s.0) sets) E12
     (refused_if (not (list_all (λ s. sets_taken (columns_of def Base) (column_of def.columns s.0) s.1) sets && cond_is_truth (columns_of def Base) cond)) E05
-    (Ok def))))))
+    (Ok tt))))))
 
-unfoldable pub delete_check : TableDef → Part → Option Expr → Checked TableDef
+unfoldable pub delete_check : TableDef → Part → Option Expr → Checked (Unit {0})
 delete_check def part cond =
     refused_if (not (is_base part)) E11
     (refused_if (is_append_only def.kind) E10
     (refused_if (not (cond_names (columns_of def Base) cond)) E04
     (refused_if (not (cond_is_truth (columns_of def Base) cond)) E05
-    (Ok def))))
+    (Ok tt))))
 
--- a row statement on a table or a part of one: the table's definition, where nothing is refused
-abbrev pub row_check : RowStmt → Named → Checked TableDef
-row_check (Insert table names rows) n = insert_check n.0 n.1 names rows
-row_check (Update table sets cond) n = update_check n.0 n.1 sets cond
-row_check (Delete table cond) n = delete_check n.0 n.1 cond
+-- the checks of a row statement on a table or a part of one
+abbrev pub row_check : RowStmt → TableDef → Part → Checked (Unit {0})
+row_check (Insert table names rows) def part = insert_check def part names rows
+row_check (Update table sets cond) def part = update_check def part sets cond
+row_check (Delete table cond) def part = delete_check def part cond
 
 abbrev pub table_of : RowStmt → List ℕ
 table_of (Insert table names rows) = table
 table_of (Update table sets cond) = table
 table_of (Delete table cond) = table
 
--- all that is checked of a row statement before a row is looked at
+-- the definition of the table that a row statement changes, where nothing is refused before a row is looked at
 unfoldable pub row_statement_check : Defs → RowStmt → Checked TableDef
-row_statement_check defs stmt = and_then (or_refused E02 (find_part defs (table_of stmt))) (row_check stmt)
+row_statement_check defs stmt =
+    and_then (or_refused E02 (find_part defs (table_of stmt))) (λ n. and_then (row_check stmt n.0 n.1) (λ passed. Ok n.0))

@@ -60,18 +60,15 @@ what_adds columns (Aggs aggs) = list_all (agg_adds columns) aggs
 what_adds columns _ = true
 
 -- all that is checked of a SELECT over these columns
-unfoldable pub select_check : List ColumnDef → Select → Checked (List ColumnDef)
+unfoldable pub select_check : List ColumnDef → Select → Checked (Unit {0})
 select_check columns q =
     refused_if (not (what_names columns q.what && cond_names columns q.cond && list_all (λ o. is_declared columns o.0) q.order)) E04
     (refused_if (not (what_adds columns q.what && cond_is_truth columns q.cond)) E05
-    (Ok columns))
-
-abbrev pub part_check : Select → Named → Checked Named
-part_check q n = and_then (select_check (columns_of n.0 n.1) q) (λ columns. Ok n)
+    (Ok tt))
 
 -- the table or part that a SELECT reads, where nothing is refused
 unfoldable pub query_check : Defs → Select → Checked Named
-query_check defs q = and_then (or_refused E02 (find_part defs q.table)) (part_check q)
+query_check defs q = and_then (or_refused E02 (find_part defs q.table)) (λ n. and_then (select_check (columns_of n.0 n.1) q) (λ passed. Ok n))
 
 -- ---- ORDER BY
 
