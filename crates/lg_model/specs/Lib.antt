@@ -1,3 +1,4 @@
+pub mod Agreement
 pub mod Catalog
 pub mod Changes
 pub mod Checks
@@ -17,6 +18,7 @@ pub mod Numbers
 pub mod Operators
 pub mod Outcomes
 pub mod Parts
+pub mod Plans
 pub mod Query
 pub mod Refusals
 pub mod Replies
