@@ -1,9 +1,8 @@
 -- What may be refused on the way.
-use Rattle.std.proofs.Common.{◌≡◌, ℕ, refl, sym, ap, ◌∙◌, Bool, true, false, List, [], ◌∷◌, map, Option, Some, None, Ok, Err}
-use Rattle.std.specs.Prelude.{if◌then◌else◌}
+use Rattle.std.proofs.Common.{◌≡◌, refl, Bool, true, false, List, ◌∷◌, Option, Some, None, Ok, Err}
 use Rattle.lg_value.specs.declared.refusal.Refusal.{Refusal}
 use Rattle.lg_model.specs.Refusals.{Checked, and_then}
-use Rattle.lg_model.specs.Lists.{in_front, all_some}
+use Rattle.lg_model.specs.Lists.{in_front}
 use Rattle.lg_model.specs.Checks.{refused_if}
 
 pub and_then_same : {A B : Type 0} (m : Checked A) (f g : A → Checked B) → ((x : A) → m ≡ Ok x → f x ≡ g x) → and_then m f ≡ and_then m g

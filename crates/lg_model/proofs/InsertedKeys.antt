@@ -1,8 +1,8 @@
 -- The key that an INSERT wants is the key of the row that it keeps.
-use Rattle.std.proofs.Common.{◌≡◌, ℕ, zero, suc, refl, sym, ap, subst, ◌∙◌, Bool, true, false, List, [], ◌∷◌, map, Option, Some, None, Ok, Err}
+use Rattle.std.proofs.Common.{◌≡◌, ℕ, zero, suc, refl, List, [], ◌∷◌, map, Option, Some, None, Ok, Err}
 use Rattle.std.proofs.lemmas.List.Quantifiers.{position-Some}
 use Rattle.std.proofs.lemmas.Option.{slice_get-get_or}
-use Rattle.std.specs.Prelude.{position, slice_get, get_or, ◌==◌, if◌then◌else◌}
+use Rattle.std.specs.Prelude.{position, slice_get, get_or, ◌==◌}
 use Rattle.std.specs.List.{AllByRecursion, cons_option, filter_map, zip}
 use Rattle.lg_value.specs.declared.value.Value.{Value}
 use Rattle.lg_value.specs.declared.value.Value.TheVariants as val
@@ -14,9 +14,9 @@ use Rattle.lg_model.specs.Refusals.{Checked, and_then}
 use Rattle.lg_model.specs.Lists.{checked_map, all_some}
 use Rattle.lg_model.specs.Rows.{Row}
 use Rattle.lg_model.specs.Parts.{added_column}
-use Rattle.lg_model.specs.Keys.{Key, key_positions, key_places, key_columns, value_at, key_of}
+use Rattle.lg_model.specs.Keys.{Key, key_positions, key_places, value_at, key_of}
 use Rattle.lg_model.specs.Changes.{or_its_refusal, kept, kept_row, arranged}
-use Rattle.lg_model.specs.Locks.{not_null, key_value, key_inserted}
+use Rattle.lg_model.specs.Locks.{key_value, key_inserted}
 use Rattle.lg_model.proofs.Checked.{Led, led, Parts, parts}
 
 -- ---- places that have a column
@@ -96,9 +96,9 @@ at_places columns row out (p ∷ ps) key e has h =
     let k : in_row c ≡ Some key = rw there at h in
     let q : Parts (key_part (c, value_at row p)) (all_some (map key_part (zip (filter_map (slice_get columns) ps) (map (value_at row) ps)))) key = parts _ _ key k in
     rw (q.are, at_place columns row out p c q.first e there q.is_first, at_places columns row out ps q.others e has.1 q.are_others) refl
-    where
-      in_row : ColumnDef → Option Key
-      in_row d = all_some (map key_part (zip (d ∷ filter_map (slice_get columns) ps) (map (value_at row) (p ∷ ps))))
+  where
+    in_row : ColumnDef → Option Key
+    in_row d = all_some (map key_part (zip (d ∷ filter_map (slice_get columns) ps) (map (value_at row) (p ∷ ps))))
 
 -- where a row is kept and its key is wanted, that is its key
 pub inserted_key : (columns : List ColumnDef) (names : Option (List (List ℕ))) (row out : Row) (key : Key) → kept_row columns (arranged columns names row) ≡ Ok out

@@ -1,7 +1,7 @@
 -- The table that a name stands for is the one with its id.
-use Rattle.std.proofs.Common.{◌≡◌, ℕ, ◌+◌, ◌≤◌, refl, sym, ap, subst, ◌∙◌, Bool, true, false, List, [], ◌∷◌, map, Option, Some, None, Ok, Err, arith}
+use Rattle.std.proofs.Common.{◌≡◌, ℕ, ◌+◌, ◌≤◌, refl, subst, Bool, true, false, List, [], ◌∷◌, Option, Some, None, Ok, arith}
 use Rattle.std.proofs.lemmas.Bool.{eq-eqb, ne_eqb}
-use Rattle.std.specs.Prelude.{◌==◌, nat_le, if◌then◌else◌, ◌≢◌}
+use Rattle.std.specs.Prelude.{nat_le, if◌then◌else◌}
 use Rattle.std.specs.Str.{bytes_eq}
 use Rattle.std.proofs.lemmas.Grind.{common_steps}
 use Rattle.lg_value.specs.declared.refusal.Refusal.{Refusal}
@@ -68,7 +68,7 @@ unfolding find_part
 found_is_system [] name found e = cc
 found_is_system (d ∷ defs) name found e =
     named_part d (own_part d) (bytes_eq d.name name) (bytes_eq d.history name) (bytes_eq d.view name) (find_part defs name) found IsSystem e
-        (λ h. own_is_system d (nat_le d.id 2) refl h) (λ h. cc) (λ h. cc) (λ h. found_is_system defs name found h)
+    (λ h. own_is_system d (nat_le d.id 2) refl h) (λ h. cc) (λ h. cc) (λ h. found_is_system defs name found h)
 
 was_found : {A : Type 0} (e : Refusal) (o : Option A) (x : A) → or_refused e o ≡ Ok x → o ≡ Some x
 was_found e (Some y) x h = cc
@@ -112,7 +112,7 @@ query_passed defs q n e =
     let k : Led (select_check (columns_of l.value.0 l.value.1) q) (λ passed. Ok l.value) n = led _ _ n l.then_ in
     let same : l.value ≡ n = cc in
     subst (QueryPassed defs q) same
-        (record { by_name = was_found E02 (find_part defs q.table) l.value l.was; check = k.was })
+    (record { by_name = was_found E02 (find_part defs q.table) l.value l.was; check = k.was })
 
 pub query_stands : (defs : Defs) (q : Select) (n : Named) → IdsFrom 1 defs → query_check defs q ≡ Ok n → Stands 1 defs n.0
 query_stands defs q n ids e = found_stands 1 defs q.table n ids (query_passed defs q n e).by_name

@@ -1,5 +1,5 @@
 -- The effect of a statement is its plan, carried out.
-use Rattle.std.proofs.Common.{◌≡◌, ℕ, suc, ◌+◌, refl, sym, ap, ◌∙◌, Bool, true, false, List, [], ◌∷◌, ◌++◌, map, length, Ok, Err, arith, length-append}
+use Rattle.std.proofs.Common.{◌≡◌, ℕ, suc, ◌+◌, refl, sym, ap, ◌∙◌, Bool, true, false, List, [], ◌∷◌, ◌++◌, length, Ok, Err, arith}
 use Rattle.std.proofs.lemmas.List.{length-map}
 use Rattle.std.specs.Prelude.{◌==◌, if◌then◌else◌}
 use Rattle.lg_types.specs.declared.statement.Stmt.{Stmt}
@@ -21,7 +21,7 @@ use Rattle.lg_model.specs.Query.{query_check}
 use Rattle.lg_model.specs.SystemTables.{tables_id, columns_id, column_row, column_rows, index_row, index_rows}
 use Rattle.lg_model.specs.Create.{create_check, index_check, with_index}
 use Rattle.lg_model.specs.Effect.{Effect, effect, done, row_effect, shown, query_rows, query_effect, table_start, column_starts, table_effect, redefined, index_starts, index_effect}
-use Rattle.lg_model.specs.Plans.{TableChange, in_table, changed_in, changed_from, Plan, row_plan, change_plan, rows_plan, query_plan, table_plan, index_plan, plan, carried_out}
+use Rattle.lg_model.specs.Plans.{TableChange, in_table, changed_in, changed_from, row_plan, change_plan, rows_plan, query_plan, table_plan, index_plan, plan, carried_out}
 
 -- ---- changes in one table
 

@@ -1,28 +1,25 @@
 -- Over two states that agree on all that a statement wants, it has one plan.
-use Rattle.std.proofs.Common.{◌≡◌, ℕ, zero, suc, ◌+◌, ◌≤◌, refl, sym, ap, subst, ◌∙◌, Bool, true, false, List, [], ◌∷◌, ◌++◌, map, length, Option, Some, None, Ok, Err, arith}
+use Rattle.std.proofs.Common.{◌≡◌, ℕ, zero, suc, ◌+◌, ◌≤◌, refl, sym, ap, subst, ◌∙◌, false, List, [], ◌∷◌, ◌++◌, map, length, Option, Some, None, Ok, Err, arith}
 use Rattle.std.specs.Prelude.{◌||◌, if◌then◌else◌, is_none}
-use Rattle.std.specs.List.{AllByRecursion, list_any}
+use Rattle.std.specs.List.{list_any}
 use Rattle.lg_value.specs.declared.column.ColumnDef.{ColumnDef}
 use Rattle.lg_value.specs.declared.refusal.Refusal.TheVariants.{E07}
-use Rattle.lg_types.specs.declared.lock.Mode.{Mode}
 use Rattle.lg_types.specs.declared.lock.Mode.TheVariants.{IS, IX, S, X}
-use Rattle.lg_types.specs.declared.lock.Want.{Want}
 use Rattle.lg_types.specs.declared.statement.Stmt.{Stmt}
 use Rattle.lg_types.specs.declared.statement.Stmt.TheVariants as s
 use Rattle.lg_types.specs.declared.statement.RowStmt.{RowStmt}
 use Rattle.lg_types.specs.declared.statement.RowStmt.TheVariants.{Insert, Update, Delete}
 use Rattle.lg_types.specs.declared.statement.Select.{Select}
 use Rattle.lg_types.specs.declared.table.TableDef.{TableDef}
-use Rattle.lg_types.specs.declared.table.Part.{Part}
 use Rattle.lg_types.specs.declared.table.Part.TheVariants.{Base, History, View, System}
 use Rattle.lg_types.specs.declared.version.Version.{Version}
 use Rattle.lg_model.specs.Refusals.{Checked, and_then}
-use Rattle.lg_model.specs.Lists.{checked_map, checked_filter, checked_fold, all_some}
-use Rattle.lg_model.specs.Rows.{Row, live}
+use Rattle.lg_model.specs.Lists.{checked_fold, all_some}
+use Rattle.lg_model.specs.Rows.{Row}
 use Rattle.lg_model.specs.Keys.{Key, key_of, same_key, of_key, part_read, stands, standing}
 use Rattle.lg_model.specs.Parts.{columns_of, shown_of, base_row, rows_of}
-use Rattle.lg_model.specs.Where.{holds, key_fixed}
-use Rattle.lg_model.specs.Changes.{kept_row, arranged, is_taken, one_more, inserted_rows, versions_taken, row_set, insertion, replacement, deletion, row_changes}
+use Rattle.lg_model.specs.Where.{key_fixed}
+use Rattle.lg_model.specs.Changes.{kept_row, arranged, is_taken, one_more, inserted_rows, versions_taken, insertion, row_changes}
 use Rattle.lg_model.specs.Catalog.{Named, Tables, defs_of, versions_of}
 use Rattle.lg_model.specs.Checks.{row_statement_check}
 use Rattle.lg_model.specs.Query.{query_check, selected}
@@ -30,7 +27,7 @@ use Rattle.lg_model.specs.Create.{create_check, index_check}
 use Rattle.lg_model.specs.Effect.{Effect, effect, query_rows}
 use Rattle.lg_model.specs.Locks as want
 use Rattle.lg_model.specs.Plans.{Plan, row_plan, change_plan, rows_plan, query_plan, table_plan, index_plan, plan}
-use Rattle.lg_model.specs.Agreement.{AgreeOnAll, AgreeInCell, AgreeInCatalog, SameCatalog, columns_at, IdsFrom, Agree, wants_of}
+use Rattle.lg_model.specs.Agreement.{AgreeOnAll, AgreeInCell, SameCatalog, IdsFrom, Agree, wants_of}
 use Rattle.lg_model.proofs.Checked.{and_then_same, Parts, parts}
 use Rattle.lg_model.proofs.InsertedKeys.{inserted_key}
 use Rattle.lg_model.proofs.Plans.{planned}
@@ -57,7 +54,7 @@ module _ (columns : List ColumnDef) (names : Option (List (List ℕ))) (V W : Li
   rows_same [] before h = refl
   rows_same (r ∷ rs) before h =
       ap (λ m. and_then m (λ more. checked_fold (next_row V) more rs))
-          (and_then_same (kept_row columns (arranged columns names r)) (one_more columns V before) (one_more columns W before) (λ row is. one_more_same before row (h.0 row is)))
+      (and_then_same (kept_row columns (arranged columns names r)) (one_more columns V before) (one_more columns W before) (λ row is. one_more_same before row (h.0 row is)))
       ∙ and_then_same (next_row W before r) _ _ (λ more _. rows_same rs more h.1)
 
   abbrev Wanted : List Key → Type 0
@@ -68,9 +65,10 @@ module _ (columns : List ColumnDef) (names : Option (List (List ℕ))) (V W : Li
   keys_agree [] keys e h = tt
   keys_agree (r ∷ rs) keys e h =
       let p : Parts (want.key_inserted columns names r) (all_some (map (want.key_inserted columns names) rs)) keys = parts _ _ keys e in
-      let w : Wanted (p.first ∷ p.others) = subst Wanted p.are h in
-      ((λ row is. subst (λ (k : Key). of_key columns k V ≡ of_key columns k W) (sym (inserted_key columns names r row p.first is p.is_first)) w.0),
-       keys_agree rs p.others p.are_others w.1)
+      let w : Wanted (p.first ∷ p.others) = subst Wanted p.are h in (
+        (λ row is. subst (λ (k : Key). of_key columns k V ≡ of_key columns k W) (sym (inserted_key columns names r row p.first is p.is_first)) w.0),
+        keys_agree rs p.others p.are_others w.1,
+      )
 
   by_wants : (rows : List Row) (o : Option (List Key)) → all_some (map (want.key_inserted columns names) rows) ≡ o → AgreeOnAll columns (want.by_keys o) V W
       → inserted_rows columns V names rows ≡ inserted_rows columns W names rows
@@ -98,7 +96,7 @@ pub same_changes : (def : TableDef) (stmt : RowStmt) (V W : List Version) → Ag
 unfolding row_changes want.row_wants versions_taken
 same_changes def (Insert table names rows) V W h =
     ap (λ m. and_then m (λ kept. Ok (insertion def.columns kept)))
-        (by_wants def.columns names V W rows (all_some (map (want.key_inserted def.columns names) rows)) refl h)
+    (by_wants def.columns names V W rows (all_some (map (want.key_inserted def.columns names) rows)) refl h)
 same_changes def (Update table sets cond) V W h = rw (standing_same def.columns (key_fixed def.columns cond) V W (changer_agrees def.columns (key_fixed def.columns cond) V W h)) refl
 same_changes def (Delete table cond) V W h = rw (standing_same def.columns (key_fixed def.columns cond) V W (changer_agrees def.columns (key_fixed def.columns cond) V W h)) refl
 
@@ -107,7 +105,7 @@ module _ (T U : Tables) (ids : IdsFrom 1 (defs_of T)) where
   by_check stmt (Ok def) e h =
       let stands : Stands 1 (defs_of T) def = checked_stands (defs_of T) stmt def ids e in
       ap (row_plan def.id) (same_changes def stmt (versions_of T def.id) (versions_of U def.id)
-          (subst (λ (columns : List ColumnDef). AgreeOnAll columns (want.row_wants def stmt) (versions_of T def.id) (versions_of U def.id)) stands.columns h))
+      (subst (λ (columns : List ColumnDef). AgreeOnAll columns (want.row_wants def stmt) (versions_of T def.id) (versions_of U def.id)) stands.columns h))
   by_check stmt (Err r) e h = refl
 
   -- ---- SELECT
@@ -131,8 +129,8 @@ module _ (T U : Tables) (ids : IdsFrom 1 (defs_of T)) where
       let stands : Stands 1 (defs_of T) n.0 = query_stands (defs_of T) q n ids e in
       let p = query_passed (defs_of T) q n e in
       ap rows_plan (rows_by_wants q n (versions_of T n.0.id) (versions_of U n.0.id)
-          (λ sys. system_same n.0.id c stands.from (found_is_system (defs_of T) q.table n p.by_name sys))
-          (subst (λ (columns : List ColumnDef). AgreeOnAll columns (want.query_wants n q) (versions_of T n.0.id) (versions_of U n.0.id)) stands.columns h))
+      (λ sys. system_same n.0.id c stands.from (found_is_system (defs_of T) q.table n p.by_name sys))
+      (subst (λ (columns : List ColumnDef). AgreeOnAll columns (want.query_wants n q) (versions_of T n.0.id) (versions_of U n.0.id)) stands.columns h))
   by_query q (Err r) e c h = refl
 
   -- ---- all statements

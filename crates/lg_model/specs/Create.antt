@@ -73,8 +73,15 @@ keyed key c = record { name = c.name; ty = c.ty; nullable = c.nullable; key_posi
 
 unfoldable pub table_def : ℕ → CreateTable → TableDef
 table_def id c =
-    record { id = id; name = c.name; kind = c.kind; history = history_of c.kind id c.history; view = view_of c.name c.view;
-             columns = map (keyed c.key) c.columns; indexes = [] }
+    record {
+      id = id;
+      name = c.name;
+      kind = c.kind;
+      history = history_of c.kind id c.history;
+      view = view_of c.name c.view;
+      columns = map (keyed c.key) c.columns;
+      indexes = [];
+    }
 
 -- ---- checks, in their order
 

@@ -99,4 +99,3 @@ rows_of def Base key versions = map base_row (standing def.columns key versions)
 rows_of def History key versions = history_rows versions
 rows_of def View key versions = view_rows versions
 rows_of def System key versions = map base_row (standing def.columns None versions)
-

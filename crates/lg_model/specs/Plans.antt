@@ -1,7 +1,6 @@
 -- What a statement does to the tables, apart from the transaction and the numbers of its events: its starts and ends in
 -- order, the definition that it makes, and its reply.
 use Rattle.std.specs.Prelude.{ℕ, ◌+◌, List, [], ◌∷◌, ◌++◌, map, length, Ok, Err}
-use Rattle.lg_value.specs.declared.refusal.Refusal.{Refusal}
 use Rattle.lg_types.specs.declared.statement.Stmt.{Stmt}
 use Rattle.lg_types.specs.declared.statement.Stmt.TheVariants as s
 use Rattle.lg_types.specs.declared.statement.RowStmt.{RowStmt}
@@ -75,8 +74,11 @@ query_plan tables q (Err e) = only_replies (r.Refused e)
 
 abbrev pub table_plan : Checked TableDef → Plan
 table_plan (Ok def) =
-    record { changes = in_table tables_id (table_start def) ++ in_table columns_id (column_starts (column_rows def));
-             definition = new def; reply = r.Made }
+    record {
+      changes = in_table tables_id (table_start def) ++ in_table columns_id (column_starts (column_rows def));
+      definition = new def;
+      reply = r.Made;
+    }
 table_plan (Err e) = only_replies (r.Refused e)
 
 abbrev pub index_plan : Checked (TableDef × IndexDef) → Plan
