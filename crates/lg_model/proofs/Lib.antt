@@ -1,8 +1,10 @@
 pub mod Checked
 mod Classed
+pub mod Definitions
 pub mod InsertedKeys
 pub mod Missing
 pub mod Named
 pub mod Plans
 pub mod SamePlan
+pub mod Scripts
 mod Unknown

@@ -20,11 +20,14 @@ pub mod Outcomes
 pub mod Parts
 pub mod Plans
 pub mod Query
+pub mod Reach
 pub mod Refusals
 pub mod Replies
 pub mod Rows
+pub mod Runs
 pub mod Script
 pub mod SystemTables
 pub mod Truths
 pub mod TypeCodes
+pub mod Undo
 pub mod Where
