@@ -1,3 +1,4 @@
 mod Classed
 pub mod Missing
+mod Samples
 mod Unknown
