@@ -1,4 +1,4 @@
 mod Classed
 pub mod Missing
-mod Samples
 mod Unknown
+mod Worked

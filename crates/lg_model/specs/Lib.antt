@@ -21,6 +21,7 @@ pub mod Query
 pub mod Refusals
 pub mod Replies
 pub mod Rows
+pub mod Samples
 pub mod Script
 pub mod SystemTables
 pub mod Truths

@@ -1,17 +1,12 @@
 -- Worked examples: what is answered to small statements, closed by computation.
 use Rattle.std.proofs.Common.{◌≡◌, ◌∙◌, ℕ, List, refl, ap, sym}
-use Rattle.std.specs.Prelude.{◌+◌, pos, negsuc, Bool, true, false, [], ◌∷◌, ◌++◌, codes, Option, Some, None, slice_get, replicate, map, Ok, Err}
-use Rattle.std.specs.Fmt.{digits, decimal}
+use Rattle.std.specs.Prelude.{pos, negsuc, true, false, [], ◌∷◌, ◌++◌, codes, Some, None, replicate, map, Ok, Err}
+use Rattle.std.specs.Fmt.{digits}
 use Rattle.std.specs.Str.{chars}
 use Rattle.lg_value.specs.declared.value.Value.{Value}
 use Rattle.lg_value.specs.declared.value.Value.TheVariants.{Null, Num, Text}
-use Rattle.lg_value.specs.declared.value.Value.TheVariants as val
-use Rattle.lg_types.specs.declared.statement.What.{What}
-use Rattle.lg_value.specs.declared.column.ColumnDef.{ColumnDef}
-use Rattle.lg_value.specs.declared.column.TableKind.{TableKind}
 use Rattle.lg_value.specs.declared.column.TableKind.TheVariants.{AppendOnly, Updatable}
-use Rattle.lg_value.specs.declared.sql_type.SqlType.{SqlType}
-use Rattle.lg_value.specs.declared.sql_type.SqlType.TheVariants.{Bit, Int, BigInt, NVarChar, VarBinary, Decimal, Date}
+use Rattle.lg_value.specs.declared.sql_type.SqlType.TheVariants.{Bit, Int, BigInt, NVarChar, Decimal, Date}
 use Rattle.lg_value.specs.declared.expr.Op.{Op}
 use Rattle.lg_value.specs.declared.expr.Op.TheVariants as op
 use Rattle.lg_value.specs.declared.expr.Expr.{Expr}
@@ -28,27 +23,18 @@ use Rattle.lg_value.specs.Order.{value_cmp}
 use Rattle.lg_value.specs.Number.{raised}
 use Rattle.lg_value.specs.Text.{utf16_units}
 use Rattle.lg_value.specs.Printed.{pointed, printed}
-use Rattle.lg_types.specs.declared.statement.Stmt.{Stmt}
 use Rattle.lg_types.specs.declared.statement.Stmt.TheVariants as s
-use Rattle.lg_types.specs.declared.statement.RowStmt.{RowStmt}
-use Rattle.lg_types.specs.declared.statement.Select.{Select}
 use Rattle.lg_types.specs.declared.table.Part.TheVariants.{Base}
 use Rattle.lg_types.specs.declared.statement.RowStmt.TheVariants.{Insert, Delete, Update}
 use Rattle.lg_types.specs.declared.reply.Reply.TheVariants as r
-use Rattle.lg_value.specs.declared.refusal.Refusal.TheVariants.{E03, E04, E06, E07, E08, E11, E12, E16, E18}
+use Rattle.lg_value.specs.declared.refusal.Refusal.TheVariants.{E03, E04, E06, E07, E08, E11, E12, E16}
 use Rattle.lg_types.specs.declared.statement.What.TheVariants.{All, Columns, Aggs}
 use Rattle.lg_types.specs.declared.statement.Agg.TheVariants.{Count, Sum}
 use Rattle.lg_types.specs.declared.lock.Mode.TheVariants.{IS, IX, S, X}
-use Rattle.lg_types.specs.declared.lock.Item.TheVariants as item
 use Rattle.lg_model.specs.Locks.{conflict, same_item, key_inserted, row_wants, query_wants, cell_wants, clash, whole, of_key}
 use Rattle.lg_value.specs.Number.{rounded_size}
 use Rattle.lg_value.specs.Day.{day_of, written_date}
-use Rattle.lg_types.specs.declared.reply.Reply.{Reply}
-use Rattle.lg_types.specs.declared.table.TableDef.{TableDef}
-use Rattle.lg_types.specs.declared.version.Version.{Version}
-use Rattle.lg_types.specs.declared.version.Typed.{Typed}
-use Rattle.lg_types.specs.declared.version.Table.{Table}
-use Rattle.lg_model.specs.Catalog.{Tables, Defs, defs_of, find_part}
+use Rattle.lg_model.specs.Catalog.{defs_of, find_part}
 use Rattle.lg_model.specs.Rows.{started, ended}
 use Rattle.lg_model.specs.Keys.{key_places, key_of, key_cmp, same_key, stands, standing}
 use Rattle.lg_model.specs.Parts.{rows_of}
@@ -60,15 +46,11 @@ use Rattle.lg_model.specs.SystemTables.{first_tables, table_row, column_rows, in
 use Rattle.lg_model.specs.Create.{table_def, create_check, index_check}
 use Rattle.lg_model.specs.Effect.{query_rows, effect}
 use Rattle.lg_model.specs.Replies.{reply_lines, reply_text}
-use Rattle.lg_types.specs.declared.journal.JournalItem.TheVariants.{Tx, Close}
 use Rattle.lg_types.specs.declared.event.Event.{Event}
 use Rattle.lg_model.specs.Events.{events_of, all_events}
-use Rattle.lg_model.specs.Journals.{serial_from, IsLegal}
 use Rattle.lg_value.specs.declared.refusal.ValueErr.TheVariants.{Mismatch}
-use Rattle.lg_types.specs.declared.table.IndexDef.{IndexDef}
-use Rattle.lg_model.specs.Script.{State, Outcome, Step, saves, goes_back, text_step, script_from, script}
-
--- ---- expressions
+use Rattle.lg_model.specs.Script.{saves, goes_back, text_step, script_from, script}
+use Rattle.lg_model.specs.Samples.{column, create, create_t, insert, all_of, num, answers, plus_one, typed, version, key_column, def_t, with_t, update_t, id_is, listed, create_x, select, four, answer, index_on, made_tables, delete_1, create_balance, def_balance, of_nick, balance, set_100, select_5, read_in, texts, in_script, by_themselves, each_alone}
 
 of_literal : (v : Value) → tree (Lit v) ≡ literal v
 of_literal v = ap tree (sym (rolls-Lit v)) ∙ fold-roll-Expr Tree tree_step (Expr-F.Lit v)
@@ -79,44 +61,11 @@ of_column name = ap tree (sym (rolls-Col name)) ∙ fold-roll-Expr Tree tree_ste
 of_binary : (o : Op) (a b : Expr) → tree (Bin o a b) ≡ binary o (tree a) (tree b)
 of_binary o a b = ap tree (sym (rolls-Bin o a b)) ∙ fold-roll-Expr Tree tree_step (Expr-F.Bin o a b)
 
--- ---- statements
-
-abbrev column : List ℕ → SqlType → Bool → ColumnDef
-column name ty nullable = record { name = name; ty = ty; nullable = nullable; key_position = 0 }
-
-abbrev create : List ℕ → List ColumnDef → TableKind → Option (List ℕ) → Stmt
-create name columns kind history =
-    s.Create (record { name = name; columns = columns; key = codes "id" ∷ []; kind = kind; history = history; view = None })
-
--- CREATE TABLE t (id INT PRIMARY KEY, v INT)
-abbrev create_t : Stmt
-create_t = create (codes "t") (column (codes "id") Int false ∷ column (codes "v") Int true ∷ []) Updatable None
-
-abbrev insert : List ℕ → List (List Value) → Stmt
-insert table rows = s.Change (Insert table None rows)
-
-abbrev all_of : List ℕ → Stmt
-all_of name = s.Select (record { table = name; what = All; cond = None; order = [] })
-
-abbrev num : ℕ → Value
-num n = Num (pos n) 0
-
--- ---- statements one after another, each a transaction of its own with the next id
-
-abbrev answers : Tables → ℕ → List Stmt → List (List (List ℕ))
-answers tables tx [] = []
-answers tables tx (x ∷ xs) = let e = effect tables tx 0 x in reply_lines e.reply ∷ answers e.tables (tx + 1) xs
-
-pub row_3 : answers first_tables 1 (create_t ∷ insert (codes "t") ((num 1 ∷ num 10 ∷ []) ∷ []) ∷ all_of (codes "sys_ledger_columns") ∷ [])
+pub system_columns : answers first_tables 1 (create_t ∷ insert (codes "t") ((num 1 ∷ num 10 ∷ []) ∷ []) ∷ all_of (codes "sys_ledger_columns") ∷ [])
     ≡ (codes "made" ∷ []) ∷ (codes "1 rows" ∷ [])
-      ∷ (codes "3|1|0|N'id'|2|0|0|0|1" ∷ codes "3|2|0|N'v'|2|0|0|1|0" ∷ codes "2 rows" ∷ []) ∷ []
+    ∷ (codes "3|1|0|N'id'|2|0|0|0|1" ∷ codes "3|2|0|N'v'|2|0|0|1|0" ∷ codes "2 rows" ∷ []) ∷ []
 unfolding chars digits value_cmp raised utf16_units pointed printed is_in_range conversion_of find_part started ended key_places key_of key_cmp same_key stands standing rows_of holds key_fixed changed_all kept kept_row arranged is_taken inserted_rows versions_taken row_set row_changes insert_check update_check delete_check row_statement_check select_check query_check total agg_value selected first_tables table_row column_rows index_rows table_def create_check index_check query_rows effect reply_lines reply_text
-row_3 = refl
-
-
-
-abbrev plus_one : Expr
-plus_one = Bin op.Add (Col (codes "v")) (Lit (num 1))
+system_columns = refl
 
 abbrev plus_one_tree : Tree
 plus_one_tree = binary op.Add (t.column (codes "v")) (literal (num 1))
@@ -124,20 +73,6 @@ plus_one_tree = binary op.Add (t.column (codes "v")) (literal (num 1))
 is_plus_one : tree plus_one ≡ plus_one_tree
 is_plus_one = of_binary op.Add (Col (codes "v")) (Lit (num 1)) ∙ ap (λ x. binary op.Add x (tree (Lit (num 1)))) (of_column (codes "v"))
     ∙ ap (λ x. binary op.Add (t.column (codes "v")) x) (of_literal (num 1))
-
-abbrev typed : ℕ → Option Typed
-typed n = Some (record { ty = Int; value = num n })
-
-abbrev version : ℕ → ℕ → ℕ × ℕ → Option (ℕ × ℕ) → Version
-version id v start end = record { values = typed id ∷ typed v ∷ []; start = start; end = end }
-
-abbrev key_column : List ℕ → SqlType → ColumnDef
-key_column name ty = record { name = name; ty = ty; nullable = false; key_position = 1 }
-
-abbrev def_t : TableDef
-def_t = record {
-    id = 3; name = codes "t"; kind = Updatable; history = codes "MSSQL_LedgerHistoryFor_3"; view = codes "t_Ledger";
-    columns = key_column (codes "id") Int ∷ column (codes "v") Int true ∷ []; indexes = [] }
 
 update_checked : row_statement_check (defs_of first_tables ++ def_t ∷ []) (Update (codes "t") ((codes "v", plus_one) ∷ []) None) ≡ Ok def_t
 unfolding first_tables meaning_of sum_of value_cmp raised is_in_range conversion_of find_part key_places key_of key_cmp same_key stands standing holds key_fixed kept kept_row versions_taken row_set row_changes update_check row_statement_check table_def
@@ -148,41 +83,29 @@ update_changes : row_changes def_t (version 1 10 (2, 0) None ∷ version 2 20 (2
 unfolding first_tables meaning_of sum_of value_cmp raised is_in_range conversion_of find_part key_places key_of key_cmp same_key stands standing holds key_fixed kept kept_row versions_taken row_set row_changes update_check row_statement_check table_def
 update_changes = rw is_plus_one refl
 
-
--- the tables where t alone is made, with these versions of its rows
-abbrev with_t : List Version → Tables
-with_t versions = first_tables ++ record { def = def_t; versions = versions } ∷ []
-
-abbrev update_t : Stmt
-update_t = s.Change (Update (codes "t") ((codes "v", plus_one) ∷ []) None)
-
-pub row_8_insert : effect (with_t []) 2 0 (insert (codes "t") ((num 1 ∷ num 10 ∷ []) ∷ (num 2 ∷ num 20 ∷ []) ∷ []))
+pub starts : effect (with_t []) 2 0 (insert (codes "t") ((num 1 ∷ num 10 ∷ []) ∷ (num 2 ∷ num 20 ∷ []) ∷ []))
     ≡ record { tables = with_t (version 1 10 (2, 0) None ∷ version 2 20 (2, 1) None ∷ []); seq = 2; reply = r.Changed 2 }
 unfolding first_tables effect started changed_all is_taken inserted_rows arranged insert_check value_cmp raised is_in_range conversion_of find_part key_places key_of key_cmp same_key stands kept kept_row row_changes row_statement_check
-row_8_insert = refl
+starts = refl
 
-pub row_8_update : effect (with_t (version 1 10 (2, 0) None ∷ version 2 20 (2, 1) None ∷ [])) 3 0 update_t
+pub ends_and_starts : effect (with_t (version 1 10 (2, 0) None ∷ version 2 20 (2, 1) None ∷ [])) 3 0 update_t
     ≡ record {
-        tables = with_t (version 1 10 (2, 0) (Some (3, 0)) ∷ version 2 20 (2, 1) (Some (3, 2)) ∷ version 1 11 (3, 1) None ∷ version 2 21 (3, 3) None ∷ []);
-        seq = 4; reply = r.Changed 2 }
+      tables = with_t (version 1 10 (2, 0) (Some (3, 0)) ∷ version 2 20 (2, 1) (Some (3, 2)) ∷ version 1 11 (3, 1) None ∷ version 2 21 (3, 3) None ∷ []);
+      seq = 4;
+      reply = r.Changed 2;
+    }
 unfolding first_tables effect started ended changed_all
-row_8_update = rw (update_checked, update_changes) refl
+ends_and_starts = rw (update_checked, update_changes) refl
 
-pub row_8_view : reply_lines (effect (with_t (version 1 10 (2, 0) (Some (3, 0)) ∷ version 2 20 (2, 1) (Some (3, 2)) ∷ version 1 11 (3, 1) None ∷ version 2 21 (3, 3) None ∷ [])) 4 0 (all_of (codes "t_Ledger"))).reply
+pub view : reply_lines (effect (with_t (version 1 10 (2, 0) (Some (3, 0)) ∷ version 2 20 (2, 1) (Some (3, 2)) ∷ version 1 11 (3, 1) None ∷ version 2 21 (3, 3) None ∷ [])) 4 0 (all_of (codes "t_Ledger"))).reply
     ≡ codes "1|10|2|0|1|N'INSERT'" ∷ codes "2|20|2|1|1|N'INSERT'" ∷ codes "1|10|3|0|2|N'DELETE'" ∷ codes "1|11|3|1|1|N'INSERT'"
-      ∷ codes "2|20|3|2|2|N'DELETE'" ∷ codes "2|21|3|3|1|N'INSERT'" ∷ codes "6 rows" ∷ []
+    ∷ codes "2|20|3|2|2|N'DELETE'" ∷ codes "2|21|3|3|1|N'INSERT'" ∷ codes "6 rows" ∷ []
 unfolding digits pointed printed find_part rows_of holds key_fixed select_check query_check selected first_tables query_rows effect reply_lines
-row_8_view = refl
-
-
--- ---- keys that are fixed
+view = refl
 
 is_literal_beside : (name : List ℕ) (v : Value) → tree (Bin op.Eq (Col name) (Lit v)) ≡ binary op.Eq (t.column name) (literal v)
 is_literal_beside name v = of_binary op.Eq (Col name) (Lit v) ∙ ap (λ x. binary op.Eq x (tree (Lit v))) (of_column name)
     ∙ ap (λ x. binary op.Eq (t.column name) x) (of_literal v)
-
-abbrev id_is : Value → Expr
-id_is v = Bin op.Eq (Col (codes "id")) (Lit v)
 
 -- id = 5 fixes an INT key, id = 1.0 doesn't
 pub int_fixed : key_fixed (key_column (codes "id") Int ∷ []) (Some (id_is (num 5))) ≡ Some (num 5 ∷ [])
@@ -211,11 +134,6 @@ bit_not_fixed = rw (is_literal_beside (codes "id") (num 2)) refl
 pub null_not_fixed : key_fixed (key_column (codes "id") Int ∷ []) (Some (id_is Null)) ≡ None
 unfolding key_fixed key_places conversion_of is_in_range value_cmp raised
 null_not_fixed = rw (is_literal_beside (codes "id") Null) refl
-
--- ---- refusals in their order
-
-abbrev listed : List (List ℕ) → List (List Value) → Stmt
-listed names rows = s.Change (Insert (codes "t") (Some names) rows)
 
 -- a column twice comes before the part, and the part before a missing column
 pub twice_first : (effect (with_t []) 2 0 (s.Change (Insert (codes "t_Ledger") (Some (codes "id" ∷ codes "id" ∷ [])) ((num 1 ∷ []) ∷ [])))).reply ≡ r.Refused E03
@@ -248,13 +166,9 @@ key_absent = refl
 of_lit_id : tree (Lit (num 2)) ≡ literal (num 2)
 of_lit_id = of_literal (num 2)
 
-pub row_14_key : (effect (with_t []) 5 0 (s.Change (Update (codes "t") ((codes "id", Lit (num 2)) ∷ []) None))).reply ≡ r.Refused E12
+pub key_set : (effect (with_t []) 5 0 (s.Change (Update (codes "t") ((codes "id", Lit (num 2)) ∷ []) None))).reply ≡ r.Refused E12
 unfolding first_tables effect update_check find_part row_statement_check
-row_14_key = rw of_lit_id refl
-
--- CREATE TABLE x (a INT NULL PRIMARY KEY, b DECIMAL(39))
-abbrev create_x : SqlType → Stmt
-create_x ty = create (codes "x") (column (codes "id") Int true ∷ column (codes "b") ty true ∷ []) Updatable None
+key_set = rw of_lit_id refl
 
 pub type_before_null : (effect first_tables 1 0 (create_x (Decimal 39 0))).reply ≡ r.Refused E16
 unfolding first_tables effect create_check table_def is_in_range digits
@@ -276,19 +190,6 @@ name_fits = refl
 pub name_too_long : (effect first_tables 2 0 (create (replicate 122 97) (column (codes "id") Int false ∷ []) Updatable None)).reply ≡ r.Refused E16
 unfolding first_tables effect create_check table_def is_in_range digits
 name_too_long = refl
-
-
--- ---- unfolding chars meaning_of sum_of digits value_cmp raised utf16_units pointed printed is_in_range conversion_of find_part started ended key_places key_of key_cmp same_key stands standing rows_of holds key_fixed changed_all kept kept_row arranged is_taken inserted_rows versions_taken row_set row_changes insert_check update_check delete_check row_statement_check select_check query_check total agg_value selected first_tables table_row column_rows index_rows table_def create_check index_check query_rows effect reply_lines reply_textECT
-
-abbrev select : List ℕ → What → List (List ℕ × Bool) → Stmt
-select table what order = s.Select (record { table = table; what = what; cond = None; order = order })
-
-abbrev four : Tables
-four = with_t (record { values = typed 1 ∷ typed 7 ∷ []; start = (2, 0); end = None } ∷ record { values = typed 2 ∷ None ∷ []; start = (2, 1); end = None }
-    ∷ version 4 7 (2, 2) None ∷ version 3 5 (2, 3) None ∷ [])
-
-abbrev answer : Tables → Stmt → List (List ℕ)
-answer tables stmt = reply_lines (effect tables 9 0 stmt).reply
 
 -- sorted by v: NULL is least, and equal values keep the order of the key
 pub ascending : answer four (select (codes "t") All ((codes "v", false) ∷ [])) ≡ codes "2|NULL" ∷ codes "3|5" ∷ codes "1|7" ∷ codes "4|7" ∷ codes "4 rows" ∷ []
@@ -322,28 +223,15 @@ pub history_order : answer (with_t (version 1 10 (2, 0) (Some (5, 0)) ∷ versio
 unfolding chars meaning_of sum_of digits value_cmp raised utf16_units pointed printed is_in_range conversion_of find_part started ended key_places key_of key_cmp same_key stands standing rows_of holds key_fixed changed_all kept kept_row arranged is_taken inserted_rows versions_taken row_set row_changes insert_check update_check delete_check row_statement_check select_check query_check total agg_value selected first_tables table_row column_rows index_rows table_def create_check index_check query_rows effect reply_lines reply_text
 history_order = refl
 
--- ---- CREATE INDEX
-
-abbrev index_on : List ℕ → List ℕ → List (List ℕ) → Stmt
-index_on name table columns = s.Index (record { name = name; table = table; columns = columns })
-
 pub index_rows_made : answers (with_t []) 4 (index_on (codes "iv") (codes "t") (codes "v" ∷ codes "id" ∷ []) ∷ index_on (codes "iv") (codes "t_Ledger") (codes "v" ∷ [])
-        ∷ index_on (codes "iw") (codes "t_Ledger") (codes "v" ∷ []) ∷ all_of (codes "sys_ledger_columns") ∷ [])
+    ∷ index_on (codes "iw") (codes "t_Ledger") (codes "v" ∷ []) ∷ all_of (codes "sys_ledger_columns") ∷ [])
     ≡ (codes "made" ∷ []) ∷ (codes "E03" ∷ []) ∷ (codes "E11" ∷ []) ∷ (codes "3|1001|0|N'iv'|0|0|0|0|2" ∷ codes "3|1002|0|N'iv'|0|0|0|0|1" ∷ codes "2 rows" ∷ []) ∷ []
 unfolding chars meaning_of sum_of digits value_cmp raised utf16_units pointed printed is_in_range conversion_of find_part started ended key_places key_of key_cmp same_key stands standing rows_of holds key_fixed changed_all kept kept_row arranged is_taken inserted_rows versions_taken row_set row_changes insert_check update_check delete_check row_statement_check select_check query_check total agg_value selected first_tables table_row column_rows index_rows table_def create_check index_check query_rows effect reply_lines reply_text
 index_rows_made = refl
 
--- ---- days
-
 pub no_leap_day : conversion_of (Text (codes "2023-02-29")) Date ≡ Err Mismatch
 unfolding conversion_of is_in_range day_of written_date
 no_leap_day = refl
-
--- ---- the 33rd table
-
-abbrev made_tables : List ℕ → Tables
-made_tables ns = first_tables ++ map (λ n. record { def = table_def n (record {
-    name = n ∷ []; columns = column (codes "id") Int false ∷ []; key = codes "id" ∷ []; kind = AppendOnly; history = None; view = None }); versions = [] }) ns
 
 pub tables_32 : (effect (made_tables (3 ∷ 4 ∷ 5 ∷ 6 ∷ 7 ∷ 8 ∷ 9 ∷ 10 ∷ 11 ∷ 12 ∷ 13 ∷ 14 ∷ 15 ∷ 16 ∷ 17 ∷ 18 ∷ 19 ∷ 20 ∷ 21 ∷ 22 ∷ 23 ∷ 24 ∷ 25 ∷ 26 ∷ 27 ∷ 28 ∷ 29 ∷ 30 ∷ 31 ∷ 32 ∷ 33 ∷ [])) 40 0 create_t).reply ≡ r.Made
 unfolding chars meaning_of sum_of digits value_cmp raised utf16_units pointed printed is_in_range conversion_of find_part started ended key_places key_of key_cmp same_key stands standing rows_of holds key_fixed changed_all kept kept_row arranged is_taken inserted_rows versions_taken row_set row_changes insert_check update_check delete_check row_statement_check select_check query_check total agg_value selected first_tables table_row column_rows index_rows table_def create_check index_check query_rows effect reply_lines reply_text
@@ -353,12 +241,6 @@ pub tables_33 : (effect (made_tables (3 ∷ 4 ∷ 5 ∷ 6 ∷ 7 ∷ 8 ∷ 9 ∷ 
 unfolding chars meaning_of sum_of digits value_cmp raised utf16_units pointed printed is_in_range conversion_of find_part started ended key_places key_of key_cmp same_key stands standing rows_of holds key_fixed changed_all kept kept_row arranged is_taken inserted_rows versions_taken row_set row_changes insert_check update_check delete_check row_statement_check select_check query_check total agg_value selected first_tables table_row column_rows index_rows table_def create_check index_check query_rows effect reply_lines reply_text
 tables_33 = refl
 
-
--- ---- a row that starts and ends in one transaction
-
-abbrev delete_1 : Stmt
-delete_1 = s.Change (Delete (codes "t") (Some (id_is (num 1))))
-
 delete_checked : row_statement_check (defs_of first_tables ++ def_t ∷ []) (Delete (codes "t") (Some (id_is (num 1)))) ≡ Ok def_t
 unfolding first_tables value_cmp is_in_range find_part delete_check row_statement_check
 delete_checked = rw (is_literal_beside (codes "id") (num 1)) refl
@@ -367,54 +249,27 @@ delete_changes : row_changes def_t (version 1 1 (2, 0) None ∷ []) (Delete (cod
 unfolding meaning_of value_cmp raised is_in_range conversion_of key_places key_of key_cmp same_key standing holds key_fixed versions_taken row_changes
 delete_changes = rw (is_literal_beside (codes "id") (num 1)) refl
 
-pub row_12 : effect (with_t (version 1 1 (2, 0) None ∷ [])) 2 1 delete_1 ≡ record { tables = with_t (version 1 1 (2, 0) (Some (2, 1)) ∷ []); seq = 2; reply = r.Changed 1 }
+pub started_and_ended : effect (with_t (version 1 1 (2, 0) None ∷ [])) 2 1 delete_1 ≡ record { tables = with_t (version 1 1 (2, 0) (Some (2, 1)) ∷ []); seq = 2; reply = r.Changed 1 }
 unfolding first_tables effect ended changed_all
-row_12 = rw (delete_checked, delete_changes) refl
+started_and_ended = rw (delete_checked, delete_changes) refl
 
 -- its history row, and its two events
-pub row_12_history : answer (with_t (version 1 1 (2, 0) (Some (2, 1)) ∷ [])) (all_of (codes "MSSQL_LedgerHistoryFor_3")) ≡ codes "1|1|2|2|0|1" ∷ codes "1 rows" ∷ []
+pub its_history : answer (with_t (version 1 1 (2, 0) (Some (2, 1)) ∷ [])) (all_of (codes "MSSQL_LedgerHistoryFor_3")) ≡ codes "1|1|2|2|0|1" ∷ codes "1 rows" ∷ []
 unfolding chars meaning_of sum_of digits value_cmp raised utf16_units pointed printed is_in_range conversion_of find_part started ended key_places key_of key_cmp same_key stands standing rows_of holds key_fixed changed_all kept kept_row arranged is_taken inserted_rows versions_taken row_set row_changes insert_check update_check delete_check row_statement_check select_check query_check total agg_value selected first_tables table_row column_rows index_rows table_def create_check index_check query_rows effect reply_lines reply_text
-row_12_history = refl
+its_history = refl
 
-pub row_12_events : map {B = ℕ × ℕ} (λ (e : Event). (e.op, e.seq)) (all_events 2 (with_t (version 1 1 (2, 0) (Some (2, 1)) ∷ []))) ≡ (1, 0) ∷ (2, 1) ∷ []
+pub its_events : map {B = ℕ × ℕ} (λ (e : Event). (e.op, e.seq)) (all_events 2 (with_t (version 1 1 (2, 0) (Some (2, 1)) ∷ []))) ≡ (1, 0) ∷ (2, 1) ∷ []
 unfolding first_tables all_events events_of
-row_12_events = refl
+its_events = refl
 
--- ---- the documented example
-
-abbrev name_column : List ℕ → ColumnDef
-name_column name = column name (NVarChar 50) false
-
-abbrev create_balance : Stmt
-create_balance = s.Create (record {
-    name = codes "Balance";
-    columns = column (codes "CustomerID") Int false ∷ name_column (codes "LastName") ∷ name_column (codes "FirstName") ∷ column (codes "Balance") (Decimal 10 2) false ∷ [];
-    key = codes "CustomerID" ∷ []; kind = Updatable; history = Some (codes "BalanceHistory"); view = None })
-
-abbrev def_balance : TableDef
-def_balance = record {
-    id = 3; name = codes "Balance"; kind = Updatable; history = codes "BalanceHistory"; view = codes "Balance_Ledger";
-    columns = key_column (codes "CustomerID") Int ∷ name_column (codes "LastName") ∷ name_column (codes "FirstName") ∷ column (codes "Balance") (Decimal 10 2) false ∷ []; indexes = [] }
-
-abbrev of_nick : ℕ → List (Option Typed)
-of_nick units =
-    typed 1 ∷ Some (record { ty = NVarChar 50; value = Text (codes "Jones") }) ∷ Some (record { ty = NVarChar 50; value = Text (codes "Nick") })
-    ∷ Some (record { ty = Decimal 10 2; value = Num (pos units) 2 }) ∷ []
-
-abbrev balance : List Version → List Table
-balance versions = first_tables ++ record { def = def_balance; versions = versions } ∷ []
-
-pub row_16_defined : defs_of (effect first_tables 1 0 create_balance).tables ≡ defs_of first_tables ++ def_balance ∷ []
+pub written_names : defs_of (effect first_tables 1 0 create_balance).tables ≡ defs_of first_tables ++ def_balance ∷ []
 unfolding chars meaning_of sum_of digits value_cmp raised utf16_units pointed printed is_in_range conversion_of find_part started ended key_places key_of key_cmp same_key stands standing rows_of holds key_fixed changed_all kept kept_row arranged is_taken inserted_rows versions_taken row_set row_changes insert_check update_check delete_check row_statement_check select_check query_check total agg_value selected first_tables table_row column_rows index_rows table_def create_check index_check query_rows effect reply_lines reply_text
-row_16_defined = refl
+written_names = refl
 
-pub row_16_insert : effect (balance []) 2 0 (insert (codes "Balance") ((num 1 ∷ Text (codes "Jones") ∷ Text (codes "Nick") ∷ num 50 ∷ []) ∷ []))
+pub units_kept : effect (balance []) 2 0 (insert (codes "Balance") ((num 1 ∷ Text (codes "Jones") ∷ Text (codes "Nick") ∷ num 50 ∷ []) ∷ []))
     ≡ record { tables = balance (record { values = of_nick 5000; start = (2, 0); end = None } ∷ []); seq = 1; reply = r.Changed 1 }
 unfolding rounded_size chars meaning_of sum_of digits value_cmp raised utf16_units pointed printed is_in_range conversion_of find_part started ended key_places key_of key_cmp same_key stands standing rows_of holds key_fixed changed_all kept kept_row arranged is_taken inserted_rows versions_taken row_set row_changes insert_check update_check delete_check row_statement_check select_check query_check total agg_value selected first_tables table_row column_rows index_rows table_def create_check index_check query_rows effect reply_lines reply_text
-row_16_insert = refl
-
-abbrev set_100 : RowStmt
-set_100 = Update (codes "Balance") ((codes "Balance", Lit (num 100)) ∷ []) (Some (Bin op.Eq (Col (codes "CustomerID")) (Lit (num 1))))
+units_kept = refl
 
 balance_checked : row_statement_check (defs_of first_tables ++ def_balance ∷ []) set_100 ≡ Ok def_balance
 unfolding first_tables value_cmp is_in_range find_part update_check row_statement_check
@@ -425,23 +280,19 @@ balance_changes : row_changes def_balance (record { values = of_nick 5000; start
 unfolding meaning_of rounded_size value_cmp raised is_in_range conversion_of key_places key_of key_cmp same_key standing holds key_fixed kept kept_row row_set versions_taken row_changes
 balance_changes = rw (is_literal_beside (codes "CustomerID") (num 1), of_literal (num 100)) refl
 
-pub row_16_update : effect (balance (record { values = of_nick 5000; start = (2, 0); end = None } ∷ [])) 3 0 (s.Change set_100)
+pub units_set : effect (balance (record { values = of_nick 5000; start = (2, 0); end = None } ∷ [])) 3 0 (s.Change set_100)
     ≡ record {
-        tables = balance (record { values = of_nick 5000; start = (2, 0); end = Some (3, 0) } ∷ record { values = of_nick 10000; start = (3, 1); end = None } ∷ []);
-        seq = 2; reply = r.Changed 1 }
+      tables = balance (record { values = of_nick 5000; start = (2, 0); end = Some (3, 0) } ∷ record { values = of_nick 10000; start = (3, 1); end = None } ∷ []);
+      seq = 2;
+      reply = r.Changed 1;
+    }
 unfolding first_tables effect started ended changed_all
-row_16_update = rw (balance_checked, balance_changes) refl
+units_set = rw (balance_checked, balance_changes) refl
 
-pub row_16_history : answer (balance (record { values = of_nick 5000; start = (2, 0); end = Some (3, 0) } ∷ record { values = of_nick 10000; start = (3, 1); end = None } ∷ []))
-        (all_of (codes "BalanceHistory")) ≡ codes "1|N'Jones'|N'Nick'|50.00|2|3|0|0" ∷ codes "1 rows" ∷ []
+pub written_history : answer (balance (record { values = of_nick 5000; start = (2, 0); end = Some (3, 0) } ∷ record { values = of_nick 10000; start = (3, 1); end = None } ∷ []))
+    (all_of (codes "BalanceHistory")) ≡ codes "1|N'Jones'|N'Nick'|50.00|2|3|0|0" ∷ codes "1 rows" ∷ []
 unfolding chars meaning_of sum_of digits value_cmp raised utf16_units pointed printed is_in_range conversion_of find_part started ended key_places key_of key_cmp same_key stands standing rows_of holds key_fixed changed_all kept kept_row arranged is_taken inserted_rows versions_taken row_set row_changes insert_check update_check delete_check row_statement_check select_check query_check total agg_value selected first_tables table_row column_rows index_rows table_def create_check index_check query_rows effect reply_lines reply_text
-row_16_history = refl
-
--- ---- locks
-
--- unfolding chars meaning_of sum_of digits value_cmp raised utf16_units pointed printed is_in_range conversion_of find_part started ended key_places key_of key_cmp same_key stands standing rows_of holds key_fixed changed_all kept kept_row arranged is_taken inserted_rows versions_taken row_set row_changes insert_check update_check delete_check row_statement_check select_check query_check total agg_value selected first_tables table_row column_rows index_rows table_def create_check index_check query_rows effect reply_lines reply_textECT * FROM t WHERE id = 5 and INSERT INTO t VALUES (5, 1)
-abbrev select_5 : Select
-select_5 = record { table = codes "t"; what = All; cond = Some (id_is (num 5)); order = [] }
+written_history = refl
 
 select_5_checked : query_check (defs_of first_tables ++ def_t ∷ []) select_5 ≡ Ok (def_t, Base)
 unfolding first_tables is_in_range find_part select_check query_check
@@ -464,64 +315,43 @@ pub insert_far_wants : cell_wants (defs_of first_tables ++ def_t ∷ []) (insert
 unfolding first_tables cell_wants row_wants key_inserted arranged conversion_of is_in_range find_part insert_check row_statement_check key_places
 insert_far_wants = refl
 
-pub row_11 : clash (defs_of first_tables ++ def_t ∷ []) true (s.Select select_5) false (insert (codes "t") ((num 5 ∷ num 1 ∷ []) ∷ [])) ≡ true
+pub read_and_inserted : clash (defs_of first_tables ++ def_t ∷ []) true (s.Select select_5) false (insert (codes "t") ((num 5 ∷ num 1 ∷ []) ∷ [])) ≡ true
 unfolding clash conflict same_item same_key key_cmp value_cmp raised
-row_11 = rw (select_5_wants, insert_5_wants) refl
+read_and_inserted = rw (select_5_wants, insert_5_wants) refl
 
-pub row_5 : answers first_tables 1 (create (codes "b") (column (codes "id") BigInt false ∷ []) Updatable None
-        ∷ insert (codes "b") ((Num (negsuc 9223372036854775807) 0 ∷ []) ∷ (num 9223372036854775807 ∷ []) ∷ [])
-        ∷ insert (codes "b") ((num 9223372036854775808 ∷ []) ∷ []) ∷ [])
+pub ends_of_bigint : answers first_tables 1 (create (codes "b") (column (codes "id") BigInt false ∷ []) Updatable None
+    ∷ insert (codes "b") ((Num (negsuc 9223372036854775807) 0 ∷ []) ∷ (num 9223372036854775807 ∷ []) ∷ [])
+    ∷ insert (codes "b") ((num 9223372036854775808 ∷ []) ∷ []) ∷ [])
     ≡ (codes "made" ∷ []) ∷ (codes "2 rows" ∷ []) ∷ (codes "E08" ∷ []) ∷ []
 unfolding chars meaning_of sum_of digits value_cmp raised utf16_units pointed printed is_in_range conversion_of find_part started ended key_places key_of key_cmp same_key stands standing rows_of holds key_fixed changed_all kept kept_row arranged is_taken inserted_rows versions_taken row_set row_changes insert_check update_check delete_check row_statement_check select_check query_check total agg_value selected first_tables table_row column_rows index_rows table_def create_check index_check query_rows effect reply_lines reply_text
-row_5 = refl
+ends_of_bigint = refl
 
 -- a text of the one character U+1F600 is two UTF-16 units
-pub row_6 : answers first_tables 1 (create (codes "n") (column (codes "id") Int false ∷ column (codes "x") (NVarChar 2) true ∷ []) Updatable None
-        ∷ insert (codes "n") ((num 1 ∷ Text (240 ∷ 159 ∷ 152 ∷ 128 ∷ []) ∷ []) ∷ [])
-        ∷ insert (codes "n") ((num 2 ∷ Text (240 ∷ 159 ∷ 152 ∷ 128 ∷ 97 ∷ []) ∷ []) ∷ []) ∷ [])
+pub units_of_text : answers first_tables 1 (create (codes "n") (column (codes "id") Int false ∷ column (codes "x") (NVarChar 2) true ∷ []) Updatable None
+    ∷ insert (codes "n") ((num 1 ∷ Text (240 ∷ 159 ∷ 152 ∷ 128 ∷ []) ∷ []) ∷ [])
+    ∷ insert (codes "n") ((num 2 ∷ Text (240 ∷ 159 ∷ 152 ∷ 128 ∷ 97 ∷ []) ∷ []) ∷ []) ∷ [])
     ≡ (codes "made" ∷ []) ∷ (codes "1 rows" ∷ []) ∷ (codes "E09" ∷ []) ∷ []
 unfolding chars meaning_of sum_of digits value_cmp raised utf16_units pointed printed is_in_range conversion_of find_part started ended key_places key_of key_cmp same_key stands standing rows_of holds key_fixed changed_all kept kept_row arranged is_taken inserted_rows versions_taken row_set row_changes insert_check update_check delete_check row_statement_check select_check query_check total agg_value selected first_tables table_row column_rows index_rows table_def create_check index_check query_rows effect reply_lines reply_text
-row_6 = refl
+units_of_text = refl
 
-pub row_9 : answers first_tables 1 (create (codes "log") (column (codes "id") Int false ∷ []) AppendOnly None
-        ∷ insert (codes "log") ((num 7 ∷ []) ∷ []) ∷ s.Change (Delete (codes "log") None) ∷ all_of (codes "log") ∷ [])
+pub append_only : answers first_tables 1 (create (codes "log") (column (codes "id") Int false ∷ []) AppendOnly None
+    ∷ insert (codes "log") ((num 7 ∷ []) ∷ []) ∷ s.Change (Delete (codes "log") None) ∷ all_of (codes "log") ∷ [])
     ≡ (codes "made" ∷ []) ∷ (codes "1 rows" ∷ []) ∷ (codes "E10" ∷ []) ∷ (codes "7" ∷ codes "1 rows" ∷ []) ∷ []
 unfolding chars meaning_of sum_of digits value_cmp raised utf16_units pointed printed is_in_range conversion_of find_part started ended key_places key_of key_cmp same_key stands standing rows_of holds key_fixed changed_all kept kept_row arranged is_taken inserted_rows versions_taken row_set row_changes insert_check update_check delete_check row_statement_check select_check query_check total agg_value selected first_tables table_row column_rows index_rows table_def create_check index_check query_rows effect reply_lines reply_text
-row_9 = refl
+append_only = refl
 
--- a text is the number of a statement in this list; any other is none
-abbrev read_in : List Stmt → List ℕ → Option Stmt
-read_in stmts (n ∷ []) = slice_get stmts n
-read_in stmts _ = None
-
-abbrev texts : List ℕ → List (List ℕ)
-texts ns = map (λ n. n ∷ []) ns
-
-abbrev in_row_10 : List Stmt
-in_row_10 =
-    insert (codes "t") ((num 1 ∷ num 1 ∷ []) ∷ []) ∷ insert (codes "t") ((num 2 ∷ num 2 ∷ []) ∷ []) ∷ insert (codes "t") ((num 3 ∷ num 3 ∷ []) ∷ [])
-    ∷ s.Save (codes "s") ∷ s.Rollback (Some (codes "s")) ∷ s.Rollback (Some (codes "x")) ∷ all_of (codes "t_Ledger") ∷ []
-
-pub row_10 : map reply_lines (script (read_in in_row_10) true (effect first_tables 1 0 create_t).tables 2 (texts (0 ∷ 3 ∷ 1 ∷ 3 ∷ 2 ∷ 4 ∷ 5 ∷ 6 ∷ []))).replies
+pub savepoints : map reply_lines (script (read_in in_script) true (effect first_tables 1 0 create_t).tables 2 (texts (0 ∷ 3 ∷ 1 ∷ 3 ∷ 2 ∷ 4 ∷ 5 ∷ 6 ∷ []))).replies
     ≡ (codes "1 rows" ∷ []) ∷ (codes "saved" ∷ []) ∷ (codes "1 rows" ∷ []) ∷ (codes "saved" ∷ []) ∷ (codes "1 rows" ∷ []) ∷ (codes "back" ∷ [])
-      ∷ (codes "E15" ∷ []) ∷ (codes "1|1|2|0|1|N'INSERT'" ∷ codes "2|2|2|1|1|N'INSERT'" ∷ codes "2 rows" ∷ []) ∷ []
+    ∷ (codes "E15" ∷ []) ∷ (codes "1|1|2|0|1|N'INSERT'" ∷ codes "2|2|2|1|1|N'INSERT'" ∷ codes "2 rows" ∷ []) ∷ []
 unfolding chars text_step script_from saves goes_back meaning_of sum_of digits value_cmp raised utf16_units pointed printed is_in_range conversion_of find_part started ended key_places key_of key_cmp same_key stands standing rows_of holds key_fixed changed_all kept kept_row arranged is_taken inserted_rows versions_taken row_set row_changes insert_check update_check delete_check row_statement_check select_check query_check total agg_value selected first_tables table_row column_rows index_rows table_def create_check index_check query_rows effect reply_lines reply_text
-row_10 = refl
+savepoints = refl
 
 -- the 65th savepoint
-pub row_15_saves : (script (read_in in_row_10) true first_tables 1 (replicate 65 (3 ∷ []))).replies ≡ replicate 64 r.Saved ++ r.Refused E16 ∷ []
+pub savepoint_65 : (script (read_in in_script) true first_tables 1 (replicate 65 (3 ∷ []))).replies ≡ replicate 64 r.Saved ++ r.Refused E16 ∷ []
 unfolding chars text_step script_from saves goes_back meaning_of sum_of digits value_cmp raised utf16_units pointed printed is_in_range conversion_of find_part started ended key_places key_of key_cmp same_key stands standing rows_of holds key_fixed changed_all kept kept_row arranged is_taken inserted_rows versions_taken row_set row_changes insert_check update_check delete_check row_statement_check select_check query_check total agg_value selected first_tables table_row column_rows index_rows table_def create_check index_check query_rows effect reply_lines reply_text
-row_15_saves = refl
+savepoint_65 = refl
 
-abbrev in_row_14 : List Stmt
-in_row_14 =
-    all_of (codes "t") ∷ s.Commit ∷ insert (codes "t") ((num 1 ∷ []) ∷ []) ∷ all_of (codes "u") ∷ []
-
--- each text alone, in a transaction of its own
-abbrev alone : Tables → List Stmt → ℕ → List (List (List ℕ))
-alone tables stmts n = map reply_lines (script (read_in stmts) false tables 9 ((n ∷ []) ∷ [])).replies
-
-pub row_14 : map (alone (effect first_tables 1 0 create_t).tables in_row_14) (0 ∷ 1 ∷ 9 ∷ 2 ∷ 3 ∷ [])
+pub alone : map (each_alone (effect first_tables 1 0 create_t).tables by_themselves) (0 ∷ 1 ∷ 9 ∷ 2 ∷ 3 ∷ [])
     ≡ ((codes "0 rows" ∷ []) ∷ []) ∷ ((codes "E13" ∷ []) ∷ []) ∷ ((codes "E01" ∷ []) ∷ []) ∷ ((codes "E18" ∷ []) ∷ []) ∷ ((codes "E02" ∷ []) ∷ []) ∷ []
 unfolding chars text_step script_from saves goes_back meaning_of sum_of digits value_cmp raised utf16_units pointed printed is_in_range conversion_of find_part started ended key_places key_of key_cmp same_key stands standing rows_of holds key_fixed changed_all kept kept_row arranged is_taken inserted_rows versions_taken row_set row_changes insert_check update_check delete_check row_statement_check select_check query_check total agg_value selected first_tables table_row column_rows index_rows table_def create_check index_check query_rows effect reply_lines reply_text
-row_14 = refl
+alone = refl
