@@ -1,5 +1,5 @@
 -- Worked examples: what is answered to small statements, closed by computation.
-use Rattle.std.proofs.Common.{◌≡◌, ◌∙◌, ℕ, List, refl, ap, sym}
+use Rattle.std.proofs.Common.{◌≡◌, ◌∙◌, ℕ, List, refl, ap, sym, arith}
 use Rattle.std.specs.Prelude.{pos, negsuc, true, false, [], ◌∷◌, ◌++◌, codes, Some, None, replicate, map, Ok, Err}
 use Rattle.std.specs.Fmt.{digits}
 use Rattle.std.specs.Str.{chars}
@@ -37,7 +37,7 @@ use Rattle.lg_value.specs.Day.{day_of, written_date}
 use Rattle.lg_model.specs.Catalog.{defs_of, find_part}
 use Rattle.lg_model.specs.Rows.{started, ended}
 use Rattle.lg_model.specs.Keys.{key_places, key_of, key_cmp, same_key, stands, standing}
-use Rattle.lg_model.specs.Parts.{rows_of}
+use Rattle.lg_model.specs.Parts.{rows_of, columns_of}
 use Rattle.lg_model.specs.Where.{holds, key_fixed}
 use Rattle.lg_model.specs.Changes.{changed_all, Starts, Ends, kept, kept_row, arranged, is_taken, inserted_rows, versions_taken, row_set, row_changes}
 use Rattle.lg_model.specs.Checks.{insert_check, update_check, delete_check, row_statement_check}
@@ -50,7 +50,8 @@ use Rattle.lg_types.specs.declared.event.Event.{Event}
 use Rattle.lg_model.specs.Events.{events_of, all_events}
 use Rattle.lg_value.specs.declared.refusal.ValueErr.TheVariants.{Mismatch}
 use Rattle.lg_model.specs.Script.{saves, goes_back, text_step, script_from, script}
-use Rattle.lg_model.specs.Samples.{column, create, create_t, insert, all_of, num, answers, plus_one, typed, version, key_column, def_t, with_t, update_t, id_is, listed, create_x, select, four, answer, index_on, made_tables, delete_1, create_balance, def_balance, of_nick, balance, set_100, select_5, read_in, texts, in_script, by_themselves, each_alone}
+use Rattle.lg_model.specs.Samples.{column, create, create_t, insert, all_of, num, answers, plus_one, typed, version, key_column, def_t, with_t, update_t, id_is, listed, create_x, select, four, answer, index_on, made_tables, delete_1, create_balance, def_balance, of_nick, balance, set_100, select_5, read_in, texts, in_script, by_themselves, each_alone, in_journal, journal, wide_def, wide_tables, wide, nines, wide_where, wide_select, doubled_is_positive}
+use Rattle.lg_model.specs.Journals.{IsLegal}
 
 of_literal : (v : Value) → tree (Lit v) ≡ literal v
 of_literal v = ap tree (sym (rolls-Lit v)) ∙ fold-roll-Expr Tree tree_step (Expr-F.Lit v)
@@ -355,3 +356,64 @@ pub alone : map (each_alone (effect first_tables 1 0 create_t).tables by_themsel
     ≡ ((codes "0 rows" ∷ []) ∷ []) ∷ ((codes "E13" ∷ []) ∷ []) ∷ ((codes "E01" ∷ []) ∷ []) ∷ ((codes "E18" ∷ []) ∷ []) ∷ ((codes "E02" ∷ []) ∷ []) ∷ []
 unfolding chars text_step script_from saves goes_back meaning_of sum_of digits value_cmp raised utf16_units pointed printed is_in_range conversion_of find_part started ended key_places key_of key_cmp same_key stands standing rows_of holds key_fixed changed_all kept kept_row arranged is_taken inserted_rows versions_taken row_set row_changes insert_check update_check delete_check row_statement_check select_check query_check total agg_value selected first_tables table_row column_rows index_rows table_def create_check index_check query_rows effect reply_lines reply_text
 alone = refl
+
+pub legal : IsLegal (read_in in_journal) (journal 2)
+unfolding chars text_step script_from saves goes_back meaning_of sum_of digits value_cmp raised utf16_units pointed printed is_in_range conversion_of find_part started ended key_places key_of key_cmp same_key stands standing rows_of holds key_fixed changed_all kept kept_row arranged is_taken inserted_rows versions_taken row_set row_changes insert_check update_check delete_check row_statement_check select_check query_check total agg_value selected first_tables table_row column_rows index_rows table_def create_check index_check query_rows effect reply_lines reply_text all_events events_of
+legal =
+    ((record { replies = refl; events = λ e. cc }, tt), ((record { replies = refl; events = λ e. cc }, (λ e. omega arith, tt)), ((omega arith, omega arith, omega arith), tt)))
+
+-- no more than what is pending is closed
+pub too_many : IsLegal (read_in in_journal) (journal 3) → ⊥
+too_many l = omega (arith, l.1.1.0.2)
+
+wide_where_tree : (o : Op) → tree (wide_where o)
+    ≡ binary op.And (binary o (t.column (codes "id")) (literal (num 1)))
+    (binary op.Gt (binary op.Add (t.column (codes "d")) (t.column (codes "d"))) (literal (num 0)))
+wide_where_tree o = rw (
+  of_binary op.And (Bin o (Col (codes "id")) (Lit (num 1))) doubled_is_positive,
+  of_binary o (Col (codes "id")) (Lit (num 1)),
+  of_binary op.Gt (Bin op.Add (Col (codes "d")) (Col (codes "d"))) (Lit (num 0)),
+  of_binary op.Add (Col (codes "d")) (Col (codes "d")),
+  of_column (codes "id"),
+  of_column (codes "d"),
+  of_literal (num 1),
+  of_literal (num 0),
+) refl
+
+fixed_wide : key_fixed wide_def.columns (Some (wide_where op.Eq)) ≡ Some (num 1 ∷ [])
+unfolding key_fixed key_places value_cmp raised conversion_of is_in_range
+fixed_wide = rw (wide_where_tree op.Eq) refl
+
+not_fixed_wide : key_fixed wide_def.columns (Some (wide_where op.Lt)) ≡ None
+unfolding key_fixed key_places value_cmp raised conversion_of is_in_range
+not_fixed_wide = rw (wide_where_tree op.Lt) refl
+
+holds_wide : holds (columns_of wide_def Base) (Some (wide_where op.Eq)) (num 1 ∷ num 1 ∷ num 2 ∷ num 0 ∷ []) ≡ Ok true
+unfolding holds meaning_of sum_of value_cmp raised
+holds_wide = rw (wide_where_tree op.Eq) refl
+
+fails_wide_1 : holds (columns_of wide_def Base) (Some (wide_where op.Lt)) (num 1 ∷ num 1 ∷ num 2 ∷ num 0 ∷ []) ≡ Ok false
+unfolding holds meaning_of sum_of value_cmp raised
+fails_wide_1 = rw (wide_where_tree op.Lt) refl
+
+fails_wide_2 : holds (columns_of wide_def Base) (Some (wide_where op.Lt)) (num 2 ∷ num nines ∷ num 2 ∷ num 1 ∷ []) ≡ Err E08
+unfolding holds meaning_of sum_of value_cmp raised
+fails_wide_2 = rw (wide_where_tree op.Lt) refl
+
+-- WHERE id = 1 AND d + d > 0 looks at row 1 alone, WHERE id < 1 AND d + d > 0 at each, also where id < 1 is false
+pub key_hides : query_rows (wide_select op.Eq) (wide_def, Base) (wide 1 (pos 1) 0 ∷ wide 2 (pos nines) 1 ∷ []) ≡ Ok ((num 1 ∷ num 1 ∷ []) ∷ [])
+unfolding query_rows rows_of selected standing key_places key_of key_cmp same_key value_cmp raised
+key_hides = rw (fixed_wide, holds_wide) refl
+
+pub all_are_evaluated : query_rows (wide_select op.Lt) (wide_def, Base) (wide 1 (pos 1) 0 ∷ wide 2 (pos nines) 1 ∷ []) ≡ Err E08
+unfolding query_rows rows_of selected standing key_places key_of key_cmp same_key value_cmp raised
+all_are_evaluated = rw (not_fixed_wide, fails_wide_1, fails_wide_2) refl
+
+-- a sum that leaves the range on its way
+pub sum_on_the_way : answer wide_tables (select (codes "w") (Aggs (Sum (codes "d") ∷ [])) []) ≡ codes "E08" ∷ []
+unfolding sum_of chars digits value_cmp raised utf16_units pointed printed is_in_range conversion_of find_part started ended key_places key_of key_cmp same_key stands standing rows_of holds key_fixed changed_all kept kept_row arranged is_taken inserted_rows versions_taken row_set row_changes insert_check update_check delete_check row_statement_check select_check query_check total agg_value selected first_tables table_row column_rows index_rows table_def create_check index_check query_rows effect reply_lines reply_text
+sum_on_the_way = refl
+
+pub key_before_class : row_statement_check (defs_of wide_tables) (Update (codes "w") ((codes "id", Col (codes "d")) ∷ []) None) ≡ Err E12
+unfolding first_tables row_statement_check find_part update_check
+key_before_class = rw (of_column (codes "d")) refl

@@ -1,6 +1,6 @@
 -- Small statements and tables, for worked examples.
 use Rattle.std.specs.Prelude.{ℕ, List}
-use Rattle.std.specs.Prelude.{◌+◌, pos, Bool, true, false, [], ◌∷◌, ◌++◌, codes, Option, Some, None, slice_get, map}
+use Rattle.std.specs.Prelude.{ℤ, negsuc, ◌+◌, pos, Bool, true, false, [], ◌∷◌, ◌++◌, codes, Option, Some, None, slice_get, map}
 use Rattle.lg_value.specs.declared.value.Value.{Value}
 use Rattle.lg_value.specs.declared.value.Value.TheVariants.{Num, Text}
 use Rattle.lg_types.specs.declared.statement.What.{What}
@@ -22,12 +22,15 @@ use Rattle.lg_types.specs.declared.table.TableDef.{TableDef}
 use Rattle.lg_types.specs.declared.version.Version.{Version}
 use Rattle.lg_types.specs.declared.version.Typed.{Typed}
 use Rattle.lg_types.specs.declared.version.Table.{Table}
+use Rattle.lg_value.specs.declared.expr.Op.{Op}
 use Rattle.lg_model.specs.Catalog.{Tables}
 use Rattle.lg_model.specs.SystemTables.{first_tables}
 use Rattle.lg_model.specs.Create.{table_def}
 use Rattle.lg_model.specs.Effect.{effect}
 use Rattle.lg_model.specs.Replies.{reply_lines}
 use Rattle.lg_model.specs.Script.{script}
+use Rattle.lg_types.specs.declared.journal.JournalItem.{JournalItem}
+use Rattle.lg_types.specs.declared.journal.JournalItem.TheVariants.{Tx, Close}
 
 abbrev pub column : List ℕ → SqlType → Bool → ColumnDef
 column name ty nullable = record { name = name; ty = ty; nullable = nullable; key_position = 0 }
@@ -181,3 +184,42 @@ by_themselves =
 -- each text each_alone, in a transaction of its own
 abbrev pub each_alone : Tables → List Stmt → ℕ → List (List (List ℕ))
 each_alone tables stmts n = map reply_lines (script (read_in stmts) false tables 9 ((n ∷ []) ∷ [])).replies
+
+-- a table is made, a row is inserted, and a block is closed; a text is the number of a statement
+abbrev pub in_journal : List Stmt
+in_journal = create_t ∷ insert (codes "t") ((num 1 ∷ num 10 ∷ []) ∷ []) ∷ []
+
+abbrev pub journal : ℕ → List JournalItem
+journal k =
+    Tx 1 (codes "a") 0 false ((0 ∷ [], codes "made" ++ 10 ∷ []) ∷ []) ∷ Tx 2 (codes "a") 0 false ((1 ∷ [], codes "1 rows" ++ 10 ∷ []) ∷ [])
+    ∷ Close k ∷ []
+
+-- a table with a DECIMAL(38,0) beside its key, and 38 nines
+abbrev pub wide_def : TableDef
+wide_def = record {
+  id = 3;
+  name = codes "w";
+  kind = Updatable;
+  history = codes "h";
+  view = codes "w_Ledger";
+  columns = key_column (codes "id") Int ∷ column (codes "d") (Decimal 38 0) true ∷ [];
+  indexes = [];
+}
+
+abbrev pub nines : ℕ
+nines = 99999999999999999999999999999999999999
+
+abbrev pub wide : ℕ → ℤ → ℕ → Version
+wide id d n = record { values = typed id ∷ Some (record { ty = Decimal 38 0; value = Num d 0 }) ∷ []; start = (2, n); end = None }
+
+abbrev pub wide_tables : Tables
+wide_tables = first_tables ++ record { def = wide_def; versions = wide 1 (pos 1) 0 ∷ wide 2 (pos nines) 1 ∷ wide 3 (negsuc 6) 2 ∷ [] } ∷ []
+
+abbrev pub doubled_is_positive : Expr
+doubled_is_positive = Bin op.Gt (Bin op.Add (Col (codes "d")) (Col (codes "d"))) (Lit (num 0))
+
+abbrev pub wide_where : Op → Expr
+wide_where o = Bin op.And (Bin o (Col (codes "id")) (Lit (num 1))) doubled_is_positive
+
+abbrev pub wide_select : Op → Select
+wide_select o = record { table = codes "w"; what = All; cond = Some (wide_where o); order = [] }

@@ -9,6 +9,6 @@ pub use expressions::{
     truths_are_kleenes,
 };
 pub use samples::{
-    events_are_numbered, keys_are_fixed, keys_are_locked, refusals_have_an_order,
-    rows_are_selected, scripts_are_answered, statements_are_answered,
+    events_are_numbered, journals_are_legal, keys_are_fixed, keys_are_locked,
+    refusals_have_an_order, rows_are_selected, scripts_are_answered, statements_are_answered,
 };

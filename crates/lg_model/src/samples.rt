@@ -19,13 +19,19 @@ ghost use Rattle.lg_model.specs.Locks.{cell_wants, clash, whole};
 ghost use Rattle.lg_model.specs.Catalog.{defs_of};
 ghost use Rattle.lg_model.specs.Where.{key_fixed};
 ghost use Rattle.lg_model.specs.SystemTables.{first_tables};
-ghost use Rattle.lg_model.specs.Effect.{effect};
+ghost use Rattle.lg_model.specs.Effect.{effect, query_rows};
+ghost use Rattle.lg_model.specs.Checks.{row_statement_check};
+ghost use Rattle.lg_types.specs.declared.table.Part.TheVariants.{Base};
+ghost use Rattle.lg_value.specs.declared.expr.Expr.TheVariants.{Col};
+ghost use Rattle.lg_value.specs.declared.expr.Op.TheVariants as op;
+ghost use Rattle.std.specs.Prelude.{Ok};
 ghost use Rattle.lg_model.specs.Replies.{reply_lines};
 ghost use Rattle.lg_types.specs.declared.event.Event.{Event};
 ghost use Rattle.lg_model.specs.Events.{all_events};
 ghost use Rattle.lg_value.specs.declared.refusal.ValueErr.TheVariants.{Mismatch};
 ghost use Rattle.lg_model.specs.Script.{script};
-ghost use Rattle.lg_model.specs.Samples.{column, create, create_t, insert, all_of, num, answers, version, key_column, def_t, with_t, update_t, id_is, listed, create_x, select, four, answer, index_on, made_tables, delete_1, create_balance, def_balance, of_nick, balance, set_100, select_5, read_in, texts, in_script, by_themselves, each_alone};
+ghost use Rattle.lg_model.specs.Journals.{IsLegal};
+ghost use Rattle.lg_model.specs.Samples.{in_journal, journal, wide_def, wide_tables, wide, nines, wide_select, column, create, create_t, insert, all_of, num, answers, version, key_column, def_t, with_t, update_t, id_is, listed, create_x, select, four, answer, index_on, made_tables, delete_1, create_balance, def_balance, of_nick, balance, set_100, select_5, read_in, texts, in_script, by_themselves, each_alone};
 
 /// Replies to small statements.
 pub fn statements_are_answered()
@@ -104,6 +110,7 @@ pub fn refusals_have_an_order()
     ensures name_too_long { (effect first_tables 2 0 (create (replicate 122 97) (column (codes "id") Int false ∷ []) Updatable None)).reply ≡ r.Refused E16 }
     ensures tables_32 { (effect (made_tables (3 ∷ 4 ∷ 5 ∷ 6 ∷ 7 ∷ 8 ∷ 9 ∷ 10 ∷ 11 ∷ 12 ∷ 13 ∷ 14 ∷ 15 ∷ 16 ∷ 17 ∷ 18 ∷ 19 ∷ 20 ∷ 21 ∷ 22 ∷ 23 ∷ 24 ∷ 25 ∷ 26 ∷ 27 ∷ 28 ∷ 29 ∷ 30 ∷ 31 ∷ 32 ∷ 33 ∷ [])) 40 0 create_t).reply ≡ r.Made }
     ensures tables_33 { (effect (made_tables (3 ∷ 4 ∷ 5 ∷ 6 ∷ 7 ∷ 8 ∷ 9 ∷ 10 ∷ 11 ∷ 12 ∷ 13 ∷ 14 ∷ 15 ∷ 16 ∷ 17 ∷ 18 ∷ 19 ∷ 20 ∷ 21 ∷ 22 ∷ 23 ∷ 24 ∷ 25 ∷ 26 ∷ 27 ∷ 28 ∷ 29 ∷ 30 ∷ 31 ∷ 32 ∷ 33 ∷ 34 ∷ [])) 40 0 create_t).reply ≡ r.Refused E16 }
+    ensures key_before_class { row_statement_check (defs_of wide_tables) (Update (codes "w") ((codes "id", Col (codes "d")) ∷ []) None) ≡ Err E12 }
 {}
 
 /// The rows that small queries show.
@@ -116,6 +123,9 @@ pub fn rows_are_selected()
     ensures no_hidden_end { answer four (select (codes "t") (Columns (codes "ledger_end_sequence_number" ∷ [])) []) ≡ codes "E04" ∷ [] }
     ensures history_order { answer (with_t (version 1 10 (2, 0) (Some (5, 0)) ∷ version 2 20 (2, 1) (Some (3, 0)) ∷ [])) (all_of (codes "MSSQL_LedgerHistoryFor_3"))
         ≡ codes "1|10|2|5|0|0" ∷ codes "2|20|2|3|1|0" ∷ codes "2 rows" ∷ [] }
+    ensures key_hides { query_rows (wide_select op.Eq) (wide_def, Base) (wide 1 (pos 1) 0 ∷ wide 2 (pos nines) 1 ∷ []) ≡ Ok ((num 1 ∷ num 1 ∷ []) ∷ []) }
+    ensures all_are_evaluated { query_rows (wide_select op.Lt) (wide_def, Base) (wide 1 (pos 1) 0 ∷ wide 2 (pos nines) 1 ∷ []) ≡ Err E08 }
+    ensures sum_on_the_way { answer wide_tables (select (codes "w") (Aggs (Sum (codes "d") ∷ [])) []) ≡ codes "E08" ∷ [] }
 {}
 
 /// Replies to the texts of scripts.
@@ -132,4 +142,10 @@ pub fn scripts_are_answered()
 pub fn keys_are_locked()
     ensures insert_far_wants { cell_wants (defs_of first_tables ++ def_t ∷ []) (insert (codes "t") ((num 2147483648 ∷ num 1 ∷ []) ∷ [])) ≡ Some (3, whole X ∷ []) }
     ensures read_and_inserted { clash (defs_of first_tables ++ def_t ∷ []) true (s.Select select_5) false (insert (codes "t") ((num 5 ∷ num 1 ∷ []) ∷ [])) ≡ true }
+{}
+
+/// A journal that could have been made, and one that closes more than what is pending.
+pub fn journals_are_legal()
+    ensures legal { IsLegal (read_in in_journal) (journal 2) }
+    ensures too_many { IsLegal (read_in in_journal) (journal 3) → ⊥ }
 {}

@@ -17,4 +17,5 @@ returns c = record {
   name_too_long = laws.name_too_long;
   tables_32 = laws.tables_32;
   tables_33 = laws.tables_33;
+  key_before_class = laws.key_before_class;
 }

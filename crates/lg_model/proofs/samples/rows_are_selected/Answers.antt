@@ -10,4 +10,7 @@ returns c = record {
   hidden_named = laws.hidden_named;
   no_hidden_end = laws.no_hidden_end;
   history_order = laws.history_order;
+  key_hides = laws.key_hides;
+  all_are_evaluated = laws.all_are_evaluated;
+  sum_on_the_way = laws.sum_on_the_way;
 }
