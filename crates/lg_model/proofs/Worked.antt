@@ -50,7 +50,7 @@ use Rattle.lg_types.specs.declared.event.Event.{Event}
 use Rattle.lg_model.specs.Events.{events_of, all_events}
 use Rattle.lg_value.specs.declared.refusal.ValueErr.TheVariants.{Mismatch}
 use Rattle.lg_model.specs.Script.{saves, goes_back, text_step, script_from, script}
-use Rattle.lg_model.specs.Samples.{column, create, create_t, insert, all_of, num, answers, plus_one, typed, version, key_column, def_t, with_t, update_t, id_is, listed, create_x, select, four, answer, index_on, made_tables, delete_1, create_balance, def_balance, of_nick, balance, set_100, select_5, read_in, texts, in_script, by_themselves, each_alone, in_journal, journal, wide_def, wide_tables, wide, nines, wide_where, wide_select, doubled_is_positive}
+use Rattle.lg_model.specs.Samples.{column, create, create_t, insert, all_of, num, answers, plus_one, typed, version, key_column, def_t, with_t, update_t, id_is, listed, create_x, select, four, answer, index_on, made_tables, delete_1, create_balance, def_balance, of_nick, balance, set_100, select_5, read_in, texts, in_script, by_themselves, each_alone, in_journal, journal, wide_def, wide_tables, wide, nines, wide_where, wide_select, doubled_is_positive, pair_def, pairs}
 use Rattle.lg_model.specs.Journals.{IsLegal}
 
 of_literal : (v : Value) → tree (Lit v) ≡ literal v
@@ -417,3 +417,21 @@ sum_on_the_way = refl
 pub key_before_class : row_statement_check (defs_of wide_tables) (Update (codes "w") ((codes "id", Col (codes "d")) ∷ []) None) ≡ Err E12
 unfolding first_tables row_statement_check find_part update_check
 key_before_class = rw (of_column (codes "d")) refl
+
+-- rows go by b and then by a, and the key is in this order
+pub key_order : answer pairs (all_of (codes "p")) ≡ codes "1|3" ∷ codes "2|3" ∷ codes "1|9" ∷ codes "3 rows" ∷ []
+unfolding chars digits value_cmp raised utf16_units pointed printed is_in_range conversion_of find_part started ended key_places key_of key_cmp same_key stands standing rows_of holds key_fixed changed_all kept kept_row arranged is_taken inserted_rows versions_taken row_set row_changes insert_check update_check delete_check row_statement_check select_check query_check total agg_value selected first_tables table_row column_rows index_rows table_def create_check index_check query_rows effect reply_lines reply_text
+key_order = refl
+
+pub key_locked : cell_wants (defs_of pairs) (s.Change (Insert (codes "p") (Some (codes "a" ∷ codes "b" ∷ [])) ((num 1 ∷ num 2 ∷ []) ∷ [])))
+    ≡ Some (3, whole IX ∷ of_key X (num 2 ∷ num 1 ∷ []) ∷ [])
+unfolding first_tables cell_wants row_wants key_inserted arranged conversion_of is_in_range find_part insert_check row_statement_check key_places
+key_locked = refl
+
+-- a savepoint stays, and the counter goes back with the rows
+pub back_twice : map reply_lines (script (read_in in_script) true (effect first_tables 1 0 create_t).tables 2 (texts (0 ∷ 3 ∷ 1 ∷ 4 ∷ 2 ∷ 4 ∷ 6 ∷ 2 ∷ 6 ∷ []))).replies
+    ≡ (codes "1 rows" ∷ []) ∷ (codes "saved" ∷ []) ∷ (codes "1 rows" ∷ []) ∷ (codes "back" ∷ []) ∷ (codes "1 rows" ∷ []) ∷ (codes "back" ∷ [])
+    ∷ (codes "1|1|2|0|1|N'INSERT'" ∷ codes "1 rows" ∷ []) ∷ (codes "1 rows" ∷ [])
+    ∷ (codes "1|1|2|0|1|N'INSERT'" ∷ codes "3|3|2|1|1|N'INSERT'" ∷ codes "2 rows" ∷ []) ∷ []
+unfolding chars text_step script_from saves goes_back meaning_of sum_of digits value_cmp raised utf16_units pointed printed is_in_range conversion_of find_part started ended key_places key_of key_cmp same_key stands standing rows_of holds key_fixed changed_all kept kept_row arranged is_taken inserted_rows versions_taken row_set row_changes insert_check update_check delete_check row_statement_check select_check query_check total agg_value selected first_tables table_row column_rows index_rows table_def create_check index_check query_rows effect reply_lines reply_text
+back_twice = refl

@@ -223,3 +223,19 @@ wide_where o = Bin op.And (Bin o (Col (codes "id")) (Lit (num 1))) doubled_is_po
 
 abbrev pub wide_select : Op → Select
 wide_select o = record { table = codes "w"; what = All; cond = Some (wide_where o); order = [] }
+
+-- PRIMARY KEY (b, a) on columns a and b
+abbrev pub pair_def : TableDef
+pair_def = record {
+  id = 3;
+  name = codes "p";
+  kind = Updatable;
+  history = codes "h";
+  view = codes "p_Ledger";
+  columns =
+      record { name = codes "a"; ty = Int; nullable = false; key_position = 2 } ∷ record { name = codes "b"; ty = Int; nullable = false; key_position = 1 } ∷ [];
+  indexes = [];
+}
+
+abbrev pub pairs : Tables
+pairs = first_tables ++ record { def = pair_def; versions = version 1 9 (2, 0) None ∷ version 2 3 (2, 1) None ∷ version 1 3 (2, 2) None ∷ [] } ∷ []

@@ -15,7 +15,8 @@ ghost use Rattle.lg_value.specs.declared.refusal.Refusal.TheVariants.{E03, E04, 
 ghost use Rattle.lg_types.specs.declared.statement.What.TheVariants.{All, Columns, Aggs};
 ghost use Rattle.lg_types.specs.declared.statement.Agg.TheVariants.{Count, Sum};
 ghost use Rattle.lg_types.specs.declared.lock.Mode.TheVariants.{X};
-ghost use Rattle.lg_model.specs.Locks.{cell_wants, clash, whole};
+ghost use Rattle.lg_model.specs.Locks.{cell_wants, clash, of_key, whole};
+ghost use Rattle.lg_types.specs.declared.lock.Mode.TheVariants.{IX};
 ghost use Rattle.lg_model.specs.Catalog.{defs_of};
 ghost use Rattle.lg_model.specs.Where.{key_fixed};
 ghost use Rattle.lg_model.specs.SystemTables.{first_tables};
@@ -31,7 +32,7 @@ ghost use Rattle.lg_model.specs.Events.{all_events};
 ghost use Rattle.lg_value.specs.declared.refusal.ValueErr.TheVariants.{Mismatch};
 ghost use Rattle.lg_model.specs.Script.{script};
 ghost use Rattle.lg_model.specs.Journals.{IsLegal};
-ghost use Rattle.lg_model.specs.Samples.{in_journal, journal, wide_def, wide_tables, wide, nines, wide_select, column, create, create_t, insert, all_of, num, answers, version, key_column, def_t, with_t, update_t, id_is, listed, create_x, select, four, answer, index_on, made_tables, delete_1, create_balance, def_balance, of_nick, balance, set_100, select_5, read_in, texts, in_script, by_themselves, each_alone};
+ghost use Rattle.lg_model.specs.Samples.{pair_def, pairs, in_journal, journal, wide_def, wide_tables, wide, nines, wide_select, column, create, create_t, insert, all_of, num, answers, version, key_column, def_t, with_t, update_t, id_is, listed, create_x, select, four, answer, index_on, made_tables, delete_1, create_balance, def_balance, of_nick, balance, set_100, select_5, read_in, texts, in_script, by_themselves, each_alone};
 
 /// Replies to small statements.
 pub fn statements_are_answered()
@@ -126,6 +127,7 @@ pub fn rows_are_selected()
     ensures key_hides { query_rows (wide_select op.Eq) (wide_def, Base) (wide 1 (pos 1) 0 ∷ wide 2 (pos nines) 1 ∷ []) ≡ Ok ((num 1 ∷ num 1 ∷ []) ∷ []) }
     ensures all_are_evaluated { query_rows (wide_select op.Lt) (wide_def, Base) (wide 1 (pos 1) 0 ∷ wide 2 (pos nines) 1 ∷ []) ≡ Err E08 }
     ensures sum_on_the_way { answer wide_tables (select (codes "w") (Aggs (Sum (codes "d") ∷ [])) []) ≡ codes "E08" ∷ [] }
+    ensures key_order { answer pairs (all_of (codes "p")) ≡ codes "1|3" ∷ codes "2|3" ∷ codes "1|9" ∷ codes "3 rows" ∷ [] }
 {}
 
 /// Replies to the texts of scripts.
@@ -136,12 +138,18 @@ pub fn scripts_are_answered()
     ensures savepoint_65 { (script (read_in in_script) true first_tables 1 (replicate 65 (3 ∷ []))).replies ≡ replicate 64 r.Saved ++ r.Refused E16 ∷ [] }
     ensures alone { map (each_alone (effect first_tables 1 0 create_t).tables by_themselves) (0 ∷ 1 ∷ 9 ∷ 2 ∷ 3 ∷ [])
         ≡ ((codes "0 rows" ∷ []) ∷ []) ∷ ((codes "E13" ∷ []) ∷ []) ∷ ((codes "E01" ∷ []) ∷ []) ∷ ((codes "E18" ∷ []) ∷ []) ∷ ((codes "E02" ∷ []) ∷ []) ∷ [] }
+    ensures back_twice { map reply_lines (script (read_in in_script) true (effect first_tables 1 0 create_t).tables 2 (texts (0 ∷ 3 ∷ 1 ∷ 4 ∷ 2 ∷ 4 ∷ 6 ∷ 2 ∷ 6 ∷ []))).replies
+        ≡ (codes "1 rows" ∷ []) ∷ (codes "saved" ∷ []) ∷ (codes "1 rows" ∷ []) ∷ (codes "back" ∷ []) ∷ (codes "1 rows" ∷ []) ∷ (codes "back" ∷ [])
+        ∷ (codes "1|1|2|0|1|N'INSERT'" ∷ codes "1 rows" ∷ []) ∷ (codes "1 rows" ∷ [])
+        ∷ (codes "1|1|2|0|1|N'INSERT'" ∷ codes "3|3|2|1|1|N'INSERT'" ∷ codes "2 rows" ∷ []) ∷ [] }
 {}
 
 /// The locks of statements that name a key.
 pub fn keys_are_locked()
     ensures insert_far_wants { cell_wants (defs_of first_tables ++ def_t ∷ []) (insert (codes "t") ((num 2147483648 ∷ num 1 ∷ []) ∷ [])) ≡ Some (3, whole X ∷ []) }
     ensures read_and_inserted { clash (defs_of first_tables ++ def_t ∷ []) true (s.Select select_5) false (insert (codes "t") ((num 5 ∷ num 1 ∷ []) ∷ [])) ≡ true }
+    ensures key_locked { cell_wants (defs_of pairs) (s.Change (Insert (codes "p") (Some (codes "a" ∷ codes "b" ∷ [])) ((num 1 ∷ num 2 ∷ []) ∷ [])))
+        ≡ Some (3, whole IX ∷ of_key X (num 2 ∷ num 1 ∷ []) ∷ []) }
 {}
 
 /// A journal that could have been made, and one that closes more than what is pending.

@@ -5,4 +5,5 @@ pub returns : goal.returns
 returns c = record {
   insert_far_wants = laws.insert_far_wants;
   read_and_inserted = laws.read_and_inserted;
+  key_locked = laws.key_locked;
 }

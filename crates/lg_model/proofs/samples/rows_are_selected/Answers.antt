@@ -13,4 +13,5 @@ returns c = record {
   key_hides = laws.key_hides;
   all_are_evaluated = laws.all_are_evaluated;
   sum_on_the_way = laws.sum_on_the_way;
+  key_order = laws.key_order;
 }

@@ -6,4 +6,5 @@ returns c = record {
   savepoints = laws.savepoints;
   savepoint_65 = laws.savepoint_65;
   alone = laws.alone;
+  back_twice = laws.back_twice;
 }
