@@ -8,3 +8,4 @@ pub mod Plans
 pub mod SamePlan
 pub mod Scripts
 mod Unknown
+mod Worked
