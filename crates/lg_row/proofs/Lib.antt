@@ -1,5 +1,6 @@
 mod Growing
 mod LeafExact
+mod Leaves
 mod Sizes
 mod Texts
 mod TypeLaws
