@@ -2,6 +2,7 @@ pub mod Checked
 mod Classed
 pub mod Definitions
 pub mod InsertedKeys
+mod KeyPlaces
 pub mod Missing
 pub mod Named
 pub mod Plans

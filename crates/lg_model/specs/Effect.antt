@@ -102,6 +102,7 @@ index_effect tables tx seq (Err e) = refused tables seq e
 
 -- ---- one table statement of transaction tx, whose next event has the number seq
 
+-- Other statements do nothing here.
 unfoldable pub effect : Tables → ℕ → ℕ → Stmt → Effect
 effect tables tx seq (s.Create c) = table_effect tables tx seq (create_check (defs_of tables) c)
 effect tables tx seq (s.Index c) = index_effect tables tx seq (index_check (defs_of tables) c)

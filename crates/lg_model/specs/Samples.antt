@@ -160,7 +160,7 @@ balance versions = first_tables ++ record { def = def_balance; versions = versio
 abbrev pub set_100 : RowStmt
 set_100 = Update (codes "Balance") ((codes "Balance", Lit (num 100)) ∷ []) (Some (Bin op.Eq (Col (codes "CustomerID")) (Lit (num 1))))
 
--- unfolding chars meaning_of sum_of digits value_cmp raised utf16_units pointed printed is_in_range conversion_of find_part started ended key_places key_of key_cmp same_key stands standing rows_of holds key_fixed changed_all kept kept_row arranged is_taken inserted_rows versions_taken row_set row_changes insert_check update_check delete_check row_statement_check select_check query_check total agg_value selected first_tables table_row column_rows index_rows table_def create_check index_check query_rows effect reply_lines reply_textECT * FROM t WHERE id = 5 and INSERT INTO t VALUES (5, 1)
+-- SELECT * FROM t WHERE id = 5 and INSERT INTO t VALUES (5, 1)
 abbrev pub select_5 : Select
 select_5 = record { table = codes "t"; what = All; cond = Some (id_is (num 5)); order = [] }
 
