@@ -2,6 +2,7 @@
 #![tactic(auto)]
 
 mod accepting;
+mod creating;
 mod names;
 mod rows;
 mod selecting;

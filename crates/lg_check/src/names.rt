@@ -86,7 +86,7 @@ pub fn part_named(def: &TableDef, name: &Name) -> Option<Part>
 }
 
 /// Whether the name is this one; what has no name is found by none.
-fn is_named(own: &Name, name: &Name) -> bool
+pub fn is_named(own: &Name, name: &Name) -> bool
     ensures { result ≡ catalog.is_named own.now name.now }
 {
     !own.bytes().is_empty() && *own == *name
