@@ -1,10 +1,20 @@
+pub mod Alls
+pub mod AtTable
 pub mod Checked
 mod Classed
 pub mod Definitions
 pub mod InsertedKeys
+pub mod LeftAlone
+pub mod LeftRows
+pub mod LeftTables
+pub mod MappedRows
 pub mod Missing
 pub mod Named
 pub mod Plans
+pub mod SameKeys
 pub mod SamePlan
 pub mod Scripts
+pub mod SoundStatements
+pub mod Sounds
 mod Unknown
+pub mod UpdateKeys

@@ -4,8 +4,12 @@
 mod agreement;
 mod catalog;
 mod expressions;
+mod runs;
 
-pub use agreement::{agreeing_states_give_one_plan, effects_are_plans_carried_out};
+pub use agreement::{
+    agreeing_states_give_one_plan, effects_are_plans_carried_out,
+    statements_leave_what_they_dont_want,
+};
 pub use catalog::{
     cell_wants_share_the_catalog, conflicting_wants_clash, creates_alone_change_definitions,
     creates_want_the_catalog_alone, no_texts_do_nothing, opened_scripts_leave_definitions,
@@ -14,3 +18,4 @@ pub use expressions::{
     classes_foretell_outcomes, comparison_with_null_is_unknown, missing_columns_come_first,
     truths_are_kleenes,
 };
+pub use runs::statements_keep_tables_sound;

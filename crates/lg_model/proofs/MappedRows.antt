@@ -1,0 +1,93 @@
+-- Rows that are made column by column: as columns store them, and their keys.
+use Rattle.std.proofs.Common.{◌≡◌, ◌≢◌, ℕ, zero, suc, refl, sym, subst, ◌∙◌, List, [], ◌∷◌, map, Option, Some, None, Ok, arith}
+use Rattle.std.proofs.lemmas.List.Quantifiers.{position-Some}
+use Rattle.std.proofs.lemmas.Option.{slice_get-get_or}
+use Rattle.std.proofs.lemmas.Bool.{eqb-true}
+use Rattle.std.specs.Prelude.{position, slice_get, get_or, ◌==◌}
+use Rattle.std.specs.List.{AllByRecursion, cons_option, filter_map, zip}
+use Rattle.lg_value.specs.declared.value.Value.{Value}
+use Rattle.lg_value.specs.declared.value.Value.TheVariants as val
+use Rattle.lg_value.specs.declared.sql_type.SqlType.TheVariants.{Bit}
+use Rattle.lg_value.specs.declared.column.ColumnDef.{ColumnDef}
+use Rattle.lg_model.specs.Refusals.{Checked, and_then}
+use Rattle.lg_model.specs.Lists.{checked_map}
+use Rattle.lg_model.specs.Rows.{Row, stored_value, stored_row, plain}
+use Rattle.lg_model.specs.Parts.{added_column}
+use Rattle.lg_model.specs.Keys.{key_positions, key_places, value_at, key_of}
+use Rattle.lg_model.proofs.Checked.{Led, led}
+
+module _ (f : ColumnDef → Value → Checked Value) where
+  abbrev mapped : ColumnDef × Value → Checked Value
+  mapped p = f p.0 p.1
+
+  stored_plain : (c : ColumnDef) (v : Value) → plain (stored_value c v) ≡ v
+  stored_plain c val.Null = refl
+  stored_plain c (val.Num v s) = refl
+  stored_plain c (val.Text x) = refl
+  stored_plain c (val.Bytes x) = refl
+  stored_plain c (val.Date d) = refl
+
+  -- the columns store all its values
+  pub stored_mapped : (columns : List ColumnDef) (row out : Row) → checked_map mapped (zip columns row) ≡ Ok out → map plain (stored_row columns out) ≡ out
+  stored_mapped [] row [] e = refl
+  stored_mapped [] row (y ∷ ys) e = cc
+  stored_mapped (c ∷ cs) [] [] e = refl
+  stored_mapped (c ∷ cs) [] (y ∷ ys) e = cc
+  stored_mapped (c ∷ cs) (v ∷ vs) out e =
+      let l : Led (mapped (c, v)) (λ y. and_then (checked_map mapped (zip cs vs)) (λ ys. Ok (y ∷ ys))) out = led _ _ out e in
+      let k : Led (checked_map mapped (zip cs vs)) (λ ys. Ok (l.value ∷ ys)) out = led _ _ out l.then_ in
+      let is : out ≡ l.value ∷ k.value = cc in
+      rw is (rw (stored_plain c l.value, stored_mapped cs vs k.value k.was) refl)
+
+  -- a column that keeps its value
+  pub kept_place : (columns : List ColumnDef) (row out : Row) (place : ℕ) (c : ColumnDef) → checked_map mapped (zip columns row) ≡ Ok out
+      → slice_get columns place ≡ Some c → ((v w : Value) → f c v ≡ Ok w → w ≡ v) → value_at out place ≡ value_at row place
+  kept_place [] row out place c e at h = cc
+  kept_place (d ∷ ds) [] [] place c e at h = refl
+  kept_place (d ∷ ds) [] (y ∷ ys) place c e at h = cc
+  kept_place (d ∷ ds) (v ∷ vs) out zero c e at h =
+      let l : Led (mapped (d, v)) (λ y. and_then (checked_map mapped (zip ds vs)) (λ ys. Ok (y ∷ ys))) out = led _ _ out e in
+      let k : Led (checked_map mapped (zip ds vs)) (λ ys. Ok (l.value ∷ ys)) out = led _ _ out l.then_ in
+      let is : out ≡ l.value ∷ k.value = cc in
+      let same : d ≡ c = cc in
+      rw is (h v l.value (subst (λ (b : ColumnDef). f b v ≡ Ok l.value) same l.was))
+  kept_place (d ∷ ds) (v ∷ vs) out (suc place) c e at h =
+      let l : Led (mapped (d, v)) (λ y. and_then (checked_map mapped (zip ds vs)) (λ ys. Ok (y ∷ ys))) out = led _ _ out e in
+      let k : Led (checked_map mapped (zip ds vs)) (λ ys. Ok (l.value ∷ ys)) out = led _ _ out l.then_ in
+      let is : out ≡ l.value ∷ k.value = cc in
+      rw is (kept_place ds vs k.value place c k.was at h)
+
+  -- ---- the columns of the key
+
+  abbrev KeyColumn : List ColumnDef → ℕ → Type 0
+  KeyColumn columns place = (c : ColumnDef) × (slice_get columns place ≡ Some c) × (c.key_position ≢ 0)
+
+  one_place : (columns : List ColumnDef) (k : ℕ) (o : Option ℕ) (places : List ℕ) → k ≢ 0 → position (λ c. c.key_position == k) columns ≡ o
+      → AllByRecursion (KeyColumn columns) places → AllByRecursion (KeyColumn columns) (cons_option o places)
+  one_place columns k (Some p) places ne e h =
+      let d : ColumnDef = added_column [] Bit in
+      let found = position-Some (λ c. c.key_position == k) columns p d e in
+      ((get_or columns p d, slice_get-get_or columns p d found.0, (λ z. ne (sym (eqb-true (get_or columns p d).key_position k found.1) ∙ z))), h)
+  one_place columns k None places ne e h = h
+
+  places_of : (columns : List ColumnDef) (ks : List ℕ) → AllByRecursion (λ k. k ≢ 0) ks → AllByRecursion (KeyColumn columns) (filter_map (λ k. position (λ c. c.key_position == k) columns) ks)
+  places_of columns [] ne = tt
+  places_of columns (k ∷ ks) ne = one_place columns k (position (λ c. c.key_position == k) columns) _ ne.0 refl (places_of columns ks ne.1)
+
+  key_place_columns : (columns : List ColumnDef) → AllByRecursion (KeyColumn columns) (key_places columns)
+  unfolding key_places
+  key_place_columns columns = places_of columns key_positions ((λ e. omega (arith, e)), ((λ e. omega (arith, e)), ((λ e. omega (arith, e)), ((λ e. omega (arith, e)), tt))))
+
+  at_places : (columns : List ColumnDef) (row out : Row) (places : List ℕ) → checked_map mapped (zip columns row) ≡ Ok out → AllByRecursion (KeyColumn columns) places
+      → ((place : ℕ) (c : ColumnDef) → slice_get columns place ≡ Some c → c.key_position ≢ 0 → (v w : Value) → f c v ≡ Ok w → w ≡ v)
+      → map (value_at out) places ≡ map (value_at row) places
+  at_places columns row out [] e has h = refl
+  at_places columns row out (p ∷ ps) e has h =
+      rw (kept_place columns row out p has.0.0 e has.0.1 (h p has.0.0 has.0.1 has.0.2), at_places columns row out ps e has.1 h) refl
+
+  -- where each column of the key keeps its value, the row keeps its key
+  pub key_kept : (columns : List ColumnDef) (row out : Row) → checked_map mapped (zip columns row) ≡ Ok out
+      → ((place : ℕ) (c : ColumnDef) → slice_get columns place ≡ Some c → c.key_position ≢ 0 → (v w : Value) → f c v ≡ Ok w → w ≡ v)
+      → key_of columns out ≡ key_of columns row
+  unfolding key_of
+  key_kept columns row out e h = at_places columns row out (key_places columns) e (key_place_columns columns) h
