@@ -16,5 +16,8 @@ pub mod SamePlan
 pub mod Scripts
 pub mod SoundStatements
 pub mod Sounds
+pub mod UndoneScripts
+pub mod UndoneTables
+pub mod UndoneVersions
 mod Unknown
 pub mod UpdateKeys

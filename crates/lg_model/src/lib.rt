@@ -5,6 +5,7 @@ mod agreement;
 mod catalog;
 mod expressions;
 mod runs;
+mod undo;
 
 pub use agreement::{
     agreeing_states_give_one_plan, effects_are_plans_carried_out,
@@ -18,4 +19,5 @@ pub use expressions::{
     classes_foretell_outcomes, comparison_with_null_is_unknown, missing_columns_come_first,
     truths_are_kleenes,
 };
-pub use runs::statements_keep_tables_sound;
+pub use runs::{opened_scripts_keep_tables_sound, statements_keep_tables_sound};
+pub use undo::{going_back_is_undo_by_number, undo_by_number_takes_a_statement_back};
