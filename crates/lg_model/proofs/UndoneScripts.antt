@@ -12,7 +12,7 @@ use Rattle.lg_model.specs.Script.{Reading, Saved, State, back_to, gone_back, goe
 use Rattle.lg_model.specs.Undo.{undone}
 use Rattle.lg_model.proofs.Alls.{all_weaker}
 use Rattle.lg_model.proofs.Plans.{planned}
-use Rattle.lg_model.proofs.Scripts.{at_copy, Keeps, script_keeps}
+use Rattle.lg_model.proofs.StepByStep.{at_copy, Keeps, script_keeps}
 use Rattle.lg_model.proofs.SoundStatements.{kept_sound}
 use Rattle.lg_model.proofs.UndoneTables.{none_undone, statement_undone}
 
@@ -75,7 +75,7 @@ module _ (tx : ℕ) where
 
   pub undoable_kept : Keeps tx Undoable
   undoable_kept = record {
-    by_change = λ x stmt k h. record {
+    by_change = λ x stmt k q h. record {
       sound = kept_sound tx x.seq x.tables stmt k h.sound;
       under = all_weaker (Under x.tables x.seq) _ (after_change x.tables x.seq stmt k h.sound) x.saved h.under;
       nested = h.nested;

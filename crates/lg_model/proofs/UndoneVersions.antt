@@ -30,7 +30,7 @@ between : {A : Type 0} (test : A → Bool) (b : Bool) (x y : A) (ys zs : List A)
 between test true x y ys zs h e = ap (λ (s : List _). if test y then y ∷ s else s) e
 between test false x y ys zs h e = rw h refl
 
-filter_inserted : {A : Type 0} (test : A → Bool) (cmp : A → A → Ordering) (x : A) (ys : List A) → test x ≡ false → filter test (inserted cmp x ys) ≡ filter test ys
+pub filter_inserted : {A : Type 0} (test : A → Bool) (cmp : A → A → Ordering) (x : A) (ys : List A) → test x ≡ false → filter test (inserted cmp x ys) ≡ filter test ys
 filter_inserted test cmp x [] h = rw h refl
 filter_inserted test cmp x (y ∷ ys) h = between test (is_gt (cmp x y)) x y ys (inserted cmp x ys) h (filter_inserted test cmp x ys h)
 

@@ -26,6 +26,7 @@ pub mod Replies
 pub mod Rows
 pub mod Runs
 pub mod Script
+pub mod ScriptWants
 pub mod SystemTables
 pub mod Truths
 pub mod TypeCodes

@@ -5,6 +5,7 @@ mod agreement;
 mod catalog;
 mod expressions;
 mod runs;
+mod scripts;
 mod undo;
 
 pub use agreement::{
@@ -20,4 +21,8 @@ pub use expressions::{
     truths_are_kleenes,
 };
 pub use runs::{opened_scripts_keep_tables_sound, statements_keep_tables_sound};
+pub use scripts::{
+    opened_scripts_are_their_changes, opened_scripts_leave_what_they_dont_want,
+    opened_scripts_over_agreeing_states_are_one, statements_alone_over_agreeing_states_are_one,
+};
 pub use undo::{going_back_is_undo_by_number, undo_by_number_takes_a_statement_back};
