@@ -11,7 +11,7 @@ use Rattle.lg_model.specs.Catalog.{Tables}
 use Rattle.lg_model.specs.Effect.{Effect, effect}
 use Rattle.lg_model.specs.Plans.{TableChange, changed_from, plan}
 use Rattle.lg_model.specs.Reach.{creates}
-use Rattle.lg_model.specs.Script.{Reading, Saved, State, Step, by_effect, saves, back_to, gone_back, goes_back, in_opened, by_statement, start, text_step, script_from, script}
+use Rattle.lg_model.specs.Script.{Reading, Saved, State, Step, by_effect, saves, back_to, rolled_back, rolls_back_to, in_transaction, by_statement, start, text_step, script_from, script}
 use Rattle.lg_model.specs.ScriptWants.{text_changes, changes_from, script_changes}
 use Rattle.lg_model.proofs.Plans.{planned, in_turn}
 use Rattle.lg_model.proofs.Definitions.{tables_after}
@@ -90,7 +90,7 @@ module _ (tx : ℕ) (T : Tables) where
       (unmoved (with_copy x name) cs (record { count = h.count; tables = h.tables; saved = (omega arith, h.tables ∙ ap after (sym (take_all x.seq cs (omega (arith, h.count)))), h.saved) }))
       (unmoved x cs h)
 
-  back_at : (x : State) (cs : List TableChange) (saved : List Saved) → Made x cs → Copies x.seq cs saved → MadeBy (gone_back x saved) (cs ++ [])
+  back_at : (x : State) (cs : List TableChange) (saved : List Saved) → Made x cs → Copies x.seq cs saved → MadeBy (rolled_back x saved) (cs ++ [])
   back_at x cs [] h k = unmoved x cs h
   back_at x cs (c ∷ rest) h k =
       let in_ : c.seq ≤ length cs = omega (arith, k.0, h.count) in
@@ -100,8 +100,8 @@ module _ (tx : ℕ) (T : Tables) where
         saved = (omega arith, k.1 ∙ ap after (sym (take_twice c.seq c.seq cs (omega arith))), cut_off c.seq c.seq cs rest (omega arith) k.2);
       })
 
-  by_opened : (x : State) (cs : List TableChange) (stmt : Stmt) → Made x cs → MadeBy (in_opened tx x stmt) (cs ++ text_changes true x.tables (Some stmt))
-  unfolding goes_back
+  by_opened : (x : State) (cs : List TableChange) (stmt : Stmt) → Made x cs → MadeBy (in_transaction tx x stmt) (cs ++ text_changes true x.tables (Some stmt))
+  unfolding rolls_back_to
   by_opened x cs (s.Create c) h = unmoved x cs h
   by_opened x cs (s.Index c) h = unmoved x cs h
   by_opened x cs (s.Change stmt) h = changed x cs (s.Change stmt) refl h

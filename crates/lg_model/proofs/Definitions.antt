@@ -22,7 +22,7 @@ use Rattle.lg_model.specs.Effect.{effect, query_rows}
 use Rattle.lg_model.specs.Locks as want
 use Rattle.lg_model.specs.Plans.{TableChange, changed_from, changed_in, Definition, as_before, defined, row_plan, change_plan, rows_plan, query_plan, plan}
 use Rattle.lg_model.specs.Reach.{creates}
-use Rattle.lg_model.specs.Script.{Reading, Saved, State, back_to, in_opened, alone, by_statement, start, text_step, script_from, script}
+use Rattle.lg_model.specs.Script.{Reading, Saved, State, back_to, in_transaction, alone, by_statement, start, text_step, script_from, script}
 use Rattle.lg_types.specs.declared.reply.Reply.TheVariants.{Refused}
 use Rattle.lg_value.specs.declared.refusal.Refusal.TheVariants.{E17}
 use Rattle.lg_model.proofs.Plans.{planned, same_def}
@@ -178,7 +178,7 @@ alone_conflicts S = (refl, refl)
 alone_conflicts X = (refl, refl)
 
 -- a CREATE in a transaction that BEGIN opened
-pub opened_refuses : (tx : ℕ) (x : State) (stmt : Stmt) → creates stmt ≡ true → in_opened tx x stmt ≡ (x, Refused E17)
+pub opened_refuses : (tx : ℕ) (x : State) (stmt : Stmt) → creates stmt ≡ true → in_transaction tx x stmt ≡ (x, Refused E17)
 opened_refuses tx x (s.Create c) e = refl
 opened_refuses tx x (s.Index c) e = refl
 opened_refuses tx x (s.Change stmt) e = cc

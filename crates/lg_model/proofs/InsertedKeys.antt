@@ -1,43 +1,20 @@
 -- The key that an INSERT wants is the key of the row that it keeps.
-use Rattle.std.proofs.Common.{◌≡◌, ℕ, zero, suc, refl, List, [], ◌∷◌, map, Option, Some, None, Ok, Err}
-use Rattle.std.proofs.lemmas.List.Quantifiers.{position-Some}
-use Rattle.std.proofs.lemmas.Option.{slice_get-get_or}
-use Rattle.std.specs.Prelude.{position, slice_get, get_or, ◌==◌}
-use Rattle.std.specs.List.{AllByRecursion, cons_option, filter_map, zip}
+use Rattle.std.proofs.Common.{◌≡◌, ℕ, zero, suc, refl, List, [], ◌∷◌, map, Option, Some, Ok, Err}
+use Rattle.std.specs.Prelude.{slice_get}
+use Rattle.std.specs.List.{AllByRecursion, filter_map, zip}
 use Rattle.lg_value.specs.declared.value.Value.{Value}
 use Rattle.lg_value.specs.declared.value.Value.TheVariants as val
 use Rattle.lg_value.specs.declared.sql_type.SqlType.{SqlType}
-use Rattle.lg_value.specs.declared.sql_type.SqlType.TheVariants.{Bit}
 use Rattle.lg_value.specs.declared.column.ColumnDef.{ColumnDef}
 use Rattle.lg_value.specs.Conversion.{Converted, conversion_of}
 use Rattle.lg_model.specs.Refusals.{Checked, and_then}
 use Rattle.lg_model.specs.Lists.{checked_map, all_some}
 use Rattle.lg_model.specs.Rows.{Row}
-use Rattle.lg_model.specs.Parts.{added_column}
-use Rattle.lg_model.specs.Keys.{Key, key_positions, key_places, value_at, key_of}
+use Rattle.lg_model.specs.Keys.{Key, key_places, value_at, key_of}
 use Rattle.lg_model.specs.Changes.{or_its_refusal, kept, kept_row, arranged}
 use Rattle.lg_model.specs.Locks.{key_value, key_inserted}
+use Rattle.lg_model.proofs.KeyPlaces.{HasColumn, key_places_have}
 use Rattle.lg_model.proofs.Checked.{Led, led, Parts, parts}
-
--- ---- places that have a column
-
-abbrev pub HasColumn : List ColumnDef → ℕ → Type 0
-HasColumn columns place = (c : ColumnDef) × (slice_get columns place ≡ Some c)
-
-one_place : (columns : List ColumnDef) (k : ℕ) (o : Option ℕ) (places : List ℕ) → position (λ c. c.key_position == k) columns ≡ o
-    → AllByRecursion (HasColumn columns) places → AllByRecursion (HasColumn columns) (cons_option o places)
-one_place columns k (Some p) places e h =
-    let d : ColumnDef = added_column [] Bit in
-    ((get_or columns p d, slice_get-get_or columns p d (position-Some (λ c. c.key_position == k) columns p d e).0), h)
-one_place columns k None places e h = h
-
-places_of : (columns : List ColumnDef) (ks : List ℕ) → AllByRecursion (HasColumn columns) (filter_map (λ k. position (λ c. c.key_position == k) columns) ks)
-places_of columns [] = tt
-places_of columns (k ∷ ks) = one_place columns k (position (λ c. c.key_position == k) columns) _ refl (places_of columns ks)
-
-pub key_places_have : (columns : List ColumnDef) → AllByRecursion (HasColumn columns) (key_places columns)
-unfolding key_places
-key_places_have columns = places_of columns key_positions
 
 -- ---- a value
 

@@ -9,9 +9,9 @@ use Rattle.lg_types.specs.declared.lock.Mode.TheVariants.{X}
 use Rattle.lg_types.specs.declared.version.Version.{Version}
 use Rattle.lg_model.specs.Refusals.{Checked, and_then}
 use Rattle.lg_model.specs.Lists.{inserted, checked_fold, all_some}
-use Rattle.lg_model.specs.Rows.{Row, EventId, same_event, start_cmp, started, with_end, ended, plain, stored_row}
+use Rattle.lg_model.specs.Rows.{Row, EventId, same_event, start_cmp, started, with_end, ended, value_or_null, stored_row}
 use Rattle.lg_model.specs.Keys.{Key, key_of, same_key, version_key, of_key}
-use Rattle.lg_model.specs.Changes.{Change, Starts, Ends, changed, changed_all, kept, kept_row, arranged, is_taken, one_more, inserted_rows}
+use Rattle.lg_model.specs.Changes.{Change, Starts, Ends, changed, changed_all, kept, kept_row, arranged, is_duplicate, one_more, inserted_rows}
 use Rattle.lg_model.specs.Locks as want
 use Rattle.lg_model.specs.Reach.{lets_change}
 use Rattle.lg_model.proofs.Checked.{Led, led, Parts, parts}
@@ -41,7 +41,7 @@ module _ (columns : List ColumnDef) (key : Key) where
   one_ended at v false xs ys h e = ap (λ (s : List Version). if has_key v then v ∷ s else s) e
 
   abbrev pub Leaves : List Version → Change → Type 0
-  Leaves versions (Starts values) = same_key (key_of columns (map plain values)) key ≡ false
+  Leaves versions (Starts values) = same_key (key_of columns (map value_or_null values)) key ≡ false
   Leaves versions (Ends start) = AllByRecursion (λ v. same_event v.start start ≡ true → has_key v ≡ false) versions
 
   end_leaves : (at start : EventId) (vs : List Version) → Leaves vs (Ends start) → of_key columns key (ended at start vs) ≡ of_key columns key vs
@@ -78,7 +78,7 @@ module _ (columns : List ColumnDef) (key : Key) where
   -- ---- INSERT
 
   abbrev Unlike : Row → Type 0
-  Unlike row = same_key (key_of columns (map plain (stored_row columns row))) key ≡ false
+  Unlike row = same_key (key_of columns (map value_or_null (stored_row columns row))) key ≡ false
 
   module _ (names : Option (List (List ℕ))) (vs : List Version) where
     abbrev KeptUnlike : Row → Type 0
@@ -96,9 +96,9 @@ module _ (columns : List ColumnDef) (key : Key) where
     rows_unlike (r ∷ rs) before out e h k =
         let l : Led (next_row before r) (λ more. checked_fold next_row more rs) out = led _ _ out e in
         let m : Led (kept_row columns (arranged columns names r)) (one_more columns vs before) l.value = led _ _ l.value l.was in
-        rows_unlike rs l.value out l.then_ h.1 (added (is_taken columns vs before (key_of columns m.value)) _ before l.value m.value m.then_ k (h.0 m.value m.was))
+        rows_unlike rs l.value out l.then_ h.1 (added (is_duplicate columns vs before (key_of columns m.value)) _ before l.value m.value m.then_ k (h.0 m.value m.was))
 
-    kept_stored : (row out : Row) → kept_row columns row ≡ Ok out → map plain (stored_row columns out) ≡ out
+    kept_stored : (row out : Row) → kept_row columns row ≡ Ok out → map value_or_null (stored_row columns out) ≡ out
     unfolding kept_row
     kept_stored row out e = stored_mapped kept columns row out e
 

@@ -15,7 +15,7 @@ use Rattle.lg_model.specs.Lists.{checked_map, all_some, repeats}
 use Rattle.lg_model.specs.Rows.{Row, same_event, live, stored_row}
 use Rattle.lg_model.specs.Keys.{Key, key_cmp, same_key, version_key, of_key, standing}
 use Rattle.lg_model.specs.Where.{key_fixed}
-use Rattle.lg_model.specs.Changes.{Starts, Ends, Changes, inserted_rows, versions_taken, row_set, replaced, insertion, replacement, deletion, row_changes}
+use Rattle.lg_model.specs.Changes.{Starts, Ends, Changes, inserted_rows, versions_matched, row_set, replaced, insertion, replacement, deletion, row_changes}
 use Rattle.lg_model.specs.Create.{names_of}
 use Rattle.lg_model.specs.Checks.{is_in_key, row_check}
 use Rattle.lg_model.specs.Locks as want
@@ -69,8 +69,8 @@ module _ (columns : List ColumnDef) (key : Key) (V : List Version) where
       (all_filter Apart (λ v. is_none v.end) (of_key columns k V) (all_apart k r (or_false (same_key k key) false h).0))
   standing_apart None r h = cc
 
-  taken_apart : (cond : Option Expr) (taken : List Version) → Rising V → list_any (lets_change key) (want.by_key_or_whole IX X (key_fixed columns cond)) ≡ false → versions_taken columns cond V ≡ Ok taken → AllByRecursion Apart taken
-  unfolding versions_taken
+  taken_apart : (cond : Option Expr) (taken : List Version) → Rising V → list_any (lets_change key) (want.by_key_or_whole IX X (key_fixed columns cond)) ≡ false → versions_matched columns cond V ≡ Ok taken → AllByRecursion Apart taken
+  unfolding versions_matched
   taken_apart cond taken r h e = all_checked_filter Apart _ (standing columns (key_fixed columns cond) V) taken e (standing_apart (key_fixed columns cond) r h)
 
   ends_leave : (taken : List Version) → AllByRecursion Apart taken → AllByRecursion (Leaves columns key V) (map (λ v. Ends v.start) taken)
@@ -99,13 +99,13 @@ row_leaves def part (Insert table names rows) key V c r distinct check h e =
     (all_map _ (Leaves def.columns key V) (λ row. Starts (stored_row def.columns row)) (λ row u. u) l.value
     (insert_unlike def.columns key names V rows l.value (all_some (map (want.key_inserted def.columns names) rows)) refl h l.was))
 row_leaves def part (Update table sets cond) key V c r distinct check h e =
-    let l : Led (versions_taken def.columns cond V) (λ taken. and_then (checked_map (row_set def.columns sets) taken) (λ rows. Ok (replacement def.columns (zip taken rows)))) c = led _ _ c e in
+    let l : Led (versions_matched def.columns cond V) (λ taken. and_then (checked_map (row_set def.columns sets) taken) (λ rows. Ok (replacement def.columns (zip taken rows)))) c = led _ _ c e in
     let k : Led (checked_map (row_set def.columns sets) l.value) (λ rows. Ok (replacement def.columns (zip l.value rows))) c = led _ _ c l.then_ in
     let is : replacement def.columns (zip l.value k.value) ≡ c = cc in
     subst (λ (d : Changes). AllByRecursion (Leaves def.columns key V) d.0) is
     (replacements_leave def.columns key V sets l.value k.value distinct (sets_no_key def part sets cond check) (taken_apart def.columns key V cond l.value r h l.was) k.was)
 row_leaves def part (Delete table cond) key V c r distinct check h e =
-    let l : Led (versions_taken def.columns cond V) (λ taken. Ok (deletion taken)) c = led _ _ c e in
+    let l : Led (versions_matched def.columns cond V) (λ taken. Ok (deletion taken)) c = led _ _ c e in
     let is : deletion l.value ≡ c = cc in
     subst (λ (d : Changes). AllByRecursion (Leaves def.columns key V) d.0) is
     (ends_leave def.columns key V l.value (taken_apart def.columns key V cond l.value r h l.was))

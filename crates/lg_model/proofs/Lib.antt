@@ -6,6 +6,7 @@ pub mod Checked
 mod Classed
 pub mod Definitions
 pub mod InsertedKeys
+mod KeyPlaces
 pub mod LeftAlone
 pub mod LeftRows
 pub mod LeftScripts
@@ -26,3 +27,4 @@ pub mod UndoneTables
 pub mod UndoneVersions
 mod Unknown
 pub mod UpdateKeys
+mod Worked

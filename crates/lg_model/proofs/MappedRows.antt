@@ -11,16 +11,17 @@ use Rattle.lg_value.specs.declared.sql_type.SqlType.TheVariants.{Bit}
 use Rattle.lg_value.specs.declared.column.ColumnDef.{ColumnDef}
 use Rattle.lg_model.specs.Refusals.{Checked, and_then}
 use Rattle.lg_model.specs.Lists.{checked_map}
-use Rattle.lg_model.specs.Rows.{Row, stored_value, stored_row, plain}
+use Rattle.lg_model.specs.Rows.{Row, stored_value, stored_row, value_or_null}
 use Rattle.lg_model.specs.Parts.{added_column}
-use Rattle.lg_model.specs.Keys.{key_positions, key_places, value_at, key_of}
+use Rattle.lg_model.specs.Keys.{key_places, value_at, key_of}
 use Rattle.lg_model.proofs.Checked.{Led, led}
+use Rattle.lg_model.proofs.KeyPlaces.{HasKeyColumn, key_place_columns}
 
 module _ (f : ColumnDef → Value → Checked Value) where
   abbrev mapped : ColumnDef × Value → Checked Value
   mapped p = f p.0 p.1
 
-  stored_plain : (c : ColumnDef) (v : Value) → plain (stored_value c v) ≡ v
+  stored_plain : (c : ColumnDef) (v : Value) → value_or_null (stored_value c v) ≡ v
   stored_plain c val.Null = refl
   stored_plain c (val.Num v s) = refl
   stored_plain c (val.Text x) = refl
@@ -28,7 +29,7 @@ module _ (f : ColumnDef → Value → Checked Value) where
   stored_plain c (val.Date d) = refl
 
   -- the columns store all its values
-  pub stored_mapped : (columns : List ColumnDef) (row out : Row) → checked_map mapped (zip columns row) ≡ Ok out → map plain (stored_row columns out) ≡ out
+  pub stored_mapped : (columns : List ColumnDef) (row out : Row) → checked_map mapped (zip columns row) ≡ Ok out → map value_or_null (stored_row columns out) ≡ out
   stored_mapped [] row [] e = refl
   stored_mapped [] row (y ∷ ys) e = cc
   stored_mapped (c ∷ cs) [] [] e = refl
@@ -59,26 +60,7 @@ module _ (f : ColumnDef → Value → Checked Value) where
 
   -- ---- the columns of the key
 
-  abbrev KeyColumn : List ColumnDef → ℕ → Type 0
-  KeyColumn columns place = (c : ColumnDef) × (slice_get columns place ≡ Some c) × (c.key_position ≢ 0)
-
-  one_place : (columns : List ColumnDef) (k : ℕ) (o : Option ℕ) (places : List ℕ) → k ≢ 0 → position (λ c. c.key_position == k) columns ≡ o
-      → AllByRecursion (KeyColumn columns) places → AllByRecursion (KeyColumn columns) (cons_option o places)
-  one_place columns k (Some p) places ne e h =
-      let d : ColumnDef = added_column [] Bit in
-      let found = position-Some (λ c. c.key_position == k) columns p d e in
-      ((get_or columns p d, slice_get-get_or columns p d found.0, (λ z. ne (sym (eqb-true (get_or columns p d).key_position k found.1) ∙ z))), h)
-  one_place columns k None places ne e h = h
-
-  places_of : (columns : List ColumnDef) (ks : List ℕ) → AllByRecursion (λ k. k ≢ 0) ks → AllByRecursion (KeyColumn columns) (filter_map (λ k. position (λ c. c.key_position == k) columns) ks)
-  places_of columns [] ne = tt
-  places_of columns (k ∷ ks) ne = one_place columns k (position (λ c. c.key_position == k) columns) _ ne.0 refl (places_of columns ks ne.1)
-
-  key_place_columns : (columns : List ColumnDef) → AllByRecursion (KeyColumn columns) (key_places columns)
-  unfolding key_places
-  key_place_columns columns = places_of columns key_positions ((λ e. omega (arith, e)), ((λ e. omega (arith, e)), ((λ e. omega (arith, e)), ((λ e. omega (arith, e)), tt))))
-
-  at_places : (columns : List ColumnDef) (row out : Row) (places : List ℕ) → checked_map mapped (zip columns row) ≡ Ok out → AllByRecursion (KeyColumn columns) places
+  at_places : (columns : List ColumnDef) (row out : Row) (places : List ℕ) → checked_map mapped (zip columns row) ≡ Ok out → AllByRecursion (HasKeyColumn columns) places
       → ((place : ℕ) (c : ColumnDef) → slice_get columns place ≡ Some c → c.key_position ≢ 0 → (v w : Value) → f c v ≡ Ok w → w ≡ v)
       → map (value_at out) places ≡ map (value_at row) places
   at_places columns row out [] e has h = refl

@@ -2,7 +2,6 @@
 use Rattle.std.proofs.Common.{◌≡◌, ℕ, ◌+◌, ◌≤◌, refl, subst, Bool, true, false, List, [], ◌∷◌, Option, Some, None, Ok, arith}
 use Rattle.std.proofs.lemmas.Bool.{eq-eqb, ne_eqb}
 use Rattle.std.specs.Prelude.{nat_le, if◌then◌else◌}
-use Rattle.std.specs.Str.{bytes_eq}
 use Rattle.std.proofs.lemmas.Grind.{common_steps}
 use Rattle.lg_value.specs.declared.refusal.Refusal.{Refusal}
 use Rattle.lg_value.specs.declared.refusal.Refusal.TheVariants.{E02}
@@ -13,7 +12,7 @@ use Rattle.lg_types.specs.declared.table.Part.{Part}
 use Rattle.lg_types.specs.declared.table.Part.TheVariants.{Base, History, View, System}
 use Rattle.lg_model.specs.Refusals.{Checked, and_then, or_refused}
 use Rattle.lg_model.specs.Parts.{columns_of}
-use Rattle.lg_model.specs.Catalog.{Defs, Named, own_part, part_named, or_in, find_part}
+use Rattle.lg_model.specs.Catalog.{is_named, Defs, Named, own_part, part_named, or_in, find_part}
 use Rattle.lg_model.specs.Checks.{row_check, table_of, row_statement_check}
 use Rattle.lg_model.specs.Query.{select_check, query_check}
 use Rattle.lg_model.specs.Agreement.{columns_at, IdsFrom}
@@ -67,7 +66,7 @@ pub found_is_system : (defs : Defs) (name : List ℕ) (found : Named) → find_p
 unfolding find_part
 found_is_system [] name found e = cc
 found_is_system (d ∷ defs) name found e =
-    named_part d (own_part d) (bytes_eq d.name name) (bytes_eq d.history name) (bytes_eq d.view name) (find_part defs name) found IsSystem e
+    named_part d (own_part d) (is_named d.name name) (is_named d.history name) (is_named d.view name) (find_part defs name) found IsSystem e
     (λ h. own_is_system d (nat_le d.id 2) refl h) (λ h. cc) (λ h. cc) (λ h. found_is_system defs name found h)
 
 pub was_found : {A : Type 0} (e : Refusal) (o : Option A) (x : A) → or_refused e o ≡ Ok x → o ≡ Some x

@@ -19,7 +19,7 @@ use Rattle.lg_model.specs.Rows.{Row}
 use Rattle.lg_model.specs.Keys.{Key, key_of, same_key, of_key, part_read, stands, standing}
 use Rattle.lg_model.specs.Parts.{columns_of, shown_of, base_row, rows_of}
 use Rattle.lg_model.specs.Where.{key_fixed}
-use Rattle.lg_model.specs.Changes.{kept_row, arranged, is_taken, one_more, inserted_rows, versions_taken, insertion, row_changes}
+use Rattle.lg_model.specs.Changes.{kept_row, arranged, is_duplicate, one_more, inserted_rows, versions_matched, insertion, row_changes}
 use Rattle.lg_model.specs.Catalog.{Named, Tables, defs_of, versions_of}
 use Rattle.lg_model.specs.Checks.{row_statement_check}
 use Rattle.lg_model.specs.Query.{query_check, selected}
@@ -44,7 +44,7 @@ module _ (columns : List ColumnDef) (names : Option (List (List ℕ))) (V W : Li
       × KeysAgree rs
 
   one_more_same : (before : List Row) (row : Row) → of_key columns (key_of columns row) V ≡ of_key columns (key_of columns row) W → one_more columns V before row ≡ one_more columns W before row
-  unfolding is_taken stands
+  unfolding is_duplicate stands
   one_more_same before row e = ap (λ (vs : List Version). if list_any (λ v. is_none v.end) vs || list_any (λ r. same_key (key_of columns r) (key_of columns row)) before then Err E07 else Ok (before ++ row ∷ [])) e
 
   abbrev next_row : List Version → List Row → Row → Checked (List Row)
@@ -93,7 +93,7 @@ standing_same columns key V W e = rw e refl
 -- ---- INSERT, UPDATE and DELETE
 
 pub same_changes : (def : TableDef) (stmt : RowStmt) (V W : List Version) → AgreeOnAll def.columns (want.row_wants def stmt) V W → row_changes def V stmt ≡ row_changes def W stmt
-unfolding row_changes want.row_wants versions_taken
+unfolding row_changes want.row_wants versions_matched
 same_changes def (Insert table names rows) V W h =
     ap (λ m. and_then m (λ kept. Ok (insertion def.columns kept)))
     (by_wants def.columns names V W rows (all_some (map (want.key_inserted def.columns names) rows)) refl h)

@@ -15,7 +15,7 @@ use Rattle.lg_model.specs.Plans.{TableChange, changed_from, Plan, plan}
 use Rattle.lg_model.specs.Agreement.{SameCatalog, Wants, wants_of, Agree}
 use Rattle.lg_model.specs.Reach.{creates}
 use Rattle.lg_model.specs.Runs.{Sound}
-use Rattle.lg_model.specs.Script.{Reading, Saved, State, Step, by_effect, saves, back_to, gone_back, goes_back, in_opened, by_statement, start, text_step, script_from, script}
+use Rattle.lg_model.specs.Script.{Reading, Saved, State, Step, by_effect, saves, back_to, rolled_back, rolls_back_to, in_transaction, by_statement, start, text_step, script_from, script}
 use Rattle.lg_model.specs.ScriptWants.{text_wants, text_changes, script_wants, changes_from, script_changes}
 use Rattle.lg_model.proofs.Definitions.{tables_after, defs_after}
 use Rattle.lg_model.proofs.SamePlan.{same_plan, same_reply, same_counter}
@@ -137,7 +137,7 @@ module _ (reads : Reading) (tx : ℕ) (D : Defs) (ws : List Wants) where
       here true k = h
       here false k = k
 
-  gone_both : (x y : State) (cs ds : List Saved) → Alike x y → AllAlike cs ds → SameStep (gone_back x cs) (gone_back y ds)
+  gone_both : (x y : State) (cs ds : List Saved) → Alike x y → AllAlike cs ds → SameStep (rolled_back x cs) (rolled_back y ds)
   gone_both x y [] [] h k = same_step x y _ h
   gone_both x y [] (d ∷ ds) h k = absurd k
   gone_both x y (c ∷ cs) [] h k = absurd k
@@ -145,8 +145,8 @@ module _ (reads : Reading) (tx : ℕ) (D : Defs) (ws : List Wants) where
 
   -- ---- a text
 
-  opened_both : (x y : State) (stmt : Stmt) → Alike x y → Agree x.tables y.tables (wants_of D true stmt) → SameStep (in_opened tx x stmt) (in_opened tx y stmt)
-  unfolding goes_back
+  opened_both : (x y : State) (stmt : Stmt) → Alike x y → Agree x.tables y.tables (wants_of D true stmt) → SameStep (in_transaction tx x stmt) (in_transaction tx y stmt)
+  unfolding rolls_back_to
   opened_both x y (s.Create c) h a = same_step x y _ h
   opened_both x y (s.Index c) h a = same_step x y _ h
   opened_both x y (s.Change stmt) h a = changes_both x y (s.Change stmt) refl a.catalog h (record { catalog = a.catalog; cell = a.cell })

@@ -18,7 +18,7 @@ use Rattle.lg_model.specs.Lists.{repeats, has_name}
 use Rattle.lg_model.specs.Checks.{refused_if}
 use Rattle.lg_model.specs.Catalog.{Defs, Tables, defs_of, find_part}
 use Rattle.lg_model.specs.SystemTables.{first_tables}
-use Rattle.lg_model.specs.Create.{names_of, new_names, all_names, table_def, create_check, next_id, names_clash, is_over, has_null_key, is_ledger_name, with_index, index_def, index_check_in, index_check}
+use Rattle.lg_model.specs.Create.{names_of, table_names, all_names, table_def, create_check, next_id, has_bad_name, exceeds_limit, has_null_key, is_ledger_name, with_index, index_def, index_check_in, index_check}
 use Rattle.lg_model.specs.Effect.{Effect, effect, with_def, redefined}
 use Rattle.lg_model.specs.Plans.{TableChange, changed_from, Definition, defined, Plan, plan, table_plan, index_plan, carried_out}
 use Rattle.lg_model.specs.Agreement.{IdsFrom}
@@ -49,7 +49,7 @@ third_false false false false d e h = refl
 
 new_def : (defs : Defs) (c : CreateTable) (def : TableDef) → create_check defs c ≡ Ok def → def ≡ table_def (next_id defs) c
 unfolding create_check
-new_def defs c def e = four_passed (names_clash defs (table_def (next_id defs) c) c.key) (is_over defs (table_def (next_id defs) c) c.key) _ (has_null_key (table_def (next_id defs) c)) E03 E16 E04 E06 (table_def (next_id defs) c) def e
+new_def defs c def e = four_passed (has_bad_name defs (table_def (next_id defs) c) c.key) (exceeds_limit defs (table_def (next_id defs) c) c.key) _ (has_null_key (table_def (next_id defs) c)) E03 E16 E04 E06 (table_def (next_id defs) c) def e
 
 new_id : (defs : Defs) (c : CreateTable) (def : TableDef) → create_check defs c ≡ Ok def → def.id ≡ length defs + 1
 unfolding table_def
@@ -59,9 +59,9 @@ new_columns : (defs : Defs) (c : CreateTable) (def : TableDef) → create_check 
 unfolding create_check
 new_columns defs c def e =
     let d : TableDef = table_def (next_id defs) c in
-    let free : names_clash defs d c.key ≡ false = was_passed (names_clash defs d c.key) E03 _ def e in
+    let free : has_bad_name defs d c.key ≡ false = was_passed (has_bad_name defs d c.key) E03 _ def e in
     subst (λ (x : TableDef). repeats (names_of x.columns) ≡ false) (sym (new_def defs c def e))
-    (third_false (repeats (new_names d)) (list_any (has_name (all_names defs)) (new_names d)) (repeats (names_of d.columns)) (repeats c.key) (list_any (λ x. is_ledger_name x.name) d.columns) free)
+    (third_false (repeats (table_names d)) (list_any (has_name (all_names defs)) (table_names d)) (repeats (names_of d.columns)) (repeats c.key) (list_any (λ x. is_ledger_name x.name) d.columns) free)
 
 ids_append : (n : ℕ) (T : Tables) (t : Table) → IdsFrom n (defs_of T) → t.def.id ≡ n + length (defs_of T) → IdsFrom n (defs_of (T ++ t ∷ []))
 ids_append n [] t h e = (omega (arith, e), tt)

@@ -10,7 +10,7 @@ use Rattle.lg_types.specs.declared.reply.Reply.{Reply}
 use Rattle.lg_model.specs.Limits.{max_savepoints}
 use Rattle.lg_model.specs.Effect.{effect}
 use Rattle.lg_model.specs.Reach.{creates}
-use Rattle.lg_model.specs.Script.{Reading, Saved, State, Step, by_effect, saves, back_to, gone_back, goes_back, in_opened, by_statement, text_step, script_from}
+use Rattle.lg_model.specs.Script.{Reading, Saved, State, Step, by_effect, saves, back_to, rolled_back, rolls_back_to, in_transaction, by_statement, text_step, script_from}
 
 abbrev pub with_copy : State → List ℕ → State
 with_copy x name = record { tables = x.tables; seq = x.seq; saved = record { name = name; tables = x.tables; seq = x.seq } ∷ x.saved }
@@ -43,15 +43,15 @@ module _ (tx : ℕ) (Such : Stmt → Type 0) (P : State → Type 0) (k : KeepsWh
   unfolding saves
   save_keeps x name h = chosen (nat_lt (length x.saved) max_savepoints) (with_copy x name) x _ _ (k.by_save x name h) h
 
-  back : (x : State) (name : List ℕ) (saved : List Saved) → back_to x.saved name ≡ saved → P x → P (gone_back x saved).0
+  back : (x : State) (name : List ℕ) (saved : List Saved) → back_to x.saved name ≡ saved → P x → P (rolled_back x saved).0
   back x name [] e h = h
   back x name (c ∷ cs) e h = k.by_return x name c cs e h
 
-  return_keeps : (x : State) (name : List ℕ) → P x → P (goes_back x name).0
-  unfolding goes_back
+  return_keeps : (x : State) (name : List ℕ) → P x → P (rolls_back_to x name).0
+  unfolding rolls_back_to
   return_keeps x name h = back x name (back_to x.saved name) refl h
 
-  statement_keeps : (x : State) (stmt : Stmt) → Such stmt → P x → P (in_opened tx x stmt).0
+  statement_keeps : (x : State) (stmt : Stmt) → Such stmt → P x → P (in_transaction tx x stmt).0
   statement_keeps x (s.Create c) q h = h
   statement_keeps x (s.Index c) q h = h
   statement_keeps x (s.Change stmt) q h = k.by_change x (s.Change stmt) refl q h

@@ -8,7 +8,7 @@ use Rattle.lg_model.specs.Catalog.{Tables}
 use Rattle.lg_model.specs.Effect.{Effect, effect}
 use Rattle.lg_model.specs.Reach.{creates}
 use Rattle.lg_model.specs.Runs.{Sound}
-use Rattle.lg_model.specs.Script.{Reading, Saved, State, back_to, gone_back, goes_back, start, script}
+use Rattle.lg_model.specs.Script.{Reading, Saved, State, back_to, rolled_back, rolls_back_to, start, script}
 use Rattle.lg_model.specs.Undo.{undone}
 use Rattle.lg_model.proofs.Alls.{all_weaker}
 use Rattle.lg_model.proofs.Plans.{planned}
@@ -87,12 +87,12 @@ module _ (tx : ℕ) where
   }
 
   -- going back, also by a name that no savepoint has, is undo from the counter after it
-  going_back : (x : State) (saved : List Saved) → Undoable x → AllUnder x.tables x.seq saved → (gone_back x saved).0.tables ≡ undone tx (gone_back x saved).0.seq x.tables
+  going_back : (x : State) (saved : List Saved) → Undoable x → AllUnder x.tables x.seq saved → (rolled_back x saved).0.tables ≡ undone tx (rolled_back x saved).0.seq x.tables
   going_back x [] h u = sym (none_undone tx x.seq x.tables h.sound.each)
   going_back x (c ∷ cs) h u = sym u.0.undo
 
-  pub goes_back_undone : (x : State) (name : List ℕ) → Undoable x → (goes_back x name).0.tables ≡ undone tx (goes_back x name).0.seq x.tables
-  unfolding goes_back
+  pub goes_back_undone : (x : State) (name : List ℕ) → Undoable x → (rolls_back_to x name).0.tables ≡ undone tx (rolls_back_to x name).0.seq x.tables
+  unfolding rolls_back_to
   goes_back_undone x name h = going_back x (back_to x.saved name) h (back_under x.tables x.seq name x.saved h.under)
 
 pub script_undoable : (reads : Reading) (T : Tables) (tx : ℕ) (texts : List (List ℕ)) → Sound tx 0 T → Undoable tx (script reads true T tx texts).state
@@ -103,7 +103,7 @@ copies_undone reads T tx texts sound =
     let x : State = (script reads true T tx texts).state in
     all_weaker (Under tx x.tables x.seq) (λ c. undone tx c.seq x.tables ≡ c.tables) (λ c u. u.undo) x.saved (script_undoable reads T tx texts sound).under
 
-pub names_undone : (reads : Reading) (T : Tables) (tx : ℕ) (texts : List (List ℕ)) (name : List ℕ) → Sound tx 0 T → (goes_back (script reads true T tx texts).state name).0.tables ≡ undone tx (goes_back (script reads true T tx texts).state name).0.seq (script reads true T tx texts).state.tables
+pub names_undone : (reads : Reading) (T : Tables) (tx : ℕ) (texts : List (List ℕ)) (name : List ℕ) → Sound tx 0 T → (rolls_back_to (script reads true T tx texts).state name).0.tables ≡ undone tx (rolls_back_to (script reads true T tx texts).state name).0.seq (script reads true T tx texts).state.tables
 names_undone reads T tx texts name sound = goes_back_undone tx (script reads true T tx texts).state name (script_undoable reads T tx texts sound)
 
 pub script_sound : (reads : Reading) (T : Tables) (tx : ℕ) (texts : List (List ℕ)) → Sound tx 0 T → Sound tx (script reads true T tx texts).state.seq (script reads true T tx texts).state.tables

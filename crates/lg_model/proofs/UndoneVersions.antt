@@ -16,7 +16,7 @@ use Rattle.lg_model.specs.Lists.{inserted, checked_map}
 use Rattle.lg_model.specs.Rows.{Row, EventId, same_event, start_cmp, started, with_end, ended, live, stored_row}
 use Rattle.lg_model.specs.Keys.{Key, key_cmp, same_key, version_key, part_read, standing}
 use Rattle.lg_model.specs.Where.{key_fixed}
-use Rattle.lg_model.specs.Changes.{Change, Starts, Ends, Changes, changed, inserted_rows, versions_taken, row_set, replaced, insertion, replacement, deletion, row_changes}
+use Rattle.lg_model.specs.Changes.{Change, Starts, Ends, Changes, changed, inserted_rows, versions_matched, row_set, replaced, insertion, replacement, deletion, row_changes}
 use Rattle.lg_model.specs.Undo.{is_undone, end_left, end_undone, versions_undone}
 use Rattle.lg_model.specs.Runs.{Rising, IsBefore, EndsBefore, MadeBefore}
 use Rattle.lg_model.proofs.Checked.{Led, led}
@@ -140,8 +140,8 @@ module _ (tx n : ℕ) where
         (all_filter (IsAlone V) (λ v. is_none v.end) (part_read columns o V) (part_alone o))
         (all_pass (λ v. is_none v.end) (part_read columns o V))))
 
-    taken_undone : (cond : Option Expr) (taken : List Version) → versions_taken columns cond V ≡ Ok taken → AllByRecursion Undone taken
-    unfolding versions_taken
+    taken_undone : (cond : Option Expr) (taken : List Version) → versions_matched columns cond V ≡ Ok taken → AllByRecursion Undone taken
+    unfolding versions_matched
     taken_undone cond taken e = all_checked_filter Undone _ (standing columns (key_fixed columns cond) V) taken e (standing_undone (key_fixed columns cond))
 
     replacements_undone : (sets : List (List ℕ × Expr)) (taken : List Version) (rows : List Row) → AllByRecursion Undone taken → checked_map (row_set columns sets) taken ≡ Ok rows
@@ -161,12 +161,12 @@ module _ (tx n : ℕ) where
       let is : insertion def.columns l.value ≡ c = cc in
       subst (λ (d : Changes). AllByRecursion (Undoes V) d.0) is (starts_undone def.columns V l.value)
   row_undoes def (Update table sets cond) V c r e =
-      let l : Led (versions_taken def.columns cond V) (λ taken. and_then (checked_map (row_set def.columns sets) taken) (λ rows. Ok (replacement def.columns (zip taken rows)))) c = led _ _ c e in
+      let l : Led (versions_matched def.columns cond V) (λ taken. and_then (checked_map (row_set def.columns sets) taken) (λ rows. Ok (replacement def.columns (zip taken rows)))) c = led _ _ c e in
       let k : Led (checked_map (row_set def.columns sets) l.value) (λ rows. Ok (replacement def.columns (zip l.value rows))) c = led _ _ c l.then_ in
       let is : replacement def.columns (zip l.value k.value) ≡ c = cc in
       subst (λ (d : Changes). AllByRecursion (Undoes V) d.0) is (replacements_undone def.columns V r sets l.value k.value (taken_undone def.columns V r cond l.value l.was) k.was)
   row_undoes def (Delete table cond) V c r e =
-      let l : Led (versions_taken def.columns cond V) (λ taken. Ok (deletion taken)) c = led _ _ c e in
+      let l : Led (versions_matched def.columns cond V) (λ taken. Ok (deletion taken)) c = led _ _ c e in
       let is : deletion l.value ≡ c = cc in
       subst (λ (d : Changes). AllByRecursion (Undoes V) d.0) is
       (all_map (Undone def.columns V r) (Undoes V) (λ v. Ends v.start) (λ v h. h) l.value (taken_undone def.columns V r cond l.value l.was))

@@ -18,12 +18,13 @@ use Rattle.lg_types.specs.declared.version.Version.{Version}
 use Rattle.lg_model.specs.Refusals.{Checked}
 use Rattle.lg_model.specs.Columns.{place_of}
 use Rattle.lg_model.specs.Lists.{has_name, repeats}
-use Rattle.lg_model.specs.Rows.{Row, values_of, stored_row, plain}
-use Rattle.lg_model.specs.Parts.{base_row}
+use Rattle.lg_model.specs.Rows.{Row, values_of, stored_row, value_or_null}
+use Rattle.lg_types.specs.declared.table.Part.TheVariants.{Base}
+use Rattle.lg_model.specs.Parts.{base_row, columns_of}
 use Rattle.lg_model.specs.Keys.{key_of, version_key}
 use Rattle.lg_model.specs.Changes.{expr_set, value_set, row_set}
 use Rattle.lg_model.specs.Create.{names_of}
-use Rattle.lg_model.specs.Checks.{is_key_column, is_in_key, update_check}
+use Rattle.lg_model.specs.Checks.{is_key_column, is_in_key, sets_check, update_check}
 use Rattle.lg_model.proofs.Checked.{was_passed, not_refused}
 use Rattle.lg_model.proofs.SameKeys.{or_false}
 use Rattle.lg_model.proofs.MappedRows.{stored_mapped, key_kept}
@@ -108,7 +109,7 @@ keeps_value columns row c None v w n e = cc
 -- where SET names no column of the key, the new row has the key of the version
 pub update_keeps_key : (columns : List ColumnDef) (sets : List (List ℕ × Expr)) (v : Version) (row : Row) → repeats (names_of columns) ≡ false
     → list_any (λ s. is_in_key columns s.0) sets ≡ false → row_set columns sets v ≡ Ok row
-    → key_of columns (map plain (stored_row columns row)) ≡ version_key columns v
+    → key_of columns (map value_or_null (stored_row columns row)) ≡ version_key columns v
 unfolding row_set
 update_keeps_key columns sets v row r none e =
     ap (key_of columns) (stored_mapped set columns (values_of v) row e)
@@ -119,6 +120,10 @@ update_keeps_key columns sets v row r none e =
     set c x = value_set columns (base_row v) c x (expr_set sets c.name)
 
 -- E12
+sets_passed : (declared columns : List ColumnDef) (sets : List (List ℕ × Expr)) (cond : Option Expr) → sets_check declared columns sets cond ≡ Ok tt → list_any (λ s. is_in_key declared s.0) sets ≡ false
+unfolding sets_check
+sets_passed declared columns sets cond e = was_passed _ E12 _ tt (not_refused _ E04 _ tt e)
+
 pub sets_no_key : (def : TableDef) (part : Part) (sets : List (List ℕ × Expr)) (cond : Option Expr) → update_check def part sets cond ≡ Ok tt → list_any (λ s. is_in_key def.columns s.0) sets ≡ false
 unfolding update_check
-sets_no_key def part sets cond e = was_passed _ E12 _ tt (not_refused _ E04 _ tt (not_refused _ E10 _ tt (not_refused _ E11 _ tt (not_refused _ E03 _ tt e))))
+sets_no_key def part sets cond e = sets_passed def.columns (columns_of def Base) sets cond (not_refused _ E10 _ tt (not_refused _ E11 _ tt (not_refused _ E03 _ tt e)))

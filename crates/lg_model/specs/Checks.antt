@@ -1,5 +1,5 @@
 -- What is checked of INSERT, UPDATE and DELETE before any row is looked at.
-use Rattle.std.specs.Prelude.{ℕ, ◌==◌, ◌&&◌, ◌||◌, not, nat_lt, Bool, true, false, if◌then◌else◌, List, [], ◌∷◌, map, length, Option, Some, None, is_some, Ok, Err}
+use Rattle.std.specs.Prelude.{ℕ, ◌==◌, ◌&&◌, not, nat_lt, Bool, true, false, if◌then◌else◌, List, [], map, length, Option, Some, None, is_some, Ok, Err}
 use Rattle.std.specs.List.{list_any, list_all, filter_map, zip}
 use Rattle.lg_value.specs.declared.value.Value.{Value}
 use Rattle.lg_value.specs.declared.column.ColumnDef.{ColumnDef}
@@ -26,7 +26,7 @@ use Rattle.lg_model.specs.Limits.{max_rows}
 use Rattle.lg_model.specs.Lists.{repeats}
 use Rattle.lg_model.specs.Rows.{Row}
 use Rattle.lg_model.specs.Parts.{columns_of}
-use Rattle.lg_model.specs.Catalog.{Defs, Named, find_part}
+use Rattle.lg_model.specs.Catalog.{Defs, find_part}
 
 -- a check that fails refuses the statement; the checks go in their order
 abbrev pub refused_if : {A : Type 0} → Bool → Refusal → Checked A → Checked A
@@ -36,29 +36,33 @@ refused_if fails e rest = if fails then Err e else rest
 
 -- a column of the type takes values of the class: NULL each, a DECIMAL all numbers, the other number types those without
 -- a point, and a DATE a text literal that is a date
-abbrev pub takes_class : SqlType → Class → Bool → Bool
-takes_class ty Null date = true
-takes_class t.Bit Whole date = true
-takes_class t.Int Whole date = true
-takes_class t.BigInt Whole date = true
-takes_class (t.Decimal p s) Whole date = true
-takes_class (t.Decimal p s) (Dec z) date = true
-takes_class (t.NVarChar n) Text date = true
-takes_class t.Date Text date = date
-takes_class t.Date Date date = true
-takes_class (t.VarBinary n) Bytes date = true
-takes_class _ _ date = false
+abbrev pub accepts_class : SqlType → Class → Bool → Bool
+accepts_class ty Null date = true
+accepts_class t.Bit Whole date = true
+accepts_class t.Int Whole date = true
+accepts_class t.BigInt Whole date = true
+accepts_class (t.Decimal p s) Whole date = true
+accepts_class (t.Decimal p s) (Dec z) date = true
+accepts_class (t.NVarChar n) Text date = true
+accepts_class t.Date Text date = date
+accepts_class t.Date Date date = true
+accepts_class (t.VarBinary n) Bytes date = true
+accepts_class _ _ date = false
 
-abbrev pub is_taken_class : SqlType → Tree → Checked Class → Bool
-is_taken_class ty e (Ok c) = takes_class ty c (is_some (written_day e))
-is_taken_class ty e (Err r) = false
+abbrev pub accepts_class_of : SqlType → Tree → Checked Class → Bool
+accepts_class_of ty e (Ok c) = accepts_class ty c (is_some (written_day e))
+accepts_class_of ty e (Err r) = false
 
 -- the column takes what the expression gives
-abbrev pub takes_expr : List ColumnDef → ColumnDef → Tree → Bool
-takes_expr columns c e = is_taken_class c.ty e (class columns e)
+abbrev pub accepts_expr : List ColumnDef → ColumnDef → Tree → Bool
+accepts_expr columns c e = accepts_class_of c.ty e (class columns e)
 
-abbrev pub takes_value : ColumnDef → Value → Bool
-takes_value c v = takes_class c.ty (class_of_literal v) (is_some (written_day (literal v)))
+-- a literal is a date in a text
+abbrev pub is_date : Value → Bool
+is_date v = is_some (written_day (literal v))
+
+abbrev pub accepts_value : ColumnDef → Value → Bool
+accepts_value c v = accepts_class c.ty (class_of_literal v) (is_date v)
 
 abbrev pub is_truth : Checked Class → Bool
 is_truth (Ok Truth) = true
@@ -99,9 +103,9 @@ is_key_column None = false
 abbrev pub is_in_key : List ColumnDef → List ℕ → Bool
 is_in_key columns name = is_key_column (column_of columns name)
 
-abbrev pub sets_taken : List ColumnDef → Option ColumnDef → Expr → Bool
-sets_taken columns None e = false
-sets_taken columns (Some c) e = takes_expr columns c (tree e)
+abbrev pub accepts_set : List ColumnDef → Option ColumnDef → Expr → Bool
+accepts_set columns None e = false
+accepts_set columns (Some c) e = accepts_expr columns c (tree e)
 
 abbrev pub is_base : Part → Bool
 is_base Base = true
@@ -113,25 +117,39 @@ is_append_only Updatable = false
 
 -- ---- the checks, in their order
 
+-- E18 and E05 of an INSERT: the columns to which the values of a row go
+unfoldable pub listed_check : List ColumnDef → List Row → Checked (Unit {0})
+listed_check columns rows =
+    refused_if (not (list_all (λ row. length row == length columns) rows)) E18
+    (refused_if (not (list_all (λ row. list_all (λ p. accepts_value p.0 p.1) (zip columns row)) rows)) E05
+    (Ok tt))
+
+-- E04 of an INSERT, and these
+unfoldable pub values_check : List ColumnDef → Option (List (List ℕ)) → List Row → Checked (Unit {0})
+values_check declared names rows =
+    refused_if (not (list_all (is_declared declared) (names_listed names))) E04 (listed_check (listed declared names) rows)
+
 unfoldable pub insert_check : TableDef → Part → Option (List (List ℕ)) → List Row → Checked (Unit {0})
 insert_check def part names rows =
     refused_if (repeats (names_listed names)) E03
     (refused_if (nat_lt max_rows (length rows)) E16
     (refused_if (not (is_base part)) E11
-    (refused_if (not (list_all (is_declared def.columns) (names_listed names))) E04
-    (refused_if (not (list_all (λ row. length row == length (listed def.columns names)) rows)) E18
-    (refused_if (not (list_all (λ row. list_all (λ p. takes_value p.0 p.1) (zip (listed def.columns names) row)) rows)) E05
-    (Ok tt))))))
+    (values_check def.columns names rows)))
+
+-- E04, E12 and E05 of an UPDATE: the columns that are declared, and all that expressions may name
+unfoldable pub sets_check : List ColumnDef → List ColumnDef → List (List ℕ × Expr) → Option Expr → Checked (Unit {0})
+sets_check declared columns sets cond =
+    refused_if (not (list_all (λ s. is_declared declared s.0 && names_columns columns (tree s.1)) sets && cond_names columns cond)) E04
+    (refused_if (list_any (λ s. is_in_key declared s.0) sets) E12
+    (refused_if (not (list_all (λ s. accepts_set columns (column_of declared s.0) s.1) sets && cond_is_truth columns cond)) E05
+    (Ok tt)))
 
 unfoldable pub update_check : TableDef → Part → List (List ℕ × Expr) → Option Expr → Checked (Unit {0})
 update_check def part sets cond =
     refused_if (repeats (map (λ s. s.0) sets)) E03
     (refused_if (not (is_base part)) E11
     (refused_if (is_append_only def.kind) E10
-    (refused_if (not (list_all (λ s. is_declared def.columns s.0 && names_columns (columns_of def Base) (tree s.1)) sets && cond_names (columns_of def Base) cond)) E04
-    (refused_if (list_any (λ s. is_in_key def.columns s.0) sets) E12
-    (refused_if (not (list_all (λ s. sets_taken (columns_of def Base) (column_of def.columns s.0) s.1) sets && cond_is_truth (columns_of def Base) cond)) E05
-    (Ok tt))))))
+    (sets_check def.columns (columns_of def Base) sets cond)))
 
 unfoldable pub delete_check : TableDef → Part → Option Expr → Checked (Unit {0})
 delete_check def part cond =

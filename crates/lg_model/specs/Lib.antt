@@ -25,6 +25,7 @@ pub mod Refusals
 pub mod Replies
 pub mod Rows
 pub mod Runs
+pub mod Samples
 pub mod Script
 pub mod ScriptWants
 pub mod SystemTables

@@ -1,8 +1,6 @@
 -- The parts of a table: its columns and its rows as each part shows them.
-use Rattle.std.specs.Prelude.{ℕ, pos, ◌==◌, ◌||◌, nat_le, Bool, false, if◌then◌else◌, List, [], ◌∷◌, ◌++◌, map, flat_map, length, codes, Option, Some, None}
-use Rattle.std.specs.declared.cmp.Ordering.{Ordering}
-use Rattle.lg_value.specs.declared.value.Value.{Value}
-use Rattle.lg_value.specs.declared.value.Value.TheVariants.{Num, Text}
+use Rattle.std.specs.Prelude.{ℕ, false, List, [], ◌∷◌, ◌++◌, map, flat_map, length, codes, Option, Some, None}
+use Rattle.lg_value.specs.declared.value.Value.TheVariants.{Text}
 use Rattle.lg_value.specs.declared.column.ColumnDef.{ColumnDef}
 use Rattle.lg_value.specs.declared.sql_type.SqlType.{SqlType}
 use Rattle.lg_value.specs.declared.sql_type.SqlType.TheVariants.{Int, BigInt, NVarChar}
@@ -79,13 +77,13 @@ abbrev pub history_rows : List Version → List Row
 history_rows versions = flat_map (λ v. history_rows_of v v.end) versions
 
 -- an event with the row that the view shows of it
-abbrev pub Shown : Type 0
-Shown = EventId × Row
+abbrev pub ViewRow : Type 0
+ViewRow = EventId × Row
 
-abbrev pub shown_start : Version → Shown
+abbrev pub shown_start : Version → ViewRow
 shown_start v = (v.start, values_of v ++ number v.start.0 ∷ number v.start.1 ∷ number 1 ∷ Text (codes "INSERT") ∷ [])
 
-abbrev pub shown_end : Version → Option EventId → List Shown
+abbrev pub shown_end : Version → Option EventId → List ViewRow
 shown_end v (Some end) = (end, values_of v ++ number end.0 ∷ number end.1 ∷ number 2 ∷ Text (codes "DELETE") ∷ []) ∷ []
 shown_end v None = []
 

@@ -12,7 +12,7 @@ ghost use Rattle.lg_model.specs.Catalog.{Defs, Tables, defs_of};
 ghost use Rattle.lg_model.specs.Effect.{effect};
 ghost use Rattle.lg_model.specs.Locks.{catalog_want, cell_wants, conflict, some_conflict, clash};
 ghost use Rattle.lg_model.specs.Reach.{creates};
-ghost use Rattle.lg_model.specs.Script.{Reading, State, start, in_opened, script};
+ghost use Rattle.lg_model.specs.Script.{Reading, State, start, in_transaction, script};
 
 /// A statement that doesn't create leaves all definitions: a table statement, and a transaction of such a statement alone.
 pub fn creates_alone_change_definitions()
@@ -39,7 +39,7 @@ pub fn cell_wants_share_the_catalog()
 pub fn creates_want_the_catalog_alone()
     ensures wants { (stmt : Stmt) → creates stmt ≡ true → catalog_want false stmt ≡ Some X }
     ensures conflicts { (m : Mode) → (conflict X m ≡ true) × (conflict m X ≡ true) }
-    ensures opened { (tx : ℕ) (x : State) (stmt : Stmt) → creates stmt ≡ true → in_opened tx x stmt ≡ (x, Refused E17) }
+    ensures opened { (tx : ℕ) (x : State) (stmt : Stmt) → creates stmt ≡ true → in_transaction tx x stmt ≡ (x, Refused E17) }
 {}
 
 /// A script without texts leaves the tables and replies nothing.

@@ -5,6 +5,7 @@ mod agreement;
 mod catalog;
 mod expressions;
 mod runs;
+mod samples;
 mod scripts;
 mod undo;
 
@@ -21,6 +22,10 @@ pub use expressions::{
     truths_are_kleenes,
 };
 pub use runs::{opened_scripts_keep_tables_sound, statements_keep_tables_sound};
+pub use samples::{
+    events_are_numbered, journals_are_legal, keys_are_fixed, keys_are_locked,
+    refusals_have_an_order, rows_are_selected, scripts_are_answered, statements_are_answered,
+};
 pub use scripts::{
     opened_scripts_are_their_changes, opened_scripts_leave_what_they_dont_want,
     opened_scripts_over_agreeing_states_are_one, statements_alone_over_agreeing_states_are_one,

@@ -8,7 +8,7 @@ ghost use Rattle.lg_model.specs.Effect.{effect};
 ghost use Rattle.lg_model.specs.Plans.{plan, changed_from};
 ghost use Rattle.lg_model.specs.Reach.{creates};
 ghost use Rattle.lg_model.specs.Runs.{Sound};
-ghost use Rattle.lg_model.specs.Script.{Reading, goes_back, script};
+ghost use Rattle.lg_model.specs.Script.{Reading, rolls_back_to, script};
 ghost use Rattle.lg_model.specs.Undo.{undone};
 
 /// Undo by number of a statement that doesn't create gives the tables before it: of the whole statement, and of one that
@@ -25,6 +25,6 @@ pub fn going_back_is_undo_by_number()
     ensures copies { (reads : Reading) (T : Tables) (tx : ℕ) (texts : List (List ℕ)) → Sound tx 0 T
         → AllByRecursion (λ c. undone tx c.seq (script reads true T tx texts).state.tables ≡ c.tables) (script reads true T tx texts).state.saved }
     ensures names { (reads : Reading) (T : Tables) (tx : ℕ) (texts : List (List ℕ)) (name : List ℕ) → Sound tx 0 T
-        → (goes_back (script reads true T tx texts).state name).0.tables
-        ≡ undone tx (goes_back (script reads true T tx texts).state name).0.seq (script reads true T tx texts).state.tables }
+        → (rolls_back_to (script reads true T tx texts).state name).0.tables
+        ≡ undone tx (rolls_back_to (script reads true T tx texts).state name).0.seq (script reads true T tx texts).state.tables }
 {}
