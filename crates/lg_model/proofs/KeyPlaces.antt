@@ -1,5 +1,5 @@
 -- Each place of a key has a column, which has a key position.
-use Rattle.std.proofs.Common.{arith, ◌≡◌, ◌≢◌, ℕ, suc, refl, ap, subst, Bool, true, false, List, [], ◌∷◌, map, Some}
+use Rattle.std.proofs.Common.{arith, ◌≡◌, ◌≢◌, ℕ, suc, refl, ap, subst, Bool, true, false, List, [], ◌∷◌, Some}
 use Rattle.std.proofs.lemmas.Bool.{eq-eqb}
 use Rattle.std.specs.Prelude.{slice_get, ◌+◌, ◌==◌, not}
 use Rattle.std.specs.List.{AllByRecursion, filter}
@@ -36,11 +36,11 @@ module _ (columns : List ColumnDef) where
   unfolding key_places
   key_place_columns =
       all_map (λ p. Stands p × (in_key p ≡ true)) (HasKeyColumn columns) (λ p. p.0)
-          (λ p h. (p.1, h.0, not_zero p.1.key_position (p.1.key_position == 0) refl h.1)) (sorted position_cmp (filter in_key (numbered 0 columns)))
-          (all_sorted (λ p. Stands p × (in_key p ≡ true)) position_cmp (filter in_key (numbered 0 columns))
-              (all_both Stands (λ p. in_key p ≡ true) (filter in_key (numbered 0 columns))
-                  (all_filter Stands in_key (numbered 0 columns) (numbered_stand columns 0 (λ i. ap (slice_get columns) (omega arith))))
-                  (all_pass in_key (numbered 0 columns))))
+      (λ p h. (p.1, h.0, not_zero p.1.key_position (p.1.key_position == 0) refl h.1)) (sorted position_cmp (filter in_key (numbered 0 columns)))
+      (all_sorted (λ p. Stands p × (in_key p ≡ true)) position_cmp (filter in_key (numbered 0 columns))
+      (all_both Stands (λ p. in_key p ≡ true) (filter in_key (numbered 0 columns))
+      (all_filter Stands in_key (numbered 0 columns) (numbered_stand columns 0 (λ i. ap (slice_get columns) (omega arith))))
+      (all_pass in_key (numbered 0 columns))))
 
   pub key_places_have : AllByRecursion (HasColumn columns) (key_places columns)
   key_places_have = all_weaker (HasKeyColumn columns) (HasColumn columns) (λ p h. (h.0, h.1)) (key_places columns) key_place_columns

@@ -1,18 +1,13 @@
 -- Rows that are made column by column: as columns store them, and their keys.
-use Rattle.std.proofs.Common.{◌≡◌, ◌≢◌, ℕ, zero, suc, refl, sym, subst, ◌∙◌, List, [], ◌∷◌, map, Option, Some, None, Ok, arith}
-use Rattle.std.proofs.lemmas.List.Quantifiers.{position-Some}
-use Rattle.std.proofs.lemmas.Option.{slice_get-get_or}
-use Rattle.std.proofs.lemmas.Bool.{eqb-true}
-use Rattle.std.specs.Prelude.{position, slice_get, get_or, ◌==◌}
-use Rattle.std.specs.List.{AllByRecursion, cons_option, filter_map, zip}
+use Rattle.std.proofs.Common.{◌≡◌, ◌≢◌, ℕ, zero, suc, refl, subst, List, [], ◌∷◌, map, Some, Ok}
+use Rattle.std.specs.Prelude.{slice_get}
+use Rattle.std.specs.List.{AllByRecursion, zip}
 use Rattle.lg_value.specs.declared.value.Value.{Value}
 use Rattle.lg_value.specs.declared.value.Value.TheVariants as val
-use Rattle.lg_value.specs.declared.sql_type.SqlType.TheVariants.{Bit}
 use Rattle.lg_value.specs.declared.column.ColumnDef.{ColumnDef}
 use Rattle.lg_model.specs.Refusals.{Checked, and_then}
 use Rattle.lg_model.specs.Lists.{checked_map}
 use Rattle.lg_model.specs.Rows.{Row, stored_value, stored_row, value_or_null}
-use Rattle.lg_model.specs.Parts.{added_column}
 use Rattle.lg_model.specs.Keys.{key_places, value_at, key_of}
 use Rattle.lg_model.proofs.Checked.{Led, led}
 use Rattle.lg_model.proofs.KeyPlaces.{HasKeyColumn, key_place_columns}
