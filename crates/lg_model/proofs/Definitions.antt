@@ -26,7 +26,7 @@ use Rattle.lg_model.specs.Script.{Reading, Saved, State, back_to, in_transaction
 use Rattle.lg_types.specs.declared.reply.Reply.TheVariants.{Refused}
 use Rattle.lg_value.specs.declared.refusal.Refusal.TheVariants.{E17}
 use Rattle.lg_model.proofs.Plans.{planned, same_def}
-use Rattle.lg_model.proofs.Scripts.{Keeps, script_keeps}
+use Rattle.lg_model.proofs.StepByStep.{Keeps, script_keeps}
 
 -- ---- a statement
 
@@ -100,7 +100,7 @@ module _ (defs : Defs) where
 
   pub all_have : (tx : ℕ) → Keeps tx Have
   all_have tx = record {
-    by_change = λ x stmt e h. record { tables = defs_after x.tables tx x.seq stmt e ∙ h.tables; saved = h.saved };
+    by_change = λ x stmt e q h. record { tables = defs_after x.tables tx x.seq stmt e ∙ h.tables; saved = h.saved };
     by_save = λ x name h. record { tables = h.tables; saved = (h.tables, h.saved) };
     by_return = λ x name c cs e h. returned (back_to x.saved name) x (have_back name x.saved h.saved) c cs e;
   }

@@ -69,7 +69,7 @@ found_is_system (d ∷ defs) name found e =
     named_part d (own_part d) (is_named d.name name) (is_named d.history name) (is_named d.view name) (find_part defs name) found IsSystem e
     (λ h. own_is_system d (nat_le d.id 2) refl h) (λ h. cc) (λ h. cc) (λ h. found_is_system defs name found h)
 
-was_found : {A : Type 0} (e : Refusal) (o : Option A) (x : A) → or_refused e o ≡ Ok x → o ≡ Some x
+pub was_found : {A : Type 0} (e : Refusal) (o : Option A) (x : A) → or_refused e o ≡ Ok x → o ≡ Some x
 was_found e (Some y) x h = cc
 was_found e None x h = cc
 

@@ -27,6 +27,7 @@ pub mod Rows
 pub mod Runs
 pub mod Samples
 pub mod Script
+pub mod ScriptWants
 pub mod SystemTables
 pub mod Truths
 pub mod TypeCodes

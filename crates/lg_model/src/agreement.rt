@@ -1,11 +1,15 @@
-//! Laws on which serial execution stands: what two states have to agree on, so that a statement does the same over both.
+//! Laws on which serial execution stands: what two states have to agree on, so that a statement does the same over both,
+//! and what a statement leaves alone.
 
 ghost use Rattle.std.specs.Prelude.{ℕ, ◌≡◌, false};
 ghost use Rattle.lg_types.specs.declared.statement.Stmt.{Stmt};
-ghost use Rattle.lg_model.specs.Catalog.{Tables, defs_of};
+ghost use Rattle.lg_model.specs.Keys.{Key, of_key};
+ghost use Rattle.lg_model.specs.Catalog.{Tables, defs_of, versions_of};
 ghost use Rattle.lg_model.specs.Effect.{effect};
 ghost use Rattle.lg_model.specs.Plans.{plan, carried_out};
-ghost use Rattle.lg_model.specs.Agreement.{Agree, IdsFrom, wants_of};
+ghost use Rattle.lg_model.specs.Agreement.{Agree, IdsFrom, columns_at, wants_of};
+ghost use Rattle.lg_model.specs.Reach.{reaches, reaches_table};
+ghost use Rattle.lg_model.specs.Runs.{Sound};
 
 /// A statement does what its plan says: its starts and ends in order, numbered from the counter, and its definition; and
 /// it replies what its plan says.
@@ -21,4 +25,13 @@ pub fn agreeing_states_give_one_plan()
         → (effect T tx seq stmt).reply ≡ (effect U tx seq stmt).reply }
     ensures counter { (T U : Tables) (tx seq : ℕ) (stmt : Stmt) → IdsFrom 1 (defs_of T) → Agree T U (wants_of (defs_of T) false stmt)
         → (effect T tx seq stmt).seq ≡ (effect U tx seq stmt).seq }
+{}
+
+/// Where a statement wants no X on the rows of a key, their versions are those from before; and where it wants none on
+/// anything of a table, all versions of the table are.
+pub fn statements_leave_what_they_dont_want()
+    ensures keys { (T : Tables) (tx seq id : ℕ) (key : Key) (stmt : Stmt) → Sound tx seq T → reaches id key (wants_of (defs_of T) false stmt) ≡ false
+        → of_key (columns_at (defs_of T) id) key (versions_of (effect T tx seq stmt).tables id) ≡ of_key (columns_at (defs_of T) id) key (versions_of T id) }
+    ensures tables { (T : Tables) (tx seq id : ℕ) (stmt : Stmt) → reaches_table id (wants_of (defs_of T) false stmt) ≡ false
+        → versions_of (effect T tx seq stmt).tables id ≡ versions_of T id }
 {}
