@@ -1,0 +1,39 @@
+-- The transcripts of a history.
+use Rattle.std.specs.Prelude.{ℕ, suc, ◌≡◌, ◌≢◌, ◌<◌, List, [], ◌∷◌, ◌++◌, length, Option, Some, None}
+use Rattle.lg_history.specs.Lists.{Text, At}
+use Rattle.lg_history.specs.Transcripts.{Transcript}
+use Rattle.lg_history.specs.Acts.{Event, by, closes, of}
+use Rattle.lg_history.specs.Sessions.{Sess, gone, transcript_of}
+use Rattle.lg_history.specs.Worlds.{first, run}
+use Rattle.lg_history.specs.Guards.{AtRest}
+
+-- each act is one of the first k sessions'
+abbrev pub SessionsBelow : ℕ → List Event → Type 0
+SessionsBelow k [] = Unit {0}
+SessionsBelow k (by s a ∷ es) = (s < k) × SessionsBelow k es
+SessionsBelow k (closes n ∷ es) = SessionsBelow k es
+
+-- these are the statements and the transcripts of the sessions from number n on, and each is at rest
+abbrev pub AreOf : (ℕ → Sess) → ℕ → List (List Text) → List Transcript → Type 0
+AreOf at n [] [] = Unit {0}
+AreOf at n (texts ∷ input) (x ∷ X) = (texts ≡ (at n).desk.taken) × (x ≡ transcript_of (at n)) × AtRest (at n) × AreOf at (suc n) input X
+AreOf at n _ _ = ⊥
+
+-- this session was over before any other did anything
+pub record RanBefore (u : ℕ) (h : List Event) : Type 0 where
+  pub earlier : List Event
+  pub later : List Event
+  pub is : h ≡ earlier ++ later
+  pub others : (s : ℕ) → s ≢ u → of s earlier ≡ []
+  pub gone : ((run first earlier).at u).phase ≡ gone
+
+abbrev pub SetupRan : Option ℕ → List Event → Type 0
+SetupRan None h = Unit {0}
+SetupRan (Some u) h = RanBefore u h
+
+-- input, setup and transcripts of a history at whose end every session is at rest
+pub record IsWhole (input : List (List Text)) (setup : Option ℕ) (X : List Transcript) (h : List Event) : Type 0 where
+  pub sessions : AreOf (run first h).at 0 input X
+  pub all : SessionsBelow (length X) h
+  pub names_differ : (i j : ℕ) (x y : Transcript) → At X i x → At X j y → i ≢ j → x.session ≢ y.session
+  pub setup_ran : SetupRan setup h

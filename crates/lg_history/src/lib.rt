@@ -1,0 +1,6 @@
+//! Histories of sessions: definitions of agreement and of histories, and laws about them.
+#![tactic(auto)]
+
+mod laws;
+
+pub use laws::histories_agree;
