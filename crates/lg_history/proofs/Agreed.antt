@@ -95,13 +95,13 @@ module _ (q : Meaning) (db : Text) (es : List Event) (g : Good q db first es) (i
   abbrev shown_by : ℕ → List Fact
   shown_by s = all_shown (of s es)
 
-  told_of : (s : ℕ) → Told q (W.at s) (shown_by s)
+  pub told_of : (s : ℕ) → Told q (W.at s) (shown_by s)
   told_of s = told q db s first es [] g (record { shows = refl; in_order = refl; end_is_last = tt; in_place = tt })
 
-  of_at : (i : ℕ) (x : Transcript) → At X i x → IsOf W.at (length X) i x
+  pub of_at : (i : ℕ) (x : Transcript) → At X i x → IsOf W.at (length X) i x
   of_at i x h = subst (λ (m : ℕ). IsOf W.at (length X) m x) (omega arith) (is_of W.at (length X) 0 input X whole.sessions (omega arith) i x h)
 
-  there_at : (i : ℕ) → i < length X → At X i (transcript_of (W.at i))
+  pub there_at : (i : ℕ) → i < length X → At X i (transcript_of (W.at i))
   there_at i l = subst (λ (m : ℕ). At X i (transcript_of (W.at m))) (omega arith) (there_is W.at 0 input X whole.sessions i l)
 
   facts_at_rest : (s : ℕ) → AtRest (W.at s) → facts_of q (transcript_of (W.at s)) ≡ shown_by s

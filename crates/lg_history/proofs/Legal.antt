@@ -53,7 +53,7 @@ module _ (q : Meaning) (db : Text) where
       go (Some d) = tt
   closes_item w s n a = tt
 
-  closings_run : (w : World) (es : List Event) → Good q db w es → ClosesPending 0 w.items → ClosesPending 0 (run w es).items
+  pub closings_run : (w : World) (es : List Event) → Good q db w es → ClosesPending 0 w.items → ClosesPending 0 (run w es).items
   closings_run w [] g h = h
   closings_run w (by s a ∷ es) g h = closings_run (step w (by s a)) es g.1 (closings_append 0 (count w.items - closed w.items) w.items (items_by (w.at s) a) (pending_sum w.items h) h (closes_item w s (count w.items - closed w.items) a))
   closings_run w (closes k ∷ es) g h = let k1 = g.0.0 in let k2 = g.0.1 in let k3 = g.0.2 in closings_run (step w (closes k)) es g.1 (closings_append 0 (count w.items - closed w.items) w.items (Close k ∷ []) (pending_sum w.items h) h (k1, k2, omega arith, tt))

@@ -11,10 +11,14 @@ pub mod Grows
 pub mod Issued
 pub mod Legal
 pub mod Names
+pub mod Order
+pub mod Ordered
 pub mod Owners
 pub mod Placed
 pub mod Refused
 pub mod Rising
+pub mod Samples
+pub mod Rows
 pub mod Settles
 pub mod Setup
 pub mod Signs

@@ -2,9 +2,10 @@
 use Rattle.std.specs.Prelude.{ℕ, suc, ◌≡◌, ◌≢◌, ◌<◌, List, [], ◌∷◌, ◌++◌, length, Option, Some, None}
 use Rattle.lg_history.specs.Lists.{Text, At}
 use Rattle.lg_history.specs.Transcripts.{Transcript}
-use Rattle.lg_history.specs.Acts.{Event, by, closes, of}
+use Rattle.lg_history.specs.StepOrder.{Row}
+use Rattle.lg_history.specs.Acts.{Act, answers, Event, by, closes, of}
 use Rattle.lg_history.specs.Sessions.{Sess, gone, transcript_of}
-use Rattle.lg_history.specs.Worlds.{first, run}
+use Rattle.lg_history.specs.Worlds.{World, first, step, run}
 use Rattle.lg_history.specs.Guards.{AtRest}
 
 -- each act is one of the first k sessions'
@@ -37,3 +38,21 @@ pub record IsWhole (input : List (List Text)) (setup : Option ℕ) (X : List Tra
   pub all : SessionsBelow (length X) h
   pub names_differ : (i j : ℕ) (x y : Transcript) → At X i x → At X j y → i ≢ j → x.session ≢ y.session
   pub setup_ran : SetupRan setup h
+
+-- ---- one statement after another
+
+-- at each act no other session is inside a statement with something to be shown
+abbrev pub OneAtATime : World → List Event → Type 0
+OneAtATime w [] = Unit {0}
+OneAtATime w (by s a ∷ es) = ((t : ℕ) → t ≢ s → (w.at t).desk.pending ≡ []) × OneAtATime (step w (by s a)) es
+OneAtATime w (closes k ∷ es) = OneAtATime (step w (closes k)) es
+
+-- the entries in the order in which they were written
+abbrev pub rows_by : ℕ → Act → List Row
+rows_by s (answers entry) = (s, entry) ∷ []
+rows_by s _ = []
+
+abbrev pub rows_of : List Event → List Row
+rows_of [] = []
+rows_of (by s a ∷ es) = rows_by s a ++ rows_of es
+rows_of (closes k ∷ es) = rows_of es

@@ -10,9 +10,11 @@ pub mod Lists
 pub mod Marks
 pub mod Meaning
 pub mod Refusals
+pub mod Sample
 pub mod Serial
 pub mod Sessions
 pub mod Standing
+pub mod StepOrder
 pub mod Transactions
 pub mod Transcripts
 pub mod Worlds

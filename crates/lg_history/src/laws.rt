@@ -1,6 +1,6 @@
 //! What holds of every history.
 
-ghost use Rattle.std.specs.Prelude.{ℕ, List, Option};
+ghost use Rattle.std.specs.Prelude.{ℕ, List, Option, Some};
 ghost use Rattle.lg_history.specs.Lists.{Text};
 ghost use Rattle.lg_history.specs.Meaning.{Meaning};
 ghost use Rattle.lg_history.specs.Transcripts.{Transcript};
@@ -8,7 +8,9 @@ ghost use Rattle.lg_history.specs.Agree.{Agree};
 ghost use Rattle.lg_history.specs.Acts.{Event};
 ghost use Rattle.lg_history.specs.Worlds.{first, run};
 ghost use Rattle.lg_history.specs.Guards.{Good};
-ghost use Rattle.lg_history.specs.Histories.{IsWhole};
+ghost use Rattle.lg_history.specs.StepOrder.{IsStepOrder};
+ghost use Rattle.lg_history.specs.Histories.{IsWhole, OneAtATime, rows_of};
+ghost use Rattle.lg_history.specs.Sample as sample;
 
 /// The transcripts of a history in which each event paid what it owed, and at whose end every session is at rest, agree
 /// with the journal and the digests that the history leads to.
@@ -16,4 +18,18 @@ pub fn histories_agree()
     ensures { (q : Meaning) (database : Text) (history : List Event) (input : List (List Text)) (setup : Option ℕ) (transcripts : List Transcript)
         → Good q database first history → IsWhole input setup transcripts history
         → Agree q database input setup transcripts (run first history).items (run first history).issued }
+{}
+
+/// Where such a history takes one statement after another, its transcripts are one list besides, in which ids and marks count.
+pub fn histories_keep_step_order()
+    ensures { (q : Meaning) (database : Text) (history : List Event) (input : List (List Text)) (setup : Option ℕ) (transcripts : List Transcript)
+        → Good q database first history → IsWhole input setup transcripts history → OneAtATime first history
+        → IsStepOrder q transcripts (run first history).items (rows_of history) }
+{}
+
+/// There is such a history: setup and another session commit, a third one meets a lock, ends and is issued a digest.
+pub fn a_history_is_good()
+    ensures good { Good sample.meaning sample.database first sample.history }
+    ensures whole { IsWhole sample.input (Some 0) sample.transcripts sample.history }
+    ensures one_at_a_time { OneAtATime first sample.history }
 {}

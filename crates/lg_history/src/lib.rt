@@ -3,4 +3,4 @@
 
 mod laws;
 
-pub use laws::histories_agree;
+pub use laws::{a_history_is_good, histories_agree, histories_keep_step_order};
