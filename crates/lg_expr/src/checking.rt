@@ -10,9 +10,9 @@ use crate::days::written_day;
 use crate::names::{column_of, names_columns};
 use lg_value::{Class, ColumnDef, Expr, Op, Refusal, SqlType, Value};
 
-/// The class of a column.
+/// The class of a column of this type, or E05 where the type's parameters are out of range.
 #[tactic(auto, unfolding(lg_value::specs::Stored::is_in_range))]
-fn class_of_type(ty: &SqlType) -> Result<Class, Refusal>
+pub fn class_of_type(ty: &SqlType) -> Result<Class, Refusal>
     ensures { result ≡ spec.class_of_type ty.now }
 {
     match ty {
@@ -26,7 +26,7 @@ fn class_of_type(ty: &SqlType) -> Result<Class, Refusal>
 }
 
 /// The class of a literal.
-fn class_of_literal(value: &Value) -> Class
+pub fn class_of_literal(value: &Value) -> Class
     ensures { result ≡ spec.class_of_literal value.now }
 {
     match value {
@@ -51,7 +51,7 @@ fn beside(e: &Expr, a: Class, b: Class) -> Class
 }
 
 /// The class of an expression, or E05 where its classes don't agree or a column isn't there.
-fn class(e: &Expr, columns: &[ColumnDef]) -> Result<Class, Refusal>
+pub fn class(e: &Expr, columns: &[ColumnDef]) -> Result<Class, Refusal>
     ensures { result ≡ spec.class columns.now (tree e.now) }
 {
     match e {

@@ -11,9 +11,11 @@ mod operators;
 mod seen;
 mod truth;
 
-pub use checking::check;
+pub use checking::{check, class, class_of_literal, class_of_type};
+pub use days::written_day;
 pub use evaluation::eval;
 pub use lg_types::Outcome;
+pub use names::{column_of, names_columns, place_of};
 
 #[cfg(test)]
 mod tests;

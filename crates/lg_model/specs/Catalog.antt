@@ -1,5 +1,5 @@
 -- The definitions of all tables, and what a name stands for among them.
-use Rattle.std.specs.Prelude.{ℕ, ◌==◌, ◌||◌, nat_le, Bool, if◌then◌else◌, List, [], ◌∷◌, map, Option, Some, None}
+use Rattle.std.specs.Prelude.{ℕ, ◌==◌, ◌||◌, nat_le, Bool, false, if◌then◌else◌, List, [], ◌∷◌, map, Option, Some, None}
 use Rattle.std.specs.List.{list_any}
 use Rattle.std.specs.Str.{bytes_eq}
 use Rattle.lg_types.specs.declared.table.TableDef.{TableDef}
@@ -25,12 +25,17 @@ Named = TableDef × Part
 abbrev pub own_part : TableDef → Part
 own_part def = if nat_le def.id 2 then System else Base
 
+-- the name is this one; who has no name is found by none
+abbrev pub is_named : List ℕ → List ℕ → Bool
+is_named [] name = false
+is_named own name = bytes_eq own name
+
 -- the part of this table that has the name
 abbrev pub part_named : TableDef → List ℕ → Option Part
 part_named def name =
-    if bytes_eq def.name name then Some (own_part def)
-    else (if bytes_eq def.history name then Some History
-    else (if bytes_eq def.view name then Some View else None))
+    if is_named def.name name then Some (own_part def)
+    else (if is_named def.history name then Some History
+    else (if is_named def.view name then Some View else None))
 
 abbrev pub or_in : Option Part → TableDef → Option Named → Option Named
 or_in (Some part) def rest = Some (def, part)

@@ -72,11 +72,11 @@ arranged columns (Some names) values = map (λ c. value_named (zip names values)
 
 module _ (columns : List ColumnDef) (versions : List Version) where
   -- a row of this key stands, or is among those inserted before
-  unfoldable pub is_taken : List Row → Key → Bool
-  is_taken before key = stands columns key versions || list_any (λ row. same_key (key_of columns row) key) before
+  unfoldable pub is_duplicate : List Row → Key → Bool
+  is_duplicate before key = stands columns key versions || list_any (λ row. same_key (key_of columns row) key) before
 
   abbrev pub one_more : List Row → Row → Checked (List Row)
-  one_more before row = if is_taken before (key_of columns row) then Err E07 else Ok (before ++ row ∷ [])
+  one_more before row = if is_duplicate before (key_of columns row) then Err E07 else Ok (before ++ row ∷ [])
 
   -- the rows of VALUES as they are kept, in written order, each after those before it
   unfoldable pub inserted_rows : Option (List (List ℕ)) → List Row → Checked (List Row)
@@ -85,8 +85,8 @@ module _ (columns : List ColumnDef) (versions : List Version) where
 -- ---- UPDATE and DELETE
 
 -- the versions that a condition takes, in key order
-unfoldable pub versions_taken : List ColumnDef → Option Expr → List Version → Checked (List Version)
-versions_taken columns cond versions =
+unfoldable pub versions_matched : List ColumnDef → Option Expr → List Version → Checked (List Version)
+versions_matched columns cond versions =
     checked_filter (λ v. holds (columns ++ start_columns) cond (base_row v)) (standing columns (key_fixed columns cond) versions)
 
 abbrev pub expr_set : List (List ℕ × Expr) → List ℕ → Option Expr
@@ -130,6 +130,6 @@ deletion versions = (map (λ v. Ends v.start) versions, length versions)
 unfoldable pub row_changes : TableDef → List Version → RowStmt → Checked Changes
 row_changes def versions (Insert table names rows) = and_then (inserted_rows def.columns versions names rows) (λ kept. Ok (insertion def.columns kept))
 row_changes def versions (Update table sets cond) =
-    and_then (versions_taken def.columns cond versions) (λ taken.
+    and_then (versions_matched def.columns cond versions) (λ taken.
     and_then (checked_map (row_set def.columns sets) taken) (λ rows. Ok (replacement def.columns (zip taken rows))))
-row_changes def versions (Delete table cond) = and_then (versions_taken def.columns cond versions) (λ taken. Ok (deletion taken))
+row_changes def versions (Delete table cond) = and_then (versions_matched def.columns cond versions) (λ taken. Ok (deletion taken))

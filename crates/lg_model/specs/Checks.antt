@@ -36,29 +36,33 @@ refused_if fails e rest = if fails then Err e else rest
 
 -- a column of the type takes values of the class: NULL each, a DECIMAL all numbers, the other number types those without
 -- a point, and a DATE a text literal that is a date
-abbrev pub takes_class : SqlType → Class → Bool → Bool
-takes_class ty Null date = true
-takes_class t.Bit Whole date = true
-takes_class t.Int Whole date = true
-takes_class t.BigInt Whole date = true
-takes_class (t.Decimal p s) Whole date = true
-takes_class (t.Decimal p s) (Dec z) date = true
-takes_class (t.NVarChar n) Text date = true
-takes_class t.Date Text date = date
-takes_class t.Date Date date = true
-takes_class (t.VarBinary n) Bytes date = true
-takes_class _ _ date = false
+abbrev pub accepts_class : SqlType → Class → Bool → Bool
+accepts_class ty Null date = true
+accepts_class t.Bit Whole date = true
+accepts_class t.Int Whole date = true
+accepts_class t.BigInt Whole date = true
+accepts_class (t.Decimal p s) Whole date = true
+accepts_class (t.Decimal p s) (Dec z) date = true
+accepts_class (t.NVarChar n) Text date = true
+accepts_class t.Date Text date = date
+accepts_class t.Date Date date = true
+accepts_class (t.VarBinary n) Bytes date = true
+accepts_class _ _ date = false
 
-abbrev pub is_taken_class : SqlType → Tree → Checked Class → Bool
-is_taken_class ty e (Ok c) = takes_class ty c (is_some (written_day e))
-is_taken_class ty e (Err r) = false
+abbrev pub accepts_class_of : SqlType → Tree → Checked Class → Bool
+accepts_class_of ty e (Ok c) = accepts_class ty c (is_some (written_day e))
+accepts_class_of ty e (Err r) = false
 
 -- the column takes what the expression gives
-abbrev pub takes_expr : List ColumnDef → ColumnDef → Tree → Bool
-takes_expr columns c e = is_taken_class c.ty e (class columns e)
+abbrev pub accepts_expr : List ColumnDef → ColumnDef → Tree → Bool
+accepts_expr columns c e = accepts_class_of c.ty e (class columns e)
 
-abbrev pub takes_value : ColumnDef → Value → Bool
-takes_value c v = takes_class c.ty (class_of_literal v) (is_some (written_day (literal v)))
+-- a literal is a date in a text
+abbrev pub is_date : Value → Bool
+is_date v = is_some (written_day (literal v))
+
+abbrev pub accepts_value : ColumnDef → Value → Bool
+accepts_value c v = accepts_class c.ty (class_of_literal v) (is_date v)
 
 abbrev pub is_truth : Checked Class → Bool
 is_truth (Ok Truth) = true
@@ -99,9 +103,9 @@ is_key_column None = false
 abbrev pub is_in_key : List ColumnDef → List ℕ → Bool
 is_in_key columns name = is_key_column (column_of columns name)
 
-abbrev pub sets_taken : List ColumnDef → Option ColumnDef → Expr → Bool
-sets_taken columns None e = false
-sets_taken columns (Some c) e = takes_expr columns c (tree e)
+abbrev pub accepts_set : List ColumnDef → Option ColumnDef → Expr → Bool
+accepts_set columns None e = false
+accepts_set columns (Some c) e = accepts_expr columns c (tree e)
 
 abbrev pub is_base : Part → Bool
 is_base Base = true
@@ -113,45 +117,60 @@ is_append_only Updatable = false
 
 -- ---- the checks, in their order
 
-unfoldable pub insert_check : TableDef → Part → Option (List (List ℕ)) → List Row → Checked TableDef
+-- E18 and E05 of an INSERT: the columns to which the values of a row go
+unfoldable pub listed_check : List ColumnDef → List Row → Checked (Unit {0})
+listed_check columns rows =
+    refused_if (not (list_all (λ row. length row == length columns) rows)) E18
+    (refused_if (not (list_all (λ row. list_all (λ p. accepts_value p.0 p.1) (zip columns row)) rows)) E05
+    (Ok tt))
+
+-- E04 of an INSERT, and these
+unfoldable pub values_check : List ColumnDef → Option (List (List ℕ)) → List Row → Checked (Unit {0})
+values_check declared names rows =
+    refused_if (not (list_all (is_declared declared) (names_listed names))) E04 (listed_check (listed declared names) rows)
+
+unfoldable pub insert_check : TableDef → Part → Option (List (List ℕ)) → List Row → Checked (Unit {0})
 insert_check def part names rows =
     refused_if (repeats (names_listed names)) E03
     (refused_if (nat_lt max_rows (length rows)) E16
     (refused_if (not (is_base part)) E11
-    (refused_if (not (list_all (is_declared def.columns) (names_listed names))) E04
-    (refused_if (not (list_all (λ row. length row == length (listed def.columns names)) rows)) E18
-    (refused_if (not (list_all (λ row. list_all (λ p. takes_value p.0 p.1) (zip (listed def.columns names) row)) rows)) E05
-    (Ok def))))))
+    (values_check def.columns names rows)))
 
-unfoldable pub update_check : TableDef → Part → List (List ℕ × Expr) → Option Expr → Checked TableDef
+-- E04, E12 and E05 of an UPDATE: the columns that are declared, and all that expressions may name
+unfoldable pub sets_check : List ColumnDef → List ColumnDef → List (List ℕ × Expr) → Option Expr → Checked (Unit {0})
+sets_check declared columns sets cond =
+    refused_if (not (list_all (λ s. is_declared declared s.0 && names_columns columns (tree s.1)) sets && cond_names columns cond)) E04
+    (refused_if (list_any (λ s. is_in_key declared s.0) sets) E12
+    (refused_if (not (list_all (λ s. accepts_set columns (column_of declared s.0) s.1) sets && cond_is_truth columns cond)) E05
+    (Ok tt)))
+
+unfoldable pub update_check : TableDef → Part → List (List ℕ × Expr) → Option Expr → Checked (Unit {0})
 update_check def part sets cond =
     refused_if (repeats (map (λ s. s.0) sets)) E03
     (refused_if (not (is_base part)) E11
     (refused_if (is_append_only def.kind) E10
-    (refused_if (not (list_all (λ s. is_declared def.columns s.0 && names_columns (columns_of def Base) (tree s.1)) sets && cond_names (columns_of def Base) cond)) E04
-    (refused_if (list_any (λ s. is_in_key def.columns s.0) sets) E12
-    (refused_if (not (list_all (λ s. sets_taken (columns_of def Base) (column_of def.columns s.0) s.1) sets && cond_is_truth (columns_of def Base) cond)) E05
-    (Ok def))))))
+    (sets_check def.columns (columns_of def Base) sets cond)))
 
-unfoldable pub delete_check : TableDef → Part → Option Expr → Checked TableDef
+unfoldable pub delete_check : TableDef → Part → Option Expr → Checked (Unit {0})
 delete_check def part cond =
     refused_if (not (is_base part)) E11
     (refused_if (is_append_only def.kind) E10
     (refused_if (not (cond_names (columns_of def Base) cond)) E04
     (refused_if (not (cond_is_truth (columns_of def Base) cond)) E05
-    (Ok def))))
+    (Ok tt))))
 
--- a row statement on a table or a part of one: the table's definition, where nothing is refused
-abbrev pub row_check : RowStmt → Named → Checked TableDef
-row_check (Insert table names rows) n = insert_check n.0 n.1 names rows
-row_check (Update table sets cond) n = update_check n.0 n.1 sets cond
-row_check (Delete table cond) n = delete_check n.0 n.1 cond
+-- the checks of a row statement on a table or a part of one
+abbrev pub row_check : RowStmt → TableDef → Part → Checked (Unit {0})
+row_check (Insert table names rows) def part = insert_check def part names rows
+row_check (Update table sets cond) def part = update_check def part sets cond
+row_check (Delete table cond) def part = delete_check def part cond
 
 abbrev pub table_of : RowStmt → List ℕ
 table_of (Insert table names rows) = table
 table_of (Update table sets cond) = table
 table_of (Delete table cond) = table
 
--- all that is checked of a row statement before a row is looked at
+-- the definition of the table that a row statement changes, where nothing is refused before a row is looked at
 unfoldable pub row_statement_check : Defs → RowStmt → Checked TableDef
-row_statement_check defs stmt = and_then (or_refused E02 (find_part defs (table_of stmt))) (row_check stmt)
+row_statement_check defs stmt =
+    and_then (or_refused E02 (find_part defs (table_of stmt))) (λ n. and_then (row_check stmt n.0 n.1) (λ passed. Ok n.0))

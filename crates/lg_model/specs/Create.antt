@@ -1,6 +1,6 @@
 -- CREATE TABLE and CREATE INDEX: what is checked, and the definition that is made.
 use Rattle.std.specs.Prelude.{ℕ, ◌+◌, ◌==◌, ◌&&◌, ◌||◌, not, nat_lt, nat_le, Bool, true, false, if◌then◌else◌, List, [], ◌∷◌, ◌++◌, map, take, flat_map, length, codes, Option, Some, None, is_some, position, Ok, Err}
-use Rattle.std.specs.List.{list_any, list_all, filter_map}
+use Rattle.std.specs.List.{list_any, list_all, filter}
 use Rattle.std.specs.Str.{str_eq_ignore_ascii_case}
 use Rattle.std.specs.Fmt.{decimal}
 use Rattle.std.specs.Str.{bytes_eq}
@@ -15,7 +15,7 @@ use Rattle.lg_types.specs.declared.statement.CreateTable.{CreateTable}
 use Rattle.lg_types.specs.declared.statement.CreateIndex.{CreateIndex}
 use Rattle.lg_model.specs.Refusals.{Checked, and_then, or_refused}
 use Rattle.lg_model.specs.Columns.{place_of}
-use Rattle.lg_model.specs.Limits.{max_columns, max_key_columns, max_tables, max_indexes, max_index_columns, max_name}
+use Rattle.lg_model.specs.Limits.{max_columns, max_key_columns, max_tables, max_indexes, max_index_columns, max_name_bytes}
 use Rattle.lg_model.specs.Lists.{has_name, repeats}
 use Rattle.lg_model.specs.Catalog.{Defs, Named, find_part}
 use Rattle.lg_model.specs.Checks.{refused_if, is_base, is_declared}
@@ -25,9 +25,13 @@ use Rattle.lg_model.specs.Checks.{refused_if, is_base, is_declared}
 abbrev pub names_of : List ColumnDef → List (List ℕ)
 names_of columns = map (λ c. c.name) columns
 
--- the names that a table has: its own, and those of its history and its view
+abbrev pub is_name : List ℕ → Bool
+is_name [] = false
+is_name (b ∷ bs) = true
+
+-- the names that a table has: its own, and those of its history and its view where it has them
 abbrev pub table_names : TableDef → List (List ℕ)
-table_names def = def.name ∷ def.history ∷ def.view ∷ []
+table_names def = filter is_name (def.name ∷ def.history ∷ def.view ∷ [])
 
 abbrev pub all_names : Defs → List (List ℕ)
 all_names defs = flat_map table_names defs
@@ -44,15 +48,8 @@ history_of Updatable id written = written_or (codes "MSSQL_LedgerHistoryFor_" ++
 abbrev pub view_of : List ℕ → Option (List ℕ) → List ℕ
 view_of name written = written_or (name ++ codes "_Ledger") written
 
--- the names that are new: the table's, its history's where it has one, and its view's
-abbrev pub new_names : TableDef → List (List ℕ)
-new_names def = new_names_by def.kind def where
-  new_names_by : TableKind → TableDef → List (List ℕ)
-  new_names_by AppendOnly d = d.name ∷ d.view ∷ []
-  new_names_by Updatable d = d.name ∷ d.history ∷ d.view ∷ []
-
 abbrev pub is_long : List ℕ → Bool
-is_long name = nat_lt max_name (length name)
+is_long name = nat_lt max_name_bytes (length name)
 
 -- the name begins with `ledger_`, in any case
 abbrev pub is_ledger_name : List ℕ → Bool
@@ -60,36 +57,47 @@ is_ledger_name name = str_eq_ignore_ascii_case (take 7 name) (codes "ledger_")
 
 -- ---- the definition of a new table
 
-abbrev pub one_more : Option ℕ → ℕ
-one_more (Some place) = place + 1
-one_more None = 0
+abbrev pub ordinal_at : Option ℕ → ℕ
+ordinal_at (Some place) = place + 1
+ordinal_at None = 0
 
 -- the place of a column in the primary key, from 1, or 0 outside it
 abbrev pub key_position_of : List (List ℕ) → List ℕ → ℕ
-key_position_of key name = one_more (position (λ n. bytes_eq n name) key)
+key_position_of key name = ordinal_at (position (λ n. bytes_eq n name) key)
 
 abbrev pub keyed : List (List ℕ) → ColumnDef → ColumnDef
 keyed key c = record { name = c.name; ty = c.ty; nullable = c.nullable; key_position = key_position_of key c.name }
 
 unfoldable pub table_def : ℕ → CreateTable → TableDef
 table_def id c =
-    record { id = id; name = c.name; kind = c.kind; history = history_of c.kind id c.history; view = view_of c.name c.view;
-             columns = map (keyed c.key) c.columns; indexes = [] }
+    record {
+      id = id;
+      name = c.name;
+      kind = c.kind;
+      history = history_of c.kind id c.history;
+      view = view_of c.name c.view;
+      columns = map (keyed c.key) c.columns;
+      indexes = [];
+    }
 
 -- ---- checks, in their order
 
 -- a name is taken or given twice, or a column begins as those of the ledger do
-abbrev pub names_clash : Defs → TableDef → List (List ℕ) → Bool
-names_clash defs def key =
-    repeats (new_names def) || list_any (has_name (all_names defs)) (new_names def)
+abbrev pub has_bad_name : Defs → TableDef → List (List ℕ) → Bool
+has_bad_name defs def key =
+    repeats (table_names def) || list_any (has_name (all_names defs)) (table_names def)
     || repeats (names_of def.columns) || repeats key || list_any (λ c. is_ledger_name c.name) def.columns
 
+-- tables that are there before any is made
+abbrev pub system_tables : ℕ
+system_tables = 2
+
 -- a count, a type parameter or a name is out of its range
-abbrev pub is_over : Defs → TableDef → List (List ℕ) → Bool
-is_over defs def key =
-    nat_lt max_columns (length def.columns) || nat_lt max_key_columns (length key) || nat_lt (max_tables + 1) (length defs)
+abbrev pub exceeds_limit : Defs → TableDef → List (List ℕ) → Bool
+exceeds_limit defs def key =
+    nat_lt max_columns (length def.columns) || nat_lt max_key_columns (length key) || nat_le (max_tables + system_tables) (length defs)
     || list_any (λ c. not (is_in_range c.ty)) def.columns
-    || list_any is_long (new_names def) || list_any (λ c. is_long c.name) def.columns
+    || list_any is_long (table_names def) || list_any (λ c. is_long c.name) def.columns
 
 -- a column of the primary key is declared NULL
 abbrev pub has_null_key : TableDef → Bool
@@ -97,8 +105,8 @@ has_null_key def = list_any (λ c. c.nullable && not (c.key_position == 0)) def.
 
 abbrev pub created_check : Defs → TableDef → List (List ℕ) → Checked TableDef
 created_check defs def key =
-    refused_if (names_clash defs def key) E03
-    (refused_if (is_over defs def key) E16
+    refused_if (has_bad_name defs def key) E03
+    (refused_if (exceeds_limit defs def key) E16
     (refused_if (not (list_all (is_declared def.columns) key)) E04
     (refused_if (has_null_key def) E06
     (Ok def))))
@@ -118,7 +126,7 @@ with_index def index =
     record { id = def.id; name = def.name; kind = def.kind; history = def.history; view = def.view; columns = def.columns; indexes = def.indexes ++ index ∷ [] }
 
 abbrev pub ordinals_of : List ColumnDef → List (List ℕ) → List ℕ
-ordinals_of columns names = map one_more (map (place_of columns) names)
+ordinals_of columns names = map ordinal_at (map (place_of columns) names)
 
 abbrev pub index_def : TableDef → CreateIndex → IndexDef
 index_def def c = record { name = c.name; ordinals = ordinals_of def.columns c.columns }

@@ -74,8 +74,11 @@ column_starts rows = map (λ row. Starts (stored_row columns_columns row)) rows
 -- the new table has no versions
 abbrev pub table_effect : Tables → ℕ → ℕ → Checked TableDef → Effect
 table_effect tables tx seq (Ok def) =
-    record { tables = with_system_rows tx seq (table_start def) (column_starts (column_rows def)) tables ++ record { def = def; versions = [] } ∷ [];
-             seq = seq + 1 + length def.columns; reply = r.Made }
+    record {
+      tables = with_system_rows tx seq (table_start def) (column_starts (column_rows def)) tables ++ record { def = def; versions = [] } ∷ [];
+      seq = seq + 1 + length def.columns;
+      reply = r.Made;
+    }
 table_effect tables tx seq (Err e) = refused tables seq e
 
 abbrev pub with_def : TableDef → Table → Table
@@ -90,12 +93,16 @@ index_starts def index = column_starts (index_rows def.id (length def.indexes + 
 
 abbrev pub index_effect : Tables → ℕ → ℕ → Checked (TableDef × IndexDef) → Effect
 index_effect tables tx seq (Ok x) =
-    record { tables = redefined (with_index x.0 x.1) (with_system_rows tx seq [] (index_starts x.0 x.1) tables);
-             seq = seq + length x.1.ordinals; reply = r.Made }
+    record {
+      tables = redefined (with_index x.0 x.1) (with_system_rows tx seq [] (index_starts x.0 x.1) tables);
+      seq = seq + length x.1.ordinals;
+      reply = r.Made;
+    }
 index_effect tables tx seq (Err e) = refused tables seq e
 
 -- ---- one table statement of transaction tx, whose next event has the number seq
 
+-- Other statements do nothing here.
 unfoldable pub effect : Tables → ℕ → ℕ → Stmt → Effect
 effect tables tx seq (s.Create c) = table_effect tables tx seq (create_check (defs_of tables) c)
 effect tables tx seq (s.Index c) = index_effect tables tx seq (index_check (defs_of tables) c)

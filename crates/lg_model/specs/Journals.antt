@@ -6,7 +6,7 @@ use Rattle.lg_types.specs.declared.journal.JournalItem.TheVariants.{Tx, Close}
 use Rattle.lg_model.specs.Limits.{max_block}
 use Rattle.lg_model.specs.Catalog.{Tables}
 use Rattle.lg_model.specs.Replies.{reply_text}
-use Rattle.lg_model.specs.Script.{Reading, Outcome, script}
+use Rattle.lg_model.specs.Script.{Reading, ScriptEnd, script}
 use Rattle.lg_model.specs.Events.{all_events}
 use Rattle.lg_model.specs.SystemTables.{first_tables}
 
@@ -21,10 +21,10 @@ abbrev pub cut : List JournalItem → ℕ → List JournalItem
 cut items m = take m items
 
 -- the number of transactions
-abbrev pub count : List JournalItem → ℕ
-count [] = 0
-count (Tx id session time opened lines ∷ is) = suc (count is)
-count (Close k ∷ is) = count is
+abbrev pub tx_count : List JournalItem → ℕ
+tx_count [] = 0
+tx_count (Tx id session time opened lines ∷ is) = suc (tx_count is)
+tx_count (Close k ∷ is) = tx_count is
 
 -- how many transactions are in blocks
 abbrev pub closed : List JournalItem → ℕ
@@ -63,7 +63,7 @@ module _ (reads : Reading) where
   -- ---- legal journals
 
   -- what the journal keeps of a transaction is what its script gives over the tables before it, and it left an event
-  pub record AgreesWith (tables : Tables) (id : ℕ) (opened : Bool) (lines : List Line) (o : Outcome) : Type 0 where
+  pub record AgreesWith (tables : Tables) (id : ℕ) (opened : Bool) (lines : List Line) (o : ScriptEnd) : Type 0 where
     pub replies : map (λ l. l.1) lines ≡ map reply_text o.replies
     pub events : all_events id o.state.tables ≢ []
 
@@ -71,7 +71,7 @@ module _ (reads : Reading) where
   abbrev pub IsNext : List JournalItem → Tables → JournalItem → Type 0
   IsNext before tables (Tx id session time opened lines) =
       AgreesWith tables id opened lines (script reads opened tables id (map (λ l. l.0) lines)) × AllByRecursion (IsOther id) before
-  IsNext before tables (Close k) = (1 ≤ k) × (k ≤ max_block) × (closed before + k ≤ count before)
+  IsNext before tables (Close k) = (1 ≤ k) × (k ≤ max_block) × (closed before + k ≤ tx_count before)
 
   abbrev pub IsLegalFrom : List JournalItem → Tables → List JournalItem → Type 0
   IsLegalFrom before tables [] = Unit {0}

@@ -1,24 +1,27 @@
 -- Primary keys, and what a statement reads of a table's versions.
-use Rattle.std.specs.Prelude.{ℕ, ◌==◌, Bool, List, [], ◌∷◌, map, get_or, Option, Some, None, is_none, position, slice_get}
+use Rattle.std.specs.Prelude.{ℕ, ◌==◌, not, Bool, List, [], ◌∷◌, map, get_or, Option, Some, None, is_none, slice_get}
 use Rattle.std.specs.List.{filter, list_any, filter_map}
 use Rattle.std.specs.declared.cmp.Ordering.{Ordering}
-use Rattle.std.specs.Ordering.{is_eq}
+use Rattle.std.specs.Ordering.{is_eq, nat_cmp}
 use Rattle.std.specs.Cmp.Lexicographic.{slice_cmp}
 use Rattle.lg_value.specs.declared.value.Value.{Value}
 use Rattle.lg_value.specs.declared.value.Value.TheVariants.{Null}
 use Rattle.lg_value.specs.declared.column.ColumnDef.{ColumnDef}
 use Rattle.lg_value.specs.Order.{value_cmp}
 use Rattle.lg_types.specs.declared.version.Version.{Version}
-use Rattle.lg_model.specs.Lists.{sorted}
+use Rattle.lg_model.specs.Lists.{sorted, numbered}
 use Rattle.lg_model.specs.Rows.{Row, values_of, live}
 
--- the positions that columns may have in a primary key
-abbrev pub key_positions : List ℕ
-key_positions = 1 ∷ 2 ∷ 3 ∷ 4 ∷ []
+-- a column at its place, counted from 0
+abbrev pub Placed : Type 0
+Placed = ℕ × ColumnDef
 
--- the places of the key's columns, by key position
+abbrev pub position_cmp : Placed → Placed → Ordering
+position_cmp a b = nat_cmp a.1.key_position b.1.key_position
+
+-- the places of the columns that have a key position, by that position
 unfoldable pub key_places : List ColumnDef → List ℕ
-key_places columns = filter_map (λ k. position (λ c. c.key_position == k) columns) key_positions
+key_places columns = map (λ p. p.0) (sorted position_cmp (filter (λ p. not (p.1.key_position == 0)) (numbered 0 columns)))
 
 -- the key's columns, by key position
 abbrev pub key_columns : List ColumnDef → List ColumnDef
@@ -48,7 +51,7 @@ version_key columns v = key_of columns (values_of v)
 abbrev pub of_key : List ColumnDef → Key → List Version → List Version
 of_key columns key versions = filter (λ v. same_key (version_key columns v) key) versions
 
--- what a statement reads of the versions: those of one key, or all. Nothing else that a statement does looks at them.
+-- what a statement reads of the versions of a base table: those of one key, or all
 abbrev pub part_read : List ColumnDef → Option Key → List Version → List Version
 part_read columns None versions = versions
 part_read columns (Some key) versions = of_key columns key versions

@@ -1,3 +1,4 @@
+pub mod Agreement
 pub mod Catalog
 pub mod Changes
 pub mod Checks
@@ -17,12 +18,17 @@ pub mod Numbers
 pub mod Operators
 pub mod Outcomes
 pub mod Parts
+pub mod Plans
 pub mod Query
+pub mod Reach
 pub mod Refusals
 pub mod Replies
 pub mod Rows
+pub mod Runs
+pub mod Samples
 pub mod Script
 pub mod SystemTables
 pub mod Truths
 pub mod TypeCodes
+pub mod Undo
 pub mod Where

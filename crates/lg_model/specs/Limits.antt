@@ -1,4 +1,4 @@
--- How many there may be.
+-- Limits: how many there may be, and how long names may be.
 use Rattle.std.specs.Prelude.{ℕ}
 
 -- of a table
@@ -28,8 +28,8 @@ abbrev pub max_rows : ℕ
 max_rows = 1000
 
 -- bytes of the new name of a table, history, view, column or index
-abbrev pub max_name : ℕ
-max_name = 128
+abbrev pub max_name_bytes : ℕ
+max_name_bytes = 128
 
 -- entries in a block
 abbrev pub max_block : ℕ

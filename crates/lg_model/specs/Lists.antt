@@ -1,4 +1,4 @@
--- Words on lists: sorting, and what may be refused on the way.
+-- Words on lists: sorting, going through one item after another until one is refused, names.
 use Rattle.std.specs.Prelude.{ℕ, ◌+◌, ◌==◌, ◌||◌, Bool, false, if◌then◌else◌, List, [], ◌∷◌, Option, Some, None, Ok, Err, flat_map}
 use Rattle.std.specs.List.{list_any}
 use Rattle.std.specs.Str.{bytes_eq}

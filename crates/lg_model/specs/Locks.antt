@@ -64,7 +64,8 @@ whole mode = record { item = item.Whole; mode = mode }
 abbrev pub of_key : Mode → Key → Want
 of_key mode key = record { item = item.Key key; mode = mode }
 
--- in the catalog: who creates wants it alone. A CREATE in a transaction that BEGIN opened is refused before.
+-- in the catalog: CREATE wants X, the other table statements S. A CREATE in a transaction that BEGIN opened is refused
+-- before.
 abbrev pub catalog_want : Bool → Stmt → Option Mode
 catalog_want true (s.Create c) = None
 catalog_want true (s.Index c) = None

@@ -79,13 +79,13 @@ abbrev pub history_rows : List Version → List Row
 history_rows versions = flat_map (λ v. history_rows_of v v.end) versions
 
 -- an event with the row that the view shows of it
-abbrev pub Shown : Type 0
-Shown = EventId × Row
+abbrev pub ViewRow : Type 0
+ViewRow = EventId × Row
 
-abbrev pub shown_start : Version → Shown
+abbrev pub shown_start : Version → ViewRow
 shown_start v = (v.start, values_of v ++ number v.start.0 ∷ number v.start.1 ∷ number 1 ∷ Text (codes "INSERT") ∷ [])
 
-abbrev pub shown_end : Version → Option EventId → List Shown
+abbrev pub shown_end : Version → Option EventId → List ViewRow
 shown_end v (Some end) = (end, values_of v ++ number end.0 ∷ number end.1 ∷ number 2 ∷ Text (codes "DELETE") ∷ []) ∷ []
 shown_end v None = []
 
@@ -99,4 +99,3 @@ rows_of def Base key versions = map base_row (standing def.columns key versions)
 rows_of def History key versions = history_rows versions
 rows_of def View key versions = view_rows versions
 rows_of def System key versions = map base_row (standing def.columns None versions)
-

@@ -18,7 +18,7 @@ use Rattle.lg_types.specs.declared.statement.What.TheVariants.{All, Columns, Agg
 use Rattle.lg_types.specs.declared.statement.Agg.{Agg}
 use Rattle.lg_types.specs.declared.statement.Agg.TheVariants.{Count, Sum}
 use Rattle.lg_model.specs.Refusals.{Checked, and_then, or_refused}
-use Rattle.lg_model.specs.Numbers.{sum_of}
+use Rattle.lg_model.specs.Numbers.{sized, sum_of}
 use Rattle.lg_model.specs.Columns.{column_of, place_of}
 use Rattle.lg_model.specs.Classes.{class_of_type}
 use Rattle.lg_model.specs.Lists.{sorted, checked_map, checked_filter, checked_fold}
@@ -44,9 +44,9 @@ abbrev pub agg_names : List ColumnDef → Agg → Bool
 agg_names columns Count = true
 agg_names columns (Sum name) = is_declared columns name
 
-abbrev pub agg_adds : List ColumnDef → Agg → Bool
-agg_adds columns Count = true
-agg_adds columns (Sum name) = has_sum (column_of columns name)
+abbrev pub is_sum_of_numbers : List ColumnDef → Agg → Bool
+is_sum_of_numbers columns Count = true
+is_sum_of_numbers columns (Sum name) = has_sum (column_of columns name)
 
 -- the columns that are to be shown are there
 abbrev pub what_names : List ColumnDef → What → Bool
@@ -55,30 +55,24 @@ what_names columns (Columns names) = list_all (is_declared columns) names
 what_names columns (Aggs aggs) = list_all (agg_names columns) aggs
 
 -- sums are of numbers
-abbrev pub what_adds : List ColumnDef → What → Bool
-what_adds columns (Aggs aggs) = list_all (agg_adds columns) aggs
-what_adds columns _ = true
+abbrev pub sums_are_of_numbers : List ColumnDef → What → Bool
+sums_are_of_numbers columns (Aggs aggs) = list_all (is_sum_of_numbers columns) aggs
+sums_are_of_numbers columns _ = true
 
 -- all that is checked of a SELECT over these columns
-unfoldable pub select_check : List ColumnDef → Select → Checked (List ColumnDef)
+unfoldable pub select_check : List ColumnDef → Select → Checked (Unit {0})
 select_check columns q =
     refused_if (not (what_names columns q.what && cond_names columns q.cond && list_all (λ o. is_declared columns o.0) q.order)) E04
-    (refused_if (not (what_adds columns q.what && cond_is_truth columns q.cond)) E05
-    (Ok columns))
-
-abbrev pub part_check : Select → Named → Checked Named
-part_check q n = and_then (select_check (columns_of n.0 n.1) q) (λ columns. Ok n)
+    (refused_if (not (sums_are_of_numbers columns q.what && cond_is_truth columns q.cond)) E05
+    (Ok tt))
 
 -- the table or part that a SELECT reads, where nothing is refused
 unfoldable pub query_check : Defs → Select → Checked Named
-query_check defs q = and_then (or_refused E02 (find_part defs q.table)) (part_check q)
+query_check defs q = and_then (or_refused E02 (find_part defs q.table)) (λ n. and_then (select_check (columns_of n.0 n.1) q) (λ passed. Ok n))
 
 -- ---- ORDER BY
 
-abbrev pub place_in : List ColumnDef → List ℕ → Option ℕ
-place_in columns name = place_of columns name
-
--- the value of a row in the column of this name, NULL where there is no such column
+-- the value of a row at a place, NULL where there is none
 abbrev pub value_in : Option ℕ → Row → Value
 value_in (Some place) row = value_at row place
 value_in None row = Null
@@ -86,8 +80,8 @@ value_in None row = Null
 -- by one column; true is DESC
 abbrev pub column_cmp : List ColumnDef → List ℕ × Bool → Row → Row → Ordering
 column_cmp columns o a b =
-    if o.1 then value_cmp (value_in (place_in columns o.0) b) (value_in (place_in columns o.0) a)
-    else value_cmp (value_in (place_in columns o.0) a) (value_in (place_in columns o.0) b)
+    if o.1 then value_cmp (value_in (place_of columns o.0) b) (value_in (place_of columns o.0) a)
+    else value_cmp (value_in (place_of columns o.0) a) (value_in (place_of columns o.0) b)
 
 -- by the first column, then by the second, and so on
 abbrev pub order_cmp : List ColumnDef → List (List ℕ × Bool) → Row → Row → Ordering
@@ -99,7 +93,7 @@ order_cmp columns (o ∷ os) a b = ordering_then (column_cmp columns o a b) (ord
 -- one value more; NULL is left out
 abbrev pub added_up : Value → Value → Checked Value
 added_up sum Null = Ok sum
-added_up Null v = Ok v
+added_up Null (Num v s) = sized v s
 added_up (Num v s) (Num w z) = sum_of v s w z
 added_up _ _ = Err E05
 
@@ -109,12 +103,12 @@ total values = checked_fold added_up Null values
 
 unfoldable pub agg_value : List ColumnDef → List Row → Agg → Checked Value
 agg_value columns rows Count = Ok (number (length rows))
-agg_value columns rows (Sum name) = total (map (value_in (place_in columns name)) rows)
+agg_value columns rows (Sum name) = total (map (value_in (place_of columns name)) rows)
 
 -- ---- the rows shown
 
 abbrev pub projected : List ColumnDef → List (List ℕ) → Row → Row
-projected columns names row = map (λ name. value_in (place_in columns name) row) names
+projected columns names row = map (λ name. value_in (place_of columns name) row) names
 
 abbrev pub what_shown : List ColumnDef → ℕ → What → List Row → Checked (List Row)
 what_shown columns shown All rows = Ok (map (take shown) rows)

@@ -25,14 +25,16 @@ abbrev pub stored_row : List ColumnDef → Row → List (Option Typed)
 stored_row (c ∷ cs) (v ∷ vs) = stored_value c v ∷ stored_row cs vs
 stored_row _ _ = []
 
-abbrev pub plain : Option Typed → Value
-plain (Some t) = t.value
-plain None = Null
+-- the value of a column; none is NULL
+abbrev pub value_or_null : Option Typed → Value
+value_or_null (Some t) = t.value
+value_or_null None = Null
 
 -- the values of a version
 abbrev pub values_of : Version → Row
-values_of v = map plain v.values
+values_of v = map value_or_null v.values
 
+-- a whole number as a value
 abbrev pub number : ℕ → Value
 number n = Num (pos n) 0
 
@@ -53,14 +55,14 @@ same_event a b = a.0 == b.0 && a.1 == b.1
 abbrev pub start_cmp : Version → Version → Ordering
 start_cmp v w = event_cmp v.start w.start
 
--- a version that starts, in its place among those of its table
+-- starts a version, in its place among those of its table
 unfoldable pub started : EventId → List (Option Typed) → List Version → List Version
 started at values versions = inserted start_cmp (record { values = values; start = at; end = None }) versions
 
 abbrev pub with_end : EventId → Version → Version
 with_end at v = record { values = v.values; start = v.start; end = Some at }
 
--- the version that this event started ends
+-- ends the version that this event started
 unfoldable pub ended : EventId → EventId → List Version → List Version
 ended at start versions = map (λ v. if same_event v.start start then with_end at v else v) versions
 

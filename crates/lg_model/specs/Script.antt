@@ -55,28 +55,28 @@ back_to [] name = []
 back_to (c ∷ cs) name = if bytes_eq c.name name then c ∷ cs else back_to cs name
 
 -- tables and counter are as they were there, and the savepoint stays
-abbrev pub gone_back : State → List Saved → Step
-gone_back x [] = refuses x E15
-gone_back x (c ∷ cs) = (record { tables = c.tables; seq = c.seq; saved = c ∷ cs }, r.Back)
+abbrev pub rolled_back : State → List Saved → Step
+rolled_back x [] = refuses x E15
+rolled_back x (c ∷ cs) = (record { tables = c.tables; seq = c.seq; saved = c ∷ cs }, r.Back)
 
-unfoldable pub goes_back : State → List ℕ → Step
-goes_back x name = gone_back x (back_to x.saved name)
+unfoldable pub rolls_back_to : State → List ℕ → Step
+rolls_back_to x name = rolled_back x (back_to x.saved name)
 
 -- ---- a statement
 
 -- in a transaction that BEGIN opened
-abbrev pub in_opened : ℕ → State → Stmt → Step
-in_opened tx x (s.Create c) = refuses x E17
-in_opened tx x (s.Index c) = refuses x E17
-in_opened tx x (s.Change stmt) = by_effect x (effect x.tables tx x.seq (s.Change stmt))
-in_opened tx x (s.Select q) = by_effect x (effect x.tables tx x.seq (s.Select q))
-in_opened tx x s.Begin = refuses x E14
-in_opened tx x s.Commit = answered x r.Quiet
-in_opened tx x (s.Save name) = saves x name
-in_opened tx x (s.Rollback (Some name)) = goes_back x name
-in_opened tx x (s.Rollback None) = answered x r.Quiet
-in_opened tx x s.Digest = refuses x E17
-in_opened tx x s.Image = refuses x E17
+abbrev pub in_transaction : ℕ → State → Stmt → Step
+in_transaction tx x (s.Create c) = refuses x E17
+in_transaction tx x (s.Index c) = refuses x E17
+in_transaction tx x (s.Change stmt) = by_effect x (effect x.tables tx x.seq (s.Change stmt))
+in_transaction tx x (s.Select q) = by_effect x (effect x.tables tx x.seq (s.Select q))
+in_transaction tx x s.Begin = refuses x E14
+in_transaction tx x s.Commit = answered x r.Quiet
+in_transaction tx x (s.Save name) = saves x name
+in_transaction tx x (s.Rollback (Some name)) = rolls_back_to x name
+in_transaction tx x (s.Rollback None) = answered x r.Quiet
+in_transaction tx x s.Digest = refuses x E17
+in_transaction tx x s.Image = refuses x E17
 
 -- as a transaction of its own
 abbrev pub alone : ℕ → State → Stmt → Step
@@ -93,19 +93,20 @@ alone tx x s.Image = answered x r.Quiet
 
 abbrev pub by_statement : Bool → ℕ → State → Option Stmt → Step
 by_statement opened tx x None = refuses x E01
-by_statement true tx x (Some stmt) = in_opened tx x stmt
+by_statement true tx x (Some stmt) = in_transaction tx x stmt
 by_statement false tx x (Some stmt) = alone tx x stmt
 
 -- ---- a script
 
-pub record Outcome : Type 0 where
+-- what a script comes to
+pub record ScriptEnd : Type 0 where
   pub state : State
   pub replies : List Reply
 
 abbrev pub start : Tables → State
 start tables = record { tables = tables; seq = 0; saved = [] }
 
-abbrev pub with_reply : Reply → Outcome → Outcome
+abbrev pub with_reply : Reply → ScriptEnd → ScriptEnd
 with_reply reply o = record { state = o.state; replies = reply ∷ o.replies }
 
 module _ (reads : Reading) where
@@ -113,11 +114,11 @@ module _ (reads : Reading) where
   text_step opened tx x text = by_statement opened tx x (reads text)
 
   -- the texts in order, each over what those before it left
-  unfoldable pub script_from : Bool → ℕ → State → List (List ℕ) → Outcome
+  unfoldable pub script_from : Bool → ℕ → State → List (List ℕ) → ScriptEnd
   script_from opened tx x [] = record { state = x; replies = [] }
   script_from opened tx x (t ∷ ts) =
       with_reply (text_step opened tx x t).1 (script_from opened tx (text_step opened tx x t).0 ts)
 
   -- the script of a transaction over the tables before it
-  abbrev pub script : Bool → Tables → ℕ → List (List ℕ) → Outcome
+  abbrev pub script : Bool → Tables → ℕ → List (List ℕ) → ScriptEnd
   script opened tables tx texts = script_from opened tx (start tables) texts

@@ -51,18 +51,18 @@ equalities (binary op.Eq a b) = equality a b
 equalities _ = []
 
 -- conversion didn't change the value; a text literal that is a date is its day
-abbrev pub is_kept : Value → Value → Bool
-is_kept (val.Text x) (val.Date d) = true
-is_kept v w = is_eq (value_cmp v w)
+abbrev pub is_unchanged : Value → Value → Bool
+is_unchanged (val.Text x) (val.Date d) = true
+is_unchanged v w = is_eq (value_cmp v w)
 
-abbrev pub kept_value : Value → Converted → Option Value
-kept_value v (Ok w) = if is_kept v w then Some w else None
-kept_value v (Err e) = None
+abbrev pub unchanged_value : Value → Converted → Option Value
+unchanged_value v (Ok w) = if is_unchanged v w then Some w else None
+unchanged_value v (Err e) = None
 
 -- what the column is fixed to: a literal that isn't NULL and converts to the column's type without changing its value
 abbrev pub fixed_to : ColumnDef → Value → Option Value
 fixed_to c val.Null = None
-fixed_to c v = kept_value v (conversion_of v c.ty)
+fixed_to c v = unchanged_value v (conversion_of v c.ty)
 
 -- by the first part that fixes it
 abbrev pub fixed_value : List Part → ColumnDef → Option Value

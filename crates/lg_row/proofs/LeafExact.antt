@@ -146,7 +146,7 @@ event_exact = mapped_exact (λ (x : Head × Tail). FitHead x.0 × FitTail x.0 x.
 
 -- ---- leaves
 
-all_told : (fs : List FieldOf) → AllByRecursion IsField fs → filter has_value fs ≡ fs
+pub all_told : (fs : List FieldOf) → AllByRecursion IsField fs → filter has_value fs ≡ fs
 all_told [] all = refl
 all_told (f ∷ fs) all = rw (all.0.told, all_told fs all.1) refl
 

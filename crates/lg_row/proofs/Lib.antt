@@ -1,5 +1,7 @@
+pub mod AddedColumns
 mod Growing
 mod LeafExact
+mod Leaves
 mod Sizes
 mod Texts
 mod TypeLaws

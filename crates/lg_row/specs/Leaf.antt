@@ -9,31 +9,11 @@ use Rattle.lg_value.specs.declared.sql_type.SqlType.TheVariants as types
 use Rattle.lg_value.specs.declared.value.Value.{Value}
 use Rattle.lg_value.specs.declared.value.Value.TheVariants as values
 use Rattle.lg_value.specs.Stored.{is_stored}
+pub use Rattle.lg_model.specs.TypeCodes.{type_code, first_parameter, second_parameter}
 use Rattle.lg_types.specs.declared.event.Event.{Event}
 use Rattle.lg_types.specs.declared.event.FieldOf.{FieldOf}
 
 -- ---- the type of a column: its code, and two parameters
-
-abbrev pub type_code : SqlType → ℕ
-type_code types.Bit = 1
-type_code types.Int = 2
-type_code types.BigInt = 3
-type_code (types.Decimal p s) = 4
-type_code (types.NVarChar n) = 5
-type_code (types.VarBinary n) = 6
-type_code types.Date = 7
-
--- the digits of a DECIMAL, or the greatest length of a text or of bytes
-abbrev pub first_parameter : SqlType → ℕ
-first_parameter (types.Decimal p s) = p
-first_parameter (types.NVarChar n) = n
-first_parameter (types.VarBinary n) = n
-first_parameter _ = 0
-
--- the digits of a DECIMAL after the point
-abbrev pub second_parameter : SqlType → ℕ
-second_parameter (types.Decimal p s) = s
-second_parameter _ = 0
 
 -- 1 byte, 2 bytes and 1 byte
 abbrev pub type_bytes : SqlType → List ℕ

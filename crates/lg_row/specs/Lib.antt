@@ -1,3 +1,2 @@
 pub mod Leaf
 pub mod LeafReading
-pub mod Parts

@@ -1,7 +1,7 @@
 //! The columns of a table's parts.
 
 ghost use Rattle.std.specs.Prelude.{◌≡◌, ◌++◌, map, IfOk, OnOk};
-ghost use Rattle.lg_row.specs.Parts.{added, column_of, columns_of, shown_of};
+ghost use Rattle.lg_model.specs.Parts.{added, added_column, columns_of, shown_of};
 
 use lg_items::{Memory, Name};
 use lg_types::{Part, TableDef};
@@ -76,7 +76,7 @@ fn add_each(
     added: &[(&str, SqlType)],
     columns: &mut Vec<ColumnDef>,
 ) -> Result<(), Memory>
-    ensures { OnOk result (columns.new.items ≡ columns.old.items ++ map (λ a. column_of (a.0.now, a.1)) added.now) }
+    ensures { OnOk result (columns.new.items ≡ columns.old.items ++ map (λ a. added_column a.0.now a.1) added.now) }
 {
     for (name, ty) in added {
         columns.push(added_column(alloc, name, *ty)?)?;
@@ -85,7 +85,7 @@ fn add_each(
 }
 
 fn added_column(alloc: Global, name: &str, ty: SqlType) -> Result<ColumnDef, Memory>
-    ensures { IfOk result (λ column. column ≡ column_of (name.now, ty)) }
+    ensures { IfOk result (λ column. column ≡ added_column name.now ty) }
 {
     Ok(ColumnDef {
         name: Name::of_str(alloc, name)?,

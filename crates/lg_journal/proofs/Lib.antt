@@ -1,0 +1,4 @@
+mod Ids
+mod JournalExact
+mod Names
+mod Texts

@@ -1,0 +1,4 @@
+pub mod DatabaseName
+pub mod Journal
+pub mod JournalReading
+pub mod Rules

@@ -1,0 +1,79 @@
+-- Wants looked at one after another.
+use Rattle.std.specs.Result.{IsErrAnd}
+use Rattle.std.specs.Prelude.{◌≢◌, Result}
+use Rattle.std.proofs.Common.{◌≡◌, ◌<◌, ◌≤◌, ◌+◌, ℕ, List, [], ◌∷◌, ◌++◌, take, drop, length, get_or, Option, Some, None, Ok, Err, refl, sym, ap, subst, ◌∙◌, true, false, Bool, cond, arith}
+use Rattle.std.proofs.lemmas.List.{drop_more, drop_all, take-append-le, length_push}
+use Rattle.lg_types.specs.declared.lock.Want.{Want}
+use Rattle.lg_locks.specs.declared.hold.Hold.{Hold}
+use Rattle.lg_locks.specs.Holds.{hold, holds_want, with_want, holds_after}
+use Rattle.lg_locks.specs.Conflicts.{Conflict, Holder, barrier, conflict_or, first_conflict}
+use Rattle.lg_locks.specs.Asked.{Gives, refused_or}
+use Rattle.lg_locks.specs.declared.lock_err.LockErr.{LockErr}
+use Rattle.lg_locks.specs.declared.lock_err.LockErr.TheVariants.{Locked, Memory}
+use Rattle.lg_types.specs.declared.lock.Item.{Item}
+
+pub conflict_more : (holds : List Hold) (tx : ℕ) (wants : List Want) (i : ℕ) (w : Want) → i < length wants → w ≡ get_or wants i w
+    → first_conflict holds tx (drop i wants) ≡ conflict_or (barrier holds tx w) w.item (first_conflict holds tx (drop (i + 1) wants))
+unfolding first_conflict
+conflict_more holds tx wants i w inside is = rw (drop_more wants i w inside, ← is) refl
+
+pub conflict_all : (holds : List Hold) (tx : ℕ) (wants : List Want) (i : ℕ) → length wants ≤ i → first_conflict holds tx (drop i wants) ≡ None
+unfolding first_conflict
+conflict_all holds tx wants i past = rw (drop_all i wants past) refl
+
+pub after_more : (holds : List Hold) (tx : ℕ) (wants : List Want) (i : ℕ) (w : Want) → i < length wants → w ≡ get_or wants i w
+    → holds_after holds tx (drop i wants) ≡ holds_after (with_want holds tx w) tx (drop (i + 1) wants)
+unfolding holds_after
+after_more holds tx wants i w inside is = rw (drop_more wants i w inside, ← is) refl
+
+pub after_all : (holds : List Hold) (tx : ℕ) (wants : List Want) (i : ℕ) → length wants ≤ i → holds_after holds tx (drop i wants) ≡ holds
+unfolding holds_after
+after_all holds tx wants i past = rw (drop_all i wants past) refl
+
+-- ---- what is held stays in front
+
+grown_by : (b : Bool) (front holds : List Hold) (h : Hold) → take (length front) holds ≡ front → length front ≤ length holds
+    → take (length front) (cond b holds (holds ++ h ∷ [])) ≡ front
+grown_by true front holds h is more = is
+grown_by false front holds h is more = take-append-le (length front) holds (h ∷ []) more ∙ is
+
+pub grown : (front holds : List Hold) (tx : ℕ) (w : Want) → take (length front) holds ≡ front → length front ≤ length holds
+    → take (length front) (with_want holds tx w) ≡ front
+grown front holds tx w is more = grown_by (holds_want holds tx w) front holds (hold tx w) is more
+
+longer_by : (b : Bool) (n : ℕ) (holds : List Hold) (h : Hold) → n ≤ length holds → n ≤ length (cond b holds (holds ++ h ∷ []))
+longer_by true n holds h more = more
+longer_by false n holds h more = omega (arith, length_push holds h)
+
+pub longer : (front holds : List Hold) (tx : ℕ) (w : Want) → length front ≤ length holds → length front ≤ length (with_want holds tx w)
+longer front holds tx w more = longer_by (holds_want holds tx w) (length front) holds (hold tx w) more
+
+-- ---- refusals
+
+pub refused_more : (holds : List Hold) (tx : ℕ) (wants : List Want) (i : ℕ) (w : Want) (b : Holder) (item : Item) → i < length wants → w ≡ get_or wants i w
+    → first_conflict holds tx (drop i wants) ≡ first_conflict holds tx wants → barrier holds tx w ≡ Some b → item ≡ w.item
+    → first_conflict holds tx wants ≡ Some (b, item)
+refused_more holds tx wants i w b item inside is so_far barred same =
+    let step = conflict_more holds tx wants i w inside is in
+    sym so_far ∙ (step ∙ rw (barred, same) refl)
+
+pub admitted_more : (holds : List Hold) (tx : ℕ) (wants : List Want) (i : ℕ) (w : Want) → i < length wants → w ≡ get_or wants i w
+    → first_conflict holds tx (drop i wants) ≡ first_conflict holds tx wants → barrier holds tx w ≡ None
+    → first_conflict holds tx (drop (i + 1) wants) ≡ first_conflict holds tx wants
+admitted_more holds tx wants i w inside is so_far passes =
+    let step = conflict_more holds tx wants i w inside is in
+    sym (step ∙ rw passes refl) ∙ so_far
+
+pub same_refusal : {A B : Type 0} (o : Option Conflict) (a : A) (b : B) (e : LockErr) → refused_or o a ≡ Err e → refused_or o b ≡ Err e
+same_refusal None a b e is = absurd cc
+same_refusal (Some c) a b e is = let same : Locked c.0.0 c.1 c.0.1 ≡ e = cc in ap Err same
+
+pub not_refused : {A B : Type 0} (o : Option Conflict) (a : A) (b : B) → refused_or o a ≡ Ok a → refused_or o b ≡ Ok b
+not_refused None a b is = refl
+not_refused (Some c) a b is = absurd cc
+
+-- a refusal goes on as it came
+pub kept_refusal : {A B : Type 0} (o : Option Conflict) (a : A) (b : B) (r : Result B LockErr) (e : LockErr) → IsErrAnd r (λ x. x ≡ e)
+    → (e ≢ Memory → refused_or o a ≡ Err e) → Gives (refused_or o b) r
+kept_refusal o a b (Ok x) e is told = absurd is
+kept_refusal o a b (Err x) e is told = λ other. subst (λ y. refused_or o b ≡ Err y) (sym is) (same_refusal o a b e (told (λ m. other (is ∙ m))))

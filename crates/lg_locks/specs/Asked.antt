@@ -1,0 +1,22 @@
+-- What a transaction that asks for locks is told.
+use Rattle.std.specs.Prelude.{◌≡◌, ◌≢◌, ℕ, Bool, not, List, Option, Some, None, Result, Ok, Err}
+use Rattle.lg_types.specs.declared.lock.Want.{Want}
+use Rattle.lg_locks.specs.declared.hold.Hold.{Hold}
+use Rattle.lg_locks.specs.declared.lock_err.LockErr.{LockErr}
+use Rattle.lg_locks.specs.declared.lock_err.LockErr.TheVariants.{Locked, Memory}
+use Rattle.lg_locks.specs.Holds.{holds_any}
+use Rattle.lg_locks.specs.Conflicts.{Conflict, first_conflict}
+
+-- the conflict as an error, or else an answer
+abbrev pub refused_or : {A : Type 0} → Option Conflict → A → Result A LockErr
+refused_or (Some c) a = Err (Locked c.0.0 c.1 c.0.1)
+refused_or None a = Ok a
+
+-- the first conflict, or else whether the transaction held nothing before
+unfoldable pub asked : List Hold → ℕ → List Want → Result Bool LockErr
+asked holds tx wants = refused_or (first_conflict holds tx wants) (not (holds_any holds tx))
+
+-- the result is what is meant, or there is no memory
+abbrev pub Gives : {A : Type 0} → Result A LockErr → Result A LockErr → Type 0
+Gives meant (Ok a) = meant ≡ Ok a
+Gives meant (Err e) = e ≢ Memory → meant ≡ Err e

@@ -1,0 +1,4 @@
+pub mod Asked
+pub mod Conflicts
+pub mod Holds
+pub mod Items
