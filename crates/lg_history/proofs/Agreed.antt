@@ -2,7 +2,7 @@
 use Rattle.std.proofs.Common.{◌≡◌, ◌≢◌, ℕ, zero, suc, ◌+◌, ◌-◌, ◌<◌, ◌≤◌, List, [], ◌∷◌, ◌++◌, map, length, Option, Some, None, refl, sym, ap, ◌∙◌, subst, ⊎_elim, inl, inr, arith, append-nil}
 use Rattle.std.specs.Str.{bytes_eq}
 use Rattle.lg_types.specs.declared.journal.JournalItem.{JournalItem}
-use Rattle.lg_model.specs.Journals.{count}
+use Rattle.lg_model.specs.Journals.{tx_count}
 use Rattle.lg_history.specs.Lists.{Text, Each, Some_of, In, At}
 use Rattle.lg_history.specs.Meaning.{Meaning}
 use Rattle.lg_history.specs.Transcripts.{Entry, Transcript, statements}
@@ -231,10 +231,10 @@ module _ (q : Meaning) (db : Text) (es : List Event) (g : Good q db first es) (i
       let is : of i es ≡ f.front ++ lacks ∷ f.back = f.is ∙ ap (λ (a : Act). f.front ++ a ∷ f.back) (is_lacks f.act f.shows) in
       let c = cut i es f.front f.back lacks is in
       let two = good_append q db first c.earlier (by i lacks ∷ c.later) (subst (Good q db first) c.is g) in
-      let none : count (run first c.earlier).items ≡ 0 = two.1.0.1 in
-      let m = subst (Shows marked (λ m. m ≤ count (run first c.earlier).items)) c.before (marks_to q db i first c.earlier two.0) in
+      let none : tx_count (run first c.earlier).items ≡ 0 = two.1.0.1 in
+      let m = subst (Shows marked (λ m. m ≤ tx_count (run first c.earlier).items)) c.before (marks_to q db i first c.earlier two.0) in
       let k = each_left (λ a. Each (λ f. mark_of J f ≡ marked a) (shown a)) f.front (lacks ∷ f.back) (subst (Each (λ a. Each (λ f. mark_of J f ≡ marked a) (shown a))) is (marks_same q db i first es g)) in
-      subst (NoneCounted J) f.before (shows_weaker (mark_of J) (λ m. m ≤ count (run first c.earlier).items) (λ m. m ≡ 0) (λ m l. omega arith) (all_shown f.front) (shows_facts (mark_of J) marked (λ m. m ≤ count (run first c.earlier).items) f.front k m))
+      subst (NoneCounted J) f.before (shows_weaker (mark_of J) (λ m. m ≤ tx_count (run first c.earlier).items) (λ m. m ≡ 0) (λ m l. omega arith) (all_shown f.front) (shows_facts (mark_of J) marked (λ m. m ≤ tx_count (run first c.earlier).items) f.front k m))
 
   digests : DigestsAreOf q db setup X J W.issued
   digests = record {

@@ -5,7 +5,7 @@ use Rattle.std.specs.Prelude.{if◌then◌else◌, ◌==◌}
 use Rattle.lg_types.specs.declared.journal.JournalItem.{JournalItem}
 use Rattle.lg_types.specs.declared.journal.JournalItem.TheVariants.{Tx, Close}
 use Rattle.lg_model.specs.Catalog.{Tables, Defs}
-use Rattle.lg_model.specs.Journals.{Line, count}
+use Rattle.lg_model.specs.Journals.{Line, tx_count}
 use Rattle.lg_history.specs.Lists.{Text, Each, Some_of, In}
 use Rattle.lg_history.specs.Meaning.{Meaning}
 use Rattle.lg_history.specs.Serial.{texts_of, serial}
@@ -22,8 +22,8 @@ use Rattle.lg_history.proofs.Settles.{in_left, in_right}
 use Rattle.lg_history.proofs.Stable.{serial_append, stood_stays, stood_last}
 
 module _ (q : Meaning) where
-  pub place_last : (w : World) (t time place : ℕ) → Commits q w t time place → place ≡ count (w.items ++ item_of (w.at t) (w.at t).deal time)
-  place_last w t time place k = omega (arith, k.last, count_append w.items (item_of (w.at t) (w.at t).deal time), ap (λ (z : Option Deal). count (item_of (w.at t) z time)) k.stands.has)
+  pub place_last : (w : World) (t time place : ℕ) → Commits q w t time place → place ≡ tx_count (w.items ++ item_of (w.at t) (w.at t).deal time)
+  place_last w t time place k = omega (arith, k.last, count_append w.items (item_of (w.at t) (w.at t).deal time), ap (λ (z : Option Deal). tx_count (item_of (w.at t) z time)) k.stands.has)
 
   pub committed_tables : (w : World) (t time place : ℕ) (k : Commits q w t time place) → serial q q.first (w.items ++ item_of (w.at t) (w.at t).deal time) ≡ q.after k.mine.opened (tables q w) k.mine.id (texts_of k.mine.script)
   committed_tables w t time place k = ap (λ (z : Option Deal). serial q q.first (w.items ++ item_of (w.at t) z time)) k.stands.has
@@ -63,7 +63,7 @@ module _ (q : Meaning) (db : Text) where
         (alone e)
 
     module _ (J : List JournalItem) (h : ℕ) where
-      fixed_stays : (K : List JournalItem) (y : Sess) (d : Deal) (n : ℕ) → d.id ≡ h → EndsAt d.fixed n → n ≤ count J → HasIn past y d → Against (stood q J d.fixed) d → StandsFor q P past (J ++ K) y h
+      fixed_stays : (K : List JournalItem) (y : Sess) (d : Deal) (n : ℕ) → d.id ≡ h → EndsAt d.fixed n → n ≤ tx_count J → HasIn past y d → Against (stood q J d.fixed) d → StandsFor q P past (J ++ K) y h
       fixed_stays K y d n is p le has c = record { deal = d; is = is; lies = inr (n, p, omega (arith, count_append J K), has); some = subst (λ (T : Tables). Against T d) (sym (stood_stays q J K d.fixed n p le)) c }
 
       open_stays : (K : List JournalItem) (y : Sess) (d : Deal) → d.id ≡ h → d.fixed ≡ unfixed → y.deal ≡ Some d → Each (Leaves (q.defs (serial q q.first J)) (q.defs (serial q q.first (J ++ K))) d.opened) d.asked → Against (serial q q.first J) d → StandsFor q P past (J ++ K) y h
@@ -78,7 +78,7 @@ module _ (q : Meaning) (db : Text) where
           → StandsFor q P past J x h → StandsFor q P past (J ++ K) y h
       stays K x y e f frozen s = let d = s.deal in ⊎_elim
           (λ (l : (d.fixed ≡ unfixed) × (x.deal ≡ Some d)). open_stays K y d s.is l.0 (e ∙ l.1) (frozen d l.1 l.0) (at_open d l.0 s.some))
-          (λ (l : (n : ℕ) × EndsAt d.fixed n × (n ≤ count J) × HasIn past x d). fixed_stays K y d l.0 s.is l.1 l.2 (⊎_elim (λ (k : x.deal ≡ Some d). inl (e ∙ k)) (λ (k : (past ≡ true) × In d x.done). inr (k.0, subst (In d) (sym f) k.1)) l.3) s.some)
+          (λ (l : (n : ℕ) × EndsAt d.fixed n × (n ≤ tx_count J) × HasIn past x d). fixed_stays K y d l.0 s.is l.1 l.2 (⊎_elim (λ (k : x.deal ≡ Some d). inl (e ∙ k)) (λ (k : (past ≡ true) × In d x.done). inr (k.0, subst (In d) (sym f) k.1)) l.3) s.some)
           s.lies
 
       one_open : (x : Sess) (c d : Deal) → x.deal ≡ Some c → x.deal ≡ Some d → c ≡ d
@@ -98,11 +98,11 @@ module _ (q : Meaning) (db : Text) where
           → StandsFor q P past J x h → StandsFor q P past (J ++ []) y h
       changes x y f c stands ids fixed more e k s = let d = s.deal in ⊎_elim
           (λ (l : (d.fixed ≡ unfixed) × (x.deal ≡ Some d)). open_stays [] y (f d) (ids d ∙ s.is) (fixed d ∙ l.0) (e ∙ ap (on_some f) l.1) (all_same _ _ (f d).opened (f d).asked (ap q.defs nothing_added)) (more d (serial q q.first J) (at_open d l.0 s.some)))
-          (λ (l : (n : ℕ) × EndsAt d.fixed n × (n ≤ count J) × HasIn past x d). fixed_stays [] y d l.0 s.is l.1 l.2 (⊎_elim (λ (m : x.deal ≡ Some d). absurd (not_fixed x c d l.0 stands m l.1)) (λ (m : (past ≡ true) × In d x.done). inr (m.0, subst (In d) (sym k) m.1)) l.3) s.some)
+          (λ (l : (n : ℕ) × EndsAt d.fixed n × (n ≤ tx_count J) × HasIn past x d). fixed_stays [] y d l.0 s.is l.1 l.2 (⊎_elim (λ (m : x.deal ≡ Some d). absurd (not_fixed x c d l.0 stands m l.1)) (λ (m : (past ≡ true) × In d x.done). inr (m.0, subst (In d) (sym k) m.1)) l.3) s.some)
           s.lies
 
       -- its end is fixed
-      ends_at : (K : List JournalItem) (x y : Sess) (z : End) (n : ℕ) (c : Deal) → Stands x c → EndsAt z n → n ≡ count (J ++ K) → Each (Leaves (q.defs (serial q q.first J)) (q.defs (serial q q.first (J ++ K))) c.opened) c.asked → y.deal ≡ on_some (fixes z) x.deal → y.done ≡ x.done
+      ends_at : (K : List JournalItem) (x y : Sess) (z : End) (n : ℕ) (c : Deal) → Stands x c → EndsAt z n → n ≡ tx_count (J ++ K) → Each (Leaves (q.defs (serial q q.first J)) (q.defs (serial q q.first (J ++ K))) c.opened) c.asked → y.deal ≡ on_some (fixes z) x.deal → y.done ≡ x.done
           → StandsFor q P past J x h → StandsFor q P past (J ++ K) y h
       ends_at K x y z n c stands p last leaves e k s = let d = s.deal in ⊎_elim
           (λ (l : (d.fixed ≡ unfixed) × (x.deal ≡ Some d)). let same : c ≡ d = one_open x c d stands.has l.1 in record {
@@ -111,7 +111,7 @@ module _ (q : Meaning) (db : Text) where
             lies = inr (n, p, omega arith, inl (e ∙ ap (on_some (fixes z)) l.1));
             some = subst (λ (T : Tables). Against T d) (stood_last q (J ++ K) z n p last) (transfer (q.defs (serial q q.first J)) (q.defs (serial q q.first (J ++ K))) d.opened d.asked (subst (λ (u : Deal). Each (Leaves (q.defs (serial q q.first J)) (q.defs (serial q q.first (J ++ K))) u.opened) u.asked) same leaves) (at_open d l.0 s.some));
           })
-          (λ (l : (n : ℕ) × EndsAt d.fixed n × (n ≤ count J) × HasIn past x d). fixed_stays K y d l.0 s.is l.1 l.2 (⊎_elim (λ (m : x.deal ≡ Some d). absurd (not_fixed x c d l.0 stands m l.1)) (λ (m : (past ≡ true) × In d x.done). inr (m.0, subst (In d) (sym k) m.1)) l.3) s.some)
+          (λ (l : (n : ℕ) × EndsAt d.fixed n × (n ≤ tx_count J) × HasIn past x d). fixed_stays K y d l.0 s.is l.1 l.2 (⊎_elim (λ (m : x.deal ≡ Some d). absurd (not_fixed x c d l.0 stands m l.1)) (λ (m : (past ≡ true) × In d x.done). inr (m.0, subst (In d) (sym k) m.1)) l.3) s.some)
           s.lies
 
       -- nothing of it changes, and nothing is added
@@ -121,7 +121,7 @@ module _ (q : Meaning) (db : Text) where
       begins : (x y : Sess) → x.deal ≡ None → y.done ≡ x.done → StandsFor q P past J x h → StandsFor q P past (J ++ []) y h
       begins x y e f s = let d = s.deal in ⊎_elim
           (λ (l : (d.fixed ≡ unfixed) × (x.deal ≡ Some d)). absurd (none_open x d e l.1))
-          (λ (l : (n : ℕ) × EndsAt d.fixed n × (n ≤ count J) × HasIn past x d). fixed_stays [] y d l.0 s.is l.1 l.2 (⊎_elim (λ (m : x.deal ≡ Some d). absurd (none_open x d e m)) (λ (m : (past ≡ true) × In d x.done). inr (m.0, subst (In d) (sym f) m.1)) l.3) s.some)
+          (λ (l : (n : ℕ) × EndsAt d.fixed n × (n ≤ tx_count J) × HasIn past x d). fixed_stays [] y d l.0 s.is l.1 l.2 (⊎_elim (λ (m : x.deal ≡ Some d). absurd (none_open x d e m)) (λ (m : (past ≡ true) × In d x.done). inr (m.0, subst (In d) (sym f) m.1)) l.3) s.some)
           s.lies
 
       is_fixed : (d : Deal) → d.fixed ≡ unfixed → Fixed d.fixed → ⊥
@@ -130,7 +130,7 @@ module _ (q : Meaning) (db : Text) where
       finishes : (x y : Sess) (c : Deal) → past ≡ true → x.deal ≡ Some c → Fixed c.fixed → y.done ≡ x.done ++ listed x.deal → StandsFor q P past J x h → StandsFor q P past (J ++ []) y h
       finishes x y c ok e fixed f s = let d = s.deal in let more : y.done ≡ x.done ++ c ∷ [] = f ∙ ap (λ (z : Option Deal). x.done ++ listed z) e in ⊎_elim
           (λ (l : (d.fixed ≡ unfixed) × (x.deal ≡ Some d)). let same : c ≡ d = one_open x c d e l.1 in absurd (is_fixed d l.0 (subst (λ (u : Deal). Fixed u.fixed) same fixed)))
-          (λ (l : (n : ℕ) × EndsAt d.fixed n × (n ≤ count J) × HasIn past x d). fixed_stays [] y d l.0 s.is l.1 l.2
+          (λ (l : (n : ℕ) × EndsAt d.fixed n × (n ≤ tx_count J) × HasIn past x d). fixed_stays [] y d l.0 s.is l.1 l.2
           (inr (ok, subst (In d) (sym more) (⊎_elim (λ (m : x.deal ≡ Some d). in_right d x.done (c ∷ []) (inl (one_open x c d e m))) (λ (m : (past ≡ true) × In d x.done). in_left d x.done (c ∷ []) m.1) l.3))) s.some)
           s.lies
 

@@ -4,7 +4,7 @@ use Rattle.std.specs.Prelude.{◌==◌}
 use Rattle.std.proofs.lemmas.Bool.{eqb-true, eq-eqb}
 use Rattle.lg_types.specs.declared.journal.JournalItem.{JournalItem}
 use Rattle.lg_types.specs.declared.journal.JournalItem.TheVariants.{Tx, Close}
-use Rattle.lg_model.specs.Journals.{count, closed}
+use Rattle.lg_model.specs.Journals.{tx_count, closed}
 use Rattle.lg_history.specs.Lists.{Text, Each, In}
 use Rattle.lg_history.specs.Journals.{ids_of}
 use Rattle.lg_history.specs.Meaning.{Meaning}
@@ -31,17 +31,17 @@ module _ (q : Meaning) (db : Text) where
 
 -- ---- closings
 
-closings_append : (n m : ℕ) (J K : List JournalItem) → n + count J ≡ m + closed J → ClosesPending n J → ClosesPending m K → ClosesPending n (J ++ K)
+closings_append : (n m : ℕ) (J K : List JournalItem) → n + tx_count J ≡ m + closed J → ClosesPending n J → ClosesPending m K → ClosesPending n (J ++ K)
 closings_append n m [] K e h k = subst (λ (i : ℕ). ClosesPending i K) (omega arith) k
 closings_append n m (Tx id session time opened script ∷ is) K e h k = closings_append (suc n) m is K (omega arith) h k
 closings_append n m (Close j ∷ is) K e h k = (h.0, h.1, h.2, let l = h.2 in closings_append (n - j) m is K (omega arith) h.3 k)
 
-closed_within : (n : ℕ) (J : List JournalItem) → ClosesPending n J → closed J ≤ n + count J
+closed_within : (n : ℕ) (J : List JournalItem) → ClosesPending n J → closed J ≤ n + tx_count J
 closed_within n [] h = omega arith
 closed_within n (Tx id session time opened script ∷ is) h = omega (arith, closed_within (suc n) is h)
 closed_within n (Close j ∷ is) h = let l = h.2 in omega (arith, closed_within (n - j) is h.3)
 
-pending_sum : (J : List JournalItem) → ClosesPending 0 J → 0 + count J ≡ (count J - closed J) + closed J
+pending_sum : (J : List JournalItem) → ClosesPending 0 J → 0 + tx_count J ≡ (tx_count J - closed J) + closed J
 pending_sum J h = omega (arith, closed_within 0 J h)
 
 module _ (q : Meaning) (db : Text) where
@@ -55,8 +55,8 @@ module _ (q : Meaning) (db : Text) where
 
   pub closings_run : (w : World) (es : List Event) → Good q db w es → ClosesPending 0 w.items → ClosesPending 0 (run w es).items
   closings_run w [] g h = h
-  closings_run w (by s a ∷ es) g h = closings_run (step w (by s a)) es g.1 (closings_append 0 (count w.items - closed w.items) w.items (items_by (w.at s) a) (pending_sum w.items h) h (closes_item w s (count w.items - closed w.items) a))
-  closings_run w (closes k ∷ es) g h = let k1 = g.0.0 in let k2 = g.0.1 in let k3 = g.0.2 in closings_run (step w (closes k)) es g.1 (closings_append 0 (count w.items - closed w.items) w.items (Close k ∷ []) (pending_sum w.items h) h (k1, k2, omega arith, tt))
+  closings_run w (by s a ∷ es) g h = closings_run (step w (by s a)) es g.1 (closings_append 0 (tx_count w.items - closed w.items) w.items (items_by (w.at s) a) (pending_sum w.items h) h (closes_item w s (tx_count w.items - closed w.items) a))
+  closings_run w (closes k ∷ es) g h = let k1 = g.0.0 in let k2 = g.0.1 in let k3 = g.0.2 in closings_run (step w (closes k)) es g.1 (closings_append 0 (tx_count w.items - closed w.items) w.items (Close k ∷ []) (pending_sum w.items h) h (k1, k2, omega arith, tt))
 
 -- ---- ids
 

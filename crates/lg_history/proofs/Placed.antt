@@ -4,7 +4,7 @@ use Rattle.std.specs.Prelude.{if◌then◌else◌, ◌==◌}
 use Rattle.std.proofs.lemmas.Bool.{eqb-true}
 use Rattle.lg_types.specs.declared.journal.JournalItem.{JournalItem}
 use Rattle.lg_types.specs.declared.journal.JournalItem.TheVariants.{Tx, Close}
-use Rattle.lg_model.specs.Journals.{count}
+use Rattle.lg_model.specs.Journals.{tx_count}
 use Rattle.lg_history.specs.Lists.{Text}
 use Rattle.lg_history.specs.Meaning.{Meaning}
 use Rattle.lg_history.specs.Transactions.{End, unfixed, committed, ended, Transaction, on_some, listed}
@@ -20,13 +20,13 @@ front : (b : Bool) (p : Placed) (xs ys zs : List Placed) → zs ≡ xs ++ ys →
 front true p xs ys zs e = ap (λ (l : List Placed). p ∷ l) e
 front false p xs ys zs e = e
 
-pub picked_append : (pick : ℕ → Text → Bool) (n : ℕ) (J K : List JournalItem) → picked pick n (J ++ K) ≡ picked pick n J ++ picked pick (n + count J) K
+pub picked_append : (pick : ℕ → Text → Bool) (n : ℕ) (J K : List JournalItem) → picked pick n (J ++ K) ≡ picked pick n J ++ picked pick (n + tx_count J) K
 picked_append pick n [] K = ap (λ (m : ℕ). picked pick m K) (omega arith)
-picked_append pick n (Tx id session time opened script ∷ is) K = front (pick id session) (record { place = suc n; id = id; opened = opened; script = script }) (picked pick (suc n) is) (picked pick (n + suc (count is)) K) (picked pick (suc n) (is ++ K))
+picked_append pick n (Tx id session time opened script ∷ is) K = front (pick id session) (record { place = suc n; id = id; opened = opened; script = script }) (picked pick (suc n) is) (picked pick (n + suc (tx_count is)) K) (picked pick (suc n) (is ++ K))
     (picked_append pick (suc n) is K ∙ ap (λ (m : ℕ). picked pick (suc n) is ++ picked pick m K) (omega arith))
 picked_append pick n (Close k ∷ is) K = picked_append pick n is K
 
-picked_all : (pick : ℕ → Text → Bool) (J K : List JournalItem) → picked pick 0 (J ++ K) ≡ picked pick 0 J ++ picked pick (count J) K
+picked_all : (pick : ℕ → Text → Bool) (J K : List JournalItem) → picked pick 0 (J ++ K) ≡ picked pick 0 J ++ picked pick (tx_count J) K
 picked_all pick J K = picked_append pick 0 J K ∙ ap (λ (m : ℕ). picked pick 0 J ++ picked pick m K) (omega arith)
 
 ones_append : (us vs : List Transaction) → committed_ones (us ++ vs) ≡ committed_ones us ++ committed_ones vs
@@ -76,9 +76,9 @@ module _ (q : Meaning) (db : Text) (pick : ℕ → Text → Bool) (s : ℕ) wher
   idle : (J : List JournalItem) (x y : Sess) → committed_of y.deal y.done ≡ committed_of x.deal x.done → IsPlaced J x → IsPlaced (J ++ []) y
   idle J x y e h = ap (picked pick 0) (append-nil J) ∙ h ∙ sym e
 
-  item_at : (w : World) (t time place : ℕ) (b : Bool) (k : Commits q w t time place) → pick k.mine.id (w.at t).name ≡ b → picked pick (count w.items) (item_of (w.at t) (w.at t).deal time) ≡ (if b then record { place = place; id = k.mine.id; opened = k.mine.opened; script = k.mine.script } ∷ [] else [])
-  item_at w t time place true k e = ap (λ (o : Option Deal). picked pick (count w.items) (item_of (w.at t) o time)) k.stands.has ∙ rw e (ap (λ (n : ℕ). record { place = n; id = k.mine.id; opened = k.mine.opened; script = k.mine.script } ∷ []) (omega (arith, k.last)))
-  item_at w t time place false k e = ap (λ (o : Option Deal). picked pick (count w.items) (item_of (w.at t) o time)) k.stands.has ∙ rw e refl
+  item_at : (w : World) (t time place : ℕ) (b : Bool) (k : Commits q w t time place) → pick k.mine.id (w.at t).name ≡ b → picked pick (tx_count w.items) (item_of (w.at t) (w.at t).deal time) ≡ (if b then record { place = place; id = k.mine.id; opened = k.mine.opened; script = k.mine.script } ∷ [] else [])
+  item_at w t time place true k e = ap (λ (o : Option Deal). picked pick (tx_count w.items) (item_of (w.at t) o time)) k.stands.has ∙ rw e (ap (λ (n : ℕ). record { place = n; id = k.mine.id; opened = k.mine.opened; script = k.mine.script } ∷ []) (omega (arith, k.last)))
+  item_at w t time place false k e = ap (λ (o : Option Deal). picked pick (tx_count w.items) (item_of (w.at t) o time)) k.stands.has ∙ rw e refl
 
   mine : (w : World) (t : ℕ) (a : Act) → (t == s) ≡ true → Ok q db w (by t a) → Picks w → IsPlaced w.items (w.at t) → IsPlaced (w.items ++ items_by (w.at t) a) (acted (w.at t) a)
   mine w t (draws id opened) is k p h = idle w.items (w.at t) (acted (w.at t) (draws id opened)) (of_open (Some (drawn id opened)) (drawn id opened) (w.at t).done refl refl ∙ sym (of_none (w.at t).deal (w.at t).done k.1)) h
@@ -89,7 +89,7 @@ module _ (q : Meaning) (db : Text) (pick : ℕ → Text → Bool) (s : ℕ) wher
   mine w t (ends n back) is k p h = idle w.items (w.at t) (acted (w.at t) (ends n back)) (ended_so (w.at t).deal k.mine n back (w.at t).done k.stands.has k.stands.unfixed) h
   mine w t frees is k p h = idle w.items (w.at t) (acted (w.at t) frees) (freed (w.at t).deal (w.at t).done) h
   mine w t (commits time place) is k p h = picked_all pick w.items (item_of (w.at t) (w.at t).deal time)
-      ∙ ap (λ (l : List Placed). l ++ picked pick (count w.items) (item_of (w.at t) (w.at t).deal time)) h
+      ∙ ap (λ (l : List Placed). l ++ picked pick (tx_count w.items) (item_of (w.at t) (w.at t).deal time)) h
       ∙ ap (λ (l : List Placed). committed_of (w.at t).deal (w.at t).done ++ l) (item_at w t time place true k (p t k.mine k.stands.runs k.stands.has ∙ is))
       ∙ sym (committed_so (w.at t).deal k.mine place (w.at t).done k.stands.has k.stands.unfixed)
   mine w t a is k p h = idle w.items (w.at t) (acted (w.at t) a) refl h

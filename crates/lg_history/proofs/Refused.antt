@@ -4,7 +4,7 @@ use Rattle.std.specs.Prelude.{if◌then◌else◌, ◌==◌}
 use Rattle.std.proofs.lemmas.Bool.{ne_eqb, eqb-true, eq-eqb}
 use Rattle.lg_types.specs.declared.journal.JournalItem.{JournalItem}
 use Rattle.lg_model.specs.Catalog.{Tables, Defs}
-use Rattle.lg_model.specs.Journals.{count}
+use Rattle.lg_model.specs.Journals.{tx_count}
 use Rattle.lg_history.specs.Lists.{Text, Each, Some_of, In, At}
 use Rattle.lg_history.specs.Meaning.{Meaning}
 use Rattle.lg_history.specs.Serial.{after_tx}
@@ -65,7 +65,7 @@ module _ (q : Meaning) (db : Text) where
   pub all_settled : (es : List Event) → Good q db first es → (u : ℕ) → Settled q (run first es).items ((run first es).at u)
   all_settled es g = settles q db first es g begun_settled
 
-  fixed_within : (J : List JournalItem) (name : Text) (d : Deal) (e : End) → SettledAt q J name d e → (e ≡ unfixed) ⊎ ((n : ℕ) × EndsAt e n × (n ≤ count J))
+  fixed_within : (J : List JournalItem) (name : Text) (d : Deal) (e : End) → SettledAt q J name d e → (e ≡ unfixed) ⊎ ((n : ℕ) × EndsAt e n × (n ≤ tx_count J))
   fixed_within J name d unfixed h = inl refl
   fixed_within J name d (committed n) h = inr (n, refl, h.3)
   fixed_within J name d (ended n back) h = inr (n, refl, h.0)
@@ -75,7 +75,7 @@ module _ (q : Meaning) (db : Text) where
   met_now w s text holder m all = record {
     deal = m.theirs;
     is = m.is;
-    lies = ⊎_elim (λ (e : m.theirs.fixed ≡ unfixed). inl (e, m.has)) (λ (p : (n : ℕ) × EndsAt m.theirs.fixed n × (n ≤ count w.items)). inr (p.0, p.1, p.2, inl m.has))
+    lies = ⊎_elim (λ (e : m.theirs.fixed ≡ unfixed). inl (e, m.has)) (λ (p : (n : ℕ) × EndsAt m.theirs.fixed n × (n ≤ tx_count w.items)). inr (p.0, p.1, p.2, inl m.has))
         (fixed_within w.items (w.at m.other).name m.theirs m.theirs.fixed (all m.other m.theirs (inl m.has)));
     some = m.clash;
   }
@@ -122,7 +122,7 @@ module _ (q : Meaning) (db : Text) where
   past_clash : (J : List JournalItem) (x : Sess) (holder : ℕ) (o : Bool) (text : Text) → x.deal ≡ None → Each AllAnswered x.done → StandsAgainst q J x holder o text → PastClash J x holder o text
   past_clash J x holder o text none all s = let d = s.deal in ⊎_elim
       (λ (l : (d.fixed ≡ unfixed) × (x.deal ≡ Some d)). absurd (no_deal x.deal d none l.1))
-      (λ (l : (n : ℕ) × EndsAt d.fixed n × (n ≤ count J) × HasIn true x d). let i : In d x.done = ⊎_elim (λ (e : x.deal ≡ Some d). absurd (no_deal x.deal d none e)) (λ (k : (true ≡ true) × In d x.done). k.1) l.3 in record {
+      (λ (l : (n : ℕ) × EndsAt d.fixed n × (n ≤ tx_count J) × HasIn true x d). let i : In d x.done = ⊎_elim (λ (e : x.deal ≡ Some d). absurd (no_deal x.deal d none e)) (λ (k : (true ≡ true) × In d x.done). k.1) l.3 in record {
         deal = d;
         is = s.is;
         done = i;
@@ -193,17 +193,17 @@ module _ (q : Meaning) (db : Text) where
       own_cut = ap (of s) c.is ∙ of_append s c.earlier (by s (meets text holder) ∷ c.later) ∙ ap (λ (l : List Act). of s c.earlier ++ l) (rw (eq-eqb s s refl) refl)
 
       -- numbers before and after the refusal
-      marks_before_s : Shows (mark_of J) (λ k. k ≤ count v.items) (all_shown (of s c.earlier))
-      marks_before_s = shows_facts (mark_of J) marked (λ k. k ≤ count v.items) (of s c.earlier) (part_left s (of s c.earlier) (meets text holder ∷ of s c.later) own_cut) (marks_to q db s first c.earlier parts.0)
+      marks_before_s : Shows (mark_of J) (λ k. k ≤ tx_count v.items) (all_shown (of s c.earlier))
+      marks_before_s = shows_facts (mark_of J) marked (λ k. k ≤ tx_count v.items) (of s c.earlier) (part_left s (of s c.earlier) (meets text holder ∷ of s c.later) own_cut) (marks_to q db s first c.earlier parts.0)
 
-      marks_after_s : Shows (mark_of J) (λ k. count v.items ≤ k) (all_shown (of s c.later))
-      marks_after_s = shows_facts (mark_of J) marked (λ k. count v.items ≤ k) (of s c.later) (part_right s (of s c.earlier) (meets text holder ∷ of s c.later) own_cut).1 (marks_from q db (count v.items) s u c.later parts.1.1 (count_step q db v (by s (meets text holder))))
+      marks_after_s : Shows (mark_of J) (λ k. tx_count v.items ≤ k) (all_shown (of s c.later))
+      marks_after_s = shows_facts (mark_of J) marked (λ k. tx_count v.items ≤ k) (of s c.later) (part_right s (of s c.earlier) (meets text holder ∷ of s c.later) own_cut).1 (marks_from q db (tx_count v.items) s u c.later parts.1.1 (count_step q db v (by s (meets text holder))))
 
-      marks_before_t : Shows (mark_of J) (λ k. k ≤ count v.items) (all_shown (of t c.earlier))
-      marks_before_t = shows_facts (mark_of J) marked (λ k. k ≤ count v.items) (of t c.earlier) (part_left t (of t c.earlier) (of t c.later) its_cut) (marks_to q db t first c.earlier parts.0)
+      marks_before_t : Shows (mark_of J) (λ k. k ≤ tx_count v.items) (all_shown (of t c.earlier))
+      marks_before_t = shows_facts (mark_of J) marked (λ k. k ≤ tx_count v.items) (of t c.earlier) (part_left t (of t c.earlier) (of t c.later) its_cut) (marks_to q db t first c.earlier parts.0)
 
-      marks_after_t : Shows (mark_of J) (λ k. count v.items ≤ k) (all_shown (of t c.later))
-      marks_after_t = shows_facts (mark_of J) marked (λ k. count v.items ≤ k) (of t c.later) (part_right t (of t c.earlier) (of t c.later) its_cut) (marks_from q db (count v.items) t u c.later parts.1.1 (count_step q db v (by s (meets text holder))))
+      marks_after_t : Shows (mark_of J) (λ k. tx_count v.items ≤ k) (all_shown (of t c.later))
+      marks_after_t = shows_facts (mark_of J) marked (λ k. tx_count v.items ≤ k) (of t c.later) (part_right t (of t c.earlier) (of t c.later) its_cut) (marks_from q db (tx_count v.items) t u c.later parts.1.1 (count_step q db v (by s (meets text holder))))
 
       ids_before : (r : ℕ) → Shows id_of (λ i. i < v.next) (all_shown (of r c.earlier))
       ids_before r = ids_facts (λ i. i < v.next) (of r c.earlier) (ids_to q db r first c.earlier parts.0)
@@ -226,9 +226,9 @@ module _ (q : Meaning) (db : Text) where
       before_holder : (f : Fact → List ℕ) (P : ℕ → Type 0) → Shows f P (all_shown (of t c.earlier)) → Shows f P standing.before
       before_holder f P h = each_left (λ x. Each P (f x)) standing.before (began m.theirs.id m.theirs.opened ∷ standing.inside) (subst (Shows f P) standing.is h)
 
-      at_most_first : (gs : List Fact) → Shows (mark_of J) (λ k. count v.items ≤ k) gs → (hs : List Fact) → Shows (mark_of J) (λ k. k ≤ count v.items) hs → Shows (mark_of J) (λ k. Each (λ n. k ≤ n) (first_shown (mark_of J) gs)) hs
-      at_most_first gs h hs k = let first_one = first_is (mark_of J) (λ n. count v.items ≤ n) gs h in
-          shows_weaker (mark_of J) (λ n. n ≤ count v.items) (λ n. Each (λ i. n ≤ i) (first_shown (mark_of J) gs)) (λ n l. each_weaker (λ i. count v.items ≤ i) (λ i. n ≤ i) (λ i j. omega arith) (first_shown (mark_of J) gs) first_one) hs k
+      at_most_first : (gs : List Fact) → Shows (mark_of J) (λ k. tx_count v.items ≤ k) gs → (hs : List Fact) → Shows (mark_of J) (λ k. k ≤ tx_count v.items) hs → Shows (mark_of J) (λ k. Each (λ n. k ≤ n) (first_shown (mark_of J) gs)) hs
+      at_most_first gs h hs k = let first_one = first_is (mark_of J) (λ n. tx_count v.items ≤ n) gs h in
+          shows_weaker (mark_of J) (λ n. n ≤ tx_count v.items) (λ n. Each (λ i. n ≤ i) (first_shown (mark_of J) gs)) (λ n l. each_weaker (λ i. tx_count v.items ≤ i) (λ i. n ≤ i) (λ i j. omega arith) (first_shown (mark_of J) gs) first_one) hs k
 
       above_first : (i : ℕ) (gs : List Fact) → i < v.next → Shows id_of (λ n. v.next ≤ n) gs → Each (λ n. i < n) (first_shown id_of gs)
       above_first i gs l h = each_weaker (λ n. v.next ≤ n) (λ n. i < n) (λ n k. omega arith) (first_shown id_of gs) (first_is id_of (λ n. v.next ≤ n) gs h)
@@ -236,8 +236,8 @@ module _ (q : Meaning) (db : Text) where
       placing : (none : (W.at t).deal ≡ None) → Placing J (all_shown (of s c.earlier)) (all_shown (of s c.later)) m.mine.id m.theirs.id (all_shown (of t c.earlier) ++ all_shown (of t c.later))
       placing none = let cl = closing none in record {
         spans = spans m.theirs.id m.theirs.opened (all_shown (of t c.earlier)) (all_shown (of t c.later)) standing cl;
-        marks_before = at_most_first cl.after (after_holder (mark_of J) (λ k. count v.items ≤ k) cl marks_after_t) (all_shown (of s c.earlier)) marks_before_s;
-        marks_of_holder = at_most_first (all_shown (of s c.later)) marks_after_s standing.before (before_holder (mark_of J) (λ k. k ≤ count v.items) marks_before_t);
+        marks_before = at_most_first cl.after (after_holder (mark_of J) (λ k. tx_count v.items ≤ k) cl marks_after_t) (all_shown (of s c.earlier)) marks_before_s;
+        marks_of_holder = at_most_first (all_shown (of s c.later)) marks_after_s standing.before (before_holder (mark_of J) (λ k. k ≤ tx_count v.items) marks_before_t);
         next_of_refused = above_first m.theirs.id (all_shown (of s c.later)) (begun_is (λ i. i < v.next) m.theirs.id m.theirs.opened (all_shown (of t c.earlier)) standing (ids_before t)) (ids_after s);
         next_of_holder = above_first m.mine.id cl.after (begun_is (λ i. i < v.next) m.mine.id m.mine.opened (all_shown (of s c.earlier)) refused (ids_before s)) (after_holder id_of (λ i. v.next ≤ i) cl (ids_after t));
       }

@@ -3,7 +3,7 @@ use Rattle.std.proofs.Common.{◌≡◌, ℕ, suc, ◌<◌, ◌≤◌, Bool, tru
 use Rattle.std.specs.Prelude.{if◌then◌else◌, ◌==◌, take}
 use Rattle.std.proofs.lemmas.List.{take_at}
 use Rattle.lg_types.specs.declared.journal.JournalItem.{JournalItem}
-use Rattle.lg_model.specs.Journals.{count}
+use Rattle.lg_model.specs.Journals.{tx_count}
 use Rattle.lg_history.specs.Lists.{Text, Each}
 use Rattle.lg_history.specs.Journals.{blocks}
 use Rattle.lg_history.specs.Meaning.{Meaning}
@@ -41,7 +41,7 @@ module _ (q : Meaning) (db : Text) where
   pub rising : (s : ℕ) (w : World) (es : List Event) → Good q db w es → MarksRise (run w es).items (all_shown (of s es))
   rising s w [] g = tt
   rising s w (by t a ∷ es) g = let J = (run w (by t a ∷ es)).items in rise_more J (t == s) a (of s es) (mark_same q db w t a es g.0)
-      (each_weaker (λ m. m ≡ count (step w (by t a)).items) (Later J (all_shown (of s es)))
+      (each_weaker (λ m. m ≡ tx_count (step w (by t a)).items) (Later J (all_shown (of s es)))
       (λ m e. (shows_facts (mark_of J) marked (λ n. m ≤ n) (of s es) (marks_same q db s (step w (by t a)) es g.1) (marks_from q db m s (step w (by t a)) es g.1 (omega arith)), places_facts (λ n. m < n) (of s es) (places_from q db m s (step w (by t a)) es g.1 (omega arith))))
       (marked a) (mark_is q db w t a g.0))
       (rising s (step w (by t a)) es g.1)

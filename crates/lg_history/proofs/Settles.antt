@@ -3,7 +3,7 @@ use Rattle.std.proofs.Common.{◌≡◌, ℕ, zero, suc, ◌⊎◌, Bool, true, 
 use Rattle.std.specs.Prelude.{if◌then◌else◌, ◌==◌}
 use Rattle.lg_types.specs.declared.journal.JournalItem.{JournalItem}
 use Rattle.lg_types.specs.declared.journal.JournalItem.TheVariants.{Tx, Close}
-use Rattle.lg_model.specs.Journals.{Line, count}
+use Rattle.lg_model.specs.Journals.{Line, tx_count}
 use Rattle.lg_history.specs.Lists.{Text, In}
 use Rattle.lg_history.specs.Journals.{nth_tx}
 use Rattle.lg_history.specs.Meaning.{Meaning}
@@ -23,7 +23,7 @@ nth_stays m (Close k ∷ is) K i e = nth_stays m is K i e
 nth_stays zero (Tx id session time opened script ∷ is) K i e = e
 nth_stays (suc m) (Tx id session time opened script ∷ is) K i e = nth_stays m is K i e
 
-nth_last : (J : List JournalItem) (id : ℕ) (session : Text) (time : ℕ) (opened : Bool) (script : List Line) → nth_tx (count J) (J ++ Tx id session time opened script ∷ []) ≡ Some (Tx id session time opened script)
+nth_last : (J : List JournalItem) (id : ℕ) (session : Text) (time : ℕ) (opened : Bool) (script : List Line) → nth_tx (tx_count J) (J ++ Tx id session time opened script ∷ []) ≡ Some (Tx id session time opened script)
 nth_last [] id session time opened script = refl
 nth_last (Close k ∷ is) id session time opened script = nth_last is id session time opened script
 nth_last (Tx a b c d e ∷ is) id session time opened script = nth_last is id session time opened script
@@ -70,7 +70,7 @@ module _ (q : Meaning) where
 
   committed_now : (w : World) (s time place : ℕ) (k : Commits q w s time place) → SettledAt q (w.items ++ item_of (w.at s) (w.at s).deal time) (w.at s).name k.mine (committed place)
   committed_now w s time place k = subst (λ (z : Option Deal). SettledAt q (w.items ++ item_of (w.at s) z time) (w.at s).name k.mine (committed place)) (sym k.stands.has)
-      (count w.items, time, omega (arith, k.last), omega (arith, k.last, count_append w.items (Tx k.mine.id (w.at s).name time k.mine.opened k.mine.script ∷ [])), nth_last w.items k.mine.id (w.at s).name time k.mine.opened k.mine.script)
+      (tx_count w.items, time, omega (arith, k.last), omega (arith, k.last, count_append w.items (Tx k.mine.id (w.at s).name time k.mine.opened k.mine.script ∷ [])), nth_last w.items k.mine.id (w.at s).name time k.mine.opened k.mine.script)
 
   ended_now : (w : World) (s n : ℕ) (back : Bool) (k : Ends q w s n back) → SettledAt q (w.items ++ []) (w.at s).name k.mine (ended n back)
   ended_now w s n back k = let same : after_tx q q.first n w.items ≡ serial q q.first w.items = ap (λ (n : ℕ). after_tx q q.first n w.items) k.last ∙ after_last q w.items in

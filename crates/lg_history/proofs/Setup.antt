@@ -3,7 +3,7 @@ use Rattle.std.proofs.Common.{◌≡◌, ◌≢◌, ℕ, ◌<◌, ◌≤◌, ◌
 use Rattle.std.specs.Prelude.{if◌then◌else◌, ◌==◌}
 use Rattle.std.proofs.lemmas.Bool.{ne_eqb}
 use Rattle.lg_types.specs.declared.journal.JournalItem.{JournalItem}
-use Rattle.lg_model.specs.Journals.{count}
+use Rattle.lg_model.specs.Journals.{tx_count}
 use Rattle.lg_history.specs.Lists.{Text, Each, In}
 use Rattle.lg_history.specs.Journals.{blocks}
 use Rattle.lg_history.specs.Meaning.{Meaning}
@@ -118,16 +118,16 @@ module _ (q : Meaning) (db : Text) (u : ℕ) (h es : List Event) (g : Good q db 
   its_part : of u (h ++ es) ≡ of u h
   its_part = of_append u h es ∙ (rw ((silent q db u (run first h) es ended parts.1).0, append-nil) refl)
 
-  its_marks : Shows (mark_of J) (λ m. m ≤ count v.items) (all_shown (of u (h ++ es)))
-  its_marks = shows_facts (mark_of J) marked (λ m. m ≤ count v.items) (of u (h ++ es)) (marks_same q db u first (h ++ es) g) (subst (Shows marked (λ m. m ≤ count v.items)) (sym its_part) (marks_to q db u first h parts.0))
+  its_marks : Shows (mark_of J) (λ m. m ≤ tx_count v.items) (all_shown (of u (h ++ es)))
+  its_marks = shows_facts (mark_of J) marked (λ m. m ≤ tx_count v.items) (of u (h ++ es)) (marks_same q db u first (h ++ es) g) (subst (Shows marked (λ m. m ≤ tx_count v.items)) (sym its_part) (marks_to q db u first h parts.0))
 
-  other_marks : (s : ℕ) → s ≢ u → Shows (mark_of J) (λ m. count v.items ≤ m) (all_shown (of s (h ++ es)))
-  other_marks s ne = shows_facts (mark_of J) marked (λ m. count v.items ≤ m) (of s (h ++ es)) (marks_same q db s first (h ++ es) g) (subst (Shows marked (λ m. count v.items ≤ m)) (sym (part s ne)) (marks_from q db (count v.items) s v es parts.1 (omega arith)))
+  other_marks : (s : ℕ) → s ≢ u → Shows (mark_of J) (λ m. tx_count v.items ≤ m) (all_shown (of s (h ++ es)))
+  other_marks s ne = shows_facts (mark_of J) marked (λ m. tx_count v.items ≤ m) (of s (h ++ es)) (marks_same q db s first (h ++ es) g) (subst (Shows marked (λ m. tx_count v.items ≤ m)) (sym (part s ne)) (marks_from q db (tx_count v.items) s v es parts.1 (omega arith)))
 
   -- no mark of another session is below one of its marks
   pub setup_marks : (s : ℕ) → s ≢ u → NoneBelow J (all_shown (of u (h ++ es))) (all_shown (of s (h ++ es)))
-  setup_marks s ne = shows_weaker (mark_of J) (λ m. m ≤ count v.items) (λ m. Shows (mark_of J) (λ n. m ≤ n) (all_shown (of s (h ++ es))))
-      (λ m l. shows_weaker (mark_of J) (λ n. count v.items ≤ n) (λ n. m ≤ n) (λ n k. omega arith) (all_shown (of s (h ++ es))) (other_marks s ne)) (all_shown (of u (h ++ es))) its_marks
+  setup_marks s ne = shows_weaker (mark_of J) (λ m. m ≤ tx_count v.items) (λ m. Shows (mark_of J) (λ n. m ≤ n) (all_shown (of s (h ++ es))))
+      (λ m l. shows_weaker (mark_of J) (λ n. tx_count v.items ≤ n) (λ n. m ≤ n) (λ n k. omega arith) (all_shown (of s (h ++ es))) (other_marks s ne)) (all_shown (of u (h ++ es))) its_marks
 
   -- its digests' blocks are closed in the others' images
   pub setup_images : (s : ℕ) → s ≢ u → ImagesOfOthersHave J (all_shown (of u (h ++ es))) (all_shown (of s (h ++ es)))
@@ -141,8 +141,8 @@ module _ (q : Meaning) (db : Text) (u : ℕ) (h es : List Event) (g : Good q db 
       let f = find (of s es) sp.before sp.after no_digest sp.is in
       let c = cut s es f.front f.back lacks (f.is ∙ ap (λ (a : Act). f.front ++ a ∷ f.back) (is_lacks f.act f.shows)) in
       let two = good_append q db v c.earlier (by s lacks ∷ c.later) (subst (Good q db v) c.is parts.1) in
-      let none : count (run v c.earlier).items ≡ 0 = two.1.0.1 in let less = count_run q db v c.earlier in
-      shows_weaker (mark_of J) (λ m. m ≤ count v.items) (λ m. m ≡ 0) (λ m l. omega arith) (all_shown (of u (h ++ es))) its_marks
+      let none : tx_count (run v c.earlier).items ≡ 0 = two.1.0.1 in let less = count_run q db v c.earlier in
+      shows_weaker (mark_of J) (λ m. m ≤ tx_count v.items) (λ m. m ≡ 0) (λ m l. omega arith) (all_shown (of u (h ++ es))) its_marks
 
   -- ---- refusals
 

@@ -3,7 +3,7 @@ use Rattle.std.proofs.Common.{◌≡◌, ℕ, suc, ◌≤◌, List, [], ◌∷�
 use Rattle.std.specs.Prelude.{◌==◌, take}
 use Rattle.std.proofs.lemmas.List.{take_at}
 use Rattle.lg_types.specs.declared.journal.JournalItem.{JournalItem}
-use Rattle.lg_model.specs.Journals.{count}
+use Rattle.lg_model.specs.Journals.{tx_count}
 use Rattle.lg_history.specs.Lists.{Text, Each}
 use Rattle.lg_history.specs.Journals.{in_blocks}
 use Rattle.lg_history.specs.Meaning.{Meaning}
@@ -20,9 +20,9 @@ module _ (q : Meaning) (db : Text) where
   digest_mark w s d mark es k = let g = grows w (by s (issues d mark) ∷ es) in let n : suc d.block ≡ _ = omega (arith, k.last) in
       ap (in_blocks (suc d.block)) g.1 ∙ ap (λ (m : ℕ). in_blocks m (w.items ++ g.0)) n ∙ blocks_all w.items g.0 ∙ k.all ∙ sym k.counts
 
-  image_mark : (w : World) (s m mark : ℕ) (es : List Event) → Ok q db w (by s (keeps m mark)) → count (take m (run w (by s (keeps m mark) ∷ es)).items) ≡ mark
+  image_mark : (w : World) (s m mark : ℕ) (es : List Event) → Ok q db w (by s (keeps m mark)) → tx_count (take m (run w (by s (keeps m mark) ∷ es)).items) ≡ mark
   image_mark w s m mark es k = let g = grows w (by s (keeps m mark) ∷ es) in
-      let whole : take m (run w (by s (keeps m mark) ∷ es)).items ≡ w.items = ap (take m) g.1 ∙ take_at w.items g.0 m (sym k.1) in ap count whole ∙ sym k.2
+      let whole : take m (run w (by s (keeps m mark) ∷ es)).items ≡ w.items = ap (take m) g.1 ∙ take_at w.items g.0 m (sym k.1) in ap tx_count whole ∙ sym k.2
 
   -- the mark that is shown is that of the act
   pub mark_same : (w : World) (s : ℕ) (a : Act) (es : List Event) → Ok q db w (by s a) → Each (λ g. mark_of (run w (by s a ∷ es)).items g ≡ marked a) (shown a)

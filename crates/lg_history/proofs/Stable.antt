@@ -3,7 +3,7 @@ use Rattle.std.proofs.Common.{◌≡◌, ℕ, zero, suc, ◌≤◌, List, [], �
 use Rattle.lg_types.specs.declared.journal.JournalItem.{JournalItem}
 use Rattle.lg_types.specs.declared.journal.JournalItem.TheVariants.{Tx, Close}
 use Rattle.lg_model.specs.Catalog.{Tables}
-use Rattle.lg_model.specs.Journals.{count}
+use Rattle.lg_model.specs.Journals.{tx_count}
 use Rattle.lg_history.specs.Meaning.{Meaning}
 use Rattle.lg_history.specs.Serial.{texts_of, after_item, serial, after_tx, Replays}
 use Rattle.lg_history.specs.Refusals.{EndsAt}
@@ -25,12 +25,12 @@ module _ (q : Meaning) where
   after_none T (Close k ∷ is) = after_none T is
 
   -- after as many as there are
-  pub after_all : (T : Tables) (J K : List JournalItem) → after_tx q T (count J) (J ++ K) ≡ serial q T J
+  pub after_all : (T : Tables) (J K : List JournalItem) → after_tx q T (tx_count J) (J ++ K) ≡ serial q T J
   after_all T [] K = after_none T K
   after_all T (Tx id session time opened script ∷ is) K = after_all (q.after opened T id (texts_of script)) is K
   after_all T (Close k ∷ is) K = after_all T is K
 
-  pub after_stays : (T : Tables) (n : ℕ) (J K : List JournalItem) → n ≤ count J → after_tx q T n (J ++ K) ≡ after_tx q T n J
+  pub after_stays : (T : Tables) (n : ℕ) (J K : List JournalItem) → n ≤ tx_count J → after_tx q T n (J ++ K) ≡ after_tx q T n J
   after_stays T zero [] K h = after_none T K
   after_stays T (suc n) [] K h = absurd (omega arith)
   after_stays T zero (Tx id session time opened script ∷ is) K h = refl
@@ -38,17 +38,17 @@ module _ (q : Meaning) where
   after_stays T zero (Close k ∷ is) K h = after_stays T zero is K h
   after_stays T (suc n) (Close k ∷ is) K h = after_stays T (suc n) is K h
 
-  pub after_last : (J : List JournalItem) → after_tx q q.first (count J) J ≡ serial q q.first J
-  after_last J = ap (λ (l : List JournalItem). after_tx q q.first (count J) l) (sym (append-nil J)) ∙ after_all q.first J []
+  pub after_last : (J : List JournalItem) → after_tx q q.first (tx_count J) J ≡ serial q q.first J
+  after_last J = ap (λ (l : List JournalItem). after_tx q q.first (tx_count J) l) (sym (append-nil J)) ∙ after_all q.first J []
 
   -- ---- the tables over which clashes stand
 
-  pub stood_stays : (J K : List JournalItem) (e : End) (n : ℕ) → EndsAt e n → n ≤ count J → stood q (J ++ K) e ≡ stood q J e
+  pub stood_stays : (J K : List JournalItem) (e : End) (n : ℕ) → EndsAt e n → n ≤ tx_count J → stood q (J ++ K) e ≡ stood q J e
   stood_stays J K unfixed n p h = absurd p
   stood_stays J K (committed m) n p h = after_stays q.first m J K (omega arith)
   stood_stays J K (ended m back) n p h = after_stays q.first m J K (omega arith)
 
-  pub stood_last : (J : List JournalItem) (z : End) (n : ℕ) → EndsAt z n → n ≡ count J → serial q q.first J ≡ stood q J z
+  pub stood_last : (J : List JournalItem) (z : End) (n : ℕ) → EndsAt z n → n ≡ tx_count J → serial q q.first J ≡ stood q J z
   stood_last J unfixed n p e = absurd p
   stood_last J (committed m) n p e = sym (after_last J) ∙ ap (λ (k : ℕ). after_tx q q.first k J) (sym (p ∙ e))
   stood_last J (ended m back) n p e = sym (after_last J) ∙ ap (λ (k : ℕ). after_tx q q.first k J) (sym (p ∙ e))

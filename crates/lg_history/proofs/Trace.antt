@@ -3,7 +3,7 @@ use Rattle.std.proofs.Common.{◌≡◌, ℕ, ◌+◌, ◌<◌, ◌≤◌, Bool,
 use Rattle.std.specs.Prelude.{if◌then◌else◌, ◌==◌}
 use Rattle.lg_types.specs.declared.journal.JournalItem.{JournalItem}
 use Rattle.lg_types.specs.declared.journal.JournalItem.TheVariants.{Tx, Close}
-use Rattle.lg_model.specs.Journals.{count}
+use Rattle.lg_model.specs.Journals.{tx_count}
 use Rattle.lg_history.specs.Lists.{Text, Each}
 use Rattle.lg_history.specs.Meaning.{Meaning}
 use Rattle.lg_history.specs.Facts.{Shows}
@@ -22,7 +22,7 @@ pub each_weaker : {A : Type 0} (P Q : A → Type 0) → ((x : A) → P x → Q x
 each_weaker P Q f [] h = tt
 each_weaker P Q f (x ∷ xs) h = (f x h.0, each_weaker P Q f xs h.1)
 
-pub count_append : (is js : List JournalItem) → count (is ++ js) ≡ count is + count js
+pub count_append : (is js : List JournalItem) → tx_count (is ++ js) ≡ tx_count is + tx_count js
 count_append [] js = omega arith
 count_append (Tx id session time opened script ∷ is) js = omega (arith, count_append is js)
 count_append (Close k ∷ is) js = count_append is js
@@ -32,15 +32,15 @@ one_more P true a xs p h = (p, h)
 one_more P false a xs p h = h
 
 module _ (q : Meaning) (db : Text) where
-  count_by : (w : World) (s : ℕ) (a : Act) → count w.items ≤ count (step w (by s a)).items
+  count_by : (w : World) (s : ℕ) (a : Act) → tx_count w.items ≤ tx_count (step w (by s a)).items
   count_by w s a = omega (arith, count_append w.items (items_by (w.at s) a))
 
   -- the number of transactions never falls
-  pub count_step : (w : World) (e : Event) → count w.items ≤ count (step w e).items
+  pub count_step : (w : World) (e : Event) → tx_count w.items ≤ tx_count (step w e).items
   count_step w (by s a) = count_by w s a
   count_step w (closes k) = omega (arith, count_append w.items (Close k ∷ []))
 
-  pub count_run : (w : World) (es : List Event) → count w.items ≤ count (run w es).items
+  pub count_run : (w : World) (es : List Event) → tx_count w.items ≤ tx_count (run w es).items
   count_run w [] = omega arith
   count_run w (e ∷ es) = omega (arith, count_step w e, count_run (step w e) es)
 
@@ -62,34 +62,34 @@ module _ (q : Meaning) (db : Text) where
   -- ---- marks
 
   -- a mark is the number of transactions after its act
-  pub mark_is : (w : World) (s : ℕ) (a : Act) → Ok q db w (by s a) → Each (λ m. m ≡ count (step w (by s a)).items) (marked a)
-  mark_is w s (commits time place) h = (omega (arith, h.last, count_append w.items (item_of (w.at s) (w.at s).deal time), ap (λ (o : Option Deal). count (item_of (w.at s) o time)) h.stands.has), tt)
+  pub mark_is : (w : World) (s : ℕ) (a : Act) → Ok q db w (by s a) → Each (λ m. m ≡ tx_count (step w (by s a)).items) (marked a)
+  mark_is w s (commits time place) h = (omega (arith, h.last, count_append w.items (item_of (w.at s) (w.at s).deal time), ap (λ (o : Option Deal). tx_count (item_of (w.at s) o time)) h.stands.has), tt)
   mark_is w s (ends n back) h = (omega (arith, h.last, count_append w.items []), tt)
   mark_is w s (issues d mark) h = (omega (arith, h.counts, count_append w.items []), tt)
   mark_is w s (keeps items mark) h = (omega (arith, h.2, count_append w.items []), tt)
   mark_is w s a h = tt
 
-  more_than : (w : World) (n : ℕ) (s : ℕ) (a : Act) → Ok q db w (by s a) → n ≤ count w.items → Each (λ m. n ≤ m) (marked a)
-  more_than w n s a h i = let c = count_by w s a in each_weaker (λ m. m ≡ count (step w (by s a)).items) (λ m. n ≤ m) (λ m e. omega arith) (marked a) (mark_is w s a h)
+  more_than : (w : World) (n : ℕ) (s : ℕ) (a : Act) → Ok q db w (by s a) → n ≤ tx_count w.items → Each (λ m. n ≤ m) (marked a)
+  more_than w n s a h i = let c = count_by w s a in each_weaker (λ m. m ≡ tx_count (step w (by s a)).items) (λ m. n ≤ m) (λ m e. omega arith) (marked a) (mark_is w s a h)
 
   -- marks that come later are no less than the number of transactions
-  pub marks_from : (n s : ℕ) (w : World) (es : List Event) → Good q db w es → n ≤ count w.items → Shows marked (λ m. n ≤ m) (of s es)
-  marks_from n = along (λ w. n ≤ count w.items) (λ a. Each (λ m. n ≤ m) (marked a)) (λ w e h i. omega (arith, count_step w e)) (λ w t a h i. more_than w n t a h i)
+  pub marks_from : (n s : ℕ) (w : World) (es : List Event) → Good q db w es → n ≤ tx_count w.items → Shows marked (λ m. n ≤ m) (of s es)
+  marks_from n = along (λ w. n ≤ tx_count w.items) (λ a. Each (λ m. n ≤ m) (marked a)) (λ w e h i. omega (arith, count_step w e)) (λ w t a h i. more_than w n t a h i)
 
   -- and those that came are no greater
-  pub marks_to : (s : ℕ) (w : World) (es : List Event) → Good q db w es → Shows marked (λ m. m ≤ count (run w es).items) (of s es)
+  pub marks_to : (s : ℕ) (w : World) (es : List Event) → Good q db w es → Shows marked (λ m. m ≤ tx_count (run w es).items) (of s es)
   marks_to s w [] g = tt
-  marks_to s w (by t a ∷ es) g = one_more (λ b. Each (λ m. m ≤ count (run (step w (by t a)) es).items) (marked b)) (t == s) a (of s es)
-      (let c = count_run (step w (by t a)) es in each_weaker (λ m. m ≡ count (step w (by t a)).items) (λ m. m ≤ count (run (step w (by t a)) es).items) (λ m e. omega arith) (marked a) (mark_is w t a g.0))
+  marks_to s w (by t a ∷ es) g = one_more (λ b. Each (λ m. m ≤ tx_count (run (step w (by t a)) es).items) (marked b)) (t == s) a (of s es)
+      (let c = count_run (step w (by t a)) es in each_weaker (λ m. m ≡ tx_count (step w (by t a)).items) (λ m. m ≤ tx_count (run (step w (by t a)) es).items) (λ m e. omega arith) (marked a) (mark_is w t a g.0))
       (marks_to s (step w (by t a)) es g.1)
   marks_to s w (closes k ∷ es) g = marks_to s (step w (closes k)) es g.1
 
-  place_above : (w : World) (n : ℕ) (s : ℕ) (a : Act) → Ok q db w (by s a) → n ≤ count w.items → Each (λ m. n < m) (placed_at a)
+  place_above : (w : World) (n : ℕ) (s : ℕ) (a : Act) → Ok q db w (by s a) → n ≤ tx_count w.items → Each (λ m. n < m) (placed_at a)
   place_above w n s (commits time place) h i = (omega (arith, h.last), tt)
   place_above w n s a h i = tt
 
-  pub places_from : (n s : ℕ) (w : World) (es : List Event) → Good q db w es → n ≤ count w.items → Shows placed_at (λ m. n < m) (of s es)
-  places_from n = along (λ w. n ≤ count w.items) (λ a. Each (λ m. n < m) (placed_at a)) (λ w e h i. omega (arith, count_step w e)) (λ w t a h i. place_above w n t a h i)
+  pub places_from : (n s : ℕ) (w : World) (es : List Event) → Good q db w es → n ≤ tx_count w.items → Shows placed_at (λ m. n < m) (of s es)
+  places_from n = along (λ w. n ≤ tx_count w.items) (λ a. Each (λ m. n < m) (placed_at a)) (λ w e h i. omega (arith, count_step w e)) (λ w t a h i. place_above w n t a h i)
 
   -- ---- ids
 

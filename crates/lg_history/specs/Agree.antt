@@ -3,7 +3,7 @@ use Rattle.std.specs.Prelude.{ℕ, suc, ◌≡◌, ◌≢◌, ◌<◌, ◌≤◌
 use Rattle.std.specs.Str.{bytes_eq}
 use Rattle.lg_types.specs.declared.journal.JournalItem.{JournalItem}
 use Rattle.lg_types.specs.declared.journal.JournalItem.TheVariants.{Tx, Close}
-use Rattle.lg_model.specs.Journals.{Line, count}
+use Rattle.lg_model.specs.Journals.{Line, tx_count}
 use Rattle.lg_history.specs.Lists.{Text, Each, Some_of, In, At, sum}
 use Rattle.lg_history.specs.Journals.{blocks}
 use Rattle.lg_history.specs.Meaning.{Meaning}
@@ -86,7 +86,7 @@ pub record JournalIsTheirs (q : Meaning) (X : List Transcript) (J : List Journal
 -- a transaction that ended after n has the replies of its script over the tables after n transactions; if COMMIT or a
 -- statement of its own ended it, that script leaves no start or end there
 pub record EndedOver (q : Meaning) (J : List JournalItem) (u : Transaction) (n : ℕ) (back : Bool) : Type 0 where
-  pub within : n ≤ count J
+  pub within : n ≤ tx_count J
   pub replies : replies_of u.script ≡ q.replies u.opened (after_tx q q.first n J) u.id (texts_of u.script)
   pub quiet : back ≡ false → q.events u.opened (after_tx q q.first n J) u.id (texts_of u.script) ≡ 0
 

@@ -5,7 +5,7 @@ use Rattle.lg_types.specs.declared.reply.Reply.{Reply}
 use Rattle.lg_types.specs.declared.reply.Reply.TheVariants as reply
 use Rattle.lg_types.specs.declared.journal.JournalItem.{JournalItem}
 use Rattle.lg_history.specs.Lists.{Text, Each}
-use Rattle.lg_model.specs.Journals.{Line, count}
+use Rattle.lg_model.specs.Journals.{Line, tx_count}
 use Rattle.lg_history.specs.Journals.{in_blocks}
 use Rattle.lg_history.specs.Meaning.{Meaning}
 use Rattle.lg_history.specs.Transcripts.{EndLine, committed_at, ended_after, Entry, statement, end_of_session, Transcript, ended_id, Kind, commit, roll_back, create, rows, kind_of}
@@ -107,7 +107,7 @@ abbrev pub mark_of : List JournalItem → Fact → List ℕ
 mark_of J (placed place) = place ∷ []
 mark_of J (passed n back) = n ∷ []
 mark_of J (digest block hash) = in_blocks (suc block) J ∷ []
-mark_of J (image items) = count (take items J) ∷ []
+mark_of J (image items) = tx_count (take items J) ∷ []
 mark_of J _ = []
 
 -- the place of a commit

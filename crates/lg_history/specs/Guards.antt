@@ -2,7 +2,7 @@
 use Rattle.std.specs.Prelude.{ℕ, ◌≡◌, ◌≢◌, ◌⊎◌, ◌+◌, ◌≤◌, Bool, true, false, List, [], ◌∷◌, length, Option, Some, None}
 use Rattle.lg_types.specs.declared.journal.JournalItem.{JournalItem}
 use Rattle.lg_model.specs.Catalog.{Tables}
-use Rattle.lg_model.specs.Journals.{count, closed}
+use Rattle.lg_model.specs.Journals.{tx_count, closed}
 use Rattle.lg_history.specs.Lists.{Text, Each, Some_of, In}
 use Rattle.lg_history.specs.Journals.{blocks}
 use Rattle.lg_history.specs.Meaning.{Meaning}
@@ -100,7 +100,7 @@ module _ (q : Meaning) where
     pub mine : Deal
     pub stands : Stands (w.at s) mine
     pub agrees : AgreesTx q (tables q w) mine.id mine.opened mine.script
-    pub last : place ≡ count w.items + 1
+    pub last : place ≡ tx_count w.items + 1
     -- the definitions stay, or nobody else has a statement that wants anything
     pub others : (q.defs (q.after mine.opened (tables q w) mine.id (texts_of mine.script)) ≡ q.defs (tables q w)) ⊎ ((t : ℕ) → t ≢ s → NoTable (w.at t).deal)
 
@@ -109,7 +109,7 @@ module _ (q : Meaning) where
     pub stands : Stands (w.at s) mine
     pub replies : replies_of mine.script ≡ q.replies mine.opened (tables q w) mine.id (texts_of mine.script)
     pub quiet : back ≡ false → q.events mine.opened (tables q w) mine.id (texts_of mine.script) ≡ 0
-    pub last : n ≡ count w.items
+    pub last : n ≡ tx_count w.items
 
   pub record Frees (x : Sess) : Type 0 where
     pub mine : Deal
@@ -124,9 +124,9 @@ module _ (q : Meaning) where
     pub running : (w.at s).phase ≡ runs
     pub last : blocks w.items ≡ d.block + 1
     -- nothing is pending
-    pub all : closed w.items ≡ count w.items
+    pub all : closed w.items ≡ tx_count w.items
     pub is : IsDigest q database w.items d
-    pub counts : mark ≡ count w.items
+    pub counts : mark ≡ tx_count w.items
 
   module _ (database : Text) where
     abbrev pub OkBy : World → ℕ → Act → Type 0
@@ -141,14 +141,14 @@ module _ (q : Meaning) where
     OkBy w s (ends n back) = Ends w s n back
     OkBy w s frees = Frees (w.at s)
     OkBy w s (issues d mark) = Issues database w s d mark
-    OkBy w s (keeps items mark) = ((w.at s).phase ≡ runs) × (items ≡ length w.items) × (mark ≡ count w.items)
-    OkBy w s lacks = ((w.at s).phase ≡ runs) × (count w.items ≡ 0)
+    OkBy w s (keeps items mark) = ((w.at s).phase ≡ runs) × (items ≡ length w.items) × (mark ≡ tx_count w.items)
+    OkBy w s lacks = ((w.at s).phase ≡ runs) × (tx_count w.items ≡ 0)
     OkBy w s (answers entry) = Answers q (w.at s) entry
     OkBy w s stops = ((w.at s).phase ≡ runs) × AtRest (w.at s)
 
     abbrev pub Ok : World → Event → Type 0
     Ok w (by s a) = OkBy w s a
-    Ok w (closes k) = (1 ≤ k) × (k ≤ 100000) × (closed w.items + k ≤ count w.items)
+    Ok w (closes k) = (1 ≤ k) × (k ≤ 100000) × (closed w.items + k ≤ tx_count w.items)
 
     -- a history in which each event pays what it owes
     abbrev pub Good : World → List Event → Type 0

@@ -3,7 +3,7 @@ use Rattle.std.specs.Prelude.{ℕ, suc, ◌≡◌, ◌⊎◌, ◌≤◌, Bool, t
 use Rattle.lg_types.specs.declared.journal.JournalItem.{JournalItem}
 use Rattle.lg_types.specs.declared.journal.JournalItem.TheVariants.{Tx}
 use Rattle.lg_model.specs.Catalog.{Tables, Defs}
-use Rattle.lg_model.specs.Journals.{Line, count}
+use Rattle.lg_model.specs.Journals.{Line, tx_count}
 use Rattle.lg_history.specs.Lists.{Text, Each, Some_of, In}
 use Rattle.lg_history.specs.Journals.{nth_tx}
 use Rattle.lg_history.specs.Meaning.{Meaning}
@@ -23,7 +23,7 @@ HasIn past x d = (x.deal ≡ Some d) ⊎ ((past ≡ true) × In d x.done)
 
 -- where a transaction of a session is: open, or at an end that is fixed
 abbrev pub Lies : Bool → List JournalItem → Sess → Deal → Type 0
-Lies past J x d = ((d.fixed ≡ unfixed) × (x.deal ≡ Some d)) ⊎ ((n : ℕ) × EndsAt d.fixed n × (n ≤ count J) × HasIn past x d)
+Lies past J x d = ((d.fixed ≡ unfixed) × (x.deal ≡ Some d)) ⊎ ((n : ℕ) × EndsAt d.fixed n × (n ≤ tx_count J) × HasIn past x d)
 
 -- some want that counts of this transaction is such, over the definitions after its end or, until then, those of J
 pub record StandsFor (q : Meaning) (P : Defs → Bool → Text × Bool → Type 0) (past : Bool) (J : List JournalItem) (x : Sess) (id : ℕ) : Type 0 where
@@ -53,8 +53,8 @@ AloneIn (Some d) = IsAlone d
 -- what an end that is fixed says of the journal
 abbrev pub SettledAt : Meaning → List JournalItem → Text → Deal → End → Type 0
 SettledAt q J name d unfixed = Unit {0}
-SettledAt q J name d (committed n) = (m : ℕ) × (time : ℕ) × (n ≡ suc m) × (n ≤ count J) × (nth_tx m J ≡ Some (Tx d.id name time d.opened d.script))
-SettledAt q J name d (ended n back) = (n ≤ count J) × (replies_of d.script ≡ q.replies d.opened (after_tx q q.first n J) d.id (texts_of d.script)) × (back ≡ false → q.events d.opened (after_tx q q.first n J) d.id (texts_of d.script) ≡ 0)
+SettledAt q J name d (committed n) = (m : ℕ) × (time : ℕ) × (n ≡ suc m) × (n ≤ tx_count J) × (nth_tx m J ≡ Some (Tx d.id name time d.opened d.script))
+SettledAt q J name d (ended n back) = (n ≤ tx_count J) × (replies_of d.script ≡ q.replies d.opened (after_tx q q.first n J) d.id (texts_of d.script)) × (back ≡ false → q.events d.opened (after_tx q q.first n J) d.id (texts_of d.script) ≡ 0)
 
 abbrev pub Settled : Meaning → List JournalItem → Sess → Type 0
 Settled q J x = (d : Deal) → Has x d → SettledAt q J x.name d d.fixed

@@ -1,7 +1,7 @@
 -- One statement after another: transcripts that are also one list.
 use Rattle.std.specs.Prelude.{ℕ, suc, ◌≡◌, ◌+◌, ◌<◌, ◌==◌, if◌then◌else◌, List, [], ◌∷◌, ◌++◌, Option, None, take}
 use Rattle.lg_types.specs.declared.journal.JournalItem.{JournalItem}
-use Rattle.lg_model.specs.Journals.{count}
+use Rattle.lg_model.specs.Journals.{tx_count}
 use Rattle.lg_history.specs.Lists.{At}
 use Rattle.lg_history.specs.Journals.{in_blocks}
 use Rattle.lg_history.specs.Meaning.{Meaning}
@@ -33,7 +33,7 @@ Counted J n c (began id opened ∷ gs) = (id ≡ n) × Counted J (n + 1) c gs
 Counted J n c (placed place ∷ gs) = (place ≡ c + 1) × Counted J n (c + 1) gs
 Counted J n c (passed m back ∷ gs) = (m ≡ c) × Counted J n c gs
 Counted J n c (digest b hash ∷ gs) = (in_blocks (suc b) J ≡ c) × (0 < c) × Counted J n c gs
-Counted J n c (image items ∷ gs) = (count (take items J) ≡ c) × Counted J n c gs
+Counted J n c (image items ∷ gs) = (tx_count (take items J) ≡ c) × Counted J n c gs
 Counted J n c (no_digest ∷ gs) = (c ≡ 0) × Counted J n c gs
 Counted J n c (_ ∷ gs) = Counted J n c gs
 
