@@ -1,5 +1,5 @@
 -- Each place of a key has a column.
-use Rattle.std.proofs.Common.{arith, ◌≡◌, ℕ, suc, ap, subst, Bool, true, false, List, [], ◌∷◌, map, Option, Some}
+use Rattle.std.proofs.Common.{arith, ◌≡◌, ℕ, suc, ap, subst, Bool, true, false, List, [], ◌∷◌, map, Some}
 use Rattle.std.specs.Prelude.{slice_get, ◌+◌, ◌==◌, not, if◌then◌else◌}
 use Rattle.std.specs.List.{AllByRecursion, filter}
 use Rattle.std.specs.declared.cmp.Ordering.{Ordering}
@@ -16,9 +16,10 @@ HasPlaced columns p = HasColumn columns p.0
 
 numbered_have : (columns part : List ColumnDef) (n : ℕ) → ((i : ℕ) → slice_get columns (n + i) ≡ slice_get part i) → AllByRecursion (HasPlaced columns) (numbered n part)
 numbered_have columns [] n h = tt
-numbered_have columns (c ∷ cs) n h =
-    ((c, subst (λ k. slice_get columns k ≡ Some c) (omega arith) (h 0)),
-     numbered_have columns cs (n + 1) (λ i. subst (λ k. slice_get columns k ≡ slice_get cs i) (omega arith) (h (suc i))))
+numbered_have columns (c ∷ cs) n h = (
+  (c, subst (λ k. slice_get columns k ≡ Some c) (omega arith) (h 0)),
+  numbered_have columns cs (n + 1) (λ i. subst (λ k. slice_get columns k ≡ slice_get cs i) (omega arith) (h (suc i))),
+)
 
 module _ {A : Type 0} (P : A → Type 0) where
   kept : (b : Bool) (x : A) (xs : List A) → P x → AllByRecursion P xs → AllByRecursion P (if b then x ∷ xs else xs)

@@ -50,7 +50,7 @@ use Rattle.lg_types.specs.declared.event.Event.{Event}
 use Rattle.lg_model.specs.Events.{events_of, all_events}
 use Rattle.lg_value.specs.declared.refusal.ValueErr.TheVariants.{Mismatch}
 use Rattle.lg_model.specs.Script.{saves, rolls_back_to, text_step, script_from, script}
-use Rattle.lg_model.specs.Samples.{column, create, create_t, insert, all_of, num, answers, plus_one, typed, version, key_column, def_t, with_t, update_t, id_is, listed, create_x, select, four, answer, index_on, made_tables, delete_1, create_balance, def_balance, of_nick, balance, set_100, select_5, read_in, texts, in_script, by_themselves, each_alone, in_journal, journal, wide_def, wide_tables, wide, nines, wide_where, wide_select, doubled_is_positive, pair_def, pairs}
+use Rattle.lg_model.specs.Samples.{column, create, create_t, insert, all_of, num, answers, plus_one, typed, version, key_column, def_t, with_t, update_t, id_is, listed, create_x, select, four, answer, index_on, made_tables, delete_1, create_balance, def_balance, of_nick, balance, set_100, select_5, read_in, texts, in_script, by_themselves, each_alone, in_journal, journal, wide_def, wide_tables, wide, nines, wide_where, wide_select, doubled_is_positive, pairs}
 use Rattle.lg_model.specs.Journals.{IsLegal}
 
 of_literal : (v : Value) → tree (Lit v) ≡ literal v

@@ -1,5 +1,5 @@
 -- What is checked of INSERT, UPDATE and DELETE before any row is looked at.
-use Rattle.std.specs.Prelude.{ℕ, ◌==◌, ◌&&◌, ◌||◌, not, nat_lt, Bool, true, false, if◌then◌else◌, List, [], ◌∷◌, map, length, Option, Some, None, is_some, Ok, Err}
+use Rattle.std.specs.Prelude.{ℕ, ◌==◌, ◌&&◌, not, nat_lt, Bool, true, false, if◌then◌else◌, List, [], map, length, Option, Some, None, is_some, Ok, Err}
 use Rattle.std.specs.List.{list_any, list_all, filter_map, zip}
 use Rattle.lg_value.specs.declared.value.Value.{Value}
 use Rattle.lg_value.specs.declared.column.ColumnDef.{ColumnDef}
@@ -26,7 +26,7 @@ use Rattle.lg_model.specs.Limits.{max_rows}
 use Rattle.lg_model.specs.Lists.{repeats}
 use Rattle.lg_model.specs.Rows.{Row}
 use Rattle.lg_model.specs.Parts.{columns_of}
-use Rattle.lg_model.specs.Catalog.{Defs, Named, find_part}
+use Rattle.lg_model.specs.Catalog.{Defs, find_part}
 
 -- a check that fails refuses the statement; the checks go in their order
 abbrev pub refused_if : {A : Type 0} → Bool → Refusal → Checked A → Checked A

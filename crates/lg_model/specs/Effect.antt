@@ -5,20 +5,18 @@ use Rattle.lg_types.specs.declared.statement.Stmt.{Stmt}
 use Rattle.lg_types.specs.declared.statement.Stmt.TheVariants as s
 use Rattle.lg_types.specs.declared.statement.RowStmt.{RowStmt}
 use Rattle.lg_types.specs.declared.statement.Select.{Select}
-use Rattle.lg_types.specs.declared.statement.CreateTable.{CreateTable}
-use Rattle.lg_types.specs.declared.statement.CreateIndex.{CreateIndex}
 use Rattle.lg_types.specs.declared.reply.Reply.{Reply}
 use Rattle.lg_types.specs.declared.reply.Reply.TheVariants as r
 use Rattle.lg_types.specs.declared.table.TableDef.{TableDef}
 use Rattle.lg_types.specs.declared.table.IndexDef.{IndexDef}
 use Rattle.lg_types.specs.declared.version.Table.{Table}
 use Rattle.lg_types.specs.declared.version.Version.{Version}
-use Rattle.lg_model.specs.Refusals.{Checked, and_then}
+use Rattle.lg_model.specs.Refusals.{Checked}
 use Rattle.lg_model.specs.Rows.{Row, stored_row}
 use Rattle.lg_model.specs.Parts.{rows_of, columns_of, shown_of}
 use Rattle.lg_model.specs.Where.{key_fixed}
 use Rattle.lg_model.specs.Changes.{Change, Changes, Starts, changed_all, row_changes}
-use Rattle.lg_model.specs.Catalog.{Defs, Named, Tables, defs_of, versions_of, changed_table}
+use Rattle.lg_model.specs.Catalog.{Named, Tables, defs_of, versions_of, changed_table}
 use Rattle.lg_model.specs.Checks.{row_statement_check}
 use Rattle.lg_model.specs.Query.{query_check, selected}
 use Rattle.lg_model.specs.SystemTables.{tables_id, columns_id, tables_columns, columns_columns, table_row, column_rows, index_rows}

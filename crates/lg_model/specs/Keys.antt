@@ -1,5 +1,5 @@
 -- Primary keys, and what a statement reads of a table's versions.
-use Rattle.std.specs.Prelude.{ℕ, ◌==◌, not, Bool, List, [], ◌∷◌, map, get_or, Option, Some, None, is_none, slice_get}
+use Rattle.std.specs.Prelude.{ℕ, ◌==◌, not, Bool, List, map, get_or, Option, Some, None, is_none, slice_get}
 use Rattle.std.specs.List.{filter, list_any, filter_map}
 use Rattle.std.specs.declared.cmp.Ordering.{Ordering}
 use Rattle.std.specs.Ordering.{is_eq, nat_cmp}

@@ -1,8 +1,6 @@
 -- The parts of a table: its columns and its rows as each part shows them.
-use Rattle.std.specs.Prelude.{ℕ, pos, ◌==◌, ◌||◌, nat_le, Bool, false, if◌then◌else◌, List, [], ◌∷◌, ◌++◌, map, flat_map, length, codes, Option, Some, None}
-use Rattle.std.specs.declared.cmp.Ordering.{Ordering}
-use Rattle.lg_value.specs.declared.value.Value.{Value}
-use Rattle.lg_value.specs.declared.value.Value.TheVariants.{Num, Text}
+use Rattle.std.specs.Prelude.{ℕ, false, List, [], ◌∷◌, ◌++◌, map, flat_map, length, codes, Option, Some, None}
+use Rattle.lg_value.specs.declared.value.Value.TheVariants.{Text}
 use Rattle.lg_value.specs.declared.column.ColumnDef.{ColumnDef}
 use Rattle.lg_value.specs.declared.sql_type.SqlType.{SqlType}
 use Rattle.lg_value.specs.declared.sql_type.SqlType.TheVariants.{Int, BigInt, NVarChar}

@@ -1,5 +1,5 @@
 -- SELECT: what is checked, and the rows that it shows.
-use Rattle.std.specs.Prelude.{ℕ, ◌==◌, ◌&&◌, ◌||◌, not, Bool, true, false, if◌then◌else◌, List, [], ◌∷◌, map, take, length, Option, Some, None, Ok, Err}
+use Rattle.std.specs.Prelude.{ℕ, ◌&&◌, not, Bool, true, false, if◌then◌else◌, List, [], ◌∷◌, map, take, length, Option, Some, None, Ok, Err}
 use Rattle.std.specs.List.{list_all}
 use Rattle.std.specs.declared.cmp.Ordering.{Ordering}
 use Rattle.std.specs.declared.cmp.Ordering.TheVariants.{Equal}
@@ -10,7 +10,6 @@ use Rattle.lg_value.specs.declared.column.ColumnDef.{ColumnDef}
 use Rattle.lg_value.specs.declared.refusal.Refusal.TheVariants.{E02, E04, E05}
 use Rattle.lg_value.specs.declared.expr.Class.{Class}
 use Rattle.lg_value.specs.declared.expr.Class.TheVariants.{Whole, Dec}
-use Rattle.lg_value.specs.declared.expr.Expr.{Expr}
 use Rattle.lg_value.specs.Order.{value_cmp}
 use Rattle.lg_types.specs.declared.statement.Select.{Select}
 use Rattle.lg_types.specs.declared.statement.What.{What}

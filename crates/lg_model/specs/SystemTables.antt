@@ -1,7 +1,7 @@
 -- The tables of the system: their definitions, and the rows that they have of each table and index.
-use Rattle.std.specs.Prelude.{ℕ, pos, ◌+◌, ◌*◌, Bool, true, false, if◌then◌else◌, List, [], ◌∷◌, map, length, codes, Option, Some, None}
+use Rattle.std.specs.Prelude.{ℕ, ◌+◌, ◌*◌, Bool, true, false, List, [], ◌∷◌, map, codes}
 use Rattle.lg_value.specs.declared.value.Value.{Value}
-use Rattle.lg_value.specs.declared.value.Value.TheVariants.{Null, Num, Text}
+use Rattle.lg_value.specs.declared.value.Value.TheVariants.{Null, Text}
 use Rattle.lg_value.specs.declared.column.ColumnDef.{ColumnDef}
 use Rattle.lg_value.specs.declared.column.TableKind.{TableKind}
 use Rattle.lg_value.specs.declared.column.TableKind.TheVariants.{AppendOnly, Updatable}

@@ -1,11 +1,10 @@
 -- WHERE: the rows that a condition takes, and the key that it fixes.
-use Rattle.std.specs.Prelude.{ℕ, Bool, true, false, if◌then◌else◌, List, [], ◌∷◌, ◌++◌, map, Option, Some, None, Result, Ok, Err}
+use Rattle.std.specs.Prelude.{ℕ, Bool, true, false, if◌then◌else◌, List, [], ◌∷◌, ◌++◌, map, Option, Some, None, Ok, Err}
 use Rattle.std.specs.Str.{bytes_eq}
 use Rattle.std.specs.Ordering.{is_eq}
 use Rattle.lg_value.specs.declared.value.Value.{Value}
 use Rattle.lg_value.specs.declared.value.Value.TheVariants as val
 use Rattle.lg_value.specs.declared.column.ColumnDef.{ColumnDef}
-use Rattle.lg_value.specs.declared.refusal.ValueErr.{ValueErr}
 use Rattle.lg_value.specs.declared.refusal.Refusal.TheVariants.{E05}
 use Rattle.lg_value.specs.declared.expr.Op.TheVariants as op
 use Rattle.lg_value.specs.declared.expr.Expr.{Expr}
@@ -16,7 +15,7 @@ use Rattle.lg_types.specs.declared.outcome.Outcome.{Outcome}
 use Rattle.lg_types.specs.declared.outcome.Outcome.TheVariants as out
 use Rattle.lg_model.specs.Refusals.{Checked, and_then}
 use Rattle.lg_model.specs.Meaning.{meaning_of}
-use Rattle.lg_model.specs.Lists.{checked_filter, all_some, or_else}
+use Rattle.lg_model.specs.Lists.{all_some, or_else}
 use Rattle.lg_model.specs.Rows.{Row}
 use Rattle.lg_model.specs.Keys.{Key, key_columns}
 
