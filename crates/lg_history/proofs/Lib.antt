@@ -15,6 +15,7 @@ pub mod Order
 pub mod Ordered
 pub mod Owners
 pub mod Placed
+pub mod Real
 pub mod Refused
 pub mod Rising
 pub mod Samples

@@ -9,6 +9,7 @@ pub mod Journals
 pub mod Lists
 pub mod Marks
 pub mod Meaning
+pub mod Real
 pub mod Refusals
 pub mod Sample
 pub mod Serial

@@ -8,6 +8,8 @@ ghost use Rattle.lg_history.specs.Agree.{Agree};
 ghost use Rattle.lg_history.specs.Acts.{Event};
 ghost use Rattle.lg_history.specs.Worlds.{first, run};
 ghost use Rattle.lg_history.specs.Guards.{Good};
+ghost use Rattle.lg_model.specs.Script.{Reading};
+ghost use Rattle.lg_history.specs.Real.{Hashing, IsReal};
 ghost use Rattle.lg_history.specs.StepOrder.{IsStepOrder};
 ghost use Rattle.lg_history.specs.Histories.{IsWhole, OneAtATime, rows_of};
 ghost use Rattle.lg_history.specs.Sample as sample;
@@ -32,4 +34,10 @@ pub fn a_history_is_good()
     ensures good { Good sample.meaning sample.database first sample.history }
     ensures whole { IsWhole sample.input (Some 0) sample.transcripts sample.history }
     ensures one_at_a_time { OneAtATime first sample.history }
+{}
+
+/// The meaning of statements is such a meaning, whatever texts the grammar reads and however blocks are hashed, as long as
+/// the hash of a closed block stays.
+pub fn statements_have_such_a_meaning()
+    ensures { (reads : Reading) (h : Hashing) → (q : Meaning) × IsReal reads h q }
 {}

@@ -3,4 +3,6 @@
 
 mod laws;
 
-pub use laws::{a_history_is_good, histories_agree, histories_keep_step_order};
+pub use laws::{
+    a_history_is_good, histories_agree, histories_keep_step_order, statements_have_such_a_meaning,
+};
