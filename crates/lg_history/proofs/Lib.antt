@@ -9,6 +9,7 @@ pub mod Finding
 pub mod Follow
 pub mod Grows
 pub mod Issued
+pub mod Items
 pub mod Legal
 pub mod Names
 pub mod Order

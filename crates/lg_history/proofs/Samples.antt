@@ -8,7 +8,7 @@ use Rattle.lg_history.specs.Transactions.{unfixed, committed, ended}
 use Rattle.lg_history.specs.Acts.{Act, starts, Event, by, closes}
 use Rattle.lg_history.specs.Worlds.{World, first, step, run}
 use Rattle.lg_history.specs.Guards.{Good}
-use Rattle.lg_history.specs.Histories.{SessionsBelow, IsWhole, OneAtATime}
+use Rattle.lg_history.specs.Histories.{SessionsBelow, IsWhole, OneAtATime, pending, ClosesInStep}
 use Rattle.lg_history.specs.Sample.{meaning, database, row, setup_runs, locks, opens, is_refused, is_committed, is_issued, history, input, transcripts}
 
 good_join : (q : Meaning) (db : Text) (w : World) (es fs : List Event) → Good q db w es → Good q db (run w es) fs → Good q db w (es ++ fs)
@@ -243,3 +243,6 @@ alone =
     let g = stretch 2 w6 is_issued (refl, (refl, (refl, (refl, tt)))) (turn 1 2 w6 f.1 refl) in
     one_join first setup_runs (opens ++ (is_refused ++ (is_committed ++ is_issued))) a.0
     (b.0.0, (c.0.0, one_join w3 locks (is_refused ++ (is_committed ++ is_issued)) d.0 (one_join w4 is_refused (is_committed ++ is_issued) e.0 (one_join w5 is_committed is_issued f.0 g.0))))
+
+pub in_step : ClosesInStep 2 (pending 0) history
+in_step = (tt, (tt, (tt, (refl, (refl, tt)))))

@@ -1,9 +1,9 @@
 -- The transcripts of a history.
-use Rattle.std.specs.Prelude.{ℕ, suc, ◌≡◌, ◌≢◌, ◌<◌, List, [], ◌∷◌, ◌++◌, length, Option, Some, None}
+use Rattle.std.specs.Prelude.{ℕ, suc, ◌≡◌, ◌≢◌, ◌<◌, ◌≤◌, ◌==◌, Bool, true, false, List, [], ◌∷◌, ◌++◌, length, Option, Some, None}
 use Rattle.lg_history.specs.Lists.{Text, At}
 use Rattle.lg_history.specs.Transcripts.{Transcript}
 use Rattle.lg_history.specs.StepOrder.{Row}
-use Rattle.lg_history.specs.Acts.{Act, answers, Event, by, closes, of}
+use Rattle.lg_history.specs.Acts.{Act, commits, issues, keeps, answers, Event, by, closes, of}
 use Rattle.lg_history.specs.Sessions.{Sess, gone, transcript_of}
 use Rattle.lg_history.specs.Worlds.{World, first, step, run}
 use Rattle.lg_history.specs.Guards.{AtRest}
@@ -56,3 +56,33 @@ abbrev pub rows_of : List Event → List Row
 rows_of [] = []
 rows_of (by s a ∷ es) = rows_by s a ++ rows_of es
 rows_of (closes k ∷ es) = rows_of es
+
+-- what the next closing depends on: so many entries are pending, or a block is full, or a digest comes
+pub data Due : Type 0 where
+  pending : (p : ℕ) → Due
+  full : Due
+  digest_next : Due
+
+abbrev pub full_or : Bool → ℕ → Due
+full_or true p = full
+full_or false p = pending p
+
+-- nothing that a full block has to come before
+abbrev pub WaitsForNone : Act → Type 0
+WaitsForNone (commits time place) = ⊥
+WaitsForNone (issues d mark) = ⊥
+WaitsForNone (keeps items mark) = ⊥
+WaitsForNone _ = Unit {0}
+
+-- a block is closed as soon as N entries are pending, and what is pending is closed for a digest
+abbrev pub ClosesInStep : ℕ → Due → List Event → Type 0
+ClosesInStep N (pending p) [] = Unit {0}
+ClosesInStep N (pending p) (closes k ∷ es) = (k ≡ p) × (1 ≤ p) × ClosesInStep N digest_next es
+ClosesInStep N (pending p) (by s (commits time place) ∷ es) = ClosesInStep N (full_or (suc p == N) (suc p)) es
+ClosesInStep N (pending p) (by s (issues d mark) ∷ es) = (p ≡ 0) × ClosesInStep N (pending 0) es
+ClosesInStep N (pending p) (by s a ∷ es) = ClosesInStep N (pending p) es
+ClosesInStep N full [] = ⊥
+ClosesInStep N full (closes k ∷ es) = (k ≡ N) × ClosesInStep N (pending 0) es
+ClosesInStep N full (by s a ∷ es) = WaitsForNone a × ClosesInStep N full es
+ClosesInStep N digest_next (by s (issues d mark) ∷ es) = ClosesInStep N (pending 0) es
+ClosesInStep N digest_next _ = ⊥

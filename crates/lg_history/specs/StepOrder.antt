@@ -1,6 +1,7 @@
 -- One statement after another: transcripts that are also one list.
-use Rattle.std.specs.Prelude.{ℕ, suc, ◌≡◌, ◌+◌, ◌<◌, ◌==◌, if◌then◌else◌, List, [], ◌∷◌, ◌++◌, Option, None, take}
+use Rattle.std.specs.Prelude.{ℕ, suc, ◌≡◌, ◌+◌, ◌<◌, ◌==◌, if◌then◌else◌, Bool, true, false, List, [], ◌∷◌, ◌++◌, Option, None, take}
 use Rattle.lg_types.specs.declared.journal.JournalItem.{JournalItem}
+use Rattle.lg_types.specs.declared.journal.JournalItem.TheVariants.{Tx, Close}
 use Rattle.lg_model.specs.Journals.{tx_count}
 use Rattle.lg_history.specs.Lists.{At}
 use Rattle.lg_history.specs.Journals.{in_blocks}
@@ -37,7 +38,37 @@ Counted J n c (image items ∷ gs) = (tx_count (take items J) ≡ c) × Counted 
 Counted J n c (no_digest ∷ gs) = (c ≡ 0) × Counted J n c gs
 Counted J n c (_ ∷ gs) = Counted J n c gs
 
--- the transcripts are one list in the order of the input lines, in which ids and marks count
-pub record IsStepOrder (q : Meaning) (X : List Transcript) (J : List JournalItem) (rows : List Row) : Type 0 where
+-- ---- the items
+
+abbrev pub When : Bool → Type 0 → Type 0 → Type 0
+When true A B = A
+When false A B = B
+
+-- a transaction comes first, and then this holds of the rest
+abbrev pub TakesTx : List JournalItem → (List JournalItem → Type 0) → Type 0
+TakesTx (Tx id session time opened script ∷ J) P = P J
+TakesTx _ P = ⊥
+
+-- the closing of k entries comes first
+abbrev pub TakesClose : ℕ → List JournalItem → (List JournalItem → Type 0) → Type 0
+TakesClose k (Close j ∷ J) P = (j ≡ k) × P J
+TakesClose k _ P = ⊥
+
+-- the items stand in the order of the entries that made them, and the number of an image is that of the items then. Behind each
+-- transaction that makes N entries pending stands the closing of N; a digest closes what is pending. p entries are
+-- pending, and m items stand before
+abbrev pub ItemsInOrder : ℕ → ℕ → ℕ → List JournalItem → List Fact → Type 0
+ItemsInOrder N p m J [] = J ≡ []
+ItemsInOrder N p m J (placed place ∷ gs) = TakesTx J (λ K. When (suc p == N) (TakesClose N K (λ L. ItemsInOrder N 0 (m + 2) L gs)) (ItemsInOrder N (suc p) (m + 1) K gs))
+ItemsInOrder N p m J (digest b hash ∷ gs) = When (p == 0) (ItemsInOrder N 0 m J gs) (TakesClose p J (λ K. ItemsInOrder N 0 (m + 1) K gs))
+ItemsInOrder N p m J (image items ∷ gs) = (items ≡ m) × ItemsInOrder N p m J gs
+ItemsInOrder N p m J (_ ∷ gs) = ItemsInOrder N p m J gs
+
+-- ---- step order
+
+-- the transcripts are one list in the order of the input lines, in which ids and marks count, and the items stand in its order; N is the
+-- block size
+pub record IsStepOrder (q : Meaning) (N : ℕ) (X : List Transcript) (J : List JournalItem) (rows : List Row) : Type 0 where
   pub entries : (i : ℕ) (x : Transcript) → At X i x → entries_of i rows ≡ x.entries
   pub counted : Counted J 1 0 (rows_facts q (λ s. None) rows)
+  pub items : ItemsInOrder N 0 0 J (rows_facts q (λ s. None) rows)
