@@ -1,0 +1,86 @@
+-- What happened, in the order in which it happened: one list for all sessions.
+use Rattle.std.specs.Prelude.{ℕ, ◌==◌, if◌then◌else◌, Bool, List, [], ◌∷◌, ◌++◌}
+use Rattle.lg_model.specs.Journals.{Line}
+use Rattle.lg_history.specs.Lists.{Text}
+use Rattle.lg_history.specs.Transcripts.{Entry}
+use Rattle.lg_history.specs.Digests.{Digest}
+use Rattle.lg_history.specs.Facts.{Fact, began, said, failed, met, placed, passed, over, digest, image, no_digest}
+
+-- what a session does
+pub data Act : Type 0 where
+  -- it begins
+  starts : (name : Text) → Act
+  -- it takes up its next statement
+  takes : (text : Text) → Act
+  -- it draws an id, for BEGIN or for a statement that is a transaction of its own
+  draws : (id : ℕ) (opened : Bool) → Act
+  -- it has taken this statement's want in the catalog; with true, those in the table's cell too
+  looks : (text : Text) (table : Bool) → Act
+  -- a statement of the script, with its reply: from the moment after which it can't be answered E30 any more
+  says : (line : Line) → Act
+  -- a statement is to be answered E30
+  fails : (text : Text) → Act
+  -- a statement met this transaction's lock
+  meets : (text : Text) (holder : ℕ) → Act
+  -- the transaction is committed
+  commits : (time place : ℕ) → Act
+  -- its end is fixed otherwise; true where a ROLLBACK or the session's end fixed it
+  ends : (n : ℕ) (back : Bool) → Act
+  -- it holds nothing any more
+  frees : Act
+  -- a digest is issued; the mark is the number of transactions
+  issues : (issued : Digest) (mark : ℕ) → Act
+  -- an image is kept
+  keeps : (items mark : ℕ) → Act
+  -- there is no block to issue a digest of
+  lacks : Act
+  -- it writes an entry of its transcript
+  answers : (entry : Entry) → Act
+  -- it is over
+  stops : Act
+
+pub data Event : Type 0 where
+  by : (session : ℕ) (act : Act) → Event
+  -- a block is closed
+  closes : (k : ℕ) → Event
+
+-- the part of one session
+abbrev pub of : ℕ → List Event → List Act
+of s [] = []
+of s (by t a ∷ es) = if t == s then a ∷ of s es else of s es
+of s (closes k ∷ es) = of s es
+
+-- ---- what an act shows
+
+-- the fact, one or none, that the transcript is to show
+abbrev pub shown : Act → List Fact
+shown (draws id opened) = began id opened ∷ []
+shown (says line) = said line ∷ []
+shown (fails text) = failed text ∷ []
+shown (meets text holder) = met text holder ∷ []
+shown (commits time place) = placed place ∷ []
+shown (ends n back) = passed n back ∷ []
+shown frees = over ∷ []
+shown (issues d mark) = digest d.block d.hash ∷ []
+shown (keeps items mark) = image items ∷ []
+shown lacks = no_digest ∷ []
+shown _ = []
+
+abbrev pub marked : Act → List ℕ
+marked (commits time place) = place ∷ []
+marked (ends n back) = n ∷ []
+marked (issues d mark) = mark ∷ []
+marked (keeps items mark) = mark ∷ []
+marked _ = []
+
+abbrev pub placed_at : Act → List ℕ
+placed_at (commits time place) = place ∷ []
+placed_at _ = []
+
+abbrev pub drawn_id : Act → List ℕ
+drawn_id (draws id opened) = id ∷ []
+drawn_id _ = []
+
+abbrev pub all_shown : List Act → List Fact
+all_shown [] = []
+all_shown (a ∷ xs) = shown a ++ all_shown xs

@@ -1,0 +1,62 @@
+-- Running a journal's transactions one after another.
+use Rattle.std.specs.Prelude.{ℕ, zero, suc, ◌≡◌, ◌≢◌, ◌-◌, ◌<◌, ◌≤◌, Bool, List, [], ◌∷◌, map}
+use Rattle.lg_types.specs.declared.journal.JournalItem.{JournalItem}
+use Rattle.lg_types.specs.declared.journal.JournalItem.TheVariants.{Tx, Close}
+use Rattle.lg_history.specs.Lists.{Text, Each}
+use Rattle.lg_model.specs.Catalog.{Tables}
+use Rattle.lg_model.specs.Journals.{Line}
+use Rattle.lg_history.specs.Journals.{ids_of}
+use Rattle.lg_history.specs.Meaning.{Meaning}
+
+abbrev pub texts_of : List Line → List Text
+texts_of lines = map (λ l. l.0) lines
+
+abbrev pub replies_of : List Line → List Text
+replies_of lines = map (λ l. l.1) lines
+
+module _ (q : Meaning) where
+  abbrev pub after_item : Tables → JournalItem → Tables
+  after_item T (Tx id session time opened script) = q.after opened T id (texts_of script)
+  after_item T (Close k) = T
+
+  -- the tables after all scripts of a journal, one after another
+  abbrev pub serial : Tables → List JournalItem → Tables
+  serial T [] = T
+  serial T (i ∷ is) = serial (after_item T i) is
+
+  -- the tables after its first n transactions
+  abbrev pub after_tx : Tables → ℕ → List JournalItem → Tables
+  after_tx T n [] = T
+  after_tx T n (Close k ∷ is) = after_tx T n is
+  after_tx T zero (Tx id session time opened script ∷ is) = T
+  after_tx T (suc n) (Tx id session time opened script ∷ is) = after_tx (q.after opened T id (texts_of script)) n is
+
+  -- each kept reply is that of the script over these tables, and the script leaves at least one start or end
+  pub record AgreesTx (T : Tables) (id : ℕ) (opened : Bool) (script : List Line) : Type 0 where
+    pub replies : replies_of script ≡ q.replies opened T id (texts_of script)
+    pub acts : 0 < q.events opened T id (texts_of script)
+
+  abbrev pub Agrees : Tables → JournalItem → Type 0
+  Agrees T (Tx id session time opened script) = AgreesTx T id opened script
+  Agrees T (Close k) = Unit {0}
+
+  -- so it is for each transaction, over the tables so far
+  abbrev pub Replays : Tables → List JournalItem → Type 0
+  Replays T [] = Unit {0}
+  Replays T (i ∷ is) = Agrees T i × Replays (after_item T i) is
+
+-- each closing takes 1 to 100,000 pending entries; so many are pending before
+abbrev pub ClosesPending : ℕ → List JournalItem → Type 0
+ClosesPending n [] = Unit {0}
+ClosesPending n (Tx id session time opened script ∷ is) = ClosesPending (suc n) is
+ClosesPending n (Close k ∷ is) = (1 ≤ k) × (k ≤ 100000) × (k ≤ n) × ClosesPending (n - k) is
+
+abbrev pub Differ : List ℕ → Type 0
+Differ [] = Unit {0}
+Differ (n ∷ ns) = Each (λ k. n ≢ k) ns × Differ ns
+
+-- a legal journal
+pub record IsLegal (q : Meaning) (J : List JournalItem) : Type 0 where
+  pub replays : Replays q q.first J
+  pub ids_differ : Differ (ids_of J)
+  pub closings : ClosesPending 0 J

@@ -1,0 +1,8 @@
+//! Histories of sessions: definitions of agreement and of histories, and laws about them.
+#![tactic(auto)]
+
+mod laws;
+
+pub use laws::{
+    a_history_is_good, histories_agree, histories_keep_step_order, statements_have_such_a_meaning,
+};
