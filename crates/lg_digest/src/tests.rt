@@ -106,31 +106,149 @@ fn first_item_out_of_form(rt: HostRuntime) -> Result<(), Fail> {
     Ok(())
 }
 
+// An item up to its hash.
+const NAMED: &str = "{\"block_id\":0,\"database_name\":\"db\",\"hash\":";
+
+// What stands before the digits of a hash, in two pieces, which of these is the first, what stands behind, and whether
+// that is a digest.
+const ITEMS: [(&str, &str, usize, &str, bool); 19] = [
+    (NAMED, "\"0x", 0, "\"}", true),
+    (
+        " ",
+        "{\"hash\":\"0x",
+        0,
+        "\",\"database_name\":\"\",\"block_id\":1}\n",
+        true,
+    ),
+    (
+        "[",
+        "{\"block_id\":0,\"database_name\":\"db\",\"hash\":\"0x",
+        0,
+        "\"}]",
+        true,
+    ),
+    (
+        "[[",
+        "{\"block_id\":0,\"database_name\":\"db\",\"hash\":\"0x",
+        0,
+        "\"}]]",
+        false,
+    ),
+    (
+        "{\"block_id\":0,\"database_name\":7,",
+        "\"hash\":\"0x",
+        0,
+        "\"}",
+        false,
+    ),
+    (
+        "{\"block_id\":0,\"database_name\":null,",
+        "\"hash\":\"0x",
+        0,
+        "\"}",
+        false,
+    ),
+    ("{\"block_id\":0,", "\"hash\":\"0x", 0, "\"}", false),
+    (
+        "{\"database_name\":\"db\",",
+        "\"hash\":\"0x",
+        0,
+        "\"}",
+        false,
+    ),
+    (
+        "{\"block_id\":0,\"database_name\":\"db\",",
+        "\"Hash\":\"0x",
+        0,
+        "\"}",
+        false,
+    ),
+    (NAMED, "[\"0x", 0, "\"]}", false),
+    (NAMED, "\"0X", 0, "\"}", false),
+    (NAMED, "\"", 0, "\"}", false),
+    (NAMED, "\" 0x", 0, "\"}", false),
+    (NAMED, "\"0x", 0, "0\"}", false),
+    (NAMED, "\"0x", 0, " \"}", false),
+    (NAMED, "\"0xg", 1, "\"}", false),
+    (NAMED, "\"0x0", 1, "\"}", true),
+    (NAMED, "\"0x", 0, "\",\"hash\":null}", false),
+    (NAMED, "null,\"hash\":\"0x", 0, "\"}", true),
+];
+
+#[test]
+fn forms_of_one_item(rt: HostRuntime) -> Result<(), Fail> {
+    let alloc = rt.alloc();
+    for (before, start, first, behind, wanted) in ITEMS {
+        let digits = DIGITS.get(first..).unwrap_or("");
+        let text = format!(in alloc; "{before}{start}{digits}{behind}")?;
+        let answer = if wanted {
+            None
+        } else {
+            Some(DigestErr::Bad { index: 0 })
+        };
+        assert_eq!(rt; refusal(alloc, text.as_bytes()), answer, "{text}");
+    }
+    Ok(())
+}
+
+// Some bytes, so many times, then others, and then again bytes so many times.
+fn nested(
+    alloc: Global,
+    depth: usize,
+    open: &[u8],
+    inner: &[u8],
+    close: &[u8],
+) -> Result<Vec<u8>, Fail> {
+    let mut text = Vec::new(alloc);
+    for _ in 0..depth {
+        text.extend_from_slice(open)?;
+    }
+    text.extend_from_slice(inner)?;
+    for _ in 0..depth {
+        text.extend_from_slice(close)?;
+    }
+    Ok(text)
+}
+
 #[test]
 fn what_is_no_json_value(rt: HostRuntime) -> Result<(), Fail> {
     let alloc = rt.alloc();
     for text in [
         b"".as_slice(),
+        b" ",
         b"[",
         b"[]]",
+        b"[] []",
+        b"[,]",
+        b"[{}",
+        b"[{\"a\":1,}]",
+        b"nul",
+        b"\xef\xbb\xbf[]",
         b"\xff",
         b"[\"\xc3\"]",
+        b"[01]",
         b"[1e999]",
     ] {
-        assert_eq!(rt; refusal(alloc, text), Some(DigestErr::Unreadable));
+        assert_eq!(rt;
+            refusal(alloc, text),
+            Some(DigestErr::Unreadable),
+            "{text:?}"
+        );
     }
-    for (depth, answer) in [
-        (127, DigestErr::Bad { index: 0 }),
-        (128, DigestErr::Unreadable),
+    let bad = DigestErr::Bad { index: 0 };
+    let objects = b"{\"a\":".as_slice();
+    let digits = b"9".as_slice();
+    for (depth, open, inner, close, answer) in [
+        (127, b"[".as_slice(), b"".as_slice(), b"]".as_slice(), bad),
+        (128, b"[", b"", b"]", DigestErr::Unreadable),
+        (127, objects, b"0", b"}", bad),
+        (128, objects, b"0", b"}", DigestErr::Unreadable),
+        // A number of 300 digits is a JSON value, and one of 400 is none.
+        (150, digits, b"", b"9", bad),
+        (200, digits, b"", b"9", DigestErr::Unreadable),
     ] {
-        let mut text = Vec::new(alloc);
-        for _ in 0..depth {
-            text.push(b'[')?;
-        }
-        for _ in 0..depth {
-            text.push(b']')?;
-        }
-        assert_eq!(rt; refusal(alloc, &text), Some(answer));
+        let text = nested(alloc, depth, open, inner, close)?;
+        assert_eq!(rt; refusal(alloc, &text), Some(answer), "{depth}");
     }
     Ok(())
 }

@@ -22,6 +22,10 @@ const RECORD_ROOT: [u8; 32] =
 const RECORD_HASH: [u8; 32] =
     *b"\x3f\xb7\x8b\x94\x2d\x70\xb3\x6f\xb8\xe0\x86\x8d\x79\x6b\xf7\x33\xa5\xeb\x06\x58\xb8\x13\xaa\x28\x8d\x14\xab\x72\xbf\xe1\x63\xa5";
 
+// The greatest transaction, block, place, time and table, and a name of 32 letters.
+const GREATEST: &[u8] =
+    b"\x01\x7f\xff\xff\xff\xff\xff\xff\xff\xff\xff\xff\xff\xff\xff\xff\xff\xff\xff\xff\xff\x23\x2a\xa8\x7f\xfc\x81\xbf\xff\x00\x20abcdefghijklmnopqrstuvwxyz_ABCD9\x01\x01\xff\xff\xff\xff\x00\x01\x02\x03\x04\x05\x06\x07\x08\x09\x0a\x0b\x0c\x0d\x0e\x0f\x10\x11\x12\x13\x14\x15\x16\x17\x18\x19\x1a\x1b\x1c\x1d\x1e\x1f";
+
 // The bytes of an entry with so many roots: table 3 and `ROOT`, then tables 4, 5 and so on.
 fn entry_with(alloc: Global, count: u8) -> Result<Vec<u8>, Fail> {
     let mut bytes = Vec::from_slice(alloc, HEAD)?;
@@ -67,30 +71,67 @@ fn entries_are_read_and_written_as_their_bytes(rt: HostRuntime) -> Result<(), Fa
     Ok(())
 }
 
+// In an entry with two roots, a byte at a place, and whether it is an entry then.
+const CHANGES: [(usize, u8, bool, &str); 20] = [
+    (0, 1, true, "version"),
+    (0, 2, false, "other version"),
+    (8, 1, true, "transaction 1"),
+    (8, 0, false, "transaction 0"),
+    (1, 127, true, "transaction below 2^63"),
+    (1, 128, false, "transaction of 2^63"),
+    (21, 35, true, "time below the greatest"),
+    (21, 36, false, "time above the greatest"),
+    (30, 0, false, "empty name"),
+    (31, 57, true, "name of a digit"),
+    (31, 95, true, "name of an underscore"),
+    (31, 45, false, "name with a minus sign"),
+    (31, 32, false, "name with a blank"),
+    (31, 195, false, "name that is no text"),
+    (32, 2, false, "version of the roots"),
+    (33, 1, false, "bytes of a root more"),
+    (33, 3, false, "a root too few"),
+    (73, 5, true, "table left out"),
+    (73, 3, false, "equal tables"),
+    (73, 2, false, "falling tables"),
+];
+
 #[test]
-fn bytes_out_of_the_form_are_no_entry(rt: HostRuntime) -> Result<(), Fail> {
+fn bytes_in_and_out_of_the_form(rt: HostRuntime) -> Result<(), Fail> {
     let alloc = rt.alloc();
     assert!(rt; !is_entry(alloc, &entry_with(alloc, 0)?)?, "no roots");
-    // With two roots, a byte at a place, and what is wrong then.
-    for (at, byte, wrong) in [
-        (0, 2, "version"),
-        (8, 0, "transaction 0"),
-        (1, 128, "transaction of 2^63"),
-        (21, 36, "time above the greatest"),
-        (30, 0, "empty name"),
-        (31, 45, "name with a minus sign"),
-        (31, 195, "name that is no text"),
-        (32, 2, "version of the roots"),
-        (73, 3, "equal tables"),
-        (73, 2, "falling tables"),
-    ] {
+    for (at, byte, wanted, what) in CHANGES {
         let mut bytes = entry_with(alloc, 2)?;
-        assert!(rt; is_entry(alloc, &bytes)?);
         if let Some(place) = bytes.get_mut(at) {
             *place = byte;
         }
-        assert!(rt; !is_entry(alloc, &bytes)?, "{wrong}");
+        assert_eq!(rt; is_entry(alloc, &bytes)?, wanted, "{what}");
     }
+    Ok(())
+}
+
+#[test]
+fn greatest_entry(rt: HostRuntime) -> Result<(), Fail> {
+    let alloc = rt.alloc();
+    let mut bytes = Vec::from_slice(alloc, GREATEST)?;
+    if let Some(e) = read_entry(alloc, &bytes)? {
+        let mut out = Vec::new(alloc);
+        write_entry(&e, &mut out)?;
+        assert_eq!(rt; out.as_slice(), GREATEST);
+        assert_eq!(rt; (e.id, e.block), ((1 << 63) - 1, u64::MAX));
+        assert_eq!(rt;
+            (e.ordinal, e.time),
+            ((1 << 32) - 1, 2_534_023_007_999_999_999)
+        );
+        assert_eq!(rt; e.principal.as_str(), "abcdefghijklmnopqrstuvwxyz_ABCD9");
+        assert_eq!(rt; e.roots.get(0).map(|root| root.0), Some(u32::MAX));
+    } else {
+        assert!(rt; false, "no entry");
+    }
+    // A later time.
+    if let Some(place) = bytes.get_mut(27) {
+        *place = 0xc0;
+    }
+    assert!(rt; !is_entry(alloc, &bytes)?);
     Ok(())
 }
 

@@ -158,6 +158,14 @@ fn columns_and_literals(rt: HostRuntime) -> Result<(), Fail> {
         ("day", "Date '2024-02-29'"),
         ("n", "Whole NULL"),
         ("NULL", "Null NULL"),
+        ("m", "Dec(1) NULL"),
+        ("1.50", "Dec(2) 1.50"),
+        (
+            ".33333333333333333333333333333333333333",
+            "Dec(38) 0.33333333333333333333333333333333333333",
+        ),
+        ("N'it''s'", "Text N'it''s'"),
+        ("0x", "Bytes 0x"),
         ("wide", "E05"),
     ];
     assert_eq!(rt; first_wrong(rt.alloc(), &rows)?, "");
@@ -174,6 +182,12 @@ fn sums_and_differences(rt: HostRuntime) -> Result<(), Fail> {
         ("1 0.25 +", "Dec(2) 1.25"),
         ("0.5 0.25 -", "Dec(2) 0.25"),
         (".5 1 -", "Dec(1) -0.5"),
+        ("b b +", "Whole 2"),
+        ("i b -", "Whole 6"),
+        ("d d +", "Dec(1) 25.0"),
+        ("d 0.25 -", "Dec(2) 12.25"),
+        ("d minus i +", "Dec(1) -5.5"),
+        ("d minus minus", "Dec(1) 12.5"),
         ("99999999999999999999999999999999999999 1 +", "Whole E08"),
         (
             "99999999999999999999999999999999999999 0 +",
@@ -208,6 +222,8 @@ fn sums_and_differences(rt: HostRuntime) -> Result<(), Fail> {
         ("1 N'a' +", "E05"),
         ("N'a' N'b' +", "E05"),
         ("N'a' minus", "E05"),
+        ("0x01 minus", "E05"),
+        ("day minus", "E05"),
         ("T minus", "E05"),
         ("T 1 +", "E05"),
     ];
@@ -255,6 +271,9 @@ fn arithmetic_with_null(rt: HostRuntime) -> Result<(), Fail> {
         ("NULL .5 *", "Dec(2) NULL"),
         ("NULL .00000000000000000001 *", "E05"),
         ("NULL .5 +", "Dec(1) NULL"),
+        ("NULL NULL +", "Null NULL"),
+        ("d NULL +", "Dec(1) NULL"),
+        ("NULL d *", "Dec(2) NULL"),
         ("NULL minus", "Null NULL"),
         ("n minus", "Whole NULL"),
         ("99999999999999999999999999999999999999 m +", "Dec(1) NULL"),
@@ -274,6 +293,8 @@ fn comparisons(rt: HostRuntime) -> Result<(), Fail> {
         ("NULL N'a' <", "Truth unknown"),
         ("NULL 0x01 >", "Truth unknown"),
         ("i n <>", "Truth unknown"),
+        ("i NULL =", "Truth unknown"),
+        ("d NULL <=", "Truth unknown"),
         ("T NULL =", "Truth unknown"),
         ("NULL F >=", "Truth unknown"),
         ("1 1.0 =", "Truth true"),
@@ -319,7 +340,16 @@ fn days_and_texts(rt: HostRuntime) -> Result<(), Fail> {
         ("never '2024-01-01' =", "Truth unknown"),
         ("'2024-02-29' t =", "Truth true"),
         ("'2024-01-01' '2024-01-02' <", "Truth true"),
+        ("day '9999-12-31' <=", "Truth true"),
+        ("day '0001-01-01' <", "Truth false"),
+        ("'2024-03-01' day <>", "Truth true"),
         ("day '2023-02-29' =", "E05"),
+        ("day '0000-12-31' >", "E05"),
+        ("day '10000-01-01' <", "E05"),
+        ("day '20240229' =", "E05"),
+        ("day '2024-02-2\u{ff19}' =", "E05"),
+        ("day '' =", "E05"),
+        ("'2024-2-29' day =", "E05"),
         ("day '2024-2-29' =", "E05"),
         ("day t =", "E05"),
         ("t day <", "E05"),
@@ -386,6 +416,8 @@ fn connectives_refused(rt: HostRuntime) -> Result<(), Fail> {
     let rows = [
         ("day '2024-02-29' and", "E05"),
         ("1 not", "E05"),
+        ("b not", "E05"),
+        ("N'a' not", "E05"),
         ("NULL not", "E05"),
         ("NULL T and", "E05"),
         ("T NULL or", "E05"),
@@ -393,6 +425,65 @@ fn connectives_refused(rt: HostRuntime) -> Result<(), Fail> {
         ("1 T or", "E05"),
     ];
     assert_eq!(rt; first_wrong(rt.alloc(), &rows)?, "");
+    Ok(())
+}
+
+/// An operand of each class.
+const OPERANDS: [&str; 7] = ["i", "d", "t", "x", "day", "NULL", "T"];
+
+/// For each right operand `y` where the operator takes it beside the left one, or `-`.
+fn taken_beside(alloc: Global, left: &str, op: &str) -> Result<Vec<u8>, Fail> {
+    let mut taken = Vec::new(alloc);
+    for right in OPERANDS {
+        let words = format!(in alloc; "{left} {right} {op}")?;
+        let shown = shown(alloc, &words)?;
+        taken.push(if shown.as_slice() == b"E05".as_slice() {
+            b'-'
+        } else {
+            b'y'
+        })?;
+    }
+    Ok(taken)
+}
+
+/// The first operator that takes others than the columns of `wanted` say, or nothing.
+fn first_odd<'a>(alloc: Global, left: &str, ops: &'a str, wanted: &str) -> Result<&'a str, Fail> {
+    for op in ops.split_whitespace() {
+        if taken_beside(alloc, left, op)?.as_slice() != wanted.as_bytes() {
+            return Ok(op);
+        }
+    }
+    Ok("")
+}
+
+#[test]
+fn classes_that_agree(rt: HostRuntime) -> Result<(), Fail> {
+    // A left operand, and which right ones arithmetic, comparisons and connectives take beside it.
+    for (left, arithmetic, comparisons, connectives) in [
+        ("i", "yy---y-", "yy---y-", "-------"),
+        ("d", "yy---y-", "yy---y-", "-------"),
+        ("t", "-------", "--y--y-", "-------"),
+        ("x", "-------", "---y-y-", "-------"),
+        ("day", "-------", "----yy-", "-------"),
+        ("NULL", "yy---y-", "yyyyyyy", "-------"),
+        ("T", "-------", "-----y-", "------y"),
+    ] {
+        assert_eq!(rt;
+            first_odd(rt.alloc(), left, "+ - *", arithmetic)?,
+            "",
+            "{left}"
+        );
+        assert_eq!(rt;
+            first_odd(rt.alloc(), left, "= <> < <= > >=", comparisons)?,
+            "",
+            "{left}"
+        );
+        assert_eq!(rt;
+            first_odd(rt.alloc(), left, "and or", connectives)?,
+            "",
+            "{left}"
+        );
+    }
     Ok(())
 }
 
@@ -408,6 +499,10 @@ fn both_sides_are_evaluated(rt: HostRuntime) -> Result<(), Fail> {
             "Truth E08",
         ),
         ("most most + 0 > F and", "Truth E08"),
+        ("most most + 0 > T or", "Truth E08"),
+        ("most most + n > F and", "Truth E08"),
+        ("most most + null?", "Truth E08"),
+        ("n 1 = most most * 0 = and", "Truth E08"),
     ];
     assert_eq!(rt; first_wrong(rt.alloc(), &rows)?, "");
     Ok(())

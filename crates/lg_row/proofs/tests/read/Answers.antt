@@ -1,4 +1,3 @@
-use Rattle.std.proofs.Common.{rules}
 use Rattle.lg_row.proofs.Leaves.{leaf_again}
 use Rattle.lg_row.proofs.tests.read.Goals as goal
 
