@@ -2,3 +2,5 @@ mod Repeats
 mod Levels
 mod Names
 mod Digits
+mod Pages
+mod Trees

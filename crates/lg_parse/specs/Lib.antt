@@ -8,3 +8,6 @@ pub mod Ledger
 pub mod Table
 pub mod Stmt
 pub mod Text
+pub mod Page
+pub mod Printed
+pub mod PrintedStmt

@@ -1,4 +1,4 @@
-//! Reads the text of a statement.
+//! Reads and prints the text of a statement.
 #![tactic(auto)]
 
 mod column;
@@ -6,7 +6,10 @@ mod cursor;
 mod expr;
 mod ledger;
 mod name;
+mod page;
 mod parse_err;
+mod print_part;
+mod print_stmt;
 mod row;
 mod select;
 mod stmt;
@@ -17,6 +20,7 @@ mod word;
 
 pub use lg_types::{Agg, CreateIndex, CreateTable, RowStmt, Select, Stmt, What};
 pub use parse_err::ParseErr;
+pub use print_stmt::print;
 pub use text::parse;
 
 #[cfg(test)]
