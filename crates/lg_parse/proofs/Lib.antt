@@ -4,3 +4,13 @@ mod Names
 mod Digits
 mod Pages
 mod Trees
+mod Cut
+mod Lexed
+mod Tokens
+mod Literals
+mod Numbers
+mod Quoted
+mod Values
+mod ReadExpr
+mod ReadTrees
+mod ReadWhole

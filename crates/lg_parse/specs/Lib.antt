@@ -11,3 +11,4 @@ pub mod Text
 pub mod Page
 pub mod Printed
 pub mod PrintedStmt
+pub mod Parsed
