@@ -14,3 +14,11 @@ mod Values
 mod ReadExpr
 mod ReadTrees
 mod ReadWhole
+mod Gets
+mod ReadParts
+mod ReadRows
+mod ReadSelects
+mod Sizes
+mod ReadTables
+mod ReadCreates
+mod ReadStmts

@@ -1,5 +1,5 @@
 -- What holds of each statement that parsing gives.
-use Rattle.std.specs.Prelude.{◌≡◌, ◌≤◌, ◌<◌, ◌^◌, ℕ, ◌+◌, pos, negsuc, Bool, true, List, [], length, All, Option, Some, None, ⊤}
+use Rattle.std.specs.Prelude.{◌≡◌, ◌≤◌, ◌<◌, ◌^◌, ℕ, ◌+◌, pos, negsuc, Bool, true, List, [], ◌∷◌, length, Option, Some, None, ⊤}
 use Rattle.std.specs.List.{list_all}
 use Rattle.lg_value.specs.declared.value.Value.{Value}
 use Rattle.lg_value.specs.declared.value.Value.TheVariants.{Num}
@@ -29,9 +29,14 @@ use Rattle.lg_parse.specs.Input.{max_parts}
 abbrev pub IsName : List ℕ → Type 0
 IsName n = (0 < length n) × (list_all is_name_byte n ≡ true)
 
+abbrev pub Each : {A : Type 0} → (A → Type 0) → List A → Type 0
+Each P [] = ⊤
+Each P (x ∷ xs) = P x × Each P xs
+
 -- one or more, of each of which it holds
 abbrev pub Some_ : {A : Type 0} → (A → Type 0) → List A → Type 0
-Some_ P xs = (0 < length xs) × All P xs
+Some_ P [] = ⊥
+Some_ P (x ∷ xs) = P x × Each P xs
 
 abbrev pub Maybe : {A : Type 0} → (A → Type 0) → Option A → Type 0
 Maybe P None = ⊤
@@ -113,7 +118,7 @@ IsSort p = IsName p.0
 -- aggregates have no order
 abbrev pub IsOrder : What → List (List ℕ × Bool) → Type 0
 IsOrder (shown.Aggs all) order = order ≡ []
-IsOrder _ order = All IsSort order
+IsOrder _ order = Each IsSort order
 
 abbrev pub IsSelect : Select → Type 0
 IsSelect s = IsName s.table × IsWhat s.what × Maybe IsExpr s.cond × IsOrder s.what s.order
