@@ -22,3 +22,4 @@ mod Sizes
 mod ReadTables
 mod ReadCreates
 mod ReadStmts
+mod LexStmts

@@ -1,5 +1,5 @@
 -- Printed numbers and literals are the longest tokens at their places.
-use Rattle.std.proofs.Common.{◌≡◌, ℕ, zero, suc, ◌+◌, ◌-◌, ◌/◌, ◌%◌, ◌<◌, ◌≤◌, ◌^◌, Bool, true, false, cond, ◌==◌, ◌&&◌, List, [], ◌∷◌, ◌++◌, length, take, drop, replicate, Option, Some, None, refl, ap, ◌∙◌, sym, subst, arith, append-nil, length-append, inl, inr, codes}
+use Rattle.std.proofs.Common.{◌≡◌, ℕ, zero, suc, ◌+◌, ◌-◌, ◌/◌, ◌%◌, ◌<◌, ◌≤◌, ◌^◌, Bool, true, false, cond, ◌==◌, ◌&&◌, List, [], ◌∷◌, ◌++◌, length, take, drop, replicate, get_or, Option, Some, None, refl, ap, ◌∙◌, sym, subst, arith, append_assoc, append-nil, length-append, inl, inr, codes}
 use Rattle.std.specs.Prelude.{ℤ, pos, negsuc, unsigned_abs}
 use Rattle.std.specs.List.{list_all}
 use Rattle.std.specs.Char.{is_ascii_digit}
@@ -141,3 +141,44 @@ one_literal (Num (negsuc n) s) is positive = absurd positive
 one_literal (Text x) is positive = one_text x
 one_literal (Bytes b) is positive = one_bytes b is
 one_literal (Date d) is positive = absurd is
+
+-- ---- numbers with a sign
+
+digit_no_minus : (b : ℕ) → is_ascii_digit b ≡ true → (b == 45) ≡ false
+digit_no_minus b e = grind (arith, nat_tests)
+
+front_no_minus : (n : ℕ) (ds z : List ℕ) → AreDigits ds → 0 < length ds → 0 < n → (get_or (take n ds ++ z) 0 0 == 45) ≡ false
+front_no_minus n [] z all some more = absurd (omega (arith, some))
+front_no_minus zero (d ∷ ds) z all some more = absurd (omega (arith, more))
+front_no_minus (suc n) (d ∷ ds) z all some more = digit_no_minus d (and_true (is_ascii_digit d) (list_all is_ascii_digit ds) all).0
+
+zeros_no_minus : (first z : List ℕ) → AreDigits first → (get_or (first ++ 46 ∷ z) 0 0 == 45) ≡ false
+zeros_no_minus [] z all = refl
+zeros_no_minus (d ∷ ds) z all = digit_no_minus d (and_true (is_ascii_digit d) (list_all is_ascii_digit ds) all).0
+
+no_minus_first : (first ds : List ℕ) (s : ℕ) (z : List ℕ) → AreDigits first → AreDigits ds → 0 < length ds → (get_or (pointed first ds s ++ z) 0 0 == 45) ≡ false
+unfolding pointed
+no_minus_first first ds s z none all some = elim (cases_lt s (length ds)) [
+  | inl inside ↦ rw (lt-ltb s (length ds) inside) (rw (append_assoc (take (length ds - s) ds) (behind_point (drop (length ds - s) ds)) z)
+    (front_no_minus (length ds - s) ds (behind_point (drop (length ds - s) ds) ++ z) all some (omega (arith, inside))))
+  | inr outside ↦ rw (le-ltb s (length ds) outside) (rw (append_assoc first (46 ∷ (replicate (s - length ds) 48 ++ ds)) z) (zeros_no_minus first ((replicate (s - length ds) 48 ++ ds) ++ z) none))
+]
+
+prepend_two : (a b : Sym) (o : Option (List Sym)) → prepend (a ∷ []) (prepend (b ∷ []) o) ≡ prepend (a ∷ b ∷ []) o
+prepend_two a b None = refl
+prepend_two a b (Some ss) = refl
+
+minus_then : (w : List ℕ) (b : Sym) (rest : List ℕ) → (get_or (w ++ rest) 0 0 == 45) ≡ false → cut 0 (w ++ rest) ≡ prepend (b ∷ []) (cut 0 rest) → cut 0 (45 ∷ (w ++ rest)) ≡ prepend (key t.Minus ∷ b ∷ []) (cut 0 rest)
+unfolding front tag_of spelling
+minus_then w b rest other read =
+    cut_token kind.Sign 45 [] (w ++ rest) refl (rw other refl) (sym (front_is (45 ∷ (w ++ rest)))) ∙ ap (prepend (key t.Minus ∷ [])) read ∙ prepend_two (key t.Minus) b (cut 0 rest)
+
+pub one_negative : (n s : ℕ) → IsLiteral (Num (negsuc n) s) → One (literal_sym (Num (negsuc n) s)) (key t.Minus ∷ literal_sym (Num (pos (suc n)) s) ∷ [])
+unfolding literal_text
+one_negative n s is =
+    let d = decimal_is (suc n) (omega (arith, is.0)) in
+    let k = size_is (suc n) s is.0 is.1 in
+    record {
+      lexes = λ rest after. minus_then (pointed (first_of s) (decimal (suc n)) s) (literal_sym (Num (pos (suc n)) s)) rest (no_minus_first (first_of s) (decimal (suc n)) s rest (first_digits (s == 38)) d.0 d.1) (k.lexes rest after);
+      touching = λ h. cc;
+    }

@@ -4,6 +4,7 @@
 mod column;
 mod cursor;
 mod expr;
+mod law;
 mod ledger;
 mod name;
 mod page;
@@ -18,6 +19,7 @@ mod tag;
 mod text;
 mod word;
 
+pub use law::printing_is_read_back;
 pub use lg_types::{Agg, CreateIndex, CreateTable, RowStmt, Select, Stmt, What};
 pub use parse_err::ParseErr;
 pub use print_stmt::print;
