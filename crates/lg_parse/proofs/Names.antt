@@ -16,7 +16,7 @@ opened (d ∷ ds) None h = elim (cases_eq d 91) [
 opened (d ∷ ds) (Some x) h = grind (arith, nat_tests, h)
 
 -- what stands before its last byte is found
-closed : (x : List ℕ) → before_close (x ++ 93 ∷ []) ≡ Some x
+pub closed : (x : List ℕ) → before_close (x ++ 93 ∷ []) ≡ Some x
 closed [] = refl
 closed (c ∷ []) = refl
 closed (c ∷ d ∷ cs) = ap (λ (o : Option (List ℕ)). option_map (λ y. c ∷ y) o) (closed (d ∷ cs))

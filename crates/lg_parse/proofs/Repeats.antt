@@ -15,7 +15,7 @@ adds-one : (n : ℕ) (o : Outcome ℕ) → adds n (one_more o) ≡ adds (n + 1) 
 adds-one n None = refl
 adds-one n (Some p) = let e : n + (p.0 + 1) ≡ n + 1 + p.0 = omega arith in ap (λ m. Some (m, p.1)) e
 
-abbrev at_ : List Sym → ℕ → Input
+abbrev pub at_ : List Sym → ℕ → Input
 at_ rest left = record { rest = rest; left = left }
 
 pub guard_some : {A : Type 0} (b : Bool) (x k : A) → cond b None (Some x) ≡ Some k → (b ≡ false) × (x ≡ k)

@@ -8,3 +8,7 @@ pub mod Ledger
 pub mod Table
 pub mod Stmt
 pub mod Text
+pub mod Page
+pub mod Printed
+pub mod PrintedStmt
+pub mod Parsed
