@@ -1,5 +1,6 @@
 pub mod AnswerLemmas
 pub mod FilesLemmas
+pub mod FirstJournal
 pub mod Numbers
 pub mod RowLeaf
 pub mod TransferLemmas

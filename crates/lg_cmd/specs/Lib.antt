@@ -1,6 +1,5 @@
 pub mod Answer
 pub mod Files
-pub mod Journal
 pub mod Letters
 pub mod Reserved
 pub mod Run

@@ -5,11 +5,11 @@ use Rattle.lg_value.specs.declared.value.Value.TheVariants as values
 use Rattle.lg_merkle.specs.TreeHash.{tree_hash}
 use Rattle.lg_types.specs.declared.event.Event.{Event}
 use Rattle.lg_types.specs.declared.event.FieldOf.{FieldOf}
+use Rattle.lg_types.specs.declared.journal.Journal.{Journal}
+use Rattle.lg_types.specs.declared.journal.JournalItem.TheVariants.{Tx}
 use Rattle.lg_row.specs.Leaf.{event_bytes}
+use Rattle.lg_journal.specs.Journal.{journal_bytes}
 use Rattle.lg_cmd.specs.declared.files.File.{File}
-use Rattle.lg_cmd.specs.declared.journal.Journal.{Journal}
-use Rattle.lg_cmd.specs.declared.journal.JournalItem.TheVariants.{Tx}
-use Rattle.lg_cmd.specs.Journal.{journal_bytes}
 use Rattle.lg_cmd.specs.TwoLines.{TwoLines, line, create_text, insert_text}
 use Rattle.lg_cmd.specs.Words.{Step}
 

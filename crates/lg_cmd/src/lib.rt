@@ -2,7 +2,6 @@
 #![tactic(auto)]
 
 mod files;
-mod journal;
 mod number;
 mod reserved;
 mod run;
@@ -13,7 +12,8 @@ mod transfer;
 mod two_lines;
 mod words;
 
-pub use journal::{Journal, JournalItem, Script, write_journal};
+pub use lg_journal::{Journal, JournalItem, Script, write_journal};
+pub use run::journal_law;
 pub use status::Status;
 pub use top::ledgerd;
 pub use two_lines::two_lines_law;

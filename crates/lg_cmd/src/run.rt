@@ -1,21 +1,22 @@
 // What the two lines make: the journal, the root, and the transcript.
-ghost use Rattle.std.specs.Prelude.{false, ◌≡◌, [], ◌∷◌, ◌++◌, IfOk, IsUtf8, codes};
+ghost use Rattle.std.specs.Prelude.{ℕ, false, ◌≡◌, ◌≤◌, [], ◌∷◌, ◌++◌, IfOk, IsUtf8, codes};
+ghost use Rattle.lg_types.specs.declared.journal.JournalItem.TheVariants.{Tx};
 ghost use Rattle.lg_row.specs.Leaf.{HasLeaf, IsField, event_bytes};
-ghost use Rattle.lg_cmd.specs.declared.journal.JournalItem.TheVariants.{Tx};
+ghost use Rattle.lg_journal.specs.Rules.{IsJournal};
 ghost use Rattle.lg_cmd.specs.declared.two_lines.Kind.TheVariants.{Digit};
-ghost use Rattle.lg_cmd.specs.Journal.{journal_bytes, IsJournal};
-ghost use Rattle.lg_cmd.specs.TwoLines.{IsTwoLines, IsWord, unsigned_part, create_text, insert_text};
+ghost use Rattle.lg_cmd.specs.TwoLines.{TwoLines, IsTwoLines, IsWord, unsigned_part, create_text, insert_text};
 ghost use Rattle.lg_cmd.specs.TwoLinesReading.{two_lines_view};
 ghost use Rattle.lg_cmd.specs.Run.{row_column, written, event_of, root_of, journal_of, saved_files, files_of, transcript_of};
 ghost use Rattle.lg_cmd.specs.Words.{step_view};
+ghost use Rattle.lg_cmd.specs.Answer.{max_ticks};
 
 use crate::files::File;
 use crate::number::value_of;
 use crate::texts::{create_text, insert_text, transcript};
 use crate::two_lines::TwoLineParts;
 use crate::words::StepWords;
-use crate::{Journal, JournalItem, Script, write_journal};
 use lg_items::{Blob, Items, Memory, Name, Text};
+use lg_journal::{Journal, JournalItem, Script, write_journal};
 use lg_merkle::{Hash32, root_of_leaf};
 use lg_row::{Event, FieldOf, write_event};
 use lg_value::{SqlType, Value};
@@ -156,6 +157,11 @@ fn files(alloc: Global, save: &str, root: Blob, journal: Blob) -> Result<Items<F
     Ok(files)
 }
 
+/// The journal of the two lines keeps the side rules, so that it is read back from its bytes.
+pub fn journal_law()
+    ensures { (lines : TwoLines) (first second : ℕ) → IsTwoLines lines → first ≤ max_ticks → second ≤ max_ticks → IsJournal (journal_of lines first second) }
+{}
+
 /// Makes all that the two lines put and write.
 pub(crate) fn make<H: Hash32>(
     alloc: Global,
@@ -164,7 +170,9 @@ pub(crate) fn make<H: Hash32>(
     lines: &TwoLineParts,
     moments: Moments,
 ) -> Result<Made, Memory>
-    requires { IsTwoLines (two_lines_view lines.now) }
+    requires lines { IsTwoLines (two_lines_view lines.now) }
+    requires first { moments.first ≤ max_ticks }
+    requires second { moments.second ≤ max_ticks }
     ensures files { IfOk result (λ made. made.files ≡ files_of (H.digest h) (step_view step.now) (two_lines_view lines.now) moments.first moments.second) }
     ensures transcript { IfOk result (λ made. made.transcript ≡ transcript_of (two_lines_view lines.now)) }
 {
