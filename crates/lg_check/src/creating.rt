@@ -80,7 +80,8 @@ fn is_ledger_name(name: &Name) -> bool
     head.eq_ignore_ascii_case(ADDED.as_bytes())
 }
 
-fn is_long(name: &Name) -> bool
+/// Whether a new name is too long.
+pub fn is_long(name: &Name) -> bool
     ensures { result ≡ spec.is_long name.now }
 {
     name.bytes().len() > MOST_NAME_BYTES

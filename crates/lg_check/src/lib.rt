@@ -3,11 +3,14 @@
 
 mod accepting;
 mod creating;
+mod indexing;
 mod names;
 mod rows;
 mod selecting;
 
-pub use lg_types::{Part, RowStmt, Select, TableDef};
+pub use creating::new_table;
+pub use indexing::new_index;
+pub use lg_types::{CreateIndex, CreateTable, IndexDef, Part, RowStmt, Select, TableDef};
 pub use names::part_named;
 pub use rows::check_stmt;
 pub use selecting::check_select;
