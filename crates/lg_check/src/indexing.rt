@@ -40,9 +40,7 @@ fn has_taken_name(def: &TableDef, c: &CreateIndex) -> bool
 fn is_over(def: &TableDef, c: &CreateIndex) -> bool
     ensures { result ≡ ((nat_lt 4 (length c.now.columns) || nat_le 4 (length def.now.indexes)) || spec.is_long c.now.name) }
 {
-    c.columns.len() > MOST_INDEX_COLUMNS
-        || def.indexes.len() >= MOST_INDEXES
-        || is_long(&c.name)
+    c.columns.len() > MOST_INDEX_COLUMNS || def.indexes.len() >= MOST_INDEXES || is_long(&c.name)
 }
 
 /// The ordinal of a column, which is its place counted from 1, or 0 where there is no such column. A table has fewer than
@@ -70,7 +68,12 @@ fn ordinals_of(alloc: Global, columns: &[ColumnDef], names: &[Name]) -> Result<I
 
 /// The checks of a new index of a table, of which the statement names this part: E03, E16, E11 and E04, in this order, or
 /// E30 for want of memory; and the index. The table has fewer than 65,535 columns.
-pub fn new_index(alloc: Global, def: &TableDef, part: Part, c: &CreateIndex) -> Result<IndexDef, Refusal>
+pub fn new_index(
+    alloc: Global,
+    def: &TableDef,
+    part: Part,
+    c: &CreateIndex,
+) -> Result<IndexDef, Refusal>
     requires { length def.now.columns < 2 ^ 16 - 1 }
     ensures { MatchResult result (λ index. spec.index_check_in c.now (def.now, part) ≡ Ok (def.now, index)) (λ e. e ≢ E30 → spec.index_check_in c.now (def.now, part) ≡ Err e) }
 {

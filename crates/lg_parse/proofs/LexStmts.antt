@@ -102,7 +102,6 @@ lex_filter (Some x) is = then_ k.where_ (lex_expr (tree x) is.0)
 
 -- ---- CREATE TABLE and CREATE INDEX
 
-
 lex_type : (ty : SqlType) → IsType ty → Lexed (s.sql_type ty) (s.sql_type ty)
 unfolding s.sql_type tag_of
 lex_type sql.Bit is = lone (k.plain_word 66 (codes "IT") refl refl refl)

@@ -44,8 +44,8 @@ pub one_name : (n : List ℕ) → IsName n → One (name n) (name n ∷ [])
 unfolding tag_of
 one_name n is = record {
   lexes = λ rest after. (let flat : (n ++ 93 ∷ []) ++ rest ≡ n ++ 93 ∷ rest = append_assoc n (93 ∷ []) rest in
-    let len : length n + 2 ≡ length (91 ∷ (n ++ 93 ∷ [])) = omega (arith, length-append n (93 ∷ [])) in
-    cut_token kind.Bracketed 91 (n ++ 93 ∷ []) rest refl refl
-    (ap (λ z. longest (91 ∷ z)) flat ∙ sym (front_is (91 ∷ (n ++ 93 ∷ rest))) ∙ name_front n rest is ∙ ap (λ m. Some (kind.Bracketed, m)) len));
+      let len : length n + 2 ≡ length (91 ∷ (n ++ 93 ∷ [])) = omega (arith, length-append n (93 ∷ [])) in
+      cut_token kind.Bracketed 91 (n ++ 93 ∷ []) rest refl refl
+      (ap (λ z. longest (91 ∷ z)) flat ∙ sym (front_is (91 ∷ (n ++ 93 ∷ rest))) ∙ name_front n rest is ∙ ap (λ m. Some (kind.Bracketed, m)) len));
   touching = λ h. cc;
 }

@@ -40,9 +40,9 @@ pub one_text : (x : List ℕ) → One (t.Text, 78 ∷ quoted (doubled x)) ((t.Te
 unfolding tag_of
 one_text x = record {
   lexes = λ rest after. (let flat : (doubled x ++ 39 ∷ []) ++ rest ≡ doubled x ++ 39 ∷ rest = append_assoc (doubled x) (39 ∷ []) rest in
-    let len : 2 + (length (doubled x) + 1) ≡ length (78 ∷ quoted (doubled x)) = omega (arith, length-append (doubled x) (39 ∷ [])) in
-    cut_token kind.Text 78 (quoted (doubled x)) rest refl refl
-    (sym (front_is (78 ∷ (quoted (doubled x) ++ rest))) ∙ ap (λ z. front (78 ∷ 39 ∷ z)) flat ∙ text_front x rest after ∙ ap (λ m. Some (kind.Text, m)) len));
+      let len : 2 + (length (doubled x) + 1) ≡ length (78 ∷ quoted (doubled x)) = omega (arith, length-append (doubled x) (39 ∷ [])) in
+      cut_token kind.Text 78 (quoted (doubled x)) rest refl refl
+      (sym (front_is (78 ∷ (quoted (doubled x) ++ rest))) ∙ ap (λ z. front (78 ∷ 39 ∷ z)) flat ∙ text_front x rest after ∙ ap (λ m. Some (kind.Text, m)) len));
   touching = λ h. cc;
 }
 

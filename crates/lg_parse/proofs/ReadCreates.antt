@@ -63,7 +63,7 @@ columns_back ks (c ∷ cs) is = ap (λ x. x ∷ map (b.column_def ks) (map draft
 
 fields_gets : (n : List ℕ) (columns : List ColumnDef) (ks : List (List ℕ)) (kind : TableKind) (h v : Option (List ℕ)) (m : ℕ) → Some_ IsColumn columns → Some_ IsName ks → IsHistory kind h
     → Gets (b.create_table (at_ (p.name n ∷ (enclosed (listed s.column columns ++ key t.Comma ∷ key t.Primary ∷ key t.Key ∷ s.names ks) ++ key t.With ∷ enclosed (s.ledger kind h v))) m))
-      (record { name = n; columns = columns; key = ks; kind = kind; history = h; view = v }) []
+    (record { name = n; columns = columns; key = ks; kind = kind; history = h; view = v }) []
 unfolding b.create_table expect sees next same_tag
 fields_gets n [] ks kind h v m columns_ key_ is = absurd columns_
 fields_gets n (c ∷ cs) ks kind h v m columns_ key_ is =

@@ -80,7 +80,7 @@ row_gets written vs is rest n =
     let flat = append_assoc (listed value_syms vs) (key t.Close ∷ []) rest in
     let P : List Sym → Type 0 = λ z. Gets (r.row (at_ (key t.Open ∷ z) n)) vs rest in
     let read = list_gets r.value value_syms Any (λ more. tt) vs (key t.Close ∷ rest) n
-        (some_of IsLiteral (ItemReads r.value value_syms Any) (λ v k. (value_some v, λ after_ m follow. value_gets written v k after_ m)) vs is) tt (no_comma_close rest) in
+    (some_of IsLiteral (ItemReads r.value value_syms Any) (λ v k. (value_some v, λ after_ m follow. value_gets written v k after_ m)) vs is) tt (no_comma_close rest) in
     subst P (sym flat) (then_gets (λ y. _) vs vs (key t.Close ∷ rest) rest (list r.value (at_ (listed value_syms vs ++ key t.Close ∷ rest) n)) read (λ m. (refl, refl)))
 
 pub no_comma_end : NoComma []
@@ -153,8 +153,8 @@ unfolding r.update expect sees next same_tag
 update_gets written untreed table sets cond n sets_ cond_ =
     let ts = listed s.assignment sets ++ s.filter cond in
     let read = list_gets r.assignment s.assignment AnyEnds ends_comma sets (s.filter cond) n
-        (some_of IsAssignment (ItemReads r.assignment s.assignment AnyEnds) (λ x k. (omega arith, λ after_ m follow. assignment_gets written untreed x k after_ m follow)) sets sets_)
-        (ends_filter cond) (no_comma_filter cond) in
+    (some_of IsAssignment (ItemReads r.assignment s.assignment AnyEnds) (λ x k. (omega arith, λ after_ m follow. assignment_gets written untreed x k after_ m follow)) sets sets_)
+    (ends_filter cond) (no_comma_filter cond) in
     rw (name_read table (key t.Set ∷ ts) n) (then_gets (λ y. _) sets (Update table sets cond) (s.filter cond) [] (list r.assignment (at_ ts n)) read
     (λ m. then_gets (λ y. _) cond (Update table sets cond) [] [] (r.filter (at_ (s.filter cond) m)) (filter_at_end written untreed cond m cond_) (λ k. (refl, refl))))
 

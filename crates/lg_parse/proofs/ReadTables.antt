@@ -104,7 +104,7 @@ one_step columns c d more rest fuel n is k = rw (step_column (record { columns =
 
 fold_gets : (columns : List Column) (c : ColumnDef) (cs : List ColumnDef) (ks : List (List ℕ)) (rest : List Sym) (fuel n : ℕ) → length cs + 2 ≤ fuel → IsColumn c → Each IsColumn cs → Some_ IsName ks
     → Gets (fold_from b.item_step fuel (record { columns = columns; key = None }) (at_ (s.column c ++ (rest_listed s.column cs ++ key t.Comma ∷ with_key ks rest)) n))
-      (record { columns = columns ++ drafted c ∷ map drafted cs; key = Some ks }) (key t.Close ∷ rest)
+    (record { columns = columns ++ drafted c ∷ map drafted cs; key = Some ks }) (key t.Close ∷ rest)
 unfolding rest_listed
 fold_gets columns c cs ks rest zero n few first others is = absurd (omega (arith, few))
 fold_gets columns c cs ks rest (suc zero) n few first others is = absurd (omega (arith, few))
@@ -138,8 +138,8 @@ unfolding fold tokens_left listed
 items_gets c cs ks rest n first others is =
     let ts = s.column c ++ (rest_listed s.column cs ++ key t.Comma ∷ with_key ks rest) in
     let flat : ((s.column c ++ rest_listed s.column cs) ++ key t.Comma ∷ key t.Primary ∷ key t.Key ∷ s.names ks) ++ key t.Close ∷ rest ≡ ts =
-        append_assoc (s.column c ++ rest_listed s.column cs) (key t.Comma ∷ key t.Primary ∷ key t.Key ∷ s.names ks) (key t.Close ∷ rest)
-        ∙ append_assoc (s.column c) (rest_listed s.column cs) (key t.Comma ∷ with_key ks rest) in
+    append_assoc (s.column c ++ rest_listed s.column cs) (key t.Comma ∷ key t.Primary ∷ key t.Key ∷ s.names ks) (key t.Close ∷ rest)
+    ∙ append_assoc (s.column c) (rest_listed s.column cs) (key t.Comma ∷ with_key ks rest) in
     let P : List Sym → Type 0 = λ z. Gets (fold_from b.item_step (length z) b.no_items (at_ z n)) (record { columns = drafted c ∷ map drafted cs; key = Some ks }) (key t.Close ∷ rest) in
     let few : length cs + 2 ≤ length ts = omega (arith, length-append (s.column c) (rest_listed s.column cs ++ key t.Comma ∷ with_key ks rest), length-append (rest_listed s.column cs) (key t.Comma ∷ with_key ks rest), enough cs, column_some c) in
     subst P (sym flat) (fold_gets [] c cs ks rest (length ts) n few first others is)

@@ -133,7 +133,8 @@ module _ (inner : Parser Expr) where
         left = of a (key (op_tag o) ∷ ts) n m x first;
         some = some;
         paid = spent ts m some;
-        right = of b (key t.Close ∷ rest) (m - 1) r y second })
+        right = of b (key t.Close ∷ rest) (m - 1) r y second;
+      })
 
 -- ---- all of it
 

@@ -39,7 +39,7 @@ one_sign : (b : ℕ) (w : List ℕ) (tag : Tag) → is_blank b ≡ false → tag
     → (touches tag ≡ true → (rest : List ℕ) → Stop (b ∷ (w ++ rest))) → One (tag, b ∷ w) ((tag, b ∷ w) ∷ [])
 one_sign b w tag blank is comment found touching = record {
   lexes = λ rest after. cut_token kind.Sign b w rest blank (comment rest after) (sym (front_is (b ∷ (w ++ rest))) ∙ found rest after)
-    ∙ ap (λ x. prepend ((x, b ∷ w) ∷ []) (cut 0 rest)) is;
+      ∙ ap (λ x. prepend ((x, b ∷ w) ∷ []) (cut 0 rest)) is;
   touching = touching;
 }
 
@@ -133,8 +133,8 @@ one_word b w tag first all is opens_ touches_ =
     let l = letter b first in
     record {
       lexes = λ rest after. (let stop = subst (λ o. After o rest) opens_ after in
-        cut_token kind.Word b w rest l.5 (rw l.6 refl) (sym (front_is (b ∷ (w ++ rest))) ∙ word_front b w rest first all stop)
-        ∙ ap (λ x. prepend ((x, b ∷ w) ∷ []) (cut 0 rest)) is);
+          cut_token kind.Word b w rest l.5 (rw l.6 refl) (sym (front_is (b ∷ (w ++ rest))) ∙ word_front b w rest first all stop)
+          ∙ ap (λ x. prepend ((x, b ∷ w) ∷ []) (cut 0 rest)) is);
       touching = λ h. (let no : true ≡ false = sym h ∙ touches_ in cc);
     }
 

@@ -160,7 +160,7 @@ no_minus_first : (first ds : List ℕ) (s : ℕ) (z : List ℕ) → AreDigits fi
 unfolding pointed
 no_minus_first first ds s z none all some = elim (cases_lt s (length ds)) [
   | inl inside ↦ rw (lt-ltb s (length ds) inside) (rw (append_assoc (take (length ds - s) ds) (behind_point (drop (length ds - s) ds)) z)
-    (front_no_minus (length ds - s) ds (behind_point (drop (length ds - s) ds) ++ z) all some (omega (arith, inside))))
+      (front_no_minus (length ds - s) ds (behind_point (drop (length ds - s) ds) ++ z) all some (omega (arith, inside))))
   | inr outside ↦ rw (le-ltb s (length ds) outside) (rw (append_assoc first (46 ∷ (replicate (s - length ds) 48 ++ ds)) z) (zeros_no_minus first ((replicate (s - length ds) 48 ++ ds) ++ z) none))
 ]
 
