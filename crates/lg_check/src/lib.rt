@@ -12,5 +12,5 @@ pub use creating::new_table;
 pub use indexing::new_index;
 pub use lg_types::{CreateIndex, CreateTable, IndexDef, Part, RowStmt, Select, TableDef};
 pub use names::part_named;
-pub use rows::check_stmt;
+pub use rows::{check_stmt, table_of};
 pub use selecting::check_select;

@@ -29,6 +29,25 @@ pub fn refuse_if(fails: bool, refusal: Refusal) -> Result<(), Refusal>
     if fails { Err(refusal) } else { Ok(()) }
 }
 
+/// The name of the table that a statement changes.
+pub fn table_of(stmt: &RowStmt) -> &Name
+    ensures { result.now ≡ spec.table_of stmt.now }
+{
+    match stmt {
+        RowStmt::Insert {
+            table,
+            columns: _,
+            rows: _,
+        } => table,
+        RowStmt::Update {
+            table,
+            sets: _,
+            cond: _,
+        } => table,
+        RowStmt::Delete { table, cond: _ } => table,
+    }
+}
+
 /// Checks all of a statement that changes rows that doesn't hang on the rows of its table, of which it names this part:
 /// E03, E16, E11, E10, E04, E18, E12 and E05, in this order, or E30 for want of memory.
 pub fn check_stmt(alloc: Global, stmt: &RowStmt, def: &TableDef, part: Part) -> Result<(), Refusal>

@@ -1,5 +1,7 @@
-//! Tests of the whole: the top call over the outside in memory.
+//! Tests that take several crates: the top call over the outside in memory, and statements from their text on.
 #![tactic(auto)]
 
+#[cfg(test)]
+mod checks;
 #[cfg(test)]
 mod first_path;
