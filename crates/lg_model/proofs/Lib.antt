@@ -1,6 +1,7 @@
 pub mod AgreeAfter
 pub mod Alls
 pub mod AtTable
+pub mod ByKeys
 pub mod ChangesMade
 pub mod Checked
 mod Classed
@@ -11,9 +12,12 @@ pub mod LeftAlone
 pub mod LeftRows
 pub mod LeftScripts
 pub mod LeftTables
+pub mod LegalSound
 pub mod MappedRows
 pub mod Missing
 pub mod Named
+pub mod NoEvents
+pub mod OtherTransactions
 pub mod Plans
 pub mod SameAlone
 pub mod SameKeys
