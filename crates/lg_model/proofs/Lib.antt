@@ -1,6 +1,9 @@
 pub mod AgreeAfter
 pub mod Alls
 pub mod AtTable
+pub mod BaseTables
+pub mod Beside
+pub mod BesideOne
 pub mod ByKeys
 pub mod ChangesMade
 pub mod Checked
@@ -16,6 +19,7 @@ pub mod LegalSound
 pub mod MappedRows
 pub mod Missing
 pub mod Named
+pub mod NoClash
 pub mod NoEvents
 pub mod OtherTransactions
 pub mod Plans

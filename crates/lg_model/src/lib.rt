@@ -33,5 +33,6 @@ pub use samples::{
 pub use scripts::{
     opened_scripts_are_their_changes, opened_scripts_leave_what_they_dont_want,
     opened_scripts_over_agreeing_states_are_one, statements_alone_over_agreeing_states_are_one,
+    what_doesnt_clash_leaves_what_is_wanted,
 };
 pub use undo::{going_back_is_undo_by_number, undo_by_number_takes_a_statement_back};
