@@ -1,11 +1,10 @@
 -- Beside a script that it doesn't clash with, a statement finds all that it wants as before.
-use Rattle.std.proofs.Common.{◌≡◌, ℕ, ◌≤◌, refl, sym, ap, subst, ◌∙◌, Bool, true, false, List, [], ◌∷◌, map, Option, Some, None, Ok, Err, arith}
+use Rattle.std.proofs.Common.{◌≡◌, ℕ, refl, sym, Bool, true, false, List, [], ◌∷◌, map, Option, Some, None, Ok, Err, arith}
 use Rattle.std.specs.Prelude.{◌||◌}
 use Rattle.std.specs.List.{AllByRecursion, list_any}
 use Rattle.lg_value.specs.declared.column.ColumnDef.{ColumnDef}
 use Rattle.lg_types.specs.declared.lock.Mode.{Mode}
 use Rattle.lg_types.specs.declared.lock.Mode.TheVariants.{IS, IX, S, X}
-use Rattle.lg_types.specs.declared.lock.Item.TheVariants as item
 use Rattle.lg_types.specs.declared.lock.Want.{Want}
 use Rattle.lg_types.specs.declared.statement.Stmt.{Stmt}
 use Rattle.lg_types.specs.declared.statement.Stmt.TheVariants as s
@@ -18,19 +17,19 @@ use Rattle.lg_model.specs.Refusals.{Checked}
 use Rattle.lg_model.specs.Lists.{all_some}
 use Rattle.lg_model.specs.Keys.{Key}
 use Rattle.lg_model.specs.Where.{key_fixed}
-use Rattle.lg_model.specs.Catalog.{Defs, Named, Tables, defs_of, versions_of}
+use Rattle.lg_model.specs.Catalog.{Named, Tables, defs_of, versions_of}
 use Rattle.lg_model.specs.Checks.{row_statement_check}
 use Rattle.lg_model.specs.Query.{query_check}
 use Rattle.lg_model.specs.SystemTables.{tables_id, columns_id}
 use Rattle.lg_model.specs.Locks as want
-use Rattle.lg_model.specs.Agreement.{AgreeIn, AgreeOn, AgreeOnAll, AgreeInCell, AgreeInCatalog, SameCatalog, columns_at, Agree, wants_of}
+use Rattle.lg_model.specs.Agreement.{AgreeOn, AgreeOnAll, AgreeInCell, AgreeInCatalog, SameCatalog, columns_at, Agree, wants_of}
 use Rattle.lg_model.specs.Runs.{Sound}
 use Rattle.lg_model.specs.Script.{Reading, script}
 use Rattle.lg_model.specs.NoClash.{text_clash}
 use Rattle.lg_model.proofs.SameKeys.{or_false}
 use Rattle.lg_model.proofs.Definitions.{opened_keep_defs}
 use Rattle.lg_model.proofs.LeftScripts.{script_leaves_key, script_leaves_table}
-use Rattle.lg_model.proofs.NoClash.{Relies, Intends, Free, key_texts, whole_texts, system_texts}
+use Rattle.lg_model.proofs.NoClash.{Intends, Free, key_texts, whole_texts, system_texts}
 
 module _ (reads : Reading) (T : Tables) (tx : ℕ) (texts : List (List ℕ)) (sound : Sound tx 0 T) where
   abbrev after : Tables
@@ -38,10 +37,10 @@ module _ (reads : Reading) (T : Tables) (tx : ℕ) (texts : List (List ℕ)) (so
 
   catalog_stays : SameCatalog T after
   catalog_stays = record {
-      definitions = sym (opened_keep_defs reads T tx texts).tables;
-      tables = sym (script_leaves_table tx T tables_id reads texts (system_texts (defs_of T) tables_id reads texts (omega arith)));
-      columns = sym (script_leaves_table tx T columns_id reads texts (system_texts (defs_of T) columns_id reads texts (omega arith)));
-    }
+    definitions = sym (opened_keep_defs reads T tx texts).tables;
+    tables = sym (script_leaves_table tx T tables_id reads texts (system_texts (defs_of T) tables_id reads texts (omega arith)));
+    columns = sym (script_leaves_table tx T columns_id reads texts (system_texts (defs_of T) columns_id reads texts (omega arith)));
+  }
 
   in_catalog : (m : Option Mode) → AgreeInCatalog m T after
   in_catalog None = tt
@@ -76,9 +75,10 @@ module _ (reads : Reading) (T : Tables) (tx : ℕ) (texts : List (List ℕ)) (so
         → ((vs : List Want) → want.some_conflict ws vs ≡ false → want.some_conflict (map (want.of_key X) keys) vs ≡ false)
         → AgreeOnAll columns (map (want.of_key X) keys) (versions_of T id) (versions_of after id)
     on_keys [] whole each = tt
-    on_keys (k ∷ ks) whole each =
-        (on_key IX X k (λ vs h. (whole vs h, (or_false (list_any (want.wants_conflict (want.of_key X k)) vs) (want.some_conflict (map (want.of_key X) ks) vs) (each vs h)).0)),
-         on_keys ks whole (λ vs h. (or_false (list_any (want.wants_conflict (want.of_key X k)) vs) (want.some_conflict (map (want.of_key X) ks) vs) (each vs h)).1))
+    on_keys (k ∷ ks) whole each = (
+      on_key IX X k (λ vs h. (whole vs h, (or_false (list_any (want.wants_conflict (want.of_key X k)) vs) (want.some_conflict (map (want.of_key X) ks) vs) (each vs h)).0)),
+      on_keys ks whole (λ vs h. (or_false (list_any (want.wants_conflict (want.of_key X k)) vs) (want.some_conflict (map (want.of_key X) ks) vs) (each vs h)).1),
+    )
 
   module _ (a : Stmt) (p : Bool) (ok : AllByRecursion (λ t. text_clash (defs_of T) p a true (reads t) ≡ false) texts) (id : ℕ) where
     abbrev AllOf : List Want → Type 0
@@ -88,18 +88,24 @@ module _ (reads : Reading) (T : Tables) (tx : ℕ) (texts : List (List ℕ)) (so
     whole_alone m cell = (on_whole a p ok id (want.whole m ∷ []) cell m (λ vs h. (or_false (list_any (want.wants_conflict (want.whole m)) vs) false h).0), tt)
 
     by_key : (i m : Mode) → Intends i → (o : Option Key) → AllOf (want.by_key_or_whole i m o)
-    by_key i m h (Some key) cell =
-        (on_intent a p ok id (want.by_key_or_whole i m (Some key)) cell i h,
-         (on_key a p ok id (want.by_key_or_whole i m (Some key)) cell i m key (λ vs c.
-             let q = or_false (list_any (want.wants_conflict (want.whole i)) vs) (list_any (want.wants_conflict (want.of_key m key)) vs || false) c in
-             (q.0, (or_false (list_any (want.wants_conflict (want.of_key m key)) vs) false q.1).0)), tt))
+    by_key i m h (Some key) cell = (
+      on_intent a p ok id (want.by_key_or_whole i m (Some key)) cell i h,
+      (
+        on_key a p ok id (want.by_key_or_whole i m (Some key)) cell i m key (λ vs c.
+            let q = or_false (list_any (want.wants_conflict (want.whole i)) vs) (list_any (want.wants_conflict (want.of_key m key)) vs || false) c in
+            (q.0, (or_false (list_any (want.wants_conflict (want.of_key m key)) vs) false q.1).0)),
+        tt,
+      ),
+    )
     by_key i m h None cell = whole_alone m cell
 
     by_keys : (o : Option (List Key)) → AllOf (want.by_keys o)
-    by_keys (Some keys) cell =
-        (tt, on_keys a p ok id (want.by_keys (Some keys)) cell keys
-            (λ vs c. (or_false (list_any (want.wants_conflict (want.whole IX)) vs) (want.some_conflict (map (want.of_key X) keys) vs) c).0)
-            (λ vs c. (or_false (list_any (want.wants_conflict (want.whole IX)) vs) (want.some_conflict (map (want.of_key X) keys) vs) c).1))
+    by_keys (Some keys) cell = (
+      tt,
+      on_keys a p ok id (want.by_keys (Some keys)) cell keys
+          (λ vs c. (or_false (list_any (want.wants_conflict (want.whole IX)) vs) (want.some_conflict (map (want.of_key X) keys) vs) c).0)
+          (λ vs c. (or_false (list_any (want.wants_conflict (want.whole IX)) vs) (want.some_conflict (map (want.of_key X) keys) vs) c).1),
+    )
     by_keys None cell = whole_alone X cell
 
     by_row : (def : TableDef) (stmt : RowStmt) → AllOf (want.row_wants def stmt)

@@ -1,18 +1,16 @@
 -- Beside a statement alone that it doesn't clash with, a statement finds all that it wants as before.
-use Rattle.std.proofs.Common.{◌≡◌, ℕ, refl, sym, ap, subst, ◌∙◌, Bool, true, false, List, [], ◌∷◌, Option, Some, None}
-use Rattle.std.specs.Prelude.{◌||◌, if◌then◌else◌, nat_lt}
-use Rattle.std.specs.List.{AllByRecursion}
+use Rattle.std.proofs.Common.{◌≡◌, ℕ, refl, sym, subst, Bool, true, false, List, [], ◌∷◌, Option, Some, None}
+use Rattle.std.specs.Prelude.{◌||◌}
 use Rattle.lg_types.specs.declared.lock.Mode.{Mode}
 use Rattle.lg_types.specs.declared.lock.Mode.TheVariants.{IS, IX, S, X}
-use Rattle.lg_types.specs.declared.lock.Want.{Want}
 use Rattle.lg_types.specs.declared.statement.Stmt.{Stmt}
 use Rattle.lg_types.specs.declared.statement.Stmt.TheVariants as s
-use Rattle.lg_model.specs.Catalog.{Defs, Tables, defs_of}
+use Rattle.lg_model.specs.Catalog.{Tables, defs_of}
 use Rattle.lg_model.specs.Locks as want
 use Rattle.lg_model.specs.Agreement.{AgreeInCell, AgreeInCatalog, Agree, wants_of}
 use Rattle.lg_model.specs.Reach.{creates}
 use Rattle.lg_model.specs.Runs.{Sound}
-use Rattle.lg_model.specs.Script.{Reading, State, saves, rolls_back_to, rolled_back, in_transaction, alone, by_statement, start, text_step, script_from, script}
+use Rattle.lg_model.specs.Script.{Reading, saves, rolls_back_to, in_transaction, alone, by_statement, start, text_step, script_from, script}
 use Rattle.lg_model.specs.NoClash.{text_clash}
 use Rattle.lg_model.proofs.SameKeys.{or_false}
 use Rattle.lg_model.proofs.Definitions.{cell_wants_share}
@@ -70,14 +68,14 @@ module _ (reads : Reading) (T : Tables) (tx : ℕ) (text : List ℕ) (sound : So
   unfolding script_from text_step
   opened_one o e h =
       subst (λ (x : Option Stmt). Kept (by_statement true tx (start T) x).0.tables) e
-          (beside reads T tx (text ∷ []) sound a p (subst (λ (x : Option Stmt). text_clash (defs_of T) p a true x ≡ false) (sym e) h, tt))
+      (beside reads T tx (text ∷ []) sound a p (subst (λ (x : Option Stmt). text_clash (defs_of T) p a true x ≡ false) (sym e) h, tt))
 
   by_create : (b : Stmt) (k : Bool) → creates b ≡ k → reads text ≡ Some b → text_clash (defs_of T) p a false (Some b) ≡ false → Kept (alone tx (start T) b).0.tables
   unfolding want.clash
   by_create b false k e h =
       subst Kept (same_alone tx T b k)
-          (opened_one (Some b) e
-              (subst (λ (m : Option Mode). (want.catalog_clash (want.catalog_want p a) m || want.cells_clash (want.cell_wants (defs_of T) a) (want.cell_wants (defs_of T) b)) ≡ false) (sym (same_catalog_want b k)) h))
+      (opened_one (Some b) e
+      (subst (λ (m : Option Mode). (want.catalog_clash (want.catalog_want p a) m || want.cells_clash (want.cell_wants (defs_of T) a) (want.cell_wants (defs_of T) b)) ≡ false) (sym (same_catalog_want b k)) h))
   by_create b true k e h =
       let free : want.catalog_clash (want.catalog_want p a) (want.catalog_want false b) ≡ false = (or_false (want.catalog_clash (want.catalog_want p a) (want.catalog_want false b)) _ h).0 in
       wants_nothing T (alone tx (start T) b).0.tables p a (no_conflict (want.catalog_want p a) (subst (λ (m : Option Mode). want.catalog_clash (want.catalog_want p a) m ≡ false) (creator_wants b k) free))

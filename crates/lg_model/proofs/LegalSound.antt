@@ -1,5 +1,5 @@
 -- The tables of a legal journal are sound for each transaction that it doesn't have.
-use Rattle.std.proofs.Common.{◌≡◌, ◌≢◌, ℕ, refl, List, [], ◌∷◌, ◌++◌, map}
+use Rattle.std.proofs.Common.{ℕ, List, [], ◌∷◌, ◌++◌, map}
 use Rattle.std.specs.List.{AllByRecursion}
 use Rattle.lg_types.specs.declared.journal.JournalItem.{JournalItem}
 use Rattle.lg_types.specs.declared.journal.JournalItem.TheVariants.{Tx, Close}

@@ -1,12 +1,10 @@
 -- A script that doesn't clash with a statement leaves all that the statement wants.
-use Rattle.std.proofs.Common.{◌≡◌, ℕ, ◌<◌, ◌≤◌, refl, sym, ap, subst, ◌∙◌, Bool, true, false, List, [], ◌∷◌, map, Option, Some, None, Ok, Err, arith}
+use Rattle.std.proofs.Common.{◌≡◌, ℕ, ◌≤◌, refl, sym, subst, ◌∙◌, Bool, true, false, List, [], ◌∷◌, map, Option, Some, None, Ok, Err, arith}
 use Rattle.std.proofs.lemmas.Bool.{eqb-true, eq-eqb, ne_eqb}
-use Rattle.std.specs.Prelude.{◌==◌, ◌&&◌, ◌||◌, if◌then◌else◌}
+use Rattle.std.specs.Prelude.{◌==◌, ◌&&◌, ◌||◌}
 use Rattle.std.specs.List.{AllByRecursion, list_any}
-use Rattle.lg_value.specs.declared.column.ColumnDef.{ColumnDef}
 use Rattle.lg_types.specs.declared.lock.Mode.{Mode}
 use Rattle.lg_types.specs.declared.lock.Mode.TheVariants.{IS, IX, S, X}
-use Rattle.lg_types.specs.declared.lock.Item.TheVariants as item
 use Rattle.lg_types.specs.declared.lock.Want.{Want}
 use Rattle.lg_types.specs.declared.statement.Stmt.{Stmt}
 use Rattle.lg_types.specs.declared.statement.Stmt.TheVariants as s
@@ -17,23 +15,18 @@ use Rattle.lg_types.specs.declared.table.TableDef.{TableDef}
 use Rattle.lg_types.specs.declared.table.Part.TheVariants.{Base, History, View, System}
 use Rattle.lg_model.specs.Refusals.{Checked}
 use Rattle.lg_model.specs.Lists.{all_some}
-use Rattle.lg_model.specs.Keys.{Key, same_key, of_key}
+use Rattle.lg_model.specs.Keys.{Key, same_key}
 use Rattle.lg_model.specs.Where.{key_fixed}
-use Rattle.lg_model.specs.Catalog.{Defs, Named, Tables, defs_of, versions_of}
+use Rattle.lg_model.specs.Catalog.{Defs, Named}
 use Rattle.lg_model.specs.Checks.{row_statement_check}
 use Rattle.lg_model.specs.Query.{query_check}
-use Rattle.lg_model.specs.SystemTables.{tables_id, columns_id}
 use Rattle.lg_model.specs.Locks as want
-use Rattle.lg_model.specs.Agreement.{AgreeOn, AgreeOnAll, AgreeInCell, AgreeInCatalog, SameCatalog, columns_at, Agree, wants_of}
 use Rattle.lg_model.specs.Reach.{lets_change, is_exclusive, cell_reaches, cell_reaches_table, catalog_reaches, reaches, reaches_table}
-use Rattle.lg_model.specs.Runs.{Sound}
-use Rattle.lg_model.specs.Script.{Reading, script}
+use Rattle.lg_model.specs.Script.{Reading}
 use Rattle.lg_model.specs.ScriptWants.{text_wants, script_wants}
 use Rattle.lg_model.specs.NoClash.{text_clash}
-use Rattle.lg_model.proofs.SameKeys.{or_false, and_true, same_key_as, same_itself}
+use Rattle.lg_model.proofs.SameKeys.{or_false, same_key_as, same_itself}
 use Rattle.lg_model.proofs.BaseTables.{users_table}
-use Rattle.lg_model.proofs.Definitions.{Have, opened_keep_defs}
-use Rattle.lg_model.proofs.LeftScripts.{script_leaves_key, script_leaves_table}
 
 not_both : {b : Bool} → b ≡ false → b ≡ true → ⊥
 not_both h k = cc
@@ -108,10 +101,10 @@ module _ (i m : Mode) (key : Key) where
       let p = or_false (same_key key k && want.conflict m X) (list_any (want.wants_conflict (want.of_key m key)) (map (want.of_key X) ks)) h in
       let q : same_key key k ≡ false = only (same_key key k) (want.conflict m X) (x_conflicts m) p.0 in
       rw (unlike_too key k q) (keys_free ks p.1)
-      where
-        only : (a b : Bool) → b ≡ true → (a && b) ≡ false → a ≡ false
-        only true b e f = absurd (not_both f e)
-        only false b e f = refl
+    where
+      only : (a b : Bool) → b ≡ true → (a && b) ≡ false → a ≡ false
+      only true b e f = absurd (not_both f e)
+      only false b e f = refl
 
   by_keys_free : (o : Option (List Key)) → Free (want.by_keys o) → list_any (lets_change key) (want.by_keys o) ≡ false
   unfolding want.same_item
@@ -215,10 +208,10 @@ module _ (defs : Defs) (id : ℕ) where
     module _ (i m : Mode) (key : Key) (free : (vs : List Want) → want.some_conflict ws vs ≡ false → Free i m key vs) where
       key_row : (stmt : RowStmt) (c : Checked TableDef) → want.cells_clash (Some (id, ws)) (want.row_cell_wants stmt c) ≡ false → cell_reaches id key (want.row_cell_wants stmt c) ≡ false
       key_row stmt (Ok def) h = here (def.id == id) refl
-          where
-            here : (b : Bool) → (def.id == id) ≡ b → (b && list_any (lets_change key) (want.row_wants def stmt)) ≡ false
-            here true e = row_free i m key def stmt (free (want.row_wants def stmt) (rw (other_way def.id e) at h))
-            here false e = refl
+        where
+          here : (b : Bool) → (def.id == id) ≡ b → (b && list_any (lets_change key) (want.row_wants def stmt)) ≡ false
+          here true e = row_free i m key def stmt (free (want.row_wants def stmt) (rw (other_way def.id e) at h))
+          here false e = refl
       key_row stmt (Err r) h = refl
 
       key_query : (q : Select) (c : Checked Named) → cell_reaches id key (want.query_cell_wants q c) ≡ false
@@ -251,10 +244,10 @@ module _ (defs : Defs) (id : ℕ) where
     module _ (m : Mode) (relies : Relies m) (free : (vs : List Want) → want.some_conflict ws vs ≡ false → list_any (want.wants_conflict (want.whole m)) vs ≡ false) where
       whole_row : (stmt : RowStmt) (c : Checked TableDef) → want.cells_clash (Some (id, ws)) (want.row_cell_wants stmt c) ≡ false → cell_reaches_table id (want.row_cell_wants stmt c) ≡ false
       whole_row stmt (Ok def) h = here (def.id == id) refl
-          where
-            here : (b : Bool) → (def.id == id) ≡ b → (b && list_any (λ w. is_exclusive w.mode) (want.row_wants def stmt)) ≡ false
-            here true e = absurd (not_both (free (want.row_wants def stmt) (rw (other_way def.id e) at h)) (row_conflicts m def stmt relies))
-            here false e = refl
+        where
+          here : (b : Bool) → (def.id == id) ≡ b → (b && list_any (λ w. is_exclusive w.mode) (want.row_wants def stmt)) ≡ false
+          here true e = absurd (not_both (free (want.row_wants def stmt) (rw (other_way def.id e) at h)) (row_conflicts m def stmt relies))
+          here false e = refl
       whole_row stmt (Err r) h = refl
 
       whole_cell : (b : Stmt) → want.cells_clash (Some (id, ws)) (want.cell_wants defs b) ≡ false → cell_reaches_table id (want.cell_wants defs b) ≡ false

@@ -1,5 +1,5 @@
 -- A transaction makes no event of another one.
-use Rattle.std.proofs.Common.{◌≡◌, ◌≢◌, ℕ, ◌+◌, ◌<◌, refl, sym, ap, subst, ◌∙◌, Bool, true, false, List, [], ◌∷◌, ◌++◌, map, Option, Some, None}
+use Rattle.std.proofs.Common.{◌≢◌, ℕ, ◌+◌, sym, subst, Bool, true, false, List, [], ◌∷◌, Option, Some, None}
 use Rattle.std.specs.Prelude.{◌==◌, if◌then◌else◌}
 use Rattle.std.specs.List.{AllByRecursion}
 use Rattle.lg_types.specs.declared.statement.Stmt.{Stmt}
@@ -7,14 +7,13 @@ use Rattle.lg_types.specs.declared.statement.Stmt.TheVariants as s
 use Rattle.lg_types.specs.declared.table.TableDef.{TableDef}
 use Rattle.lg_types.specs.declared.version.Table.{Table}
 use Rattle.lg_types.specs.declared.version.Version.{Version}
-use Rattle.lg_model.specs.Rows.{EventId, same_event, start_cmp, started, with_end, ended}
+use Rattle.lg_model.specs.Rows.{same_event, start_cmp, started, with_end, ended}
 use Rattle.lg_model.specs.Changes.{Change, Starts, Ends, changed}
 use Rattle.lg_model.specs.Catalog.{Tables, with_versions}
-use Rattle.lg_model.specs.Effect.{Effect, effect, with_def, redefined}
+use Rattle.lg_model.specs.Effect.{Effect, effect, with_def}
 use Rattle.lg_model.specs.Plans.{TableChange, changed_in, changed_from, Definition, as_before, new, in_place, defined, Plan, plan}
-use Rattle.lg_model.specs.Reach.{creates}
-use Rattle.lg_model.specs.Runs.{IsBefore, EndsBefore, MadeBefore, SoundTable, Sound}
-use Rattle.lg_model.specs.Script.{Reading, State, Step, by_effect, alone, by_statement, start, text_step, script_from, script}
+use Rattle.lg_model.specs.Runs.{IsBefore, MadeBefore, SoundTable, Sound}
+use Rattle.lg_model.specs.Script.{Reading, State, alone, by_statement, start, text_step, script_from, script}
 use Rattle.lg_model.proofs.Alls.{all_weaker, all_both, all_append, all_map, all_inserted}
 use Rattle.lg_model.proofs.Plans.{planned}
 use Rattle.lg_model.proofs.SoundStatements.{statement_sound}
