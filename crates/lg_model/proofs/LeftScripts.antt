@@ -19,7 +19,7 @@ use Rattle.lg_model.proofs.SoundStatements.{kept_sound}
 use Rattle.lg_model.proofs.StepByStep.{OnText, Throughout, throughout, script_keeps_where}
 
 -- what doesn't create wants the same in the catalog, whether BEGIN opened the transaction or not
-same_catalog_want : (stmt : Stmt) → creates stmt ≡ false → want.catalog_want true stmt ≡ want.catalog_want false stmt
+pub same_catalog_want : (stmt : Stmt) → creates stmt ≡ false → want.catalog_want true stmt ≡ want.catalog_want false stmt
 same_catalog_want (s.Create c) e = cc
 same_catalog_want (s.Index c) e = cc
 same_catalog_want (s.Change stmt) e = refl

@@ -1,6 +1,10 @@
 pub mod AgreeAfter
 pub mod Alls
 pub mod AtTable
+pub mod BaseTables
+pub mod Beside
+pub mod BesideOne
+pub mod ByKeys
 pub mod ChangesMade
 pub mod Checked
 mod Classed
@@ -11,9 +15,13 @@ pub mod LeftAlone
 pub mod LeftRows
 pub mod LeftScripts
 pub mod LeftTables
+pub mod LegalSound
 pub mod MappedRows
 pub mod Missing
 pub mod Named
+pub mod NoClash
+pub mod NoEvents
+pub mod OtherTransactions
 pub mod Plans
 pub mod SameAlone
 pub mod SameKeys

@@ -46,7 +46,7 @@ found_stands n (d ∷ defs) name found ids e =
 
 -- ---- a system table has the id 1 or 2
 
-named_part : (def : TableDef) (own : Part) (b c d : Bool) (rest : Option Named) (found : Named) (P : Named → Type 0)
+pub named_part : (def : TableDef) (own : Part) (b c d : Bool) (rest : Option Named) (found : Named) (P : Named → Type 0)
     → or_in (if b then Some own else (if c then Some History else (if d then Some View else None))) def rest ≡ Some found
     → P (def, own) → P (def, History) → P (def, View) → (rest ≡ Some found → P found) → P found
 named_part def own true c d rest found P e p q r h = subst P (of_some (def, own) found e) p

@@ -70,3 +70,12 @@ each_alone (u ∷ us) r = (
     together : (vs : List Version) → AllByRecursion (λ w. start_cmp u w ≡ Less) vs → AllByRecursion (IsAlone us) vs → AllByRecursion (IsAlone (u ∷ us)) vs
     together [] l a = tt
     together (v ∷ vs) l a = (((λ h. absurd (rises_apart_too u v l.0 h)), a.0), together vs l.1 a.1)
+
+own_reverse : (o : Ordering) → o ≡ ordering_reverse o → is_eq o ≡ true
+own_reverse Less e = cc
+own_reverse Equal e = refl
+own_reverse Greater e = cc
+
+pub same_itself : (a : Key) → same_key a a ≡ true
+unfolding same_key
+same_itself a = own_reverse (key_cmp a a) (key_total.antisymm a a)

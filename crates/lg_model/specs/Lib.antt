@@ -14,6 +14,7 @@ pub mod Limits
 pub mod Lists
 pub mod Locks
 pub mod Meaning
+pub mod NoClash
 pub mod Numbers
 pub mod Operators
 pub mod Outcomes

@@ -1,12 +1,13 @@
 //! Laws of whole scripts: over two states that agree on all that its statements want, a script does the same, and it
 //! leaves alone what they don't want.
 
-ghost use Rattle.std.specs.Prelude.{ℕ, ◌≡◌, true, false, List, [], ◌∷◌, ◌++◌, length, Some};
+ghost use Rattle.std.specs.Prelude.{ℕ, ◌≡◌, Bool, true, false, List, [], ◌∷◌, ◌++◌, length, Some};
 ghost use Rattle.std.specs.List.{AllByRecursion};
 ghost use Rattle.lg_types.specs.declared.statement.Stmt.{Stmt};
 ghost use Rattle.lg_model.specs.Keys.{Key, of_key};
 ghost use Rattle.lg_model.specs.Catalog.{Tables, defs_of, versions_of};
 ghost use Rattle.lg_model.specs.Agreement.{Wants, Agree, SameCatalog, columns_at, wants_of};
+ghost use Rattle.lg_model.specs.NoClash.{text_clash};
 ghost use Rattle.lg_model.specs.Plans.{changed_from};
 ghost use Rattle.lg_model.specs.Reach.{creates, reaches, reaches_table};
 ghost use Rattle.lg_model.specs.Runs.{Sound};
@@ -72,4 +73,15 @@ pub fn statements_alone_over_agreeing_states_are_one()
     ensures catalog { (reads : Reading) (T U : Tables) (tx : ℕ) (text : List ℕ) (stmt : Stmt) → Sound tx 0 T → Sound tx 0 U
         → reads text ≡ Some stmt → creates stmt ≡ true → Agree T U (wants_of (defs_of T) false stmt)
         → SameCatalog (script reads false T tx (text ∷ [])).state.tables (script reads false U tx (text ∷ [])).state.tables }
+{}
+
+/// What doesn't clash with a statement leaves all that the statement wants: a script of a transaction that BEGIN opened, and
+/// a statement that is a transaction of its own.
+pub fn what_doesnt_clash_leaves_what_is_wanted()
+    ensures script { (reads : Reading) (T : Tables) (tx : ℕ) (texts : List (List ℕ)) (stmt : Stmt) (opened : Bool) → Sound tx 0 T
+        → AllByRecursion (λ t. text_clash (defs_of T) opened stmt true (reads t) ≡ false) texts
+        → Agree T (script reads true T tx texts).state.tables (wants_of (defs_of T) opened stmt) }
+    ensures alone { (reads : Reading) (T : Tables) (tx : ℕ) (text : List ℕ) (stmt : Stmt) (opened : Bool) → Sound tx 0 T
+        → text_clash (defs_of T) opened stmt false (reads text) ≡ false
+        → Agree T (script reads false T tx (text ∷ [])).state.tables (wants_of (defs_of T) opened stmt) }
 {}
