@@ -27,6 +27,7 @@ use Rattle.lg_history.proofs.Rising.{rising, ids_rise, images}
 use Rattle.lg_history.proofs.Owners.{own_of, all_owned, owned_facts, drawn_by, within_ids}
 use Rattle.lg_history.proofs.Placed.{placed_run}
 use Rattle.lg_history.proofs.Names.{picks_all}
+use Rattle.lg_history.proofs.Theirs.{each_theirs}
 use Rattle.lg_history.proofs.Legal.{legal}
 use Rattle.lg_history.proofs.Issued.{hashes, issued, blocks_rise, digests_counted, FactsFrom, sum_of_transcripts}
 use Rattle.lg_history.proofs.Finding.{find, is_meets, is_lacks}
@@ -176,6 +177,7 @@ module _ (q : Meaning) (db : Text) (es : List Event) (g : Good q db first es) (i
   theirs : JournalIsTheirs q X J
   theirs = record {
     legal = legal q db es g;
+    no_others = each_theirs q db X W first es g refl whole.all there_at tt;
     items = items_are;
     ends = λ i x h. throughout_weaker (InPlace q) (EndsWhereItMay q) (λ o n e p. p.ends) None 0 x.entries (in_place i x h);
   }

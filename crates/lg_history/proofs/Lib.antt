@@ -25,4 +25,5 @@ pub mod Settles
 pub mod Setup
 pub mod Signs
 pub mod Stable
+pub mod Theirs
 pub mod Trace

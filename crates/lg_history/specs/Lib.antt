@@ -1,6 +1,7 @@
 pub mod Acts
 pub mod Agree
 pub mod Digests
+pub mod ExactRefusals
 pub mod Facts
 pub mod Guards
 pub mod Histories
