@@ -1,13 +1,12 @@
 -- Each transaction of the journal is one that a session committed.
-use Rattle.std.proofs.Common.{◌≡◌, ◌≢◌, ℕ, ◌<◌, List, [], ◌∷◌, ◌++◌, length, Option, Some, refl, sym, ap, ◌∙◌, subst}
-use Rattle.lg_types.specs.declared.journal.JournalItem.{JournalItem}
-use Rattle.lg_types.specs.declared.journal.JournalItem.TheVariants.{Tx, Close}
+use Rattle.std.proofs.Common.{◌≡◌, ℕ, ◌<◌, List, [], ◌∷◌, length, Option, refl, sym, subst}
+use Rattle.lg_types.specs.declared.journal.JournalItem.TheVariants.{Close}
 use Rattle.lg_history.specs.Lists.{Text, Each, At}
 use Rattle.lg_history.specs.Meaning.{Meaning}
 use Rattle.lg_history.specs.Transcripts.{Transcript}
 use Rattle.lg_history.specs.Agree.{IsOneOfTheirs}
 use Rattle.lg_history.specs.Acts.{Act, commits, Event, by, closes}
-use Rattle.lg_history.specs.Sessions.{Deal, Sess, Phase, unborn, runs, transcript_of}
+use Rattle.lg_history.specs.Sessions.{Deal, runs, transcript_of}
 use Rattle.lg_history.specs.Worlds.{World, item_of, items_by, step, run}
 use Rattle.lg_history.specs.Guards.{Good, Commits}
 use Rattle.lg_history.specs.Histories.{SessionsBelow}

@@ -15,6 +15,7 @@ pub mod Refusals
 pub mod Sample
 pub mod Serial
 pub mod Sessions
+pub mod SoFar
 pub mod Standing
 pub mod StepOrder
 pub mod Transactions
