@@ -27,6 +27,7 @@ use Rattle.lg_history.proofs.Rising.{rising, ids_rise, images}
 use Rattle.lg_history.proofs.Owners.{own_of, all_owned, owned_facts, drawn_by, within_ids}
 use Rattle.lg_history.proofs.Placed.{placed_run}
 use Rattle.lg_history.proofs.Names.{picks_all}
+use Rattle.lg_history.proofs.Theirs.{each_theirs}
 use Rattle.lg_history.proofs.Legal.{legal}
 use Rattle.lg_history.proofs.Issued.{hashes, issued, blocks_rise, digests_counted, FactsFrom, sum_of_transcripts}
 use Rattle.lg_history.proofs.Finding.{find, is_meets, is_lacks}
@@ -63,17 +64,23 @@ throughout_weaker : (P Q : Option ℕ → ℕ → Entry → Type 0) → ((o : Op
 throughout_weaker P Q f o n [] h = tt
 throughout_weaker P Q f o n (e ∷ es) h = (f o n e h.0, throughout_weaker P Q f (open_after o e) (images_after n e) es h.1)
 
-each_view : (P : Transaction → Type 0) (ds : List Deal) → ((d : Deal) → In d ds → P (view d)) → Each P (map view ds)
+pub each_view : (P : Transaction → Type 0) (ds : List Deal) → ((d : Deal) → In d ds → P (view d)) → Each P (map view ds)
 each_view P [] f = tt
 each_view P (d ∷ ds) f = (f d (inl refl), each_view P ds (λ c i. f c (inr i)))
 
-pairs : (P Q R : ℕ → Type 0) (gs : List Fact) → ((n : ℕ) → P n → Q n → R n) → Shows id_of P gs → Shows id_of Q gs → Shows id_of R gs
+pub pairs : (P Q R : ℕ → Type 0) (gs : List Fact) → ((n : ℕ) → P n → Q n → R n) → Shows id_of P gs → Shows id_of Q gs → Shows id_of R gs
 pairs P Q R [] f h k = tt
 pairs P Q R (g ∷ gs) f h k = (pair (id_of g) h.0 k.0, pairs P Q R gs f h.1 k.1)
   where
     pair : (ns : List ℕ) → Each P ns → Each Q ns → Each R ns
     pair [] h k = tt
     pair (n ∷ ns) h k = (f n h.0 k.0, pair ns h.1 k.1)
+
+-- what is settled of a transaction is what its transcript is to agree with
+pub over_point : (q : Meaning) (J : List JournalItem) (name : Text) (d : Deal) (e : End) → SettledAt q J name d e → IsEndedOver q J (view d) e
+over_point q J name d unfixed h = tt
+over_point q J name d (committed n) h = tt
+over_point q J name d (ended n back) h = record { within = h.0; replies = h.1; quiet = h.2 }
 
 -- a moment of a session at which session u is over
 pub record CutWith (u s : ℕ) (es : List Event) (xs ys : List Act) (a : Act) : Type 0 where
@@ -176,23 +183,19 @@ module _ (q : Meaning) (db : Text) (es : List Event) (g : Good q db first es) (i
   theirs : JournalIsTheirs q X J
   theirs = record {
     legal = legal q db es g;
+    no_others = each_theirs q db X W first es g refl whole.all there_at tt;
     items = items_are;
     ends = λ i x h. throughout_weaker (InPlace q) (EndsWhereItMay q) (λ o n e p. p.ends) None 0 x.entries (in_place i x h);
   }
 
   -- ---- transactions that changed nothing
 
-  over_its_point : (name : Text) (d : Deal) (e : End) → SettledAt q J name d e → IsEndedOver q J (view d) e
-  over_its_point name d unfixed h = tt
-  over_its_point name d (committed n) h = tt
-  over_its_point name d (ended n back) h = record { within = h.0; replies = h.1; quiet = h.2 }
-
   only_past : (i : ℕ) (x : Transcript) → At X i x → transactions (facts_of q x) ≡ map view (W.at i).done
   only_past i x h = transactions_are i x h ∙ ap (λ (o : Option Deal). map view (W.at i).done ++ listed (viewed o)) ((of_at i x h).rest).free ∙ append-nil (map view (W.at i).done)
 
   ended_ones : EndedHaveTheirReplies q X J
   ended_ones i x h = subst (Each (λ u. IsEndedOver q J u u.end)) (sym (only_past i x h)) (each_view (λ u. IsEndedOver q J u u.end) (W.at i).done
-      (λ d k. over_its_point (W.at i).name d d.fixed (all_settled q db es g i d (inr k))))
+      (λ d k. over_point q J (W.at i).name d d.fixed (all_settled q db es g i d (inr k))))
 
   -- ---- setup
 

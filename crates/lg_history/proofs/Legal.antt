@@ -70,7 +70,7 @@ differ_more [] i d h = (tt, tt)
 differ_more (n ∷ ns) i d h = (each_append (λ k. n ≢ k) ns (i ∷ []) d.0 (h.0, tt), differ_more ns i d.1 h.1)
 
 -- a transaction that is there after an act was there before, or has just drawn its id
-abbrev Came : Option Deal → Act → Deal → Type 0
+abbrev pub Came : Option Deal → Act → Deal → Type 0
 Came o a d = In d.id (drawn_id a) ⊎ ((c : Deal) × (o ≡ Some c) × (d.id ≡ c.id) × (d.fixed ≡ unfixed → c.fixed ≡ unfixed))
 
 came_on : (f : Deal → Deal) (o : Option Deal) (a : Act) (d : Deal) → ((c : Deal) → (f c).id ≡ c.id) → ((c : Deal) → (f c).fixed ≡ unfixed → c.fixed ≡ unfixed) → on_some f o ≡ Some d → Came o a d
@@ -80,7 +80,7 @@ came_on f (Some c) a d same fixed e = let is : f c ≡ d = cc in inr (c, refl, a
 came_same : (o : Option Deal) (a : Act) (d : Deal) → o ≡ Some d → Came o a d
 came_same o a d e = inr (d, e, refl, λ u. u)
 
-came : (o : Option Deal) (a : Act) (d : Deal) → deal_by o a ≡ Some d → Came o a d
+pub came : (o : Option Deal) (a : Act) (d : Deal) → deal_by o a ≡ Some d → Came o a d
 came o (draws id opened) d e = inl (inl (let same : drawn id opened ≡ d = cc in ap (λ (x : Deal). x.id) same))
 came o (looks text table) d e = came_on (asks text table) o (looks text table) d (λ c. refl) (λ c u. u) e
 came o (says line) d e = came_on (scripts line) o (says line) d (λ c. refl) (λ c u. u) e
@@ -118,7 +118,7 @@ module _ (q : Meaning) (db : Text) where
   committed_id w s a k = inl refl
 
   -- the transaction of session u after the act: at u it came, elsewhere it was there
-  was_there : (w : World) (s u : ℕ) (a : Act) (d : Deal) (b : Bool) → (u == s) ≡ b → (put w.at s (acted (w.at s) a) u).deal ≡ Some d → ((u ≡ s) × (deal_by (w.at s).deal a ≡ Some d)) ⊎ ((u ≢ s) × ((w.at u).deal ≡ Some d))
+  pub was_there : (w : World) (s u : ℕ) (a : Act) (d : Deal) (b : Bool) → (u == s) ≡ b → (put w.at s (acted (w.at s) a) u).deal ≡ Some d → ((u ≡ s) × (deal_by (w.at s).deal a ≡ Some d)) ⊎ ((u ≢ s) × ((w.at u).deal ≡ Some d))
   was_there w s u a d true e h = inl (eqb-true u s e, (let same : put w.at s (acted (w.at s) a) u ≡ acted (w.at s) a = rw e refl in sym (ap (λ (x : Sess). x.deal) same) ∙ h))
   was_there w s u a d false e h = inr ((λ same. let is : (u == s) ≡ true = eq-eqb u s same in cc), (let same : put w.at s (acted (w.at s) a) u ≡ w.at u = rw e refl in sym (ap (λ (x : Sess). x.deal) same) ∙ h))
 

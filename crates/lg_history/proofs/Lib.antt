@@ -24,5 +24,7 @@ pub mod Rows
 pub mod Settles
 pub mod Setup
 pub mod Signs
+pub mod SoFar
 pub mod Stable
+pub mod Theirs
 pub mod Trace

@@ -14,7 +14,7 @@ use Rattle.lg_history.specs.Histories.{SessionsBelow}
 use Rattle.lg_history.proofs.Placed.{Picks, PicksAll}
 
 -- it began and has this name
-abbrev Named : Text → Sess → Type 0
+abbrev pub Named : Text → Sess → Type 0
 Named n x = (x.phase ≢ unborn) × (x.name ≡ n)
 
 module _ (q : Meaning) (db : Text) where
@@ -27,7 +27,7 @@ module _ (q : Meaning) (db : Text) where
   named_cases n w t s a true e k h = rw e (named_act n w t a k (subst (λ (u : ℕ). Named n (w.at u)) (eqb-true s t e) h))
   named_cases n w t s a false e k h = rw e h
 
-  keeps_name : (n : Text) (s : ℕ) (w : World) (es : List Event) → Good q db w es → Named n (w.at s) → Named n ((run w es).at s)
+  pub keeps_name : (n : Text) (s : ℕ) (w : World) (es : List Event) → Good q db w es → Named n (w.at s) → Named n ((run w es).at s)
   keeps_name n s w [] g h = h
   keeps_name n s w (by t a ∷ es) g h = keeps_name n s (step w (by t a)) es g.1 (named_cases n w t s a (s == t) refl g.0 h)
   keeps_name n s w (closes k ∷ es) g h = keeps_name n s (step w (closes k)) es g.1 h

@@ -81,7 +81,7 @@ module _ (q : Meaning) (db : Text) where
   }
 
   -- and at the end
-  clash_stays : (es earlier later : List Event) (s : ℕ) (text : Text) (holder : ℕ) → es ≡ earlier ++ by s (meets text holder) ∷ later → Good q db first earlier → (m : Meets q (run first earlier) s text holder) → Good q db (step (run first earlier) (by s (meets text holder))) later
+  pub clash_stays : (es earlier later : List Event) (s : ℕ) (text : Text) (holder : ℕ) → es ≡ earlier ++ by s (meets text holder) ∷ later → Good q db first earlier → (m : Meets q (run first earlier) s text holder) → Good q db (step (run first earlier) (by s (meets text holder))) later
       → StandsAgainst q (run first es).items ((run first es).at m.other) holder m.mine.opened text
   clash_stays es earlier later s text holder e g m on = let v : World = run first earlier in let alone = alone_run q db first earlier g (λ u. tt) in
       let end : run first es ≡ run (step v (by s (meets text holder))) later = ap (run first) e ∙ run_append first earlier (by s (meets text holder) ∷ later) in

@@ -74,10 +74,17 @@ abbrev pub committed_ones : List Transaction → List Placed
 committed_ones [] = []
 committed_ones (u ∷ us) = committed_at_place u u.end ++ committed_ones us
 
+-- one of these sessions committed it
+abbrev pub IsOneOfTheirs : List Transcript → JournalItem → Type 0
+IsOneOfTheirs X (Tx id session time opened script) = (i : ℕ) × (x : Transcript) × At X i x × (x.session ≡ session)
+IsOneOfTheirs X (Close k) = Unit {0}
+
 -- J is legal; for each session, the transactions of J with its name are the committed transactions of its transcript in
--- order, with id, `opened` and script, each at the place that it printed; end lines stand where they may
+-- order, with id, `opened` and script, each at the place that it printed, and no others stand there; end lines stand where
+-- they may
 pub record JournalIsTheirs (q : Meaning) (X : List Transcript) (J : List JournalItem) : Type 0 where
   pub legal : IsLegal q J
+  pub no_others : Each (IsOneOfTheirs X) J
   pub items : (i : ℕ) (x : Transcript) → At X i x → of_session x.session J ≡ committed_ones (transactions (facts_of q x))
   pub ends : (i : ℕ) (x : Transcript) → At X i x → Throughout (EndsWhereItMay q) None 0 x.entries
 

@@ -1,6 +1,7 @@
 pub mod Acts
 pub mod Agree
 pub mod Digests
+pub mod ExactRefusals
 pub mod Facts
 pub mod Guards
 pub mod Histories
@@ -14,6 +15,7 @@ pub mod Refusals
 pub mod Sample
 pub mod Serial
 pub mod Sessions
+pub mod SoFar
 pub mod Standing
 pub mod StepOrder
 pub mod Transactions

@@ -13,6 +13,7 @@ ghost use Rattle.lg_history.specs.Real.{Hashing, IsReal};
 ghost use Rattle.lg_history.specs.StepOrder.{IsStepOrder};
 ghost use Rattle.lg_history.specs.Histories.{ClosesInStep, IsWhole, OneAtATime, pending, rows_of};
 ghost use Rattle.lg_history.specs.Sample as sample;
+ghost use Rattle.lg_history.specs.SoFar.{AgreeSoFar};
 
 /// The transcripts of a history in which each event paid what it owed, and at whose end every session is at rest, agree
 /// with the journal and the digests that the history leads to.
@@ -20,6 +21,11 @@ pub fn histories_agree()
     ensures { (q : Meaning) (database : Text) (history : List Event) (input : List (List Text)) (setup : Option ℕ) (transcripts : List Transcript)
         → Good q database first history → IsWhole input setup transcripts history
         → Agree q database input setup transcripts (run first history).items (run first history).issued }
+{}
+
+/// At each moment of a good history the rules hold of all that its sessions have shown so far, also inside a statement.
+pub fn histories_agree_so_far()
+    ensures { (q : Meaning) (database : Text) (history : List Event) → Good q database first history → AgreeSoFar q database (run first history) }
 {}
 
 /// Where such a history takes one statement after another, and closes a block as soon as N entries are pending and what is

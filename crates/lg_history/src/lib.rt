@@ -4,5 +4,6 @@
 mod laws;
 
 pub use laws::{
-    a_history_is_good, histories_agree, histories_keep_step_order, statements_have_such_a_meaning,
+    a_history_is_good, histories_agree, histories_agree_so_far, histories_keep_step_order,
+    statements_have_such_a_meaning,
 };
