@@ -23,3 +23,10 @@ mod ReadTables
 mod ReadCreates
 mod ReadStmts
 mod LexStmts
+mod Kept
+mod Signs
+mod KeptTokens
+mod KeptExprs
+mod KeptStmts
+mod KeptTables
+mod KeptBodies

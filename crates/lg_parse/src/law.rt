@@ -1,6 +1,6 @@
 //! What printing and parsing are to each other.
 
-ghost use Rattle.std.specs.Prelude.{◌≡◌, Some};
+ghost use Rattle.std.specs.Prelude.{◌≡◌, ℕ, List, Some};
 ghost use Rattle.lg_types.specs.declared.statement.Stmt.{Stmt};
 ghost use Rattle.lg_parse.specs.Parsed.{IsParsed};
 ghost use Rattle.lg_parse.specs.PrintedStmt.{printed};
@@ -8,9 +8,12 @@ ghost use Rattle.lg_parse.specs.Text.{statement_of};
 
 use lg_value::{expressions_are_trees, literals_are_read_back};
 
-/// What is printed of a statement that keeps to `IsParsed` is that statement.
+/// What is printed of a statement that parsing can give is parsed as that statement. Parsing gives statements that keep to
+/// `IsParsed` alone, and of each of these the same holds.
 pub fn printing_is_read_back()
-    ensures { (s : Stmt) → IsParsed s → statement_of (printed s) ≡ Some s }
+    ensures again { (text : List ℕ) (s : Stmt) → statement_of text ≡ Some s → statement_of (printed s) ≡ Some s }
+    ensures parsed { (text : List ℕ) (s : Stmt) → statement_of text ≡ Some s → IsParsed s }
+    ensures read { (s : Stmt) → IsParsed s → statement_of (printed s) ≡ Some s }
 {
     literals_are_read_back();
     expressions_are_trees();
