@@ -2,7 +2,7 @@
 use Rattle.std.specs.Result.{IsErrAnd}
 use Rattle.std.specs.Prelude.{◌≢◌, Result}
 use Rattle.std.proofs.Common.{◌≡◌, ◌<◌, ◌≤◌, ◌+◌, ℕ, List, [], ◌∷◌, ◌++◌, take, drop, length, get_or, Option, Some, None, Ok, Err, refl, sym, ap, subst, ◌∙◌, true, false, Bool, cond, arith}
-use Rattle.std.proofs.lemmas.List.{drop_more, drop_all, take-append-le, length_push}
+use Rattle.std.proofs.lemmas.List.{drop_more, drop_all, take-append-le, take_all, length_push}
 use Rattle.lg_types.specs.declared.lock.Want.{Want}
 use Rattle.lg_locks.specs.declared.hold.Hold.{Hold}
 use Rattle.lg_locks.specs.Holds.{hold, holds_want, with_want, holds_after}
@@ -77,3 +77,14 @@ pub kept_refusal : {A B : Type 0} (o : Option Conflict) (a : A) (b : B) (r : Res
     → (e ≢ Memory → refused_or o a ≡ Err e) → Gives (refused_or o b) r
 kept_refusal o a b (Ok x) e is told = absurd is
 kept_refusal o a b (Err x) e is told = λ other. subst (λ y. refused_or o b ≡ Err y) (sym is) (same_refusal o a b e (told (λ m. other (is ∙ m))))
+
+-- ---- going back
+
+grown_all : (front holds : List Hold) (tx : ℕ) (wants : List Want) → take (length front) holds ≡ front → length front ≤ length holds
+    → take (length front) (holds_after holds tx wants) ≡ front
+unfolding holds_after
+grown_all front holds tx [] is more = is
+grown_all front holds tx (w ∷ ws) is more = grown_all front (with_want holds tx w) tx ws (grown front holds tx w is more) (longer front holds tx w more)
+
+pub back_restores : (holds : List Hold) (tx : ℕ) (wants : List Want) → take (length holds) (holds_after holds tx wants) ≡ holds
+back_restores holds tx wants = grown_all holds holds tx wants (take_all (length holds) holds (omega arith)) (omega arith)

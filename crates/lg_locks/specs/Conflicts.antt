@@ -1,16 +1,16 @@
 -- What stands against the wants of a transaction.
-use Rattle.std.specs.Prelude.{ℕ, ◌==◌, ◌&&◌, ◌||◌, nat_lt, not, Bool, if◌then◌else◌, List, [], ◌∷◌, map, Option, Some, None}
+use Rattle.std.specs.Prelude.{ℕ, ◌==◌, ◌&&◌, ◌||◌, nat_lt, Bool, if◌then◌else◌, List, [], ◌∷◌, map, Option, Some, None}
 use Rattle.std.specs.List.{filter, fold}
 use Rattle.lg_types.specs.declared.lock.Mode.{Mode}
 use Rattle.lg_types.specs.declared.lock.Item.{Item}
 use Rattle.lg_types.specs.declared.lock.Want.{Want}
 use Rattle.lg_model.specs.Locks.{wants_conflict}
 use Rattle.lg_locks.specs.declared.hold.Hold.{Hold}
-use Rattle.lg_locks.specs.Holds.{is_of, rank}
+use Rattle.lg_locks.specs.Holds.{is_foreign, rank}
 
 -- the hold is another transaction's and can't stand beside the want
 abbrev pub bars : ℕ → Want → Hold → Bool
-bars tx want h = not (is_of tx h) && wants_conflict want h.want
+bars tx want h = is_foreign tx h && wants_conflict want h.want
 
 -- a transaction that holds something, and a mode in which it does
 abbrev pub Holder : Type 0

@@ -45,6 +45,10 @@ unfoldable pub holds_after : List Hold → ℕ → List Want → List Hold
 holds_after holds tx [] = holds
 holds_after holds tx (want ∷ wants) = holds_after (with_want holds tx want) tx wants
 
+-- the hold is another transaction's
+abbrev pub is_foreign : ℕ → Hold → Bool
+is_foreign tx h = not (is_of tx h)
+
 -- what the others hold
 unfoldable pub released : List Hold → ℕ → List Hold
-released holds tx = filter (λ h. not (is_of tx h)) holds
+released holds tx = filter (is_foreign tx) holds

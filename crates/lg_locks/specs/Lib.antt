@@ -1,4 +1,5 @@
 pub mod Asked
 pub mod Conflicts
 pub mod Holds
+pub mod Index
 pub mod Items

@@ -1,7 +1,10 @@
-//! What stands against a want.
+//! What stands against a want, and what answers it, among the holds at some places.
 
-ghost use Rattle.std.specs.Prelude.{◌≡◌};
+ghost use Rattle.std.specs.Prelude.{◌≡◌, ◌<◌, All, length};
+ghost use Rattle.std.specs.List.{list_any};
 ghost use Rattle.lg_locks.specs.Conflicts.{barrier, bars, least_with, precedes};
+ghost use Rattle.lg_locks.specs.Holds.{answers};
+ghost use Rattle.lg_locks.specs.Index.{picked};
 
 use crate::hold::Hold;
 use crate::item::same_item;
@@ -9,13 +12,15 @@ use crate::mode::{conflicts, rank};
 use lg_items::TxId;
 use lg_types::{Mode, Want};
 
-// The least holder that bars the want.
+/// The least holder that bars the want.
 #[tactic(auto, using(crate::proofs::Barriers::barrier_none, crate::proofs::Barriers::barred_more, crate::proofs::Barriers::passed_more))]
-pub fn barrier(holds: &[Hold], tx: TxId, want: &Want) -> Option<(TxId, Mode)>
-    ensures { result ≡ barrier holds.now tx want.now }
+pub fn barrier(holds: &[Hold], places: &[usize], tx: TxId, want: &Want) -> Option<(TxId, Mode)>
+    requires { All (λ place. place < length holds.now) places.now }
+    ensures { result ≡ barrier (picked holds.now places.now) tx want.now }
 {
     let mut least = None;
-    for hold in holds {
+    for place in places {
+        let hold = &holds[*place];
         if bars(tx, want, hold) {
             least = least_with(least, (hold.tx, hold.want.mode));
         }
@@ -43,4 +48,26 @@ fn bars(tx: TxId, want: &Want, hold: &Hold) -> bool
     ensures { result ≡ bars tx want.now hold.now }
 {
     hold.tx != tx && same_item(&want.item, &hold.want.item) && conflicts(want.mode, hold.want.mode)
+}
+
+/// Whether one of the holds is the transaction's, on the item that it wants and in the same mode.
+#[tactic(auto, using(crate::proofs::Barriers::none_answers, crate::proofs::Barriers::answers_more, crate::proofs::Barriers::answers_there))]
+pub fn some_answers(holds: &[Hold], places: &[usize], tx: TxId, want: &Want) -> bool
+    requires { All (λ place. place < length holds.now) places.now }
+    ensures { result ≡ list_any (answers tx want.now) (picked holds.now places.now) }
+{
+    for place in places {
+        if answers(tx, want, &holds[*place]) {
+            return true;
+        }
+    }
+    false
+}
+
+fn answers(tx: TxId, want: &Want, hold: &Hold) -> bool
+    ensures { result ≡ answers tx want.now hold.now }
+{
+    hold.tx == tx
+        && same_item(&want.item, &hold.want.item)
+        && rank(want.mode) == rank(hold.want.mode)
 }

@@ -1,10 +1,10 @@
 //! What a transaction holds.
 
-ghost use Rattle.std.specs.Prelude.{◌≡◌, IfOk};
-ghost use Rattle.lg_locks.specs.Holds.{answers, hold};
+ghost use Rattle.std.specs.Prelude.{◌≡◌, ◌==◌, IfOk};
+ghost use Rattle.std.specs.List.{list_any};
+ghost use Rattle.lg_locks.specs.Holds.{hold, holds_any};
 
-use crate::item::{copy_of_item, same_item};
-use crate::mode::rank;
+use crate::item::copy_of_item;
 use lg_items::{Memory, TxId};
 use lg_types::Want;
 use std::alloc::Global;
@@ -30,11 +30,17 @@ pub fn hold_of(alloc: Global, tx: TxId, want: &Want) -> Result<Hold, Memory>
     })
 }
 
-// Whether the hold is the transaction's, on the item that it wants and in the same mode.
-pub fn answers(tx: TxId, want: &Want, hold: &Hold) -> bool
-    ensures { result ≡ answers tx want.now hold.now }
+/// Whether the transaction has one of these holds.
+#[tactic(auto, unfolding(crate::specs::Holds::holds_any))]
+pub fn holds_any(holds: &[Hold], tx: TxId) -> bool
+    ensures { result ≡ holds_any holds.now tx }
 {
-    hold.tx == tx
-        && same_item(&want.item, &hold.want.item)
-        && rank(want.mode) == rank(hold.want.mode)
+    holds.iter().any(|hold| hold.tx == tx)
+}
+
+/// Whether the transaction is one of these.
+pub fn is_known(holders: &[TxId], tx: TxId) -> bool
+    ensures { result ≡ list_any (λ holder. holder == tx) holders.now }
+{
+    holders.iter().any(|holder| *holder == tx)
 }

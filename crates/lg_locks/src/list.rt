@@ -5,8 +5,9 @@ ghost use Rattle.lg_locks.specs.Asked.{Gives, asked, refused_or};
 ghost use Rattle.lg_locks.specs.Conflicts.{barrier, first_conflict};
 ghost use Rattle.lg_locks.specs.Holds.{holds_any, holds_want, hold, with_want, holds_after, released};
 
-use crate::conflict::barrier;
-use crate::hold::{Hold, answers, hold_of};
+use crate::conflict::{barrier, some_answers};
+use crate::hold::{Hold, hold_of, holds_any, is_known};
+use crate::index::{first_at, make_room, move_places, note_moves, places_of, stays};
 use crate::item::copy_of_item;
 use crate::lock_err::LockErr;
 use lg_items::{Memory, TxId};
@@ -18,6 +19,12 @@ use std::marker::Model;
 #[derive(Debug, Drop)]
 pub struct LockList {
     holds: Vec<Hold>,
+    // The places of the holds, by item.
+    places: Vec<usize>,
+    // Room to note where holds move, so that a release takes no memory.
+    moved: Vec<usize>,
+    // The transactions that hold something.
+    holders: Vec<TxId>,
 }
 
 impl Model for LockList {
@@ -26,7 +33,11 @@ impl Model for LockList {
 
     ghost Value = { List Hold };
 
+    ghost use Rattle.lg_locks.specs.Index.{Kept};
+
     ghost view = { λ l. l.holds.items };
+
+    ghost invariant = { λ l. Kept l.holds.items l.places.items l.moved.items l.holders.items };
 }
 
 impl LockList {
@@ -36,13 +47,19 @@ impl LockList {
     {
         LockList {
             holds: Vec::new(alloc),
+            places: Vec::new(alloc),
+            moved: Vec::new(alloc),
+            holders: Vec::new(alloc),
         }
     }
 
     /// Gives the transaction all that it wants, or nothing: what it doesn't hold yet comes behind what is held. The
     /// answer is whether it held nothing before. `Locked` where another transaction holds something that conflicts;
     /// the first such want decides, and the holder is the least transaction, with the least of its modes that conflict.
-    /// After an error nothing has changed. Looks at all locks that are held, once or twice for each want.
+    /// After an error nothing has changed.
+    ///
+    /// For each want this looks at the locks on its item alone, which it finds by halving, and at the transactions that
+    /// hold something. A lock that is new moves the places, a word each, of those on items behind its own.
     pub fn ask(&mut self, tx: TxId, wants: &[Want]) -> Result<bool, LockErr>
         ensures answer { Gives (asked self.old tx wants.now) result }
         ensures ok { OnOk result (self.new ≡ holds_after self.old tx wants.now) }
@@ -66,40 +83,51 @@ impl LockList {
     }
 
     /// Keeps the first so many locks. Where their number before an `ask` is given, and nothing else has changed since,
-    /// the list is again as it was then. Takes no memory.
+    /// the list is again as it was then. Takes no memory, and looks at the locks that stay once for each transaction that
+    /// holds something.
     pub fn back(&mut self, holds: u64)
         requires { holds ≤ length self.old }
         ensures { self.new ≡ take holds self.old }
     {
-        self.holds.truncate(holds as usize);
+        let kept = holds as usize;
+        self.holds.truncate(kept);
+        self.places.retain(|place| *place < kept);
+        let holds = self.holds.as_slice();
+        self.holders.retain(|holder| holds_any(holds, *holder));
     }
 
-    /// Drops the locks of the transaction; those of others stay as they are. Takes no memory.
+    /// Drops the locks of the transaction; those of others stay as they are. Takes no memory, and looks at each lock
+    /// once.
     #[tactic(auto, unfolding(crate::specs::Holds::released))]
     pub fn release(&mut self, tx: TxId)
         ensures { self.new ≡ released self.old tx }
     {
+        note_moves(&self.holds, &mut self.moved, tx);
+        let holds = self.holds.as_slice();
+        self.places.retain(|place| stays(holds, *place, tx));
+        move_places(&mut self.places, &self.moved);
         self.holds.retain(|hold| hold.tx != tx);
+        self.holders.retain(|holder| *holder != tx);
     }
 
-    #[tactic(auto, unfolding(crate::specs::Holds::holds_any))]
     fn holds_any(&self, tx: TxId) -> bool
         ensures { result ≡ holds_any self.now tx }
     {
-        self.holds.iter().any(|hold| hold.tx == tx)
+        is_known(&self.holders, tx)
     }
 
-    #[tactic(auto, unfolding(crate::specs::Holds::holds_want))]
     fn holds_want(&self, tx: TxId, want: &Want) -> bool
         ensures { result ≡ holds_want self.now tx want.now }
     {
-        self.holds.iter().any(|hold| answers(tx, want, hold))
+        let places = places_of(&self.holds, &self.places, &want.item);
+        some_answers(&self.holds, places, tx, want)
     }
 
     fn barrier(&self, tx: TxId, want: &Want) -> Option<(TxId, Mode)>
         ensures { result ≡ barrier self.now tx want.now }
     {
-        barrier(&self.holds, tx, want)
+        let places = places_of(&self.holds, &self.places, &want.item);
+        barrier(&self.holds, places, tx, want)
     }
 
     // Refuses where a want is barred.
@@ -141,7 +169,18 @@ impl LockList {
         ensures ok { OnOk result (self.new ≡ self.old ++ hold ∷ []) }
         ensures err { OnErr result (self.new ≡ self.old) }
     {
+        let tx = hold.tx;
+        let place = self.holds.len();
+        let at = first_at(&self.holds, &self.places, &hold.want.item);
+        let known = is_known(&self.holders, tx);
+        make_room(&mut self.moved, place)?;
+        self.places.reserve(1)?;
+        self.holders.reserve(1)?;
         self.holds.push(hold)?;
+        self.places.insert(at, place).unwrap();
+        if !known {
+            self.holders.push(tx).unwrap();
+        }
         Ok(())
     }
 

@@ -1,6 +1,7 @@
 use Rattle.std.proofs.Common.{◌≡◌, take}
 use Rattle.lg_locks.specs.Conflicts.{barrier}
+use Rattle.lg_locks.specs.Index.{picked}
 use Rattle.lg_locks.proofs.conflict.barrier.Given as goal
 
-abbrev pub invariant-loop-hold : goal.invariant-loop-hold
-invariant-loop-hold l = l.least ≡ barrier (take l.hold-index l.holds) l.tx l.want
+abbrev pub invariant-loop-place : goal.invariant-loop-place
+invariant-loop-place l = l.least ≡ barrier (picked l.holds (take l.place-index l.places)) l.tx l.want
