@@ -1,15 +1,13 @@
 -- An index stays one when a hold comes, when the last ones go, and when those of a transaction go.
-use Rattle.std.proofs.Common.{◌≡◌, ◌⊎◌, inl, inr, ◌<◌, ◌≤◌, ◌+◌, ◌-◌, ℕ, zero, suc, Bool, true, false, cond, not, ltb, List, [], ◌∷◌, ◌++◌, map, take, drop, length, get_or, Option, Some, None, refl, sym, ap, subst, ◌∙◌, arith}
+use Rattle.std.proofs.Common.{◌≡◌, inl, inr, ◌<◌, ◌≤◌, ◌+◌, ℕ, zero, suc, Bool, true, false, cond, ltb, List, [], ◌∷◌, ◌++◌, map, take, drop, length, get_or, Option, Some, None, refl, sym, ap, subst, ◌∙◌, arith}
 use Rattle.std.specs.List.{All, AllPairs, filter, insert, slice_get}
-use Rattle.std.specs.Ordering.{is_lt, is_gt}
 use Rattle.std.proofs.lemmas.Bool.{cases_order, lt-ltb, ltb-true}
 use Rattle.std.proofs.lemmas.List.{length_push, length-take-le, length-map, get_or-map, get_or_default}
-use Rattle.std.proofs.lemmas.List.Elements.{All-append, All-cons, All-take, All-drop, All-weaker, All-filter, All-map, filter_passes, All-get_or}
+use Rattle.std.proofs.lemmas.List.Elements.{All-append, All-cons, All-take, All-drop, All-weaker, All-filter, All-map, filter_passes}
 use Rattle.std.proofs.lemmas.List.Kept.{AllPairs-filter}
-use Rattle.std.proofs.lemmas.Option.{slice_get_within, slice_get-get_or}
-use Rattle.lg_types.specs.declared.lock.Item.{Item}
+use Rattle.std.proofs.lemmas.Option.{slice_get_within}
 use Rattle.lg_locks.specs.declared.hold.Hold.{Hold}
-use Rattle.lg_locks.specs.Items.{item_cmp, item_total}
+use Rattle.lg_locks.specs.Items.{item_total}
 use Rattle.lg_locks.specs.Index.{Has, InOrder, Indexed, item_at, passes, staying, stands_before, stays}
 use Rattle.lg_locks.proofs.Orders.{less_is_not_greater, upto_turned}
 use Rattle.lg_locks.proofs.Places.{filter_has, insert_has, inserted_has, map_has, pairs_insert}

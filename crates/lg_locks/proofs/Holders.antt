@@ -8,7 +8,7 @@ use Rattle.lg_types.specs.declared.lock.Mode.TheVariants.{IS, IX, S, X}
 use Rattle.lg_types.specs.declared.lock.Want.{Want}
 use Rattle.lg_locks.specs.declared.hold.Hold.{Hold}
 use Rattle.lg_locks.specs.Holds.{rank}
-use Rattle.lg_locks.specs.Conflicts.{Holder, barrier, bars, holder_of, least_with, lesser, precedes}
+use Rattle.lg_locks.specs.Conflicts.{Holder, barrier, bars, holder_of, least_with, precedes}
 
 -- ---- holders as numbers
 

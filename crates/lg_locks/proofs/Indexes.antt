@@ -1,14 +1,13 @@
 -- An index finds all holds on an item, and stays one when holds come and go.
-use Rattle.std.proofs.Common.{◌≡◌, ◌⊎◌, inl, inr, ◌<◌, ◌≤◌, ◌+◌, ◌-◌, ℕ, zero, suc, Bool, true, false, cond, ltb, ◌&&◌, List, [], ◌∷◌, ◌++◌, map, take, drop, length, get_or, Option, Some, None, refl, sym, ap, subst, ◌∙◌, arith, Ordering}
-use Rattle.std.specs.List.{All, AllPairs, cons_option, filter, filter_map, insert, list_any, slice_get}
+use Rattle.std.proofs.Common.{◌≡◌, inl, inr, ◌<◌, ◌≤◌, ◌+◌, ℕ, zero, suc, Bool, true, false, List, [], ◌∷◌, ◌++◌, map, take, length, get_or, Option, Some, None, refl, sym, ap, subst, ◌∙◌, arith, Ordering}
+use Rattle.std.specs.List.{cons_option, filter_map, list_any, slice_get}
 use Rattle.std.specs.Prelude.{slice_range}
-use Rattle.std.specs.Ordering.{is_lt, is_gt, is_eq}
-use Rattle.std.specs.declared.cmp.Ordering.TheVariants.{Less, Equal, Greater}
-use Rattle.std.proofs.lemmas.Bool.{both_ways, cases_lt, cases_order, cases_Bool, and_parts, lt-ltb, ltb-true, true_from_ne_false, false≢true}
-use Rattle.std.proofs.lemmas.List.{take_more, map-append, length_push, get_or_push, get_or_append_left, get_or_past, take-map, get_or-take, length-map, length-take-le}
-use Rattle.std.proofs.lemmas.List.Elements.{All-append, All-cons, All-take, All-drop, All-weaker, All-filter, filter_passes, All-get_or, filter_map-append}
-use Rattle.std.proofs.lemmas.List.Kept.{AllPairs-filter}
-use Rattle.std.proofs.lemmas.Option.{slice_get_within, slice_get-get_or, slice_get_read}
+use Rattle.std.specs.Ordering.{is_lt, is_gt}
+use Rattle.std.specs.declared.cmp.Ordering.TheVariants.{Equal}
+use Rattle.std.proofs.lemmas.Bool.{cases_lt, cases_order, and_parts, false≢true}
+use Rattle.std.proofs.lemmas.List.{take_more, map-append, get_or_push, get_or_append_left, take-map, get_or-take, length-map}
+use Rattle.std.proofs.lemmas.List.Elements.{filter_map-append}
+use Rattle.std.proofs.lemmas.Option.{slice_get_within, slice_get_read}
 use Rattle.std.proofs.lemmas.Map.Keys.{any_passes_from_place}
 use Rattle.lg_types.specs.declared.lock.Item.{Item}
 use Rattle.lg_types.specs.declared.lock.Item.TheVariants.{Whole}
@@ -16,12 +15,12 @@ use Rattle.lg_types.specs.declared.lock.Want.{Want}
 use Rattle.lg_model.specs.Locks.{same_item, conflict}
 use Rattle.lg_locks.specs.declared.hold.Hold.{Hold}
 use Rattle.lg_locks.specs.Items.{item_cmp, item_total}
-use Rattle.lg_locks.specs.Holds.{answers, is_of, holds_want}
-use Rattle.lg_locks.specs.Conflicts.{Holder, barrier, bars, holder_of}
-use Rattle.lg_locks.specs.Index.{Covers, Has, InOrder, Indexed, item_at, item_of, picked, stands_before}
-use Rattle.lg_locks.proofs.Orders.{equal_is, greater_else, greater_behind, less_is, less_is_not_greater, lt_before, not_same, rest_behind, same_is_equal, same_item_is, upto_turned}
-use Rattle.lg_locks.proofs.Places.{at_has, has_at, between_has, filter_has, insert_has, inserted_has, map_has, pairs_insert}
-use Rattle.lg_locks.proofs.Holders.{Barring, any_at, barring_at, barring_from, same_barrier}
+use Rattle.lg_locks.specs.Holds.{answers, holds_want}
+use Rattle.lg_locks.specs.Conflicts.{barrier}
+use Rattle.lg_locks.specs.Index.{Covers, Has, Indexed, item_at, item_of, picked, stands_before}
+use Rattle.lg_locks.proofs.Orders.{greater_else, greater_behind, lt_before, not_same, rest_behind, same_is_equal}
+use Rattle.lg_locks.proofs.Places.{has_at, between_has}
+use Rattle.lg_locks.proofs.Holders.{any_at, barring_at, barring_from, same_barrier}
 
 -- ---- the item at a place
 

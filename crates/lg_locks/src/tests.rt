@@ -9,6 +9,34 @@ use std::test::Fail;
 // A lock on the whole, or on the key that is a number.
 type Lock = (Option<i128>, Mode);
 
+const READER: &[Lock] = &[(None, Mode::IS), (Some(5), Mode::S)];
+
+const OTHER_READER: &[Lock] = &[(None, Mode::IS), (Some(6), Mode::S)];
+
+const WRITER: &[Lock] = &[(None, Mode::IX), (Some(5), Mode::X)];
+
+const OTHER_WRITER: &[Lock] = &[(None, Mode::IX), (Some(6), Mode::X)];
+
+const TWICE: &[Lock] = &[(None, Mode::IX), (Some(5), Mode::X), (Some(5), Mode::X)];
+
+// What a transaction is told: whether it is new here, or who stands against it, in which mode, on the whole or a key.
+#[derive(Clone, Copy, Debug, PartialEq, Eq)]
+enum Told {
+    New,
+    Known,
+    All(TxId, Mode),
+    Key(TxId, Mode),
+    NoMemory,
+}
+
+fn number_key(alloc: Global, v: i128, s: u8) -> Result<Item, Fail> {
+    let mut key = Items::new(alloc);
+    if key.push(Value::Num { v, s }).is_err() {
+        return Err(Fail::from("no memory"));
+    }
+    Ok(Item::Key(key))
+}
+
 fn wants_of(alloc: Global, locks: &[Lock]) -> Result<Vec<Want>, Fail> {
     let mut wants = Vec::new(alloc);
     for (number, mode) in locks {
@@ -21,27 +49,27 @@ fn wants_of(alloc: Global, locks: &[Lock]) -> Result<Vec<Want>, Fail> {
     Ok(wants)
 }
 
-fn number_key(alloc: Global, v: i128, s: u8) -> Result<Item, Fail> {
-    let mut key = Items::new(alloc);
-    if key.push(Value::Num { v, s }).is_err() {
-        return Err(Fail::from("no memory"));
-    }
-    Ok(Item::Key(key))
+fn ask(alloc: Global, list: &mut LockList, tx: TxId, locks: &[Lock]) -> Result<Told, Fail> {
+    let wants = wants_of(alloc, locks)?;
+    Ok(match list.ask(tx, &wants) {
+        Ok(true) => Told::New,
+        Ok(false) => Told::Known,
+        Err(LockErr::Memory) => Told::NoMemory,
+        Err(LockErr::Locked { holder, item, mode }) => match item {
+            Item::Whole => Told::All(holder, mode),
+            Item::Key(_) => Told::Key(holder, mode),
+        },
+    })
 }
 
-/// What the transaction is told, in words.
-fn told(alloc: Global, list: &mut LockList, tx: TxId, locks: &[Lock]) -> Result<String, Fail> {
-    let wants = wants_of(alloc, locks)?;
-    let words = match list.ask(tx, &wants) {
-        Ok(true) => format!(in alloc; "first")?,
-        Ok(false) => format!(in alloc; "more")?,
-        Err(LockErr::Memory) => format!(in alloc; "no memory")?,
-        Err(LockErr::Locked { holder, item, mode }) => match item {
-            Item::Whole => format!(in alloc; "{holder} has {mode:?} on all")?,
-            Item::Key(_) => format!(in alloc; "{holder} has {mode:?} on a key")?,
-        },
-    };
-    Ok(words)
+// What the last of these is told, and how many locks are held then.
+fn last_told(alloc: Global, asks: &[(TxId, &[Lock])]) -> Result<(Told, u64), Fail> {
+    let mut list = LockList::new(alloc);
+    let mut told = Told::NoMemory;
+    for (tx, locks) in asks {
+        told = ask(alloc, &mut list, *tx, locks)?;
+    }
+    Ok((told, list.holds()))
 }
 
 #[test]
@@ -60,43 +88,74 @@ fn modes_agree_by_the_table(rt: HostRuntime) {
 }
 
 #[test]
-fn asks_are_answered_by_what_is_held(rt: HostRuntime) -> Result<(), Fail> {
-    use Mode::{IS, IX, S, X};
+fn locks_of_one_transaction_never_stand_against_it(rt: HostRuntime) -> Result<(), Fail> {
     let alloc = rt.alloc();
-    let writer: &[Lock] = &[(None, IX), (Some(5), X)];
-    let reader: &[Lock] = &[(None, IS), (Some(5), S)];
-    let all_is: &[Lock] = &[(None, IS)];
-    let all_s: &[Lock] = &[(None, S)];
-    let all_ix: &[Lock] = &[(None, IX)];
-    let all_x: &[Lock] = &[(None, X)];
-    let other_reader: &[Lock] = &[(None, IS), (Some(6), S)];
-    let twice: &[Lock] = &[(None, IX), (Some(5), X), (Some(5), X)];
-    let none: &[Lock] = &[];
-    // What two transactions hold, who wants what, what it is told, and how many locks are held then.
-    for (one, his, two, hers, tx, wants, answer, count) in [
-        (1, none, 2, none, 1, reader, "first", 2),
-        (1, none, 2, none, 1, none, "first", 0),
-        (1, writer, 2, none, 1, writer, "more", 2),
-        (1, all_s, 2, none, 1, twice, "more", 3),
-        (1, reader, 2, none, 2, reader, "first", 4),
-        (1, writer, 2, none, 2, writer, "1 has X on a key", 2),
-        (1, reader, 2, none, 2, writer, "1 has S on a key", 2),
-        (1, writer, 2, none, 2, other_reader, "first", 4),
-        (3, all_is, 2, all_is, 1, all_x, "2 has IS on all", 2),
-        (2, all_is, 3, all_is, 4, all_x, "2 has IS on all", 2),
-        (1, all_s, 1, all_ix, 2, all_s, "1 has IX on all", 2),
-        (1, all_s, 1, all_ix, 2, all_ix, "1 has S on all", 2),
-        (1, all_s, 1, all_ix, 2, all_x, "1 has IX on all", 2),
-        (1, all_s, 1, all_ix, 2, all_is, "first", 3),
-        (1, reader, 5, all_s, 2, writer, "5 has S on all", 3),
-    ] {
-        let mut list = LockList::new(alloc);
-        let _ = told(alloc, &mut list, one, his)?;
-        let _ = told(alloc, &mut list, two, hers)?;
-        let words = told(alloc, &mut list, tx, wants)?;
-        assert_eq!(rt; words.as_str(), answer);
-        assert_eq!(rt; list.holds(), count, "after: {answer}");
-    }
+    let all_s: &[Lock] = &[(None, Mode::S)];
+    assert_eq!(rt; last_told(alloc, &[(1, READER)])?, (Told::New, 2));
+    assert_eq!(rt;
+        last_told(alloc, &[(1, WRITER), (1, WRITER)])?,
+        (Told::Known, 2)
+    );
+    assert_eq!(rt;
+        last_told(alloc, &[(1, all_s), (1, TWICE)])?,
+        (Told::Known, 3)
+    );
+    Ok(())
+}
+
+#[test]
+fn locks_of_others_stand_against_a_want(rt: HostRuntime) -> Result<(), Fail> {
+    let alloc = rt.alloc();
+    assert_eq!(rt;
+        last_told(alloc, &[(1, READER), (2, READER)])?,
+        (Told::New, 4)
+    );
+    assert_eq!(rt;
+        last_told(alloc, &[(1, WRITER), (2, OTHER_READER)])?,
+        (Told::New, 4)
+    );
+    assert_eq!(rt;
+        last_told(alloc, &[(1, WRITER), (2, WRITER)])?,
+        (Told::Key(1, Mode::X), 2)
+    );
+    assert_eq!(rt;
+        last_told(alloc, &[(1, READER), (2, WRITER)])?,
+        (Told::Key(1, Mode::S), 2)
+    );
+    Ok(())
+}
+
+#[test]
+fn the_least_holder_of_the_first_conflict_is_named(rt: HostRuntime) -> Result<(), Fail> {
+    let alloc = rt.alloc();
+    let is: &[Lock] = &[(None, Mode::IS)];
+    let ix: &[Lock] = &[(None, Mode::IX)];
+    let s: &[Lock] = &[(None, Mode::S)];
+    let x: &[Lock] = &[(None, Mode::X)];
+    assert_eq!(rt;
+        last_told(alloc, &[(3, is), (2, is), (4, is), (1, x)])?,
+        (Told::All(2, Mode::IS), 3)
+    );
+    assert_eq!(rt;
+        last_told(alloc, &[(1, s), (1, ix), (2, s)])?,
+        (Told::All(1, Mode::IX), 2)
+    );
+    assert_eq!(rt;
+        last_told(alloc, &[(1, s), (1, ix), (2, ix)])?,
+        (Told::All(1, Mode::S), 2)
+    );
+    assert_eq!(rt;
+        last_told(alloc, &[(1, s), (1, ix), (2, x)])?,
+        (Told::All(1, Mode::IX), 2)
+    );
+    assert_eq!(rt;
+        last_told(alloc, &[(1, s), (1, ix), (2, is)])?,
+        (Told::New, 3)
+    );
+    assert_eq!(rt;
+        last_told(alloc, &[(1, READER), (5, s), (2, WRITER)])?,
+        (Told::All(5, Mode::S), 3)
+    );
     Ok(())
 }
 
@@ -106,48 +165,31 @@ fn keys_are_one_by_their_worth(rt: HostRuntime) -> Result<(), Fail> {
     let mut list = LockList::new(alloc);
     for (tx, v, s, free) in [(1, 1, 0, true), (2, 10, 1, false), (2, 10, 0, true)] {
         let item = number_key(alloc, v, s)?;
-        let wants = [Want {
-            item,
-            mode: Mode::X,
-        }];
-        assert_eq!(rt; list.ask(tx, &wants).is_ok(), free, "{v} by 10^-{s}");
+        let mode = Mode::X;
+        assert_eq!(rt; list.ask(tx, &[Want { item, mode }]).is_ok(), free);
     }
     Ok(())
 }
 
 #[test]
 fn locks_come_and_go(rt: HostRuntime) -> Result<(), Fail> {
-    use Mode::{IX, X};
     let alloc = rt.alloc();
     let mut list = LockList::new(alloc);
-    let four: &[Lock] = &[(None, IX), (Some(4), X)];
-    let five: &[Lock] = &[(None, IX), (Some(5), X)];
-    let six: &[Lock] = &[(None, IX), (Some(6), X)];
-    let more: &[Lock] = &[(None, IX), (Some(6), X), (Some(4), X)];
-    assert_eq!(rt; told(alloc, &mut list, 1, five)?.as_str(), "first");
+    assert_eq!(rt; ask(alloc, &mut list, 1, WRITER)?, Told::New);
     let before = list.holds();
-    assert_eq!(rt; told(alloc, &mut list, 1, more)?.as_str(), "more");
-    assert_eq!(rt; list.holds(), 4);
-    assert_eq!(rt;
-        told(alloc, &mut list, 2, four)?.as_str(),
-        "1 has X on a key"
-    );
+    assert_eq!(rt; ask(alloc, &mut list, 1, OTHER_WRITER)?, Told::Known);
+    assert!(rt; before == 2 && list.holds() == 3);
     list.back(before);
-    assert_eq!(rt; list.holds(), 2);
-    assert_eq!(rt; told(alloc, &mut list, 2, six)?.as_str(), "first");
-    assert_eq!(rt;
-        told(alloc, &mut list, 2, five)?.as_str(),
-        "1 has X on a key"
-    );
+    assert_eq!(rt; ask(alloc, &mut list, 2, OTHER_WRITER)?, Told::New);
+    assert_eq!(rt; ask(alloc, &mut list, 2, WRITER)?, Told::Key(1, Mode::X));
     list.release(1);
     assert_eq!(rt; list.holds(), 2);
-    assert_eq!(rt; told(alloc, &mut list, 3, five)?.as_str(), "first");
+    assert_eq!(rt; ask(alloc, &mut list, 3, WRITER)?, Told::New);
     assert_eq!(rt;
-        told(alloc, &mut list, 3, six)?.as_str(),
-        "2 has X on a key"
+        ask(alloc, &mut list, 3, OTHER_WRITER)?,
+        Told::Key(2, Mode::X)
     );
-    assert_eq!(rt; told(alloc, &mut list, 2, four)?.as_str(), "more");
     list.back(0);
-    assert_eq!(rt; told(alloc, &mut list, 2, five)?.as_str(), "first");
+    assert_eq!(rt; ask(alloc, &mut list, 2, WRITER)?, Told::New);
     Ok(())
 }

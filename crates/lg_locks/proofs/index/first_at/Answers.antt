@@ -1,4 +1,4 @@
-use Rattle.std.proofs.Common.{◌≡◌, ◌<◌, ◌≤◌, ◌+◌, ◌-◌, ◌/◌, arith, length, sym, ◌∙◌}
+use Rattle.std.proofs.Common.{◌<◌, ◌+◌, ◌-◌, ◌/◌, arith, length, sym, ◌∙◌}
 use Rattle.lg_locks.proofs.Indexes.{all_before, none_before}
 use Rattle.lg_locks.proofs.index.first_at.Goals as goal
 

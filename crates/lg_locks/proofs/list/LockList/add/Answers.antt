@@ -1,4 +1,4 @@
-use Rattle.std.proofs.Common.{◌≡◌, ◌==◌, ◌<◌, ◌≤◌, ◌++◌, ◌∷◌, [], ◌∙◌, ℕ, List, true, false, get_or, length, arith, rules, sym, ap}
+use Rattle.std.proofs.Common.{◌≡◌, ◌==◌, ◌<◌, ◌≤◌, ◌++◌, ◌∷◌, [], ◌∙◌, ℕ, List, true, false, get_or, length, rules, sym, ap}
 use Rattle.std.specs.List.{insert, list_any}
 use Rattle.lg_locks.specs.Index.{stands_before}
 use Rattle.lg_locks.proofs.Kept.{kept_more, known_comes, known_stays}

@@ -1,4 +1,4 @@
-use Rattle.std.proofs.Common.{◌≡◌, ◌∙◌, ap, subst}
+use Rattle.std.proofs.Common.{◌∙◌, ap, subst}
 use Rattle.lg_locks.specs.Conflicts.{barrier}
 use Rattle.lg_locks.specs.Index.{Covers, picked}
 use Rattle.lg_locks.proofs.Indexes.{picked_barrier}

@@ -1,4 +1,4 @@
-use Rattle.std.proofs.Common.{◌≡◌, ◌∙◌, ap, subst}
+use Rattle.std.proofs.Common.{◌∙◌, ap, subst}
 use Rattle.std.specs.List.{list_any}
 use Rattle.lg_locks.specs.Holds.{answers, holds_want}
 use Rattle.lg_locks.specs.Index.{Covers, picked}
