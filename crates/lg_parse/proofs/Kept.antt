@@ -133,7 +133,7 @@ module _ {A : Type 0} (P : A → Type 0) (item : Parser A) (keeps : (i : Input) 
   from_keeps (suc n) found k i ok =
       then_keeps P (Some_ P) (λ y. _) (item i) (keeps i ok)
       (λ x is j more. if_keeps (Some_ P) (sees t.Comma j) (list_from item n (found ++ x ∷ [])) (λ m. Some (found ++ x ∷ [], m)) (after t.Comma j)
-          (from_keeps n (found ++ x ∷ []) (each_last found x k is) (after t.Comma j) (after_ok t.Comma j more)) (some_last found x k is, after_ok t.Comma j more))
+      (from_keeps n (found ++ x ∷ []) (each_last found x k is) (after t.Comma j) (after_ok t.Comma j more)) (some_last found x k is, after_ok t.Comma j more))
 
   pub list_keeps : (i : Input) → AreSyms i.rest → Holds (Some_ P) (list item i)
   unfolding list

@@ -83,7 +83,7 @@ columns_keep i ok =
     let kept = after_ok t.Open i ok in
     if_keeps (Maybe (Some_ IsName)) (sees t.Open i) (λ k. and_then (list name k) (λ found m. and_then (expect t.Close m) (λ z n. Some (Some found, n)))) (λ k. Some (None, k)) j
     (then_keeps (Some_ IsName) (Maybe (Some_ IsName)) (λ y. _) (list name j) (names_keep j kept) (λ ns named k rest.
-        then_keeps Always (Maybe (Some_ IsName)) (λ z. _) (expect t.Close k) (expect_keeps t.Close k rest) (λ z done m end. (named, end))))
+    then_keeps Always (Maybe (Some_ IsName)) (λ z. _) (expect t.Close k) (expect_keeps t.Close k rest) (λ z done m end. (named, end))))
     (tt, kept)
 
 pub insert_keeps : Literal → (i : Input) → AreSyms i.rest → Holds IsChange (r.insert i)
@@ -164,7 +164,7 @@ what_keeps i ok =
     if_holds IsWhat (calls i) (and_then (list g.agg i) (λ x m. Some (shown.Aggs x, m))) _
     (map_keeps (Some_ IsAgg) IsWhat shown.Aggs (list g.agg i) (list_keeps IsAgg g.agg agg_keeps i ok) (λ x is. is))
     (if_keeps IsWhat (sees t.Star i) (λ k. Some (shown.All, k)) (λ k. and_then (list name k) (λ x m. Some (shown.Columns x, m))) j (tt, kept)
-        (map_keeps (Some_ IsName) IsWhat shown.Columns (list name j) (names_keep j kept) (λ x is. is)))
+    (map_keeps (Some_ IsName) IsWhat shown.Columns (list name j) (names_keep j kept) (λ x is. is)))
 
 falls_keeps : (i : Input) → AreSyms i.rest → Holds Always (g.falls i)
 unfolding g.falls

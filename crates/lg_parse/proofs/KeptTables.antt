@@ -101,8 +101,8 @@ decimal_keeps i ok =
     let kept = after_ok t.Open i ok in
     if_keeps IsType (sees t.Open i) (λ k. and_then (b.digits k) (λ m x. and_then (b.scale x) (λ z y. and_then (expect t.Close y) (λ v u. Some (sql.Decimal m z, u))))) (λ k. Some (sql.Decimal 18 0, k)) j
     (then_keeps IsSize IsType (λ x. _) (b.digits j) (digits_keep j kept) (λ m small k rest.
-        then_keeps IsSize IsType (λ x. _) (b.scale k) (scale_keeps k rest) (λ z few y more.
-        then_keeps Always IsType (λ x. _) (expect t.Close y) (expect_keeps t.Close y more) (λ v done u end. ((small, few), end)))))
+    then_keeps IsSize IsType (λ x. _) (b.scale k) (scale_keeps k rest) (λ z few y more.
+    then_keeps Always IsType (λ x. _) (expect t.Close y) (expect_keeps t.Close y more) (λ v done u end. ((small, few), end)))))
     (standard, kept)
 
 type_by_keeps : (ty : TypeName) (i : Input) → AreSyms i.rest → Holds IsType (b.type_by ty i)
@@ -253,7 +253,7 @@ chosen_keeps i ok =
     then_keeps Always AreChoices (λ x. _) (expect t.On j) (expect_keeps t.On j more) (λ y did k rest.
     if_keeps AreChoices (sees t.Open k) (λ m. and_then (g.choices g.no_choices m) (λ found n. and_then (expect t.Close n) (λ v u. Some (found, u)))) (λ m. Some (g.no_choices, m)) (after t.Open k)
     (then_keeps AreChoices AreChoices (λ x. _) (g.choices g.no_choices (after t.Open k)) (fold_keeps AreChoices g.choice_step choice_step_keeps g.no_choices tt (after t.Open k) (after_ok t.Open k rest)) (λ found is n others.
-        then_keeps Always AreChoices (λ x. _) (expect t.Close n) (expect_keeps t.Close n others) (λ v shut u end. (is, end))))
+    then_keeps Always AreChoices (λ x. _) (expect t.Close n) (expect_keeps t.Close n others) (λ v shut u end. (is, end))))
     (tt, after_ok t.Open k rest)))
 
 versions_keep : (i : Input) → AreSyms i.rest → Holds (Maybe IsName) (g.versions i)
@@ -263,9 +263,9 @@ versions_keep i ok =
     then_keeps Always (Maybe IsName) (λ x. _) (expect t.On j) (expect_keeps t.On j more) (λ y did k rest.
     if_keeps (Maybe IsName) (sees t.Open k) (λ m. and_then (g.the_option option.HistoryTable m) (λ x n. and_then (expect t.Equal n) (λ v u. and_then (name u) (λ h q. and_then (expect t.Close q) (λ a c. Some (Some h, c)))))) (λ m. Some (None, m)) (after t.Open k)
     (then_keeps Always (Maybe IsName) (λ x. _) (g.the_option option.HistoryTable (after t.Open k)) (the_keeps option.HistoryTable (after t.Open k) (after_ok t.Open k rest)) (λ x is n others.
-        then_keeps Always (Maybe IsName) (λ x. _) (expect t.Equal n) (expect_keeps t.Equal n others) (λ v equal_ u left.
-        then_keeps IsName (Maybe IsName) (λ x. _) (name u) (name_keeps u left) (λ h named q last.
-        then_keeps Always (Maybe IsName) (λ x. _) (expect t.Close q) (expect_keeps t.Close q last) (λ a shut c end. (named, end))))))
+    then_keeps Always (Maybe IsName) (λ x. _) (expect t.Equal n) (expect_keeps t.Equal n others) (λ v equal_ u left.
+    then_keeps IsName (Maybe IsName) (λ x. _) (name u) (name_keeps u left) (λ h named q last.
+    then_keeps Always (Maybe IsName) (λ x. _) (expect t.Close q) (expect_keeps t.Close q last) (λ a shut c end. (named, end))))))
     (tt, after_ok t.Open k rest)))
 
 abbrev IsLedger : Ledger → Type 0
@@ -292,7 +292,7 @@ ledger_by_keeps option.Ledger i ok =
     then_keeps AreChoices IsLedger (λ x. _) (g.chosen i) (chosen_keeps i ok) (λ found own j more.
     if_keeps IsLedger (sees t.Comma j) (λ k. and_then (g.the_option option.SystemVersioning k) (λ y m. and_then (g.versions m) (λ old. required (g.updatable old found)))) (λ k. Some (g.alone found, k)) (after t.Comma j)
     (then_keeps Always IsLedger (λ x. _) (g.the_option option.SystemVersioning (after t.Comma j)) (the_keeps option.SystemVersioning (after t.Comma j) (after_ok t.Comma j more)) (λ y did m others.
-        then_keeps (Maybe IsName) IsLedger (λ x. _) (g.versions m) (versions_keep m others) (λ old is n left. required_keeps IsLedger (g.updatable old found) (updatable_is old found is own) n left)))
+    then_keeps (Maybe IsName) IsLedger (λ x. _) (g.versions m) (versions_keep m others) (λ old is n left. required_keeps IsLedger (g.updatable old found) (updatable_is old found is own) n left)))
     ((no_history found.append_only, own), after_ok t.Comma j more))
 ledger_by_keeps _ i ok = tt
 
@@ -307,8 +307,8 @@ part_keeps i ok =
     let kept = after_ok t.With i ok in
     if_keeps IsLedger (sees t.With i) (λ k. and_then (expect t.Open k) (λ z m. and_then (g.ledger m) (λ found n. and_then (expect t.Close n) (λ v u. Some (found, u))))) (λ k. Some (g.alone g.no_choices, k)) j
     (then_keeps Always IsLedger (λ x. _) (expect t.Open j) (expect_keeps t.Open j kept) (λ z done m more.
-        then_keeps IsLedger IsLedger (λ x. _) (g.ledger m) (ledger_keeps m more) (λ found is n rest.
-        then_keeps Always IsLedger (λ x. _) (expect t.Close n) (expect_keeps t.Close n rest) (λ v shut u end. (is, end)))))
+    then_keeps IsLedger IsLedger (λ x. _) (g.ledger m) (ledger_keeps m more) (λ found is n rest.
+    then_keeps Always IsLedger (λ x. _) (expect t.Close n) (expect_keeps t.Close n rest) (λ v shut u end. (is, end)))))
     ((tt, tt), kept)
 
 -- ---- the table
