@@ -1,15 +1,12 @@
 -- What holds of each CREATE TABLE that is read.
-use Rattle.std.proofs.Common.{◌≡◌, ◌∙◌, ◌<◌, ◌≤◌, ◌*◌, ◌^◌, ℕ, zero, suc, ◌+◌, ◌-◌, Bool, true, false, cond, List, [], ◌∷◌, ◌++◌, length, map, nat_le, Option, Some, None, refl, ap, sym, subst, arith, lit<}
+use Rattle.std.proofs.Common.{◌≡◌, ◌<◌, ◌≤◌, ◌*◌, ◌^◌, ℕ, zero, suc, ◌+◌, ◌-◌, Bool, true, false, cond, List, [], ◌∷◌, ◌++◌, length, map, nat_le, Option, Some, None, refl, arith, lit<}
 use Rattle.std.specs.Prelude.{⊤}
 use Rattle.std.specs.Char.{is_ascii_digit}
 use Rattle.std.proofs.Math.Nat.{pow-le-pow_right}
 use Rattle.std.proofs.lemmas.Bool.Decides.{nat_tests}
 use Rattle.lg_value.specs.Literal.{digits_after}
-use Rattle.lg_value.specs.declared.sql_type.SqlType.{SqlType}
 use Rattle.lg_value.specs.declared.sql_type.SqlType.TheVariants as sql
-use Rattle.lg_value.specs.declared.column.ColumnDef.{ColumnDef}
 use Rattle.lg_value.specs.declared.column.TableKind.TheVariants.{AppendOnly, Updatable}
-use Rattle.lg_types.specs.declared.statement.CreateTable.{CreateTable}
 use Rattle.lg_parse.specs.declared.tag.Tag.{Tag}
 use Rattle.lg_parse.specs.declared.tag.Tag.TheVariants as t
 use Rattle.lg_parse.specs.declared.word.TypeName.{TypeName}
@@ -24,14 +21,14 @@ use Rattle.lg_parse.specs.declared.ledger.Ledger.{Ledger}
 use Rattle.lg_parse.specs.declared.ledger.Choices.{Choices}
 use Rattle.lg_parse.specs.declared.ledger.Choice.{Choice}
 use Rattle.lg_parse.specs.declared.ledger.Choice.TheVariants as choice
-use Rattle.lg_parse.specs.Input.{Input, Outcome, Parser, and_then, required, tag, text, next, sees, after, expect, fold, fold_from, tokens_left}
+use Rattle.lg_parse.specs.Input.{Input, Parser, and_then, required, tag, text, next, sees, after, expect, fold, fold_from, tokens_left}
 use Rattle.lg_parse.specs.Words as w
 use Rattle.lg_parse.specs.Words.{type_word, option_word}
 use Rattle.lg_parse.specs.Expr.{name}
 use Rattle.lg_parse.specs.Row as r
 use Rattle.lg_parse.specs.Ledger as g
 use Rattle.lg_parse.specs.Table as b
-use Rattle.lg_parse.specs.Parsed.{IsName, IsSize, IsType, IsColumn, IsHistory, IsTable, Each, Some_, Maybe}
+use Rattle.lg_parse.specs.Parsed.{IsName, IsSize, IsType, IsColumn, IsHistory, IsTable, Each, OneOrMore, Maybe}
 use Rattle.lg_parse.proofs.Digits.{one_digit, small_digit}
 use Rattle.lg_parse.proofs.Kept.{AreSyms, Holds, Always, then_keeps, map_keeps, required_keeps, next_ok, after_ok, expect_keeps, if_keeps, name_keeps}
 use Rattle.lg_parse.proofs.KeptStmts.{name_list_keeps, always}
@@ -101,8 +98,8 @@ decimal_keeps i ok =
     let kept = after_ok t.Open i ok in
     if_keeps IsType (sees t.Open i) (λ k. and_then (b.digits k) (λ m x. and_then (b.scale x) (λ z y. and_then (expect t.Close y) (λ v u. Some (sql.Decimal m z, u))))) (λ k. Some (sql.Decimal 18 0, k)) j
     (then_keeps IsSize IsType (λ x. _) (b.digits j) (digits_keep j kept) (λ m small k rest.
-        then_keeps IsSize IsType (λ x. _) (b.scale k) (scale_keeps k rest) (λ z few y more.
-        then_keeps Always IsType (λ x. _) (expect t.Close y) (expect_keeps t.Close y more) (λ v done u end. ((small, few), end)))))
+    then_keeps IsSize IsType (λ x. _) (b.scale k) (scale_keeps k rest) (λ z few y more.
+    then_keeps Always IsType (λ x. _) (expect t.Close y) (expect_keeps t.Close y more) (λ v done u end. ((small, few), end)))))
     (standard, kept)
 
 type_by_keeps : (ty : TypeName) (i : Input) → AreSyms i.rest → Holds IsType (b.type_by ty i)
@@ -146,7 +143,7 @@ IsWritten c = IsName c.name × IsType c.ty
 
 abbrev IsItem : Item → Type 0
 IsItem (item.Column c key) = IsWritten c
-IsItem (item.Key ns) = Some_ IsName ns
+IsItem (item.Key ns) = OneOrMore IsName ns
 
 column_keeps : (i : Input) → AreSyms i.rest → Holds IsItem (b.column i)
 unfolding b.column
@@ -160,7 +157,7 @@ key_keeps : (i : Input) → AreSyms i.rest → Holds IsItem (b.key i)
 unfolding b.key
 key_keeps i ok =
     then_keeps Always IsItem (λ x. _) (expect t.Key i) (expect_keeps t.Key i ok) (λ z done j more.
-    map_keeps (Some_ IsName) IsItem item.Key (r.name_list (after t.Clustered j)) (name_list_keeps (after t.Clustered j) (after_ok t.Clustered j more)) (λ ns all. all))
+    map_keeps (OneOrMore IsName) IsItem item.Key (r.name_list (after t.Clustered j)) (name_list_keeps (after t.Clustered j) (after_ok t.Clustered j more)) (λ ns all. all))
 
 item_by_keeps : (g_ : Tag) (i : Input) → AreSyms i.rest → Holds IsItem (b.item_by g_ i)
 item_by_keeps t.Primary i ok = key_keeps (next i) (next_ok i ok)
@@ -171,13 +168,13 @@ unfolding b.one_item
 one_item_keeps i ok = item_by_keeps (tag i) i ok
 
 abbrev IsDraft : Draft → Type 0
-IsDraft d = Each IsWritten d.columns × Maybe (Some_ IsName) d.key
+IsDraft d = Each IsWritten d.columns × Maybe (OneOrMore IsName) d.key
 
 each_last : {A : Type 0} (P : A → Type 0) (xs : List A) (x : A) → Each P xs → P x → Each P (xs ++ x ∷ [])
 each_last P [] x k is = (is, tt)
 each_last P (y ∷ ys) x k is = (k.0, each_last P ys x k.1 is)
 
-with_key_is : (columns : List Column) (old : Option (List (List ℕ))) (names : List (List ℕ)) → Each IsWritten columns → Some_ IsName names → Maybe IsDraft (b.with_key columns old names)
+with_key_is : (columns : List Column) (old : Option (List (List ℕ))) (names : List (List ℕ)) → Each IsWritten columns → OneOrMore IsName names → Maybe IsDraft (b.with_key columns old names)
 with_key_is columns (Some old) names all key_ = tt
 with_key_is columns None names all key_ = (all, key_)
 
@@ -253,7 +250,7 @@ chosen_keeps i ok =
     then_keeps Always AreChoices (λ x. _) (expect t.On j) (expect_keeps t.On j more) (λ y did k rest.
     if_keeps AreChoices (sees t.Open k) (λ m. and_then (g.choices g.no_choices m) (λ found n. and_then (expect t.Close n) (λ v u. Some (found, u)))) (λ m. Some (g.no_choices, m)) (after t.Open k)
     (then_keeps AreChoices AreChoices (λ x. _) (g.choices g.no_choices (after t.Open k)) (fold_keeps AreChoices g.choice_step choice_step_keeps g.no_choices tt (after t.Open k) (after_ok t.Open k rest)) (λ found is n others.
-        then_keeps Always AreChoices (λ x. _) (expect t.Close n) (expect_keeps t.Close n others) (λ v shut u end. (is, end))))
+    then_keeps Always AreChoices (λ x. _) (expect t.Close n) (expect_keeps t.Close n others) (λ v shut u end. (is, end))))
     (tt, after_ok t.Open k rest)))
 
 versions_keep : (i : Input) → AreSyms i.rest → Holds (Maybe IsName) (g.versions i)
@@ -263,9 +260,9 @@ versions_keep i ok =
     then_keeps Always (Maybe IsName) (λ x. _) (expect t.On j) (expect_keeps t.On j more) (λ y did k rest.
     if_keeps (Maybe IsName) (sees t.Open k) (λ m. and_then (g.the_option option.HistoryTable m) (λ x n. and_then (expect t.Equal n) (λ v u. and_then (name u) (λ h q. and_then (expect t.Close q) (λ a c. Some (Some h, c)))))) (λ m. Some (None, m)) (after t.Open k)
     (then_keeps Always (Maybe IsName) (λ x. _) (g.the_option option.HistoryTable (after t.Open k)) (the_keeps option.HistoryTable (after t.Open k) (after_ok t.Open k rest)) (λ x is n others.
-        then_keeps Always (Maybe IsName) (λ x. _) (expect t.Equal n) (expect_keeps t.Equal n others) (λ v equal_ u left.
-        then_keeps IsName (Maybe IsName) (λ x. _) (name u) (name_keeps u left) (λ h named q last.
-        then_keeps Always (Maybe IsName) (λ x. _) (expect t.Close q) (expect_keeps t.Close q last) (λ a shut c end. (named, end))))))
+    then_keeps Always (Maybe IsName) (λ x. _) (expect t.Equal n) (expect_keeps t.Equal n others) (λ v equal_ u left.
+    then_keeps IsName (Maybe IsName) (λ x. _) (name u) (name_keeps u left) (λ h named q last.
+    then_keeps Always (Maybe IsName) (λ x. _) (expect t.Close q) (expect_keeps t.Close q last) (λ a shut c end. (named, end))))))
     (tt, after_ok t.Open k rest)))
 
 abbrev IsLedger : Ledger → Type 0
@@ -292,7 +289,7 @@ ledger_by_keeps option.Ledger i ok =
     then_keeps AreChoices IsLedger (λ x. _) (g.chosen i) (chosen_keeps i ok) (λ found own j more.
     if_keeps IsLedger (sees t.Comma j) (λ k. and_then (g.the_option option.SystemVersioning k) (λ y m. and_then (g.versions m) (λ old. required (g.updatable old found)))) (λ k. Some (g.alone found, k)) (after t.Comma j)
     (then_keeps Always IsLedger (λ x. _) (g.the_option option.SystemVersioning (after t.Comma j)) (the_keeps option.SystemVersioning (after t.Comma j) (after_ok t.Comma j more)) (λ y did m others.
-        then_keeps (Maybe IsName) IsLedger (λ x. _) (g.versions m) (versions_keep m others) (λ old is n left. required_keeps IsLedger (g.updatable old found) (updatable_is old found is own) n left)))
+    then_keeps (Maybe IsName) IsLedger (λ x. _) (g.versions m) (versions_keep m others) (λ old is n left. required_keeps IsLedger (g.updatable old found) (updatable_is old found is own) n left)))
     ((no_history found.append_only, own), after_ok t.Comma j more))
 ledger_by_keeps _ i ok = tt
 
@@ -307,8 +304,8 @@ part_keeps i ok =
     let kept = after_ok t.With i ok in
     if_keeps IsLedger (sees t.With i) (λ k. and_then (expect t.Open k) (λ z m. and_then (g.ledger m) (λ found n. and_then (expect t.Close n) (λ v u. Some (found, u))))) (λ k. Some (g.alone g.no_choices, k)) j
     (then_keeps Always IsLedger (λ x. _) (expect t.Open j) (expect_keeps t.Open j kept) (λ z done m more.
-        then_keeps IsLedger IsLedger (λ x. _) (g.ledger m) (ledger_keeps m more) (λ found is n rest.
-        then_keeps Always IsLedger (λ x. _) (expect t.Close n) (expect_keeps t.Close n rest) (λ v shut u end. (is, end)))))
+    then_keeps IsLedger IsLedger (λ x. _) (g.ledger m) (ledger_keeps m more) (λ found is n rest.
+    then_keeps Always IsLedger (λ x. _) (expect t.Close n) (expect_keeps t.Close n rest) (λ v shut u end. (is, end)))))
     ((tt, tt), kept)
 
 -- ---- the table
@@ -317,7 +314,7 @@ defs_are : (ks : List (List ℕ)) (cs : List Column) → Each IsWritten cs → E
 defs_are ks [] k = tt
 defs_are ks (c ∷ cs) k = ((k.0.0, k.0.1, refl), defs_are ks cs k.1)
 
-table_is : (n : List ℕ) (columns : List Column) (key_ : Option (List (List ℕ))) (x : Ledger) → IsName n → Each IsWritten columns → Maybe (Some_ IsName) key_ → IsLedger x → Maybe IsTable (b.table_of n columns key_ x)
+table_is : (n : List ℕ) (columns : List Column) (key_ : Option (List (List ℕ))) (x : Ledger) → IsName n → Each IsWritten columns → Maybe (OneOrMore IsName) key_ → IsLedger x → Maybe IsTable (b.table_of n columns key_ x)
 table_is n [] key_ x named all keyed is = tt
 table_is n (c ∷ cs) None x named all keyed is = tt
 table_is n (c ∷ cs) (Some ks) x named all keyed is = (named, defs_are ks (c ∷ cs) all, keyed, is.0, is.1)
