@@ -1,11 +1,9 @@
 -- The tokens of a text, without their places.
-use Rattle.std.proofs.Common.{◌≡◌, ℕ, zero, suc, ◌+◌, ◌-◌, Bool, true, false, List, [], ◌∷◌, ◌++◌, length, take, drop, map, slice_range, Option, Some, None, Result, Ok, Err, refl, ap, subst, cond, ◌∙◌, sym, arith, append_assoc, length-append}
+use Rattle.std.proofs.Common.{◌≡◌, ℕ, zero, suc, ◌+◌, ◌-◌, Bool, true, false, List, [], ◌∷◌, ◌++◌, length, take, drop, map, slice_range, Option, Some, None, Ok, Err, refl, ap, subst, cond, ◌∙◌, sym, arith, append_assoc, length-append}
 use Rattle.std.specs.Prelude.{if◌then◌else◌, option_and_then}
 use Rattle.lg_lex.specs.declared.token.Kind.{Kind}
-use Rattle.lg_lex.specs.declared.token.Token.{Token}
 use Rattle.lg_lex.specs.Longest.{longest}
 use Rattle.lg_lex.specs.Cut.{is_blank, begins_comment, Scan, scan, with_front, goes_on, tokens_of}
-use Rattle.lg_types.specs.declared.statement.Stmt.{Stmt}
 use Rattle.lg_parse.specs.Tags.{tag_of}
 use Rattle.lg_parse.specs.Input.{Sym}
 use Rattle.lg_parse.specs.Stmt.{statement_of_tokens}

@@ -1,11 +1,11 @@
 -- What a parser gives, and the tokens that it leaves, whatever is left of the count of operators and operands.
-use Rattle.std.proofs.Common.{◌≡◌, ◌∙◌, ℕ, zero, suc, ◌+◌, ◌<◌, ◌≤◌, Bool, true, false, List, [], ◌∷◌, ◌++◌, length, Option, Some, None, refl, ap, sym, subst, arith, append_assoc, length-append}
+use Rattle.std.proofs.Common.{◌≡◌, ◌∙◌, ℕ, zero, suc, ◌+◌, ◌<◌, ◌≤◌, Bool, false, List, [], ◌∷◌, ◌++◌, length, Some, None, refl, ap, sym, subst, arith, append_assoc, length-append}
 use Rattle.lg_parse.specs.declared.tag.Tag.{Tag}
 use Rattle.lg_parse.specs.declared.tag.Tag.TheVariants as t
 use Rattle.lg_parse.specs.Tags.{same_tag}
-use Rattle.lg_parse.specs.Input.{Input, Sym, Outcome, Parser, and_then, ◌<$>◌, tag, next, sees, after, tokens_left, list, list_from}
+use Rattle.lg_parse.specs.Input.{Input, Sym, Outcome, Parser, and_then, tag, next, sees, after, tokens_left, list, list_from}
 use Rattle.lg_parse.specs.Printed.{key, listed, rest_listed}
-use Rattle.lg_parse.specs.Parsed.{Each, Some_}
+use Rattle.lg_parse.specs.Parsed.{Each, OneOrMore}
 use Rattle.lg_parse.proofs.Repeats.{at_, left_}
 
 abbrev pub Gets : {A : Type 0} → Outcome A → A → List Sym → Type 0
@@ -69,7 +69,7 @@ module _ {A : Type 0} (item : Parser A) (tokens : A → List Sym) (Follow : List
   enough [] = omega arith
   enough (y ∷ ys) = omega (arith, enough ys, length-append (tokens y) (rest_listed tokens ys))
 
-  pub list_gets : ((more : List Sym) → Follow (key t.Comma ∷ more)) → (xs : List A) (rest : List Sym) (n : ℕ) → Some_ ItemReads xs → Follow rest → NoComma rest → Gets (list item (at_ (listed tokens xs ++ rest) n)) xs rest
+  pub list_gets : ((more : List Sym) → Follow (key t.Comma ∷ more)) → (xs : List A) (rest : List Sym) (n : ℕ) → OneOrMore ItemReads xs → Follow rest → NoComma rest → Gets (list item (at_ (listed tokens xs ++ rest) n)) xs rest
   unfolding list listed tokens_left
   list_gets commas [] rest n reads follow end = absurd reads
   list_gets commas (x ∷ xs) rest n reads follow end =

@@ -1,5 +1,5 @@
 -- What holds of each value that a parser gives, from tokens of which something holds.
-use Rattle.std.proofs.Common.{◌≡◌, ◌∙◌, ◌==◌, ℕ, zero, suc, Bool, true, false, cond, List, [], ◌∷◌, ◌++◌, drop, Option, Some, None, refl, ap, sym}
+use Rattle.std.proofs.Common.{◌≡◌, ℕ, zero, suc, Bool, true, false, cond, List, [], ◌∷◌, ◌++◌, drop, Option, Some, None, refl}
 use Rattle.std.specs.Prelude.{⊤}
 use Rattle.lg_value.specs.declared.value.Value.{Value}
 use Rattle.lg_value.specs.Literal.{literal_of}
@@ -9,8 +9,7 @@ use Rattle.lg_parse.specs.declared.tag.Tag.TheVariants as t
 use Rattle.lg_parse.specs.Input.{Input, Sym, Outcome, Parser, and_then, required, tag, text, next, sees, after, expect, list, list_from, tokens_left}
 use Rattle.lg_parse.specs.Expr as e
 use Rattle.lg_parse.specs.Expr.{inside, name}
-use Rattle.lg_parse.specs.Row as r
-use Rattle.lg_parse.specs.Parsed.{IsName, IsUnsigned, Each, Some_, Maybe}
+use Rattle.lg_parse.specs.Parsed.{IsName, IsUnsigned, Each, OneOrMore, Maybe}
 use Rattle.lg_parse.proofs.Repeats.{at_}
 
 -- what holds of each token of a text
@@ -123,18 +122,18 @@ module _ {A : Type 0} (P : A → Type 0) (item : Parser A) (keeps : (i : Input) 
   each_last [] x k is = (is, tt)
   each_last (y ∷ ys) x k is = (k.0, each_last ys x k.1 is)
 
-  some_last : (xs : List A) (x : A) → Each P xs → P x → Some_ P (xs ++ x ∷ [])
+  some_last : (xs : List A) (x : A) → Each P xs → P x → OneOrMore P (xs ++ x ∷ [])
   some_last [] x k is = (is, tt)
   some_last (y ∷ ys) x k is = (k.0, each_last ys x k.1 is)
 
-  from_keeps : (n : ℕ) (found : List A) → Each P found → (i : Input) → AreSyms i.rest → Holds (Some_ P) (list_from item n found i)
+  from_keeps : (n : ℕ) (found : List A) → Each P found → (i : Input) → AreSyms i.rest → Holds (OneOrMore P) (list_from item n found i)
   unfolding list_from
   from_keeps zero found k i ok = tt
   from_keeps (suc n) found k i ok =
-      then_keeps P (Some_ P) (λ y. _) (item i) (keeps i ok)
-      (λ x is j more. if_keeps (Some_ P) (sees t.Comma j) (list_from item n (found ++ x ∷ [])) (λ m. Some (found ++ x ∷ [], m)) (after t.Comma j)
+      then_keeps P (OneOrMore P) (λ y. _) (item i) (keeps i ok)
+      (λ x is j more. if_keeps (OneOrMore P) (sees t.Comma j) (list_from item n (found ++ x ∷ [])) (λ m. Some (found ++ x ∷ [], m)) (after t.Comma j)
       (from_keeps n (found ++ x ∷ []) (each_last found x k is) (after t.Comma j) (after_ok t.Comma j more)) (some_last found x k is, after_ok t.Comma j more))
 
-  pub list_keeps : (i : Input) → AreSyms i.rest → Holds (Some_ P) (list item i)
+  pub list_keeps : (i : Input) → AreSyms i.rest → Holds (OneOrMore P) (list item i)
   unfolding list
   list_keeps i ok = from_keeps (tokens_left i) [] tt i ok

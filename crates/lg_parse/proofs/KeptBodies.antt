@@ -1,13 +1,13 @@
 -- Each statement that is read keeps to what printing needs.
-use Rattle.std.proofs.Common.{◌≡◌, ◌∙◌, ◌==◌, ℕ, zero, Bool, true, false, cond, List, [], ◌∷◌, Option, Some, None, refl, ap, sym, subst}
-use Rattle.std.specs.Prelude.{⊤, option_map, option_and_then, if◌then◌else◌}
+use Rattle.std.proofs.Common.{◌≡◌, ◌∙◌, ◌==◌, ℕ, Bool, true, false, cond, List, Option, Some, None, sym, subst}
+use Rattle.std.specs.Prelude.{option_map, option_and_then}
 use Rattle.lg_types.specs.declared.statement.Stmt.{Stmt}
 use Rattle.lg_types.specs.declared.statement.Stmt.TheVariants as stmt
 use Rattle.lg_parse.specs.declared.tag.Tag.{Tag}
 use Rattle.lg_parse.specs.declared.tag.Tag.TheVariants as t
 use Rattle.lg_parse.specs.declared.word.Call.{Call}
 use Rattle.lg_parse.specs.declared.word.Call.TheVariants as call
-use Rattle.lg_parse.specs.Input.{Input, Sym, Outcome, Parser, and_then, required, tag, next, sees, after, expect, start, tokens_left}
+use Rattle.lg_parse.specs.Input.{Input, Sym, Outcome, and_then, tag, next, sees, after, expect, start, tokens_left}
 use Rattle.lg_parse.specs.Words.{call_word}
 use Rattle.lg_parse.specs.Expr.{name}
 use Rattle.lg_parse.specs.Row as r

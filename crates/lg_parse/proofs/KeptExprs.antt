@@ -1,5 +1,5 @@
 -- What holds of each expression that is read.
-use Rattle.std.proofs.Common.{◌≡◌, ◌∙◌, ◌==◌, ◌<◌, ◌≤◌, ℕ, zero, suc, ◌+◌, ◌-◌, Bool, true, false, cond, List, [], ◌∷◌, ◌++◌, Option, Some, None, refl, ap, sym, subst, arith}
+use Rattle.std.proofs.Common.{◌≡◌, ◌==◌, ℕ, zero, suc, ◌+◌, ◌-◌, Bool, true, false, cond, List, [], ◌∷◌, Option, Some, None, refl, ap, sym, subst, arith}
 use Rattle.std.specs.Prelude.{⊤}
 use Rattle.std.proofs.lemmas.Bool.Decides.{nat_tests}
 use Rattle.lg_value.specs.declared.value.Value.{Value}
@@ -17,7 +17,7 @@ use Rattle.lg_parse.specs.Expr.{operator, comparison, name, times, more, more_by
 use Rattle.lg_parse.specs.Parsed.{IsName, IsTree, IsExpr, count}
 use Rattle.lg_parse.proofs.Repeats.{at_}
 use Rattle.lg_parse.proofs.Trees.{of_literal, of_column, of_minus, of_not, of_is_null, of_binary}
-use Rattle.lg_parse.proofs.Kept.{IsSym, AreSyms, Holds, Literal, IsRead, name_keeps, literal_keeps, next_ok, after_ok}
+use Rattle.lg_parse.proofs.Kept.{AreSyms, Holds, Literal, IsRead, name_keeps, literal_keeps, next_ok, after_ok}
 
 -- the expression is well-formed, and it was counted
 abbrev pub Spent : ℕ → Outcome Expr → Type 0

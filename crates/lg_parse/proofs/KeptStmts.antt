@@ -1,42 +1,36 @@
 -- What holds of each statement that is read.
-use Rattle.std.proofs.Common.{◌≡◌, ◌∙◌, ◌==◌, ◌<◌, ◌≤◌, ◌*◌, ◌^◌, ℕ, zero, suc, ◌+◌, ◌-◌, Bool, true, false, cond, List, [], ◌∷◌, ◌++◌, length, map, nat_le, Option, Some, None, refl, ap, sym, subst, arith}
-use Rattle.std.specs.Prelude.{⊤, ℤ, pos, negsuc, neg_ℤ, unsigned_abs, option_map}
-use Rattle.std.proofs.lemmas.Bool.Decides.{nat_tests}
+use Rattle.std.proofs.Common.{◌≡◌, zero, suc, Bool, true, false, cond, List, [], ◌∷◌, Option, Some, None, refl}
+use Rattle.std.specs.Prelude.{ℤ, pos, negsuc, neg_ℤ, unsigned_abs}
 use Rattle.lg_value.specs.declared.value.Value.{Value}
 use Rattle.lg_value.specs.declared.value.Value.TheVariants as value
-use Rattle.lg_value.specs.declared.expr.Expr.{Expr}
 use Rattle.lg_value.specs.Literals.{IsLiteral}
-use Rattle.lg_types.specs.declared.statement.RowStmt.{RowStmt}
-use Rattle.lg_types.specs.declared.statement.RowStmt.TheVariants.{Insert, Update, Delete}
-use Rattle.lg_types.specs.declared.statement.Select.{Select}
 use Rattle.lg_types.specs.declared.statement.What.{What}
 use Rattle.lg_types.specs.declared.statement.What.TheVariants as shown
-use Rattle.lg_types.specs.declared.statement.Agg.{Agg}
 use Rattle.lg_types.specs.declared.statement.Agg.TheVariants as aggregate
 use Rattle.lg_parse.specs.declared.tag.Tag.{Tag}
 use Rattle.lg_parse.specs.declared.tag.Tag.TheVariants as t
 use Rattle.lg_parse.specs.declared.word.Call.{Call}
 use Rattle.lg_parse.specs.declared.word.Call.TheVariants as call
-use Rattle.lg_parse.specs.Input.{Input, Sym, Outcome, Parser, and_then, tag, text, next, sees, calls, after, expect, list}
+use Rattle.lg_parse.specs.Input.{Input, Outcome, and_then, tag, text, next, sees, calls, after, expect, list}
 use Rattle.lg_parse.specs.Words.{call_word, call_by, call_name}
 use Rattle.lg_parse.specs.Expr as e
 use Rattle.lg_parse.specs.Expr.{name, whole}
 use Rattle.lg_parse.specs.Row as r
 use Rattle.lg_parse.specs.Select as g
 use Rattle.lg_parse.specs.Table as b
-use Rattle.lg_parse.specs.Parsed.{IsName, IsExpr, IsUnsigned, IsAssignment, IsChange, IsAgg, IsWhat, IsSort, IsOrder, IsSelect, IsIndex, Each, Some_, Maybe}
+use Rattle.lg_parse.specs.Parsed.{IsName, IsExpr, IsAssignment, IsChange, IsAgg, IsWhat, IsSort, IsOrder, IsSelect, IsIndex, Each, OneOrMore, Maybe}
 use Rattle.lg_parse.proofs.Kept.{AreSyms, Holds, Always, then_keeps, map_keeps, weak, required_keeps, next_ok, after_ok, expect_keeps, if_keeps, name_keeps, Literal, IsRead, literal_keeps, list_keeps}
 use Rattle.lg_parse.proofs.KeptExprs.{whole_keeps}
 
-pub names_keep : (i : Input) → AreSyms i.rest → Holds (Some_ IsName) (list name i)
+pub names_keep : (i : Input) → AreSyms i.rest → Holds (OneOrMore IsName) (list name i)
 names_keep i ok = list_keeps IsName name name_keeps i ok
 
-pub name_list_keeps : (i : Input) → AreSyms i.rest → Holds (Some_ IsName) (r.name_list i)
+pub name_list_keeps : (i : Input) → AreSyms i.rest → Holds (OneOrMore IsName) (r.name_list i)
 unfolding r.name_list
 name_list_keeps i ok =
-    then_keeps Always (Some_ IsName) (λ x. _) (expect t.Open i) (expect_keeps t.Open i ok) (λ x is j more.
-    then_keeps (Some_ IsName) (Some_ IsName) (λ y. _) (list name j) (names_keep j more) (λ ns named k rest.
-    then_keeps Always (Some_ IsName) (λ z. _) (expect t.Close k) (expect_keeps t.Close k rest) (λ z done m end. (named, end))))
+    then_keeps Always (OneOrMore IsName) (λ x. _) (expect t.Open i) (expect_keeps t.Open i ok) (λ x is j more.
+    then_keeps (OneOrMore IsName) (OneOrMore IsName) (λ y. _) (list name j) (names_keep j more) (λ ns named k rest.
+    then_keeps Always (OneOrMore IsName) (λ z. _) (expect t.Close k) (expect_keeps t.Close k rest) (λ z done m end. (named, end))))
 
 -- ---- values
 
@@ -69,21 +63,21 @@ value_keeps : Literal → (i : Input) → AreSyms i.rest → Holds IsLiteral (r.
 unfolding r.value
 value_keeps read i ok = value_by_keeps read (tag i) i ok
 
-row_keeps : Literal → (i : Input) → AreSyms i.rest → Holds (Some_ IsLiteral) (r.row i)
+row_keeps : Literal → (i : Input) → AreSyms i.rest → Holds (OneOrMore IsLiteral) (r.row i)
 unfolding r.row
 row_keeps read i ok =
-    then_keeps Always (Some_ IsLiteral) (λ x. _) (expect t.Open i) (expect_keeps t.Open i ok) (λ x is j more.
-    then_keeps (Some_ IsLiteral) (Some_ IsLiteral) (λ y. _) (list r.value j) (list_keeps IsLiteral r.value (value_keeps read) j more) (λ vs all k rest.
-    then_keeps Always (Some_ IsLiteral) (λ z. _) (expect t.Close k) (expect_keeps t.Close k rest) (λ z done m end. (all, end))))
+    then_keeps Always (OneOrMore IsLiteral) (λ x. _) (expect t.Open i) (expect_keeps t.Open i ok) (λ x is j more.
+    then_keeps (OneOrMore IsLiteral) (OneOrMore IsLiteral) (λ y. _) (list r.value j) (list_keeps IsLiteral r.value (value_keeps read) j more) (λ vs all k rest.
+    then_keeps Always (OneOrMore IsLiteral) (λ z. _) (expect t.Close k) (expect_keeps t.Close k rest) (λ z done m end. (all, end))))
 
-columns_keep : (i : Input) → AreSyms i.rest → Holds (Maybe (Some_ IsName)) (r.columns i)
+columns_keep : (i : Input) → AreSyms i.rest → Holds (Maybe (OneOrMore IsName)) (r.columns i)
 unfolding r.columns
 columns_keep i ok =
     let j = after t.Open i in
     let kept = after_ok t.Open i ok in
-    if_keeps (Maybe (Some_ IsName)) (sees t.Open i) (λ k. and_then (list name k) (λ found m. and_then (expect t.Close m) (λ z n. Some (Some found, n)))) (λ k. Some (None, k)) j
-    (then_keeps (Some_ IsName) (Maybe (Some_ IsName)) (λ y. _) (list name j) (names_keep j kept) (λ ns named k rest.
-    then_keeps Always (Maybe (Some_ IsName)) (λ z. _) (expect t.Close k) (expect_keeps t.Close k rest) (λ z done m end. (named, end))))
+    if_keeps (Maybe (OneOrMore IsName)) (sees t.Open i) (λ k. and_then (list name k) (λ found m. and_then (expect t.Close m) (λ z n. Some (Some found, n)))) (λ k. Some (None, k)) j
+    (then_keeps (OneOrMore IsName) (Maybe (OneOrMore IsName)) (λ y. _) (list name j) (names_keep j kept) (λ ns named k rest.
+    then_keeps Always (Maybe (OneOrMore IsName)) (λ z. _) (expect t.Close k) (expect_keeps t.Close k rest) (λ z done m end. (named, end))))
     (tt, kept)
 
 pub insert_keeps : Literal → (i : Input) → AreSyms i.rest → Holds IsChange (r.insert i)
@@ -91,9 +85,9 @@ unfolding r.insert
 insert_keeps read i ok =
     let j = after t.Into i in
     then_keeps IsName IsChange (λ x. _) (name j) (name_keeps j (after_ok t.Into i ok)) (λ table named k rest.
-    then_keeps (Maybe (Some_ IsName)) IsChange (λ x. _) (r.columns k) (columns_keep k rest) (λ found columns_ m more.
+    then_keeps (Maybe (OneOrMore IsName)) IsChange (λ x. _) (r.columns k) (columns_keep k rest) (λ found columns_ m more.
     then_keeps Always IsChange (λ x. _) (expect t.Values m) (expect_keeps t.Values m more) (λ z done n others.
-    then_keeps (Some_ (Some_ IsLiteral)) IsChange (λ x. _) (list r.row n) (list_keeps (Some_ IsLiteral) r.row (row_keeps read) n others) (λ rows all q end. ((named, columns_, all), end)))))
+    then_keeps (OneOrMore (OneOrMore IsLiteral)) IsChange (λ x. _) (list r.row n) (list_keeps (OneOrMore IsLiteral) r.row (row_keeps read) n others) (λ rows all q end. ((named, columns_, all), end)))))
 
 pub filter_keeps : Literal → (i : Input) → AreSyms i.rest → Holds (Maybe IsExpr) (r.filter i)
 unfolding r.filter
@@ -115,7 +109,7 @@ unfolding r.update
 update_keeps read i ok =
     then_keeps IsName IsChange (λ x. _) (name i) (name_keeps i ok) (λ table named j more.
     then_keeps Always IsChange (λ x. _) (expect t.Set j) (expect_keeps t.Set j more) (λ z done k rest.
-    then_keeps (Some_ IsAssignment) IsChange (λ x. _) (list r.assignment k) (list_keeps IsAssignment r.assignment (assignment_keeps read) k rest) (λ sets all m others.
+    then_keeps (OneOrMore IsAssignment) IsChange (λ x. _) (list r.assignment k) (list_keeps IsAssignment r.assignment (assignment_keeps read) k rest) (λ sets all m others.
     then_keeps (Maybe IsExpr) IsChange (λ x. _) (r.filter m) (filter_keeps read m others) (λ cond_ is n end. ((named, all, is), end)))))
 
 pub delete_keeps : Literal → (i : Input) → AreSyms i.rest → Holds IsChange (r.delete i)
@@ -162,9 +156,9 @@ what_keeps i ok =
     let j = after t.Star i in
     let kept = after_ok t.Star i ok in
     if_holds IsWhat (calls i) (and_then (list g.agg i) (λ x m. Some (shown.Aggs x, m))) _
-    (map_keeps (Some_ IsAgg) IsWhat shown.Aggs (list g.agg i) (list_keeps IsAgg g.agg agg_keeps i ok) (λ x is. is))
+    (map_keeps (OneOrMore IsAgg) IsWhat shown.Aggs (list g.agg i) (list_keeps IsAgg g.agg agg_keeps i ok) (λ x is. is))
     (if_keeps IsWhat (sees t.Star i) (λ k. Some (shown.All, k)) (λ k. and_then (list name k) (λ x m. Some (shown.Columns x, m))) j (tt, kept)
-    (map_keeps (Some_ IsName) IsWhat shown.Columns (list name j) (names_keep j kept) (λ x is. is)))
+    (map_keeps (OneOrMore IsName) IsWhat shown.Columns (list name j) (names_keep j kept) (λ x is. is)))
 
 falls_keeps : (i : Input) → AreSyms i.rest → Holds Always (g.falls i)
 unfolding g.falls
@@ -179,7 +173,7 @@ sort_keeps i ok =
     then_keeps IsName IsSort (λ x. _) (name i) (name_keeps i ok) (λ column named j more.
     then_keeps Always IsSort (λ x. _) (g.falls j) (falls_keeps j more) (λ down is k end. (named, end)))
 
-some_each : {A : Type 0} (P : A → Type 0) (xs : List A) → Some_ P xs → Each P xs
+some_each : {A : Type 0} (P : A → Type 0) (xs : List A) → OneOrMore P xs → Each P xs
 some_each P [] k = absurd k
 some_each P (x ∷ xs) k = k
 
@@ -189,7 +183,7 @@ order_keeps i ok =
     let j = after t.Order i in
     let kept = after_ok t.Order i ok in
     if_keeps (Each IsSort) (sees t.Order i) (λ k. and_then (expect t.By k) (λ z. list g.sort)) (λ k. Some ([], k)) j
-    (then_keeps Always (Each IsSort) (λ z. _) (expect t.By j) (expect_keeps t.By j kept) (λ z done k rest. weak (Some_ IsSort) (Each IsSort) (list g.sort k) (list_keeps IsSort g.sort sort_keeps k rest) (some_each IsSort)))
+    (then_keeps Always (Each IsSort) (λ z. _) (expect t.By j) (expect_keeps t.By j kept) (λ z done k rest. weak (OneOrMore IsSort) (Each IsSort) (list g.sort k) (list_keeps IsSort g.sort sort_keeps k rest) (some_each IsSort)))
     (tt, kept)
 
 order_of_keeps : (w : What) (i : Input) → AreSyms i.rest → Holds (IsOrder w) (g.order_of w i)
@@ -212,4 +206,4 @@ index_keeps i ok =
     then_keeps IsName IsIndex (λ x. _) (name i) (name_keeps i ok) (λ n named j more.
     then_keeps Always IsIndex (λ x. _) (expect t.On j) (expect_keeps t.On j more) (λ z done k rest.
     then_keeps IsName IsIndex (λ x. _) (name k) (name_keeps k rest) (λ table known m others.
-    then_keeps (Some_ IsName) IsIndex (λ x. _) (r.name_list m) (name_list_keeps m others) (λ names all q end. ((named, known, all), end)))))
+    then_keeps (OneOrMore IsName) IsIndex (λ x. _) (r.name_list m) (name_list_keeps m others) (λ names all q end. ((named, known, all), end)))))

@@ -1,15 +1,12 @@
 -- What holds of each CREATE TABLE that is read.
-use Rattle.std.proofs.Common.{◌≡◌, ◌∙◌, ◌<◌, ◌≤◌, ◌*◌, ◌^◌, ℕ, zero, suc, ◌+◌, ◌-◌, Bool, true, false, cond, List, [], ◌∷◌, ◌++◌, length, map, nat_le, Option, Some, None, refl, ap, sym, subst, arith, lit<}
+use Rattle.std.proofs.Common.{◌≡◌, ◌<◌, ◌≤◌, ◌*◌, ◌^◌, ℕ, zero, suc, ◌+◌, ◌-◌, Bool, true, false, cond, List, [], ◌∷◌, ◌++◌, length, map, nat_le, Option, Some, None, refl, arith, lit<}
 use Rattle.std.specs.Prelude.{⊤}
 use Rattle.std.specs.Char.{is_ascii_digit}
 use Rattle.std.proofs.Math.Nat.{pow-le-pow_right}
 use Rattle.std.proofs.lemmas.Bool.Decides.{nat_tests}
 use Rattle.lg_value.specs.Literal.{digits_after}
-use Rattle.lg_value.specs.declared.sql_type.SqlType.{SqlType}
 use Rattle.lg_value.specs.declared.sql_type.SqlType.TheVariants as sql
-use Rattle.lg_value.specs.declared.column.ColumnDef.{ColumnDef}
 use Rattle.lg_value.specs.declared.column.TableKind.TheVariants.{AppendOnly, Updatable}
-use Rattle.lg_types.specs.declared.statement.CreateTable.{CreateTable}
 use Rattle.lg_parse.specs.declared.tag.Tag.{Tag}
 use Rattle.lg_parse.specs.declared.tag.Tag.TheVariants as t
 use Rattle.lg_parse.specs.declared.word.TypeName.{TypeName}
@@ -24,14 +21,14 @@ use Rattle.lg_parse.specs.declared.ledger.Ledger.{Ledger}
 use Rattle.lg_parse.specs.declared.ledger.Choices.{Choices}
 use Rattle.lg_parse.specs.declared.ledger.Choice.{Choice}
 use Rattle.lg_parse.specs.declared.ledger.Choice.TheVariants as choice
-use Rattle.lg_parse.specs.Input.{Input, Outcome, Parser, and_then, required, tag, text, next, sees, after, expect, fold, fold_from, tokens_left}
+use Rattle.lg_parse.specs.Input.{Input, Parser, and_then, required, tag, text, next, sees, after, expect, fold, fold_from, tokens_left}
 use Rattle.lg_parse.specs.Words as w
 use Rattle.lg_parse.specs.Words.{type_word, option_word}
 use Rattle.lg_parse.specs.Expr.{name}
 use Rattle.lg_parse.specs.Row as r
 use Rattle.lg_parse.specs.Ledger as g
 use Rattle.lg_parse.specs.Table as b
-use Rattle.lg_parse.specs.Parsed.{IsName, IsSize, IsType, IsColumn, IsHistory, IsTable, Each, Some_, Maybe}
+use Rattle.lg_parse.specs.Parsed.{IsName, IsSize, IsType, IsColumn, IsHistory, IsTable, Each, OneOrMore, Maybe}
 use Rattle.lg_parse.proofs.Digits.{one_digit, small_digit}
 use Rattle.lg_parse.proofs.Kept.{AreSyms, Holds, Always, then_keeps, map_keeps, required_keeps, next_ok, after_ok, expect_keeps, if_keeps, name_keeps}
 use Rattle.lg_parse.proofs.KeptStmts.{name_list_keeps, always}
@@ -146,7 +143,7 @@ IsWritten c = IsName c.name × IsType c.ty
 
 abbrev IsItem : Item → Type 0
 IsItem (item.Column c key) = IsWritten c
-IsItem (item.Key ns) = Some_ IsName ns
+IsItem (item.Key ns) = OneOrMore IsName ns
 
 column_keeps : (i : Input) → AreSyms i.rest → Holds IsItem (b.column i)
 unfolding b.column
@@ -160,7 +157,7 @@ key_keeps : (i : Input) → AreSyms i.rest → Holds IsItem (b.key i)
 unfolding b.key
 key_keeps i ok =
     then_keeps Always IsItem (λ x. _) (expect t.Key i) (expect_keeps t.Key i ok) (λ z done j more.
-    map_keeps (Some_ IsName) IsItem item.Key (r.name_list (after t.Clustered j)) (name_list_keeps (after t.Clustered j) (after_ok t.Clustered j more)) (λ ns all. all))
+    map_keeps (OneOrMore IsName) IsItem item.Key (r.name_list (after t.Clustered j)) (name_list_keeps (after t.Clustered j) (after_ok t.Clustered j more)) (λ ns all. all))
 
 item_by_keeps : (g_ : Tag) (i : Input) → AreSyms i.rest → Holds IsItem (b.item_by g_ i)
 item_by_keeps t.Primary i ok = key_keeps (next i) (next_ok i ok)
@@ -171,13 +168,13 @@ unfolding b.one_item
 one_item_keeps i ok = item_by_keeps (tag i) i ok
 
 abbrev IsDraft : Draft → Type 0
-IsDraft d = Each IsWritten d.columns × Maybe (Some_ IsName) d.key
+IsDraft d = Each IsWritten d.columns × Maybe (OneOrMore IsName) d.key
 
 each_last : {A : Type 0} (P : A → Type 0) (xs : List A) (x : A) → Each P xs → P x → Each P (xs ++ x ∷ [])
 each_last P [] x k is = (is, tt)
 each_last P (y ∷ ys) x k is = (k.0, each_last P ys x k.1 is)
 
-with_key_is : (columns : List Column) (old : Option (List (List ℕ))) (names : List (List ℕ)) → Each IsWritten columns → Some_ IsName names → Maybe IsDraft (b.with_key columns old names)
+with_key_is : (columns : List Column) (old : Option (List (List ℕ))) (names : List (List ℕ)) → Each IsWritten columns → OneOrMore IsName names → Maybe IsDraft (b.with_key columns old names)
 with_key_is columns (Some old) names all key_ = tt
 with_key_is columns None names all key_ = (all, key_)
 
@@ -317,7 +314,7 @@ defs_are : (ks : List (List ℕ)) (cs : List Column) → Each IsWritten cs → E
 defs_are ks [] k = tt
 defs_are ks (c ∷ cs) k = ((k.0.0, k.0.1, refl), defs_are ks cs k.1)
 
-table_is : (n : List ℕ) (columns : List Column) (key_ : Option (List (List ℕ))) (x : Ledger) → IsName n → Each IsWritten columns → Maybe (Some_ IsName) key_ → IsLedger x → Maybe IsTable (b.table_of n columns key_ x)
+table_is : (n : List ℕ) (columns : List Column) (key_ : Option (List (List ℕ))) (x : Ledger) → IsName n → Each IsWritten columns → Maybe (OneOrMore IsName) key_ → IsLedger x → Maybe IsTable (b.table_of n columns key_ x)
 table_is n [] key_ x named all keyed is = tt
 table_is n (c ∷ cs) None x named all keyed is = tt
 table_is n (c ∷ cs) (Some ks) x named all keyed is = (named, defs_are ks (c ∷ cs) all, keyed, is.0, is.1)

@@ -1,6 +1,6 @@
 -- The tokens of a text keep to what a parser needs of them.
-use Rattle.std.proofs.Common.{◌≡◌, ◌∙◌, ◌==◌, ◌<◌, ◌≤◌, ℕ, zero, suc, ◌+◌, ◌-◌, Bool, true, false, not, cond, ◌&&◌, ◌||◌, List, [], ◌∷◌, ◌++◌, length, take, map, nat_lt, nat_le, Option, Some, None, refl, ap, sym, subst, arith}
-use Rattle.std.specs.Prelude.{⊤, option_map, option_and_then}
+use Rattle.std.proofs.Common.{◌≡◌, ◌∙◌, ◌==◌, ◌<◌, ◌≤◌, ℕ, zero, suc, ◌+◌, ◌-◌, Bool, true, false, cond, ◌&&◌, ◌||◌, List, [], ◌∷◌, length, take, map, nat_lt, nat_le, Option, Some, None, refl, ap, sym, subst, arith}
+use Rattle.std.specs.Prelude.{⊤, option_map}
 use Rattle.std.specs.List.{list_all}
 use Rattle.std.specs.Char.{is_ascii_digit}
 use Rattle.std.specs.Str.{str_eq_ignore_ascii_case}
@@ -18,7 +18,7 @@ use Rattle.lg_parse.specs.declared.tag.Tag.TheVariants as t
 use Rattle.lg_parse.specs.declared.tag.TheConstants.{SIGNS}
 use Rattle.lg_parse.specs.Tags.{tag_of, lookup}
 use Rattle.lg_parse.specs.Input.{Sym}
-use Rattle.lg_parse.specs.Expr.{inside, after_open, before_close}
+use Rattle.lg_parse.specs.Expr.{inside, before_close}
 use Rattle.lg_parse.specs.Parsed.{IsName, IsUnsigned}
 use Rattle.lg_parse.proofs.Tokens.{and_true}
 use Rattle.lg_parse.proofs.Signs.{literal_unsigned, minus_alone}

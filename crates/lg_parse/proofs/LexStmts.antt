@@ -1,5 +1,5 @@
 -- The text of each printed statement has its tokens.
-use Rattle.std.proofs.Common.{◌≡◌, ◌∙◌, ℕ, suc, Bool, true, false, List, [], ◌∷◌, ◌++◌, Option, Some, None, refl, ap, sym, subst, codes}
+use Rattle.std.proofs.Common.{◌≡◌, ◌∙◌, ℕ, Bool, true, false, List, [], ◌∷◌, Option, Some, None, refl, ap, sym, subst, codes}
 use Rattle.std.specs.Prelude.{pos, negsuc, option_and_then, if◌then◌else◌}
 use Rattle.lg_value.specs.declared.value.Value.{Value}
 use Rattle.lg_value.specs.declared.value.Value.TheVariants as value
@@ -32,8 +32,8 @@ use Rattle.lg_parse.specs.Stmt.{statement_of_tokens}
 use Rattle.lg_parse.specs.Printed as p
 use Rattle.lg_parse.specs.Printed.{key, word, enclosed, listed, rest_listed}
 use Rattle.lg_parse.specs.PrintedStmt as s
-use Rattle.lg_parse.specs.Parsed.{IsName, IsTree, IsExpr, IsType, IsColumn, IsHistory, IsTable, IsIndex, IsAssignment, IsChange, IsAgg, IsWhat, IsSort, IsOrder, IsSelect, IsParsed, Each, Some_, Maybe}
-use Rattle.lg_parse.proofs.Cut.{cut, statement_of_cut}
+use Rattle.lg_parse.specs.Parsed.{IsName, IsTree, IsExpr, IsType, IsColumn, IsHistory, IsTable, IsIndex, IsAssignment, IsChange, IsAgg, IsWhat, IsSort, IsOrder, IsSelect, IsParsed, Each, OneOrMore, Maybe}
+use Rattle.lg_parse.proofs.Cut.{statement_of_cut}
 use Rattle.lg_parse.proofs.Lexed.{One, Lexed, none, more, joined, spelled_cut}
 use Rattle.lg_parse.proofs.Tokens as k
 use Rattle.lg_parse.proofs.Literals.{one_name}
@@ -58,7 +58,7 @@ module _ {A : Type 0} (tokens syms : A → List Sym) (P : A → Type 0) (lex : (
   lex_rest [] is = none
   lex_rest (x ∷ xs) is = then_ k.comma (joined (lex x is.0) (lex_rest xs is.1))
 
-  lex_listed : (xs : List A) → Some_ P xs → Lexed (listed tokens xs) (listed syms xs)
+  lex_listed : (xs : List A) → OneOrMore P xs → Lexed (listed tokens xs) (listed syms xs)
   unfolding listed
   lex_listed [] is = absurd is
   lex_listed (x ∷ xs) is = joined (lex x is.0) (lex_rest xs is.1)
@@ -66,7 +66,7 @@ module _ {A : Type 0} (tokens syms : A → List Sym) (P : A → Type 0) (lex : (
 lex_name : (n : List ℕ) → IsName n → Lexed (s.one_name n) (s.one_name n)
 lex_name n is = lone (one_name n is)
 
-lex_names : (ns : List (List ℕ)) → Some_ IsName ns → Lexed (s.names ns) (s.names ns)
+lex_names : (ns : List (List ℕ)) → OneOrMore IsName ns → Lexed (s.names ns) (s.names ns)
 lex_names ns is = lex_enclosed (lex_listed s.one_name s.one_name IsName lex_name ns is)
 
 -- ---- expressions
@@ -181,10 +181,10 @@ lex_value (value.Text x) is = lone (one_literal (value.Text x) is tt)
 lex_value (value.Bytes b) is = lone (one_literal (value.Bytes b) is tt)
 lex_value (value.Date d) is = absurd is
 
-lex_row : (vs : List Value) → Some_ IsLiteral vs → Lexed (s.row vs) (row_syms vs)
+lex_row : (vs : List Value) → OneOrMore IsLiteral vs → Lexed (s.row vs) (row_syms vs)
 lex_row vs is = lex_enclosed (lex_listed s.literal value_syms IsLiteral lex_value vs is)
 
-lex_columns : (found : Option (List (List ℕ))) → Maybe (Some_ IsName) found → Lexed (s.columns found) (s.columns found)
+lex_columns : (found : Option (List (List ℕ))) → Maybe (OneOrMore IsName) found → Lexed (s.columns found) (s.columns found)
 lex_columns None is = none
 lex_columns (Some ns) is = lex_names ns is
 
@@ -194,7 +194,7 @@ lex_assignment x is = then_ (one_name x.0 is.0) (then_ k.equal (lex_expr (tree x
 lex_change : (c : RowStmt) → IsChange c → Lexed (s.change c) (change_syms c)
 unfolding s.change
 lex_change (Insert table found rows) is =
-    then_ k.insert_ (then_ k.into_ (then_ (one_name table is.0) (joined (lex_columns found is.1) (then_ k.values_ (lex_listed s.row row_syms (Some_ IsLiteral) lex_row rows is.2)))))
+    then_ k.insert_ (then_ k.into_ (then_ (one_name table is.0) (joined (lex_columns found is.1) (then_ k.values_ (lex_listed s.row row_syms (OneOrMore IsLiteral) lex_row rows is.2)))))
 lex_change (Update table sets cond) is =
     then_ k.update_ (then_ (one_name table is.0) (then_ k.set_ (joined (lex_listed s.assignment s.assignment IsAssignment lex_assignment sets is.1) (lex_filter cond is.2))))
 lex_change (Delete table cond) is = then_ k.delete_ (then_ k.from_ (then_ (one_name table is.0) (lex_filter cond is.1)))

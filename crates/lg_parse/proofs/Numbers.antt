@@ -1,16 +1,16 @@
 -- Printed numbers are the longest tokens at their places.
-use Rattle.std.proofs.Common.{◌≡◌, ℕ, zero, suc, ◌+◌, ◌-◌, ◌<◌, ◌≤◌, ◌^◌, Bool, true, false, cond, ◌==◌, ◌&&◌, ◌||◌, List, [], ◌∷◌, ◌++◌, length, take, drop, replicate, get_or, nat_lt, min, Option, Some, None, refl, ap, ◌∙◌, sym, subst, arith, append_assoc, length-append, append-nil, inl, inr}
+use Rattle.std.proofs.Common.{◌≡◌, ℕ, suc, ◌+◌, ◌-◌, ◌<◌, ◌≤◌, Bool, true, false, cond, ◌==◌, ◌&&◌, ◌||◌, List, [], ◌∷◌, ◌++◌, length, drop, get_or, nat_lt, min, Option, Some, None, refl, ap, ◌∙◌, sym, arith, append_assoc, length-append}
 use Rattle.std.specs.List.{list_all, prefix_len}
 use Rattle.std.specs.Char.{is_ascii_digit}
 use Rattle.std.proofs.lemmas.Bool.Decides.{nat_tests}
 use Rattle.lg_lex.specs.declared.token.Kind.TheVariants as kind
-use Rattle.lg_lex.specs.Cut.{is_blank, begins_comment}
+use Rattle.lg_lex.specs.Cut.{is_blank}
 use Rattle.lg_lex.specs.Front.{front, number, bytes}
 use Rattle.lg_lex.proofs.Found.{front_is}
 use Rattle.lg_parse.specs.declared.tag.Tag.TheVariants as t
 use Rattle.lg_parse.specs.Tags.{tag_of}
-use Rattle.lg_parse.proofs.Cut.{cut, cut_token}
-use Rattle.lg_parse.proofs.Lexed.{Stop, by_stop, After, One}
+use Rattle.lg_parse.proofs.Cut.{cut_token}
+use Rattle.lg_parse.proofs.Lexed.{Stop, by_stop, One}
 use Rattle.lg_parse.proofs.Tokens.{and_true, run_len}
 
 abbrev pub AreDigits : List ℕ → Type 0

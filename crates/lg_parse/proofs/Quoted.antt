@@ -1,9 +1,7 @@
 -- Printed texts and bytes are the longest tokens at their places.
-use Rattle.std.proofs.Common.{◌≡◌, ℕ, zero, suc, ◌+◌, ◌-◌, ◌*◌, ◌/◌, ◌%◌, ◌<◌, ◌≤◌, ◌^◌, Bool, true, false, cond, ◌==◌, ◌&&◌, ◌||◌, List, [], ◌∷◌, ◌++◌, length, get_or, Option, Some, None, refl, ap, ◌∙◌, sym, subst, arith, codes, append_assoc, length-append}
+use Rattle.std.proofs.Common.{◌≡◌, ℕ, zero, suc, ◌+◌, ◌-◌, ◌*◌, ◌/◌, ◌%◌, ◌<◌, Bool, true, false, ◌==◌, List, [], ◌∷◌, ◌++◌, length, get_or, Option, Some, None, refl, ap, ◌∙◌, sym, arith, append_assoc, length-append}
 use Rattle.std.specs.List.{list_all, prefix_len}
 use Rattle.std.specs.Char.{is_ascii_hexdigit}
-use Rattle.std.proofs.lemmas.Bool.Decides.{nat_tests}
-use Rattle.std.proofs.lemmas.Bool.{eqb-true}
 use Rattle.hex.specs.Hex.{IsBytes, encode_upper, encode_with, upper_digits}
 use Rattle.lg_value.specs.Printed.{doubled, quoted}
 use Rattle.lg_lex.specs.declared.token.Kind.TheVariants as kind
@@ -11,9 +9,9 @@ use Rattle.lg_lex.specs.Front.{front, closing}
 use Rattle.lg_lex.proofs.Found.{front_is}
 use Rattle.lg_parse.specs.declared.tag.Tag.TheVariants as t
 use Rattle.lg_parse.specs.Tags.{tag_of}
-use Rattle.lg_parse.proofs.Cut.{cut, cut_token}
-use Rattle.lg_parse.proofs.Lexed.{Stop, by_stop, After, One}
-use Rattle.lg_parse.proofs.Tokens.{and_true, run_len}
+use Rattle.lg_parse.proofs.Cut.{cut_token}
+use Rattle.lg_parse.proofs.Lexed.{Stop, by_stop, One}
+use Rattle.lg_parse.proofs.Tokens.{run_len}
 
 -- ---- texts
 

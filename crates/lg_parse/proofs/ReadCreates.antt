@@ -1,26 +1,25 @@
 -- Printed CREATE TABLE is read as itself, whole.
-use Rattle.std.proofs.Common.{◌≡◌, ◌∙◌, ℕ, ◌+◌, Bool, true, false, List, [], ◌∷◌, ◌++◌, map, Option, Some, None, refl, ap, sym, subst, append_assoc, codes}
+use Rattle.std.proofs.Common.{◌≡◌, ◌∙◌, ℕ, ◌+◌, List, [], ◌∷◌, ◌++◌, map, Option, Some, None, refl, ap, sym, append_assoc, codes}
 use Rattle.lg_value.specs.declared.column.ColumnDef.{ColumnDef}
 use Rattle.lg_value.specs.declared.column.TableKind.{TableKind}
 use Rattle.lg_value.specs.declared.column.TableKind.TheVariants.{AppendOnly, Updatable}
 use Rattle.lg_types.specs.declared.statement.CreateTable.{CreateTable}
 use Rattle.lg_parse.specs.declared.tag.Tag.TheVariants as t
 use Rattle.lg_parse.specs.declared.word.OptionName.TheVariants as option
-use Rattle.lg_parse.specs.declared.column.Column.{Column}
 use Rattle.lg_parse.specs.declared.column.Draft.{Draft}
 use Rattle.lg_parse.specs.declared.ledger.Ledger.{Ledger}
 use Rattle.lg_parse.specs.Tags.{same_tag}
-use Rattle.lg_parse.specs.Input.{Sym, next, sees, after, expect}
+use Rattle.lg_parse.specs.Input.{next, sees, after, expect}
 use Rattle.lg_parse.specs.Words.{option_name}
 use Rattle.lg_parse.specs.Ledger as g
 use Rattle.lg_parse.specs.Table as b
 use Rattle.lg_parse.specs.Printed as p
 use Rattle.lg_parse.specs.Printed.{key, word, enclosed, listed}
 use Rattle.lg_parse.specs.PrintedStmt as s
-use Rattle.lg_parse.specs.Parsed.{IsName, IsColumn, IsHistory, IsTable, Each, Some_, Maybe}
+use Rattle.lg_parse.specs.Parsed.{IsName, IsColumn, IsHistory, IsTable, Each, OneOrMore}
 use Rattle.lg_parse.proofs.Repeats.{at_}
 use Rattle.lg_parse.proofs.ReadTrees.{name_read}
-use Rattle.lg_parse.proofs.Gets.{Gets, gets, then_gets}
+use Rattle.lg_parse.proofs.Gets.{Gets, then_gets}
 use Rattle.lg_parse.proofs.ReadTables.{drafted, items_gets, option_read, the_read, versions_read, chosen_own, chosen_more}
 
 abbrev Part : TableKind → Option (List ℕ) → Option (List ℕ) → Ledger
@@ -61,7 +60,7 @@ columns_back : (ks : List (List ℕ)) (cs : List ColumnDef) → Each IsColumn cs
 columns_back ks [] is = refl
 columns_back ks (c ∷ cs) is = ap (λ x. x ∷ map (b.column_def ks) (map drafted cs)) (column_back ks c is.0) ∙ ap (λ x. c ∷ x) (columns_back ks cs is.1)
 
-fields_gets : (n : List ℕ) (columns : List ColumnDef) (ks : List (List ℕ)) (kind : TableKind) (h v : Option (List ℕ)) (m : ℕ) → Some_ IsColumn columns → Some_ IsName ks → IsHistory kind h
+fields_gets : (n : List ℕ) (columns : List ColumnDef) (ks : List (List ℕ)) (kind : TableKind) (h v : Option (List ℕ)) (m : ℕ) → OneOrMore IsColumn columns → OneOrMore IsName ks → IsHistory kind h
     → Gets (b.create_table (at_ (p.name n ∷ (enclosed (listed s.column columns ++ key t.Comma ∷ key t.Primary ∷ key t.Key ∷ s.names ks) ++ key t.With ∷ enclosed (s.ledger kind h v))) m))
     (record { name = n; columns = columns; key = ks; kind = kind; history = h; view = v }) []
 unfolding b.create_table expect sees next same_tag

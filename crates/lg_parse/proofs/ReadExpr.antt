@@ -1,27 +1,16 @@
 -- Printed expressions are read as themselves.
-use Rattle.std.proofs.Common.{◌≡◌, ◌∙◌, ◌==◌, ℕ, zero, suc, ◌+◌, ◌-◌, ◌<◌, ◌≤◌, Bool, true, false, List, [], ◌∷◌, ◌++◌, Option, Some, None, refl, ap, sym, arith, append_assoc}
+use Rattle.std.proofs.Common.{◌≡◌, ◌∙◌, ◌==◌, ℕ, suc, ◌+◌, ◌-◌, ◌<◌, false, List, Option, Some, None, refl, ap, arith}
 use Rattle.std.proofs.lemmas.Bool.Decides.{nat_tests}
-use Rattle.lg_value.specs.declared.value.Value.{Value}
-use Rattle.lg_value.specs.declared.value.Value.TheVariants as value
 use Rattle.lg_value.specs.declared.expr.Op.{Op}
-use Rattle.lg_value.specs.declared.expr.Op.TheVariants as op
 use Rattle.lg_value.specs.declared.expr.Expr.{Expr}
 use Rattle.lg_value.specs.declared.expr.Expr.TheVariants.{Lit, Col, Neg, Not, IsNull, Bin}
 use Rattle.lg_value.specs.Tree.{Tree, literal, column, minus, not, is_null, binary, tree}
-use Rattle.lg_value.specs.Literal.{literal_of}
-use Rattle.lg_value.specs.Literals.{IsLiteral}
-use Rattle.lg_value.specs.Printed.{literal_text}
 use Rattle.lg_parse.specs.declared.tag.Tag.{Tag}
 use Rattle.lg_parse.specs.declared.tag.Tag.TheVariants as t
 use Rattle.lg_parse.specs.declared.expr.Level.TheVariants as l
-use Rattle.lg_parse.specs.Tags.{same_tag}
-use Rattle.lg_parse.specs.Input.{Input, Sym, Outcome, Parser, and_then, tag, text, next, sees, after, expect, spend, repeated, repeated_at}
+use Rattle.lg_parse.specs.Input.{Input, Sym, Parser, tag, next, sees, spend, repeated}
 use Rattle.lg_parse.specs.Expr as e
 use Rattle.lg_parse.specs.Expr.{operator, comparison, more, grouped, prim, unary, product, sum, cmp, and, or}
-use Rattle.lg_parse.specs.Printed as p
-use Rattle.lg_parse.specs.Printed.{key, enclosed, op_tag}
-use Rattle.lg_parse.specs.Parsed.{IsTree, IsName, count}
-use Rattle.lg_parse.proofs.Names.{closed}
 use Rattle.lg_parse.proofs.Repeats.{at_, left_}
 use Rattle.lg_parse.proofs.Trees.{of_literal, of_column, of_minus, of_not, of_is_null, of_binary}
 

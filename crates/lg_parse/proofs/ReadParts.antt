@@ -1,32 +1,21 @@
 -- The printed parts of statements are read as themselves.
-use Rattle.std.proofs.Common.{◌≡◌, ◌∙◌, ◌==◌, ℕ, zero, suc, ◌+◌, ◌-◌, ◌<◌, ◌≤◌, Bool, true, false, List, [], ◌∷◌, ◌++◌, length, Option, Some, None, refl, ap, sym, subst, arith, append_assoc}
-use Rattle.std.specs.Prelude.{ℤ, pos, negsuc, neg_ℤ}
-use Rattle.lg_value.specs.declared.value.Value.{Value}
-use Rattle.lg_value.specs.declared.value.Value.TheVariants as value
+use Rattle.std.proofs.Common.{◌≡◌, ℕ, ◌+◌, false, List, [], ◌∷◌, ◌++◌, Option, Some, None, refl, ap, sym, subst, arith, append_assoc}
 use Rattle.lg_value.specs.declared.expr.Expr.{Expr}
 use Rattle.lg_value.specs.Tree.{tree}
-use Rattle.lg_value.specs.Literal.{literal_of}
-use Rattle.lg_value.specs.Literals.{IsLiteral}
-use Rattle.lg_value.specs.Printed.{literal_text}
-use Rattle.lg_types.specs.declared.statement.RowStmt.{RowStmt}
-use Rattle.lg_types.specs.declared.statement.RowStmt.TheVariants.{Insert, Update, Delete}
-use Rattle.lg_parse.specs.declared.tag.Tag.{Tag}
 use Rattle.lg_parse.specs.declared.tag.Tag.TheVariants as t
-use Rattle.lg_parse.specs.declared.expr.Level.TheVariants as l
 use Rattle.lg_parse.specs.Tags.{same_tag}
-use Rattle.lg_parse.specs.Input.{Input, Sym, Parser, and_then, tag, text, next, sees, after, expect, list, max_parts}
-use Rattle.lg_parse.specs.Expr as e
+use Rattle.lg_parse.specs.Input.{Sym, next, sees, after, expect, list}
 use Rattle.lg_parse.specs.Expr.{name, whole}
 use Rattle.lg_parse.specs.Row as r
 use Rattle.lg_parse.specs.Printed as p
-use Rattle.lg_parse.specs.Printed.{key, enclosed, listed}
+use Rattle.lg_parse.specs.Printed.{key, listed}
 use Rattle.lg_parse.specs.PrintedStmt as s
-use Rattle.lg_parse.specs.Parsed.{IsName, IsExpr, IsAssignment, Each, Some_, Maybe}
+use Rattle.lg_parse.specs.Parsed.{IsName, IsExpr, Each, OneOrMore, Maybe}
 use Rattle.lg_parse.proofs.Repeats.{at_, left_}
 use Rattle.lg_parse.proofs.ReadExpr.{untree}
 use Rattle.lg_parse.proofs.ReadTrees.{Written, name_read}
 use Rattle.lg_parse.proofs.ReadWhole.{Ends, whole_read}
-use Rattle.lg_parse.proofs.Gets.{Gets, gets, then_gets, map_gets, eats_none, NoComma, ItemReads, list_gets}
+use Rattle.lg_parse.proofs.Gets.{Gets, gets, then_gets, map_gets, NoComma, ItemReads, list_gets}
 
 -- expressions of one tree are one expression
 abbrev pub Untreed : Type 0
@@ -47,14 +36,14 @@ each : {A : Type 0} (P Q : A → Type 0) → ((x : A) → P x → Q x) → (xs :
 each P Q f [] k = tt
 each P Q f (x ∷ xs) k = (f x k.0, each P Q f xs k.1)
 
-pub some_of : {A : Type 0} (P Q : A → Type 0) → ((x : A) → P x → Q x) → (xs : List A) → Some_ P xs → Some_ Q xs
+pub some_of : {A : Type 0} (P Q : A → Type 0) → ((x : A) → P x → Q x) → (xs : List A) → OneOrMore P xs → OneOrMore Q xs
 some_of P Q f [] k = k
 some_of P Q f (x ∷ xs) k = (f x k.0, each P Q f xs k.1)
 
 abbrev pub Any : List Sym → Type 0
 Any rest = Unit {0}
 
-pub names_gets : (ns : List (List ℕ)) (rest : List Sym) (n : ℕ) → Some_ IsName ns → NoComma rest → Gets (list name (at_ (listed s.one_name ns ++ rest) n)) ns rest
+pub names_gets : (ns : List (List ℕ)) (rest : List Sym) (n : ℕ) → OneOrMore IsName ns → NoComma rest → Gets (list name (at_ (listed s.one_name ns ++ rest) n)) ns rest
 names_gets ns rest n is end =
     list_gets name s.one_name Any (λ more. tt) ns rest n (some_of IsName (ItemReads name s.one_name Any) (λ c k. (omega arith, λ after_ m follow. gets (name (at_ (p.name c ∷ after_) m)) c after_ m (name_read c after_ m))) ns is) tt end
 
@@ -62,7 +51,7 @@ pub no_comma_close : (rest : List Sym) → NoComma (key t.Close ∷ rest)
 unfolding sees same_tag
 no_comma_close rest = λ n. refl
 
-pub name_list_gets : (ns : List (List ℕ)) (rest : List Sym) (n : ℕ) → Some_ IsName ns → Gets (r.name_list (at_ (s.names ns ++ rest) n)) ns rest
+pub name_list_gets : (ns : List (List ℕ)) (rest : List Sym) (n : ℕ) → OneOrMore IsName ns → Gets (r.name_list (at_ (s.names ns ++ rest) n)) ns rest
 unfolding r.name_list expect sees next same_tag
 name_list_gets ns rest n is =
     let flat = append_assoc (listed s.one_name ns) (key t.Close ∷ []) rest in

@@ -1,6 +1,6 @@
 -- Printed INSERT, UPDATE and DELETE are read as themselves.
-use Rattle.std.proofs.Common.{◌≡◌, ◌∙◌, ◌==◌, ℕ, zero, suc, ◌+◌, ◌<◌, ◌≤◌, Bool, true, false, List, [], ◌∷◌, ◌++◌, length, Option, Some, None, refl, ap, sym, subst, arith, append_assoc, append-nil}
-use Rattle.std.specs.Prelude.{ℤ, pos, negsuc, neg_ℤ}
+use Rattle.std.proofs.Common.{◌≡◌, ℕ, suc, ◌+◌, ◌<◌, false, List, [], ◌∷◌, ◌++◌, length, Option, Some, None, refl, sym, subst, arith, append_assoc, append-nil}
+use Rattle.std.specs.Prelude.{pos, negsuc}
 use Rattle.lg_value.specs.declared.value.Value.{Value}
 use Rattle.lg_value.specs.declared.value.Value.TheVariants as value
 use Rattle.lg_value.specs.declared.expr.Expr.{Expr}
@@ -8,21 +8,20 @@ use Rattle.lg_value.specs.Tree.{tree}
 use Rattle.lg_value.specs.Literals.{IsLiteral}
 use Rattle.lg_types.specs.declared.statement.RowStmt.{RowStmt}
 use Rattle.lg_types.specs.declared.statement.RowStmt.TheVariants.{Insert, Update, Delete}
-use Rattle.lg_parse.specs.declared.tag.Tag.{Tag}
 use Rattle.lg_parse.specs.declared.tag.Tag.TheVariants as t
 use Rattle.lg_parse.specs.Tags.{same_tag}
-use Rattle.lg_parse.specs.Input.{Input, Sym, Parser, and_then, tag, text, next, sees, after, expect, list}
+use Rattle.lg_parse.specs.Input.{Sym, tag, text, next, sees, after, expect, list}
 use Rattle.lg_parse.specs.Expr as e
 use Rattle.lg_parse.specs.Expr.{name, whole}
 use Rattle.lg_parse.specs.Row as r
 use Rattle.lg_parse.specs.Printed as p
 use Rattle.lg_parse.specs.Printed.{key, enclosed, listed}
 use Rattle.lg_parse.specs.PrintedStmt as s
-use Rattle.lg_parse.specs.Parsed.{IsName, IsExpr, IsAssignment, IsChange, Each, Some_, Maybe}
-use Rattle.lg_parse.proofs.Repeats.{at_, left_}
+use Rattle.lg_parse.specs.Parsed.{IsName, IsExpr, IsAssignment, OneOrMore, Maybe}
+use Rattle.lg_parse.proofs.Repeats.{at_}
 use Rattle.lg_parse.proofs.ReadTrees.{Written, name_read}
-use Rattle.lg_parse.proofs.Gets.{Gets, gets, then_gets, map_gets, NoComma, ItemReads, list_gets}
-use Rattle.lg_parse.proofs.ReadParts.{Untreed, AnyEnds, Any, expr_gets, some_of, names_gets, name_list_gets, no_comma_close, filter_gets}
+use Rattle.lg_parse.proofs.Gets.{Gets, gets, then_gets, NoComma, ItemReads, list_gets}
+use Rattle.lg_parse.proofs.ReadParts.{Untreed, AnyEnds, Any, expr_gets, some_of, names_gets, no_comma_close, filter_gets}
 
 -- the tokens of a value, of which a sign is one
 abbrev pub value_syms : Value → List Sym
@@ -74,7 +73,7 @@ value_some (value.Text x) = omega arith
 value_some (value.Bytes b) = omega arith
 value_some (value.Date d) = omega arith
 
-row_gets : Written → (vs : List Value) → Some_ IsLiteral vs → (rest : List Sym) (n : ℕ) → Gets (r.row (at_ (row_syms vs ++ rest) n)) vs rest
+row_gets : Written → (vs : List Value) → OneOrMore IsLiteral vs → (rest : List Sym) (n : ℕ) → Gets (r.row (at_ (row_syms vs ++ rest) n)) vs rest
 unfolding r.row expect sees next same_tag
 row_gets written vs is rest n =
     let flat = append_assoc (listed value_syms vs) (key t.Close ∷ []) rest in
@@ -87,15 +86,15 @@ pub no_comma_end : NoComma []
 unfolding sees
 no_comma_end = λ n. refl
 
-rows_gets : Written → (rows : List (List Value)) (n : ℕ) → Some_ (Some_ IsLiteral) rows → Gets (list r.row (at_ (listed row_syms rows) n)) rows []
+rows_gets : Written → (rows : List (List Value)) (n : ℕ) → OneOrMore (OneOrMore IsLiteral) rows → Gets (list r.row (at_ (listed row_syms rows) n)) rows []
 rows_gets written rows n is =
     let P : List Sym → Type 0 = λ z. Gets (list r.row (at_ z n)) rows [] in
     subst P (append-nil (listed row_syms rows)) (list_gets r.row row_syms Any (λ more. tt) rows [] n
-    (some_of (Some_ IsLiteral) (ItemReads r.row row_syms Any) (λ vs k. (omega arith, λ after_ m follow. row_gets written vs k after_ m)) rows is) tt no_comma_end)
+    (some_of (OneOrMore IsLiteral) (ItemReads r.row row_syms Any) (λ vs k. (omega arith, λ after_ m follow. row_gets written vs k after_ m)) rows is) tt no_comma_end)
 
 -- ---- INSERT
 
-columns_gets : (found : Option (List (List ℕ))) (rest : List Sym) (n : ℕ) → Maybe (Some_ IsName) found → Gets (r.columns (at_ (s.columns found ++ key t.Values ∷ rest) n)) found (key t.Values ∷ rest)
+columns_gets : (found : Option (List (List ℕ))) (rest : List Sym) (n : ℕ) → Maybe (OneOrMore IsName) found → Gets (r.columns (at_ (s.columns found ++ key t.Values ∷ rest) n)) found (key t.Values ∷ rest)
 unfolding r.columns expect sees after next same_tag
 columns_gets None rest n is = (refl, refl)
 columns_gets (Some ns) rest n is =
@@ -104,7 +103,7 @@ columns_gets (Some ns) rest n is =
     let P : List Sym → Type 0 = λ z. Gets (r.columns (at_ (key t.Open ∷ z) n)) (Some ns) ts in
     subst P (sym flat) (then_gets (λ y. _) ns (Some ns) (key t.Close ∷ ts) ts (list name (at_ (listed s.one_name ns ++ key t.Close ∷ ts) n)) (names_gets ns (key t.Close ∷ ts) n is (no_comma_close ts)) (λ m. (refl, refl)))
 
-pub behind_columns : Written → (table : List ℕ) (found : Option (List (List ℕ))) (rows : List (List Value)) (n : ℕ) → Maybe (Some_ IsName) found → Some_ (Some_ IsLiteral) rows
+pub behind_columns : Written → (table : List ℕ) (found : Option (List (List ℕ))) (rows : List (List Value)) (n : ℕ) → Maybe (OneOrMore IsName) found → OneOrMore (OneOrMore IsLiteral) rows
     → Gets (r.insert (at_ (key t.Into ∷ p.name table ∷ (s.columns found ++ key t.Values ∷ listed row_syms rows)) n)) (Insert table found rows) []
 unfolding r.insert expect sees after next same_tag
 behind_columns written table found rows n columns_ rows_ =
@@ -147,7 +146,7 @@ assignment_gets written untreed x is rest n ends =
     rw (name_read x.0 (key t.Equal ∷ (p.expr (tree x.1) ++ rest)) n)
     (then_gets (λ y. _) x.1 x rest rest (whole (at_ (p.expr (tree x.1) ++ rest) n)) (expr_gets written untreed x.1 is.1 rest n ends) (λ m. (refl, refl)))
 
-pub update_gets : Written → Untreed → (table : List ℕ) (sets : List (List ℕ × Expr)) (cond : Option Expr) (n : ℕ) → Some_ IsAssignment sets → Maybe IsExpr cond
+pub update_gets : Written → Untreed → (table : List ℕ) (sets : List (List ℕ × Expr)) (cond : Option Expr) (n : ℕ) → OneOrMore IsAssignment sets → Maybe IsExpr cond
     → Gets (r.update (at_ (p.name table ∷ key t.Set ∷ (listed s.assignment sets ++ s.filter cond)) n)) (Update table sets cond) []
 unfolding r.update expect sees next same_tag
 update_gets written untreed table sets cond n sets_ cond_ =

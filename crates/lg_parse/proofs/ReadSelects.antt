@@ -1,16 +1,14 @@
 -- Printed SELECT and CREATE INDEX are read as themselves.
-use Rattle.std.proofs.Common.{◌≡◌, ◌∙◌, ℕ, ◌+◌, ◌<◌, ◌≤◌, Bool, true, false, List, [], ◌∷◌, ◌++◌, length, Option, Some, None, refl, ap, sym, subst, arith, append_assoc, append-nil, codes}
-use Rattle.lg_value.specs.declared.expr.Expr.{Expr}
+use Rattle.std.proofs.Common.{◌≡◌, ◌∙◌, ℕ, ◌+◌, ◌<◌, Bool, true, false, List, [], ◌∷◌, ◌++◌, length, Some, refl, ap, sym, subst, arith, append_assoc, append-nil, codes}
 use Rattle.lg_types.specs.declared.statement.CreateIndex.{CreateIndex}
 use Rattle.lg_types.specs.declared.statement.Select.{Select}
 use Rattle.lg_types.specs.declared.statement.What.{What}
 use Rattle.lg_types.specs.declared.statement.What.TheVariants as shown
 use Rattle.lg_types.specs.declared.statement.Agg.{Agg}
 use Rattle.lg_types.specs.declared.statement.Agg.TheVariants as aggregate
-use Rattle.lg_parse.specs.declared.tag.Tag.{Tag}
 use Rattle.lg_parse.specs.declared.tag.Tag.TheVariants as t
 use Rattle.lg_parse.specs.Tags.{same_tag}
-use Rattle.lg_parse.specs.Input.{Input, Sym, Parser, and_then, tag, text, next, sees, calls, after, expect, list}
+use Rattle.lg_parse.specs.Input.{Sym, tag, text, next, sees, calls, after, expect, list}
 use Rattle.lg_parse.specs.Words.{call_name, call_word}
 use Rattle.lg_parse.specs.Expr.{name}
 use Rattle.lg_parse.specs.Row as r
@@ -19,12 +17,12 @@ use Rattle.lg_parse.specs.Table.{create_index}
 use Rattle.lg_parse.specs.Printed as p
 use Rattle.lg_parse.specs.Printed.{key, word, enclosed, listed, rest_listed}
 use Rattle.lg_parse.specs.PrintedStmt as s
-use Rattle.lg_parse.specs.Parsed.{IsName, IsExpr, IsAgg, IsWhat, IsSort, IsOrder, IsSelect, IsIndex, Each, Some_, Maybe}
+use Rattle.lg_parse.specs.Parsed.{IsName, IsAgg, IsWhat, IsSort, IsOrder, IsSelect, IsIndex, Each, OneOrMore}
 use Rattle.lg_parse.proofs.Repeats.{at_, left_}
 use Rattle.lg_parse.proofs.ReadTrees.{Written, name_read}
 use Rattle.lg_parse.proofs.Gets.{Gets, gets, then_gets, map_gets, NoComma, ItemReads, list_gets}
 use Rattle.lg_parse.proofs.ReadParts.{Untreed, AnyEnds, Any, some_of, names_gets, name_list_gets, filter_gets}
-use Rattle.lg_parse.proofs.ReadRows.{ends_none, no_comma_end}
+use Rattle.lg_parse.proofs.ReadRows.{no_comma_end}
 
 -- ---- what is shown
 
@@ -71,7 +69,7 @@ all_gets : (rest : List Sym) (n : ℕ) → Gets (g.what (at_ (key t.Star ∷ key
 unfolding g.what calls sees after next same_tag
 all_gets rest n = (refl, refl)
 
-columns_gets : (c : List ℕ) (ns : List (List ℕ)) (rest : List Sym) (n : ℕ) → Some_ IsName (c ∷ ns) → Gets (g.what (at_ (listed s.one_name (c ∷ ns) ++ key t.From ∷ rest) n)) (shown.Columns (c ∷ ns)) (key t.From ∷ rest)
+columns_gets : (c : List ℕ) (ns : List (List ℕ)) (rest : List Sym) (n : ℕ) → OneOrMore IsName (c ∷ ns) → Gets (g.what (at_ (listed s.one_name (c ∷ ns) ++ key t.From ∷ rest) n)) (shown.Columns (c ∷ ns)) (key t.From ∷ rest)
 unfolding g.what
 columns_gets c ns rest n is =
     let ts = listed s.one_name (c ∷ ns) ++ key t.From ∷ rest in
@@ -79,7 +77,7 @@ columns_gets c ns rest n is =
     rw (names_call c ns rest n) (rw no_ (rw (left_ t.Star (at_ ts n) no_)
     (map_gets shown.Columns (c ∷ ns) (key t.From ∷ rest) (list name (at_ ts n)) (names_gets (c ∷ ns) (key t.From ∷ rest) n is (no_comma_from rest)))))
 
-aggs_gets : (a : Agg) (all : List Agg) (rest : List Sym) (n : ℕ) → Some_ IsAgg (a ∷ all) → Gets (g.what (at_ (listed s.agg (a ∷ all) ++ key t.From ∷ rest) n)) (shown.Aggs (a ∷ all)) (key t.From ∷ rest)
+aggs_gets : (a : Agg) (all : List Agg) (rest : List Sym) (n : ℕ) → OneOrMore IsAgg (a ∷ all) → Gets (g.what (at_ (listed s.agg (a ∷ all) ++ key t.From ∷ rest) n)) (shown.Aggs (a ∷ all)) (key t.From ∷ rest)
 unfolding g.what
 aggs_gets a all rest n is =
     let ts = listed s.agg (a ∷ all) ++ key t.From ∷ rest in
@@ -100,7 +98,7 @@ unfolding g.sort g.falls sees after next same_tag
 sort_gets x true rest n is = rw is (rw (name_read x.0 (key t.Desc ∷ rest) n) (refl, refl))
 sort_gets x false rest n is = rw is (rw (name_read x.0 (key t.Asc ∷ rest) n) (refl, refl))
 
-sorts_gets : (order : List (List ℕ × Bool)) (n : ℕ) → Some_ IsSort order → Gets (list g.sort (at_ (listed s.sort order) n)) order []
+sorts_gets : (order : List (List ℕ × Bool)) (n : ℕ) → OneOrMore IsSort order → Gets (list g.sort (at_ (listed s.sort order) n)) order []
 sorts_gets order n is =
     let P : List Sym → Type 0 = λ z. Gets (list g.sort (at_ z n)) order [] in
     subst P (append-nil (listed s.sort order)) (list_gets g.sort s.sort Any (λ more. tt) order [] n

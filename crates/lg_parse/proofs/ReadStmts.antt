@@ -1,5 +1,5 @@
 -- The tokens of printed statements are read as the statements.
-use Rattle.std.proofs.Common.{◌≡◌, ◌∙◌, ◌==◌, ℕ, Bool, true, false, List, [], ◌∷◌, ◌++◌, Option, Some, None, refl, ap, sym, subst, codes}
+use Rattle.std.proofs.Common.{◌≡◌, ◌==◌, ℕ, List, [], ◌∷◌, ◌++◌, Option, Some, None, refl, ap}
 use Rattle.std.specs.Prelude.{option_map, if◌then◌else◌}
 use Rattle.lg_types.specs.declared.statement.Stmt.{Stmt}
 use Rattle.lg_types.specs.declared.statement.Stmt.TheVariants as stmt
@@ -10,7 +10,7 @@ use Rattle.lg_types.specs.declared.statement.RowStmt.{RowStmt}
 use Rattle.lg_types.specs.declared.statement.RowStmt.TheVariants.{Insert, Update, Delete}
 use Rattle.lg_parse.specs.declared.tag.Tag.TheVariants as t
 use Rattle.lg_parse.specs.Tags.{same_tag}
-use Rattle.lg_parse.specs.Input.{Input, Sym, Outcome, tag, text, next, sees, after, expect, eat, and_then, start, tokens_left}
+use Rattle.lg_parse.specs.Input.{Sym, Outcome, tag, text, next, sees, after, eat, and_then, start, tokens_left}
 use Rattle.lg_parse.specs.Words.{call_name, call_word}
 use Rattle.lg_parse.specs.Row as r
 use Rattle.lg_parse.specs.Select as g
@@ -18,12 +18,12 @@ use Rattle.lg_parse.specs.Table as b
 use Rattle.lg_parse.specs.Stmt as y
 use Rattle.lg_parse.specs.Stmt.{statement, statement_of_tokens}
 use Rattle.lg_parse.specs.Printed as p
-use Rattle.lg_parse.specs.Printed.{key, word}
+use Rattle.lg_parse.specs.Printed.{key}
 use Rattle.lg_parse.specs.PrintedStmt as s
-use Rattle.lg_parse.specs.Parsed.{IsName, IsChange, IsSelect, IsTable, IsIndex, IsParsed, Maybe}
+use Rattle.lg_parse.specs.Parsed.{IsChange, IsSelect, IsTable, IsIndex, IsParsed}
 use Rattle.lg_parse.proofs.Repeats.{at_}
 use Rattle.lg_parse.proofs.ReadTrees.{Written, name_read}
-use Rattle.lg_parse.proofs.Gets.{Gets, gets, then_gets, map_gets}
+use Rattle.lg_parse.proofs.Gets.{Gets, then_gets, map_gets}
 use Rattle.lg_parse.proofs.ReadParts.{Untreed}
 use Rattle.lg_parse.proofs.ReadRows.{change_syms, behind_columns, update_gets, delete_gets}
 use Rattle.lg_parse.proofs.ReadSelects.{select_gets, index_gets}

@@ -1,12 +1,10 @@
 -- Printed CREATE TABLE is read as itself.
-use Rattle.std.proofs.Common.{◌≡◌, ◌∙◌, ℕ, zero, suc, ◌+◌, ◌<◌, ◌≤◌, Bool, true, false, List, [], ◌∷◌, ◌++◌, length, map, Option, Some, None, refl, ap, sym, subst, arith, append_assoc, append-nil, codes, length-append}
+use Rattle.std.proofs.Common.{◌≡◌, ◌∙◌, ℕ, zero, suc, ◌+◌, ◌<◌, ◌≤◌, Bool, true, false, List, [], ◌∷◌, ◌++◌, length, map, Option, Some, None, refl, ap, sym, subst, arith, append_assoc, codes, length-append}
 use Rattle.lg_value.specs.declared.sql_type.SqlType.{SqlType}
 use Rattle.lg_value.specs.declared.sql_type.SqlType.TheVariants as sql
 use Rattle.lg_value.specs.declared.column.ColumnDef.{ColumnDef}
-use Rattle.lg_value.specs.declared.column.TableKind.{TableKind}
-use Rattle.lg_value.specs.declared.column.TableKind.TheVariants.{AppendOnly, Updatable}
+use Rattle.lg_value.specs.declared.column.TableKind.TheVariants.{AppendOnly}
 use Rattle.lg_types.specs.declared.statement.CreateTable.{CreateTable}
-use Rattle.lg_parse.specs.declared.tag.Tag.{Tag}
 use Rattle.lg_parse.specs.declared.tag.Tag.TheVariants as t
 use Rattle.lg_parse.specs.declared.word.TypeName.{TypeName}
 use Rattle.lg_parse.specs.declared.word.OptionName.{OptionName}
@@ -14,10 +12,8 @@ use Rattle.lg_parse.specs.declared.word.OptionName.TheVariants as option
 use Rattle.lg_parse.specs.declared.column.Column.{Column}
 use Rattle.lg_parse.specs.declared.column.Draft.{Draft}
 use Rattle.lg_parse.specs.declared.column.Item.TheVariants as item
-use Rattle.lg_parse.specs.declared.ledger.Ledger.{Ledger}
-use Rattle.lg_parse.specs.declared.ledger.Choices.{Choices}
 use Rattle.lg_parse.specs.Tags.{same_tag}
-use Rattle.lg_parse.specs.Input.{Input, Sym, Parser, and_then, tag, text, next, sees, after, expect, fold, fold_from, tokens_left}
+use Rattle.lg_parse.specs.Input.{Sym, and_then, tag, text, next, sees, after, expect, fold, fold_from, tokens_left}
 use Rattle.lg_parse.specs.Words.{type_name, type_word, option_name, option_word}
 use Rattle.lg_parse.specs.Expr.{name}
 use Rattle.lg_parse.specs.Row as r
@@ -26,11 +22,11 @@ use Rattle.lg_parse.specs.Table as b
 use Rattle.lg_parse.specs.Printed as p
 use Rattle.lg_parse.specs.Printed.{key, word, digits, enclosed, listed, rest_listed}
 use Rattle.lg_parse.specs.PrintedStmt as s
-use Rattle.lg_parse.specs.Parsed.{IsName, IsSize, IsType, IsColumn, IsHistory, IsTable, Each, Some_, Maybe}
-use Rattle.lg_parse.proofs.Repeats.{at_, left_}
+use Rattle.lg_parse.specs.Parsed.{IsName, IsSize, IsType, IsColumn, Each, OneOrMore}
+use Rattle.lg_parse.proofs.Repeats.{at_}
 use Rattle.lg_parse.proofs.ReadTrees.{name_read}
 use Rattle.lg_parse.proofs.Sizes.{size_read}
-use Rattle.lg_parse.proofs.Gets.{Gets, gets, then_gets, map_gets, NoComma}
+use Rattle.lg_parse.proofs.Gets.{Gets, then_gets, map_gets}
 use Rattle.lg_parse.proofs.ReadParts.{name_list_gets}
 
 -- ---- types
@@ -78,7 +74,7 @@ step_column d c rest n is =
     let flat = append_assoc (s.sql_type c.ty) (s.nullable c.nullable) (key t.Comma ∷ rest) in
     rw flat (rw (name_read c.name (s.sql_type c.ty ++ tail) n) (rw (sql_read c.ty tail n is.1) (rw (nullable_read c.nullable rest n) refl)))
 
-step_key : (columns : List Column) (ks : List (List ℕ)) (rest : List Sym) (n : ℕ) → Some_ IsName ks
+step_key : (columns : List Column) (ks : List (List ℕ)) (rest : List Sym) (n : ℕ) → OneOrMore IsName ks
     → Gets (b.item_step (record { columns = columns; key = None }) (at_ (key t.Primary ∷ key t.Key ∷ (s.names ks ++ rest)) n)) (record { columns = columns; key = Some ks }) rest
 unfolding b.item_step b.one_item b.key tag next expect sees after same_tag
 step_key columns ks rest n is =
@@ -89,7 +85,7 @@ step_key columns ks rest n is =
 abbrev with_key : List (List ℕ) → List Sym → List Sym
 with_key ks rest = key t.Primary ∷ key t.Key ∷ (s.names ks ++ key t.Close ∷ rest)
 
-last_step : (columns : List Column) (ks : List (List ℕ)) (rest : List Sym) (fuel n : ℕ) → Some_ IsName ks
+last_step : (columns : List Column) (ks : List (List ℕ)) (rest : List Sym) (fuel n : ℕ) → OneOrMore IsName ks
     → Gets (fold_from b.item_step (suc fuel) (record { columns = columns; key = None }) (at_ (with_key ks rest) n)) (record { columns = columns; key = Some ks }) (key t.Close ∷ rest)
 unfolding fold_from sees after same_tag
 last_step columns ks rest fuel n is =
@@ -102,7 +98,7 @@ one_step : (columns : List Column) (c : ColumnDef) (d : Draft) (more rest : List
 unfolding fold_from sees after next same_tag
 one_step columns c d more rest fuel n is k = rw (step_column (record { columns = columns; key = None }) c more n is) k
 
-fold_gets : (columns : List Column) (c : ColumnDef) (cs : List ColumnDef) (ks : List (List ℕ)) (rest : List Sym) (fuel n : ℕ) → length cs + 2 ≤ fuel → IsColumn c → Each IsColumn cs → Some_ IsName ks
+fold_gets : (columns : List Column) (c : ColumnDef) (cs : List ColumnDef) (ks : List (List ℕ)) (rest : List Sym) (fuel n : ℕ) → length cs + 2 ≤ fuel → IsColumn c → Each IsColumn cs → OneOrMore IsName ks
     → Gets (fold_from b.item_step fuel (record { columns = columns; key = None }) (at_ (s.column c ++ (rest_listed s.column cs ++ key t.Comma ∷ with_key ks rest)) n))
     (record { columns = columns ++ drafted c ∷ map drafted cs; key = Some ks }) (key t.Close ∷ rest)
 unfolding rest_listed
@@ -132,7 +128,7 @@ column_some c = omega arith
 abbrev items_of : CreateTable → List Sym → List Sym
 items_of x rest = s.table_items x ++ key t.Close ∷ rest
 
-pub items_gets : (c : ColumnDef) (cs : List ColumnDef) (ks : List (List ℕ)) (rest : List Sym) (n : ℕ) → IsColumn c → Each IsColumn cs → Some_ IsName ks
+pub items_gets : (c : ColumnDef) (cs : List ColumnDef) (ks : List (List ℕ)) (rest : List Sym) (n : ℕ) → IsColumn c → Each IsColumn cs → OneOrMore IsName ks
     → Gets (b.items b.no_items (at_ ((listed s.column (c ∷ cs) ++ key t.Comma ∷ key t.Primary ∷ key t.Key ∷ s.names ks) ++ key t.Close ∷ rest) n)) (record { columns = drafted c ∷ map drafted cs; key = Some ks }) (key t.Close ∷ rest)
 unfolding fold tokens_left listed
 items_gets c cs ks rest n first others is =

@@ -1,29 +1,26 @@
 -- Printed trees are read as themselves.
-use Rattle.std.proofs.Common.{◌≡◌, ◌∙◌, ℕ, zero, suc, ◌+◌, ◌-◌, ◌<◌, ◌≤◌, Bool, true, false, List, [], ◌∷◌, ◌++◌, Option, Some, None, refl, ap, sym, arith, append_assoc}
+use Rattle.std.proofs.Common.{◌≡◌, ℕ, ◌+◌, ◌-◌, ◌<◌, List, [], ◌∷◌, ◌++◌, Some, refl, arith, append_assoc}
 use Rattle.std.specs.Prelude.{ℤ}
 use Rattle.lg_value.specs.declared.value.Value.{Value}
 use Rattle.lg_value.specs.declared.value.Value.TheVariants as value
-use Rattle.lg_value.specs.declared.expr.Op.{Op}
-use Rattle.lg_value.specs.declared.expr.Op.TheVariants as op
 use Rattle.lg_value.specs.declared.expr.Expr.{Expr}
-use Rattle.lg_value.specs.declared.expr.Expr.TheVariants.{Lit, Col, Neg, Not, IsNull, Bin}
-use Rattle.lg_value.specs.Tree.{Tree, literal, column, minus, not, is_null, binary, tree}
+use Rattle.lg_value.specs.declared.expr.Expr.TheVariants.{Lit, Col, Not}
+use Rattle.lg_value.specs.Tree.{Tree, literal, column, minus, not, is_null, binary}
 use Rattle.lg_value.specs.Literal.{literal_of}
 use Rattle.lg_value.specs.Literals.{IsLiteral}
 use Rattle.lg_value.specs.Printed.{literal_text}
-use Rattle.lg_parse.specs.declared.tag.Tag.{Tag}
 use Rattle.lg_parse.specs.declared.tag.Tag.TheVariants as t
 use Rattle.lg_parse.specs.declared.expr.Level.TheVariants as l
 use Rattle.lg_parse.specs.Tags.{same_tag}
-use Rattle.lg_parse.specs.Input.{Input, Sym, Outcome, Parser, and_then, tag, text, next, sees, after, expect, spend, repeated, repeated_at, begin, max_parts}
+use Rattle.lg_parse.specs.Input.{Input, Sym, Parser, tag, text, next, sees, after, expect, repeated}
 use Rattle.lg_parse.specs.Expr as e
-use Rattle.lg_parse.specs.Expr.{operator, comparison, grouped, prim, unary, product, sum, cmp, and, or, leaf, name, inside, whole, max_nesting}
+use Rattle.lg_parse.specs.Expr.{operator, prim, unary, product, sum, cmp, and, or, leaf, name, inside}
 use Rattle.lg_parse.specs.Printed as p
-use Rattle.lg_parse.specs.Printed.{key, enclosed, op_tag}
-use Rattle.lg_parse.specs.Parsed.{IsTree, IsName, count}
+use Rattle.lg_parse.specs.Printed.{key, enclosed}
+use Rattle.lg_parse.specs.Parsed.{count}
 use Rattle.lg_parse.proofs.Names.{closed}
 use Rattle.lg_parse.proofs.Repeats.{at_}
-use Rattle.lg_parse.proofs.ReadExpr.{untree, spent, grouped_ends, grouped_binary, unary_none, unary_minus, not_none, not_not, cmp_ends, cmp_binary, Operand, as_unary, as_product, as_sum, as_and, as_or}
+use Rattle.lg_parse.proofs.ReadExpr.{spent, grouped_ends, not_none, cmp_ends, as_sum, as_and, as_or}
 
 -- what is written of a literal is read as the value
 abbrev pub Written : Type 0

@@ -1,11 +1,11 @@
 -- Printed expressions are read as themselves, whole.
-use Rattle.std.proofs.Common.{◌≡◌, ◌∙◌, ◌==◌, ℕ, zero, suc, ◌+◌, ◌-◌, ◌<◌, ◌≤◌, Bool, true, false, List, [], ◌∷◌, ◌++◌, Option, Some, None, refl, ap, sym, arith, append_assoc}
+use Rattle.std.proofs.Common.{◌≡◌, ◌∙◌, ◌==◌, ℕ, zero, suc, ◌+◌, ◌-◌, ◌<◌, ◌≤◌, Bool, true, false, List, ◌∷◌, ◌++◌, Some, None, refl, ap, arith, append_assoc}
 use Rattle.std.proofs.lemmas.Bool.Decides.{nat_tests}
 use Rattle.lg_value.specs.declared.expr.Op.{Op}
 use Rattle.lg_value.specs.declared.expr.Op.TheVariants as op
 use Rattle.lg_value.specs.declared.expr.Expr.{Expr}
 use Rattle.lg_value.specs.declared.expr.Expr.TheVariants.{Neg, Not, IsNull, Bin}
-use Rattle.lg_value.specs.Tree.{Tree, literal, column, minus, not, is_null, binary, tree}
+use Rattle.lg_value.specs.Tree.{Tree, literal, column, minus, not, is_null, binary}
 use Rattle.lg_parse.specs.declared.tag.Tag.TheVariants as t
 use Rattle.lg_parse.specs.declared.expr.Level.TheVariants as l
 use Rattle.lg_parse.specs.Tags.{same_tag}
@@ -16,7 +16,7 @@ use Rattle.lg_parse.specs.Printed as p
 use Rattle.lg_parse.specs.Printed.{key, enclosed, op_tag}
 use Rattle.lg_parse.specs.Parsed.{IsTree, count}
 use Rattle.lg_parse.proofs.Repeats.{at_}
-use Rattle.lg_parse.proofs.ReadExpr.{untree, spent, grouped_ends, grouped_binary, unary_minus, not_none, not_not, cmp_ends, cmp_binary, Operand, as_unary, as_product, as_sum, as_and, as_or}
+use Rattle.lg_parse.proofs.ReadExpr.{untree, spent, grouped_binary, unary_minus, not_none, not_not, cmp_ends, cmp_binary, Operand, as_unary, as_product, as_sum, as_and, as_or}
 use Rattle.lg_parse.proofs.ReadTrees.{Written, count_some, no_tag, literal_read, column_read, enclosed_read, Shut, up_cmp, up_or, up_and, up_not, up_sum, up_product, up_unary}
 
 module _ (inner : Parser Expr) where

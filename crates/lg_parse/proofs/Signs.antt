@@ -1,13 +1,11 @@
 -- What holds of each token of a text.
-use Rattle.std.proofs.Common.{◌≡◌, ◌∙◌, ◌==◌, ◌<◌, ℕ, zero, suc, ◌+◌, Bool, true, false, not, cond, ◌&&◌, ◌||◌, List, [], ◌∷◌, ◌++◌, length, map, nat_lt, Option, Some, None, refl, ap, sym, subst, arith}
-use Rattle.std.specs.Prelude.{⊤, ℤ, pos, negsuc, option_map, option_and_then}
-use Rattle.std.specs.List.{list_all}
+use Rattle.std.proofs.Common.{◌≡◌, ◌∙◌, ◌==◌, ℕ, Bool, true, false, cond, List, [], ◌∷◌, Option, Some, None, refl, sym, subst}
+use Rattle.std.specs.Prelude.{⊤, pos, option_map}
 use Rattle.std.specs.Result.{result_ok}
-use Rattle.std.proofs.lemmas.Bool.Decides.{nat_tests}
 use Rattle.hex.specs.Hex.{decode_of}
 use Rattle.lg_value.specs.declared.value.Value.{Value}
-use Rattle.lg_value.specs.declared.value.Value.TheVariants.{Null, Num, Text, Bytes, Date}
-use Rattle.lg_value.specs.Literal.{literal_of, text_or, bytes_or, other, is_null, signed, unsigned, number, minus, unquoted, after_opening, after_0x}
+use Rattle.lg_value.specs.declared.value.Value.TheVariants.{Null, Text, Bytes}
+use Rattle.lg_value.specs.Literal.{literal_of, text_or, bytes_or, is_null, signed, unsigned, number, unquoted, after_opening, after_0x}
 use Rattle.lg_parse.specs.Parsed.{IsUnsigned}
 
 -- ---- literals

@@ -1,23 +1,20 @@
 -- Printed tokens are the longest at their places.
-use Rattle.std.proofs.Common.{◌≡◌, ℕ, zero, suc, ◌+◌, ◌<◌, ◌≤◌, Bool, true, false, cond, ◌==◌, ◌&&◌, ◌||◌, List, [], ◌∷◌, ◌++◌, length, drop, get_or, nat_lt, Option, Some, None, refl, ap, ◌∙◌, sym, subst, arith, codes, append_assoc, length-append}
+use Rattle.std.proofs.Common.{◌≡◌, ℕ, suc, ◌+◌, Bool, true, false, ◌==◌, ◌&&◌, ◌||◌, List, [], ◌∷◌, ◌++◌, length, get_or, Some, refl, ap, ◌∙◌, sym, subst, arith, codes}
 use Rattle.std.specs.List.{list_all, prefix_len}
 use Rattle.std.specs.Char.{is_ascii_digit}
 use Rattle.std.proofs.lemmas.Bool.Decides.{nat_tests}
-use Rattle.lg_lex.specs.declared.token.Kind.{Kind}
 use Rattle.lg_lex.specs.declared.token.Kind.TheVariants as kind
-use Rattle.lg_lex.specs.IsToken.{begins_word, is_word_byte, is_name_byte}
-use Rattle.lg_lex.specs.Longest.{longest}
+use Rattle.lg_lex.specs.IsToken.{begins_word, is_word_byte}
 use Rattle.lg_lex.specs.Cut.{is_blank, begins_comment}
 use Rattle.lg_lex.specs.Front.{front}
 use Rattle.lg_lex.proofs.Found.{front_is}
 use Rattle.lg_parse.specs.declared.tag.Tag.{Tag}
 use Rattle.lg_parse.specs.declared.tag.Tag.TheVariants as t
 use Rattle.lg_parse.specs.Tags.{tag_of}
-use Rattle.lg_parse.specs.Input.{Sym}
 use Rattle.lg_parse.specs.Page.{opens, touches}
-use Rattle.lg_parse.specs.Printed.{key, spelling, word, name, digits}
-use Rattle.lg_parse.proofs.Cut.{cut, cut_token, prepend, sym_at}
-use Rattle.lg_parse.proofs.Lexed.{Stop, at_end, at_blank, at_close, at_comma, by_stop, After, One}
+use Rattle.lg_parse.specs.Printed.{key, spelling, word}
+use Rattle.lg_parse.proofs.Cut.{cut, cut_token, prepend}
+use Rattle.lg_parse.proofs.Lexed.{Stop, at_close, at_comma, by_stop, After, One}
 
 pub and_true : (a b : Bool) → (a && b) ≡ true → (a ≡ true) × (b ≡ true)
 and_true true b h = (refl, h)

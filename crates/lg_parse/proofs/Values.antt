@@ -1,6 +1,6 @@
 -- Printed numbers and literals are the longest tokens at their places.
-use Rattle.std.proofs.Common.{◌≡◌, ℕ, zero, suc, ◌+◌, ◌-◌, ◌/◌, ◌%◌, ◌<◌, ◌≤◌, ◌^◌, Bool, true, false, cond, ◌==◌, ◌&&◌, List, [], ◌∷◌, ◌++◌, length, take, drop, replicate, get_or, Option, Some, None, refl, ap, ◌∙◌, sym, subst, arith, append_assoc, append-nil, length-append, inl, inr, codes}
-use Rattle.std.specs.Prelude.{ℤ, pos, negsuc, unsigned_abs}
+use Rattle.std.proofs.Common.{◌≡◌, ℕ, zero, suc, ◌+◌, ◌-◌, ◌/◌, ◌%◌, ◌<◌, ◌≤◌, ◌^◌, Bool, true, false, cond, ◌==◌, List, [], ◌∷◌, ◌++◌, length, take, drop, replicate, get_or, Option, Some, None, refl, ap, ◌∙◌, sym, subst, arith, append_assoc, append-nil, length-append, inl, inr}
+use Rattle.std.specs.Prelude.{pos, negsuc}
 use Rattle.std.specs.List.{list_all}
 use Rattle.std.specs.Char.{is_ascii_digit}
 use Rattle.std.specs.Fmt.{decimal}
@@ -11,18 +11,18 @@ use Rattle.std.proofs.lemmas.Bool.Decides.{nat_tests}
 use Rattle.lg_value.specs.declared.value.Value.{Value}
 use Rattle.lg_value.specs.declared.value.Value.TheVariants.{Null, Num, Text, Bytes, Date}
 use Rattle.lg_value.specs.Literals.{IsLiteral}
-use Rattle.lg_value.specs.Printed.{literal_text, leading_zero, pointed, behind_point, printed_with}
+use Rattle.lg_value.specs.Printed.{literal_text, pointed, behind_point}
 use Rattle.lg_lex.specs.declared.token.Kind.TheVariants as kind
 use Rattle.lg_lex.proofs.Found.{front_is}
 use Rattle.lg_lex.specs.Front.{front}
 use Rattle.lg_parse.specs.declared.tag.Tag.TheVariants as t
 use Rattle.lg_parse.specs.Tags.{tag_of}
 use Rattle.lg_parse.specs.Input.{Sym}
-use Rattle.lg_parse.specs.Printed.{key, spelling, digits, literal_sym, literal_tag}
+use Rattle.lg_parse.specs.Printed.{key, spelling, digits, literal_sym}
 use Rattle.lg_parse.specs.Parsed.{IsUnsigned, IsSize}
 use Rattle.lg_parse.proofs.Cut.{cut, cut_token, prepend}
-use Rattle.lg_parse.proofs.Lexed.{Stop, After, One}
-use Rattle.lg_parse.proofs.Tokens.{and_true, null_, minus}
+use Rattle.lg_parse.proofs.Lexed.{One}
+use Rattle.lg_parse.proofs.Tokens.{and_true, null_}
 use Rattle.lg_parse.proofs.Numbers.{AreDigits, pointed_text, one_number}
 use Rattle.lg_parse.proofs.Quoted.{one_text, one_bytes}
 

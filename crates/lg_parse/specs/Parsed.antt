@@ -1,5 +1,5 @@
 -- What holds of each statement that parsing gives.
-use Rattle.std.specs.Prelude.{◌≡◌, ◌≤◌, ◌<◌, ◌^◌, ℕ, ◌+◌, pos, negsuc, Bool, true, List, [], ◌∷◌, length, Option, Some, None, ⊤}
+use Rattle.std.specs.Prelude.{◌≡◌, ◌≤◌, ◌<◌, ◌^◌, ℕ, ◌+◌, negsuc, Bool, true, List, [], ◌∷◌, length, Option, Some, None, ⊤}
 use Rattle.std.specs.List.{list_all}
 use Rattle.lg_value.specs.declared.value.Value.{Value}
 use Rattle.lg_value.specs.declared.value.Value.TheVariants.{Num}
@@ -34,9 +34,9 @@ Each P [] = ⊤
 Each P (x ∷ xs) = P x × Each P xs
 
 -- one or more, of each of which it holds
-abbrev pub Some_ : {A : Type 0} → (A → Type 0) → List A → Type 0
-Some_ P [] = ⊥
-Some_ P (x ∷ xs) = P x × Each P xs
+abbrev pub OneOrMore : {A : Type 0} → (A → Type 0) → List A → Type 0
+OneOrMore P [] = ⊥
+OneOrMore P (x ∷ xs) = P x × Each P xs
 
 abbrev pub Maybe : {A : Type 0} → (A → Type 0) → Option A → Type 0
 Maybe P None = ⊤
@@ -90,17 +90,17 @@ IsHistory Updatable h = Maybe IsName h
 IsHistory AppendOnly h = h ≡ None
 
 abbrev pub IsTable : CreateTable → Type 0
-IsTable c = IsName c.name × Some_ IsColumn c.columns × Some_ IsName c.key × IsHistory c.kind c.history × Maybe IsName c.view
+IsTable c = IsName c.name × OneOrMore IsColumn c.columns × OneOrMore IsName c.key × IsHistory c.kind c.history × Maybe IsName c.view
 
 abbrev pub IsIndex : CreateIndex → Type 0
-IsIndex c = IsName c.name × IsName c.table × Some_ IsName c.columns
+IsIndex c = IsName c.name × IsName c.table × OneOrMore IsName c.columns
 
 abbrev pub IsAssignment : List ℕ × Expr → Type 0
 IsAssignment p = IsName p.0 × IsExpr p.1
 
 abbrev pub IsChange : RowStmt → Type 0
-IsChange (Insert table found rows) = IsName table × Maybe (Some_ IsName) found × Some_ (Some_ IsLiteral) rows
-IsChange (Update table sets cond) = IsName table × Some_ IsAssignment sets × Maybe IsExpr cond
+IsChange (Insert table found rows) = IsName table × Maybe (OneOrMore IsName) found × OneOrMore (OneOrMore IsLiteral) rows
+IsChange (Update table sets cond) = IsName table × OneOrMore IsAssignment sets × Maybe IsExpr cond
 IsChange (Delete table cond) = IsName table × Maybe IsExpr cond
 
 abbrev pub IsAgg : Agg → Type 0
@@ -109,8 +109,8 @@ IsAgg (aggregate.Sum n) = IsName n
 
 abbrev pub IsWhat : What → Type 0
 IsWhat shown.All = ⊤
-IsWhat (shown.Columns ns) = Some_ IsName ns
-IsWhat (shown.Aggs all) = Some_ IsAgg all
+IsWhat (shown.Columns ns) = OneOrMore IsName ns
+IsWhat (shown.Aggs all) = OneOrMore IsAgg all
 
 abbrev pub IsSort : List ℕ × Bool → Type 0
 IsSort p = IsName p.0

@@ -26,4 +26,6 @@ pub use print_stmt::print;
 pub use text::parse;
 
 #[cfg(test)]
+mod print_tests;
+#[cfg(test)]
 mod tests;
