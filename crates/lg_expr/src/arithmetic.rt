@@ -5,16 +5,19 @@ ghost use Rattle.std.specs.Int.{w128};
 ghost use Rattle.lg_value.specs.Number.{has_digits, raised as spec_raised};
 ghost use Rattle.lg_value.specs.declared.refusal.Refusal.TheVariants.{E08};
 ghost use Rattle.lg_model.specs.Numbers as spec;
-ghost use Rattle.lg_model.specs.Refusals.{and_then};
-ghost use Rattle.lg_model.specs.Meaning.{a_value};
-ghost use Rattle.lg_expr.specs.Seen.{Shows};
-ghost use Rattle.lg_expr.specs.Arithmetic.{AreInSize};
+ghost use Rattle.lg_expr.specs.Arithmetic.{AreInSize, IsNumber};
 
-use crate::seen::Seen;
 use lg_value::{Refusal, raised};
 
 /// No number reaches this size.
 const LIMIT: u128 = 100_000_000_000_000_000_000_000_000_000_000_000_000;
+
+/// The number `v` in units of 10^-s.
+#[derive(Clone, Copy, Debug)]
+pub struct Number {
+    pub v: i128,
+    pub s: u8,
+}
 
 fn is_in_size(v: i128) -> bool
     ensures { result ≡ has_digits v 38 }
@@ -22,12 +25,12 @@ fn is_in_size(v: i128) -> bool
     v.unsigned_abs() < LIMIT
 }
 
-/// A result, where its size allows; what leaves 128 bits leaves the size too.
-fn sized<'a>(v: Option<i128>, s: u8) -> Result<Seen<'a>, Refusal>
-    ensures { MatchOption v (result ≡ Err E08) (λ v. Shows (and_then (spec.sized v s) a_value) result) }
+/// A result: E08 exactly where its size is 10^38 or more. What leaves 128 bits, and is none, leaves that size too.
+pub fn sized(v: Option<i128>, s: u8) -> Result<Number, Refusal>
+    ensures { MatchOption v (result ≡ Err E08) (λ v. IsNumber (spec.sized v s) result) }
 {
     match v {
-        Some(v) if is_in_size(v) => Ok(Seen::Number { v, s }),
+        Some(v) if is_in_size(v) => Ok(Number { v, s }),
         _ => Err(Refusal::E08),
     }
 }
@@ -61,10 +64,10 @@ fn aligned(v: i128, s: u8, w: i128, z: u8) -> Option<(i128, i128)>
     Some((v, w))
 }
 
-/// The sum of two numbers.
+/// The sum of two numbers: E08 exactly where it, or an operand brought to the greater scale, has size 10^38 or more.
 #[tactic(auto, unfolding(lg_model::specs::Numbers::sum_of))]
-pub fn sum<'a>(v: i128, s: u8, w: i128, z: u8) -> Result<Seen<'a>, Refusal>
-    ensures { Shows (and_then (spec.sum_of v s w z) a_value) result }
+pub fn sum(v: i128, s: u8, w: i128, z: u8) -> Result<Number, Refusal>
+    ensures { IsNumber (spec.sum_of v s w z) result }
 {
     match aligned(v, s, w, z) {
         Some((a, b)) => sized(a.checked_add(b), s.max(z)),
@@ -74,8 +77,8 @@ pub fn sum<'a>(v: i128, s: u8, w: i128, z: u8) -> Result<Seen<'a>, Refusal>
 
 /// The first number without the second.
 #[tactic(auto, unfolding(lg_model::specs::Numbers::difference_of))]
-pub fn difference<'a>(v: i128, s: u8, w: i128, z: u8) -> Result<Seen<'a>, Refusal>
-    ensures { Shows (and_then (spec.difference_of v s w z) a_value) result }
+pub fn difference(v: i128, s: u8, w: i128, z: u8) -> Result<Number, Refusal>
+    ensures { IsNumber (spec.difference_of v s w z) result }
 {
     match aligned(v, s, w, z) {
         Some((a, b)) => sized(a.checked_sub(b), s.max(z)),
@@ -85,8 +88,8 @@ pub fn difference<'a>(v: i128, s: u8, w: i128, z: u8) -> Result<Seen<'a>, Refusa
 
 /// The product of two numbers.
 #[tactic(auto, unfolding(lg_model::specs::Numbers::product_of))]
-pub fn product<'a>(v: i128, s: u8, w: i128, z: u8) -> Result<Seen<'a>, Refusal>
-    ensures { Shows (and_then (spec.product_of v s w z) a_value) result }
+pub fn product(v: i128, s: u8, w: i128, z: u8) -> Result<Number, Refusal>
+    ensures { IsNumber (spec.product_of v s w z) result }
 {
     if s <= 38 && z <= 38 - s {
         sized(v.checked_mul(w), s + z)
@@ -97,8 +100,8 @@ pub fn product<'a>(v: i128, s: u8, w: i128, z: u8) -> Result<Seen<'a>, Refusal>
 
 /// The number with the other sign.
 #[tactic(auto, unfolding(lg_model::specs::Numbers::negative_of))]
-pub fn negative<'a>(v: i128, s: u8) -> Result<Seen<'a>, Refusal>
-    ensures { Shows (and_then (spec.negative_of v s) a_value) result }
+pub fn negative(v: i128, s: u8) -> Result<Number, Refusal>
+    ensures { IsNumber (spec.negative_of v s) result }
 {
     sized(v.checked_neg(), s)
 }

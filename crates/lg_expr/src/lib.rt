@@ -11,6 +11,7 @@ mod operators;
 mod seen;
 mod truth;
 
+pub use arithmetic::{Number, sized, sum};
 pub use checking::{check, class, class_of_literal, class_of_type};
 pub use days::written_day;
 pub use evaluation::eval;

@@ -2,14 +2,13 @@
 
 ghost use Rattle.std.specs.Prelude.{◌≡◌};
 ghost use Rattle.lg_model.specs.Meaning as spec;
-ghost use Rattle.lg_model.specs.Refusals.{and_then};
-ghost use Rattle.lg_model.specs.Meaning.{a_value};
 ghost use Rattle.lg_model.specs.Operators.{IsArithmetic, IsComparison, IsConnective};
+ghost use Rattle.lg_expr.specs.Arithmetic.{IsNumber};
 ghost use Rattle.lg_expr.specs.Operators.{order_of as spec_order};
 ghost use Rattle.lg_expr.specs.Seen.{outcome_of, Shows};
 
-use crate::arithmetic::{difference, negative, product, sum};
-use crate::seen::Seen;
+use crate::arithmetic::{Number, difference, negative, product, sum};
+use crate::seen::{Seen, seen_number};
 use crate::truth::{both, either, opposite};
 use lg_value::{Op, Refusal, compare_numbers};
 use std::cmp::Ordering;
@@ -34,7 +33,7 @@ pub fn negated<'a>(of: Seen<'a>) -> Result<Seen<'a>, Refusal>
     ensures { Shows (spec.negated (outcome_of of.entry)) result }
 {
     match of {
-        Seen::Number { v, s } => negative(v, s),
+        Seen::Number { v, s } => Ok(seen_number(negative(v, s)?)),
         Seen::Null => Ok(Seen::Null),
         _ => Err(Refusal::E05),
     }
@@ -62,8 +61,8 @@ pub fn null_test<'a>(negated: bool, of: Seen<'a>) -> Result<Seen<'a>, Refusal>
 }
 
 /// A sum, a difference or a product of two numbers.
-fn number_op<'a>(op: Op, v: i128, s: u8, w: i128, z: u8) -> Result<Seen<'a>, Refusal>
-    ensures { Shows (and_then (spec.number_op op v s w z) a_value) result }
+fn number_op(op: Op, v: i128, s: u8, w: i128, z: u8) -> Result<Number, Refusal>
+    ensures { IsNumber (spec.number_op op v s w z) result }
 {
     match op {
         Op::Add => sum(v, s, w, z),
@@ -79,7 +78,9 @@ fn arithmetic<'a>(op: Op, x: Seen<'a>, y: Seen<'a>) -> Result<Seen<'a>, Refusal>
     ensures { Shows (spec.applied op (outcome_of x.entry) (outcome_of y.entry)) result }
 {
     match (x, y) {
-        (Seen::Number { v, s }, Seen::Number { v: w, s: z }) => number_op(op, v, s, w, z),
+        (Seen::Number { v, s }, Seen::Number { v: w, s: z }) => {
+            Ok(seen_number(number_op(op, v, s, w, z)?))
+        }
         (Seen::Null, Seen::Null | Seen::Number { .. }) => Ok(Seen::Null),
         (Seen::Number { .. }, Seen::Null) => Ok(Seen::Null),
         _ => Err(Refusal::E05),

@@ -2,8 +2,10 @@
 
 ghost use Rattle.std.specs.Prelude.{◌≡◌, IfOk};
 ghost use Rattle.lg_types.specs.declared.outcome.Outcome.TheVariants as out;
+ghost use Rattle.lg_value.specs.declared.value.Value.TheVariants.{Num};
 ghost use Rattle.lg_expr.specs.Seen.{outcome_of};
 
+use crate::arithmetic::Number;
 use lg_types::Outcome;
 use lg_value::{Blob, Memory, Text, Value};
 
@@ -29,6 +31,16 @@ pub fn seen_value(value: &Value) -> Seen<'_>
         Value::Text(text) => Seen::Text(text),
         Value::Bytes(blob) => Seen::Bytes(blob),
         Value::Date(day) => Seen::Day(*day),
+    }
+}
+
+/// A number, seen.
+pub fn seen_number<'a>(number: Number) -> Seen<'a>
+    ensures { outcome_of result ≡ out.Value (Num number.v number.s) }
+{
+    Seen::Number {
+        v: number.v,
+        s: number.s,
     }
 }
 

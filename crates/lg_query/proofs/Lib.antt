@@ -1,0 +1,4 @@
+pub mod InTurn
+pub mod Projections
+pub mod Sorting
+pub mod SortKeys

@@ -1,0 +1,4 @@
+pub mod Answers
+pub mod InTurn
+pub mod Places
+pub mod SortKeys

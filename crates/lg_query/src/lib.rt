@@ -1,0 +1,14 @@
+//! The rows that a SELECT shows: those that its condition takes, sorted, and of each what is to be shown.
+#![tactic(auto)]
+
+mod filtering;
+mod ordering;
+mod selecting;
+mod showing;
+mod totals;
+
+pub use lg_types::{Row, Select};
+pub use selecting::select;
+
+#[cfg(test)]
+mod tests;

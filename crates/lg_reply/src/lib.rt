@@ -1,0 +1,12 @@
+//! The texts of replies.
+#![tactic(auto)]
+
+mod rows;
+mod text;
+mod utf8;
+
+pub use lg_types::Reply;
+pub use text::reply_text;
+
+#[cfg(test)]
+mod tests;
