@@ -130,23 +130,26 @@ fn text(alloc: Global, answer: Result<Vec<Row>, Refusal>) -> Result<Vec<u8>, Fai
     Ok(out)
 }
 
+fn is_right(alloc: Global, literals: &[[&str; 4]], case: Case<'_>) -> Result<bool, Fail> {
+    let (cond, shown, by, want) = case;
+    let q = Select {
+        table: Name::of_str(alloc, "t")?,
+        what: what(alloc, shown)?,
+        cond: condition(alloc, cond)?,
+        order: order(alloc, by)?,
+    };
+    let answer = select(alloc, &q, &columns(alloc)?, 3, rows(alloc, literals)?);
+    Ok(text(alloc, answer)?.as_slice() == want.as_bytes())
+}
+
 /// How many cases stand before the first whose answer is another than it says.
 fn right(alloc: Global, literals: &[[&str; 4]], cases: &[Case<'_>]) -> Result<usize, Fail> {
-    let mut right = 0;
-    for (cond, shown, by, want) in cases {
-        let q = Select {
-            table: Name::of_str(alloc, "t")?,
-            what: what(alloc, shown)?,
-            cond: condition(alloc, cond)?,
-            order: order(alloc, by)?,
-        };
-        let answer = select(alloc, &q, &columns(alloc)?, 3, rows(alloc, literals)?);
-        if text(alloc, answer)?.as_slice() != want.as_bytes() {
-            break;
+    for at in 0..cases.len() {
+        if !is_right(alloc, literals, cases[at])? {
+            return Ok(at);
         }
-        right += 1;
     }
-    Ok(right)
+    Ok(cases.len())
 }
 
 #[test]
