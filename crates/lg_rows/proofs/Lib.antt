@@ -4,4 +4,5 @@ pub mod Fixed
 pub mod Lists
 pub mod Orders
 pub mod Sorting
+pub mod Updates
 pub mod Zipped

@@ -1,8 +1,8 @@
 -- What is left of two lists that are gone through side by side, where one of them has ended.
-use Rattle.std.proofs.Common.{◌≡◌, ℕ, suc, List, [], ◌∷◌, ◌++◌, map, length, refl, sym, ap, subst, ◌∙◌, arith, Ok, Err}
+use Rattle.std.proofs.Common.{◌≡◌, suc, List, [], ◌∷◌, ◌++◌, map, length, refl, sym, ap, subst, ◌∙◌, arith, Ok, Err}
 use Rattle.lg_model.specs.Refusals.{Checked, and_then}
 use Rattle.lg_model.specs.Lists.{checked_map}
-use Rattle.std.proofs.lemmas.List.{append-nil}
+use Rattle.std.proofs.lemmas.List.{append-nil, length-map}
 use Rattle.std.specs.List.{zip}
 use Rattle.lg_model.specs.Rows.{Row, stored_row}
 use Rattle.lg_value.specs.declared.column.ColumnDef.{ColumnDef}
@@ -45,3 +45,11 @@ pairs_step x xs (Err e) rs ys more same = cc
 pub as_many_pairs : {A B : Type 0} (f : A → Checked B) (xs : List A) (ys : List B) → checked_map f xs ≡ Ok ys → length (zip xs ys) ≡ length xs
 as_many_pairs f [] ys same = refl
 as_many_pairs f (x ∷ xs) ys same = pairs_step x xs (f x) (checked_map f xs) ys (as_many_pairs f xs) same
+
+pub seconds_ended : {A B C : Type 0} (f : B → C) (xs : List A) (ys : List B) → length ys ≡ 0 → zip xs (map f ys) ≡ []
+seconds_ended f [] [] h = refl
+seconds_ended f (x ∷ xs) [] h = refl
+seconds_ended f xs (y ∷ ys) h = absurd (omega (arith, h))
+
+pub pairs_of_each : {A B C : Type 0} (seen : A → B) (f : B → Checked C) (xs : List A) (ys : List C) → checked_map f (map seen xs) ≡ Ok ys → length (zip (map seen xs) ys) ≡ length xs
+pairs_of_each seen f xs ys same = as_many_pairs f (map seen xs) ys same ∙ length-map xs seen

@@ -2,14 +2,19 @@
 //! INSERT, UPDATE and DELETE make of them.
 #![tactic(auto)]
 
+mod changes;
 mod conditions;
+mod inserting;
 mod keeping;
 mod keys;
 mod live;
+mod matching;
 mod order;
 mod parts;
+mod setting;
 mod values;
 
+pub use changes::{Change, row_changes};
 pub use conditions::{holds, key_fixed};
 pub use keeping::{arranged, kept, kept_row};
 pub use keys::{compare_by_key, has_key, key_of, key_places, same_key};

@@ -53,7 +53,8 @@ fn value_in(stored: &Option<Typed>) -> Option<&Value>
     }
 }
 
-fn value_or_null(value: &Option<Typed>) -> Result<Value, Memory>
+/// A copy of the value that is stored; NULL is none.
+pub fn value_or_null(value: &Option<Typed>) -> Result<Value, Memory>
     ensures { IfOk result (λ v. v ≡ spec.value_or_null value.now) }
 {
     match value {

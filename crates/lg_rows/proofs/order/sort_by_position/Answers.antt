@@ -1,4 +1,4 @@
-use Rattle.std.proofs.Common.{rules, is_lt, Bor, ℕ, List}
+use Rattle.std.proofs.Common.{rules, is_lt, Bor, ℕ}
 use Rattle.std.proofs.lemmas.List.Sorted.{answers_always, ranks_by}
 use Rattle.lg_value.specs.declared.column.ColumnDef.{ColumnDef}
 use Rattle.lg_model.specs.Keys.{Placed, position_cmp}
