@@ -1,5 +1,5 @@
 -- Rows projected by places that were looked up.
-use Rattle.std.proofs.Common.{◌≡◌, ℕ, refl, sym, ap, ap₂, List, [], ◌∷◌, map, Option}
+use Rattle.std.proofs.Common.{◌≡◌, ℕ, refl, ap, ap₂, List, [], ◌∷◌, map}
 use Rattle.lg_value.specs.declared.column.ColumnDef.{ColumnDef}
 use Rattle.lg_model.specs.Columns.{place_of}
 use Rattle.lg_model.specs.Rows.{Row}

@@ -1,5 +1,5 @@
 -- Sorting by keys whose places were looked up is sorting by columns.
-use Rattle.std.proofs.Common.{◌≡◌, ℕ, refl, sym, ap, Bool, true, false, List, [], ◌∷◌, map, rules}
+use Rattle.std.proofs.Common.{◌≡◌, ℕ, refl, ap, Bool, true, false, List, [], ◌∷◌, map, rules}
 use Rattle.std.specs.Prelude.{if◌then◌else◌}
 use Rattle.std.specs.Cmp.{IsTotalOrder, then_total}
 use Rattle.std.specs.Cmp.Rules.{comparing}
@@ -10,7 +10,7 @@ use Rattle.lg_value.specs.Order.{value_cmp, value_total}
 use Rattle.lg_model.specs.Lists.{sorted}
 use Rattle.lg_model.specs.Rows.{Row}
 use Rattle.lg_model.specs.Query.{value_in, column_cmp, order_cmp}
-use Rattle.lg_query.specs.SortKeys.{key_of, key_cmp, keys_cmp}
+use Rattle.lg_query.specs.SortKeys.{key_of, keys_cmp}
 use Rattle.lg_query.specs.declared.ordering.SortKey.{SortKey}
 
 by_value : (f : Row → Value) (descending : Bool) → IsTotalOrder (λ a b. if descending then value_cmp (f b) (f a) else value_cmp (f a) (f b))

@@ -1,5 +1,5 @@
 -- What a stable sort gives: the one list in order of the same items that keeps the order of those that are equal.
-use Rattle.std.proofs.Common.{◌≡◌, ℕ, zero, suc, ◌<◌, ◌≤◌, Bool, true, false, cond, not, ◌&&◌, List, [], ◌∷◌, length, get_or, filter, refl, sym, ap, ap₂, subst, ◌∙◌, arith, inl, inr, suc-le-suc, zero-le, true≢false}
+use Rattle.std.proofs.Common.{◌≡◌, ℕ, zero, suc, ◌<◌, ◌≤◌, Bool, true, false, cond, not, ◌&&◌, List, [], ◌∷◌, length, get_or, filter, refl, sym, ap, ap₂, subst, ◌∙◌, inl, inr, suc-le-suc, zero-le, true≢false}
 use denote.Ref.{Bor}
 use denote.Param.Members.{Mut}
 use Rattle.std.proofs.lemmas.Bool.{cond-true, cond-false, cases_Bool, and_parts, not-true}

@@ -1,8 +1,6 @@
 //! The rows in the order of ORDER BY.
 
 ghost use Rattle.std.specs.Prelude.{◌≡◌, IfOk, map};
-ghost use Rattle.lg_value.specs.Order.{value_cmp};
-ghost use Rattle.lg_value.specs.declared.value.Value.TheVariants.{Null};
 ghost use Rattle.lg_model.specs.Lists.{sorted};
 ghost use Rattle.lg_model.specs.Query as spec;
 ghost use Rattle.lg_query.specs.SortKeys.{key_of, key_cmp, keys_cmp};
