@@ -1,0 +1,18 @@
+mod Conversions
+pub mod Counts
+mod Created
+mod DayBound
+pub mod DefLists
+pub mod Here
+pub mod Lift
+pub mod NewRows
+pub mod NumberKeys
+pub mod Order
+pub mod RowChanges
+pub mod Statements
+pub mod SystemKeys
+mod SystemRows
+pub mod Tables
+pub mod Taken
+mod Units
+pub mod Values

@@ -1,0 +1,4 @@
+pub mod Described
+pub mod Fine
+pub mod Fits
+pub mod Kept
