@@ -4,11 +4,14 @@ mod Created
 mod DayBound
 pub mod DefLists
 pub mod Here
+pub mod Keeping
 pub mod Lift
 pub mod NewRows
 pub mod NumberKeys
 pub mod Order
+pub mod Refusals
 pub mod RowChanges
+pub mod Scripts
 pub mod Statements
 pub mod SystemKeys
 mod SystemRows

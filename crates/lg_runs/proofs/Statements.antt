@@ -49,19 +49,19 @@ use Rattle.lg_runs.proofs.Tables.{kept_all}
 
 -- ---- what the system tables are about
 
-abbrev TablesAbout : Defs → Table → Type 0
+abbrev pub TablesAbout : Defs → Table → Type 0
 TablesAbout ds t = (t.def.columns ≡ tables_columns) × AllByRecursion (λ v. IsTableKey ds (version_key tables_columns v)) t.versions
 
-abbrev ColumnsAbout : Defs → Table → Type 0
+abbrev pub ColumnsAbout : Defs → Table → Type 0
 ColumnsAbout ds t = (t.def.columns ≡ columns_columns) × AllByRecursion (λ v. IsColumnKey ds (version_key columns_columns v)) t.versions
 
-record DescribedBy (ds : Defs) (T : Tables) : Type 0 where
+pub record DescribedBy (ds : Defs) (T : Tables) : Type 0 where
   pub of_tables : OfTable tables_id (TablesAbout ds) T
   pub of_columns : OfTable columns_id (ColumnsAbout ds) T
   pub few : AllByRecursion (λ (def : TableDef). length def.columns ≤ 64) ds
   pub count : length ds ≤ 34
 
-described_by : (ds : Defs) (T : Tables) → defs_of T ≡ ds → DescribedBy ds T → Described T
+pub described_by : (ds : Defs) (T : Tables) → defs_of T ≡ ds → DescribedBy ds T → Described T
 described_by ds T e h =
     let k : DescribedBy (defs_of T) T = subst (λ (xs : Defs). DescribedBy xs T) (sym e) h in
     record { of_tables = k.of_tables; of_columns = k.of_columns; few = k.few; count = k.count }
@@ -81,7 +81,7 @@ ordinals_fit id g n name [] most small lt short low h = tt
 ordinals_fit id g n name (o ∷ os) most small lt short low h =
     (index_row_fits id g name n o small (omega (arith, lt)) short (omega (arith, h.0, low)), ordinals_fit id g (n + 1) name os most small (omega (arith, lt)) short low h.1)
 
-own_column_key : (id : ℕ) (c : ℕ × ColumnDef) → key_in columns_columns (stored_row columns_columns (column_row id c)) ≡ column_key_at id (0 + c.0)
+pub own_column_key : (id : ℕ) (c : ℕ × ColumnDef) → key_in columns_columns (stored_row columns_columns (column_row id c)) ≡ column_key_at id (0 + c.0)
 own_column_key id c = column_key id c ∙ ap (column_key_at id) (omega arith)
 
 module _ (place : ℕ → ℕ) (tx : ℕ) where
@@ -103,7 +103,7 @@ module _ (place : ℕ → ℕ) (tx : ℕ) where
       (rows_new (defs_of T) def.id (column_row def.id) 0 (own_column_key def.id) 1 def.columns t.versions (omega (arith, no_items 1 def.id (defs_of T) ids (omega (arith, c.id))))
       (columns_fit def.id 1 def.columns (omega (arith, c.id, c.room)) (omega (arith, c.count)) c.columns) h.1))) d.of_columns
 
-  after_first : (seq : ℕ) (T : Tables) (def : TableDef) → changed_from tx seq (in_table tables_id (table_start def)) T ≡ changed_table tables_id (changed_all tx seq (table_start def)) T
+  pub after_first : (seq : ℕ) (T : Tables) (def : TableDef) → changed_from tx seq (in_table tables_id (table_start def)) T ≡ changed_table tables_id (changed_all tx seq (table_start def)) T
   after_first seq T def = in_one_table tx seq tables_id (table_start def) T
 
   table_fine : (seq : ℕ) (T : Tables) (c : CreateTable) (m : Checked TableDef) → Kept place tx seq T → Described T → create_check (defs_of T) c ≡ m → AllFine tx seq (table_plan m).changes T
@@ -120,7 +120,7 @@ module _ (place : ℕ → ℕ) (tx : ℕ) where
 
   -- ---- CREATE INDEX
 
-  stands_in : (T : Tables) (x : TableDef × IndexDef) → IdsFrom 1 (defs_of T) → Indexed (defs_of T) x → OfTable x.0.id (λ t. t.def ≡ x.0) T
+  pub stands_in : (T : Tables) (x : TableDef × IndexDef) → IdsFrom 1 (defs_of T) → Indexed (defs_of T) x → OfTable x.0.id (λ t. t.def ≡ x.0) T
   stands_in T x ids i =
       let f = (found_table 1 T i.table i.found ids i.by_name).there in
       let there : OfTable x.0.id (λ t. (t.def ≡ x.0) × (t.versions ≡ versions_of T x.0.id)) T = subst (λ (d : TableDef). OfTable d.id (λ t. (t.def ≡ d) × (t.versions ≡ versions_of T d.id)) T) i.is f in
@@ -130,7 +130,7 @@ module _ (place : ℕ → ℕ) (tx : ℕ) where
   of_out id P R [] o f = absurd o
   of_out id P R (t ∷ ts) o f = elim o [ inl p ↦ f t p.1 | inr q ↦ of_out id P R ts q f ]
 
-  few_columns : (T : Tables) (x : TableDef) → Described T → OfTable x.id (λ t. t.def ≡ x) T → length x.columns ≤ 64
+  pub few_columns : (T : Tables) (x : TableDef) → Described T → OfTable x.id (λ t. t.def ≡ x) T → length x.columns ≤ 64
   few_columns T x d o =
       of_out x.id (λ t. (length t.def.columns ≤ 64) × (t.def ≡ x)) (length x.columns ≤ 64) T
       (of_all x.id (λ t. length t.def.columns ≤ 64) (λ t. t.def ≡ x) T (all_defs (λ def. length def.columns ≤ 64) T d.few) o)

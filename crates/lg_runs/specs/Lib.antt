@@ -2,3 +2,4 @@ pub mod Described
 pub mod Fine
 pub mod Fits
 pub mod Kept
+pub mod Serial

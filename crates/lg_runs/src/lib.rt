@@ -3,4 +3,6 @@
 
 mod laws;
 
-pub use laws::changes_are_fine;
+pub use laws::{
+    changes_are_fine, fine_changes_keep, refusals_leave_everything, scripts_keep, statements_keep,
+};
