@@ -287,7 +287,7 @@ module _ (place : ℕ → ℕ) (tx : ℕ) where
 
 -- ---- what stands before any transaction
 
-none_below : (n : ℕ) → (let z : ℕ = 0 in z ≡ cond (nat_lt n 0) 1 0)
+pub none_below : (n : ℕ) → (let z : ℕ = 0 in z ≡ cond (nat_lt n 0) 1 0)
 none_below n = rw (le-ltb n 0 (omega arith)) refl
 
 pub first_kept : (place : ℕ → ℕ) (tx : ℕ) → Kept place tx 0 first_tables

@@ -12,6 +12,7 @@ pub mod Order
 pub mod Refusals
 pub mod RowChanges
 pub mod Scripts
+pub mod Serials
 pub mod Statements
 pub mod SystemKeys
 mod SystemRows

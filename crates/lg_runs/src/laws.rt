@@ -3,16 +3,19 @@
 ghost use Rattle.std.specs.Prelude.{ℕ, ◌≡◌, ◌+◌, Bool, List, Option};
 ghost use Rattle.std.specs.List.{AllByRecursion};
 ghost use Rattle.lg_value.specs.declared.refusal.Refusal.{Refusal};
+ghost use Rattle.lg_types.specs.declared.journal.JournalItem.{JournalItem};
 ghost use Rattle.lg_types.specs.declared.reply.Reply.TheVariants.{Refused};
 ghost use Rattle.lg_types.specs.declared.statement.Stmt.{Stmt};
 ghost use Rattle.lg_model.specs.Catalog.{Tables};
 ghost use Rattle.lg_model.specs.Effect.{effect};
+ghost use Rattle.lg_model.specs.Journals.{cut, serial, IsLegal};
 ghost use Rattle.lg_model.specs.Plans.{TableChange, changed_in, plan};
 ghost use Rattle.lg_model.specs.Script.{Reading, State, by_statement, script};
 ghost use Rattle.lg_model.specs.SystemTables.{first_tables};
 ghost use Rattle.lg_runs.specs.Described.{Described};
 ghost use Rattle.lg_runs.specs.Fine.{IsFineIn, AllFine};
 ghost use Rattle.lg_runs.specs.Kept.{Kept};
+ghost use Rattle.lg_runs.specs.Serial.{TablesOf};
 
 /// Each change that a statement makes, over the tables that the changes before it left, is the start of a row that fits its
 /// columns, at a key that no standing row has, or the end of a version that stands: of INSERT, UPDATE and DELETE, and of the
@@ -54,4 +57,19 @@ pub fn scripts_keep()
 pub fn refusals_leave_everything()
     ensures { (opened : Bool) (tx : ℕ) (x : State) (text : Option Stmt) (e : Refusal) → (by_statement opened tx x text).1 ≡ Refused e
         → (by_statement opened tx x text).0 ≡ x }
+{}
+
+/// In the tables to which a legal journal leads each start and each end stands once, its id is that of a transaction of the
+/// journal, the events of a transaction are numbered from 0 without a gap, an end comes after its start, every version fits
+/// its table, and of two versions of one key one ends before the other starts, in the order of the journal. The system
+/// tables have rows about nothing but the tables, columns and indexes that there are.
+pub fn legal_journals_keep()
+    ensures tables { (reads : Reading) (items : List JournalItem) → IsLegal reads items → TablesOf items (serial reads items) }
+    ensures described { (reads : Reading) (items : List JournalItem) → IsLegal reads items → Described (serial reads items) }
+{}
+
+/// The first items of a legal journal are a legal journal, so the same holds of the tables to which they lead.
+pub fn cuts_of_legal_journals_are_legal()
+    ensures legal { (reads : Reading) (items : List JournalItem) (m : ℕ) → IsLegal reads items → IsLegal reads (cut items m) }
+    ensures tables { (reads : Reading) (items : List JournalItem) (m : ℕ) → IsLegal reads items → TablesOf (cut items m) (serial reads (cut items m)) }
 {}

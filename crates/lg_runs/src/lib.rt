@@ -4,5 +4,6 @@
 mod laws;
 
 pub use laws::{
-    changes_are_fine, fine_changes_keep, refusals_leave_everything, scripts_keep, statements_keep,
+    changes_are_fine, cuts_of_legal_journals_are_legal, fine_changes_keep, legal_journals_keep,
+    refusals_leave_everything, scripts_keep, statements_keep,
 };
