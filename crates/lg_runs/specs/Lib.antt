@@ -1,0 +1,5 @@
+pub mod Described
+pub mod Fine
+pub mod Fits
+pub mod Kept
+pub mod Serial
