@@ -1,0 +1,16 @@
+pub mod Cells
+pub mod Committed
+pub mod EventsIn
+pub mod LedgerIsLegal
+pub mod LocksAgree
+pub mod LocksCover
+pub mod OpenOnes
+pub mod OpenScripts
+pub mod Parts
+pub mod Seats
+pub mod Server
+pub mod StandTogether
+pub mod TablesAreSerial
+pub mod TranscriptsAgree
+pub mod TreesAreOfEvents
+pub mod WantsIn
