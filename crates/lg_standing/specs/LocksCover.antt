@@ -18,7 +18,7 @@ use Rattle.lg_history.specs.Refusals.{EndsAt}
 use Rattle.lg_standing.specs.Server.{Server}
 use Rattle.lg_standing.specs.Cells.{Hold, LedgerCell, Cell, holds_at, versions_at, catalog_at, cell_of}
 use Rattle.lg_standing.specs.Seats.{OpenTransaction, Session, SeatState, Stage, found, made, answering, Place, inside}
-use Rattle.lg_standing.specs.OpenOnes.{HasOpen, statements_so_far}
+use Rattle.lg_standing.specs.OpenOnes.{HasOpen, script_so_far, statements_so_far}
 use Rattle.lg_standing.specs.WantsIn.{wants_in, Holds}
 use Rattle.lg_standing.specs.Committed.{in_journal}
 
@@ -107,7 +107,7 @@ pub record Cover (v : Server) (cells : List Cell) (ledger : LedgerCell) (seats :
   pub belong : (i : ℕ) (h : Hold) → In h (holds_at cells i) → Belongs v seats T i h
   -- in the cells that it hasn't released, a transaction's locks cover all wants of its script
   pub cover : (j : ℕ) (x : Session) (o : OpenTransaction) → HasOpen seats j x o → (i : ℕ) → (In i o.released → ⊥)
-      → Each (λ l. Each (Holds (holds_at cells i) o.id) (wants_in v (defs_of T) o.opened i l.0)) o.script
+      → Each (λ l. Each (Holds (holds_at cells i) o.id) (wants_in v (defs_of T) o.opened i l.0)) (script_so_far x o)
   -- a transaction that has a lock in a table's cell has one in the catalog
   pub catalog : (i id : ℕ) → HasLock cells (suc i) id → HasLock cells catalog_at id
   -- while a transaction whose end number n is fixed has a lock in the catalog, the journal has the definitions of its first n
