@@ -1,3 +1,5 @@
+pub mod Alone
+pub mod Answering
 pub mod CatalogVisits
 pub mod Cells
 pub mod Committed
@@ -8,6 +10,7 @@ pub mod LedgerIsLegal
 pub mod LedgerVisits
 pub mod LocksAgree
 pub mod LocksCover
+pub mod May
 pub mod Moves
 pub mod OpenOnes
 pub mod OpenScripts
@@ -21,4 +24,5 @@ pub mod Taking
 pub mod TranscriptsAgree
 pub mod TreesAreOfEvents
 pub mod UndoVisits
+pub mod Visits
 pub mod WantsIn

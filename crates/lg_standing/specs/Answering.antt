@@ -1,0 +1,77 @@
+-- What a statement is answered that needs no cell, and the entry that an answer writes.
+use Rattle.std.specs.Prelude.{ℕ, ◌==◌, ◌++◌, Bool, true, false, if◌then◌else◌, List, [], ◌∷◌, length, Option, Some, None, Ok, Err}
+use Rattle.std.specs.Str.{bytes_eq}
+use Rattle.lg_value.specs.declared.refusal.Refusal.{Refusal}
+use Rattle.lg_value.specs.declared.refusal.Refusal.TheVariants.{E01, E13, E14, E16, E17}
+use Rattle.lg_types.specs.declared.reply.Reply.{Reply}
+use Rattle.lg_types.specs.declared.statement.Stmt.{Stmt}
+use Rattle.lg_types.specs.declared.statement.Stmt.TheVariants as stmt
+use Rattle.lg_types.specs.declared.table.TableDef.{TableDef}
+use Rattle.lg_model.specs.Refusals.{Checked}
+use Rattle.lg_model.specs.Catalog.{Defs, Named}
+use Rattle.lg_model.specs.Checks.{row_statement_check}
+use Rattle.lg_model.specs.Query.{query_check}
+use Rattle.lg_history.specs.Lists.{Text}
+use Rattle.lg_history.specs.Transcripts.{EndLine, committed_at, ended_after, Entry, Transcript}
+use Rattle.lg_history.specs.Transactions.{End, unfixed, committed, ended}
+use Rattle.lg_standing.specs.Seats.{Frame, OpenTransaction, Place, Session, Written}
+
+-- ---- refusals
+
+-- in a transaction that BEGIN opened
+abbrev pub refused_inside : Option Stmt → Option Refusal
+refused_inside None = Some E01
+refused_inside (Some (stmt.Create c)) = Some E17
+refused_inside (Some (stmt.Index c)) = Some E17
+refused_inside (Some stmt.Begin) = Some E14
+refused_inside (Some stmt.Digest) = Some E17
+refused_inside (Some stmt.Image) = Some E17
+refused_inside _ = None
+
+-- where none is open; so many images were kept
+abbrev pub refused_outside : ℕ → Option Stmt → Option Refusal
+refused_outside images None = Some E01
+refused_outside images (Some stmt.Commit) = Some E13
+refused_outside images (Some (stmt.Save name)) = Some E13
+refused_outside images (Some (stmt.Rollback name)) = Some E13
+refused_outside images (Some stmt.Image) = if images == 2 then Some E16 else None
+refused_outside images _ = None
+
+abbrev pub error_of : {A : Type 0} → Checked A → Option Refusal
+error_of (Ok a) = None
+error_of (Err e) = Some e
+
+-- the definitions that a statement got, which are one or none
+abbrev pub defs_got : Option Named → Defs
+defs_got None = []
+defs_got (Some named) = named.0 ∷ []
+
+-- what is checked before any row, over the definition that the statement got
+abbrev pub refused_by_check : Option Named → Stmt → Option Refusal
+refused_by_check named (stmt.Change row) = error_of (row_statement_check (defs_got named) row)
+refused_by_check named (stmt.Select q) = error_of (query_check (defs_got named) q)
+refused_by_check named _ = None
+
+-- ---- savepoints
+
+-- the most recent frame of the name, and those before it
+abbrev pub frames_from : Text → List Frame → List Frame
+frames_from name [] = []
+frames_from name (f ∷ fs) = if bytes_eq f.name name then f ∷ fs else frames_from name fs
+
+-- ---- entries
+
+-- the line with which a transaction ends
+abbrev pub end_line : OpenTransaction → End → Option EndLine
+end_line o unfixed = None
+end_line o (committed n) = Some (committed_at o.id n)
+end_line o (ended n back) = Some (ended_after o.id n)
+
+-- the session with one entry more
+abbrev pub with_entry : Entry → Option OpenTransaction → Place → Session → Session
+with_entry entry open_one place x =
+    record { transcript = record { session = x.transcript.session; entries = x.transcript.entries ++ entry ∷ [] }; images = x.images; moments = x.moments; open_one = open_one; place = place; earlier = x.earlier }
+
+-- the transcript of a session that is over
+abbrev pub written_of : Session → Written
+written_of x = record { transcript = x.transcript; images = x.images; moments = x.moments; earlier = x.earlier }
