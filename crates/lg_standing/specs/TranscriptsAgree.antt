@@ -1,13 +1,12 @@
 -- Transcripts agree so far: they are the parts of one history in which each event paid what it owed.
-use Rattle.std.specs.Prelude.{ℕ, ◌≡◌, ◌<◌, ◌≤◌, ◌⊎◌, ◌++◌, true, List, [], ◌∷◌, map, flat_map, length, Option, Some}
+use Rattle.std.specs.Prelude.{ℕ, ◌≡◌, ◌<◌, ◌≤◌, ◌++◌, true, List, [], ◌∷◌, map, flat_map, length, Option, Some}
 use mathlib.Core.Option.{some}
 use lib.ListN.{get_elem?}
-use Rattle.lg_types.specs.declared.journal.JournalItem.{JournalItem}
 use Rattle.lg_model.specs.Journals.{tx_count, cut}
 use Rattle.lg_history.specs.Lists.{Each, In}
 use Rattle.lg_history.specs.Journals.{times}
 use Rattle.lg_history.specs.Transactions.{listed}
-use Rattle.lg_history.specs.Facts.{Fact, image, id_of, mark_of, Shows}
+use Rattle.lg_history.specs.Facts.{Fact, image, mark_of, Shows}
 use Rattle.lg_history.specs.Acts.{Event, of}
 use Rattle.lg_history.specs.Sessions.{fresh}
 use Rattle.lg_history.specs.Worlds.{first, run}
@@ -16,7 +15,7 @@ use Rattle.lg_history.specs.Histories.{SetupRan}
 use Rattle.lg_history.specs.SoFar.{facts_so_far}
 use Rattle.lg_standing.specs.Server.{Server}
 use Rattle.lg_standing.specs.Cells.{LedgerCell}
-use Rattle.lg_standing.specs.Seats.{KeptImage, Session, Role, session, Written, SeatState}
+use Rattle.lg_standing.specs.Seats.{KeptImage, Role, session, Written, SeatState}
 use Rattle.lg_standing.specs.Parts.{Sessions}
 
 -- ---- what a seat keeps

@@ -3,4 +3,4 @@
 
 mod laws;
 
-pub use laws::{conflicting_locks_dont_stand, transcripts_agree_so_far};
+pub use laws::{conflicting_locks_dont_stand, first_cells_stand, transcripts_agree_so_far};
