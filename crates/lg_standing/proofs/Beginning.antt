@@ -1,0 +1,223 @@
+-- The cells at the beginning and the first seat stand together.
+use Rattle.std.proofs.Common.{◌≡◌, ℕ, zero, suc, ◌+◌, ◌≤◌, Bool, true, false, List, [], ◌∷◌, refl, sym, ap, ◌∙◌, subst, inl, arith, Option, Some, None}
+use Rattle.std.proofs.lemmas.Bool.{ne_eqb}
+use Rattle.std.specs.Prelude.{◌==◌, if◌then◌else◌}
+use mathlib.Core.Option.{some, none}
+use lib.ListN.{get_elem?}
+use Rattle.lg_types.specs.declared.table.TableDef.{TableDef}
+use Rattle.lg_types.specs.declared.version.Version.{Version}
+use Rattle.lg_model.specs.Catalog.{Defs, Tables, versions_of}
+use Rattle.lg_model.specs.SystemTables.{tables_id, tables_def, columns_def, first_tables}
+use Rattle.lg_model.specs.Journals.{serial, serial_from}
+use Rattle.lg_history.specs.Lists.{Text, Each, In}
+use Rattle.lg_standing.specs.Server.{Server}
+use Rattle.lg_standing.specs.Cells.{Hold, LedgerCell, TableCell, Cell, Rows, first_catalog, first_ledger, empty_cells, first_cells, holds_in, holds_found, holds_at, versions_in, versions_found, versions_at, cell_of}
+use Rattle.lg_standing.specs.Seats.{OpenTransaction, Session, Role, session, SeatState, idle_seat}
+use Rattle.lg_standing.specs.OpenOnes.{HasOpen}
+use Rattle.lg_standing.specs.Committed.{committed}
+use Rattle.lg_standing.specs.TablesAreSerial.{StandsAs, def_at}
+use Rattle.lg_standing.specs.LocksCover.{IsUnderLocks}
+use Rattle.lg_standing.specs.TranscriptsAgree.{SeatAgrees, TranscriptsAgree}
+use Rattle.lg_standing.specs.StandTogether.{StandTogether}
+
+-- ---- cells
+
+abbrev empty_cell : ℕ → TableCell
+empty_cell id = record { id = id; versions = []; order = []; indexes = []; holds = [] }
+
+-- what is found there, if anything, is the empty cell of this table
+abbrev IsEmpty : ℕ → mathlib.Core.Option.Option Cell → Type 0
+IsEmpty id none = Unit {0}
+IsEmpty id (some c) = c ≡ Rows (empty_cell id)
+
+zero_plus : (k : ℕ) → 0 + k ≡ k
+zero_plus k = omega arith
+
+swap : (i id : ℕ) → i + suc id ≡ suc i + id
+swap i id = omega arith
+
+all_empty : (n id i : ℕ) → IsEmpty (i + id) (get_elem? (empty_cells n id) i)
+all_empty zero id i = tt
+all_empty (suc n) id zero = subst (λ k. IsEmpty k (some (Rows (empty_cell id)))) (sym (zero_plus id)) refl
+all_empty (suc n) id (suc i) = subst (λ k. IsEmpty k (get_elem? (empty_cells n (suc id)) i)) (swap i id) (all_empty n (suc id) i)
+
+none_held : (id : ℕ) (o : mathlib.Core.Option.Option Cell) → IsEmpty id o → holds_found o ≡ []
+none_held id none e = refl
+none_held id (some c) e = ap holds_in e
+
+none_in : (id t : ℕ) (o : mathlib.Core.Option.Option Cell) → IsEmpty id o → versions_found t o ≡ []
+none_in id t none e = refl
+none_in id t (some c) e = ap (versions_in t) e
+
+-- a choice between nothing and nothing is nothing
+either_empty : (b : Bool) (x : List Version) → x ≡ [] → (if b then [] else x) ≡ []
+either_empty true x e = refl
+either_empty false x e = e
+
+module _ (database : Text) (size : ℕ) where
+  held_nowhere : (i : ℕ) → holds_at (first_cells database size) i ≡ []
+  held_nowhere zero = refl
+  held_nowhere (suc zero) = refl
+  held_nowhere (suc (suc i)) = none_held (i + 3) (get_elem? (empty_cells 32 3) i) (all_empty 32 3 i)
+
+  nothing_in : (t i : ℕ) → versions_found t (get_elem? (first_cells database size) i) ≡ []
+  nothing_in t zero = either_empty (t == tables_id) [] refl
+  nothing_in t (suc zero) = refl
+  nothing_in t (suc (suc i)) = none_in (i + 3) t (get_elem? (empty_cells 32 3) i) (all_empty 32 3 i)
+
+  -- each cell of a table, and its number
+  abbrev IsTable : ℕ → mathlib.Core.Option.Option Cell → Type 0
+  IsTable id none = Unit {0}
+  IsTable id (some c) = (t : TableCell) × (c ≡ Rows t) × (t.id ≡ id)
+
+  is_table : (id : ℕ) (o : mathlib.Core.Option.Option Cell) → IsEmpty id o → IsTable id o
+  is_table id none e = tt
+  is_table id (some c) e = (empty_cell id, e, refl)
+
+  three : (i : ℕ) → i + 3 ≡ suc (suc (suc i))
+  three i = omega arith
+
+  tables_there : (i : ℕ) (c : Cell) → get_elem? (empty_cells 32 3) i ≡ some c → (t : TableCell) × (c ≡ Rows t) × (t.id ≡ suc (suc (suc i)))
+  tables_there i c e = subst (λ id. IsTable id (some c)) (three i) (subst (λ o. IsTable (i + 3) o) e (is_table (i + 3) (get_elem? (empty_cells 32 3) i) (all_empty 32 3 i)))
+
+  -- ---- tables
+
+  abbrev defs : Defs
+  defs = tables_def ∷ columns_def ∷ []
+
+  skips : (b : Bool) (d : TableDef) (x : Option TableDef) → b ≡ false → x ≡ None → (if b then Some d else x) ≡ None
+  skips b d x e f = ap (λ c. if c then Some d else x) e ∙ f
+
+  undefined : (id : ℕ) → 3 ≤ id → def_at defs id ≡ None
+  undefined id l = skips (1 == id) tables_def (if 2 == id then Some columns_def else None) (ne_eqb 1 id (λ e. omega arith))
+      (skips (2 == id) columns_def None (ne_eqb 2 id (λ e. omega arith)) refl)
+
+  no_versions : (id : ℕ) → versions_of first_tables id ≡ []
+  unfolding first_tables
+  no_versions id = either_empty (1 == id) (if 2 == id then [] else []) (either_empty (2 == id) [] refl)
+
+  module _ (v : Server) (seats : List SeatState) where
+    abbrev cells : List Cell
+    cells = first_cells database size
+
+    abbrev ledger : LedgerCell
+    ledger = first_ledger database size
+
+    -- a table's cell has nothing
+    abbrev HasNothing : mathlib.Core.Option.Option Cell → Type 0
+    HasNothing (some (Rows t)) = StandsAs v cells seats ledger t (def_at defs t.id)
+    HasNothing _ = Unit {0}
+
+    empty_stands : (id : ℕ) → StandsAs v cells seats ledger (empty_cell (suc (suc (suc id)))) (def_at defs (suc (suc (suc id))))
+    empty_stands id = subst (StandsAs v cells seats ledger (empty_cell (suc (suc (suc id))))) (sym (undefined (suc (suc (suc id))) (omega arith))) (refl, refl, refl)
+
+    has_nothing : (id : ℕ) (o : mathlib.Core.Option.Option Cell) → IsEmpty (suc (suc (suc id))) o → HasNothing o
+    has_nothing id none e = tt
+    has_nothing id (some c) e = subst (λ d. HasNothing (some d)) (sym e) (empty_stands id)
+
+    nothing_at : (i : ℕ) → HasNothing (get_elem? cells i)
+    nothing_at zero = tt
+    nothing_at (suc zero) = tt
+    nothing_at (suc (suc i)) = has_nothing i (get_elem? (empty_cells 32 3) i) (subst (λ id. IsEmpty id (get_elem? (empty_cells 32 3) i)) (three i) (all_empty 32 3 i))
+
+-- ---- the seat
+
+abbrev NoSession : Role → Type 0
+NoSession (session x) = ⊥
+NoSession _ = Unit {0}
+
+module _ (database : Text) (size : ℕ) where
+  abbrev seat : SeatState
+  seat = idle_seat database size 0 []
+
+  abbrev IsIdle : mathlib.Core.Option.Option SeatState → Type 0
+  IsIdle none = Unit {0}
+  IsIdle (some s) = NoSession s.role
+
+  idle_at : (j : ℕ) → IsIdle (get_elem? (seat ∷ []) j)
+  idle_at zero = tt
+  idle_at (suc j) = tt
+
+  none_open : (j : ℕ) (x : Session) (o : OpenTransaction) → HasOpen (seat ∷ []) j x o → ⊥
+  none_open j x o h = subst NoSession h.role (subst IsIdle h.there (idle_at j))
+
+  -- it is the only one
+  abbrev IsFirst : ℕ → mathlib.Core.Option.Option SeatState → Type 0
+  IsFirst j none = Unit {0}
+  IsFirst j (some s) = j ≡ 0
+
+  first_at : (j : ℕ) → IsFirst j (get_elem? (seat ∷ []) j)
+  first_at zero = refl
+  first_at (suc j) = tt
+
+  is_first : (j : ℕ) (s : SeatState) → get_elem? (seat ∷ []) j ≡ some s → j ≡ 0
+  is_first j s e = subst (IsFirst j) e (first_at j)
+
+  module _ (v : Server) where
+    abbrev AgreesIf : mathlib.Core.Option.Option SeatState → Type 0
+    AgreesIf none = Unit {0}
+    AgreesIf (some s) = SeatAgrees v [] (first_ledger database size) s
+
+    agrees_at : (j : ℕ) → AgreesIf (get_elem? (seat ∷ []) j)
+    agrees_at zero = record {
+      sessions = record { numbers = []; number = None; differ = tt; past = tt; now = tt; earlier = tt };
+      database = λ p. refl;
+      block_size = λ p. refl;
+      marks = tt;
+      greatest = (omega arith, omega arith);
+      past_images = tt;
+      images = tt;
+    }
+    agrees_at (suc j) = tt
+
+    transcripts : TranscriptsAgree v [] (first_ledger database size) (seat ∷ [])
+    transcripts = record {
+      good = tt;
+      items = refl;
+      next = refl;
+      issued = refl;
+      agree = λ j s e. subst AgreesIf e (agrees_at j);
+      apart = λ j k s t e f n a b. is_first j s e ∙ sym (is_first k t f);
+      count = 0;
+      all = λ n l. absurd (omega arith);
+      no_others = λ n l. (refl, refl);
+      times = tt;
+      made = tt;
+      setup = None;
+      setup_ran = tt;
+    }
+
+    -- ---- all
+
+    no_lock : (i : ℕ) (h : Hold) → In h (holds_at (first_cells database size) i) → ⊥
+    no_lock i h has = subst (In h) (held_nowhere database size i) has
+
+    under_nothing : (T : Tables) (id : ℕ) → Each (IsUnderLocks (first_cells database size) (first_ledger database size) T id) (versions_at (first_cells database size) id)
+    under_nothing T id = subst (Each (IsUnderLocks (first_cells database size) (first_ledger database size) T id)) (sym (nothing_in database size id (cell_of id))) tt
+
+    pub begins : StandTogether v (first_cells database size) (seat ∷ [])
+    unfolding serial_from first_tables
+    begins = record {
+      history = [];
+      catalog = first_catalog;
+      ledger = first_ledger database size;
+      are_cells = record { has_catalog = refl; has_ledger = refl; has_tables = tables_there database size };
+      ledger_is_legal = record { legal = tt; entries = refl; blocks = refl; pending = refl; digests = tt; closings = tt };
+      tables_are_serial = record {
+        definitions = inl refl;
+        versions = λ id l. ap (committed []) (nothing_in database size id (cell_of id)) ∙ sym (no_versions database size id);
+        tables = λ i cell e. subst (HasNothing database size v (seat ∷ [])) e (nothing_at database size v (seat ∷ []) i);
+      };
+      open_scripts = λ j x o h. absurd (none_open j x o h);
+      locks_cover = record {
+        belong = λ i h has. absurd (no_lock i h has);
+        cover = λ j x o h. absurd (none_open j x o h);
+        catalog = λ i id h. absurd (no_lock (suc i) h.hold h.has);
+        definitions = λ j x o n h. absurd (none_open j x o h);
+        got = λ j x o h. absurd (none_open j x o h);
+        under = λ id l. under_nothing (serial v.reads []) id;
+      };
+      locks_agree = λ i j k a b n h. absurd (none_open j h.x h.o h.open_one);
+      trees_are_of_events = λ j x o h. absurd (none_open j x o h);
+      transcripts_agree = transcripts;
+    }
