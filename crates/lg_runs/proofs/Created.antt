@@ -1,10 +1,10 @@
 -- What the checks of CREATE TABLE and of CREATE INDEX leave.
-use Rattle.std.proofs.Common.{◌≡◌, ◌≢◌, ◌≤◌, ◌<◌, ℕ, ◌+◌, refl, sym, ap, subst, ◌∙◌, Bool, true, false, List, [], ◌∷◌, ◌++◌, map, length, Option, Some, None, Ok, Err, arith}
+use Rattle.std.proofs.Common.{◌≡◌, ◌≤◌, ◌<◌, ℕ, ◌+◌, refl, sym, subst, Bool, true, false, List, [], ◌∷◌, map, length, Option, Some, None, Ok, arith}
 use Rattle.std.proofs.lemmas.Bool.Decides.{nat_tests}
 use Rattle.std.proofs.lemmas.List.{length-map}
 use Rattle.std.proofs.lemmas.List.Quantifiers.{position-Some}
 use Rattle.std.specs.Prelude.{◌||◌, not, nat_lt, nat_le, if◌then◌else◌, position}
-use Rattle.std.specs.List.{AllByRecursion, list_any, list_all, filter}
+use Rattle.std.specs.List.{AllByRecursion, list_any, filter}
 use Rattle.std.specs.Str.{bytes_eq}
 use Rattle.lg_value.specs.declared.column.ColumnDef.{ColumnDef}
 use Rattle.lg_value.specs.declared.refusal.Refusal.{Refusal}
@@ -14,13 +14,12 @@ use Rattle.lg_types.specs.declared.table.TableDef.{TableDef}
 use Rattle.lg_types.specs.declared.table.IndexDef.{IndexDef}
 use Rattle.lg_types.specs.declared.statement.CreateTable.{CreateTable}
 use Rattle.lg_types.specs.declared.statement.CreateIndex.{CreateIndex}
-use Rattle.lg_model.specs.Refusals.{Checked, or_refused}
+use Rattle.lg_model.specs.Refusals.{or_refused}
 use Rattle.lg_model.specs.Columns.{place_of}
 use Rattle.lg_model.specs.Limits.{max_columns, max_key_columns, max_tables, max_index_columns, max_indexes}
-use Rattle.lg_model.specs.Lists.{has_name, repeats}
 use Rattle.lg_model.specs.Catalog.{Defs, Named, find_part}
-use Rattle.lg_model.specs.Checks.{refused_if, is_base, is_declared}
-use Rattle.lg_model.specs.Create.{is_name, table_names, is_long, ordinal_at, key_position_of, keyed, table_def, has_bad_name, system_tables, exceeds_limit, has_null_key, created_check, next_id, create_check, index_def, ordinals_of, index_check_in, index_check}
+use Rattle.lg_model.specs.Checks.{refused_if}
+use Rattle.lg_model.specs.Create.{is_name, table_names, is_long, ordinal_at, keyed, table_def, has_bad_name, system_tables, exceeds_limit, has_null_key, next_id, create_check, index_def, ordinals_of, index_check_in, index_check}
 use Rattle.lg_model.proofs.Checked.{Led, led, was_passed, not_refused}
 use Rattle.lg_model.proofs.Alls.{all_weaker, all_both}
 use Rattle.lg_model.proofs.Named.{was_found}

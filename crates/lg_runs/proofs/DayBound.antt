@@ -1,7 +1,7 @@
 -- The day that a text writes is one of the calendar's.
-use Rattle.std.proofs.Common.{◌≡◌, ◌<◌, ◌≤◌, ℕ, ◌+◌, ◌-◌, Bool, true, false, List, ap, refl, arith, rules, Option, Some, None}
+use Rattle.std.proofs.Common.{◌≡◌, ◌≤◌, ℕ, Bool, true, false, List, refl, arith, rules, Option, Some, None}
 use Rattle.std.specs.Int.{IsInRange}
-use Rattle.std.specs.Prelude.{pos, ◌==◌, ◌&&◌, nat_le, option_and_then}
+use Rattle.std.specs.Prelude.{pos, ◌&&◌, nat_le, option_and_then}
 use Rattle.std.proofs.lemmas.Bool.{leb-true, and_parts}
 use Rattle.jiff_core.specs.Calendar.{day_count, days_in_month, IsCivilDate}
 use Rattle.jiff_core.proofs.CalendarLemmas.{day_count_bounds}

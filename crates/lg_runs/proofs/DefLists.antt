@@ -1,9 +1,9 @@
 -- Definitions after a table or an index has been made.
-use Rattle.std.proofs.Common.{◌≡◌, ◌≢◌, ◌≤◌, ◌<◌, ℕ, ◌+◌, ◌*◌, ◌⊎◌, inl, inr, refl, sym, ap, subst, ◌∙◌, Bool, true, false, List, [], ◌∷◌, ◌++◌, map, length, arith, length-append}
+use Rattle.std.proofs.Common.{◌≡◌, ◌≤◌, ◌<◌, ℕ, ◌+◌, ◌*◌, inl, inr, refl, sym, ap, ◌∙◌, Bool, true, false, [], ◌∷◌, ◌++◌, map, length, arith, length-append}
 use Rattle.std.proofs.lemmas.List.{length-map}
 use Rattle.std.proofs.lemmas.Bool.{eqb-true, eq-eqb, ne_eqb}
 use Rattle.std.specs.Prelude.{◌==◌, if◌then◌else◌}
-use Rattle.std.specs.List.{AllByRecursion, sum_by}
+use Rattle.std.specs.List.{AllByRecursion}
 use Rattle.std.proofs.lemmas.List.Sums.{sum_by-cons}
 use Rattle.lg_types.specs.declared.table.TableDef.{TableDef}
 use Rattle.lg_types.specs.declared.version.Table.{Table}
@@ -13,7 +13,7 @@ use Rattle.lg_model.specs.Catalog.{Defs, Tables, defs_of}
 use Rattle.lg_model.specs.Effect.{with_def, redefined}
 use Rattle.lg_model.specs.Agreement.{IdsFrom}
 use Rattle.lg_runs.specs.Fine.{OfTable}
-use Rattle.lg_runs.specs.Kept.{count, count_all}
+use Rattle.lg_runs.specs.Kept.{count_all}
 use Rattle.lg_runs.specs.Described.{items_below, IsTableKey, IsColumnKey}
 use Rattle.lg_runs.proofs.Tables.{table_count}
 

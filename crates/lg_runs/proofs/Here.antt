@@ -1,7 +1,7 @@
 -- Changes of one table that are fine, one after another.
-use Rattle.std.proofs.Common.{◌≡◌, ◌≢◌, ◌≤◌, ◌<◌, ℕ, ◌+◌, ◌⊎◌, inl, inr, Bool, true, false, cond, List, [], ◌∷◌, map, flat_map, refl, arith, sym, ◌∙◌, ap, subst, Option, Some, None}
+use Rattle.std.proofs.Common.{◌≡◌, ◌≢◌, ◌≤◌, ℕ, ◌+◌, ◌⊎◌, inl, inr, Bool, true, false, List, [], ◌∷◌, map, flat_map, refl, arith, sym, ◌∙◌, ap, subst, Some, None}
 use Rattle.std.specs.Prelude.{if◌then◌else◌}
-use Rattle.std.specs.List.{AllByRecursion, sum_by}
+use Rattle.std.specs.List.{AllByRecursion}
 use Rattle.std.specs.Ordering.{is_gt}
 use Rattle.std.proofs.lemmas.List.Sums.{sum_by-cons}
 use Rattle.lg_value.specs.declared.column.ColumnDef.{ColumnDef}
@@ -15,7 +15,7 @@ use Rattle.lg_model.proofs.SameKeys.{one_start}
 use Rattle.lg_runs.specs.Fits.{Fits}
 use Rattle.lg_runs.specs.Fine.{key_in, StandsFrom, IsFine}
 use Rattle.lg_runs.specs.Kept.{is_it, count_in, count, EndsBefore, Apart, AllApart, IsPast}
-use Rattle.lg_runs.proofs.Counts.{count_changed, own_same, hit, Ended, ended_cons, missed, one_less}
+use Rattle.lg_runs.proofs.Counts.{count_changed, own_same, hit, ended_cons, one_less}
 use Rattle.lg_runs.proofs.Order.{NoneStands, stands_not, new_version, no_now, past_changed, apart_changed, same_turned}
 
 abbrev pub AllHere : List ColumnDef → ℕ → ℕ → List Change → List Version → Type 0

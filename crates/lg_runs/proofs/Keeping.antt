@@ -1,5 +1,5 @@
 -- Each statement keeps what is kept, and the system tables stay about what there is.
-use Rattle.std.proofs.Common.{◌≡◌, ◌≢◌, ◌≤◌, ◌<◌, ℕ, ◌+◌, ◌*◌, ◌⊎◌, inl, inr, refl, sym, ap, subst, ◌∙◌, Bool, true, false, cond, nat_lt, List, [], ◌∷◌, ◌++◌, map, length, Ok, Err, arith, length-append}
+use Rattle.std.proofs.Common.{◌≡◌, ◌≤◌, ◌<◌, ℕ, ◌+◌, ◌*◌, inl, inr, refl, sym, ap, subst, ◌∙◌, Bool, true, false, cond, nat_lt, List, [], ◌∷◌, ◌++◌, length, Ok, Err, arith, length-append}
 use Rattle.std.proofs.lemmas.List.{length-map}
 use Rattle.std.proofs.lemmas.Bool.{eqb-true, le-ltb}
 use Rattle.std.specs.Prelude.{◌==◌, if◌then◌else◌}
@@ -18,7 +18,7 @@ use Rattle.lg_types.specs.declared.version.Version.{Version}
 use Rattle.lg_model.specs.Refusals.{Checked}
 use Rattle.lg_model.specs.Rows.{Row, EventId}
 use Rattle.lg_model.specs.Keys.{version_key}
-use Rattle.lg_model.specs.Changes.{Change, Changes, changed_all, row_changes}
+use Rattle.lg_model.specs.Changes.{Changes, changed_all, row_changes}
 use Rattle.lg_model.specs.Catalog.{Defs, Named, Tables, defs_of, versions_of, changed_table}
 use Rattle.lg_model.specs.Checks.{row_statement_check}
 use Rattle.lg_model.specs.Query.{query_check}
@@ -33,15 +33,15 @@ use Rattle.lg_model.proofs.BaseTables.{users_table}
 use Rattle.lg_model.proofs.Definitions.{same_defs, changes_keep_defs}
 use Rattle.lg_model.proofs.Plans.{planned, in_one_table, in_turn}
 use Rattle.lg_model.proofs.SoundStatements.{statement_sound, first_sound}
-use Rattle.lg_runs.specs.Fine.{OfTable, AllFine}
+use Rattle.lg_runs.specs.Fine.{OfTable}
 use Rattle.lg_runs.specs.Fits.{Fits}
 use Rattle.lg_runs.specs.Kept.{count_all, AllApart, KeptTable, Kept}
 use Rattle.lg_runs.specs.Described.{items_below, IsTableKey, IsColumnKey, Described}
 use Rattle.lg_runs.proofs.Created.{Created, created, Indexed, indexed}
 use Rattle.lg_runs.proofs.DefLists.{defs_append, all_defs, count_new, new_items, table_key_stays, column_key_stays, redef, defs_redefined, count_redefined, IsOnly, Standing, standing, table_key_kept, column_key_kept, items_now}
-use Rattle.lg_runs.proofs.Lift.{of_weaker, of_all, of_changed, of_other, of_front}
+use Rattle.lg_runs.proofs.Lift.{of_weaker, of_changed, of_other, of_front}
 use Rattle.lg_runs.proofs.NumberKeys.{table_key, index_key}
-use Rattle.lg_runs.proofs.Statements.{TablesAbout, ColumnsAbout, DescribedBy, described_by, own_column_key, stands_in, few_columns, after_first, plan_fine}
+use Rattle.lg_runs.proofs.Statements.{TablesAbout, ColumnsAbout, described_by, own_column_key, stands_in, few_columns, after_first, plan_fine}
 use Rattle.lg_runs.proofs.SystemKeys.{keys_after, rows_known}
 use Rattle.lg_runs.proofs.Tables.{kept_all}
 

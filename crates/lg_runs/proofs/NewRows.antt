@@ -1,10 +1,9 @@
 -- The rows that an INSERT keeps fit, at new keys.
-use Rattle.std.proofs.Common.{◌≡◌, ℕ, refl, sym, ap, subst, ◌∙◌, Bool, true, false, List, [], ◌∷◌, ◌++◌, map, length, Option, Some, None, Ok, Err}
+use Rattle.std.proofs.Common.{◌≡◌, ℕ, refl, sym, ap, subst, ◌∙◌, Bool, true, false, List, [], ◌∷◌, ◌++◌, length, Option, Some, None, Ok, Err}
 use Rattle.std.proofs.lemmas.Bool.{eqb-true}
 use Rattle.std.proofs.lemmas.List.{length-map}
-use Rattle.std.specs.Prelude.{if◌then◌else◌, ◌==◌, ◌||◌, not}
+use Rattle.std.specs.Prelude.{if◌then◌else◌, ◌==◌, not}
 use Rattle.std.specs.List.{AllByRecursion, list_any, list_all, zip}
-use Rattle.lg_value.specs.declared.value.Value.{Value}
 use Rattle.lg_value.specs.declared.column.ColumnDef.{ColumnDef}
 use Rattle.lg_value.specs.declared.refusal.Refusal.TheVariants.{E03, E04, E07, E11, E16, E18}
 use Rattle.lg_types.specs.declared.table.TableDef.{TableDef}
@@ -12,7 +11,7 @@ use Rattle.lg_types.specs.declared.table.Part.{Part}
 use Rattle.lg_types.specs.declared.version.Version.{Version}
 use Rattle.lg_model.specs.Refusals.{Checked, and_then}
 use Rattle.lg_model.specs.Lists.{checked_fold}
-use Rattle.lg_model.specs.Rows.{Row, stored_row, value_or_null}
+use Rattle.lg_model.specs.Rows.{Row, stored_row}
 use Rattle.lg_model.specs.Keys.{Key, key_of, same_key, stands}
 use Rattle.lg_model.specs.Changes.{kept, kept_row, value_named, arranged, is_duplicate, one_more, inserted_rows}
 use Rattle.lg_model.specs.Checks.{listed, listed_check, values_check, insert_check}

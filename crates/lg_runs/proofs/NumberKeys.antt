@@ -1,6 +1,6 @@
 -- Keys of whole numbers, and the keys of system rows.
-use Rattle.std.proofs.Common.{◌≡◌, ◌≤◌, ◌<◌, ℕ, ◌+◌, ◌*◌, ◌^◌, refl, sym, ap, subst, ◌∙◌, Bool, true, false, List, [], ◌∷◌, arith, lit<, inl, inr}
-use Rattle.std.specs.Prelude.{ℤ, pos}
+use Rattle.std.proofs.Common.{◌≡◌, ◌<◌, ℕ, ◌+◌, ◌*◌, ◌^◌, refl, sym, ◌∙◌, true, List, [], ◌∷◌, arith, lit<, inl, inr}
+use Rattle.std.specs.Prelude.{pos}
 use Rattle.std.proofs.Math.IntN.{pos-*ℤ-pos}
 use Rattle.std.proofs.Math.Nat.{mul-lt-mul_of_pos_right, pow-le-pow_right}
 use Rattle.std.proofs.lemmas.Bool.{cases_lt}
@@ -9,7 +9,6 @@ use Rattle.std.specs.declared.cmp.Ordering.{Ordering}
 use Rattle.std.specs.declared.cmp.Ordering.TheVariants.{Less, Equal, Greater}
 use Rattle.std.specs.Ordering.{ordering_then, is_eq, int_cmp}
 use Rattle.std.proofs.lemmas.Int.{ints}
-use Rattle.lg_value.specs.declared.value.Value.{Value}
 use Rattle.lg_value.specs.Number.{raised}
 use Rattle.lg_value.specs.Order.{value_cmp}
 use Rattle.lg_types.specs.declared.table.TableDef.{TableDef}

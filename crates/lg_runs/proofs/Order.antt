@@ -1,7 +1,7 @@
 -- What each change keeps of the versions of a table.
-use Rattle.std.proofs.Common.{◌≡◌, ◌≢◌, ◌≤◌, ◌<◌, ℕ, ◌+◌, ◌⊎◌, inl, inr, Bool, true, false, cond, List, [], ◌∷◌, map, refl, arith, sym, ◌∙◌, ap, subst, Option, Some, None}
-use Rattle.std.specs.Prelude.{if◌then◌else◌, is_none, ◌||◌, IfSome}
-use Rattle.std.specs.List.{AllByRecursion, sum_by, list_any, filter}
+use Rattle.std.proofs.Common.{◌≡◌, ◌≢◌, ◌≤◌, ℕ, ◌+◌, inl, inr, Bool, true, false, cond, List, [], ◌∷◌, refl, arith, sym, ◌∙◌, ap, subst, Option, Some, None}
+use Rattle.std.specs.Prelude.{if◌then◌else◌, is_none, IfSome}
+use Rattle.std.specs.List.{AllByRecursion, list_any, filter}
 use Rattle.std.specs.Ordering.{is_gt}
 use Rattle.std.proofs.lemmas.List.Sums.{sum_by-cons}
 use Rattle.lg_value.specs.declared.column.ColumnDef.{ColumnDef}
@@ -16,7 +16,7 @@ use Rattle.lg_model.proofs.SameKeys.{or_false, same_key_as, same_itself}
 use Rattle.lg_runs.specs.Fits.{Fits}
 use Rattle.lg_runs.specs.Fine.{key_in, StandsFrom, IsFine}
 use Rattle.lg_runs.specs.Kept.{is_it, ends_with, count_in, count, IsEarlier, EndsBefore, Apart, AllApart, IsPast}
-use Rattle.lg_runs.proofs.Counts.{same_parts, hit, Ended, ended_cons, missed, one_less}
+use Rattle.lg_runs.proofs.Counts.{same_parts, hit, ended_cons, missed, one_less}
 
 -- ---- keys
 

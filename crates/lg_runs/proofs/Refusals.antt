@@ -16,7 +16,7 @@ use Rattle.lg_model.specs.Refusals.{Checked}
 use Rattle.lg_model.specs.Limits.{max_savepoints}
 use Rattle.lg_model.specs.Rows.{Row}
 use Rattle.lg_model.specs.Changes.{Changes, row_changes}
-use Rattle.lg_model.specs.Catalog.{Named, Tables, defs_of, versions_of}
+use Rattle.lg_model.specs.Catalog.{Named, defs_of, versions_of}
 use Rattle.lg_model.specs.Checks.{row_statement_check}
 use Rattle.lg_model.specs.Query.{query_check}
 use Rattle.lg_model.specs.Create.{create_check, index_check}

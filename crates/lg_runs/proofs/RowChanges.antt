@@ -1,5 +1,5 @@
 -- The changes of INSERT, UPDATE and DELETE are fine.
-use Rattle.std.proofs.Common.{◌≡◌, ℕ, refl, sym, ap, subst, ◌∙◌, false, List, [], ◌∷◌, map, flat_map, Option, Ok}
+use Rattle.std.proofs.Common.{◌≡◌, ℕ, subst, false, List, Ok}
 use Rattle.std.specs.List.{AllByRecursion, list_any, zip}
 use Rattle.lg_value.specs.declared.column.ColumnDef.{ColumnDef}
 use Rattle.lg_value.specs.declared.expr.Expr.{Expr}
@@ -8,10 +8,10 @@ use Rattle.lg_types.specs.declared.statement.RowStmt.TheVariants.{Insert, Update
 use Rattle.lg_types.specs.declared.table.TableDef.{TableDef}
 use Rattle.lg_types.specs.declared.table.Part.{Part}
 use Rattle.lg_types.specs.declared.version.Version.{Version}
-use Rattle.lg_model.specs.Refusals.{Checked, and_then}
+use Rattle.lg_model.specs.Refusals.{and_then}
 use Rattle.lg_model.specs.Lists.{checked_map, repeats}
-use Rattle.lg_model.specs.Rows.{Row, stored_row}
-use Rattle.lg_model.specs.Changes.{Changes, inserted_rows, versions_matched, row_set, replaced, insertion, replacement, deletion, row_changes}
+use Rattle.lg_model.specs.Rows.{Row}
+use Rattle.lg_model.specs.Changes.{Changes, inserted_rows, versions_matched, row_set, insertion, replacement, deletion, row_changes}
 use Rattle.lg_model.specs.Create.{names_of}
 use Rattle.lg_model.specs.Checks.{is_in_key, row_check}
 use Rattle.lg_model.specs.Runs.{Rising}

@@ -1,9 +1,9 @@
 -- The tables to which a legal journal leads.
-use Rattle.std.proofs.Common.{◌≡◌, ◌≢◌, ◌≤◌, ◌<◌, ℕ, zero, suc, ◌+◌, ◌⊎◌, inl, inr, refl, sym, ap, subst, ◌∙◌, Bool, true, false, cond, nat_lt, List, [], ◌∷◌, ◌++◌, map, take, length, Option, Some, None, arith}
-use Rattle.std.proofs.lemmas.Bool.{eqb-true, eq-eqb, ne_eqb, le-ltb}
+use Rattle.std.proofs.Common.{◌≡◌, ◌<◌, ℕ, zero, suc, ◌+◌, ◌⊎◌, inl, inr, refl, sym, ap, subst, ◌∙◌, Bool, true, false, List, [], ◌∷◌, ◌++◌, map, take, Option, Some, None, arith}
+use Rattle.std.proofs.lemmas.Bool.{eqb-true, eq-eqb, ne_eqb}
 use Rattle.std.proofs.lemmas.List.Sums.{sum_by-cons}
 use Rattle.std.specs.Prelude.{◌==◌, if◌then◌else◌, IfSome}
-use Rattle.std.specs.List.{AllByRecursion, sum_by}
+use Rattle.std.specs.List.{AllByRecursion}
 use Rattle.lg_types.specs.declared.journal.JournalItem.{JournalItem}
 use Rattle.lg_types.specs.declared.journal.JournalItem.TheVariants.{Tx, Close}
 use Rattle.lg_types.specs.declared.version.Table.{Table}
@@ -14,9 +14,8 @@ use Rattle.lg_model.specs.SystemTables.{first_tables}
 use Rattle.lg_model.specs.Runs.{IsBefore, EndsBefore, MadeBefore, SoundTable, Sound}
 use Rattle.lg_model.specs.Script.{Reading, script}
 use Rattle.lg_model.specs.Journals.{cut, tx_count, IsOther, after_item, serial_from, serial, IsNext, IsLegalFrom, IsLegal}
-use Rattle.lg_model.proofs.Alls.{all_weaker, all_append}
+use Rattle.lg_model.proofs.Alls.{all_weaker}
 use Rattle.lg_model.proofs.OtherTransactions.{others_sound}
-use Rattle.lg_model.proofs.SameKeys.{one_start}
 use Rattle.lg_model.proofs.SoundStatements.{first_sound}
 use Rattle.lg_runs.specs.Fits.{Fits}
 use Rattle.lg_runs.specs.Kept.{is_it, ends_with, count_in, count, count_all, IsNumbered, IsEarlier, AllApart, IsPast, KeptTable, Kept}

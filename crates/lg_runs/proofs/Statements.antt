@@ -1,51 +1,40 @@
 -- Each statement's changes are fine, and each statement keeps what is kept.
-use Rattle.std.proofs.Common.{◌≡◌, ◌≢◌, ◌≤◌, ◌<◌, ℕ, ◌+◌, ◌*◌, ◌⊎◌, inl, inr, refl, sym, ap, subst, ◌∙◌, Bool, true, false, List, [], ◌∷◌, ◌++◌, map, length, Ok, Err, arith, length-append}
-use Rattle.std.proofs.lemmas.List.{length-map}
-use Rattle.std.proofs.lemmas.Bool.{eqb-true}
-use Rattle.std.specs.Prelude.{◌==◌, if◌then◌else◌}
+use Rattle.std.proofs.Common.{◌≡◌, ◌≢◌, ◌≤◌, ◌<◌, ℕ, ◌+◌, ◌*◌, inl, inr, refl, sym, ap, subst, ◌∙◌, List, [], ◌∷◌, map, length, Ok, Err, arith}
 use Rattle.std.specs.List.{AllByRecursion}
 use Rattle.lg_value.specs.declared.column.ColumnDef.{ColumnDef}
 use Rattle.lg_types.specs.declared.statement.Stmt.{Stmt}
 use Rattle.lg_types.specs.declared.statement.Stmt.TheVariants as s
-use Rattle.lg_types.specs.declared.statement.RowStmt.{RowStmt}
 use Rattle.lg_types.specs.declared.statement.CreateTable.{CreateTable}
 use Rattle.lg_types.specs.declared.statement.CreateIndex.{CreateIndex}
 use Rattle.lg_types.specs.declared.statement.Select.{Select}
 use Rattle.lg_types.specs.declared.table.TableDef.{TableDef}
 use Rattle.lg_types.specs.declared.table.IndexDef.{IndexDef}
 use Rattle.lg_types.specs.declared.version.Table.{Table}
-use Rattle.lg_types.specs.declared.version.Version.{Version}
 use Rattle.lg_model.specs.Refusals.{Checked}
 use Rattle.lg_model.specs.Lists.{numbered}
-use Rattle.lg_model.specs.Rows.{Row, EventId, stored_row}
-use Rattle.lg_model.specs.Keys.{Key, version_key}
-use Rattle.lg_model.specs.Changes.{Change, Changes, Starts, changed_all, row_changes}
-use Rattle.lg_model.specs.Catalog.{Defs, Named, Tables, defs_of, versions_of, with_versions, changed_table}
+use Rattle.lg_model.specs.Rows.{Row, stored_row}
+use Rattle.lg_model.specs.Keys.{version_key}
+use Rattle.lg_model.specs.Changes.{changed_all}
+use Rattle.lg_model.specs.Catalog.{Defs, Named, Tables, defs_of, versions_of, changed_table}
 use Rattle.lg_model.specs.Checks.{row_statement_check}
 use Rattle.lg_model.specs.Query.{query_check}
-use Rattle.lg_model.specs.SystemTables.{tables_id, columns_id, tables_columns, columns_columns, table_row, column_row, column_rows, index_row, index_rows, first_tables}
-use Rattle.lg_model.specs.Create.{create_check, index_check, with_index}
-use Rattle.lg_model.specs.Effect.{Effect, effect, query_rows, table_start, column_starts, index_starts, with_def, redefined}
-use Rattle.lg_model.specs.Plans.{TableChange, in_table, changed_from, Definition, as_before, new, in_place, defined, Plan, row_plan, change_plan, rows_plan, query_plan, table_plan, index_plan, plan, carried_out}
+use Rattle.lg_model.specs.SystemTables.{tables_id, columns_id, tables_columns, columns_columns, table_row, column_row, column_rows, index_row, index_rows}
+use Rattle.lg_model.specs.Create.{create_check, index_check}
+use Rattle.lg_model.specs.Effect.{query_rows, table_start, column_starts, index_starts}
+use Rattle.lg_model.specs.Plans.{TableChange, in_table, changed_from, rows_plan, query_plan, table_plan, index_plan, plan}
 use Rattle.lg_model.specs.Agreement.{IdsFrom}
-use Rattle.lg_model.specs.Runs.{Sound}
-use Rattle.lg_model.proofs.Alls.{all_weaker, all_append, all_map}
-use Rattle.lg_model.proofs.BaseTables.{users_table}
-use Rattle.lg_model.proofs.Definitions.{same_defs, changes_keep_defs}
-use Rattle.lg_model.proofs.Plans.{planned, in_one_table, in_turn, length-in_table}
-use Rattle.lg_model.proofs.SoundStatements.{statement_sound, first_sound}
+use Rattle.lg_model.proofs.Plans.{in_one_table}
 use Rattle.lg_runs.specs.Fits.{Fits}
 use Rattle.lg_runs.specs.Fine.{key_in, OfTable, AllFine}
-use Rattle.lg_runs.specs.Kept.{count_all, IsNumbered, KeptTable, Kept}
-use Rattle.lg_runs.specs.Described.{items_below, IsTableKey, IsColumnKey, Described}
+use Rattle.lg_runs.specs.Kept.{Kept}
+use Rattle.lg_runs.specs.Described.{IsTableKey, IsColumnKey, Described}
 use Rattle.lg_runs.proofs.Created.{Created, created, Indexed, indexed}
-use Rattle.lg_runs.proofs.DefLists.{defs_append, all_defs, count_new, no_items, new_items, table_key_stays, column_key_stays, redef, defs_redefined, count_redefined, IsOnly, Standing, standing, table_key_kept, column_key_kept, items_now}
+use Rattle.lg_runs.proofs.DefLists.{all_defs, no_items, Standing, standing}
 use Rattle.lg_runs.proofs.Here.{AllHere, starts_fine}
-use Rattle.lg_runs.proofs.Lift.{of_weaker, of_all, of_changed, of_other, of_front, lift, fine_append, found_table, change_fine}
-use Rattle.lg_runs.proofs.NumberKeys.{table_key, column_key, index_key}
-use Rattle.lg_runs.proofs.SystemKeys.{keys_after, table_row_new, rows_new, rows_known, column_key_at}
+use Rattle.lg_runs.proofs.Lift.{of_weaker, of_all, of_other, lift, fine_append, found_table, change_fine}
+use Rattle.lg_runs.proofs.NumberKeys.{column_key, index_key}
+use Rattle.lg_runs.proofs.SystemKeys.{table_row_new, rows_new, column_key_at}
 use Rattle.lg_runs.proofs.SystemRows.{IsSmall, table_row_fits, column_row_fits, index_row_fits}
-use Rattle.lg_runs.proofs.Tables.{kept_all}
 
 -- ---- what the system tables are about
 

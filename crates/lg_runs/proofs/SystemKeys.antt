@@ -1,5 +1,5 @@
 -- The system rows of a table and of an index have new keys, and are about what there is then.
-use Rattle.std.proofs.Common.{◌≡◌, ◌≢◌, ◌≤◌, ◌<◌, ℕ, ◌+◌, ◌*◌, refl, sym, ap, subst, ◌∙◌, Bool, true, false, List, [], ◌∷◌, map, length, arith}
+use Rattle.std.proofs.Common.{◌≡◌, ◌≤◌, ◌<◌, ℕ, ◌+◌, refl, sym, ap, subst, ◌∙◌, Bool, true, false, List, [], ◌∷◌, map, length, arith}
 use Rattle.std.specs.List.{AllByRecursion}
 use Rattle.lg_value.specs.declared.column.ColumnDef.{ColumnDef}
 use Rattle.lg_types.specs.declared.table.TableDef.{TableDef}
@@ -10,7 +10,7 @@ use Rattle.lg_model.specs.Keys.{Key, same_key, version_key}
 use Rattle.lg_model.specs.Changes.{Starts, changed, changed_all}
 use Rattle.lg_model.specs.Catalog.{Defs}
 use Rattle.lg_model.specs.SystemTables.{tables_columns, columns_columns, table_row}
-use Rattle.lg_model.proofs.Alls.{all_weaker, all_inserted}
+use Rattle.lg_model.proofs.Alls.{all_inserted}
 use Rattle.lg_runs.specs.Fits.{Fits}
 use Rattle.lg_runs.specs.Fine.{key_in}
 use Rattle.lg_runs.specs.Described.{items_below, IsTableKey, IsColumnKey}

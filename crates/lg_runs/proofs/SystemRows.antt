@@ -1,10 +1,7 @@
 -- The system rows of a table and of an index fit.
-use Rattle.std.proofs.Common.{◌≡◌, ◌≢◌, ◌≤◌, ◌<◌, ℕ, ◌+◌, ◌*◌, ◌^◌, refl, sym, ap, subst, ◌∙◌, Bool, true, false, List, [], ◌∷◌, map, length, arith}
-use Rattle.std.specs.Prelude.{◌==◌, pos, nat_le, nat_lt}
-use Rattle.std.specs.List.{AllByRecursion}
+use Rattle.std.proofs.Common.{◌≡◌, ◌≤◌, ◌<◌, ℕ, ◌+◌, ◌*◌, ◌^◌, refl, Bool, true, false, List, [], length, arith}
 use Rattle.std.proofs.lemmas.Bool.{lt-ltb, le-leb}
 use Rattle.std.proofs.lemmas.Bool.Decides.{nat_tests}
-use Rattle.lg_value.specs.declared.value.Value.{Value}
 use Rattle.lg_value.specs.declared.value.Value.TheVariants.{Text}
 use Rattle.lg_value.specs.declared.sql_type.SqlType.{SqlType}
 use Rattle.lg_value.specs.declared.sql_type.SqlType.TheVariants as t
@@ -19,7 +16,6 @@ use Rattle.lg_model.specs.Rows.{number, stored_value, stored_row}
 use Rattle.lg_model.specs.SystemTables.{a_column, name_type, tables_columns, columns_columns, kind_code, history_value, bit, table_row, column_row, index_row}
 use Rattle.lg_runs.specs.Fits.{FitsColumn, Fits}
 use Rattle.lg_runs.proofs.Units.{few_units}
-use Rattle.lg_runs.proofs.Values.{fits_stored}
 
 abbrev IsInt : ℕ → Type 0
 IsInt n = n < 2147483648

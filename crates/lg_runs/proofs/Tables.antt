@@ -1,20 +1,19 @@
 -- What each change keeps of all tables.
-use Rattle.std.proofs.Common.{◌≡◌, ◌≢◌, ◌≤◌, ◌<◌, ℕ, ◌+◌, ◌⊎◌, inl, inr, Bool, true, false, cond, List, [], ◌∷◌, ◌++◌, map, length, refl, arith, sym, ◌∙◌, ap, subst, nat_lt}
-use Rattle.std.specs.Prelude.{if◌then◌else◌, ◌==◌, ◌&&◌}
-use Rattle.std.specs.List.{AllByRecursion, sum_by}
+use Rattle.std.proofs.Common.{◌≡◌, ◌≢◌, ◌≤◌, ◌<◌, ℕ, ◌+◌, inl, inr, Bool, true, false, cond, List, [], ◌∷◌, ◌++◌, length, refl, arith, sym, ◌∙◌, ap, subst, nat_lt}
+use Rattle.std.specs.Prelude.{◌==◌}
+use Rattle.std.specs.List.{AllByRecursion}
 use Rattle.std.proofs.lemmas.Bool.{eqb-true, eq-eqb, ne_eqb}
 use Rattle.std.proofs.lemmas.Bool.Decides.{nat_tests}
 use Rattle.std.proofs.lemmas.List.Sums.{sum_by-cons}
 use Rattle.lg_types.specs.declared.version.Table.{Table}
 use Rattle.lg_types.specs.declared.version.Version.{Version}
-use Rattle.lg_model.specs.Rows.{EventId, same_event}
-use Rattle.lg_model.specs.Changes.{Change, Starts, Ends, changed}
+use Rattle.lg_model.specs.Rows.{EventId}
+use Rattle.lg_model.specs.Changes.{Change, changed}
 use Rattle.lg_model.specs.Catalog.{Tables, defs_of, with_versions, changed_table}
 use Rattle.lg_model.specs.Plans.{TableChange, changed_in, changed_from}
 use Rattle.lg_model.specs.Agreement.{IdsFrom}
 use Rattle.lg_model.proofs.Alls.{all_weaker}
 use Rattle.lg_model.proofs.Sounds.{sound_changed}
-use Rattle.lg_runs.specs.Fits.{Fits}
 use Rattle.lg_runs.specs.Fine.{IsFine, OfTable, IsFineIn, AllFine}
 use Rattle.lg_runs.specs.Kept.{is_it, count, count_all, IsNumbered, IsPast, KeptTable, Kept}
 use Rattle.lg_runs.proofs.Counts.{count_changed}

@@ -1,6 +1,6 @@
 -- What INSERT and UPDATE keep of a row fits the columns.
-use Rattle.std.proofs.Common.{◌≡◌, ◌≢◌, ℕ, ℤ, suc, refl, sym, ap, subst, ◌∙◌, Bool, true, false, List, [], ◌∷◌, map, length, Option, Some, None, Ok, Err}
-use Rattle.std.specs.Prelude.{if◌then◌else◌, ◌==◌, nat_le}
+use Rattle.std.proofs.Common.{◌≡◌, ◌≢◌, ℕ, ℤ, suc, refl, ap, subst, ◌∙◌, Bool, true, false, List, [], ◌∷◌, map, length, Option, Some, None, Ok, Err}
+use Rattle.std.specs.Prelude.{if◌then◌else◌, ◌==◌}
 use Rattle.std.specs.List.{zip}
 use Rattle.lg_value.specs.declared.value.Value.{Value}
 use Rattle.lg_value.specs.declared.value.Value.TheVariants as val
@@ -9,21 +9,19 @@ use Rattle.lg_value.specs.declared.sql_type.SqlType.TheVariants as t
 use Rattle.lg_value.specs.declared.refusal.ValueErr.{ValueErr}
 use Rattle.lg_value.specs.declared.refusal.ValueErr.TheVariants.{Mismatch}
 use Rattle.lg_value.specs.declared.column.ColumnDef.{ColumnDef}
-use Rattle.lg_value.specs.declared.refusal.Refusal.{Refusal}
 use Rattle.lg_value.specs.declared.refusal.Refusal.TheVariants.{E06}
 use Rattle.lg_value.specs.declared.expr.Expr.{Expr}
 use Rattle.lg_value.specs.Conversion.{Converted, only_if, whole_to, number_to, day_or_mismatch, text_to, bytes_to, day_to, converted, conversion_of}
 use Rattle.lg_value.specs.Day.{day_of}
 use Rattle.lg_value.specs.Stored.{is_in_range, is_stored}
 use Rattle.lg_runs.proofs.Conversions.{made_stored}
-use Rattle.lg_types.specs.declared.outcome.Outcome.{Outcome}
 use Rattle.lg_types.specs.declared.version.Typed.{Typed}
 use Rattle.lg_types.specs.declared.version.Version.{Version}
 use Rattle.lg_model.specs.Refusals.{Checked, and_then}
 use Rattle.lg_model.specs.Lists.{checked_map}
-use Rattle.lg_model.specs.Rows.{Row, stored_value, stored_row, value_or_null, values_of}
+use Rattle.lg_model.specs.Rows.{Row, stored_value, stored_row, value_or_null}
 use Rattle.lg_model.specs.Meaning.{meaning_of}
-use Rattle.lg_model.specs.Parts.{start_columns, base_row}
+use Rattle.lg_model.specs.Parts.{base_row}
 use Rattle.lg_model.specs.Changes.{or_its_refusal, kept, kept_row, expr_set, as_value, value_set, row_set}
 use Rattle.lg_model.proofs.Checked.{Led, led}
 use Rattle.lg_runs.specs.Fits.{FitsColumn, Fits}

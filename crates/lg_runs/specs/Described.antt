@@ -1,6 +1,6 @@
 -- What holds of definitions and of the system tables between two statements: which columns the system tables have, and
 -- that their rows are about tables, columns and indexes that there are.
-use Rattle.std.specs.Prelude.{ℕ, ◌+◌, ◌*◌, ◌==◌, ◌≡◌, ◌<◌, ◌≤◌, if◌then◌else◌, List, [], ◌∷◌, length}
+use Rattle.std.specs.Prelude.{ℕ, ◌+◌, ◌*◌, ◌==◌, ◌≡◌, ◌<◌, ◌≤◌, if◌then◌else◌, [], ◌∷◌, length}
 use Rattle.std.specs.List.{AllByRecursion}
 use Rattle.lg_model.specs.Limits.{max_columns, max_tables}
 use Rattle.lg_model.specs.Rows.{number}
