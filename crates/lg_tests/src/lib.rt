@@ -1,7 +1,5 @@
-//! Tests that take several crates: the top call over the outside in memory, and statements from their text on.
+//! Tests of the whole: the top call over the outside in memory.
 #![tactic(auto)]
 
-#[cfg(test)]
-mod checks;
 #[cfg(test)]
 mod first_path;
