@@ -26,6 +26,5 @@ pub fn change_table(
     requires room { seq + length changes < 2 ^ 64 }
     ensures { OnOk result (tables.new.items ≡ changed_table id (changed_all tx seq (map change_of changes)) tables.old.items) }
 {
-    let _ = (alloc, tables, id, tx, seq, changes);
     Err(Memory)
 }

@@ -10,6 +10,5 @@ use std::alloc::Global;
 pub fn copy_def(alloc: Global, def: &TableDef) -> Result<TableDef, Memory>
     ensures { IfOk result (λ copy. copy ≡ def.now) }
 {
-    let _ = (alloc, def);
     Err(Memory)
 }

@@ -14,6 +14,5 @@ pub fn all_events(alloc: Global, tx: TxId, tables: &[Table]) -> Result<Items<Eve
     requires { AreShort tables.now }
     ensures { IfOk result (λ events. events ≡ spec.all_events tx tables.now) }
 {
-    let _ = (alloc, tx, tables);
     Err(Memory)
 }

@@ -14,7 +14,6 @@ use std::alloc::Global;
 pub fn first_tables(alloc: Global) -> Result<Vec<Table>, Memory>
     ensures { IfOk result (λ tables. tables.items ≡ spec.first_tables) }
 {
-    let _ = alloc;
     Err(Memory)
 }
 
@@ -22,7 +21,6 @@ pub fn first_tables(alloc: Global) -> Result<Vec<Table>, Memory>
 pub fn table_start(alloc: Global, def: &TableDef) -> Result<Items<Change>, Memory>
     ensures { IfOk result (λ changes. map change_of changes ≡ effects.table_start def.now) }
 {
-    let _ = (alloc, def);
     Err(Memory)
 }
 
@@ -30,7 +28,6 @@ pub fn table_start(alloc: Global, def: &TableDef) -> Result<Items<Change>, Memor
 pub fn column_starts(alloc: Global, def: &TableDef) -> Result<Items<Change>, Memory>
     ensures { IfOk result (λ changes. map change_of changes ≡ effects.column_starts (spec.column_rows def.now)) }
 {
-    let _ = (alloc, def);
     Err(Memory)
 }
 
@@ -42,6 +39,5 @@ pub fn index_starts(
 ) -> Result<Items<Change>, Memory>
     ensures { IfOk result (λ changes. map change_of changes ≡ effects.index_starts def.now index.now) }
 {
-    let _ = (alloc, def, index);
     Err(Memory)
 }

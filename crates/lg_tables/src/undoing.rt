@@ -12,6 +12,5 @@ use std::alloc::Global;
 pub fn undo(alloc: Global, tables: &mut Vec<Table>, tx: TxId, seq: u64) -> Result<(), Memory>
     ensures { OnOk result (tables.new.items ≡ undone tx seq tables.old.items) }
 {
-    let _ = (alloc, tables, tx, seq);
     Err(Memory)
 }

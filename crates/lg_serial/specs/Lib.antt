@@ -1,0 +1,5 @@
+pub mod Done
+pub mod Machine
+pub mod Order
+pub mod Seen
+pub mod Verdict

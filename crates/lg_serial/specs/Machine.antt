@@ -1,0 +1,32 @@
+-- The plain machine, as its contracts see it.
+use Rattle.std.specs.Prelude.{ℕ, Bool, List, Option, Some, None}
+use Rattle.lg_types.specs.declared.statement.Stmt.{Stmt}
+use Rattle.lg_model.specs.Catalog.{Tables}
+use Rattle.lg_model.specs.Script.{State, Step, start, by_statement}
+
+-- a script that is begun
+pub record Running : Type 0 where
+  pub tx : ℕ
+  -- by BEGIN
+  pub opened : Bool
+  -- what its statements came to so far
+  pub state : State
+
+pub record Machine : Type 0 where
+  -- the tables after all scripts that ended
+  pub tables : Tables
+  -- the script that is begun over them, if one is
+  pub script : Option Running
+
+abbrev pub at_rest : Tables → Machine
+at_rest tables = record { tables = tables; script = None }
+
+abbrev pub begun : ℕ → Bool → Tables → Machine
+begun tx opened tables = record { tables = tables; script = Some (record { tx = tx; opened = opened; state = start tables }) }
+
+-- what a statement, or a text that is none, does in a script
+abbrev pub step_of : Running → Option Stmt → Step
+step_of x stmt = by_statement x.opened x.tx x.state stmt
+
+abbrev pub moved : Machine → Running → State → Machine
+moved m x state = record { tables = m.tables; script = Some (record { tx = x.tx; opened = x.opened; state = state }) }

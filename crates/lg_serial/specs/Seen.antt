@@ -1,0 +1,40 @@
+-- How the machine keeps what its contracts see: a savepoint by its number alone, and the tables before a script by the
+-- changes that the script made.
+use Rattle.std.specs.Prelude.{ℕ, List, [], ◌∷◌, map, Option, Some, None}
+use Rattle.lg_types.specs.declared.version.Table.{Table}
+use Rattle.lg_model.specs.Catalog.{Defs, Tables}
+use Rattle.lg_model.specs.Effect.{with_def}
+use Rattle.lg_model.specs.Script.{Saved, State}
+use Rattle.lg_model.specs.Undo.{undone}
+use Rattle.lg_serial.specs.declared.begun.Savepoint.{Savepoint}
+use Rattle.lg_serial.specs.declared.begun.Begun.{Begun}
+use Rattle.lg_serial.specs.Machine.{Running, Machine}
+
+abbrev pub copy_at : ℕ → Tables → Savepoint → Saved
+copy_at tx tables s = record { name = s.name; tables = undone tx s.seq tables; seq = s.seq }
+
+-- the tables with these definitions, and no more tables than definitions
+abbrev pub with_defs : Defs → Tables → Tables
+with_defs [] tables = []
+with_defs (def ∷ defs) [] = []
+with_defs (def ∷ defs) (t ∷ ts) = with_def def t ∷ with_defs defs ts
+
+-- with the definitions from before the first CREATE, where there was one
+abbrev pub restored : Option Defs → Tables → Tables
+restored None tables = tables
+restored (Some defs) tables = with_defs defs tables
+
+-- the state of a script over these tables
+unfoldable pub state_of : Tables → Begun → State
+state_of tables b = record { tables = tables; seq = b.seq; saved = map (copy_at b.tx tables) b.saved }
+
+-- the tables before it
+unfoldable pub before : Tables → Begun → Tables
+before tables b = restored b.defs (undone b.tx 0 tables)
+
+abbrev pub running_of : Tables → Begun → Running
+running_of tables b = record { tx = b.tx; opened = b.opened; state = state_of tables b }
+
+abbrev pub machine_of : Tables → Option Begun → Machine
+machine_of tables None = record { tables = tables; script = None }
+machine_of tables (Some b) = record { tables = before tables b; script = Some (running_of tables b) }
