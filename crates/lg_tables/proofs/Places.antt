@@ -1,7 +1,7 @@
 -- What stands at the place of an event, and beside it.
-use Rattle.std.proofs.Common.{◌≡◌, ◌<◌, ◌≤◌, ◌+◌, ℕ, suc, zero, refl, sym, ap, subst, ◌∙◌, Bool, true, false, cond, List, [], ◌∷◌, ◌++◌, length, get_or, take, drop, None, Some, Option, arith}
+use Rattle.std.proofs.Common.{◌≡◌, ◌<◌, ◌≤◌, ◌+◌, ℕ, suc, zero, refl, sym, ap, subst, ◌∙◌, Bool, true, false, cond, List, [], ◌∷◌, length, get_or, None, Option, arith}
 use Rattle.std.specs.Prelude.{slice_set, if◌then◌else◌}
-use Rattle.std.specs.List.{AllByRecursion, insert, prefix_len}
+use Rattle.std.specs.List.{AllByRecursion, insert}
 use Rattle.std.specs.List.Sorted.{IsPartitionedBy, IsPartitionPoint}
 use Rattle.std.specs.Ordering.{is_lt, is_gt, ordering_reverse}
 use Rattle.std.specs.declared.cmp.Ordering.{Ordering}
@@ -15,7 +15,7 @@ use Rattle.lg_types.specs.declared.version.Version.{Version}
 use Rattle.lg_model.specs.Lists.{inserted}
 use Rattle.lg_model.specs.Rows.{EventId, event_cmp, same_event, start_cmp, started, with_end, ended}
 use Rattle.lg_model.specs.Runs.{Rising}
-use Rattle.lg_model.proofs.Sounds.{event_total, one_event, start_total}
+use Rattle.lg_model.proofs.Sounds.{event_total, start_total}
 use Rattle.lg_model.proofs.Alls.{all_weaker}
 use Rattle.lg_runs.proofs.Counts.{NoStart, ended_cons, same_none, same_parts}
 use Rattle.lg_tables.specs.Places.{place, starts_before}
@@ -55,7 +55,7 @@ less_is Greater is = absurd cc
 before_both : (at : EventId) (v w : Version) → start_cmp v w ≡ Less → starts_before at w ≡ true → starts_before at v ≡ true
 before_both at v w less before = ap is_lt (event_total.trans v.start w.start at less (less_is (event_cmp w.start at) before))
 
-pub all_at : {A : Type 0} (P : A → Type 0) (xs : List A) (k : ℕ) (d : A) → k < length xs → AllByRecursion P xs → P (get_or xs k d)
+all_at : {A : Type 0} (P : A → Type 0) (xs : List A) (k : ℕ) (d : A) → k < length xs → AllByRecursion P xs → P (get_or xs k d)
 all_at P [] k d inside h = absurd (omega arith)
 all_at P (x ∷ xs) zero d inside h = h.0
 all_at P (x ∷ xs) (suc k) d inside h = all_at P xs k d (omega arith) h.1
@@ -98,9 +98,9 @@ later_none : (start : EventId) (w : Version) (us : List Version) → starts_befo
 later_none start w us rest later = all_weaker (λ u. start_cmp w u ≡ Less) (λ u. same_event u.start start ≡ false) (λ u less. later_by start w u (same_event u.start start) refl rest less) us later
 
 -- the version at the place, where it has this start
-pub record EndsAt (at start : EventId) (vs : List Version) (n : ℕ) : Type 0 where
-  pub hit : (d : Version) → n < length vs → same_event (get_or vs n d).start start ≡ true → slice_set vs n (with_end at (get_or vs n d)) ≡ ended at start vs
-  pub miss : ((d : Version) → n < length vs → same_event (get_or vs n d).start start ≡ false) → ended at start vs ≡ vs
+record EndsAt (at start : EventId) (vs : List Version) (n : ℕ) : Type 0 where
+  hit : (d : Version) → n < length vs → same_event (get_or vs n d).start start ≡ true → slice_set vs n (with_end at (get_or vs n d)) ≡ ended at start vs
+  miss : ((d : Version) → n < length vs → same_event (get_or vs n d).start start ≡ false) → ended at start vs ≡ vs
 
 ends_by : (at start : EventId) (v : Version) (vs : List Version) (b : Bool) → starts_before start v ≡ b → AllByRecursion (λ w. start_cmp v w ≡ Less) vs
     → EndsAt at start vs (place start vs) → EndsAt at start (v ∷ vs) (cond b (1 + place start vs) 0)
@@ -122,7 +122,7 @@ none_ended : (at start : EventId) → ended at start [] ≡ []
 unfolding ended
 none_ended at start = refl
 
-pub ends_at : (at start : EventId) (vs : List Version) → Rising vs → EndsAt at start vs (place start vs)
+ends_at : (at start : EventId) (vs : List Version) → Rising vs → EndsAt at start vs (place start vs)
 ends_at at start [] r = record { hit = λ d inside same. absurd (omega arith); miss = λ none. none_ended at start }
 ends_at at start (v ∷ vs) r = ends_by at start v vs (starts_before start v) refl r.0 (ends_at at start vs r.1)
 

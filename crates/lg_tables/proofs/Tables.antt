@@ -1,14 +1,11 @@
 -- One table of those that have the ids from the first one on.
-use Rattle.std.proofs.Common.{◌≡◌, ◌≢◌, ◌<◌, ◌≤◌, ◌+◌, ◌-◌, ℕ, suc, zero, refl, sym, ap, ◌∙◌, false, true, List, [], ◌∷◌, length, get_or, ◌⊎◌, inl, inr, arith}
-use Rattle.std.specs.Prelude.{slice_set, ◌==◌, if◌then◌else◌}
-use Rattle.std.specs.List.{AllByRecursion}
+use Rattle.std.proofs.Common.{◌≡◌, ◌≢◌, ◌<◌, ◌≤◌, ◌+◌, ◌-◌, ℕ, suc, zero, refl, sym, ap, false, true, List, [], ◌∷◌, length, get_or, ◌⊎◌, inl, inr, arith}
+use Rattle.std.specs.Prelude.{slice_set, ◌==◌}
 use Rattle.std.proofs.lemmas.Bool.{eq-eqb, ne_eqb}
 use Rattle.lg_types.specs.declared.version.Table.{Table}
 use Rattle.lg_types.specs.declared.version.Version.{Version}
 use Rattle.lg_model.specs.Agreement.{IdsFrom}
 use Rattle.lg_model.specs.Catalog.{Tables, changed_table, defs_of, with_versions}
-use Rattle.lg_model.specs.Runs.{Sound, SoundTable}
-use Rattle.lg_tables.proofs.Places.{all_at}
 
 module _ (id : ℕ) (f : List Version → List Version) where
   -- no table has the id
