@@ -1,0 +1,4 @@
+pub mod Places
+pub mod Retained
+pub mod Steps
+pub mod Tables
