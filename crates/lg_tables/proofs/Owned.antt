@@ -1,5 +1,5 @@
 -- The events of the transaction among those of all versions are those of each.
-use Rattle.std.proofs.Common.{◌≡◌, refl, sym, ap, ap₂, ◌∙◌, ℕ, ◌==◌, Bool, true, false, cond, List, [], ◌∷◌, ◌++◌, flat_map, filter, Option, Some, None}
+use Rattle.std.proofs.Common.{◌≡◌, refl, ap, ap₂, ◌∙◌, ℕ, ◌==◌, Bool, true, false, cond, List, [], ◌∷◌, ◌++◌, flat_map, filter, Option, Some, None}
 use Rattle.std.proofs.lemmas.List.Elements.{filter-append}
 use Rattle.lg_types.specs.declared.event.Event.{Event}
 use Rattle.lg_types.specs.declared.version.Version.{Version}

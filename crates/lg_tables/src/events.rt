@@ -1,7 +1,7 @@
 //! The events of a transaction.
 
-ghost use Rattle.std.specs.Prelude.{◌≡◌, ◌==◌, ◌++◌, ◌<◌, ◌-◌, ◌^◌, [], ◌∷◌, IfOk, OnOk, Option, Some, flat_map, length};
-ghost use Rattle.std.specs.List.{filter, AllByRecursion};
+ghost use Rattle.std.specs.Prelude.{◌≡◌, ◌++◌, ◌<◌, ◌-◌, ◌^◌, [], ◌∷◌, IfOk, OnOk, Some, flat_map, length};
+ghost use Rattle.std.specs.List.{AllByRecursion};
 ghost use Rattle.std.specs.Ordering.{nat_cmp};
 ghost use Rattle.lg_model.specs.Events as spec;
 ghost use Rattle.lg_model.specs.Lists.{sorted};

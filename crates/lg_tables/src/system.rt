@@ -16,6 +16,7 @@ use lg_types::{IndexDef, Table, TableDef};
 use lg_value::{ColumnDef, SqlType, TableKind};
 use std::alloc::Global;
 
+/// The type of names.
 const NAME: SqlType = SqlType::NVarChar { n: 128 };
 
 /// The columns of the table of tables.
@@ -144,9 +145,7 @@ pub fn table_start(alloc: Global, def: &TableDef) -> Result<Items<Change>, Memor
 {
     let columns = tables_columns(alloc)?;
     let start = start_of(alloc, columns.as_slice(), table_row(alloc, def)?)?;
-    let mut starts = Items::new(alloc);
-    starts.push(start)?;
-    Ok(starts)
+    Ok(Items::from_vec(Vec::from_array(alloc, [start])?))
 }
 
 /// The starts of the rows of a new table's columns, by ordinal, in the table of columns.

@@ -1,7 +1,7 @@
 //! The rows that the tables of the system have of tables, columns and indexes.
 
-ghost use Rattle.std.specs.Prelude.{◌≡◌, ◌+◌, ◌*◌, pos, IfOk, length};
-ghost use Rattle.lg_value.specs.declared.value.Value.TheVariants.{Num as NumOf, Text as TextOf};
+ghost use Rattle.std.specs.Prelude.{◌≡◌, ◌+◌, ◌*◌, IfOk, length};
+ghost use Rattle.lg_value.specs.declared.value.Value.TheVariants.{Text as TextOf};
 ghost use Rattle.lg_model.specs.Rows.{number as number_of};
 ghost use Rattle.lg_model.specs.SystemTables as spec;
 ghost use Rattle.lg_model.specs.TypeCodes as codes;
@@ -10,6 +10,9 @@ use lg_items::{Items, Memory, Name, TableId, Text};
 use lg_types::{Row, TableDef};
 use lg_value::{ColumnDef, SqlType, TableKind, Value};
 use std::alloc::Global;
+
+/// How far the items of one index lie from those of the next.
+const INDEX_ITEMS: i128 = 1000;
 
 /// A whole number as a value.
 fn number(n: u64) -> Value
@@ -118,7 +121,7 @@ pub fn column_row(
 fn index_item(others: usize, place: usize) -> Value
     ensures { result ≡ number_of (1000 * (others + 1) + (place + 1)) }
 {
-    let item = 1000 * (others as i128 + 1) + (place as i128 + 1);
+    let item = INDEX_ITEMS * (others as i128 + 1) + (place as i128 + 1);
     Value::Num { v: item, s: 0 }
 }
 
