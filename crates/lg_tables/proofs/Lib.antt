@@ -1,4 +1,6 @@
+pub mod Owned
 pub mod Places
 pub mod Retained
+pub mod Started
 pub mod Steps
 pub mod Tables

@@ -1,2 +1,4 @@
+pub mod Own
 pub mod Places
 pub mod Short
+pub mod Started

@@ -1,7 +1,6 @@
 -- Versions whose columns an ordinal can count.
 use Rattle.std.specs.Prelude.{◌<◌, ◌-◌, ◌^◌, length}
 use Rattle.std.specs.List.{AllByRecursion}
-use Rattle.lg_types.specs.declared.version.Table.{Table}
 use Rattle.lg_types.specs.declared.version.Version.{Version}
 use Rattle.lg_model.specs.Catalog.{Tables}
 

@@ -5,6 +5,7 @@ mod changing;
 mod copying;
 mod events;
 mod system;
+mod system_rows;
 mod undoing;
 
 pub use changing::change_table;

@@ -1,0 +1,11 @@
+use Rattle.std.proofs.Common.{◌≡◌, ◌++◌, ◌+◌, drop, map, length}
+use Rattle.lg_model.specs.Lists.{numbered}
+use Rattle.lg_model.specs.SystemTables.{index_row}
+use Rattle.lg_rows.specs.Changes.{change_of}
+use Rattle.lg_tables.specs.Started.{started_rows}
+use Rattle.lg_tables.proofs.system.starts_of_index.Given as goal
+
+abbrev pub invariant-loop-place : goal.invariant-loop-place
+invariant-loop-place l =
+    map change_of l.starts ++ started_rows l.stored (map (index_row l.def.id (length l.def.indexes + 1) l.index.name) (numbered (l.place + 1) (drop l.place l.ordinals)))
+    ≡ started_rows l.stored (map (index_row l.def.id (length l.def.indexes + 1) l.index.name) (numbered 1 l.ordinals))
