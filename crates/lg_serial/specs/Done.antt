@@ -1,14 +1,23 @@
 -- What code answers of an effect that may lack memory.
-use Rattle.std.specs.Prelude.{ℕ, ◌≡◌, ◌≢◌, List, Result, Ok, Err}
+use Rattle.std.specs.Prelude.{ℕ, ◌≡◌, ◌≢◌, List, map, Result, Ok, Err}
 use Rattle.lg_value.specs.declared.refusal.Refusal.{Refusal}
 use Rattle.lg_value.specs.declared.refusal.Refusal.TheVariants.{E30}
 use Rattle.lg_types.specs.declared.version.Table.{Table}
 use Rattle.lg_types.specs.declared.reply.Reply.TheVariants as r
-use Rattle.lg_model.specs.Catalog.{Tables}
-use Rattle.lg_model.specs.Effect.{Effect}
+use Rattle.lg_types.specs.declared.statement.RowStmt.{RowStmt}
+use Rattle.lg_types.specs.declared.statement.Select.{Select}
+use Rattle.lg_model.specs.Refusals.{Checked, and_then}
+use Rattle.lg_model.specs.Rows.{Row}
+use Rattle.lg_model.specs.Catalog.{Tables, defs_of, versions_of}
+use Rattle.lg_model.specs.Changes.{Changes, row_changes}
+use Rattle.lg_model.specs.Checks.{row_statement_check}
+use Rattle.lg_model.specs.Query.{query_check}
+use Rattle.lg_model.specs.Effect.{Effect, query_rows}
 use Rattle.lg_runs.specs.Kept.{Kept}
 use Rattle.lg_runs.specs.Described.{Described}
+use Rattle.lg_rows.specs.Changes.{change_of}
 use Rattle.lg_serial.specs.declared.effect.Done.{Done}
+use Rattle.lg_serial.specs.declared.changing.Planned.{Planned}
 
 -- the effect that is meant, with the tables after it; or a refusal that leaves the tables; or that there is no more memory
 abbrev pub Does : Effect → Tables → Tables → ℕ → Result Done Refusal → Type 0
@@ -18,3 +27,17 @@ Does e old new seq (Err refusal) = refusal ≢ E30 → (e ≡ record { tables = 
 -- tables before the event of transaction tx with the number seq
 abbrev pub IsReady : ℕ → ℕ → Tables → Type 0
 IsReady tx seq tables = ((place : ℕ → ℕ) × Kept place tx seq tables) × Described tables
+
+-- the starts and ends that a row statement makes, in the table with this id, and the number of rows that it replies
+abbrev pub planned : Tables → RowStmt → Checked (ℕ × Changes)
+planned tables stmt =
+    and_then (row_statement_check (defs_of tables) stmt) (λ def.
+    and_then (row_changes def (versions_of tables def.id) stmt) (λ c. Ok (def.id, c)))
+
+abbrev pub Plans : Checked (ℕ × Changes) → Result Planned Refusal → Type 0
+Plans meant (Ok p) = meant ≡ Ok (p.id, (map change_of p.changes, p.count))
+Plans meant (Err e) = e ≢ E30 → meant ≡ Err e
+
+-- the rows that a SELECT shows
+abbrev pub rows_shown : Tables → Select → Checked (List Row)
+rows_shown tables q = and_then (query_check (defs_of tables) q) (λ n. query_rows q n (versions_of tables n.0.id))

@@ -1,6 +1,16 @@
 //! What a statement does.
 
-use lg_types::Reply;
+ghost use Rattle.std.specs.Prelude.{◌≡◌, ◌+◌, IfOk};
+ghost use Rattle.lg_model.specs.Effect as spec;
+ghost use Rattle.lg_serial.specs.Done.{Does, IsReady};
+
+use crate::changing::change_rows;
+use crate::creating::{create_index, create_table};
+use crate::showing::show;
+use lg_items::{Memory, TxId};
+use lg_types::{Reply, Stmt, Table};
+use lg_value::Refusal;
+use std::alloc::Global;
 
 /// What a statement came to, besides the tables.
 #[derive(Drop)]
@@ -8,4 +18,39 @@ pub(crate) struct Done {
     /// The number of the next event.
     pub seq: u64,
     pub reply: Reply,
+}
+
+/// The number behind so many events. More events than it can count are more than there is memory for.
+pub(crate) fn counted(seq: u64, events: usize) -> Result<u64, Memory>
+    ensures { IfOk result (λ next. next ≡ seq + events) }
+{
+    seq.checked_add(events as u64).ok_or(Memory)
+}
+
+/// What a statement of transaction `tx`, whose next event has the number `seq`, does to the tables. A refusal leaves
+/// them; after want of memory they may be anything. Statements that are no table statements do nothing.
+#[tactic(auto, unfolding(lg_model::specs::Effect::effect))]
+pub(crate) fn effect(
+    alloc: Global,
+    tables: &mut Vec<Table>,
+    tx: TxId,
+    seq: u64,
+    stmt: &Stmt,
+) -> Result<Done, Refusal>
+    requires { IsReady tx seq tables.old.items }
+    ensures { Does (spec.effect tables.old.items tx seq stmt.now) tables.old.items tables.new.items seq result }
+{
+    match stmt {
+        Stmt::Create(c) => create_table(alloc, tables, tx, seq, c),
+        Stmt::Index(c) => create_index(alloc, tables, tx, seq, c),
+        Stmt::Change(stmt) => change_rows(alloc, tables, tx, seq, stmt),
+        Stmt::Select(q) => Ok(Done {
+            seq,
+            reply: Reply::Rows(show(alloc, tables, q)?),
+        }),
+        _ => Ok(Done {
+            seq,
+            reply: Reply::Quiet,
+        }),
+    }
 }

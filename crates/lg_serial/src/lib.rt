@@ -2,7 +2,11 @@
 #![tactic(auto)]
 
 mod begun;
+mod catalog;
+mod changing;
+mod creating;
 mod effect;
 mod plain;
+mod showing;
 
 pub use plain::{Plain, PlainEnd};
