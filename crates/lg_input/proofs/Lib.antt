@@ -1,0 +1,4 @@
+pub mod Blanks
+pub mod Cuts
+pub mod Said
+pub mod Grows

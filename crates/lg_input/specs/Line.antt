@@ -1,0 +1,66 @@
+-- What one line of the input says.
+use Rattle.std.specs.Prelude.{ℕ, ◌-◌, Bool, ◌&&◌, ◌||◌, ◌==◌, nat_eq, nat_lt, nat_le, if◌then◌else◌, List, [], ◌∷◌, length, take, drop, codes, Option, Some, None, Result, Ok, Err}
+use Rattle.std.specs.List.{list_all, list_any, prefix_len, suffix_len, starts_with, before_first, after_first}
+use Rattle.std.specs.Char.{is_ascii_alphanumeric}
+use Rattle.std.specs.Str.{is_utf8}
+use Rattle.lg_input.specs.declared.line.Line.{Line}
+
+-- a statement of a session, and the line in which it stands
+pub record Statement : Type 0 where
+  pub number : ℕ
+  pub session : List ℕ
+  pub text : List ℕ
+
+-- the statements of some lines, or the first of the lines that lacks its form
+abbrev pub Input : Type 0
+Input = Result (List Statement) ℕ
+
+-- space and tab
+abbrev pub is_blank : ℕ → Bool
+is_blank b = b == 32 || b == 9
+
+-- a text without the blanks before it
+abbrev pub behind_blanks : List ℕ → List ℕ
+behind_blanks text = drop (prefix_len is_blank text) text
+
+-- a text without the blanks after it
+abbrev pub before_blanks : List ℕ → List ℕ
+before_blanks text = take (length text - suffix_len is_blank text) text
+
+-- nothing, or a comment
+abbrev pub is_skipped : List ℕ → Bool
+is_skipped text = length text == 0 || starts_with nat_eq text (codes "--")
+
+-- a letter or a digit of ASCII, or '_'
+abbrev pub is_session_byte : ℕ → Bool
+is_session_byte b = is_ascii_alphanumeric b || b == 95
+
+-- 1 to 32 of them
+unfoldable pub is_session_name : List ℕ → Bool
+is_session_name name = nat_lt 0 (length name) && (nat_le (length name) 32 && list_all is_session_byte name)
+
+-- ':'
+abbrev pub is_colon : ℕ → Bool
+is_colon b = b == 58
+
+-- the session before the first colon, and the statement behind it and its blanks
+abbrev pub session_and_text : List ℕ → Option (List ℕ × List ℕ)
+session_and_text text =
+    if list_any is_colon text && is_session_name (before_first is_colon text)
+    then Some (before_first is_colon text, behind_blanks (after_first is_colon text)) else None
+
+-- that statement of the line of this number, or the line, where it lacks its form
+abbrev pub stated : ℕ → Option (List ℕ × List ℕ) → Input
+stated number (Some p) = Ok (record { number = number; session = p.0; text = p.1 } ∷ [])
+stated number None = Err number
+
+-- what the line of this number says: nothing where it is skipped
+abbrev pub says_text : ℕ → List ℕ → Input
+says_text number text = if is_skipped text then Ok [] else stated number (session_and_text text)
+
+unfoldable pub says : ℕ → List ℕ → Input
+says number line = if is_utf8 line then says_text number (before_blanks (behind_blanks line)) else Err number
+
+-- the statement of a line that was read
+abbrev pub statement_of : Line → Statement
+statement_of line = record { number = line.number; session = line.session.now; text = line.text.now }

@@ -1,0 +1,10 @@
+//! Reads the input of the command `step`: a statement of a session in each line.
+#![tactic(auto)]
+
+mod line;
+mod lines;
+mod names;
+
+pub use line::{InputErr, Line};
+pub use lines::read_lines;
+pub use names::session_names;
