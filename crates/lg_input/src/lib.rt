@@ -8,3 +8,6 @@ mod names;
 pub use line::{InputErr, Line};
 pub use lines::read_lines;
 pub use names::session_names;
+
+#[cfg(test)]
+mod tests;

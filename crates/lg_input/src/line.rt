@@ -22,6 +22,7 @@ pub struct Line<'a> {
 pub enum InputErr {
     /// The first line that lacks its form, from 1 on.
     Form { line: u64 },
+    /// There is no more memory.
     Memory,
 }
 
