@@ -1,9 +1,9 @@
 -- Colons and line feeds.
-use Rattle.std.proofs.Common.{◌≡◌, ◌≤◌, ◌<◌, ◌-◌, ◌+◌, ◌∙◌, ℕ, suc, Bool, true, false, not, List, [], ◌∷◌, length, get_or, refl, arith, ◌==◌, ◌||◌, cond, ap, nat_lt, take, drop, length-drop, sym, Some, None}
+use Rattle.std.proofs.Common.{◌≡◌, ◌≤◌, ◌<◌, ◌-◌, ◌+◌, ◌∙◌, ℕ, suc, Bool, true, false, not, List, [], ◌∷◌, length, get_or, refl, arith, ◌==◌, ◌||◌, cond, ap, nat_lt, take, drop, length-drop, sym, subst, Some, None}
 use Rattle.std.specs.List.{position_or_len, list_any, slice_split, position, before_first, after_first, All}
 use Rattle.std.proofs.lemmas.Bool.Decides.{nat_tests}
 use Rattle.std.proofs.lemmas.List.{take_all}
-use Rattle.std.proofs.lemmas.List.Sums.{prefix_len_passes}
+use Rattle.std.proofs.lemmas.List.Sums.{prefix_len_passes, prefix_len_stops}
 use Rattle.std.proofs.lemmas.List.Splits.{slice_split_first, slice_split_none, length-slice_split}
 use Rattle.lg_input.specs.Lines.{ended, lines_of, without_return, is_line_feed}
 
@@ -67,6 +67,19 @@ line_ended z at e =
     let all : drop (at + 1) z ≡ take (length z - (at + 1)) (drop (at + 1) z) = sym (ap (λ k. take k (drop (at + 1) z)) (sym (length-drop (at + 1) z)) ∙ take_all (length (drop (at + 1) z)) (drop (at + 1) z) within) in
     ap ended cut ∙ (ended_more (before_first is_line_feed z) behind some ∙ (ap (λ k. without_return (take k z) ∷ lines_of (drop (k + 1) z)) found.1
     ∙ ap (λ x. without_return (take at z) ∷ lines_of x) all))
+
+is_it : (t : Bool) (b : ℕ) → (b == 10) ≡ t → not t ≡ false → b ≡ 10
+is_it true b e f = grind (arith, nat_tests)
+is_it false b e f = cc
+
+-- the place of the first line feed
+pub feed_at : (z : List ℕ) (at : ℕ) → position is_line_feed z ≡ Some at → (at < length z) × (get_or z at 0 ≡ 10)
+feed_at z at e =
+    let n = position_or_len is_line_feed z in
+    let found = found_below n (length z) at (nat_lt n (length z)) refl e in
+    let stops = prefix_len_stops (λ b. not (is_line_feed b)) z 0 found.0 in
+    let P : ℕ → Type 0 = λ k. (k < length z) × (get_or z k 0 ≡ 10) in
+    subst P found.1 (found.0, is_it (get_or z n 0 == 10) (get_or z n 0) refl stops)
 
 -- where there is no line feed, all is one line
 pub line_alone : (z : List ℕ) → position is_line_feed z ≡ None → 0 < length z → lines_of z ≡ z ∷ []

@@ -19,17 +19,17 @@ Input = Result (List Statement) ℕ
 abbrev pub is_blank : ℕ → Bool
 is_blank b = b == 32 || b == 9
 
--- a text without the blanks before it
+-- some bytes without the blanks before them
 abbrev pub behind_blanks : List ℕ → List ℕ
-behind_blanks text = drop (prefix_len is_blank text) text
+behind_blanks z = drop (prefix_len is_blank z) z
 
--- a text without the blanks after it
+-- some bytes without the blanks after them
 abbrev pub before_blanks : List ℕ → List ℕ
-before_blanks text = take (length text - suffix_len is_blank text) text
+before_blanks z = take (length z - suffix_len is_blank z) z
 
--- nothing, or a comment
+-- an empty line, or a comment
 abbrev pub is_skipped : List ℕ → Bool
-is_skipped text = length text == 0 || starts_with nat_eq text (codes "--")
+is_skipped line = length line == 0 || starts_with nat_eq line (codes "--")
 
 -- a letter or a digit of ASCII, or '_'
 abbrev pub is_session_byte : ℕ → Bool
@@ -43,21 +43,22 @@ is_session_name name = nat_lt 0 (length name) && (nat_le (length name) 32 && lis
 abbrev pub is_colon : ℕ → Bool
 is_colon b = b == 58
 
--- the session before the first colon, and the statement behind it and its blanks
+-- what stands before the first colon, where it is a session name, and what stands behind the colon and its blanks
 abbrev pub session_and_text : List ℕ → Option (List ℕ × List ℕ)
-session_and_text text =
-    if list_any is_colon text && is_session_name (before_first is_colon text)
-    then Some (before_first is_colon text, behind_blanks (after_first is_colon text)) else None
+session_and_text line =
+    if list_any is_colon line && is_session_name (before_first is_colon line)
+    then Some (before_first is_colon line, behind_blanks (after_first is_colon line)) else None
 
--- that statement of the line of this number, or the line, where it lacks its form
+-- the one statement of the line of this number; the line lacks its form where it has none
 abbrev pub stated : ℕ → Option (List ℕ × List ℕ) → Input
 stated number (Some p) = Ok (record { number = number; session = p.0; text = p.1 } ∷ [])
 stated number None = Err number
 
--- what the line of this number says: nothing where it is skipped
+-- what a line without blanks at its ends says: no statement where it is skipped
 abbrev pub says_text : ℕ → List ℕ → Input
-says_text number text = if is_skipped text then Ok [] else stated number (session_and_text text)
+says_text number line = if is_skipped line then Ok [] else stated number (session_and_text line)
 
+-- what the line of this number says; it lacks its form where it is no text
 unfoldable pub says : ℕ → List ℕ → Input
 says number line = if is_utf8 line then says_text number (before_blanks (behind_blanks line)) else Err number
 

@@ -76,6 +76,7 @@ fn before_blanks(text: &str) -> &str
     &text[..end_of_rest(text.as_bytes())]
 }
 
+/// Whether the line is empty or a comment.
 fn is_skipped(text: &str) -> bool
     ensures { result ≡ spec.is_skipped text.now }
 {

@@ -9,12 +9,14 @@ ghost use Rattle.lg_input.specs.Lines.{lines_of, read_input};
 use crate::line::{InputErr, Line, read_line};
 use std::alloc::Global;
 
+/// The place of the first line feed.
 fn line_feed(bytes: &[u8]) -> Option<usize>
     ensures { result ≡ position spec.is_line_feed bytes.now }
 {
     bytes.iter().position(|b| *b == b'\n')
 }
 
+/// A line without the carriage return before its line feed.
 fn without_return(line: &[u8]) -> &[u8]
     ensures { result.now ≡ spec.without_return line.now }
 {
@@ -38,7 +40,7 @@ fn first_line(bytes: &[u8]) -> (&[u8], &[u8])
 }
 
 /// The statements of the input by line, without those lines that are empty or a comment. Where a line lacks its form, the
-/// first such line is named instead. The input is read once, and nothing of it is copied.
+/// first such line is named instead. It takes time linear in the input, and copies nothing of it.
 #[tactic(auto, unfolding(crate::specs::Lines::read_input))]
 pub fn read_lines<'a>(alloc: Global, bytes: &'a [u8]) -> Result<Vec<Line<'a>>, InputErr>
     ensures read { IfOk result (λ lines. read_input bytes.now ≡ Ok (map statement_of lines.items)) }

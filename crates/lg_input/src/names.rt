@@ -10,14 +10,17 @@ use crate::line::Line;
 use lg_items::Memory;
 use std::alloc::Global;
 
+/// As many sessions as an input has at most.
 const MAX_SESSIONS: usize = 64;
 
+/// Whether two names are one.
 fn is_same(name: &str, other: &str) -> bool
     ensures { result ≡ bytes_eq name.now other.now }
 {
     name == other
 }
 
+/// Whether a name is one of some.
 fn any_same(names: &[&str], name: &str) -> bool
     ensures { result ≡ list_any (λ n. bytes_eq name.now n.now) names.now }
 {
