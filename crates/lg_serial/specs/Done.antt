@@ -1,5 +1,5 @@
 -- What code answers of an effect that may lack memory.
-use Rattle.std.specs.Prelude.{ℕ, ◌≡◌, ◌≢◌, List, map, Result, Ok, Err}
+use Rattle.std.specs.Prelude.{ℕ, ◌≡◌, ◌≢◌, List, map, Option, Some, Result, Ok, Err}
 use Rattle.lg_value.specs.declared.refusal.Refusal.{Refusal}
 use Rattle.lg_value.specs.declared.refusal.Refusal.TheVariants.{E30}
 use Rattle.lg_types.specs.declared.version.Table.{Table}
@@ -16,7 +16,14 @@ use Rattle.lg_model.specs.Effect.{Effect, query_rows}
 use Rattle.lg_runs.specs.Kept.{Kept}
 use Rattle.lg_runs.specs.Described.{Described}
 use Rattle.lg_rows.specs.Changes.{change_of}
+use Rattle.lg_items.specs.declared.memory.Memory.{Memory}
+use Rattle.lg_types.specs.declared.reply.Reply.{Reply}
+use Rattle.lg_model.specs.Script.{Step}
+use Rattle.lg_serial.specs.declared.begun.Begun.{Begun}
 use Rattle.lg_serial.specs.declared.effect.Done.{Done}
+use Rattle.lg_serial.specs.Machine.{moved}
+use Rattle.lg_serial.specs.Order.{InOrder}
+use Rattle.lg_serial.specs.Seen.{running_of, state_of, machine_of}
 use Rattle.lg_serial.specs.declared.changing.Planned.{Planned}
 
 -- the effect that is meant, with the tables after it; or a refusal that leaves the tables; or that there is no more memory
@@ -41,3 +48,21 @@ Plans meant (Err e) = e ≢ E30 → meant ≡ Err e
 -- the rows that a SELECT shows
 abbrev pub rows_shown : Tables → Select → Checked (List Row)
 rows_shown tables q = and_then (query_check (defs_of tables) q) (λ n. query_rows q n (versions_of tables n.0.id))
+
+-- ---- in a script
+
+-- the machine after a step
+pub record Stepped (T : Tables) (b : Begun) (U : Tables) (c : Begun) (step : Step) (reply : Reply) : Type 0 where
+  pub reply_is : reply ≡ step.1
+  pub machine : machine_of U (Some c) ≡ moved (machine_of T (Some b)) (running_of T b) step.0
+  pub order : InOrder (machine_of U (Some c))
+
+-- the step that is meant; or a refusal that leaves everything; or that there is no more memory
+abbrev pub Steps : Tables → Begun → Tables → Begun → Step → Result Reply Refusal → Type 0
+Steps T b U c step (Ok reply) = Stepped T b U c step reply
+Steps T b U c step (Err e) = e ≢ E30 → (step ≡ (state_of T b, r.Refused e)) × (U ≡ T) × (c ≡ b)
+
+-- the step that is meant, or that there is no more memory
+abbrev pub Answers : Tables → Begun → Tables → Begun → Step → Result Reply Memory → Type 0
+Answers T b U c step (Ok reply) = Stepped T b U c step reply
+Answers T b U c step (Err e) = Unit {0}

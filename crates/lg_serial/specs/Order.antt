@@ -1,6 +1,8 @@
 -- What holds of the plain machine between two calls, as long as none wanted memory.
 use Rattle.std.specs.Prelude.{ℕ, ◌≡◌, ◌≤◌, false, List, [], ◌∷◌, Option, Some, None}
 use Rattle.std.specs.List.{AllByRecursion}
+use Rattle.lg_types.specs.declared.journal.JournalItem.{JournalItem}
+use Rattle.lg_types.specs.declared.journal.JournalItem.TheVariants.{Tx, Close}
 use Rattle.lg_types.specs.declared.version.Table.{Table}
 use Rattle.lg_model.specs.Catalog.{Tables}
 use Rattle.lg_model.specs.Runs.{MadeBefore}
@@ -13,6 +15,11 @@ use Rattle.lg_serial.specs.Machine.{Running, Machine}
 -- no version was started or ended by this transaction
 abbrev pub IsNew : ℕ → Tables → Type 0
 IsNew tx tables = AllByRecursion (λ t. AllByRecursion (MadeBefore tx 0) t.versions) tables
+
+-- a transaction that has none of these versions yet
+abbrev pub IsNewItem : JournalItem → Tables → Type 0
+IsNewItem (Tx id session time opened lines) tables = IsNew id tables
+IsNewItem (Close k) tables = Unit {0}
 
 -- tables over which each new transaction may begin
 pub record Steady (tables : Tables) : Type 0 where

@@ -1,7 +1,23 @@
 //! The plain machine.
 
+ghost use Rattle.std.specs.Prelude.{ℕ, ◌≡◌, ◌≢◌, IfOk, OnOk, Some, None, if◌then◌else◌};
+ghost use Rattle.lg_model.specs.Events.{all_events as events_left};
+ghost use Rattle.lg_model.specs.Journals.{after_item};
+ghost use Rattle.lg_model.specs.Replies.{reply_text as text_of};
+ghost use Rattle.lg_model.specs.SystemTables as system;
+ghost use Rattle.lg_parse.specs.Text.{statement_of};
+ghost use Rattle.lg_serial.specs.Machine.{Running, at_rest, begun, step_of, moved};
+ghost use Rattle.lg_serial.specs.Order.{IsNew, IsNewItem, InOrder};
+ghost use Rattle.lg_serial.specs.Verdict.{verdict};
+
 use crate::begun::Begun;
-use lg_types::Table;
+use lg_items::{Items, Memory, Text, TxId};
+use lg_parse::{ParseErr, parse};
+use lg_reply::reply_text;
+use lg_tables::{all_events, first_tables};
+use lg_types::{Event, JournalItem, Reply, Script, Stmt, Table};
+use lg_value::Refusal;
+use std::alloc::Global;
 use std::marker::Model;
 
 /// How a journal's item ends that is run again.
@@ -14,7 +30,8 @@ pub enum PlainEnd {
     Differs { statement: u64 },
 }
 
-/// Tables, and the script that is begun over them, if one is.
+/// The machine that runs scripts one after another. It keeps whole lists of versions: a statement looks at each version
+/// of its table. After want of memory it isn't to be used again.
 #[derive(Drop)]
 pub struct Plain {
     tables: Vec<Table>,
@@ -29,4 +46,97 @@ impl Model for Plain {
     ghost use Rattle.lg_serial.specs.Seen.{machine_of};
 
     ghost view = { λ p. machine_of p.tables.items p.begun };
+}
+
+impl Plain {
+    /// The tables of the system, without rows, and no script.
+    pub fn new(alloc: Global) -> Result<Plain, Memory>
+        ensures tables { IfOk result (λ plain. plain ≡ at_rest system.first_tables) }
+        ensures order { IfOk result InOrder }
+    {
+        Ok(Plain {
+            tables: first_tables(alloc)?,
+            begun: None,
+        })
+    }
+
+    /// Begins the script of a transaction, which BEGIN opened or not, over the tables so far. Takes no memory.
+    pub fn begin(&mut self, alloc: Global, opened: bool, tx: TxId)
+        requires rests { self.old.script ≡ None }
+        requires order { InOrder self.old }
+        requires new { IsNew tx self.old.tables }
+        ensures script { self.new ≡ begun tx opened self.old.tables }
+        ensures order { InOrder self.new }
+    {
+        self.begun = Some(Begun::new(alloc, opened, tx));
+    }
+
+    /// Takes the script's next statement and answers it. Costs a look at each version of the table that it names, and
+    /// for SELECT, UPDATE and DELETE a sort of those that stand.
+    pub fn answer(&mut self, alloc: Global, stmt: &Stmt) -> Result<Reply, Memory>
+        requires begun { self.old.script ≢ None }
+        requires order { InOrder self.old }
+        ensures reply { (x : Running) → self.old.script ≡ Some x → IfOk result (λ reply. reply ≡ (step_of x (Some stmt.now)).1) }
+        ensures script { (x : Running) → self.old.script ≡ Some x → OnOk result (self.new ≡ moved self.old x (step_of x (Some stmt.now)).0) }
+        ensures order { OnOk result (InOrder self.new) }
+    {
+        match &mut self.begun {
+            Some(begun) => begun.answer(alloc, &mut self.tables, stmt),
+            None => unreachable!(),
+        }
+    }
+
+    /// Takes the script's next text; E01 where it is no statement.
+    #[tactic(auto, using(crate::proofs::Moves::stays))]
+    fn reply_to(&mut self, alloc: Global, text: &str) -> Result<Reply, Memory>
+        requires begun { self.old.script ≢ None }
+        requires order { InOrder self.old }
+        ensures reply { (x : Running) → self.old.script ≡ Some x → IfOk result (λ reply. reply ≡ (step_of x (statement_of text.now)).1) }
+        ensures script { (x : Running) → self.old.script ≡ Some x → OnOk result (self.new ≡ moved self.old x (step_of x (statement_of text.now)).0) }
+        ensures order { OnOk result (InOrder self.new) }
+    {
+        match parse(alloc, text) {
+            Ok(stmt) => self.answer(alloc, &stmt),
+            Err(ParseErr::Syntax) => Ok(Reply::Refused(Refusal::E01)),
+            Err(ParseErr::Memory) => Err(Memory),
+        }
+    }
+
+    /// Takes the script's next text and answers the text of its reply; E01 where it is no statement.
+    pub fn execute(&mut self, alloc: Global, text: &str) -> Result<Text, Memory>
+        requires begun { self.old.script ≢ None }
+        requires order { InOrder self.old }
+        ensures reply { (x : Running) → self.old.script ≡ Some x → IfOk result (λ reply. reply ≡ text_of (step_of x (statement_of text.now)).1) }
+        ensures script { (x : Running) → self.old.script ≡ Some x → OnOk result (self.new ≡ moved self.old x (step_of x (statement_of text.now)).0) }
+        ensures order { OnOk result (InOrder self.new) }
+    {
+        let reply = self.reply_to(alloc, text)?;
+        reply_text(alloc, &reply)
+    }
+
+    /// Ends the script and answers the starts and ends that it left, by table and number. The tables are then those after
+    /// the script where it is to be kept, and else those before it. Looks at each version once or twice.
+    pub fn end(&mut self, alloc: Global, keep: bool) -> Result<Items<Event>, Memory>
+        requires begun { self.old.script ≢ None }
+        requires order { InOrder self.old }
+        ensures events { (x : Running) → self.old.script ≡ Some x → IfOk result (λ events. events ≡ events_left x.tx x.state.tables) }
+        ensures tables { (x : Running) → self.old.script ≡ Some x → OnOk result (self.new ≡ at_rest (if keep then x.state.tables else self.old.tables)) }
+        ensures order { OnOk result (InOrder self.new) }
+    {
+        Err(Memory)
+    }
+
+    /// Runs an item of a journal over the tables so far, which lie before it in the journal: `Differs` names the first
+    /// statement whose kept reply isn't the machine's, or the number of statements where all agree and no event is left.
+    /// The closing of a block always agrees. After `Differs` the machine isn't to be used again.
+    pub fn run(&mut self, alloc: Global, item: &JournalItem) -> Result<PlainEnd, Memory>
+        requires rests { self.old.script ≡ None }
+        requires order { InOrder self.old }
+        requires new { IsNewItem item.now self.old.tables }
+        ensures verdict { IfOk result (λ end. end ≡ verdict statement_of self.old.tables item.now) }
+        ensures tables { IfOk result (λ end. end ≡ PlainEnd.Agrees → self.new ≡ at_rest (after_item statement_of self.old.tables item.now)) }
+        ensures order { IfOk result (λ end. end ≡ PlainEnd.Agrees → InOrder self.new) }
+    {
+        Err(Memory)
+    }
 }
