@@ -5,7 +5,7 @@ use Rattle.lg_types.specs.declared.statement.Stmt.{Stmt}
 use Rattle.lg_model.specs.Catalog.{Tables}
 use Rattle.lg_model.specs.Effect.{Effect, effect}
 use Rattle.lg_model.specs.Reach.{creates}
-use Rattle.lg_model.specs.Script.{Saved, State, by_effect}
+use Rattle.lg_model.specs.Script.{Saved, by_effect}
 use Rattle.lg_model.specs.Undo.{undone}
 use Rattle.lg_model.proofs.Alls.{all_weaker, all_both}
 use Rattle.lg_model.proofs.StepByStep.{with_copy, at_copy}

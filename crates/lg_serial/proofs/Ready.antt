@@ -1,5 +1,5 @@
 -- What functions need of the tables of a script that is begun.
-use Rattle.std.proofs.Common.{◌≡◌, ◌≤◌, ◌<◌, ℕ, ◌+◌, refl, Bool, true, false, List, [], ◌∷◌, length, Option, Some, None, arith}
+use Rattle.std.proofs.Common.{◌≡◌, ◌≤◌, ◌<◌, ℕ, refl, List, [], ◌∷◌, length, Option, Some, None, arith}
 use Rattle.std.specs.Prelude.{◌-◌, ◌^◌}
 use Rattle.std.specs.List.{AllByRecursion}
 use Rattle.lg_value.specs.declared.column.ColumnDef.{ColumnDef}
@@ -13,7 +13,6 @@ use Rattle.lg_model.specs.Runs.{Sound}
 use Rattle.lg_model.proofs.Alls.{all_weaker, all_both}
 use Rattle.lg_runs.specs.Fits.{Fits}
 use Rattle.lg_runs.specs.Kept.{KeptTable}
-use Rattle.lg_runs.specs.Described.{Described}
 use Rattle.lg_runs.proofs.DefLists.{all_defs}
 use Rattle.lg_runs.proofs.Keeping.{first_kept, first_described}
 use Rattle.lg_tables.specs.Short.{IsShort, AreShort}
