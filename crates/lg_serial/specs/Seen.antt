@@ -24,6 +24,11 @@ abbrev pub restored : Option Defs → Tables → Tables
 restored None tables = tables
 restored (Some defs) tables = with_defs defs tables
 
+-- what is to be restored after a CREATE, before which the definitions were these
+abbrev pub first_defs : Option Defs → Defs → Option Defs
+first_defs None now = Some now
+first_defs (Some defs) now = Some defs
+
 -- the state of a script over these tables
 unfoldable pub state_of : Tables → Begun → State
 state_of tables b = record { tables = tables; seq = b.seq; saved = map (copy_at b.tx tables) b.saved }
