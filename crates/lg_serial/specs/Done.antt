@@ -23,7 +23,7 @@ use Rattle.lg_serial.specs.declared.begun.Begun.{Begun}
 use Rattle.lg_serial.specs.declared.effect.Done.{Done}
 use Rattle.lg_serial.specs.Machine.{moved}
 use Rattle.lg_serial.specs.Order.{InOrder}
-use Rattle.lg_serial.specs.Seen.{running_of, state_of, machine_of}
+use Rattle.lg_serial.specs.Seen.{HasPlaces, running_of, state_of, machine_of}
 use Rattle.lg_serial.specs.declared.changing.Planned.{Planned}
 
 -- the effect that is meant, with the tables after it; or a refusal that leaves the tables; or that there is no more memory
@@ -56,6 +56,7 @@ pub record Stepped (T : Tables) (b : Begun) (U : Tables) (c : Begun) (step : Ste
   pub reply_is : reply ≡ step.1
   pub machine : machine_of U (Some c) ≡ moved (machine_of T (Some b)) (running_of T b) step.0
   pub order : InOrder (machine_of U (Some c))
+  pub places : HasPlaces c.defs U
 
 -- the step that is meant; or a refusal that leaves everything; or that there is no more memory
 abbrev pub Steps : Tables → Begun → Tables → Begun → Step → Result Reply Refusal → Type 0

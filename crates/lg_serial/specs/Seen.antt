@@ -1,6 +1,6 @@
 -- How the machine keeps what its contracts see: a savepoint by its number alone, and the tables before a script by the
 -- changes that the script made.
-use Rattle.std.specs.Prelude.{ℕ, List, [], ◌∷◌, map, Option, Some, None}
+use Rattle.std.specs.Prelude.{ℕ, ◌≤◌, List, [], ◌∷◌, map, length, Option, Some, None}
 use Rattle.lg_types.specs.declared.version.Table.{Table}
 use Rattle.lg_model.specs.Catalog.{Defs, Tables}
 use Rattle.lg_model.specs.Effect.{with_def}
@@ -24,6 +24,11 @@ abbrev pub restored : Option Defs → Tables → Tables
 restored None tables = tables
 restored (Some defs) tables = with_defs defs tables
 
+-- what is to be restored after a CREATE, before which the definitions were these
+abbrev pub first_defs : Option Defs → Defs → Option Defs
+first_defs None now = Some now
+first_defs (Some defs) now = Some defs
+
 -- the state of a script over these tables
 unfoldable pub state_of : Tables → Begun → State
 state_of tables b = record { tables = tables; seq = b.seq; saved = map (copy_at b.tx tables) b.saved }
@@ -38,3 +43,12 @@ running_of tables b = record { tx = b.tx; opened = b.opened; state = state_of ta
 abbrev pub machine_of : Tables → Option Begun → Machine
 machine_of tables None = record { tables = tables; script = None }
 machine_of tables (Some b) = record { tables = before tables b; script = Some (running_of tables b) }
+
+-- no more definitions are to be restored than there are tables
+abbrev pub HasPlaces : Option Defs → Tables → Type 0
+HasPlaces None tables = Unit {0}
+HasPlaces (Some defs) tables = length defs ≤ length tables
+
+abbrev pub HavePlaces : Tables → Option Begun → Type 0
+HavePlaces tables None = Unit {0}
+HavePlaces tables (Some b) = HasPlaces b.defs tables

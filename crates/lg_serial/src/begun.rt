@@ -3,7 +3,7 @@
 ghost use Rattle.std.specs.Prelude.{◌≡◌, [], Some, None};
 ghost use Rattle.lg_serial.specs.Machine.{step_of, moved};
 ghost use Rattle.lg_serial.specs.Order.{InOrder};
-ghost use Rattle.lg_serial.specs.Seen.{running_of, machine_of};
+ghost use Rattle.lg_serial.specs.Seen.{HasPlaces, running_of, machine_of};
 ghost use Rattle.lg_serial.specs.Done.{Answers};
 
 use lg_items::{Items, Memory, Name, TxId};
@@ -52,7 +52,8 @@ impl Begun {
         tables: &mut Vec<Table>,
         stmt: &Stmt,
     ) -> Result<Reply, Memory>
-        requires { InOrder (machine_of tables.old.items (Some self.old)) }
+        requires order { InOrder (machine_of tables.old.items (Some self.old)) }
+        requires places { HasPlaces self.old.defs tables.old.items }
         ensures { Answers tables.old.items self.old tables.new.items self.new (step_of (running_of tables.old.items self.old) (Some stmt.now)) result }
     {
         Err(Memory)

@@ -46,10 +46,15 @@ impl Model for Plain {
     ghost use Rattle.lg_serial.specs.Seen.{machine_of};
 
     ghost view = { λ p. machine_of p.tables.items p.begun };
+
+    ghost use Rattle.lg_serial.specs.Seen.{HavePlaces};
+
+    ghost invariant = { λ p. HavePlaces p.tables.items p.begun };
 }
 
 impl Plain {
     /// The tables of the system, without rows, and no script.
+    #[tactic(auto, using(crate::proofs::Ready::first_in_order))]
     pub fn new(alloc: Global) -> Result<Plain, Memory>
         ensures tables { IfOk result (λ plain. plain ≡ at_rest system.first_tables) }
         ensures order { IfOk result InOrder }
@@ -61,6 +66,7 @@ impl Plain {
     }
 
     /// Begins the script of a transaction, which BEGIN opened or not, over the tables so far. Takes no memory.
+    #[tactic(auto, using(crate::proofs::Running::begins, crate::proofs::Ready::rest_steady))]
     pub fn begin(&mut self, alloc: Global, opened: bool, tx: TxId)
         requires rests { self.old.script ≡ None }
         requires order { InOrder self.old }
@@ -80,10 +86,12 @@ impl Plain {
         ensures script { (x : Running) → self.old.script ≡ Some x → OnOk result (self.new ≡ moved self.old x (step_of x (Some stmt.now)).0) }
         ensures order { OnOk result (InOrder self.new) }
     {
-        match &mut self.begun {
-            Some(begun) => begun.answer(alloc, &mut self.tables, stmt),
-            None => unreachable!(),
-        }
+        let Some(mut begun) = self.begun.take() else {
+            unreachable!()
+        };
+        let reply = begun.answer(alloc, &mut self.tables, stmt)?;
+        self.begun = Some(begun);
+        Ok(reply)
     }
 
     /// Takes the script's next text; E01 where it is no statement.
