@@ -1,6 +1,6 @@
 //! What holds of each session that runs alone.
 
-ghost use Rattle.std.specs.Prelude.{ℕ, ◌≡◌, ◌×◌, true, List, [], ◌∷◌, codes, map, None};
+ghost use Rattle.std.specs.Prelude.{ℕ, ◌≡◌, true, List, [], ◌∷◌, codes, map, None};
 ghost use Rattle.std.specs.List.{AllByRecursion};
 ghost use Rattle.lg_model.specs.Journals.{serial, IsLegal};
 ghost use Rattle.lg_model.specs.Runs.{Sound};
