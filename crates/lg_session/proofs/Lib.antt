@@ -1,1 +1,2 @@
 mod Quiet
+mod Steady

@@ -14,7 +14,7 @@ ghost use Rattle.lg_session.specs.OneSession as spec;
 
 /// The transcript of such a session agrees with its journal, in which no block is closed.
 pub fn one_session_agrees()
-    ensures some { (q : Meaning) (reads : Reading) (h : Hashing) (session : Text) (statements : List (ℕ × Text)) → IsReal reads h q
+    ensures some { (q : Meaning) (reads : Reading) (h : Hashing) (session : Text) (statements : List (ℕ × Text)) → IsReal reads h q → spec.GivesColumns reads
         → AllByRecursion (λ t. spec.is_built (reads t.1) ≡ true) statements
         → Agree q (codes "LedgerDB") (map (λ t. t.1) statements ∷ []) None (spec.transcript_of session (spec.run_of reads session statements) ∷ [])
         (spec.run_of reads session statements).items [] }
@@ -24,8 +24,9 @@ pub fn one_session_agrees()
 /// Its journal is legal and leads to its tables, in which the next transaction has no event; the ids of its transactions
 /// differ, and it closes no block.
 pub fn one_session_is_legal()
-    ensures legal { (reads : Reading) (session : Text) (statements : List (ℕ × Text)) → IsLegal reads (spec.run_of reads session statements).items }
-    ensures tables { (reads : Reading) (session : Text) (statements : List (ℕ × Text))
+    ensures legal { (reads : Reading) (session : Text) (statements : List (ℕ × Text)) → spec.GivesColumns reads
+        → IsLegal reads (spec.run_of reads session statements).items }
+    ensures tables { (reads : Reading) (session : Text) (statements : List (ℕ × Text)) → spec.GivesColumns reads
         → serial reads (spec.run_of reads session statements).items ≡ (spec.run_of reads session statements).tables }
     ensures next { (reads : Reading) (session : Text) (statements : List (ℕ × Text))
         → Sound (spec.run_of reads session statements).next 0 (spec.run_of reads session statements).tables }
