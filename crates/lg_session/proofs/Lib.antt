@@ -1,2 +1,3 @@
+mod LastEvents
 mod Quiet
 mod Steady

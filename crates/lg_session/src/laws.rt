@@ -1,6 +1,6 @@
 //! What holds of each session that runs alone.
 
-ghost use Rattle.std.specs.Prelude.{ℕ, ◌≡◌, true, List, [], ◌∷◌, codes, map, None};
+ghost use Rattle.std.specs.Prelude.{ℕ, ◌≡◌, ◌<◌, ◌^◌, true, List, [], ◌∷◌, codes, map, None, IfSome};
 ghost use Rattle.std.specs.List.{AllByRecursion};
 ghost use Rattle.lg_model.specs.Journals.{serial, IsLegal};
 ghost use Rattle.lg_model.specs.Runs.{Sound};
@@ -9,6 +9,7 @@ ghost use Rattle.lg_history.specs.Lists.{Text};
 ghost use Rattle.lg_history.specs.Meaning.{Meaning};
 ghost use Rattle.lg_history.specs.Agree.{Agree};
 ghost use Rattle.lg_history.specs.Real.{Hashing, IsReal};
+ghost use Rattle.lg_row.specs.Leaf.{is_text, HasLeaf};
 ghost use Rattle.lg_journal.specs.Rules.{ids_differ, closes_follow};
 ghost use Rattle.lg_session.specs.OneSession as spec;
 
@@ -32,4 +33,12 @@ pub fn one_session_is_legal()
         → Sound (spec.run_of reads session statements).next 0 (spec.run_of reads session statements).tables }
     ensures ids { (reads : Reading) (session : Text) (statements : List (ℕ × Text)) → ids_differ [] (spec.run_of reads session statements).items ≡ true }
     ensures closes { (reads : Reading) (session : Text) (statements : List (ℕ × Text)) → closes_follow 0 (spec.run_of reads session statements).items ≡ true }
+{}
+
+/// Each event of its last transaction that was committed has a leaf, where its numbers have room in one and its texts are
+/// UTF-8.
+pub fn last_events_have_leaves()
+    ensures { (reads : Reading) (session : Text) (statements : List (ℕ × Text))
+        → AllByRecursion (λ e. e.table < 2 ^ 32 → e.tx < 2 ^ 64 → e.seq < 2 ^ 64 → IfSome e.start (λ s. (s.0 < 2 ^ 64) × (s.1 < 2 ^ 64))
+        → AllByRecursion (λ f. is_text f.value ≡ true) e.columns → HasLeaf e) (spec.run_of reads session statements).last }
 {}
