@@ -1,5 +1,5 @@
 -- What a session that never begins a transaction of many statements is answered stands where it may.
-use Rattle.std.proofs.Common.{◌≡◌, inl, inr, ℕ, refl, sym, ap, subst, ◌∙◌, Bool, true, false, List, [], ◌∷◌, ◌++◌, Option, Some, None}
+use Rattle.std.proofs.Common.{◌≡◌, inl, ℕ, refl, sym, ap, subst, ◌∙◌, true, false, List, [], ◌∷◌, ◌++◌, Option, Some, None}
 use Rattle.lg_value.specs.declared.refusal.Refusal.{Refusal}
 use Rattle.lg_value.specs.declared.refusal.Refusal.TheVariants as e
 use Rattle.lg_types.specs.declared.reply.Reply.{Reply}
@@ -10,7 +10,7 @@ use Rattle.lg_model.specs.Catalog.{Tables}
 use Rattle.lg_model.specs.Script.{by_statement, start}
 use Rattle.lg_history.specs.Lists.{Text, Each}
 use Rattle.lg_history.specs.Meaning.{Meaning}
-use Rattle.lg_history.specs.Transcripts.{EndLine, ended_id, Entry, statement, end_of_session, Kind, unread, begin, commit, roll_back, to_savepoint, create, rows, issue, keep, kind_of}
+use Rattle.lg_history.specs.Transcripts.{EndLine, ended_id, Entry, statement, Kind, create, rows, kind_of}
 use Rattle.lg_history.specs.Facts.{Fact, began, said, end_facts, answer_facts, own_facts, facts_outside, entry_facts, begun_by, open_after, open_at_end}
 use Rattle.lg_history.specs.InPlace.{EndsOutside, ComesAt, ControlledBy, HasItsForm, InPlace}
 use Rattle.lg_history.specs.Guards.{IsStatement, images_of, Answers}

@@ -1,5 +1,5 @@
 -- The events of the last transaction have a leaf, where their numbers have room and their texts are UTF-8.
-use Rattle.std.proofs.Common.{◌≡◌, ◌≢◌, ◌≤◌, ◌<◌, ℕ, ◌+◌, ◌^◌, refl, sym, ap, subst, ◌∙◌, Bool, true, false, nat_lt, List, [], ◌∷◌, ◌++◌, length, flat_map, Option, Some, None, arith}
+use Rattle.std.proofs.Common.{◌≡◌, ◌≢◌, ◌≤◌, ◌<◌, ℕ, ◌+◌, ◌^◌, refl, sym, ap, subst, true, false, nat_lt, List, [], ◌∷◌, length, flat_map, Option, Some, None, arith}
 use Rattle.std.proofs.lemmas.Bool.Decides.{nat_tests}
 use Rattle.std.specs.Prelude.{◌==◌, IfSome}
 use Rattle.std.specs.List.{AllByRecursion, filter}
@@ -17,12 +17,12 @@ use Rattle.lg_types.specs.declared.version.Typed.{Typed}
 use Rattle.lg_types.specs.declared.version.Version.{Version}
 use Rattle.lg_model.specs.Lists.{numbered}
 use Rattle.lg_model.specs.Rows.{EventId}
-use Rattle.lg_model.specs.Catalog.{Tables, defs_of}
+use Rattle.lg_model.specs.Catalog.{Tables}
 use Rattle.lg_model.specs.Events.{fields_at, fields_of, end_events, version_events, events_of, all_events}
 use Rattle.lg_model.specs.Script.{Reading, Step, by_statement, start}
-use Rattle.lg_model.proofs.Alls.{all_weaker, all_both, all_append, all_filter, all_sorted}
+use Rattle.lg_model.proofs.Alls.{all_weaker, all_both, all_filter, all_sorted}
 use Rattle.lg_model.proofs.LeftRows.{all_flat_map}
-use Rattle.lg_runs.specs.Fits.{FitsColumn, Fits}
+use Rattle.lg_runs.specs.Fits.{Fits}
 use Rattle.lg_runs.specs.Kept.{KeptTable, Kept}
 use Rattle.lg_runs.specs.Described.{Described}
 use Rattle.lg_runs.proofs.DefLists.{all_defs}

@@ -17,14 +17,14 @@ use Rattle.lg_model.specs.SystemTables.{first_tables}
 use Rattle.lg_history.specs.Lists.{Text, Each, At}
 use Rattle.lg_history.specs.Meaning.{Meaning}
 use Rattle.lg_history.specs.Real.{Hashing, IsReal}
-use Rattle.lg_history.specs.Serial.{texts_of, serial, AgreesTx}
+use Rattle.lg_history.specs.Serial.{texts_of, serial}
 use Rattle.lg_history.specs.Transcripts.{EndLine, committed_at, ended_after, Entry, statement, Transcript, kind_of}
 use Rattle.lg_history.specs.Facts.{Fact, began, said, placed, passed, over, open_at_end}
 use Rattle.lg_history.specs.Transactions.{committed, ended}
 use Rattle.lg_history.specs.Acts.{starts, takes, draws, says, commits, ends, frees, answers, Event, by, closes}
 use Rattle.lg_history.specs.Sessions.{runs, Deal, drawn, scripts, fixes, Sess, fresh}
 use Rattle.lg_history.specs.Worlds.{World, first, put, step, run}
-use Rattle.lg_history.specs.Guards.{IsStatement, NoTable, Good, AtRest}
+use Rattle.lg_history.specs.Guards.{IsStatement, NoTable, Good}
 use Rattle.lg_history.specs.Histories.{SessionsBelow, AreOf, IsWhole}
 use Rattle.lg_history.specs.Agree.{Agree}
 use Rattle.lg_history.proofs.Agreed.{agrees}

@@ -1,5 +1,5 @@
 -- A statement of its own that left no event left the tables as they were, where each index has columns.
-use Rattle.std.proofs.Common.{◌≡◌, ◌≢◌, ◌<◌, ℕ, zero, suc, ◌+◌, refl, sym, ap, subst, ◌∙◌, Bool, true, false, cond, nat_lt, List, [], ◌∷◌, ◌++◌, map, flat_map, length, Option, Some, None, Ok, Err, arith}
+use Rattle.std.proofs.Common.{◌≡◌, ◌≢◌, ℕ, zero, suc, ◌+◌, refl, sym, ap, ◌∙◌, Bool, true, false, cond, nat_lt, List, [], ◌∷◌, ◌++◌, map, flat_map, length, Option, Some, None, Ok, Err, arith}
 use Rattle.std.proofs.lemmas.Bool.{eq-eqb}
 use Rattle.std.proofs.lemmas.Bool.Decides.{nat_tests}
 use Rattle.std.specs.Prelude.{◌==◌, ◌||◌, not, nat_le, if◌then◌else◌}
@@ -12,7 +12,6 @@ use Rattle.lg_types.specs.declared.event.Event.{Event}
 use Rattle.lg_types.specs.declared.statement.Stmt.{Stmt}
 use Rattle.lg_types.specs.declared.statement.Stmt.TheVariants as s
 use Rattle.lg_types.specs.declared.statement.RowStmt.{RowStmt}
-use Rattle.lg_types.specs.declared.statement.CreateTable.{CreateTable}
 use Rattle.lg_types.specs.declared.statement.CreateIndex.{CreateIndex}
 use Rattle.lg_types.specs.declared.statement.Select.{Select}
 use Rattle.lg_types.specs.declared.table.TableDef.{TableDef}
@@ -31,13 +30,12 @@ use Rattle.lg_model.specs.Query.{query_check}
 use Rattle.lg_model.specs.Create.{is_long, ordinal_at, create_check, index_check, index_check_in, index_def}
 use Rattle.lg_model.specs.SystemTables.{columns_id, index_row, index_rows}
 use Rattle.lg_model.specs.Effect.{Effect, effect, query_rows, column_starts}
-use Rattle.lg_model.specs.Events.{end_event, end_events, start_event, version_events, events_of, all_events}
-use Rattle.lg_model.specs.Plans.{in_table, Definition, as_before, defined, changed_from, Plan, row_plan, change_plan, rows_plan, query_plan, table_plan, index_plan, plan, carried_out}
-use Rattle.lg_model.specs.Runs.{IsBefore, EndsBefore, MadeBefore, SoundTable, Sound}
-use Rattle.lg_model.proofs.Alls.{all_weaker, all_both}
+use Rattle.lg_model.specs.Events.{end_events, version_events, events_of, all_events}
+use Rattle.lg_model.specs.Plans.{in_table, as_before, Plan, row_plan, change_plan, rows_plan, query_plan, table_plan, index_plan, plan, carried_out}
+use Rattle.lg_model.specs.Runs.{IsBefore, EndsBefore, MadeBefore, SoundTable}
 use Rattle.lg_model.proofs.Plans.{planned}
 use Rattle.lg_runs.specs.Described.{Described}
-use Rattle.lg_runs.specs.Kept.{count_all, IsNumbered, Kept}
+use Rattle.lg_runs.specs.Kept.{IsNumbered, Kept}
 use Rattle.lg_runs.proofs.Keeping.{statement_kept}
 use Rattle.lg_runs.proofs.Serials.{no_number}
 

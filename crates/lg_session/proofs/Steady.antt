@@ -1,7 +1,7 @@
 -- A session that runs alone keeps its journal legal, and its tables are those to which the journal leads.
-use Rattle.std.proofs.Common.{◌≡◌, ◌≢◌, ◌≤◌, ◌<◌, ◌⊎◌, inl, inr, ℕ, ◌+◌, refl, sym, ap, subst, ◌∙◌, Bool, true, false, List, [], ◌∷◌, ◌++◌, map, Option, Some, None, arith}
+use Rattle.std.proofs.Common.{◌≡◌, ◌≢◌, ◌<◌, inl, inr, ℕ, ◌+◌, refl, sym, ap, subst, ◌∙◌, Bool, true, false, List, [], ◌∷◌, ◌++◌, Option, Some, None, arith}
 use Rattle.std.proofs.lemmas.Bool.{ne_eqb}
-use Rattle.std.specs.Prelude.{◌&&◌, ◌==◌, not, if◌then◌else◌, IfSome}
+use Rattle.std.specs.Prelude.{◌&&◌, not, if◌then◌else◌, IfSome}
 use Rattle.std.specs.List.{AllByRecursion}
 use Rattle.lg_types.specs.declared.event.Event.{Event}
 use Rattle.lg_types.specs.declared.journal.JournalItem.{JournalItem}
@@ -11,7 +11,6 @@ use Rattle.lg_types.specs.declared.statement.CreateIndex.{CreateIndex}
 use Rattle.lg_types.specs.declared.statement.Stmt.{Stmt}
 use Rattle.lg_types.specs.declared.statement.Stmt.TheVariants as s
 use Rattle.lg_types.specs.declared.version.Table.{Table}
-use Rattle.lg_types.specs.declared.version.Version.{Version}
 use Rattle.lg_model.specs.Rows.{EventId}
 use Rattle.lg_model.specs.Catalog.{Tables}
 use Rattle.lg_model.specs.Events.{all_events}
@@ -27,7 +26,7 @@ use Rattle.lg_runs.proofs.Keeping.{first_kept, first_described}
 use Rattle.lg_runs.proofs.Scripts.{script_both}
 use Rattle.lg_runs.proofs.Serials.{no_number}
 use Rattle.lg_journal.specs.Rules.{is_among, ids_differ, closes_follow}
-use Rattle.lg_session.specs.OneSession.{is_alone, GivesColumns, Run, first_run, answered, transacted, transacts, stepped, run_from, run_of}
+use Rattle.lg_session.specs.OneSession.{is_alone, GivesColumns, Run, first_run, answered, transacted, transacts, stepped, run_from}
 use Rattle.lg_session.proofs.Quiet.{quiet_leaves}
 
 -- ---- the next transaction
@@ -216,9 +215,9 @@ module _ (reads : Reading) where
     unfolding script_from text_step
     fits_behind x e es some h = (record { replies = refl; events = λ none. cc }, all_weaker (IsBelow x.next) (IsOther x.next) (is_other x.next) x.items h.below)
 
-    tables_then : (x : Run) (lines : List ℕ) → (script reads false x.tables x.next (text ∷ [])).state.tables ≡ (by_statement false x.next (start x.tables) (reads text)).0.tables
+    tables_then : (x : Run) → (script reads false x.tables x.next (text ∷ [])).state.tables ≡ (by_statement false x.next (start x.tables) (reads text)).0.tables
     unfolding script_from text_step
-    tables_then x lines = refl
+    tables_then x = refl
 
     journaled_after : (es : List Event) (x : Run) → all_events x.next (by_statement false x.next (start x.tables) (reads text)).0.tables ≡ es
         → (es ≡ [] → (by_statement false x.next (start x.tables) (reads text)).0.tables ≡ x.tables) → Ordered x → Journaled x
@@ -228,7 +227,7 @@ module _ (reads : Reading) where
         let i : JournalItem = Tx x.next session time false ((text, reply_text (by_statement false x.next (start x.tables) (reads text)).1) ∷ []) in
         record {
           legal = legal_append [] first_tables x.items i j.legal (subst (λ (T : Tables). IsNext reads x.items T i) (sym j.leads) (fits_behind x e es is o));
-          leads = serial_append first_tables x.items i ∙ ap (λ (T : Tables). after_item reads T i) j.leads ∙ tables_then x [];
+          leads = serial_append first_tables x.items i ∙ ap (λ (T : Tables). after_item reads T i) j.leads ∙ tables_then x;
         }
 
     pub journaled_step : GivesColumns reads → (x : Run) → Steady x → Ordered x → Journaled x → Journaled (stepped session time text (reads text) x)
