@@ -54,7 +54,7 @@ module _ (id n : ℕ) where
       let r = none_in_all ts h.1 in
       omega (arith, l, s, r)
 
-no_number : (id : ℕ) (T : Tables) → Sound id 0 T → IsNumbered id 0 T
+pub no_number : (id : ℕ) (T : Tables) → Sound id 0 T → IsNumbered id 0 T
 no_number id T h n = none_in_all id n T h.each ∙ none_below n
 
 -- ---- places

@@ -1,0 +1,6 @@
+mod Answered
+mod LastEvents
+mod OneHistory
+mod PlainRefusals
+mod Quiet
+mod Steady

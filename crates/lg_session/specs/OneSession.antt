@@ -1,11 +1,12 @@
 -- What one session is answered that runs alone, each of its statements a transaction of its own or none, and what of it
 -- is committed.
-use Rattle.std.specs.Prelude.{ℕ, ◌+◌, Bool, true, false, if◌then◌else◌, List, [], ◌∷◌, ◌++◌, codes, map, Option, Some, None}
+use Rattle.std.specs.Prelude.{ℕ, ◌+◌, ◌≡◌, ◌≢◌, Bool, true, false, if◌then◌else◌, List, [], ◌∷◌, ◌++◌, codes, Option, Some, None}
 use Rattle.lg_types.specs.declared.event.Event.{Event}
 use Rattle.lg_types.specs.declared.journal.Journal.{Journal}
 use Rattle.lg_types.specs.declared.journal.JournalItem.{JournalItem}
 use Rattle.lg_types.specs.declared.journal.JournalItem.TheVariants.{Tx}
 use Rattle.lg_types.specs.declared.reply.Reply.{Reply}
+use Rattle.lg_types.specs.declared.statement.CreateIndex.{CreateIndex}
 use Rattle.lg_types.specs.declared.statement.Stmt.{Stmt}
 use Rattle.lg_types.specs.declared.statement.Stmt.TheVariants as s
 use Rattle.lg_model.specs.Catalog.{Tables}
@@ -14,7 +15,7 @@ use Rattle.lg_model.specs.Journals.{tx_count}
 use Rattle.lg_model.specs.Replies.{reply_text}
 use Rattle.lg_model.specs.Script.{Reading, Step, start, by_statement}
 use Rattle.lg_model.specs.SystemTables.{first_tables}
-use Rattle.lg_history.specs.Transcripts.{Entry, statement, EndLine, committed_at, ended_after, Transcript}
+use Rattle.lg_history.specs.Transcripts.{Entry, statement, committed_at, ended_after, Transcript}
 
 -- ---- which statements there are here
 
@@ -34,6 +35,10 @@ is_built (Some (s.Rollback (Some name))) = false
 is_built (Some s.Digest) = false
 is_built (Some s.Image) = false
 is_built _ = true
+
+-- a reading that gives each index a column, as the grammar does
+abbrev pub GivesColumns : Reading → Type 0
+GivesColumns reads = (text : List ℕ) (c : CreateIndex) → reads text ≡ Some (s.Index c) → c.columns ≢ []
 
 -- ---- the session
 
