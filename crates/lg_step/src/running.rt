@@ -1,0 +1,57 @@
+//! Running the lines of an input.
+
+ghost use Rattle.std.specs.Prelude.{ℕ, ◌≡◌, ◌<◌, ◌-◌, ◌^◌, List, length, map, flat_map, None, Some, Err, IfOk, OnOk, All, true};
+ghost use Rattle.std.specs.List.{AllByRecursion};
+ghost use Rattle.lg_input.specs.Line.{statement_of as seen, is_session_name};
+ghost use Rattle.lg_row.specs.Leaf.{HasLeaf};
+ghost use Rattle.lg_journal.specs.Rules.{IsJournal};
+ghost use Rattle.lg_session.specs.OneSession.{journal_of};
+ghost use Rattle.lg_step.specs.Lines.{ran, unbuilt, transcripts_of};
+ghost use Rattle.lg_step.specs.Moments.{IsMoment};
+ghost use Rattle.lg_step.specs.TranscriptText.{transcript_text};
+
+use lg_base::Clock;
+use lg_input::Line;
+use lg_items::{Items, Memory, Text};
+use lg_types::{Event, Journal};
+use std::alloc::Global;
+
+/// What a run came to.
+#[derive(Drop)]
+pub struct Ran {
+    pub journal: Journal,
+    /// The starts and ends of the last transaction that was committed, by table and number.
+    pub last: Items<Event>,
+    pub transcript: Text,
+}
+
+/// Why there is no run.
+#[derive(Clone, Copy, Debug, PartialEq, Eq)]
+pub enum StepErr {
+    /// This line is of a second session, or its statement begins or ends a transaction of many statements, goes back in
+    /// one, or asks for a digest or an image: these aren't built yet. It is the first such line.
+    Unbuilt { line: u64 },
+    Memory,
+}
+
+impl From<Memory> for StepErr {
+    fn from(_: Memory) -> StepErr {
+        StepErr::Memory
+    }
+}
+
+/// Runs the statements of the lines in their order, each as a transaction of its own, or outside of one where it is no
+/// table statement. The clock is asked at the start of each.
+pub fn run_lines<C: Clock>(alloc: Global, lines: &[Line<'_>], clock: &C) -> Result<Ran, StepErr>
+    requires names { All (λ l. is_session_name l.session.now ≡ true) lines.now }
+    requires count { length lines.now < 2 ^ 63 - 1 }
+    ensures ran { IfOk result (λ r. (times : List ℕ) × (length times ≡ length lines.now) × AllByRecursion (IsMoment (C.moment clock.now)) times
+        × (r.journal ≡ journal_of (ran times (map seen lines.now))) × (r.last ≡ (ran times (map seen lines.now)).last)
+        × (r.transcript ≡ flat_map transcript_text (transcripts_of (map seen lines.now) (ran times (map seen lines.now))))) }
+    ensures journal { IfOk result (λ r. IsJournal r.journal) }
+    ensures leaves { IfOk result (λ r. AllByRecursion HasLeaf r.last) }
+    ensures built { OnOk result (unbuilt (map seen lines.now) ≡ None) }
+    ensures unbuilt { (line : ℕ) → result ≡ Err (StepErr.Unbuilt line) → unbuilt (map seen lines.now) ≡ Some line }
+{
+    Err(StepErr::Memory)
+}
