@@ -2,4 +2,6 @@
 #![tactic(auto)]
 
 #[cfg(test)]
-mod first_path;
+mod outside;
+#[cfg(test)]
+mod sessions;

@@ -1,4 +1,4 @@
-// The top call over two lines: its files and text byte for byte, and each status with what it leaves.
+// The top call: its files and text byte for byte, and each status with what it leaves.
 use lg_base::{FixedClock, MemSink, MemSource, MemVault, OpenGate, Vault, VaultErr};
 use lg_cmd::{Status, ledgerd};
 use lg_merkle::{Hash32, Sha256Hash};
@@ -29,108 +29,27 @@ const JOURNAL: &[u8] = b"LGJN\x01\x00\x08LedgerDB\x00\x00\x00\x00\x00\x00\x00\x0
 \x00\x00\x00\x00\x00\x00\x00\x1aINSERT INTO log VALUES (7)\
 \x00\x00\x00\x00\x00\x00\x00\x07\x31 rows\n";
 
-// Inputs, and whether the two-line form takes them.
-const FORMS: [(&[u8], Status); 25] = [
-    // the least and the greatest of each part
+// Inputs, and how they end. The lines are looked at first, then the sessions, and then each statement.
+const INPUTS: [(&[u8], Status); 16] = [
+    (b"", Status::Done),
+    (b"\n \t\r\n--: x\n", Status::Done),
+    (b"a:", Status::Done),
+    (b"COMMIT\n", Status::Form { line: 1 }),
+    (b"\n--\n\na b: COMMIT\n", Status::Form { line: 4 }),
+    (b"a : COMMIT\n", Status::Form { line: 1 }),
+    (b": COMMIT\n", Status::Form { line: 1 }),
+    (b"a: COMMIT\n--\xff\n", Status::Form { line: 2 }),
+    (b"a: BEGIN TRAN\na: COMMIT\nx", Status::Form { line: 3 }),
+    (b"a: COMMIT\n\na: BEGIN TRAN\n", Status::Unbuilt { line: 3 }),
+    (b"a: COMMIT\nb: COMMIT\n", Status::Unbuilt { line: 2 }),
+    (b"a: SAVE TRAN s", Status::Unbuilt { line: 1 }),
+    (b"a: ROLLBACK TRAN s", Status::Unbuilt { line: 1 }),
     (
-        b"a: CREATE TABLE T (K INT PRIMARY KEY) WITH (LEDGER = ON (APPEND_ONLY = ON))\na: INSERT INTO T VALUES (0)\n",
-        Status::Done,
+        b"a: EXEC sp_generate_database_ledger_digest",
+        Status::Unbuilt { line: 1 },
     ),
-    (
-        b"_9: CREATE TABLE T (T INT PRIMARY KEY) WITH (LEDGER = ON (APPEND_ONLY = ON))\n_9: INSERT INTO T VALUES (-999999999)\n",
-        Status::Done,
-    ),
-    (
-        b"abcdefghijklmnopqrstuvwxyz_01234: CREATE TABLE abcdefghijklmnopqrstuvwxyzABCDEF (ABCDEFGHIJKLMNOPQRSTUVWXYZabcdef INT PRIMARY KEY) WITH (LEDGER = ON (APPEND_ONLY = ON))\nabcdefghijklmnopqrstuvwxyz_01234: INSERT INTO abcdefghijklmnopqrstuvwxyzABCDEF VALUES (000000007)\n",
-        Status::Done,
-    ),
-    (
-        b"a: CREATE TABLE T (K INT PRIMARY KEY) WITH (LEDGER = ON (APPEND_ONLY = ON))\na: INSERT INTO T VALUES (-0)\n",
-        Status::Done,
-    ),
-    // one too many of each
-    (
-        b"abcdefghijklmnopqrstuvwxyz_012345: CREATE TABLE T (K INT PRIMARY KEY) WITH (LEDGER = ON (APPEND_ONLY = ON))\nabcdefghijklmnopqrstuvwxyz_012345: INSERT INTO T VALUES (1)\n",
-        Status::Unbuilt,
-    ),
-    (
-        b"a: CREATE TABLE abcdefghijklmnopqrstuvwxyzABCDEFG (K INT PRIMARY KEY) WITH (LEDGER = ON (APPEND_ONLY = ON))\na: INSERT INTO abcdefghijklmnopqrstuvwxyzABCDEFG VALUES (1)\n",
-        Status::Unbuilt,
-    ),
-    (
-        b"a: CREATE TABLE T (K INT PRIMARY KEY) WITH (LEDGER = ON (APPEND_ONLY = ON))\na: INSERT INTO T VALUES (1234567890)\n",
-        Status::Unbuilt,
-    ),
-    // parts that are missing or of another kind
-    (b"", Status::Unbuilt),
-    (b"\n", Status::Unbuilt),
-    (
-        b"a: CREATE TABLE T (K INT PRIMARY KEY) WITH (LEDGER = ON (APPEND_ONLY = ON))\n",
-        Status::Unbuilt,
-    ),
-    (
-        b": CREATE TABLE T (K INT PRIMARY KEY) WITH (LEDGER = ON (APPEND_ONLY = ON))\n: INSERT INTO T VALUES (1)\n",
-        Status::Unbuilt,
-    ),
-    (
-        b"a-b: CREATE TABLE T (K INT PRIMARY KEY) WITH (LEDGER = ON (APPEND_ONLY = ON))\na-b: INSERT INTO T VALUES (1)\n",
-        Status::Unbuilt,
-    ),
-    (
-        b"a: CREATE TABLE T1 (K INT PRIMARY KEY) WITH (LEDGER = ON (APPEND_ONLY = ON))\na: INSERT INTO T1 VALUES (1)\n",
-        Status::Unbuilt,
-    ),
-    (
-        b"a: CREATE TABLE T (K INT PRIMARY KEY) WITH (LEDGER = ON (APPEND_ONLY = ON))\na: INSERT INTO T VALUES (-)\n",
-        Status::Unbuilt,
-    ),
-    (
-        b"a: CREATE TABLE T (K INT PRIMARY KEY) WITH (LEDGER = ON (APPEND_ONLY = ON))\na: INSERT INTO T VALUES (+1)\n",
-        Status::Unbuilt,
-    ),
-    // reserved words in any case
-    (
-        b"a: CREATE TABLE select (K INT PRIMARY KEY) WITH (LEDGER = ON (APPEND_ONLY = ON))\na: INSERT INTO select VALUES (1)\n",
-        Status::Unbuilt,
-    ),
-    (
-        b"a: CREATE TABLE T (oRDEr INT PRIMARY KEY) WITH (LEDGER = ON (APPEND_ONLY = ON))\na: INSERT INTO T VALUES (1)\n",
-        Status::Unbuilt,
-    ),
-    // the two lines don't agree
-    (
-        b"a: CREATE TABLE T (K INT PRIMARY KEY) WITH (LEDGER = ON (APPEND_ONLY = ON))\nb: INSERT INTO T VALUES (1)\n",
-        Status::Unbuilt,
-    ),
-    (
-        b"a: CREATE TABLE T (K INT PRIMARY KEY) WITH (LEDGER = ON (APPEND_ONLY = ON))\na: INSERT INTO t VALUES (1)\n",
-        Status::Unbuilt,
-    ),
-    // other blanks, cases and ends
-    (
-        b"a: create TABLE T (K INT PRIMARY KEY) WITH (LEDGER = ON (APPEND_ONLY = ON))\na: INSERT INTO T VALUES (1)\n",
-        Status::Unbuilt,
-    ),
-    (
-        b"a:  CREATE TABLE T (K INT PRIMARY KEY) WITH (LEDGER = ON (APPEND_ONLY = ON))\na: INSERT INTO T VALUES (1)\n",
-        Status::Unbuilt,
-    ),
-    (
-        b"a: CREATE TABLE T (K INT PRIMARY KEY) WITH (LEDGER = ON (APPEND_ONLY = ON))\r\na: INSERT INTO T VALUES (1)\r\n",
-        Status::Unbuilt,
-    ),
-    (
-        b"a: CREATE TABLE T (K INT PRIMARY KEY) WITH (LEDGER = ON (APPEND_ONLY = ON))\na: INSERT INTO T VALUES (1)",
-        Status::Unbuilt,
-    ),
-    (
-        b"a: CREATE TABLE T (K INT PRIMARY KEY) WITH (LEDGER = ON (APPEND_ONLY = ON))\na: INSERT INTO T VALUES (1)\n\n",
-        Status::Unbuilt,
-    ),
-    (
-        b"\xff: CREATE TABLE T (K INT PRIMARY KEY) WITH (LEDGER = ON (APPEND_ONLY = ON))\n\xff: INSERT INTO T VALUES (1)\n",
-        Status::Unbuilt,
-    ),
+    (b"a: SAVE IMAGE", Status::Unbuilt { line: 1 }),
+    (b"a: SAVE IMAGE x", Status::Done),
 ];
 
 // Words, and whether they are those of a command.
@@ -150,7 +69,7 @@ const WORDS: [(&[&str], Status); 11] = [
 
 // The calls of the source, the vault and the sink that fail, an input, and the status. The source is read first, then
 // the input is looked at, then the files are put, and then the text is written.
-const FAULTS: [(&[u64], &[u64], &[u64], &[u8], Status); 9] = [
+const FAULTS: [(&[u64], &[u64], &[u64], &[u8], Status); 10] = [
     (&[1], &[], &[], LINES, Status::SourceFault),
     (&[3], &[], &[], LINES, Status::SourceFault),
     (&[], &[1], &[], LINES, Status::VaultFault),
@@ -158,7 +77,8 @@ const FAULTS: [(&[u64], &[u64], &[u64], &[u8], Status); 9] = [
     (&[], &[], &[1], LINES, Status::SinkFault),
     (&[], &[], &[4], LINES, Status::SinkFault),
     (&[1], &[1], &[1], b"", Status::SourceFault),
-    (&[], &[1], &[1], b"", Status::Unbuilt),
+    (&[], &[1], &[1], b"a", Status::Form { line: 1 }),
+    (&[], &[1], &[1], b"", Status::VaultFault),
     (&[], &[1], &[1], LINES, Status::VaultFault),
 ];
 
@@ -175,17 +95,17 @@ fn words(alloc: Global, texts: &[&str]) -> Result<Vec<String>, AllocError> {
 
 /// What a call is made with. The numbers are those of the calls that fail.
 #[derive(Clone, Copy)]
-struct Given {
-    words: &'static [&'static str],
-    input: &'static [u8],
-    source_fails: &'static [u64],
-    vault_fails: &'static [u64],
-    sink_fails: &'static [u64],
-    sink_piece: usize,
-    clock: u64,
+pub(crate) struct Given {
+    pub words: &'static [&'static str],
+    pub input: &'static [u8],
+    pub source_fails: &'static [u64],
+    pub vault_fails: &'static [u64],
+    pub sink_fails: &'static [u64],
+    pub sink_piece: usize,
+    pub clock: u64,
 }
 
-const PLAIN: Given = Given {
+pub(crate) const PLAIN: Given = Given {
     words: &["step", "--save", "a"],
     input: LINES,
     source_fails: &[],
@@ -197,17 +117,17 @@ const PLAIN: Given = Given {
 
 /// What a call answered and left.
 #[derive(Drop)]
-struct Left {
-    status: Status,
-    vault: MemVault,
-    sink: MemSink,
+pub(crate) struct Left {
+    pub status: Status,
+    pub vault: MemVault,
+    pub sink: MemSink,
 }
 
 fn call(alloc: Global, given: &Given) -> Result<Left, AllocError> {
     call_on(alloc, given, given.input.to_vec(alloc)?)
 }
 
-fn call_on(alloc: Global, given: &Given, input: Vec<u8>) -> Result<Left, AllocError> {
+pub(crate) fn call_on(alloc: Global, given: &Given, input: Vec<u8>) -> Result<Left, AllocError> {
     let words = words(alloc, given.words)?;
     let mut source = MemSource::new(input, 77, given.source_fails.to_vec(alloc)?);
     let mut sink = MemSink::new(alloc, given.sink_piece, given.sink_fails.to_vec(alloc)?);
@@ -288,9 +208,9 @@ fn the_greatest_moment_is_the_last_tick_of_9999(rt: HostRuntime) -> Result<(), F
 }
 
 #[test]
-fn an_input_is_built_or_not(rt: HostRuntime) -> Result<(), Fail> {
+fn an_input_has_its_status(rt: HostRuntime) -> Result<(), Fail> {
     let alloc = rt.alloc();
-    for (input, want) in FORMS {
+    for (input, want) in INPUTS {
         assert_eq!(rt; call(alloc, &Given { input, ..PLAIN })?.status, want);
     }
     Ok(())
@@ -347,9 +267,25 @@ fn a_fault_leaves_what_was_put(rt: HostRuntime) -> Result<(), Fail> {
 #[test]
 fn four_mebibytes_may_come(rt: HostRuntime) -> Result<(), Fail> {
     let alloc = rt.alloc();
-    for (len, want) in [(4194304, Status::Unbuilt), (4194305, Status::Limit)] {
+    for (len, want) in [
+        (4194304, Status::Form { line: 1 }),
+        (4194305, Status::Limit),
+    ] {
         let input = vec![in alloc; b'a'; len]?;
         assert_eq!(rt; call_on(alloc, &PLAIN, input)?.status, want);
+    }
+    Ok(())
+}
+
+#[test]
+fn sessions_are_counted(rt: HostRuntime) -> Result<(), Fail> {
+    let alloc = rt.alloc();
+    for (count, want) in [(64, Status::Unbuilt { line: 2 }), (65, Status::Limit)] {
+        let mut input = String::new(alloc);
+        for session in 0..count {
+            input.push_str(format!(in alloc; "s{session}: COMMIT\n")?.as_str())?;
+        }
+        assert_eq!(rt; call_on(alloc, &PLAIN, input.into_bytes())?.status, want);
     }
     Ok(())
 }
