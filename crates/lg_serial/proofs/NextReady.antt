@@ -1,54 +1,20 @@
 -- After a script each transaction that has no events may begin: its place is behind that of the script.
 use Rattle.std.proofs.Common.{◌≡◌, ℕ, suc, inl, inr, refl, sym, subst, ◌∙◌, Bool, true, false, List, [], ◌∷◌, Option, Some, None, arith}
 use Rattle.std.proofs.lemmas.Bool.{eq-eqb, ne_eqb}
-use Rattle.std.proofs.lemmas.List.Sums.{sum_by-cons}
 use Rattle.std.specs.Prelude.{◌==◌, if◌then◌else◌, IfSome}
 use Rattle.std.specs.List.{AllByRecursion}
 use Rattle.lg_value.specs.declared.column.ColumnDef.{ColumnDef}
 use Rattle.lg_types.specs.declared.version.Table.{Table}
 use Rattle.lg_types.specs.declared.version.Version.{Version}
-use Rattle.lg_model.specs.Rows.{EventId, same_event}
+use Rattle.lg_model.specs.Rows.{EventId}
 use Rattle.lg_model.specs.Catalog.{Tables}
 use Rattle.lg_model.specs.Runs as run
 use Rattle.lg_model.proofs.Alls.{all_weaker, all_both}
-use Rattle.lg_runs.specs.Kept.{is_it, ends_with, count_in, count, count_all, IsNumbered, IsEarlier, EndsBefore, Apart, AllApart, IsPast, KeptTable, Kept}
-use Rattle.lg_runs.proofs.Counts.{same_parts}
-use Rattle.lg_runs.proofs.Keeping.{none_below}
-use Rattle.lg_runs.proofs.Tables.{table_count}
+use Rattle.lg_runs.specs.Kept.{IsEarlier, EndsBefore, Apart, AllApart, IsPast, KeptTable, Kept}
+use Rattle.lg_runs.proofs.Serials.{no_number}
 use Rattle.lg_serial.specs.declared.begun.Begun.{Begun}
 use Rattle.lg_serial.specs.Order.{IsNew, Steady, InOrder}
 use Rattle.lg_serial.specs.Seen.{state_of, machine_of}
-
--- ---- a transaction that hasn't begun has no events
-
-module _ (other n : ℕ) where
-  not_it : (e : EventId) (b : Bool) → same_event e (other, n) ≡ b → run.IsBefore other 0 e → is_it (other, n) e ≡ 0
-  not_it e true s h = absurd (omega (arith, h (same_parts e (other, n) s).0))
-  not_it e false s h = rw s refl
-
-  no_end : (o : Option EventId) → run.EndsBefore other 0 o → ends_with (other, n) o ≡ 0
-  no_end None h = refl
-  no_end (Some e) h = not_it e (same_event e (other, n)) refl h
-
-  none_in : (vs : List Version) → AllByRecursion (run.MadeBefore other 0) vs → count (other, n) vs ≡ 0
-  none_in [] h = refl
-  none_in (v ∷ vs) h =
-      let l = sum_by-cons (count_in (other, n)) v vs in
-      let s = not_it v.start (same_event v.start (other, n)) refl h.0.start in
-      let e = no_end v.end h.0.end in
-      let r = none_in vs h.1 in
-      omega (arith, l, s, e, r)
-
-  none_in_all : (T : Tables) → IsNew other T → count_all (other, n) T ≡ 0
-  none_in_all [] h = refl
-  none_in_all (t ∷ ts) h =
-      let l = sum_by-cons (table_count (other, n)) t ts in
-      let s = none_in t.versions h.0 in
-      let r = none_in_all ts h.1 in
-      omega (arith, l, s, r)
-
-no_number : (other : ℕ) (T : Tables) → IsNew other T → IsNumbered other 0 T
-no_number other T h n = none_in_all other n T h ∙ none_below n
 
 -- ---- its place
 
@@ -117,9 +83,10 @@ module _ (place : ℕ → ℕ) (tx other : ℕ) where
   next_ready seq T k new =
       let both : AllByRecursion (Both seq) T = all_both (λ t. AllByRecursion (run.MadeBefore other 0) t.versions) (λ t. run.SoundTable tx seq t × KeptTable place (tx, seq) t) T new
       (all_both (run.SoundTable tx seq) (KeptTable place (tx, seq)) T k.sound.each k.each) in
+      let sound : run.Sound other 0 T = record { ids = k.sound.ids; each = all_weaker (Both seq) (run.SoundTable other 0) (sound_table seq) T both } in
       record {
-        sound = record { ids = k.sound.ids; each = all_weaker (Both seq) (run.SoundTable other 0) (sound_table seq) T both };
-        own = no_number other T new;
+        sound = sound;
+        own = no_number other T sound;
         others = k.others;
         each = all_weaker (Both seq) (KeptTable next_place (other, 0)) (kept_table seq) T both;
       }
