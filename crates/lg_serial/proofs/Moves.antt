@@ -1,5 +1,5 @@
 -- Steps that change nothing.
-use Rattle.std.proofs.Common.{◌≡◌, refl, sym, ap, Option, Some, None}
+use Rattle.std.proofs.Common.{◌≡◌, refl, Option, Some}
 use Rattle.lg_model.specs.Catalog.{Tables}
 use Rattle.lg_serial.specs.Machine.{Running, Machine, moved}
 

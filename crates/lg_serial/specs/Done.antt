@@ -1,8 +1,7 @@
 -- What code answers of an effect that may lack memory.
-use Rattle.std.specs.Prelude.{ℕ, ◌≡◌, ◌≢◌, List, map, Option, Some, Result, Ok, Err}
+use Rattle.std.specs.Prelude.{ℕ, ◌≡◌, ◌≢◌, List, map, Some, Result, Ok, Err}
 use Rattle.lg_value.specs.declared.refusal.Refusal.{Refusal}
 use Rattle.lg_value.specs.declared.refusal.Refusal.TheVariants.{E30}
-use Rattle.lg_types.specs.declared.version.Table.{Table}
 use Rattle.lg_types.specs.declared.reply.Reply.TheVariants as r
 use Rattle.lg_types.specs.declared.statement.RowStmt.{RowStmt}
 use Rattle.lg_types.specs.declared.statement.Select.{Select}

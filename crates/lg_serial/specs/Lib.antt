@@ -1,3 +1,4 @@
+pub mod Again
 pub mod Done
 pub mod Machine
 pub mod Order

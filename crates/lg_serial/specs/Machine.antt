@@ -1,5 +1,5 @@
 -- The plain machine, as its contracts see it.
-use Rattle.std.specs.Prelude.{ℕ, Bool, List, Option, Some, None}
+use Rattle.std.specs.Prelude.{ℕ, Bool, Option, Some, None}
 use Rattle.lg_types.specs.declared.statement.Stmt.{Stmt}
 use Rattle.lg_model.specs.Catalog.{Tables}
 use Rattle.lg_model.specs.Script.{State, Step, start, by_statement}

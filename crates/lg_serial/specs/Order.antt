@@ -3,10 +3,9 @@ use Rattle.std.specs.Prelude.{ℕ, ◌≡◌, ◌≤◌, false, List, [], ◌∷
 use Rattle.std.specs.List.{AllByRecursion}
 use Rattle.lg_types.specs.declared.journal.JournalItem.{JournalItem}
 use Rattle.lg_types.specs.declared.journal.JournalItem.TheVariants.{Tx, Close}
-use Rattle.lg_types.specs.declared.version.Table.{Table}
 use Rattle.lg_model.specs.Catalog.{Tables}
 use Rattle.lg_model.specs.Runs.{MadeBefore}
-use Rattle.lg_model.specs.Script.{Saved, State}
+use Rattle.lg_model.specs.Script.{Saved}
 use Rattle.lg_model.specs.Undo.{undone}
 use Rattle.lg_runs.specs.Kept.{Kept}
 use Rattle.lg_runs.specs.Described.{Described}

@@ -1,7 +1,6 @@
 -- How the machine keeps what its contracts see: a savepoint by its number alone, and the tables before a script by the
 -- changes that the script made.
-use Rattle.std.specs.Prelude.{ℕ, ◌≤◌, List, [], ◌∷◌, map, length, Option, Some, None}
-use Rattle.lg_types.specs.declared.version.Table.{Table}
+use Rattle.std.specs.Prelude.{ℕ, ◌≤◌, [], ◌∷◌, map, length, Option, Some, None}
 use Rattle.lg_model.specs.Catalog.{Defs, Tables}
 use Rattle.lg_model.specs.Effect.{with_def}
 use Rattle.lg_model.specs.Script.{Saved, State}

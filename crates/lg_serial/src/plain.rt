@@ -2,20 +2,18 @@
 
 ghost use Rattle.std.specs.Prelude.{ℕ, ◌≡◌, ◌≢◌, IfOk, OnOk, Some, None, if◌then◌else◌};
 ghost use Rattle.lg_model.specs.Events.{all_events as events_left};
-ghost use Rattle.lg_model.specs.Journals.{after_item};
 ghost use Rattle.lg_model.specs.Replies.{reply_text as text_of};
 ghost use Rattle.lg_model.specs.SystemTables as system;
 ghost use Rattle.lg_parse.specs.Text.{statement_of};
 ghost use Rattle.lg_serial.specs.Machine.{Running, at_rest, begun, step_of, moved};
-ghost use Rattle.lg_serial.specs.Order.{IsNew, IsNewItem, InOrder};
-ghost use Rattle.lg_serial.specs.Verdict.{verdict};
+ghost use Rattle.lg_serial.specs.Order.{IsNew, InOrder};
 
 use crate::begun::Begun;
 use lg_items::{Items, Memory, Text, TxId};
 use lg_parse::{ParseErr, parse};
 use lg_reply::reply_text;
 use lg_tables::{all_events, first_tables};
-use lg_types::{Event, JournalItem, Reply, Script, Stmt, Table};
+use lg_types::{Event, Reply, Stmt, Table};
 use lg_value::Refusal;
 use std::alloc::Global;
 use std::marker::Model;
@@ -130,20 +128,6 @@ impl Plain {
         ensures events { (x : Running) → self.old.script ≡ Some x → IfOk result (λ events. events ≡ events_left x.tx x.state.tables) }
         ensures tables { (x : Running) → self.old.script ≡ Some x → OnOk result (self.new ≡ at_rest (if keep then x.state.tables else self.old.tables)) }
         ensures order { OnOk result (InOrder self.new) }
-    {
-        Err(Memory)
-    }
-
-    /// Runs an item of a journal over the tables so far, which lie before it in the journal: `Differs` names the first
-    /// statement whose kept reply isn't the machine's, or the number of statements where all agree and no event is left.
-    /// The closing of a block always agrees. After `Differs` the machine isn't to be used again.
-    pub fn run(&mut self, alloc: Global, item: &JournalItem) -> Result<PlainEnd, Memory>
-        requires rests { self.old.script ≡ None }
-        requires order { InOrder self.old }
-        requires new { IsNewItem item.now self.old.tables }
-        ensures verdict { IfOk result (λ end. end ≡ verdict statement_of self.old.tables item.now) }
-        ensures tables { IfOk result (λ end. end ≡ PlainEnd.Agrees → self.new ≡ at_rest (after_item statement_of self.old.tables item.now)) }
-        ensures order { IfOk result (λ end. end ≡ PlainEnd.Agrees → InOrder self.new) }
     {
         Err(Memory)
     }

@@ -1,0 +1,106 @@
+//! Running an item of a journal again.
+
+ghost use Rattle.std.specs.Prelude.{ℕ, ◌≡◌, ◌≢◌, List, map, IfOk, Some, None};
+ghost use Rattle.std.specs.Str.{bytes_eq};
+ghost use Rattle.lg_model.specs.Events.{all_events as events_left};
+ghost use Rattle.lg_model.specs.Journals.{Line, after_item};
+ghost use Rattle.lg_model.specs.Replies.{reply_text as text_of};
+ghost use Rattle.lg_model.specs.Script.{script as script_of};
+ghost use Rattle.lg_parse.specs.Text.{statement_of};
+ghost use Rattle.lg_serial.specs.Again.{goes_on};
+ghost use Rattle.lg_serial.specs.Machine.{Running, at_rest, step_of, moved};
+ghost use Rattle.lg_serial.specs.Order.{IsNew, IsNewItem, InOrder};
+ghost use Rattle.lg_serial.specs.Verdict.{first_difference as difference_of, judged, verdict};
+
+use crate::plain::{Plain, PlainEnd};
+use lg_items::{Memory, Text, TxId};
+use lg_types::JournalItem;
+use std::alloc::Global;
+
+impl Plain {
+    /// Runs an item of a journal over the tables so far, which lie before it in the journal: `Differs` names the first
+    /// statement whose kept reply isn't the machine's, or the number of statements where all agree and no event is left.
+    /// The closing of a block always agrees. After `Differs` the machine isn't to be used again.
+    #[tactic(auto, unfolding(crate::specs::Verdict::verdict))]
+    pub fn run(&mut self, alloc: Global, item: &JournalItem) -> Result<PlainEnd, Memory>
+        requires rests { self.old.script ≡ None }
+        requires order { InOrder self.old }
+        requires new { IsNewItem item.now self.old.tables }
+        ensures verdict { IfOk result (λ end. end ≡ verdict statement_of self.old.tables item.now) }
+        ensures tables { IfOk result (λ end. end ≡ PlainEnd.Agrees → self.new ≡ at_rest (after_item statement_of self.old.tables item.now)) }
+        ensures order { IfOk result (λ end. end ≡ PlainEnd.Agrees → InOrder self.new) }
+    {
+        match item {
+            JournalItem::Close(_) => Ok(PlainEnd::Agrees),
+            JournalItem::Tx {
+                id,
+                opened,
+                script,
+                ..
+            } => self.run_script(alloc, *opened, *id, script.as_slice()),
+        }
+    }
+
+    /// Runs a transaction's script. Where all replies agree it ends the script, which then has to have left an event.
+    fn run_script(
+        &mut self,
+        alloc: Global,
+        opened: bool,
+        tx: TxId,
+        script: &[(Text, Text)],
+    ) -> Result<PlainEnd, Memory>
+        requires rests { self.old.script ≡ None }
+        requires order { InOrder self.old }
+        requires new { IsNew tx self.old.tables }
+        ensures verdict { IfOk result (λ end. end ≡ judged tx script.now (script_of statement_of opened self.old.tables tx (map (λ l. l.0) script.now))) }
+        ensures tables { IfOk result (λ end. end ≡ PlainEnd.Agrees → self.new ≡ at_rest (script_of statement_of opened self.old.tables tx (map (λ l. l.0) script.now)).state.tables) }
+        ensures order { IfOk result (λ end. end ≡ PlainEnd.Agrees → InOrder self.new) }
+    {
+        self.begin(alloc, opened, tx);
+        if let Some(statement) = self.first_difference(alloc, script)? {
+            return Ok(PlainEnd::Differs { statement });
+        }
+        let events = self.end(alloc, true)?;
+        if events.is_empty() {
+            return Ok(PlainEnd::Differs {
+                statement: script.len() as u64,
+            });
+        }
+        Ok(PlainEnd::Agrees)
+    }
+
+    /// Executes a script's texts up to the first whose reply isn't the kept one, and answers its place.
+    fn first_difference(
+        &mut self,
+        alloc: Global,
+        script: &[(Text, Text)],
+    ) -> Result<Option<u64>, Memory>
+        requires begun { self.old.script ≢ None }
+        requires order { InOrder self.old }
+        ensures difference { (x : Running) → self.old.script ≡ Some x → IfOk result (λ found. found ≡ difference_of 0 script.now (goes_on x script.now).replies) }
+        ensures script { (x : Running) → self.old.script ≡ Some x → IfOk result (λ found. found ≡ None → self.new ≡ moved self.old x (goes_on x script.now).state) }
+        ensures order { IfOk result (λ found. found ≡ None → InOrder self.new) }
+    {
+        for (place, line) in script.iter().enumerate() {
+            if !self.agrees_with(alloc, line)? {
+                return Ok(Some(place as u64));
+            }
+        }
+        Ok(None)
+    }
+
+    /// Executes a text, and says whether its reply is the kept one.
+    #[tactic(auto, using(crate::proofs::Differences::still_begun))]
+    fn agrees_with(&mut self, alloc: Global, line: &(Text, Text)) -> Result<bool, Memory>
+        requires begun { self.old.script ≢ None }
+        requires order { InOrder self.old }
+        ensures reply { (x : Running) → self.old.script ≡ Some x → IfOk result (λ same. same ≡ bytes_eq line.now.1 (text_of (step_of x (statement_of line.now.0)).1)) }
+        ensures script { (x : Running) → self.old.script ≡ Some x → IfOk result (λ same. self.new ≡ moved self.old x (step_of x (statement_of line.now.0)).0) }
+        ensures order { IfOk result (λ same. InOrder self.new) }
+        ensures begun { IfOk result (λ same. self.new.script ≢ None) }
+    {
+        let (text, kept) = line;
+        let reply = self.execute(alloc, text.as_str())?;
+        Ok(*kept == reply)
+    }
+}
