@@ -1,7 +1,6 @@
 -- Laws on the lines of rows.
-use Rattle.std.proofs.Common.{◌≡◌, refl, sym, ap, ◌∙◌, List, [], ◌∷◌, ◌++◌, map, append-nil, append_assoc, ℕ, ◌≤◌, length, get_or, drop, arith}
+use Rattle.std.proofs.Common.{◌≡◌, sym, ap, ◌∙◌, List, [], ◌∷◌, ◌++◌, map, append-nil, append_assoc, ℕ, ◌≤◌, length, get_or, drop, arith}
 use Rattle.std.specs.Prelude.{flat_map}
-use Rattle.std.specs.List.{join_with_byte}
 use Rattle.lg_value.specs.declared.value.Value.{Value}
 use Rattle.lg_value.specs.Printed.{printed}
 use Rattle.lg_model.specs.Rows.{Row}
@@ -17,7 +16,7 @@ pub joined_parts : (row : Row) (first : Value) → 1 ≤ length row → first �
 joined_parts [] first some is = absurd (omega arith)
 joined_parts (v ∷ vs) first some is = ap (λ w. printed w ++ behind_bars vs) is ∙ joined v vs
 
-pub counted : (rows : List Row) (last : List ℕ) → flat_map (λ line. line ++ 10 ∷ []) (map row_line rows ++ last ∷ []) ≡ lines_of rows ++ (last ++ 10 ∷ [])
+pub counted : (indent : List ℕ) (rows : List Row) (last : List ℕ) → flat_map (λ line. indent ++ line ++ 10 ∷ []) (map row_line rows ++ last ∷ []) ≡ lines_of indent rows ++ (indent ++ last ++ 10 ∷ [])
 unfolding line_of
-counted [] last = append-nil (last ++ 10 ∷ [])
-counted (r ∷ rs) last = ap (λ l. (row_line r ++ 10 ∷ []) ++ l) (counted rs last) ∙ sym (append_assoc (row_line r ++ 10 ∷ []) (lines_of rs) (last ++ 10 ∷ []))
+counted indent [] last = append-nil (indent ++ last ++ 10 ∷ [])
+counted indent (r ∷ rs) last = ap (λ l. (indent ++ row_line r ++ 10 ∷ []) ++ l) (counted indent rs last) ∙ sym (append_assoc (indent ++ row_line r ++ 10 ∷ []) (lines_of indent rs) (indent ++ last ++ 10 ∷ []))

@@ -9,10 +9,10 @@ use Rattle.lg_model.specs.Replies.{row_line}
 abbrev pub behind_bars : List Value → List ℕ
 behind_bars values = flat_map (λ v. 124 ∷ printed v) values
 
--- the line of a row, with its end
-unfoldable pub line_of : Row → List ℕ
-line_of row = row_line row ++ 10 ∷ []
+-- the line of a row behind an indent, with its end
+unfoldable pub line_of : List ℕ → Row → List ℕ
+line_of indent row = indent ++ row_line row ++ 10 ∷ []
 
 -- the lines of some rows
-abbrev pub lines_of : List Row → List ℕ
-lines_of rows = flat_map line_of rows
+abbrev pub lines_of : List ℕ → List Row → List ℕ
+lines_of indent rows = flat_map (line_of indent) rows

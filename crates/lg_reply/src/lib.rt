@@ -6,7 +6,7 @@ mod text;
 mod utf8;
 
 pub use lg_types::Reply;
-pub use text::reply_text;
+pub use text::{indented_reply, reply_text};
 
 #[cfg(test)]
 mod tests;

@@ -49,35 +49,41 @@ fn push_joined(row: &[Value], scratch: &mut Vec<u8>, text: &mut String) -> Resul
     Ok(())
 }
 
-/// Appends the line of a row.
+/// Appends the line of a row, behind an indent.
 #[tactic(auto, unfolding(crate::specs::Lines::line_of))]
-fn push_row(row: &[Value], scratch: &mut Vec<u8>, text: &mut String) -> Result<(), Memory>
-    ensures { OnOk result (string_bytes text.new ≡ string_bytes text.old ++ line_of row.now) }
+fn push_row(
+    indent: &str,
+    row: &[Value],
+    scratch: &mut Vec<u8>,
+    text: &mut String,
+) -> Result<(), Memory>
+    ensures { OnOk result (string_bytes text.new ≡ string_bytes text.old ++ line_of indent.now row.now) }
 {
+    text.push_str(indent)?;
     push_joined(row, scratch, text)?;
     text.push_str("\n")?;
     Ok(())
 }
 
-/// Appends a line for each row.
-fn push_rows(alloc: Global, rows: &[Row], text: &mut String) -> Result<(), Memory>
-    ensures { OnOk result (string_bytes text.new ≡ string_bytes text.old ++ lines_of rows.now) }
+/// Appends a line for each row, each behind an indent.
+fn push_rows(alloc: Global, indent: &str, rows: &[Row], text: &mut String) -> Result<(), Memory>
+    ensures { OnOk result (string_bytes text.new ≡ string_bytes text.old ++ lines_of indent.now rows.now) }
 {
     let mut scratch = Vec::new(alloc);
     for row in rows {
-        push_row(row.as_slice(), &mut scratch, text)?;
+        push_row(indent, row.as_slice(), &mut scratch, text)?;
     }
     Ok(())
 }
 
-/// A line for each row, and then the count of the rows.
-pub fn counted_rows(alloc: Global, rows: &[Row]) -> Result<String, Memory>
-    ensures { IfOk result (λ text. string_bytes text ≡ lines_of rows.now ++ (spec.count_line (length rows.now) ++ 10 ∷ [])) }
+/// A line for each row, and then the count of the rows, each behind an indent.
+pub fn counted_rows(alloc: Global, indent: &str, rows: &[Row]) -> Result<String, Memory>
+    ensures { IfOk result (λ text. string_bytes text ≡ lines_of indent.now rows.now ++ (indent.now ++ spec.count_line (length rows.now) ++ 10 ∷ [])) }
 {
     let mut text = String::new(alloc);
-    push_rows(alloc, rows, &mut text)?;
+    push_rows(alloc, indent, rows, &mut text)?;
     let count = rows.len();
-    let last = format!(in alloc; "{count} rows\n")?;
+    let last = format!(in alloc; "{indent}{count} rows\n")?;
     text.push_str(last.as_str())?;
     Ok(text)
 }
