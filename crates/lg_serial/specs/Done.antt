@@ -3,21 +3,22 @@ use Rattle.std.specs.Prelude.{ℕ, ◌≡◌, ◌≢◌, List, map, Some, Result
 use Rattle.lg_value.specs.declared.refusal.Refusal.{Refusal}
 use Rattle.lg_value.specs.declared.refusal.Refusal.TheVariants.{E30}
 use Rattle.lg_types.specs.declared.reply.Reply.TheVariants as r
+use Rattle.lg_types.specs.declared.statement.Stmt.{Stmt}
 use Rattle.lg_types.specs.declared.statement.RowStmt.{RowStmt}
 use Rattle.lg_types.specs.declared.statement.Select.{Select}
 use Rattle.lg_model.specs.Refusals.{Checked, and_then}
 use Rattle.lg_model.specs.Rows.{Row}
-use Rattle.lg_model.specs.Catalog.{Tables, defs_of, versions_of}
+use Rattle.lg_model.specs.Catalog.{Defs, Tables, defs_of, versions_of}
 use Rattle.lg_model.specs.Changes.{Changes, row_changes}
 use Rattle.lg_model.specs.Checks.{row_statement_check}
 use Rattle.lg_model.specs.Query.{query_check}
-use Rattle.lg_model.specs.Effect.{Effect, query_rows}
+use Rattle.lg_model.specs.Effect.{Effect, effect, query_rows}
 use Rattle.lg_runs.specs.Kept.{Kept}
 use Rattle.lg_runs.specs.Described.{Described}
 use Rattle.lg_rows.specs.Changes.{change_of}
 use Rattle.lg_items.specs.declared.memory.Memory.{Memory}
 use Rattle.lg_types.specs.declared.reply.Reply.{Reply}
-use Rattle.lg_model.specs.Script.{Step}
+use Rattle.lg_model.specs.Script.{State, Step, by_effect}
 use Rattle.lg_serial.specs.declared.begun.Begun.{Begun}
 use Rattle.lg_serial.specs.declared.effect.Done.{Done}
 use Rattle.lg_serial.specs.Machine.{moved}
@@ -49,6 +50,17 @@ abbrev pub rows_shown : Tables → Select → Checked (List Row)
 rows_shown tables q = and_then (query_check (defs_of tables) q) (λ n. query_rows q n (versions_of tables n.0.id))
 
 -- ---- in a script
+
+-- the effect that is meant, with the script's counter and these definitions to restore after it; or a refusal that leaves
+-- everything; or that there is no more memory
+abbrev pub CarriesOut : Effect → Option Defs → Tables → Begun → Tables → Begun → Result Reply Refusal → Type 0
+CarriesOut e defs T b U c (Ok reply) =
+    (e ≡ record { tables = U; seq = c.seq; reply = reply }) × (c ≡ record { tx = b.tx; opened = b.opened; seq = c.seq; saved = b.saved; defs = defs })
+CarriesOut e defs T b U c (Err refusal) = refusal ≢ E30 → (e ≡ record { tables = T; seq = b.seq; reply = r.Refused refusal }) × (U ≡ T) × (c ≡ b)
+
+-- the step that a table statement makes
+abbrev pub carried : ℕ → State → Stmt → Step
+carried tx x stmt = by_effect x (effect x.tables tx x.seq stmt)
 
 -- the machine after a step
 pub record Stepped (T : Tables) (b : Begun) (U : Tables) (c : Begun) (step : Step) (reply : Reply) : Type 0 where

@@ -122,6 +122,7 @@ impl Plain {
 
     /// Ends the script and answers the starts and ends that it left, by table and number. The tables are then those after
     /// the script where it is to be kept, and else those before it. Looks at each version once or twice.
+    #[tactic(auto, unfolding(crate::specs::Seen::state_of), using(crate::proofs::Ended::short))]
     pub fn end(&mut self, alloc: Global, keep: bool) -> Result<Items<Event>, Memory>
         requires begun { self.old.script ≢ None }
         requires order { InOrder self.old }
@@ -129,6 +130,13 @@ impl Plain {
         ensures tables { (x : Running) → self.old.script ≡ Some x → OnOk result (self.new ≡ at_rest (if keep then x.state.tables else self.old.tables)) }
         ensures order { OnOk result (InOrder self.new) }
     {
-        Err(Memory)
+        let Some(begun) = self.begun.take() else {
+            unreachable!()
+        };
+        let events = all_events(alloc, begun.tx, &self.tables)?;
+        if !keep {
+            begun.take_back(alloc, &mut self.tables);
+        }
+        Ok(events)
     }
 }
