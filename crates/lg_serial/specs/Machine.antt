@@ -13,7 +13,7 @@ pub record Running : Type 0 where
   pub state : State
 
 pub record Machine : Type 0 where
-  -- the tables after all scripts that ended
+  -- the tables after all scripts that were kept
   pub tables : Tables
   -- the script that is begun over them, if one is
   pub script : Option Running

@@ -15,7 +15,7 @@ use Rattle.lg_serial.specs.Machine.{Running, Machine}
 abbrev pub IsNew : ℕ → Tables → Type 0
 IsNew tx tables = AllByRecursion (λ t. AllByRecursion (MadeBefore tx 0) t.versions) tables
 
--- a transaction that has none of these versions yet
+-- an item whose transaction has no event in these tables, or a closing
 abbrev pub IsNewItem : JournalItem → Tables → Type 0
 IsNewItem (Tx id session time opened lines) tables = IsNew id tables
 IsNewItem (Close k) tables = Unit {0}

@@ -1,6 +1,6 @@
 //! What a statement does.
 
-ghost use Rattle.std.specs.Prelude.{◌≡◌, ◌+◌, IfOk};
+ghost use Rattle.std.specs.Prelude.{◌≡◌, ◌+◌, ◌<◌, ◌^◌, IfOk};
 ghost use Rattle.lg_model.specs.Effect as spec;
 ghost use Rattle.lg_serial.specs.Done.{Does, IsReady};
 
@@ -20,11 +20,15 @@ pub(crate) struct Done {
     pub reply: Reply,
 }
 
-/// The number behind so many events. More events than it can count are more than there is memory for.
+/// The number behind so many events, below 2^63. As many events as that are more than there is memory for.
 pub(crate) fn counted(seq: u64, events: usize) -> Result<u64, Memory>
-    ensures { IfOk result (λ next. next ≡ seq + events) }
+    ensures number { IfOk result (λ next. next ≡ seq + events) }
+    ensures below { IfOk result (λ next. next < 2 ^ 63) }
 {
-    seq.checked_add(events as u64).ok_or(Memory)
+    match seq.checked_add(events as u64) {
+        Some(next) if next < 1 << 63 => Ok(next),
+        _ => Err(Memory),
+    }
 }
 
 /// What a statement of transaction `tx`, whose next event has the number `seq`, does to the tables. A refusal leaves
