@@ -7,7 +7,9 @@ mod catalog;
 mod changing;
 mod creating;
 mod effect;
+mod laws;
 mod plain;
 mod showing;
 
+pub use laws::{differs_names_the_first, run_agrees_with_legal_items};
 pub use plain::{Plain, PlainEnd};
