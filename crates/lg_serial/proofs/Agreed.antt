@@ -1,4 +1,4 @@
--- What a verdict says of a script and the replies that are kept of it.
+-- What a run_end says of a script and the replies that are kept of it.
 use Rattle.std.proofs.Common.{◌≡◌, ◌≢◌, ◌<◌, ℕ, zero, suc, ◌+◌, refl, subst, ◌∙◌, Bool, true, false, List, [], ◌∷◌, map, length, Option, Some, None, inl, inr, arith}
 use Rattle.std.specs.Prelude.{◌⊎◌}
 use Rattle.std.proofs.lemmas.Option.{slice_get_within}
@@ -15,7 +15,7 @@ use Rattle.lg_model.specs.Journals.{Line, AgreesWith}
 use Rattle.lg_model.specs.Replies.{reply_text}
 use Rattle.lg_model.specs.Script.{Reading, State, ScriptEnd, start, text_step, script_from, script}
 use Rattle.lg_serial.specs.Again.{IsFirst}
-use Rattle.lg_serial.specs.Verdict.{first_difference, ends_so, judged, verdict}
+use Rattle.lg_serial.specs.RunEnd.{first_difference, ends_so, judged, run_end}
 use Rattle.lg_serial.specs.declared.plain.PlainEnd.TheVariants.{Agrees, Differs}
 use Rattle.lg_serial.proofs.Differences.{judged_agreeing}
 
@@ -61,7 +61,7 @@ first_found n found (l ∷ ls) (r ∷ rs) k e = here (bytes_eq l.1 (reply_text r
       record { before = refl; line = l; line_is = refl; reply = r; reply_is = refl; differs = not_from_Decides (bytes_eq l.1 (reply_text r)) (bytes_eq-Decides l.1 (reply_text r)) h },
     ))
 
--- ---- verdicts
+-- ---- how items end
 
 module _ (id : ℕ) (lines : List Line) (o : ScriptEnd) (k : length o.replies ≡ length lines) where
   agreed : (d : Option ℕ) (es : List Event) → ends_so (length lines) d es ≡ Agrees → (d ≡ None) × (es ≢ [])
@@ -100,21 +100,21 @@ module _ (reads : Reading) (tables : Tables) (id : ℕ) (session : List ℕ) (ti
   replies_of : length (script reads opened tables id (map (λ l. l.0) lines)).replies ≡ length lines
   replies_of = as_many reads opened id (start tables) (map (λ l. l.0) lines) ∙ length-map lines (λ l. l.0)
 
-  pub agreeing_there : verdict reads tables (Tx id session time opened lines) ≡ Agrees → AgreesWith reads tables id opened lines (script reads opened tables id (map (λ l. l.0) lines))
-  unfolding verdict
+  pub agreeing_there : run_end reads tables (Tx id session time opened lines) ≡ Agrees → AgreesWith reads tables id opened lines (script reads opened tables id (map (λ l. l.0) lines))
+  unfolding run_end
   agreeing_there e = agreeing id lines (script reads opened tables id (map (λ l. l.0) lines)) replies_of reads opened tables e
 
-  pub agreeing_back : AgreesWith reads tables id opened lines (script reads opened tables id (map (λ l. l.0) lines)) → verdict reads tables (Tx id session time opened lines) ≡ Agrees
-  unfolding verdict
+  pub agreeing_back : AgreesWith reads tables id opened lines (script reads opened tables id (map (λ l. l.0) lines)) → run_end reads tables (Tx id session time opened lines) ≡ Agrees
+  unfolding run_end
   agreeing_back a =
       let o : ScriptEnd = script reads opened tables id (map (λ l. l.0) lines) in
       judged_agreeing id lines o (no_difference 0 lines o.replies a.replies) a.events
 
-  pub first_named : (n : ℕ) → verdict reads tables (Tx id session time opened lines) ≡ Differs n → n < length lines → IsFirst n lines (script reads opened tables id (map (λ l. l.0) lines)).replies
-  unfolding verdict
+  pub first_named : (n : ℕ) → run_end reads tables (Tx id session time opened lines) ≡ Differs n → n < length lines → IsFirst n lines (script reads opened tables id (map (λ l. l.0) lines)).replies
+  unfolding run_end
   first_named n e short = differing id lines (script reads opened tables id (map (λ l. l.0) lines)) replies_of n e short
 
-  pub none_named : verdict reads tables (Tx id session time opened lines) ≡ Differs (length lines)
+  pub none_named : run_end reads tables (Tx id session time opened lines) ≡ Differs (length lines)
       → (map (λ l. l.1) lines ≡ map reply_text (script reads opened tables id (map (λ l. l.0) lines)).replies) × (all_events id (script reads opened tables id (map (λ l. l.0) lines)).state.tables ≡ [])
-  unfolding verdict
+  unfolding run_end
   none_named e = left_nothing id lines (script reads opened tables id (map (λ l. l.0) lines)) replies_of e

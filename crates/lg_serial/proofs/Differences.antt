@@ -12,7 +12,7 @@ use Rattle.lg_model.specs.Script.{State, ScriptEnd, start, with_reply, text_step
 use Rattle.lg_parse.specs.Text.{statement_of}
 use Rattle.lg_serial.specs.Again.{goes_on}
 use Rattle.lg_serial.specs.Machine.{Running, Machine, begun, step_of, moved}
-use Rattle.lg_serial.specs.Verdict.{first_difference, left_by, judged}
+use Rattle.lg_serial.specs.RunEnd.{first_difference, left_by, judged}
 use Rattle.lg_serial.specs.declared.plain.PlainEnd.TheVariants.{Agrees, Differs}
 use Rattle.lg_serial.proofs.Moves.{stays}
 

@@ -1,5 +1,5 @@
 -- After a script each transaction that has no events may begin: its place is behind that of the script.
-use Rattle.std.proofs.Common.{◌≡◌, ℕ, suc, inl, inr, refl, sym, subst, ◌∙◌, Bool, true, false, List, [], ◌∷◌, Option, Some, None, arith}
+use Rattle.std.proofs.Common.{◌≡◌, ℕ, suc, inl, inr, refl, sym, subst, ◌∙◌, List, [], ◌∷◌, Option, Some, None, arith}
 use Rattle.std.proofs.lemmas.Bool.{eq-eqb, ne_eqb}
 use Rattle.std.specs.Prelude.{◌==◌, if◌then◌else◌, IfSome}
 use Rattle.std.specs.List.{AllByRecursion}

@@ -9,7 +9,7 @@ use Rattle.lg_types.specs.declared.table.TableDef.{TableDef}
 use Rattle.lg_model.specs.Catalog.{Tables, defs_of}
 use Rattle.lg_model.specs.SystemTables.{first_tables}
 use Rattle.lg_model.specs.Agreement.{IdsFrom}
-use Rattle.lg_model.specs.Runs.{Sound}
+use Rattle.lg_model.specs.Runs.{MadeBefore, SoundTable, Sound}
 use Rattle.lg_model.proofs.Alls.{all_weaker, all_both}
 use Rattle.lg_runs.specs.Fits.{Fits}
 use Rattle.lg_runs.specs.Kept.{KeptTable}
@@ -17,7 +17,7 @@ use Rattle.lg_runs.proofs.DefLists.{all_defs}
 use Rattle.lg_runs.proofs.Keeping.{first_kept, first_described}
 use Rattle.lg_tables.specs.Short.{IsShort, AreShort}
 use Rattle.lg_serial.specs.declared.begun.Begun.{Begun}
-use Rattle.lg_serial.specs.Order.{Steady, InOrder}
+use Rattle.lg_serial.specs.Order.{IsNew, Steady, InOrder}
 use Rattle.lg_serial.specs.Seen.{state_of, before, machine_of}
 use Rattle.lg_serial.specs.Machine.{at_rest}
 use Rattle.lg_serial.specs.Done.{IsReady}
@@ -71,3 +71,7 @@ module _ (tx seq : ℕ) (T : Tables) (h : IsReady tx seq T) where
   ready_short =
       all_weaker (λ t. (length t.def.columns ≤ 64) × KeptTable h.0.0 (tx, seq) t) (λ t. AllByRecursion IsShort t.versions) short_table T
       (all_both (λ t. length t.def.columns ≤ 64) (KeptTable h.0.0 (tx, seq)) T (all_defs (λ (def : TableDef). length def.columns ≤ 64) T h.1.few) h.0.1.each)
+
+-- a transaction that hasn't begun has no event in tables that are sound for it
+pub sound_new : (tx : ℕ) (T : Tables) → Sound tx 0 T → IsNew tx T
+sound_new tx T h = all_weaker (SoundTable tx 0) (λ (t : Table). AllByRecursion (MadeBefore tx 0) t.versions) (λ t k. k.before) T h.each

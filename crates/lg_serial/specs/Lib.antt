@@ -3,4 +3,4 @@ pub mod Done
 pub mod Machine
 pub mod Order
 pub mod Seen
-pub mod Verdict
+pub mod RunEnd

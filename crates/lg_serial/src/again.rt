@@ -10,7 +10,7 @@ ghost use Rattle.lg_parse.specs.Text.{statement_of};
 ghost use Rattle.lg_serial.specs.Again.{goes_on};
 ghost use Rattle.lg_serial.specs.Machine.{Running, at_rest, step_of, moved};
 ghost use Rattle.lg_serial.specs.Order.{IsNew, IsNewItem, InOrder};
-ghost use Rattle.lg_serial.specs.Verdict.{first_difference as difference_of, judged, verdict};
+ghost use Rattle.lg_serial.specs.RunEnd.{first_difference as difference_of, judged, run_end};
 
 use crate::plain::{Plain, PlainEnd};
 use lg_items::{Memory, Text, TxId};
@@ -21,12 +21,12 @@ impl Plain {
     /// Runs an item of a journal over the tables so far, which lie before it in the journal: `Differs` names the first
     /// statement whose kept reply isn't the machine's, or the number of statements where all agree and no event is left.
     /// The closing of a block always agrees. After `Differs` the machine isn't to be used again.
-    #[tactic(auto, unfolding(crate::specs::Verdict::verdict))]
+    #[tactic(auto, unfolding(crate::specs::RunEnd::run_end))]
     pub fn run(&mut self, alloc: Global, item: &JournalItem) -> Result<PlainEnd, Memory>
         requires rests { self.old.script ≡ None }
         requires order { InOrder self.old }
         requires new { IsNewItem item.now self.old.tables }
-        ensures verdict { IfOk result (λ end. end ≡ verdict statement_of self.old.tables item.now) }
+        ensures end { IfOk result (λ end. end ≡ run_end statement_of self.old.tables item.now) }
         ensures tables { IfOk result (λ end. end ≡ PlainEnd.Agrees → self.new ≡ at_rest (after_item statement_of self.old.tables item.now)) }
         ensures order { IfOk result (λ end. end ≡ PlainEnd.Agrees → InOrder self.new) }
     {
@@ -52,7 +52,7 @@ impl Plain {
         requires rests { self.old.script ≡ None }
         requires order { InOrder self.old }
         requires new { IsNew tx self.old.tables }
-        ensures verdict { IfOk result (λ end. end ≡ judged tx script.now (script_of statement_of opened self.old.tables tx (map (λ l. l.0) script.now))) }
+        ensures end { IfOk result (λ end. end ≡ judged tx script.now (script_of statement_of opened self.old.tables tx (map (λ l. l.0) script.now))) }
         ensures tables { IfOk result (λ end. end ≡ PlainEnd.Agrees → self.new ≡ at_rest (script_of statement_of opened self.old.tables tx (map (λ l. l.0) script.now)).state.tables) }
         ensures order { IfOk result (λ end. end ≡ PlainEnd.Agrees → InOrder self.new) }
     {

@@ -11,5 +11,5 @@ mod laws;
 mod plain;
 mod showing;
 
-pub use laws::{differs_names_the_first, run_agrees_with_legal_items};
+pub use laws::{differs_names_the_first, run_agrees_with_legal_items, sound_tables_have_no_event};
 pub use plain::{Plain, PlainEnd};

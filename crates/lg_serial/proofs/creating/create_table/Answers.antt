@@ -1,6 +1,5 @@
 use Rattle.std.proofs.Common.{◌≡◌, ◌++◌, ◌∷◌, ◌∙◌, List, [], Ok, ap, sym, arith, map}
 use Rattle.std.proofs.lemmas.List.{length-map}
-use Rattle.lg_types.specs.declared.version.Table.{Table}
 use Rattle.lg_types.specs.declared.version.Version.{Version}
 use Rattle.lg_model.specs.Catalog.{Tables, defs_of}
 use Rattle.lg_model.specs.Create.{create_check}

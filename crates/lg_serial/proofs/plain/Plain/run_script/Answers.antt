@@ -4,8 +4,8 @@ use Rattle.lg_parse.specs.Text.{statement_of}
 use Rattle.lg_serial.proofs.Differences.{at, newly, begun_newly, moved_on, some_script, none_else, judged_differing, judged_empty, judged_agreeing}
 use Rattle.lg_serial.proofs.plain.Plain.run_script.Goals as goal
 
-pub returns-in-Some-clause-verdict : goal.returns-in-Some-clause-verdict
-returns-in-Some-clause-verdict c =
+pub returns-in-Some-clause-end : goal.returns-in-Some-clause-end
+returns-in-Some-clause-end c =
     let T = c.args.self.now.tables in
     let begun = begun_newly c.begin.new.self c.args.tx c.args.opened T c.begin.ensures.script in
     let o = script_of statement_of c.args.opened T c.args.tx (map (λ l. l.0) c.args.script.now) in
@@ -21,8 +21,8 @@ end-requires-clause-begun c =
     let went = c.in_ok-statement.ensures.script x begun (none_else c.in_ok-statement.field-0 c.in_default.not-Some) in
     some_script c.first_difference.new.self (at x o.state) (moved_on c.first_difference.new.self c.begin.new.self x o.state went)
 
-pub returns-then-is_empty-clause-verdict : goal.returns-then-is_empty-clause-verdict
-returns-then-is_empty-clause-verdict c =
+pub returns-then-is_empty-clause-end : goal.returns-then-is_empty-clause-end
+returns-then-is_empty-clause-end c =
     let T = c.args.self.now.tables in
     let x = newly c.args.tx c.args.opened T in
     let begun = begun_newly c.begin.new.self c.args.tx c.args.opened T c.begin.ensures.script in
@@ -32,8 +32,8 @@ returns-then-is_empty-clause-verdict c =
     let events = c.in_ok-events.ensures.events (at x o.state) (moved_on c.first_difference.new.self c.begin.new.self x o.state went) in
     sym (judged_empty c.args.tx c.args.script.now o (sym (c.in_ok-statement.ensures.difference x begun) ∙ none) (sym events ∙ c.if-is_empty.ensures.0 refl))
 
-pub returns-clause-verdict : goal.returns-clause-verdict
-returns-clause-verdict c =
+pub returns-clause-end : goal.returns-clause-end
+returns-clause-end c =
     let T = c.args.self.now.tables in
     let x = newly c.args.tx c.args.opened T in
     let begun = begun_newly c.begin.new.self c.args.tx c.args.opened T c.begin.ensures.script in

@@ -32,6 +32,6 @@ abbrev pub judged : ℕ → List Line → ScriptEnd → PlainEnd
 judged id lines o = ends_so (length lines) (first_difference 0 lines o.replies) (all_events id o.state.tables)
 
 module _ (reads : Reading) where
-  unfoldable pub verdict : Tables → JournalItem → PlainEnd
-  verdict tables (Tx id session time opened lines) = judged id lines (script reads opened tables id (map (λ l. l.0) lines))
-  verdict tables (Close k) = Agrees
+  unfoldable pub run_end : Tables → JournalItem → PlainEnd
+  run_end tables (Tx id session time opened lines) = judged id lines (script reads opened tables id (map (λ l. l.0) lines))
+  run_end tables (Close k) = Agrees
