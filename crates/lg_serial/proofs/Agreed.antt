@@ -15,9 +15,8 @@ use Rattle.lg_model.specs.Journals.{Line, AgreesWith}
 use Rattle.lg_model.specs.Replies.{reply_text}
 use Rattle.lg_model.specs.Script.{Reading, State, ScriptEnd, start, text_step, script_from, script}
 use Rattle.lg_serial.specs.Again.{IsFirst}
-use Rattle.lg_serial.specs.RunEnd.{first_difference, ends_so, judged, run_end}
+use Rattle.lg_serial.specs.RunEnd.{first_difference, left_by, ends_so, judged, run_end}
 use Rattle.lg_serial.specs.declared.plain.PlainEnd.TheVariants.{Agrees, Differs}
-use Rattle.lg_serial.proofs.Differences.{judged_agreeing}
 
 -- ---- lists of replies
 
@@ -69,6 +68,13 @@ module _ (id : ℕ) (lines : List Line) (o : ScriptEnd) (k : length o.replies �
   agreed None (x ∷ xs) e = (refl, λ empty. cc)
   agreed (Some n) es e = cc
 
+  agrees : first_difference 0 lines o.replies ≡ None → all_events id o.state.tables ≢ [] → judged id lines o ≡ Agrees
+  agrees e f = rw e (here (all_events id o.state.tables) f)
+    where
+      here : (es : List Event) → es ≢ [] → left_by (length lines) es ≡ Agrees
+      here [] h = absurd (h refl)
+      here (x ∷ xs) h = refl
+
   differed : (n : ℕ) (d : Option ℕ) (es : List Event) → ends_so (length lines) d es ≡ Differs n → (d ≡ Some n) ⊎ ((d ≡ None) × (es ≡ []) × (length lines ≡ n))
   differed n None [] e = inr (refl, refl, cc)
   differed n None (x ∷ xs) e = cc
@@ -108,7 +114,7 @@ module _ (reads : Reading) (tables : Tables) (id : ℕ) (session : List ℕ) (ti
   unfolding run_end
   agreeing_back a =
       let o : ScriptEnd = script reads opened tables id (map (λ l. l.0) lines) in
-      judged_agreeing id lines o (no_difference 0 lines o.replies a.replies) a.events
+      agrees id lines o replies_of (no_difference 0 lines o.replies a.replies) a.events
 
   pub first_named : (n : ℕ) → run_end reads tables (Tx id session time opened lines) ≡ Differs n → n < length lines → IsFirst n lines (script reads opened tables id (map (λ l. l.0) lines)).replies
   unfolding run_end

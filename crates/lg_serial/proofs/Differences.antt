@@ -2,7 +2,6 @@
 use Rattle.std.proofs.Common.{◌≡◌, ◌≢◌, ℕ, ◌+◌, refl, sym, ap, ◌∙◌, Bool, true, false, List, [], ◌∷◌, drop, length, Option, Some, None}
 use Rattle.std.specs.Prelude.{if◌then◌else◌}
 use Rattle.std.specs.Str.{bytes_eq}
-use Rattle.lg_types.specs.declared.event.Event.{Event}
 use Rattle.lg_types.specs.declared.statement.Stmt.{Stmt}
 use Rattle.lg_model.specs.Events.{all_events}
 use Rattle.lg_model.specs.Journals.{Line}
@@ -13,7 +12,7 @@ use Rattle.lg_parse.specs.Text.{statement_of}
 use Rattle.lg_serial.specs.Again.{goes_on}
 use Rattle.lg_serial.specs.Machine.{Running, Machine, begun, step_of, moved}
 use Rattle.lg_serial.specs.RunEnd.{first_difference, left_by, judged}
-use Rattle.lg_serial.specs.declared.plain.PlainEnd.TheVariants.{Agrees, Differs}
+use Rattle.lg_serial.specs.declared.plain.PlainEnd.TheVariants.{Differs}
 use Rattle.lg_serial.proofs.Moves.{stays}
 
 -- a step doesn't end a script
@@ -90,15 +89,8 @@ module _ (id : ℕ) (lines : List Line) (o : ScriptEnd) where
   pub judged_differing : (n : ℕ) → first_difference 0 lines o.replies ≡ Some n → judged id lines o ≡ Differs n
   judged_differing n e = rw e refl
 
-  pub judged_empty : first_difference 0 lines o.replies ≡ None → all_events id o.state.tables ≡ [] → judged id lines o ≡ Differs (length lines)
-  judged_empty e f = rw e (rw f refl)
-
-  pub judged_agreeing : first_difference 0 lines o.replies ≡ None → all_events id o.state.tables ≢ [] → judged id lines o ≡ Agrees
-  judged_agreeing e f = rw e (here (all_events id o.state.tables) f)
-    where
-      here : (es : List Event) → es ≢ [] → left_by (length lines) es ≡ Agrees
-      here [] h = absurd (h refl)
-      here (x ∷ xs) h = refl
+  pub judged_ended : first_difference 0 lines o.replies ≡ None → judged id lines o ≡ left_by (length lines) (all_events id o.state.tables)
+  judged_ended e = rw e refl
 
 -- ---- a script from its beginning
 

@@ -10,15 +10,25 @@ ghost use Rattle.lg_parse.specs.Text.{statement_of};
 ghost use Rattle.lg_serial.specs.Again.{goes_on};
 ghost use Rattle.lg_serial.specs.Machine.{Running, at_rest, step_of, moved};
 ghost use Rattle.lg_serial.specs.Order.{IsNew, IsNewItem, InOrder};
-ghost use Rattle.lg_serial.specs.RunEnd.{first_difference as difference_of, judged, run_end};
+ghost use Rattle.lg_serial.specs.RunEnd.{first_difference as difference_of, left_by as end_by, judged, run_end};
 
 use crate::plain::{Plain, PlainEnd};
 use lg_items::{Memory, Text, TxId};
-use lg_types::JournalItem;
+use lg_types::{Event, JournalItem};
 use std::alloc::Global;
 
+/// What a script of so many statements comes to that left these events, where all replies agree.
+fn left_by(statement: u64, events: &[Event]) -> PlainEnd
+    ensures { result ≡ end_by statement events.now }
+{
+    match events {
+        [] => PlainEnd::Differs { statement },
+        _ => PlainEnd::Agrees,
+    }
+}
+
 impl Plain {
-    /// Runs an item of a journal over the tables so far, which lie before it in the journal: `Differs` names the first
+    /// Runs an item of a journal over the tables to which the items before it led: `Differs` names the first
     /// statement whose kept reply isn't the machine's, or the number of statements where all agree and no event is left.
     /// The closing of a block always agrees. After `Differs` the machine isn't to be used again.
     #[tactic(auto, unfolding(crate::specs::RunEnd::run_end))]
@@ -61,12 +71,7 @@ impl Plain {
             return Ok(PlainEnd::Differs { statement });
         }
         let events = self.end(alloc, true)?;
-        if events.is_empty() {
-            return Ok(PlainEnd::Differs {
-                statement: script.len() as u64,
-            });
-        }
-        Ok(PlainEnd::Agrees)
+        Ok(left_by(script.len() as u64, events.as_slice()))
     }
 
     /// Executes a script's texts up to the first whose reply isn't the kept one, and answers its place.

@@ -1,7 +1,8 @@
-use Rattle.std.proofs.Common.{◌≡◌, ◌∙◌, refl, sym, true, false, map}
+use Rattle.std.proofs.Common.{ap, length, ◌∙◌, sym, map}
 use Rattle.lg_model.specs.Script.{script as script_of}
 use Rattle.lg_parse.specs.Text.{statement_of}
-use Rattle.lg_serial.proofs.Differences.{at, newly, begun_newly, moved_on, some_script, none_else, judged_differing, judged_empty, judged_agreeing}
+use Rattle.lg_serial.specs.RunEnd.{left_by}
+use Rattle.lg_serial.proofs.Differences.{at, newly, begun_newly, moved_on, some_script, none_else, judged_differing, judged_ended}
 use Rattle.lg_serial.proofs.plain.Plain.run_script.Goals as goal
 
 pub returns-in-Some-clause-end : goal.returns-in-Some-clause-end
@@ -21,17 +22,6 @@ end-requires-clause-begun c =
     let went = c.in_ok-statement.ensures.script x begun (none_else c.in_ok-statement.field-0 c.in_default.not-Some) in
     some_script c.first_difference.new.self (at x o.state) (moved_on c.first_difference.new.self c.begin.new.self x o.state went)
 
-pub returns-then-is_empty-clause-end : goal.returns-then-is_empty-clause-end
-returns-then-is_empty-clause-end c =
-    let T = c.args.self.now.tables in
-    let x = newly c.args.tx c.args.opened T in
-    let begun = begun_newly c.begin.new.self c.args.tx c.args.opened T c.begin.ensures.script in
-    let o = script_of statement_of c.args.opened T c.args.tx (map (λ l. l.0) c.args.script.now) in
-    let none = none_else c.in_ok-statement.field-0 c.in_default.not-Some in
-    let went = c.in_ok-statement.ensures.script x begun none in
-    let events = c.in_ok-events.ensures.events (at x o.state) (moved_on c.first_difference.new.self c.begin.new.self x o.state went) in
-    sym (judged_empty c.args.tx c.args.script.now o (sym (c.in_ok-statement.ensures.difference x begun) ∙ none) (sym events ∙ c.if-is_empty.ensures.0 refl))
-
 pub returns-clause-end : goal.returns-clause-end
 returns-clause-end c =
     let T = c.args.self.now.tables in
@@ -41,8 +31,8 @@ returns-clause-end c =
     let none = none_else c.in_ok-statement.field-0 c.in_default.not-Some in
     let went = c.in_ok-statement.ensures.script x begun none in
     let events = c.in_ok-events.ensures.events (at x o.state) (moved_on c.first_difference.new.self c.begin.new.self x o.state went) in
-    sym (judged_agreeing c.args.tx c.args.script.now o (sym (c.in_ok-statement.ensures.difference x begun) ∙ none)
-    (λ e. (let no : false ≡ true = c.if-is_empty.ensures.1 (events ∙ e) in cc)))
+    let same = ap (left_by (length c.args.script.now)) (c.as_slice.ensures ∙ events) in
+    c.left_by.ensures ∙ same ∙ sym (judged_ended c.args.tx c.args.script.now o (sym (c.in_ok-statement.ensures.difference x begun) ∙ none))
 
 pub returns-clause-tables : goal.returns-clause-tables
 returns-clause-tables c = λ agrees.
