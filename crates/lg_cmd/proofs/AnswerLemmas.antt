@@ -13,14 +13,13 @@ use Rattle.lg_journal.specs.Journal.{journal_bytes}
 use Rattle.lg_journal.specs.Rules.{IsJournal}
 use Rattle.lg_input.specs.Line.{Statement}
 use Rattle.lg_session.specs.OneSession.{journal_of}
-use Rattle.lg_step.specs.Lines.{ran, unbuilt, transcripts_of}
+use Rattle.lg_step.specs.Lines.{ran, transcripts_of}
 use Rattle.lg_cmd.specs.Agreement.{AgreesWith}
 use Rattle.lg_cmd.specs.Files.{StopsBy, TellsHeld}
-use Rattle.lg_cmd.specs.Input.{HasStatements, IsRefused}
 use Rattle.lg_cmd.specs.Run.{root_file, journal_name, journal_file, files_of}
 use Rattle.lg_cmd.specs.Transfer.{input_limit, Came}
 use Rattle.lg_cmd.specs.Words.{Step}
-use Rattle.lg_cmd.specs.Answer.{HasCause, HasRead, HasPut, HasWritten, Ran, Agrees, EndsBy, RanOrIdle, Unfailed, vault_status}
+use Rattle.lg_cmd.specs.Answer.{HasCause, HasRead, HasPut, HasWritten, Ran, Agrees, EndsBy, RanOrIdle, vault_status}
 use Rattle.lg_cmd.proofs.FilesLemmas.{last_stands}
 
 -- what is known of the words that were read is known of the words
@@ -62,65 +61,6 @@ pub read_told : (status : Status) (step : Step) (bytes : Option (List ℕ)) (vau
     → HasCause status (Some step) bytes ⊥ vault sink → IfSome input (λ i. Came i rest (Ok v)) → IfSome input (λ i. HasRead status i rest)
 read_told status step bytes vault sink None rest v cause came = tt
 read_told status step bytes vault sink (Some input) rest v cause came = read_whole status step bytes vault sink input rest v cause came
-
--- why an input isn't run is the cause of the status
-pub refused_cause : (status : Status) (step : Step) (bytes : List ℕ) (source vault sink : Type 0) → IsRefused status bytes → HasCause status (Some step) (Some bytes) source vault sink
-refused_cause Done step bytes source vault sink r = absurd r
-refused_cause Words step bytes source vault sink r = absurd r
-refused_cause Limit step bytes source vault sink r = inr r
-refused_cause SourceFault step bytes source vault sink r = absurd r
-refused_cause SinkFault step bytes source vault sink r = absurd r
-refused_cause VaultFault step bytes source vault sink r = absurd r
-refused_cause (Form line) step bytes source vault sink r = r
-refused_cause (Unbuilt line) step bytes source vault sink r = r
-refused_cause Memory step bytes source vault sink r = tt
-
--- then vault and sink weren't called
-pub refused_idle : (status : Status) (bytes : List ℕ) (ran idle : Type 0) → IsRefused status bytes → idle → RanOrIdle status ran idle
-refused_idle Done bytes ran idle r i = absurd r
-refused_idle Words bytes ran idle r i = absurd r
-refused_idle Limit bytes ran idle r i = i
-refused_idle SourceFault bytes ran idle r i = absurd r
-refused_idle SinkFault bytes ran idle r i = absurd r
-refused_idle VaultFault bytes ran idle r i = absurd r
-refused_idle (Form line) bytes ran idle r i = i
-refused_idle (Unbuilt line) bytes ran idle r i = i
-refused_idle Memory bytes ran idle r i = inr i
-
-pub refused_unfailed : (status : Status) (bytes : List ℕ) (source vault sink : Type 0) → IsRefused status bytes → source → vault → sink → Unfailed status source vault sink
-refused_unfailed Done bytes source vault sink r a b c = absurd r
-refused_unfailed Words bytes source vault sink r a b c = absurd r
-refused_unfailed Limit bytes source vault sink r a b c = (a, b, c)
-refused_unfailed SourceFault bytes source vault sink r a b c = absurd r
-refused_unfailed SinkFault bytes source vault sink r a b c = absurd r
-refused_unfailed VaultFault bytes source vault sink r a b c = absurd r
-refused_unfailed (Form line) bytes source vault sink r a b c = (a, b, c)
-refused_unfailed (Unbuilt line) bytes source vault sink r a b c = (a, b, c)
-refused_unfailed Memory bytes source vault sink r a b c = (a, c)
-
-pub refused_not_done : (status : Status) (bytes : List ℕ) → IsRefused status bytes → status ≡ Done → ⊥
-refused_not_done Done bytes r is = absurd r
-refused_not_done Words bytes r is = absurd r
-refused_not_done Limit bytes r is = cc
-refused_not_done SourceFault bytes r is = absurd r
-refused_not_done SinkFault bytes r is = absurd r
-refused_not_done VaultFault bytes r is = absurd r
-refused_not_done (Form line) bytes r is = cc
-refused_not_done (Unbuilt line) bytes r is = cc
-refused_not_done Memory bytes r is = cc
-
--- putting files and writing a text ends with a status that has its cause, where the input was fit to be run
-pub ends_cause : (status : Status) (step : Step) (bytes : List ℕ) (source vault sink : Type 0) (statements : List Statement)
-    → HasStatements bytes statements → unbuilt statements ≡ None → EndsBy status vault sink → HasCause status (Some step) (Some bytes) source vault sink
-ends_cause Done step bytes source vault sink statements has built ends = (statements, has, built)
-ends_cause Words step bytes source vault sink statements has built ends = absurd ends
-ends_cause Limit step bytes source vault sink statements has built ends = absurd ends
-ends_cause SourceFault step bytes source vault sink statements has built ends = absurd ends
-ends_cause SinkFault step bytes source vault sink statements has built ends = ends
-ends_cause VaultFault step bytes source vault sink statements has built ends = ends
-ends_cause (Form line) step bytes source vault sink statements has built ends = absurd ends
-ends_cause (Unbuilt line) step bytes source vault sink statements has built ends = absurd ends
-ends_cause Memory step bytes source vault sink statements has built ends = tt
 
 -- a call that ends by putting and writing has run
 pub ran_by : (status : Status) (vault sink ran idle : Type 0) → EndsBy status vault sink → ran → RanOrIdle status ran idle
