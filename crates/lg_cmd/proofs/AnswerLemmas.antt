@@ -1,32 +1,66 @@
 -- How what a call has read, put and written follows from the parts of the call.
-use Rattle.std.proofs.Common.{◌≡◌, ℕ, List, Option, Some, None, IfSome, Ok, Vec, sym, ◌∙◌, ap, arith, subst, length, inl, inr}
+use Rattle.std.proofs.Common.{◌≡◌, ◌+◌, ℕ, List, Option, Some, None, IfSome, Ok, Vec, sym, ◌∙◌, ap, arith, subst, length, inl, inr}
 use Rattle.std.proofs.Math.Seq.{drop-length}
+use Rattle.std.proofs.lemmas.List.{drop_all}
 use Rattle.std.specs.declared.alloc.Global.{Global}
 use Rattle.lg_base.specs.Store.{Names}
 use Rattle.lg_base.specs.declared.vault.VaultErr.{VaultErr}
 use Rattle.lg_base.specs.declared.vault.VaultErr.TheVariants as refused
 use Rattle.lg_cmd.specs.declared.files.File.{File}
 use Rattle.lg_cmd.specs.declared.status.Status.{Status}
-use Rattle.lg_cmd.specs.declared.status.Status.TheVariants.{Done, Words, Limit, SourceFault, SinkFault, VaultFault, Unbuilt, Memory}
-use Rattle.lg_cmd.specs.Files.{StopsBy}
-use Rattle.lg_cmd.specs.Transfer.{Came}
-use Rattle.lg_cmd.specs.TwoLines.{TwoLines, spelling}
-use Rattle.lg_cmd.specs.Answer.{HasRead, HasPut, HasWritten, EndsBy, RanOrIdle, vault_status}
+use Rattle.lg_cmd.specs.declared.status.Status.TheVariants.{Done, Words, Limit, SourceFault, SinkFault, VaultFault, Form, Unbuilt, Memory}
+use Rattle.lg_journal.specs.Journal.{journal_bytes}
+use Rattle.lg_journal.specs.Rules.{IsJournal}
+use Rattle.lg_input.specs.Line.{Statement}
+use Rattle.lg_session.specs.OneSession.{journal_of}
+use Rattle.lg_step.specs.Lines.{ran, transcripts_of}
+use Rattle.lg_cmd.specs.Agreement.{AgreesWith}
+use Rattle.lg_cmd.specs.Files.{StopsBy, TellsHeld}
+use Rattle.lg_cmd.specs.Run.{root_file, journal_name, journal_file, files_of}
+use Rattle.lg_cmd.specs.Transfer.{input_limit, Came}
+use Rattle.lg_cmd.specs.Words.{Step}
+use Rattle.lg_cmd.specs.Answer.{HasCause, HasRead, HasPut, HasWritten, Ran, Agrees, EndsBy, RanOrIdle, vault_status}
+use Rattle.lg_cmd.proofs.FilesLemmas.{last_stands}
+
+-- what is known of the words that were read is known of the words
+pub words_are : {Step : Type 0} (read : Step) (words : Option Step) (P : Step → Type 0) → Some read ≡ words → P read → IfSome words P
+words_are {Step} read words P is p = let Q : Option Step → Type 0 = λ x. IfSome x P in subst Q is p
+
+-- what is known of the bytes that came is known of the input
+pub bytes_came : (input rest : Option (List ℕ)) (v : Vec ℕ Global) (bytes : List ℕ) (P : List ℕ → Type 0) → IfSome input (λ i. Came i rest (Ok v)) → bytes ≡ v.items → P bytes → IfSome input P
+bytes_came None rest v bytes P came is p = tt
+bytes_came (Some i) rest v bytes P came is p = subst P (is ∙ came.0) p
+
+-- the same of the cause of a status, which no source that fell silent has then
+pub cause_came : (status : Status) (step : Step) (words : Option Step) (source vault sink : Type 0) (input rest : Option (List ℕ)) (v : Vec ℕ Global) (bytes : List ℕ)
+    → IfSome input (λ i. Came i rest (Ok v)) → bytes ≡ v.items → HasCause status (Some step) (Some bytes) ⊥ vault sink → HasCause status words input source vault sink
+cause_came Done step words source vault sink input rest v bytes came is cause = bytes_came input rest v bytes _ came is cause
+cause_came Words step words source vault sink input rest v bytes came is cause = cc
+cause_came Limit step words source vault sink input rest v bytes came is cause = bytes_came input rest v bytes _ came is cause
+cause_came SourceFault step words source vault sink input rest v bytes came is cause = absurd cause
+cause_came SinkFault step words source vault sink input rest v bytes came is cause = cause
+cause_came VaultFault step words source vault sink input rest v bytes came is cause = cause
+cause_came (Form line) step words source vault sink input rest v bytes came is cause = bytes_came input rest v bytes _ came is cause
+cause_came (Unbuilt line) step words source vault sink input rest v bytes came is cause = bytes_came input rest v bytes _ came is cause
+cause_came Memory step words source vault sink input rest v bytes came is cause = tt
 
 -- an input that came whole was read to its end
-read_whole : (status : Status) (vault sink : Type 0) (input : List ℕ) (rest : Option (List ℕ)) (v : Vec ℕ Global) → EndsBy status vault sink → Came input rest (Ok v) → HasRead status input rest
-read_whole Done vault sink input rest v ends came = came.2
-read_whole SinkFault vault sink input rest v ends came = came.2
-read_whole VaultFault vault sink input rest v ends came = came.2
-read_whole Memory vault sink input rest v ends came = (length input, omega (arith, came.1), came.2 ∙ ap Some (sym (drop-length input)))
-read_whole Words vault sink input rest v ends came = absurd ends
-read_whole Limit vault sink input rest v ends came = absurd ends
-read_whole SourceFault vault sink input rest v ends came = absurd ends
-read_whole Unbuilt vault sink input rest v ends came = absurd ends
+read_whole : (status : Status) (step : Step) (bytes : Option (List ℕ)) (vault sink : Type 0) (input : List ℕ) (rest : Option (List ℕ)) (v : Vec ℕ Global)
+    → HasCause status (Some step) bytes ⊥ vault sink → Came input rest (Ok v) → HasRead status input rest
+read_whole Done step bytes vault sink input rest v cause came = came.2
+read_whole Words step bytes vault sink input rest v cause came = cc
+read_whole Limit step bytes vault sink input rest v cause came = came.2 ∙ ap Some (sym (drop_all (input_limit + 1) input (omega (arith, came.1))))
+read_whole SourceFault step bytes vault sink input rest v cause came = absurd cause
+read_whole SinkFault step bytes vault sink input rest v cause came = came.2
+read_whole VaultFault step bytes vault sink input rest v cause came = came.2
+read_whole (Form line) step bytes vault sink input rest v cause came = came.2
+read_whole (Unbuilt line) step bytes vault sink input rest v cause came = came.2
+read_whole Memory step bytes vault sink input rest v cause came = (length input, omega (arith, came.1), came.2 ∙ ap Some (sym (drop-length input)))
 
-pub read_told : (status : Status) (vault sink : Type 0) (input rest : Option (List ℕ)) (v : Vec ℕ Global) → EndsBy status vault sink → IfSome input (λ i. Came i rest (Ok v)) → IfSome input (λ i. HasRead status i rest)
-read_told status vault sink None rest v ends came = tt
-read_told status vault sink (Some input) rest v ends came = read_whole status vault sink input rest v ends came
+pub read_told : (status : Status) (step : Step) (bytes : Option (List ℕ)) (vault sink : Type 0) (input rest : Option (List ℕ)) (v : Vec ℕ Global)
+    → HasCause status (Some step) bytes ⊥ vault sink → IfSome input (λ i. Came i rest (Ok v)) → IfSome input (λ i. HasRead status i rest)
+read_told status step bytes vault sink None rest v cause came = tt
+read_told status step bytes vault sink (Some input) rest v cause came = read_whole status step bytes vault sink input rest v cause came
 
 -- a call that ends by putting and writing has run
 pub ran_by : (status : Status) (vault sink ran idle : Type 0) → EndsBy status vault sink → ran → RanOrIdle status ran idle
@@ -37,7 +71,8 @@ ran_by Memory vault sink ran idle ends r = inl r
 ran_by Words vault sink ran idle ends r = absurd ends
 ran_by Limit vault sink ran idle ends r = absurd ends
 ran_by SourceFault vault sink ran idle ends r = absurd ends
-ran_by Unbuilt vault sink ran idle ends r = absurd ends
+ran_by (Form line) vault sink ran idle ends r = absurd ends
+ran_by (Unbuilt line) vault sink ran idle ends r = absurd ends
 
 -- what is known of a run is known of the call round it
 pub ran_within : (status : Status) (ran ran' idle : Type 0) → (ran → ran') → RanOrIdle status ran idle → RanOrIdle status ran' idle
@@ -49,7 +84,8 @@ ran_within Memory ran ran' idle f (inr i) = inr i
 ran_within Words ran ran' idle f r = r
 ran_within Limit ran ran' idle f r = r
 ran_within SourceFault ran ran' idle f r = r
-ran_within Unbuilt ran ran' idle f r = r
+ran_within (Form line) ran ran' idle f r = r
+ran_within (Unbuilt line) ran ran' idle f r = r
 
 -- where the vault refused a file
 pub refused_put : (e : VaultErr) (files : List File) (old new : Option Names) → StopsBy e files old new → HasPut (vault_status e) files old new
@@ -71,11 +107,18 @@ put_is status made files old new is put = let P : List File → Type 0 = λ x. H
 pub written_is : (status : Status) (made text : List ℕ) (old new : Option (List ℕ)) → made ≡ text → HasWritten status made old new → HasWritten status text old new
 written_is status made text old new is written = let P : List ℕ → Type 0 = λ x. HasWritten status x old new in subst P is written
 
--- what is known of the words that were read is known of the words
-pub words_are : {Step : Type 0} (read : Step) (words : Option Step) (P : Step → Type 0) → Some read ≡ words → P read → IfSome words P
-words_are {Step} read words P is p = let Q : Option Step → Type 0 = λ x. IfSome x P in subst Q is p
-
--- what was parsed is what came
-pub lines_came : (input rest : Option (List ℕ)) (v : Vec ℕ Global) (bytes : List ℕ) (lines : TwoLines) → IfSome input (λ i. Came i rest (Ok v)) → bytes ≡ v.items → bytes ≡ spelling lines → IfSome input (λ i. i ≡ spelling lines)
-lines_came None rest v bytes lines came is spelled = tt
-lines_came (Some i) rest v bytes lines came is spelled = sym came.0 ∙ sym is ∙ spelled
+-- where all is done, what was written and what was put agree
+pub done_agrees : (status : Status) (h : List ℕ → List ℕ) (words : Option Step) (input : Option (List ℕ)) (clock : Option ℕ) (old new : Option Names) (taken now : Option (List ℕ)) (statements : List Statement) (times : List ℕ)
+    → Ran status h words input clock old new taken now statements times → AgreesWith statements (transcripts_of statements (ran times statements)) (journal_of (ran times statements))
+    → IsJournal (journal_of (ran times statements)) → status ≡ Done
+    → Agrees words input old new taken now statements (transcripts_of statements (ran times statements)) (journal_of (ran times statements))
+done_agrees status h words input clock old new taken now statements times r agree journal is =
+    let P : Status → Type 0 = λ s. Ran s h words input clock old new taken now statements times in
+    let done : Ran Done h words input clock old new taken now statements times = subst P is r in
+    record { read = done.read; agree = agree; written = done.written; put = held words done.put; journal = journal }
+  where
+    held : (w : Option Step) → IfSome w (λ step. HasPut Done (files_of h step (ran times statements)) old new)
+        → IfSome w (λ step. TellsHeld old new (journal_name step.save) (journal_bytes (journal_of (ran times statements))))
+    held None put = tt
+    held (Some step) put =
+        last_stands (root_file h step.save (ran times statements).last) (journal_file step.save (journal_of (ran times statements))) old new put

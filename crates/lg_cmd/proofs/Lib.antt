@@ -1,9 +1,5 @@
 pub mod AnswerLemmas
 pub mod FilesLemmas
-pub mod FirstJournal
-pub mod Numbers
-pub mod RowLeaf
+pub mod RootLemmas
+pub mod RunLemmas
 pub mod TransferLemmas
-pub mod TwoLinesLemmas
-pub mod TwoLinesPieces
-pub mod Utf8

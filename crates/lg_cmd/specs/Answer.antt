@@ -1,37 +1,45 @@
 -- When the top call gives each status, and what it has read, put and written then.
-use Rattle.std.specs.Prelude.{◌≡◌, ◌<◌, ◌≤◌, ◌+◌, ◌⊎◌, min, ℕ, List, [], length, drop, Option, Some, None, IfSome}
+use Rattle.std.specs.Prelude.{◌≡◌, ◌<◌, ◌≤◌, ◌+◌, ◌⊎◌, ℕ, List, [], length, drop, Option, Some, None, IfSome, Ok}
+use Rattle.std.specs.List.{AllByRecursion}
 use Rattle.lg_base.specs.declared.vault.VaultErr.{VaultErr}
 use Rattle.lg_base.specs.declared.vault.VaultErr.TheVariants as refused
 use Rattle.lg_base.specs.Store.{Names}
 use Rattle.lg_base.specs.Outside.{TellsTaken}
+use Rattle.lg_types.specs.declared.journal.Journal.{Journal}
+use Rattle.lg_journal.specs.Journal.{journal_bytes}
+use Rattle.lg_journal.specs.Rules.{IsJournal}
+use Rattle.lg_history.specs.Transcripts.{Transcript}
+use Rattle.lg_input.specs.Line.{Statement}
+use Rattle.lg_input.specs.Lines.{read_input}
+use Rattle.lg_step.specs.Lines.{ran, unbuilt}
+use Rattle.lg_step.specs.Moments.{IsMoment}
 use Rattle.lg_cmd.specs.declared.status.Status.{Status}
-use Rattle.lg_cmd.specs.declared.status.Status.TheVariants.{Done, Words, Limit, SourceFault, SinkFault, VaultFault, Unbuilt, Memory}
+use Rattle.lg_cmd.specs.declared.status.Status.TheVariants.{Done, Words, Limit, SourceFault, SinkFault, VaultFault, Form, Unbuilt, Memory}
 use Rattle.lg_cmd.specs.declared.files.File.{File}
-use Rattle.lg_cmd.specs.Files.{StandFirst, StopsOpen}
-use Rattle.lg_cmd.specs.Run.{files_of, transcript_of}
+use Rattle.lg_cmd.specs.Agreement.{AgreesWith}
+use Rattle.lg_cmd.specs.Input.{HasStatements, IsBeyond, LacksForm, LacksBuilt}
+use Rattle.lg_cmd.specs.Files.{StandFirst, StopsOpen, TellsHeld}
+use Rattle.lg_cmd.specs.Run.{files_of, text_of, journal_name, transcripts_text}
 use Rattle.lg_cmd.specs.Transfer.{input_limit, TellsPart}
-use Rattle.lg_cmd.specs.TwoLines.{TwoLines, IsTwoLines, spelling}
 use Rattle.lg_cmd.specs.Words.{Step}
 
--- the input lacks the form of the two lines
-abbrev pub LacksForm : List ℕ → Type 0
-LacksForm input = (lines : TwoLines) → IsTwoLines lines → input ≡ spelling lines → ⊥
-
 -- Why a status comes, by what the words and the input are, as far as it is told, and by whose faults rose in the call.
--- The causes of Done, Words, Limit and Unbuilt exclude one another, so each of these four comes exactly where
+-- The causes of Done, Words, Limit, Form and Unbuilt exclude one another, so each of these five comes exactly where
 -- its cause stands, unless a fault or want of memory comes before it.
 abbrev pub HasCause : Status → Option Step → Option (List ℕ) → Type 0 → Type 0 → Type 0 → Type 0
-HasCause Done words input source vault sink = IfSome input (λ bytes. (length bytes ≤ input_limit) × (lines : TwoLines) × IsTwoLines lines × (bytes ≡ spelling lines))
+HasCause Done words input source vault sink = IfSome input (λ bytes. (statements : List Statement) × HasStatements bytes statements × (unbuilt statements ≡ None))
 HasCause Words words input source vault sink = words ≡ None
-HasCause Limit words input source vault sink = IfSome input (λ bytes. input_limit < length bytes)
+HasCause Limit words input source vault sink = IfSome input IsBeyond
 HasCause SourceFault words input source vault sink = source
 HasCause SinkFault words input source vault sink = sink
 HasCause VaultFault words input source vault sink = vault
-HasCause Unbuilt words input source vault sink = IfSome input (λ bytes. (length bytes ≤ input_limit) × LacksForm bytes)
+HasCause (Form line) words input source vault sink = IfSome input (λ bytes. LacksForm bytes line)
+HasCause (Unbuilt line) words input source vault sink = IfSome input (λ bytes. LacksBuilt bytes line)
 HasCause Memory words input source vault sink = Unit {0}
 
--- what is left of an input that is told: nothing was taken where the words were refused, at most one byte past the
--- limit in any case, and all of it where the lines were run or found to lack their form
+-- what is left of an input that is told: nothing was taken where the words were refused, and else at most one byte past
+-- the limit; so at Limit all was, or the limit and one byte of more. All of it was taken where it was run, or a line of it
+-- lacks its form or isn't built.
 abbrev pub HasRead : Status → List ℕ → Option (List ℕ) → Type 0
 HasRead Words input rest = rest ≡ Some input
 HasRead Limit input rest = rest ≡ Some (drop (input_limit + 1) input)
@@ -55,25 +63,27 @@ HasWritten VaultFault text old new = new ≡ old
 HasWritten Memory text old new = new ≡ old
 HasWritten _ text old new = ⊥
 
--- the last tick of the year 9999
-abbrev pub max_ticks : ℕ
-max_ticks = 2534023007999999999
-
--- what the clock answered, at most the greatest moment
-abbrev pub IsMoment : Option ℕ → ℕ → Type 0
-IsMoment clock at = (at ≤ max_ticks) × IfSome clock (λ told. at ≡ min told max_ticks)
-
--- The two lines were run, at the moments that the clock gave: this is what was put and written of them.
+-- The input was run, each statement at the moment that the clock gave at its start: this is what was put and written of
+-- what it came to.
 pub record Ran (status : Status) (h : List ℕ → List ℕ) (words : Option Step) (input : Option (List ℕ)) (clock : Option ℕ)
-    (names_old names_new : Option Names) (taken_old taken_new : Option (List ℕ)) (lines : TwoLines) (first second : ℕ) : Type 0 where
-  pub are_lines : IsTwoLines lines
-  pub read : IfSome input (λ bytes. bytes ≡ spelling lines)
-  pub first_moment : IsMoment clock first
-  pub second_moment : IsMoment clock second
-  pub put : IfSome words (λ step. HasPut status (files_of h step lines first second) names_old names_new)
-  pub written : HasWritten status (transcript_of lines) taken_old taken_new
+    (names_old names_new : Option Names) (taken_old taken_new : Option (List ℕ)) (statements : List Statement) (times : List ℕ) : Type 0 where
+  pub read : IfSome input (λ bytes. read_input bytes ≡ Ok statements)
+  pub as_many : length times ≡ length statements
+  pub moments : AllByRecursion (IsMoment clock) times
+  pub put : IfSome words (λ step. HasPut status (files_of h step (ran times statements)) names_old names_new)
+  pub written : HasWritten status (text_of statements (ran times statements)) taken_old taken_new
 
--- by the status, the lines were run, or neither vault nor sink was called
+-- the transcripts that were written and the journal that was put agree
+pub record Agrees (words : Option Step) (input : Option (List ℕ)) (names_old names_new : Option Names) (taken_old taken_new : Option (List ℕ))
+    (statements : List Statement) (X : List Transcript) (J : Journal) : Type 0 where
+  pub read : IfSome input (λ bytes. read_input bytes ≡ Ok statements)
+  pub agree : AgreesWith statements X J
+  pub written : TellsTaken taken_old taken_new (transcripts_text X)
+  pub put : IfSome words (λ step. TellsHeld names_old names_new (journal_name step.save) (journal_bytes J))
+  -- so it is read back from its bytes
+  pub journal : IsJournal J
+
+-- by the status, the input was run, or neither vault nor sink was called
 abbrev pub RanOrIdle : Status → Type 0 → Type 0 → Type 0
 RanOrIdle Done ran idle = ran
 RanOrIdle SinkFault ran idle = ran

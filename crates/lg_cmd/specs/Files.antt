@@ -38,3 +38,9 @@ StopsOpen files old new =
 abbrev pub StopsBy : VaultErr → List File → Option Names → Option Names → Type 0
 StopsBy Failed files old new = StopsOpen files old new
 StopsBy _ files old new = (k : ℕ) × (k < length files) × StandFirst files k old new
+
+-- a vault that tells what it has tells that these bytes stand under the name
+abbrev pub TellsHeld : Option Names → Option Names → List ℕ → List ℕ → Type 0
+TellsHeld None after name bytes = Unit {0}
+TellsHeld (Some old) None name bytes = ⊥
+TellsHeld (Some old) (Some new) name bytes = new name ≡ Bytes bytes

@@ -1,10 +1,10 @@
+pub mod Agreement
 pub mod Answer
 pub mod Files
+pub mod Input
 pub mod Letters
-pub mod Reserved
+pub mod Root
 pub mod Run
 pub mod Status
 pub mod Transfer
-pub mod TwoLines
-pub mod TwoLinesReading
 pub mod Words

@@ -1,7 +1,7 @@
 -- The code and the text of each status.
 use Rattle.std.specs.Prelude.{ℕ, List, codes}
 use Rattle.lg_cmd.specs.declared.status.Status.{Status}
-use Rattle.lg_cmd.specs.declared.status.Status.TheVariants.{Done, Words, Limit, SourceFault, SinkFault, VaultFault, Unbuilt, Memory}
+use Rattle.lg_cmd.specs.declared.status.Status.TheVariants.{Done, Words, Limit, SourceFault, SinkFault, VaultFault, Form, Unbuilt, Memory}
 
 abbrev pub code_of : Status → ℕ
 code_of Done = 0
@@ -10,8 +10,9 @@ code_of Limit = 3
 code_of SourceFault = 4
 code_of SinkFault = 5
 code_of VaultFault = 6
+code_of (Form line) = 10
 code_of Memory = 12
-code_of Unbuilt = 13
+code_of (Unbuilt line) = 13
 
 abbrev pub text_of : Status → List ℕ
 text_of Done = codes ""
@@ -20,5 +21,6 @@ text_of Limit = codes "a limit was exceeded"
 text_of SourceFault = codes "reading the input failed"
 text_of SinkFault = codes "writing the output failed"
 text_of VaultFault = codes "the vault failed"
+text_of (Form line) = codes "a line has no session"
 text_of Memory = codes "out of memory"
-text_of Unbuilt = codes "this input is not built yet"
+text_of (Unbuilt line) = codes "this input is not built yet"

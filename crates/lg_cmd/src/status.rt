@@ -9,7 +9,7 @@ pub enum Status {
     Done,
     /// The words have none of the commands' forms.
     Words,
-    /// A limit was exceeded: more than 4 MiB came as input.
+    /// A limit was exceeded: more than 4 MiB came as input, or statements of more than 64 sessions.
     Limit,
     /// Reading the input failed.
     SourceFault,
@@ -17,8 +17,11 @@ pub enum Status {
     SinkFault,
     /// Putting a file failed.
     VaultFault,
-    /// The input is one that isn't built yet.
-    Unbuilt,
+    /// This line of the input has no session, or isn't UTF-8. It is the first such line, counted from 1.
+    Form { line: u64 },
+    /// This line of the input has a statement that isn't built yet: one of a second session, or one that begins or ends
+    /// a transaction of many statements, goes back in one, or asks for a digest or an image. It is the first such line.
+    Unbuilt { line: u64 },
     /// There was no more memory.
     Memory,
 }
@@ -35,8 +38,9 @@ impl Status {
             Status::SourceFault => 4,
             Status::SinkFault => 5,
             Status::VaultFault => 6,
+            Status::Form { .. } => 10,
             Status::Memory => 12,
-            Status::Unbuilt => 13,
+            Status::Unbuilt { .. } => 13,
         }
     }
 
@@ -51,8 +55,9 @@ impl Status {
             Status::SourceFault => "reading the input failed",
             Status::SinkFault => "writing the output failed",
             Status::VaultFault => "the vault failed",
+            Status::Form { .. } => "a line has no session",
             Status::Memory => "out of memory",
-            Status::Unbuilt => "this input is not built yet",
+            Status::Unbuilt { .. } => "this input is not built yet",
         }
     }
 }

@@ -1,70 +1,79 @@
 // The top call.
-ghost use Rattle.std.specs.Prelude.{⊤, ◌≡◌, ◌≤◌, ◌⊎◌, ℕ, map, string_bytes, None, Some, IfSome};
+ghost use Rattle.std.specs.Prelude.{⊤, ◌≡◌, ◌≤◌, ◌⊎◌, ℕ, List, length, map, string_bytes, None, Some, IfSome};
 ghost use Rattle.sha2.specs.Sha256.{sha256};
 ghost use Rattle.lg_base.specs.Count.{Rises};
-ghost use Rattle.lg_cmd.specs.TwoLines.{TwoLines, IsTwoLines};
-ghost use Rattle.lg_cmd.specs.TwoLinesReading.{two_lines_view};
+ghost use Rattle.lg_types.specs.declared.journal.Journal.{Journal};
+ghost use Rattle.lg_history.specs.Transcripts.{Transcript};
+ghost use Rattle.lg_input.specs.Line.{Statement};
+ghost use Rattle.lg_cmd.specs.Transfer.{input_limit};
 ghost use Rattle.lg_cmd.specs.Words.{step_words, step_view};
-ghost use Rattle.lg_cmd.specs.Answer.{HasCause, HasRead, IsMoment, Ran, RanOrIdle, EndsBy, Unfailed};
+ghost use Rattle.lg_cmd.specs.Answer.{HasCause, HasRead, Ran, RanOrIdle, Agrees, EndsBy, Unfailed};
 
 use crate::Status;
 use crate::files::put_and_write;
-use crate::run::{Moments, make};
+use crate::run::run_input;
+use crate::saved::saved_files;
 use crate::transfer::{ReadErr, read_input};
-use crate::two_lines::{TwoLineParts, parse};
 use crate::words::{StepWords, read_step};
-use lg_base::{Clock, Gate, MAX_TICKS, Sink, Source, Vault};
+use lg_base::{Clock, Gate, Sink, Source, Vault};
 use lg_items::Memory;
 use lg_merkle::{Hash32, Sha256Hash};
 use std::alloc::Global;
 
-/// What the clock says, at most the greatest moment.
-fn moment<C: Clock>(clock: &C) -> u64
-    ensures { IsMoment (C.moment clock.now) result }
-{
-    clock.now().min(MAX_TICKS)
-}
-
-/// Runs the two lines, puts their files and writes their transcript.
-fn run_lines<H: Hash32, K: Sink, V: Vault, C: Clock>(
+/// Runs an input, puts its files and writes its transcript.
+fn step<H: Hash32, K: Sink, V: Vault, C: Clock>(
     alloc: Global,
     h: H,
-    step: &StepWords,
-    lines: &TwoLineParts,
+    words: &StepWords,
+    input: &[u8],
     sink: &mut K,
     vault: &mut V,
     clock: &C,
 ) -> Status
-    requires { IsTwoLines (two_lines_view lines.now) }
-    ensures cause { EndsBy result (Rises (V.faults vault.old) (V.faults vault.new))
+    requires { length input.now ≤ input_limit }
+    ensures cause { HasCause result (Some (step_view words.now)) (Some input.now) ⊥
+        (Rises (V.faults vault.old) (V.faults vault.new))
         (Rises (K.faults sink.old) (K.faults sink.new) ⊎ Rises (K.stalls sink.old) (K.stalls sink.new)) }
     ensures ran { RanOrIdle result
-        ((first : ℕ) × (second : ℕ) × Ran result (H.digest h) (Some (step_view step.now)) None (C.moment clock.now)
-        (V.names vault.old) (V.names vault.new) (K.taken sink.old) (K.taken sink.new) (two_lines_view lines.now) first second)
+        ((statements : List Statement) × (times : List ℕ) × Ran result (H.digest h) (Some (step_view words.now)) (Some input.now) (C.moment clock.now)
+        (V.names vault.old) (V.names vault.new) (K.taken sink.old) (K.taken sink.new) statements times)
         ((vault.new ≡ vault.old) × (sink.new ≡ sink.old)) }
+    ensures agrees { result ≡ Status.Done
+        → (statements : List Statement) × (X : List Transcript) × (J : Journal) × Agrees (Some (step_view words.now)) (Some input.now)
+        (V.names vault.old) (V.names vault.new) (K.taken sink.old) (K.taken sink.new) statements X J }
     ensures unfailed { Unfailed result ⊤ (V.faults vault.new ≡ V.faults vault.old)
         ((K.faults sink.new ≡ K.faults sink.old) × (K.stalls sink.new ≡ K.stalls sink.old)) }
     ensures unwritten { (result ≡ Status.Done → ⊥) → (result ≡ Status.SinkFault → ⊥) → sink.new ≡ sink.old }
 {
-    let first = moment(clock);
-    let second = moment(clock);
-    let made = match make(alloc, h, step, lines, Moments { first, second }) {
-        Ok(made) => made,
+    let ran = match run_input(alloc, input, clock) {
+        Ok(ran) => ran,
+        Err(status) => return status,
+    };
+    let last = ran.last.into_vec();
+    let files = match saved_files(alloc, h, words.save, &last, &ran.journal) {
+        Ok(files) => files,
         Err(Memory) => return Status::Memory,
     };
-    put_and_write(vault, sink, made.files.as_slice(), made.transcript.bytes())
+    put_and_write(vault, sink, files.as_slice(), ran.transcript.bytes())
 }
 
 /// Runs the command that the words give: reads its input, puts its files, and then writes its text.
 ///
-/// `step --save NAME` reads two lines, with which one session makes an append-only table and inserts one row. It puts
-/// the root of the row's event under `NAME.root` and the journal under `NAME.journal`, and writes the transcript.
+/// `step --save NAME` reads an input of statements, `session: statement` on each line, and runs them in their order for
+/// their one session: each is a transaction of its own, which is committed where it leaves a start or an end of a version
+/// of a row. The journal of what was committed goes under `NAME.journal`. Where it has a transaction, the root goes under
+/// `NAME.root` before: the Merkle tree hash over what the last transaction started and ended in the table with the
+/// greatest id. Then the transcript is written, which has what each statement was answered. Transcript and journal agree.
 /// Only a run of several threads calls the gate.
 ///
-/// `Words` comes before anything is read, and `Limit` and `Unbuilt` before anything is put. After `VaultFault` the
-/// files before the one that failed stand, its name is open, and nothing was written; after `Memory` the first of the
-/// files may stand. After `SinkFault` all files stand and a first part of the text was written. The call takes time
-/// and memory in proportion to the input, which it reads once.
+/// Sessions beyond one, statements that begin, save or take back a transaction of many statements, and those that ask for
+/// a digest or an image aren't built yet: the first line with such a one is `Unbuilt`.
+///
+/// `Words` comes before anything is read, and `Limit`, `Form` and `Unbuilt` before anything is put; of these the size of
+/// the input is looked at first, then the form of all lines, the number of sessions, and last what is built. After
+/// `VaultFault` the files before the one that failed stand, its name is open, and nothing was written; after `Memory` the
+/// first of the files may stand. After `SinkFault` all files stand and a first part of the text was written. The input is
+/// read once.
 pub fn ledgerd<S: Source, K: Sink, V: Vault, C: Clock, G: Gate>(
     alloc: Global,
     words: &[String],
@@ -87,9 +96,14 @@ pub fn ledgerd<S: Source, K: Sink, V: Vault, C: Clock, G: Gate>(
     // What is read, put and written, by the status.
     ensures read { IfSome (S.left source.old) (λ input. HasRead result input (S.left source.new)) }
     ensures ran { RanOrIdle result
-        ((lines : TwoLines) × (first : ℕ) × (second : ℕ) × Ran result sha256 (step_words (map string_bytes words.now)) (S.left source.old) (C.moment clock.now)
-        (V.names vault.old) (V.names vault.new) (K.taken sink.old) (K.taken sink.new) lines first second)
+        ((statements : List Statement) × (times : List ℕ) × Ran result sha256 (step_words (map string_bytes words.now)) (S.left source.old) (C.moment clock.now)
+        (V.names vault.old) (V.names vault.new) (K.taken sink.old) (K.taken sink.new) statements times)
         ((vault.new ≡ vault.old) × (sink.new ≡ sink.old)) }
+
+    // The transcripts that are written and the journal that is put agree.
+    ensures agrees { result ≡ Status.Done
+        → (statements : List Statement) × (X : List Transcript) × (J : Journal) × Agrees (step_words (map string_bytes words.now)) (S.left source.old)
+        (V.names vault.old) (V.names vault.new) (K.taken sink.old) (K.taken sink.new) statements X J }
 
     // The first fault or stall ends the call: nothing is tried again.
     ensures unfailed { Unfailed result (S.faults source.new ≡ S.faults source.old) (V.faults vault.new ≡ V.faults vault.old)
@@ -98,7 +112,7 @@ pub fn ledgerd<S: Source, K: Sink, V: Vault, C: Clock, G: Gate>(
     // Nothing is written before all is put.
     ensures unwritten { (result ≡ Status.Done → ⊥) → (result ≡ Status.SinkFault → ⊥) → sink.new ≡ sink.old }
 {
-    let Some(step) = read_step(words) else {
+    let Some(words) = read_step(words) else {
         return Status::Words;
     };
     let input = match read_input(alloc, source) {
@@ -107,8 +121,5 @@ pub fn ledgerd<S: Source, K: Sink, V: Vault, C: Clock, G: Gate>(
         Err(ReadErr::TooMuch) => return Status::Limit,
         Err(ReadErr::Failed) => return Status::SourceFault,
     };
-    let Some(lines) = parse(&input) else {
-        return Status::Unbuilt;
-    };
-    run_lines(alloc, Sha256Hash, &step, &lines, sink, vault, clock)
+    step(alloc, Sha256Hash, &words, &input, sink, vault, clock)
 }

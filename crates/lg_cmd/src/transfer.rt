@@ -1,8 +1,8 @@
 // Reading a whole input and writing a whole text, in pieces.
-ghost use Rattle.std.specs.Prelude.{ℕ, ◌≡◌, ◌≤◌, ◌⊎◌, OnOk, OnErr, IfSome, IsErrOf};
+ghost use Rattle.std.specs.Prelude.{ℕ, ◌≡◌, ◌≤◌, ◌⊎◌, length, OnOk, OnErr, IfOk, IfSome, IsErrOf};
 ghost use Rattle.lg_base.specs.Count.{Rises};
 ghost use Rattle.lg_base.specs.Outside.{TellsTaken};
-ghost use Rattle.lg_cmd.specs.Transfer.{Came, TellsPart};
+ghost use Rattle.lg_cmd.specs.Transfer.{input_limit, Came, TellsPart};
 
 use lg_base::{Failed, Sink, Source};
 use std::alloc::Global;
@@ -24,6 +24,7 @@ pub(crate) enum ReadErr {
 /// Reads to the end of the input, or one byte past the limit. Each turn takes at least one byte.
 pub(crate) fn read_input<S: Source>(alloc: Global, source: &mut S) -> Result<Vec<u8>, ReadErr>
     ensures came { IfSome (S.left source.old) (λ input. Came input (S.left source.new) result) }
+    ensures within { IfOk result (λ v. length v.items ≤ input_limit) }
     ensures later { S.faults source.old ≤ S.faults source.new }
     ensures calm { (IsErrOf result ReadErr.Failed → ⊥) → S.faults source.new ≡ S.faults source.old }
     ensures cause { IsErrOf result ReadErr.Failed → Rises (S.faults source.old) (S.faults source.new) }
