@@ -1,4 +1,5 @@
 pub mod Lines
 pub mod Moments
+pub mod Reached
 pub mod Sessions
 pub mod TranscriptText

@@ -2,11 +2,14 @@
 #![tactic(auto)]
 
 mod item;
+mod kind;
 mod running;
 mod session;
+mod step_err;
 mod transaction;
 mod transcript;
 
 pub use lg_input::Line;
 pub use lg_types::{Event, Journal};
-pub use running::{Ran, StepErr, run_lines};
+pub use running::{Ran, run_lines};
+pub use step_err::StepErr;

@@ -10,9 +10,10 @@ ghost use Rattle.lg_step.specs.Lines.{ran, unbuilt, transcripts_of};
 ghost use Rattle.lg_step.specs.Moments.{IsMoment};
 ghost use Rattle.lg_step.specs.TranscriptText.{transcript_text};
 
+use crate::step_err::StepErr;
 use lg_base::Clock;
 use lg_input::Line;
-use lg_items::{Items, Memory, Text};
+use lg_items::{Items, Text};
 use lg_types::{Event, Journal};
 use std::alloc::Global;
 
@@ -23,21 +24,6 @@ pub struct Ran {
     /// The starts and ends of the last transaction that was committed, by table and number.
     pub last: Items<Event>,
     pub transcript: Text,
-}
-
-/// Why there is no run.
-#[derive(Clone, Copy, Debug, PartialEq, Eq)]
-pub enum StepErr {
-    /// This line is of a second session, or its statement begins or ends a transaction of many statements, goes back in
-    /// one, or asks for a digest or an image: these aren't built yet. It is the first such line.
-    Unbuilt { line: u64 },
-    Memory,
-}
-
-impl From<Memory> for StepErr {
-    fn from(_: Memory) -> StepErr {
-        StepErr::Memory
-    }
 }
 
 /// Runs the statements of the lines in their order, each as a transaction of its own, or outside of one where it is no
