@@ -1,4 +1,6 @@
+pub mod Ends
 pub mod Items
+pub mod Lines
 pub mod Reached
 pub mod Sessions
 pub mod Steps

@@ -1,5 +1,5 @@
 -- What a session shows after a statement.
-use Rattle.std.proofs.Common.{◌≡◌, refl, sym, ap, subst, codes, ◌∙◌, ℕ, ◌+◌, List, [], ◌∷◌, ◌++◌, append-nil, append_assoc, length, length-append, flat_map, Option, Some, None, string_bytes, true, false, arith, Result, Ok, Err}
+use Rattle.std.proofs.Common.{◌≡◌, refl, sym, ap, subst, codes, ◌∙◌, ℕ, ◌+◌, List, [], ◌∷◌, ◌++◌, append-nil, append_assoc, length, length-append, flat_map, Some, None, string_bytes, false, Result, Ok, Err}
 use Rattle.std.specs.Result.{OnOk}
 use Rattle.lg_items.specs.declared.memory.Memory.{Memory}
 use Rattle.std.proofs.lemmas.Grind.{flat_map-append}

@@ -1,3 +1,4 @@
+pub mod Leaves
 pub mod Lines
 pub mod Moments
 pub mod Reached

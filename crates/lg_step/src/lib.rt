@@ -1,8 +1,10 @@
 //! One session, run by the plain machine one statement after another.
 #![tactic(auto)]
 
+mod each;
 mod item;
 mod kind;
+mod leaves;
 mod running;
 mod session;
 mod step_err;
