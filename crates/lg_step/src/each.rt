@@ -72,6 +72,7 @@ pub(crate) fn run_each<C: Clock>(
 {
     let name = session_of(lines);
     for line in lines {
+        // By this law the next transaction is new to the tables.
         one_session_is_legal();
         run_line(alloc, name, line, clock, session)?;
     }

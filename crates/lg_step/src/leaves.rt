@@ -1,6 +1,6 @@
 //! Events have room in a leaf.
 
-ghost use Rattle.std.specs.Prelude.{ℕ, ◌≡◌, ◌<◌, ◌^◌, true, IfSome};
+ghost use Rattle.std.specs.Prelude.{◌≡◌, true, IfSome};
 ghost use Rattle.std.specs.List.{AllByRecursion};
 ghost use Rattle.lg_row.specs.Leaf.{is_text};
 ghost use Rattle.lg_step.specs.Leaves.{IsSmall, AreTexts, HasRoom};

@@ -68,6 +68,7 @@ pub fn run_lines<C: Clock>(alloc: Global, lines: &[Line<'_>], clock: &C) -> Resu
 {
     let mut session = Session::new(alloc)?;
     run_each(alloc, lines, clock, &mut session)?;
+    // Laws: they do nothing.
     one_session_is_legal();
     last_events_have_leaves();
     Ok(left_by(alloc, session)?)

@@ -1,19 +1,15 @@
 //! A session that runs.
 
-ghost use Rattle.std.specs.Prelude.{ℕ, ◌≡◌, ◌≤◌, ◌<◌, ◌^◌, ◌+◌, ◌∷◌, ◌++◌, [], List, Some, None, true, false, Err, IfOk, OnOk, length, string_bytes};
-ghost use Rattle.std.specs.List.{AllByRecursion};
-ghost use Rattle.lg_input.specs.Line.{statement_of as seen, is_session_name};
-ghost use Rattle.lg_types.specs.declared.journal.JournalItem.TheVariants.{Tx};
+ghost use Rattle.std.specs.Prelude.{ℕ, ◌≡◌, ◌≤◌, ◌+◌, ◌∷◌, ◌++◌, [], List, Some, true, false, Err, IfOk, OnOk, length, string_bytes};
+ghost use Rattle.lg_input.specs.Line.{is_session_name};
 ghost use Rattle.lg_types.specs.declared.reply.Reply.TheVariants.{Refused};
-ghost use Rattle.lg_model.specs.Replies.{reply_text};
-ghost use Rattle.lg_history.specs.Transcripts.{statement, committed_at, ended_after};
+ghost use Rattle.lg_history.specs.Transcripts.{committed_at, ended_after};
 ghost use Rattle.lg_parse.specs.Text.{statement_of};
-ghost use Rattle.lg_journal.specs.Rules.{IsItem};
 ghost use Rattle.lg_session.specs.OneSession as spec;
 ghost use Rattle.lg_session.specs.OneSession.{Run, first_run, answered, transacts, stepped};
 ghost use Rattle.lg_step.specs.Moments.{max_ticks};
 ghost use Rattle.lg_step.specs.Sessions.{done_alone, Shows, Steady, Ready};
-ghost use Rattle.lg_step.specs.TranscriptText.{entry_text, end_line, indented};
+ghost use Rattle.lg_step.specs.TranscriptText.{end_line, indented};
 
 use crate::item::item_of;
 use crate::kind::{is_alone, is_built};
