@@ -1,4 +1,6 @@
+pub mod Leaves
 pub mod Lines
 pub mod Moments
+pub mod Reached
 pub mod Sessions
 pub mod TranscriptText

@@ -1,18 +1,24 @@
 //! Running the lines of an input.
 
-ghost use Rattle.std.specs.Prelude.{ℕ, ◌≡◌, ◌<◌, ◌-◌, ◌^◌, List, length, map, flat_map, None, Some, Err, IfOk, OnOk, All, true};
+ghost use Rattle.std.specs.Prelude.{ℕ, ◌≡◌, ◌<◌, ◌-◌, ◌^◌, List, length, map, flat_map, codes, string_bytes, None, Some, Err, IfOk, OnOk, All, true};
 ghost use Rattle.std.specs.List.{AllByRecursion};
 ghost use Rattle.lg_input.specs.Line.{statement_of as seen, is_session_name};
 ghost use Rattle.lg_row.specs.Leaf.{HasLeaf};
 ghost use Rattle.lg_journal.specs.Rules.{IsJournal};
 ghost use Rattle.lg_session.specs.OneSession.{journal_of};
+ghost use Rattle.lg_step.specs.Leaves.{HasRoom};
 ghost use Rattle.lg_step.specs.Lines.{ran, unbuilt, transcripts_of};
 ghost use Rattle.lg_step.specs.Moments.{IsMoment};
 ghost use Rattle.lg_step.specs.TranscriptText.{transcript_text};
 
+use crate::each::run_each;
+use crate::leaves::have_room;
+use crate::session::Session;
+use crate::step_err::StepErr;
 use lg_base::Clock;
 use lg_input::Line;
-use lg_items::{Items, Memory, Text};
+use lg_items::{Items, Memory, Name, Text};
+use lg_session::{last_events_have_leaves, one_session_is_legal};
 use lg_types::{Event, Journal};
 use std::alloc::Global;
 
@@ -25,19 +31,26 @@ pub struct Ran {
     pub transcript: Text,
 }
 
-/// Why there is no run.
-#[derive(Clone, Copy, Debug, PartialEq, Eq)]
-pub enum StepErr {
-    /// This line is of a second session, or its statement begins or ends a transaction of many statements, goes back in
-    /// one, or asks for a digest or an image: these aren't built yet. It is the first such line.
-    Unbuilt { line: u64 },
-    Memory,
-}
+/// The name of the database.
+const DATABASE: &str = "LedgerDB";
 
-impl From<Memory> for StepErr {
-    fn from(_: Memory) -> StepErr {
-        StepErr::Memory
-    }
+/// What a session leaves.
+fn left_by(alloc: Global, session: Session) -> Result<Ran, Memory>
+    ensures journal { IfOk result (λ r. r.journal ≡ record { database = codes "LedgerDB"; items = session.items }) }
+    ensures last { IfOk result (λ r. r.last ≡ session.last) }
+    ensures transcript { IfOk result (λ r. r.transcript ≡ string_bytes session.transcript) }
+    ensures room { IfOk result (λ r. AllByRecursion HasRoom r.last) }
+{
+    let database = Name::of_str(alloc, DATABASE)?;
+    have_room(session.last.as_slice());
+    Ok(Ran {
+        journal: Journal {
+            database,
+            items: session.items,
+        },
+        last: session.last,
+        transcript: Text::from_string(session.transcript),
+    })
 }
 
 /// Runs the statements of the lines in their order, each as a transaction of its own, or outside of one where it is no
@@ -53,5 +66,10 @@ pub fn run_lines<C: Clock>(alloc: Global, lines: &[Line<'_>], clock: &C) -> Resu
     ensures built { OnOk result (unbuilt (map seen lines.now) ≡ None) }
     ensures unbuilt { (line : ℕ) → result ≡ Err (StepErr.Unbuilt line) → unbuilt (map seen lines.now) ≡ Some line }
 {
-    Err(StepErr::Memory)
+    let mut session = Session::new(alloc)?;
+    run_each(alloc, lines, clock, &mut session)?;
+    // Laws: they do nothing.
+    one_session_is_legal();
+    last_events_have_leaves();
+    Ok(left_by(alloc, session)?)
 }

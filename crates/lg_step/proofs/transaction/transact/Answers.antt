@@ -1,4 +1,4 @@
-use Rattle.std.proofs.Common.{◌≡◌, false, Some, ap}
+use Rattle.std.proofs.Common.{false, ap}
 use Rattle.lg_model.specs.Script.{start}
 use Rattle.lg_serial.specs.Machine.{Running, Machine}
 use Rattle.lg_step.specs.Sessions.{done_alone}
