@@ -1,7 +1,7 @@
 // Running the statements of an input.
 ghost use Rattle.std.specs.Prelude.{ℕ, ◌≡◌, ◌≤◌, List, length, map, IfOk, IfErr, All, true, None};
 ghost use Rattle.std.specs.List.{AllByRecursion};
-ghost use Rattle.lg_input.specs.Line.{Statement, statement_of, is_session_name};
+ghost use Rattle.lg_input.specs.Line.{Statement, seen, is_session_name};
 ghost use Rattle.lg_row.specs.Leaf.{HasLeaf};
 ghost use Rattle.lg_journal.specs.Rules.{IsJournal};
 ghost use Rattle.lg_session.specs.OneSession.{journal_of};
@@ -23,7 +23,7 @@ use std::alloc::Global;
 /// The statements of the input by line. Where a line lacks its form, that is said before the sessions are counted.
 fn statements<'a>(alloc: Global, input: &'a [u8]) -> Result<Vec<Line<'a>>, Status>
     requires { length input.now ≤ input_limit }
-    ensures has { IfOk result (λ lines. HasStatements input.now (map statement_of lines.items)) }
+    ensures has { IfOk result (λ lines. HasStatements input.now (map seen lines.items)) }
     ensures names { IfOk result (λ lines. All (λ l. is_session_name l.session.now ≡ true) lines.items) }
     ensures count { IfOk result (λ lines. length lines.items ≤ input_limit) }
     ensures refused { IfErr result (λ status. IsRefused status input.now) }

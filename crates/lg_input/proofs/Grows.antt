@@ -2,7 +2,7 @@
 use Rattle.std.proofs.Common.{◌≡◌, ◌≤◌, ◌<◌, ℕ, suc, Bool, true, false, cond, List, [], ◌∷◌, ◌++◌, length, length-append, refl, ap, arith, map, drop, drop-cons, get_or, ◌||◌, Bor}
 use Rattle.std.specs.List.{fold, list_any}
 use Rattle.std.specs.Str.{bytes_eq}
-use Rattle.lg_input.specs.Line.{Statement, statement_of}
+use Rattle.lg_input.specs.Line.{Statement, seen}
 use Rattle.lg_input.specs.declared.line.Line.{Line}
 use Rattle.lg_input.specs.Sessions.{with_session, sessions_of}
 
@@ -35,7 +35,7 @@ any_text name names = list_any_map (bytes_eq name) (λ n. n.now) names
 
 -- one more session than so many, at a place of the lines
 pub too_many : (lines : List Line) (i : ℕ) (d : Line) (names : List (List ℕ)) (most : ℕ) → i < length lines → list_any (bytes_eq (get_or lines i d).session.now) names ≡ false → most ≤ length names
-    → sessions_of (map statement_of lines) ≡ fold with_session names (map statement_of (drop i lines)) → most < length (sessions_of (map statement_of lines))
+    → sessions_of (map seen lines) ≡ fold with_session names (map seen (drop i lines)) → most < length (sessions_of (map seen lines))
 too_many lines i d names most within new full is =
     let cut : drop i lines ≡ get_or lines i d ∷ drop (suc i) lines = drop-cons lines i d within in
-    rw (is, cut) (one_more names (statement_of (get_or lines i d)) (map statement_of (drop (suc i) lines)) most new full)
+    rw (is, cut) (one_more names (seen (get_or lines i d)) (map seen (drop (suc i) lines)) most new full)

@@ -1,8 +1,8 @@
 -- What one line of the input says.
-use Rattle.std.specs.Prelude.{ℕ, ◌-◌, Bool, ◌&&◌, ◌||◌, ◌==◌, nat_eq, nat_lt, nat_le, if◌then◌else◌, List, [], ◌∷◌, length, take, drop, codes, Option, Some, None, Result, Ok, Err}
-use Rattle.std.specs.List.{list_all, list_any, prefix_len, suffix_len, starts_with, before_first, after_first}
-use Rattle.std.specs.Char.{is_ascii_alphanumeric}
+use Rattle.std.specs.Prelude.{ℕ, ◌-◌, Bool, ◌&&◌, ◌||◌, ◌==◌, nat_eq, if◌then◌else◌, List, [], ◌∷◌, length, take, drop, codes, Option, Some, None, Result, Ok, Err}
+use Rattle.std.specs.List.{list_any, prefix_len, suffix_len, starts_with, before_first, after_first}
 use Rattle.std.specs.Str.{is_utf8}
+pub use Rattle.lg_entry.specs.SessionName.{is_session_name}
 use Rattle.lg_input.specs.declared.line.Line.{Line}
 
 -- a statement of a session, and the line in which it stands
@@ -31,14 +31,6 @@ before_blanks z = take (length z - suffix_len is_blank z) z
 abbrev pub is_skipped : List ℕ → Bool
 is_skipped line = length line == 0 || starts_with nat_eq line (codes "--")
 
--- a letter or a digit of ASCII, or '_'
-abbrev pub is_session_byte : ℕ → Bool
-is_session_byte b = is_ascii_alphanumeric b || b == 95
-
--- 1 to 32 of them
-unfoldable pub is_session_name : List ℕ → Bool
-is_session_name name = nat_lt 0 (length name) && (nat_le (length name) 32 && list_all is_session_byte name)
-
 -- ':'
 abbrev pub is_colon : ℕ → Bool
 is_colon b = b == 58
@@ -63,5 +55,5 @@ unfoldable pub says : ℕ → List ℕ → Input
 says number line = if is_utf8 line then says_text number (before_blanks (behind_blanks line)) else Err number
 
 -- the statement of a line that was read
-abbrev pub statement_of : Line → Statement
-statement_of line = record { number = line.number; session = line.session.now; text = line.text.now }
+abbrev pub seen : Line → Statement
+seen line = record { number = line.number; session = line.session.now; text = line.text.now }

@@ -4,8 +4,9 @@ ghost use Rattle.std.specs.Prelude.{◌≡◌, ◌-◌, ◌<◌, ℕ, true, leng
 ghost use Rattle.std.specs.List.{list_all, suffix_len, prefix_len, slice_index};
 ghost use Rattle.std.specs.Str.{is_utf8};
 ghost use Rattle.lg_input.specs.Line as spec;
-ghost use Rattle.lg_input.specs.Line.{statement_of, session_and_text, says, is_session_name};
+ghost use Rattle.lg_input.specs.Line.{seen, session_and_text, says, is_session_name};
 
+use lg_entry::is_session_name;
 use std::alloc::AllocFailed;
 
 /// A statement of a session, and the line in which it stands.
@@ -83,25 +84,6 @@ fn is_skipped(text: &str) -> bool
     text.is_empty() || text.as_bytes().starts_with(b"--")
 }
 
-fn is_session_byte(b: u8) -> bool
-    ensures { result ≡ spec.is_session_byte b }
-{
-    b.is_ascii_alphanumeric() || b == b'_'
-}
-
-fn are_session_bytes(bytes: &[u8]) -> bool
-    ensures { result ≡ list_all spec.is_session_byte bytes.now }
-{
-    bytes.iter().all(|b| is_session_byte(*b))
-}
-
-#[tactic(auto, unfolding(crate::specs::Line::is_session_name))]
-fn is_session_name(name: &[u8]) -> bool
-    ensures { result ≡ is_session_name name.now }
-{
-    0 < name.len() && name.len() <= 32 && are_session_bytes(name)
-}
-
 /// The session and the statement of a line that isn't skipped.
 #[tactic(auto, using(crate::proofs::Cuts::nowhere, crate::proofs::Cuts::somewhere))]
 fn session_and_text(text: &str) -> Option<(&str, &str)>
@@ -119,7 +101,7 @@ fn session_and_text(text: &str) -> Option<(&str, &str)>
 /// What the line of this number says, and none where it is skipped.
 #[tactic(auto, using(crate::proofs::Said::bad_line, crate::proofs::Said::good_line))]
 pub(crate) fn read_line<'a>(number: u64, line: &'a [u8]) -> Result<Option<Line<'a>>, InputErr>
-    ensures said { IfOk result (λ found. says number line.now ≡ Ok (option_to_list (option_map statement_of found))) }
+    ensures said { IfOk result (λ found. says number line.now ≡ Ok (option_to_list (option_map seen found))) }
     ensures form { (at : ℕ) → result ≡ Err (InputErr.Form at) → says number line.now ≡ Err at }
     ensures name { IfOk result (λ found. IfSome found (λ l. is_session_name l.session.now ≡ true)) }
 {

@@ -2,7 +2,7 @@
 
 ghost use Rattle.std.specs.Prelude.{◌≡◌, ◌∷◌, ◌<◌, ◌≤◌, ℕ, true, length, map, Ok, Err, All, IfOk};
 ghost use Rattle.std.specs.List.{position};
-ghost use Rattle.lg_input.specs.Line.{statement_of, is_session_name};
+ghost use Rattle.lg_input.specs.Line.{seen, is_session_name};
 ghost use Rattle.lg_input.specs.Lines as spec;
 ghost use Rattle.lg_input.specs.Lines.{lines_of, read_input};
 
@@ -43,7 +43,7 @@ fn first_line(bytes: &[u8]) -> (&[u8], &[u8])
 /// first such line is named instead. It takes time linear in the input, and copies nothing of it.
 #[tactic(auto, unfolding(crate::specs::Lines::read_input))]
 pub fn read_lines<'a>(alloc: Global, bytes: &'a [u8]) -> Result<Vec<Line<'a>>, InputErr>
-    ensures read { IfOk result (λ lines. read_input bytes.now ≡ Ok (map statement_of lines.items)) }
+    ensures read { IfOk result (λ lines. read_input bytes.now ≡ Ok (map seen lines.items)) }
     ensures form { (line : ℕ) → result ≡ Err (InputErr.Form line) → read_input bytes.now ≡ Err line }
     ensures names { IfOk result (λ lines. All (λ l. is_session_name l.session.now ≡ true) lines.items) }
     ensures count { IfOk result (λ lines. length lines.items ≤ length bytes.now) }

@@ -3,7 +3,7 @@
 ghost use Rattle.std.specs.Prelude.{◌≡◌, ◌<◌, ◌≤◌, length, map, IfOk, MatchOption};
 ghost use Rattle.std.specs.List.{list_any};
 ghost use Rattle.std.specs.Str.{bytes_eq};
-ghost use Rattle.lg_input.specs.Line.{statement_of};
+ghost use Rattle.lg_input.specs.Line.{seen};
 ghost use Rattle.lg_input.specs.Sessions.{sessions_of, max_sessions};
 
 use crate::line::Line;
@@ -38,7 +38,7 @@ fn is_among(names: &[&str], name: &str) -> bool
 /// each line.
 #[tactic(auto, unfolding(crate::specs::Sessions::sessions_of))]
 pub fn session_names<'a>(alloc: Global, lines: &[Line<'a>]) -> Result<Option<Vec<&'a str>>, Memory>
-    ensures { IfOk result (λ found. MatchOption found (max_sessions < length (sessions_of (map statement_of lines.now))) (λ names. (map (λ n. n.now) names.items ≡ sessions_of (map statement_of lines.now)) × (length names.items ≤ max_sessions))) }
+    ensures { IfOk result (λ found. MatchOption found (max_sessions < length (sessions_of (map seen lines.now))) (λ names. (map (λ n. n.now) names.items ≡ sessions_of (map seen lines.now)) × (length names.items ≤ max_sessions))) }
 {
     let mut names = Vec::new(alloc);
     for line in lines {

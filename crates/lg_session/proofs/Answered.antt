@@ -15,7 +15,7 @@ use Rattle.lg_history.specs.Facts.{Fact, began, said, end_facts, answer_facts, o
 use Rattle.lg_history.specs.InPlace.{EndsOutside, ComesAt, ControlledBy, HasItsForm, InPlace}
 use Rattle.lg_history.specs.Guards.{IsStatement, images_of, Answers}
 use Rattle.lg_history.specs.Sessions.{runs, Sess}
-use Rattle.lg_session.specs.OneSession.{is_alone, is_built}
+use Rattle.lg_session.specs.OneSession.{is_table_statement, is_built}
 use Rattle.lg_session.proofs.PlainRefusals.{IsPlain, IsPlainReply, effect_reply}
 
 -- ---- replies of table statements
@@ -120,7 +120,7 @@ module _ (q : Meaning) (text : Text) where
     form = tt;
   }
 
-  own_answer : (o : Option Stmt) (reply : Reply) (end : EndLine) → is_alone o ≡ true → IsPlainReply reply → Answer q text (kind_of o) reply (Some end) (own_shown reply end)
+  own_answer : (o : Option Stmt) (reply : Reply) (end : EndLine) → is_table_statement o ≡ true → IsPlainReply reply → Answer q text (kind_of o) reply (Some end) (own_shown reply end)
   own_answer (Some (s.Create c)) reply end own h = create_answer reply end h
   own_answer (Some (s.Index c)) reply end own h = create_answer reply end h
   own_answer (Some (s.Change stmt)) reply end own h = rows_answer reply end h
@@ -134,7 +134,7 @@ module _ (q : Meaning) (text : Text) where
   own_answer (Some s.Image) reply end own h = cc
 
   -- the reply of such a statement
-  plain_reply : (tx : ℕ) (T : Tables) (o : Option Stmt) → is_alone o ≡ true → IsPlainReply (by_statement false tx (start T) o).1
+  plain_reply : (tx : ℕ) (T : Tables) (o : Option Stmt) → is_table_statement o ≡ true → IsPlainReply (by_statement false tx (start T) o).1
   plain_reply tx T (Some (s.Create c)) own = effect_reply T tx 0 (s.Create c)
   plain_reply tx T (Some (s.Index c)) own = effect_reply T tx 0 (s.Index c)
   plain_reply tx T (Some (s.Change stmt)) own = effect_reply T tx 0 (s.Change stmt)
@@ -147,10 +147,10 @@ module _ (q : Meaning) (text : Text) where
   plain_reply tx T (Some s.Digest) own = cc
   plain_reply tx T (Some s.Image) own = cc
 
-  pub statement_alone : (tx : ℕ) (T : Tables) (o : Option Stmt) (end : EndLine) → is_alone o ≡ true → Answer q text (kind_of o) (by_statement false tx (start T) o).1 (Some end) (own_shown (by_statement false tx (start T) o).1 end)
+  pub statement_alone : (tx : ℕ) (T : Tables) (o : Option Stmt) (end : EndLine) → is_table_statement o ≡ true → Answer q text (kind_of o) (by_statement false tx (start T) o).1 (Some end) (own_shown (by_statement false tx (start T) o).1 end)
   statement_alone tx T o end own = own_answer o (by_statement false tx (start T) o).1 end own (plain_reply tx T o own)
 
-  pub statement_refused : (tx : ℕ) (T : Tables) (o : Option Stmt) → is_alone o ≡ false → is_built o ≡ true → Answer q text (kind_of o) (by_statement false tx (start T) o).1 None []
+  pub statement_refused : (tx : ℕ) (T : Tables) (o : Option Stmt) → is_table_statement o ≡ false → is_built o ≡ true → Answer q text (kind_of o) (by_statement false tx (start T) o).1 None []
   statement_refused tx T None other built = record {
     facts = refl;
     begun = refl;

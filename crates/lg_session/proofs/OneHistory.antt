@@ -28,7 +28,7 @@ use Rattle.lg_history.specs.Guards.{IsStatement, NoTable, Good}
 use Rattle.lg_history.specs.Histories.{SessionsBelow, AreOf, IsWhole}
 use Rattle.lg_history.specs.Agree.{Agree}
 use Rattle.lg_history.proofs.Agreed.{agrees}
-use Rattle.lg_session.specs.OneSession.{is_alone, is_built, GivesColumns, Run, first_run, answered, transacted, transacts, stepped, run_from, run_of, transcript_of}
+use Rattle.lg_session.specs.OneSession.{is_table_statement, is_built, GivesColumns, Run, first_run, answered, transacted, transacts, stepped, run_from, run_of, transcript_of}
 use Rattle.lg_session.proofs.Answered.{Answer, statement_alone, statement_refused, entry_guard, none_behind, all_statements}
 use Rattle.lg_session.proofs.Steady.{Steady, Ordered, Journaled, steady_step, ordered_step, journaled_step, first_steady, first_ordered, first_journaled}
 
@@ -108,7 +108,7 @@ module _ (q : Meaning) (database : Text) (reads : Reading) (h : Hashing) (real :
 
   abbrev statement_events : ℕ → Text → Run → List Event
   statement_events time text x =
-      if is_alone (reads text) then own_events time text (answer_of x text).1 (all_events x.next (answer_of x text).0.tables) x else other_events text (answer_of x text).1
+      if is_table_statement (reads text) then own_events time text (answer_of x text).1 (all_events x.next (answer_of x text).0.tables) x else other_events text (answer_of x text).1
 
   abbrev events_from : Run → List (ℕ × Text) → List Event
   events_from x [] = []
@@ -195,7 +195,7 @@ module _ (q : Meaning) (database : Text) (reads : Reading) (h : Hashing) (real :
     event_count : q.events false (serial q q.first there) x.next (text ∷ []) ≡ length (all_events x.next after)
     event_count = ap (λ (T : Tables). q.events false T x.next (text ∷ [])) (tables_are x j there unmoved) ∙ its_events x text
 
-    commits_well : (e : row.Event) (es : List row.Event) → all_events x.next after ≡ e ∷ es → is_alone (reads text) ≡ true
+    commits_well : (e : row.Event) (es : List row.Event) → all_events x.next after ≡ e ∷ es → is_table_statement (reads text) ≡ true
         → Reaches before (own_events time text reply (e ∷ es) x) (transacted session time text after reply (e ∷ es) x) (taken ++ text ∷ [])
     commits_well e es some own =
         let place : ℕ = journals.tx_count x.items + 1 in
@@ -242,7 +242,7 @@ module _ (q : Meaning) (database : Text) (reads : Reading) (h : Hashing) (real :
           },
         )
 
-    ends_well : all_events x.next after ≡ [] → is_alone (reads text) ≡ true → Reaches before (own_events time text reply [] x) (transacted session time text after reply [] x) (taken ++ text ∷ [])
+    ends_well : all_events x.next after ≡ [] → is_table_statement (reads text) ≡ true → Reaches before (own_events time text reply [] x) (transacted session time text after reply [] x) (taken ++ text ∷ [])
     ends_well quiet own =
         let m : ℕ = journals.tx_count x.items in
         let d : Deal = said_one x.next text reply in
@@ -286,7 +286,7 @@ module _ (q : Meaning) (database : Text) (reads : Reading) (h : Hashing) (real :
           },
         )
 
-    is_answered : is_alone (reads text) ≡ false → is_built (reads text) ≡ true → Reaches before (other_events text reply) (answered text reply x) (taken ++ text ∷ [])
+    is_answered : is_table_statement (reads text) ≡ false → is_built (reads text) ≡ true → Reaches before (other_events text reply) (answered text reply x) (taken ++ text ∷ [])
     is_answered other built =
         let a = statement_refused q text x.next x.tables (reads text) other built in (
           ((refl, refl, refl, all), (entry_guard q text _ reply None [] refl refl refl none all (real_answer None [] a), tt)),
@@ -304,21 +304,21 @@ module _ (q : Meaning) (database : Text) (reads : Reading) (h : Hashing) (real :
           },
         )
 
-    own_well : (es : List row.Event) → all_events x.next after ≡ es → is_alone (reads text) ≡ true → Reaches before (own_events time text reply es x) (transacted session time text after reply es x) (taken ++ text ∷ [])
+    own_well : (es : List row.Event) → all_events x.next after ≡ es → is_table_statement (reads text) ≡ true → Reaches before (own_events time text reply es x) (transacted session time text after reply es x) (taken ++ text ∷ [])
     own_well [] e own = ends_well e own
     own_well (y ∷ ys) e own = commits_well y ys e own
 
     goes_well : is_built (reads text) ≡ true → Reaches before (statement_events time text x) (stepped session time text (reads text) x) (taken ++ text ∷ [])
     unfolding stepped
-    goes_well built = here (is_alone (reads text)) refl
+    goes_well built = here (is_table_statement (reads text)) refl
       where
-        here : (b : Bool) → is_alone (reads text) ≡ b
+        here : (b : Bool) → is_table_statement (reads text) ≡ b
             → Reaches before (if b then own_events time text reply (all_events x.next after) x else other_events text reply) (if b then transacts session time text (answer_of x text) x else answered text reply x) (taken ++ text ∷ [])
         here true own = own_well (all_events x.next after) refl own
         here false other = is_answered other built
 
   statement_below : (time : ℕ) (text : Text) (x : Run) → SessionsBelow 1 (statement_events time text x)
-  statement_below time text x = here (is_alone (reads text))
+  statement_below time text x = here (is_table_statement (reads text))
     where
       here : (b : Bool) → SessionsBelow 1 (if b then own_events time text (answer_of x text).1 (all_events x.next (answer_of x text).0.tables) x else other_events text (answer_of x text).1)
       here true = own_below time text (answer_of x text).1 (all_events x.next (answer_of x text).0.tables) x

@@ -26,7 +26,7 @@ use Rattle.lg_runs.proofs.Keeping.{first_kept, first_described}
 use Rattle.lg_runs.proofs.Scripts.{script_both}
 use Rattle.lg_runs.proofs.Serials.{no_number}
 use Rattle.lg_journal.specs.Rules.{is_among, ids_differ, closes_follow}
-use Rattle.lg_session.specs.OneSession.{is_alone, GivesColumns, Run, first_run, answered, transacted, transacts, stepped, run_from}
+use Rattle.lg_session.specs.OneSession.{is_table_statement, GivesColumns, Run, first_run, answered, transacted, transacts, stepped, run_from}
 use Rattle.lg_session.proofs.Quiet.{quiet_leaves}
 
 -- ---- the next transaction
@@ -152,11 +152,11 @@ module _ (reads : Reading) where
 
   module _ (session : List ℕ) (time : ℕ) (text : List ℕ) where
     -- what holds after a transaction, and after an answer outside any, holds after a statement
-    pub after_statement : (P : Run → Type 0) (o : Option Stmt) (x : Run) → (is_alone o ≡ true → P (transacts session time text (by_statement false x.next (start x.tables) o) x)) → ((r : Reply) → P (answered text r x)) → P (stepped session time text o x)
+    pub after_statement : (P : Run → Type 0) (o : Option Stmt) (x : Run) → (is_table_statement o ≡ true → P (transacts session time text (by_statement false x.next (start x.tables) o) x)) → ((r : Reply) → P (answered text r x)) → P (stepped session time text o x)
     unfolding stepped
-    after_statement P o x f g = here (is_alone o) refl
+    after_statement P o x f g = here (is_table_statement o) refl
       where
-        here : (b : Bool) → is_alone o ≡ b → P (if b then transacts session time text (by_statement false x.next (start x.tables) o) x else answered text (by_statement false x.next (start x.tables) o).1 x)
+        here : (b : Bool) → is_table_statement o ≡ b → P (if b then transacts session time text (by_statement false x.next (start x.tables) o) x else answered text (by_statement false x.next (start x.tables) o).1 x)
         here true e = f e
         here false e = g (by_statement false x.next (start x.tables) o).1
 
@@ -196,7 +196,7 @@ module _ (reads : Reading) where
 
     -- ---- it keeps the journal
 
-    quiet_alone : (tx : ℕ) (T : Tables) (o : Option Stmt) → is_alone o ≡ true → ((c : CreateIndex) → o ≡ Some (s.Index c) → c.columns ≢ []) → Kept by_id tx 0 T → Described T
+    quiet_alone : (tx : ℕ) (T : Tables) (o : Option Stmt) → is_table_statement o ≡ true → ((c : CreateIndex) → o ≡ Some (s.Index c) → c.columns ≢ []) → Kept by_id tx 0 T → Described T
         → all_events tx (by_statement false tx (start T) o).0.tables ≡ [] → (by_statement false tx (start T) o).0.tables ≡ T
     quiet_alone tx T None e has k d none = refl
     quiet_alone tx T (Some (s.Create c)) e has k d none = quiet_leaves by_id tx T (s.Create c) tt k d none

@@ -20,14 +20,14 @@ use Rattle.lg_history.specs.Transcripts.{Entry, statement, committed_at, ended_a
 -- ---- which statements there are here
 
 -- a transaction of its own: it draws an id before it is looked at
-abbrev pub is_alone : Option Stmt → Bool
-is_alone (Some (s.Create c)) = true
-is_alone (Some (s.Index c)) = true
-is_alone (Some (s.Change stmt)) = true
-is_alone (Some (s.Select q)) = true
-is_alone _ = false
+abbrev pub is_table_statement : Option Stmt → Bool
+is_table_statement (Some (s.Create c)) = true
+is_table_statement (Some (s.Index c)) = true
+is_table_statement (Some (s.Change stmt)) = true
+is_table_statement (Some (s.Select q)) = true
+is_table_statement _ = false
 
--- what a session may be answered that never begins a transaction of many statements
+-- table statements, COMMIT and ROLLBACK of all, and texts that are no statement
 abbrev pub is_built : Option Stmt → Bool
 is_built (Some s.Begin) = false
 is_built (Some (s.Save name)) = false
@@ -87,7 +87,7 @@ transacts session time text step x = transacted session time text step.0.tables 
 -- a statement that begins at this time
 unfoldable pub stepped : List ℕ → ℕ → List ℕ → Option Stmt → Run → Run
 stepped session time text stmt x =
-    if is_alone stmt
+    if is_table_statement stmt
     then transacts session time text (by_statement false x.next (start x.tables) stmt) x
     else answered text (by_statement false x.next (start x.tables) stmt).1 x
 

@@ -1,18 +1,12 @@
 -- The journal's item of a transaction of one statement has a spelling.
 use Rattle.std.proofs.Common.{◌≡◌, ◌<◌, ◌≤◌, ◌^◌, List, [], ◌∷◌, ℕ, true, false, refl, arith}
 use Rattle.std.proofs.lemmas.Bool.Decides.{nat_tests}
-use Rattle.lg_input.specs.Line.{is_session_name}
-use Rattle.lg_entry.specs.SessionName as entry
+use Rattle.lg_entry.specs.SessionName.{is_session_name}
 use Rattle.lg_entry.specs.Entry.{is_tx_id, is_moment}
 use Rattle.lg_types.specs.declared.journal.JournalItem.TheVariants.{Tx}
 use Rattle.lg_journal.specs.Journal.{Statement}
 use Rattle.lg_journal.specs.Rules.{IsStatement, IsItem}
 use Rattle.lg_step.specs.Moments.{max_ticks}
-
--- the names of sessions in the input are those in the journal
-same_names : (name : List ℕ) → is_session_name name ≡ true → entry.is_session_name name ≡ true
-unfolding is_session_name entry.is_session_name
-same_names name h = h
 
 id_fits : (id : ℕ) → 1 ≤ id → id < 2 ^ 63 → is_tx_id id ≡ true
 id_fits id first last = grind (arith, nat_tests)
@@ -23,7 +17,7 @@ time_fits time h = grind (arith, nat_tests)
 pub has_spelling : (id : ℕ) (session : List ℕ) (time : ℕ) (s : Statement) → is_session_name session ≡ true → 1 ≤ id → id < 2 ^ 63 → time ≤ max_ticks → IsStatement s → IsItem (Tx id session time false (s ∷ []))
 has_spelling id session time s name first last moment texts = record {
   id = id_fits id first last;
-  session = same_names session name;
+  session = name;
   time = time_fits time moment;
   alone = refl;
   count = omega arith;

@@ -1,7 +1,7 @@
 -- The first line that is not built.
 use Rattle.std.proofs.Common.{◌≡◌, refl, subst, ℕ, zero, suc, ◌<◌, List, [], ◌∷◌, length, map, drop, get_or, false, Some, arith}
 use Rattle.lg_input.specs.declared.line.Line.{Line}
-use Rattle.lg_input.specs.Line.{statement_of as seen}
+use Rattle.lg_input.specs.Line.{seen}
 use Rattle.lg_step.specs.Lines.{is_of, unbuilt_from}
 
 pub stops_at : (name other : List ℕ) (lines : List Line) (i : ℕ) (d : Line) → i < length lines → other ≡ name → is_of other (seen (get_or lines i d)) ≡ false

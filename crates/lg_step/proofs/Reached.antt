@@ -22,7 +22,7 @@ use Rattle.lg_input.specs.Line.{Statement}
 use Rattle.lg_parse.specs.Text.{statement_of}
 use Rattle.lg_serial.specs.Machine.{Machine}
 use Rattle.lg_serial.specs.Order.{IsNew}
-use Rattle.lg_session.specs.OneSession.{is_alone, Run, first_run, answered, transacted, transacts, stepped, run_from, run_of}
+use Rattle.lg_session.specs.OneSession.{is_table_statement, Run, first_run, answered, transacted, transacts, stepped, run_from, run_of}
 use Rattle.lg_step.specs.declared.session.Session.{Session}
 use Rattle.lg_step.specs.declared.step_err.StepErr.{StepErr}
 use Rattle.lg_step.specs.Lines.{texts_of}
@@ -104,7 +104,7 @@ transacted_grows name time text T r (e ∷ es) x =
 
 stepped_grows : (name : List ℕ) (time : ℕ) (text : List ℕ) (o : Option Stmt) (x : Run) → GrowsTo x (stepped name time text o x)
 unfolding stepped
-stepped_grows name time text o x = here (is_alone o)
+stepped_grows name time text o x = here (is_table_statement o)
   where
     here : (b : Bool) → GrowsTo x (if b then transacts name time text (by_statement false x.next (start x.tables) o) x else answered text (by_statement false x.next (start x.tables) o).1 x)
     here true = transacted_grows name time text (by_statement false x.next (start x.tables) o).0.tables (by_statement false x.next (start x.tables) o).1 (all_events x.next (by_statement false x.next (start x.tables) o).0.tables) x

@@ -4,15 +4,15 @@ use Rattle.lg_value.specs.declared.refusal.Refusal.TheVariants.{E01, E13}
 use Rattle.lg_types.specs.declared.reply.Reply.TheVariants.{Refused}
 use Rattle.lg_types.specs.declared.statement.Stmt.{Stmt}
 use Rattle.lg_types.specs.declared.statement.Stmt.TheVariants as s
-use Rattle.lg_session.specs.OneSession.{is_alone, is_built, Run, answered, transacts, stepped}
+use Rattle.lg_session.specs.OneSession.{is_table_statement, is_built, Run, answered, transacts, stepped}
 use Rattle.lg_step.specs.Sessions.{done_alone}
 
 module _ (name : List ℕ) (time : ℕ) (text : List ℕ) (x : Run) where
-  pub alone_steps : (stmt : Stmt) → is_alone (Some stmt) ≡ true → stepped name time text (Some stmt) x ≡ transacts name time text (done_alone x.next x.tables stmt) x
+  pub alone_steps : (stmt : Stmt) → is_table_statement (Some stmt) ≡ true → stepped name time text (Some stmt) x ≡ transacts name time text (done_alone x.next x.tables stmt) x
   unfolding stepped
   alone_steps stmt alone = rw alone refl
 
-  pub other_steps : (stmt : Stmt) → is_alone (Some stmt) ≡ false → is_built (Some stmt) ≡ true → stepped name time text (Some stmt) x ≡ answered text (Refused E13) x
+  pub other_steps : (stmt : Stmt) → is_table_statement (Some stmt) ≡ false → is_built (Some stmt) ≡ true → stepped name time text (Some stmt) x ≡ answered text (Refused E13) x
   unfolding stepped
   other_steps (s.Create c) other built = cc
   other_steps (s.Index c) other built = cc

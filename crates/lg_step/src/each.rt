@@ -1,7 +1,7 @@
 //! Running lines one after another.
 
 ghost use Rattle.std.specs.Prelude.{ℕ, ◌≡◌, ◌<◌, ◌-◌, ◌^◌, ◌∷◌, ◌++◌, [], List, length, map, None, Some, Err, OnOk, All, true, false};
-ghost use Rattle.lg_input.specs.Line.{Statement, statement_of as seen, is_session_name};
+ghost use Rattle.lg_input.specs.Line.{Statement, seen, is_session_name};
 ghost use Rattle.lg_step.specs.Lines as spec;
 ghost use Rattle.lg_step.specs.Moments.{IsMoment};
 ghost use Rattle.lg_step.specs.Reached.{Came};

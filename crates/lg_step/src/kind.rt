@@ -6,8 +6,8 @@ ghost use Rattle.lg_session.specs.OneSession as spec;
 use lg_types::Stmt;
 
 /// Whether a statement is a transaction of its own.
-pub(crate) fn is_alone(stmt: &Stmt) -> bool
-    ensures { result ≡ spec.is_alone (Some stmt.now) }
+pub(crate) fn is_table_statement(stmt: &Stmt) -> bool
+    ensures { result ≡ spec.is_table_statement (Some stmt.now) }
 {
     matches!(
         stmt,

@@ -2,7 +2,7 @@
 
 ghost use Rattle.std.specs.Prelude.{ℕ, ◌≡◌, ◌<◌, ◌-◌, ◌^◌, List, length, map, flat_map, codes, string_bytes, None, Some, Err, IfOk, OnOk, All, true};
 ghost use Rattle.std.specs.List.{AllByRecursion};
-ghost use Rattle.lg_input.specs.Line.{statement_of as seen, is_session_name};
+ghost use Rattle.lg_input.specs.Line.{seen, is_session_name};
 ghost use Rattle.lg_row.specs.Leaf.{HasLeaf};
 ghost use Rattle.lg_journal.specs.Rules.{IsJournal};
 ghost use Rattle.lg_session.specs.OneSession.{journal_of};

@@ -12,7 +12,7 @@ ghost use Rattle.lg_step.specs.Sessions.{done_alone, Shows, Steady, Ready};
 ghost use Rattle.lg_step.specs.TranscriptText.{end_line, indented};
 
 use crate::item::item_of;
-use crate::kind::{is_alone, is_built};
+use crate::kind::{is_built, is_table_statement};
 use crate::step_err::StepErr;
 use crate::transaction::transact;
 use crate::transcript::{push_committed, push_ended, push_statement};
@@ -139,7 +139,7 @@ impl Session {
         if !is_built(stmt) {
             return Err(StepErr::Unbuilt { line: line.number });
         }
-        if is_alone(stmt) {
+        if is_table_statement(stmt) {
             self.run_alone(alloc, line, time, stmt)?;
         } else {
             self.refuse(alloc, line, Refusal::E13)?;

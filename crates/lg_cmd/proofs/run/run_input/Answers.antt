@@ -1,13 +1,13 @@
 use Rattle.std.proofs.Common.{map, sym, ◌∙◌}
 use Rattle.std.proofs.lemmas.List.{length-map}
-use Rattle.lg_input.specs.Line.{statement_of}
+use Rattle.lg_input.specs.Line.{seen}
 use Rattle.lg_cmd.proofs.run.run_input.Goals as goal
 
 pub returns-in-Ok-clause-run : goal.returns-in-Ok-clause-run
 returns-in-Ok-clause-run g c =
-    let statements = map statement_of c.deref.result.now in
+    let statements = map seen c.deref.result.now in
     let r = c.in-Ok.ensures.ran in
-    let many = r.1 ∙ sym (length-map c.deref.result.now statement_of) in (
+    let many = r.1 ∙ sym (length-map c.deref.result.now seen) in (
       statements,
       r.0,
       record {

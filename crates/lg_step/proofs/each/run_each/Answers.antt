@@ -1,7 +1,7 @@
 use Rattle.std.proofs.Common.{◌≡◌, ◌∙◌, sym, ap, subst, arith, Err, Some, map, take}
 use Rattle.std.proofs.lemmas.List.{length-take-le, length-map}
 use Rattle.std.specs.Result.{IsErrAnd}
-use Rattle.lg_input.specs.Line.{statement_of as seen}
+use Rattle.lg_input.specs.Line.{seen}
 use Rattle.lg_step.specs.declared.step_err.StepErr.{StepErr}
 use Rattle.lg_step.specs.declared.step_err.StepErr.TheVariants.{Unbuilt}
 use Rattle.lg_step.specs.Lines.{session_of, unbuilt}

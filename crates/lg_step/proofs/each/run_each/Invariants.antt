@@ -1,5 +1,5 @@
 use Rattle.std.proofs.Common.{◌≡◌, take, drop, map}
-use Rattle.lg_input.specs.Line.{statement_of as seen}
+use Rattle.lg_input.specs.Line.{seen}
 use Rattle.lg_step.specs.Lines.{session_of, unbuilt_from}
 use Rattle.lg_step.specs.Reached.{Came}
 use Rattle.lg_step.specs.Sessions.{Steady}

@@ -1,4 +1,4 @@
-use Rattle.lg_input.specs.Line.{statement_of as seen}
+use Rattle.lg_input.specs.Line.{seen}
 use Rattle.lg_step.proofs.Reached.{came_line}
 use Rattle.lg_step.proofs.each.run_line.Goals as goal
 

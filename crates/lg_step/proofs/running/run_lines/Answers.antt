@@ -1,6 +1,6 @@
 use Rattle.std.proofs.Common.{◌∙◌, map, arith}
 use Rattle.std.proofs.lemmas.List.{length-map}
-use Rattle.lg_input.specs.Line.{statement_of as seen}
+use Rattle.lg_input.specs.Line.{seen}
 use Rattle.lg_step.specs.Lines.{session_of}
 use Rattle.lg_step.proofs.Reached.{came_none}
 use Rattle.lg_step.proofs.Ends.{ran_so, has_spelling, have_leaves}
