@@ -4,4 +4,6 @@
 #[cfg(test)]
 mod outside;
 #[cfg(test)]
+mod plain;
+#[cfg(test)]
 mod sessions;
