@@ -1,5 +1,6 @@
 -- The longest bytes.
 use Rattle.std.proofs.Common.{◌≡◌, ℕ, zero, suc, ◌+◌, ◌-◌, ◌%◌, ◌≤◌, ◌==◌, true, false, ◌&&◌, ◌||◌, List, [], ◌∷◌, length, take, Some, None, refl, arith}
+use Rattle.std.proofs.lemmas.Bool.{and_parts}
 use Rattle.std.proofs.lemmas.Bool.Decides.{nat_tests}
 use Rattle.std.proofs.lemmas.List.{length-take-le}
 use Rattle.std.proofs.lemmas.List.Sums.{prefix_len-le-length}
@@ -7,7 +8,7 @@ use Rattle.std.specs.List.{list_all, prefix_len}
 use Rattle.std.specs.Char.{is_ascii_hexdigit}
 use Rattle.lg_lex.specs.IsToken.{is_bytes}
 use Rattle.lg_lex.specs.Front.{bytes}
-use Rattle.lg_lex.proofs.Runs.{and_true, run_bound, run_passes}
+use Rattle.lg_lex.proofs.Runs.{run_bound, run_passes}
 use Rattle.lg_lex.proofs.Best.{Best, best_same, best_if}
 
 even_below : (j d : ℕ) → j ≤ d → j % 2 ≡ 0 → j ≤ d - d % 2
@@ -30,8 +31,8 @@ bytes_most : (b x : ℕ) (z : List ℕ) (m : ℕ) → m ≤ length (b ∷ x ∷ 
 bytes_most b x z zero le h = omega arith
 bytes_most b x z (suc zero) le h = omega arith
 bytes_most b x z (suc (suc m)) le h =
-    let last = and_true ((b == 48 && (x == 120 || x == 88)) && list_all is_ascii_hexdigit (take m z)) (length (take m z) % 2 == 0) h in
-    let first = and_true (b == 48 && (x == 120 || x == 88)) (list_all is_ascii_hexdigit (take m z)) last.0 in
+    let last = and_parts ((b == 48 && (x == 120 || x == 88)) && list_all is_ascii_hexdigit (take m z)) (length (take m z) % 2 == 0) h in
+    let first = and_parts (b == 48 && (x == 120 || x == 88)) (list_all is_ascii_hexdigit (take m z)) last.0 in
     let len = length-take-le m z (omega arith) in
     let even : m % 2 ≡ 0 = grind (arith, nat_tests, len, last.1) in
     let run = run_bound is_ascii_hexdigit z m (omega arith) first.1 in
@@ -54,7 +55,7 @@ bytes_are b x z e =
 pub best_bytes : (b : ℕ) (z : List ℕ) → Best is_bytes (b ∷ z) (bytes (b ∷ z))
 best_bytes b [] =
     best_if is_bytes (b ∷ []) (b == 48 && (0 == 120 || 0 == 88)) _ None
-    (λ e. absurd (let both = and_true (b == 48) (0 == 120 || 0 == 88) e in let never : (0 == 120 || 0 == 88) ≡ true = both.1 in cc))
+    (λ e. absurd (let both = and_parts (b == 48) (0 == 120 || 0 == 88) e in let never : (0 == 120 || 0 == 88) ≡ true = both.1 in cc))
     (λ e m le. bytes_none b m)
 best_bytes b (x ∷ z) =
     best_if is_bytes (b ∷ x ∷ z) (b == 48 && (x == 120 || x == 88)) _ None

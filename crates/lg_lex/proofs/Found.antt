@@ -1,5 +1,6 @@
 -- What is found is the longest token: where a kind has one, the kinds behind it have none or one of one byte.
 use Rattle.std.proofs.Common.{◌≡◌, ℕ, ◌≤◌, ◌==◌, Bool, true, false, cond, ◌&&◌, ◌||◌, List, [], ◌∷◌, get_or, Option, Some, None, refl, sym, subst, arith}
+use Rattle.std.proofs.lemmas.Bool.{and_parts}
 use Rattle.std.proofs.lemmas.Bool.Decides.{nat_tests}
 use Rattle.std.specs.Char.{is_ascii_digit}
 use Rattle.lg_lex.specs.declared.token.Kind.{Kind}
@@ -8,7 +9,7 @@ use Rattle.lg_lex.specs.IsToken.{kind_of, is_bytes, is_number, is_text, is_word,
 use Rattle.lg_lex.specs.Longest.{longest, or_else}
 use Rattle.lg_lex.specs.Front as f
 use Rattle.lg_lex.specs.Front.{front, with_kind}
-use Rattle.lg_lex.proofs.Runs.{and_true, or_false}
+use Rattle.lg_lex.proofs.Runs.{or_false}
 use Rattle.lg_lex.proofs.Best.{Best, Found, Under, AtMost, ask, found_is_longest}
 use Rattle.lg_lex.proofs.Bytes.{best_bytes}
 use Rattle.lg_lex.proofs.Numbers.{best_number}
@@ -95,7 +96,7 @@ behind_text_at b z true e h =
     let at : 39 ≡ b = grind (arith, nat_tests, e) in
     let P : ℕ → Type 0 = λ x. AtMost 1 (words (x ∷ z)) in
     subst P at tt
-behind_text_at b z false e h = let both = and_true (b == 78 || b == 110) (get_or z 0 0 == 39) h in behind_letter b z both.0 both.1
+behind_text_at b z false e h = let both = and_parts (b == 78 || b == 110) (get_or z 0 0 == 39) h in behind_letter b z both.0 both.1
 
 not_text : (b : ℕ) (z : List ℕ) → begins_text b z ≡ false → f.text (b ∷ z) ≡ None
 not_text b z e = let both = or_false (b == 39) ((b == 78 || b == 110) && get_or z 0 0 == 39) e in rw (both.0, both.1) refl
@@ -139,9 +140,9 @@ x_is x z false e h =
     subst P at (omega arith)
 
 behind_bytes : (b : ℕ) (z : List ℕ) → begins_bytes b z ≡ true → AtMost 1 (numbers (b ∷ z))
-behind_bytes b [] e = let both = and_true (b == 48) (0 == 120 || 0 == 88) e in let never : (0 == 120 || 0 == 88) ≡ true = both.1 in cc
+behind_bytes b [] e = let both = and_parts (b == 48) (0 == 120 || 0 == 88) e in let never : (0 == 120 || 0 == 88) ≡ true = both.1 in cc
 behind_bytes b (x ∷ z) e =
-    let both = and_true (b == 48) (x == 120 || x == 88) e in
+    let both = and_parts (b == 48) (x == 120 || x == 88) e in
     let at : 48 ≡ b = grind (arith, nat_tests, both.0) in
     let P : ℕ → Type 0 = λ y. AtMost 1 (numbers (y ∷ x ∷ z)) in
     subst P at (x_is x z (x == 120) refl both.1)

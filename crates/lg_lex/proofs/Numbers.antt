@@ -1,5 +1,6 @@
 -- The longest number.
 use Rattle.std.proofs.Common.{◌≡◌, ℕ, zero, suc, ◌+◌, ◌-◌, ◌<◌, ◌≤◌, ◌==◌, ◌⊎◌, inl, inr, Bool, true, false, ◌&&◌, List, [], ◌∷◌, length, take, drop, get_or, min, nat_lt, nat_le, Some, None, refl, ap, sym, ◌∙◌, subst, arith}
+use Rattle.std.proofs.lemmas.Bool.{and_parts}
 use Rattle.std.proofs.lemmas.Bool.Decides.{nat_tests}
 use Rattle.std.proofs.lemmas.List.{length-take-le, length-drop, drop-take, drop-drop, get_or-drop}
 use Rattle.std.proofs.lemmas.List.Sums.{prefix_len-le-length, prefix_len_passes}
@@ -7,7 +8,7 @@ use Rattle.std.specs.List.{list_all, prefix_len}
 use Rattle.std.specs.Char.{is_ascii_digit}
 use Rattle.lg_lex.specs.IsToken.{is_fraction, is_number}
 use Rattle.lg_lex.specs.Front.{number}
-use Rattle.lg_lex.proofs.Runs.{and_true, not_true, run_bound, run_passes, run_of_part, run_of_more}
+use Rattle.lg_lex.proofs.Runs.{not_true, run_bound, run_passes, run_of_part, run_of_more}
 use Rattle.lg_lex.proofs.Best.{Best, best_if}
 
 abbrev run : List ℕ → ℕ
@@ -44,9 +45,9 @@ record IsBehind (n : ℕ) (r : List ℕ) (k : ℕ) : Type 0 where
 fraction_is : (n : ℕ) (r : List ℕ) (k : ℕ) → suc k ≤ length r → is_fraction n (take (suc k) r) ≡ true → IsBehind n r k
 fraction_is n [] k le h = absurd (omega arith)
 fraction_is n (b ∷ r) k le h =
-    let a = and_true (b == 46 && nat_lt 0 (length (take k r)) && list_all is_ascii_digit (take k r)) (nat_le (n + length (take k r)) 38) h in
-    let c = and_true (b == 46 && nat_lt 0 (length (take k r))) (list_all is_ascii_digit (take k r)) a.0 in
-    let d = and_true (b == 46) (nat_lt 0 (length (take k r))) c.0 in
+    let a = and_parts (b == 46 && nat_lt 0 (length (take k r)) && list_all is_ascii_digit (take k r)) (nat_le (n + length (take k r)) 38) h in
+    let c = and_parts (b == 46 && nat_lt 0 (length (take k r))) (list_all is_ascii_digit (take k r)) a.0 in
+    let d = and_parts (b == 46) (nat_lt 0 (length (take k r))) c.0 in
     let len = length-take-le k r (omega arith) in
     record {
       point = grind (arith, nat_tests, d.0);
@@ -96,7 +97,7 @@ behind_point z k m e is =
 number_at : (z : List ℕ) (m : ℕ) (c : Bool) → nat_le m (run z) ≡ c → m ≤ length z → is_number (take m z) ≡ true → IsWhole z m ⊎ IsPointed z m
 number_at z m true e le h =
     let inside : m ≤ run z = grind (arith, nat_tests) in
-    let both = and_true (nat_lt 0 m) (nat_le m 38) (sym (whole_is z m inside) ∙ h) in
+    let both = and_parts (nat_lt 0 m) (nat_le m 38) (sym (whole_is z m inside) ∙ h) in
     inl (record { some = grind (arith, nat_tests, both.0); few = grind (arith, nat_tests, both.1); inside = inside })
 number_at z m false e le h =
     let past : run z < m = grind (arith, nat_tests) in
@@ -141,8 +142,8 @@ pointed_passes z k m e le point some few inside =
 
 number_pointed : (z : List ℕ) → has_point z ≡ true → Best is_number z (Some (whole z + 1 + min (38 - whole z) (run (drop (whole z + 1) z))))
 number_pointed z e =
-    let last = and_true (nat_lt (whole z) 38 && get_or z (whole z) 0 == 46) (is_ascii_digit (get_or z (whole z + 1) 0)) e in
-    let first = and_true (nat_lt (whole z) 38) (get_or z (whole z) 0 == 46) last.0 in
+    let last = and_parts (nat_lt (whole z) 38 && get_or z (whole z) 0 == 46) (is_ascii_digit (get_or z (whole z + 1) 0)) e in
+    let first = and_parts (nat_lt (whole z) 38) (get_or z (whole z) 0 == 46) last.0 in
     let less : whole z < 38 = grind (arith, nat_tests, first.0) in
     let n : whole z ≡ run z = omega (arith, less) in
     let within = digit_within z (whole z + 1) last.1 in

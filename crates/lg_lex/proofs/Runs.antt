@@ -1,10 +1,7 @@
 -- Runs of bytes that pass a test.
 use Rattle.std.proofs.Common.{◌≡◌, ℕ, zero, suc, ◌+◌, ◌<◌, ◌≤◌, Bool, true, false, cond, ◌&&◌, ◌||◌, List, [], ◌∷◌, length, take, refl, arith}
+use Rattle.std.proofs.lemmas.Bool.{and_parts}
 use Rattle.std.specs.List.{list_all, prefix_len}
-
-pub and_true : (a b : Bool) → (a && b) ≡ true → (a ≡ true) × (b ≡ true)
-and_true true b h = (refl, h)
-and_true false b h = cc
 
 pub or_false : (a b : Bool) → (a || b) ≡ false → (a ≡ false) × (b ≡ false)
 or_false true b h = cc
@@ -20,7 +17,7 @@ module _ (p : ℕ → Bool) where
   run_bound [] m within all = omega arith
   run_bound (b ∷ z) zero within all = omega arith
   run_bound (b ∷ z) (suc m) within all =
-      let both = and_true (p b) (list_all p (take m z)) all in
+      let both = and_parts (p b) (list_all p (take m z)) all in
       let rest = run_bound z m (omega arith) both.1 in
       rw both.0 (omega (arith, rest))
 

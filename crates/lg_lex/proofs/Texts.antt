@@ -1,10 +1,11 @@
 -- The longest quoted text.
 use Rattle.std.proofs.Common.{◌≡◌, ℕ, zero, suc, ◌+◌, ◌≤◌, ◌==◌, inl, inr, Bool, true, false, cond, ◌&&◌, ◌||◌, List, [], ◌∷◌, length, take, drop, get_or, Option, Some, None, refl, sym, ◌∙◌, subst, arith}
+use Rattle.std.proofs.lemmas.Bool.{and_parts}
 use Rattle.std.proofs.lemmas.Bool.Decides.{nat_tests}
 use Rattle.lg_lex.specs.IsToken.{is_inside, is_text}
 use Rattle.lg_lex.specs.Front.{closing, text}
 use Rattle.lg_lex.proofs.Quotes.{covers, finds}
-use Rattle.lg_lex.proofs.Runs.{and_true, not_true}
+use Rattle.lg_lex.proofs.Runs.{not_true}
 use Rattle.lg_lex.proofs.Best.{Best, best_same, best_if}
 
 and_none : (a : Bool) → (a && false) ≡ false
@@ -56,7 +57,7 @@ lettered_most b z n e closes zero le h = omega arith
 lettered_most b z n e closes (suc zero) le h = omega (arith, closes.1)
 lettered_most b z n e closes (suc (suc m)) le h =
     let P : Bool → Type 0 = λ c. cond c (is_inside false (39 ∷ take m z)) ((b == 78 || b == 110) && is_inside false (take m z)) ≡ true in
-    let rest = and_true (b == 78 || b == 110) (is_inside false (take m z)) (subst P e h) in
+    let rest = and_parts (b == 78 || b == 110) (is_inside false (take m z)) (subst P e h) in
     let most = closes.4 m (omega arith) rest.1 in
     omega (arith, most)
 
@@ -73,15 +74,15 @@ no_text b z e f (suc zero) = rw e (and_none (b == 78 || b == 110))
 no_text b [] e f (suc (suc m)) = rw e (and_none (b == 78 || b == 110))
 no_text b (d ∷ z) e f (suc (suc m)) =
     rw e (not_true ((b == 78 || b == 110) && (d == 39 && is_inside false (take m z))) (λ h.
-    let outer = and_true (b == 78 || b == 110) (d == 39 && is_inside false (take m z)) h in
-    let inner = and_true (d == 39) (is_inside false (take m z)) outer.1 in
+    let outer = and_parts (b == 78 || b == 110) (d == 39 && is_inside false (take m z)) h in
+    let inner = and_parts (d == 39) (is_inside false (take m z)) outer.1 in
     let both : ((b == 78 || b == 110) && d == 39) ≡ true = rw (outer.0, inner.0) refl in
     cc))
 
 after_letter : (b : ℕ) (z : List ℕ) → (b == 39) ≡ false → ((b == 78 || b == 110) && get_or z 0 0 == 39) ≡ true → Best is_text (b ∷ z) (closing false None 2 (drop 1 z))
-after_letter b [] e f = absurd (let both = and_true (b == 78 || b == 110) (0 == 39) f in let never : (0 == 39) ≡ true = both.1 in cc)
+after_letter b [] e f = absurd (let both = and_parts (b == 78 || b == 110) (0 == 39) f in let never : (0 == 39) ≡ true = both.1 in cc)
 after_letter b (d ∷ z) e f =
-    let both = and_true (b == 78 || b == 110) (d == 39) f in
+    let both = and_parts (b == 78 || b == 110) (d == 39) f in
     let at : 39 ≡ d = grind (arith, nat_tests, both.1) in
     let P : ℕ → Type 0 = λ x. Best is_text (b ∷ x ∷ z) (closing false None 2 z) in
     subst P at (lettered b z (closing false None 2 z) e both.0 (closes_by 2 z (closing false None 2 z) refl))

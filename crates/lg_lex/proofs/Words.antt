@@ -1,5 +1,6 @@
 -- The longest word, bracketed name and sign.
 use Rattle.std.proofs.Common.{◌≡◌, ℕ, zero, suc, ◌+◌, ◌<◌, ◌≤◌, ◌==◌, Bool, true, false, cond, ◌&&◌, List, [], ◌∷◌, length, take, get_or, nat_lt, Some, None, refl, ap, sym, ◌∙◌, subst, arith}
+use Rattle.std.proofs.lemmas.Bool.{and_parts}
 use Rattle.std.proofs.lemmas.Bool.Decides.{nat_tests}
 use Rattle.std.proofs.lemmas.List.{length-take-le}
 use Rattle.std.proofs.lemmas.List.Sums.{prefix_len-le-length}
@@ -7,7 +8,7 @@ use Rattle.std.specs.List.{list_all, prefix_len}
 use Rattle.lg_lex.specs.declared.front.Class.TheVariants as class
 use Rattle.lg_lex.specs.IsToken.{begins_word, is_word_byte, is_word, is_name_byte, is_closed, is_bracketed, is_single, is_pair, is_sign}
 use Rattle.lg_lex.specs.Front.{past, word, bracketed, sign}
-use Rattle.lg_lex.proofs.Runs.{and_true, not_true, run_bound, run_passes}
+use Rattle.lg_lex.proofs.Runs.{not_true, run_bound, run_passes}
 use Rattle.lg_lex.proofs.Best.{Best, best_same, best_if}
 
 start_is_word_byte : (b : ℕ) → begins_word b ≡ true → is_word_byte b ≡ true
@@ -16,7 +17,7 @@ start_is_word_byte b h = grind (arith, nat_tests)
 word_most : (b : ℕ) (z : List ℕ) (m : ℕ) → m ≤ length (b ∷ z) → is_word (take m (b ∷ z)) ≡ true → m ≤ suc (prefix_len is_word_byte z)
 word_most b z zero le h = omega arith
 word_most b z (suc m) le h =
-    let both = and_true (begins_word b) (list_all is_word_byte (take m z)) h in
+    let both = and_parts (begins_word b) (list_all is_word_byte (take m z)) h in
     let rest = run_bound is_word_byte z m (omega arith) both.1 in
     omega (arith, rest)
 
@@ -75,7 +76,7 @@ closed_is (b ∷ z) (suc zero) le h =
     rw (closing_no_name b h) (refl, at)
 closed_is (b ∷ []) (suc (suc m)) le h = absurd (omega arith)
 closed_is (b ∷ d ∷ z) (suc (suc m)) le h =
-    let both = and_true (is_name_byte b) (is_closed (d ∷ take m z)) h in
+    let both = and_parts (is_name_byte b) (is_closed (d ∷ take m z)) h in
     closed_at b (d ∷ z) (suc m) both.0 (closed_is (d ∷ z) (suc m) (omega arith) both.1)
 
 bracketed_none : (b : ℕ) (z : List ℕ) → (b == 91) ≡ false → (m : ℕ) → is_bracketed (take m (b ∷ z)) ≡ false
@@ -85,8 +86,8 @@ bracketed_none b z e (suc m) = rw e refl
 -- what a bracketed name says of the rest
 bracketed_is : (b : ℕ) (z : List ℕ) (m : ℕ) → suc m ≤ length (b ∷ z) → is_bracketed (take (suc m) (b ∷ z)) ≡ true → (1 < m) × (m ≡ suc (prefix_len is_name_byte z)) × (get_or z (prefix_len is_name_byte z) 0 ≡ 93)
 bracketed_is b z m le h =
-    let last = and_true (b == 91 && nat_lt 1 (length (take m z))) (is_closed (take m z)) h in
-    let first = and_true (b == 91) (nat_lt 1 (length (take m z))) last.0 in
+    let last = and_parts (b == 91 && nat_lt 1 (length (take m z))) (is_closed (take m z)) h in
+    let first = and_parts (b == 91) (nat_lt 1 (length (take m z))) last.0 in
     let len = length-take-le m z (omega arith) in
     let more : 1 < m = grind (arith, nat_tests, len, first.1) in
     let closed = closed_is z m (omega arith) last.1 in
@@ -109,7 +110,7 @@ bracketed_unless b z e (suc m) le =
 
 bracketed_when : (b : ℕ) (z : List ℕ) → (b == 91) ≡ true → (nat_lt 1 (1 + prefix_len is_name_byte z) && get_or (b ∷ z) (1 + prefix_len is_name_byte z) 0 == 93) ≡ true → Best is_bracketed (b ∷ z) (Some (1 + prefix_len is_name_byte z + 1))
 bracketed_when b z open_ e =
-    let both = and_true (nat_lt 1 (1 + prefix_len is_name_byte z)) (get_or (b ∷ z) (1 + prefix_len is_name_byte z) 0 == 93) e in
+    let both = and_parts (nat_lt 1 (1 + prefix_len is_name_byte z)) (get_or (b ∷ z) (1 + prefix_len is_name_byte z) 0 == 93) e in
     let one : 1 + prefix_len is_name_byte z ≡ suc (prefix_len is_name_byte z) = omega arith in
     let close : get_or (b ∷ z) (1 + prefix_len is_name_byte z) 0 ≡ 93 = grind (arith, nat_tests, both.1) in
     let some : 1 < 1 + prefix_len is_name_byte z = grind (arith, nat_tests, both.0) in

@@ -24,16 +24,18 @@ with_front front (Err at) = Err at
 -- the token that begins at the place, then what comes when so many bytes more are passed
 abbrev pub goes_on : ℕ → Option (Kind × ℕ) → (ℕ → Scan) → Scan
 goes_on at None rest = Err at
-goes_on at (Some t) rest = with_front (record { start = at; end = at + t.1; kind = t.0 } ∷ []) (rest (t.1 - 1))
+goes_on at (Some t) rest =
+    with_front (record { start = at; end = at + t.1; kind = t.0 } ∷ []) (rest (t.1 - 1))
 
--- The tokens of the bytes from the place `at` on, of which the first `left` belong to a token before. Blanks are passed, a comment
--- ends the text, and else the longest token is taken.
+-- The tokens of the bytes from the place `at` on, of which the first `left` belong to a token before. Blanks are
+-- passed, a comment ends the text, and else the longest token is taken.
 abbrev pub scan : ℕ → ℕ → List ℕ → Scan
 scan left at [] = Ok []
 scan (suc left) at (b ∷ z) = scan left (at + 1) z
 scan zero at (b ∷ z) =
     if is_blank b then scan 0 (at + 1) z
-    else (if begins_comment (b ∷ z) then Ok [] else goes_on at (longest (b ∷ z)) (λ left. scan left (at + 1) z))
+    else (if begins_comment (b ∷ z) then Ok []
+    else goes_on at (longest (b ∷ z)) (λ left. scan left (at + 1) z))
 
 -- the tokens of a text
 abbrev pub tokens_of : List ℕ → Scan

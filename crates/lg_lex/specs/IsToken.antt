@@ -36,7 +36,8 @@ is_bracketed (b ∷ z) = b == 91 && nat_lt 1 (length z) && is_closed z
 -- behind so many digits: nothing, or '.' and one or more digits, where all are at most 38
 abbrev pub is_fraction : ℕ → List ℕ → Bool
 is_fraction whole [] = nat_lt 0 whole && nat_le whole 38
-is_fraction whole (b ∷ z) = b == 46 && nat_lt 0 (length z) && list_all is_ascii_digit z && nat_le (whole + length z) 38
+is_fraction whole (b ∷ z) =
+    b == 46 && nat_lt 0 (length z) && list_all is_ascii_digit z && nat_le (whole + length z) 38
 
 -- digits, digits '.' digits, or '.' digits, at most 38 in all
 abbrev pub is_number : List ℕ → Bool
@@ -66,7 +67,8 @@ is_bytes (b ∷ x ∷ z) = (b == 48 && (x == 120 || x == 88)) && list_all is_asc
 
 -- one of ( ) , ; = < > + - * .
 abbrev pub is_single : ℕ → Bool
-is_single b = b == 40 || b == 41 || b == 44 || b == 59 || b == 61 || b == 60 || b == 62 || b == 43 || b == 45 || b == 42 || b == 46
+is_single b =
+    b == 40 || b == 41 || b == 44 || b == 59 || b == 61 || b == 60 || b == 62 || b == 43 || b == 45 || b == 42 || b == 46
 
 -- one of <> <= >= !=
 abbrev pub is_pair : ℕ → ℕ → Bool

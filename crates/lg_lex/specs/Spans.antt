@@ -3,7 +3,8 @@ use Rattle.std.specs.Prelude.{◌≤◌, ◌<◌, ℕ, List, [], ◌∷◌, leng
 use Rattle.std.specs.Str.{IsCharBoundary}
 use Rattle.lg_lex.specs.declared.token.Token.{Token}
 
--- each token has a byte or more, begins where the one before ends or behind, and ends at the place `end` or before
+-- each token has a byte or more, begins where the one before ends or behind, and ends at the place `end` or
+-- before
 abbrev pub Rise : ℕ → List Token → ℕ → Type 0
 Rise at [] end = at ≤ end
 Rise at (t ∷ ts) end = (at ≤ t.start) × (t.start < t.end) × Rise t.end ts end

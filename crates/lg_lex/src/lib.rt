@@ -9,6 +9,3 @@ mod token;
 pub use cut::tokens;
 pub use law::longest_law;
 pub use token::{Kind, LexErr, Token};
-
-#[cfg(test)]
-mod tests;

@@ -16,7 +16,7 @@ use Rattle.lg_parse.specs.Expr as e
 use Rattle.lg_parse.specs.Expr.{operator, comparison, name, times, more, more_by, grouped, leaf, leaf_by, prim, unary, product, sum, cmp, cmp_by, and, or, whole, max_nesting}
 use Rattle.lg_parse.specs.Parsed.{IsName, IsTree, IsExpr, count}
 use Rattle.lg_parse.proofs.Repeats.{at_}
-use Rattle.lg_parse.proofs.Trees.{of_literal, of_column, of_minus, of_not, of_is_null, of_binary}
+use Rattle.lg_value.proofs.Trees.{of_literal, of_column, of_minus, of_not, of_is_null, of_binary}
 use Rattle.lg_parse.proofs.Kept.{AreSyms, Holds, Literal, IsRead, name_keeps, literal_keeps, next_ok, after_ok}
 
 -- the expression is well-formed, and it was counted
@@ -39,7 +39,7 @@ flat (Some q) f g = refl
 
 -- ---- leaves
 
-abbrev LeftIs : {A : Type 0} → ℕ → Outcome A → Type 0
+abbrev pub LeftIs : {A : Type 0} → ℕ → Outcome A → Type 0
 LeftIs n None = ⊤
 LeftIs n (Some q) = q.1.left ≡ n
 
@@ -53,7 +53,7 @@ name_left_by t.Word i = refl
 name_left_by t.Bracketed i = required_left (e.inside (text i)) (next i)
 name_left_by _ i = tt
 
-name_left : (i : Input) → LeftIs i.left (name i)
+pub name_left : (i : Input) → LeftIs i.left (name i)
 unfolding name
 name_left i = name_left_by (tag i) i
 
@@ -65,7 +65,7 @@ literal_left_by t.Text i = required_left _ (next i)
 literal_left_by t.Bytes i = required_left _ (next i)
 literal_left_by _ i = tt
 
-literal_left : (i : Input) → LeftIs i.left (e.literal i)
+pub literal_left : (i : Input) → LeftIs i.left (e.literal i)
 unfolding e.literal
 literal_left i = literal_left_by (tag i) i
 
@@ -109,7 +109,7 @@ unfolding next
 after_left_by true i = refl
 after_left_by false i = refl
 
-after_left : (g : Tag) (i : Input) → (after g i).left ≡ i.left
+pub after_left : (g : Tag) (i : Input) → (after g i).left ≡ i.left
 unfolding after
 after_left g i = after_left_by (sees g i) i
 

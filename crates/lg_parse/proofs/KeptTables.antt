@@ -1,12 +1,12 @@
 -- What holds of each CREATE TABLE that is read.
-use Rattle.std.proofs.Common.{◌≡◌, ◌<◌, ◌≤◌, ◌*◌, ◌^◌, ℕ, zero, suc, ◌+◌, ◌-◌, Bool, true, false, cond, List, [], ◌∷◌, ◌++◌, length, map, nat_le, Option, Some, None, refl, arith, lit<}
+use Rattle.std.proofs.Common.{◌≡◌, ◌≤◌, ◌*◌, ◌^◌, ℕ, zero, suc, ◌+◌, ◌-◌, Bool, true, false, cond, List, [], ◌∷◌, ◌++◌, length, map, nat_le, Option, Some, None, refl, arith, lit<}
 use Rattle.std.specs.Prelude.{⊤}
 use Rattle.std.specs.Char.{is_ascii_digit}
 use Rattle.std.proofs.Math.Nat.{pow-le-pow_right}
 use Rattle.std.proofs.lemmas.Bool.Decides.{nat_tests}
 use Rattle.lg_value.specs.Literal.{digits_after}
 use Rattle.lg_value.specs.declared.sql_type.SqlType.TheVariants as sql
-use Rattle.lg_value.specs.declared.column.TableKind.TheVariants.{AppendOnly, Updatable}
+use Rattle.lg_value.specs.declared.column.TableKind.TheVariants.{Updatable}
 use Rattle.lg_parse.specs.declared.tag.Tag.{Tag}
 use Rattle.lg_parse.specs.declared.tag.Tag.TheVariants as t
 use Rattle.lg_parse.specs.declared.word.TypeName.{TypeName}
@@ -29,7 +29,7 @@ use Rattle.lg_parse.specs.Row as r
 use Rattle.lg_parse.specs.Ledger as g
 use Rattle.lg_parse.specs.Table as b
 use Rattle.lg_parse.specs.Parsed.{IsName, IsSize, IsType, IsColumn, IsHistory, IsTable, Each, OneOrMore, Maybe}
-use Rattle.lg_parse.proofs.Digits.{one_digit, small_digit}
+use Rattle.lg_value.proofs.Digits.{one_digit, small_digit}
 use Rattle.lg_parse.proofs.Kept.{AreSyms, Holds, Always, then_keeps, map_keeps, required_keeps, next_ok, after_ok, expect_keeps, if_keeps, name_keeps}
 use Rattle.lg_parse.proofs.KeptStmts.{name_list_keeps, always}
 

@@ -4,6 +4,7 @@ use Rattle.std.specs.Prelude.{⊤, option_map}
 use Rattle.std.specs.List.{list_all}
 use Rattle.std.specs.Char.{is_ascii_digit}
 use Rattle.std.specs.Str.{str_eq_ignore_ascii_case}
+use Rattle.std.proofs.lemmas.Bool.{and_parts}
 use Rattle.std.proofs.lemmas.Bool.Decides.{nat_tests}
 use Rattle.lg_value.specs.declared.value.Value.{Value}
 use Rattle.lg_value.specs.Literal.{literal_of}
@@ -20,7 +21,6 @@ use Rattle.lg_parse.specs.Tags.{tag_of, lookup}
 use Rattle.lg_parse.specs.Input.{Sym}
 use Rattle.lg_parse.specs.Expr.{inside, before_close}
 use Rattle.lg_parse.specs.Parsed.{IsName, IsUnsigned}
-use Rattle.lg_parse.proofs.Tokens.{and_true}
 use Rattle.lg_parse.proofs.Signs.{literal_unsigned, minus_alone}
 use Rattle.lg_parse.proofs.Cut.{cut, goes, prepend, sym_at}
 use Rattle.lg_parse.proofs.Kept.{IsSym, AreSyms}
@@ -41,7 +41,7 @@ begins_word_byte b e = grind (arith, nat_tests)
 word_name : (w : List ℕ) → list_all is_word_byte w ≡ true → list_all is_name_byte w ≡ true
 word_name [] all = refl
 word_name (b ∷ w) all =
-    let both = and_true (is_word_byte b) (list_all is_word_byte w) all in
+    let both = and_parts (is_word_byte b) (list_all is_word_byte w) all in
     rw (word_name_byte b both.0, word_name w both.1) refl
 
 letter_first : (b : ℕ) → begins_word b ≡ true → ((b == 91) ≡ false) × ((b == 45) ≡ false)
@@ -50,7 +50,7 @@ letter_first b e = (grind (arith, nat_tests), grind (arith, nat_tests))
 word_sym : (w : List ℕ) (tag : Tag) → is_word w ≡ true → IsSym (tag, w)
 word_sym [] tag is = absurd (cc)
 word_sym (b ∷ w) tag is =
-    let both = and_true (begins_word b) (list_all is_word_byte w) is in
+    let both = and_parts (begins_word b) (list_all is_word_byte w) is in
     let first = letter_first b both.0 in
     record {
       word = λ e. (omega arith, rw (word_name_byte b (begins_word_byte b both.0), word_name w both.1) refl);
@@ -72,7 +72,7 @@ before_name (b ∷ []) x is e =
     let none : [] ≡ x = grind (arith, nat_tests, is, e) in
     subst (λ z. list_all is_name_byte z ≡ true) none refl
 before_name (b ∷ c ∷ w) x is e =
-    let both = and_true (is_name_byte b) (is_closed (c ∷ w)) is in
+    let both = and_parts (is_name_byte b) (is_closed (c ∷ w)) is in
     closed_name b (c ∷ w) x (before_close (c ∷ w)) both.0 refl (λ y h. before_name (c ∷ w) y both.1 h) e
 
 mapped_length : (b : ℕ) (w x : List ℕ) (n : ℕ) (o : Option (List ℕ)) → before_close w ≡ o → n < length (b ∷ w) → ((y : List ℕ) (m : ℕ) → m < length w → before_close w ≡ Some y → m ≤ length y) → option_map (λ y. b ∷ y) o ≡ Some x → n ≤ length x
@@ -106,8 +106,8 @@ bracket_long w e = grind (arith, nat_tests, e)
 bracket_sym : (w : List ℕ) → is_bracketed w ≡ true → IsSym (t.Bracketed, w)
 bracket_sym [] is = absurd (cc)
 bracket_sym (b ∷ w) is =
-    let outer = and_true (b == 91 && nat_lt 1 (length w)) (is_closed w) is in
-    let both = and_true (b == 91) (nat_lt 1 (length w)) outer.0 in
+    let outer = and_parts (b == 91 && nat_lt 1 (length w)) (is_closed w) is in
+    let both = and_parts (b == 91) (nat_lt 1 (length w)) outer.0 in
     record {
       word = λ e. cc;
       bracket = λ n e. opened_name b w n both.0 outer.1 (bracket_long w both.1) e;
@@ -131,14 +131,14 @@ digit_or_point b w false e is =
     let digits = list_all is_ascii_digit w in
     let few = nat_le (0 + length w) 38 in
     let point : (((b == 46 && some) && digits) && few) ≡ true = sym (rw e refl) ∙ is in
-    let first = (and_true (b == 46) some (and_true (b == 46 && some) digits (and_true ((b == 46 && some) && digits) few point).0).0).0 in
+    let first = (and_parts (b == 46) some (and_parts (b == 46 && some) digits (and_parts ((b == 46 && some) && digits) few point).0).0).0 in
     (grind (arith, nat_tests, first), grind (arith, nat_tests, first))
 
 quote_first : (b : ℕ) (w : List ℕ) (c : Bool) → (b == 39) ≡ c → is_text (b ∷ w) ≡ true → ((b == 91) ≡ false) × ((b == 45) ≡ false)
 quote_first b w true e is = (grind (arith, nat_tests, e), grind (arith, nat_tests, e))
 quote_first b w false e is =
     let letter : ((b == 78 || b == 110) && is_quoted w) ≡ true = sym (rw e refl) ∙ is in
-    let first = (and_true (b == 78 || b == 110) (is_quoted w) letter).0 in
+    let first = (and_parts (b == 78 || b == 110) (is_quoted w) letter).0 in
     (grind (arith, nat_tests, first), grind (arith, nat_tests, first))
 
 zero_first : (b : ℕ) → (b == 48) ≡ true → ((b == 91) ≡ false) × ((b == 45) ≡ false)
@@ -156,9 +156,9 @@ bytes_sym : (w : List ℕ) → is_bytes w ≡ true → IsSym (t.Bytes, w)
 bytes_sym [] is = absurd (cc)
 bytes_sym (b ∷ []) is = absurd (cc)
 bytes_sym (b ∷ x ∷ w) is =
-    let most = and_true ((b == 48 && (x == 120 || x == 88)) && list_all _ w) _ is in
-    let more = and_true (b == 48 && (x == 120 || x == 88)) (list_all _ w) most.0 in
-    let first = zero_first b (and_true (b == 48) (x == 120 || x == 88) more.0).0 in
+    let most = and_parts ((b == 48 && (x == 120 || x == 88)) && list_all _ w) _ is in
+    let more = and_parts (b == 48 && (x == 120 || x == 88)) (list_all _ w) most.0 in
+    let first = zero_first b (and_parts (b == 48) (x == 120 || x == 88) more.0).0 in
     plain_sym b (x ∷ w) t.Bytes (λ e. cc) first.0 first.1
 
 -- no sign is a word
@@ -176,7 +176,7 @@ cond_no_word false a b first second = second
 lookup_no_word : (ks : List (List ℕ × Tag)) (w : List ℕ) (other : Tag) → list_all (λ k. no_word k.1) ks ≡ true → no_word other ≡ true → no_word (lookup ks w other) ≡ true
 lookup_no_word [] w other all is = is
 lookup_no_word (k ∷ ks) w other all is =
-    let both = and_true (no_word k.1) (list_all (λ x. no_word x.1) ks) all in
+    let both = and_parts (no_word k.1) (list_all (λ x. no_word x.1) ks) all in
     cond_no_word (str_eq_ignore_ascii_case k.0 w) k.1 (lookup ks w other) both.0 (lookup_no_word ks w other both.1 is)
 
 sign_tag : (w : List ℕ) → tag_of kind.Sign w ≡ t.Word → ⊥

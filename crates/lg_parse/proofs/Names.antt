@@ -26,7 +26,7 @@ with_first c ds x None e again h = cc
 with_first c ds x (Some y) e again h = let same : c ∷ y ≡ x = cc in ap (λ z. c ∷ z) (again y e) ∙ ap (λ z. z ++ 93 ∷ []) same
 
 -- and nothing else is
-ends : (bs x : List ℕ) → before_close bs ≡ Some x → bs ≡ x ++ 93 ∷ []
+pub ends : (bs x : List ℕ) → before_close bs ≡ Some x → bs ≡ x ++ 93 ∷ []
 ends [] x e = cc
 ends (c ∷ []) x e = elim (cases_eq c 93) [
   | inl same ↦ let none : [] ≡ x = grind (arith, nat_tests) in ap (λ y. y ∷ []) same ∙ ap (λ y. y ++ 93 ∷ []) none

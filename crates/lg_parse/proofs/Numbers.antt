@@ -1,5 +1,6 @@
 -- Printed numbers are the longest tokens at their places.
 use Rattle.std.proofs.Common.{◌≡◌, ℕ, suc, ◌+◌, ◌-◌, ◌<◌, ◌≤◌, Bool, true, false, cond, ◌==◌, ◌&&◌, ◌||◌, List, [], ◌∷◌, ◌++◌, length, drop, get_or, nat_lt, min, Option, Some, None, refl, ap, ◌∙◌, sym, arith, append_assoc, length-append}
+use Rattle.std.proofs.lemmas.Bool.{and_parts}
 use Rattle.std.specs.List.{list_all, prefix_len}
 use Rattle.std.specs.Char.{is_ascii_digit}
 use Rattle.std.proofs.lemmas.Bool.Decides.{nat_tests}
@@ -11,7 +12,7 @@ use Rattle.lg_parse.specs.declared.tag.Tag.TheVariants as t
 use Rattle.lg_parse.specs.Tags.{tag_of}
 use Rattle.lg_parse.proofs.Cut.{cut_token}
 use Rattle.lg_parse.proofs.Lexed.{Stop, by_stop, One}
-use Rattle.lg_parse.proofs.Tokens.{and_true, run_len}
+use Rattle.lg_parse.proofs.Tokens.{run_len}
 
 abbrev pub AreDigits : List ℕ → Type 0
 AreDigits ds = list_all is_ascii_digit ds ≡ true
@@ -33,7 +34,7 @@ digit_no_x b e = grind (arith, nat_tests)
 
 digits_no_x : (ds z : List ℕ) → AreDigits ds → NoX z → NoX (ds ++ z)
 digits_no_x [] z all other = other
-digits_no_x (d ∷ ds) z all other = digit_no_x d (and_true (is_ascii_digit d) (list_all is_ascii_digit ds) all).0
+digits_no_x (d ∷ ds) z all other = digit_no_x d (and_parts (is_ascii_digit d) (list_all is_ascii_digit ds) all).0
 
 and_none : (c : Bool) (x : Option ℕ) → cond (c && false) x None ≡ None
 and_none true x = refl
@@ -79,7 +80,7 @@ point_number ws f fs rest whole fraction few stop =
     let point : get_or (ws ++ 46 ∷ f ∷ (fs ++ rest)) (length ws) 0 ≡ 46 = at_behind ws (46 ∷ f ∷ (fs ++ rest)) in
     let one : length ws + 1 ≡ suc (length ws) = omega arith in
     let next : get_or (ws ++ 46 ∷ f ∷ (fs ++ rest)) (length ws + 1) 0 ≡ f = ap (λ m. get_or (ws ++ 46 ∷ f ∷ (fs ++ rest)) m 0) one ∙ at_behind_more ws 46 (f ∷ (fs ++ rest)) in
-    let first : is_ascii_digit f ≡ true = (and_true (is_ascii_digit f) (list_all is_ascii_digit fs) fraction).0 in
+    let first : is_ascii_digit f ≡ true = (and_parts (is_ascii_digit f) (list_all is_ascii_digit fs) fraction).0 in
     let tail : drop (length ws + 1) (ws ++ 46 ∷ f ∷ (fs ++ rest)) ≡ f ∷ (fs ++ rest) = ap (λ m. drop m (ws ++ 46 ∷ f ∷ (fs ++ rest))) one ∙ drop_behind ws 46 (f ∷ (fs ++ rest)) in
     let more : prefix_len is_ascii_digit (f ∷ (fs ++ rest)) ≡ length (f ∷ fs) = run_len is_ascii_digit (f ∷ fs) rest fraction (no_digit stop) in
     let most : min (38 - length ws) (length (f ∷ fs)) ≡ length (f ∷ fs) = omega (arith, few) in
@@ -109,7 +110,7 @@ one_from b w size found = record {
 
 whole_front : (d : ℕ) (ds rest : List ℕ) → AreDigits (d ∷ ds) → length (d ∷ ds) ≤ 38 → Stop rest → front (d ∷ (ds ++ rest)) ≡ Some (kind.Number, length (d ∷ ds))
 whole_front d ds rest all few stop =
-    front_number d (ds ++ rest) (length (d ∷ ds)) (digits_no_x ds rest (and_true (is_ascii_digit d) (list_all is_ascii_digit ds) all).1 (stop_no_x stop))
+    front_number d (ds ++ rest) (length (d ∷ ds)) (digits_no_x ds rest (and_parts (is_ascii_digit d) (list_all is_ascii_digit ds) all).1 (stop_no_x stop))
     (whole_number (d ∷ ds) rest all (omega arith) few stop)
 
 point_front : (d : ℕ) (ws : List ℕ) (f : ℕ) (fs rest : List ℕ) → AreDigits (d ∷ ws) → AreDigits (f ∷ fs) → length (d ∷ ws) + length (f ∷ fs) ≤ 38 → Stop rest
@@ -119,13 +120,13 @@ point_front d ws f fs rest whole fraction few stop =
     let len : length (d ∷ ws) + 1 + length (f ∷ fs) ≡ length (d ∷ (ws ++ 46 ∷ f ∷ fs)) = omega (arith, length-append ws (46 ∷ f ∷ fs)) in
     ap (λ z. front (d ∷ z)) flat
     ∙ front_number d (ws ++ 46 ∷ f ∷ (fs ++ rest)) (length (d ∷ ws) + 1 + length (f ∷ fs))
-    (digits_no_x ws (46 ∷ f ∷ (fs ++ rest)) (and_true (is_ascii_digit d) (list_all is_ascii_digit ws) whole).1 refl)
+    (digits_no_x ws (46 ∷ f ∷ (fs ++ rest)) (and_parts (is_ascii_digit d) (list_all is_ascii_digit ws) whole).1 refl)
     (point_number (d ∷ ws) f fs rest whole fraction few stop)
     ∙ ap (λ n. Some (kind.Number, n)) len
 
 bare_front : (f : ℕ) (fs rest : List ℕ) → AreDigits (f ∷ fs) → length (f ∷ fs) ≤ 38 → Stop rest → front (46 ∷ ((f ∷ fs) ++ rest)) ≡ Some (kind.Number, length (46 ∷ f ∷ fs))
 bare_front f fs rest fraction few stop =
-    front_number 46 (f ∷ (fs ++ rest)) (length (46 ∷ f ∷ fs)) (digit_no_x f (and_true (is_ascii_digit f) (list_all is_ascii_digit fs) fraction).0)
+    front_number 46 (f ∷ (fs ++ rest)) (length (46 ∷ f ∷ fs)) (digit_no_x f (and_parts (is_ascii_digit f) (list_all is_ascii_digit fs) fraction).0)
     (point_number [] f fs rest refl fraction (omega (arith, few)) stop ∙ ap (λ n. Some n) (omega arith))
 
 pub one_number : (ws fs : List ℕ) → AreDigits ws → AreDigits fs → 0 < length ws + length fs → length ws + length fs ≤ 38 → One (t.Number, pointed_text ws fs) ((t.Number, pointed_text ws fs) ∷ [])
@@ -133,6 +134,6 @@ one_number [] [] whole fraction some few = absurd (omega (arith, some))
 one_number [] (f ∷ fs) whole fraction some few =
     one_from 46 (f ∷ fs) (refl, refl) (λ rest stop. bare_front f fs rest fraction (omega (arith, few)) stop)
 one_number (d ∷ ws) [] whole fraction some few =
-    one_from d ws (digit_size d (and_true (is_ascii_digit d) (list_all is_ascii_digit ws) whole).0) (λ rest stop. whole_front d ws rest whole (omega (arith, few)) stop)
+    one_from d ws (digit_size d (and_parts (is_ascii_digit d) (list_all is_ascii_digit ws) whole).0) (λ rest stop. whole_front d ws rest whole (omega (arith, few)) stop)
 one_number (d ∷ ws) (f ∷ fs) whole fraction some few =
-    one_from d (ws ++ 46 ∷ f ∷ fs) (digit_size d (and_true (is_ascii_digit d) (list_all is_ascii_digit ws) whole).0) (λ rest stop. point_front d ws f fs rest whole fraction few stop)
+    one_from d (ws ++ 46 ∷ f ∷ fs) (digit_size d (and_parts (is_ascii_digit d) (list_all is_ascii_digit ws) whole).0) (λ rest stop. point_front d ws f fs rest whole fraction few stop)

@@ -12,7 +12,7 @@ use Rattle.lg_parse.specs.Input.{Input, Sym, Parser, tag, next, sees, spend, rep
 use Rattle.lg_parse.specs.Expr as e
 use Rattle.lg_parse.specs.Expr.{operator, comparison, more, grouped, prim, unary, product, sum, cmp, and, or}
 use Rattle.lg_parse.proofs.Repeats.{at_, left_}
-use Rattle.lg_parse.proofs.Trees.{of_literal, of_column, of_minus, of_not, of_is_null, of_binary}
+use Rattle.lg_value.proofs.Trees.{of_literal, of_column, of_minus, of_not, of_is_null, of_binary}
 
 -- the expression of a tree
 abbrev pub untree : Tree → Expr

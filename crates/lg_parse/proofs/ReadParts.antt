@@ -1,5 +1,5 @@
 -- The printed parts of statements are read as themselves.
-use Rattle.std.proofs.Common.{◌≡◌, ℕ, ◌+◌, false, List, [], ◌∷◌, ◌++◌, Option, Some, None, refl, ap, sym, subst, arith, append_assoc}
+use Rattle.std.proofs.Common.{◌≡◌, ℕ, false, List, [], ◌∷◌, ◌++◌, Option, Some, None, refl, ap, sym, subst, arith, append_assoc}
 use Rattle.lg_value.specs.declared.expr.Expr.{Expr}
 use Rattle.lg_value.specs.Tree.{tree}
 use Rattle.lg_parse.specs.declared.tag.Tag.TheVariants as t

@@ -3,7 +3,6 @@ use Rattle.std.proofs.Common.{◌≡◌, ◌∙◌, ℕ, zero, suc, ◌+◌, ◌
 use Rattle.lg_value.specs.declared.sql_type.SqlType.{SqlType}
 use Rattle.lg_value.specs.declared.sql_type.SqlType.TheVariants as sql
 use Rattle.lg_value.specs.declared.column.ColumnDef.{ColumnDef}
-use Rattle.lg_value.specs.declared.column.TableKind.TheVariants.{AppendOnly}
 use Rattle.lg_types.specs.declared.statement.CreateTable.{CreateTable}
 use Rattle.lg_parse.specs.declared.tag.Tag.TheVariants as t
 use Rattle.lg_parse.specs.declared.word.TypeName.{TypeName}

@@ -1,10 +1,10 @@
 -- Printed trees are read as themselves.
-use Rattle.std.proofs.Common.{◌≡◌, ℕ, ◌+◌, ◌-◌, ◌<◌, List, [], ◌∷◌, ◌++◌, Some, refl, arith, append_assoc}
+use Rattle.std.proofs.Common.{◌≡◌, ℕ, ◌-◌, ◌<◌, List, [], ◌∷◌, ◌++◌, Some, refl, arith, append_assoc}
 use Rattle.std.specs.Prelude.{ℤ}
 use Rattle.lg_value.specs.declared.value.Value.{Value}
 use Rattle.lg_value.specs.declared.value.Value.TheVariants as value
 use Rattle.lg_value.specs.declared.expr.Expr.{Expr}
-use Rattle.lg_value.specs.declared.expr.Expr.TheVariants.{Lit, Col, Not}
+use Rattle.lg_value.specs.declared.expr.Expr.TheVariants.{Lit, Col}
 use Rattle.lg_value.specs.Tree.{Tree, literal, column, minus, not, is_null, binary}
 use Rattle.lg_value.specs.Literal.{literal_of}
 use Rattle.lg_value.specs.Literals.{IsLiteral}

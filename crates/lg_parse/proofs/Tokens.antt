@@ -1,5 +1,6 @@
 -- Printed tokens are the longest at their places.
 use Rattle.std.proofs.Common.{◌≡◌, ℕ, suc, ◌+◌, Bool, true, false, ◌==◌, ◌&&◌, ◌||◌, List, [], ◌∷◌, ◌++◌, length, get_or, Some, refl, ap, ◌∙◌, sym, subst, arith, codes}
+use Rattle.std.proofs.lemmas.Bool.{and_parts}
 use Rattle.std.specs.List.{list_all, prefix_len}
 use Rattle.std.specs.Char.{is_ascii_digit}
 use Rattle.std.proofs.lemmas.Bool.Decides.{nat_tests}
@@ -16,15 +17,11 @@ use Rattle.lg_parse.specs.Printed.{key, spelling, word}
 use Rattle.lg_parse.proofs.Cut.{cut, cut_token, prepend}
 use Rattle.lg_parse.proofs.Lexed.{Stop, at_close, at_comma, by_stop, After, One}
 
-pub and_true : (a b : Bool) → (a && b) ≡ true → (a ≡ true) × (b ≡ true)
-and_true true b h = (refl, h)
-and_true false b h = cc
-
 -- a run of bytes that pass a test, before one that does not
 pub run_len : (p : ℕ → Bool) (n rest : List ℕ) → list_all p n ≡ true → prefix_len p rest ≡ 0 → prefix_len p (n ++ rest) ≡ length n
 run_len p [] rest all stop = stop
 run_len p (x ∷ n) rest all stop =
-    let both = and_true (p x) (list_all p n) all in
+    let both = and_parts (p x) (list_all p n) all in
     let e : 1 + length n ≡ suc (length n) = omega arith in
     rw both.0 (ap (λ m. 1 + m) (run_len p n rest both.1 stop) ∙ e)
 
@@ -105,7 +102,7 @@ word_byte_no_quote b e = grind (arith, nat_tests)
 
 next_no_quote : (w rest : List ℕ) → list_all is_word_byte w ≡ true → Stop rest → (get_or (w ++ rest) 0 0 == 39) ≡ false
 next_no_quote [] rest all stop = no_quote stop
-next_no_quote (c ∷ w) rest all stop = word_byte_no_quote c (and_true (is_word_byte c) (list_all is_word_byte w) all).0
+next_no_quote (c ∷ w) rest all stop = word_byte_no_quote c (and_parts (is_word_byte c) (list_all is_word_byte w) all).0
 
 abbrev Letter : ℕ → Type 0
 Letter b = ((b == 48) ≡ false) × (is_ascii_digit b ≡ false) × ((b == 46) ≡ false) × ((b == 39) ≡ false) × (is_word_byte b ≡ true) × (is_blank b ≡ false) × ((b == 45) ≡ false)

@@ -6,7 +6,7 @@ use Rattle.std.specs.Char.{is_ascii_digit}
 use Rattle.std.specs.Fmt.{decimal}
 use Rattle.std.proofs.lemmas.Fmt.{length-decimal-le_wide, decimal_by_steps_wide}
 use Rattle.std.proofs.lemmas.List.{take-append-drop, length-replicate}
-use Rattle.std.proofs.lemmas.Bool.{cases_eq, cases_lt, lt-ltb, le-ltb}
+use Rattle.std.proofs.lemmas.Bool.{and_parts, cases_eq, cases_lt, lt-ltb, le-ltb}
 use Rattle.std.proofs.lemmas.Bool.Decides.{nat_tests}
 use Rattle.lg_value.specs.declared.value.Value.{Value}
 use Rattle.lg_value.specs.declared.value.Value.TheVariants.{Null, Num, Text, Bytes, Date}
@@ -22,25 +22,25 @@ use Rattle.lg_parse.specs.Printed.{key, spelling, digits, literal_sym}
 use Rattle.lg_parse.specs.Parsed.{IsUnsigned, IsSize}
 use Rattle.lg_parse.proofs.Cut.{cut, cut_token, prepend}
 use Rattle.lg_parse.proofs.Lexed.{One}
-use Rattle.lg_parse.proofs.Tokens.{and_true, null_}
+use Rattle.lg_parse.proofs.Tokens.{null_}
 use Rattle.lg_parse.proofs.Numbers.{AreDigits, pointed_text, one_number}
 use Rattle.lg_parse.proofs.Quoted.{one_text, one_bytes}
 
 all_append : (a b : List ℕ) → AreDigits a → AreDigits b → AreDigits (a ++ b)
 all_append [] b g h = h
 all_append (c ∷ cs) b g h =
-    let parts = and_true (is_ascii_digit c) (list_all is_ascii_digit cs) g in
+    let parts = and_parts (is_ascii_digit c) (list_all is_ascii_digit cs) g in
     rw (parts.0, all_append cs b parts.1 h) refl
 
 all_front : (a b : List ℕ) → AreDigits (a ++ b) → AreDigits a
 all_front [] b h = refl
 all_front (c ∷ cs) b h =
-    let parts = and_true (is_ascii_digit c) (list_all is_ascii_digit (cs ++ b)) h in
+    let parts = and_parts (is_ascii_digit c) (list_all is_ascii_digit (cs ++ b)) h in
     rw (parts.0, all_front cs b parts.1) refl
 
 all_back : (a b : List ℕ) → AreDigits (a ++ b) → AreDigits b
 all_back [] b h = h
-all_back (c ∷ cs) b h = all_back cs b (and_true (is_ascii_digit c) (list_all is_ascii_digit (cs ++ b)) h).1
+all_back (c ∷ cs) b h = all_back cs b (and_parts (is_ascii_digit c) (list_all is_ascii_digit (cs ++ b)) h).1
 
 zeros : (k : ℕ) → AreDigits (replicate k 48)
 zeros zero = refl
@@ -150,11 +150,11 @@ digit_no_minus b e = grind (arith, nat_tests)
 front_no_minus : (n : ℕ) (ds z : List ℕ) → AreDigits ds → 0 < length ds → 0 < n → (get_or (take n ds ++ z) 0 0 == 45) ≡ false
 front_no_minus n [] z all some more = absurd (omega (arith, some))
 front_no_minus zero (d ∷ ds) z all some more = absurd (omega (arith, more))
-front_no_minus (suc n) (d ∷ ds) z all some more = digit_no_minus d (and_true (is_ascii_digit d) (list_all is_ascii_digit ds) all).0
+front_no_minus (suc n) (d ∷ ds) z all some more = digit_no_minus d (and_parts (is_ascii_digit d) (list_all is_ascii_digit ds) all).0
 
 zeros_no_minus : (first z : List ℕ) → AreDigits first → (get_or (first ++ 46 ∷ z) 0 0 == 45) ≡ false
 zeros_no_minus [] z all = refl
-zeros_no_minus (d ∷ ds) z all = digit_no_minus d (and_true (is_ascii_digit d) (list_all is_ascii_digit ds) all).0
+zeros_no_minus (d ∷ ds) z all = digit_no_minus d (and_parts (is_ascii_digit d) (list_all is_ascii_digit ds) all).0
 
 no_minus_first : (first ds : List ℕ) (s : ℕ) (z : List ℕ) → AreDigits first → AreDigits ds → 0 < length ds → (get_or (pointed first ds s ++ z) 0 0 == 45) ≡ false
 unfolding pointed

@@ -153,7 +153,9 @@ one_more None = None
 abbrev pub repeated_at : Tag → List Sym → ℕ → Outcome ℕ
 repeated_at t [] left = Some (0, record { rest = []; left = left })
 repeated_at t (s ∷ ts) left =
-    if same_tag s.0 t then (if left == 0 then None else one_more (repeated_at t ts (left - 1))) else Some (0, record { rest = s ∷ ts; left = left })
+    if same_tag s.0 t
+    then (if left == 0 then None else one_more (repeated_at t ts (left - 1)))
+    else Some (0, record { rest = s ∷ ts; left = left })
 
 -- takes each token of the tag that comes next, and counts it
 unfoldable pub repeated : Tag → Parser ℕ

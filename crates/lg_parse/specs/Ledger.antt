@@ -37,7 +37,8 @@ with_view append_only None view = Some (record { append_only = append_only; view
 
 -- each is chosen at most once
 abbrev pub with_choice : Choices → Choice → Option Choices
-with_choice found choice.AppendOnly = if found.append_only then None else Some (record { append_only = true; view = found.view })
+with_choice found choice.AppendOnly =
+    if found.append_only then None else Some (record { append_only = true; view = found.view })
 with_choice found (choice.View view) = with_view found.append_only found.view view
 
 unfoldable pub choice_step : Choices → Parser Choices
@@ -65,11 +66,14 @@ versions = do
   expect t.Equal
   expect t.On
   open_ ← eat t.Open
-  if open_ then (do the_option option.HistoryTable; expect t.Equal; n ← name; expect t.Close; pure (Some n)) else pure None
+  if open_
+      then (do the_option option.HistoryTable; expect t.Equal; n ← name; expect t.Close; pure (Some n))
+      else pure None
 
 -- a table with versions is no append-only one
 abbrev pub updatable : Option (List ℕ) → Choices → Option Ledger
-updatable old found = if found.append_only then None else Some (record { kind = Updatable; history = old; view = found.view })
+updatable old found =
+    if found.append_only then None else Some (record { kind = Updatable; history = old; view = found.view })
 
 abbrev pub kind_of : Bool → TableKind
 kind_of append_only = if append_only then AppendOnly else Updatable
@@ -87,7 +91,9 @@ ledger_by option.SystemVersioning = do
 ledger_by option.Ledger = do
   found ← chosen
   comma ← eat t.Comma
-  if comma then (do the_option option.SystemVersioning; old ← versions; required (updatable old found)) else pure (alone found)
+  if comma
+      then (do the_option option.SystemVersioning; old ← versions; required (updatable old found))
+      else pure (alone found)
 ledger_by _ = refuse
 
 -- SYSTEM_VERSIONING versions ',' LEDGER choices | LEDGER choices [',' SYSTEM_VERSIONING versions]

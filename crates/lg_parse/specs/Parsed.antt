@@ -90,7 +90,8 @@ IsHistory Updatable h = Maybe IsName h
 IsHistory AppendOnly h = h ≡ None
 
 abbrev pub IsTable : CreateTable → Type 0
-IsTable c = IsName c.name × OneOrMore IsColumn c.columns × OneOrMore IsName c.key × IsHistory c.kind c.history × Maybe IsName c.view
+IsTable c =
+    IsName c.name × OneOrMore IsColumn c.columns × OneOrMore IsName c.key × IsHistory c.kind c.history × Maybe IsName c.view
 
 abbrev pub IsIndex : CreateIndex → Type 0
 IsIndex c = IsName c.name × IsName c.table × OneOrMore IsName c.columns
@@ -99,7 +100,8 @@ abbrev pub IsAssignment : List ℕ × Expr → Type 0
 IsAssignment p = IsName p.0 × IsExpr p.1
 
 abbrev pub IsChange : RowStmt → Type 0
-IsChange (Insert table found rows) = IsName table × Maybe (OneOrMore IsName) found × OneOrMore (OneOrMore IsLiteral) rows
+IsChange (Insert table found rows) =
+    IsName table × Maybe (OneOrMore IsName) found × OneOrMore (OneOrMore IsLiteral) rows
 IsChange (Update table sets cond) = IsName table × OneOrMore IsAssignment sets × Maybe IsExpr cond
 IsChange (Delete table cond) = IsName table × Maybe IsExpr cond
 

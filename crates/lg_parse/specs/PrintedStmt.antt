@@ -69,7 +69,8 @@ more_view None = []
 
 -- SYSTEM_VERSIONING and then LEDGER
 abbrev pub updatable : Option (List ℕ) → Option (List ℕ) → List Sym
-updatable h v = word (codes "SYSTEM_VERSIONING") ∷ on ++ history h ++ key t.Comma ∷ word (codes "LEDGER") ∷ on ++ own_view v
+updatable h v =
+    word (codes "SYSTEM_VERSIONING") ∷ on ++ history h ++ key t.Comma ∷ word (codes "LEDGER") ∷ on ++ own_view v
 
 unfoldable pub choices : Option (List ℕ) → List Sym
 choices v = word (codes "APPEND_ONLY") ∷ on ++ more_view v
@@ -113,8 +114,10 @@ abbrev pub assignment : List ℕ × Expr → List Sym
 assignment p = name p.0 ∷ key t.Equal ∷ expr (tree p.1)
 
 unfoldable pub change : RowStmt → List Sym
-change (Insert table found rows) = key t.Insert ∷ key t.Into ∷ name table ∷ (columns found ++ key t.Values ∷ listed row rows)
-change (Update table sets cond) = key t.Update ∷ name table ∷ key t.Set ∷ (listed assignment sets ++ filter cond)
+change (Insert table found rows) =
+    key t.Insert ∷ key t.Into ∷ name table ∷ (columns found ++ key t.Values ∷ listed row rows)
+change (Update table sets cond) =
+    key t.Update ∷ name table ∷ key t.Set ∷ (listed assignment sets ++ filter cond)
 change (Delete table cond) = key t.Delete ∷ key t.From ∷ name table ∷ filter cond
 
 -- ---- SELECT

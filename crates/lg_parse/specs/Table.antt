@@ -50,7 +50,9 @@ scale = do
 unfoldable pub decimal : Parser SqlType
 decimal = do
   open_ ← eat t.Open
-  if open_ then (do p ← digits; s ← scale; expect t.Close; pure (sql.Decimal p s)) else pure (sql.Decimal 18 0)
+  if open_
+      then (do p ← digits; s ← scale; expect t.Close; pure (sql.Decimal p s))
+      else pure (sql.Decimal 18 0)
 
 abbrev pub type_by : TypeName → Parser SqlType
 type_by type_name.Bit = pure sql.Bit
@@ -135,13 +137,16 @@ nullable_of (Some written) in_key = written
 nullable_of None in_key = not in_key
 
 abbrev pub column_def : List (List ℕ) → Column → ColumnDef
-column_def key c = record { name = c.name; ty = c.ty; nullable = nullable_of c.nullable (is_in key c.name); key_position = 0 }
+column_def key c =
+    record { name = c.name; ty = c.ty; nullable = nullable_of c.nullable (is_in key c.name); key_position = 0 }
 
 -- a table has a column and a primary key
 abbrev pub table_of : List ℕ → List Column → Option (List (List ℕ)) → Ledger → Option CreateTable
 table_of n [] key l = None
 table_of n (c ∷ cs) None l = None
-table_of n (c ∷ cs) (Some key) l = Some (record { name = n; columns = map (column_def key) (c ∷ cs); key = key; kind = l.kind; history = l.history; view = l.view })
+table_of n (c ∷ cs) (Some key) l =
+    let columns = map (column_def key) (c ∷ cs) in
+    Some (record { name = n; columns = columns; key = key; kind = l.kind; history = l.history; view = l.view })
 
 -- name '(' item {',' item} ')' [WITH '(' ledger ')']
 unfoldable pub create_table : Parser CreateTable

@@ -4,6 +4,7 @@
 mod column;
 mod cursor;
 mod expr;
+mod grammar;
 mod law;
 mod ledger;
 mod name;
@@ -19,13 +20,9 @@ mod tag;
 mod text;
 mod word;
 
+pub use grammar::parsing_keeps_to_the_grammar;
 pub use law::printing_is_read_back;
 pub use lg_types::{Agg, CreateIndex, CreateTable, RowStmt, Select, Stmt, What};
 pub use parse_err::ParseErr;
 pub use print_stmt::print;
 pub use text::parse;
-
-#[cfg(test)]
-mod print_tests;
-#[cfg(test)]
-mod tests;

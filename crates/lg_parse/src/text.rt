@@ -1,7 +1,10 @@
 //! A text as a statement.
 
-ghost use Rattle.std.specs.Prelude.{◌≡◌, IfOk, All, map};
+ghost use Rattle.std.specs.Prelude.{◌≡◌, Err, IfOk, All, map};
 ghost use Rattle.lg_lex.specs.Spans.{IsSpan};
+ghost use Rattle.lg_types.specs.declared.statement.Stmt.{Stmt};
+ghost use Rattle.lg_grammar.specs.Statements.{IsStatement};
+ghost use Rattle.lg_parse.specs.declared.parse_err.ParseErr.TheVariants as parse_err;
 ghost use Rattle.lg_parse.specs.Input.{Gives, syms};
 ghost use Rattle.lg_parse.specs.Stmt.{statement_of_tokens};
 ghost use Rattle.lg_parse.specs.Text.{sym_of, statement_of};
@@ -47,11 +50,8 @@ fn read(alloc: Global, text: &str, tokens: &[Token]) -> Result<Stmt, ParseErr>
     statement(alloc, &mut Cursor::new(all.as_slice()))
 }
 
-/// The statement that a text is, and `Syntax` exactly for a text that is none. It takes time linear in the text, but for
-/// the names of a CREATE TABLE, each of which is compared with those of its key. Its calls nest no deeper than the
-/// parentheses, of which 256 may.
 #[tactic(auto, unfolding(crate::specs::Text::statement_of))]
-pub fn parse(alloc: Global, text: &str) -> Result<Stmt, ParseErr>
+fn read_text(alloc: Global, text: &str) -> Result<Stmt, ParseErr>
     ensures { Gives (statement_of text.now) result }
 {
     match tokens(alloc, text) {
@@ -59,4 +59,15 @@ pub fn parse(alloc: Global, text: &str) -> Result<Stmt, ParseErr>
         Err(LexErr::Bad { .. }) => Err(ParseErr::Syntax),
         Err(LexErr::Memory) => Err(ParseErr::Memory),
     }
+}
+
+/// The statement that a text is by the grammar, and `Syntax` exactly for a text that is none. It takes time linear in the
+/// text, but for the names of a CREATE TABLE, each of which is compared with those of its key. Its calls nest no deeper
+/// than the parentheses, of which 256 may.
+pub fn parse(alloc: Global, text: &str) -> Result<Stmt, ParseErr>
+    ensures read { Gives (statement_of text.now) result }
+    ensures found { IfOk result (λ s. IsStatement text.now s) }
+    ensures refused { result ≡ Err parse_err.Syntax → (s : Stmt) → IsStatement text.now s → ⊥ }
+{
+    read_text(alloc, text)
 }

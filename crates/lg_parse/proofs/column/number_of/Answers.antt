@@ -1,20 +1,23 @@
-use Rattle.std.proofs.Common.{arith, rules, ◌≡◌, ◌∙◌, ◌+◌, ◌-◌, sym, ap, length, drop, get_or, true}
+use Rattle.std.proofs.Common.{arith, rules, ◌≡◌, ◌∙◌, ◌+◌, ◌-◌, ◌^◌, sym, ap, length, drop, get_or, true, lit<}
+use Rattle.std.proofs.Math.Nat.{pow-le-pow_right}
 use Rattle.std.specs.Char.{is_ascii_digit}
 use Rattle.std.proofs.lemmas.List.{drop_more}
 use Rattle.lg_value.specs.Literal.{digits_after}
-use Rattle.lg_parse.proofs.Digits.{one_digit, digit_read, no_digit, small_digit, some_room}
+use Rattle.lg_value.proofs.Digits.{one_digit, digit_read, no_digit, small_digit, some_room}
 use Rattle.lg_parse.proofs.column.number_of.Goals as goal
 
 pub overflow_mul-number : goal.overflow_mul-number
 overflow_mul-number c =
     let rest = drop_more c.args.text.now c.loop-digit.digit-index 0 (search rules) in
-    let room = some_room c.loop-digit.number (length (drop c.loop-digit.digit-index c.args.text.now)) _ c.loop-digit.invariant.1 c.requires (rw rest (omega arith)) in
+    let most = pow-le-pow_right {n = 10} (lit< tt) {i = length c.args.text.now} {j = 9} c.requires in
+    let room = some_room c.loop-digit.number (length (drop c.loop-digit.digit-index c.args.text.now)) (10 ^ length c.args.text.now) (10 ^ 9) c.loop-digit.invariant.1 most (rw rest (omega arith)) in
     record { fits = omega (arith, room) }
 
 pub overflow_add-number : goal.overflow_add-number
 overflow_add-number c =
     let rest = drop_more c.args.text.now c.loop-digit.digit-index 0 (search rules) in
-    let room = some_room c.loop-digit.number (length (drop c.loop-digit.digit-index c.args.text.now)) _ c.loop-digit.invariant.1 c.requires (rw rest (omega arith)) in
+    let most = pow-le-pow_right {n = 10} (lit< tt) {i = length c.args.text.now} {j = 9} c.requires in
+    let room = some_room c.loop-digit.number (length (drop c.loop-digit.digit-index c.args.text.now)) (10 ^ length c.args.text.now) (10 ^ 9) c.loop-digit.invariant.1 most (rw rest (omega arith)) in
     let small = small_digit (get_or c.args.text.now c.loop-digit.digit-index 0) (search rules) in
     record { fits = omega (arith, room, small, c.from.ensures) }
 

@@ -1,6 +1,6 @@
 use Rattle.std.proofs.Common.{rules, ◌≡◌, ◌∙◌, ap}
 use Rattle.lg_value.specs.Tree.{tree, minus, not, is_null, binary}
-use Rattle.lg_parse.proofs.Trees.{of_minus, of_not, of_is_null, of_binary}
+use Rattle.lg_value.proofs.Trees.{of_minus, of_not, of_is_null, of_binary}
 use Rattle.lg_parse.proofs.Pages.{write_append}
 use Rattle.lg_parse.proofs.print_part.+put_expr.Goals as goal
 

@@ -1,0 +1,2 @@
+//! The grammar of statements: definitions alone.
+#![tactic(auto)]
