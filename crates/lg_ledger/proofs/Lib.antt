@@ -1,0 +1,5 @@
+pub mod Adding
+pub mod Counting
+pub mod Digests
+pub mod Parting
+pub mod Roots

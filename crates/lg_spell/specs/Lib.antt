@@ -1,0 +1,6 @@
+pub mod Differs
+pub mod Formed
+pub mod MayBeSpelled
+pub mod Samples
+pub mod Spelled
+pub mod Written

@@ -1,0 +1,98 @@
+-- Definitions that may be spelled by rows of the two system tables.
+use Rattle.std.specs.Prelude.{ℕ, pos, ◌==◌, ◌&&◌, not, nat_le, Bool, true, false, if◌then◌else◌, List, [], ◌∷◌, map, length, Option, Some, None}
+use Rattle.std.specs.List.{list_any, list_all, filter, filter_map, range_with_len}
+use Rattle.std.specs.Ordering.{int_cmp, is_lt}
+use Rattle.lg_value.specs.declared.value.Value.{Value}
+use Rattle.lg_value.specs.declared.value.Value.TheVariants.{Num, Text}
+use Rattle.lg_value.specs.declared.column.ColumnDef.{ColumnDef}
+use Rattle.lg_value.specs.declared.column.TableKind.{TableKind}
+use Rattle.lg_value.specs.declared.column.TableKind.TheVariants.{AppendOnly, Updatable}
+use Rattle.lg_value.specs.Stored.{is_in_range}
+use Rattle.lg_types.specs.declared.table.TableDef.{TableDef}
+use Rattle.lg_types.specs.declared.table.IndexDef.{IndexDef}
+use Rattle.lg_model.specs.Lists.{has_name, repeats}
+use Rattle.lg_model.specs.Rows.{Row}
+use Rattle.lg_model.specs.SystemTables.{tables_def, columns_def}
+use Rattle.lg_model.specs.Create.{names_of, table_names, all_names, is_ledger_name, is_long, has_null_key}
+
+-- a byte that may stand in a name, from a blank to `~`, without the brackets
+abbrev pub is_name_byte : ℕ → Bool
+is_name_byte b = nat_le 32 b && nat_le b 126 && not (b == 91) && not (b == 93)
+
+abbrev pub is_proper_name : List ℕ → Bool
+is_proper_name name = nat_le 1 (length name) && not (is_long name) && list_all is_name_byte name
+
+abbrev pub is_among : List ℕ → ℕ → Bool
+is_among ns n = list_any (λ m. m == n) ns
+
+abbrev pub number_repeats : List ℕ → Bool
+number_repeats [] = false
+number_repeats (n ∷ ns) = if is_among ns n then true else number_repeats ns
+
+abbrev pub is_between : ℕ → ℕ → ℕ → Bool
+is_between low high n = nat_le low n && nat_le n high
+
+abbrev pub greatest : List ℕ → ℕ
+greatest [] = 0
+greatest (n ∷ ns) = if nat_le n (greatest ns) then greatest ns else n
+
+-- they are 1 to k, each once, with k from 1 to 4
+abbrev pub are_key_positions : List ℕ → Bool
+are_key_positions positions =
+    is_between 1 4 (greatest positions)
+    && list_all (is_among positions) (range_with_len 1 (greatest positions))
+    && not (number_repeats positions)
+
+-- those that aren't 0
+abbrev pub positions_of : List ColumnDef → List ℕ
+positions_of columns = filter (λ n. not (n == 0)) (map (λ c. c.key_position) columns)
+
+abbrev pub is_spelled_column : ColumnDef → Bool
+is_spelled_column c = is_in_range c.ty && is_proper_name c.name && not (is_ledger_name c.name)
+
+abbrev pub is_spelled_index : ℕ → IndexDef → Bool
+is_spelled_index columns i =
+    is_proper_name i.name && is_between 1 4 (length i.ordinals) && list_all (is_between 1 columns) i.ordinals
+    && not (number_repeats i.ordinals)
+
+-- an append-only table alone has no history
+abbrev pub has_its_history : TableKind → List ℕ → Bool
+has_its_history AppendOnly history = length history == 0
+has_its_history Updatable history = is_proper_name history
+
+-- by itself
+abbrev pub may_be_spelled : TableDef → Bool
+may_be_spelled def =
+    is_between 3 34 def.id
+    && is_proper_name def.name && has_its_history def.kind def.history && is_proper_name def.view
+    && not (repeats (table_names def))
+    && is_between 1 64 (length def.columns) && list_all is_spelled_column def.columns
+    && not (repeats (names_of def.columns))
+    && are_key_positions (positions_of def.columns) && not (has_null_key def)
+    && nat_le (length def.indexes) 4 && list_all (is_spelled_index (length def.columns)) def.indexes
+    && not (repeats (map (λ i. i.name) def.indexes))
+
+-- ---- new names
+
+abbrev pub text_of : Value → Option (List ℕ)
+text_of (Text name) = Some name
+text_of _ = None
+
+-- the names in a row of the first system table: of a table, its history and its view
+abbrev pub names_in : Row → List (List ℕ)
+names_in row = filter_map text_of row
+
+-- the row is about a table with a lower id
+abbrev pub is_before : ℕ → Row → Bool
+is_before id (Num n s ∷ values) = is_lt (int_cmp n (pos id))
+is_before id _ = false
+
+-- one of these names is a name of the table
+abbrev pub share_name : List (List ℕ) → TableDef → Bool
+share_name names def = list_any (has_name names) (table_names def)
+
+-- no name of the table is one of a system table, or stands in a row of the first system table with a lower id
+abbrev pub has_new_names : List Row → TableDef → Bool
+has_new_names first def =
+    not (share_name (all_names (tables_def ∷ columns_def ∷ [])) def)
+    && not (list_any (λ row. is_before def.id row && share_name (names_in row) def) first)

@@ -1,0 +1,3 @@
+pub mod AllHold
+pub mod Judged
+mod Worked

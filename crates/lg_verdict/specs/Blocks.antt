@@ -1,0 +1,61 @@
+-- Digests, and blocks: their chain, their sizes and their roots.
+use Rattle.std.specs.Prelude.{ℕ, zero, suc, ◌+◌, ◌==◌, ◌&&◌, ◌||◌, nat_lt, nat_le, Bool, List, length, map, take, drop, Option}
+use Rattle.std.specs.List.{sum_by}
+use Rattle.std.specs.Str.{bytes_eq}
+use Rattle.lg_entry.specs.Entry.{entry_bytes}
+use Rattle.lg_merkle.specs.TreeHash.{tree_hash}
+use Rattle.lg_types.specs.declared.digest.HeldDigest.{HeldDigest}
+use Rattle.lg_types.specs.declared.entry.BlockRecord.{BlockRecord}
+use Rattle.lg_types.specs.declared.entry.TxEntry.{TxEntry}
+use Rattle.lg_types.specs.declared.image.Image.{Image}
+use Rattle.lg_model.specs.Limits.{max_block}
+use Rattle.lg_ledger.specs.Blocks.{no_hash, hash_at}
+use Rattle.lg_verdict.specs.declared.place.Place.{Place}
+use Rattle.lg_verdict.specs.declared.place.Place.TheVariants as at
+use Rattle.lg_verdict.specs.First.{unless, first}
+
+-- how many entries the blocks before block b have
+abbrev pub entries_before : Image → ℕ → ℕ
+entries_before i b = sum_by (λ (r : BlockRecord). r.size) (take b i.blocks)
+
+-- the entries of block b
+abbrev pub entries_in : Image → ℕ → BlockRecord → List TxEntry
+entries_in i b r = take r.size (drop (entries_before i b) i.entries)
+
+module _ (h : List ℕ → List ℕ) (i : Image) where
+  -- ---- each digest names the image's database and a block of it, and its hash is that block's hash
+
+  abbrev pub digest_holds : HeldDigest → Bool
+  digest_holds d =
+      bytes_eq d.database i.database
+      && (nat_lt d.block (length i.blocks) && bytes_eq d.hash (hash_at h i.blocks d.block))
+
+  -- the first digest for which it fails
+  unfoldable pub digest_fault : List HeldDigest → Option Place
+  digest_fault digests = first (λ k d. unless (digest_holds d) (at.Digest k)) digests
+
+  -- ---- block b has the number b, and its previous hash is the hash of block b - 1, or zeros for b = 0
+
+  abbrev pub hash_before : ℕ → List ℕ
+  hash_before zero = no_hash
+  hash_before (suc b) = hash_at h i.blocks b
+
+  abbrev pub link_holds : ℕ → BlockRecord → Bool
+  link_holds b r = r.id == b && bytes_eq r.previous (hash_before b)
+
+  -- the first block for which it fails
+  unfoldable pub chain_fault : Option Place
+  chain_fault = first (λ b r. unless (link_holds b r) (at.Block b)) i.blocks
+
+  -- ---- each size is 1 to 100,000, the sizes up to block b together are at most the entries, and the root is the
+  -- tree hash of the bytes of the block's entries
+
+  abbrev pub block_holds : ℕ → BlockRecord → Bool
+  block_holds b r =
+      (nat_le 1 r.size && nat_le r.size max_block)
+      && (nat_le (entries_before i b + r.size) (length i.entries)
+      && bytes_eq r.root (tree_hash h (map entry_bytes (entries_in i b r))))
+
+  -- the first block for which it fails
+  unfoldable pub block_fault : Option Place
+  block_fault = first (λ b r. unless (block_holds b r) (at.Block b)) i.blocks

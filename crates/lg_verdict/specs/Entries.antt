@@ -1,0 +1,93 @@
+-- Entries, and the starts and ends that they are of.
+use Rattle.std.specs.Prelude.{ℕ, ◌+◌, ◌==◌, ◌&&◌, not, Bool, true, false, if◌then◌else◌, List, [], ◌∷◌, ◌++◌, length, map, flat_map, take, Option, Some, None}
+use Rattle.std.specs.List.{list_any, list_all, filter, range_with_len}
+use Rattle.std.specs.Str.{bytes_eq}
+use Rattle.std.specs.declared.cmp.Ordering.{Ordering}
+use Rattle.std.specs.Ordering.{nat_cmp, ordering_then}
+use Rattle.lg_types.specs.declared.entry.TxEntry.{TxEntry}
+use Rattle.lg_types.specs.declared.event.Event.{Event}
+use Rattle.lg_types.specs.declared.image.Image.{Image}
+use Rattle.lg_types.specs.declared.version.Table.{Table}
+use Rattle.lg_model.specs.Lists.{or_else}
+use Rattle.lg_model.specs.Rows.{EventId, event_cmp}
+use Rattle.lg_model.specs.Events.{version_events, all_events}
+use Rattle.lg_ledger.specs.Entries.{roots_of}
+use Rattle.lg_image.specs.Tables.{tables_in}
+use Rattle.lg_verdict.specs.declared.place.Place.{Place}
+use Rattle.lg_verdict.specs.declared.place.Place.TheVariants as at
+use Rattle.lg_verdict.specs.First.{unless, first, least}
+
+-- ---- the ids of entries differ; each start and each end names an entry's id
+
+abbrev pub has_id : List TxEntry → ℕ → Bool
+has_id entries id = list_any (λ (e : TxEntry). e.id == id) entries
+
+-- a table, and an event in it: by the table, then by the transaction, then by number
+abbrev pub TableEvent : Type 0
+TableEvent = ℕ × EventId
+
+abbrev pub table_event_cmp : TableEvent → TableEvent → Ordering
+table_event_cmp a b = ordering_then (nat_cmp a.0 b.0) (event_cmp a.1 b.1)
+
+-- the least of these, as a place
+abbrev pub event_place : Option TableEvent → Option Place
+event_place None = None
+event_place (Some e) = Some (at.Event e.0 e.1.0 e.1.1)
+
+abbrev pub least_event : List TableEvent → Option Place
+least_event events = event_place (least table_event_cmp events)
+
+-- the starts and ends in a table
+abbrev pub events_in : Table → List TableEvent
+events_in t = map (λ (e : Event). (e.table, (e.tx, e.seq))) (flat_map (version_events t.def.id) t.versions)
+
+abbrev pub strangers : Image → List TableEvent
+strangers i = filter (λ (e : TableEvent). not (has_id i.entries e.1.0)) (flat_map events_in (tables_in i))
+
+-- the first entry with an id that came before; else the least start or end with an id that no entry has
+unfoldable pub id_fault : Image → Option Place
+id_fault i =
+    or_else
+    (first (λ k (e : TxEntry). unless (not (has_id (take k i.entries) e.id)) (at.Entry k)) i.entries)
+    (least_event (strangers i))
+
+-- ---- for each entry in order: the numbers of its events over all tables are 0 to k - 1, each once; its pairs name
+-- exactly the tables where it has events, and each root is the tree hash of the table's leaves by number
+
+-- they are 0 to k - 1, each once
+abbrev pub are_numbered : List ℕ → Bool
+are_numbered ns = list_all (λ n. length (filter (λ m. m == n) ns) == 1) (range_with_len 0 (length ns))
+
+-- a table, and a root in it
+abbrev pub TableRoot : Type 0
+TableRoot = ℕ × List ℕ
+
+abbrev pub root_at : List TableRoot → ℕ → Option (List ℕ)
+root_at [] table = None
+root_at (r ∷ rs) table = if r.0 == table then Some r.1 else root_at rs table
+
+abbrev pub same_root : Option (List ℕ) → Option (List ℕ) → Bool
+same_root None None = true
+same_root (Some a) (Some b) = bytes_eq a b
+same_root _ _ = false
+
+-- the tables in which two lists have another root, or of which only one has one
+abbrev pub other_roots : List TableRoot → List TableRoot → List ℕ
+other_roots a b =
+    filter (λ t. not (same_root (root_at a t) (root_at b t))) (map (λ r. r.0) a ++ map (λ r. r.0) b)
+
+abbrev pub root_place : ℕ → Option ℕ → Option Place
+root_place tx None = None
+root_place tx (Some table) = Some (at.Root tx table)
+
+module _ (h : List ℕ → List ℕ) (i : Image) where
+  -- the numbers, and else the least table
+  abbrev pub entry_fault : TxEntry → Option Place
+  entry_fault e =
+      or_else
+      (unless (are_numbered (map (λ (x : Event). x.seq) (all_events e.id (tables_in i)))) (at.Numbers e.id))
+      (root_place e.id (least nat_cmp (other_roots e.roots (roots_of h e.id (tables_in i)))))
+
+  -- the first entry for which it fails
+  unfoldable pub root_fault : Option Place
+  root_fault = first (λ k e. entry_fault e) i.entries

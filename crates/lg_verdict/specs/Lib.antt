@@ -1,0 +1,11 @@
+pub mod Blocks
+pub mod Bytes
+pub mod Covered
+pub mod Definitions
+pub mod Entries
+pub mod First
+pub mod Indexes
+pub mod Order
+pub mod Samples
+pub mod Verdict
+pub mod Versions

@@ -1,0 +1,179 @@
+-- Small images, for worked examples: a table t (id INT PRIMARY KEY, v INT) with an index on v, and a row.
+use Rattle.std.specs.Prelude.{ℕ, true, false, List, [], ◌∷◌, ◌++◌, map, sum, take, drop, codes, Some, None}
+use Rattle.lg_types.specs.declared.digest.HeldDigest.{HeldDigest}
+use Rattle.lg_types.specs.declared.entry.BlockRecord.{BlockRecord}
+use Rattle.lg_types.specs.declared.entry.TxEntry.{TxEntry}
+use Rattle.lg_types.specs.declared.image.Image.{Image}
+use Rattle.lg_types.specs.declared.image.TableRows.{TableRows}
+use Rattle.lg_types.specs.declared.journal.JournalItem.{JournalItem}
+use Rattle.lg_types.specs.declared.journal.JournalItem.TheVariants.{Tx, Close}
+use Rattle.lg_types.specs.declared.statement.Stmt.{Stmt}
+use Rattle.lg_types.specs.declared.table.TableDef.{TableDef}
+use Rattle.lg_types.specs.declared.version.Version.{Version}
+use Rattle.lg_value.specs.declared.column.ColumnDef.{ColumnDef}
+use Rattle.lg_value.specs.declared.sql_type.SqlType.TheVariants.{Int}
+use Rattle.lg_model.specs.Rows.{Row, EventId, stored_row}
+use Rattle.lg_model.specs.Catalog.{Defs}
+use Rattle.lg_model.specs.Create.{with_index}
+use Rattle.lg_model.specs.SystemTables.{a_column, tables_columns, columns_columns, table_row, column_row, index_row}
+use Rattle.lg_samples.specs.Samples.{create_t, insert, index_on, num, def_t, typed, version}
+use Rattle.lg_ledger.specs.Blocks.{no_hash, block_of, record_hash, hash_at}
+use Rattle.lg_ledger.specs.Entries.{entry_of, placed}
+use Rattle.lg_image.specs.Rows.{Stored}
+use Rattle.lg_image.specs.Tables.{table_in, tables_with}
+use Rattle.lg_model.specs.SystemTables.{tables_def, columns_def}
+
+-- a small hash: the sum of the bytes
+abbrev pub summed : List ℕ → List ℕ
+summed bytes = sum bytes ∷ []
+
+-- ---- statements and a journal
+
+abbrev pub statements : List Stmt
+statements =
+    create_t ∷ index_on (codes "iv") (codes "t") (codes "v" ∷ [])
+    ∷ insert (codes "t") ((num 1 ∷ num 10 ∷ []) ∷ []) ∷ []
+
+-- each statement in a transaction of its own; a text is the number of a statement
+abbrev pub alone : ℕ → ℕ → List ℕ → JournalItem
+alone id n reply = Tx id (codes "a") 0 false ((n ∷ [], reply ++ 10 ∷ []) ∷ [])
+
+abbrev pub items : List JournalItem
+items = alone 1 0 (codes "made") ∷ alone 2 1 (codes "made") ∷ alone 3 2 (codes "1 rows") ∷ Close 3 ∷ []
+
+-- ---- rows
+
+abbrev pub named_u : TableDef → TableDef
+named_u def =
+    record {
+      id = def.id;
+      name = codes "u";
+      kind = def.kind;
+      history = def.history;
+      view = def.view;
+      columns = def.columns;
+      indexes = def.indexes;
+    }
+
+abbrev pub def_iv : TableDef
+def_iv = with_index def_t (record { name = codes "iv"; ordinals = 2 ∷ [] })
+
+-- a system row as the base has it
+abbrev pub system_version : List ColumnDef → Row → EventId → Version
+system_version columns row start = record { values = stored_row columns row; start = start; end = None }
+
+abbrev pub base_of : List Version → TableRows
+base_of versions = record { base = versions; history = []; indexes = [] }
+
+abbrev pub of_tables : TableRows
+of_tables = base_of (system_version tables_columns (table_row def_t) (1, 0) ∷ [])
+
+abbrev pub of_columns : TableRows
+of_columns =
+    base_of (
+    system_version columns_columns (column_row 3 (1, a_column (codes "id") Int false 1)) (1, 1)
+    ∷ system_version columns_columns (column_row 3 (2, a_column (codes "v") Int true 0)) (1, 2)
+    ∷ system_version columns_columns (index_row 3 1 (codes "iv") (1, 2)) (2, 0)
+    ∷ [])
+
+-- the rows of t: base, history, and index
+abbrev pub rows_t : List Version → List Version → List Stored → TableRows
+rows_t base history index = record { base = base; history = history; indexes = index ∷ [] }
+
+-- the index row of (id, v)
+abbrev pub index_t : ℕ → ℕ → Stored
+index_t id v = typed v ∷ typed id ∷ []
+
+-- ---- images
+
+-- the entries of these transactions, in one block, with the roots of these rows
+abbrev pub made_of : List ℕ → TableDef → TableRows → Image
+made_of ids def rows =
+    let all = of_tables ∷ of_columns ∷ rows ∷ [] in
+    let tables = tables_with (tables_def ∷ columns_def ∷ def ∷ []) all in
+    let entries = placed 0 0 (map (λ id. entry_of summed tables id (codes "a") 0) ids) in
+    record {
+      database = codes "d";
+      blocks = block_of summed 0 entries no_hash ∷ [];
+      entries = entries;
+      defs = def ∷ [];
+      tables = all;
+    }
+
+abbrev pub honest : Image
+honest = made_of (1 ∷ 2 ∷ 3 ∷ []) def_iv (rows_t (version 1 10 (3, 0) None ∷ []) [] (index_t 1 10 ∷ []))
+
+-- the digest of an image's first block
+abbrev pub digest_of : Image → HeldDigest
+digest_of i = record { database = i.database; block = 0; hash = hash_at summed i.blocks 0 }
+
+-- ---- damage
+
+-- the image with the rows of another
+abbrev pub with_rows_of : Image → Image → Image
+with_rows_of i j =
+    record { database = i.database; blocks = i.blocks; entries = i.entries; defs = i.defs; tables = j.tables }
+
+-- the row is changed and its index left, with the roots of the change
+abbrev pub index_left : Image
+index_left = made_of (1 ∷ 2 ∷ 3 ∷ []) def_iv (rows_t (version 1 11 (3, 0) None ∷ []) [] (index_t 1 10 ∷ []))
+
+-- two base rows have the key 1
+abbrev pub key_twice : Image
+key_twice =
+    made_of (1 ∷ 2 ∷ 3 ∷ 4 ∷ []) def_iv
+    (rows_t (version 1 10 (3, 0) None ∷ version 1 20 (4, 0) None ∷ []) [] (index_t 1 10 ∷ index_t 1 20 ∷ []))
+
+-- a version is ended by the transaction before the one that starts it
+abbrev pub ended_early : Image
+ended_early = made_of (1 ∷ 2 ∷ 3 ∷ 4 ∷ []) def_iv (rows_t [] (version 1 10 (4, 0) (Some (3, 0)) ∷ []) [])
+
+-- the definition has another name than its rows
+abbrev pub misnamed : Image
+misnamed = made_of (1 ∷ 2 ∷ 3 ∷ []) (named_u def_iv) (rows_t (version 1 10 (3, 0) None ∷ []) [] (index_t 1 10 ∷ []))
+
+-- the id 3 stands three times
+abbrev pub id_again : Image
+id_again = made_of (1 ∷ 2 ∷ 3 ∷ 3 ∷ 3 ∷ []) def_iv (rows_t (version 1 10 (3, 0) None ∷ []) [] (index_t 1 10 ∷ []))
+
+-- two rows are of transactions that have no entry
+abbrev pub of_nobody : Image
+of_nobody =
+    made_of (1 ∷ 2 ∷ 3 ∷ []) def_iv
+    (rows_t (version 1 10 (3, 0) None ∷ version 2 20 (98, 5) None ∷ version 3 30 (99, 0) None ∷ []) []
+    (index_t 1 10 ∷ index_t 2 20 ∷ index_t 3 30 ∷ []))
+
+-- the number of the first event of transaction 3 is 1
+abbrev pub misnumbered : Image
+misnumbered = made_of (1 ∷ 2 ∷ 3 ∷ []) def_iv (rows_t (version 1 10 (3, 1) None ∷ []) [] (index_t 1 10 ∷ []))
+
+-- with these blocks in the place of its own
+abbrev pub with_blocks : List BlockRecord → Image
+with_blocks blocks =
+    record {
+      database = honest.database;
+      blocks = blocks;
+      entries = honest.entries;
+      defs = honest.defs;
+      tables = honest.tables;
+    }
+
+-- its entries in two blocks: these in block 0, and the last one in block 1
+abbrev pub in_two : List TxEntry → Image
+in_two first =
+    let block_0 = block_of summed 0 first no_hash in
+    let last = placed 1 0 (drop 2 honest.entries) in
+    record {
+      database = honest.database;
+      blocks = block_0 ∷ block_of summed 1 last (record_hash summed block_0) ∷ [];
+      entries = take 2 honest.entries ++ last;
+      defs = honest.defs;
+      tables = honest.tables;
+    }
+
+abbrev pub two_blocks : Image
+two_blocks = in_two (take 2 honest.entries)
+
+-- block 0 is of other entries, and block 1 stands behind it
+abbrev pub older_block : Image
+older_block = in_two (placed 0 0 (drop 1 honest.entries))
