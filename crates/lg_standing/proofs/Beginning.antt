@@ -4,26 +4,33 @@ use Rattle.std.proofs.lemmas.Bool.{ne_eqb}
 use Rattle.std.specs.Prelude.{◌==◌, if◌then◌else◌}
 use mathlib.Core.Option.{some, none}
 use lib.ListN.{get_elem?}
+use Rattle.lg_types.specs.declared.lock.Hold.{Hold}
 use Rattle.lg_types.specs.declared.table.TableDef.{TableDef}
 use Rattle.lg_types.specs.declared.version.Version.{Version}
-use Rattle.lg_model.specs.Catalog.{Defs, Tables, versions_of}
+use Rattle.lg_model.specs.Catalog.{Defs, versions_of, defs_of}
 use Rattle.lg_model.specs.SystemTables.{tables_id, tables_def, columns_def, first_tables}
-use Rattle.lg_model.specs.Journals.{serial, serial_from}
+use Rattle.lg_model.specs.Limits.{max_block}
+use Rattle.lg_model.specs.Runs.{Rising}
+use Rattle.lg_model.specs.Journals.{serial_from, serial}
 use Rattle.lg_history.specs.Lists.{Text, Each, In}
 use Rattle.lg_standing.specs.Server.{Server}
-use Rattle.lg_standing.specs.Cells.{Hold, LedgerCell, TableCell, Cell, Rows, first_catalog, first_ledger, empty_cells, first_cells, holds_in, holds_found, holds_at, versions_in, versions_found, versions_at, cell_of}
+use Rattle.lg_standing.specs.Cells.{TableCell, Cell, Rows, first_catalog, first_ledger, empty_cells, first_cells, holds_in, holds_found, holds_at, versions_in, versions_found, versions_at, cell_of}
 use Rattle.lg_standing.specs.Seats.{OpenTransaction, Session, Role, session, SeatState, idle_seat}
 use Rattle.lg_standing.specs.OpenOnes.{HasOpen}
 use Rattle.lg_standing.specs.Committed.{committed}
+use Rattle.lg_standing.specs.Contents.{Contents, Known, contents, known, table_found}
 use Rattle.lg_standing.specs.TablesAreSerial.{StandsAs, def_at}
 use Rattle.lg_standing.specs.LocksCover.{IsUnderLocks}
+use Rattle.lg_standing.specs.Parts.{Numbers}
 use Rattle.lg_standing.specs.TranscriptsAgree.{SeatAgrees, TranscriptsAgree}
 use Rattle.lg_standing.specs.StandTogether.{StandTogether}
+use Rattle.lg_model.specs.Agreement.{columns_at}
+use Rattle.lg_model.specs.Keys.{of_key}
 
 -- ---- cells
 
 abbrev empty_cell : ℕ → TableCell
-empty_cell id = record { id = id; versions = []; order = []; indexes = []; holds = [] }
+empty_cell id = record { id = id; columns = []; versions = []; order = []; indexes = []; holds = [] }
 
 -- what is found there, if anything, is the empty cell of this table
 abbrev IsEmpty : ℕ → mathlib.Core.Option.Option Cell → Type 0
@@ -100,22 +107,25 @@ module _ (database : Text) (size : ℕ) where
     abbrev cells : List Cell
     cells = first_cells database size
 
-    abbrev ledger : LedgerCell
-    ledger = first_ledger database size
+    abbrev c : Contents
+    c = contents cells
+
+    abbrev k : Known
+    k = known v.reads []
 
     -- a table's cell has nothing
-    abbrev HasNothing : mathlib.Core.Option.Option Cell → Type 0
-    HasNothing (some (Rows t)) = StandsAs v cells seats ledger t (def_at defs t.id)
-    HasNothing _ = Unit {0}
+    abbrev HasNothing : mathlib.Core.Option.Option TableCell → Type 0
+    HasNothing (some t) = StandsAs v c k seats t (def_at defs t.id)
+    HasNothing none = Unit {0}
 
-    empty_stands : (id : ℕ) → StandsAs v cells seats ledger (empty_cell (suc (suc (suc id)))) (def_at defs (suc (suc (suc id))))
-    empty_stands id = subst (StandsAs v cells seats ledger (empty_cell (suc (suc (suc id))))) (sym (undefined (suc (suc (suc id))) (omega arith))) (refl, refl, refl)
+    empty_stands : (id : ℕ) → StandsAs v c k seats (empty_cell (suc (suc (suc id)))) (def_at defs (suc (suc (suc id))))
+    empty_stands id = subst (StandsAs v c k seats (empty_cell (suc (suc (suc id))))) (sym (undefined (suc (suc (suc id))) (omega arith))) (refl, refl, refl)
 
-    has_nothing : (id : ℕ) (o : mathlib.Core.Option.Option Cell) → IsEmpty (suc (suc (suc id))) o → HasNothing o
+    has_nothing : (id : ℕ) (o : mathlib.Core.Option.Option Cell) → IsEmpty (suc (suc (suc id))) o → HasNothing (table_found o)
     has_nothing id none e = tt
-    has_nothing id (some c) e = subst (λ d. HasNothing (some d)) (sym e) (empty_stands id)
+    has_nothing id (some c) e = subst (λ d. HasNothing (table_found (some d))) (sym e) (empty_stands id)
 
-    nothing_at : (i : ℕ) → HasNothing (get_elem? cells i)
+    nothing_at : (i : ℕ) → HasNothing (c.table i)
     nothing_at zero = tt
     nothing_at (suc zero) = tt
     nothing_at (suc (suc i)) = has_nothing i (get_elem? (empty_cells 32 3) i) (subst (λ id. IsEmpty id (get_elem? (empty_cells 32 3) i)) (three i) (all_empty 32 3 i))
@@ -154,13 +164,16 @@ module _ (database : Text) (size : ℕ) where
   is_first j s e = subst (IsFirst j) e (first_at j)
 
   module _ (v : Server) where
+    abbrev no_sessions : Numbers
+    no_sessions = record { past = []; now = None }
+
     abbrev AgreesIf : mathlib.Core.Option.Option SeatState → Type 0
     AgreesIf none = Unit {0}
-    AgreesIf (some s) = SeatAgrees v [] (first_ledger database size) s
+    AgreesIf (some s) = SeatAgrees v [] (first_ledger database size) no_sessions s
 
     agrees_at : (j : ℕ) → AgreesIf (get_elem? (seat ∷ []) j)
     agrees_at zero = record {
-      sessions = record { numbers = []; number = None; differ = tt; past = tt; now = tt; earlier = tt };
+      sessions = record { differ = tt; past = tt; now = tt; earlier = tt };
       database = λ p. refl;
       block_size = λ p. refl;
       marks = tt;
@@ -176,8 +189,10 @@ module _ (database : Text) (size : ℕ) where
       items = refl;
       next = refl;
       issued = refl;
+      of_seat = λ j. no_sessions;
       agree = λ j s e. subst AgreesIf e (agrees_at j);
-      apart = λ j k s t e f n a b. is_first j s e ∙ sym (is_first k t f);
+      owner = λ n. 0;
+      own = λ j s e. tt;
       count = 0;
       all = λ n l. absurd (omega arith);
       no_others = λ n l. (refl, refl);
@@ -192,30 +207,48 @@ module _ (database : Text) (size : ℕ) where
     no_lock : (i : ℕ) (h : Hold) → In h (holds_at (first_cells database size) i) → ⊥
     no_lock i h has = subst (In h) (held_nowhere database size i) has
 
-    under_nothing : (T : Tables) (id : ℕ) → Each (IsUnderLocks (first_cells database size) (first_ledger database size) T id) (versions_at (first_cells database size) id)
-    under_nothing T id = subst (Each (IsUnderLocks (first_cells database size) (first_ledger database size) T id)) (sym (nothing_in database size id (cell_of id))) tt
+    under_nothing : (k : Known) (id : ℕ) → Each (IsUnderLocks (contents (first_cells database size)) k id) (versions_at (first_cells database size) id)
+    under_nothing k id = subst (Each (IsUnderLocks (contents (first_cells database size)) k id)) (sym (nothing_in database size id (cell_of id))) tt
 
-    pub begins : StandTogether v (first_cells database size) (seat ∷ [])
+    pub begins : 1 ≤ size → size ≤ max_block → StandTogether v (first_cells database size) (seat ∷ [])
     unfolding serial_from first_tables
-    begins = record {
+    begins some_size most_size = record {
       history = [];
       catalog = first_catalog;
       ledger = first_ledger database size;
       are_cells = record { has_catalog = refl; has_ledger = refl; has_tables = tables_there database size };
-      ledger_is_legal = record { legal = tt; entries = refl; blocks = refl; pending = refl; digests = tt; closings = tt };
+      ledger_is_legal = record { legal = tt; entries = refl; blocks = refl; pending = refl; digests = tt; closings = tt; some_size = some_size; most_size = most_size };
       tables_are_serial = record {
         definitions = inl refl;
-        versions = λ id l. ap (committed []) (nothing_in database size id (cell_of id)) ∙ sym (no_versions database size id);
+        goes_back = λ k e. absurd (let z : None ≡ Some k = e in cc);
+        carried = λ j x o h. absurd (none_open j x o h);
+        indexed = λ j x o h. absurd (none_open j x o h);
+        versions = λ id l. ap (committed (known v.reads []).has) (nothing_in database size id (cell_of id)) ∙ sym (no_versions database size id);
         tables = λ i cell e. subst (HasNothing database size v (seat ∷ [])) e (nothing_at database size v (seat ∷ []) i);
+      };
+      rows_agree = record {
+        free = λ id key l h. ap (of_key (columns_at (defs_of (serial v.reads [])) id) key) (nothing_in database size id (cell_of id) ∙ sym (no_versions database size id));
+        own = λ j x o h. absurd (none_open j x o h);
+        undone = λ id key l h has. absurd (no_lock (cell_of id) h has);
+        rising = λ id l. subst Rising (sym (nothing_in database size id (cell_of id))) tt;
+        back = λ j x o h. absurd (none_open j x o h);
+        opened = λ j x o h. absurd (none_open j x o h);
+        before = λ j x o h. absurd (none_open j x o h);
       };
       open_scripts = λ j x o h. absurd (none_open j x o h);
       locks_cover = record {
         belong = λ i h has. absurd (no_lock i h has);
         cover = λ j x o h. absurd (none_open j x o h);
+        unreleased = λ j x o h. absurd (none_open j x o h);
+        looked = λ j x o h. absurd (none_open j x o h);
+        looked_first = λ j x o h. absurd (none_open j x o h);
+        intents = λ i h has. absurd (no_lock i h has);
+        on_whole = λ h has. absurd (no_lock 0 h has);
+        dropping = λ j x o h. absurd (none_open j x o h);
         catalog = λ i id h. absurd (no_lock (suc i) h.hold h.has);
         definitions = λ j x o n h. absurd (none_open j x o h);
         got = λ j x o h. absurd (none_open j x o h);
-        under = λ id l. under_nothing (serial v.reads []) id;
+        under = λ id l. under_nothing (known v.reads []) id;
       };
       locks_agree = λ i j k a b n h. absurd (none_open j h.x h.o h.open_one);
       trees_are_of_events = λ j x o h. absurd (none_open j x o h);

@@ -3,6 +3,8 @@ pub mod Answering
 pub mod CatalogVisits
 pub mod Cells
 pub mod Committed
+pub mod Contents
+pub mod Desks
 pub mod Doing
 pub mod EventsIn
 pub mod ImageVisits
@@ -15,12 +17,13 @@ pub mod Moves
 pub mod OpenOnes
 pub mod OpenScripts
 pub mod Parts
+pub mod RowsAgree
 pub mod Seats
 pub mod Server
 pub mod StandTogether
+pub mod Steps
 pub mod TableVisits
 pub mod TablesAreSerial
-pub mod Taking
 pub mod TranscriptsAgree
 pub mod TreesAreOfEvents
 pub mod UndoVisits

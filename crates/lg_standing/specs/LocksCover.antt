@@ -1,5 +1,5 @@
 -- Locks cover: each lock is a want, each want of a script has its lock, and what isn't committed lies under locks.
-use Rattle.std.specs.Prelude.{ℕ, suc, ◌≡◌, ◌≤◌, Bool, true, false, not, List, Option, Some, None}
+use Rattle.std.specs.Prelude.{ℕ, suc, ◌≡◌, ◌⊎◌, ◌≤◌, Bool, true, false, not, List, [], Option, Some, None}
 use Rattle.lg_types.specs.declared.statement.Stmt.{Stmt}
 use Rattle.lg_types.specs.declared.statement.Stmt.TheVariants as s
 use Rattle.lg_types.specs.declared.statement.RowStmt.{RowStmt}
@@ -8,25 +8,28 @@ use Rattle.lg_types.specs.declared.table.TableDef.{TableDef}
 use Rattle.lg_types.specs.declared.version.Version.{Version}
 use Rattle.lg_model.specs.Rows.{EventId}
 use Rattle.lg_model.specs.Keys.{version_key}
-use Rattle.lg_model.specs.Catalog.{Named, Tables, defs_of, find_part}
-use Rattle.lg_model.specs.Journals.{serial, upto}
+use Rattle.lg_model.specs.Catalog.{Defs, Named, Tables, defs_of, find_part}
 use Rattle.lg_model.specs.Agreement.{columns_at}
-use Rattle.lg_model.specs.Plans.{plan, defined}
-use Rattle.lg_model.specs.Reach.{creates, lets_change}
+use Rattle.lg_types.specs.declared.lock.Mode.TheVariants.{IX, S, X}
+use Rattle.lg_types.specs.declared.lock.Item.TheVariants.{Whole}
+use Rattle.lg_model.specs.Plans.{plan, as_before, in_place}
+use Rattle.lg_model.specs.Reach.{lets_change}
 use Rattle.lg_history.specs.Lists.{Text, Each, In}
+use Rattle.lg_history.specs.Transactions.{unfixed}
 use Rattle.lg_history.specs.Refusals.{EndsAt}
 use Rattle.lg_standing.specs.Server.{Server}
-use Rattle.lg_standing.specs.Cells.{Hold, LedgerCell, Cell, holds_at, versions_at, catalog_at, cell_of}
-use Rattle.lg_standing.specs.Seats.{OpenTransaction, Session, SeatState, Stage, found, made, answering, Place, inside}
-use Rattle.lg_standing.specs.OpenOnes.{HasOpen, script_so_far, statements_so_far}
-use Rattle.lg_standing.specs.WantsIn.{wants_in, Holds}
-use Rattle.lg_standing.specs.Committed.{in_journal}
+use Rattle.lg_types.specs.declared.lock.Hold.{Hold}
+use Rattle.lg_standing.specs.Cells.{catalog_at, cell_of}
+use Rattle.lg_standing.specs.Contents.{Contents, Known, HasAlone}
+use Rattle.lg_standing.specs.Seats.{OpenTransaction, Session, SeatState, Stage, found, made, replied, answering, refused, Place, inside}
+use Rattle.lg_standing.specs.OpenOnes.{HasOpen, script_so_far}
+use Rattle.lg_model.specs.ScriptWants.{text_wants}
+use Rattle.lg_standing.specs.WantsIn.{of_catalog, wants_in, Holds}
 
 -- ---- each lock
 
--- a lock in cell i belongs to one seat whose transaction hasn't released that cell; and it is a want, over the tables that the
--- journal leads to, of a statement of that transaction, the one in which its seat stands among these
-pub record Belongs (v : Server) (seats : List SeatState) (T : Tables) (i : ℕ) (h : Hold) : Type 0 where
+-- a lock in cell i belongs to one seat whose transaction hasn't released that cell
+pub record Belongs (seats : List SeatState) (i : ℕ) (h : Hold) : Type 0 where
   pub j : ℕ
   pub x : Session
   pub o : OpenTransaction
@@ -35,15 +38,30 @@ pub record Belongs (v : Server) (seats : List SeatState) (T : Tables) (i : ℕ) 
   pub only : (k : ℕ) (y : Session) (p : OpenTransaction) → HasOpen seats k y p → p.id ≡ h.tx → k ≡ j
   pub visited : In i o.visited
   pub unreleased : In i o.released → ⊥
-  pub text : Text
-  pub is : In text (statements_so_far x o)
-  pub wanted : In h.want (wants_in v (defs_of T) o.opened i text)
 
 -- the transaction has a lock in cell i
-pub record HasLock (cells : List Cell) (i id : ℕ) : Type 0 where
+pub record HasLock (c : Contents) (i id : ℕ) : Type 0 where
   pub hold : Hold
-  pub has : In hold (holds_at cells i)
+  pub has : In hold (c.holds i)
   pub mine : hold.tx ≡ id
+
+-- it has a lock in the catalog, and the one that this statement wants there
+pub record HoldsCatalog (v : Server) (c : Contents) (defs : Defs) (id : ℕ) (opened : Bool)
+    (text : Text) : Type 0 where
+  pub lock : HasLock c catalog_at id
+  pub wants : Each (Holds (c.holds catalog_at) id)
+      (of_catalog (text_wants defs opened (v.reads text)).catalog)
+
+-- it visited the catalog for its statement
+abbrev pub LookedIn : Server → Contents → Defs → ℕ → Bool → Text → Stage → Type 0
+LookedIn v c defs id opened text (found named fresh) = HoldsCatalog v c defs id opened text
+LookedIn v c defs id opened text (made def indexed) = HoldsCatalog v c defs id opened text
+LookedIn v c defs id opened text (refused reply) = HoldsCatalog v c defs id opened text
+LookedIn v c defs id opened text _ = Unit {0}
+
+abbrev pub LookedAt : Server → Contents → Defs → ℕ → Bool → Place → Type 0
+LookedAt v c defs id opened (inside text stage) = LookedIn v c defs id opened text stage
+LookedAt v c defs id opened _ = Unit {0}
 
 -- ---- the definition that a statement got
 
@@ -62,63 +80,117 @@ name_of _ = None
 -- what the tables define under the statement's name
 abbrev pub IsNamed : Tables → Option Stmt → Option Named → Type 0
 IsNamed T None named = ⊥
-IsNamed T (Some stmt) named = (name : Text) × (name_of stmt ≡ Some name) × (named ≡ find_part (defs_of T) name)
+IsNamed T (Some stmt) named = (name : Text) × (name_of stmt ≡ Some name)
+    × (named ≡ find_part (defs_of T) name)
 
--- the definition after the statement, which changes definitions
+-- the definition that the statement, a CREATE INDEX, puts in the place of its table's
 abbrev pub IsAfter : Tables → Option Stmt → TableDef → Type 0
 IsAfter T None def = ⊥
-IsAfter T (Some stmt) def = (creates stmt ≡ true) × In def (defs_of (defined (plan T stmt).definition T))
+IsAfter T (Some stmt) def = (plan T stmt).definition ≡ in_place def
+
+-- a CREATE INDEX that makes its index isn't replied to before it is added
+abbrev pub IsRepliedTo : Tables → Option Stmt → Type 0
+IsRepliedTo T (Some (s.Index create)) = (plan T (s.Index create)).definition ≡ as_before
+IsRepliedTo T _ = Unit {0}
 
 -- what a statement has got is that of the tables or, where the statement changes definitions and isn't in the journal, that
--- after itself
-abbrev pub IsGot : Tables → Bool → Option Stmt → Stage → Type 0
-IsGot T outside stmt (found named fresh) = IsNamed T stmt named
-IsGot T outside stmt (made def indexed) = (outside ≡ true) × IsAfter T stmt def
-IsGot T outside stmt (answering reply (Some def)) = (outside ≡ true) × IsAfter T stmt def
-IsGot T outside stmt _ = Unit {0}
+-- after itself; then it has the catalog alone
+abbrev pub IsGot : Tables → Type 0 → Bool → Option Stmt → Stage → Type 0
+IsGot T Exclusive outside stmt (found named fresh) = IsNamed T stmt named
+IsGot T Exclusive outside stmt (made def indexed) = (outside ≡ true) × IsAfter T stmt def × Exclusive
+IsGot T Exclusive outside stmt (replied reply) = IsRepliedTo T stmt
+IsGot T Exclusive outside stmt (answering reply (Some def)) = (outside ≡ true) × IsAfter T stmt def
+    × Exclusive
+IsGot T Exclusive outside stmt _ = Unit {0}
 
-abbrev pub IsGotAt : Server → Tables → Bool → Place → Type 0
-IsGotAt v T outside (inside text stage) = IsGot T outside (v.reads text) stage
-IsGotAt v T outside _ = Unit {0}
+abbrev pub IsGotAt : Server → Tables → Type 0 → Bool → Place → Type 0
+IsGotAt v T Exclusive outside (inside text stage) = IsGot T Exclusive outside (v.reads text) stage
+IsGotAt v T Exclusive outside _ = Unit {0}
+
+-- ---- locks of the statement under way
+
+-- who locks rows for change has said so on the whole table
+pub record HasIntent (holds : List Hold) (h : Hold) : Type 0 where
+  pub hold : Hold
+  pub has : In hold holds
+  pub mine : hold.tx ≡ h.tx
+  pub whole : hold.want.item ≡ Whole
+  pub mode : (hold.want.mode ≡ IX) ⊎ (hold.want.mode ≡ X)
+
+-- the statement was the first of its transaction that took a lock in the catalog
+abbrev pub LookedFirst : Place → Type 0
+LookedFirst (inside text (found named true)) = Unit {0}
+LookedFirst (inside text (refused reply)) = Unit {0}
+LookedFirst _ = ⊥
+
+-- the statements before it want nothing in the catalog, its transaction's locks there are S, and it has none in a table's cell
+pub record WantsNone (v : Server) (c : Contents) (T : Tables) (o : OpenTransaction) : Type 0 where
+  pub before : Each (λ l. wants_in v (defs_of T) o.opened catalog_at l.0 ≡ []) o.script
+  pub shares : (h : Hold) → In h (c.holds catalog_at) → h.tx ≡ o.id → h.want.mode ≡ S
+  pub elsewhere : (i : ℕ) → HasLock c (suc i) o.id → ⊥
+
+-- the index of a refused CREATE INDEX may still have to be dropped, in the cell of its table
+abbrev pub IsDropping : Place → OpenTransaction → Type 0
+IsDropping (inside text (answering reply (Some def))) o =
+    In (cell_of def.id) o.visited × (In (cell_of def.id) o.released → ⊥)
+IsDropping _ o = ⊥
 
 -- ---- what isn't committed
 
 -- one of the transaction's locks in the table's cell is an X on these rows
-pub record LiesUnder (cells : List Cell) (T : Tables) (id : ℕ) (w : Version) (event : EventId) : Type 0 where
+pub record LiesUnder (c : Contents) (T : Tables) (id : ℕ) (w : Version) (event : EventId) : Type 0 where
   pub hold : Hold
-  pub has : In hold (holds_at cells (cell_of id))
+  pub has : In hold (c.holds (cell_of id))
   pub mine : hold.tx ≡ event.0
   pub reaches : lets_change (version_key (columns_at (defs_of T) id) w) hold.want ≡ true
 
-abbrev pub EndLiesUnder : List Cell → LedgerCell → Tables → ℕ → Version → Option EventId → Type 0
-EndLiesUnder cells ledger T id w None = Unit {0}
-EndLiesUnder cells ledger T id w (Some event) = in_journal ledger.items event ≡ false → LiesUnder cells T id w event
+abbrev pub EndLiesUnder : Contents → Known → ℕ → Version → Option EventId → Type 0
+EndLiesUnder c k id w None = Unit {0}
+EndLiesUnder c k id w (Some event) = k.has event.0 ≡ false → LiesUnder c k.tables id w event
 
 -- any start or end whose id isn't in the journal lies under its seat's X locks
-pub record IsUnderLocks (cells : List Cell) (ledger : LedgerCell) (T : Tables) (id : ℕ) (w : Version) : Type 0 where
-  pub start : in_journal ledger.items w.start ≡ false → LiesUnder cells T id w w.start
-  pub end : EndLiesUnder cells ledger T id w w.end
+pub record IsUnderLocks (c : Contents) (k : Known) (id : ℕ) (w : Version) : Type 0 where
+  pub start : k.has w.start.0 ≡ false → LiesUnder c k.tables id w w.start
+  pub end : EndLiesUnder c k id w w.end
 
 -- ---- all
 
--- T are the tables that the journal leads to
-pub record Cover (v : Server) (cells : List Cell) (ledger : LedgerCell) (seats : List SeatState) (T : Tables) : Type 0 where
-  -- each lock in a cell belongs to one seat, and is a want of a statement of its transaction
-  pub belong : (i : ℕ) (h : Hold) → In h (holds_at cells i) → Belongs v seats T i h
-  -- in the cells that it hasn't released, a transaction's locks cover all wants of its script
-  pub cover : (j : ℕ) (x : Session) (o : OpenTransaction) → HasOpen seats j x o → (i : ℕ) → (In i o.released → ⊥)
-      → Each (λ l. Each (Holds (holds_at cells i) o.id) (wants_in v (defs_of T) o.opened i l.0)) (script_so_far x o)
+-- it has released neither this cell nor the catalog, which comes last
+abbrev pub KeepsLocks : OpenTransaction → ℕ → Type 0
+KeepsLocks o i = (In i o.released → ⊥) × (In catalog_at o.released → ⊥)
+
+pub record LocksCover (v : Server) (c : Contents) (k : Known) (seats : List SeatState) : Type 0 where
+  -- each lock in a cell belongs to one seat
+  pub belong : (i : ℕ) (h : Hold) → In h (c.holds i) → Belongs seats i h
+  -- until it has released the catalog, in the cells that it hasn't released a transaction's locks cover all wants of its script
+  pub cover : (j : ℕ) (x : Session) (o : OpenTransaction) → HasOpen seats j x o → (i : ℕ) → KeepsLocks o i
+      → Each (λ l. Each (Holds (c.holds i) o.id) (wants_in v (defs_of k.tables) o.opened i l.0))
+      (script_so_far x o)
+  -- it has released none before its end is fixed
+  pub unreleased : (j : ℕ) (x : Session) (o : OpenTransaction) → HasOpen seats j x o → o.end ≡ unfixed
+      → o.released ≡ []
+  -- while its end isn't fixed, and its statement has been in the catalog, it has the lock there that the statement wants
+  pub looked : (j : ℕ) (x : Session) (o : OpenTransaction) → HasOpen seats j x o → o.end ≡ unfixed
+      → LookedAt v c (defs_of k.tables) o.id o.opened x.place
+  -- where it was the first of its transaction there, none before it wants anything there
+  pub looked_first : (j : ℕ) (x : Session) (o : OpenTransaction) → HasOpen seats j x o → o.end ≡ unfixed
+      → LookedFirst x.place → WantsNone v c k.tables o
+  -- each X has its intent on the whole table
+  pub intents : (i : ℕ) (h : Hold) → In h (c.holds i) → h.want.mode ≡ X → HasIntent (c.holds i) h
+  -- a lock in the catalog is on all of it
+  pub on_whole : (h : Hold) → In h (c.holds catalog_at) → h.want.item ≡ Whole
   -- a transaction that has a lock in a table's cell has one in the catalog
-  pub catalog : (i id : ℕ) → HasLock cells (suc i) id → HasLock cells catalog_at id
+  pub catalog : (i id : ℕ) → HasLock c (suc i) id → HasLock c catalog_at id
   -- while a transaction whose end number n is fixed has a lock in the catalog, the journal has the definitions of its first n
   -- transactions
-  pub definitions : (j : ℕ) (x : Session) (o : OpenTransaction) (n : ℕ) → HasOpen seats j x o → EndsAt o.end n → HasLock cells catalog_at o.id
-      → defs_of T ≡ defs_of (serial v.reads (upto ledger.items n))
+  pub definitions : (j : ℕ) (x : Session) (o : OpenTransaction) (n : ℕ) → HasOpen seats j x o → EndsAt o.end n
+      → HasLock c catalog_at o.id
+      → defs_of k.tables ≡ defs_of (k.after n)
   -- while a seat inside a statement has a lock in the catalog, the definition that it got there for this statement is that
-  pub got : (j : ℕ) (x : Session) (o : OpenTransaction) → HasOpen seats j x o → HasLock cells catalog_at o.id
-      → IsGotAt v T (not (in_journal ledger.items (o.id, 0))) x.place
+  pub got : (j : ℕ) (x : Session) (o : OpenTransaction) → HasOpen seats j x o → HasLock c catalog_at o.id
+      → IsGotAt v k.tables (HasAlone c o.id) (not (k.has o.id)) x.place
+  -- until it has dropped its index, a refused CREATE INDEX has the catalog alone
+  pub dropping : (j : ℕ) (x : Session) (o : OpenTransaction) → HasOpen seats j x o → IsDropping x.place o
+      → HasAlone c o.id
   -- any start or end whose id isn't in the journal lies under its seat's X locks
-  pub under : (id : ℕ) → 1 ≤ id → Each (IsUnderLocks cells ledger T id) (versions_at cells id)
-
-abbrev pub LocksCover : Server → List Cell → LedgerCell → List SeatState → Type 0
-LocksCover v cells ledger seats = Cover v cells ledger seats (serial v.reads ledger.items)
+  pub under : (id : ℕ) → 1 ≤ id → Each (IsUnderLocks c k id) (c.versions id)

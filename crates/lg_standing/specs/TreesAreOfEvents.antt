@@ -2,12 +2,12 @@
 use Rattle.std.specs.Prelude.{ℕ, ◌≡◌, ◌≢◌, ◌≤◌, List, [], ◌∷◌, map}
 use Rattle.lg_types.specs.declared.event.Event.{Event}
 use Rattle.lg_model.specs.Catalog.{versions_of}
-use Rattle.lg_model.specs.Journals.{serial}
 use Rattle.lg_model.specs.Script.{Saved}
 use Rattle.lg_history.specs.Lists.{Each}
+use Rattle.lg_history.specs.Serial.{Differ}
 use Rattle.lg_history.specs.Transactions.{unfixed}
 use Rattle.lg_standing.specs.Server.{Server}
-use Rattle.lg_standing.specs.Cells.{LedgerCell, Cell}
+use Rattle.lg_standing.specs.Contents.{Contents, Known}
 use Rattle.lg_standing.specs.Seats.{Tree, Frame, OpenTransaction, Session, SeatState}
 use Rattle.lg_standing.specs.OpenOnes.{HasOpen, script_end}
 use Rattle.lg_standing.specs.EventsIn.{events_in}
@@ -15,6 +15,9 @@ use Rattle.lg_standing.specs.OpenScripts.{events_counted}
 
 -- each tree is that of the leaves of the events in its table, and a table without a tree has no event
 pub record AreTrees (v : Server) (events : ℕ → List Event) (trees : List Tree) : Type 0 where
+  -- a table has one tree at most
+  pub differ : Differ (map (λ t. t.table) trees)
+  pub tables : Each (λ t. 1 ≤ t.table) trees
   pub leaves : Each (λ t. t.leaves ≡ map v.leaf (events t.table)) trees
   pub others : (id : ℕ) → 1 ≤ id → Each (λ t. t.table ≢ id) trees → events id ≡ []
 
@@ -29,13 +32,15 @@ AreFrames v id [] [] = Unit {0}
 AreFrames v id (f ∷ fs) (k ∷ ks) = IsFrame v id f k × AreFrames v id fs ks
 AreFrames v id _ _ = ⊥
 
-pub record HasItsTrees (v : Server) (cells : List Cell) (ledger : LedgerCell) (x : Session) (o : OpenTransaction) : Type 0 where
+pub record HasItsTrees (v : Server) (c : Contents) (k : Known) (x : Session)
+    (o : OpenTransaction) : Type 0 where
   -- each tree of the transaction is that of the leaves of its events in its table
-  pub trees : AreTrees v (events_counted cells x o) o.trees
+  pub trees : AreTrees v (events_counted c x o) o.trees
   -- each frame has the counter and trees that its script had there
-  pub frames : AreFrames v o.id o.frames (script_end v (serial v.reads ledger.items) x o).state.saved
+  pub frames : AreFrames v o.id o.frames (script_end v k.tables x o).state.saved
 
 -- of each transaction whose end isn't fixed
-abbrev pub TreesAreOfEvents : Server → List Cell → LedgerCell → List SeatState → Type 0
-TreesAreOfEvents v cells ledger seats = (j : ℕ) (x : Session) (o : OpenTransaction) → HasOpen seats j x o → o.end ≡ unfixed
-    → HasItsTrees v cells ledger x o
+abbrev pub TreesAreOfEvents : Server → Contents → Known → List SeatState → Type 0
+TreesAreOfEvents v c k seats = (j : ℕ) (x : Session) (o : OpenTransaction) → HasOpen seats j x o
+    → o.end ≡ unfixed
+    → HasItsTrees v c k x o

@@ -1,6 +1,29 @@
 //! When cells and seats stand together: definitions of cells, seats, visits and of what holds of them at each moment.
 #![tactic(auto)]
 
+mod catalog_visits;
 mod laws;
+mod ledger_visits;
+mod seat_steps;
+mod table_visits;
 
-pub use laws::{conflicting_locks_dont_stand, first_cells_stand, transcripts_agree_so_far};
+pub use catalog_visits::{
+    creating_a_table_keeps_standing, creating_an_index_keeps_standing, giving_back_keeps_standing,
+    lacking_memory_in_the_catalog_keeps_standing, looking_up_keeps_standing,
+    reading_a_system_table_keeps_standing, refusing_a_create_keeps_standing,
+    releasing_the_catalog_keeps_standing,
+};
+pub use laws::{
+    all_steps_keep_standing, conflicting_locks_dont_stand, first_cells_stand,
+    transcripts_agree_so_far, whatever_happens_agrees,
+};
+pub use ledger_visits::{
+    closing_keeps_standing, committing_keeps_standing, digests_keep_standing,
+    drawing_keeps_standing, keeping_an_image_keeps_standing, reading_the_point_keeps_standing,
+};
+pub use seat_steps::{splits_and_joins_keep_standing, steps_alone_keep_standing};
+pub use table_visits::{
+    adding_an_index_keeps_standing, changing_rows_keeps_standing,
+    lacking_memory_in_a_table_keeps_standing, reading_rows_keeps_standing,
+    refusing_rows_keeps_standing, releasing_a_table_keeps_standing, undoing_keeps_standing,
+};
