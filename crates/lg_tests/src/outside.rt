@@ -162,6 +162,19 @@ fn two_lines_make_these_bytes(rt: HostRuntime) -> Result<(), Fail> {
     Ok(())
 }
 
+// SHA-256 of a zero byte and the leaf of the start of the row (1, NULL), which has the column 1 alone, by another program.
+const ROOT_WITHOUT_NULL: &[u8] =
+    b"\x91\xcf\x7c\x88\x5b\xdb\xe8\x40\x15\xb9\xbb\x43\xfc\x15\xb0\xe4\x42\xbd\x1c\x3c\xfa\x55\x16\xcf\x58\xcb\x3e\x80\x05\xc0\x0f\x19";
+
+#[test]
+fn what_is_null_is_in_no_leaf(rt: HostRuntime) -> Result<(), Fail> {
+    let alloc = rt.alloc();
+    let input = b"a: CREATE TABLE t (id INT PRIMARY KEY, v INT)\na: INSERT t (id) VALUES (1)\n";
+    let mut left = call(alloc, &Given { input, ..PLAIN })?;
+    assert_eq!(rt; left.vault.get("a.root", 32)?.as_slice(), ROOT_WITHOUT_NULL);
+    Ok(())
+}
+
 #[test]
 fn only_these_words_are_accepted(rt: HostRuntime) -> Result<(), Fail> {
     let alloc = rt.alloc();
@@ -216,32 +229,32 @@ fn an_input_has_its_status(rt: HostRuntime) -> Result<(), Fail> {
     Ok(())
 }
 
+// Its name is open then, and the other isn't there.
 #[test]
-fn a_fault_leaves_what_was_put(rt: HostRuntime) -> Result<(), Fail> {
+fn a_fault_at_the_first_put_leaves_no_file(rt: HostRuntime) -> Result<(), Fail> {
     let alloc = rt.alloc();
-    // The first put failed: its name is open, and the other isn't there.
-    let mut left = call(
-        alloc,
-        &Given {
-            vault_fails: &[1],
-            ..PLAIN
-        },
-    )?;
+    let given = Given {
+        vault_fails: &[1],
+        ..PLAIN
+    };
+    let mut left = call(alloc, &given)?;
     assert_eq!(rt; left.vault.get("a.root", 32).err(), Some(VaultErr::Failed));
     assert_eq!(rt;
         left.vault.get("a.journal", 226).err(),
         Some(VaultErr::Missing)
     );
     assert!(rt; left.sink.bytes().is_empty());
+    Ok(())
+}
 
-    // The second failed: the root stands.
-    let mut left = call(
-        alloc,
-        &Given {
-            vault_fails: &[2],
-            ..PLAIN
-        },
-    )?;
+#[test]
+fn a_fault_at_the_second_put_leaves_the_root(rt: HostRuntime) -> Result<(), Fail> {
+    let alloc = rt.alloc();
+    let given = Given {
+        vault_fails: &[2],
+        ..PLAIN
+    };
+    let mut left = call(alloc, &given)?;
     assert_eq!(rt; left.status, Status::VaultFault);
     assert_eq!(rt; left.vault.get("a.root", 32)?.as_slice(), ROOT);
     assert_eq!(rt;
@@ -249,15 +262,18 @@ fn a_fault_leaves_what_was_put(rt: HostRuntime) -> Result<(), Fail> {
         Some(VaultErr::Failed)
     );
     assert!(rt; left.sink.bytes().is_empty());
+    Ok(())
+}
 
-    // The third write failed: both files stand, and the sink has the first ten bytes.
-    let mut left = call(
-        alloc,
-        &Given {
-            sink_fails: &[3],
-            ..PLAIN
-        },
-    )?;
+// Both files stand then, and the sink has the first ten bytes.
+#[test]
+fn a_fault_at_the_third_write_leaves_both_files(rt: HostRuntime) -> Result<(), Fail> {
+    let alloc = rt.alloc();
+    let given = Given {
+        sink_fails: &[3],
+        ..PLAIN
+    };
+    let mut left = call(alloc, &given)?;
     assert_eq!(rt; left.status, Status::SinkFault);
     assert_eq!(rt; left.vault.get("a.journal", 226)?.as_slice(), JOURNAL);
     assert_eq!(rt; left.sink.bytes(), &TRANSCRIPT[..10]);

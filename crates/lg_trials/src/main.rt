@@ -1,0 +1,35 @@
+//! Answers cases, one in each line of standard input, by public calls of the libraries. Its stored run holds the tables of
+//! cases that were worked out by hand: a line of `stdout` is what the same line of `stdin` is to be answered.
+#![tactic(auto)]
+
+mod answers;
+mod digests;
+mod expressions;
+mod fault;
+mod images;
+mod locks;
+mod pieces;
+mod records;
+mod replies;
+mod selecting;
+mod statements;
+mod texts;
+mod trees;
+mod values;
+
+use answers::answer;
+use fault::Fault;
+use pieces::Pieces;
+use std::io;
+
+fn main(rt: HostRuntime) -> io::Result<()> {
+    let mut pieces = Pieces::new(rt.alloc());
+    for line in rt.lines(rt.alloc()) {
+        match answer(rt.alloc(), &mut pieces, line?.as_str()) {
+            Ok(text) => println!(rt; "{text}")?,
+            Err(Fault::Form(what)) => println!(rt; "no case: {what}")?,
+            Err(Fault::Memory) => println!(rt; "no memory")?,
+        }
+    }
+    Ok(())
+}
