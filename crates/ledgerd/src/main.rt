@@ -42,8 +42,7 @@ fn main(rt: HostRuntime) -> ExitCode {
         }
     };
     if status != Status::Done {
-        let text = status.text();
-        let _ = eprintln!(rt; "ledgerd: {text}");
+        let _ = eprintln!(rt; "ledgerd: {status}");
     }
     ExitCode::from(status.code())
 }

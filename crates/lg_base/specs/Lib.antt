@@ -2,6 +2,7 @@ pub mod Adapters
 pub mod Count
 pub mod Entries
 pub mod Fakes
+pub mod History
 pub mod Outside
 pub mod Plan
 pub mod Store

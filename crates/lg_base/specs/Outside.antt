@@ -60,6 +60,12 @@ TellsPut None after result name bytes = Unit {0}
 TellsPut (Some old) None result name bytes = ⊥
 TellsPut (Some old) (Some new) result name bytes = Puts result old new name bytes
 
--- `Failed` is told only where the vault has failed since
-abbrev pub FailsWithCause : {T : Type 0} → Result T VaultErr → ℕ → ℕ → Type 0
-FailsWithCause result before now = result ≡ Err Failed → Rises before now
+-- a call counts a fault where it answers `Failed`, and with no other answer
+abbrev pub CountsFault : {T : Type 0} → Result T VaultErr → ℕ → ℕ → Type 0
+CountsFault (Err Failed) before now = Rises before now
+CountsFault _ before now = now ≡ before
+
+-- whether a call gave something, or the error that it answered
+abbrev pub outcome : {T : Type 0} → Result T VaultErr → Result (Unit {0}) VaultErr
+outcome (Ok v) = Ok tt
+outcome (Err e) = Err e

@@ -1,5 +1,5 @@
 -- The calls of a fake: which are to fail, how many were made, how many have failed.
-use Rattle.std.specs.Prelude.{ℕ, List, Bool, if◌then◌else◌}
+use Rattle.std.specs.Prelude.{ℕ, List, length, ◌≡◌, ◌-◌, ◌^◌, min}
 use Rattle.lg_base.specs.Count.{counted}
 
 -- the numbers of the calls that are to fail, counted from 1, and how many were made and have failed
@@ -16,6 +16,10 @@ planned fails = record { fails = fails; calls = 0; failed = 0 }
 abbrev pub failed_once : Plan → Plan
 failed_once p = record { fails = p.fails; calls = p.calls; failed = counted p.failed }
 
--- the same after a call more, which failed or not
-abbrev pub called : Plan → Bool → Plan
-called p fails = record { fails = p.fails; calls = counted p.calls; failed = if fails then counted p.failed else p.failed }
+-- the same after a call more
+abbrev pub called : Plan → Plan
+called p = record { fails = p.fails; calls = counted p.calls; failed = p.failed }
+
+-- as many calls were made as have answered, or as a count of 64 bits can tell
+abbrev pub HasAnswered : {A : Type 0} → Plan → List A → Type 0
+HasAnswered p answers = p.calls ≡ min (length answers) (2 ^ 64 - 1)

@@ -1,5 +1,5 @@
 //! The outside of the ledger: traits over what it reads, writes, keeps and asks, with an implementation in
-//! memory and one over the machine for each. It passes on want of memory, ids and the fields of byte layouts.
+//! memory and one over the machine for each.
 #![tactic(auto)]
 
 mod clock;
@@ -15,19 +15,12 @@ mod sink;
 mod source;
 mod stdin_source;
 mod stdout_sink;
-#[cfg(test)]
-mod tests;
 mod vault;
 
-pub use clock::{Clock, FixedClock, MAX_TICKS};
+pub use clock::{Clock, FixedClock};
 pub use failed::Failed;
 pub use folder_vault::FolderVault;
 pub use gate::{Gate, OpenGate};
-pub use lg_bytes::{
-    Fields, ReadError, put_hash, put_i128, put_long, put_short, put_u8, put_u16, put_u32, put_u64,
-    put_wide,
-};
-pub use lg_items::{Memory, TableId, TxId};
 pub use machine_clock::MachineClock;
 pub use mem_sink::MemSink;
 pub use mem_source::MemSource;

@@ -1,11 +1,11 @@
 //! The machine's clock.
 
-ghost use Rattle.std.specs.Prelude.{◌≡◌, ◌/◌, ◌-◌, ◌^◌, min, None};
+ghost use Rattle.std.specs.Prelude.{⊤, ◌≡◌, ◌/◌, ◌-◌, ◌^◌, min};
 
 use crate::Clock;
 use std::time::SystemTime;
 
-/// The machine's clock. It tells nothing of its moments, and answers 0 where it can't be read or stands before 1970.
+/// The machine's clock. It may say any moment, and says 0 where it can't be read or stands before 1970.
 #[derive(Drop)]
 pub struct MachineClock<R: std::rt::Clock + Drop + Sync> {
     rt: R,
@@ -18,7 +18,7 @@ impl<R: std::rt::Clock + Drop + Sync> MachineClock<R> {
 }
 
 impl<R: std::rt::Clock + Drop + Sync> Clock for MachineClock<R> {
-    ghost moment = { λ c. None };
+    ghost says = { λ c at. ⊤ };
 
     fn now(&self) -> u64 {
         match SystemTime::now(&self.rt) {

@@ -20,8 +20,8 @@ pub struct MemSink {
 impl MemSink {
     ghost use Rattle.lg_base.specs.Fakes.{taken_of, sink_plan, sink_stalls, sink_piece};
 
-    /// A sink that took nothing so far. Each write takes at most `piece` bytes, so none where it is 0. `fails`
-    /// has the numbers of the writes that are to fail, counted from 1.
+    /// A sink that took nothing so far. Each write takes at most `piece` bytes, so none where it is 0.
+    /// `fails` has the numbers of the writes that are to fail, counted from 1.
     pub fn new(alloc: Global, piece: usize, fails: Vec<u64>) -> MemSink
         ensures taken { taken_of result ≡ Some [] }
         ensures plan { sink_plan result ≡ planned fails.items }
@@ -45,9 +45,12 @@ impl MemSink {
 }
 
 impl Sink for MemSink {
-    ghost use Rattle.lg_base.specs.Fakes.{taken_of, sink_faults, sink_stalls};
+    ghost use Rattle.lg_base.specs.Fakes.{taken_of, sink_plan, sink_faults, sink_stalls};
+    ghost use Rattle.lg_base.specs.Plan.{HasAnswered};
 
     ghost taken = { taken_of };
+
+    ghost history = { λ s answers. HasAnswered (sink_plan s) answers };
 
     ghost faults = { sink_faults };
 
@@ -55,16 +58,17 @@ impl Sink for MemSink {
 
     fn write(&mut self, bytes: &[u8]) -> Result<usize, Failed> {
         if self.plan.is_next_failing() {
+            self.plan.note_failure();
             return Err(Failed);
         }
         let piece = first_bytes(bytes, self.piece);
-        if piece.is_empty() && !bytes.is_empty() {
-            self.stalls = self.stalls.saturating_add(1);
-        }
         let grown = self.bytes.extend_from_slice(piece);
         if grown.is_err() {
             self.plan.note_failure();
             return Err(Failed);
+        }
+        if piece.is_empty() && !bytes.is_empty() {
+            self.stalls = self.stalls.saturating_add(1);
         }
         Ok(piece.len())
     }

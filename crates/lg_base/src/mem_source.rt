@@ -37,14 +37,18 @@ impl MemSource {
 }
 
 impl Source for MemSource {
-    ghost use Rattle.lg_base.specs.Fakes.{left_of, source_faults};
+    ghost use Rattle.lg_base.specs.Fakes.{left_of, source_plan, source_faults};
+    ghost use Rattle.lg_base.specs.Plan.{HasAnswered};
 
     ghost left = { left_of };
+
+    ghost history = { λ s answers. HasAnswered (source_plan s) answers };
 
     ghost faults = { source_faults };
 
     fn read(&mut self, buf: &mut [u8]) -> Result<usize, Failed> {
         if self.plan.is_next_failing() {
+            self.plan.note_failure();
             return Err(Failed);
         }
         Ok(self.give(buf))

@@ -45,14 +45,18 @@ impl MemVault {
 }
 
 impl Vault for MemVault {
-    ghost use Rattle.lg_base.specs.Fakes.{names_of, vault_faults};
+    ghost use Rattle.lg_base.specs.Fakes.{names_of, vault_plan, vault_faults};
+    ghost use Rattle.lg_base.specs.Plan.{HasAnswered};
 
     ghost names = { names_of };
+
+    ghost history = { λ v answers. HasAnswered (vault_plan v) answers };
 
     ghost faults = { vault_faults };
 
     fn get(&mut self, name: &str, limit: usize) -> Result<Vec<u8>, VaultErr> {
         if self.plan.is_next_failing() {
+            self.plan.note_failure();
             return Err(VaultErr::Failed);
         }
         let Some(entry) = entry_of(&self.entries, name.as_bytes()) else {
@@ -70,6 +74,7 @@ impl Vault for MemVault {
     fn put(&mut self, name: &str, bytes: &[u8]) -> Result<(), VaultErr> {
         if self.plan.is_next_failing() {
             keep(&mut self.entries, self.alloc, name.as_bytes(), None)?;
+            self.plan.note_failure();
             return Err(VaultErr::Failed);
         }
         let copy = Blob::of(self.alloc, bytes)?;
@@ -92,7 +97,8 @@ fn given(alloc: Global, bytes: &[u8], limit: usize) -> Result<Vec<u8>, VaultErr>
 
 // The first entry of a name.
 fn entry_of<'a>(entries: &'a [Entry], name: &[u8]) -> Option<&'a Entry>
-    ensures { MatchOption result (held_in entries.now name.now ≡ Absent) (λ e. held_in entries.now name.now ≡ shown e.now.held) }
+    ensures { MatchOption result (held_in entries.now name.now ≡ Absent)
+        (λ e. held_in entries.now name.now ≡ shown e.now.held) }
 {
     let at = place_of(entries, name)?;
     Some(&entries[at])

@@ -34,19 +34,13 @@ impl FailurePlan {
         }
     }
 
-    /// Counts a call, and says whether it is to fail, which then counts as a failure.
+    /// Counts a call, and says whether it is to fail.
     pub fn is_next_failing(&mut self) -> bool
         ensures answer { IsTrue result ↔ Contains self.old.fails (counted self.old.calls) }
-        ensures counts { self.new ≡ called self.old result }
-        ensures later { self.old.failed ≤ self.new.failed }
-        ensures rises { IsTrue result → Rises self.old.failed self.new.failed }
+        ensures counts { self.new ≡ called self.old }
     {
         self.calls = self.calls.saturating_add(1);
-        let fails = self.fails.contains(&self.calls);
-        if fails {
-            self.note_failure();
-        }
-        fails
+        self.fails.contains(&self.calls)
     }
 
     /// Counts a failure of the call that was counted last.

@@ -1,6 +1,8 @@
 //! What is read from the outside.
 
-ghost use Rattle.std.specs.Prelude.{◌≡◌, ◌<◌, ◌≤◌, ℕ, List, Option, length, IfOk, OnOk, OnErr};
+ghost use Rattle.std.specs.Prelude.{◌≡◌, ◌<◌, ◌≤◌, ◌∷◌, [], ℕ, List, Option, Result, length, IfOk, OnOk, OnErr};
+ghost use Rattle.lg_base.specs.declared.failed.Failed.{Failed};
+ghost use Rattle.lg_base.specs.History.{Adds};
 ghost use Rattle.lg_base.specs.Outside.{TellsRead};
 ghost use Rattle.lg_base.specs.Count.{Rises};
 
@@ -10,6 +12,9 @@ use crate::Failed;
 pub trait Source {
     /// The bytes that are left, where the source tells them. One that tells them goes on telling.
     ghost left: { Self → Option (List ℕ) };
+
+    /// What its calls so far may have answered, in their order.
+    ghost history: { Self → List (Result ℕ Failed) → Type 0 };
 
     /// How often the source has failed. At the end of its type the count stands still.
     ghost faults: { Self → ℕ };
@@ -21,6 +26,7 @@ pub trait Source {
         ensures within { IfOk result (λ n. n ≤ length buf.new) }
         ensures bytes { IfOk result (TellsRead (left self.old) (left self.new) buf.new) }
         ensures kept { OnErr result (left self.new ≡ left self.old) }
+        ensures answered { Adds (history self.old) (history self.new) (result ∷ []) }
         ensures later { faults self.old ≤ faults self.new }
         ensures calm { OnOk result (faults self.new ≡ faults self.old) }
         ensures cause { OnErr result (Rises (faults self.old) (faults self.new)) };

@@ -1,6 +1,6 @@
 //! A reader of the machine as a source, as standard input.
 
-ghost use Rattle.std.specs.Prelude.{◌≡◌, None};
+ghost use Rattle.std.specs.Prelude.{⊤, ◌≡◌, None};
 
 use crate::{Failed, Source};
 use std::io::Read;
@@ -27,6 +27,8 @@ impl<R: Read + Drop> Source for StdinSource<R> {
     ghost use Rattle.lg_base.specs.Adapters.{reader_faults};
 
     ghost left = { λ s. None };
+
+    ghost history = { λ s answers. ⊤ };
 
     ghost faults = { λ s. reader_faults s };
 

@@ -1,6 +1,6 @@
 //! A writer of the machine as a sink, as standard output.
 
-ghost use Rattle.std.specs.Prelude.{◌≡◌, None};
+ghost use Rattle.std.specs.Prelude.{⊤, ◌≡◌, None};
 
 use crate::{Failed, Sink};
 use std::io::Write;
@@ -33,6 +33,8 @@ impl<W: Write + Drop> Sink for StdoutSink<W> {
     ghost use Rattle.lg_base.specs.Adapters.{writer_faults, writer_stalls};
 
     ghost taken = { λ s. None };
+
+    ghost history = { λ s answers. ⊤ };
 
     ghost faults = { λ s. writer_faults s };
 

@@ -1,7 +1,9 @@
 //! What is kept outside under names.
 
-ghost use Rattle.std.specs.Prelude.{◌≡◌, ◌≤◌, ℕ, List, Option, Err, IfOk, OnOk, vec_len};
-ghost use Rattle.lg_base.specs.Outside.{TellsGet, TellsPut, FailsWithCause};
+ghost use Rattle.std.specs.Prelude.{◌≡◌, ◌≤◌, ◌∷◌, [], ℕ, List, Option, Result, Err, IfOk, vec_len};
+ghost use Rattle.lg_base.specs.declared.vault.VaultErr.{VaultErr};
+ghost use Rattle.lg_base.specs.History.{Adds};
+ghost use Rattle.lg_base.specs.Outside.{TellsGet, TellsPut, CountsFault, outcome};
 ghost use Rattle.lg_base.specs.Store.{Held};
 
 use lg_items::Memory;
@@ -38,10 +40,13 @@ impl From<Memory> for VaultErr {
     }
 }
 
-/// Byte strings under names.
+/// Byte strings under names. A call counts a fault where it answers `Failed`, and with no other answer.
 pub trait Vault {
     /// What stands under each name, where the vault tells it. One that tells it goes on telling.
     ghost names: { Self → Option (List ℕ → Held) };
+
+    /// What its calls so far may have answered, in their order: of a `get` only whether it gave something.
+    ghost history: { Self → List (Result (Unit {0}) VaultErr) → Type 0 };
 
     /// How often the vault has failed. At the end of its type the count stands still.
     ghost faults: { Self → ℕ };
@@ -52,16 +57,16 @@ pub trait Vault {
         ensures gives { TellsGet (names self.old) name.now limit result }
         ensures within { IfOk result (λ bytes. vec_len bytes ≤ limit) }
         ensures same { names self.new ≡ names self.old }
+        ensures answered { Adds (history self.old) (history self.new) (outcome result ∷ []) }
         ensures later { faults self.old ≤ faults self.new }
-        ensures calm { OnOk result (faults self.new ≡ faults self.old) }
-        ensures cause { FailsWithCause result (faults self.old) (faults self.new) };
+        ensures counts { CountsFault result (faults self.old) (faults self.new) };
 
-    /// Puts these bytes under a name, in the place of what was there. After `Failed` the name is open, and after
-    /// `Memory` it is as before. It never answers `Missing` or `TooLong`, and no other name changes.
+    /// Puts these bytes under a name, in the place of what was there. After `Failed` the name is open, and
+    /// after `Memory` it is as before. It never answers `Missing` or `TooLong`, and no other name changes.
     fn put(&mut self, name: &str, bytes: &[u8]) -> Result<(), VaultErr>
         ensures puts { TellsPut (names self.old) (names self.new) result name.now bytes.now }
         ensures known { (result ≡ Err VaultErr.Missing → ⊥) × (result ≡ Err VaultErr.TooLong → ⊥) }
+        ensures answered { Adds (history self.old) (history self.new) (result ∷ []) }
         ensures later { faults self.old ≤ faults self.new }
-        ensures calm { OnOk result (faults self.new ≡ faults self.old) }
-        ensures cause { FailsWithCause result (faults self.old) (faults self.new) };
+        ensures counts { CountsFault result (faults self.old) (faults self.new) };
 }

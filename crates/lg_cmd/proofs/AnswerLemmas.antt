@@ -9,6 +9,8 @@ use Rattle.lg_base.specs.declared.vault.VaultErr.TheVariants as refused
 use Rattle.lg_cmd.specs.declared.files.File.{File}
 use Rattle.lg_cmd.specs.declared.status.Status.{Status}
 use Rattle.lg_cmd.specs.declared.status.Status.TheVariants.{Done, Words, Limit, SourceFault, SinkFault, VaultFault, Form, Unbuilt, Memory}
+use Rattle.lg_model.specs.LegalJournals.{IsLegalJournal}
+use Rattle.lg_parse.specs.Text.{statement_of}
 use Rattle.lg_journal.specs.Journal.{journal_bytes}
 use Rattle.lg_journal.specs.Rules.{IsJournal}
 use Rattle.lg_input.specs.Line.{Statement}
@@ -108,17 +110,39 @@ pub written_is : (status : Status) (made text : List ℕ) (old new : Option (Lis
 written_is status made text old new is written = let P : List ℕ → Type 0 = λ x. HasWritten status x old new in subst P is written
 
 -- where all is done, what was written and what was put agree
-pub done_agrees : (status : Status) (h : List ℕ → List ℕ) (words : Option Step) (input : Option (List ℕ)) (clock : Option ℕ) (old new : Option Names) (taken now : Option (List ℕ)) (statements : List Statement) (times : List ℕ)
-    → Ran status h words input clock old new taken now statements times → AgreesWith statements (transcripts_of statements (ran times statements)) (journal_of (ran times statements))
-    → IsJournal (journal_of (ran times statements)) → status ≡ Done
-    → Agrees words input old new taken now statements (transcripts_of statements (ran times statements)) (journal_of (ran times statements))
-done_agrees status h words input clock old new taken now statements times r agree journal is =
-    let P : Status → Type 0 = λ s. Ran s h words input clock old new taken now statements times in
-    let done : Ran Done h words input clock old new taken now statements times = subst P is r in
-    record { read = done.read; agree = agree; written = done.written; put = held words done.put; journal = journal }
-  where
-    held : (w : Option Step) → IfSome w (λ step. HasPut Done (files_of h step (ran times statements)) old new)
-        → IfSome w (λ step. TellsHeld old new (journal_name step.save) (journal_bytes (journal_of (ran times statements))))
-    held None put = tt
-    held (Some step) put =
-        last_stands (root_file h step.save (ran times statements).last) (journal_file step.save (journal_of (ran times statements))) old new put
+module _ (h : List ℕ → List ℕ) (words : Option Step) (input : Option (List ℕ)) (says : ℕ → Type 0) where
+  done_agrees : (old new : Option Names) (taken now : Option (List ℕ)) (r : Ran Done h words input says old new taken now)
+      → IsLegalJournal statement_of (journal_of (ran r.times r.statements))
+      → AgreesWith r.statements (transcripts_of r.statements (ran r.times r.statements)) (journal_of (ran r.times r.statements))
+      → IsJournal (journal_of (ran r.times r.statements)) → Agrees words input old new taken now
+  done_agrees old new taken now r legal agree journal = record {
+    statements = r.statements;
+    X = transcripts_of r.statements (ran r.times r.statements);
+    J = journal_of (ran r.times r.statements);
+    within = r.within;
+    legal = legal;
+    agree = agree;
+    written = r.written;
+    put = held words r.put;
+    journal = journal;
+  }
+    where
+      held : (w : Option Step) → IfSome w (λ step. HasPut Done (files_of h step (ran r.times r.statements)) old new)
+          → IfSome w (λ step. TellsHeld old new (journal_name step.save) (journal_bytes (journal_of (ran r.times r.statements))))
+      held None put = tt
+      held (Some step) put =
+          last_stands (root_file h step.save (ran r.times r.statements).last) (journal_file step.save (journal_of (ran r.times r.statements))) old new put
+
+  pub agrees_when_done : (status : Status) (old new : Option Names) (taken now : Option (List ℕ)) (r : Ran status h words input says old new taken now)
+      → IsLegalJournal statement_of (journal_of (ran r.times r.statements))
+      → AgreesWith r.statements (transcripts_of r.statements (ran r.times r.statements)) (journal_of (ran r.times r.statements))
+      → IsJournal (journal_of (ran r.times r.statements)) → status ≡ Done → Agrees words input old new taken now
+  agrees_when_done Done old new taken now r legal agree journal is = done_agrees old new taken now r legal agree journal
+  agrees_when_done Words old new taken now r legal agree journal is = absurd cc
+  agrees_when_done Limit old new taken now r legal agree journal is = absurd cc
+  agrees_when_done SourceFault old new taken now r legal agree journal is = absurd cc
+  agrees_when_done SinkFault old new taken now r legal agree journal is = absurd cc
+  agrees_when_done VaultFault old new taken now r legal agree journal is = absurd cc
+  agrees_when_done (Form line) old new taken now r legal agree journal is = absurd cc
+  agrees_when_done (Unbuilt line) old new taken now r legal agree journal is = absurd cc
+  agrees_when_done Memory old new taken now r legal agree journal is = absurd cc

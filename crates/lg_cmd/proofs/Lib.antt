@@ -1,4 +1,5 @@
 pub mod AnswerLemmas
+pub mod CallLemmas
 pub mod FilesLemmas
 pub mod RootLemmas
 pub mod RunLemmas

@@ -24,6 +24,11 @@ came_next (Some i) None next came buffer n sofar reads = absurd sofar
 came_next (Some i) (Some rest) None came buffer n sofar reads = absurd reads
 came_next (Some i) (Some rest) (Some more) came buffer n sofar reads = sofar ∙ ap (λ x. came ++ x) reads.moved ∙ sym (append_assoc came (take n buffer) more)
 
+pub came_on : (input now next : Option (List ℕ)) (came buffer all : List ℕ) (n : ℕ) → CameSoFar input now came → TellsRead now next buffer n → all ≡ came ++ take n buffer → CameSoFar input next all
+came_on input now next came buffer all n sofar reads is =
+    let P : List ℕ → Type 0 = λ x. CameSoFar input next x in
+    subst P (sym is) (came_next input now next came buffer n sofar reads)
+
 -- memory ran out behind a piece
 pub came_short : (input now next : Option (List ℕ)) (came buffer : List ℕ) (n : ℕ) → CameSoFar input now came → TellsRead now next buffer n → length came + length (take n buffer) ≤ input_limit + 1 → IfSome input (λ i. Came i next (Err Memory))
 came_short None now next came buffer n sofar reads few = tt

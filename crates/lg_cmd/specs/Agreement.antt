@@ -9,7 +9,9 @@ use Rattle.lg_parse.specs.Text.{statement_of}
 use Rattle.lg_input.specs.Line.{Statement}
 use Rattle.lg_step.specs.Lines.{input_of}
 
--- The transcripts and the journal agree as those of a run of these statements, by the meaning that statements have,
--- whatever the hashes of blocks are.
+-- The transcripts and the journal agree as those of a run of these statements, by the meaning that statements
+-- have, whatever the hashes of blocks are.
 abbrev pub AgreesWith : List Statement → List Transcript → Journal → Type 0
-AgreesWith statements X J = (h : Hashing) (q : Meaning) → IsReal statement_of h q → Agree q (codes "LedgerDB") (input_of statements) None X J.items []
+AgreesWith statements X J =
+    (h : Hashing) (q : Meaning) → IsReal statement_of h q
+    → Agree q (codes "LedgerDB") (input_of statements) None X J.items []

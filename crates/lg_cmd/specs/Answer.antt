@@ -6,28 +6,29 @@ use Rattle.lg_base.specs.declared.vault.VaultErr.TheVariants as refused
 use Rattle.lg_base.specs.Store.{Names}
 use Rattle.lg_base.specs.Outside.{TellsTaken}
 use Rattle.lg_types.specs.declared.journal.Journal.{Journal}
+use Rattle.lg_model.specs.LegalJournals.{IsLegalJournal}
 use Rattle.lg_journal.specs.Journal.{journal_bytes}
 use Rattle.lg_journal.specs.Rules.{IsJournal}
 use Rattle.lg_history.specs.Transcripts.{Transcript}
+use Rattle.lg_parse.specs.Text.{statement_of}
 use Rattle.lg_input.specs.Line.{Statement}
-use Rattle.lg_input.specs.Lines.{read_input}
 use Rattle.lg_step.specs.Lines.{ran, unbuilt}
 use Rattle.lg_step.specs.Moments.{IsMoment}
 use Rattle.lg_cmd.specs.declared.status.Status.{Status}
 use Rattle.lg_cmd.specs.declared.status.Status.TheVariants.{Done, Words, Limit, SourceFault, SinkFault, VaultFault, Form, Unbuilt, Memory}
 use Rattle.lg_cmd.specs.declared.files.File.{File}
 use Rattle.lg_cmd.specs.Agreement.{AgreesWith}
-use Rattle.lg_cmd.specs.Input.{HasStatements, IsBeyond, LacksForm, LacksBuilt}
+use Rattle.lg_cmd.specs.Input.{HasStatements, IsBuilt, IsBeyond, LacksForm, LacksBuilt}
 use Rattle.lg_cmd.specs.Files.{StandFirst, StopsOpen, TellsHeld}
 use Rattle.lg_cmd.specs.Run.{files_of, text_of, journal_name, transcripts_text}
 use Rattle.lg_cmd.specs.Transfer.{input_limit, TellsPart}
 use Rattle.lg_cmd.specs.Words.{Step}
 
--- Why a status comes, by what the words and the input are, as far as it is told, and by whose faults rose in the call.
--- The causes of Done, Words, Limit, Form and Unbuilt exclude one another, so each of these five comes exactly where
--- its cause stands, unless a fault or want of memory comes before it.
+-- Why a status comes, by what the words and the input are, as far as it is told, and by whose faults rose in
+-- the call. The causes of Done, Words, Limit, Form and Unbuilt exclude one another, so each of these five
+-- comes exactly where its cause stands, unless a fault or want of memory comes before it.
 abbrev pub HasCause : Status → Option Step → Option (List ℕ) → Type 0 → Type 0 → Type 0 → Type 0
-HasCause Done words input source vault sink = IfSome input (λ bytes. (statements : List Statement) × HasStatements bytes statements × (unbuilt statements ≡ None))
+HasCause Done words input source vault sink = IfSome input IsBuilt
 HasCause Words words input source vault sink = words ≡ None
 HasCause Limit words input source vault sink = IfSome input IsBeyond
 HasCause SourceFault words input source vault sink = source
@@ -37,9 +38,9 @@ HasCause (Form line) words input source vault sink = IfSome input (λ bytes. Lac
 HasCause (Unbuilt line) words input source vault sink = IfSome input (λ bytes. LacksBuilt bytes line)
 HasCause Memory words input source vault sink = Unit {0}
 
--- what is left of an input that is told: nothing was taken where the words were refused, and else at most one byte past
--- the limit; so at Limit all was, or the limit and one byte of more. All of it was taken where it was run, or a line of it
--- lacks its form or isn't built.
+-- what is left of an input that is told: nothing was taken where the words were refused, and else at most one
+-- byte past the limit; so at Limit all was, or the limit and one byte of more. All of it was taken where it
+-- was run, or a line of it lacks its form or isn't built.
 abbrev pub HasRead : Status → List ℕ → Option (List ℕ) → Type 0
 HasRead Words input rest = rest ≡ Some input
 HasRead Limit input rest = rest ≡ Some (drop (input_limit + 1) input)
@@ -63,20 +64,28 @@ HasWritten VaultFault text old new = new ≡ old
 HasWritten Memory text old new = new ≡ old
 HasWritten _ text old new = ⊥
 
--- The input was run, each statement at the moment that the clock gave at its start: this is what was put and written of
--- what it came to.
-pub record Ran (status : Status) (h : List ℕ → List ℕ) (words : Option Step) (input : Option (List ℕ)) (clock : Option ℕ)
-    (names_old names_new : Option Names) (taken_old taken_new : Option (List ℕ)) (statements : List Statement) (times : List ℕ) : Type 0 where
-  pub read : IfSome input (λ bytes. read_input bytes ≡ Ok statements)
+-- The input was within its limits and built, and was run, each statement at a moment that the clock says:
+-- this is what was put and written of what it came to.
+pub record Ran (status : Status) (h : List ℕ → List ℕ)
+    (words : Option Step) (input : Option (List ℕ)) (says : ℕ → Type 0)
+    (names_old names_new : Option Names) (taken_old taken_new : Option (List ℕ)) : Type 0 where
+  pub statements : List Statement
+  pub times : List ℕ
+  pub within : IfSome input (λ bytes. HasStatements bytes statements)
+  pub built : unbuilt statements ≡ None
   pub as_many : length times ≡ length statements
-  pub moments : AllByRecursion (IsMoment clock) times
+  pub moments : AllByRecursion (IsMoment says) times
   pub put : IfSome words (λ step. HasPut status (files_of h step (ran times statements)) names_old names_new)
   pub written : HasWritten status (text_of statements (ran times statements)) taken_old taken_new
 
--- the transcripts that were written and the journal that was put agree
-pub record Agrees (words : Option Step) (input : Option (List ℕ)) (names_old names_new : Option Names) (taken_old taken_new : Option (List ℕ))
-    (statements : List Statement) (X : List Transcript) (J : Journal) : Type 0 where
-  pub read : IfSome input (λ bytes. read_input bytes ≡ Ok statements)
+-- the transcripts that were written and the journal that was put agree, and that journal is a legal one
+pub record Agrees (words : Option Step) (input : Option (List ℕ))
+    (names_old names_new : Option Names) (taken_old taken_new : Option (List ℕ)) : Type 0 where
+  pub statements : List Statement
+  pub X : List Transcript
+  pub J : Journal
+  pub within : IfSome input (λ bytes. HasStatements bytes statements)
+  pub legal : IsLegalJournal statement_of J
   pub agree : AgreesWith statements X J
   pub written : TellsTaken taken_old taken_new (transcripts_text X)
   pub put : IfSome words (λ step. TellsHeld names_old names_new (journal_name step.save) (journal_bytes J))
@@ -91,12 +100,11 @@ RanOrIdle VaultFault ran idle = ran
 RanOrIdle Memory ran idle = ran ⊎ idle
 RanOrIdle _ ran idle = idle
 
--- A call ends at the first fault or stall that it meets and tries nothing again: these have failed no more than before.
+-- these have failed no more than before: all but the one whose fault is answered
 abbrev pub Unfailed : Status → Type 0 → Type 0 → Type 0 → Type 0
 Unfailed SourceFault source vault sink = vault × sink
 Unfailed VaultFault source vault sink = source × sink
 Unfailed SinkFault source vault sink = source × vault
-Unfailed Memory source vault sink = source × sink
 Unfailed _ source vault sink = source × vault × sink
 
 -- how putting files and writing a text ends, by whose faults rose

@@ -8,7 +8,8 @@ use Rattle.lg_cmd.specs.declared.files.File.{File}
 -- what stands under each name after these were left there in turn: the last one left under a name counts
 abbrev pub names_after : List (List ℕ × Held) → Names → Names
 names_after [] names = names
-names_after (left ∷ more) names = names_after more (λ name. if bytes_eq name left.0 then left.1 else names name)
+names_after (left ∷ more) names =
+    names_after more (λ name. if bytes_eq name left.0 then left.1 else names name)
 
 -- a vault that tells what it has changed by just these
 abbrev pub TellsLeft : List (List ℕ × Held) → Option Names → Option Names → Type 0

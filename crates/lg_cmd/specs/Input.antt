@@ -1,5 +1,5 @@
 -- Which inputs are run.
-use Rattle.std.specs.Prelude.{◌≡◌, ◌<◌, ◌≤◌, ◌⊎◌, ℕ, List, length, Some, Ok, Err}
+use Rattle.std.specs.Prelude.{◌≡◌, ◌<◌, ◌≤◌, ◌⊎◌, ℕ, List, length, None, Some, Ok, Err}
 use Rattle.lg_input.specs.Line.{Statement}
 use Rattle.lg_input.specs.Lines.{read_input}
 use Rattle.lg_input.specs.Sessions.{sessions_of, max_sessions}
@@ -11,7 +11,12 @@ use Rattle.lg_cmd.specs.Transfer.{input_limit}
 -- the input has these statements, and no more bytes and sessions than it may have
 abbrev pub HasStatements : List ℕ → List Statement → Type 0
 HasStatements bytes statements =
-    (length bytes ≤ input_limit) × (read_input bytes ≡ Ok statements) × (length (sessions_of statements) ≤ max_sessions)
+    (length bytes ≤ input_limit) × (read_input bytes ≡ Ok statements)
+    × (length (sessions_of statements) ≤ max_sessions)
+
+-- all of its statements are built
+abbrev pub IsBuilt : List ℕ → Type 0
+IsBuilt bytes = (statements : List Statement) × HasStatements bytes statements × (unbuilt statements ≡ None)
 
 -- the statements of an input are of more sessions than it may have
 abbrev pub HasManySessions : List ℕ → Type 0
@@ -29,7 +34,8 @@ LacksForm bytes line = (length bytes ≤ input_limit) × (read_input bytes ≡ E
 
 -- this is the first line whose statement isn't built
 abbrev pub LacksBuilt : List ℕ → ℕ → Type 0
-LacksBuilt bytes line = (statements : List Statement) × HasStatements bytes statements × (unbuilt statements ≡ Some line)
+LacksBuilt bytes line =
+    (statements : List Statement) × HasStatements bytes statements × (unbuilt statements ≡ Some line)
 
 -- why an input isn't run
 abbrev pub IsRefused : Status → List ℕ → Type 0

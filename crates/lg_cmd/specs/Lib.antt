@@ -1,5 +1,6 @@
 pub mod Agreement
 pub mod Answer
+pub mod Calls
 pub mod Files
 pub mod Input
 pub mod Letters

@@ -3,8 +3,10 @@ use Rattle.std.specs.Prelude.{◌≡◌, ℕ, List, [], ◌∷◌, ◌++◌, len
 use Rattle.std.specs.List.{AllByRecursion}
 use Rattle.lg_types.specs.declared.event.Event.{Event}
 use Rattle.lg_types.specs.declared.journal.Journal.{Journal}
+use Rattle.lg_model.specs.LegalJournals.{IsLegalJournal}
 use Rattle.lg_history.specs.Transcripts.{Transcript}
 use Rattle.lg_journal.specs.Journal.{journal_bytes}
+use Rattle.lg_parse.specs.Text.{statement_of}
 use Rattle.lg_input.specs.Line.{Statement}
 use Rattle.lg_session.specs.OneSession.{journal_of}
 use Rattle.lg_session.specs.OneSession as session
@@ -46,13 +48,17 @@ transcripts_text X = flat_map transcript_text X
 abbrev pub text_of : List Statement → session.Run → List ℕ
 text_of statements x = transcripts_text (transcripts_of statements x)
 
--- this is what the input came to, whose statements began at these times
-pub record IsRun (clock : Option ℕ) (bytes : List ℕ) (r : Ran) (statements : List Statement) (times : List ℕ) : Type 0 where
-  pub has : HasStatements bytes statements
+-- this is what the input came to
+pub record IsRun (says : ℕ → Type 0) (bytes : List ℕ) (r : Ran) : Type 0 where
+  pub statements : List Statement
+  pub times : List ℕ
+  pub within : HasStatements bytes statements
   pub built : unbuilt statements ≡ None
   pub as_many : length times ≡ length statements
-  pub moments : AllByRecursion (IsMoment clock) times
+  pub moments : AllByRecursion (IsMoment says) times
   pub journal : r.journal ≡ journal_of (ran times statements)
   pub last : r.last ≡ (ran times statements).last
   pub transcript : r.transcript ≡ text_of statements (ran times statements)
-  pub agrees : AgreesWith statements (transcripts_of statements (ran times statements)) (journal_of (ran times statements))
+  pub legal : IsLegalJournal statement_of (journal_of (ran times statements))
+  pub agrees : AgreesWith statements (transcripts_of statements (ran times statements))
+      (journal_of (ran times statements))

@@ -1,5 +1,6 @@
 -- The code and the text of each status.
-use Rattle.std.specs.Prelude.{ℕ, List, codes}
+use Rattle.std.specs.Prelude.{ℕ, List, [], ◌++◌, codes}
+use Rattle.std.specs.Fmt.{decimal}
 use Rattle.lg_cmd.specs.declared.status.Status.{Status}
 use Rattle.lg_cmd.specs.declared.status.Status.TheVariants.{Done, Words, Limit, SourceFault, SinkFault, VaultFault, Form, Unbuilt, Memory}
 
@@ -24,3 +25,13 @@ text_of VaultFault = codes "the vault failed"
 text_of (Form line) = codes "a line has no session"
 text_of Memory = codes "out of memory"
 text_of (Unbuilt line) = codes "this input is not built yet"
+
+-- the place that a status has, as it stands behind its text
+abbrev pub place_of : Status → List ℕ
+place_of (Form line) = codes " (line " ++ decimal line ++ codes ")"
+place_of (Unbuilt line) = codes " (line " ++ decimal line ++ codes ")"
+place_of _ = []
+
+-- what is said of a status: its text, and its place where it has one
+abbrev pub message_of : Status → List ℕ
+message_of status = text_of status ++ place_of status

@@ -24,7 +24,8 @@ pub record Step : Type 0 where
 -- `step --save NAME`; none where the words are others
 abbrev pub step_words : List (List ℕ) → Option Step
 step_words (command ∷ option ∷ name ∷ []) =
-    if bytes_eq command (codes "step") && bytes_eq option (codes "--save") && is_name 100 name then Some (record { save = name }) else None
+    if bytes_eq command (codes "step") && bytes_eq option (codes "--save") && is_name 100 name
+    then Some (record { save = name }) else None
 step_words words = None
 
 -- what the command that was read says

@@ -1,7 +1,9 @@
 // Files that are put one after another, and the text that is written behind them.
-ghost use Rattle.std.specs.Prelude.{⊤, ◌≡◌, ◌≤◌, ◌⊎◌, ℕ, length, IfErr, OnOk};
+ghost use Rattle.std.specs.Prelude.{⊤, ◌≡◌, ◌≤◌, ◌⊎◌, ℕ, All, Err, length, IfErr, OnOk};
 ghost use Rattle.lg_base.specs.Count.{Rises};
-ghost use Rattle.lg_base.specs.Outside.{FailsWithCause};
+ghost use Rattle.lg_base.specs.History.{Since, EndsAt};
+ghost use Rattle.lg_base.specs.Outside.{CountsFault};
+ghost use Rattle.lg_cmd.specs.Calls.{Kept, ArePuts, AreWrites};
 ghost use Rattle.lg_cmd.specs.Files.{StandFirst, StopsBy};
 ghost use Rattle.lg_cmd.specs.Answer.{HasPut, HasWritten, EndsBy, Unfailed, vault_status};
 
@@ -19,11 +21,14 @@ pub struct File {
 
 /// Puts the files in their order, up to the first that the vault refuses.
 fn put_all<V: Vault>(vault: &mut V, files: &[File]) -> Result<(), VaultErr>
-    ensures ok { OnOk result (StandFirst files.now (length files.now) (V.names vault.old) (V.names vault.new)) }
+    ensures ok { OnOk result
+        (StandFirst files.now (length files.now) (V.names vault.old) (V.names vault.new)) }
     ensures err { IfErr result (λ error. StopsBy error files.now (V.names vault.old) (V.names vault.new)) }
-    ensures later { V.faults vault.old ≤ V.faults vault.new }
-    ensures calm { OnOk result (V.faults vault.new ≡ V.faults vault.old) }
-    ensures cause { FailsWithCause result (V.faults vault.old) (V.faults vault.new) }
+    ensures known { IfErr result (λ error. (error ≡ VaultErr.Missing → ⊥) × (error ≡ VaultErr.TooLong → ⊥)) }
+    ensures all_puts { OnOk result (Since (V.history vault.old) (V.history vault.new) (All Kept)) }
+    ensures some_puts { IfErr result
+        (λ error. Since (V.history vault.old) (V.history vault.new) (EndsAt Kept (Err error))) }
+    ensures counts { CountsFault result (V.faults vault.old) (V.faults vault.new) }
 {
     for file in files {
         vault.put(file.name.as_str(), file.bytes.bytes())?;
@@ -54,6 +59,8 @@ pub(crate) fn put_and_write<V: Vault, K: Sink>(
     ensures cause { EndsBy result (Rises (V.faults vault.old) (V.faults vault.new))
         (Rises (K.faults sink.old) (K.faults sink.new) ⊎ Rises (K.stalls sink.old) (K.stalls sink.new)) }
     ensures put { HasPut result files.now (V.names vault.old) (V.names vault.new) }
+    ensures puts { Since (V.history vault.old) (V.history vault.new) (ArePuts result) }
+    ensures writes { Since (K.history sink.old) (K.history sink.new) (AreWrites result) }
     ensures written { HasWritten result text.now (K.taken sink.old) (K.taken sink.new) }
     ensures unfailed { Unfailed result ⊤ (V.faults vault.new ≡ V.faults vault.old)
         ((K.faults sink.new ≡ K.faults sink.old) × (K.stalls sink.new ≡ K.stalls sink.old)) }

@@ -31,7 +31,8 @@ fn push_event<H: Hash32>(
 ) -> Result<(), Memory>
     requires leaf { HasLeaf event.now }
     requires room { HasRoom H.digest tree.old }
-    ensures { OnOk result ((h : H) (leaves : List (List ℕ)) → Holds H.digest h tree.old leaves → Holds H.digest h tree.new (leaves ++ event_bytes event.now ∷ [])) }
+    ensures { OnOk result ((h : H) (leaves : List (List ℕ)) → Holds H.digest h tree.old leaves
+        → Holds H.digest h tree.new (leaves ++ event_bytes event.now ∷ [])) }
 {
     leaf.clear();
     write_event(event, leaf)?;
@@ -39,8 +40,8 @@ fn push_event<H: Hash32>(
     Ok(())
 }
 
-/// The tree hash over the events of the table with the greatest id. Of each of these it costs the hash of its leaf, and one
-/// of a node.
+/// The tree hash over the events of the table with the greatest id. Of each of these it costs the hash of its
+/// leaf, and one of a node.
 #[tactic(auto, unfolding(crate::specs::Root::root_of))]
 pub(crate) fn root<H: Hash32>(alloc: Global, h: H, events: &[Event]) -> Result<[u8; 32], Memory>
     requires leaves { AllByRecursion HasLeaf events.now }

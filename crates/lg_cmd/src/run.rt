@@ -2,6 +2,7 @@
 ghost use Rattle.std.specs.Prelude.{ℕ, ◌≡◌, ◌≤◌, List, length, map, IfOk, IfErr, All, true, None};
 ghost use Rattle.std.specs.List.{AllByRecursion};
 ghost use Rattle.lg_input.specs.Line.{Statement, seen, is_session_name};
+ghost use Rattle.lg_input.specs.Sessions.{sessions_of};
 ghost use Rattle.lg_row.specs.Leaf.{HasLeaf};
 ghost use Rattle.lg_journal.specs.Rules.{IsJournal};
 ghost use Rattle.lg_session.specs.OneSession.{journal_of};
@@ -17,15 +18,24 @@ use lg_input::{InputErr, Line, read_lines, session_names};
 use lg_items::Memory;
 use lg_parse::printing_is_read_back;
 use lg_session::one_session_agrees;
-use lg_step::{Ran, StepErr, run_lines};
+use lg_step::{Ran, StepErr, journals_of_one_session_are_legal, run_lines};
 use std::alloc::Global;
 
-/// The statements of the input by line. Where a line lacks its form, that is said before the sessions are counted.
-fn statements<'a>(alloc: Global, input: &'a [u8]) -> Result<Vec<Line<'a>>, Status>
+/// The statements of an input by line, and the names of their sessions by first appearance.
+#[derive(Drop)]
+struct Input<'a> {
+    lines: Vec<Line<'a>>,
+    sessions: Vec<&'a str>,
+}
+
+/// The statements of the input. Where a line lacks its form, that is said before the sessions are counted.
+fn statements<'a>(alloc: Global, input: &'a [u8]) -> Result<Input<'a>, Status>
     requires { length input.now ≤ input_limit }
-    ensures has { IfOk result (λ lines. HasStatements input.now (map seen lines.items)) }
-    ensures names { IfOk result (λ lines. All (λ l. is_session_name l.session.now ≡ true) lines.items) }
-    ensures count { IfOk result (λ lines. length lines.items ≤ input_limit) }
+    ensures has { IfOk result (λ s. HasStatements input.now (map seen s.lines.items)) }
+    ensures names { IfOk result (λ s. All (λ l. is_session_name l.session.now ≡ true) s.lines.items) }
+    ensures count { IfOk result (λ s. length s.lines.items ≤ input_limit) }
+    ensures sessions { IfOk result
+        (λ s. map (λ n. n.now) s.sessions.items ≡ sessions_of (map seen s.lines.items)) }
     ensures refused { IfErr result (λ status. IsRefused status input.now) }
 {
     let lines = match read_lines(alloc, input) {
@@ -34,7 +44,7 @@ fn statements<'a>(alloc: Global, input: &'a [u8]) -> Result<Vec<Line<'a>>, Statu
         Err(InputErr::Memory) => return Err(Status::Memory),
     };
     match session_names(alloc, &lines) {
-        Ok(Some(_)) => Ok(lines),
+        Ok(Some(sessions)) => Ok(Input { lines, sessions }),
         Ok(None) => Err(Status::Limit),
         Err(Memory) => Err(Status::Memory),
     }
@@ -42,8 +52,10 @@ fn statements<'a>(alloc: Global, input: &'a [u8]) -> Result<Vec<Line<'a>>, Statu
 
 /// What is answered in a run of one session agrees with what is committed in it.
 fn runs_agree()
-    ensures { (times : List ℕ) (statements : List Statement) → length times ≡ length statements → unbuilt statements ≡ None
-        → AgreesWith statements (transcripts_of statements (ran times statements)) (journal_of (ran times statements)) }
+    ensures { (times : List ℕ) (statements : List Statement)
+        → length times ≡ length statements → unbuilt statements ≡ None
+        → AgreesWith statements (transcripts_of statements (ran times statements))
+        (journal_of (ran times statements)) }
 {
     printing_is_read_back();
     one_session_agrees();
@@ -52,14 +64,15 @@ fn runs_agree()
 /// Runs the statements of an input, or says why it is refused.
 pub(crate) fn run_input<C: Clock>(alloc: Global, input: &[u8], clock: &C) -> Result<Ran, Status>
     requires { length input.now ≤ input_limit }
-    ensures run { IfOk result (λ r. (statements : List Statement) × (times : List ℕ) × IsRun (C.moment clock.now) input.now r statements times) }
+    ensures run { IfOk result (IsRun (C.says clock.now) input.now) }
     ensures journal { IfOk result (λ r. IsJournal r.journal) }
     ensures leaves { IfOk result (λ r. AllByRecursion HasLeaf r.last) }
     ensures refused { IfErr result (λ status. IsRefused status input.now) }
 {
-    let lines = statements(alloc, input)?;
+    let read = statements(alloc, input)?;
     runs_agree();
-    match run_lines(alloc, &lines, clock) {
+    journals_of_one_session_are_legal();
+    match run_lines(alloc, &read.sessions, &read.lines, clock) {
         Ok(ran) => Ok(ran),
         Err(StepErr::Unbuilt { line }) => Err(Status::Unbuilt { line }),
         Err(StepErr::Memory) => Err(Status::Memory),

@@ -2,6 +2,8 @@
 ghost use Rattle.std.specs.Prelude.{◌≡◌};
 ghost use Rattle.lg_cmd.specs.Status.{code_of, text_of};
 
+use std::fmt;
+
 /// How a call of the server ends. Each but `Done` and `Memory` has its cause in the contract of the top call.
 #[derive(Clone, Copy, Debug, PartialEq, Eq)]
 pub enum Status {
@@ -19,8 +21,9 @@ pub enum Status {
     VaultFault,
     /// This line of the input has no session, or isn't UTF-8. It is the first such line, counted from 1.
     Form { line: u64 },
-    /// This line of the input has a statement that isn't built yet: one of a second session, or one that begins or ends
-    /// a transaction of many statements, goes back in one, or asks for a digest or an image. It is the first such line.
+    /// This line of the input has a statement that isn't built yet: one of a second session, or one that
+    /// begins a transaction of many statements, saves or goes back in one, or asks for a digest or an image.
+    /// It is the first such line.
     Unbuilt { line: u64 },
     /// There was no more memory.
     Memory,
@@ -44,7 +47,7 @@ impl Status {
         }
     }
 
-    /// What the program says of it on standard error, where the code is 2 or more.
+    /// What it says, without its place. It is empty where the command did its work.
     pub fn text(self) -> &'static str
         ensures { result.now ≡ text_of self }
     {
@@ -58,6 +61,22 @@ impl Status {
             Status::Form { .. } => "a line has no session",
             Status::Memory => "out of memory",
             Status::Unbuilt { .. } => "this input is not built yet",
+        }
+    }
+}
+
+/// The text of a status, and its place where it has one, as `a line has no session (line 3)`.
+impl fmt::Display for Status {
+    ghost use Rattle.std.specs.Prelude.{Some};
+    ghost use Rattle.lg_cmd.specs.Status.{message_of};
+
+    ghost output = { λ s. Some (message_of s) };
+
+    fn fmt<W: fmt::Write>(&self, f: &mut fmt::Formatter<W>) -> fmt::Result {
+        f.write_str(self.text())?;
+        match self {
+            Status::Form { line } | Status::Unbuilt { line } => write!(f, " (line {line})"),
+            _ => Ok(()),
         }
     }
 }

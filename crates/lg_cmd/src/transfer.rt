@@ -1,7 +1,9 @@
 // Reading a whole input and writing a whole text, in pieces.
-ghost use Rattle.std.specs.Prelude.{ℕ, ◌≡◌, ◌≤◌, ◌⊎◌, length, OnOk, OnErr, IfOk, IfSome, IsErrOf};
+ghost use Rattle.std.specs.Prelude.{ℕ, ◌≡◌, ◌≤◌, ◌⊎◌, All, Ok, length, OnOk, OnErr, IfOk, IfSome, IsErrOf};
 ghost use Rattle.lg_base.specs.Count.{Rises};
+ghost use Rattle.lg_base.specs.History.{Since, EndsAt};
 ghost use Rattle.lg_base.specs.Outside.{TellsTaken};
+ghost use Rattle.lg_cmd.specs.Calls.{Moved, ReadsOf, StopsWriting};
 ghost use Rattle.lg_cmd.specs.Transfer.{input_limit, Came, TellsPart};
 
 use lg_base::{Failed, Sink, Source};
@@ -25,7 +27,7 @@ pub(crate) enum ReadErr {
 pub(crate) fn read_input<S: Source>(alloc: Global, source: &mut S) -> Result<Vec<u8>, ReadErr>
     ensures came { IfSome (S.left source.old) (λ input. Came input (S.left source.new) result) }
     ensures within { IfOk result (λ v. length v.items ≤ input_limit) }
-    ensures later { S.faults source.old ≤ S.faults source.new }
+    ensures reads { Since (S.history source.old) (S.history source.new) (ReadsOf result) }
     ensures calm { (IsErrOf result ReadErr.Failed → ⊥) → S.faults source.new ≡ S.faults source.old }
     ensures cause { IsErrOf result ReadErr.Failed → Rises (S.faults source.old) (S.faults source.new) }
 {
@@ -54,8 +56,12 @@ pub(crate) fn read_input<S: Source>(alloc: Global, source: &mut S) -> Result<Vec
 pub(crate) fn write_all<K: Sink>(sink: &mut K, bytes: &[u8]) -> Result<(), Failed>
     ensures taken { OnOk result (TellsTaken (K.taken sink.old) (K.taken sink.new) bytes.now) }
     ensures part { OnErr result (TellsPart (K.taken sink.old) (K.taken sink.new) bytes.now) }
-    ensures calm { OnOk result ((K.faults sink.new ≡ K.faults sink.old) × (K.stalls sink.new ≡ K.stalls sink.old)) }
-    ensures cause { OnErr result (Rises (K.faults sink.old) (K.faults sink.new) ⊎ Rises (K.stalls sink.old) (K.stalls sink.new)) }
+    ensures all_writes { OnOk result (Since (K.history sink.old) (K.history sink.new) (All Moved)) }
+    ensures some_writes { OnErr result (Since (K.history sink.old) (K.history sink.new) StopsWriting) }
+    ensures calm { OnOk result
+        ((K.faults sink.new ≡ K.faults sink.old) × (K.stalls sink.new ≡ K.stalls sink.old)) }
+    ensures cause { OnErr result
+        (Rises (K.faults sink.old) (K.faults sink.new) ⊎ Rises (K.stalls sink.old) (K.stalls sink.new)) }
 {
     let mut at = 0;
     while at < bytes.len() {

@@ -2,7 +2,7 @@
 use Rattle.std.specs.Prelude.{ℕ, ◌-◌, Bool, ◌&&◌, ◌||◌, ◌==◌, nat_eq, if◌then◌else◌, List, [], ◌∷◌, length, take, drop, codes, Option, Some, None, Result, Ok, Err}
 use Rattle.std.specs.List.{list_any, prefix_len, suffix_len, starts_with, before_first, after_first}
 use Rattle.std.specs.Str.{is_utf8}
-pub use Rattle.lg_entry.specs.SessionName.{is_session_name}
+pub use Rattle.lg_items.specs.SessionName.{is_session_name}
 use Rattle.lg_input.specs.declared.line.Line.{Line}
 
 -- a statement of a session, and the line in which it stands
@@ -35,7 +35,8 @@ is_skipped line = length line == 0 || starts_with nat_eq line (codes "--")
 abbrev pub is_colon : ℕ → Bool
 is_colon b = b == 58
 
--- what stands before the first colon, where it is a session name, and what stands behind the colon and its blanks
+-- what stands before the first colon, where it is a session name, and what stands behind the colon and its
+-- blanks
 abbrev pub session_and_text : List ℕ → Option (List ℕ × List ℕ)
 session_and_text line =
     if list_any is_colon line && is_session_name (before_first is_colon line)

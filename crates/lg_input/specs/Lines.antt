@@ -8,9 +8,11 @@ is_line_feed b = b == 10
 
 -- a line without a carriage return at its end
 abbrev pub without_return : List ℕ → List ℕ
-without_return line = let front = length line - 1 in if slice_index line front == 13 then take front line else line
+without_return line =
+    let front = length line - 1 in if slice_index line front == 13 then take front line else line
 
--- The lines that these pieces are: a line feed stands behind each but the last, which is no line where it is empty.
+-- The lines that these pieces are: a line feed stands behind each but the last, which is no line where it is
+-- empty.
 abbrev pub ended : List (List ℕ) → List (List ℕ)
 ended [] = []
 ended (last ∷ []) = if length last == 0 then [] else last ∷ []

@@ -12,9 +12,12 @@ pub fn utf8_law()
     ensures { (bytes : List ℕ) → is_utf8 bytes ≡ list_all is_utf8 (lines_of bytes) }
 {}
 
-/// The session of each statement is among the names, no name stands there twice, and each is the session of a statement.
+/// The session of each statement is among the names, no name stands there twice, and each is the session of a
+/// statement.
 pub fn sessions_law()
-    ensures named { (ss : List Statement) → All (λ s. list_any (bytes_eq s.session) (sessions_of ss) ≡ true) ss }
+    ensures named { (ss : List Statement)
+        → All (λ s. list_any (bytes_eq s.session) (sessions_of ss) ≡ true) ss }
     ensures once { (ss : List Statement) → IsDistinct bytes_eq (sessions_of ss) }
-    ensures of_statements { (ss : List Statement) → All (λ name. list_any (λ s. bytes_eq name s.session) ss ≡ true) (sessions_of ss) }
+    ensures of_statements { (ss : List Statement)
+        → All (λ name. list_any (λ s. bytes_eq name s.session) ss ≡ true) (sessions_of ss) }
 {}

@@ -10,6 +10,3 @@ pub use law::{sessions_law, utf8_law};
 pub use line::{InputErr, Line};
 pub use lines::read_lines;
 pub use names::session_names;
-
-#[cfg(test)]
-mod tests;

@@ -6,7 +6,7 @@ ghost use Rattle.std.specs.Str.{is_utf8};
 ghost use Rattle.lg_input.specs.Line as spec;
 ghost use Rattle.lg_input.specs.Line.{seen, session_and_text, says, is_session_name};
 
-use lg_entry::is_session_name;
+use lg_items::is_session_name;
 use std::alloc::AllocFailed;
 
 /// A statement of a session, and the line in which it stands.

@@ -39,8 +39,9 @@ fn first_line(bytes: &[u8]) -> (&[u8], &[u8])
     }
 }
 
-/// The statements of the input by line, without those lines that are empty or a comment. Where a line lacks its form, the
-/// first such line is named instead. It takes time linear in the input, and copies nothing of it.
+/// The statements of the input by line, without those lines that are empty or a comment. Where a line lacks
+/// its form, the first such line is named instead. It takes time linear in the input, and copies nothing of
+/// it.
 #[tactic(auto, unfolding(crate::specs::Lines::read_input))]
 pub fn read_lines<'a>(alloc: Global, bytes: &'a [u8]) -> Result<Vec<Line<'a>>, InputErr>
     ensures read { IfOk result (λ lines. read_input bytes.now ≡ Ok (map seen lines.items)) }

@@ -1,6 +1,6 @@
 //! The sessions of the input.
 
-ghost use Rattle.std.specs.Prelude.{◌≡◌, ◌<◌, ◌≤◌, length, map, IfOk, MatchOption};
+ghost use Rattle.std.specs.Prelude.{◌≡◌, ◌<◌, ◌≤◌, length, map, IfOk, IfSome, IfNone};
 ghost use Rattle.std.specs.List.{list_any};
 ghost use Rattle.std.specs.Str.{bytes_eq};
 ghost use Rattle.lg_input.specs.Line.{seen};
@@ -34,11 +34,15 @@ fn is_among(names: &[&str], name: &str) -> bool
     any_same(names, name)
 }
 
-/// The names of the sessions by first appearance, or none where there are more than 64. It takes at most 64 comparisons for
-/// each line.
+/// The names of the sessions by first appearance, or none where there are more than 64. It takes at most 64
+/// comparisons for each line.
 #[tactic(auto, unfolding(crate::specs::Sessions::sessions_of))]
 pub fn session_names<'a>(alloc: Global, lines: &[Line<'a>]) -> Result<Option<Vec<&'a str>>, Memory>
-    ensures { IfOk result (λ found. MatchOption found (max_sessions < length (sessions_of (map seen lines.now))) (λ names. (map (λ n. n.now) names.items ≡ sessions_of (map seen lines.now)) × (length names.items ≤ max_sessions))) }
+    ensures many { IfOk result
+        (λ found. IfNone found (max_sessions < length (sessions_of (map seen lines.now)))) }
+    ensures names { IfOk result (λ found. IfSome found
+        (λ names. map (λ n. n.now) names.items ≡ sessions_of (map seen lines.now))) }
+    ensures few { IfOk result (λ found. IfSome found (λ names. length names.items ≤ max_sessions)) }
 {
     let mut names = Vec::new(alloc);
     for line in lines {

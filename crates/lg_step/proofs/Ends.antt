@@ -1,17 +1,18 @@
 -- What a session leaves at its end.
-use Rattle.std.proofs.Common.{◌≡◌, refl, sym, ap, subst, ◌∙◌, ℕ, ◌-◌, ◌<◌, ◌^◌, List, [], ◌∷◌, append-nil, length, flat_map, true, Option, arith, string_bytes}
+use Rattle.std.proofs.Common.{◌≡◌, refl, sym, ap, subst, ◌∙◌, ℕ, ◌-◌, ◌<◌, ◌^◌, List, [], ◌∷◌, append-nil, length, flat_map, true, arith, string_bytes}
 use Rattle.std.specs.Prelude.{IfSome, codes}
 use Rattle.std.specs.List.{AllByRecursion, zip}
 use Rattle.lg_types.specs.declared.event.Event.{Event}
 use Rattle.lg_types.specs.declared.journal.Journal.{Journal}
 use Rattle.lg_types.specs.declared.journal.JournalItem.{JournalItem}
 use Rattle.lg_model.specs.Script.{Reading}
-use Rattle.lg_model.proofs.Alls.{all_weaker, all_both}
+use Rattle.lg_frames.proofs.Alls.{all_weaker, all_both}
 use Rattle.lg_row.specs.Leaf.{is_text, HasLeaf}
 use Rattle.lg_input.specs.Line.{Statement}
 use Rattle.lg_parse.specs.Text.{statement_of}
-use Rattle.lg_journal.specs.DatabaseName.{is_database_name}
-use Rattle.lg_journal.specs.Rules.{ids_differ, closes_follow, IsJournal}
+use Rattle.lg_items.specs.DatabaseName.{is_database_name}
+use Rattle.lg_types.specs.JournalRules.{ids_differ, closes_follow}
+use Rattle.lg_journal.specs.Rules.{IsJournal}
 use Rattle.lg_session.specs.OneSession.{Run, run_from, run_of, first_run, journal_of}
 use Rattle.lg_step.specs.declared.session.Session.{Session}
 use Rattle.lg_step.specs.Leaves.{HasRoom}
@@ -26,14 +27,14 @@ no_times [] = refl
 no_times (t ∷ ts) = refl
 
 -- the text of the one transcript, if there is one
-one_text : (clock : Option ℕ) (ss : List Statement) (x : Run) → Reached clock (session_of ss) ss x → flat_map (entry_text (session_of ss)) x.entries ≡ flat_map transcript_text (transcripts_of ss x)
+one_text : (says : ℕ → Type 0) (ss : List Statement) (x : Run) → Reached says (session_of ss) ss x → flat_map (entry_text (session_of ss)) x.entries ≡ flat_map transcript_text (transcripts_of ss x)
 unfolding transcript_text run_from
-one_text clock [] x r =
+one_text says [] x r =
     let first : x ≡ first_run = r.comes_to ∙ ap (run_of statement_of []) (no_times r.times) in
     ap (λ (y : Run). flat_map (entry_text []) y.entries) first
-one_text clock (s ∷ ss) x r = sym (append-nil (flat_map (entry_text s.session) x.entries))
+one_text says (s ∷ ss) x r = sym (append-nil (flat_map (entry_text s.session) x.entries))
 
-module _ (clock : Option ℕ) (ss : List Statement) (s : Session) (came : Came clock (session_of ss) ss s) where
+module _ (says : ℕ → Type 0) (ss : List Statement) (s : Session) (came : Came says (session_of ss) ss s) where
   abbrev IsRan : List ℕ → Journal → List Event → List ℕ → Type 0
   IsRan times journal last transcript =
       (journal ≡ journal_of (ran times ss)) × (last ≡ (ran times ss).last) × (transcript ≡ flat_map transcript_text (transcripts_of ss (ran times ss)))
@@ -47,7 +48,7 @@ module _ (clock : Option ℕ) (ss : List Statement) (s : Session) (came : Came c
       let shows = came.shows in (
         journal_is ∙ ap (λ (l : List JournalItem). record { database = codes "LedgerDB"; items = l }) shows.items ∙ ap journal_of r.comes_to,
         last_is ∙ shows.last ∙ ap (λ (y : Run). y.last) r.comes_to,
-        transcript_is ∙ shows.transcript ∙ one_text clock ss x r ∙ ap (λ (y : Run). flat_map transcript_text (transcripts_of ss y)) r.comes_to,
+        transcript_is ∙ shows.transcript ∙ one_text says ss x r ∙ ap (λ (y : Run). flat_map transcript_text (transcripts_of ss y)) r.comes_to,
       )
 
 -- ---- the journal has a spelling
@@ -60,14 +61,14 @@ is_database : is_database_name (codes "LedgerDB") ≡ true
 unfolding is_database_name
 is_database = refl
 
-pub has_spelling : (clock : Option ℕ) (ss : List Statement) (s : Session) → Everywhere (λ x. ids_differ [] x.items ≡ true) → Everywhere (λ x. closes_follow 0 x.items ≡ true)
-    → Came clock (session_of ss) ss s → Steady s → length ss < 2 ^ 63 - 1 → (journal : Journal) → journal ≡ record { database = codes "LedgerDB"; items = s.items } → IsJournal journal
-has_spelling clock ss s differ follow came steady few journal is =
+pub has_spelling : (says : ℕ → Type 0) (ss : List Statement) (s : Session) → Everywhere (λ x. ids_differ [] x.items ≡ true) → Everywhere (λ x. closes_follow 0 x.items ≡ true)
+    → Came says (session_of ss) ss s → Steady s → length ss < 2 ^ 63 - 1 → (journal : Journal) → journal ≡ record { database = codes "LedgerDB"; items = s.items } → IsJournal journal
+has_spelling says ss s differ follow came steady few journal is =
     let r = came.reached in
     let items : (run_of statement_of (session_of ss) (zip r.times (texts_of ss))).items ≡ s.items = ap (λ (y : Run). y.items) (sym r.comes_to) ∙ sym came.shows.items in
     rw is (record {
       database = is_database;
-      count = omega (arith, few_items clock (session_of ss) ss s came, few);
+      count = omega (arith, few_items says (session_of ss) ss s came, few);
       items = steady.items;
       ids = subst (λ (l : List JournalItem). ids_differ [] l ≡ true) items (differ statement_of (session_of ss) (zip r.times (texts_of ss)));
       closes = subst (λ (l : List JournalItem). closes_follow 0 l ≡ true) items (follow statement_of (session_of ss) (zip r.times (texts_of ss)));
@@ -78,9 +79,9 @@ has_spelling clock ss s differ follow came steady few journal is =
 abbrev FitsLeaf : Event → Type 0
 FitsLeaf e = e.table < 2 ^ 32 → e.tx < 2 ^ 64 → e.seq < 2 ^ 64 → IfSome e.start (λ s. (s.0 < 2 ^ 64) × (s.1 < 2 ^ 64)) → AllByRecursion (λ f. is_text f.value ≡ true) e.columns → HasLeaf e
 
-pub have_leaves : (clock : Option ℕ) (ss : List Statement) (s : Session) → Everywhere (λ x. AllByRecursion FitsLeaf x.last) → Came clock (session_of ss) ss s
+pub have_leaves : (says : ℕ → Type 0) (ss : List Statement) (s : Session) → Everywhere (λ x. AllByRecursion FitsLeaf x.last) → Came says (session_of ss) ss s
     → (last : List Event) → last ≡ s.last → AllByRecursion HasRoom last → AllByRecursion HasLeaf last
-have_leaves clock ss s leaves came last is room =
+have_leaves says ss s leaves came last is room =
     let r = came.reached in
     let events : (run_of statement_of (session_of ss) (zip r.times (texts_of ss))).last ≡ last = ap (λ (y : Run). y.last) (sym r.comes_to) ∙ sym came.shows.last ∙ sym is in
     let fits : AllByRecursion FitsLeaf last = subst (AllByRecursion FitsLeaf) events (leaves statement_of (session_of ss) (zip r.times (texts_of ss))) in

@@ -17,7 +17,7 @@ use Rattle.lg_model.specs.Events.{all_events}
 use Rattle.lg_model.specs.Replies.{reply_text}
 use Rattle.lg_model.specs.Runs.{MadeBefore, SoundTable, Sound}
 use Rattle.lg_model.specs.Script.{Reading, by_statement, start}
-use Rattle.lg_model.proofs.Alls.{all_weaker, all_append}
+use Rattle.lg_frames.proofs.Alls.{all_weaker, all_append}
 use Rattle.lg_input.specs.Line.{Statement}
 use Rattle.lg_parse.specs.Text.{statement_of}
 use Rattle.lg_serial.specs.Machine.{Machine}
@@ -52,12 +52,12 @@ texts_long : (ss : List Statement) → length (texts_of ss) ≡ length ss
 texts_long [] = refl
 texts_long (s ∷ ss) = omega (arith, texts_long ss)
 
-module _ (clock : Option ℕ) (name : List ℕ) where
-  pub reached_none : Reached clock name [] first_run
+module _ (says : ℕ → Type 0) (name : List ℕ) where
+  pub reached_none : Reached says name [] first_run
   unfolding run_from
   reached_none = record { times = []; count = refl; moments = tt; comes_to = refl }
 
-  reached_more : (ss : List Statement) (s : Statement) (time : ℕ) (x : Run) → Reached clock name ss x → IsMoment clock time → Reached clock name (ss ++ s ∷ []) (stepped name time s.text (statement_of s.text) x)
+  reached_more : (ss : List Statement) (s : Statement) (time : ℕ) (x : Run) → Reached says name ss x → IsMoment says time → Reached says name (ss ++ s ∷ []) (stepped name time s.text (statement_of s.text) x)
   reached_more ss s time x r moment =
       let texts : texts_of (ss ++ s ∷ []) ≡ texts_of ss ++ s.text ∷ [] = map-append (λ (y : Statement). y.text) ss (s ∷ []) in
       let zipped : zip (r.times ++ time ∷ []) (texts_of (ss ++ s ∷ [])) ≡ zip r.times (texts_of ss) ++ (time, s.text) ∷ [] =
@@ -65,27 +65,27 @@ module _ (clock : Option ℕ) (name : List ℕ) where
       record {
         times = r.times ++ time ∷ [];
         count = omega (arith, length-append r.times (time ∷ []), length-append ss (s ∷ []), r.count);
-        moments = all_append (IsMoment clock) r.times (time ∷ []) r.moments (moment, tt);
+        moments = all_append (IsMoment says) r.times (time ∷ []) r.moments (moment, tt);
         comes_to =
             ap (stepped name time s.text (statement_of s.text)) r.comes_to
             ∙ sym (run_more statement_of name first_run (zip r.times (texts_of ss)) (time, s.text))
             ∙ sym (ap (run_from statement_of name first_run) zipped);
       }
 
-  pub came_more : (ss : List Statement) (s : Statement) (time : ℕ) (before after : Session) → Came clock name ss before → IsMoment clock time
-      → ((x : Run) → Shows name x before → Shows name (stepped name time s.text (statement_of s.text) x) after) → Came clock name (ss ++ s ∷ []) after
+  pub came_more : (ss : List Statement) (s : Statement) (time : ℕ) (before after : Session) → Came says name ss before → IsMoment says time
+      → ((x : Run) → Shows name x before → Shows name (stepped name time s.text (statement_of s.text) x) after) → Came says name (ss ++ s ∷ []) after
   came_more ss s time before after c moment steps =
       record { run = stepped name time s.text (statement_of s.text) c.run; reached = reached_more ss s time c.run c.reached moment; shows = steps c.run c.shows }
 
-module _ (clock : Option ℕ) (name : List ℕ) where
-  pub came_none : (s : Session) → Shows name first_run s → Came clock name [] s
-  came_none s shows = record { run = first_run; reached = reached_none clock name; shows = shows }
+module _ (says : ℕ → Type 0) (name : List ℕ) where
+  pub came_none : (s : Session) → Shows name first_run s → Came says name [] s
+  came_none s shows = record { run = first_run; reached = reached_none says name; shows = shows }
 
-  pub came_line : (ss : List Statement) (s : Statement) (time : ℕ) (before after : Session) (r : Result (Unit {0}) StepErr) → false ≡ not (bytes_eq s.session name) → Came clock name ss before → IsMoment clock time
-      → ((x : Run) → Shows s.session x before → OnOk r (Shows s.session (stepped s.session time s.text (statement_of s.text) x) after)) → OnOk r (Came clock name (ss ++ s ∷ []) after)
+  pub came_line : (ss : List Statement) (s : Statement) (time : ℕ) (before after : Session) (r : Result (Unit {0}) StepErr) → false ≡ not (bytes_eq s.session name) → Came says name ss before → IsMoment says time
+      → ((x : Run) → Shows s.session x before → OnOk r (Shows s.session (stepped s.session time s.text (statement_of s.text) x) after)) → OnOk r (Came says name (ss ++ s ∷ []) after)
   came_line ss s time before after (Ok u) same c moment steps =
       let is : s.session ≡ name = (bytes_eq-Decides s.session name).0 (not_false (bytes_eq s.session name) same) in
-      came_more clock name ss s time before after c moment (subst (λ n. (x : Run) → Shows n x before → Shows n (stepped n time s.text (statement_of s.text) x) after) is steps)
+      came_more says name ss s time before after c moment (subst (λ n. (x : Run) → Shows n x before → Shows n (stepped n time s.text (statement_of s.text) x) after) is steps)
   came_line ss s time before after (Err e) same c moment steps = tt
 
 -- ---- the next transaction
@@ -130,27 +130,27 @@ module _ (reads : Reading) (name : List ℕ) where
         items = omega (arith, more.items, one.items);
       }
 
-reached_grew : (clock : Option ℕ) (name : List ℕ) (ss : List Statement) (x : Run) → Reached clock name ss x → GrewBy (length ss) first_run x
-reached_grew clock name ss x r =
+reached_grew : (says : ℕ → Type 0) (name : List ℕ) (ss : List Statement) (x : Run) → Reached says name ss x → GrewBy (length ss) first_run x
+reached_grew says name ss x r =
     subst (λ n. GrewBy n first_run x) r.count (subst (GrewBy (length r.times) first_run) (sym r.comes_to) (run_grows statement_of name r.times (texts_of ss) first_run))
 
 -- no more items than statements
-pub few_items : (clock : Option ℕ) (name : List ℕ) (ss : List Statement) (s : Session) → Came clock name ss s → length s.items ≤ length ss
-few_items clock name ss s c = omega (arith, ap (λ (l : List JournalItem). length l) c.shows.items, (reached_grew clock name ss c.run c.reached).items)
+pub few_items : (says : ℕ → Type 0) (name : List ℕ) (ss : List Statement) (s : Session) → Came says name ss s → length s.items ≤ length ss
+few_items says name ss s c = omega (arith, ap (λ (l : List JournalItem). length l) c.shows.items, (reached_grew says name ss c.run c.reached).items)
 
 -- the law of one session on its next transaction
 abbrev LegalRuns : Type 0
 LegalRuns = (reads : Reading) (name : List ℕ) (statements : List (ℕ × List ℕ)) → Sound (run_of reads name statements).next 0 (run_of reads name statements).tables
 
 -- a session that came so far has room for the next transaction
-pub ready : LegalRuns → (clock : Option ℕ) (name : List ℕ) (ss : List Statement) (s : Session) → Came clock name ss s → Steady s → length ss < 2 ^ 63 - 1 → Ready s
-ready legal clock name ss s c steady few =
+pub ready : LegalRuns → (says : ℕ → Type 0) (name : List ℕ) (ss : List Statement) (s : Session) → Came says name ss s → Steady s → length ss < 2 ^ 63 - 1 → Ready s
+ready legal says name ss s c steady few =
     let x = c.run in
     let r = c.reached in
     let ts = zip r.times (texts_of ss) in
     let sound : Sound x.next 0 x.tables = subst (λ (y : Run). Sound y.next 0 y.tables) (sym r.comes_to) (legal statement_of name ts) in
     let new : IsNew x.next x.tables = all_weaker (SoundTable x.next 0) (λ (t : Table). AllByRecursion (MadeBefore x.next 0) t.versions) (λ t h. h.before) x.tables sound.each in
-    let grew = reached_grew clock name ss x r in
+    let grew = reached_grew says name ss x r in
     record {
       steady = steady;
       rests = ap (λ (m : Machine). m.script) c.shows.plain;

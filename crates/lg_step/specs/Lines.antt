@@ -7,6 +7,11 @@ use Rattle.lg_history.specs.Transcripts.{Transcript}
 use Rattle.lg_parse.specs.Text.{statement_of}
 use Rattle.lg_session.specs.OneSession.{is_built, Run, run_of, transcript_of}
 
+-- the first of some names, or none
+abbrev pub first_of : List (List ℕ) → List ℕ
+first_of [] = []
+first_of (name ∷ names) = name
+
 -- the session of the first line
 abbrev pub session_of : List Statement → List ℕ
 session_of [] = []

@@ -1,10 +1,7 @@
 -- Moments.
-use Rattle.std.specs.Prelude.{ℕ, ◌≤◌, ◌≡◌, min, Option, IfSome}
+use Rattle.std.specs.Prelude.{ℕ, ◌≡◌, min}
+use Rattle.lg_items.specs.declared.moment.TheConstants.{MAX_TICKS}
 
--- the last tick of the year 9999
-abbrev pub max_ticks : ℕ
-max_ticks = 2534023007999999999
-
--- what the clock answered, at most the greatest moment
-abbrev pub IsMoment : Option ℕ → ℕ → Type 0
-IsMoment clock at = (at ≤ max_ticks) × IfSome clock (λ told. at ≡ min told max_ticks)
+-- a number of ticks that the clock says, or the greatest moment where it says more
+abbrev pub IsMoment : (ℕ → Type 0) → ℕ → Type 0
+IsMoment says at = (said : ℕ) × says said × (at ≡ min said MAX_TICKS)

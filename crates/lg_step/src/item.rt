@@ -5,7 +5,7 @@ ghost use Rattle.lg_input.specs.Line.{is_session_name};
 ghost use Rattle.lg_types.specs.declared.journal.JournalItem.TheVariants.{Tx};
 ghost use Rattle.lg_model.specs.Replies.{reply_text as text_of};
 ghost use Rattle.lg_journal.specs.Rules.{IsText, IsStatement, IsItem};
-ghost use Rattle.lg_step.specs.Moments.{max_ticks};
+ghost use Rattle.lg_items.specs.declared.moment.TheConstants.{MAX_TICKS};
 
 use lg_input::Line;
 use lg_items::{Items, Memory, Name, Text, TxId};
@@ -44,7 +44,7 @@ pub(crate) fn item_of(
     requires name { is_session_name line.now.session.now ≡ true }
     requires first { 1 ≤ id }
     requires last { id < 2 ^ 63 }
-    requires time { time ≤ max_ticks }
+    requires time { time ≤ MAX_TICKS }
     ensures value { IfOk result (λ item. item ≡ Tx id line.now.session.now time false ((line.now.text.now, text_of reply.now) ∷ [])) }
     ensures item { IfOk result IsItem }
 {

@@ -4,6 +4,7 @@
 mod each;
 mod item;
 mod kind;
+mod laws;
 mod leaves;
 mod running;
 mod session;
@@ -11,6 +12,7 @@ mod step_err;
 mod transaction;
 mod transcript;
 
+pub use laws::{journals_of_one_session_are_legal, last_events_have_leaves};
 pub use lg_input::Line;
 pub use lg_types::{Event, Journal};
 pub use running::{Ran, run_lines};

@@ -3,22 +3,25 @@
 ghost use Rattle.std.specs.Prelude.{ℕ, ◌≡◌, ◌<◌, ◌-◌, ◌^◌, List, length, map, flat_map, codes, string_bytes, None, Some, Err, IfOk, OnOk, All, true};
 ghost use Rattle.std.specs.List.{AllByRecursion};
 ghost use Rattle.lg_input.specs.Line.{seen, is_session_name};
+ghost use Rattle.lg_input.specs.Sessions.{sessions_of};
 ghost use Rattle.lg_row.specs.Leaf.{HasLeaf};
 ghost use Rattle.lg_journal.specs.Rules.{IsJournal};
 ghost use Rattle.lg_session.specs.OneSession.{journal_of};
 ghost use Rattle.lg_step.specs.Leaves.{HasRoom};
+ghost use Rattle.lg_step.specs.Lines as spec;
 ghost use Rattle.lg_step.specs.Lines.{ran, unbuilt, transcripts_of};
 ghost use Rattle.lg_step.specs.Moments.{IsMoment};
 ghost use Rattle.lg_step.specs.TranscriptText.{transcript_text};
 
 use crate::each::run_each;
+use crate::laws::last_events_have_leaves;
 use crate::leaves::have_room;
 use crate::session::Session;
 use crate::step_err::StepErr;
 use lg_base::Clock;
 use lg_input::Line;
 use lg_items::{Items, Memory, Name, Text};
-use lg_session::{last_events_have_leaves, one_session_is_legal};
+use lg_session::one_session_is_legal;
 use lg_types::{Event, Journal};
 use std::alloc::Global;
 
@@ -53,12 +56,28 @@ fn left_by(alloc: Global, session: Session) -> Result<Ran, Memory>
     })
 }
 
+/// The first of the names.
+fn first_of<'a>(names: &[&'a str]) -> &'a str
+    ensures { result.now ≡ spec.first_of (map (λ n. n.now) names.now) }
+{
+    match names {
+        [] => "",
+        [first, ..] => *first,
+    }
+}
+
 /// Runs the statements of the lines in their order, each as a transaction of its own, or outside of one where it is no
-/// table statement. The clock is asked at the start of each.
-pub fn run_lines<C: Clock>(alloc: Global, lines: &[Line<'_>], clock: &C) -> Result<Ran, StepErr>
+/// table statement. Each begins at a moment that the clock says. The sessions are those of the lines.
+pub fn run_lines<C: Clock>(
+    alloc: Global,
+    sessions: &[&str],
+    lines: &[Line<'_>],
+    clock: &C,
+) -> Result<Ran, StepErr>
+    requires sessions { map (λ n. n.now) sessions.now ≡ sessions_of (map seen lines.now) }
     requires names { All (λ l. is_session_name l.session.now ≡ true) lines.now }
     requires count { length lines.now < 2 ^ 63 - 1 }
-    ensures ran { IfOk result (λ r. (times : List ℕ) × (length times ≡ length lines.now) × AllByRecursion (IsMoment (C.moment clock.now)) times
+    ensures ran { IfOk result (λ r. (times : List ℕ) × (length times ≡ length lines.now) × AllByRecursion (IsMoment (C.says clock.now)) times
         × (r.journal ≡ journal_of (ran times (map seen lines.now))) × (r.last ≡ (ran times (map seen lines.now)).last)
         × (r.transcript ≡ flat_map transcript_text (transcripts_of (map seen lines.now) (ran times (map seen lines.now))))) }
     ensures journal { IfOk result (λ r. IsJournal r.journal) }
@@ -67,7 +86,7 @@ pub fn run_lines<C: Clock>(alloc: Global, lines: &[Line<'_>], clock: &C) -> Resu
     ensures unbuilt { (line : ℕ) → result ≡ Err (StepErr.Unbuilt line) → unbuilt (map seen lines.now) ≡ Some line }
 {
     let mut session = Session::new(alloc)?;
-    run_each(alloc, lines, clock, &mut session)?;
+    run_each(alloc, first_of(sessions), lines, clock, &mut session)?;
     // Laws: they do nothing.
     one_session_is_legal();
     last_events_have_leaves();

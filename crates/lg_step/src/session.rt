@@ -7,7 +7,7 @@ ghost use Rattle.lg_history.specs.Transcripts.{committed_at, ended_after};
 ghost use Rattle.lg_parse.specs.Text.{statement_of};
 ghost use Rattle.lg_session.specs.OneSession as spec;
 ghost use Rattle.lg_session.specs.OneSession.{Run, first_run, answered, transacts, stepped};
-ghost use Rattle.lg_step.specs.Moments.{max_ticks};
+ghost use Rattle.lg_items.specs.declared.moment.TheConstants.{MAX_TICKS};
 ghost use Rattle.lg_step.specs.Sessions.{done_alone, Shows, Steady, Ready};
 ghost use Rattle.lg_step.specs.TranscriptText.{end_line, indented};
 
@@ -102,7 +102,7 @@ impl Session {
     ) -> Result<(), Memory>
         requires ready { Ready self.old }
         requires name { is_session_name line.now.session.now ≡ true }
-        requires time { time ≤ max_ticks }
+        requires time { time ≤ MAX_TICKS }
         ensures shows { (x : Run) → Shows line.now.session.now x self.old
             → OnOk result (Shows line.now.session.now (transacts line.now.session.now time line.now.text.now (done_alone x.next x.tables stmt.now) x) self.new) }
         ensures steady { OnOk result (Steady self.new) }
@@ -129,7 +129,7 @@ impl Session {
     ) -> Result<(), StepErr>
         requires ready { Ready self.old }
         requires name { is_session_name line.now.session.now ≡ true }
-        requires time { time ≤ max_ticks }
+        requires time { time ≤ MAX_TICKS }
         ensures shows { (x : Run) → Shows line.now.session.now x self.old
             → OnOk result (Shows line.now.session.now (stepped line.now.session.now time line.now.text.now (Some stmt.now) x) self.new) }
         ensures steady { OnOk result (Steady self.new) }
@@ -153,7 +153,7 @@ impl Session {
     pub fn step(&mut self, alloc: Global, line: &Line<'_>, time: u64) -> Result<(), StepErr>
         requires ready { Ready self.old }
         requires name { is_session_name line.now.session.now ≡ true }
-        requires time { time ≤ max_ticks }
+        requires time { time ≤ MAX_TICKS }
         ensures shows { (x : Run) → Shows line.now.session.now x self.old
             → OnOk result (Shows line.now.session.now (stepped line.now.session.now time line.now.text.now (statement_of line.now.text.now) x) self.new) }
         ensures steady { OnOk result (Steady self.new) }

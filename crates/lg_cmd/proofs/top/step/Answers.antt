@@ -1,20 +1,23 @@
 use Rattle.std.proofs.Common.{◌∙◌, Some}
 use Rattle.std.proofs.Math.Path.{ap₂}
-use Rattle.lg_session.specs.OneSession.{journal_of}
-use Rattle.lg_step.specs.Lines.{ran, transcripts_of}
 use Rattle.lg_cmd.specs.Answer.{Ran}
 use Rattle.lg_cmd.specs.Run.{saved_files}
 use Rattle.lg_cmd.specs.Words.{step_view}
-use Rattle.lg_cmd.proofs.AnswerLemmas.{put_is, written_is, ran_by, done_agrees}
+use Rattle.lg_cmd.proofs.AnswerLemmas.{put_is, written_is, ran_by, agrees_when_done}
 use Rattle.lg_cmd.proofs.top.step.Given.{Over}
 use Rattle.lg_cmd.proofs.top.step.Goals as goal
 
 -- what was put and written is that of the run
-ran_so : (g : Over) (c : goal.After-drop-ran-4 g) → Ran c.put_and_write.result (g.H.Hash32.digest c.args.h) (Some (step_view c.args.words.now)) (Some c.args.input.now) (g.C.Clock.moment c.args.clock.now) (g.V.Vault.names c.args.vault.now) (g.V.Vault.names c.put_and_write.new.vault) (g.K.Sink.taken c.args.sink.now) (g.K.Sink.taken c.put_and_write.new.sink) c.in-Ok.ensures.run.0 c.in-Ok.ensures.run.1
+ran_so : (g : Over) (c : goal.After-drop-ran-4 g)
+    → Ran c.put_and_write.result (g.H.Hash32.digest c.args.h) (Some (step_view c.args.words.now)) (Some c.args.input.now) (g.C.Clock.says c.args.clock.now)
+    (g.V.Vault.names c.args.vault.now) (g.V.Vault.names c.put_and_write.new.vault) (g.K.Sink.taken c.args.sink.now) (g.K.Sink.taken c.put_and_write.new.sink)
 ran_so g c =
-    let r = c.in-Ok.ensures.run.2 in
+    let r = c.in-Ok.ensures.run in
     record {
-      read = r.has.1;
+      statements = r.statements;
+      times = r.times;
+      within = r.within;
+      built = r.built;
       as_many = r.as_many;
       moments = r.moments;
       put = put_is _ _ _ _ _
@@ -24,14 +27,10 @@ ran_so g c =
     }
 
 pub returns-clause-ran : goal.returns-clause-ran
-returns-clause-ran g c = ran_by c.put_and_write.result _ _ _ _ c.put_and_write.ensures.cause (c.in-Ok.ensures.run.0, c.in-Ok.ensures.run.1, ran_so g c)
+returns-clause-ran g c = ran_by c.put_and_write.result _ _ _ _ c.put_and_write.ensures.cause (ran_so g c)
 
 pub returns-clause-agrees : goal.returns-clause-agrees
+unfolding ran_so
 returns-clause-agrees g c done =
-    let r = c.in-Ok.ensures.run.2 in
-    let x = ran c.in-Ok.ensures.run.1 c.in-Ok.ensures.run.0 in (
-      c.in-Ok.ensures.run.0,
-      transcripts_of c.in-Ok.ensures.run.0 x,
-      journal_of x,
-      done_agrees c.put_and_write.result _ _ _ _ _ _ _ _ _ _ (ran_so g c) r.agrees (rw r.journal at c.in-Ok.ensures.journal) done,
-    )
+    let r = c.in-Ok.ensures.run in
+    agrees_when_done _ _ _ _ c.put_and_write.result _ _ _ _ (ran_so g c) r.legal r.agrees (rw r.journal at c.in-Ok.ensures.journal) done

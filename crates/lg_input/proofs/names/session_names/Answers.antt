@@ -9,8 +9,8 @@ use Rattle.lg_input.proofs.names.session_names.Goals as goal
 abbrev no_line : Line
 no_line = record { number = 0; session = record { ref_ptr = (0, 0); now = [] }; text = record { ref_ptr = (0, 0); now = [] } }
 
-pub returns-then-len-eq-MAX_SESSIONS : goal.returns-then-len-eq-MAX_SESSIONS
-returns-then-len-eq-MAX_SESSIONS c =
+pub returns-then-len-eq-MAX_SESSIONS-clause-many : goal.returns-then-len-eq-MAX_SESSIONS-clause-many
+returns-then-len-eq-MAX_SESSIONS-clause-many c =
     let name = (get_or c.args.lines.now c.loop-line.line-index no_line).session.now in
     let same = ap (λ z. list_any (bytes_eq name) (map (λ n. n.now) z)) (sym c.deref.ensures.value) in
     let new = same ∙ (sym c.is_among.ensures ∙ c.if-not-is_among.true) in

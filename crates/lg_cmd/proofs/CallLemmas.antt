@@ -1,0 +1,105 @@
+-- What has been answered after one call more, and by the status of a call of the server.
+use Rattle.std.proofs.Common.{◌≡◌, ◌⊎◌, ℕ, List, [], ◌∷◌, ◌++◌, append_assoc, append-nil, refl, sym, subst, inl, inr, Option, Some, Result, Ok, Err, Vec}
+use Rattle.std.specs.List.{All}
+use Rattle.std.specs.Result.{OnErr}
+use Rattle.std.specs.declared.alloc.Global.{Global}
+use Rattle.std.proofs.lemmas.List.Elements.{All-push}
+use Rattle.lg_base.specs.declared.failed.Failed.{Failed}
+use Rattle.lg_base.specs.declared.vault.VaultErr.{VaultErr}
+use Rattle.lg_base.specs.declared.vault.VaultErr.TheVariants as refused
+use Rattle.lg_base.specs.History.{Adds, Since, EndsAt}
+use Rattle.lg_cmd.specs.declared.status.Status.{Status}
+use Rattle.lg_cmd.specs.declared.status.Status.TheVariants.{Done, Words, Limit, SourceFault, SinkFault, VaultFault, Form, Unbuilt, Memory}
+use Rattle.lg_cmd.specs.Answer.{HasCause, vault_status}
+use Rattle.lg_cmd.specs.Calls.{Moved, Kept, ReadsOf, AreReads, ArePuts, AreWrites}
+use Rattle.lg_cmd.specs.Input.{IsRefused}
+use Rattle.lg_cmd.specs.Words.{Step}
+
+module _ {A : Type 0} (old now new : List A → Type 0) (goes_on : A → Type 0) where
+  adds_more : (answers : List A) (answer : A) → Adds old now answers → Adds now new (answer ∷ []) → Adds old new (answers ++ answer ∷ [])
+  adds_more answers answer so_far one =
+      λ earlier had. subst new (append_assoc earlier answers (answer ∷ [])) (one (earlier ++ answers) (so_far earlier had))
+
+  -- a call that goes on
+  pub since_more : (answer : A) → Since old now (All goes_on) → Adds now new (answer ∷ []) → goes_on answer → Since old new (All goes_on)
+  since_more answer so_far one on =
+      record {
+        answers = so_far.answers ++ answer ∷ [];
+        adds = adds_more so_far.answers answer so_far.adds one;
+        such = All-push goes_on so_far.answers answer so_far.such on;
+      }
+
+  -- a call that ends them
+  pub since_end : (answer : A) → Since old now (All goes_on) → Adds now new (answer ∷ []) → Since old new (EndsAt goes_on answer)
+  since_end answer so_far one =
+      record {
+        answers = so_far.answers ++ answer ∷ [];
+        adds = adds_more so_far.answers answer so_far.adds one;
+        such = (so_far.answers, refl, so_far.such);
+      }
+
+pub on_err : {T E P : Type 0} (r : Result T E) → P → OnErr r P
+on_err (Ok v) p = tt
+on_err (Err e) p = p
+
+-- no call at all
+pub since_none : {A : Type 0} (now are : List A → Type 0) → are [] → Since now now are
+since_none now are none = record { answers = []; adds = λ earlier had. subst now (sym (append-nil earlier)) had; such = none }
+
+pub since_weaker : {A : Type 0} (old now are also : List A → Type 0) → ((answers : List A) → are answers → also answers) → Since old now are → Since old now also
+since_weaker old now are also so s = record { answers = s.answers; adds = s.adds; such = so s.answers s.such }
+
+-- an input that was read to its end, by the status of what follows
+read_to_end : (status : Status) (step : Step) (input : Option (List ℕ)) (vault sink : Type 0) → HasCause status (Some step) input ⊥ vault sink
+    → (answers : List (Result ℕ Failed)) → EndsAt Moved (Ok 0) answers → AreReads status answers
+read_to_end Done step input vault sink cause answers end = end
+read_to_end Words step input vault sink cause answers end = absurd cc
+read_to_end Limit step input vault sink cause answers end = inr end
+read_to_end SourceFault step input vault sink cause answers end = absurd cause
+read_to_end SinkFault step input vault sink cause answers end = end
+read_to_end VaultFault step input vault sink cause answers end = end
+read_to_end (Form line) step input vault sink cause answers end = end
+read_to_end (Unbuilt line) step input vault sink cause answers end = end
+read_to_end Memory step input vault sink cause answers end = inr end
+
+pub reads_whole : (status : Status) (step : Step) (input : Option (List ℕ)) (vault sink : Type 0) (v : Vec ℕ Global) (old now : List (Result ℕ Failed) → Type 0)
+    → HasCause status (Some step) input ⊥ vault sink → Since old now (ReadsOf (Ok v)) → Since old now (AreReads status)
+reads_whole status step input vault sink v old now cause reads =
+    since_weaker old now (ReadsOf (Ok v)) (AreReads status) (read_to_end status step input vault sink cause) reads
+
+-- where the vault refused a file
+pub refused_puts : (e : VaultErr) (old now : List (Result (Unit {0}) VaultErr) → Type 0) → (e ≡ refused.Missing → ⊥) × (e ≡ refused.TooLong → ⊥)
+    → Since old now (EndsAt Kept (Err e)) → Since old now (ArePuts (vault_status e))
+refused_puts refused.Failed old now known puts = puts
+refused_puts refused.Memory old now known puts = since_weaker old now (EndsAt Kept (Err refused.Memory)) (ArePuts Memory) (λ answers end. inr end) puts
+refused_puts refused.Missing old now known puts = absurd (known.0 refl)
+refused_puts refused.TooLong old now known puts = absurd (known.1 refl)
+
+pub refused_writes : (e : VaultErr) (now : List (Result ℕ Failed) → Type 0) → Since now now (AreWrites (vault_status e))
+refused_writes refused.Failed now = since_none now (AreWrites VaultFault) refl
+refused_writes refused.Memory now = since_none now (AreWrites Memory) refl
+refused_writes refused.Missing now = since_none now (AreWrites Memory) refl
+refused_writes refused.TooLong now = since_none now (AreWrites Memory) refl
+
+-- where the input isn't run, nothing is put and nothing is written
+pub unput : (status : Status) (bytes : List ℕ) → IsRefused status bytes → ArePuts status []
+unput Limit bytes is = refl
+unput (Form line) bytes is = refl
+unput (Unbuilt line) bytes is = refl
+unput Memory bytes is = inl refl
+unput Done bytes is = absurd is
+unput Words bytes is = absurd is
+unput SourceFault bytes is = absurd is
+unput SinkFault bytes is = absurd is
+unput VaultFault bytes is = absurd is
+
+pub unwritten : (status : Status) (bytes : List ℕ) → IsRefused status bytes → AreWrites status []
+unwritten Limit bytes is = refl
+unwritten (Form line) bytes is = refl
+unwritten (Unbuilt line) bytes is = refl
+unwritten Memory bytes is = refl
+unwritten Done bytes is = absurd is
+unwritten Words bytes is = absurd is
+unwritten SourceFault bytes is = absurd is
+unwritten SinkFault bytes is = absurd is
+unwritten VaultFault bytes is = absurd is

@@ -1,0 +1,57 @@
+-- What the source, the vault and the sink have answered in a call of the server. The first answer that ends
+-- their calls is the last one: nothing is tried again, and nothing is read behind the end of an input.
+use Rattle.std.specs.Prelude.{⊤, ◌≡◌, ◌<◌, ◌⊎◌, ℕ, List, [], Result, Ok, Err, Vec, All}
+use Rattle.std.specs.declared.alloc.Global.{Global}
+use Rattle.lg_base.specs.declared.failed.Failed.{Failed}
+use Rattle.lg_base.specs.declared.vault.VaultErr.{VaultErr}
+use Rattle.lg_base.specs.declared.vault.VaultErr.TheVariants as refused
+use Rattle.lg_base.specs.History.{EndsAt}
+use Rattle.lg_cmd.specs.declared.status.Status.{Status}
+use Rattle.lg_cmd.specs.declared.status.Status.TheVariants.{Done, Words, Limit, SourceFault, SinkFault, VaultFault, Memory}
+use Rattle.lg_cmd.specs.declared.transfer.ReadErr.{ReadErr}
+use Rattle.lg_cmd.specs.declared.transfer.ReadErr.TheVariants as reading
+
+-- a read that gave bytes, or a write that took some
+abbrev pub Moved : Result ℕ Failed → Type 0
+Moved (Ok n) = 0 < n
+Moved (Err e) = ⊥
+
+-- a put that kept its file
+abbrev pub Kept : Result ⊤ VaultErr → Type 0
+Kept answer = answer ≡ Ok tt
+
+-- a read or a write that failed
+abbrev pub failed : Result ℕ Failed
+failed = Err (record {})
+
+-- the reads up to the end of an input, a fault, or more than what is wanted
+abbrev pub ReadsOf : Result (Vec ℕ Global) ReadErr → List (Result ℕ Failed) → Type 0
+ReadsOf (Ok v) answers = EndsAt Moved (Ok 0) answers
+ReadsOf (Err reading.Failed) answers = EndsAt Moved failed answers
+ReadsOf (Err _) answers = All Moved answers
+
+-- what the source answered
+abbrev pub AreReads : Status → List (Result ℕ Failed) → Type 0
+AreReads Words answers = answers ≡ []
+AreReads SourceFault answers = EndsAt Moved failed answers
+AreReads Limit answers = All Moved answers ⊎ EndsAt Moved (Ok 0) answers
+AreReads Memory answers = All Moved answers ⊎ EndsAt Moved (Ok 0) answers
+AreReads _ answers = EndsAt Moved (Ok 0) answers
+
+-- what the vault answered
+abbrev pub ArePuts : Status → List (Result ⊤ VaultErr) → Type 0
+ArePuts Done answers = All Kept answers
+ArePuts SinkFault answers = All Kept answers
+ArePuts VaultFault answers = EndsAt Kept (Err refused.Failed) answers
+ArePuts Memory answers = (answers ≡ []) ⊎ EndsAt Kept (Err refused.Memory) answers
+ArePuts _ answers = answers ≡ []
+
+-- the writes up to a fault, or to one that took nothing
+abbrev pub StopsWriting : List (Result ℕ Failed) → Type 0
+StopsWriting answers = EndsAt Moved failed answers ⊎ EndsAt Moved (Ok 0) answers
+
+-- what the sink answered
+abbrev pub AreWrites : Status → List (Result ℕ Failed) → Type 0
+AreWrites Done answers = All Moved answers
+AreWrites SinkFault answers = StopsWriting answers
+AreWrites _ answers = answers ≡ []
