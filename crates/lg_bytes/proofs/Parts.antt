@@ -39,7 +39,8 @@ literal_exact text = record {
 }
 
 -- just these bytes, and then
-pub after_exact : {A : Type 0} (text : List ℕ) (F : A → Type 0) (s : A → List ℕ) (r : Reader A) → Exact F s r → Exact F (λ x. text ++ s x) (after text r)
+pub after_exact : {A : Type 0} (text : List ℕ) (F : A → Type 0) (s : A → List ℕ) (r : Reader A) → Exact F s r
+    → Exact F (λ x. text ++ s x) (after text r)
 after_exact {A} text F s r ex = record {
   takes = λ bytes x rest fits e.
       let u = bind_some (literal text bytes) (λ u. r u.1) (x, rest) e in
@@ -56,7 +57,8 @@ after_exact {A} text F s r ex = record {
       ∙ ex.again x rest fits;
 }
 
-pub both_exact : {A B : Type 0} (FA : A → Type 0) (FB : B → Type 0) (sa : A → List ℕ) (sb : B → List ℕ) (ra : Reader A) (rb : Reader B) → Exact FA sa ra → Exact FB sb rb
+pub both_exact : {A B : Type 0} (FA : A → Type 0) (FB : B → Type 0) (sa : A → List ℕ) (sb : B → List ℕ)
+    (ra : Reader A) (rb : Reader B) → Exact FA sa ra → Exact FB sb rb
     → Exact (λ (p : A × B). FA p.0 × FB p.1) (λ (p : A × B). sa p.0 ++ sb p.1) (both ra rb)
 both_exact {A} {B} FA FB sa sb ra rb ea eb = record {
   takes = λ bytes p rest fits e.
@@ -79,13 +81,15 @@ both_exact {A} {B} FA FB sa sb ra rb ea eb = record {
 }
 
 -- by two functions that undo each other
-pub record Iso {A B : Type 0} (FA : A → Type 0) (FB : B → Type 0) (sa : A → List ℕ) (sb : B → List ℕ) (f : A → B) (g : B → A) : Type 0 where
+pub record Iso {A B : Type 0} (FA : A → Type 0) (FB : B → Type 0) (sa : A → List ℕ) (sb : B → List ℕ)
+    (f : A → B) (g : B → A) : Type 0 where
   pub there : (b : B) → f (g b) ≡ b
   pub spelled : (a : A) → sb (f a) ≡ sa a
   pub fit : (a : A) → FA a → FB (f a)
   pub fit_back : (b : B) → FB b → FA (g b)
 
-pub mapped_exact : {A B : Type 0} (FA : A → Type 0) (FB : B → Type 0) (sa : A → List ℕ) (sb : B → List ℕ) (f : A → B) (g : B → A) (ra : Reader A) → Iso FA FB sa sb f g → Exact FA sa ra → Exact FB sb (mapped f ra)
+pub mapped_exact : {A B : Type 0} (FA : A → Type 0) (FB : B → Type 0) (sa : A → List ℕ) (sb : B → List ℕ)
+    (f : A → B) (g : B → A) (ra : Reader A) → Iso FA FB sa sb f g → Exact FA sa ra → Exact FB sb (mapped f ra)
 mapped_exact {A} {B} FA FB sa sb f g ra iso ea = record {
   takes = λ bytes b rest fits e.
       let x = bind_some (ra bytes) (λ x. Some (f x.0, x.1)) (b, rest) e in
@@ -106,13 +110,16 @@ mapped_exact {A} {B} FA FB sa sb f g ra iso ea = record {
 }
 
 -- by a function that takes some values back to what they were read from
-pub record Decodes {A B : Type 0} (FA : A → Type 0) (FB : B → Type 0) (sa : A → List ℕ) (sb : B → List ℕ) (f : A → Option B) (g : B → A) : Type 0 where
+pub record Decodes {A B : Type 0} (FA : A → Type 0) (FB : B → Type 0) (sa : A → List ℕ) (sb : B → List ℕ)
+    (f : A → Option B) (g : B → A) : Type 0 where
   pub there : (b : B) → FB b → f (g b) ≡ Some b
   pub spelled : (b : B) → FB b → sb b ≡ sa (g b)
   pub fit_back : (b : B) → FB b → FA (g b)
   pub back : (a : A) (b : B) → IsBytes (sa a) → FA a → f a ≡ Some b → FB b × (sa a ≡ sb b)
 
-pub decoded_exact : {A B : Type 0} (FA : A → Type 0) (FB : B → Type 0) (sa : A → List ℕ) (sb : B → List ℕ) (f : A → Option B) (g : B → A) (ra : Reader A) → Decodes FA FB sa sb f g → Exact FA sa ra → Exact FB sb (decoded f ra)
+pub decoded_exact : {A B : Type 0} (FA : A → Type 0) (FB : B → Type 0) (sa : A → List ℕ) (sb : B → List ℕ)
+    (f : A → Option B) (g : B → A) (ra : Reader A) → Decodes FA FB sa sb f g → Exact FA sa ra
+    → Exact FB sb (decoded f ra)
 decoded_exact {A} {B} FA FB sa sb f g ra dec ea = record {
   takes = λ bytes b rest fits e.
       let x = bind_some (ra bytes) (λ x. f x.0 >>= λ y. Some (y, x.1)) (b, rest) e in
@@ -133,7 +140,8 @@ decoded_exact {A} {B} FA FB sa sb f g ra dec ea = record {
       ∙ ap (λ o. o >>= λ (y : B). Some (y, rest)) (dec.there b fits);
 }
 
-pub where_exact : {A : Type 0} (F : A → Type 0) (s : A → List ℕ) (test : A → Bool) (r : Reader A) → Exact F s r → Exact (λ x. F x × (test x ≡ true)) s (where_ test r)
+pub where_exact : {A : Type 0} (F : A → Type 0) (s : A → List ℕ) (test : A → Bool) (r : Reader A)
+    → Exact F s r → Exact (λ x. F x × (test x ≡ true)) s (where_ test r)
 where_exact {A} F s test r ex = record {
   takes = λ bytes x rest fits e.
       let y = bind_some (r bytes) (λ y. cond (test y.0) (Some y) None) (x, rest) e in
@@ -150,7 +158,8 @@ module _ {A : Type 0} (F : A → Type 0) (s : A → List ℕ) (r : Reader A) (ex
   abbrev Many : ℕ → List A → Type 0
   Many n xs = (length xs ≡ n) × AllByRecursion F xs
 
-  times_takes : (n : ℕ) (bytes : List ℕ) (xs : List A) (rest : List ℕ) → IsBytes bytes → times r n bytes ≡ Some (xs, rest) → Taken (Many n) (flat_map s) bytes xs rest
+  times_takes : (n : ℕ) (bytes : List ℕ) (xs : List A) (rest : List ℕ) → IsBytes bytes
+      → times r n bytes ≡ Some (xs, rest) → Taken (Many n) (flat_map s) bytes xs rest
   times_takes zero bytes xs rest fits e =
       let is = some_is ([], bytes) (xs, rest) e in
       let made : Taken (Many 0) (flat_map s) bytes [] bytes = record { parts = refl; rest_fits = fits; fits = (refl, tt) } in
@@ -171,7 +180,8 @@ module _ {A : Type 0} (F : A → Type 0) (s : A → List ℕ) (r : Reader A) (ex
       let P : List A × List ℕ → Type 0 = λ q. Taken (Many (suc n)) (flat_map s) bytes q.0 q.1 in
       subst P is made
 
-  times_again : (xs : List A) (rest : List ℕ) → AllByRecursion F xs → times r (length xs) (flat_map s xs ++ rest) ≡ Some (xs, rest)
+  times_again : (xs : List A) (rest : List ℕ) → AllByRecursion F xs
+      → times r (length xs) (flat_map s xs ++ rest) ≡ Some (xs, rest)
   times_again [] rest fits = refl
   times_again (x ∷ xs) rest fits =
       ap (times r (suc (length xs))) (append_assoc (s x) (flat_map s xs) rest)
@@ -196,7 +206,9 @@ module _ {A : Type 0} (F : A → Type 0) (s : A → List ℕ) (r : Reader A) (ex
         ∙ times_again xs rest fits.1;
   }
 
-pub depends_exact : {A B : Type 0} (FA : A → Type 0) (FB : A → B → Type 0) (sa : A → List ℕ) (sb : A → B → List ℕ) (ra : Reader A) (rb : A → Reader B) → Exact FA sa ra → ((a : A) → Exact (FB a) (sb a) (rb a))
+pub depends_exact : {A B : Type 0} (FA : A → Type 0) (FB : A → B → Type 0) (sa : A → List ℕ)
+    (sb : A → B → List ℕ) (ra : Reader A) (rb : A → Reader B) → Exact FA sa ra
+    → ((a : A) → Exact (FB a) (sb a) (rb a))
     → Exact (λ (p : A × B). FA p.0 × FB p.0 p.1) (λ (p : A × B). sa p.0 ++ sb p.0 p.1) (depends ra rb)
 depends_exact {A} {B} FA FB sa sb ra rb ea eb = record {
   takes = λ bytes p rest fits e.
@@ -231,7 +243,8 @@ FitEach F (d ∷ ds) [] = ⊥
 FitEach F (d ∷ ds) (x ∷ xs) = F d x × FitEach F ds xs
 
 module _ {D B : Type 0} (F : D → B → Type 0) (s : D → B → List ℕ) (r : D → Reader B) (ex : (d : D) → Exact (F d) (s d) (r d)) where
-  each_takes : (ds : List D) (bytes : List ℕ) (xs : List B) (rest : List ℕ) → IsBytes bytes → for_each r ds bytes ≡ Some (xs, rest) → Taken (FitEach F ds) (spell_each s ds) bytes xs rest
+  each_takes : (ds : List D) (bytes : List ℕ) (xs : List B) (rest : List ℕ) → IsBytes bytes
+      → for_each r ds bytes ≡ Some (xs, rest) → Taken (FitEach F ds) (spell_each s ds) bytes xs rest
   each_takes [] bytes xs rest fits e =
       let made : Taken (FitEach F []) (spell_each s []) bytes [] bytes = record { parts = refl; rest_fits = fits; fits = tt } in
       let P : List B × List ℕ → Type 0 = λ q. Taken (FitEach F []) (spell_each s []) bytes q.0 q.1 in
@@ -249,7 +262,8 @@ module _ {D B : Type 0} (F : D → B → Type 0) (s : D → B → List ℕ) (r :
       let P : List B × List ℕ → Type 0 = λ q. Taken (FitEach F (d ∷ ds)) (spell_each s (d ∷ ds)) bytes q.0 q.1 in
       subst P (some_is (x.0.0 ∷ ys.0.0, ys.0.1) (xs, rest) ys.2) made
 
-  each_again : (ds : List D) (xs : List B) (rest : List ℕ) → FitEach F ds xs → for_each r ds (spell_each s ds xs ++ rest) ≡ Some (xs, rest)
+  each_again : (ds : List D) (xs : List B) (rest : List ℕ) → FitEach F ds xs
+      → for_each r ds (spell_each s ds xs ++ rest) ≡ Some (xs, rest)
   each_again [] [] rest fits = refl
   each_again [] (x ∷ xs) rest fits = absurd fits
   each_again (d ∷ ds) [] rest fits = absurd fits
@@ -265,7 +279,8 @@ module _ {D B : Type 0} (F : D → B → Type 0) (s : D → B → List ℕ) (r :
 -- ---- one spelling
 
 -- no spelling is a proper prefix of another, and each is of one value
-pub one_value : {A : Type 0} (F : A → Type 0) (s : A → List ℕ) (r : Reader A) → Exact F s r → (x y : A) (rest : List ℕ) → F x → F y → s x ≡ s y ++ rest → (x ≡ y) × (rest ≡ [])
+pub one_value : {A : Type 0} (F : A → Type 0) (s : A → List ℕ) (r : Reader A) → Exact F s r
+    → (x y : A) (rest : List ℕ) → F x → F y → s x ≡ s y ++ rest → (x ≡ y) × (rest ≡ [])
 one_value {A} F s r ex x y rest fx fy e =
     let one : r (s x) ≡ Some (x, []) = ap r (sym (append-nil (s x))) ∙ ex.again x [] fx in
     let two : r (s x) ≡ Some (y, rest) = ap r e ∙ ex.again y rest fy in
@@ -273,7 +288,8 @@ one_value {A} F s r ex x y rest fx fy e =
     (ap (λ (p : A × List ℕ). p.0) same, sym (ap (λ (p : A × List ℕ). p.1) same))
 
 -- the whole of the bytes
-pub whole_sound : {A : Type 0} (F : A → Type 0) (s : A → List ℕ) (r : Reader A) → Exact F s r → (bytes : List ℕ) (x : A) → IsBytes bytes → whole r bytes ≡ Some x → F x × (bytes ≡ s x)
+pub whole_sound : {A : Type 0} (F : A → Type 0) (s : A → List ℕ) (r : Reader A) → Exact F s r
+    → (bytes : List ℕ) (x : A) → IsBytes bytes → whole r bytes ≡ Some x → F x × (bytes ≡ s x)
 whole_sound {A} F s r ex bytes x fits e =
     let y = bind_some (r bytes) (λ y. cond (eqb (length y.1) 0) (Some y.0) None) x e in
     let g = test_some (eqb (length y.0.1) 0) y.0.0 x y.2 in
@@ -283,7 +299,8 @@ whole_sound {A} F s r ex bytes x fits e =
     let P : A → Type 0 = λ z. F z × (bytes ≡ s z) in
     subst P g.1 (t.fits, parts)
 
-pub whole_complete : {A : Type 0} (F : A → Type 0) (s : A → List ℕ) (r : Reader A) → Exact F s r → (x : A) → F x → whole r (s x) ≡ Some x
+pub whole_complete : {A : Type 0} (F : A → Type 0) (s : A → List ℕ) (r : Reader A) → Exact F s r → (x : A)
+    → F x → whole r (s x) ≡ Some x
 whole_complete {A} F s r ex x fits =
     let one : r (s x) ≡ Some (x, []) = ap r (sym (append-nil (s x))) ∙ ex.again x [] fits in
     ap (λ o. o >>= λ (y : A × List ℕ). cond (eqb (length y.1) 0) (Some y.0) None) one

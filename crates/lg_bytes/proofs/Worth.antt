@@ -87,7 +87,8 @@ same_digits a b w v p some lw lv e =
     (eq_of_mul-eq-mul_right p some a b high, low)
 
 -- as many bytes of the same worth are the same
-same_worth : (xs ys : List ℕ) → length xs ≡ length ys → IsBytes xs → IsBytes ys → worth xs ≡ worth ys → xs ≡ ys
+same_worth : (xs ys : List ℕ) → length xs ≡ length ys → IsBytes xs → IsBytes ys → worth xs ≡ worth ys
+    → xs ≡ ys
 same_worth [] [] l hx hy e = refl
 same_worth [] (y ∷ ys) l hx hy e = absurd (omega arith)
 same_worth (x ∷ xs) [] l hx hy e = absurd (omega arith)
@@ -102,7 +103,8 @@ same_worth (x ∷ xs) (y ∷ ys) l hx hy e =
     rw (both.0, tail) refl
 
 -- the bytes of what bytes are worth are these bytes
-pub bytes_high_first-worth : (k : ℕ) (xs : List ℕ) → length xs ≡ k → IsBytes xs → bytes_high_first k (worth xs) ≡ xs
+pub bytes_high_first-worth : (k : ℕ) (xs : List ℕ) → length xs ≡ k → IsBytes xs
+    → bytes_high_first k (worth xs) ≡ xs
 bytes_high_first-worth k xs l h =
     let P : ℕ → Type 0 = λ n. worth xs < 256 ^ n in
     same_worth (bytes_high_first k (worth xs)) xs (length-bytes_high_first k (worth xs) ∙ sym l) (IsBytes-bytes_high_first k (worth xs)) h

@@ -27,7 +27,8 @@ IsBytes-front xs ys h = let P : List ℕ → Type 0 = IsBytes in subst P (take_a
 pub IsBytes-back : (xs ys : List ℕ) → IsBytes (xs ++ ys) → IsBytes ys
 IsBytes-back xs ys h = let P : List ℕ → Type 0 = IsBytes in subst P (drop_at xs ys (length xs) refl) (IsBytes-drop (length xs) (xs ++ ys) h)
 
-pub bind_some : {A B : Type 0} (r : Option A) (f : A → Option B) (y : B) → (r >>= f) ≡ Some y → (x : A) × (r ≡ Some x) × (f x ≡ Some y)
+pub bind_some : {A B : Type 0} (r : Option A) (f : A → Option B) (y : B) → (r >>= f) ≡ Some y
+    → (x : A) × (r ≡ Some x) × (f x ≡ Some y)
 bind_some (Some x) f y e = (x, refl, e)
 bind_some None f y e = absurd cc
 
@@ -35,7 +36,8 @@ pub guard_some : {A : Type 0} (b : Bool) (x y : A) → cond b None (Some x) ≡ 
 guard_some true x y e = absurd cc
 guard_some false x y e = (refl, cc)
 
-pub some_is : {A : Type 0} (x y : A) → (let o : Option A = Some x in let p : Option A = Some y in o ≡ p) → x ≡ y
+pub some_is : {A : Type 0} (x y : A) → (let o : Option A = Some x in let p : Option A = Some y in o ≡ p)
+    → x ≡ y
 some_is x y e = cc
 
 -- ---- numbers
@@ -43,11 +45,13 @@ some_is x y e = cc
 -- so many bytes make the numbers below the limit, one each
 record IsWide (w : Width) (limit : ℕ) : Type 0 where
   pub len : (n : ℕ) → length (to_be_bytes w n) ≡ byte_len w
-  pub back : (bytes : List ℕ) → length bytes ≡ byte_len w → IsBytes bytes → to_be_bytes w (from_be_bytes w bytes) ≡ bytes
+  pub back : (bytes : List ℕ) → length bytes ≡ byte_len w → IsBytes bytes
+      → to_be_bytes w (from_be_bytes w bytes) ≡ bytes
   pub same : (n : ℕ) → n < limit → from_be_bytes w (to_be_bytes w n) ≡ n
   pub below : (bytes : List ℕ) → length bytes ≡ byte_len w → IsBytes bytes → from_be_bytes w bytes < limit
 
-is_wide : (w : Width) (k limit : ℕ) → byte_len w ≡ k → limit ≡ 256 ^ k → ((bytes : List ℕ) → from_be_bytes w bytes ≡ worth_from 0 k bytes) → IsWide w limit
+is_wide : (w : Width) (k limit : ℕ) → byte_len w ≡ k → limit ≡ 256 ^ k
+    → ((bytes : List ℕ) → from_be_bytes w bytes ≡ worth_from 0 k bytes) → IsWide w limit
 is_wide w k limit len top sums =
     let is : (bytes : List ℕ) → length bytes ≡ k → from_be_bytes w bytes ≡ worth bytes = λ bytes l. sums bytes ∙ worth_from-all k bytes l in
     let high : (n : ℕ) → to_be_bytes w n ≡ bytes_high_first k n = λ n. ap (λ j. bytes_high_first j n) len in
@@ -101,7 +105,8 @@ number_exact w limit wide = record {
 abbrev pub Below : ℕ → ℕ → Type 0
 Below limit n = n < limit
 
-u8_takes : (bytes : List ℕ) (n : ℕ) (rest : List ℕ) → IsBytes bytes → u8_at bytes ≡ Some (n, rest) → Taken (Below 256) u8_field bytes n rest
+u8_takes : (bytes : List ℕ) (n : ℕ) (rest : List ℕ) → IsBytes bytes → u8_at bytes ≡ Some (n, rest)
+    → Taken (Below 256) u8_field bytes n rest
 unfolding u8_at
 u8_takes [] n rest fits e = absurd cc
 u8_takes (b ∷ bytes) n rest fits e =
@@ -126,7 +131,8 @@ pub u64_exact : Exact (Below (2 ^ 64)) u64_field u64_at
 unfolding u64_at u64_field
 u64_exact = number_exact w64 (2 ^ 64) wide64
 
-signed_number_exact : (w : Width) (limit : ℕ) → IsWide w limit → ((n : ℕ) → n < limit → Fits w n) → ((n : ℕ) → Fits w n → n < limit)
+signed_number_exact : (w : Width) (limit : ℕ) → IsWide w limit → ((n : ℕ) → n < limit → Fits w n)
+    → ((n : ℕ) → Fits w n → n < limit)
     → Exact (FitsSigned w) (λ z. to_be_bytes w (cast_unsigned w z)) (signed w)
 signed_number_exact w limit wide fits_in fits_out = record {
   takes = λ bytes z rest fits e.
@@ -191,7 +197,8 @@ hash_exact = taken_exact 32
 abbrev pub Shorter : ℕ → List ℕ → Type 0
 Shorter limit bytes = length bytes < limit
 
-behind_exact : (limit : ℕ) (field : ℕ → List ℕ) (count : Reader ℕ) → Exact (Below limit) field count → Exact (Shorter limit) (λ bytes. field (length bytes) ++ bytes) (behind count)
+behind_exact : (limit : ℕ) (field : ℕ → List ℕ) (count : Reader ℕ) → Exact (Below limit) field count
+    → Exact (Shorter limit) (λ bytes. field (length bytes) ++ bytes) (behind count)
 behind_exact limit field count exact = record {
   takes = λ bytes text rest fits e.
       let b = bind_some (count bytes) (λ n. taken n.0 n.1) (text, rest) e in

@@ -9,9 +9,15 @@ Fails Memory read = Unit {0}
 Fails Malformed read = read ≡ None
 
 -- the code answers what is to be read, seen by `view`
-abbrev pub Gives : {X Y : Type 0} → (X → Y) → Result X ReadError → Option Y → Type 0
-Gives view (Ok x) read = read ≡ Some (view x)
-Gives view (Err e) read = Fails e read
+abbrev pub ReadsAs : {X Y : Type 0} → (X → Y) → Result X ReadError → Option Y → Type 0
+ReadsAs view (Ok x) read = read ≡ Some (view x)
+ReadsAs view (Err e) read = Fails e read
+
+-- so does code that takes no memory, and it never lacks it
+abbrev pub Finds : {X Y : Type 0} → (X → Y) → Result X ReadError → Option Y → Type 0
+Finds view (Ok x) read = read ≡ Some (view x)
+Finds view (Err Malformed) read = read ≡ None
+Finds view (Err Memory) read = ⊥
 
 -- what is read is answered and taken off the front; where nothing is, nothing is taken
 abbrev pub Takes : {V : Type 0} → Option (V × List ℕ) → Option V → List ℕ → List ℕ → Type 0

@@ -21,7 +21,7 @@ use Rattle.lg_model.specs.Create as create
 use Rattle.lg_model.specs.Create.{names_of, is_name, table_names, all_names, keyed, key_position_of, ordinal_at, table_def, is_long, is_ledger_name, system_tables, has_bad_name, exceeds_limit, has_null_key, history_of, view_of, next_id, create_check}
 use Rattle.lg_check.specs.NewTable as new
 use Rattle.lg_check.proofs.Lists.{any_map}
-use Rattle.lg_check.proofs.Refusals.{gives_itself}
+use Rattle.lg_parts.proofs.Refusals.{gives_itself}
 
 -- ---- names
 

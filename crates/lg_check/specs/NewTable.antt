@@ -34,12 +34,14 @@ names_long name history view = is_long name || is_long history || is_long view
 
 -- a name of a column or of the key stands twice, or is one that the ledger adds
 unfoldable pub columns_bad : List ColumnDef → List (List ℕ) → Bool
-columns_bad columns key = repeats (names_of columns) || repeats key || list_any (λ c. is_ledger_name c.name) columns
+columns_bad columns key =
+    repeats (names_of columns) || repeats key || list_any (λ c. is_ledger_name c.name) columns
 
 -- too many columns, key columns or tables, or a type outside its range
 unfoldable pub counts_over : List TableDef → List ColumnDef → List (List ℕ) → Bool
 counts_over defs columns key =
-    nat_lt max_columns (length columns) || nat_lt max_key_columns (length key) || nat_le (max_tables + system_tables) (length defs)
+    nat_lt max_columns (length columns) || nat_lt max_key_columns (length key)
+    || nat_le (max_tables + system_tables) (length defs)
     || list_any (λ c. not (is_in_range c.ty)) columns
 
 unfoldable pub columns_long : List ColumnDef → Bool
@@ -52,8 +54,10 @@ key_null columns key = list_any (λ c. c.nullable && has_name key c.name) column
 -- E03, E16, E04 and E06 of a new table with this history and view
 unfoldable pub new_check : List TableDef → CreateTable → List ℕ → List ℕ → Checked (Unit {0})
 new_check defs c history view =
-    refused_if ((names_repeat c.name history view || names_used defs c.name history view) || columns_bad c.columns c.key) E03
-    (refused_if ((counts_over defs c.columns c.key || names_long c.name history view) || columns_long c.columns) E16
+    refused_if
+    ((names_repeat c.name history view || names_used defs c.name history view) || columns_bad c.columns c.key) E03
+    (refused_if
+    ((counts_over defs c.columns c.key || names_long c.name history view) || columns_long c.columns) E16
     (refused_if (not (list_all (is_declared c.columns) c.key)) E04
     (refused_if (key_null c.columns c.key) E06
     (Ok tt))))

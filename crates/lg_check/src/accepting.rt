@@ -5,6 +5,7 @@ ghost use Rattle.lg_value.specs.Tree.{tree};
 ghost use Rattle.lg_model.specs.Checks as spec;
 
 use lg_expr::{class, class_of_literal, names_columns, written_day};
+use lg_parts::Columns;
 use lg_value::{Class, ColumnDef, Expr, SqlType, Value, day_of};
 
 /// Whether a column of the type takes values of the class; `is_date` says that they are a text literal that is a date.
@@ -40,7 +41,7 @@ pub fn accepts_value(column: &ColumnDef, value: &Value) -> bool
 }
 
 /// Whether the column takes what an expression over the columns gives.
-pub fn accepts_expr(columns: &[ColumnDef], column: &ColumnDef, e: &Expr) -> bool
+pub fn accepts_expr(columns: &Columns, column: &ColumnDef, e: &Expr) -> bool
     ensures { result ≡ spec.accepts_expr columns.now column.now (tree e.now) }
 {
     match class(e, columns) {
@@ -50,7 +51,7 @@ pub fn accepts_expr(columns: &[ColumnDef], column: &ColumnDef, e: &Expr) -> bool
 }
 
 /// Whether the columns that a condition names are there.
-pub fn names_condition(columns: &[ColumnDef], cond: &Option<Expr>) -> bool
+pub fn names_condition(columns: &Columns, cond: &Option<Expr>) -> bool
     ensures { result ≡ spec.cond_names columns.now cond.now }
 {
     match cond {
@@ -60,7 +61,7 @@ pub fn names_condition(columns: &[ColumnDef], cond: &Option<Expr>) -> bool
 }
 
 /// Whether a condition is a truth value.
-pub fn is_condition(columns: &[ColumnDef], cond: &Option<Expr>) -> bool
+pub fn is_condition(columns: &Columns, cond: &Option<Expr>) -> bool
     ensures { result ≡ spec.cond_is_truth columns.now cond.now }
 {
     match cond {

@@ -215,7 +215,10 @@ fn check_new(
 }
 
 fn has_bad_name(defs: &[&TableDef], c: &CreateTable, history: &Name, view: &Name) -> bool
-    ensures { result ≡ ((new.names_repeat c.now.name history.now view.now || new.names_used (map (λ d. d.now) defs.now) c.now.name history.now view.now) || new.columns_bad c.now.columns c.now.key) }
+    ensures { result
+        ≡ ((new.names_repeat c.now.name history.now view.now
+        || new.names_used (map (λ d. d.now) defs.now) c.now.name history.now view.now)
+        || new.columns_bad c.now.columns c.now.key) }
 {
     names_repeat(&c.name, history, view)
         || names_used(defs, &c.name, history, view)
@@ -223,7 +226,9 @@ fn has_bad_name(defs: &[&TableDef], c: &CreateTable, history: &Name, view: &Name
 }
 
 fn exceeds_limit(defs: &[&TableDef], c: &CreateTable, history: &Name, view: &Name) -> bool
-    ensures { result ≡ ((new.counts_over (map (λ d. d.now) defs.now) c.now.columns c.now.key || new.names_long c.now.name history.now view.now) || new.columns_long c.now.columns) }
+    ensures { result
+        ≡ ((new.counts_over (map (λ d. d.now) defs.now) c.now.columns c.now.key
+        || new.names_long c.now.name history.now view.now) || new.columns_long c.now.columns) }
 {
     counts_over(defs, c.columns.as_slice(), c.key.as_slice())
         || names_long(&c.name, history, view)

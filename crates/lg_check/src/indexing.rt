@@ -9,8 +9,8 @@ ghost use Rattle.lg_model.specs.Create as spec;
 use crate::creating::is_long;
 use crate::names::{Named, has_name, repeats};
 use crate::rows::{are_declared, refuse_if};
-use lg_expr::place_of as column_place;
 use lg_items::{Items, Memory, Name};
+use lg_parts::place_of as column_place;
 use lg_types::{CreateIndex, IndexDef, Part, TableDef};
 use lg_value::{ColumnDef, Refusal};
 use std::alloc::Global;
@@ -31,14 +31,16 @@ impl Named for IndexDef {
 
 /// Whether the index's name is taken in its table, or a column stands twice.
 fn has_taken_name(def: &TableDef, c: &CreateIndex) -> bool
-    ensures { result ≡ (lists.has_name (map (λ i. i.name) def.now.indexes) c.now.name || lists.repeats c.now.columns) }
+    ensures { result ≡ (lists.has_name (map (λ i. i.name) def.now.indexes) c.now.name
+        || lists.repeats c.now.columns) }
 {
     has_name(def.indexes.as_slice(), &c.name) || repeats(c.columns.as_slice())
 }
 
 /// Whether there are too many columns or indexes, or the name is too long.
 fn is_over(def: &TableDef, c: &CreateIndex) -> bool
-    ensures { result ≡ ((nat_lt 4 (length c.now.columns) || nat_le 4 (length def.now.indexes)) || spec.is_long c.now.name) }
+    ensures { result ≡ ((nat_lt 4 (length c.now.columns) || nat_le 4 (length def.now.indexes))
+        || spec.is_long c.now.name) }
 {
     c.columns.len() > MOST_INDEX_COLUMNS || def.indexes.len() >= MOST_INDEXES || is_long(&c.name)
 }
@@ -75,7 +77,8 @@ pub fn new_index(
     c: &CreateIndex,
 ) -> Result<IndexDef, Refusal>
     requires { length def.now.columns < 2 ^ 16 - 1 }
-    ensures { MatchResult result (λ index. spec.index_check_in c.now (def.now, part) ≡ Ok (def.now, index)) (λ e. e ≢ E30 → spec.index_check_in c.now (def.now, part) ≡ Err e) }
+    ensures { MatchResult result (λ index. spec.index_check_in c.now (def.now, part) ≡ Ok (def.now, index))
+        (λ e. e ≢ E30 → spec.index_check_in c.now (def.now, part) ≡ Err e) }
 {
     let columns = def.columns.as_slice();
     refuse_if(has_taken_name(def, c), Refusal::E03)?;

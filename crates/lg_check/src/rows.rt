@@ -6,15 +6,13 @@ ghost use Rattle.lg_value.specs.Tree.{tree};
 ghost use Rattle.lg_model.specs.Refusals.{Gives};
 ghost use Rattle.lg_model.specs.Classes as classes;
 ghost use Rattle.lg_model.specs.Columns as spec_columns;
-ghost use Rattle.lg_model.specs.Parts.{columns_of};
 ghost use Rattle.lg_model.specs.Checks as spec;
-ghost use Rattle.lg_types.specs.declared.table.Part.TheVariants.{Base};
 
 use crate::accepting::{accepts_expr, accepts_value, is_condition, names_condition};
 use crate::names::repeats;
-use lg_expr::{column_of, names_columns, place_of};
+use lg_expr::names_columns;
 use lg_items::{Items, Memory, Name};
-use lg_row::part_columns;
+use lg_parts::{Columns, column_of, place_of};
 use lg_types::{Part, Row, RowStmt, TableDef};
 use lg_value::{ColumnDef, Expr, Refusal, TableKind, Value};
 use std::alloc::Global;
@@ -63,8 +61,8 @@ pub fn check_stmt(alloc: Global, stmt: &RowStmt, def: &TableDef, part: Part) -> 
             table: _,
             sets,
             cond,
-        } => { check_update(alloc, def, part, sets.as_slice(), cond) }
-        RowStmt::Delete { table: _, cond } => check_delete(alloc, def, part, cond),
+        } => { check_update(def, part, sets.as_slice(), cond) }
+        RowStmt::Delete { table: _, cond } => check_delete(def, part, cond),
     }
 }
 
@@ -96,7 +94,8 @@ fn columns_named<'a>(
     columns: &'a [ColumnDef],
     names: &[Name],
 ) -> Result<Vec<&'a ColumnDef>, Memory>
-    ensures { IfOk result (λ listed. map (λ c. c.now) listed.items ≡ filter_map (spec_columns.column_of columns.now) names.now) }
+    ensures { IfOk result (λ listed. map (λ c. c.now) listed.items
+        ≡ filter_map (spec_columns.column_of columns.now) names.now) }
 {
     let mut listed = Vec::new(alloc);
     for name in names {
@@ -119,7 +118,8 @@ fn each_column<'a>(alloc: Global, columns: &'a [ColumnDef]) -> Result<Vec<&'a Co
 
 /// Whether the columns take the values of a row, each its own.
 fn accept_row(columns: &[&ColumnDef], row: &[Value]) -> bool
-    ensures { result ≡ list_all (λ p. spec.accepts_value p.0 p.1) (zip (map (λ c. c.now) columns.now) row.now) }
+    ensures { result ≡ list_all (λ p. spec.accepts_value p.0 p.1)
+        (zip (map (λ c. c.now) columns.now) row.now) }
 {
     match columns {
         [] => true,
@@ -131,7 +131,9 @@ fn accept_row(columns: &[&ColumnDef], row: &[Value]) -> bool
 }
 
 fn accept_rows(columns: &[&ColumnDef], rows: &[Row]) -> bool
-    ensures { result ≡ list_all (λ row. list_all (λ p. spec.accepts_value p.0 p.1) (zip (map (λ c. c.now) columns.now) row)) rows.now }
+    ensures { result
+        ≡ list_all (λ row. list_all (λ p. spec.accepts_value p.0 p.1)
+        (zip (map (λ c. c.now) columns.now) row)) rows.now }
 {
     rows.iter().all(|row| accept_row(columns, row.as_slice()))
 }
@@ -142,7 +144,7 @@ fn have_values(rows: &[Row], count: usize) -> bool
     rows.iter().all(|row| row.len() == count)
 }
 
-/// Whether all these columns are there.
+/// Whether all these columns are declared.
 pub fn are_declared(columns: &[ColumnDef], names: &[Name]) -> bool
     ensures { result ≡ list_all (spec.is_declared columns.now) names.now }
 {
@@ -159,7 +161,7 @@ fn check_listed(columns: &[&ColumnDef], rows: &[Row]) -> Result<(), Refusal>
 }
 
 /// E04, E18 and E05 of an INSERT.
-#[tactic(auto, unfolding(lg_model::specs::Checks::values_check), using(crate::proofs::Refusals::gives_itself))]
+#[tactic(auto, unfolding(lg_model::specs::Checks::values_check), using(lg_parts::proofs::Refusals::gives_itself))]
 fn check_values(
     alloc: Global,
     columns: &[ColumnDef],
@@ -190,8 +192,9 @@ fn check_insert(
 }
 
 /// Whether the columns that SET names are declared, and those that its values name are there.
-fn sets_name_columns(def: &TableDef, columns: &[ColumnDef], sets: &[(Name, Expr)]) -> bool
-    ensures { result ≡ list_all (λ s. spec.is_declared def.now.columns s.0 && classes.names_columns columns.now (tree s.1)) sets.now }
+fn sets_name_columns(def: &TableDef, columns: &Columns, sets: &[(Name, Expr)]) -> bool
+    ensures { result ≡ list_all (λ s. spec.is_declared def.now.columns s.0
+        && classes.names_columns columns.now (tree s.1)) sets.now }
 {
     sets.iter().all(|set| {
         place_of(def.columns.as_slice(), &set.0).is_some() && names_columns(&set.1, columns)
@@ -201,11 +204,13 @@ fn sets_name_columns(def: &TableDef, columns: &[ColumnDef], sets: &[(Name, Expr)
 /// The same, and those that the condition names.
 fn update_names_columns(
     def: &TableDef,
-    columns: &[ColumnDef],
+    columns: &Columns,
     sets: &[(Name, Expr)],
     cond: &Option<Expr>,
 ) -> bool
-    ensures { result ≡ (list_all (λ s. spec.is_declared def.now.columns s.0 && classes.names_columns columns.now (tree s.1)) sets.now && spec.cond_names columns.now cond.now) }
+    ensures { result
+        ≡ (list_all (λ s. spec.is_declared def.now.columns s.0 && classes.names_columns columns.now
+        (tree s.1)) sets.now && spec.cond_names columns.now cond.now) }
 {
     sets_name_columns(def, columns, sets) && names_condition(columns, cond)
 }
@@ -221,7 +226,7 @@ fn is_in_key(columns: &[ColumnDef], name: &Name) -> bool
 }
 
 /// Whether the column of a table takes what an expression over these columns gives.
-fn accepts_set(def: &TableDef, columns: &[ColumnDef], name: &Name, e: &Expr) -> bool
+fn accepts_set(def: &TableDef, columns: &Columns, name: &Name, e: &Expr) -> bool
     ensures { result ≡ spec.accepts_set columns.now (spec_columns.column_of def.now.columns name.now) e.now }
 {
     match column_of(def.columns.as_slice(), name) {
@@ -238,8 +243,10 @@ fn sets_key(columns: &[ColumnDef], sets: &[(Name, Expr)]) -> bool
 }
 
 /// Whether each column that SET names takes its value.
-fn accept_sets(def: &TableDef, columns: &[ColumnDef], sets: &[(Name, Expr)]) -> bool
-    ensures { result ≡ list_all (λ s. spec.accepts_set columns.now (spec_columns.column_of def.now.columns s.0) s.1) sets.now }
+fn accept_sets(def: &TableDef, columns: &Columns, sets: &[(Name, Expr)]) -> bool
+    ensures { result
+        ≡ list_all (λ s. spec.accepts_set columns.now
+        (spec_columns.column_of def.now.columns s.0) s.1) sets.now }
 {
     sets.iter()
         .all(|set| accepts_set(def, columns, &set.0, &set.1))
@@ -248,11 +255,13 @@ fn accept_sets(def: &TableDef, columns: &[ColumnDef], sets: &[(Name, Expr)]) -> 
 /// The same, and whether the condition is a truth value.
 fn update_has_classes(
     def: &TableDef,
-    columns: &[ColumnDef],
+    columns: &Columns,
     sets: &[(Name, Expr)],
     cond: &Option<Expr>,
 ) -> bool
-    ensures { result ≡ (list_all (λ s. spec.accepts_set columns.now (spec_columns.column_of def.now.columns s.0) s.1) sets.now && spec.cond_is_truth columns.now cond.now) }
+    ensures { result
+        ≡ (list_all (λ s. spec.accepts_set columns.now (spec_columns.column_of def.now.columns s.0) s.1)
+        sets.now && spec.cond_is_truth columns.now cond.now) }
 {
     accept_sets(def, columns, sets) && is_condition(columns, cond)
 }
@@ -261,7 +270,7 @@ fn update_has_classes(
 #[tactic(auto, unfolding(lg_model::specs::Checks::sets_check))]
 fn check_sets(
     def: &TableDef,
-    columns: &[ColumnDef],
+    columns: &Columns,
     sets: &[(Name, Expr)],
     cond: &Option<Expr>,
 ) -> Result<(), Refusal>
@@ -275,47 +284,28 @@ fn check_sets(
     refuse_if(!update_has_classes(def, columns, sets, cond), Refusal::E05)
 }
 
-#[tactic(auto, using(crate::proofs::Refusals::gives_itself))]
-fn check_columns(
-    alloc: Global,
-    def: &TableDef,
-    sets: &[(Name, Expr)],
-    cond: &Option<Expr>,
-) -> Result<(), Refusal>
-    ensures { Gives (spec.sets_check def.now.columns (columns_of def.now Base) sets.now cond.now) result }
-{
-    let columns = part_columns(alloc, def, Part::Base)?;
-    check_sets(def, &columns, sets, cond)
-}
-
 #[tactic(auto, unfolding(lg_model::specs::Checks::update_check))]
 fn check_update(
-    alloc: Global,
     def: &TableDef,
     part: Part,
     sets: &[(Name, Expr)],
     cond: &Option<Expr>,
 ) -> Result<(), Refusal>
-    ensures { Gives (spec.update_check def.now part sets.now cond.now) result }
+    ensures { result ≡ spec.update_check def.now part sets.now cond.now }
 {
     refuse_if(repeats(sets), Refusal::E03)?;
     refuse_if(part != Part::Base, Refusal::E11)?;
     refuse_if(def.kind == TableKind::AppendOnly, Refusal::E10)?;
-    check_columns(alloc, def, sets, cond)
+    check_sets(def, &Columns::of(def, Part::Base), sets, cond)
 }
 
 #[tactic(auto, unfolding(lg_model::specs::Checks::delete_check))]
-fn check_delete(
-    alloc: Global,
-    def: &TableDef,
-    part: Part,
-    cond: &Option<Expr>,
-) -> Result<(), Refusal>
-    ensures { Gives (spec.delete_check def.now part cond.now) result }
+fn check_delete(def: &TableDef, part: Part, cond: &Option<Expr>) -> Result<(), Refusal>
+    ensures { result ≡ spec.delete_check def.now part cond.now }
 {
     refuse_if(part != Part::Base, Refusal::E11)?;
     refuse_if(def.kind == TableKind::AppendOnly, Refusal::E10)?;
-    let columns = part_columns(alloc, def, Part::Base)?;
+    let columns = Columns::of(def, Part::Base);
     refuse_if(!names_condition(&columns, cond), Refusal::E04)?;
     refuse_if(!is_condition(&columns, cond), Refusal::E05)
 }

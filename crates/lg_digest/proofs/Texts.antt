@@ -12,8 +12,8 @@ use Rattle.serde_json.proofs.Views.{view-Array}
 use Rattle.serde_json.proofs.OnLiterals.{serde_json_on_literals}
 use Rattle.hex.specs.Hex.{decode_sized, encode_upper, upper_digits}
 use Rattle.hex.proofs.HexLemmas.{length-encode_with, decode_sized-twice, decode_of-encode_upper}
-use Rattle.lg_digest.specs.declared.digest.HeldDigest.{HeldDigest}
-use Rattle.lg_digest.specs.declared.digest.Digest.{Digest}
+use Rattle.lg_types.specs.declared.digest.HeldDigest.{HeldDigest}
+use Rattle.lg_types.specs.declared.digest.Digest.{Digest}
 use Rattle.lg_digest.specs.Reading.{IsRead, held_of, each_held, hash_of, digests_in}
 use Rattle.lg_digest.specs.Writing.{Shown, digest_data, shown_data, digest_text, digest_texts, file_text, held_form, IsHash, AreHashes, AreValues, IsFile}
 
@@ -31,7 +31,8 @@ shallow : (s : Shown) → depth (shown_data s) ≡ 1
 unfolding digest_data
 shallow s = refl
 
-each_text : (later : Bool) (ss : List Shown) → items_text later (items_of (map shown_data ss)) ≡ digest_texts later ss
+each_text : (later : Bool) (ss : List Shown)
+    → items_text later (items_of (map shown_data ss)) ≡ digest_texts later ss
 each_text later [] = refl
 each_text true (s ∷ ss) = ap (λ (t : List ℕ). 44 ∷ t) (ap₂ (λ (a b : List ℕ). a ++ b) (one_text s) (each_text true ss ∙ sym (append-nil (digest_texts true ss))))
 each_text false (s ∷ ss) = ap₂ (λ (a b : List ℕ). a ++ b) (one_text s) (each_text true ss ∙ sym (append-nil (digest_texts true ss)))
@@ -57,18 +58,22 @@ one_held s h =
     let back : decode_sized (encode_upper s.digest.hash) 32 ≡ Ok s.digest.hash = decode_sized-twice (encode_upper s.digest.hash) 32 size ∙ decode_of-encode_upper s.digest.hash h.bytes in
     rw back refl
 
-each_back : (i : ℕ) (before : List HeldDigest) (ss : List Shown) → AreHashes ss → each_held i before (items_of (map shown_data ss)) ≡ Ok (before ++ map held_form (map (λ s. s.digest) ss))
+each_back : (i : ℕ) (before : List HeldDigest) (ss : List Shown) → AreHashes ss
+    → each_held i before (items_of (map shown_data ss)) ≡ Ok (before ++ map held_form (map (λ s. s.digest) ss))
 each_back i before [] h = ap (λ l. Ok l) (sym (append-nil before))
 each_back i before (s ∷ ss) h =
     rw (one_held s h.0) (each_back (i + 1) (before ++ held_form s.digest ∷ []) ss h.1 ∙ ap (λ l. Ok l) (append_assoc before (held_form s.digest ∷ []) (map held_form (map (λ s. s.digest) ss))))
 
-pub all_back : (ss : List Shown) → AreHashes ss → digests_in (array (items_of (map shown_data ss))) ≡ Ok (map held_form (map (λ s. s.digest) ss))
+pub all_back : (ss : List Shown) → AreHashes ss
+    → digests_in (array (items_of (map shown_data ss))) ≡ Ok (map held_form (map (λ s. s.digest) ss))
 unfolding digests_in
 all_back ss h = each_back 0 [] ss h
 
 -- ---- the file
 
-pub file_is : (list : List Digest) (values : Vec Value Global) (bytes : List ℕ) → AreValues list values.items → (has_float (view (Array values)) ≡ false → bytes ≡ compact_text (view (Array values))) → IsFile list bytes
+pub file_is : (list : List Digest) (values : Vec Value Global) (bytes : List ℕ) → AreValues list values.items
+    → (has_float (view (Array values)) ≡ false → bytes ≡ compact_text (view (Array values)))
+    → IsFile list bytes
 file_is list values bytes are text =
     let is = view-Array values ∙ ap (λ xs. array (items_of xs)) are.said in
     record {
@@ -78,7 +83,9 @@ file_is list values bytes are text =
       text = text (ap has_float is ∙ no_floats are.shown) ∙ ap compact_text is ∙ whole_text are.shown;
     }
 
-pub file_back : (list : List Digest) (values : Vec Value Global) (bytes : List ℕ) → AreValues list values.items → IsUtf8 bytes → (depth (view (Array values)) ≤ max_depth → read bytes ≡ Some (view (Array values)))
+pub file_back : (list : List Digest) (values : Vec Value Global) (bytes : List ℕ)
+    → AreValues list values.items → IsUtf8 bytes
+    → (depth (view (Array values)) ≤ max_depth → read bytes ≡ Some (view (Array values)))
     → IsRead bytes (Ok (map held_form list))
 file_back list values bytes are utf8 back =
     let is = view-Array values ∙ ap (λ xs. array (items_of xs)) are.said in

@@ -4,13 +4,14 @@ use Rattle.std.specs.List.{AllByRecursion, slice_index_or}
 use Rattle.std.proofs.lemmas.List.{take_more, map-append}
 use Rattle.serde_json.specs.View.{view}
 use Rattle.serde_json.specs.declared.value.Value.{Value}
-use Rattle.lg_digest.specs.declared.digest.Digest.{Digest}
+use Rattle.lg_types.specs.declared.digest.Digest.{Digest}
 use Rattle.hex.specs.Hex.{IsBytes}
 use Rattle.lg_digest.specs.Moment.{IsMomentText}
 use Rattle.lg_digest.specs.Writing.{Shown, digest_data, hash_text, shown_data, IsShown, AreShown, IsHash, AreHashes, IsValue, AreValues}
 
 -- what holds of all holds at each place
-pub holds_at : {X : Type 0} (P : X → Type 0) (xs : List X) (i : ℕ) (x : X) → AllByRecursion P xs → i < length xs → x ≡ slice_index_or xs i x → P x
+pub holds_at : {X : Type 0} (P : X → Type 0) (xs : List X) (i : ℕ) (x : X) → AllByRecursion P xs
+    → i < length xs → x ≡ slice_index_or xs i x → P x
 holds_at P [] i x all lt at = absurd (omega arith)
 holds_at P (y ∷ ys) zero x all lt at = subst P (sym at) all.0
 holds_at P (y ∷ ys) (suc i) x all lt at = holds_at P ys i x all.1 (omega arith) at
@@ -27,7 +28,8 @@ pub none_yet : AreValues [] []
 none_yet = record { shown = []; digests = refl; times = tt; hashes = tt; said = refl }
 
 -- one more of a list that is gone through
-pub values_more : (list : List Digest) (i : ℕ) (d : Digest) (values more : List Value) (v : Value) → i < length list → d ≡ slice_index_or list i d → more ≡ values ++ v ∷ []
+pub values_more : (list : List Digest) (i : ℕ) (d : Digest) (values more : List Value) (v : Value)
+    → i < length list → d ≡ slice_index_or list i d → more ≡ values ++ v ∷ []
     → AreValues (take i list) values → IsValue d v → AreValues (take (i + 1) list) more
 values_more list i d values more v lt at pushed so_far one = record {
   shown = so_far.shown ++ one.shown ∷ [];
@@ -38,7 +40,8 @@ values_more list i d values more v lt at pushed so_far one = record {
 }
 
 -- a value that was made of a digest and the texts of its times and its hash
-pub value_is : (d : Digest) (m l made hash last : List ℕ) (v : Value) → IsMomentText d.made m → made ≡ m → IsMomentText d.last_commit l → last ≡ l → length d.hash ≡ 32 → IsBytes d.hash → hash ≡ hash_text d.hash
+pub value_is : (d : Digest) (m l made hash last : List ℕ) (v : Value) → IsMomentText d.made m → made ≡ m
+    → IsMomentText d.last_commit l → last ≡ l → length d.hash ≡ 32 → IsBytes d.hash → hash ≡ hash_text d.hash
     → view v ≡ digest_data d.block d.database made hash last → IsValue d v
 value_is d m l made hash last v is_made same_made is_last same_last size bytes same_hash is =
     let P : List ℕ → Type 0 = IsMomentText d.made in

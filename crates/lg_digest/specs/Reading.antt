@@ -6,10 +6,11 @@ use Rattle.serde_json.specs.Data.{Data, Items, no_items, item}
 use Rattle.serde_json.specs.Find.{get, as_str, as_number, as_u64, as_array, as_object}
 use Rattle.serde_json.specs.Read.{read}
 use Rattle.lg_bytes.specs.Readers.{◌>>=◌}
-use Rattle.lg_digest.specs.declared.digest.HeldDigest.{HeldDigest}
+use Rattle.lg_types.specs.declared.digest.HeldDigest.{HeldDigest}
 use Rattle.lg_digest.specs.declared.digest_err.DigestErr.{DigestErr}
 use Rattle.lg_digest.specs.declared.digest_err.DigestErr.TheVariants as errors
 
+-- the value, if there is one
 abbrev pub if_ok : {A E : Type 0} → Result A E → Option A
 if_ok (Ok a) = Some a
 if_ok (Err e) = None
@@ -26,6 +27,7 @@ held_of d = get (codes "database_name") d >>= as_str >>= λ database.
     get (codes "hash") d >>= as_str >>= hash_of >>= λ hash.
     Some (record { database = database; block = block; hash = hash })
 
+-- what `f` makes of the value, if there is one
 abbrev pub on_found : {A B : Type 0} → Option A → B → (A → B) → B
 on_found None b f = b
 on_found (Some a) b f = f a
@@ -33,14 +35,17 @@ on_found (Some a) b f = f a
 -- the digests of the items after `i` items before them, behind `before`; or the place of the first that is none
 abbrev pub each_held : ℕ → List HeldDigest → Items → Result (List HeldDigest) ℕ
 each_held i before no_items = Ok before
-each_held i before (item d ds) = on_found (held_of d) (Err i) (λ held. each_held (i + 1) (before ++ held ∷ []) ds)
+each_held i before (item d ds) =
+    on_found (held_of d) (Err i) (λ held. each_held (i + 1) (before ++ held ∷ []) ds)
 
+-- the value is an object
 abbrev pub is_object : Data → Bool
 is_object d = is_some (as_object d)
 
 -- the digests of an array, or one object as a list of one; or the place of the first that is none
 unfoldable pub digests_in : Data → Result (List HeldDigest) ℕ
-digests_in d = on_found (as_array d) (if is_object d then each_held 0 [] (item d no_items) else Err 0) (each_held 0 [])
+digests_in d =
+    on_found (as_array d) (if is_object d then each_held 0 [] (item d no_items) else Err 0) (each_held 0 [])
 
 -- what the code answers
 abbrev pub Answer : Type 0

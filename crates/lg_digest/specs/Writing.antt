@@ -1,13 +1,14 @@
 -- What is written of digests.
 use Rattle.std.specs.Prelude.{◌≡◌, ◌≤◌, ◌++◌, ℕ, Bool, true, false, List, [], ◌∷◌, if◌then◌else◌, codes, map, decimal, length}
+use Rattle.std.specs.Str.{byte}
 use Rattle.hex.specs.Hex.{IsBytes, encode_upper}
 use Rattle.json.specs.Print.{quoted}
 use Rattle.serde_json.specs.Data.{Data, number, string, object, member, no_members, unsigned}
 use Rattle.serde_json.specs.View.{view}
 use Rattle.serde_json.specs.declared.value.Value.{Value}
-use Rattle.lg_base.specs.declared.clock.TheConstants.{MAX_TICKS}
-use Rattle.lg_digest.specs.declared.digest.Digest.{Digest}
-use Rattle.lg_digest.specs.declared.digest.HeldDigest.{HeldDigest}
+use Rattle.lg_items.specs.declared.moment.TheConstants.{MAX_TICKS}
+use Rattle.lg_types.specs.declared.digest.Digest.{Digest}
+use Rattle.lg_types.specs.declared.digest.HeldDigest.{HeldDigest}
 use Rattle.lg_digest.specs.Moment.{IsMomentText}
 
 -- both times are at most the greatest moment
@@ -19,9 +20,11 @@ pub record HasMoments (d : Digest) : Type 0 where
 abbrev pub held_form : Digest → HeldDigest
 held_form d = record { database = d.database; block = d.block; hash = d.hash }
 
+-- the text of a hash: `0x` and its digits in upper case
 abbrev pub hash_text : List ℕ → List ℕ
 hash_text hash = codes "0x" ++ encode_upper hash
 
+-- one text behind the other
 abbrev pub joined : List (List ℕ) → List ℕ
 joined [] = []
 joined (t ∷ ts) = t ++ joined ts
@@ -39,6 +42,7 @@ pub record IsShown (s : Shown) : Type 0 where
   pub made : IsMomentText s.digest.made s.made
   pub last_commit : IsMomentText s.digest.last_commit s.last_commit
 
+-- so for each
 abbrev pub AreShown : List Shown → Type 0
 AreShown [] = Unit {0}
 AreShown (s ∷ ss) = IsShown s × AreShown ss
@@ -53,13 +57,15 @@ digest_text s = joined (
     codes ",\"last_transaction_commit_time\":" ∷ quoted s.last_commit ∷
     codes "}" ∷ [])
 
+-- the digests and the closing bracket; a comma stands before each one that is `later` than the first
 abbrev pub digest_texts : Bool → List Shown → List ℕ
 digest_texts later [] = codes "]"
-digest_texts later (s ∷ ss) = joined ((if later then codes "," else []) ∷ digest_text s ∷ digest_texts true ss ∷ [])
+digest_texts later (s ∷ ss) =
+    joined ((if later then codes "," else []) ∷ digest_text s ∷ digest_texts true ss ∷ [])
 
 -- the digests with a comma between them, in brackets
 unfoldable pub file_text : List Shown → List ℕ
-file_text shown = 91 ∷ digest_texts false shown
+file_text shown = byte "[" ∷ digest_texts false shown
 
 -- the bytes are the file of these digests
 pub record IsFile (list : List Digest) (bytes : List ℕ) : Type 0 where
@@ -78,6 +84,7 @@ digest_data block database made hash last_commit = object (member (codes "block_
     (member (codes "hash") (string hash)
     (member (codes "last_transaction_commit_time") (string last_commit) no_members)))))
 
+-- the members of a digest with these texts
 abbrev pub shown_data : Shown → Data
 shown_data s = digest_data s.digest.block s.digest.database s.made (hash_text s.digest.hash) s.last_commit
 
@@ -88,6 +95,7 @@ pub record IsHash (hash : List ℕ) : Type 0 where
   pub size : length hash ≡ 32
   pub bytes : IsBytes hash
 
+-- each has the type of a hash
 abbrev pub AreHashes : List Shown → Type 0
 AreHashes [] = Unit {0}
 AreHashes (s ∷ ss) = IsHash s.digest.hash × AreHashes ss

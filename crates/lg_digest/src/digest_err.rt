@@ -7,13 +7,13 @@ use thiserror::Error;
 #[derive(Clone, Copy, Debug, PartialEq, Eq, Error)]
 pub enum DigestErr {
     /// The bytes are no JSON value.
-    #[error("no JSON value")]
+    #[error("Unreadable")]
     Unreadable,
     /// The item at this place, counted from 0, is the first that isn't a digest.
-    #[error("item {index} is no digest")]
+    #[error("Bad")]
     Bad { index: u64 },
     /// There is no more memory.
-    #[error("no more memory")]
+    #[error("Memory")]
     Memory,
 }
 

@@ -1,17 +1,14 @@
 //! Digest files: the digests of blocks that auditors keep, as JSON.
 #![tactic(auto)]
 
-mod digest;
 mod digest_err;
 mod laws;
 mod moment;
 mod reading;
-#[cfg(test)]
-mod tests;
 mod writing;
 
-pub use digest::{Digest, HeldDigest};
 pub use digest_err::DigestErr;
 pub use laws::bytes_have_one_reading;
+pub use lg_types::{Digest, HeldDigest};
 pub use reading::read_digests;
 pub use writing::write_digests;

@@ -1,7 +1,7 @@
 //! Moments as digest files write them.
 
 ghost use Rattle.std.specs.Prelude.{◌≤◌};
-ghost use Rattle.lg_base.specs.declared.clock.TheConstants.{MAX_TICKS};
+ghost use Rattle.lg_items.specs.declared.moment.TheConstants.{MAX_TICKS};
 ghost use Rattle.lg_digest.specs.Moment.{IsMomentText};
 
 use arrayvec::ArrayString;

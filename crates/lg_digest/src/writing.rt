@@ -62,7 +62,8 @@ fn members(
     made: &str,
     last_commit: &str,
 ) -> Result<Value, AllocError>
-    ensures { IfOk result (λ v. view v ≡ spec.digest_data digest.now.block digest.now.database made.now hash.now last_commit.now) }
+    ensures { IfOk result (λ v. view v
+        ≡ spec.digest_data digest.now.block digest.now.database made.now hash.now last_commit.now) }
 {
     json!(in alloc; {
         "block_id": digest.block,

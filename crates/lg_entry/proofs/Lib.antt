@@ -1,4 +1,3 @@
-mod EntryExact
+pub mod EntryExact
 mod Growing
-mod Names
-mod RecordExact
+pub mod RecordExact

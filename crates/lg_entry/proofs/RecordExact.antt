@@ -11,7 +11,7 @@ use Rattle.lg_bytes.proofs.Worth.{length-bytes_high_first}
 use Rattle.lg_bytes.proofs.Written.{u64_exact, hash_exact, some_is}
 use Rattle.lg_bytes.proofs.Parts.{both_exact, mapped_exact, one_value}
 use Rattle.lg_types.specs.declared.entry.BlockRecord.{BlockRecord}
-use Rattle.lg_entry.specs.Record.{record_bytes, IsRecord, record_of, record_at}
+use Rattle.lg_entry.specs.Record.{record_bytes, IsRecord, record_from, record_at}
 
 abbrev Parts : Type 0
 Parts = ℕ × (List ℕ × (ℕ × List ℕ))
@@ -27,7 +27,7 @@ parts_of b = (b.id, (b.root, (b.size, b.previous)))
 
 pub record_exact : Exact IsRecord record_bytes record_at
 unfolding record_at record_bytes
-record_exact = mapped_exact FitParts IsRecord spell_parts record_bytes record_of parts_of (both u64_at (both hash_at (both u64_at hash_at)))
+record_exact = mapped_exact FitParts IsRecord spell_parts record_bytes record_from parts_of (both u64_at (both hash_at (both u64_at hash_at)))
     (record {
       there = λ b. refl;
       spelled = λ x. refl;
@@ -54,18 +54,21 @@ length-record b is =
 -- ---- writing
 
 -- 40 bytes over the second half of 80
-pub behind : (front zeros back : List ℕ) → length front ≡ 40 → length zeros ≡ 40 → take 40 (front ++ zeros) ++ (back ++ drop 40 (drop 40 (front ++ zeros))) ≡ front ++ back
+pub behind : (front zeros back : List ℕ) → length front ≡ 40 → length zeros ≡ 40
+    → take 40 (front ++ zeros) ++ (back ++ drop 40 (drop 40 (front ++ zeros))) ≡ front ++ back
 behind front zeros back len zlen =
     let none : drop 40 zeros ≡ [] = nil_from_length (drop 40 zeros) (omega (arith, length-drop 40 zeros)) in
     rw (take_at front zeros 40 len, drop_at front zeros 40 len, none) (ap (λ z. front ++ z) (append-nil back))
 
 -- ---- reading
 
-number_found : (bytes : List ℕ) → 8 ≤ length bytes → (x : ℕ × List ℕ) × (u64_at bytes ≡ Some x) × (length x.1 + 8 ≡ length bytes)
+number_found : (bytes : List ℕ) → 8 ≤ length bytes
+    → (x : ℕ × List ℕ) × (u64_at bytes ≡ Some x) × (length x.1 + 8 ≡ length bytes)
 unfolding u64_at
 number_found bytes long = ((from_be_bytes w64 (take 8 bytes), drop 8 bytes), rw (le-ltb _ _ long) refl, omega (arith, length-drop 8 bytes))
 
-hash_found : (bytes : List ℕ) → 32 ≤ length bytes → (x : List ℕ × List ℕ) × (hash_at bytes ≡ Some x) × (length x.1 + 32 ≡ length bytes)
+hash_found : (bytes : List ℕ) → 32 ≤ length bytes
+    → (x : List ℕ × List ℕ) × (hash_at bytes ≡ Some x) × (length x.1 + 32 ≡ length bytes)
 unfolding hash_at
 hash_found bytes long = ((take 32 bytes, drop 32 bytes), rw (le-ltb _ _ long) refl, omega (arith, length-drop 32 bytes))
 
@@ -78,7 +81,7 @@ found bytes len =
     let size = number_found root.0.1 (omega arith) in
     let previous = hash_found size.0.1 (omega arith) in
     let nil : previous.0.1 ≡ [] = nil_from_length previous.0.1 (omega arith) in
-    (record_of (id.0.0, (root.0.0, (size.0.0, previous.0.0))), rw (id.1, root.1, size.1, previous.1, nil) refl)
+    (record_from (id.0.0, (root.0.0, (size.0.0, previous.0.0))), rw (id.1, root.1, size.1, previous.1, nil) refl)
 
 -- what was read
 abbrev pub first : Option (BlockRecord × List ℕ) → Option BlockRecord
@@ -88,10 +91,12 @@ some_of : (o : Option BlockRecord) (b : BlockRecord) → o ≡ Some b → IsSome
 some_of None b is = absurd cc
 some_of (Some x) b is = refl
 
-pub is_found : (bytes : List ℕ) (o : Option BlockRecord) → length bytes ≡ 80 → o ≡ first (record_at bytes) → IsSome o
+pub is_found : (bytes : List ℕ) (o : Option BlockRecord) → length bytes ≡ 80 → o ≡ first (record_at bytes)
+    → IsSome o
 is_found bytes o len is = let f = found bytes len in some_of o f.0 (is ∙ ap first f.1)
 
-pub found_of : (bytes : List ℕ) (b : BlockRecord) → length bytes ≡ 80 → IsBytes bytes → first (record_at bytes) ≡ Some b → IsRecord b × (bytes ≡ record_bytes b)
+pub found_of : (bytes : List ℕ) (b : BlockRecord) → length bytes ≡ 80 → IsBytes bytes
+    → first (record_at bytes) ≡ Some b → IsRecord b × (bytes ≡ record_bytes b)
 found_of bytes b len fits read =
     let f = found bytes len in
     let t = record_exact.takes bytes f.0 [] fits f.1 in

@@ -1,10 +1,11 @@
 -- A transaction entry: its one spelling in bytes.
-use Rattle.std.specs.Prelude.{◌≡◌, ◌<◌, ◌^◌, ◌&&◌, nat_lt, nat_le, ℕ, Bool, true, false, List, [], ◌∷◌, ◌++◌, length, flat_map}
+use Rattle.std.specs.Prelude.{◌≡◌, ◌<◌, ◌^◌, ◌&&◌, nat_lt, ℕ, Bool, true, false, List, [], ◌∷◌, ◌++◌, length, flat_map}
 use Rattle.std.specs.List.{AllByRecursion}
+use Rattle.lg_items.specs.Ids.{is_tx_id}
+use Rattle.lg_items.specs.Moment.{is_moment}
+use Rattle.lg_items.specs.SessionName.{is_session_name}
 use Rattle.lg_bytes.specs.Fields.{u8_field, u32_field, u64_field, hash_field, short_field}
-use Rattle.lg_base.specs.declared.clock.TheConstants.{MAX_TICKS}
 use Rattle.lg_types.specs.declared.entry.TxEntry.{TxEntry}
-use Rattle.lg_entry.specs.SessionName.{is_session_name}
 
 -- a table, and the root of the tree over the transaction's events in it
 abbrev pub TableRoot : Type 0
@@ -20,21 +21,15 @@ roots_bytes roots = u8_field 1 ++ (u8_field (length roots) ++ flat_map root_byte
 
 -- the number of the format, transaction, block, place in it, time of the commit and session
 abbrev pub head_bytes : TxEntry → List ℕ
-head_bytes e = u8_field 1 ++ (u64_field e.id ++ (u64_field e.block ++ (u32_field e.ordinal ++ (u64_field e.time ++ short_field e.principal))))
+head_bytes e =
+    u8_field 1 ++ (u64_field e.id ++ (u64_field e.block ++
+    (u32_field e.ordinal ++ (u64_field e.time ++ short_field e.principal))))
 
 -- the bytes of an entry, which are the leaves of the tree of its block
 unfoldable pub entry_bytes : TxEntry → List ℕ
 entry_bytes e = head_bytes e ++ roots_bytes e.roots
 
 -- ---- which entries have a spelling
-
--- from 1 to 2^63 - 1
-abbrev pub is_tx_id : ℕ → Bool
-is_tx_id id = nat_lt 0 id && nat_lt id 9223372036854775808
-
--- at most the greatest moment
-abbrev pub is_moment : ℕ → Bool
-is_moment time = nat_le time MAX_TICKS
 
 -- the root has 32 bytes
 abbrev pub IsRoot : TableRoot → Type 0

@@ -1,23 +1,16 @@
 -- Reading an entry from left to right.
 use Rattle.std.specs.Prelude.{ℕ, List}
 use Rattle.lg_bytes.specs.Fields.{u8_field}
-use Rattle.lg_bytes.specs.Readers.{Reader, u8_at, u32_at, u64_at, hash_at, short_at, after, both, mapped, where_, listed}
+use Rattle.lg_bytes.specs.Forms.{tx_id_at, moment_at, session_at}
+use Rattle.lg_bytes.specs.Readers.{Reader, u8_at, u32_at, u64_at, hash_at, after, both, mapped, where_, listed}
 use Rattle.lg_types.specs.declared.entry.TxEntry.{TxEntry}
-use Rattle.lg_entry.specs.Entry.{TableRoot, is_tx_id, is_moment, tables_rise}
-use Rattle.lg_entry.specs.SessionName.{is_session_name}
+use Rattle.lg_entry.specs.Entry.{TableRoot, tables_rise}
 
-unfoldable pub id_at : Reader ℕ
-id_at = where_ is_tx_id u64_at
-
-unfoldable pub time_at : Reader ℕ
-time_at = where_ is_moment u64_at
-
-unfoldable pub principal_at : Reader (List ℕ)
-principal_at = where_ is_session_name short_at
-
+-- a table and its root
 unfoldable pub root_at : Reader TableRoot
 root_at = both u32_at hash_at
 
+-- the count of the roots, and each of them, if their tables rise
 unfoldable pub roots_at : Reader (List TableRoot)
 roots_at = where_ tables_rise (listed u8_at root_at)
 
@@ -25,11 +18,21 @@ roots_at = where_ tables_rise (listed u8_at root_at)
 abbrev pub Head : Type 0
 Head = ℕ × (ℕ × (ℕ × (ℕ × List ℕ)))
 
+-- the number of the format, and the head
 unfoldable pub head_at : Reader Head
-head_at = after (u8_field 1) (both id_at (both u64_at (both u32_at (both time_at principal_at))))
+head_at = after (u8_field 1) (both tx_id_at (both u64_at (both u32_at (both moment_at session_at))))
 
-abbrev pub entry_of : Head × List TableRoot → TxEntry
-entry_of x = record { id = x.0.0; block = x.0.1.0; ordinal = x.0.1.1.0; time = x.0.1.1.1.0; principal = x.0.1.1.1.1; roots = x.1 }
+-- the entry of a head and its roots
+abbrev pub from_parts : Head × List TableRoot → TxEntry
+from_parts x = record {
+  id = x.0.0;
+  block = x.0.1.0;
+  ordinal = x.0.1.1.0;
+  time = x.0.1.1.1.0;
+  principal = x.0.1.1.1.1;
+  roots = x.1;
+}
 
+-- the head, the number of the roots' format, and the roots
 unfoldable pub entry_at : Reader TxEntry
-entry_at = mapped entry_of (both head_at (after (u8_field 1) roots_at))
+entry_at = mapped from_parts (both head_at (after (u8_field 1) roots_at))

@@ -1,4 +1,3 @@
 pub mod Entry
 pub mod EntryReading
 pub mod Record
-pub mod SessionName

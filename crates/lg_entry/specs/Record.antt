@@ -17,8 +17,10 @@ pub record IsRecord (b : BlockRecord) : Type 0 where
 
 -- ---- reading from left to right
 
-abbrev pub record_of : ℕ × (List ℕ × (ℕ × List ℕ)) → BlockRecord
-record_of x = record { id = x.0; root = x.1.0; size = x.1.1.0; previous = x.1.1.1 }
+-- the record of these parts
+abbrev pub record_from : ℕ × (List ℕ × (ℕ × List ℕ)) → BlockRecord
+record_from x = record { id = x.0; root = x.1.0; size = x.1.1.0; previous = x.1.1.1 }
 
+-- the four of them
 unfoldable pub record_at : Reader BlockRecord
-record_at = mapped record_of (both u64_at (both hash_at (both u64_at hash_at)))
+record_at = mapped record_from (both u64_at (both hash_at (both u64_at hash_at)))

@@ -10,7 +10,9 @@ ghost use Rattle.lg_entry.specs.Record.{IsRecord, record_bytes};
 /// shows rests on this.
 pub fn equal_bytes_are_of_equal_values()
     ensures entries { (e f : TxEntry) → IsEntry e → IsEntry f → entry_bytes e ≡ entry_bytes f → e ≡ f }
-    ensures prefix { (e f : TxEntry) (rest : List ℕ) → IsEntry e → IsEntry f → entry_bytes e ≡ entry_bytes f ++ rest → rest ≡ [] }
-    ensures records { (b c : BlockRecord) → IsRecord b → IsRecord c → record_bytes b ≡ record_bytes c → b ≡ c }
+    ensures prefix { (e f : TxEntry) (rest : List ℕ) → IsEntry e → IsEntry f
+        → entry_bytes e ≡ entry_bytes f ++ rest → rest ≡ [] }
+    ensures records { (b c : BlockRecord) → IsRecord b → IsRecord c
+        → record_bytes b ≡ record_bytes c → b ≡ c }
     ensures size { (b : BlockRecord) → IsRecord b → length (record_bytes b) ≡ 80 }
 {}

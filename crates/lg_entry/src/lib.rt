@@ -4,14 +4,10 @@
 mod laws;
 mod reading;
 mod record;
-mod session_name;
-#[cfg(test)]
-mod tests;
 mod writing;
 
 pub use laws::equal_bytes_are_of_equal_values;
 pub use lg_types::{BlockRecord, TxEntry};
-pub use reading::read_entry;
+pub use reading::{read_entry, roots_at};
 pub use record::{block_hash, read_record, record_bytes};
-pub use session_name::is_session_name;
-pub use writing::write_entry;
+pub use writing::{put_roots, write_entry};

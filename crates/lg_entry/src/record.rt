@@ -12,10 +12,12 @@ use lg_types::BlockRecord;
 
 /// The bytes of a record: the block, the root of its entries, how many they are, and the hash of the record before.
 #[tactic(auto, unfolding(crate::specs::Record::record_bytes))]
-pub fn record_bytes(b: &BlockRecord) -> [u8; 80]
-    ensures { result ≡ record_bytes b.now }
+pub fn record_bytes(block: &BlockRecord) -> [u8; 80]
+    ensures { result ≡ record_bytes block.now }
 {
-    joined(&half_bytes(b.id, &b.root), &half_bytes(b.size, &b.previous))
+    let front = half_bytes(block.id, &block.root);
+    let back = half_bytes(block.size, &block.previous);
+    joined(&front, &back)
 }
 
 // A number and a hash: a record is two of these.
@@ -64,8 +66,8 @@ fn record_at(bytes: &[u8]) -> Option<BlockRecord>
 }
 
 /// The hash of a block is that of its record.
-pub fn block_hash<H: Hash32>(h: H, b: &BlockRecord) -> [u8; 32]
-    ensures { result ≡ H.digest h (record_bytes b.now) }
+pub fn block_hash<H: Hash32>(hasher: H, block: &BlockRecord) -> [u8; 32]
+    ensures { result ≡ H.digest hasher (record_bytes block.now) }
 {
-    h.hash(&record_bytes(b), &[])
+    hasher.hash(&record_bytes(block), &[])
 }

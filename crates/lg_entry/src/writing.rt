@@ -11,43 +11,44 @@ use lg_types::TxEntry;
 /// is below 2^32, its time is at most `MAX_TICKS`, its principal is the name of a session, and it has 1 to 255 roots
 /// by strictly rising table. For want of memory the bytes are as they were.
 #[tactic(auto, unfolding(crate::specs::Entry::entry_bytes))]
-pub fn write_entry(e: &TxEntry, out: &mut Vec<u8>) -> Result<(), Memory>
-    requires { IsEntry e.now }
-    ensures ok { OnOk result (out.new.items ≡ out.old.items ++ entry_bytes e.now) }
+pub fn write_entry(entry: &TxEntry, out: &mut Vec<u8>) -> Result<(), Memory>
+    requires { IsEntry entry.now }
+    ensures ok { OnOk result (out.new.items ≡ out.old.items ++ entry_bytes entry.now) }
     ensures err { OnErr result (out.new.items ≡ out.old.items) }
 {
     let before = out.len();
-    let written = put_parts(e, out);
+    let written = put_parts(entry, out);
     if written.is_err() {
         out.truncate(before);
     }
     written
 }
 
-fn put_parts(e: &TxEntry, out: &mut Vec<u8>) -> Result<(), Memory>
-    requires { IsEntry e.now }
-    ensures ok { OnOk result (out.new.items ≡ out.old.items ++ (head_bytes e.now ++ roots_bytes e.now.roots)) }
+fn put_parts(entry: &TxEntry, out: &mut Vec<u8>) -> Result<(), Memory>
+    requires { IsEntry entry.now }
+    ensures ok { OnOk result
+        (out.new.items ≡ out.old.items ++ (head_bytes entry.now ++ roots_bytes entry.now.roots)) }
     ensures grows { take (length out.old.items) out.new.items ≡ out.old.items }
 {
-    put_head(e, out)?;
-    put_roots(e.roots.as_slice(), out)
+    put_head(entry, out)?;
+    put_roots(entry.roots.as_slice(), out)
 }
 
-fn put_head(e: &TxEntry, out: &mut Vec<u8>) -> Result<(), Memory>
-    requires { IsEntry e.now }
-    ensures ok { OnOk result (out.new.items ≡ out.old.items ++ head_bytes e.now) }
+fn put_head(entry: &TxEntry, out: &mut Vec<u8>) -> Result<(), Memory>
+    requires { IsEntry entry.now }
+    ensures ok { OnOk result (out.new.items ≡ out.old.items ++ head_bytes entry.now) }
     ensures grows { take (length out.old.items) out.new.items ≡ out.old.items }
 {
     put_u8(out, 1)?;
-    put_u64(out, e.id)?;
-    put_u64(out, e.block)?;
-    put_u32(out, e.ordinal as u32)?;
-    put_u64(out, e.time)?;
-    put_short(out, e.principal.bytes())
+    put_u64(out, entry.id)?;
+    put_u64(out, entry.block)?;
+    put_u32(out, entry.ordinal as u32)?;
+    put_u64(out, entry.time)?;
+    put_short(out, entry.principal.bytes())
 }
 
-// How many roots there are, and these.
-fn put_roots(roots: &[(TableId, [u8; 32])], out: &mut Vec<u8>) -> Result<(), Memory>
+/// Appends how many roots there are, and these. After want of memory what stood first still does.
+pub fn put_roots(roots: &[(TableId, [u8; 32])], out: &mut Vec<u8>) -> Result<(), Memory>
     requires { length roots.now < 256 }
     ensures ok { OnOk result (out.new.items ≡ out.old.items ++ roots_bytes roots.now) }
     ensures grows { take (length out.old.items) out.new.items ≡ out.old.items }

@@ -1,3 +1,4 @@
 pub mod Arithmetic
 pub mod Operators
+pub mod Rows
 pub mod Seen

@@ -4,7 +4,7 @@ use Rattle.lg_value.specs.declared.value.Value.TheVariants as val
 use Rattle.lg_value.specs.declared.refusal.Refusal.{Refusal}
 use Rattle.lg_types.specs.declared.outcome.Outcome.{Outcome}
 use Rattle.lg_types.specs.declared.outcome.Outcome.TheVariants as out
-use Rattle.lg_model.specs.Meaning.{Answer}
+use Rattle.lg_model.specs.Evaluation.{Answer}
 use Rattle.lg_expr.specs.declared.seen.Seen.{Seen}
 use Rattle.lg_expr.specs.declared.seen.Seen.TheVariants.{Null, Number, Text, Bytes, Day, Truth}
 

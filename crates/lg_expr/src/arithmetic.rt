@@ -27,7 +27,7 @@ fn is_in_size(v: i128) -> bool
 
 /// A result: E08 exactly where its size is 10^38 or more. What leaves 128 bits, and is none, leaves that size too.
 pub fn sized(v: Option<i128>, s: u8) -> Result<Number, Refusal>
-    ensures { MatchOption v (result ≡ Err E08) (λ v. IsNumber (spec.sized v s) result) }
+    ensures { MatchOption v (result ≡ Err E08) (λ v. IsNumber (spec.in_38_digits v s) result) }
 {
     match v {
         Some(v) if is_in_size(v) => Ok(Number { v, s }),

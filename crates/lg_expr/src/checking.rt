@@ -7,8 +7,9 @@ ghost use Rattle.lg_model.specs.Days as days;
 
 use crate::classes::{binary_class, negation_class, null_test_class, opposite_class};
 use crate::days::written_day;
-use crate::names::{column_of, names_columns};
-use lg_value::{Class, ColumnDef, Expr, Op, Refusal, SqlType, Value};
+use crate::names::names_columns;
+use lg_parts::Columns;
+use lg_value::{Class, Expr, Refusal, SqlType, Value};
 
 /// The class of a column of this type, or E05 where the type's parameters are out of range.
 #[tactic(auto, unfolding(lg_value::specs::Stored::is_in_range))]
@@ -41,7 +42,7 @@ pub fn class_of_literal(value: &Value) -> Class
 
 /// The class of an operand beside another: a text literal that is a date has class Date beside a Date.
 fn beside(e: &Expr, a: Class, b: Class) -> Class
-    ensures { result ≡ spec.beside_day (days.written_day (tree e.now)) a b }
+    ensures { result ≡ spec.class_beside_day (days.written_day (tree e.now)) a b }
 {
     if b == Class::Date && written_day(e).is_some() {
         Class::Date
@@ -51,13 +52,13 @@ fn beside(e: &Expr, a: Class, b: Class) -> Class
 }
 
 /// The class of an expression, or E05 where its classes don't agree or a column isn't there.
-pub fn class(e: &Expr, columns: &[ColumnDef]) -> Result<Class, Refusal>
+pub fn class(e: &Expr, columns: &Columns) -> Result<Class, Refusal>
     ensures { result ≡ spec.class columns.now (tree e.now) }
 {
     match e {
         Expr::Lit(value) => Ok(class_of_literal(value)),
-        Expr::Col(name) => match column_of(columns, name) {
-            Some(column) => class_of_type(&column.ty),
+        Expr::Col(name) => match columns.type_of(name) {
+            Some(ty) => class_of_type(&ty),
             None => Err(Refusal::E05),
         },
         Expr::Neg(a) => negation_class(class(a.get(), columns)?),
@@ -75,7 +76,7 @@ pub fn class(e: &Expr, columns: &[ColumnDef]) -> Result<Class, Refusal>
 /// The class of an expression over the columns: E04 exactly where it names a column that isn't there, else E05 exactly
 /// where its classes don't agree. One pass over the expression serves where it has a class.
 #[tactic(auto, unfolding(lg_model::specs::Classes::class_of), using(lg_model::proofs::Missing::there))]
-pub fn check(e: &Expr, columns: &[ColumnDef]) -> Result<Class, Refusal>
+pub fn check(e: &Expr, columns: &Columns) -> Result<Class, Refusal>
     ensures { result ≡ spec.class_of columns.now e.now }
 {
     match class(e, columns) {

@@ -5,24 +5,26 @@ ghost use Rattle.lg_value.specs.Tree.{tree};
 ghost use Rattle.lg_model.specs.Refusals.{Gives, and_then, or_refused};
 ghost use Rattle.lg_model.specs.Columns as columns_of;
 ghost use Rattle.lg_model.specs.Days as days;
-ghost use Rattle.lg_model.specs.Meaning as spec;
+ghost use Rattle.lg_model.specs.Evaluation as spec;
 ghost use Rattle.lg_expr.specs.Seen.{outcome_of, Shows};
 ghost use Rattle.lg_value.specs.declared.refusal.Refusal.TheVariants.{E05};
 
 use crate::days::written_day;
-use crate::names::place_of;
 use crate::operators::{applied, inverted, negated, null_test};
 use crate::seen::{Seen, owned, seen_value};
+use crate::seen_row::SeenRow;
+use lg_parts::Columns;
 use lg_types::Outcome;
-use lg_value::{ColumnDef, Expr, Name, Refusal, Value};
+use lg_value::{Expr, Name, Refusal};
 
 /// The value of a row in the column of this name.
-fn value_of<'a>(columns: &[ColumnDef], row: &'a [Value], name: &Name) -> Result<Seen<'a>, Refusal>
-    ensures { Shows (and_then (or_refused E05 (columns_of.value_of columns.now row.now name.now)) spec.a_value) result }
+fn value_of<'a>(columns: &Columns, row: &SeenRow<'a>, name: &Name) -> Result<Seen<'a>, Refusal>
+    ensures { Shows
+        (and_then (or_refused E05 (columns_of.value_of columns.now row.now name.now)) spec.a_value) result }
 {
-    match place_of(columns, name) {
-        Some(place) => match row.get(place) {
-            Some(value) => Ok(seen_value(value)),
+    match columns.place_of(name) {
+        Some(place) => match row.seen_at(place) {
+            Some(seen) => Ok(seen),
             None => Err(Refusal::E05),
         },
         None => Err(Refusal::E05),
@@ -31,7 +33,8 @@ fn value_of<'a>(columns: &[ColumnDef], row: &'a [Value], name: &Name) -> Result<
 
 /// The outcome of an operand beside another: a text literal that is a date counts as its day beside a day.
 fn beside<'a>(e: &Expr, x: Seen<'a>, y: Seen<'a>) -> Seen<'a>
-    ensures { outcome_of result ≡ spec.beside_day (days.written_day (tree e.now)) (outcome_of x.entry) (outcome_of y.entry) }
+    ensures { outcome_of result ≡ spec.beside_day (days.written_day (tree e.now))
+        (outcome_of x.entry) (outcome_of y.entry) }
 {
     match y {
         Seen::Day(_) => match written_day(e) {
@@ -43,7 +46,7 @@ fn beside<'a>(e: &Expr, x: Seen<'a>, y: Seen<'a>) -> Seen<'a>
 }
 
 /// The value or truth of an expression, with texts and bytes where they lie.
-fn seen<'a>(e: &'a Expr, columns: &[ColumnDef], row: &'a [Value]) -> Result<Seen<'a>, Refusal>
+fn seen<'a>(e: &'a Expr, columns: &Columns, row: &SeenRow<'a>) -> Result<Seen<'a>, Refusal>
     ensures { Shows (spec.meaning columns.now row.now (tree e.now)) result }
 {
     match e {
@@ -65,8 +68,8 @@ fn seen<'a>(e: &'a Expr, columns: &[ColumnDef], row: &'a [Value]) -> Result<Seen
 /// E08 comes exactly where a result of arithmetic, or an operand brought to the greater scale, has size 10^38 or more; E05
 /// where a use is one that classes forbid, so never after `check` in a row that fits; E30 for want of memory alone. Only
 /// the text or the bytes of the answer take memory.
-#[tactic(auto, unfolding(lg_model::specs::Meaning::meaning_of))]
-pub fn eval(e: &Expr, columns: &[ColumnDef], row: &[Value]) -> Result<Outcome, Refusal>
+#[tactic(auto, unfolding(lg_model::specs::Evaluation::meaning_of))]
+pub fn eval(e: &Expr, columns: &Columns, row: &SeenRow) -> Result<Outcome, Refusal>
     ensures { Gives (spec.meaning_of columns.now row.now e.now) result }
 {
     Ok(owned(seen(e, columns, row)?)?)

@@ -1,7 +1,7 @@
 //! What operators make of the outcomes of their operands.
 
 ghost use Rattle.std.specs.Prelude.{◌≡◌};
-ghost use Rattle.lg_model.specs.Meaning as spec;
+ghost use Rattle.lg_model.specs.Evaluation as spec;
 ghost use Rattle.lg_model.specs.Operators.{IsArithmetic, IsComparison, IsConnective};
 ghost use Rattle.lg_expr.specs.Arithmetic.{IsNumber};
 ghost use Rattle.lg_expr.specs.Operators.{order_of as spec_order};

@@ -60,7 +60,7 @@ module _ (q : Meaning) (db : Text) where
 
 -- ---- ids
 
-ids_append : (J K : List JournalItem) → ids_of (J ++ K) ≡ ids_of J ++ ids_of K
+pub ids_append : (J K : List JournalItem) → ids_of (J ++ K) ≡ ids_of J ++ ids_of K
 ids_append [] K = refl
 ids_append (Tx id session time opened script ∷ is) K = ap (λ (l : List ℕ). id ∷ l) (ids_append is K)
 ids_append (Close k ∷ is) K = ids_append is K
@@ -146,7 +146,7 @@ module _ (q : Meaning) (db : Text) where
 
   -- ---- all
 
-  apart_by : (w : World) (s : ℕ) (a : Act) → Ok q db w (by s a) → IdsApart w → IdsApart (step w (by s a))
+  pub apart_by : (w : World) (s : ℕ) (a : Act) → Ok q db w (by s a) → IdsApart w → IdsApart (step w (by s a))
   apart_by w s a k i = record {
     differ = ⊎_elim
         (λ (none : ids_of (items_by (w.at s) a) ≡ []). subst Differ (sym (ids_append w.items (items_by (w.at s) a) ∙ ap (λ (l : List ℕ). ids_of w.items ++ l) none ∙ append-nil (ids_of w.items))) i.differ)
@@ -173,7 +173,7 @@ module _ (q : Meaning) (db : Text) where
         (was_there w s u a c (u == s) refl h);
   }
 
-  apart_close : (w : World) (k : ℕ) → IdsApart w → IdsApart (step w (closes k))
+  pub apart_close : (w : World) (k : ℕ) → IdsApart w → IdsApart (step w (closes k))
   apart_close w k i = let same : ids_of (w.items ++ Close k ∷ []) ≡ ids_of w.items = ids_append w.items (Close k ∷ []) ∙ append-nil (ids_of w.items) in record {
     differ = subst Differ (sym same) i.differ;
     below = subst (Each (λ j. j < w.next)) (sym same) i.below;

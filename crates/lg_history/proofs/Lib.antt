@@ -11,6 +11,7 @@ pub mod Grows
 pub mod Issued
 pub mod Items
 pub mod Legal
+pub mod Legality
 pub mod Names
 pub mod Order
 pub mod Ordered
@@ -19,8 +20,8 @@ pub mod Placed
 pub mod Real
 pub mod Refused
 pub mod Rising
-pub mod Samples
 pub mod Rows
+pub mod Samples
 pub mod Settles
 pub mod Setup
 pub mod Signs

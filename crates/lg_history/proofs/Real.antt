@@ -9,7 +9,7 @@ use Rattle.lg_model.specs.Locks.{CellWants, cell_wants, cells_clash}
 use Rattle.lg_model.specs.Replies.{reply_text}
 use Rattle.lg_model.specs.Script.{Reading, ScriptEnd, script}
 use Rattle.lg_model.specs.SystemTables.{first_tables}
-use Rattle.lg_model.proofs.Definitions.{opened_keep_defs, one_keeps_defs, nothing_done, cell_wants_dont_create, cell_wants_share}
+use Rattle.lg_frames.proofs.Definitions.{opened_keep_defs, one_keeps_defs, nothing_done, cell_wants_dont_create, cell_wants_share}
 use Rattle.lg_history.specs.Lists.{Text}
 use Rattle.lg_history.specs.Meaning.{Meaning}
 use Rattle.lg_history.specs.Real.{Hashing, wants_catalog, wants_cell, wants_any, clash_in_catalog, clash_in_table, IsReal}

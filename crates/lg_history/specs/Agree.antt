@@ -39,8 +39,10 @@ pub record IdsDrawnOnce (q : Meaning) (X : List Transcript) : Type 0 where
   pub k : ℕ
   -- the session of each id
   pub session : ℕ → ℕ
-  pub one : (i : ℕ) (x : Transcript) → At X i x → Shows id_of (λ id. (1 ≤ id) × (id ≤ k) × (session id ≡ i)) (facts_of q x)
-  pub all : (id : ℕ) → 1 ≤ id → id ≤ k → (x : Transcript) × At X (session id) x × Some_of (λ g. In id (id_of g)) (facts_of q x)
+  pub one : (i : ℕ) (x : Transcript) → At X i x
+      → Shows id_of (λ id. (1 ≤ id) × (id ≤ k) × (session id ≡ i)) (facts_of q x)
+  pub all : (id : ℕ) → 1 ≤ id → id ≤ k
+      → (x : Transcript) × At X (session id) x × Some_of (λ g. In id (id_of g)) (facts_of q x)
   pub rise : (i : ℕ) (x : Transcript) → At X i x → IdsRise (facts_of q x)
 
 -- ---- committed transactions
@@ -67,7 +69,8 @@ of_session name J = picked (λ id session. bytes_eq session name) 0 J
 
 -- the committed ones among a transcript's transactions
 abbrev pub committed_at_place : Transaction → End → List Placed
-committed_at_place u (committed n) = record { place = n; id = u.id; opened = u.opened; script = u.script } ∷ []
+committed_at_place u (committed n) =
+    record { place = n; id = u.id; opened = u.opened; script = u.script } ∷ []
 committed_at_place u _ = []
 
 abbrev pub committed_ones : List Transaction → List Placed
@@ -76,7 +79,8 @@ committed_ones (u ∷ us) = committed_at_place u u.end ++ committed_ones us
 
 -- one of these sessions committed it
 abbrev pub IsOneOfTheirs : List Transcript → JournalItem → Type 0
-IsOneOfTheirs X (Tx id session time opened script) = (i : ℕ) × (x : Transcript) × At X i x × (x.session ≡ session)
+IsOneOfTheirs X (Tx id session time opened script) =
+    (i : ℕ) × (x : Transcript) × At X i x × (x.session ≡ session)
 IsOneOfTheirs X (Close k) = Unit {0}
 
 -- J is legal; for each session, the transactions of J with its name are the committed transactions of its transcript in
@@ -85,14 +89,16 @@ IsOneOfTheirs X (Close k) = Unit {0}
 pub record JournalIsTheirs (q : Meaning) (X : List Transcript) (J : List JournalItem) : Type 0 where
   pub legal : IsLegal q J
   pub no_others : Each (IsOneOfTheirs X) J
-  pub items : (i : ℕ) (x : Transcript) → At X i x → of_session x.session J ≡ committed_ones (transactions (facts_of q x))
+  pub items : (i : ℕ) (x : Transcript) → At X i x
+      → of_session x.session J ≡ committed_ones (transactions (facts_of q x))
   pub ends : (i : ℕ) (x : Transcript) → At X i x → Throughout (EndsWhereItMay q) None 0 x.entries
 
 -- ---- transactions that changed nothing
 
 -- a transaction that ended after n has the replies of its script over the tables after n transactions; if COMMIT or a
 -- statement of its own ended it, that script leaves no start or end there
-pub record EndedOver (q : Meaning) (J : List JournalItem) (u : Transaction) (n : ℕ) (back : Bool) : Type 0 where
+pub record EndedOver (q : Meaning) (J : List JournalItem) (u : Transaction) (n : ℕ)
+    (back : Bool) : Type 0 where
   pub within : n ≤ tx_count J
   pub replies : replies_of u.script ≡ q.replies u.opened (after_tx q q.first n J) u.id (texts_of u.script)
   pub quiet : back ≡ false → q.events u.opened (after_tx q q.first n J) u.id (texts_of u.script) ≡ 0
@@ -103,18 +109,22 @@ IsEndedOver q J u (committed n) = Unit {0}
 IsEndedOver q J u (ended n back) = EndedOver q J u n back
 
 abbrev pub EndedHaveTheirReplies : Meaning → List Transcript → List JournalItem → Type 0
-EndedHaveTheirReplies q X J = (i : ℕ) (x : Transcript) → At X i x → Each (λ u. IsEndedOver q J u u.end) (transactions (facts_of q x))
+EndedHaveTheirReplies q X J =
+    (i : ℕ) (x : Transcript) → At X i x → Each (λ u. IsEndedOver q J u u.end) (transactions (facts_of q x))
 
 -- ---- marks
 
 -- marks never fall in a transcript, and the place of a commit is above each earlier mark; no mark of another session is below
 -- one of `setup`; block b is closed in an image that comes after a digest of block b in one transcript, or stands in
 -- another session's than `setup`, which has the digest
-pub record MarksNeverFall (q : Meaning) (setup : Option ℕ) (X : List Transcript) (J : List JournalItem) : Type 0 where
+pub record MarksNeverFall (q : Meaning) (setup : Option ℕ) (X : List Transcript)
+    (J : List JournalItem) : Type 0 where
   pub rise : (i : ℕ) (x : Transcript) → At X i x → MarksRise J (facts_of q x)
-  pub after_setup : (u i : ℕ) (y x : Transcript) → setup ≡ Some u → At X u y → At X i x → i ≢ u → NoneBelow J (facts_of q y) (facts_of q x)
+  pub after_setup : (u i : ℕ) (y x : Transcript) → setup ≡ Some u → At X u y → At X i x → i ≢ u
+      → NoneBelow J (facts_of q y) (facts_of q x)
   pub images : (i : ℕ) (x : Transcript) → At X i x → ImagesHave J (facts_of q x)
-  pub images_after_setup : (u i : ℕ) (y x : Transcript) → setup ≡ Some u → At X u y → At X i x → i ≢ u → ImagesOfOthersHave J (facts_of q y) (facts_of q x)
+  pub images_after_setup : (u i : ℕ) (y x : Transcript) → setup ≡ Some u → At X u y → At X i x → i ≢ u
+      → ImagesOfOthersHave J (facts_of q y) (facts_of q x)
 
 -- ---- digests
 
@@ -125,25 +135,30 @@ ShowsHash q J _ = Unit {0}
 -- `digest b` shows the hash of J's digest of block b; G has as many digests of block b as X has such replies, each of them J's
 -- with the moment of its making, and their blocks never fall; E19 comes only where every mark before it in its
 -- transcript is 0, and in a session other than `setup` only where every mark of `setup` is 0 too
-pub record DigestsAreOf (q : Meaning) (database : Text) (setup : Option ℕ) (X : List Transcript) (J : List JournalItem) (G : List Digest) : Type 0 where
+pub record DigestsAreOf (q : Meaning) (database : Text) (setup : Option ℕ) (X : List Transcript)
+    (J : List JournalItem) (G : List Digest) : Type 0 where
   pub shown : (i : ℕ) (x : Transcript) → At X i x → Each (ShowsHash q J) (facts_of q x)
   pub as_many : (b : ℕ) → of_block b G ≡ sum (map (λ x. replies_of_block b (facts_of q x)) X)
   pub each : Each (IsDigest q database J) G
   pub rise : BlocksRise G
-  pub first : (i : ℕ) (x : Transcript) (before after : List Fact) → At X i x → facts_of q x ≡ before ++ no_digest ∷ after → NoneCounted J before
-  pub none_of_setup : (u i : ℕ) (y x : Transcript) → setup ≡ Some u → At X u y → At X i x → i ≢ u → In no_digest (facts_of q x) → NoneCounted J (facts_of q y)
+  pub first : (i : ℕ) (x : Transcript) (before after : List Fact) → At X i x
+      → facts_of q x ≡ before ++ no_digest ∷ after → NoneCounted J before
+  pub none_of_setup : (u i : ℕ) (y x : Transcript) → setup ≡ Some u → At X u y → At X i x → i ≢ u
+      → In no_digest (facts_of q x) → NoneCounted J (facts_of q y)
 
 -- ---- refusals for a lock
 
 abbrev pub LockRefusals : Meaning → Option ℕ → List Transcript → List JournalItem → Type 0
 LockRefusals q setup X J = (s : ℕ) (x : Transcript) (text : Text) (holder : ℕ) (earlier later : List Fact)
-    → At X s x → facts_of q x ≡ earlier ++ met text holder ∷ later → NamesRightly q J setup X s text holder earlier later
+    → At X s x → facts_of q x ≡ earlier ++ met text holder ∷ later
+    → NamesRightly q J setup X s text holder earlier later
 
 -- ---- agreement
 
 -- transcripts, a journal and digests of a database, of the sessions and statements of one input; the session at the place
 -- `setup`, if there is one, ran to its end before all others
-pub record Agree (q : Meaning) (database : Text) (input : List (List Text)) (setup : Option ℕ) (X : List Transcript) (J : List JournalItem) (G : List Digest) : Type 0 where
+pub record Agree (q : Meaning) (database : Text) (input : List (List Text)) (setup : Option ℕ)
+    (X : List Transcript) (J : List JournalItem) (G : List Digest) : Type 0 where
   pub statements_are_answered : AreStatements input X
   pub ids_are_drawn_once : IdsDrawnOnce q X
   pub journal_is_theirs : JournalIsTheirs q X J
@@ -152,6 +167,7 @@ pub record Agree (q : Meaning) (database : Text) (input : List (List Text)) (set
   pub digests_are_the_journals : DigestsAreOf q database setup X J G
   pub lock_refusals_name_holders : LockRefusals q setup X J
   -- refusals of transaction control come exactly where a transaction is open, or none
-  pub control_is_refused_in_place : (i : ℕ) (x : Transcript) → At X i x → Throughout (IsControlled q) None 0 x.entries
+  pub control_is_refused_in_place : (i : ℕ) (x : Transcript) → At X i x
+      → Throughout (IsControlled q) None 0 x.entries
   -- each reply that none of these fixes is E30
   pub else_e30 : (i : ℕ) (x : Transcript) → At X i x → Throughout (IsElseE30 q) None 0 x.entries

@@ -1,19 +1,11 @@
 -- Digests of a journal's blocks.
 use Rattle.std.specs.Prelude.{ℕ, suc, ◌≡◌, ◌+◌, ◌-◌, ◌≤◌, ◌==◌, Bool, true, false, List, [], ◌∷◌, Option, Some, slice_get}
+pub use Rattle.lg_types.specs.declared.digest.Digest.{Digest}
 use Rattle.lg_types.specs.declared.journal.JournalItem.{JournalItem}
 use Rattle.lg_history.specs.Lists.{Text, Each}
 use Rattle.lg_history.specs.Journals.{in_blocks, times}
 use Rattle.lg_history.specs.Meaning.{Meaning}
 use Rattle.lg_history.specs.Facts.{Fact, digest}
-
-pub record Digest : Type 0 where
-  pub database : Text
-  pub block : ℕ
-  pub hash : Text
-  -- the time of the block's last entry
-  pub last_commit : ℕ
-  -- when it was made
-  pub made : ℕ
 
 -- the time of the last entry of a block
 abbrev pub last_time : List JournalItem → ℕ → Option ℕ

@@ -51,11 +51,13 @@ ExactIf false holder r = Unit {0}
 
 -- who refuses a statement over these definitions, if these statements' locks stand: the least id among those that conflict with
 -- its first want that conflicts
-module _ (q : Meaning) (refuses : Defs → Bool → Text → List Held → Option ℕ) (k : ℕ) (J : List JournalItem) where
+module _ (q : Meaning) (refuses : Defs → Bool → Text → List Held → Option ℕ) (k : ℕ)
+    (J : List JournalItem) where
   -- over the tables of the commits so far, against the statements of the transactions then open in other sessions
   abbrev pub ExactRow : ℕ → (ℕ → Option ℕ) → (ℕ → Book) → ℕ → Entry → Type 0
   ExactRow c opens books s (statement text r end) =
-      ExactIf (takes_locks (opens s) (kind_of (q.reads text))) (refuses (q.defs (after_tx q q.first c J)) (is_open (opens s)) text (held books s k)) r
+      ExactIf (takes_locks (opens s) (kind_of (q.reads text)))
+      (refuses (q.defs (after_tx q q.first c J)) (is_open (opens s)) text (held books s k)) r
   ExactRow c opens books s (end_of_session end) = Unit {0}
 
   abbrev pub ExactRefusals : ℕ → (ℕ → Option ℕ) → (ℕ → Book) → List Row → Type 0

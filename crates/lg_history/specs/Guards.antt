@@ -3,6 +3,7 @@ use Rattle.std.specs.Prelude.{ℕ, ◌≡◌, ◌≢◌, ◌⊎◌, ◌+◌, ◌
 use Rattle.lg_types.specs.declared.journal.JournalItem.{JournalItem}
 use Rattle.lg_model.specs.Catalog.{Tables}
 use Rattle.lg_model.specs.Journals.{tx_count, closed}
+use Rattle.lg_model.specs.Limits.{max_block}
 use Rattle.lg_history.specs.Lists.{Text, Each, Some_of, In}
 use Rattle.lg_history.specs.Journals.{blocks}
 use Rattle.lg_history.specs.Meaning.{Meaning}
@@ -102,7 +103,8 @@ module _ (q : Meaning) where
     pub agrees : AgreesTx q (tables q w) mine.id mine.opened mine.script
     pub last : place ≡ tx_count w.items + 1
     -- the definitions stay, or nobody else has a statement that wants anything
-    pub others : (q.defs (q.after mine.opened (tables q w) mine.id (texts_of mine.script)) ≡ q.defs (tables q w)) ⊎ ((t : ℕ) → t ≢ s → NoTable (w.at t).deal)
+    pub others : (q.defs (q.after mine.opened (tables q w) mine.id (texts_of mine.script))
+        ≡ q.defs (tables q w)) ⊎ ((t : ℕ) → t ≢ s → NoTable (w.at t).deal)
 
   pub record Ends (w : World) (s n : ℕ) (back : Bool) : Type 0 where
     pub mine : Deal
@@ -131,7 +133,9 @@ module _ (q : Meaning) where
   module _ (database : Text) where
     abbrev pub OkBy : World → ℕ → Act → Type 0
     OkBy w s (starts name) = w.at s ≡ fresh
-    OkBy w s (takes text) = ((w.at s).phase ≡ runs) × ((w.at s).desk.under ≡ None) × ((w.at s).desk.pending ≡ []) × Each IsStatement (w.at s).desk.entries
+    OkBy w s (takes text) =
+        ((w.at s).phase ≡ runs) × ((w.at s).desk.under ≡ None) × ((w.at s).desk.pending ≡ [])
+        × Each IsStatement (w.at s).desk.entries
     OkBy w s (draws id opened) = ((w.at s).phase ≡ runs) × ((w.at s).deal ≡ None) × (id ≡ w.next)
     OkBy w s (looks text table) = (d : Deal) × Stands (w.at s) d × OnlyOne d text
     OkBy w s (says line) = (d : Deal) × Stands (w.at s) d × OnlyOne d line.0
@@ -141,14 +145,15 @@ module _ (q : Meaning) where
     OkBy w s (ends n back) = Ends w s n back
     OkBy w s frees = Frees (w.at s)
     OkBy w s (issues d mark) = Issues database w s d mark
-    OkBy w s (keeps items mark) = ((w.at s).phase ≡ runs) × (items ≡ length w.items) × (mark ≡ tx_count w.items)
+    OkBy w s (keeps items mark) =
+        ((w.at s).phase ≡ runs) × (items ≡ length w.items) × (mark ≡ tx_count w.items)
     OkBy w s lacks = ((w.at s).phase ≡ runs) × (tx_count w.items ≡ 0)
     OkBy w s (answers entry) = Answers q (w.at s) entry
     OkBy w s stops = ((w.at s).phase ≡ runs) × AtRest (w.at s)
 
     abbrev pub Ok : World → Event → Type 0
     Ok w (by s a) = OkBy w s a
-    Ok w (closes k) = (1 ≤ k) × (k ≤ 100000) × (closed w.items + k ≤ tx_count w.items)
+    Ok w (closes k) = (1 ≤ k) × (k ≤ max_block) × (closed w.items + k ≤ tx_count w.items)
 
     -- a history in which each event pays what it owes
     abbrev pub Good : World → List Event → Type 0

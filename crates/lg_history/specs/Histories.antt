@@ -17,7 +17,8 @@ SessionsBelow k (closes n ∷ es) = SessionsBelow k es
 -- these are the statements and the transcripts of the sessions from number n on, and each is at rest
 abbrev pub AreOf : (ℕ → Sess) → ℕ → List (List Text) → List Transcript → Type 0
 AreOf at n [] [] = Unit {0}
-AreOf at n (texts ∷ input) (x ∷ X) = (texts ≡ (at n).desk.taken) × (x ≡ transcript_of (at n)) × AtRest (at n) × AreOf at (suc n) input X
+AreOf at n (texts ∷ input) (x ∷ X) =
+    (texts ≡ (at n).desk.taken) × (x ≡ transcript_of (at n)) × AtRest (at n) × AreOf at (suc n) input X
 AreOf at n _ _ = ⊥
 
 -- this session was over before any other did anything
@@ -33,7 +34,8 @@ SetupRan None h = Unit {0}
 SetupRan (Some u) h = RanBefore u h
 
 -- input, setup and transcripts of a history at whose end every session is at rest
-pub record IsWhole (input : List (List Text)) (setup : Option ℕ) (X : List Transcript) (h : List Event) : Type 0 where
+pub record IsWhole (input : List (List Text)) (setup : Option ℕ) (X : List Transcript)
+    (h : List Event) : Type 0 where
   pub sessions : AreOf (run first h).at 0 input X
   pub all : SessionsBelow (length X) h
   pub names_differ : (i j : ℕ) (x y : Transcript) → At X i x → At X j y → i ≢ j → x.session ≢ y.session

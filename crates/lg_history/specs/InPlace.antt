@@ -61,7 +61,8 @@ EndsOutside _ end = end ≡ None
 
 -- this refusal comes exactly where it is due, or it is E30
 abbrev pub ComesAt : Refusal → Bool → Reply → Type 0
-ComesAt e due r = (r ≡ reply.Refused e → due ≡ true) × (due ≡ true → (r ≡ reply.Refused e) ⊎ (r ≡ reply.Refused E30))
+ComesAt e due r =
+    (r ≡ reply.Refused e → due ≡ true) × (due ≡ true → (r ≡ reply.Refused e) ⊎ (r ≡ reply.Refused E30))
 
 abbrev pub is_open : Option ℕ → Bool
 is_open None = false

@@ -1,14 +1,14 @@
 -- Words on lists that compute from the front.
 use Rattle.std.specs.Prelude.{ℕ, zero, suc, ◌≡◌, ◌⊎◌, ◌+◌, List, [], ◌∷◌}
+use Rattle.std.specs.List.{AllByRecursion}
 
 -- the bytes of a text or a name
 abbrev pub Text : Type 0
 Text = List ℕ
 
--- each element is such
+-- each element is such: a short name of std's word
 abbrev pub Each : {A : Type 0} → (A → Type 0) → List A → Type 0
-Each P [] = Unit {0}
-Each P (x ∷ xs) = P x × Each P xs
+Each P xs = AllByRecursion P xs
 
 -- some element is such
 abbrev pub Some_of : {A : Type 0} → (A → Type 0) → List A → Type 0

@@ -8,7 +8,9 @@ use Rattle.lg_history.specs.Facts.{Fact, digest, image, mark_of, place_of, id_of
 -- marks never fall, and the place of a commit is above each earlier mark
 abbrev pub MarksRise : List JournalItem → List Fact → Type 0
 MarksRise J [] = Unit {0}
-MarksRise J (g ∷ gs) = Each (λ m. Shows (mark_of J) (λ n. m ≤ n) gs × Shows place_of (λ n. m < n) gs) (mark_of J g) × MarksRise J gs
+MarksRise J (g ∷ gs) =
+    Each (λ m. Shows (mark_of J) (λ n. m ≤ n) gs × Shows place_of (λ n. m < n) gs) (mark_of J g)
+    × MarksRise J gs
 
 -- ids rise
 abbrev pub IdsRise : List Fact → Type 0

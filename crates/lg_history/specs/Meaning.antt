@@ -34,7 +34,8 @@ pub record Meaning : Type 0 where
   -- so does a script of nothing
   pub nothing_keeps : (T : Tables) (id : ℕ) → defs (after false T id []) ≡ defs T
   -- so does a statement that has a want in a table's cell
-  pub alone_keeps : (D : Defs) (T : Tables) (id : ℕ) (a b : Text) (o : Bool) → in_table D o a false b ≡ true → defs (after false T id (b ∷ [])) ≡ defs T
+  pub alone_keeps : (D : Defs) (T : Tables) (id : ℕ) (a b : Text) (o : Bool) → in_table D o a false b ≡ true
+      → defs (after false T id (b ∷ [])) ≡ defs T
   -- what has a want in a table's cell wants something
   pub table_wants : (D : Defs) (a b : Text) (o p : Bool) → in_table D o a p b ≡ true → wants p b ≡ true
   -- a block that is closed stays

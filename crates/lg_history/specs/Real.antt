@@ -44,9 +44,12 @@ module _ (reads : Reading) where
     pub defs : (T : Tables) → q.defs T ≡ defs_of T
     pub reading : (text : Text) → q.reads text ≡ reads text
     pub writes : (r : Reply) → q.writes r ≡ reply_text r
-    pub after : (o : Bool) (T : Tables) (id : ℕ) (texts : List Text) → q.after o T id texts ≡ (script reads o T id texts).state.tables
-    pub replies : (o : Bool) (T : Tables) (id : ℕ) (texts : List Text) → q.replies o T id texts ≡ map reply_text (script reads o T id texts).replies
-    pub events : (o : Bool) (T : Tables) (id : ℕ) (texts : List Text) → q.events o T id texts ≡ length (all_events id (script reads o T id texts).state.tables)
+    pub after : (o : Bool) (T : Tables) (id : ℕ) (texts : List Text)
+        → q.after o T id texts ≡ (script reads o T id texts).state.tables
+    pub replies : (o : Bool) (T : Tables) (id : ℕ) (texts : List Text)
+        → q.replies o T id texts ≡ map reply_text (script reads o T id texts).replies
+    pub events : (o : Bool) (T : Tables) (id : ℕ) (texts : List Text)
+        → q.events o T id texts ≡ length (all_events id (script reads o T id texts).state.tables)
     pub in_catalog : (o p : Bool) (a b : Text) → q.in_catalog o a p b ≡ clash_in_catalog o a p b
     pub in_table : (D : Defs) (o p : Bool) (a b : Text) → q.in_table D o a p b ≡ clash_in_table D o a p b
     pub wants : (o : Bool) (text : Text) → q.wants o text ≡ wants_any o text

@@ -40,14 +40,16 @@ EndsAt (ended m back) n = m ≡ n
 module _ (q : Meaning) where
   -- a statement against one that was answered: of one answered E20, only the catalog's want counts
   abbrev pub Clashes : Defs → Bool → Text → Bool → Text × Bool → Type 0
-  Clashes D o text p x = (q.in_catalog o text p x.0 ≡ true) ⊎ ((x.1 ≡ true) × (q.in_table D o text p x.0 ≡ true))
+  Clashes D o text p x =
+      (q.in_catalog o text p x.0 ≡ true) ⊎ ((x.1 ≡ true) × (q.in_table D o text p x.0 ≡ true))
 
   -- with some statement of this transaction, over the tables after n transactions
   abbrev pub ClashesAt : List JournalItem → ℕ → Bool → Text → Transaction → Type 0
   ClashesAt J n o text u = Some_of (Clashes (q.defs (after_tx q q.first n J)) o text u.opened) u.answered
 
 -- A statement of session s is answered E20 and names this holder; before and after it stand these facts in its transcript.
-pub record NamesRightly (q : Meaning) (J : List JournalItem) (setup : Option ℕ) (X : List Transcript) (s : ℕ) (text : Text) (holder : ℕ) (earlier later : List Fact) : Type 0 where
+pub record NamesRightly (q : Meaning) (J : List JournalItem) (setup : Option ℕ) (X : List Transcript) (s : ℕ)
+    (text : Text) (holder : ℕ) (earlier later : List Fact) : Type 0 where
   -- the refused statement stands in this transaction
   pub mine : ℕ
   pub opened : Bool
@@ -73,7 +75,8 @@ pub record NamesRightly (q : Meaning) (J : List JournalItem) (setup : Option ℕ
   pub marks_before : Shows (mark_of J) (λ m. Each (λ k. m ≤ k) (first_shown (mark_of J) spans.after)) earlier
   -- and those of the holder's session before the holder are at most the mark of the end of the refused transaction, which is
   -- the first after the refusal
-  pub marks_of_holder : Shows (mark_of J) (λ m. Each (λ k. m ≤ k) (first_shown (mark_of J) later)) spans.before
+  pub marks_of_holder : Shows (mark_of J)
+      (λ m. Each (λ k. m ≤ k) (first_shown (mark_of J) later)) spans.before
   -- ids: the next id that the refused session has after the refusal is above the holder, if there is one
   pub next_of_refused : Each (λ i. holder < i) (first_shown id_of later)
   -- and the next id that the holder's session has after the holder is above that of the refused transaction

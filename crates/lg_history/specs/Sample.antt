@@ -53,14 +53,16 @@ row = 4 ∷ []
 -- setup commits a statement of its own, and is over
 abbrev pub setup_runs : List Event
 setup_runs =
-    by 0 (starts (115 ∷ [])) ∷ by 0 (takes row) ∷ by 0 (draws 1 false) ∷ by 0 (looks row true) ∷ by 0 (says (row, [])) ∷ by 0 (commits 9 1) ∷ by 0 frees
+    by 0 (starts (115 ∷ [])) ∷ by 0 (takes row) ∷ by 0 (draws 1 false) ∷ by 0 (looks row true)
+    ∷ by 0 (says (row, [])) ∷ by 0 (commits 9 1) ∷ by 0 frees
     ∷ by 0 (answers (statement row reply.Made (Some (committed_at 1 1)))) ∷ by 0 stops ∷ []
 
 -- a session opens transaction 2, and locks
 abbrev pub locks : List Event
 locks =
     by 1 (takes (1 ∷ [])) ∷ by 1 (draws 2 true) ∷ by 1 (answers (statement (1 ∷ []) (reply.Begun 2) None))
-    ∷ by 1 (takes row) ∷ by 1 (looks row true) ∷ by 1 (says (row, [])) ∷ by 1 (answers (statement row reply.Made None)) ∷ []
+    ∷ by 1 (takes row) ∷ by 1 (looks row true) ∷ by 1 (says (row, []))
+    ∷ by 1 (answers (statement row reply.Made None)) ∷ []
 
 -- two sessions begin
 abbrev pub opens : List Event
@@ -69,16 +71,21 @@ opens = by 1 (starts (97 ∷ [])) ∷ by 2 (starts (98 ∷ [])) ∷ locks
 -- the second meets this lock
 abbrev pub is_refused : List Event
 is_refused =
-    by 2 (takes row) ∷ by 2 (draws 3 false) ∷ by 2 (looks row false) ∷ by 2 (meets row 2) ∷ by 2 (ends 1 false) ∷ by 2 frees
+    by 2 (takes row) ∷ by 2 (draws 3 false) ∷ by 2 (looks row false) ∷ by 2 (meets row 2)
+    ∷ by 2 (ends 1 false) ∷ by 2 frees
     ∷ by 2 (answers (statement row (reply.Refused (Locked 2)) (Some (ended_after 3 1)))) ∷ []
 
 -- the first commits
 abbrev pub is_committed : List Event
-is_committed = by 1 (takes (2 ∷ [])) ∷ by 1 (commits 9 2) ∷ by 1 frees ∷ by 1 (answers (statement (2 ∷ []) reply.Quiet (Some (committed_at 2 2)))) ∷ by 1 stops ∷ []
+is_committed =
+    by 1 (takes (2 ∷ [])) ∷ by 1 (commits 9 2) ∷ by 1 frees
+    ∷ by 1 (answers (statement (2 ∷ []) reply.Quiet (Some (committed_at 2 2)))) ∷ by 1 stops ∷ []
 
 -- a block is closed, and the second is issued its digest
 abbrev pub is_issued : List Event
-is_issued = closes 2 ∷ by 2 (takes (3 ∷ [])) ∷ by 2 (issues digest 2) ∷ by 2 (answers (statement (3 ∷ []) (reply.Digest 0 []) None)) ∷ by 2 stops ∷ []
+is_issued =
+    closes 2 ∷ by 2 (takes (3 ∷ [])) ∷ by 2 (issues digest 2)
+    ∷ by 2 (answers (statement (3 ∷ []) (reply.Digest 0 []) None)) ∷ by 2 stops ∷ []
 
 abbrev pub history : List Event
 history = setup_runs ++ (opens ++ (is_refused ++ (is_committed ++ is_issued)))
@@ -89,6 +96,16 @@ input = (row ∷ []) ∷ ((1 ∷ []) ∷ row ∷ (2 ∷ []) ∷ []) ∷ (row ∷
 abbrev pub transcripts : List Transcript
 transcripts =
     record { session = 115 ∷ []; entries = statement row reply.Made (Some (committed_at 1 1)) ∷ [] }
-    ∷ record { session = 97 ∷ []; entries = statement (1 ∷ []) (reply.Begun 2) None ∷ statement row reply.Made None ∷ statement (2 ∷ []) reply.Quiet (Some (committed_at 2 2)) ∷ [] }
-    ∷ record { session = 98 ∷ []; entries = statement row (reply.Refused (Locked 2)) (Some (ended_after 3 1)) ∷ statement (3 ∷ []) (reply.Digest 0 []) None ∷ [] }
+    ∷ record {
+      session =
+          97 ∷ [];
+      entries = statement (1 ∷ []) (reply.Begun 2) None ∷ statement row reply.Made None
+          ∷ statement (2 ∷ []) reply.Quiet (Some (committed_at 2 2)) ∷ [];
+    }
+    ∷ record {
+      session =
+          98 ∷ [];
+      entries = statement row (reply.Refused (Locked 2)) (Some (ended_after 3 1))
+          ∷ statement (3 ∷ []) (reply.Digest 0 []) None ∷ [];
+    }
     ∷ []

@@ -5,6 +5,7 @@ use Rattle.lg_types.specs.declared.journal.JournalItem.TheVariants.{Tx, Close}
 use Rattle.lg_history.specs.Lists.{Text, Each}
 use Rattle.lg_model.specs.Catalog.{Tables}
 use Rattle.lg_model.specs.Journals.{Line}
+use Rattle.lg_model.specs.Limits.{max_block}
 use Rattle.lg_history.specs.Journals.{ids_of}
 use Rattle.lg_history.specs.Meaning.{Meaning}
 
@@ -29,7 +30,8 @@ module _ (q : Meaning) where
   after_tx T n [] = T
   after_tx T n (Close k ∷ is) = after_tx T n is
   after_tx T zero (Tx id session time opened script ∷ is) = T
-  after_tx T (suc n) (Tx id session time opened script ∷ is) = after_tx (q.after opened T id (texts_of script)) n is
+  after_tx T (suc n) (Tx id session time opened script ∷ is) =
+      after_tx (q.after opened T id (texts_of script)) n is
 
   -- each kept reply is that of the script over these tables, and the script leaves at least one start or end
   pub record AgreesTx (T : Tables) (id : ℕ) (opened : Bool) (script : List Line) : Type 0 where
@@ -49,7 +51,7 @@ module _ (q : Meaning) where
 abbrev pub ClosesPending : ℕ → List JournalItem → Type 0
 ClosesPending n [] = Unit {0}
 ClosesPending n (Tx id session time opened script ∷ is) = ClosesPending (suc n) is
-ClosesPending n (Close k ∷ is) = (1 ≤ k) × (k ≤ 100000) × (k ≤ n) × ClosesPending (n - k) is
+ClosesPending n (Close k ∷ is) = (1 ≤ k) × (k ≤ max_block) × (k ≤ n) × ClosesPending (n - k) is
 
 abbrev pub Differ : List ℕ → Type 0
 Differ [] = Unit {0}

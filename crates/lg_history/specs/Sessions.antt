@@ -46,7 +46,14 @@ pub record Sess : Type 0 where
   pub desk : Desk
 
 abbrev pub fresh : Sess
-fresh = record { phase = unborn; name = []; deal = None; done = []; desk = record { taken = []; under = None; entries = []; pending = [] } }
+fresh =
+    record {
+      phase = unborn;
+      name = [];
+      deal = None;
+      done = [];
+      desk = record { taken = []; under = None; entries = []; pending = [] };
+    }
 
 abbrev pub transcript_of : Sess → Transcript
 transcript_of x = record { session = x.name; entries = x.desk.entries }
@@ -57,16 +64,48 @@ abbrev pub drawn : ℕ → Bool → Deal
 drawn id opened = record { id = id; opened = opened; script = []; answered = []; asked = []; fixed = unfixed }
 
 abbrev pub asks : Text → Bool → Deal → Deal
-asks text table d = record { id = d.id; opened = d.opened; script = d.script; answered = d.answered; asked = (text, table) ∷ d.asked; fixed = d.fixed }
+asks text table d =
+    record {
+      id = d.id;
+      opened = d.opened;
+      script = d.script;
+      answered = d.answered;
+      asked = (text, table) ∷ d.asked;
+      fixed = d.fixed;
+    }
 
 abbrev pub hears : Text → Bool → Deal → Deal
-hears text b d = record { id = d.id; opened = d.opened; script = d.script; answered = (text, b) ∷ d.answered; asked = (text, false) ∷ d.asked; fixed = d.fixed }
+hears text b d =
+    record {
+      id = d.id;
+      opened = d.opened;
+      script = d.script;
+      answered = (text, b) ∷ d.answered;
+      asked = (text, false) ∷ d.asked;
+      fixed = d.fixed;
+    }
 
 abbrev pub scripts : Line → Deal → Deal
-scripts line d = record { id = d.id; opened = d.opened; script = d.script ++ line ∷ []; answered = (line.0, true) ∷ d.answered; asked = (line.0, true) ∷ d.asked; fixed = d.fixed }
+scripts line d =
+    record {
+      id = d.id;
+      opened = d.opened;
+      script = d.script ++ line ∷ [];
+      answered = (line.0, true) ∷ d.answered;
+      asked = (line.0, true) ∷ d.asked;
+      fixed = d.fixed;
+    }
 
 abbrev pub fixes : End → Deal → Deal
-fixes e d = record { id = d.id; opened = d.opened; script = d.script; answered = d.answered; asked = d.asked; fixed = e }
+fixes e d =
+    record {
+      id = d.id;
+      opened = d.opened;
+      script = d.script;
+      answered = d.answered;
+      asked = d.asked;
+      fixed = e;
+    }
 
 abbrev pub phase_by : Phase → Act → Phase
 phase_by p (starts name) = runs
@@ -93,9 +132,18 @@ done_by o ds frees = ds ++ listed o
 done_by o ds _ = ds
 
 abbrev pub desk_by : Desk → Act → Desk
-desk_by k (takes text) = record { taken = k.taken ++ text ∷ []; under = Some text; entries = k.entries; pending = k.pending }
-desk_by k (answers entry) = record { taken = k.taken; under = None; entries = k.entries ++ entry ∷ []; pending = [] }
+desk_by k (takes text) =
+    record { taken = k.taken ++ text ∷ []; under = Some text; entries = k.entries; pending = k.pending }
+desk_by k (answers entry) =
+    record { taken = k.taken; under = None; entries = k.entries ++ entry ∷ []; pending = [] }
 desk_by k a = record { taken = k.taken; under = k.under; entries = k.entries; pending = k.pending ++ shown a }
 
 abbrev pub acted : Sess → Act → Sess
-acted x a = record { phase = phase_by x.phase a; name = name_by x.name a; deal = deal_by x.deal a; done = done_by x.deal x.done a; desk = desk_by x.desk a }
+acted x a =
+    record {
+      phase = phase_by x.phase a;
+      name = name_by x.name a;
+      deal = deal_by x.deal a;
+      done = done_by x.deal x.done a;
+      desk = desk_by x.desk a;
+    }

@@ -23,10 +23,13 @@ HasIn past x d = (x.deal ≡ Some d) ⊎ ((past ≡ true) × In d x.done)
 
 -- where a transaction of a session is: open, or at an end that is fixed
 abbrev pub Lies : Bool → List JournalItem → Sess → Deal → Type 0
-Lies past J x d = ((d.fixed ≡ unfixed) × (x.deal ≡ Some d)) ⊎ ((n : ℕ) × EndsAt d.fixed n × (n ≤ tx_count J) × HasIn past x d)
+Lies past J x d =
+    ((d.fixed ≡ unfixed) × (x.deal ≡ Some d))
+    ⊎ ((n : ℕ) × EndsAt d.fixed n × (n ≤ tx_count J) × HasIn past x d)
 
 -- some want that counts of this transaction is such, over the definitions after its end or, until then, those of J
-pub record StandsFor (q : Meaning) (P : Defs → Bool → Text × Bool → Type 0) (past : Bool) (J : List JournalItem) (x : Sess) (id : ℕ) : Type 0 where
+pub record StandsFor (q : Meaning) (P : Defs → Bool → Text × Bool → Type 0) (past : Bool)
+    (J : List JournalItem) (x : Sess) (id : ℕ) : Type 0 where
   pub deal : Deal
   pub is : deal.id ≡ id
   pub lies : Lies past J x deal
@@ -35,8 +38,10 @@ pub record StandsFor (q : Meaning) (P : Defs → Bool → Text × Bool → Type 
 -- what is said of a want stays where definitions change that it can't see
 pub record Firm (q : Meaning) (P : Defs → Bool → Text × Bool → Type 0) : Type 0 where
   pub catalog : (D E : Defs) (p : Bool) (x : Text × Bool) → x.1 ≡ false → P D p x → P E p x
-  pub unwanted : (D E : Defs) (p : Bool) (x : Text × Bool) → x.1 ≡ true → q.wants p x.0 ≡ false → P D p x → P E p x
-  pub alone : (T : Tables) (tx : ℕ) (b : Text) → P (q.defs T) false (b, true) → P (q.defs (q.after false T tx (b ∷ []))) false (b, true)
+  pub unwanted : (D E : Defs) (p : Bool) (x : Text × Bool) → x.1 ≡ true → q.wants p x.0 ≡ false → P D p x
+      → P E p x
+  pub alone : (T : Tables) (tx : ℕ) (b : Text) → P (q.defs T) false (b, true)
+      → P (q.defs (q.after false T tx (b ∷ []))) false (b, true)
 
 -- a refused statement clashes with the transaction of this id
 abbrev pub StandsAgainst : (q : Meaning) → List JournalItem → Sess → ℕ → Bool → Text → Type 0
@@ -44,7 +49,11 @@ StandsAgainst q J x holder opened text = StandsFor q (λ D p y. Clashes q D open
 
 -- a transaction of one statement has that statement alone in its script, and only its wants in a table's cell count
 abbrev pub IsAlone : Deal → Type 0
-IsAlone d = d.opened ≡ false → (d.script ≡ []) ⊎ ((line : Line) × (d.script ≡ line ∷ []) × In (line.0, true) d.asked × Each (λ x. x.1 ≡ true → x.0 ≡ line.0) d.asked)
+IsAlone d =
+    d.opened ≡ false
+    → (d.script ≡ [])
+    ⊎ ((line : Line) × (d.script ≡ line ∷ []) × In (line.0, true) d.asked
+    × Each (λ x. x.1 ≡ true → x.0 ≡ line.0) d.asked)
 
 abbrev pub AloneIn : Option Deal → Type 0
 AloneIn None = Unit {0}
@@ -53,8 +62,13 @@ AloneIn (Some d) = IsAlone d
 -- what an end that is fixed says of the journal
 abbrev pub SettledAt : Meaning → List JournalItem → Text → Deal → End → Type 0
 SettledAt q J name d unfixed = Unit {0}
-SettledAt q J name d (committed n) = (m : ℕ) × (time : ℕ) × (n ≡ suc m) × (n ≤ tx_count J) × (nth_tx m J ≡ Some (Tx d.id name time d.opened d.script))
-SettledAt q J name d (ended n back) = (n ≤ tx_count J) × (replies_of d.script ≡ q.replies d.opened (after_tx q q.first n J) d.id (texts_of d.script)) × (back ≡ false → q.events d.opened (after_tx q q.first n J) d.id (texts_of d.script) ≡ 0)
+SettledAt q J name d (committed n) =
+    (m : ℕ) × (time : ℕ) × (n ≡ suc m) × (n ≤ tx_count J)
+    × (nth_tx m J ≡ Some (Tx d.id name time d.opened d.script))
+SettledAt q J name d (ended n back) =
+    (n ≤ tx_count J)
+    × (replies_of d.script ≡ q.replies d.opened (after_tx q q.first n J) d.id (texts_of d.script))
+    × (back ≡ false → q.events d.opened (after_tx q q.first n J) d.id (texts_of d.script) ≡ 0)
 
 abbrev pub Settled : Meaning → List JournalItem → Sess → Type 0
 Settled q J x = (d : Deal) → Has x d → SettledAt q J x.name d d.fixed

@@ -59,8 +59,13 @@ TakesClose k _ P = ⊥
 -- pending, and m items stand before
 abbrev pub ItemsInOrder : ℕ → ℕ → ℕ → List JournalItem → List Fact → Type 0
 ItemsInOrder N p m J [] = J ≡ []
-ItemsInOrder N p m J (placed place ∷ gs) = TakesTx J (λ K. When (suc p == N) (TakesClose N K (λ L. ItemsInOrder N 0 (m + 2) L gs)) (ItemsInOrder N (suc p) (m + 1) K gs))
-ItemsInOrder N p m J (digest b hash ∷ gs) = When (p == 0) (ItemsInOrder N 0 m J gs) (TakesClose p J (λ K. ItemsInOrder N 0 (m + 1) K gs))
+ItemsInOrder N p m J (placed place ∷ gs) =
+    TakesTx J
+    (λ K. When (suc p == N)
+    (TakesClose N K (λ L. ItemsInOrder N 0 (m + 2) L gs))
+    (ItemsInOrder N (suc p) (m + 1) K gs))
+ItemsInOrder N p m J (digest b hash ∷ gs) =
+    When (p == 0) (ItemsInOrder N 0 m J gs) (TakesClose p J (λ K. ItemsInOrder N 0 (m + 1) K gs))
 ItemsInOrder N p m J (image items ∷ gs) = (items ≡ m) × ItemsInOrder N p m J gs
 ItemsInOrder N p m J (_ ∷ gs) = ItemsInOrder N p m J gs
 
@@ -68,7 +73,8 @@ ItemsInOrder N p m J (_ ∷ gs) = ItemsInOrder N p m J gs
 
 -- the transcripts are one list in the order of the input lines, in which ids and marks count, and the items stand in its order; N is the
 -- block size
-pub record IsStepOrder (q : Meaning) (N : ℕ) (X : List Transcript) (J : List JournalItem) (rows : List Row) : Type 0 where
+pub record IsStepOrder (q : Meaning) (N : ℕ) (X : List Transcript) (J : List JournalItem)
+    (rows : List Row) : Type 0 where
   pub entries : (i : ℕ) (x : Transcript) → At X i x → entries_of i rows ≡ x.entries
   pub counted : Counted J 1 0 (rows_facts q (λ s. None) rows)
   pub items : ItemsInOrder N 0 0 J (rows_facts q (λ s. None) rows)

@@ -38,10 +38,18 @@ abbrev pub new : ℕ → Bool → Transaction
 new id opened = record { id = id; opened = opened; script = []; answered = []; end = unfixed }
 
 abbrev pub adds_line : Line → Transaction → Transaction
-adds_line line u = record { id = u.id; opened = u.opened; script = u.script ++ line ∷ []; answered = (line.0, true) ∷ u.answered; end = u.end }
+adds_line line u =
+    record {
+      id = u.id;
+      opened = u.opened;
+      script = u.script ++ line ∷ [];
+      answered = (line.0, true) ∷ u.answered;
+      end = u.end;
+    }
 
 abbrev pub adds_answer : Text → Bool → Transaction → Transaction
-adds_answer text b u = record { id = u.id; opened = u.opened; script = u.script; answered = (text, b) ∷ u.answered; end = u.end }
+adds_answer text b u =
+    record { id = u.id; opened = u.opened; script = u.script; answered = (text, b) ∷ u.answered; end = u.end }
 
 abbrev pub ends_so : End → Transaction → Transaction
 ends_so e u = record { id = u.id; opened = u.opened; script = u.script; answered = u.answered; end = e }

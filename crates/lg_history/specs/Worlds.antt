@@ -42,7 +42,13 @@ issued_by (issues d mark) = d ∷ []
 issued_by _ = []
 
 abbrev pub step : World → Event → World
-step w (by s a) = record { items = w.items ++ items_by (w.at s) a; next = w.next + ids_by a; issued = w.issued ++ issued_by a; at = put w.at s (acted (w.at s) a) }
+step w (by s a) =
+    record {
+      items = w.items ++ items_by (w.at s) a;
+      next = w.next + ids_by a;
+      issued = w.issued ++ issued_by a;
+      at = put w.at s (acted (w.at s) a);
+    }
 step w (closes k) = record { items = w.items ++ Close k ∷ []; next = w.next; issued = w.issued; at = w.at }
 
 abbrev pub run : World → List Event → World

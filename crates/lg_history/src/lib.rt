@@ -5,5 +5,5 @@ mod laws;
 
 pub use laws::{
     a_history_is_good, histories_agree, histories_agree_so_far, histories_keep_step_order,
-    statements_have_such_a_meaning,
+    legality_is_one_for_all_meanings, statements_have_such_a_meaning,
 };

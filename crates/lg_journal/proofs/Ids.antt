@@ -7,7 +7,7 @@ use Rattle.std.specs.BTreeMap.{is_at}
 use Rattle.std.proofs.lemmas.Bool.Decides.{nat_tests}
 use Rattle.lg_types.specs.declared.journal.JournalItem.{JournalItem}
 use Rattle.lg_types.specs.declared.journal.JournalItem.TheVariants.{Tx, Close}
-use Rattle.lg_journal.specs.Rules.{is_among, ids_differ}
+use Rattle.lg_types.specs.JournalRules.{is_among, ids_differ}
 
 -- two lists of the same ids
 abbrev Same : List ℕ → List ℕ → Type 0
@@ -36,7 +36,8 @@ or_is true b = refl
 or_is false b = refl
 
 -- a set to which an id was added, as the list of those before with it at the front
-added : (id : ℕ) (old new : List ℕ) → ((q : ℕ) → list_any (is_at (nat_cmp q)) new ≡ cond (is_at (nat_cmp id) q) true (list_any (is_at (nat_cmp q)) old))
+added : (id : ℕ) (old new : List ℕ)
+    → ((q : ℕ) → list_any (is_at (nat_cmp q)) new ≡ cond (is_at (nat_cmp id) q) true (list_any (is_at (nat_cmp q)) old))
     → (items : List JournalItem) → ids_differ (id ∷ old) items ≡ ids_differ new items
 added id old new updates items =
     let same : Same (id ∷ old) new = λ q.
@@ -45,7 +46,8 @@ added id old new updates items =
     sym (one ∙ two) in
     differ_same items (id ∷ old) new same
 
-pub inserted : (id : ℕ) (session : List ℕ) (time : ℕ) (opened : Bool) (script : List (List ℕ × List ℕ)) (old new : List ℕ) (is_new : Bool) → is_new ≡ not (list_any (is_at (nat_cmp id)) old)
+pub inserted : (id : ℕ) (session : List ℕ) (time : ℕ) (opened : Bool) (script : List (List ℕ × List ℕ))
+    (old new : List ℕ) (is_new : Bool) → is_new ≡ not (list_any (is_at (nat_cmp id)) old)
     → ((q : ℕ) → list_any (is_at (nat_cmp q)) new ≡ cond (is_at (nat_cmp id) q) true (list_any (is_at (nat_cmp q)) old))
     → (items : List JournalItem) → ids_differ old (Tx id session time opened script ∷ items) ≡ (is_new && ids_differ new items)
 inserted id session time opened script old new is_new is updates items = rw (is, among_is id old, added id old new updates items) refl

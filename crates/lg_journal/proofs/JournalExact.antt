@@ -1,26 +1,29 @@
 -- Journals are read exactly as they are written.
-use Rattle.std.proofs.Common.{◌≡◌, ◌<◌, ◌^◌, ℕ, Bool, true, false, cond, List, [], ◌∷◌, ◌++◌, length, Some, None, refl, sym, ap, subst, ◌∙◌, arith}
-use Rattle.std.specs.Prelude.{codes, ◌&&◌, ◌==◌}
+use Rattle.std.proofs.Common.{◌≡◌, ◌<◌, ◌^◌, ℕ, Bool, true, false, cond, List, [], ◌∷◌, ◌++◌, length, Some, Option, None, refl, sym, ap, subst, ◌∙◌, arith}
+use Rattle.std.specs.Prelude.{IfSome, codes, ◌==◌}
 use Rattle.std.specs.List.{AllByRecursion}
 use Rattle.std.specs.Str.{is_utf8}
 use Rattle.std.proofs.lemmas.List.{append-nil}
-use Rattle.std.proofs.lemmas.Bool.{leb-true, eqb-true}
+use Rattle.std.proofs.lemmas.Bool.{and_from, and_parts, eqb-true}
 use Rattle.std.proofs.lemmas.Bool.Decides.{nat_tests}
+use Rattle.lg_items.specs.DatabaseName.{is_database_name}
+use Rattle.lg_items.specs.Ids.{is_tx_id}
+use Rattle.lg_items.specs.Moment.{is_moment}
+use Rattle.lg_items.specs.SessionName.{is_session_name}
 use Rattle.lg_bytes.specs.Fields.{u8_field, u32_field, u64_field, short_field, wide_field}
-use Rattle.lg_bytes.specs.Readers.{Reader, ◌>>=◌, u8_at, u32_at, u64_at, short_at, wide_at, after, both, mapped, where_, listed, whole}
+use Rattle.lg_bytes.specs.Forms.{tx_id_at, moment_at, session_at, database_at}
+use Rattle.lg_bytes.specs.Readers.{Reader, ◌>>=◌, u8_at, u32_at, u64_at, wide_at, after, both, mapped, where_, listed, whole}
 use Rattle.lg_bytes.specs.Exact.{IsBytes, Exact, Taken}
-use Rattle.lg_bytes.proofs.Written.{bind_some, some_is, u8_exact, u32_exact, u64_exact, short_exact, wide_exact}
+use Rattle.lg_bytes.proofs.FormsExact.{tx_id_exact, moment_exact, session_exact, database_exact}
+use Rattle.lg_bytes.proofs.Written.{bind_some, some_is, u8_exact, u32_exact, u64_exact, wide_exact}
 use Rattle.lg_bytes.proofs.Parts.{after_exact, both_exact, mapped_exact, decoded_exact, where_exact, listed_exact, one_value, whole_sound, whole_complete}
 use Rattle.lg_types.specs.declared.journal.Journal.{Journal}
 use Rattle.lg_types.specs.declared.journal.JournalItem.{JournalItem}
 use Rattle.lg_types.specs.declared.journal.JournalItem.TheVariants.{Tx, Close}
-use Rattle.lg_entry.specs.Entry.{is_tx_id, is_moment}
-use Rattle.lg_entry.specs.SessionName.{is_session_name}
-use Rattle.lg_journal.specs.DatabaseName.{is_database_name}
-use Rattle.lg_journal.specs.Journal.{Statement, statement_bytes, script_bytes, opened_bytes, item_bytes, items_bytes, journal_bytes}
-use Rattle.lg_journal.specs.Rules.{IsStatement, is_block_size, IsItem, ids_differ, closes_follow, IsJournal}
-use Rattle.lg_journal.specs.JournalReading.{text_at, statement_at, script_at, id_at, session_at, time_at, opened_of, opened_at, Run, is_run, run_at, TxParts, tx_of, tx_at, close_of, close_at, item_behind, item_at, stand_together, items_at, database_at, journal_of, journal_at}
-use Rattle.lg_journal.proofs.Names.{and_parts, session_short, database_short}
+use Rattle.lg_journal.specs.Journal.{statement_bytes, script_bytes, opened_bytes, item_bytes, items_bytes, journal_bytes}
+use Rattle.lg_types.specs.JournalRules.{Line, is_block_size, ids_differ, closes_follow}
+use Rattle.lg_journal.specs.Rules.{IsStatement, IsItem, IsJournal}
+use Rattle.lg_journal.specs.JournalReading.{text_at, statement_at, script_at, opened_of, opened_at, Run, is_run, run_at, TxParts, tx_from, tx_at, close_from, close_at, item_behind, item_at, stand_together, items_at, journal_from, journal_at}
 
 -- ---- statements
 
@@ -31,14 +34,14 @@ text_exact : Exact FitText wide_field text_at
 unfolding text_at
 text_exact = where_exact (λ (text : List ℕ). length text < 2 ^ 64) wide_field is_utf8 wide_at wide_exact
 
-abbrev FitStatement : Statement → Type 0
+abbrev FitStatement : Line → Type 0
 FitStatement s = FitText s.0 × FitText s.1
 
 statement_exact : Exact FitStatement statement_bytes statement_at
 unfolding statement_at
 statement_exact = both_exact FitText FitText wide_field wide_field text_at text_at text_exact text_exact
 
-abbrev FitScript : List Statement → Type 0
+abbrev FitScript : List Line → Type 0
 FitScript script = (length script < 2 ^ 64) × AllByRecursion FitStatement script
 
 script_exact : Exact FitScript script_bytes script_at
@@ -48,25 +51,13 @@ script_exact = listed_exact FitStatement statement_bytes statement_at statement_
 -- ---- a transaction
 
 abbrev FitId : ℕ → Type 0
-FitId n = (n < 2 ^ 64) × (is_tx_id n ≡ true)
-
-id_exact : Exact FitId u64_field id_at
-unfolding id_at
-id_exact = where_exact (λ (n : ℕ). n < 2 ^ 64) u64_field is_tx_id u64_at u64_exact
+FitId id = is_tx_id id ≡ true
 
 abbrev FitTime : ℕ → Type 0
-FitTime n = (n < 2 ^ 64) × (is_moment n ≡ true)
-
-time_exact : Exact FitTime u64_field time_at
-unfolding time_at
-time_exact = where_exact (λ (n : ℕ). n < 2 ^ 64) u64_field is_moment u64_at u64_exact
+FitTime time = is_moment time ≡ true
 
 abbrev FitSession : List ℕ → Type 0
-FitSession name = (length name < 2 ^ 16) × (is_session_name name ≡ true)
-
-session_exact : Exact FitSession short_field session_at
-unfolding session_at
-session_exact = where_exact (λ (name : List ℕ). length name < 2 ^ 16) short_field is_session_name short_at short_exact
+FitSession name = is_session_name name ≡ true
 
 abbrev Any : Bool → Type 0
 Any opened = Unit {0}
@@ -82,7 +73,8 @@ flag_small : (b : Bool) → flag b < 256
 flag_small true = omega arith
 flag_small false = omega arith
 
-opened_back_by : (n : ℕ) (a b : Bool) (opened : Bool) → (n == 0) ≡ a → (n == 1) ≡ b → cond a (Some false) (cond b (Some true) None) ≡ Some opened → n ≡ flag opened
+opened_back_by : (n : ℕ) (a b : Bool) (opened : Bool) → (n == 0) ≡ a → (n == 1) ≡ b
+    → cond a (Some false) (cond b (Some true) None) ≡ Some opened → n ≡ flag opened
 opened_back_by n true b opened zero one e = let is : false ≡ opened = cc in rw (← is) (eqb-true _ _ zero)
 opened_back_by n false true opened zero one e = let is : true ≡ opened = cc in rw (← is) (eqb-true _ _ one)
 opened_back_by n false false opened zero one e = absurd cc
@@ -114,41 +106,42 @@ abbrev spell_tx : TxParts → List ℕ
 spell_tx x = u64_field x.0 ++ (short_field x.1.0 ++ (u64_field x.1.1.0 ++ run_bytes x.1.1.1))
 
 abbrev parts_at : Reader TxParts
-parts_at = both id_at (both session_at (both time_at run_at))
+parts_at = both tx_id_at (both session_at (both moment_at run_at))
 
 parts_exact : Exact FitTx spell_tx parts_at
 parts_exact =
     both_exact FitId (λ (x : List ℕ × (ℕ × Run)). FitSession x.0 × (FitTime x.1.0 × FitRun x.1.1)) u64_field (λ (x : List ℕ × (ℕ × Run)). short_field x.0 ++ (u64_field x.1.0 ++ run_bytes x.1.1))
-    id_at (both session_at (both time_at run_at)) id_exact
-    (both_exact FitSession (λ (x : ℕ × Run). FitTime x.0 × FitRun x.1) short_field (λ (x : ℕ × Run). u64_field x.0 ++ run_bytes x.1) session_at (both time_at run_at) session_exact
-    (both_exact FitTime FitRun u64_field run_bytes time_at run_at time_exact run_exact))
+    tx_id_at (both session_at (both moment_at run_at)) tx_id_exact
+    (both_exact FitSession (λ (x : ℕ × Run). FitTime x.0 × FitRun x.1) short_field (λ (x : ℕ × Run). u64_field x.0 ++ run_bytes x.1) session_at (both moment_at run_at) session_exact
+    (both_exact FitTime FitRun u64_field run_bytes moment_at run_at moment_exact run_exact))
 
 -- ---- items
-
-id_fits : (n : ℕ) → is_tx_id n ≡ true → n < 2 ^ 64
-id_fits n e = grind (arith, nat_tests)
-
-time_fits : (n : ℕ) → is_moment n ≡ true → n < 2 ^ 64
-time_fits n e = let le = leb-true _ _ e in omega arith
 
 close_fits : (k : ℕ) → is_block_size k ≡ true → k < 2 ^ 32
 close_fits k e = grind (arith, nat_tests)
 
-fit_statements : (script : List Statement) → AllByRecursion IsStatement script → AllByRecursion FitStatement script
+fit_statements : (script : List Line) → AllByRecursion IsStatement script
+    → AllByRecursion FitStatement script
 fit_statements [] all = tt
 fit_statements (s ∷ script) all = (((all.0.0.size, all.0.0.utf8), (all.0.1.size, all.0.1.utf8)), fit_statements script all.1)
 
-are_statements : (script : List Statement) → AllByRecursion FitStatement script → AllByRecursion IsStatement script
+are_statements : (script : List Line) → AllByRecursion FitStatement script
+    → AllByRecursion IsStatement script
 are_statements [] all = tt
 are_statements (s ∷ script) all =
     ((record { utf8 = all.0.0.1; size = all.0.0.0 }, record { utf8 = all.0.1.1; size = all.0.1.0 }), are_statements script all.1)
 
-tx_is : (x : TxParts) → FitTx x → IsItem (tx_of x)
-tx_is x f = record { id = f.0.1; session = f.1.0.1; time = f.1.1.0.1; alone = f.1.1.1.1; count = f.1.1.1.0.1.0; texts = are_statements x.1.1.1.1 f.1.1.1.0.1.1 }
+tx_is : (x : TxParts) → FitTx x → IsItem (tx_from x)
+tx_is x f = record {
+  rules = record { id = f.0; session = f.1.0; time = f.1.1.0; alone = f.1.1.1.1 };
+  count = f.1.1.1.0.1.0;
+  texts = are_statements x.1.1.1.1 f.1.1.1.0.1.1;
+}
 
-tx_fits : (x : TxParts) → IsItem (tx_of x) → FitTx x
+tx_fits : (x : TxParts) → IsItem (tx_from x) → FitTx x
 tx_fits x is =
-    ((id_fits x.0 is.id, is.id), ((session_short x.1.0 is.session, is.session), ((time_fits x.1.1.0 is.time, is.time), ((tt, (is.count, fit_statements x.1.1.1.1 is.texts)), is.alone))))
+    let rules = is.rules in
+    (rules.id, (rules.session, (rules.time, ((tt, (is.count, fit_statements x.1.1.1.1 is.texts)), rules.alone))))
 
 abbrev FitClose : ℕ → Type 0
 FitClose k = (k < 2 ^ 32) × (is_block_size k ≡ true)
@@ -163,29 +156,32 @@ size_exact = where_exact (λ (n : ℕ). n < 2 ^ 32) u32_field is_block_size u32_
 abbrev TakenBehind : ℕ → List ℕ → JournalItem → List ℕ → Type 0
 TakenBehind kind bytes item rest = Taken IsItem item_bytes (u8_field kind ++ bytes) item rest
 
-behind_takes_by : (kind : ℕ) (a b : Bool) → (kind == 1) ≡ a → (kind == 2) ≡ b → (bytes : List ℕ) (item : JournalItem) (rest : List ℕ) → IsBytes bytes
-    → cond a (mapped tx_of parts_at bytes) (cond b (mapped close_of size_at bytes) None) ≡ Some (item, rest) → TakenBehind kind bytes item rest
+behind_takes_by : (kind : ℕ) (a b : Bool) → (kind == 1) ≡ a → (kind == 2) ≡ b
+    → (bytes : List ℕ) (item : JournalItem) (rest : List ℕ) → IsBytes bytes
+    → cond a (mapped tx_from parts_at bytes) (cond b (mapped close_from size_at bytes) None) ≡ Some (item, rest) → TakenBehind kind bytes item rest
 behind_takes_by kind true b one two bytes item rest fits e =
-    let x = bind_some (parts_at bytes) (λ x. Some (tx_of x.0, x.1)) (item, rest) e in
+    let x = bind_some (parts_at bytes) (λ x. Some (tx_from x.0, x.1)) (item, rest) e in
     let t = parts_exact.takes bytes x.0.0 x.0.1 fits x.1 in
     let is : kind ≡ 1 = eqb-true _ _ one in
-    let made : TakenBehind kind bytes (tx_of x.0.0) x.0.1 = record { parts = ap (λ z. u8_field kind ++ z) t.parts ∙ ap (λ k. u8_field k ++ (spell_tx x.0.0 ++ x.0.1)) is; rest_fits = t.rest_fits; fits = tx_is x.0.0 t.fits } in
+    let made : TakenBehind kind bytes (tx_from x.0.0) x.0.1 = record { parts = ap (λ z. u8_field kind ++ z) t.parts ∙ ap (λ k. u8_field k ++ (spell_tx x.0.0 ++ x.0.1)) is; rest_fits = t.rest_fits; fits = tx_is x.0.0 t.fits } in
     let P : JournalItem × List ℕ → Type 0 = λ q. TakenBehind kind bytes q.0 q.1 in
-    subst P (some_is (tx_of x.0.0, x.0.1) (item, rest) x.2) made
+    subst P (some_is (tx_from x.0.0, x.0.1) (item, rest) x.2) made
 behind_takes_by kind false true one two bytes item rest fits e =
-    let x = bind_some (size_at bytes) (λ x. Some (close_of x.0, x.1)) (item, rest) e in
+    let x = bind_some (size_at bytes) (λ x. Some (close_from x.0, x.1)) (item, rest) e in
     let t = size_exact.takes bytes x.0.0 x.0.1 fits x.1 in
     let is : kind ≡ 2 = eqb-true _ _ two in
-    let made : TakenBehind kind bytes (close_of x.0.0) x.0.1 = record { parts = ap (λ z. u8_field kind ++ z) t.parts ∙ ap (λ k. u8_field k ++ (u32_field x.0.0 ++ x.0.1)) is; rest_fits = t.rest_fits; fits = t.fits.1 } in
+    let made : TakenBehind kind bytes (close_from x.0.0) x.0.1 = record { parts = ap (λ z. u8_field kind ++ z) t.parts ∙ ap (λ k. u8_field k ++ (u32_field x.0.0 ++ x.0.1)) is; rest_fits = t.rest_fits; fits = t.fits.1 } in
     let P : JournalItem × List ℕ → Type 0 = λ q. TakenBehind kind bytes q.0 q.1 in
-    subst P (some_is (close_of x.0.0, x.0.1) (item, rest) x.2) made
+    subst P (some_is (close_from x.0.0, x.0.1) (item, rest) x.2) made
 behind_takes_by kind false false one two bytes item rest fits e = absurd cc
 
-behind_takes : (kind : ℕ) (bytes : List ℕ) (item : JournalItem) (rest : List ℕ) → IsBytes bytes → item_behind kind bytes ≡ Some (item, rest) → TakenBehind kind bytes item rest
+behind_takes : (kind : ℕ) (bytes : List ℕ) (item : JournalItem) (rest : List ℕ) → IsBytes bytes
+    → item_behind kind bytes ≡ Some (item, rest) → TakenBehind kind bytes item rest
 unfolding item_behind tx_at close_at
 behind_takes kind bytes item rest fits e = behind_takes_by kind (kind == 1) (kind == 2) refl refl bytes item rest fits e
 
-item_takes : (bytes : List ℕ) (item : JournalItem) (rest : List ℕ) → IsBytes bytes → item_at bytes ≡ Some (item, rest) → Taken IsItem item_bytes bytes item rest
+item_takes : (bytes : List ℕ) (item : JournalItem) (rest : List ℕ) → IsBytes bytes
+    → item_at bytes ≡ Some (item, rest) → Taken IsItem item_bytes bytes item rest
 unfolding item_at
 item_takes bytes item rest fits e =
     let k = bind_some (u8_at bytes) (λ kind. item_behind kind.0 kind.1) (item, rest) e in
@@ -193,13 +189,14 @@ item_takes bytes item rest fits e =
     let u = behind_takes k.0.0 k.0.1 item rest t.rest_fits k.2 in
     record { parts = t.parts ∙ u.parts; rest_fits = u.rest_fits; fits = u.fits }
 
-item_again : (item : JournalItem) (rest : List ℕ) → IsItem item → item_at (item_bytes item ++ rest) ≡ Some (item, rest)
+item_again : (item : JournalItem) (rest : List ℕ) → IsItem item
+    → item_at (item_bytes item ++ rest) ≡ Some (item, rest)
 unfolding item_at item_behind tx_at close_at u8_at
 item_again (Tx id session time opened script) rest is =
     let x : TxParts = (id, (session, (time, (opened, script)))) in
-    ap (λ o. o >>= λ (y : TxParts × List ℕ). Some (tx_of y.0, y.1)) (parts_exact.again x rest (tx_fits x is))
+    ap (λ o. o >>= λ (y : TxParts × List ℕ). Some (tx_from y.0, y.1)) (parts_exact.again x rest (tx_fits x is))
 item_again (Close k) rest is =
-    ap (λ o. o >>= λ (y : ℕ × List ℕ). Some (close_of y.0, y.1)) (size_exact.again k rest (close_fits k is, is))
+    ap (λ o. o >>= λ (y : ℕ × List ℕ). Some (close_from y.0, y.1)) (size_exact.again k rest (close_fits k is, is))
 
 item_exact : Exact IsItem item_bytes item_at
 item_exact = record { takes = item_takes; again = item_again }
@@ -215,11 +212,7 @@ items_exact = where_exact (λ (items : List JournalItem). (length items < 2 ^ 64
 -- ---- the journal
 
 abbrev FitDatabase : List ℕ → Type 0
-FitDatabase name = (length name < 2 ^ 16) × (is_database_name name ≡ true)
-
-database_exact : Exact FitDatabase short_field database_at
-unfolding database_at
-database_exact = where_exact (λ (name : List ℕ). length name < 2 ^ 16) short_field is_database_name short_at short_exact
+FitDatabase name = is_database_name name ≡ true
 
 abbrev Parts : Type 0
 Parts = List ℕ × List JournalItem
@@ -233,31 +226,30 @@ FitParts x = FitDatabase x.0 × FitItems x.1
 abbrev spell_parts : Parts → List ℕ
 spell_parts x = short_field x.0 ++ items_bytes x.1
 
-both_true : (a b : Bool) → a ≡ true → b ≡ true → (a && b) ≡ true
-both_true a b ea eb = rw (ea, eb) refl
+together : (items : List JournalItem) → ids_differ [] items ≡ true → closes_follow 0 items ≡ true
+    → stand_together items ≡ true
+together items ids closes = and_from (ids_differ [] items) (closes_follow 0 items) ids closes
 
-together : (items : List JournalItem) → ids_differ [] items ≡ true → closes_follow 0 items ≡ true → stand_together items ≡ true
-together items ids closes = both_true (ids_differ [] items) (closes_follow 0 items) ids closes
-
-apart : (items : List JournalItem) → stand_together items ≡ true → (ids_differ [] items ≡ true) × (closes_follow 0 items ≡ true)
+apart : (items : List JournalItem) → stand_together items ≡ true
+    → (ids_differ [] items ≡ true) × (closes_follow 0 items ≡ true)
 apart items e = and_parts (ids_differ [] items) (closes_follow 0 items) e
 
-journal_is : (x : Parts) → FitParts x → IsJournal (journal_of x)
+journal_is : (x : Parts) → FitParts x → IsJournal (journal_from x)
 journal_is x f =
     let a = apart x.1 f.1.1 in
-    record { database = f.0.1; count = f.1.0.0; items = f.1.0.1; ids = a.0; closes = a.1 }
+    record { database = f.0; count = f.1.0.0; items = f.1.0.1; ids = a.0; closes = a.1 }
 
 abbrev spelled : Journal → List ℕ
 spelled j = codes "LGJN" ++ (u8_field 1 ++ (short_field j.database ++ items_bytes j.items))
 
 journal_exact : Exact IsJournal spelled journal_at
 unfolding journal_at
-journal_exact = mapped_exact FitParts IsJournal (λ (x : Parts). codes "LGJN" ++ (u8_field 1 ++ spell_parts x)) spelled journal_of parts_of (after (codes "LGJN") (after (u8_field 1) (both database_at items_at)))
+journal_exact = mapped_exact FitParts IsJournal (λ (x : Parts). codes "LGJN" ++ (u8_field 1 ++ spell_parts x)) spelled journal_from parts_of (after (codes "LGJN") (after (u8_field 1) (both database_at items_at)))
     (record {
       there = λ j. refl;
       spelled = λ x. refl;
       fit = journal_is;
-      fit_back = λ j f. ((database_short j.database f.database, f.database), ((f.count, f.items), together j.items f.ids f.closes));
+      fit_back = λ j f. (f.database, ((f.count, f.items), together j.items f.ids f.closes));
     })
     (after_exact (codes "LGJN") FitParts (λ (x : Parts). u8_field 1 ++ spell_parts x) (after (u8_field 1) (both database_at items_at))
     (after_exact (u8_field 1) FitParts spell_parts (both database_at items_at)
@@ -269,15 +261,19 @@ journal_bytes-is : (j : Journal) → journal_bytes j ≡ spelled j
 unfolding journal_bytes
 journal_bytes-is j = refl
 
-pub found_of : (bytes : List ℕ) (j : Journal) → IsBytes bytes → whole journal_at bytes ≡ Some j → IsJournal j × (bytes ≡ journal_bytes j)
-found_of bytes j fits read =
-    let t = whole_sound IsJournal spelled journal_at journal_exact bytes j fits read in
+pub found_of : (bytes : List ℕ) (found : Option Journal) → IsBytes bytes → found ≡ whole journal_at bytes
+    → IfSome found (λ j. IsJournal j × (bytes ≡ journal_bytes j))
+found_of bytes None fits read = tt
+found_of bytes (Some j) fits read =
+    let t = whole_sound IsJournal spelled journal_at journal_exact bytes j fits (sym read) in
     (t.0, t.1 ∙ sym (journal_bytes-is j))
 
-pub only_of : (bytes : List ℕ) (j : Journal) → IsJournal j → bytes ≡ journal_bytes j → whole journal_at bytes ≡ Some j
+pub only_of : (bytes : List ℕ) (j : Journal) → IsJournal j → bytes ≡ journal_bytes j
+    → whole journal_at bytes ≡ Some j
 only_of bytes j is same = ap (whole journal_at) (same ∙ journal_bytes-is j) ∙ whole_complete IsJournal spelled journal_at journal_exact j is
 
-pub one_journal : (i j : Journal) (rest : List ℕ) → IsJournal i → IsJournal j → journal_bytes i ≡ journal_bytes j ++ rest → (i ≡ j) × (rest ≡ [])
+pub one_journal : (i j : Journal) (rest : List ℕ) → IsJournal i → IsJournal j
+    → journal_bytes i ≡ journal_bytes j ++ rest → (i ≡ j) × (rest ≡ [])
 unfolding journal_bytes
 one_journal i j rest ii ij same = one_value IsJournal spelled journal_at journal_exact i j rest ii ij same
 

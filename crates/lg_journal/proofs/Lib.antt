@@ -1,4 +1,3 @@
 mod Ids
 mod JournalExact
-mod Names
 mod Texts

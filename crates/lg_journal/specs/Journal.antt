@@ -4,17 +4,14 @@ use Rattle.lg_bytes.specs.Fields.{u8_field, u32_field, u64_field, short_field, w
 use Rattle.lg_types.specs.declared.journal.Journal.{Journal}
 use Rattle.lg_types.specs.declared.journal.JournalItem.{JournalItem}
 use Rattle.lg_types.specs.declared.journal.JournalItem.TheVariants.{Tx, Close}
-
--- the text of a statement, and that of its reply
-abbrev pub Statement : Type 0
-Statement = List ℕ × List ℕ
+use Rattle.lg_types.specs.JournalRules.{Line}
 
 -- the text and the reply, each behind its length in 8 bytes
-abbrev pub statement_bytes : Statement → List ℕ
+abbrev pub statement_bytes : Line → List ℕ
 statement_bytes s = wide_field s.0 ++ wide_field s.1
 
 -- the count of the statements in 8 bytes, and each of them
-abbrev pub script_bytes : List Statement → List ℕ
+abbrev pub script_bytes : List Line → List ℕ
 script_bytes script = u64_field (length script) ++ flat_map statement_bytes script
 
 -- 1 where BEGIN opened the transaction
@@ -24,7 +21,8 @@ opened_bytes opened = u8_field (if opened then 1 else 0)
 -- a transaction behind 1: its id, session, time, whether BEGIN opened it, and its statements; a closing behind 2
 abbrev pub item_bytes : JournalItem → List ℕ
 item_bytes (Tx id session time opened script) =
-    u8_field 1 ++ (u64_field id ++ (short_field session ++ (u64_field time ++ (opened_bytes opened ++ script_bytes script))))
+    u8_field 1 ++ (u64_field id ++ (short_field session ++
+    (u64_field time ++ (opened_bytes opened ++ script_bytes script))))
 item_bytes (Close k) = u8_field 2 ++ u32_field k
 
 -- the count of the items in 8 bytes, and each of them

@@ -2,41 +2,26 @@
 use Rattle.std.specs.Prelude.{ℕ, Bool, true, false, ◌&&◌, ◌==◌, List, [], Option, Some, None, codes, if◌then◌else◌}
 use Rattle.std.specs.Str.{is_utf8}
 use Rattle.lg_bytes.specs.Fields.{u8_field}
-use Rattle.lg_bytes.specs.Readers.{Reader, ◌>>=◌, u8_at, u32_at, u64_at, short_at, wide_at, after, both, mapped, decoded, where_, listed}
+use Rattle.lg_bytes.specs.Forms.{tx_id_at, moment_at, session_at, database_at}
+use Rattle.lg_bytes.specs.Readers.{Reader, ◌>>=◌, u8_at, u32_at, u64_at, wide_at, after, both, mapped, decoded, where_, listed}
 use Rattle.lg_types.specs.declared.journal.Journal.{Journal}
 use Rattle.lg_types.specs.declared.journal.JournalItem.{JournalItem}
 use Rattle.lg_types.specs.declared.journal.JournalItem.TheVariants.{Tx, Close}
-use Rattle.lg_entry.specs.Entry.{is_tx_id, is_moment}
-use Rattle.lg_entry.specs.SessionName.{is_session_name}
-use Rattle.lg_journal.specs.DatabaseName.{is_database_name}
-use Rattle.lg_journal.specs.Journal.{Statement}
-use Rattle.lg_journal.specs.Rules.{is_alone, is_block_size, ids_differ, closes_follow}
+use Rattle.lg_types.specs.JournalRules.{Line, is_alone, is_block_size, ids_differ, closes_follow}
 
 -- the text of a statement or of a reply, if it is UTF-8
 unfoldable pub text_at : Reader (List ℕ)
 text_at = where_ is_utf8 wide_at
 
 -- a statement and its reply
-unfoldable pub statement_at : Reader Statement
+unfoldable pub statement_at : Reader Line
 statement_at = both text_at text_at
 
 -- the count of the statements, and each of them
-unfoldable pub script_at : Reader (List Statement)
+unfoldable pub script_at : Reader (List Line)
 script_at = listed u64_at statement_at
 
 -- ---- a transaction
-
--- an id from 1 to 2^63 - 1
-unfoldable pub id_at : Reader ℕ
-id_at = where_ is_tx_id u64_at
-
--- the name of a session
-unfoldable pub session_at : Reader (List ℕ)
-session_at = where_ is_session_name short_at
-
--- a moment up to the greatest
-unfoldable pub time_at : Reader ℕ
-time_at = where_ is_moment u64_at
 
 -- what the flag says, if it is one
 abbrev pub opened_of : ℕ → Option Bool
@@ -48,7 +33,7 @@ opened_at = decoded opened_of u8_at
 
 -- whether BEGIN opened the transaction, and its statements
 abbrev pub Run : Type 0
-Run = Bool × List Statement
+Run = Bool × List Line
 
 -- one statement where BEGIN did not open it
 abbrev pub is_run : Run → Bool
@@ -63,22 +48,22 @@ abbrev pub TxParts : Type 0
 TxParts = ℕ × (List ℕ × (ℕ × Run))
 
 -- the transaction of these parts
-abbrev pub tx_of : TxParts → JournalItem
-tx_of x = Tx x.0 x.1.0 x.1.1.0 x.1.1.1.0 x.1.1.1.1
+abbrev pub tx_from : TxParts → JournalItem
+tx_from x = Tx x.0 x.1.0 x.1.1.0 x.1.1.1.0 x.1.1.1.1
 
 -- a transaction, behind its kind
 unfoldable pub tx_at : Reader JournalItem
-tx_at = mapped tx_of (both id_at (both session_at (both time_at run_at)))
+tx_at = mapped tx_from (both tx_id_at (both session_at (both moment_at run_at)))
 
 -- ---- items
 
 -- the closing of so many
-abbrev pub close_of : ℕ → JournalItem
-close_of k = Close k
+abbrev pub close_from : ℕ → JournalItem
+close_from k = Close k
 
 -- a closing, behind its kind
 unfoldable pub close_at : Reader JournalItem
-close_at = mapped close_of (where_ is_block_size u32_at)
+close_at = mapped close_from (where_ is_block_size u32_at)
 
 -- the item that stands behind a 1 or a 2
 unfoldable pub item_behind : ℕ → Reader JournalItem
@@ -98,14 +83,10 @@ items_at = where_ stand_together (listed u64_at item_at)
 
 -- ---- the journal
 
--- the name of a database
-unfoldable pub database_at : Reader (List ℕ)
-database_at = where_ is_database_name short_at
-
 -- the journal of a database and its items
-abbrev pub journal_of : List ℕ × List JournalItem → Journal
-journal_of x = record { database = x.0; items = x.1 }
+abbrev pub journal_from : List ℕ × List JournalItem → Journal
+journal_from x = record { database = x.0; items = x.1 }
 
 -- the head and the items
 unfoldable pub journal_at : Reader Journal
-journal_at = mapped journal_of (after (codes "LGJN") (after (u8_field 1) (both database_at items_at)))
+journal_at = mapped journal_from (after (codes "LGJN") (after (u8_field 1) (both database_at items_at)))

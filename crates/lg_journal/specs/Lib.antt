@@ -1,4 +1,3 @@
-pub mod DatabaseName
 pub mod Journal
 pub mod JournalReading
 pub mod Rules

@@ -8,5 +8,6 @@ ghost use Rattle.lg_journal.specs.Rules.{IsJournal};
 /// Equal bytes are of equal journals, and no journal's bytes begin another's.
 pub fn equal_bytes_are_of_equal_journals()
     ensures equal { (i j : Journal) → IsJournal i → IsJournal j → journal_bytes i ≡ journal_bytes j → i ≡ j }
-    ensures prefix { (i j : Journal) (rest : List ℕ) → IsJournal i → IsJournal j → journal_bytes i ≡ journal_bytes j ++ rest → rest ≡ [] }
+    ensures prefix { (i j : Journal) (rest : List ℕ) → IsJournal i → IsJournal j
+        → journal_bytes i ≡ journal_bytes j ++ rest → rest ≡ [] }
 {}

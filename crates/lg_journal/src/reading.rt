@@ -1,21 +1,20 @@
 //! Reading the bytes of a journal.
 
 ghost use Rattle.std.specs.Prelude.{◌≡◌, Some, IfOk, IfSome};
-ghost use Rattle.lg_bytes.specs.Readers.{times, whole};
-ghost use Rattle.lg_bytes.specs.Reading.{Gives};
+ghost use Rattle.lg_bytes.specs.Readers.{times};
+ghost use Rattle.lg_bytes.specs.Reading.{Finds, ReadsAs};
 ghost use Rattle.lg_types.specs.declared.journal.Journal.{Journal};
-ghost use Rattle.lg_entry.specs.Entry.{is_tx_id};
 ghost use Rattle.lg_journal.specs.Journal.{journal_bytes};
 ghost use Rattle.lg_journal.specs.Rules.{IsJournal};
-ghost use Rattle.lg_journal.specs.JournalReading.{journal_at, database_at, items_at, item_at, item_behind, tx_at, close_at, id_at, session_at, time_at, run_at, opened_at, script_at, statement_at, text_at};
+ghost use Rattle.lg_journal.specs.JournalReading.{journal_at, items_at, item_at, item_behind, tx_at, close_at, run_at, opened_at, script_at, statement_at, text_at};
 
-use crate::database_name::is_database_name;
 use crate::rules::{closes_follow, ids_differ};
-use lg_base::MAX_TICKS;
-use lg_bytes::{ReadError, literal, short_at, u8_at, u32_at, u64_at, wide_at};
-use lg_entry::is_session_name;
-use lg_items::{Items, Memory, Name, Text, TxId};
-use lg_types::{Journal, JournalItem, Script};
+use lg_bytes::{
+    ReadError, database_at, literal, moment_at, session_at, tx_id_at, u8_at, u32_at, u64_at, whole,
+    wide_at,
+};
+use lg_items::{Items, Memory, Text};
+use lg_types::{Journal, JournalItem, MAX_BLOCK, Script};
 use std::alloc::Global;
 
 /// The journal whose bytes these are, all of them, or None exactly where they are those of no journal that keeps the
@@ -23,28 +22,16 @@ use std::alloc::Global;
 /// look-up of each id in an ordered set.
 pub fn read_journal(alloc: Global, bytes: &[u8]) -> Result<Option<Journal>, Memory>
     ensures found { IfOk result (λ read. IfSome read (λ j. IsJournal j × (bytes.now ≡ journal_bytes j))) }
-    ensures only { (j : Journal) → IsJournal j → bytes.now ≡ journal_bytes j → IfOk result (λ read. read ≡ Some j) }
+    ensures only { (j : Journal) → IsJournal j → bytes.now ≡ journal_bytes j
+        → IfOk result (λ read. read ≡ Some j) }
 {
-    match whole_journal(alloc, bytes) {
-        Ok(j) => Ok(Some(j)),
-        Err(ReadError::Malformed) => Ok(None),
-        Err(ReadError::Memory) => Err(Memory),
-    }
-}
-
-fn whole_journal(alloc: Global, bytes: &[u8]) -> Result<Journal, ReadError>
-    ensures { Gives (λ j. j) result (whole journal_at bytes.now) }
-{
-    let (j, rest) = journal_at(alloc, bytes)?;
-    if !rest.is_empty() {
-        return Err(ReadError::Malformed);
-    }
-    Ok(j)
+    let found = whole(journal_at(alloc, bytes))?;
+    Ok(found)
 }
 
 #[tactic(auto, unfolding(crate::specs::JournalReading::journal_at))]
 fn journal_at(alloc: Global, bytes: &[u8]) -> Result<(Journal, &[u8]), ReadError>
-    ensures { Gives (λ x. (x.0, x.1.now)) result (journal_at bytes.now) }
+    ensures { ReadsAs (λ x. (x.0, x.1.now)) result (journal_at bytes.now) }
 {
     let rest = literal(b"LGJN", bytes)?;
     let rest = literal(&[1], rest)?;
@@ -53,21 +40,9 @@ fn journal_at(alloc: Global, bytes: &[u8]) -> Result<(Journal, &[u8]), ReadError
     Ok((Journal { database, items }, rest))
 }
 
-#[tactic(auto, unfolding(crate::specs::JournalReading::database_at))]
-fn database_at(alloc: Global, bytes: &[u8]) -> Result<(Name, &[u8]), ReadError>
-    ensures { Gives (λ x. (x.0, x.1.now)) result (database_at bytes.now) }
-{
-    let (name, rest) = short_at(bytes)?;
-    if !is_database_name(name) {
-        return Err(ReadError::Malformed);
-    }
-    let name = Name::of(alloc, name)?;
-    Ok((name, rest))
-}
-
 #[tactic(auto, unfolding(crate::specs::JournalReading::items_at))]
 fn items_at(alloc: Global, bytes: &[u8]) -> Result<(Items<JournalItem>, &[u8]), ReadError>
-    ensures { Gives (λ x. (x.0, x.1.now)) result (items_at bytes.now) }
+    ensures { ReadsAs (λ x. (x.0, x.1.now)) result (items_at bytes.now) }
 {
     let (count, rest) = u64_at(bytes)?;
     let (items, rest) = some_items(alloc, count, rest)?;
@@ -85,7 +60,7 @@ fn some_items(
     count: u64,
     bytes: &[u8],
 ) -> Result<(Items<JournalItem>, &[u8]), ReadError>
-    ensures { Gives (λ x. (x.0, x.1.now)) result (times item_at count bytes.now) }
+    ensures { ReadsAs (λ x. (x.0, x.1.now)) result (times item_at count bytes.now) }
 {
     let mut items = Items::new(alloc);
     let mut rest = bytes;
@@ -99,7 +74,7 @@ fn some_items(
 
 #[tactic(auto, unfolding(crate::specs::JournalReading::item_at))]
 fn item_at(alloc: Global, bytes: &[u8]) -> Result<(JournalItem, &[u8]), ReadError>
-    ensures { Gives (λ x. (x.0, x.1.now)) result (item_at bytes.now) }
+    ensures { ReadsAs (λ x. (x.0, x.1.now)) result (item_at bytes.now) }
 {
     let (kind, rest) = u8_at(bytes)?;
     item_behind(alloc, kind, rest)
@@ -107,7 +82,7 @@ fn item_at(alloc: Global, bytes: &[u8]) -> Result<(JournalItem, &[u8]), ReadErro
 
 #[tactic(auto, unfolding(crate::specs::JournalReading::item_behind))]
 fn item_behind(alloc: Global, kind: u8, bytes: &[u8]) -> Result<(JournalItem, &[u8]), ReadError>
-    ensures { Gives (λ x. (x.0, x.1.now)) result (item_behind kind bytes.now) }
+    ensures { ReadsAs (λ x. (x.0, x.1.now)) result (item_behind kind bytes.now) }
 {
     match kind {
         1 => tx_at(alloc, bytes),
@@ -118,11 +93,11 @@ fn item_behind(alloc: Global, kind: u8, bytes: &[u8]) -> Result<(JournalItem, &[
 
 #[tactic(auto, unfolding(crate::specs::JournalReading::tx_at))]
 fn tx_at(alloc: Global, bytes: &[u8]) -> Result<(JournalItem, &[u8]), ReadError>
-    ensures { Gives (λ x. (x.0, x.1.now)) result (tx_at bytes.now) }
+    ensures { ReadsAs (λ x. (x.0, x.1.now)) result (tx_at bytes.now) }
 {
-    let (id, rest) = id_at(bytes)?;
+    let (id, rest) = tx_id_at(bytes)?;
     let (session, rest) = session_at(alloc, rest)?;
-    let (time, rest) = time_at(rest)?;
+    let (time, rest) = moment_at(rest)?;
     let ((opened, script), rest) = run_at(alloc, rest)?;
     let item = JournalItem::Tx {
         id,
@@ -136,59 +111,19 @@ fn tx_at(alloc: Global, bytes: &[u8]) -> Result<(JournalItem, &[u8]), ReadError>
 
 #[tactic(auto, unfolding(crate::specs::JournalReading::close_at))]
 fn close_at(bytes: &[u8]) -> Result<(JournalItem, &[u8]), ReadError>
-    ensures { Gives (λ x. (x.0, x.1.now)) result (close_at bytes.now) }
+    ensures { Finds (λ x. (x.0, x.1.now)) result (close_at bytes.now) }
 {
-    let (k, rest) = u32_at(bytes)?;
-    if k < 1 || k > 100_000 {
+    let (count, rest) = u32_at(bytes)?;
+    if count < 1 || count > MAX_BLOCK {
         return Err(ReadError::Malformed);
     }
-    Ok((JournalItem::Close(k), rest))
-}
-
-#[tactic(auto, unfolding(crate::specs::JournalReading::id_at))]
-fn id_at(bytes: &[u8]) -> Result<(TxId, &[u8]), ReadError>
-    ensures { Gives (λ x. (x.0, x.1.now)) result (id_at bytes.now) }
-{
-    let (id, rest) = u64_at(bytes)?;
-    if !is_tx_id(id) {
-        return Err(ReadError::Malformed);
-    }
-    Ok((id, rest))
-}
-
-fn is_tx_id(id: TxId) -> bool
-    ensures { result ≡ is_tx_id id }
-{
-    0 < id && id < 1 << 63
-}
-
-#[tactic(auto, unfolding(crate::specs::JournalReading::session_at))]
-fn session_at(alloc: Global, bytes: &[u8]) -> Result<(Name, &[u8]), ReadError>
-    ensures { Gives (λ x. (x.0, x.1.now)) result (session_at bytes.now) }
-{
-    let (name, rest) = short_at(bytes)?;
-    if !is_session_name(name) {
-        return Err(ReadError::Malformed);
-    }
-    let name = Name::of(alloc, name)?;
-    Ok((name, rest))
-}
-
-#[tactic(auto, unfolding(crate::specs::JournalReading::time_at))]
-fn time_at(bytes: &[u8]) -> Result<(u64, &[u8]), ReadError>
-    ensures { Gives (λ x. (x.0, x.1.now)) result (time_at bytes.now) }
-{
-    let (time, rest) = u64_at(bytes)?;
-    if time > MAX_TICKS {
-        return Err(ReadError::Malformed);
-    }
-    Ok((time, rest))
+    Ok((JournalItem::Close(count), rest))
 }
 
 // Whether BEGIN opened the transaction, and its statements.
 #[tactic(auto, unfolding(crate::specs::JournalReading::run_at))]
 fn run_at(alloc: Global, bytes: &[u8]) -> Result<((bool, Script), &[u8]), ReadError>
-    ensures { Gives (λ x. (x.0, x.1.now)) result (run_at bytes.now) }
+    ensures { ReadsAs (λ x. (x.0, x.1.now)) result (run_at bytes.now) }
 {
     let (opened, rest) = opened_at(bytes)?;
     let (script, rest) = script_at(alloc, rest)?;
@@ -200,7 +135,7 @@ fn run_at(alloc: Global, bytes: &[u8]) -> Result<((bool, Script), &[u8]), ReadEr
 
 #[tactic(auto, unfolding(crate::specs::JournalReading::opened_at))]
 fn opened_at(bytes: &[u8]) -> Result<(bool, &[u8]), ReadError>
-    ensures { Gives (λ x. (x.0, x.1.now)) result (opened_at bytes.now) }
+    ensures { Finds (λ x. (x.0, x.1.now)) result (opened_at bytes.now) }
 {
     let (flag, rest) = u8_at(bytes)?;
     match flag {
@@ -212,14 +147,14 @@ fn opened_at(bytes: &[u8]) -> Result<(bool, &[u8]), ReadError>
 
 #[tactic(auto, unfolding(crate::specs::JournalReading::script_at))]
 fn script_at(alloc: Global, bytes: &[u8]) -> Result<(Script, &[u8]), ReadError>
-    ensures { Gives (λ x. (x.0, x.1.now)) result (script_at bytes.now) }
+    ensures { ReadsAs (λ x. (x.0, x.1.now)) result (script_at bytes.now) }
 {
     let (count, rest) = u64_at(bytes)?;
     some_statements(alloc, count, rest)
 }
 
 fn some_statements(alloc: Global, count: u64, bytes: &[u8]) -> Result<(Script, &[u8]), ReadError>
-    ensures { Gives (λ x. (x.0, x.1.now)) result (times statement_at count bytes.now) }
+    ensures { ReadsAs (λ x. (x.0, x.1.now)) result (times statement_at count bytes.now) }
 {
     let mut script = Items::new(alloc);
     let mut rest = bytes;
@@ -233,7 +168,7 @@ fn some_statements(alloc: Global, count: u64, bytes: &[u8]) -> Result<(Script, &
 
 #[tactic(auto, unfolding(crate::specs::JournalReading::statement_at))]
 fn statement_at(alloc: Global, bytes: &[u8]) -> Result<((Text, Text), &[u8]), ReadError>
-    ensures { Gives (λ x. (x.0, x.1.now)) result (statement_at bytes.now) }
+    ensures { ReadsAs (λ x. (x.0, x.1.now)) result (statement_at bytes.now) }
 {
     let (text, rest) = text_at(alloc, bytes)?;
     let (reply, rest) = text_at(alloc, rest)?;
@@ -242,7 +177,7 @@ fn statement_at(alloc: Global, bytes: &[u8]) -> Result<((Text, Text), &[u8]), Re
 
 #[tactic(auto, unfolding(crate::specs::JournalReading::text_at))]
 fn text_at(alloc: Global, bytes: &[u8]) -> Result<(Text, &[u8]), ReadError>
-    ensures { Gives (λ x. (x.0, x.1.now)) result (text_at bytes.now) }
+    ensures { ReadsAs (λ x. (x.0, x.1.now)) result (text_at bytes.now) }
 {
     let (text, rest) = wide_at(bytes)?;
     match std::str::from_utf8(text) {

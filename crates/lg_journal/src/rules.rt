@@ -2,7 +2,7 @@
 
 ghost use Rattle.std.specs.Prelude.{◌≡◌, ◌&&◌, List, [], ◌∷◌, IfOk};
 ghost use Rattle.lg_types.specs.declared.journal.JournalItem.{JournalItem};
-ghost use Rattle.lg_journal.specs.Rules.{ids_differ, closes_follow};
+ghost use Rattle.lg_types.specs.JournalRules.{ids_differ, closes_follow};
 
 use lg_items::{Memory, TxId};
 use lg_types::JournalItem;
@@ -24,7 +24,8 @@ pub fn ids_differ(alloc: Global, items: &[JournalItem]) -> Result<bool, Memory>
 
 // Whether the item's id, if it has one, is none of those before. It is one of them afterwards.
 fn is_new(item: &JournalItem, before: &mut BTreeSet<TxId>) -> Result<bool, Memory>
-    ensures { IfOk result (λ is_new. (items : List JournalItem) → ids_differ before.old.keys (item.now ∷ items) ≡ (is_new && ids_differ before.new.keys items)) }
+    ensures { IfOk result (λ is_new. (items : List JournalItem)
+        → ids_differ before.old.keys (item.now ∷ items) ≡ (is_new && ids_differ before.new.keys items)) }
 {
     match item {
         JournalItem::Tx { id, .. } => Ok(before.insert(*id)?),
@@ -40,12 +41,12 @@ pub fn closes_follow(items: &[JournalItem]) -> bool
     for item in items {
         match item {
             JournalItem::Tx { .. } => pending += 1,
-            JournalItem::Close(k) => {
-                let k = u64::from(*k);
-                if k > pending {
+            JournalItem::Close(count) => {
+                let count = u64::from(*count);
+                if count > pending {
                     return false;
                 }
-                pending -= k;
+                pending -= count;
             }
         }
     }

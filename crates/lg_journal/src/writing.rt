@@ -12,15 +12,15 @@ use std::alloc::Global;
 /// The bytes of a journal that keeps the side rules (`docs/FORMATS.md`). The only error is want of memory. Takes time
 /// in proportion to the bytes.
 #[tactic(auto, unfolding(crate::specs::Journal::journal_bytes))]
-pub fn write_journal(alloc: Global, j: &Journal) -> Result<Vec<u8>, Memory>
-    requires { IsJournal j.now }
-    ensures { IfOk result (λ v. v.items ≡ journal_bytes j.now) }
+pub fn write_journal(alloc: Global, journal: &Journal) -> Result<Vec<u8>, Memory>
+    requires { IsJournal journal.now }
+    ensures { IfOk result (λ v. v.items ≡ journal_bytes journal.now) }
 {
     let mut out = Vec::new(alloc);
     out.extend_from_slice(b"LGJN")?;
     put_u8(&mut out, 1)?;
-    put_short(&mut out, j.database.bytes())?;
-    put_items(j.items.as_slice(), &mut out)?;
+    put_short(&mut out, journal.database.bytes())?;
+    put_items(journal.items.as_slice(), &mut out)?;
     Ok(out)
 }
 
@@ -62,9 +62,9 @@ fn put_item(item: &JournalItem, out: &mut Vec<u8>) -> Result<(), Memory>
             put_u8(out, flag_of(*opened))?;
             put_script(script.as_slice(), out)
         }
-        JournalItem::Close(k) => {
+        JournalItem::Close(count) => {
             put_u8(out, 2)?;
-            put_u32(out, *k)
+            put_u32(out, *count)
         }
     }
 }

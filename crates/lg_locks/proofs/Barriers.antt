@@ -7,11 +7,11 @@ use Rattle.std.proofs.lemmas.Map.Keys.{any_passes_from_place}
 use Rattle.std.proofs.lemmas.List.Elements.{filter-append}
 use Rattle.std.proofs.lemmas.Grind.{fold-append}
 use Rattle.lg_types.specs.declared.lock.Want.{Want}
-use Rattle.lg_locks.specs.declared.hold.Hold.{Hold}
+use Rattle.lg_types.specs.declared.lock.Hold.{Hold}
 use Rattle.lg_locks.specs.Index.{picked}
 use Rattle.lg_locks.proofs.Places.{at_has}
 use Rattle.lg_locks.proofs.Indexes.{picked_has, picked_more}
-use Rattle.lg_locks.specs.Conflicts.{Holder, barrier, bars, holder_of, least, least_with}
+use Rattle.lg_model.specs.InTheWay.{Holder, barrier, bars, holder_of, least, least_with}
 
 -- the holders that bar a want
 abbrev pub barring : List Hold → ℕ → Want → List Holder

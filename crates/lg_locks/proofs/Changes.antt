@@ -6,7 +6,7 @@ use Rattle.std.proofs.lemmas.List.{length_push, length-take-le, length-map, get_
 use Rattle.std.proofs.lemmas.List.Elements.{All-append, All-cons, All-take, All-drop, All-weaker, All-filter, All-map, filter_passes}
 use Rattle.std.proofs.lemmas.List.Kept.{AllPairs-filter}
 use Rattle.std.proofs.lemmas.Option.{slice_get_within}
-use Rattle.lg_locks.specs.declared.hold.Hold.{Hold}
+use Rattle.lg_types.specs.declared.lock.Hold.{Hold}
 use Rattle.lg_locks.specs.Items.{item_total}
 use Rattle.lg_locks.specs.Index.{Has, InOrder, Indexed, item_at, passes, staying, stands_before, stays}
 use Rattle.lg_locks.proofs.Orders.{less_is_not_greater, upto_turned}

@@ -6,9 +6,9 @@ use Rattle.std.proofs.lemmas.Bool.{both_ways, cases_order, cases_Bool, ltb-true,
 use Rattle.lg_types.specs.declared.lock.Mode.{Mode}
 use Rattle.lg_types.specs.declared.lock.Mode.TheVariants.{IS, IX, S, X}
 use Rattle.lg_types.specs.declared.lock.Want.{Want}
-use Rattle.lg_locks.specs.declared.hold.Hold.{Hold}
-use Rattle.lg_locks.specs.Holds.{rank}
-use Rattle.lg_locks.specs.Conflicts.{Holder, barrier, bars, holder_of, least_with, precedes}
+use Rattle.lg_types.specs.declared.lock.Hold.{Hold}
+use Rattle.lg_model.specs.Holds.{rank}
+use Rattle.lg_model.specs.InTheWay.{Holder, barrier, bars, holder_of, least_with, precedes}
 
 -- ---- holders as numbers
 

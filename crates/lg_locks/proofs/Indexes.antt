@@ -13,10 +13,10 @@ use Rattle.lg_types.specs.declared.lock.Item.{Item}
 use Rattle.lg_types.specs.declared.lock.Item.TheVariants.{Whole}
 use Rattle.lg_types.specs.declared.lock.Want.{Want}
 use Rattle.lg_model.specs.Locks.{same_item, conflict}
-use Rattle.lg_locks.specs.declared.hold.Hold.{Hold}
+use Rattle.lg_types.specs.declared.lock.Hold.{Hold}
 use Rattle.lg_locks.specs.Items.{item_cmp, item_total}
-use Rattle.lg_locks.specs.Holds.{answers, holds_want}
-use Rattle.lg_locks.specs.Conflicts.{barrier}
+use Rattle.lg_model.specs.Holds.{answers, holds_want}
+use Rattle.lg_model.specs.InTheWay.{barrier}
 use Rattle.lg_locks.specs.Index.{Covers, Has, Indexed, item_at, item_of, picked, stands_before}
 use Rattle.lg_locks.proofs.Orders.{greater_else, greater_behind, lt_before, not_same, rest_behind, same_is_equal}
 use Rattle.lg_locks.proofs.Places.{has_at, between_has}

@@ -7,9 +7,9 @@ use Rattle.std.proofs.lemmas.List.Elements.{All-filter, All-weaker}
 use Rattle.std.proofs.lemmas.List.Filters.{length-filter_both}
 use Rattle.std.proofs.lemmas.List.Folds.{list_any-append}
 use Rattle.std.proofs.lemmas.Map.Views.{any-filter_same}
-use Rattle.lg_locks.specs.declared.hold.Hold.{Hold}
-use Rattle.lg_locks.specs.Holds.{holds_any, is_foreign, is_of}
-use Rattle.lg_locks.specs.Index.{Kept, stands_before, staying, stays}
+use Rattle.lg_types.specs.declared.lock.Hold.{Hold}
+use Rattle.lg_model.specs.Holds.{holds_any, is_foreign, is_of}
+use Rattle.lg_locks.specs.Index.{Bookkeeping, stands_before, staying, stays}
 use Rattle.lg_locks.proofs.Changes.{indexed_more, indexed_back, indexed_left}
 
 -- the transaction is one of these
@@ -26,7 +26,7 @@ whole n new old len is = rw (drop_all (length new) old (omega arith), append-nil
 
 -- ---- nothing is held
 
-pub kept_none : Kept [] [] [] []
+pub kept_none : Bookkeeping [] [] [] []
 unfolding holds_any
 kept_none = record {
   indexed = record {
@@ -57,7 +57,7 @@ any_more holds h tx = list_any-append (is_of tx) holds (h ∷ []) ∙ or_none (l
 known_more : (who : List ℕ) (tx t : ℕ) → known (who ++ tx ∷ []) t ≡ (tx == t || known who t)
 known_more who tx t = list_any-append (λ holder. holder == t) who (tx ∷ []) ∙ or_none (known who t) (tx == t)
 
-module _ (holds : List Hold) (places moved who : List ℕ) (is : Kept holds places moved who) where
+module _ (holds : List Hold) (places moved who : List ℕ) (is : Bookkeeping holds places moved who) where
   -- a transaction that holds something already
   pub known_stays : (h : Hold) → known who h.tx ≡ true → (t : ℕ) → known who t ≡ holds_any (holds ++ h ∷ []) t
   known_stays h already t =
@@ -70,7 +70,7 @@ module _ (holds : List Hold) (places moved who : List ℕ) (is : Kept holds plac
   pub kept_more : (h : Hold) (n : ℕ) (room others : List ℕ) → length holds < length room → n ≤ length places
       → ((k : ℕ) → k < n → stands_before holds h.want.item (get_or places k 0) ≡ true)
       → ((k : ℕ) → n ≤ k → k < length places → stands_before holds h.want.item (get_or places k 0) ≡ false)
-      → ((t : ℕ) → known others t ≡ holds_any (holds ++ h ∷ []) t) → Kept (holds ++ h ∷ []) (insert places n (length holds)) room others
+      → ((t : ℕ) → known others t ≡ holds_any (holds ++ h ∷ []) t) → Bookkeeping (holds ++ h ∷ []) (insert places n (length holds)) room others
   kept_more h n room others wide le before behind holders = record {
     indexed = indexed_more holds h places n is.indexed le before behind;
     room = (let len = length_push holds h in omega arith);
@@ -88,7 +88,7 @@ module _ (holds : List Hold) (places moved who : List ℕ) (is : Kept holds plac
   front_by true b is = is refl
   front_by false b is = refl
 
-  pub kept_back : (k : ℕ) → k ≤ length holds → Kept (take k holds) (filter (λ p. ltb p k) places) moved (filter (holds_any (take k holds)) who)
+  pub kept_back : (k : ℕ) → k ≤ length holds → Bookkeeping (take k holds) (filter (λ p. ltb p k) places) moved (filter (holds_any (take k holds)) who)
   kept_back k le = record {
     indexed = indexed_back holds places k le is.indexed;
     room = (let len = length-take-le k holds le in let room = is.room in omega arith);
@@ -112,7 +112,7 @@ module _ (holds : List Hold) (places moved who : List ℕ) (is : Kept holds plac
       ∙ (ap (λ b. not (t == tx) && b) (is.holders t) ∙ sym (any-filter_same (is_of t) (is_foreign tx) (not (t == tx)) (λ h e. ap (λ y. not (y == tx)) (eqb-true h.tx t e)) holds))
 
   pub kept_released : (tx : ℕ) (f : ℕ → ℕ) (room : List ℕ) → ((p : ℕ) → p < length holds → f p ≡ staying (is_foreign tx) holds p) → length room ≡ length moved
-      → Kept (filter (is_foreign tx) holds) (map f (filter (stays (is_foreign tx) holds) places)) room (filter (λ holder. not (holder == tx)) who)
+      → Bookkeeping (filter (is_foreign tx) holds) (map f (filter (stays (is_foreign tx) holds) places)) room (filter (λ holder. not (holder == tx)) who)
   kept_released tx f room moves same = record {
     indexed = indexed_left (is_foreign tx) holds places f is.indexed moves;
     room = (let fewer = length-filter_both (is_foreign tx) (is_of tx) (λ h. twice (h.tx == tx)) holds in let enough = is.room in omega arith);

@@ -4,10 +4,10 @@ use Rattle.std.specs.Prelude.{◌≢◌, Result}
 use Rattle.std.proofs.Common.{◌≡◌, ◌<◌, ◌≤◌, ◌+◌, ℕ, List, [], ◌∷◌, ◌++◌, take, drop, length, get_or, Option, Some, None, Ok, Err, refl, sym, ap, subst, ◌∙◌, true, false, Bool, cond, arith}
 use Rattle.std.proofs.lemmas.List.{drop_more, drop_all, take-append-le, take_all, length_push}
 use Rattle.lg_types.specs.declared.lock.Want.{Want}
-use Rattle.lg_locks.specs.declared.hold.Hold.{Hold}
-use Rattle.lg_locks.specs.Holds.{hold, holds_want, with_want, holds_after}
-use Rattle.lg_locks.specs.Conflicts.{Conflict, Holder, barrier, conflict_or, first_conflict}
-use Rattle.lg_locks.specs.Asked.{Gives, refused_or}
+use Rattle.lg_types.specs.declared.lock.Hold.{Hold}
+use Rattle.lg_model.specs.Holds.{hold, holds_want, with_want, holds_after}
+use Rattle.lg_model.specs.InTheWay.{Conflict, Holder, barrier, conflict_or, first_conflict}
+use Rattle.lg_locks.specs.Asked.{IsMeant, refused_or}
 use Rattle.lg_locks.specs.declared.lock_err.LockErr.{LockErr}
 use Rattle.lg_locks.specs.declared.lock_err.LockErr.TheVariants.{Locked, Memory}
 use Rattle.lg_types.specs.declared.lock.Item.{Item}
@@ -74,7 +74,7 @@ not_refused (Some c) a b is = absurd cc
 
 -- a refusal goes on as it came
 pub kept_refusal : {A B : Type 0} (o : Option Conflict) (a : A) (b : B) (r : Result B LockErr) (e : LockErr) → IsErrAnd r (λ x. x ≡ e)
-    → (e ≢ Memory → refused_or o a ≡ Err e) → Gives (refused_or o b) r
+    → (e ≢ Memory → refused_or o a ≡ Err e) → IsMeant (refused_or o b) r
 kept_refusal o a b (Ok x) e is told = absurd is
 kept_refusal o a b (Err x) e is told = λ other. subst (λ y. refused_or o b ≡ Err y) (sym is) (same_refusal o a b e (told (λ m. other (is ∙ m))))
 

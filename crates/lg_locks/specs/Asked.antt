@@ -1,11 +1,11 @@
 -- What a transaction that asks for locks is told.
 use Rattle.std.specs.Prelude.{◌≡◌, ◌≢◌, ℕ, Bool, not, List, Option, Some, None, Result, Ok, Err}
 use Rattle.lg_types.specs.declared.lock.Want.{Want}
-use Rattle.lg_locks.specs.declared.hold.Hold.{Hold}
+use Rattle.lg_types.specs.declared.lock.Hold.{Hold}
 use Rattle.lg_locks.specs.declared.lock_err.LockErr.{LockErr}
 use Rattle.lg_locks.specs.declared.lock_err.LockErr.TheVariants.{Locked, Memory}
-use Rattle.lg_locks.specs.Holds.{holds_any}
-use Rattle.lg_locks.specs.Conflicts.{Conflict, first_conflict}
+use Rattle.lg_model.specs.Holds.{holds_any}
+use Rattle.lg_model.specs.InTheWay.{Conflict, first_conflict}
 
 -- the conflict as an error, or else an answer
 abbrev pub refused_or : {A : Type 0} → Option Conflict → A → Result A LockErr
@@ -17,6 +17,6 @@ unfoldable pub asked : List Hold → ℕ → List Want → Result Bool LockErr
 asked holds tx wants = refused_or (first_conflict holds tx wants) (not (holds_any holds tx))
 
 -- the result is what is meant, or there is no memory
-abbrev pub Gives : {A : Type 0} → Result A LockErr → Result A LockErr → Type 0
-Gives meant (Ok a) = meant ≡ Ok a
-Gives meant (Err e) = e ≢ Memory → meant ≡ Err e
+abbrev pub IsMeant : {A : Type 0} → Result A LockErr → Result A LockErr → Type 0
+IsMeant meant (Ok a) = meant ≡ Ok a
+IsMeant meant (Err e) = e ≢ Memory → meant ≡ Err e

@@ -5,8 +5,8 @@ use Rattle.std.specs.Ordering.{is_gt, is_lt}
 use Rattle.lg_types.specs.declared.lock.Item.{Item}
 use Rattle.lg_types.specs.declared.lock.Item.TheVariants.{Whole}
 use Rattle.lg_model.specs.Locks.{same_item}
-use Rattle.lg_locks.specs.declared.hold.Hold.{Hold}
-use Rattle.lg_locks.specs.Holds.{holds_any}
+use Rattle.lg_types.specs.declared.lock.Hold.{Hold}
+use Rattle.lg_model.specs.Holds.{holds_any}
 use Rattle.lg_locks.specs.Items.{item_cmp}
 
 abbrev pub item_of : Hold → Item
@@ -41,10 +41,11 @@ stands_before holds item place = is_lt (item_cmp (item_at holds place) item)
 
 -- these places have all holds on the item, and maybe others
 abbrev pub Covers : List Hold → Item → List ℕ → Type 0
-Covers holds item places = (place : ℕ) → place < length holds → same_item item (item_at holds place) ≡ true → Has places place
+Covers holds item places =
+    (place : ℕ) → place < length holds → same_item item (item_at holds place) ≡ true → Has places place
 
 -- what a lock list keeps beside the holds: their places by item, room to note where holds move, and who holds something
-pub record Kept (holds : List Hold) (places moved who : List ℕ) : Type 0 where
+pub record Bookkeeping (holds : List Hold) (places moved who : List ℕ) : Type 0 where
   pub indexed : Indexed holds places
   pub room : length holds ≤ length moved
   pub holders : (tx : ℕ) → list_any (λ holder. holder == tx) who ≡ holds_any holds tx

@@ -2,15 +2,14 @@
 
 ghost use Rattle.std.specs.Prelude.{◌≡◌, ◌<◌, All, length};
 ghost use Rattle.std.specs.List.{list_any};
-ghost use Rattle.lg_locks.specs.Conflicts.{barrier, bars, least_with, precedes};
-ghost use Rattle.lg_locks.specs.Holds.{answers};
+ghost use Rattle.lg_model.specs.InTheWay.{barrier, bars, least_with, precedes};
+ghost use Rattle.lg_model.specs.Holds.{answers};
 ghost use Rattle.lg_locks.specs.Index.{picked};
 
-use crate::hold::Hold;
 use crate::item::same_item;
 use crate::mode::{conflicts, rank};
 use lg_items::TxId;
-use lg_types::{Mode, Want};
+use lg_types::{Hold, Mode, Want};
 
 /// The least holder that bars the want.
 #[tactic(auto, using(crate::proofs::Barriers::barrier_none, crate::proofs::Barriers::barred_more, crate::proofs::Barriers::passed_more))]

@@ -2,19 +2,12 @@
 
 ghost use Rattle.std.specs.Prelude.{◌≡◌, ◌==◌, IfOk};
 ghost use Rattle.std.specs.List.{list_any};
-ghost use Rattle.lg_locks.specs.Holds.{hold, holds_any};
+ghost use Rattle.lg_model.specs.Holds.{hold, holds_any};
 
 use crate::item::copy_of_item;
 use lg_items::{Memory, TxId};
-use lg_types::Want;
+use lg_types::{Hold, Want};
 use std::alloc::Global;
-
-/// A lock that a transaction holds.
-#[derive(Debug, Drop)]
-pub struct Hold {
-    pub tx: TxId,
-    pub want: Want,
-}
 
 // The transaction's hold of what it wants.
 pub fn hold_of(alloc: Global, tx: TxId, want: &Want) -> Result<Hold, Memory>
@@ -31,7 +24,7 @@ pub fn hold_of(alloc: Global, tx: TxId, want: &Want) -> Result<Hold, Memory>
 }
 
 /// Whether the transaction has one of these holds.
-#[tactic(auto, unfolding(crate::specs::Holds::holds_any))]
+#[tactic(auto, unfolding(lg_model::specs::Holds::holds_any))]
 pub fn holds_any(holds: &[Hold], tx: TxId) -> bool
     ensures { result ≡ holds_any holds.now tx }
 {

@@ -3,12 +3,11 @@
 ghost use Rattle.std.specs.Prelude.{◌≡◌, ◌<◌, ◌≤◌, ℕ, All, true, false, get_or, length, map, OnOk};
 ghost use Rattle.lg_model.specs.Locks.{same_item};
 ghost use Rattle.lg_locks.specs.Index.{Covers, Indexed, item_at, stands_before, staying, stays};
-ghost use Rattle.lg_locks.specs.Holds.{is_foreign};
+ghost use Rattle.lg_model.specs.Holds.{is_foreign};
 
-use crate::hold::Hold;
 use crate::item::{compare_items, same_item};
 use lg_items::{Memory, TxId};
-use lg_types::Item;
+use lg_types::{Hold, Item};
 
 // The item of the hold at a place.
 #[tactic(auto, using(crate::proofs::Indexes::item_read))]
@@ -31,7 +30,8 @@ pub fn first_at(holds: &[Hold], places: &[usize], item: &Item) -> usize
     requires { Indexed holds.now places.now }
     ensures bound { result ≤ length places.now }
     ensures before { (k : ℕ) → k < result → stands_before holds.now item.now (get_or places.now k 0) ≡ true }
-    ensures behind { (k : ℕ) → result ≤ k → k < length places.now → stands_before holds.now item.now (get_or places.now k 0) ≡ false }
+    ensures behind { (k : ℕ) → result ≤ k → k < length places.now
+        → stands_before holds.now item.now (get_or places.now k 0) ≡ false }
 {
     let mut low = 0;
     let mut high = places.len();
@@ -51,7 +51,8 @@ fn end_at(holds: &[Hold], places: &[usize], item: &Item, from: usize) -> usize
     requires within { All (λ place. place < length holds.now) places.now }
     requires from { from ≤ length places.now }
     ensures bound { (from ≤ result) × (result ≤ length places.now) }
-    ensures other { result < length places.now → same_item item.now (item_at holds.now (get_or places.now result 0)) ≡ false }
+    ensures other { result < length places.now
+        → same_item item.now (item_at holds.now (get_or places.now result 0)) ≡ false }
 {
     let mut end = from;
     while end < places.len() && same_item(item, item_at(holds, places[end])) {
@@ -97,7 +98,8 @@ pub fn make_room(moved: &mut Vec<usize>, holds: usize) -> Result<(), Memory>
 pub fn note_moves(holds: &[Hold], moved: &mut [usize], tx: TxId)
     requires { length holds.now ≤ length moved.old }
     ensures len { length moved.new ≡ length moved.old }
-    ensures moves { (place : ℕ) → place < length holds.now → get_or moved.new place 0 ≡ staying (is_foreign tx) holds.now place }
+    ensures moves { (place : ℕ) → place < length holds.now
+        → get_or moved.new place 0 ≡ staying (is_foreign tx) holds.now place }
 {
     let mut kept = 0;
     for place in 0..holds.len() {

@@ -3,18 +3,22 @@
 ghost use Rattle.std.specs.Prelude.{◌≡◌, ◌↔◌, ℕ, List, true, false, length, take, Option, Some, None};
 ghost use Rattle.std.specs.List.{All, Any};
 ghost use Rattle.lg_types.specs.declared.lock.Want.{Want};
-ghost use Rattle.lg_locks.specs.declared.hold.Hold.{Hold};
-ghost use Rattle.lg_locks.specs.Holds.{holds_after};
-ghost use Rattle.lg_locks.specs.Conflicts.{Holder, barrier, bars, holder_of, precedes};
+ghost use Rattle.lg_types.specs.declared.lock.Hold.{Hold};
+ghost use Rattle.lg_model.specs.Holds.{holds_after};
+ghost use Rattle.lg_model.specs.InTheWay.{Holder, barrier, bars, holder_of, precedes};
 
 /// What is taken comes behind what is held, so going back to the number of locks before an `ask` undoes it.
 pub fn back_undoes_an_ask()
-    ensures { (holds : List Hold) (tx : ℕ) (wants : List Want) → take (length holds) (holds_after holds tx wants) ≡ holds }
+    ensures { (holds : List Hold) (tx : ℕ) (wants : List Want)
+        → take (length holds) (holds_after holds tx wants) ≡ holds }
 {}
 
 /// The holder that is named bars the want, and no holder that does precedes it; none is named exactly where none bars it.
 pub fn least_holder_is_named()
-    ensures named { (holds : List Hold) (tx : ℕ) (want : Want) (a : Holder) → barrier holds tx want ≡ Some a → Any (λ h. (bars tx want h ≡ true) × (holder_of h ≡ a)) holds }
-    ensures least { (holds : List Hold) (tx : ℕ) (want : Want) (a : Holder) → barrier holds tx want ≡ Some a → All (λ h. bars tx want h ≡ true → precedes (holder_of h) a ≡ false) holds }
-    ensures none { (holds : List Hold) (tx : ℕ) (want : Want) → barrier holds tx want ≡ None → All (λ h. bars tx want h ≡ false) holds }
+    ensures named { (holds : List Hold) (tx : ℕ) (want : Want) (a : Holder) → barrier holds tx want ≡ Some a
+        → Any (λ h. (bars tx want h ≡ true) × (holder_of h ≡ a)) holds }
+    ensures least { (holds : List Hold) (tx : ℕ) (want : Want) (a : Holder) → barrier holds tx want ≡ Some a
+        → All (λ h. bars tx want h ≡ true → precedes (holder_of h) a ≡ false) holds }
+    ensures none { (holds : List Hold) (tx : ℕ) (want : Want) → barrier holds tx want ≡ None
+        → All (λ h. bars tx want h ≡ false) holds }
 {}

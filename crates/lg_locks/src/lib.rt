@@ -9,12 +9,9 @@ mod laws;
 mod list;
 mod lock_err;
 mod mode;
-#[cfg(test)]
-mod tests;
 
-pub use hold::Hold;
 pub use laws::{back_undoes_an_ask, least_holder_is_named};
-pub use lg_types::{Item, Key, Mode, Want};
+pub use lg_types::{Hold, Item, Key, Mode, Want};
 pub use list::LockList;
 pub use lock_err::LockErr;
 pub use mode::conflicts;

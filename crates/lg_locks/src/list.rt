@@ -1,17 +1,17 @@
 //! The list of locks.
 
 ghost use Rattle.std.specs.Prelude.{◌≡◌, ◌≤◌, ◌++◌, ◌∷◌, [], length, take, OnOk, OnErr};
-ghost use Rattle.lg_locks.specs.Asked.{Gives, asked, refused_or};
-ghost use Rattle.lg_locks.specs.Conflicts.{barrier, first_conflict};
-ghost use Rattle.lg_locks.specs.Holds.{holds_any, holds_want, hold, with_want, holds_after, released};
+ghost use Rattle.lg_locks.specs.Asked.{IsMeant, asked, refused_or};
+ghost use Rattle.lg_model.specs.InTheWay.{barrier, first_conflict};
+ghost use Rattle.lg_model.specs.Holds.{holds_any, holds_want, hold, with_want, holds_after, released};
 
 use crate::conflict::{barrier, some_answers};
-use crate::hold::{Hold, hold_of, holds_any, is_known};
+use crate::hold::{hold_of, holds_any, is_known};
 use crate::index::{first_at, make_room, move_places, note_moves, places_of, stays};
 use crate::item::copy_of_item;
 use crate::lock_err::LockErr;
 use lg_items::{Memory, TxId};
-use lg_types::{Mode, Want};
+use lg_types::{Hold, Mode, Want};
 use std::alloc::Global;
 use std::marker::Model;
 
@@ -29,15 +29,15 @@ pub struct LockList {
 
 impl Model for LockList {
     ghost use Rattle.std.specs.Prelude.{List};
-    ghost use Rattle.lg_locks.specs.declared.hold.Hold.{Hold};
+    ghost use Rattle.lg_types.specs.declared.lock.Hold.{Hold};
 
     ghost Value = { List Hold };
 
-    ghost use Rattle.lg_locks.specs.Index.{Kept};
+    ghost use Rattle.lg_locks.specs.Index.{Bookkeeping};
 
     ghost view = { λ l. l.holds.items };
 
-    ghost invariant = { λ l. Kept l.holds.items l.places.items l.moved.items l.holders.items };
+    ghost invariant = { λ l. Bookkeeping l.holds.items l.places.items l.moved.items l.holders.items };
 }
 
 impl LockList {
@@ -53,7 +53,7 @@ impl LockList {
         }
     }
 
-    /// Gives the transaction all that it wants, or nothing: what it doesn't hold yet comes behind what is held. The
+    /// IsMeant the transaction all that it wants, or nothing: what it doesn't hold yet comes behind what is held. The
     /// answer is whether it held nothing before. `Locked` where another transaction holds something that conflicts;
     /// the first such want decides, and the holder is the least transaction, with the least of its modes that conflict.
     /// After an error nothing has changed.
@@ -61,7 +61,7 @@ impl LockList {
     /// For each want this looks at the locks on its item alone, which it finds by halving, and at the transactions that
     /// hold something. A lock that is new moves the places, a word each, of those on items behind its own.
     pub fn ask(&mut self, tx: TxId, wants: &[Want]) -> Result<bool, LockErr>
-        ensures answer { Gives (asked self.old tx wants.now) result }
+        ensures answer { IsMeant (asked self.old tx wants.now) result }
         ensures ok { OnOk result (self.new ≡ holds_after self.old tx wants.now) }
         ensures err { OnErr result (self.new ≡ self.old) }
     {
@@ -98,7 +98,7 @@ impl LockList {
 
     /// Drops the locks of the transaction; those of others stay as they are. Takes no memory, and looks at each lock
     /// once.
-    #[tactic(auto, unfolding(crate::specs::Holds::released))]
+    #[tactic(auto, unfolding(lg_model::specs::Holds::released))]
     pub fn release(&mut self, tx: TxId)
         ensures { self.new ≡ released self.old tx }
     {
@@ -132,7 +132,7 @@ impl LockList {
 
     // Refuses where a want is barred.
     fn admit(&self, tx: TxId, wants: &[Want]) -> Result<(), LockErr>
-        ensures { Gives (refused_or (first_conflict self.now tx wants.now) tt) result }
+        ensures { IsMeant (refused_or (first_conflict self.now tx wants.now) tt) result }
     {
         for want in wants {
             if let Some((holder, mode)) = self.barrier(tx, want) {

@@ -2,7 +2,7 @@
 
 ghost use Rattle.std.specs.Prelude.{◌≡◌};
 ghost use Rattle.lg_model.specs.Locks.{agree, conflict};
-ghost use Rattle.lg_locks.specs.Holds.{rank};
+ghost use Rattle.lg_model.specs.Holds.{rank};
 
 use lg_types::Mode;
 

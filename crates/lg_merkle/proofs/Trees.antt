@@ -5,7 +5,8 @@ use Rattle.std.proofs.Math.Nat.{one-le-pow}
 use Rattle.lg_merkle.specs.TreeHash.{split_of, tree_hash, tree_hash_within}
 use Rattle.lg_merkle.proofs.Split.{split_is, split_at}
 
-fuel : (h : List ℕ → List ℕ) (d e : ℕ) (leaves : List (List ℕ)) → length leaves ≤ d → length leaves ≤ e → tree_hash_within h d leaves ≡ tree_hash_within h e leaves
+fuel : (h : List ℕ → List ℕ) (d e : ℕ) (leaves : List (List ℕ)) → length leaves ≤ d → length leaves ≤ e
+    → tree_hash_within h d leaves ≡ tree_hash_within h e leaves
 fuel h d e [] ld le = refl
 fuel h d e (x ∷ []) ld le = refl
 fuel h zero e (x ∷ y ∷ ls) ld le = absurd (omega arith)
@@ -21,7 +22,8 @@ fuel h (suc d) (suc e) (x ∷ y ∷ ls) ld le =
     rw (one, two) refl
 
 -- the equation of the tree hash for two leaves and more
-pub tree_hash_two : (h : List ℕ → List ℕ) (all : List (List ℕ)) → 2 ≤ length all → tree_hash h all ≡ h (1 ∷ tree_hash h (take (split_of (length all)) all) ++ tree_hash h (drop (split_of (length all)) all))
+pub tree_hash_two : (h : List ℕ → List ℕ) (all : List (List ℕ)) → 2 ≤ length all
+    → tree_hash h all ≡ h (1 ∷ tree_hash h (take (split_of (length all)) all) ++ tree_hash h (drop (split_of (length all)) all))
 tree_hash_two h [] l = absurd (omega arith)
 tree_hash_two h (x ∷ []) l = absurd (omega arith)
 tree_hash_two h (x ∷ y ∷ ls) l =
@@ -34,7 +36,8 @@ tree_hash_two h (x ∷ y ∷ ls) l =
     let two = fuel h (suc (length ls)) (length (drop (split_of (length all)) all)) (drop (split_of (length all)) all) (omega (arith, s.power, s.below)) (omega arith) in
     rw (one, two) refl
 
-pub tree_hash_join : (h : List ℕ → List ℕ) (c d : List (List ℕ)) (a : ℕ) → length c ≡ 2 ^ a → 1 ≤ length d → length d ≤ length c → tree_hash h (c ++ d) ≡ h (1 ∷ tree_hash h c ++ tree_hash h d)
+pub tree_hash_join : (h : List ℕ → List ℕ) (c d : List (List ℕ)) (a : ℕ) → length c ≡ 2 ^ a → 1 ≤ length d
+    → length d ≤ length c → tree_hash h (c ++ d) ≡ h (1 ∷ tree_hash h c ++ tree_hash h d)
 tree_hash_join h c d a power some few =
     let len = length-append c d in
     let one : 1 ≤ 2 ^ a = one-le-pow a 2 (lit< tt) in

@@ -14,7 +14,8 @@ pub record IsNode (h : List ℕ → List ℕ) (n : Node) (leaves : List (List �
 abbrev pub IsStack : (List ℕ → List ℕ) → List Node → List (List ℕ) → ℕ → Type 0
 IsStack h [] leaves more = leaves ≡ []
 IsStack h (n ∷ ns) leaves more =
-    (front : List (List ℕ)) × (rest : List (List ℕ)) × (leaves ≡ front ++ rest) × IsNode h n front × (length rest + more ≤ length front) × IsStack h ns rest more
+    (front : List (List ℕ)) × (rest : List (List ℕ)) × (leaves ≡ front ++ rest) × IsNode h n front
+    × (length rest + more ≤ length front) × IsStack h ns rest more
 
 -- the root over some nodes: each is joined with the root over those behind it
 abbrev pub stack_root : (List ℕ → List ℕ) → List Node → List ℕ

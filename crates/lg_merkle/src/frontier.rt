@@ -25,17 +25,17 @@ pub struct FrontierMark {
 }
 
 // The root over the complete trees, joined from the last one on.
-fn root_of<H: Hash32>(h: H, nodes: &[Node]) -> [u8; 32]
-    ensures { result ≡ stack_root (H.digest h) nodes.now }
+fn root_of<H: Hash32>(hasher: H, nodes: &[Node]) -> [u8; 32]
+    ensures { result ≡ stack_root (H.digest hasher) nodes.now }
 {
     match nodes {
-        [] => h.hash(&[], &[]),
+        [] => hasher.hash(&[], &[]),
         [.., last] => {
             let mut hash = last.hash;
             let mut at = nodes.len() - 1;
             while at > 0 {
                 at -= 1;
-                hash = node_hash(h, &nodes[at].hash, &hash);
+                hash = node_hash(hasher, &nodes[at].hash, &hash);
             }
             hash
         }
@@ -43,10 +43,10 @@ fn root_of<H: Hash32>(h: H, nodes: &[Node]) -> [u8; 32]
 }
 
 // Puts a node on, joined with each last node that is as large.
-fn put_on<H: Hash32>(h: H, nodes: &mut ArrayVec<Node, 64>, node: Node)
+fn put_on<H: Hash32>(hasher: H, nodes: &mut ArrayVec<Node, 64>, node: Node)
     requires { length nodes.old.items < 63 }
     ensures len { length nodes.new.items ≤ length nodes.old.items + 1 }
-    ensures stack { PutOn (H.digest h) nodes.old.items node nodes.new.items }
+    ensures stack { PutOn (H.digest hasher) nodes.old.items node nodes.new.items }
 {
     let mut node = node;
     loop {
@@ -62,7 +62,7 @@ fn put_on<H: Hash32>(h: H, nodes: &mut ArrayVec<Node, 64>, node: Node)
                     return;
                 }
                 let size = node.size.saturating_mul(2);
-                let hash = node_hash(h, &last.hash, &node.hash);
+                let hash = node_hash(hasher, &last.hash, &node.hash);
                 node = Node { size, hash };
             }
         }
@@ -82,19 +82,20 @@ impl<H: Hash32> Frontier<H> {
     ghost use Rattle.lg_merkle.specs.Holds.{Holds, HasRoom, Marks};
 
     /// A tree without leaves.
-    pub fn new(h: H) -> Frontier<H>
-        ensures { Holds H.digest h result [] }
+    pub fn new(hasher: H) -> Frontier<H>
+        ensures { Holds H.digest hasher result [] }
     {
         Frontier {
             nodes: ArrayVec::new(),
             count: 0,
-            hasher: h,
+            hasher,
         }
     }
 
     /// The number of leaves.
     pub fn count(&self) -> u64
-        ensures { (h : H) (leaves : List (List ℕ)) → Holds H.digest h self.now leaves → result ≡ length leaves }
+        ensures { (h : H) (leaves : List (List ℕ)) → Holds H.digest h self.now leaves
+            → result ≡ length leaves }
     {
         self.count
     }
@@ -122,7 +123,8 @@ impl<H: Hash32> Frontier<H> {
 
     /// What the tree is now. It copies at most 64 nodes.
     pub fn save(&self) -> FrontierMark
-        ensures { (h : H) (leaves : List (List ℕ)) → Holds H.digest h self.now leaves → Marks (H.digest h) result leaves }
+        ensures { (h : H) (leaves : List (List ℕ)) → Holds H.digest h self.now leaves
+            → Marks (H.digest h) result leaves }
     {
         let mut nodes = ArrayVec::new();
         copy_onto(&mut nodes, &self.nodes);

@@ -14,12 +14,13 @@ pub fn tree_hash_law()
     ensures one { (h : List ℕ → List ℕ) (leaf : List ℕ) → tree_hash h (leaf ∷ []) ≡ h (0 ∷ leaf) }
     ensures more { (h : List ℕ → List ℕ) (leaves : List (List ℕ)) (height : ℕ)
         → 2 ^ height < length leaves → length leaves ≤ 2 * 2 ^ height
-        → tree_hash h leaves ≡ h (1 ∷ tree_hash h (take (2 ^ height) leaves) ++ tree_hash h (drop (2 ^ height) leaves)) }
+        → tree_hash h leaves
+        ≡ h (1 ∷ tree_hash h (take (2 ^ height) leaves) ++ tree_hash h (drop (2 ^ height) leaves)) }
 {}
 
 /// The root of a tree of one leaf, at the cost of that leaf's hash.
-pub fn root_of_leaf<H: Hash32>(h: H, leaf: &[u8]) -> [u8; 32]
-    ensures { result ≡ tree_hash (H.digest h) (leaf.now ∷ []) }
+pub fn root_of_leaf<H: Hash32>(hasher: H, leaf: &[u8]) -> [u8; 32]
+    ensures { result ≡ tree_hash (H.digest hasher) (leaf.now ∷ []) }
 {
-    leaf_hash(h, leaf)
+    leaf_hash(hasher, leaf)
 }

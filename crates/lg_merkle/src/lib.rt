@@ -9,6 +9,3 @@ mod node;
 pub use frontier::{Frontier, FrontierMark};
 pub use hash::{Hash32, Sha256Hash};
 pub use law::{root_of_leaf, tree_hash_law};
-
-#[cfg(test)]
-mod tests;

@@ -12,17 +12,17 @@ pub struct Node {
 }
 
 /// The hash of a leaf: a zero byte stands before it, so that no leaf reads as a node.
-pub fn leaf_hash<H: Hash32>(h: H, leaf: &[u8]) -> [u8; 32]
-    ensures { result ≡ H.digest h (0 ∷ leaf.now) }
+pub fn leaf_hash<H: Hash32>(hasher: H, leaf: &[u8]) -> [u8; 32]
+    ensures { result ≡ H.digest hasher (0 ∷ leaf.now) }
 {
-    h.hash(&[0], leaf)
+    hasher.hash(&[0], leaf)
 }
 
 /// The hash of two nodes: a one byte stands before them.
-pub fn node_hash<H: Hash32>(h: H, left: &[u8; 32], right: &[u8; 32]) -> [u8; 32]
-    ensures { result ≡ H.digest h (1 ∷ left.now ++ right.now) }
+pub fn node_hash<H: Hash32>(hasher: H, left: &[u8; 32], right: &[u8; 32]) -> [u8; 32]
+    ensures { result ≡ H.digest hasher (1 ∷ left.now ++ right.now) }
 {
     let mut head = [1u8; 33];
     head[1..].copy_from_slice(left);
-    h.hash(&head, right)
+    hasher.hash(&head, right)
 }

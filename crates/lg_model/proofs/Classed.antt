@@ -21,7 +21,7 @@ use Rattle.lg_model.specs.Columns.{fits, place_of}
 use Rattle.lg_value.specs.Tree.{Tree, literal, column, minus, not, is_null, binary, tree}
 use Rattle.lg_model.specs.Days.{written_day}
 use Rattle.lg_model.specs.Classes as cl
-use Rattle.lg_model.specs.Meaning as me
+use Rattle.lg_model.specs.Evaluation as me
 use Rattle.lg_model.specs.Outcomes.{IsOf, Answers}
 
 -- what goes on with a value was answered one
@@ -59,11 +59,11 @@ applied op.And x y c a b ok is also = grind (arith, common_steps)
 applied op.Or x y c a b ok is also = grind (arith, common_steps)
 
 -- the same with a text literal that is a date on the left
-left_day : (o : Op) (d : ℕ) (y c : Class) (a b : Outcome) → cl.binary_class o (cl.beside_day (Some d) Text y) y ≡ Ok c → IsOf Text a → IsOf y b
+left_day : (o : Op) (d : ℕ) (y c : Class) (a b : Outcome) → cl.binary_class o (cl.class_beside_day (Some d) Text y) y ≡ Ok c → IsOf Text a → IsOf y b
     → Answers c (me.applied o (me.beside_day (Some d) a b) b)
 left_day o d y c a b ok is also = grind (arith, common_steps, applied)
 
-right_day : (o : Op) (d : ℕ) (x c : Class) (a b : Outcome) → cl.binary_class o x (cl.beside_day (Some d) Text x) ≡ Ok c → IsOf x a → IsOf Text b
+right_day : (o : Op) (d : ℕ) (x c : Class) (a b : Outcome) → cl.binary_class o x (cl.class_beside_day (Some d) Text x) ≡ Ok c → IsOf x a → IsOf Text b
     → Answers c (me.applied o a (me.beside_day (Some d) b a))
 right_day o d x c a b ok is also = grind (arith, common_steps, applied)
 
@@ -118,13 +118,13 @@ abbrev IsTextAt : Option ℕ → Class → Type 0
 IsTextAt t x = (d : ℕ) → t ≡ Some d → x ≡ Text
 
 with_days : (o : Op) (t u : Option ℕ) (x y c : Class) (a b : Outcome) → IsTextAt t x → IsTextAt u y
-    → cl.binary_class o (cl.beside_day t x y) (cl.beside_day u y x) ≡ Ok c → IsOf x a → IsOf y b
+    → cl.binary_class o (cl.class_beside_day t x y) (cl.class_beside_day u y x) ≡ Ok c → IsOf x a → IsOf y b
     → Answers c (me.applied o (me.beside_day t a b) (me.beside_day u b a))
 with_days o None None x y c a b text also ok is too = applied o x y c a b ok is too
 with_days o (Some d) None x y c a b text also ok is too =
-    left_day o d y c a b (subst (λ k. cl.binary_class o (cl.beside_day (Some d) k y) y ≡ Ok c) (text d refl) ok) (subst (λ k. IsOf k a) (text d refl) is) too
+    left_day o d y c a b (subst (λ k. cl.binary_class o (cl.class_beside_day (Some d) k y) y ≡ Ok c) (text d refl) ok) (subst (λ k. IsOf k a) (text d refl) is) too
 with_days o None (Some d) x y c a b text also ok is too =
-    right_day o d x c a b (subst (λ k. cl.binary_class o x (cl.beside_day (Some d) k x) ≡ Ok c) (also d refl) ok) is (subst (λ k. IsOf k b) (also d refl) too)
+    right_day o d x c a b (subst (λ k. cl.binary_class o x (cl.class_beside_day (Some d) k x) ≡ Ok c) (also d refl) ok) is (subst (λ k. IsOf k b) (also d refl) too)
 with_days o (Some d) (Some e) x y c a b text also ok is too = grind (arith, common_steps, text d refl, also e refl, applied)
 
 -- ---- expressions

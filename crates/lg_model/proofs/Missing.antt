@@ -75,7 +75,7 @@ only columns (not a) = only_after (cl.class columns a) cl.opposite_class (only c
 only columns (is_null a n) = only_after (cl.class columns a) cl.null_test_class (only columns a) only_null_test
 only columns (binary o a b) =
     only_after (cl.class columns a) _ (only columns a) (λ x. only_after (cl.class columns b) _ (only columns b) (λ y.
-    only_binary o (cl.beside_day (written_day a) x y) (cl.beside_day (written_day b) y x)))
+    only_binary o (cl.class_beside_day (written_day a) x y) (cl.class_beside_day (written_day b) y x)))
 
 -- E04 exactly where a column is missing
 chosen : (named : Bool) (m : Checked Class) → OnlyE05 m → ((if named then m else Err E04) ≡ Err E04) ↔ (named ≡ false)

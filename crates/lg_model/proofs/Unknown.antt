@@ -10,7 +10,7 @@ use Rattle.lg_types.specs.declared.outcome.Outcome.{Outcome}
 use Rattle.lg_types.specs.declared.outcome.Outcome.TheVariants as out
 use Rattle.lg_value.specs.Tree.{Tree, literal, column, minus, not, is_null, binary}
 use Rattle.lg_model.specs.Days.{written_day}
-use Rattle.lg_model.specs.Meaning as me
+use Rattle.lg_model.specs.Evaluation as me
 use Rattle.lg_model.specs.Operators.{IsComparison}
 
 -- what is NULL writes no day

@@ -67,7 +67,7 @@ pub record Wants : Type 0 where
 abbrev pub wants_of : Defs → Bool → Stmt → Wants
 wants_of defs opened stmt = record { catalog = catalog_want opened stmt; cell = cell_wants defs stmt }
 
-pub record Agree (T U : Tables) (w : Wants) : Type 0 where
+pub record AgreeFor (T U : Tables) (w : Wants) : Type 0 where
   pub catalog : AgreeInCatalog w.catalog T U
   pub cell : AgreeInCell w.cell T U
 

@@ -11,13 +11,14 @@ use Rattle.lg_value.specs.Conversion.{Converted, conversion_of}
 use Rattle.lg_value.specs.Refusal.{refusal_of}
 use Rattle.lg_types.specs.declared.outcome.Outcome.{Outcome}
 use Rattle.lg_types.specs.declared.outcome.Outcome.TheVariants as out
-use Rattle.lg_types.specs.declared.version.Typed.{Typed}
+pub use Rattle.lg_types.specs.declared.change.Change.{Change}
+pub use Rattle.lg_types.specs.declared.change.Change.TheVariants.{Starts, Ends}
 use Rattle.lg_types.specs.declared.version.Version.{Version}
 use Rattle.lg_types.specs.declared.statement.RowStmt.{RowStmt}
 use Rattle.lg_types.specs.declared.statement.RowStmt.TheVariants.{Insert, Update, Delete}
 use Rattle.lg_types.specs.declared.table.TableDef.{TableDef}
 use Rattle.lg_model.specs.Refusals.{Checked, and_then}
-use Rattle.lg_model.specs.Meaning.{meaning_of}
+use Rattle.lg_model.specs.Evaluation.{meaning_of}
 use Rattle.lg_model.specs.Lists.{checked_map, checked_filter, checked_fold}
 use Rattle.lg_model.specs.Rows.{Row, EventId, stored_row, values_of, started, ended}
 use Rattle.lg_model.specs.Keys.{Key, key_of, same_key, stands, standing}
@@ -25,12 +26,6 @@ use Rattle.lg_model.specs.Parts.{start_columns, base_row}
 use Rattle.lg_model.specs.Where.{holds, key_fixed}
 
 -- ---- starts and ends
-
-pub data Change : Type 0 where
-  -- a version with these values starts
-  Starts : List (Option Typed) → Change
-  -- the version that this event started ends
-  Ends : EventId → Change
 
 -- a change, as this event
 abbrev pub changed : EventId → Change → List Version → List Version
@@ -72,21 +67,25 @@ arranged columns (Some names) values = map (λ c. value_named (zip names values)
 module _ (columns : List ColumnDef) (versions : List Version) where
   -- a row of this key stands, or is among those inserted before
   unfoldable pub is_duplicate : List Row → Key → Bool
-  is_duplicate before key = stands columns key versions || list_any (λ row. same_key (key_of columns row) key) before
+  is_duplicate before key =
+      stands columns key versions || list_any (λ row. same_key (key_of columns row) key) before
 
   abbrev pub one_more : List Row → Row → Checked (List Row)
   one_more before row = if is_duplicate before (key_of columns row) then Err E07 else Ok (before ++ row ∷ [])
 
   -- the rows of VALUES as they are kept, in written order, each after those before it
   unfoldable pub inserted_rows : Option (List (List ℕ)) → List Row → Checked (List Row)
-  inserted_rows names rows = checked_fold (λ before row. and_then (kept_row columns (arranged columns names row)) (one_more before)) [] rows
+  inserted_rows names rows =
+      checked_fold
+      (λ before row. and_then (kept_row columns (arranged columns names row)) (one_more before)) [] rows
 
 -- ---- UPDATE and DELETE
 
 -- the versions that a condition takes, in key order
 unfoldable pub versions_matched : List ColumnDef → Option Expr → List Version → Checked (List Version)
 versions_matched columns cond versions =
-    checked_filter (λ v. holds (columns ++ start_columns) cond (base_row v)) (standing columns (key_fixed columns cond) versions)
+    checked_filter (λ v. holds (columns ++ start_columns) cond (base_row v))
+    (standing columns (key_fixed columns cond) versions)
 
 abbrev pub expr_set : List (List ℕ × Expr) → List ℕ → Option Expr
 expr_set [] name = None
@@ -99,11 +98,14 @@ as_value (out.Truth t) = Err E05
 -- a column's value after SET, over the row before; a column that isn't named keeps its value
 abbrev pub value_set : List ColumnDef → Row → ColumnDef → Value → Option Expr → Checked Value
 value_set columns row c v None = Ok v
-value_set columns row c v (Some e) = and_then (meaning_of (columns ++ start_columns) row e) (λ o. and_then (as_value o) (kept c))
+value_set columns row c v (Some e) =
+    and_then (meaning_of (columns ++ start_columns) row e) (λ o. and_then (as_value o) (kept c))
 
 -- a version's row after SET, column by column
 unfoldable pub row_set : List ColumnDef → List (List ℕ × Expr) → Version → Checked Row
-row_set columns sets v = checked_map (λ p. value_set columns (base_row v) p.0 p.1 (expr_set sets p.0.name)) (zip columns (values_of v))
+row_set columns sets v =
+    checked_map (λ p. value_set columns (base_row v) p.0 p.1 (expr_set sets p.0.name))
+    (zip columns (values_of v))
 
 abbrev pub replaced : List ColumnDef → Version → Row → List Change
 replaced columns v row = Ends v.start ∷ Starts (stored_row columns row) ∷ []
@@ -127,8 +129,11 @@ deletion versions = (map (λ v. Ends v.start) versions, length versions)
 
 -- the changes that a row statement makes to the versions of its table, and the number of rows that it replies
 unfoldable pub row_changes : TableDef → List Version → RowStmt → Checked Changes
-row_changes def versions (Insert table names rows) = and_then (inserted_rows def.columns versions names rows) (λ kept. Ok (insertion def.columns kept))
+row_changes def versions (Insert table names rows) =
+    and_then (inserted_rows def.columns versions names rows) (λ kept. Ok (insertion def.columns kept))
 row_changes def versions (Update table sets cond) =
     and_then (versions_matched def.columns cond versions) (λ taken.
-    and_then (checked_map (row_set def.columns sets) taken) (λ rows. Ok (replacement def.columns (zip taken rows))))
-row_changes def versions (Delete table cond) = and_then (versions_matched def.columns cond versions) (λ taken. Ok (deletion taken))
+    and_then (checked_map (row_set def.columns sets) taken)
+    (λ rows. Ok (replacement def.columns (zip taken rows))))
+row_changes def versions (Delete table cond) =
+    and_then (versions_matched def.columns cond versions) (λ taken. Ok (deletion taken))

@@ -127,7 +127,8 @@ listed_check columns rows =
 -- E04 of an INSERT, and these
 unfoldable pub values_check : List ColumnDef → Option (List (List ℕ)) → List Row → Checked (Unit {0})
 values_check declared names rows =
-    refused_if (not (list_all (is_declared declared) (names_listed names))) E04 (listed_check (listed declared names) rows)
+    refused_if (not (list_all (is_declared declared) (names_listed names))) E04
+    (listed_check (listed declared names) rows)
 
 unfoldable pub insert_check : TableDef → Part → Option (List (List ℕ)) → List Row → Checked (Unit {0})
 insert_check def part names rows =
@@ -137,11 +138,15 @@ insert_check def part names rows =
     (values_check def.columns names rows)))
 
 -- E04, E12 and E05 of an UPDATE: the columns that are declared, and all that expressions may name
-unfoldable pub sets_check : List ColumnDef → List ColumnDef → List (List ℕ × Expr) → Option Expr → Checked (Unit {0})
+unfoldable pub sets_check : List ColumnDef → List ColumnDef → List (List ℕ × Expr) → Option Expr
+    → Checked (Unit {0})
 sets_check declared columns sets cond =
-    refused_if (not (list_all (λ s. is_declared declared s.0 && names_columns columns (tree s.1)) sets && cond_names columns cond)) E04
+    refused_if
+    (not (list_all (λ s. is_declared declared s.0 && names_columns columns (tree s.1)) sets
+    && cond_names columns cond)) E04
     (refused_if (list_any (λ s. is_in_key declared s.0) sets) E12
-    (refused_if (not (list_all (λ s. accepts_set columns (column_of declared s.0) s.1) sets && cond_is_truth columns cond)) E05
+    (refused_if (not (list_all (λ s. accepts_set columns (column_of declared s.0) s.1) sets
+    && cond_is_truth columns cond)) E05
     (Ok tt)))
 
 unfoldable pub update_check : TableDef → Part → List (List ℕ × Expr) → Option Expr → Checked (Unit {0})
@@ -173,4 +178,5 @@ table_of (Delete table cond) = table
 -- the definition of the table that a row statement changes, where nothing is refused before a row is looked at
 unfoldable pub row_statement_check : Defs → RowStmt → Checked TableDef
 row_statement_check defs stmt =
-    and_then (or_refused E02 (find_part defs (table_of stmt))) (λ n. and_then (row_check stmt n.0 n.1) (λ passed. Ok n.0))
+    and_then (or_refused E02 (find_part defs (table_of stmt)))
+    (λ n. and_then (row_check stmt n.0 n.1) (λ passed. Ok n.0))

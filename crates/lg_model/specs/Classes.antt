@@ -121,9 +121,9 @@ binary_class _ a b = comparison_class a b
 -- ---- expressions
 
 -- a text literal that is a date has class Date beside a Date
-abbrev pub beside_day : Option ℕ → Class → Class → Class
-beside_day (Some d) a Date = Date
-beside_day _ a b = a
+abbrev pub class_beside_day : Option ℕ → Class → Class → Class
+class_beside_day (Some d) a Date = Date
+class_beside_day _ a b = a
 
 -- the class of an expression, from the leaves up
 abbrev pub class : List ColumnDef → Tree → Checked Class
@@ -134,7 +134,7 @@ class columns (not a) = and_then (class columns a) opposite_class
 class columns (is_null a negated) = and_then (class columns a) null_test_class
 class columns (binary op a b) =
     and_then (class columns a) (λ x. and_then (class columns b) (λ y.
-    binary_class op (beside_day (written_day a) x y) (beside_day (written_day b) y x)))
+    binary_class op (class_beside_day (written_day a) x y) (class_beside_day (written_day b) y x)))
 
 -- all columns that an expression names are there
 abbrev pub names_columns : List ColumnDef → Tree → Bool

@@ -66,7 +66,8 @@ abbrev pub key_position_of : List (List ℕ) → List ℕ → ℕ
 key_position_of key name = ordinal_at (position (λ n. bytes_eq n name) key)
 
 abbrev pub keyed : List (List ℕ) → ColumnDef → ColumnDef
-keyed key c = record { name = c.name; ty = c.ty; nullable = c.nullable; key_position = key_position_of key c.name }
+keyed key c =
+    record { name = c.name; ty = c.ty; nullable = c.nullable; key_position = key_position_of key c.name }
 
 unfoldable pub table_def : ℕ → CreateTable → TableDef
 table_def id c =
@@ -95,7 +96,8 @@ system_tables = 2
 -- a count, a type parameter or a name is out of its range
 abbrev pub exceeds_limit : Defs → TableDef → List (List ℕ) → Bool
 exceeds_limit defs def key =
-    nat_lt max_columns (length def.columns) || nat_lt max_key_columns (length key) || nat_le (max_tables + system_tables) (length defs)
+    nat_lt max_columns (length def.columns) || nat_lt max_key_columns (length key)
+    || nat_le (max_tables + system_tables) (length defs)
     || list_any (λ c. not (is_in_range c.ty)) def.columns
     || list_any is_long (table_names def) || list_any (λ c. is_long c.name) def.columns
 
@@ -123,7 +125,15 @@ create_check defs c = created_check defs (table_def (next_id defs) c) c.key
 
 abbrev pub with_index : TableDef → IndexDef → TableDef
 with_index def index =
-    record { id = def.id; name = def.name; kind = def.kind; history = def.history; view = def.view; columns = def.columns; indexes = def.indexes ++ index ∷ [] }
+    record {
+      id = def.id;
+      name = def.name;
+      kind = def.kind;
+      history = def.history;
+      view = def.view;
+      columns = def.columns;
+      indexes = def.indexes ++ index ∷ [];
+    }
 
 abbrev pub ordinals_of : List ColumnDef → List (List ℕ) → List ℕ
 ordinals_of columns names = map ordinal_at (map (place_of columns) names)
@@ -135,7 +145,8 @@ index_def def c = record { name = c.name; ordinals = ordinals_of def.columns c.c
 abbrev pub index_check_in : CreateIndex → Named → Checked (TableDef × IndexDef)
 index_check_in c n =
     refused_if (has_name (map (λ i. i.name) n.0.indexes) c.name || repeats c.columns) E03
-    (refused_if (nat_lt max_index_columns (length c.columns) || nat_le max_indexes (length n.0.indexes) || is_long c.name) E16
+    (refused_if (nat_lt max_index_columns (length c.columns) || nat_le max_indexes (length n.0.indexes)
+    || is_long c.name) E16
     (refused_if (not (is_base n.1)) E11
     (refused_if (not (list_all (is_declared n.0.columns) c.columns)) E04
     (Ok (n.0, index_def n.0 c)))))

@@ -35,11 +35,16 @@ refused tables seq e = record { tables = tables; seq = seq; reply = r.Refused e 
 
 abbrev pub done : Tables → ℕ → ℕ → ℕ → Checked Changes → Effect
 done tables tx seq id (Ok c) =
-    record { tables = changed_table id (changed_all tx seq c.0) tables; seq = seq + length c.0; reply = r.Changed c.1 }
+    record {
+      tables = changed_table id (changed_all tx seq c.0) tables;
+      seq = seq + length c.0;
+      reply = r.Changed c.1;
+    }
 done tables tx seq id (Err e) = refused tables seq e
 
 abbrev pub row_effect : Tables → ℕ → ℕ → RowStmt → Checked TableDef → Effect
-row_effect tables tx seq stmt (Ok def) = done tables tx seq def.id (row_changes def (versions_of tables def.id) stmt)
+row_effect tables tx seq stmt (Ok def) =
+    done tables tx seq def.id (row_changes def (versions_of tables def.id) stmt)
 row_effect tables tx seq stmt (Err e) = refused tables seq e
 
 -- ---- SELECT
@@ -50,7 +55,9 @@ shown tables seq (Err e) = refused tables seq e
 
 -- the rows that a SELECT shows of a part of a table with these versions
 unfoldable pub query_rows : Select → Named → List Version → Checked (List Row)
-query_rows q n versions = selected (columns_of n.0 n.1) (shown_of n.0 n.1) q (rows_of n.0 n.1 (key_fixed n.0.columns q.cond) versions)
+query_rows q n versions =
+    selected (columns_of n.0 n.1) (shown_of n.0 n.1) q
+    (rows_of n.0 n.1 (key_fixed n.0.columns q.cond) versions)
 
 abbrev pub query_effect : Tables → ℕ → Select → Checked Named → Effect
 query_effect tables seq q (Ok n) = shown tables seq (query_rows q n (versions_of tables n.0.id))
@@ -61,7 +68,8 @@ query_effect tables seq q (Err e) = refused tables seq e
 -- the rows of the first system table are numbered from seq, those of the second after them
 abbrev pub with_system_rows : ℕ → ℕ → List Change → List Change → Tables → Tables
 with_system_rows tx seq first second tables =
-    changed_table columns_id (changed_all tx (seq + length first) second) (changed_table tables_id (changed_all tx seq first) tables)
+    changed_table columns_id (changed_all tx (seq + length first) second)
+    (changed_table tables_id (changed_all tx seq first) tables)
 
 abbrev pub table_start : TableDef → List Change
 table_start def = Starts (stored_row tables_columns (table_row def)) ∷ []
@@ -73,7 +81,9 @@ column_starts rows = map (λ row. Starts (stored_row columns_columns row)) rows
 abbrev pub table_effect : Tables → ℕ → ℕ → Checked TableDef → Effect
 table_effect tables tx seq (Ok def) =
     record {
-      tables = with_system_rows tx seq (table_start def) (column_starts (column_rows def)) tables ++ record { def = def; versions = [] } ∷ [];
+      tables =
+          with_system_rows tx seq (table_start def) (column_starts (column_rows def)) tables
+          ++ record { def = def; versions = [] } ∷ [];
       seq = seq + 1 + length def.columns;
       reply = r.Made;
     }
@@ -104,6 +114,7 @@ index_effect tables tx seq (Err e) = refused tables seq e
 unfoldable pub effect : Tables → ℕ → ℕ → Stmt → Effect
 effect tables tx seq (s.Create c) = table_effect tables tx seq (create_check (defs_of tables) c)
 effect tables tx seq (s.Index c) = index_effect tables tx seq (index_check (defs_of tables) c)
-effect tables tx seq (s.Change stmt) = row_effect tables tx seq stmt (row_statement_check (defs_of tables) stmt)
+effect tables tx seq (s.Change stmt) =
+    row_effect tables tx seq stmt (row_statement_check (defs_of tables) stmt)
 effect tables tx seq (s.Select q) = query_effect tables seq q (query_check (defs_of tables) q)
 effect tables tx seq _ = record { tables = tables; seq = seq; reply = r.Quiet }

@@ -21,11 +21,27 @@ fields_of values = flat_map fields_at (numbered 1 values)
 
 -- the start of a version
 abbrev pub start_event : ℕ → Version → Event
-start_event table v = record { table = table; op = 1; tx = v.start.0; seq = v.start.1; start = None; columns = fields_of v.values }
+start_event table v =
+    record {
+      table = table;
+      op = 1;
+      tx = v.start.0;
+      seq = v.start.1;
+      start = None;
+      columns = fields_of v.values;
+    }
 
 -- its end
 abbrev pub end_event : ℕ → Version → EventId → Event
-end_event table v end = record { table = table; op = 2; tx = end.0; seq = end.1; start = Some v.start; columns = fields_of v.values }
+end_event table v end =
+    record {
+      table = table;
+      op = 2;
+      tx = end.0;
+      seq = end.1;
+      start = Some v.start;
+      columns = fields_of v.values;
+    }
 
 abbrev pub end_events : ℕ → Version → Option EventId → List Event
 end_events table v (Some end) = end_event table v end ∷ []
@@ -37,7 +53,9 @@ version_events table v = start_event table v ∷ end_events table v v.end
 
 -- the starts and ends of the transaction in the table, by number
 unfoldable pub events_of : ℕ → Table → List Event
-events_of tx t = sorted (λ a b. nat_cmp a.seq b.seq) (filter (λ e. e.tx == tx) (flat_map (version_events t.def.id) t.versions))
+events_of tx t =
+    sorted (λ a b. nat_cmp a.seq b.seq)
+    (filter (λ e. e.tx == tx) (flat_map (version_events t.def.id) t.versions))
 
 -- in all tables
 unfoldable pub all_events : ℕ → Tables → List Event

@@ -3,16 +3,13 @@ use Rattle.std.specs.Prelude.{ℕ, zero, suc, ◌+◌, ◌≤◌, ◌≡◌, ◌
 use Rattle.std.specs.List.{AllByRecursion}
 use Rattle.lg_types.specs.declared.journal.JournalItem.{JournalItem}
 use Rattle.lg_types.specs.declared.journal.JournalItem.TheVariants.{Tx, Close}
+pub use Rattle.lg_types.specs.JournalRules.{Line}
 use Rattle.lg_model.specs.Limits.{max_block}
 use Rattle.lg_model.specs.Catalog.{Tables}
 use Rattle.lg_model.specs.Replies.{reply_text}
 use Rattle.lg_model.specs.Script.{Reading, ScriptEnd, script}
 use Rattle.lg_model.specs.Events.{all_events}
 use Rattle.lg_model.specs.SystemTables.{first_tables}
-
--- a statement's text and the text of its reply
-abbrev pub Line : Type 0
-Line = List ℕ × List ℕ
 
 -- ---- parts of a journal
 
@@ -49,7 +46,8 @@ IsOther id (Close k) = Unit {0}
 module _ (reads : Reading) where
   -- the tables after an item: a transaction does what its script does, the closing of a block nothing
   abbrev pub after_item : Tables → JournalItem → Tables
-  after_item tables (Tx id session time opened lines) = (script reads opened tables id (map (λ l. l.0) lines)).state.tables
+  after_item tables (Tx id session time opened lines) =
+      (script reads opened tables id (map (λ l. l.0) lines)).state.tables
   after_item tables (Close k) = tables
 
   -- the tables after all items
@@ -63,19 +61,22 @@ module _ (reads : Reading) where
   -- ---- legal journals
 
   -- what the journal keeps of a transaction is what its script gives over the tables before it, and it left an event
-  pub record AgreesWith (tables : Tables) (id : ℕ) (opened : Bool) (lines : List Line) (o : ScriptEnd) : Type 0 where
+  pub record AgreesWith (tables : Tables) (id : ℕ) (opened : Bool) (lines : List Line)
+      (o : ScriptEnd) : Type 0 where
     pub replies : map (λ l. l.1) lines ≡ map reply_text o.replies
     pub events : all_events id o.state.tables ≢ []
 
   -- an item that may stand behind `before`, whose transactions led to these tables
   abbrev pub IsNext : List JournalItem → Tables → JournalItem → Type 0
   IsNext before tables (Tx id session time opened lines) =
-      AgreesWith tables id opened lines (script reads opened tables id (map (λ l. l.0) lines)) × AllByRecursion (IsOther id) before
+      AgreesWith tables id opened lines (script reads opened tables id (map (λ l. l.0) lines))
+      × AllByRecursion (IsOther id) before
   IsNext before tables (Close k) = (1 ≤ k) × (k ≤ max_block) × (closed before + k ≤ tx_count before)
 
   abbrev pub IsLegalFrom : List JournalItem → Tables → List JournalItem → Type 0
   IsLegalFrom before tables [] = Unit {0}
-  IsLegalFrom before tables (i ∷ is) = IsNext before tables i × IsLegalFrom (before ++ i ∷ []) (after_item tables i) is
+  IsLegalFrom before tables (i ∷ is) =
+      IsNext before tables i × IsLegalFrom (before ++ i ∷ []) (after_item tables i) is
 
   -- a journal that could have been made: each reply is the one that its script gives over the tables so far, each
   -- transaction left an event, ids differ, and blocks are closed of what is pending

@@ -21,7 +21,8 @@ position_cmp a b = nat_cmp a.1.key_position b.1.key_position
 
 -- the places of the columns that have a key position, by that position
 unfoldable pub key_places : List ColumnDef → List ℕ
-key_places columns = map (λ p. p.0) (sorted position_cmp (filter (λ p. not (p.1.key_position == 0)) (numbered 0 columns)))
+key_places columns =
+    map (λ p. p.0) (sorted position_cmp (filter (λ p. not (p.1.key_position == 0)) (numbered 0 columns)))
 
 -- the key's columns, by key position
 abbrev pub key_columns : List ColumnDef → List ColumnDef
@@ -62,4 +63,6 @@ stands columns key versions = list_any (λ v. is_none v.end) (part_read columns 
 
 -- the rows that stand, in key order: those of one key, or all
 unfoldable pub standing : List ColumnDef → Option Key → List Version → List Version
-standing columns key versions = sorted (λ v w. key_cmp (version_key columns v) (version_key columns w)) (live (part_read columns key versions))
+standing columns key versions =
+    sorted (λ v w. key_cmp (version_key columns v) (version_key columns w))
+    (live (part_read columns key versions))

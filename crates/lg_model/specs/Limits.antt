@@ -1,5 +1,6 @@
 -- Limits: how many there may be, and how long names may be.
 use Rattle.std.specs.Prelude.{ℕ}
+use Rattle.lg_types.specs.declared.journal.TheConstants.{MAX_BLOCK}
 
 -- of a table
 abbrev pub max_columns : ℕ
@@ -33,4 +34,4 @@ max_name_bytes = 128
 
 -- entries in a block
 abbrev pub max_block : ℕ
-max_block = 100000
+max_block = MAX_BLOCK

@@ -28,7 +28,8 @@ checked_map f (x ∷ xs) = and_then (f x) (λ y. and_then (checked_map f xs) (λ
 -- those that pass
 abbrev pub checked_filter : {A : Type 0} → (A → Checked Bool) → List A → Checked (List A)
 checked_filter test [] = Ok []
-checked_filter test (x ∷ xs) = and_then (test x) (λ b. and_then (checked_filter test xs) (λ ys. Ok (if b then x ∷ ys else ys)))
+checked_filter test (x ∷ xs) =
+    and_then (test x) (λ b. and_then (checked_filter test xs) (λ ys. Ok (if b then x ∷ ys else ys)))
 
 -- what f makes of all, each with what was made of those before it
 abbrev pub checked_fold : {A B : Type 0} → (B → A → Checked B) → B → List A → Checked B

@@ -89,7 +89,8 @@ key_value (Err e) = None
 -- the key of a row of VALUES, where its key values all convert and aren't NULL
 unfoldable pub key_inserted : List ColumnDef → Option (List (List ℕ)) → Row → Option Key
 key_inserted columns names row =
-    all_some (map (λ p. key_value (conversion_of p.1 p.0.ty)) (zip (key_columns columns) (map (value_at (arranged columns names row)) (key_places columns))))
+    let values = map (value_at (arranged columns names row)) (key_places columns) in
+    all_some (map (λ p. key_value (conversion_of p.1 p.0.ty)) (zip (key_columns columns) values))
 
 abbrev pub by_keys : Option (List Key) → List Want
 by_keys (Some keys) = whole IX ∷ map (of_key X) keys
@@ -142,4 +143,5 @@ catalog_clash _ _ = false
 -- transaction that BEGIN opened.
 unfoldable pub clash : Defs → Bool → Stmt → Bool → Stmt → Bool
 clash defs a_opened a b_opened b =
-    catalog_clash (catalog_want a_opened a) (catalog_want b_opened b) || cells_clash (cell_wants defs a) (cell_wants defs b)
+    catalog_clash (catalog_want a_opened a) (catalog_want b_opened b)
+    || cells_clash (cell_wants defs a) (cell_wants defs b)

@@ -7,12 +7,12 @@ use Rattle.lg_value.specs.Number.{raised, has_digits}
 use Rattle.lg_model.specs.Refusals.{Checked}
 
 -- a result
-abbrev pub sized : ℤ → ℕ → Checked Value
-sized v s = if has_digits v 38 then Ok (Num v s) else Err E08
+abbrev pub in_38_digits : ℤ → ℕ → Checked Value
+in_38_digits v s = if has_digits v 38 then Ok (Num v s) else Err E08
 
 -- what is made of two operands of one scale
 abbrev pub combined : (ℤ → ℤ → ℤ) → ℤ → ℤ → ℕ → Checked Value
-combined f v w s = if has_digits v 38 && has_digits w 38 then sized (f v w) s else Err E08
+combined f v w s = if has_digits v 38 && has_digits w 38 then in_38_digits (f v w) s else Err E08
 
 -- the same of two operands that are brought to the greater scale: of the two differences one is 0
 abbrev pub aligned : (ℤ → ℤ → ℤ) → ℤ → ℕ → ℤ → ℕ → Checked Value
@@ -26,7 +26,7 @@ difference_of v s w z = aligned (λ a b. a -ℤ b) v s w z
 
 -- the scales are added, and their sum is at most 38
 unfoldable pub product_of : ℤ → ℕ → ℤ → ℕ → Checked Value
-product_of v s w z = if nat_le (s + z) 38 then sized (v *ℤ w) (s + z) else Err E05
+product_of v s w z = if nat_le (s + z) 38 then in_38_digits (v *ℤ w) (s + z) else Err E05
 
 unfoldable pub negative_of : ℤ → ℕ → Checked Value
-negative_of v s = sized (neg_ℤ v) s
+negative_of v s = in_38_digits (neg_ℤ v) s

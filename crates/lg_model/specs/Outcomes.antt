@@ -6,7 +6,7 @@ use Rattle.lg_value.specs.declared.expr.Class.{Class}
 use Rattle.lg_value.specs.declared.expr.Class.TheVariants.{Whole, Dec, Text, Bytes, Date, Truth}
 use Rattle.lg_types.specs.declared.outcome.Outcome.{Outcome}
 use Rattle.lg_types.specs.declared.outcome.Outcome.TheVariants as out
-use Rattle.lg_model.specs.Meaning.{Answer}
+use Rattle.lg_model.specs.Evaluation.{Answer}
 
 -- an outcome is of a class: a truth of Truth, NULL of each other, a number of that with its scale, other values of their own
 abbrev pub IsOf : Class → Outcome → Type 0

@@ -81,15 +81,19 @@ abbrev pub ViewRow : Type 0
 ViewRow = EventId × Row
 
 abbrev pub shown_start : Version → ViewRow
-shown_start v = (v.start, values_of v ++ number v.start.0 ∷ number v.start.1 ∷ number 1 ∷ Text (codes "INSERT") ∷ [])
+shown_start v =
+    (v.start, values_of v ++ number v.start.0 ∷ number v.start.1 ∷ number 1 ∷ Text (codes "INSERT") ∷ [])
 
 abbrev pub shown_end : Version → Option EventId → List ViewRow
-shown_end v (Some end) = (end, values_of v ++ number end.0 ∷ number end.1 ∷ number 2 ∷ Text (codes "DELETE") ∷ []) ∷ []
+shown_end v (Some end) =
+    (end, values_of v ++ number end.0 ∷ number end.1 ∷ number 2 ∷ Text (codes "DELETE") ∷ []) ∷ []
 shown_end v None = []
 
 -- one row for each start and each end, by transaction and number
 abbrev pub view_rows : List Version → List Row
-view_rows versions = map (λ s. s.1) (sorted (λ a b. event_cmp a.0 b.0) (flat_map (λ v. shown_start v ∷ shown_end v v.end) versions))
+view_rows versions =
+    map (λ s. s.1)
+    (sorted (λ a b. event_cmp a.0 b.0) (flat_map (λ v. shown_start v ∷ shown_end v v.end) versions))
 
 -- the rows of a part, in its order. Where a base table's key is fixed, the one row with that key.
 unfoldable pub rows_of : TableDef → Part → Option Key → List Version → List Row

@@ -83,7 +83,11 @@ table_plan (Err e) = only_replies (r.Refused e)
 
 abbrev pub index_plan : Checked (TableDef × IndexDef) → Plan
 index_plan (Ok x) =
-    record { changes = in_table columns_id (index_starts x.0 x.1); definition = in_place (with_index x.0 x.1); reply = r.Made }
+    record {
+      changes = in_table columns_id (index_starts x.0 x.1);
+      definition = in_place (with_index x.0 x.1);
+      reply = r.Made;
+    }
 index_plan (Err e) = only_replies (r.Refused e)
 
 -- what a table statement does to these tables
@@ -97,4 +101,8 @@ plan tables _ = only_replies r.Quiet
 -- carried out by transaction tx, whose next event has the number seq
 abbrev pub carried_out : Tables → ℕ → ℕ → Plan → Effect
 carried_out tables tx seq p =
-    record { tables = defined p.definition (changed_from tx seq p.changes tables); seq = seq + length p.changes; reply = p.reply }
+    record {
+      tables = defined p.definition (changed_from tx seq p.changes tables);
+      seq = seq + length p.changes;
+      reply = p.reply;
+    }

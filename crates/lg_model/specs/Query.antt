@@ -17,7 +17,7 @@ use Rattle.lg_types.specs.declared.statement.What.TheVariants.{All, Columns, Agg
 use Rattle.lg_types.specs.declared.statement.Agg.{Agg}
 use Rattle.lg_types.specs.declared.statement.Agg.TheVariants.{Count, Sum}
 use Rattle.lg_model.specs.Refusals.{Checked, and_then, or_refused}
-use Rattle.lg_model.specs.Numbers.{sized, sum_of}
+use Rattle.lg_model.specs.Numbers.{in_38_digits, sum_of}
 use Rattle.lg_model.specs.Columns.{column_of, place_of}
 use Rattle.lg_model.specs.Classes.{class_of_type}
 use Rattle.lg_model.specs.Lists.{sorted, checked_map, checked_filter, checked_fold}
@@ -61,13 +61,17 @@ sums_are_of_numbers columns _ = true
 -- all that is checked of a SELECT over these columns
 unfoldable pub select_check : List ColumnDef → Select → Checked (Unit {0})
 select_check columns q =
-    refused_if (not (what_names columns q.what && cond_names columns q.cond && list_all (λ o. is_declared columns o.0) q.order)) E04
+    refused_if
+    (not (what_names columns q.what && cond_names columns q.cond
+    && list_all (λ o. is_declared columns o.0) q.order)) E04
     (refused_if (not (sums_are_of_numbers columns q.what && cond_is_truth columns q.cond)) E05
     (Ok tt))
 
 -- the table or part that a SELECT reads, where nothing is refused
 unfoldable pub query_check : Defs → Select → Checked Named
-query_check defs q = and_then (or_refused E02 (find_part defs q.table)) (λ n. and_then (select_check (columns_of n.0 n.1) q) (λ passed. Ok n))
+query_check defs q =
+    and_then (or_refused E02 (find_part defs q.table))
+    (λ n. and_then (select_check (columns_of n.0 n.1) q) (λ passed. Ok n))
 
 -- ---- ORDER BY
 
@@ -92,7 +96,7 @@ order_cmp columns (o ∷ os) a b = ordering_then (column_cmp columns o a b) (ord
 -- one value more; NULL is left out
 abbrev pub added_up : Value → Value → Checked Value
 added_up sum Null = Ok sum
-added_up Null (Num v s) = sized v s
+added_up Null (Num v s) = in_38_digits v s
 added_up (Num v s) (Num w z) = sum_of v s w z
 added_up _ _ = Err E05
 
@@ -112,7 +116,8 @@ projected columns names row = map (λ name. value_in (place_of columns name) row
 abbrev pub what_shown : List ColumnDef → ℕ → What → List Row → Checked (List Row)
 what_shown columns shown All rows = Ok (map (take shown) rows)
 what_shown columns shown (Columns names) rows = Ok (map (projected columns names) rows)
-what_shown columns shown (Aggs aggs) rows = and_then (checked_map (agg_value columns rows) aggs) (λ values. Ok (values ∷ []))
+what_shown columns shown (Aggs aggs) rows =
+    and_then (checked_map (agg_value columns rows) aggs) (λ values. Ok (values ∷ []))
 
 -- of the rows of a part those that the condition takes, sorted, and of each what is to be shown; `*` shows so many columns
 unfoldable pub selected : List ColumnDef → ℕ → Select → List Row → Checked (List Row)

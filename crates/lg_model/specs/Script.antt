@@ -46,7 +46,14 @@ by_effect x e = (record { tables = e.tables; seq = e.seq; saved = x.saved }, e.r
 unfoldable pub saves : State → List ℕ → Step
 saves x name =
     if nat_lt (length x.saved) max_savepoints
-    then (record { tables = x.tables; seq = x.seq; saved = record { name = name; tables = x.tables; seq = x.seq } ∷ x.saved }, r.Saved)
+    then (
+      record {
+        tables = x.tables;
+        seq = x.seq;
+        saved = record { name = name; tables = x.tables; seq = x.seq } ∷ x.saved;
+      },
+      r.Saved,
+    )
     else refuses x E16
 
 -- the most recent savepoint of the name, and those before it

@@ -36,7 +36,8 @@ module _ (reads : Reading) where
   unfoldable pub changes_from : Bool → ℕ → State → List TableChange → List (List ℕ) → List TableChange
   changes_from opened tx x changes [] = changes
   changes_from opened tx x changes (t ∷ ts) =
-      changes_from opened tx (text_step reads opened tx x t).0 (take (text_step reads opened tx x t).0.seq (changes ++ text_changes opened x.tables (reads t))) ts
+      changes_from opened tx (text_step reads opened tx x t).0
+      (take (text_step reads opened tx x t).0.seq (changes ++ text_changes opened x.tables (reads t))) ts
 
   abbrev pub script_changes : Bool → Tables → ℕ → List (List ℕ) → List TableChange
   script_changes opened T tx texts = changes_from opened tx (start T) [] texts

@@ -10,7 +10,7 @@ use Rattle.lg_value.specs.declared.sql_type.SqlType.TheVariants.{Bit, Int, NVarC
 use Rattle.lg_types.specs.declared.table.TableDef.{TableDef}
 use Rattle.lg_types.specs.declared.table.IndexDef.{IndexDef}
 use Rattle.lg_types.specs.declared.version.Table.{Table}
-use Rattle.lg_model.specs.TypeCodes.{type_code, first_parameter, second_parameter}
+use Rattle.lg_value.specs.TypeCodes.{type_code, first_parameter, second_parameter}
 use Rattle.lg_model.specs.Lists.{numbered}
 use Rattle.lg_model.specs.Rows.{Row, number}
 
@@ -46,7 +46,16 @@ columns_columns =
     ∷ a_column (codes "key_position") Int false 0 ∷ []
 
 abbrev pub system_def : ℕ → List ℕ → List ColumnDef → TableDef
-system_def id name columns = record { id = id; name = name; kind = AppendOnly; history = []; view = []; columns = columns; indexes = [] }
+system_def id name columns =
+    record {
+      id = id;
+      name = name;
+      kind = AppendOnly;
+      history = [];
+      view = [];
+      columns = columns;
+      indexes = [];
+    }
 
 abbrev pub tables_id : ℕ
 tables_id = 1
@@ -84,12 +93,15 @@ bit false = 0
 
 -- the row of a new table; its change is 0
 unfoldable pub table_row : TableDef → Row
-table_row def = number def.id ∷ number 0 ∷ Text def.name ∷ number (kind_code def.kind) ∷ history_value def.kind def.history ∷ Text def.view ∷ []
+table_row def =
+    number def.id ∷ number 0 ∷ Text def.name ∷ number (kind_code def.kind)
+    ∷ history_value def.kind def.history ∷ Text def.view ∷ []
 
 -- the row of a column, whose item is its ordinal
 abbrev pub column_row : ℕ → ℕ × ColumnDef → Row
 column_row id c =
-    number id ∷ number c.0 ∷ number 0 ∷ Text c.1.name ∷ number (type_code c.1.ty) ∷ number (first_parameter c.1.ty)
+    number id ∷ number c.0 ∷ number 0 ∷ Text c.1.name ∷ number (type_code c.1.ty)
+    ∷ number (first_parameter c.1.ty)
     ∷ number (second_parameter c.1.ty) ∷ number (bit c.1.nullable) ∷ number c.1.key_position ∷ []
 
 -- one for each column, by ordinal

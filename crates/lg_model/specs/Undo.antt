@@ -19,7 +19,8 @@ end_undone tx seq v = record { values = v.values; start = v.start; end = end_lef
 
 -- versions whose start is undone go, and ends that are undone are taken back
 abbrev pub versions_undone : ℕ → ℕ → List Version → List Version
-versions_undone tx seq versions = map (end_undone tx seq) (filter (λ v. not (is_undone tx seq v.start)) versions)
+versions_undone tx seq versions =
+    map (end_undone tx seq) (filter (λ v. not (is_undone tx seq v.start)) versions)
 
 unfoldable pub undone : ℕ → ℕ → Tables → Tables
 undone tx seq tables = map (with_versions (versions_undone tx seq)) tables

@@ -14,7 +14,7 @@ use Rattle.lg_value.specs.Tree.{Tree, literal, column, binary, tree}
 use Rattle.lg_types.specs.declared.outcome.Outcome.{Outcome}
 use Rattle.lg_types.specs.declared.outcome.Outcome.TheVariants as out
 use Rattle.lg_model.specs.Refusals.{Checked, and_then}
-use Rattle.lg_model.specs.Meaning.{meaning_of}
+use Rattle.lg_model.specs.Evaluation.{meaning_of}
 use Rattle.lg_model.specs.Lists.{all_some, or_else}
 use Rattle.lg_model.specs.Rows.{Row}
 use Rattle.lg_model.specs.Keys.{Key, key_columns}
@@ -34,17 +34,17 @@ holds columns (Some e) row = and_then (meaning_of columns row e) is_true
 -- ---- the key that a condition fixes
 
 -- a column and a literal that it is to be equal to
-abbrev pub Part : Type 0
-Part = List ℕ × Value
+abbrev pub Equality : Type 0
+Equality = List ℕ × Value
 
 -- `column = literal` or `literal = column`
-abbrev pub equality : Tree → Tree → List Part
+abbrev pub equality : Tree → Tree → List Equality
 equality (column name) (literal v) = (name, v) ∷ []
 equality (literal v) (column name) = (name, v) ∷ []
 equality _ _ = []
 
 -- such parts among those that AND joins at the top, in the order of writing
-abbrev pub equalities : Tree → List Part
+abbrev pub equalities : Tree → List Equality
 equalities (binary op.And a b) = equalities a ++ equalities b
 equalities (binary op.Eq a b) = equality a b
 equalities _ = []
@@ -64,9 +64,10 @@ fixed_to c val.Null = None
 fixed_to c v = unchanged_value v (conversion_of v c.ty)
 
 -- by the first part that fixes it
-abbrev pub fixed_value : List Part → ColumnDef → Option Value
+abbrev pub fixed_value : List Equality → ColumnDef → Option Value
 fixed_value [] c = None
-fixed_value (p ∷ ps) c = if bytes_eq c.name p.0 then or_else (fixed_to c p.1) (fixed_value ps c) else fixed_value ps c
+fixed_value (p ∷ ps) c =
+    if bytes_eq c.name p.0 then or_else (fixed_to c p.1) (fixed_value ps c) else fixed_value ps c
 
 -- the key that a condition fixes: it fixes each column of the key
 unfoldable pub key_fixed : List ColumnDef → Option Expr → Option Key

@@ -14,7 +14,7 @@ ghost use Rattle.lg_types.specs.declared.outcome.Outcome.TheVariants as out;
 ghost use Rattle.lg_value.specs.Tree.{Tree, tree, binary};
 ghost use Rattle.lg_model.specs.Columns.{fits};
 ghost use Rattle.lg_model.specs.Classes.{class, class_of, names_columns};
-ghost use Rattle.lg_model.specs.Meaning.{meaning, meaning_of};
+ghost use Rattle.lg_model.specs.Evaluation.{meaning, meaning_of};
 ghost use Rattle.lg_model.specs.Operators.{IsComparison};
 ghost use Rattle.lg_model.specs.Outcomes.{Answers};
 ghost use Rattle.lg_model.specs.Truths.{Truth3, both, either, opposite, rank};
@@ -22,24 +22,30 @@ ghost use Rattle.lg_model.specs.Truths.{Truth3, both, either, opposite, rank};
 /// In a row that fits, an expression that has a class gives an outcome of this class or E08: a truth of class Truth, and
 /// else NULL or a value of the class, a number with the scale that the class names.
 pub fn classes_foretell_outcomes()
-    ensures { (columns : List ColumnDef) (row : List Value) (e : Expr) (c : Class) → class_of columns e ≡ Ok c → fits columns row ≡ true
+    ensures { (columns : List ColumnDef) (row : List Value) (e : Expr) (c : Class) → class_of columns e ≡ Ok c
+        → fits columns row ≡ true
         → Answers c (meaning_of columns row e) }
 {}
 
 /// An expression has no class exactly for one of two reasons: it names a column that isn't there, which is E04, or its
 /// classes don't agree, which is E05. One that has a class from the leaves up names only columns that are there.
 pub fn missing_columns_come_first()
-    ensures missing { (columns : List ColumnDef) (e : Expr) → (class_of columns e ≡ Err E04) ↔ (names_columns columns (tree e) ≡ false) }
-    ensures others { (columns : List ColumnDef) (e : Expr) (r : Refusal) → class_of columns e ≡ Err r → (r ≡ E04) ⊎ (r ≡ E05) }
-    ensures there { (columns : List ColumnDef) (t : Tree) (c : Class) → class columns t ≡ Ok c → names_columns columns t ≡ true }
+    ensures missing { (columns : List ColumnDef) (e : Expr) → (class_of columns e ≡ Err E04)
+        ↔ (names_columns columns (tree e) ≡ false) }
+    ensures others { (columns : List ColumnDef) (e : Expr) (r : Refusal) → class_of columns e ≡ Err r
+        → (r ≡ E04) ⊎ (r ≡ E05) }
+    ensures there { (columns : List ColumnDef) (t : Tree) (c : Class) → class columns t ≡ Ok c
+        → names_columns columns t ≡ true }
 {}
 
 /// A comparison of NULL with an outcome is unknown, on either side.
 pub fn comparison_with_null_is_unknown()
-    ensures left { (columns : List ColumnDef) (row : List Value) (o : Op) (a b : Tree) (y : Outcome) → IsComparison o
+    ensures left { (columns : List ColumnDef) (row : List Value) (o : Op) (a b : Tree) (y : Outcome)
+        → IsComparison o
         → meaning columns row a ≡ Ok (out.Value Null) → meaning columns row b ≡ Ok y
         → meaning columns row (binary o a b) ≡ Ok (out.Truth None) }
-    ensures right { (columns : List ColumnDef) (row : List Value) (o : Op) (a b : Tree) (x : Outcome) → IsComparison o
+    ensures right { (columns : List ColumnDef) (row : List Value) (o : Op) (a b : Tree) (x : Outcome)
+        → IsComparison o
         → meaning columns row a ≡ Ok x → meaning columns row b ≡ Ok (out.Value Null)
         → meaning columns row (binary o a b) ≡ Ok (out.Truth None) }
 {}

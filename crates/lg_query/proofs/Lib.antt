@@ -1,4 +1,2 @@
-pub mod InTurn
 pub mod Projections
-pub mod Sorting
 pub mod SortKeys

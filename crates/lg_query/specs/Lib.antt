@@ -1,4 +1,3 @@
 pub mod Answers
-pub mod InTurn
 pub mod Places
 pub mod SortKeys

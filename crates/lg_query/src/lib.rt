@@ -9,6 +9,3 @@ mod totals;
 
 pub use lg_types::{Row, Select};
 pub use selecting::select;
-
-#[cfg(test)]
-mod tests;

@@ -6,10 +6,10 @@ ghost use Rattle.lg_model.specs.Query as spec;
 ghost use Rattle.lg_query.specs.SortKeys.{key_of, key_cmp, keys_cmp};
 
 use crate::showing::value_in;
-use lg_expr::place_of;
 use lg_items::{Memory, Name};
+use lg_parts::Columns;
 use lg_types::Row;
-use lg_value::{ColumnDef, Value, compare};
+use lg_value::{Value, compare};
 use std::alloc::Global;
 use std::cmp::Ordering;
 
@@ -24,7 +24,7 @@ pub struct SortKey {
 /// The keys of the columns in ORDER BY: each is looked up once.
 fn sort_keys(
     alloc: Global,
-    columns: &[ColumnDef],
+    columns: &Columns,
     order: &[(Name, bool)],
 ) -> Result<Vec<SortKey>, Memory>
     ensures { IfOk result (λ keys. keys.items ≡ map (key_of columns.now) order.now) }
@@ -32,7 +32,7 @@ fn sort_keys(
     let mut keys = Vec::with_capacity(alloc, order.len())?;
     for by in order {
         keys.push(SortKey {
-            place: place_of(columns, &by.0),
+            place: columns.place_of(&by.0),
             descending: by.1,
         })?;
     }
@@ -77,7 +77,7 @@ fn sorted_rows(keys: &[SortKey], mut rows: Vec<Row>) -> Result<Vec<Row>, Memory>
 /// The rows by the columns of ORDER BY; those that are equal in all of them keep their order.
 pub fn ordered(
     alloc: Global,
-    columns: &[ColumnDef],
+    columns: &Columns,
     order: &[(Name, bool)],
     rows: Vec<Row>,
 ) -> Result<Vec<Row>, Memory>

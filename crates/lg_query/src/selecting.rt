@@ -6,8 +6,9 @@ ghost use Rattle.lg_query.specs.Answers.{GivesItems};
 use crate::filtering::taken;
 use crate::ordering::ordered;
 use crate::showing::what_shown;
+use lg_parts::Columns;
 use lg_types::{Row, Select};
-use lg_value::{ColumnDef, Refusal};
+use lg_value::Refusal;
 use std::alloc::Global;
 
 /// What a SELECT shows of the rows of a part with these columns, of which `*` shows the first so many: the rows that the
@@ -20,7 +21,7 @@ use std::alloc::Global;
 pub fn select(
     alloc: Global,
     q: &Select,
-    columns: &[ColumnDef],
+    columns: &Columns,
     shown: usize,
     rows: Vec<Row>,
 ) -> Result<Vec<Row>, Refusal>

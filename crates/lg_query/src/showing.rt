@@ -8,10 +8,10 @@ ghost use Rattle.lg_query.specs.Answers.{GivesItems};
 ghost use Rattle.lg_query.specs.Places.{values_at};
 
 use crate::totals::aggregates;
-use lg_expr::place_of;
 use lg_items::{Items, Memory, Name};
+use lg_parts::Columns;
 use lg_types::{Row, What};
-use lg_value::{ColumnDef, Refusal, Value};
+use lg_value::{Refusal, Value};
 use std::alloc::Global;
 
 /// The value of a row at a place, or else NULL.
@@ -39,16 +39,12 @@ fn shown_of(alloc: Global, shown: usize, rows: Vec<Row>) -> Result<Vec<Row>, Mem
 }
 
 /// The places of columns.
-fn places_of(
-    alloc: Global,
-    columns: &[ColumnDef],
-    names: &[Name],
-) -> Result<Vec<Option<usize>>, Memory>
+fn places_of(alloc: Global, columns: &Columns, names: &[Name]) -> Result<Vec<Option<usize>>, Memory>
     ensures { IfOk result (λ places. places.items ≡ map (columns_spec.place_of columns.now) names.now) }
 {
     let mut places = Vec::with_capacity(alloc, names.len())?;
     for name in names {
-        places.push(place_of(columns, name))?;
+        places.push(columns.place_of(name))?;
     }
     Ok(places)
 }
@@ -81,7 +77,7 @@ fn rows_at(alloc: Global, places: &[Option<usize>], rows: &[Row]) -> Result<Vec<
 #[tactic(auto, using(crate::proofs::Projections::by_places))]
 fn projected(
     alloc: Global,
-    columns: &[ColumnDef],
+    columns: &Columns,
     names: &[Name],
     rows: &[Row],
 ) -> Result<Vec<Row>, Memory>
@@ -94,7 +90,7 @@ fn projected(
 /// What a SELECT shows of the rows that it took; `*` shows the first `shown` columns.
 pub fn what_shown(
     alloc: Global,
-    columns: &[ColumnDef],
+    columns: &Columns,
     shown: usize,
     what: &What,
     rows: Vec<Row>,

@@ -5,13 +5,14 @@ ghost use Rattle.lg_value.specs.declared.value.Value.TheVariants.{Num};
 ghost use Rattle.lg_model.specs.Refusals.{Gives};
 ghost use Rattle.lg_model.specs.Lists.{checked_map};
 ghost use Rattle.lg_model.specs.Query as spec;
-ghost use Rattle.lg_query.specs.InTurn.{mapped_behind};
+ghost use Rattle.lg_parts.specs.InTurn.{map_after};
 
 use crate::showing::value_in;
-use lg_expr::{Number, place_of, sized, sum};
+use lg_expr::{Number, sized, sum};
 use lg_items::Items;
+use lg_parts::Columns;
 use lg_types::{Agg, Row};
-use lg_value::{ColumnDef, Refusal, Value};
+use lg_value::{Refusal, Value};
 use std::alloc::Global;
 
 fn number(of: Number) -> Value
@@ -46,7 +47,7 @@ fn total(place: Option<usize>, rows: &[Row]) -> Result<Value, Refusal>
 }
 
 #[tactic(auto, unfolding(lg_model::specs::Query::agg_value))]
-fn aggregate(columns: &[ColumnDef], agg: &Agg, rows: &[Row]) -> Result<Value, Refusal>
+fn aggregate(columns: &Columns, agg: &Agg, rows: &[Row]) -> Result<Value, Refusal>
     ensures { result ≡ spec.agg_value columns.now rows.now agg.now }
 {
     match agg {
@@ -54,17 +55,17 @@ fn aggregate(columns: &[ColumnDef], agg: &Agg, rows: &[Row]) -> Result<Value, Re
             v: rows.len() as i128,
             s: 0,
         }),
-        Agg::Sum(name) => total(place_of(columns, name), rows),
+        Agg::Sum(name) => total(columns.place_of(name), rows),
     }
 }
 
 fn each_aggregate(
     alloc: Global,
-    columns: &[ColumnDef],
+    columns: &Columns,
     aggs: &[Agg],
     rows: &[Row],
 ) -> Result<Row, Refusal>
-    ensures { Gives (mapped_behind (spec.agg_value columns.now rows.now) [] aggs.now) result }
+    ensures { Gives (map_after (spec.agg_value columns.now rows.now) [] aggs.now) result }
 {
     let mut values = Items::new(alloc);
     for agg in aggs {
@@ -76,7 +77,7 @@ fn each_aggregate(
 /// The row of the aggregates, each over all rows.
 pub fn aggregates(
     alloc: Global,
-    columns: &[ColumnDef],
+    columns: &Columns,
     aggs: &[Agg],
     rows: &[Row],
 ) -> Result<Row, Refusal>

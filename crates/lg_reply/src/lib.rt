@@ -7,6 +7,3 @@ mod utf8;
 
 pub use lg_types::Reply;
 pub use text::{indented_reply, reply_text};
-
-#[cfg(test)]
-mod tests;

@@ -1,6 +1,6 @@
 -- Leaves are read exactly as they are written.
 use Rattle.std.proofs.Common.{◌≡◌, ◌<◌, ◌^◌, ℕ, Bool, true, false, cond, List, [], ◌∷◌, ◌++◌, length, Option, Some, None, refl, sym, ap, subst, ◌∙◌, arith}
-use Rattle.std.specs.Prelude.{filter, ◌==◌}
+use Rattle.std.specs.Prelude.{IfSome, filter, ◌==◌}
 use Rattle.std.specs.List.{AllByRecursion}
 use Rattle.std.proofs.lemmas.Bool.{eqb-true}
 use Rattle.std.proofs.lemmas.List.{append-nil}
@@ -155,9 +155,10 @@ leaf_is : (e : Event) → IsEvent e → event_bytes e ≡ spelled e
 unfolding event_bytes
 leaf_is e is = rw (all_told e.columns is.columns) refl
 
-pub found_of : (bytes : List ℕ) (e : Event) → IsBytes bytes → whole event_at bytes ≡ Some e → IsEvent e × (bytes ≡ event_bytes e)
-found_of bytes e fits read =
-    let t = whole_sound IsEvent spelled event_at event_exact bytes e fits read in
+pub found_of : (bytes : List ℕ) (found : Option Event) → IsBytes bytes → found ≡ whole event_at bytes → IfSome found (λ e. IsEvent e × (bytes ≡ event_bytes e))
+found_of bytes None fits read = tt
+found_of bytes (Some e) fits read =
+    let t = whole_sound IsEvent spelled event_at event_exact bytes e fits (sym read) in
     (t.0, t.1 ∙ sym (leaf_is e t.0))
 
 pub only_of : (bytes : List ℕ) (e : Event) → IsEvent e → bytes ≡ event_bytes e → whole event_at bytes ≡ Some e

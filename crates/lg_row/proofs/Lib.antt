@@ -1,9 +1,9 @@
-pub mod AddedColumns
 mod Growing
 mod LeafExact
-mod Leaves
+pub mod Leaves
 mod Sizes
 mod Texts
-mod TypeLaws
+pub mod TypeLaws
+pub mod TypedExact
 mod ValueLaws
 pub mod Told

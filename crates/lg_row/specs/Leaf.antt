@@ -9,7 +9,7 @@ use Rattle.lg_value.specs.declared.sql_type.SqlType.TheVariants as types
 use Rattle.lg_value.specs.declared.value.Value.{Value}
 use Rattle.lg_value.specs.declared.value.Value.TheVariants as values
 use Rattle.lg_value.specs.Stored.{is_stored}
-pub use Rattle.lg_model.specs.TypeCodes.{type_code, first_parameter, second_parameter}
+pub use Rattle.lg_value.specs.TypeCodes.{type_code, first_parameter, second_parameter}
 use Rattle.lg_types.specs.declared.event.Event.{Event}
 use Rattle.lg_types.specs.declared.event.FieldOf.{FieldOf}
 

@@ -3,12 +3,12 @@
 ghost use Rattle.std.specs.Prelude.{◌≡◌, ◌<◌, ◌^◌, ◌++◌, All, FitsSigned, take, length, filter, flat_map, OnOk, OnErr};
 ghost use Rattle.std.specs.Int.{w8, w32, w64};
 ghost use Rattle.lg_bytes.specs.Fields.{long_field, u32_field, signed_field, i128_field};
-ghost use Rattle.lg_row.specs.Leaf.{event_bytes, spelled, head_bytes, without_nulls, columns_bytes, column_bytes, start_bytes, type_bytes, value_bytes, number_bytes, type_code, first_parameter, second_parameter, has_value, is_told, HasLeaf, IsField, IsFieldOrNull, FitsBytes, FitsNumber};
+ghost use Rattle.lg_row.specs.Leaf.{event_bytes, spelled, head_bytes, without_nulls, columns_bytes, column_bytes, start_bytes, type_bytes, value_bytes, number_bytes, first_parameter, second_parameter, has_value, is_told, HasLeaf, IsField, IsFieldOrNull, FitsBytes, FitsNumber};
 
 use lg_bytes::{put_long, put_u8, put_u16, put_u32, put_u64};
 use lg_items::Memory;
 use lg_types::{Event, FieldOf};
-use lg_value::{SqlType, Value};
+use lg_value::{SqlType, Value, type_parts};
 
 /// Appends the leaf of an event, which leaves its NULL columns out. The event is to have one: its values are those of
 /// their types, and their ordinals rise. The only error is want of memory, and then the bytes are as they were.
@@ -118,7 +118,8 @@ fn put_column(column: &FieldOf, out: &mut Vec<u8>) -> Result<(), Memory>
     put_value(column.ty, &column.value, out)
 }
 
-fn put_type(ty: SqlType, out: &mut Vec<u8>) -> Result<(), Memory>
+/// Appends a type: its code and its two parameters.
+pub fn put_type(ty: SqlType, out: &mut Vec<u8>) -> Result<(), Memory>
     requires first { first_parameter ty < 2 ^ 16 }
     requires second { second_parameter ty < 2 ^ 8 }
     ensures ok { OnOk result (out.new.items ≡ out.old.items ++ type_bytes ty) }
@@ -130,22 +131,7 @@ fn put_type(ty: SqlType, out: &mut Vec<u8>) -> Result<(), Memory>
     put_u8(out, second as u8)
 }
 
-// The code of a type, and its parameters.
-pub(crate) fn type_parts(ty: SqlType) -> (u8, u32, u32)
-    ensures { result ≡ (type_code ty, first_parameter ty, second_parameter ty) }
-{
-    match ty {
-        SqlType::Bit => (1, 0, 0),
-        SqlType::Int => (2, 0, 0),
-        SqlType::BigInt => (3, 0, 0),
-        SqlType::Decimal { p, s } => (4, p, s),
-        SqlType::NVarChar { n } => (5, n, 0),
-        SqlType::VarBinary { n } => (6, n, 0),
-        SqlType::Date => (7, 0, 0),
-    }
-}
-
-fn put_value(ty: SqlType, value: &Value, out: &mut Vec<u8>) -> Result<(), Memory>
+pub(crate) fn put_value(ty: SqlType, value: &Value, out: &mut Vec<u8>) -> Result<(), Memory>
     requires size { length (value_bytes ty value.now) < 2 ^ 32 }
     requires number { FitsBytes ty value.now }
     ensures ok { OnOk result (out.new.items ≡ out.old.items ++ long_field (value_bytes ty value.now)) }

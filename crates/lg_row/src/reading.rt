@@ -1,18 +1,17 @@
 //! Reading the leaf of an event.
 
 ghost use Rattle.std.specs.Prelude.{◌≡◌, ◌<◌, Some, IfOk, IfSome};
-ghost use Rattle.lg_bytes.specs.Readers.{times, whole};
-ghost use Rattle.lg_bytes.specs.Reading.{Gives};
+ghost use Rattle.lg_bytes.specs.Readers.{times};
+ghost use Rattle.lg_bytes.specs.Reading.{ReadsAs};
 ghost use Rattle.lg_types.specs.declared.event.Event.{Event};
 ghost use Rattle.lg_row.specs.Leaf.{IsEvent, event_bytes, ordinals_rise, second_parameter};
 ghost use Rattle.lg_row.specs.LeafReading.{event_at, start_at, columns_at, column_at, type_at, coded};
 
-use crate::leaf::type_parts;
 use crate::value_reading::value_of;
-use lg_bytes::{ReadError, literal, long_at, u8_at, u16_at, u32_at, u64_at};
+use lg_bytes::{ReadError, literal, long_at, u8_at, u16_at, u32_at, u64_at, whole};
 use lg_items::{Items, Memory};
 use lg_types::{Event, FieldOf};
-use lg_value::{SqlType, fits};
+use lg_value::{SqlType, fits, type_parts};
 use std::alloc::Global;
 
 /// The event whose leaf these bytes are, all of them, or None exactly where they are no leaf.
@@ -20,26 +19,13 @@ pub fn read_event(alloc: Global, bytes: &[u8]) -> Result<Option<Event>, Memory>
     ensures found { IfOk result (λ read. IfSome read (λ e. IsEvent e × (bytes.now ≡ event_bytes e))) }
     ensures only { (e : Event) → IsEvent e → bytes.now ≡ event_bytes e → IfOk result (λ read. read ≡ Some e) }
 {
-    match whole_event(alloc, bytes) {
-        Ok(e) => Ok(Some(e)),
-        Err(ReadError::Malformed) => Ok(None),
-        Err(ReadError::Memory) => Err(Memory),
-    }
-}
-
-fn whole_event(alloc: Global, bytes: &[u8]) -> Result<Event, ReadError>
-    ensures { Gives (λ e. e) result (whole event_at bytes.now) }
-{
-    let (e, rest) = event_at(alloc, bytes)?;
-    if !rest.is_empty() {
-        return Err(ReadError::Malformed);
-    }
-    Ok(e)
+    let found = whole(event_at(alloc, bytes))?;
+    Ok(found)
 }
 
 #[tactic(auto, unfolding(crate::specs::LeafReading::event_at, crate::specs::LeafReading::head_at))]
 fn event_at(alloc: Global, bytes: &[u8]) -> Result<(Event, &[u8]), ReadError>
-    ensures { Gives (λ x. (x.0, x.1.now)) result (event_at bytes.now) }
+    ensures { ReadsAs (λ x. (x.0, x.1.now)) result (event_at bytes.now) }
 {
     let rest = literal(&[1], bytes)?;
     let (table, rest) = u32_at(rest)?;
@@ -61,7 +47,7 @@ fn event_at(alloc: Global, bytes: &[u8]) -> Result<(Event, &[u8]), ReadError>
 
 #[tactic(auto, unfolding(crate::specs::LeafReading::start_at))]
 fn start_at(op: u8, bytes: &[u8]) -> Result<(Option<(u64, u64)>, &[u8]), ReadError>
-    ensures { Gives (λ x. (x.0, x.1.now)) result (start_at op bytes.now) }
+    ensures { ReadsAs (λ x. (x.0, x.1.now)) result (start_at op bytes.now) }
 {
     match op {
         1 => Ok((None, bytes)),
@@ -76,7 +62,7 @@ fn start_at(op: u8, bytes: &[u8]) -> Result<(Option<(u64, u64)>, &[u8]), ReadErr
 
 #[tactic(auto, unfolding(crate::specs::LeafReading::columns_at))]
 fn columns_at(alloc: Global, bytes: &[u8]) -> Result<(Items<FieldOf>, &[u8]), ReadError>
-    ensures { Gives (λ x. (x.0, x.1.now)) result (columns_at bytes.now) }
+    ensures { ReadsAs (λ x. (x.0, x.1.now)) result (columns_at bytes.now) }
 {
     let (count, rest) = u16_at(bytes)?;
     let (columns, rest) = some_columns(alloc, count, rest)?;
@@ -91,7 +77,7 @@ fn some_columns(
     count: u16,
     bytes: &[u8],
 ) -> Result<(Items<FieldOf>, &[u8]), ReadError>
-    ensures { Gives (λ x. (x.0, x.1.now)) result (times column_at count bytes.now) }
+    ensures { ReadsAs (λ x. (x.0, x.1.now)) result (times column_at count bytes.now) }
 {
     let mut columns = Items::new(alloc);
     let mut rest = bytes;
@@ -120,7 +106,7 @@ fn ordinals_rise(columns: &[FieldOf]) -> bool
 
 #[tactic(auto, unfolding(crate::specs::LeafReading::column_at))]
 fn column_at(alloc: Global, bytes: &[u8]) -> Result<(FieldOf, &[u8]), ReadError>
-    ensures { Gives (λ x. (x.0, x.1.now)) result (column_at bytes.now) }
+    ensures { ReadsAs (λ x. (x.0, x.1.now)) result (column_at bytes.now) }
 {
     let (ordinal, rest) = u16_at(bytes)?;
     let (ty, rest) = type_at(rest)?;
@@ -132,9 +118,10 @@ fn column_at(alloc: Global, bytes: &[u8]) -> Result<(FieldOf, &[u8]), ReadError>
     Ok((FieldOf { ordinal, ty, value }, rest))
 }
 
+/// The type at the front of the bytes, and what follows it. Its parameters may be out of its ranges.
 #[tactic(auto, unfolding(crate::specs::LeafReading::type_at))]
-fn type_at(bytes: &[u8]) -> Result<(SqlType, &[u8]), ReadError>
-    ensures gives { Gives (λ x. (x.0, x.1.now)) result (type_at bytes.now) }
+pub fn type_at(bytes: &[u8]) -> Result<(SqlType, &[u8]), ReadError>
+    ensures reads { ReadsAs (λ x. (x.0, x.1.now)) result (type_at bytes.now) }
     ensures small { IfOk result (λ x. second_parameter x.0 < 256) }
 {
     let (code, rest) = u8_at(bytes)?;

@@ -3,7 +3,7 @@
 ghost use Rattle.std.specs.Prelude.{◌≡◌, ◌<◌};
 ghost use Rattle.std.specs.Int.{w8, w32, w64};
 ghost use Rattle.lg_bytes.specs.Readers.{signed, i128_at};
-ghost use Rattle.lg_bytes.specs.Reading.{Gives};
+ghost use Rattle.lg_bytes.specs.Reading.{ReadsAs};
 ghost use Rattle.lg_row.specs.LeafReading.{value_of, number_of, text_of, day_of};
 ghost use Rattle.lg_row.specs.Leaf.{second_parameter};
 
@@ -16,7 +16,7 @@ use std::alloc::Global;
 #[tactic(auto, unfolding(crate::specs::LeafReading::value_of))]
 pub fn value_of(alloc: Global, ty: SqlType, bytes: &[u8]) -> Result<Value, ReadError>
     requires { second_parameter ty < 256 }
-    ensures { Gives (λ v. v) result (value_of ty bytes.now) }
+    ensures { ReadsAs (λ v. v) result (value_of ty bytes.now) }
 {
     match ty {
         SqlType::Bit => bit_of(bytes),
@@ -33,7 +33,7 @@ pub fn value_of(alloc: Global, ty: SqlType, bytes: &[u8]) -> Result<Value, ReadE
 }
 
 fn bit_of(bytes: &[u8]) -> Result<Value, ReadError>
-    ensures { Gives (λ v. v) result (number_of (signed w8) 0 bytes.now) }
+    ensures { ReadsAs (λ v. v) result (number_of (signed w8) 0 bytes.now) }
 {
     let [a] = bytes else {
         return Err(ReadError::Malformed);
@@ -43,7 +43,7 @@ fn bit_of(bytes: &[u8]) -> Result<Value, ReadError>
 }
 
 fn int_of(bytes: &[u8]) -> Result<Value, ReadError>
-    ensures { Gives (λ v. v) result (number_of (signed w32) 0 bytes.now) }
+    ensures { ReadsAs (λ v. v) result (number_of (signed w32) 0 bytes.now) }
 {
     let [a, b, c, d] = bytes else {
         return Err(ReadError::Malformed);
@@ -53,7 +53,7 @@ fn int_of(bytes: &[u8]) -> Result<Value, ReadError>
 }
 
 fn big_int_of(bytes: &[u8]) -> Result<Value, ReadError>
-    ensures { Gives (λ v. v) result (number_of (signed w64) 0 bytes.now) }
+    ensures { ReadsAs (λ v. v) result (number_of (signed w64) 0 bytes.now) }
 {
     let [a, b, c, d, e, f, g, h] = bytes else {
         return Err(ReadError::Malformed);
@@ -64,7 +64,7 @@ fn big_int_of(bytes: &[u8]) -> Result<Value, ReadError>
 
 fn decimal_of(s: u32, bytes: &[u8]) -> Result<Value, ReadError>
     requires { s < 256 }
-    ensures { Gives (λ v. v) result (number_of i128_at s bytes.now) }
+    ensures { ReadsAs (λ v. v) result (number_of i128_at s bytes.now) }
 {
     let (v, rest) = i128_at(bytes)?;
     if !rest.is_empty() {
@@ -74,7 +74,7 @@ fn decimal_of(s: u32, bytes: &[u8]) -> Result<Value, ReadError>
 }
 
 fn text_of(alloc: Global, bytes: &[u8]) -> Result<Value, ReadError>
-    ensures { Gives (λ v. v) result (text_of bytes.now) }
+    ensures { ReadsAs (λ v. v) result (text_of bytes.now) }
 {
     match std::str::from_utf8(bytes) {
         Ok(text) => {
@@ -86,7 +86,7 @@ fn text_of(alloc: Global, bytes: &[u8]) -> Result<Value, ReadError>
 }
 
 fn day_of(bytes: &[u8]) -> Result<Value, ReadError>
-    ensures { Gives (λ v. v) result (day_of bytes.now) }
+    ensures { ReadsAs (λ v. v) result (day_of bytes.now) }
 {
     let (day, rest) = u32_at(bytes)?;
     if !rest.is_empty() {

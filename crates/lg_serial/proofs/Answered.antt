@@ -17,9 +17,9 @@ use Rattle.lg_model.specs.Plans.{TableChange, changed_from, Definition, as_befor
 use Rattle.lg_model.specs.Reach.{creates}
 use Rattle.lg_model.specs.Script.{Step, by_effect, rolled_back, saves, rolls_back_to}
 use Rattle.lg_model.specs.Undo.{undone, versions_undone}
-use Rattle.lg_model.proofs.Definitions.{changes_keep_defs}
-use Rattle.lg_model.proofs.Plans.{planned}
-use Rattle.lg_model.proofs.StepByStep.{with_copy}
+use Rattle.lg_frames.proofs.Definitions.{changes_keep_defs}
+use Rattle.lg_frames.proofs.Plans.{planned}
+use Rattle.lg_frames.proofs.StepByStep.{with_copy}
 use Rattle.lg_serial.specs.declared.begun.Savepoint.{Savepoint}
 use Rattle.lg_serial.specs.declared.begun.Begun.{Begun}
 use Rattle.lg_serial.specs.Machine.{moved}

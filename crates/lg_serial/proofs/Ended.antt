@@ -1,7 +1,7 @@
 -- A script ends.
 use Rattle.std.proofs.Common.{◌≡◌, sym, subst, Some}
 use Rattle.lg_model.specs.Catalog.{Tables}
-use Rattle.lg_tables.specs.Short.{AreShort}
+use Rattle.lg_versions.specs.Short.{AreShort}
 use Rattle.lg_serial.specs.declared.begun.Begun.{Begun}
 use Rattle.lg_serial.specs.Machine.{Machine, at_rest}
 use Rattle.lg_serial.specs.Order.{InOrder}

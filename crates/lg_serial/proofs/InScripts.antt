@@ -7,13 +7,13 @@ use Rattle.lg_model.specs.Effect.{Effect, effect}
 use Rattle.lg_model.specs.Reach.{creates}
 use Rattle.lg_model.specs.Script.{Saved, by_effect}
 use Rattle.lg_model.specs.Undo.{undone}
-use Rattle.lg_model.proofs.Alls.{all_weaker, all_both}
-use Rattle.lg_model.proofs.StepByStep.{with_copy, at_copy}
-use Rattle.lg_model.proofs.UndoneScripts.{counter_rises}
-use Rattle.lg_model.proofs.UndoneTables.{none_undone, statement_undone}
-use Rattle.lg_runs.specs.Kept.{Kept}
-use Rattle.lg_runs.specs.Described.{Described}
-use Rattle.lg_runs.proofs.Keeping.{statement_kept, statement_described}
+use Rattle.lg_frames.proofs.Alls.{all_weaker, all_both}
+use Rattle.lg_frames.proofs.StepByStep.{with_copy, at_copy}
+use Rattle.lg_frames.proofs.UndoneScripts.{counter_rises}
+use Rattle.lg_frames.proofs.UndoneTables.{none_undone, statement_undone}
+use Rattle.lg_invariants.specs.Kept.{Kept}
+use Rattle.lg_invariants.specs.Described.{Described}
+use Rattle.lg_invariants.proofs.Keeping.{statement_kept, statement_described}
 use Rattle.lg_serial.specs.Machine.{Running}
 use Rattle.lg_serial.specs.Order.{NeverRise, InScript}
 use Rattle.lg_serial.proofs.UndoneTwice.{undone_twice}

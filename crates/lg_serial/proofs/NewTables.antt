@@ -24,15 +24,13 @@ use Rattle.lg_model.specs.Rows.{Row}
 use Rattle.lg_model.specs.Plans.{in_table, changed_from}
 use Rattle.lg_model.specs.Runs.{Sound}
 use Rattle.lg_model.specs.SystemTables.{tables_id, columns_id, column_row, column_rows, index_row, index_rows}
-use Rattle.lg_model.proofs.Alls.{all_weaker}
-use Rattle.lg_model.proofs.Checked.{Led, led}
-use Rattle.lg_model.proofs.Definitions.{same_defs}
-use Rattle.lg_model.proofs.Named.{was_found}
-use Rattle.lg_model.proofs.Plans.{in_one_table, length-in_table}
-use Rattle.lg_model.proofs.Sounds.{sound_all}
-use Rattle.lg_rows.specs.declared.changes.Change as code
-use Rattle.lg_rows.specs.Changes.{change_of}
-use Rattle.lg_runs.proofs.DefLists.{IsOnly}
+use Rattle.lg_frames.proofs.Alls.{all_weaker}
+use Rattle.lg_frames.proofs.Checked.{Led, led}
+use Rattle.lg_frames.proofs.Definitions.{same_defs}
+use Rattle.lg_frames.proofs.Named.{was_found}
+use Rattle.lg_frames.proofs.Plans.{in_one_table, length-in_table}
+use Rattle.lg_frames.proofs.Sounds.{sound_all}
+use Rattle.lg_invariants.proofs.DefLists.{IsOnly}
 
 -- ---- rows of the system tables
 
@@ -42,9 +40,9 @@ sound_after tx seq id cs T h =
     (subst (λ (n : ℕ). Sound tx (seq + n) (changed_from tx seq (in_table id cs) T)) (length-in_table id cs)
     (sound_all tx seq (in_table id cs) T h))
 
-pub sound_between : (tx seq next id : ℕ) (cs : List code.Change) (T U : Tables) → Sound tx seq T → next ≡ seq + length cs → U ≡ changed_table id (changed_all tx seq (map change_of cs)) T → Sound tx next U
+pub sound_between : (tx seq next id : ℕ) (cs : List Change) (T U : Tables) → Sound tx seq T → next ≡ seq + length cs → U ≡ changed_table id (changed_all tx seq cs) T → Sound tx next U
 sound_between tx seq next id cs T U h n u =
-    rw (u, n ∙ ap (λ (k : ℕ). seq + k) (sym (length-map cs change_of))) (sound_after tx seq id (map change_of cs) T h)
+    rw (u, n) (sound_after tx seq id cs T h)
 
 rows_keep_defs : (tx seq : ℕ) (first second : List Change) (T : Tables) → defs_of (with_system_rows tx seq first second T) ≡ defs_of T
 rows_keep_defs tx seq first second T =

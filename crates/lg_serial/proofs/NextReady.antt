@@ -9,9 +9,9 @@ use Rattle.lg_types.specs.declared.version.Version.{Version}
 use Rattle.lg_model.specs.Rows.{EventId}
 use Rattle.lg_model.specs.Catalog.{Tables}
 use Rattle.lg_model.specs.Runs as run
-use Rattle.lg_model.proofs.Alls.{all_weaker, all_both}
-use Rattle.lg_runs.specs.Kept.{IsEarlier, EndsBefore, Apart, AllApart, IsPast, KeptTable, Kept}
-use Rattle.lg_runs.proofs.Serials.{no_number}
+use Rattle.lg_frames.proofs.Alls.{all_weaker, all_both}
+use Rattle.lg_invariants.specs.Kept.{IsEarlier, EndedBefore, Apart, AllApart, IsPast, KeptTable, Kept}
+use Rattle.lg_invariants.proofs.Serials.{no_number}
 use Rattle.lg_serial.specs.declared.begun.Begun.{Begun}
 use Rattle.lg_serial.specs.Order.{IsNew, Steady, InOrder}
 use Rattle.lg_serial.specs.Seen.{state_of, machine_of}
@@ -48,7 +48,7 @@ module _ (place : ℕ → ℕ) (tx other : ℕ) where
   is_past : (seq : ℕ) (v : Version) → run.MadeBefore other 0 v × IsPast place (tx, seq) v → IsPast next_place (other, 0) v
   is_past seq v h = record { start = before_now seq v.start h.0.start h.1.start; end = past_end seq v.start v.end h.0.start h.0.end h.1.end }
 
-  ends_before : (event : EventId) (v : Version) → run.IsBefore other 0 event → run.MadeBefore other 0 v → EndsBefore place event v → EndsBefore next_place event v
+  ends_before : (event : EventId) (v : Version) → run.IsBefore other 0 event → run.MadeBefore other 0 v → EndedBefore place event v → EndedBefore next_place event v
   ends_before event v h m p = (p.0, p.1, same_order p.0 event (subst (run.EndsBefore other 0) p.1 m.end) h p.2)
 
   apart : (columns : List ColumnDef) (v w : Version) → run.MadeBefore other 0 v → run.MadeBefore other 0 w × Apart place columns v w → Apart next_place columns v w

@@ -10,12 +10,12 @@ use Rattle.lg_model.specs.Catalog.{Tables, defs_of}
 use Rattle.lg_model.specs.SystemTables.{first_tables}
 use Rattle.lg_model.specs.Agreement.{IdsFrom}
 use Rattle.lg_model.specs.Runs.{MadeBefore, SoundTable, Sound}
-use Rattle.lg_model.proofs.Alls.{all_weaker, all_both}
-use Rattle.lg_runs.specs.Fits.{Fits}
-use Rattle.lg_runs.specs.Kept.{KeptTable}
-use Rattle.lg_runs.proofs.DefLists.{all_defs}
-use Rattle.lg_runs.proofs.Keeping.{first_kept, first_described}
-use Rattle.lg_tables.specs.Short.{IsShort, AreShort}
+use Rattle.lg_frames.proofs.Alls.{all_weaker, all_both}
+use Rattle.lg_invariants.specs.Fits.{Fits}
+use Rattle.lg_invariants.specs.Kept.{KeptTable}
+use Rattle.lg_invariants.proofs.DefLists.{all_defs}
+use Rattle.lg_invariants.proofs.Keeping.{first_kept, first_described}
+use Rattle.lg_versions.specs.Short.{IsShort, AreShort}
 use Rattle.lg_serial.specs.declared.begun.Begun.{Begun}
 use Rattle.lg_serial.specs.Order.{IsNew, Steady, InOrder}
 use Rattle.lg_serial.specs.Seen.{state_of, before, machine_of}

@@ -22,10 +22,10 @@ use Rattle.lg_model.specs.Plans.{TableChange, in_table, changed_from, Definition
 use Rattle.lg_model.specs.Reach.{creates}
 use Rattle.lg_model.specs.Script.{by_effect}
 use Rattle.lg_model.specs.Undo.{versions_undone, undone}
-use Rattle.lg_model.proofs.Alls.{all_append}
-use Rattle.lg_model.proofs.Definitions.{changes_keep_defs}
-use Rattle.lg_model.proofs.Plans.{planned}
-use Rattle.lg_model.proofs.UndoneTables.{UndoesAt, all_undone}
+use Rattle.lg_frames.proofs.Alls.{all_append}
+use Rattle.lg_frames.proofs.Definitions.{changes_keep_defs}
+use Rattle.lg_frames.proofs.Plans.{planned}
+use Rattle.lg_frames.proofs.UndoneTables.{UndoesAt, all_undone}
 use Rattle.lg_serial.specs.declared.begun.Savepoint.{Savepoint}
 use Rattle.lg_serial.specs.declared.begun.Begun.{Begun}
 use Rattle.lg_serial.specs.Machine.{moved}

@@ -11,10 +11,10 @@ use Rattle.lg_model.specs.Effect.{Effect, effect}
 use Rattle.lg_model.specs.Reach.{creates}
 use Rattle.lg_model.specs.Script.{Saved, back_to, by_effect}
 use Rattle.lg_model.specs.Undo.{undone}
-use Rattle.lg_model.proofs.Alls.{all_weaker}
-use Rattle.lg_model.proofs.StepByStep.{with_copy, at_copy}
-use Rattle.lg_model.proofs.UndoneTables.{none_undone, statement_undone}
-use Rattle.lg_runs.specs.Kept.{Kept}
+use Rattle.lg_frames.proofs.Alls.{all_weaker}
+use Rattle.lg_frames.proofs.StepByStep.{with_copy, at_copy}
+use Rattle.lg_frames.proofs.UndoneTables.{none_undone, statement_undone}
+use Rattle.lg_invariants.specs.Kept.{Kept}
 use Rattle.lg_serial.specs.declared.begun.Savepoint.{Savepoint}
 use Rattle.lg_serial.specs.declared.begun.Begun.{Begun}
 use Rattle.lg_serial.specs.Machine.{Machine, begun, moved}

@@ -1,5 +1,5 @@
 -- What code answers of an effect that may lack memory.
-use Rattle.std.specs.Prelude.{ℕ, ◌≡◌, ◌≢◌, Option, List, map, Some, Result, Ok, Err}
+use Rattle.std.specs.Prelude.{ℕ, ◌≡◌, ◌≢◌, Option, List, Some, Result, Ok, Err}
 use Rattle.lg_value.specs.declared.refusal.Refusal.{Refusal}
 use Rattle.lg_value.specs.declared.refusal.Refusal.TheVariants.{E30}
 use Rattle.lg_types.specs.declared.reply.Reply.TheVariants as r
@@ -13,9 +13,8 @@ use Rattle.lg_model.specs.Changes.{Changes, row_changes}
 use Rattle.lg_model.specs.Checks.{row_statement_check}
 use Rattle.lg_model.specs.Query.{query_check}
 use Rattle.lg_model.specs.Effect.{Effect, effect, query_rows}
-use Rattle.lg_runs.specs.Kept.{Kept}
-use Rattle.lg_runs.specs.Described.{Described}
-use Rattle.lg_rows.specs.Changes.{change_of}
+use Rattle.lg_invariants.specs.Kept.{Kept}
+use Rattle.lg_invariants.specs.Described.{Described}
 use Rattle.lg_items.specs.declared.memory.Memory.{Memory}
 use Rattle.lg_types.specs.declared.reply.Reply.{Reply}
 use Rattle.lg_model.specs.Script.{State, Step, by_effect}
@@ -42,7 +41,7 @@ planned tables stmt =
     and_then (row_changes def (versions_of tables def.id) stmt) (λ c. Ok (def.id, c)))
 
 abbrev pub Plans : Checked (ℕ × Changes) → Result Planned Refusal → Type 0
-Plans meant (Ok p) = meant ≡ Ok (p.id, (map change_of p.changes, p.count))
+Plans meant (Ok p) = meant ≡ Ok (p.id, (p.changes, p.count))
 Plans meant (Err e) = e ≢ E30 → meant ≡ Err e
 
 -- the rows that a SELECT shows

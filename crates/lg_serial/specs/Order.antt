@@ -7,8 +7,8 @@ use Rattle.lg_model.specs.Catalog.{Tables}
 use Rattle.lg_model.specs.Runs.{MadeBefore}
 use Rattle.lg_model.specs.Script.{Saved}
 use Rattle.lg_model.specs.Undo.{undone}
-use Rattle.lg_runs.specs.Kept.{Kept}
-use Rattle.lg_runs.specs.Described.{Described}
+use Rattle.lg_invariants.specs.Kept.{Kept}
+use Rattle.lg_invariants.specs.Described.{Described}
 use Rattle.lg_serial.specs.Machine.{Running, Machine}
 
 -- no version was started or ended by this transaction

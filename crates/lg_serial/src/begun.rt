@@ -15,9 +15,10 @@ ghost use Rattle.lg_serial.specs.Done.{Answers, CarriesOut, IsReady, Steps, carr
 
 use crate::effect::effect;
 use lg_items::{Items, Memory, Name, TxId};
-use lg_tables::{copy_def, undo};
+use lg_system::copy_def;
 use lg_types::{Reply, Stmt, Table, TableDef};
 use lg_value::Refusal;
+use lg_versions::undo;
 use std::alloc::Global;
 use std::mem;
 

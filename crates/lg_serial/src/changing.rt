@@ -9,12 +9,13 @@ ghost use Rattle.lg_serial.specs.Done.{Does, IsReady, Plans, planned};
 
 use crate::catalog::find;
 use crate::effect::{Done, counted};
+use lg_changes::row_changes;
 use lg_check::{check_stmt, table_of};
 use lg_items::{Items, TableId, TxId};
-use lg_rows::{Change, row_changes};
-use lg_tables::change_table;
-use lg_types::{Reply, RowStmt, Table};
+use lg_parts::{Keyed, key_places};
+use lg_types::{Change, Reply, RowStmt, Table};
 use lg_value::Refusal;
+use lg_versions::change_table;
 use std::alloc::Global;
 
 /// Starts and ends in the table with this id, and the number of rows that is replied.
@@ -35,7 +36,9 @@ fn plan(alloc: Global, tables: &[Table], stmt: &RowStmt) -> Result<Planned, Refu
         return Err(Refusal::E02);
     };
     check_stmt(alloc, stmt, &table.def, part)?;
-    let (changes, count) = row_changes(alloc, &table.def, table.versions.as_slice(), stmt)?;
+    let key = key_places(alloc, table.def.columns.as_slice())?;
+    let keyed = Keyed::new(&table.def, &key);
+    let (changes, count) = row_changes(alloc, &keyed, table.versions.as_slice(), stmt)?;
     Ok(Planned {
         id: table.def.id,
         changes,
@@ -52,7 +55,9 @@ pub(crate) fn change_rows(
     stmt: &RowStmt,
 ) -> Result<Done, Refusal>
     requires { IsReady tx seq tables.old.items }
-    ensures { Does (spec.row_effect tables.old.items tx seq stmt.now (row_statement_check (defs_of tables.old.items) stmt.now)) tables.old.items tables.new.items seq result }
+    ensures { Does (spec.row_effect tables.old.items tx seq stmt.now
+        (row_statement_check (defs_of tables.old.items) stmt.now))
+        tables.old.items tables.new.items seq result }
 {
     let planned = plan(alloc, tables, stmt)?;
     let next = counted(seq, planned.changes.len())?;

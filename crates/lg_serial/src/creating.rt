@@ -10,17 +10,16 @@ ghost use Rattle.lg_model.specs.Create.{create_check, index_check, with_index};
 ghost use Rattle.lg_model.specs.Effect as spec;
 ghost use Rattle.lg_model.specs.Refusals.{Gives};
 ghost use Rattle.lg_model.specs.Runs.{Sound};
-ghost use Rattle.lg_rows.specs.Changes.{change_of};
 ghost use Rattle.lg_serial.specs.Done.{Does, IsReady};
 
 use crate::catalog::{defs_of, find};
 use crate::effect::{Done, counted};
 use lg_check::{new_index, new_table};
 use lg_items::{Items, Memory, TableId, TxId};
-use lg_rows::Change;
-use lg_tables::{change_table, column_starts, index_starts, table_start};
-use lg_types::{CreateIndex, CreateTable, IndexDef, Reply, Table, TableDef};
+use lg_system::{column_starts, index_starts, table_start};
+use lg_types::{Change, CreateIndex, CreateTable, IndexDef, Reply, Table, TableDef};
 use lg_value::Refusal;
+use lg_versions::change_table;
 use std::alloc::Global;
 
 /// The id of the system's table of tables.
@@ -48,7 +47,7 @@ fn add_system_rows(
     second: Items<Change>,
 ) -> Result<u64, Memory>
     requires { Sound tx seq tables.old.items }
-    ensures tables { OnOk result (tables.new.items ≡ spec.with_system_rows tx seq (map change_of first) (map change_of second) tables.old.items) }
+    ensures tables { OnOk result (tables.new.items ≡ spec.with_system_rows tx seq first second tables.old.items) }
     ensures next { IfOk result (λ next. next ≡ seq + length first + length second) }
 {
     let between = counted(seq, first.len())?;
@@ -95,7 +94,7 @@ pub(crate) fn create_table(
 #[tactic(auto, unfolding(lg_model::specs::Create::index_check))]
 fn plan_index(alloc: Global, tables: &[Table], c: &CreateIndex) -> Result<NewIndex, Refusal>
     requires { AllByRecursion (λ def. length def.columns < 2 ^ 16 - 1) (defs_of tables.now) }
-    ensures { MatchResult result (λ new. (def : TableDef) × (index_check (defs_of tables.now) c.now ≡ Ok (def, new.index)) × (new.id ≡ def.id) × (map change_of new.starts ≡ spec.index_starts def new.index)) (λ e. e ≢ E30 → index_check (defs_of tables.now) c.now ≡ Err e) }
+    ensures { MatchResult result (λ new. (def : TableDef) × (index_check (defs_of tables.now) c.now ≡ Ok (def, new.index)) × (new.id ≡ def.id) × (new.starts ≡ spec.index_starts def new.index)) (λ e. e ≢ E30 → index_check (defs_of tables.now) c.now ≡ Err e) }
 {
     let Some((table, part)) = find(tables, &c.table) else {
         return Err(Refusal::E02);

@@ -12,9 +12,10 @@ use crate::begun::Begun;
 use lg_items::{Items, Memory, Text, TxId};
 use lg_parse::{ParseErr, parse};
 use lg_reply::reply_text;
-use lg_tables::{all_events, first_tables};
+use lg_system::first_tables;
 use lg_types::{Event, Reply, Stmt, Table};
 use lg_value::Refusal;
+use lg_versions::all_events;
 use std::alloc::Global;
 use std::marker::Model;
 

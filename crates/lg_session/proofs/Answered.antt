@@ -16,7 +16,7 @@ use Rattle.lg_history.specs.InPlace.{EndsOutside, ComesAt, ControlledBy, HasItsF
 use Rattle.lg_history.specs.Guards.{IsStatement, images_of, Answers}
 use Rattle.lg_history.specs.Sessions.{runs, Sess}
 use Rattle.lg_session.specs.OneSession.{is_table_statement, is_built}
-use Rattle.lg_session.proofs.PlainRefusals.{IsPlain, IsPlainReply, effect_reply}
+use Rattle.lg_frames.proofs.PlainRefusals.{IsPlain, IsPlainReply, effect_reply}
 
 -- ---- replies of table statements
 

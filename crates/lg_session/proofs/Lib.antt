@@ -1,6 +1,4 @@
 mod Answered
-mod LastEvents
 mod OneHistory
-mod PlainRefusals
 mod Quiet
-mod Steady
+pub mod Steady

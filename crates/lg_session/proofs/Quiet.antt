@@ -33,11 +33,11 @@ use Rattle.lg_model.specs.Effect.{Effect, effect, query_rows, column_starts}
 use Rattle.lg_model.specs.Events.{end_events, version_events, events_of, all_events}
 use Rattle.lg_model.specs.Plans.{in_table, as_before, Plan, row_plan, change_plan, rows_plan, query_plan, table_plan, index_plan, plan, carried_out}
 use Rattle.lg_model.specs.Runs.{IsBefore, EndsBefore, MadeBefore, SoundTable}
-use Rattle.lg_model.proofs.Plans.{planned}
-use Rattle.lg_runs.specs.Described.{Described}
-use Rattle.lg_runs.specs.Kept.{IsNumbered, Kept}
-use Rattle.lg_runs.proofs.Keeping.{statement_kept}
-use Rattle.lg_runs.proofs.Serials.{no_number}
+use Rattle.lg_frames.proofs.Plans.{planned}
+use Rattle.lg_invariants.specs.Described.{Described}
+use Rattle.lg_invariants.specs.Kept.{IsNumbered, Kept}
+use Rattle.lg_invariants.proofs.Keeping.{statement_kept}
+use Rattle.lg_invariants.proofs.Serials.{no_number}
 
 -- ---- lists without items
 

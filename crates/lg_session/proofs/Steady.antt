@@ -19,13 +19,13 @@ use Rattle.lg_model.specs.Replies.{reply_text}
 use Rattle.lg_model.specs.Runs.{IsBefore, EndsBefore, MadeBefore, SoundTable, Sound}
 use Rattle.lg_model.specs.Script.{Reading, Step, by_statement, start, text_step, script_from, script}
 use Rattle.lg_model.specs.SystemTables.{first_tables}
-use Rattle.lg_model.proofs.Alls.{all_weaker, all_both, all_append}
-use Rattle.lg_runs.specs.Kept.{IsEarlier, IsPast, KeptTable, Kept}
-use Rattle.lg_runs.specs.Described.{Described}
-use Rattle.lg_runs.proofs.Keeping.{first_kept, first_described}
-use Rattle.lg_runs.proofs.Scripts.{script_both}
-use Rattle.lg_runs.proofs.Serials.{no_number}
-use Rattle.lg_journal.specs.Rules.{is_among, ids_differ, closes_follow}
+use Rattle.lg_frames.proofs.Alls.{all_weaker, all_both, all_append}
+use Rattle.lg_invariants.specs.Kept.{IsEarlier, IsPast, KeptTable, Kept}
+use Rattle.lg_invariants.specs.Described.{Described}
+use Rattle.lg_invariants.proofs.Keeping.{first_kept, first_described}
+use Rattle.lg_invariants.proofs.Scripts.{script_both}
+use Rattle.lg_invariants.proofs.Serials.{no_number}
+use Rattle.lg_types.specs.JournalRules.{is_among, ids_differ, closes_follow}
 use Rattle.lg_session.specs.OneSession.{is_table_statement, GivesColumns, Run, first_run, answered, transacted, transacts, stepped, run_from}
 use Rattle.lg_session.proofs.Quiet.{quiet_leaves}
 

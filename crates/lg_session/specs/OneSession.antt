@@ -60,7 +60,13 @@ first_run = record { tables = first_tables; next = 1; items = []; entries = []; 
 -- an answer outside any transaction
 abbrev pub answered : List ℕ → Reply → Run → Run
 answered text reply x =
-    record { tables = x.tables; next = x.next; items = x.items; entries = x.entries ++ statement text reply None ∷ []; last = x.last }
+    record {
+      tables = x.tables;
+      next = x.next;
+      items = x.items;
+      entries = x.entries ++ statement text reply None ∷ [];
+      last = x.last;
+    }
 
 -- a transaction of one statement, which is committed where it left an event
 abbrev pub transacted : List ℕ → ℕ → List ℕ → Tables → Reply → List Event → Run → Run
@@ -82,7 +88,8 @@ transacted session time text tables reply (e ∷ es) x =
     }
 
 abbrev pub transacts : List ℕ → ℕ → List ℕ → Step → Run → Run
-transacts session time text step x = transacted session time text step.0.tables step.1 (all_events x.next step.0.tables) x
+transacts session time text step x =
+    transacted session time text step.0.tables step.1 (all_events x.next step.0.tables) x
 
 -- a statement that begins at this time
 unfoldable pub stepped : List ℕ → ℕ → List ℕ → Option Stmt → Run → Run

@@ -1,6 +1,6 @@
 //! What holds of each session that runs alone.
 
-ghost use Rattle.std.specs.Prelude.{ℕ, ◌≡◌, ◌<◌, ◌^◌, true, List, [], ◌∷◌, codes, map, None, IfSome};
+ghost use Rattle.std.specs.Prelude.{ℕ, ◌≡◌, true, List, [], ◌∷◌, codes, map, None};
 ghost use Rattle.std.specs.List.{AllByRecursion};
 ghost use Rattle.lg_model.specs.Journals.{serial, IsLegal};
 ghost use Rattle.lg_model.specs.Runs.{Sound};
@@ -9,36 +9,35 @@ ghost use Rattle.lg_history.specs.Lists.{Text};
 ghost use Rattle.lg_history.specs.Meaning.{Meaning};
 ghost use Rattle.lg_history.specs.Agree.{Agree};
 ghost use Rattle.lg_history.specs.Real.{Hashing, IsReal};
-ghost use Rattle.lg_row.specs.Leaf.{is_text, HasLeaf};
-ghost use Rattle.lg_journal.specs.Rules.{ids_differ, closes_follow};
+ghost use Rattle.lg_types.specs.JournalRules.{ids_differ, closes_follow};
 ghost use Rattle.lg_session.specs.OneSession as spec;
 
 /// The transcript of such a session agrees with its journal, in which no block is closed.
 pub fn one_session_agrees()
-    ensures some { (q : Meaning) (reads : Reading) (h : Hashing) (session : Text) (statements : List (ℕ × Text)) → IsReal reads h q → spec.GivesColumns reads
+    ensures some { (q : Meaning) (reads : Reading) (h : Hashing) (session : Text)
+        (statements : List (ℕ × Text)) → IsReal reads h q → spec.GivesColumns reads
         → AllByRecursion (λ t. spec.is_built (reads t.1) ≡ true) statements
-        → Agree q (codes "LedgerDB") (map (λ t. t.1) statements ∷ []) None (spec.transcript_of session (spec.run_of reads session statements) ∷ [])
+        → Agree q (codes "LedgerDB") (map (λ t. t.1) statements ∷ []) None
+        (spec.transcript_of session (spec.run_of reads session statements) ∷ [])
         (spec.run_of reads session statements).items [] }
-    ensures none { (q : Meaning) (reads : Reading) (h : Hashing) → IsReal reads h q → Agree q (codes "LedgerDB") [] None [] [] [] }
+    ensures none { (q : Meaning) (reads : Reading) (h : Hashing) → IsReal reads h q
+        → Agree q (codes "LedgerDB") [] None [] [] [] }
 {}
 
 /// Its journal is legal and leads to its tables, in which the next transaction has no event; the ids of its transactions
 /// differ, and it closes no block.
 pub fn one_session_is_legal()
-    ensures legal { (reads : Reading) (session : Text) (statements : List (ℕ × Text)) → spec.GivesColumns reads
+    ensures legal { (reads : Reading) (session : Text) (statements : List (ℕ × Text))
+        → spec.GivesColumns reads
         → IsLegal reads (spec.run_of reads session statements).items }
-    ensures tables { (reads : Reading) (session : Text) (statements : List (ℕ × Text)) → spec.GivesColumns reads
-        → serial reads (spec.run_of reads session statements).items ≡ (spec.run_of reads session statements).tables }
+    ensures tables { (reads : Reading) (session : Text) (statements : List (ℕ × Text))
+        → spec.GivesColumns reads
+        → serial reads (spec.run_of reads session statements).items
+        ≡ (spec.run_of reads session statements).tables }
     ensures next { (reads : Reading) (session : Text) (statements : List (ℕ × Text))
         → Sound (spec.run_of reads session statements).next 0 (spec.run_of reads session statements).tables }
-    ensures ids { (reads : Reading) (session : Text) (statements : List (ℕ × Text)) → ids_differ [] (spec.run_of reads session statements).items ≡ true }
-    ensures closes { (reads : Reading) (session : Text) (statements : List (ℕ × Text)) → closes_follow 0 (spec.run_of reads session statements).items ≡ true }
-{}
-
-/// Each event of its last transaction that was committed has a leaf, where its numbers have room in one and its texts are
-/// UTF-8.
-pub fn last_events_have_leaves()
-    ensures { (reads : Reading) (session : Text) (statements : List (ℕ × Text))
-        → AllByRecursion (λ e. e.table < 2 ^ 32 → e.tx < 2 ^ 64 → e.seq < 2 ^ 64 → IfSome e.start (λ s. (s.0 < 2 ^ 64) × (s.1 < 2 ^ 64))
-        → AllByRecursion (λ f. is_text f.value ≡ true) e.columns → HasLeaf e) (spec.run_of reads session statements).last }
+    ensures ids { (reads : Reading) (session : Text) (statements : List (ℕ × Text))
+        → ids_differ [] (spec.run_of reads session statements).items ≡ true }
+    ensures closes { (reads : Reading) (session : Text) (statements : List (ℕ × Text))
+        → closes_follow 0 (spec.run_of reads session statements).items ≡ true }
 {}

@@ -3,4 +3,4 @@
 
 mod laws;
 
-pub use laws::{last_events_have_leaves, one_session_agrees, one_session_is_legal};
+pub use laws::{one_session_agrees, one_session_is_legal};

@@ -5,6 +5,9 @@ use lg_items::{Items, Name, Text, TxId};
 /// The statements of a transaction in order, each with the text of its reply.
 pub type Script = Items<(Text, Text)>;
 
+/// The greatest number of transactions in a block.
+pub const MAX_BLOCK: u32 = 100_000;
+
 /// A committed transaction, or the closing of a block.
 #[derive(Debug, Drop)]
 pub enum JournalItem {

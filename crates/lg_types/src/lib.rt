@@ -1,8 +1,11 @@
 //! The types that definitions, formats and cells share. No function stands here.
 #![tactic(auto)]
 
+mod change;
+mod digest;
 mod entry;
 mod event;
+mod image;
 mod journal;
 mod lock;
 mod outcome;
@@ -11,10 +14,13 @@ mod statement;
 mod table;
 mod version;
 
+pub use change::Change;
+pub use digest::{Digest, HeldDigest};
 pub use entry::{BlockRecord, TxEntry};
 pub use event::{Event, FieldOf};
-pub use journal::{Journal, JournalItem, Script};
-pub use lock::{Item, Key, Mode, Want};
+pub use image::{Image, IndexRow, TableRows};
+pub use journal::{Journal, JournalItem, MAX_BLOCK, Script};
+pub use lock::{Hold, Item, Key, Mode, Want};
 pub use outcome::Outcome;
 pub use reply::Reply;
 pub use statement::{Agg, CreateIndex, CreateTable, RowStmt, Select, Stmt, What};

@@ -1,6 +1,6 @@
 //! Locks: what a transaction holds of a cell so that others leave it alone.
 
-use lg_items::Items;
+use lg_items::{Items, TxId};
 use lg_value::Value;
 
 /// How an item is locked.
@@ -33,4 +33,11 @@ pub enum Item {
 pub struct Want {
     pub item: Item,
     pub mode: Mode,
+}
+
+/// A lock that a transaction holds.
+#[derive(Debug, Drop)]
+pub struct Hold {
+    pub tx: TxId,
+    pub want: Want,
 }

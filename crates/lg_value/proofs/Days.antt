@@ -8,7 +8,7 @@ use Rattle.jiff_core.proofs.SignedLemmas.{signed_arith}
 use Rattle.std.proofs.lemmas.Int.{by_lt_z}
 use Rattle.std.proofs.lemmas.Bool.{cases_lt, lt-ltb, le-ltb}
 use Rattle.jiff_core.specs.declared.civil.date.Date.{Date}
-use Rattle.jiff_core.specs.Date.{epoch_day}
+use Rattle.jiff_core.specs.Date.{epoch_day, IsYmd}
 use Rattle.jiff_core.specs.Calendar.{IsYear}
 use Rattle.jiff_core.proofs.DateLemmas.{epoch_day_injective}
 use Rattle.lg_value.specs.declared.day.Civil.{Civil}
@@ -109,3 +109,13 @@ date_is d n small at =
 
 pub date_small : (n : ℕ) → n ≤ 3652058 → IsDate (date_of n)
 date_small n small = (date_counts n small).0
+
+-- 0001-01-01 lies 719,162 days before 1970-01-01
+pub first_epoch : (d : Date) → IsYmd (pos 1) (pos 1) (pos 1) d → epoch_day d +ℤ pos 719162 ≡ pos 0
+first_epoch d h =
+    let month : d.month ≡ 1 = omega (arith, signed_arith, h.1) in
+    let day : d.day ≡ 1 = omega (arith, signed_arith, h.2) in
+    let low : pos 1 ≤ℤ d.year = omega (arith, signed_arith, h.0) in
+    let count : day_count d.year d.month d.day ≡ day_count (pos 1) 1 1 = rw (h.0, month, day) refl in
+    let at = from_unix d.year d.month d.day low (d.year_in, d.month_in, d.day_in) in
+    omega (arith, signed_arith, at, count)

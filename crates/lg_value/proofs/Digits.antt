@@ -23,9 +23,9 @@ no_digit n d ds h = rw h refl
 pub small_digit : (d : ℕ) → is_ascii_digit d ≡ true → d - 48 ≤ 9
 small_digit d h = grind (arith, nat_tests)
 
--- a number that may take k digits more, below 38 in all
-pub some_room : (n k top : ℕ) → (n + 1) * 10 ^ k ≤ top → top ≤ 10 ^ 38 → 0 < k → n * 10 + 10 ≤ 10 ^ 38
-some_room n k top room most some =
+-- a number that may take k digits more, up to a limit
+pub some_room : (n k top limit : ℕ) → (n + 1) * 10 ^ k ≤ top → top ≤ limit → 0 < k → n * 10 + 10 ≤ limit
+some_room n k top limit room most some =
     let ten = pow-le-pow_right {n = 10} (lit< tt) {i = 1} {j = k} some in
     let product = mul-le-mul_left {m = 10} {n = 10 ^ k} (n + 1) ten in
     omega (arith, product)

@@ -1,16 +1,16 @@
-mod Conversions
-mod DayTexts
-mod Days
-mod DigitTexts
-mod Digits
+pub mod Conversions
+pub mod DayTexts
+pub mod Days
+pub mod DigitTexts
+pub mod Digits
 mod Doubling
 mod Hexes
-mod Numbers
-mod OrderLaws
+pub mod Numbers
+pub mod OrderLaws
 mod Ranges
 mod ReadValues
 mod Reading
 mod RoundTrip
 mod Rounding
 mod Texts
-mod Trees
+pub mod Trees

@@ -54,7 +54,9 @@ as_date _ _ _ _ = None
 -- the year, month and day that a text in the form `YYYY-MM-DD` writes
 unfoldable pub written_date : List ℕ → Option Civil
 written_date (a ∷ b ∷ c ∷ d ∷ p ∷ e ∷ f ∷ q ∷ g ∷ h ∷ []) =
-    if p == 45 && q == 45 then as_date (two_digits a b) (two_digits c d) (two_digits e f) (two_digits g h) else None
+    if p == 45 && q == 45
+    then as_date (two_digits a b) (two_digits c d) (two_digits e f) (two_digits g h)
+    else None
 written_date _ = None
 
 abbrev pub day_if : Civil → Option ℕ

@@ -10,3 +10,4 @@ pub mod Refusal
 pub mod Stored
 pub mod Text
 pub mod Tree
+pub mod TypeCodes

@@ -16,7 +16,8 @@ use Rattle.lg_value.specs.declared.refusal.LitErr.TheVariants.{NotLiteral, Memor
 abbrev pub unquoted_from : Bool → List ℕ → List ℕ → Option (List ℕ)
 unquoted_from false before [] = None
 unquoted_from true before [] = Some before
-unquoted_from false before (c ∷ cs) = if c == 39 then unquoted_from true before cs else unquoted_from false (before ++ c ∷ []) cs
+unquoted_from false before (c ∷ cs) =
+    if c == 39 then unquoted_from true before cs else unquoted_from false (before ++ c ∷ []) cs
 unquoted_from true before (c ∷ cs) = if c == 39 then unquoted_from false (before ++ 39 ∷ []) cs else None
 
 unfoldable pub unquoted : List ℕ → Option (List ℕ)
@@ -57,7 +58,8 @@ digits_after n (c ∷ cs) = if is_ascii_digit c then digits_after (n * 10 + (c -
 unfoldable pub sized : List ℕ → List ℕ → Option (ℕ × ℕ)
 sized whole fraction =
     if nat_le (length whole + length fraction) 38
-    then option_map (λ n. (n, length fraction)) (option_and_then (λ n. digits_after n fraction) (digits_after 0 whole))
+    then option_map (λ n. (n, length fraction))
+    (option_and_then (λ n. digits_after n fraction) (digits_after 0 whole))
     else None
 
 abbrev pub is_point : ℕ → Bool

@@ -39,7 +39,9 @@ value_cmp = then_cmp (on kind nat_cmp) (then_cmp (on exact int_cmp) (on bytes (s
 -- any two values stand in this order, one way or the other
 pub value_total : IsTotalOrder value_cmp
 unfolding value_cmp
-value_total = then_total (on_total kind nat_cmp_total) (then_total (on_total exact int_cmp_total) (on_total bytes nat_list_cmp_total))
+value_total =
+    then_total (on_total kind nat_cmp_total)
+    (then_total (on_total exact int_cmp_total) (on_total bytes nat_list_cmp_total))
 
 -- two values are one: numbers by what they are worth, whatever their scales
 abbrev pub IsSameValue : Value → Value → Type 0

@@ -6,4 +6,6 @@ use Rattle.lg_value.specs.Literal.{unquoted_from}
 abbrev pub IsPiece : List ℕ → List ℕ → Option (List ℕ) → Type 0
 IsPiece rest piece None = (before : List ℕ) → unquoted_from false before rest ≡ Some (before ++ piece)
 IsPiece rest piece (Some more) =
-    ((before : List ℕ) → unquoted_from false before rest ≡ unquoted_from false (before ++ piece ++ 39 ∷ []) more) × (length more < length rest)
+    ((before : List ℕ)
+    → unquoted_from false before rest ≡ unquoted_from false (before ++ piece ++ 39 ∷ []) more)
+    × (length more < length rest)

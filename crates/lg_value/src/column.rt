@@ -1,7 +1,9 @@
 //! Columns, and the kinds of tables.
 
+ghost use Rattle.std.specs.Prelude.{◌≡◌, IfOk};
+
 use crate::SqlType;
-use lg_items::Name;
+use lg_items::{Memory, Name};
 
 /// Whether the rows of a table may change.
 #[derive(Clone, Copy, Debug, PartialEq, Eq)]
@@ -21,4 +23,18 @@ pub struct ColumnDef {
     pub nullable: bool,
     /// The place in the primary key, counted from 1, or 0 outside it.
     pub key_position: u8,
+}
+
+impl ColumnDef {
+    /// An equal one.
+    pub fn copy(&self) -> Result<ColumnDef, Memory>
+        ensures { IfOk result (λ copy. copy ≡ self.now) }
+    {
+        Ok(ColumnDef {
+            name: self.name.copy()?,
+            ty: self.ty,
+            nullable: self.nullable,
+            key_position: self.key_position,
+        })
+    }
 }

@@ -45,7 +45,9 @@ fn number_to(v: i128, s: u8, t: &SqlType) -> Result<Value, ValueErr>
 
 fn decimal_to(p: u32, z: u8, v: i128, s: u8) -> Result<Value, ValueErr>
     requires { p ≤ 38 }
-    ensures { result ≡ spec.only_if (number.has_digits (number.rescaled v s z) p) OutOfRange (Num (number.rescaled v s z) z) }
+    ensures { result
+        ≡ spec.only_if (number.has_digits (number.rescaled v s z) p) OutOfRange
+        (Num (number.rescaled v s z) z) }
 {
     match rescaled(v, s, z) {
         Some(v) if has_digits(v, p) => Ok(Value::Num { v, s: z }),

@@ -5,7 +5,8 @@ ghost use Rattle.jiff_core.specs.Calendar.{day_count};
 ghost use Rattle.jiff_core.specs.Date.{epoch_day};
 ghost use Rattle.lg_value.specs.Day as spec;
 
-use jiff_core::civil::Date;
+use jiff::ToSpan;
+use jiff::civil::{Date, date};
 
 /// The day 9999-12-31.
 pub const LAST_DAY: u32 = 3_652_058;
@@ -66,7 +67,7 @@ fn number_of(date: Date) -> u32
     requires { pos 1 ≤ℤ date.year }
     ensures { result ≡ day_count date.year date.month date.day - day_count (pos 1) 1 1 }
 {
-    (date.to_unix_epoch_day() + 719_162) as u32
+    (date.to_plain().to_unix_epoch_day() + 719_162) as u32
 }
 
 /// The number of the day that a text writes, where it is a date in the form `YYYY-MM-DD` from 0001-01-01 to 9999-12-31.
@@ -83,7 +84,7 @@ fn date_of(day: u32) -> Date
     requires { day ≤ spec.last_day }
     ensures { epoch_day result +ℤ pos 719162 ≡ pos day }
 {
-    Date::from_unix_epoch_day(i64::from(day) - 719_162).unwrap()
+    date(1, 1, 1).checked_add(i64::from(day).days()).unwrap()
 }
 
 /// The year, month and day of a day's date.
@@ -94,9 +95,9 @@ pub fn civil_of(day: u32) -> Civil
 {
     let date = date_of(day);
     Civil {
-        year: date.year as u16,
-        month: date.month,
-        day: date.day,
+        year: date.year() as u16,
+        month: date.month() as u8,
+        day: date.day() as u8,
     }
 }
 

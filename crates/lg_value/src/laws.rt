@@ -25,7 +25,8 @@ ghost use Rattle.lg_value.specs.Order.{value_cmp, IsSameValue, HasScale};
 /// equal in it exactly where they are one value.
 pub fn order_is_total()
     ensures turned { (a b : Value) → value_cmp a b ≡ ordering_reverse (value_cmp b a) }
-    ensures transitive { (a b c : Value) → IsTrue (is_le (value_cmp a b)) → IsTrue (is_le (value_cmp b c)) → IsTrue (is_le (value_cmp a c)) }
+    ensures transitive { (a b c : Value) → IsTrue (is_le (value_cmp a b)) → IsTrue (is_le (value_cmp b c))
+        → IsTrue (is_le (value_cmp a c)) }
     ensures equal { (a b : Value) → HasScale a → HasScale b → (value_cmp a b ≡ Equal) ↔ IsSameValue a b }
 {}
 
@@ -33,7 +34,8 @@ pub fn order_is_total()
 /// brought to the units of both; texts and bytes go byte by byte, and days by their numbers.
 pub fn order_of_kinds()
     ensures null { (b : Value) → b ≢ Null → value_cmp Null b ≡ Less }
-    ensures numbers { (v w : ℤ) (s z : ℕ) → s < 2 ^ 8 → z < 2 ^ 8 → value_cmp (Num v s) (Num w z) ≡ int_cmp (raised v z) (raised w s) }
+    ensures numbers { (v w : ℤ) (s z : ℕ) → s < 2 ^ 8 → z < 2 ^ 8
+        → value_cmp (Num v s) (Num w z) ≡ int_cmp (raised v z) (raised w s) }
     ensures texts { (a b : List ℕ) → value_cmp (Text a) (Text b) ≡ slice_cmp nat_cmp a b }
     ensures bytes { (a b : List ℕ) → value_cmp (Bytes a) (Bytes b) ≡ slice_cmp nat_cmp a b }
     ensures days { (d e : ℕ) → value_cmp (Date d) (Date e) ≡ nat_cmp d e }
@@ -42,7 +44,9 @@ pub fn order_of_kinds()
 /// What rounding half away from zero means: of the numbers in the greater units the nearest is taken, and of two that
 /// are as near the one with the greater size; on both sides of zero alike.
 pub fn rounding_is_half_away_from_zero()
-    ensures nearest { (n k : ℕ) → (2 * (rounded_size n k * 10 ^ k) ≤ 2 * n + 10 ^ k) × (2 * n < 2 * (rounded_size n k * 10 ^ k) + 10 ^ k) }
+    ensures nearest { (n k : ℕ)
+        → (2 * (rounded_size n k * 10 ^ k) ≤ 2 * n + 10 ^ k)
+        × (2 * n < 2 * (rounded_size n k * 10 ^ k) + 10 ^ k) }
     ensures positive { (n k : ℕ) → rounded (pos n) k ≡ pos (rounded_size n k) }
     ensures negative { (v : ℤ) (k : ℕ) → rounded (neg_ℤ v) k ≡ neg_ℤ (rounded v k) }
 {}
@@ -67,7 +71,8 @@ pub fn literals_are_read_back()
     ensures literal { (text : List ℕ) (v : Value) → literal_of text ≡ Some v → IsLiteral v }
     ensures written { (v : Value) → IsLiteral v → literal_of (literal_text v) ≡ Some v }
     ensures shown { (v : Value) → IsLiteral v → HasWholePart v → literal_of (printed v) ≡ Some v }
-    ensures days { (d : ℕ) → d ≤ last_day → literal_of (printed (Date d)) ≡ Some (Text (date_text (date_of d))) }
+    ensures days { (d : ℕ) → d ≤ last_day
+        → literal_of (printed (Date d)) ≡ Some (Text (date_text (date_of d))) }
 {}
 
 /// The trees of expressions, one equation for each kind; expressions of one tree are one expression.
@@ -76,7 +81,8 @@ pub fn expressions_are_trees()
     ensures column { (name : List ℕ) → tree (Col name) ≡ trees.column name }
     ensures minus { (a : Expr) → tree (Neg a) ≡ trees.minus (tree a) }
     ensures inverse { (a : Expr) → tree (Not a) ≡ trees.not (tree a) }
-    ensures null_test { (a : Expr) (negated : Bool) → tree (IsNull a negated) ≡ trees.is_null (tree a) negated }
+    ensures null_test { (a : Expr) (negated : Bool)
+        → tree (IsNull a negated) ≡ trees.is_null (tree a) negated }
     ensures binary { (op : Op) (a b : Expr) → tree (Bin op a b) ≡ trees.binary op (tree a) (tree b) }
     ensures same { (a b : Expr) → tree a ≡ tree b → a ≡ b }
 {}

@@ -14,6 +14,7 @@ mod refusal;
 mod sql_type;
 mod stored;
 mod text;
+mod type_codes;
 mod value;
 
 pub use column::{ColumnDef, TableKind};
@@ -32,7 +33,5 @@ pub use printing::{print, print_literal};
 pub use refusal::{LitErr, Refusal, ValueErr};
 pub use sql_type::SqlType;
 pub use stored::fits;
+pub use type_codes::type_parts;
 pub use value::Value;
-
-#[cfg(test)]
-mod tests;

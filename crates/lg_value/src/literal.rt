@@ -189,7 +189,8 @@ fn unquoted(alloc: Global, quoted: &str) -> Result<Text, LitErr>
 /// What stands before the next quote, and behind it where it is doubled. None where no quote ends the text, or something
 /// stands behind one that isn't doubled.
 fn next_piece(rest: &str) -> Option<(&str, Option<&str>)>
-    ensures { MatchOption result ((before : List ℕ) → unquoted_from false before rest.now ≡ None) (λ p. IsPiece rest.now p.0.now (option_copied p.1)) }
+    ensures { MatchOption result ((before : List ℕ) → unquoted_from false before rest.now ≡ None)
+        (λ p. IsPiece rest.now p.0.now (option_copied p.1)) }
 {
     let (piece, after) = rest.split_once('\'')?;
     if after.is_empty() {

@@ -146,7 +146,9 @@ fn put_doubled(text: &str, out: &mut Vec<u8>) -> Result<(), Memory>
 
 /// What stands before and behind the next quote.
 fn at_quote(rest: &str) -> Option<(&str, &str)>
-    ensures { MatchOption result (spec.doubled rest.now ≡ rest.now) (λ p. (spec.doubled rest.now ≡ p.0.now ++ 39 ∷ 39 ∷ spec.doubled p.1.now) × (length p.1.now < length rest.now)) }
+    ensures { MatchOption result (spec.doubled rest.now ≡ rest.now)
+        (λ p. (spec.doubled rest.now ≡ p.0.now ++ 39 ∷ 39 ∷ spec.doubled p.1.now)
+        × (length p.1.now < length rest.now)) }
 {
     rest.split_once('\'')
 }

@@ -1,3 +1,4 @@
+use Rattle.lg_bytes.proofs.FormsExact.{tx_id_exact, moment_exact, session_exact, database_exact}
 use Rattle.lg_bytes.proofs.Written.{u8_exact, u16_exact, u32_exact, u64_exact, i128_exact, hash_exact, short_exact, long_exact, wide_exact}
 use Rattle.lg_bytes.proofs.laws.fields_are_read_as_written.Goals as goal
 
@@ -12,4 +13,8 @@ returns c = record {
   short = short_exact;
   long = long_exact;
   wide = wide_exact;
+  transaction = tx_id_exact;
+  moment = moment_exact;
+  session = session_exact;
+  database = database_exact;
 }

@@ -5,4 +5,5 @@ use Rattle.lg_journal.specs.JournalReading.{item_at}
 use Rattle.lg_journal.proofs.reading.some_items.Given as goal
 
 abbrev pub invariant-loop : goal.invariant-loop
-invariant-loop l = with_front item_at l.items (times item_at (l.count - l.counter) l.rest) ≡ times item_at l.count l.bytes
+invariant-loop l =
+    with_front item_at l.items (times item_at (l.count - l.counter) l.rest) ≡ times item_at l.count l.bytes

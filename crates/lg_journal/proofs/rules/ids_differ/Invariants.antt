@@ -1,5 +1,5 @@
 use Rattle.std.proofs.Common.{◌≡◌, [], drop}
-use Rattle.lg_journal.specs.Rules.{ids_differ}
+use Rattle.lg_types.specs.JournalRules.{ids_differ}
 use Rattle.lg_journal.proofs.rules.ids_differ.Given as goal
 
 abbrev pub invariant-loop-item : goal.invariant-loop-item

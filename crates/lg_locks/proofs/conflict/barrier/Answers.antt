@@ -1,7 +1,7 @@
 use Rattle.std.proofs.Common.{◌≡◌, ◌<◌, ◌∙◌, Some, get_or, length, sym, ap, refl}
 use Rattle.std.specs.List.{slice_get}
 use Rattle.std.proofs.lemmas.Option.{slice_get_read}
-use Rattle.lg_locks.specs.Conflicts.{least_with, holder_of}
+use Rattle.lg_model.specs.InTheWay.{least_with, holder_of}
 use Rattle.lg_locks.proofs.Barriers.{barred_more, passed_more}
 use Rattle.lg_locks.proofs.conflict.barrier.Goals as goal
 use Rattle.lg_locks.proofs.conflict.barrier.Goals.{then-bars, else-bars}

@@ -1,5 +1,5 @@
 use Rattle.std.proofs.Common.{◌≡◌, take}
-use Rattle.lg_locks.specs.Conflicts.{barrier}
+use Rattle.lg_model.specs.InTheWay.{barrier}
 use Rattle.lg_locks.specs.Index.{picked}
 use Rattle.lg_locks.proofs.conflict.barrier.Given as goal
 

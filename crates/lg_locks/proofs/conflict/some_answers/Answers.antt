@@ -1,7 +1,7 @@
 use Rattle.std.proofs.Common.{◌≡◌, ◌<◌, ◌∙◌, Some, get_or, length, sym, refl}
 use Rattle.std.specs.List.{slice_get}
 use Rattle.std.proofs.lemmas.Option.{slice_get_read}
-use Rattle.lg_locks.specs.Holds.{answers}
+use Rattle.lg_model.specs.Holds.{answers}
 use Rattle.lg_locks.proofs.Barriers.{answers_more, answers_there}
 use Rattle.lg_locks.proofs.conflict.some_answers.Goals as goal
 

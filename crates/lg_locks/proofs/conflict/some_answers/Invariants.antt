@@ -1,6 +1,6 @@
 use Rattle.std.proofs.Common.{◌≡◌, false, take}
 use Rattle.std.specs.List.{list_any}
-use Rattle.lg_locks.specs.Holds.{answers}
+use Rattle.lg_model.specs.Holds.{answers}
 use Rattle.lg_locks.specs.Index.{picked}
 use Rattle.lg_locks.proofs.conflict.some_answers.Given as goal
 

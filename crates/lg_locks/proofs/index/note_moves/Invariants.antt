@@ -1,5 +1,5 @@
 use Rattle.std.proofs.Common.{◌≡◌, ◌<◌, ◌≤◌, ℕ, length, get_or}
-use Rattle.lg_locks.specs.Holds.{is_foreign}
+use Rattle.lg_model.specs.Holds.{is_foreign}
 use Rattle.lg_locks.specs.Index.{staying}
 use Rattle.lg_locks.proofs.index.note_moves.Given as goal
 

@@ -6,7 +6,7 @@ use Rattle.lg_merkle.proofs.frontier.put_on.Goals as goal
 
 pub returns-in-None-clause-stack : goal.returns-in-None-clause-stack
 returns-in-None-clause-stack g c =
-    ends_none_at (g.H.Hash32.digest c.args.h) c.args.nodes.now.items c.loop-nodes.nodes.items c.pop.new.self.items c.push.new.self.items c.args.node c.loop-nodes.node
+    ends_none_at (g.H.Hash32.digest c.args.hasher) c.args.nodes.now.items c.loop-nodes.nodes.items c.pop.new.self.items c.push.new.self.items c.args.node c.loop-nodes.node
     c.loop-nodes.invariant.0
     (nil_from_length c.loop-nodes.nodes.items (grind (arith, c.in-None.ensures.variant)))
     (grind (arith, common_steps, c.in-None.ensures.items))
@@ -14,7 +14,7 @@ returns-in-None-clause-stack g c =
 
 pub returns-then-last-node-clause-stack : goal.returns-then-last-node-clause-stack
 returns-then-last-node-clause-stack g c =
-    ends_some_at (g.H.Hash32.digest c.args.h) c.args.nodes.now.items c.loop-nodes.nodes.items c.pop.new.self.items c.push-then-last-node.new.self.items c.push-then-last-node-2.new.self.items c.args.node c.in-Some.last c.loop-nodes.node
+    ends_some_at (g.H.Hash32.digest c.args.hasher) c.args.nodes.now.items c.loop-nodes.nodes.items c.pop.new.self.items c.push-then-last-node.new.self.items c.push-then-last-node-2.new.self.items c.args.node c.in-Some.last c.loop-nodes.node
     c.loop-nodes.invariant.0
     c.in-Some.ensures.items
     (search rules)
@@ -23,7 +23,7 @@ returns-then-last-node-clause-stack g c =
 
 pub loop-nodes-preserved : goal.loop-nodes-preserved
 loop-nodes-preserved g c = (
-  carries_on_at (g.H.Hash32.digest c.args.h) c.args.nodes.now.items c.loop-nodes.nodes.items c.pop.new.self.items c.args.node c.in-Some.last c.loop-nodes.node _ _
+  carries_on_at (g.H.Hash32.digest c.args.hasher) c.args.nodes.now.items c.loop-nodes.nodes.items c.pop.new.self.items c.args.node c.in-Some.last c.loop-nodes.node _ _
       c.loop-nodes.invariant.0
       c.in-Some.ensures.items
       (search rules)

@@ -1,13 +1,13 @@
-use Rattle.std.proofs.Common.{Some, subst}
+use Rattle.std.proofs.Common.{subst}
 use Rattle.lg_model.specs.Where.{holds}
 use Rattle.lg_query.specs.Answers.{GivesItems}
-use Rattle.lg_query.proofs.InTurn.{all_filtered, all_pass}
+use Rattle.lg_parts.proofs.InTurn.{filter_after_none, all_pass}
 use Rattle.lg_query.proofs.filtering.taken.Goals as goal
 
 pub returns-in-Some : goal.returns-in-Some
 returns-in-Some c =
-    let test = holds c.args.columns.now (Some c.in-Some.cond) in
-    rw c.in-Some.is (subst (λ meant. GivesItems meant c.those_taken.result) (all_filtered test c.args.rows.items) c.those_taken.ensures)
+    let test = holds c.args.columns.now c.args.cond.now in
+    subst (λ meant. GivesItems meant c.those_taken.result) (filter_after_none test c.args.rows.items) c.those_taken.ensures
 
 pub returns-in-None : goal.returns-in-None
 unfolding holds

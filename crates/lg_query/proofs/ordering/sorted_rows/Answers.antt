@@ -3,7 +3,7 @@ use Rattle.std.specs.Ordering.{is_lt}
 use Rattle.std.proofs.lemmas.Fn.{always_returns_same}
 use Rattle.lg_query.specs.SortKeys.{keys_cmp}
 use Rattle.lg_query.proofs.SortKeys.{keys_total}
-use Rattle.lg_query.proofs.Sorting.{sorted_from_sort_by}
+use Rattle.lg_parts.proofs.Sorting.{sorted_from_sort_by}
 use Rattle.lg_query.proofs.ordering.sorted_rows.Goals as goal
 
 pub returns : goal.returns

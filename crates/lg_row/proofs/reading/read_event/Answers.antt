@@ -1,12 +1,11 @@
-use Rattle.std.proofs.Common.{sym, ◌∙◌, arith}
+use Rattle.std.proofs.Common.{◌∙◌, arith}
+use Rattle.lg_row.specs.LeafReading.{event_at}
 use Rattle.lg_row.proofs.LeafExact.{found_of, only_of}
 use Rattle.lg_row.proofs.reading.read_event.Goals as goal
 
-pub returns-in-Ok-clause-found : goal.returns-in-Ok-clause-found
-returns-in-Ok-clause-found c = found_of c.args.bytes.now c.in-Ok.e (λ i. omega (arith, c.type_inv.bytes i)) c.in-Ok.ensures
+pub returns-clause-found : goal.returns-clause-found
+returns-clause-found c =
+    found_of c.args.bytes.now c.in_ok-found.found (λ i. omega (arith, c.type_inv.bytes i)) (c.in_ok-found.ensures.ok event_at c.args.bytes.now c.event_at.ensures)
 
-pub returns-in-Ok-clause-only : goal.returns-in-Ok-clause-only
-returns-in-Ok-clause-only c = λ e is same. sym c.in-Ok.ensures ∙ only_of c.args.bytes.now e is same
-
-pub returns-in-Err-Malformed-clause-only : goal.returns-in-Err-Malformed-clause-only
-returns-in-Err-Malformed-clause-only c = λ e is same. sym (rw c.in-Err-Malformed.field-0-is at c.in-Err-Malformed.ensures) ∙ only_of c.args.bytes.now e is same
+pub returns-clause-only : goal.returns-clause-only
+returns-clause-only c = λ e is same. c.in_ok-found.ensures.ok event_at c.args.bytes.now c.event_at.ensures ∙ only_of c.args.bytes.now e is same

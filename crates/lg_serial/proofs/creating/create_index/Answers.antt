@@ -1,8 +1,6 @@
-use Rattle.std.proofs.Common.{◌≡◌, ◌∙◌, Ok, ap, sym, arith, map}
-use Rattle.std.proofs.lemmas.List.{length-map}
+use Rattle.std.proofs.Common.{◌≡◌, ◌∙◌, Ok, ap, sym, arith}
 use Rattle.lg_model.specs.Catalog.{Tables, defs_of}
 use Rattle.lg_model.specs.Create.{index_check}
-use Rattle.lg_rows.specs.Changes.{change_of}
 use Rattle.lg_serial.proofs.NewTables.{index_made, ids_after_rows}
 use Rattle.lg_serial.proofs.Ready.{ready_ids}
 use Rattle.lg_serial.proofs.creating.create_index.Goals as goal
@@ -10,7 +8,7 @@ use Rattle.lg_serial.proofs.creating.create_index.Goals as goal
 pub add_index-requires : goal.add_index-requires
 add_index-requires c =
     let tables = c.args.tables.now.items in
-    ids_after_rows c.args.tx c.args.seq (map change_of c.new.result) (map change_of c.in_ok-id.field-0.starts) tables c.add_system_rows.new.tables.items
+    ids_after_rows c.args.tx c.args.seq c.new.result c.in_ok-id.field-0.starts tables c.add_system_rows.new.tables.items
     (ready_ids c.args.tx c.args.seq tables c.requires) c.in_ok-next.ensures.tables
 
 pub returns : goal.returns
@@ -19,6 +17,6 @@ returns c =
     let new = c.in_ok-id.field-0 in
     let planned = c.in_ok-id.ensures in
     let checked : index_check (defs_of tables) c.args.c.now ≡ Ok (planned.0, new.index) = sym (ap (λ (T : Tables). index_check (defs_of T) c.args.c.now) c.deref.ensures.value) ∙ planned.1 in
-    index_made tables c.args.tx c.args.seq c.in_ok-next.next c.args.c.now new.id new.index planned.0 (map change_of c.new.result) (map change_of new.starts) c.add_system_rows.new.tables.items c.add_index.new.tables.items
-    (ready_ids c.args.tx c.args.seq tables c.requires) checked planned.2 (ap (map change_of) c.new.ensures) planned.3 c.in_ok-next.ensures.tables c.in_ok-add_index.ensures
-    (omega (arith, c.in_ok-next.ensures.next, length-map c.new.result change_of, length-map new.starts change_of))
+    index_made tables c.args.tx c.args.seq c.in_ok-next.next c.args.c.now new.id new.index planned.0 c.new.result new.starts c.add_system_rows.new.tables.items c.add_index.new.tables.items
+    (ready_ids c.args.tx c.args.seq tables c.requires) checked planned.2 c.new.ensures planned.3 c.in_ok-next.ensures.tables c.in_ok-add_index.ensures
+    (omega (arith, c.in_ok-next.ensures.next))

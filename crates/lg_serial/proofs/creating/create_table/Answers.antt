@@ -1,9 +1,7 @@
-use Rattle.std.proofs.Common.{◌≡◌, ◌++◌, ◌∷◌, ◌∙◌, List, [], Ok, ap, sym, arith, map}
-use Rattle.std.proofs.lemmas.List.{length-map}
+use Rattle.std.proofs.Common.{◌≡◌, ◌++◌, ◌∷◌, ◌∙◌, List, [], Ok, ap, sym, arith}
 use Rattle.lg_types.specs.declared.version.Version.{Version}
 use Rattle.lg_model.specs.Catalog.{Tables, defs_of}
 use Rattle.lg_model.specs.Create.{create_check}
-use Rattle.lg_rows.specs.Changes.{change_of}
 use Rattle.lg_serial.proofs.NewTables.{table_made}
 use Rattle.lg_serial.proofs.creating.create_table.Goals as goal
 
@@ -16,6 +14,6 @@ returns c =
     let rows : Tables = c.add_system_rows.new.tables.items in
     let made : create_check (defs_of tables) c.args.c.now ≡ Ok def = sym (ap (λ (T : Tables). create_check (defs_of T) c.args.c.now) c.deref.ensures.value) ∙ c.in_ok-def.ensures in
     let added = c.in_ok-push.ensures.items ∙ ap (λ (versions : List Version). rows ++ record { def = def; versions = versions } ∷ []) c.new.ensures in
-    table_made tables c.args.tx c.args.seq c.in_ok-next.next (create_check (defs_of tables) c.args.c.now) def (map change_of first) (map change_of second) rows c.push.new.self.items
+    table_made tables c.args.tx c.args.seq c.in_ok-next.next (create_check (defs_of tables) c.args.c.now) def first second rows c.push.new.self.items
     made c.in_ok-first.ensures c.in_ok-second.ensures c.in_ok-next.ensures.tables added
-    (omega (arith, c.in_ok-next.ensures.next, length-map first change_of, length-map second change_of))
+    (omega (arith, c.in_ok-next.ensures.next))

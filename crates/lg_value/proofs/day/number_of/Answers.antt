@@ -1,5 +1,6 @@
 use Rattle.std.proofs.Common.{◌+ℤ◌, ◌∙◌, pos, ap, arith, refl, FitsSigned, w32}
 use Rattle.std.proofs.lemmas.Int.{to_z-of_z}
+use Rattle.jiff_core.specs.Date.{epoch_day}
 use Rattle.jiff_core.proofs.SignedLemmas.{signed_arith}
 use Rattle.lg_value.proofs.Days.{from_unix}
 use Rattle.lg_value.proofs.day.number_of.Goals as goal
@@ -11,7 +12,7 @@ overflow_cast-result c =
     let z = c.to_unix_epoch_day.result in
     let f : FitsSigned w32 z = omega (arith, signed_arith, c.to_unix_epoch_day.ensures.bound) in
     let g : FitsSigned w32 (z +ℤ pos 719162) = omega (arith, signed_arith, c.to_unix_epoch_day.ensures.bound) in
-    let n = ap (λ x. x +ℤ pos 719162) c.to_unix_epoch_day.ensures.value ∙ is in
+    let n = ap (λ x. x +ℤ pos 719162) (c.to_unix_epoch_day.ensures.value ∙ ap epoch_day c.to_plain.ensures) ∙ is in
     rw (to_z-of_z w32 z f, to_z-of_z w32 (z +ℤ pos 719162) g, n) (tt, record { fits = omega (arith, signed_arith, c.to_unix_epoch_day.ensures.bound, n) })
 
 pub returns : goal.returns
@@ -21,5 +22,5 @@ returns c =
     let z = c.to_unix_epoch_day.result in
     let f : FitsSigned w32 z = omega (arith, signed_arith, c.to_unix_epoch_day.ensures.bound) in
     let g : FitsSigned w32 (z +ℤ pos 719162) = omega (arith, signed_arith, c.to_unix_epoch_day.ensures.bound) in
-    let n = ap (λ x. x +ℤ pos 719162) c.to_unix_epoch_day.ensures.value ∙ is in
+    let n = ap (λ x. x +ℤ pos 719162) (c.to_unix_epoch_day.ensures.value ∙ ap epoch_day c.to_plain.ensures) ∙ is in
     rw (to_z-of_z w32 z f, to_z-of_z w32 (z +ℤ pos 719162) g, n) refl

@@ -1,4 +1,4 @@
-use Rattle.std.proofs.Common.{arith, rules, ◌≡◌, ◌∙◌, ◌+◌, ◌-◌, sym, ap, length, drop, get_or, true}
+use Rattle.std.proofs.Common.{arith, rules, ◌≡◌, ◌∙◌, ◌+◌, ◌-◌, ◌^◌, sym, ap, length, drop, get_or, true}
 use Rattle.std.specs.Char.{is_ascii_digit}
 use Rattle.std.proofs.lemmas.List.{drop_more}
 use Rattle.lg_value.specs.Literal.{digits_after}
@@ -8,13 +8,13 @@ use Rattle.lg_value.proofs.literal.digits_after.Goals as goal
 pub overflow_mul-number : goal.overflow_mul-number
 overflow_mul-number c =
     let rest = drop_more c.args.digits.now c.loop-digit.digit-index 0 (search rules) in
-    let room = some_room c.loop-digit.number (length (drop c.loop-digit.digit-index c.args.digits.now)) _ c.loop-digit.invariant.1 c.requires (rw rest (omega arith)) in
+    let room = some_room c.loop-digit.number (length (drop c.loop-digit.digit-index c.args.digits.now)) _ (10 ^ 38) c.loop-digit.invariant.1 c.requires (rw rest (omega arith)) in
     record { fits = omega (arith, room) }
 
 pub overflow_add-number : goal.overflow_add-number
 overflow_add-number c =
     let rest = drop_more c.args.digits.now c.loop-digit.digit-index 0 (search rules) in
-    let room = some_room c.loop-digit.number (length (drop c.loop-digit.digit-index c.args.digits.now)) _ c.loop-digit.invariant.1 c.requires (rw rest (omega arith)) in
+    let room = some_room c.loop-digit.number (length (drop c.loop-digit.digit-index c.args.digits.now)) _ (10 ^ 38) c.loop-digit.invariant.1 c.requires (rw rest (omega arith)) in
     let small = small_digit (get_or c.args.digits.now c.loop-digit.digit-index 0) (search rules) in
     record { fits = omega (arith, room, small, c.from.ensures) }
 

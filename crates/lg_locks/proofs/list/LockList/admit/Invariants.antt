@@ -1,5 +1,5 @@
 use Rattle.std.proofs.Common.{◌≡◌, drop}
-use Rattle.lg_locks.specs.Conflicts.{first_conflict}
+use Rattle.lg_model.specs.InTheWay.{first_conflict}
 use Rattle.lg_locks.proofs.list.LockList.admit.Given as goal
 
 abbrev pub invariant-loop-want : goal.invariant-loop-want

@@ -1,7 +1,7 @@
 use Rattle.std.proofs.Common.{not}
 use Rattle.lg_locks.specs.Asked.{asked}
-use Rattle.lg_locks.specs.Holds.{holds_any}
-use Rattle.lg_locks.specs.Conflicts.{first_conflict}
+use Rattle.lg_model.specs.Holds.{holds_any}
+use Rattle.lg_model.specs.InTheWay.{first_conflict}
 use Rattle.lg_locks.proofs.Steps.{kept_refusal, not_refused}
 use Rattle.lg_locks.proofs.list.LockList.ask.Goals as goal
 

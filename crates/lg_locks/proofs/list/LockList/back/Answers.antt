@@ -1,7 +1,7 @@
 use Rattle.std.proofs.Common.{◌≡◌, ◌≤◌, ltb, take, length, ap, arith, rules}
 use Rattle.std.specs.List.{filter}
 use Rattle.std.proofs.lemmas.Fn.{filter_same}
-use Rattle.lg_locks.specs.Holds.{holds_any}
+use Rattle.lg_model.specs.Holds.{holds_any}
 use Rattle.lg_locks.proofs.Kept.{kept_back}
 use Rattle.lg_locks.proofs.list.LockList.back.Goals as goal
 

@@ -1,5 +1,5 @@
 use Rattle.std.proofs.Common.{◌∙◌, ap, subst}
-use Rattle.lg_locks.specs.Conflicts.{barrier}
+use Rattle.lg_model.specs.InTheWay.{barrier}
 use Rattle.lg_locks.specs.Index.{Covers, picked}
 use Rattle.lg_locks.proofs.Indexes.{picked_barrier}
 use Rattle.lg_locks.proofs.list.LockList.barrier.Goals as goal

@@ -1,6 +1,6 @@
 use Rattle.std.proofs.Common.{◌==◌, ◌∙◌, ap, ℕ, List}
 use Rattle.std.specs.List.{list_any}
-use Rattle.lg_locks.specs.Holds.{holds_any}
+use Rattle.lg_model.specs.Holds.{holds_any}
 use Rattle.lg_locks.proofs.list.LockList.holds_any.Goals as goal
 
 pub returns : goal.returns

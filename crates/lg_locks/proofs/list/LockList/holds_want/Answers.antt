@@ -1,6 +1,6 @@
 use Rattle.std.proofs.Common.{◌∙◌, ap, subst}
 use Rattle.std.specs.List.{list_any}
-use Rattle.lg_locks.specs.Holds.{answers, holds_want}
+use Rattle.lg_model.specs.Holds.{answers, holds_want}
 use Rattle.lg_locks.specs.Index.{Covers, picked}
 use Rattle.lg_locks.proofs.Indexes.{picked_answers}
 use Rattle.lg_locks.proofs.list.LockList.holds_want.Goals as goal

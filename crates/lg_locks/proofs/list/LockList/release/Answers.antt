@@ -2,7 +2,7 @@ use Rattle.std.proofs.Common.{◌≡◌, ◌==◌, ◌<◌, ◌++◌, ◌∙◌,
 use Rattle.std.specs.List.{filter}
 use Rattle.std.proofs.lemmas.Fn.{filter_same}
 use Rattle.std.proofs.lemmas.List.{length-map}
-use Rattle.lg_locks.specs.Holds.{is_foreign, released}
+use Rattle.lg_model.specs.Holds.{is_foreign, released}
 use Rattle.lg_locks.specs.Index.{stays, staying}
 use Rattle.lg_locks.proofs.Kept.{kept_released, kept_within, whole}
 use Rattle.lg_locks.proofs.list.LockList.release.Goals as goal

@@ -1,5 +1,5 @@
 use Rattle.std.proofs.Common.{◌≡◌, ◌≤◌, take, drop, length}
-use Rattle.lg_locks.specs.Holds.{holds_after}
+use Rattle.lg_model.specs.Holds.{holds_after}
 use Rattle.lg_locks.proofs.list.LockList.take_all.Given as goal
 
 abbrev pub invariant-loop-want : goal.invariant-loop-want

@@ -1,0 +1,10 @@
+use Rattle.std.proofs.Common.{◌≡◌, [], drop}
+use Rattle.lg_model.specs.Changes as spec
+use Rattle.lg_model.specs.Lists.{checked_fold}
+use Rattle.lg_model.specs.Refusals.{and_then}
+use Rattle.lg_changes.proofs.inserting.one_by_one.Given as goal
+
+abbrev pub invariant-loop-row : goal.invariant-loop-row
+invariant-loop-row l =
+    checked_fold (λ before row. and_then (spec.kept_row l.table.columns (spec.arranged l.table.columns l.names row)) (spec.one_more l.table.columns l.versions before)) l.before (drop l.row-index l.rows)
+    ≡ checked_fold (λ before row. and_then (spec.kept_row l.table.columns (spec.arranged l.table.columns l.names row)) (spec.one_more l.table.columns l.versions before)) [] l.rows

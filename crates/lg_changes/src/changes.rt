@@ -1,0 +1,115 @@
+//! The changes that a statement makes to the versions of its table.
+
+ghost use Rattle.std.specs.Prelude.{◌≡◌, IfOk, Ok, map};
+ghost use Rattle.std.specs.List.{zip};
+ghost use Rattle.lg_model.specs.Refusals.{Gives, and_then};
+ghost use Rattle.lg_model.specs.Lists.{checked_map};
+ghost use Rattle.lg_model.specs.Rows.{stored_row as spec_stored_row};
+ghost use Rattle.lg_model.specs.Changes as spec;
+
+use crate::inserting::inserted_rows;
+use crate::matching::versions_matched;
+use crate::setting::{replacement, rows_set};
+use lg_items::{Items, Memory, Name};
+use lg_parts::{Keyed, stored_row};
+use lg_types::{Change, Row, RowStmt, Version};
+use lg_value::{ColumnDef, Expr, Refusal};
+use std::alloc::Global;
+
+/// The changes that a statement makes to the versions of its table, which its name stands for, and the number of rows
+/// that it replies. The first refusal in the order of the definition decides: for INSERT row by row E06, E05, E08 and
+/// E09 of its values, and then E07 where a row of its key stands or was inserted before it; for UPDATE and DELETE those
+/// of the condition for all rows in key order, and then those of the new values. E30 for want of memory. Nothing is
+/// changed. INSERT compares each row with all versions and with all rows before it; the others look at each version
+/// once, and sort those that stand.
+#[tactic(auto, unfolding(lg_model::specs::Changes::row_changes))]
+pub fn row_changes(
+    alloc: Global,
+    table: &Keyed,
+    versions: &[Version],
+    stmt: &RowStmt,
+) -> Result<(Items<Change>, u64), Refusal>
+    ensures { Gives (spec.row_changes table.now versions.now stmt.now) result }
+{
+    match stmt {
+        RowStmt::Insert {
+            table: _,
+            columns,
+            rows,
+        } => { insert(alloc, table, versions, columns, rows) }
+        RowStmt::Update {
+            table: _,
+            sets,
+            cond,
+        } => { update(alloc, table, versions, sets, cond) }
+        RowStmt::Delete { table: _, cond } => delete(alloc, table, versions, cond),
+    }
+}
+
+fn insert(
+    alloc: Global,
+    table: &Keyed,
+    versions: &[Version],
+    names: &Option<Items<Name>>,
+    rows: &Items<Row>,
+) -> Result<(Items<Change>, u64), Refusal>
+    ensures { Gives (and_then (spec.inserted_rows table.now.columns versions.now names.now rows.now)
+        (λ kept. Ok (spec.insertion table.now.columns kept))) result }
+{
+    let rows = inserted_rows(alloc, table, versions, names, rows.as_slice())?;
+    let count = rows.len() as u64;
+    let changes = starts(alloc, table.columns(), rows)?;
+    Ok((changes, count))
+}
+
+fn starts(alloc: Global, columns: &[ColumnDef], rows: Items<Row>) -> Result<Items<Change>, Memory>
+    ensures { IfOk result (λ changes. changes
+        ≡ map (λ row. spec.Starts (spec_stored_row columns.now row)) rows) }
+{
+    let mut changes = Items::new(alloc);
+    for row in rows.into_vec() {
+        changes.push(Change::Starts(stored_row(alloc, columns, row)?))?;
+    }
+    Ok(changes)
+}
+
+fn delete(
+    alloc: Global,
+    table: &Keyed,
+    versions: &[Version],
+    cond: &Option<Expr>,
+) -> Result<(Items<Change>, u64), Refusal>
+    ensures { Gives (and_then (spec.versions_matched table.now.columns cond.now versions.now)
+        (λ taken. Ok (spec.deletion taken))) result }
+{
+    let taken = versions_matched(alloc, table, cond, versions)?;
+    let changes = ends(alloc, &taken)?;
+    Ok((changes, taken.len() as u64))
+}
+
+fn ends(alloc: Global, taken: &[&Version]) -> Result<Items<Change>, Memory>
+    ensures { IfOk result (λ changes. changes ≡ map (λ v. spec.Ends v.start) (map (λ v. v.now) taken.now)) }
+{
+    let mut changes = Items::new(alloc);
+    for version in taken {
+        changes.push(Change::Ends(version.start))?;
+    }
+    Ok(changes)
+}
+
+fn update(
+    alloc: Global,
+    table: &Keyed,
+    versions: &[Version],
+    sets: &Items<(Name, Expr)>,
+    cond: &Option<Expr>,
+) -> Result<(Items<Change>, u64), Refusal>
+    ensures { Gives (and_then (spec.versions_matched table.now.columns cond.now versions.now)
+        (λ taken. and_then (checked_map (spec.row_set table.now.columns sets.now) taken)
+        (λ rows. Ok (spec.replacement table.now.columns (zip taken rows))))) result }
+{
+    let taken = versions_matched(alloc, table, cond, versions)?;
+    let rows = rows_set(alloc, table.def(), sets.as_slice(), &taken)?;
+    let changes = replacement(alloc, table.columns(), &taken, rows)?;
+    Ok((changes, taken.len() as u64))
+}

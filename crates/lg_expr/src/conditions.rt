@@ -1,0 +1,33 @@
+//! WHERE: whether a condition takes a row.
+
+ghost use Rattle.std.specs.Prelude.{◌≡◌};
+ghost use Rattle.lg_model.specs.Refusals.{Gives};
+ghost use Rattle.lg_model.specs.Where as spec;
+
+use crate::evaluation::eval;
+use crate::seen_row::SeenRow;
+use lg_parts::Columns;
+use lg_types::Outcome;
+use lg_value::{Expr, Refusal};
+
+/// Whether a condition that came out so takes the row: it does where it is true, not where it is false or unknown.
+fn is_true(outcome: Outcome) -> Result<bool, Refusal>
+    ensures { result ≡ spec.is_true outcome }
+{
+    match outcome {
+        Outcome::Truth(truth) => Ok(truth == Some(true)),
+        Outcome::Value(_) => Err(Refusal::E05),
+    }
+}
+
+/// Whether a condition over the columns takes a row of them; without a condition each row is taken. E05 and E08 come
+/// where the condition's evaluation gives them, and E30 for want of memory.
+#[tactic(auto, unfolding(lg_model::specs::Where::holds))]
+pub fn holds(columns: &Columns, cond: &Option<Expr>, row: &SeenRow) -> Result<bool, Refusal>
+    ensures { Gives (spec.holds columns.now cond.now row.now) result }
+{
+    match cond {
+        None => Ok(true),
+        Some(e) => is_true(eval(e, columns, row)?),
+    }
+}

@@ -1,0 +1,9 @@
+pub mod AddedColumns
+pub mod Fixed
+pub mod InTurn
+pub mod Lists
+pub mod Orders
+pub mod Positions
+pub mod Refusals
+pub mod Sorting
+pub mod Zipped

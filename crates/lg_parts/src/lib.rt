@@ -1,0 +1,22 @@
+//! The columns of a table's parts, the keys of its rows, and the rows as each part shows them.
+#![tactic(auto)]
+
+mod columns;
+mod fixing;
+mod keyed;
+mod keys;
+mod laws;
+mod live;
+mod order;
+mod rows;
+mod values;
+
+pub use columns::{Columns, column_of, place_of, shown};
+pub use fixing::key_fixed;
+pub use keyed::Keyed;
+pub use keys::{has_key, key_of, key_places, same_key};
+pub use laws::sorted_lists_rise_stably;
+pub use lg_types::{Key, Part, Row, TableDef, Version};
+pub use live::standing;
+pub use rows::part_rows;
+pub use values::{Valued, copy_or_null, number, stored_row, value_or_null, values_of};

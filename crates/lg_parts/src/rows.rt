@@ -1,0 +1,168 @@
+//! The rows of the parts of a table.
+
+ghost use Rattle.std.specs.Prelude.{◌≡◌, ◌++◌, [], ◌∷◌, IfOk, OnOk, Some, map};
+ghost use Rattle.lg_value.specs.declared.value.Value.TheVariants.{Text as TextOf};
+ghost use Rattle.lg_model.specs.Rows.{values_of, number as number_of};
+ghost use Rattle.lg_model.specs.Parts as spec;
+ghost use Rattle.lg_model.specs.Keys as keys;
+ghost use Rattle.lg_parts.specs.Places.{row_in};
+
+use crate::keyed::Keyed;
+use crate::live::standing;
+use crate::order::sort_by_event;
+use crate::values::{add_values, number};
+use lg_items::{Items, Memory, Text};
+use lg_types::{EventId, Key, Part, Row, Version};
+use lg_value::Value;
+use std::alloc::Global;
+
+/// The rows of a part of a table, in its order: the versions that stand by key, those that ended by their start, and for
+/// the view one row for each start and each end by its event. Where a base table's key is fixed, the one row with that
+/// key. Each version is copied at most twice, and the rows are sorted once.
+#[tactic(auto, unfolding(lg_model::specs::Parts::rows_of))]
+pub fn part_rows(
+    alloc: Global,
+    table: &Keyed,
+    part: Part,
+    key: &Option<Key>,
+    versions: &[Version],
+) -> Result<Vec<Row>, Memory>
+    ensures { IfOk result (λ rows. rows.items ≡ spec.rows_of table.now part key.now versions.now) }
+{
+    match part {
+        Part::Base => standing_rows(alloc, table, key, versions),
+        Part::History => history_rows(alloc, versions),
+        Part::View => view_rows(alloc, versions),
+        Part::System => standing_rows(alloc, table, &None, versions),
+    }
+}
+
+/// A version that stands, with its start.
+pub fn base_row(alloc: Global, version: &Version) -> Result<Row, Memory>
+    ensures { IfOk result (λ row. row ≡ spec.base_row version.now) }
+{
+    let mut row = Vec::new(alloc);
+    add_values(version, &mut row)?;
+    row.push(number(version.start.0))?;
+    row.push(number(version.start.1))?;
+    Ok(Items::from_vec(row))
+}
+
+/// A version that ended, with its start and its end.
+pub fn history_row(alloc: Global, version: &Version, end: EventId) -> Result<Row, Memory>
+    ensures { IfOk result (λ row. row ≡ spec.history_row version.now end) }
+{
+    let mut row = Vec::new(alloc);
+    add_values(version, &mut row)?;
+    row.push(number(version.start.0))?;
+    row.push(number(end.0))?;
+    row.push(number(version.start.1))?;
+    row.push(number(end.1))?;
+    Ok(Items::from_vec(row))
+}
+
+/// The values of a version, with an event of it and what that did.
+fn view_row(
+    alloc: Global,
+    version: &Version,
+    event: EventId,
+    operation: u64,
+    name: &str,
+) -> Result<Row, Memory>
+    ensures { IfOk result (λ row. row ≡ values_of version.now ++ number_of event.0 ∷ number_of event.1
+        ∷ number_of operation ∷ TextOf name.now ∷ []) }
+{
+    let mut row = Vec::new(alloc);
+    add_values(version, &mut row)?;
+    row.push(number(event.0))?;
+    row.push(number(event.1))?;
+    row.push(number(operation))?;
+    row.push(Value::Text(Text::of_str(alloc, name)?))?;
+    Ok(Items::from_vec(row))
+}
+
+fn standing_rows(
+    alloc: Global,
+    table: &Keyed,
+    key: &Option<Key>,
+    versions: &[Version],
+) -> Result<Vec<Row>, Memory>
+    ensures { IfOk result (λ rows. rows.items
+        ≡ map spec.base_row (keys.standing table.now.columns key.now versions.now)) }
+{
+    let standing = standing(alloc, table, key, versions)?;
+    base_rows(alloc, &standing)
+}
+
+fn base_rows(alloc: Global, versions: &[&Version]) -> Result<Vec<Row>, Memory>
+    ensures { IfOk result (λ rows. rows.items ≡ map spec.base_row (map (λ v. v.now) versions.now)) }
+{
+    let mut rows = Vec::with_capacity(alloc, versions.len())?;
+    for version in versions {
+        rows.push(base_row(alloc, *version)?)?;
+    }
+    Ok(rows)
+}
+
+fn history_rows(alloc: Global, versions: &[Version]) -> Result<Vec<Row>, Memory>
+    ensures { IfOk result (λ rows. rows.items ≡ spec.history_rows versions.now) }
+{
+    let mut rows = Vec::new(alloc);
+    for version in versions {
+        if let Some(end) = version.end {
+            rows.push(history_row(alloc, version, end)?)?;
+        }
+    }
+    Ok(rows)
+}
+
+fn view_rows(alloc: Global, versions: &[Version]) -> Result<Vec<Row>, Memory>
+    ensures { IfOk result (λ rows. rows.items ≡ spec.view_rows versions.now) }
+{
+    let mut shown = Vec::new(alloc);
+    for version in versions {
+        show_start(alloc, version, &mut shown)?;
+        show_end(alloc, version, &mut shown)?;
+    }
+    sort_by_event(&mut shown)?;
+    rows_in(alloc, shown)
+}
+
+fn show_start(
+    alloc: Global,
+    version: &Version,
+    shown: &mut Vec<(EventId, Row)>,
+) -> Result<(), Memory>
+    ensures { OnOk result (shown.new.items ≡ shown.old.items ++ spec.shown_start version.now ∷ []) }
+{
+    let start = version.start;
+    let row = view_row(alloc, version, start, 1, "INSERT")?;
+    shown.push((start, row))?;
+    Ok(())
+}
+
+fn shown_end(alloc: Global, version: &Version, end: EventId) -> Result<(EventId, Row), Memory>
+    ensures { IfOk result (λ shown. shown ∷ [] ≡ spec.shown_end version.now (Some end)) }
+{
+    let row = view_row(alloc, version, end, 2, "DELETE")?;
+    Ok((end, row))
+}
+
+fn show_end(alloc: Global, version: &Version, shown: &mut Vec<(EventId, Row)>) -> Result<(), Memory>
+    ensures { OnOk result (shown.new.items ≡ shown.old.items ++ spec.shown_end version.now version.now.end) }
+{
+    if let Some(end) = version.end {
+        shown.push(shown_end(alloc, version, end)?)?;
+    }
+    Ok(())
+}
+
+fn rows_in(alloc: Global, shown: Vec<(EventId, Row)>) -> Result<Vec<Row>, Memory>
+    ensures { IfOk result (λ rows. rows.items ≡ map row_in shown.items) }
+{
+    let mut rows = Vec::with_capacity(alloc, shown.len())?;
+    for (_, row) in shown {
+        rows.push(row)?;
+    }
+    Ok(rows)
+}

@@ -1,5 +1,0 @@
-pub mod Described
-pub mod Fine
-pub mod Fits
-pub mod Kept
-pub mod Serial

@@ -1,6 +1,0 @@
-pub mod Owned
-pub mod Places
-pub mod Retained
-pub mod Started
-pub mod Steps
-pub mod Tables

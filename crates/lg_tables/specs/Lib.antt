@@ -1,4 +1,0 @@
-pub mod Own
-pub mod Places
-pub mod Short
-pub mod Started
