@@ -2,43 +2,43 @@
 use Rattle.std.proofs.Common.{◌≡◌, ℕ, ◌≤◌, List, [], ◌∷◌, ◌++◌, length, refl, ap, ◌∙◌, subst, ⊎_elim, arith}
 use Rattle.lg_history.specs.Lists.{Text, In}
 use Rattle.lg_history.specs.Facts.{Fact, met, no_digest}
-use Rattle.lg_history.specs.Acts.{Act, meets, lacks, shown, all_shown}
+use Rattle.lg_history.specs.Acts.{SessionAct, meets, lacks, shown, all_shown}
 use Rattle.lg_history.proofs.Signs.{one_shown}
 
-pub record Found (xs : List Act) (us vs : List Fact) (g : Fact) : Type 0 where
-  pub front : List Act
-  pub act : Act
-  pub back : List Act
+pub record Found (xs : List SessionAct) (us vs : List Fact) (g : Fact) : Type 0 where
+  pub front : List SessionAct
+  pub act : SessionAct
+  pub back : List SessionAct
   pub is : xs ≡ front ++ act ∷ back
   pub shows : shown act ≡ g ∷ []
   pub before : all_shown front ≡ us
   pub after : all_shown back ≡ vs
 
-found_later : (a : Act) (xs : List Act) (us vs : List Fact) (g : Fact) → Found xs us vs g → Found (a ∷ xs) (shown a ++ us) vs g
-found_later a xs us vs g f = record { front = a ∷ f.front; act = f.act; back = f.back; is = ap (λ (l : List Act). a ∷ l) f.is; shows = f.shows; before = ap (λ (l : List Fact). shown a ++ l) f.before; after = f.after }
+found_later : (a : SessionAct) (xs : List SessionAct) (us vs : List Fact) (g : Fact) → Found xs us vs g → Found (a ∷ xs) (shown a ++ us) vs g
+found_later a xs us vs g f = record { front = a ∷ f.front; act = f.act; back = f.back; is = ap (λ (l : List SessionAct). a ∷ l) f.is; shows = f.shows; before = ap (λ (l : List Fact). shown a ++ l) f.before; after = f.after }
 
 nowhere : (us vs : List Fact) (g : Fact) → [] ≡ us ++ g ∷ vs → ⊥
 nowhere [] vs g e = cc
 nowhere (u ∷ us) vs g e = cc
 
-found_by : (a : Act) (xs : List Act) (gs us vs : List Fact) (g : Fact) → shown a ≡ gs → length gs ≤ 1 → ((us : List Fact) → all_shown xs ≡ us ++ g ∷ vs → Found xs us vs g) → gs ++ all_shown xs ≡ us ++ g ∷ vs → Found (a ∷ xs) us vs g
+found_by : (a : SessionAct) (xs : List SessionAct) (gs us vs : List Fact) (g : Fact) → shown a ≡ gs → length gs ≤ 1 → ((us : List Fact) → all_shown xs ≡ us ++ g ∷ vs → Found xs us vs g) → gs ++ all_shown xs ≡ us ++ g ∷ vs → Found (a ∷ xs) us vs g
 found_by a xs [] us vs g is l ih e = subst (λ (hs : List Fact). Found (a ∷ xs) (hs ++ us) vs g) is (found_later a xs us vs g (ih us e))
 found_by a xs (f ∷ []) [] vs g is l ih e = record { front = []; act = a; back = xs; is = refl; shows = is ∙ (let same : f ≡ g = cc in ap (λ (x : Fact). x ∷ []) same); before = refl; after = cc }
 found_by a xs (f ∷ []) (u ∷ us) vs g is l ih e = let same : f ≡ u = cc in let rest : all_shown xs ≡ us ++ g ∷ vs = cc in
     subst (λ (hs : List Fact). Found (a ∷ xs) (hs ++ us) vs g) (is ∙ ap (λ (x : Fact). x ∷ []) same) (found_later a xs us vs g (ih us rest))
 found_by a xs (f ∷ h ∷ gs) us vs g is l ih e = absurd (omega arith)
 
-pub find : (xs : List Act) (us vs : List Fact) (g : Fact) → all_shown xs ≡ us ++ g ∷ vs → Found xs us vs g
+pub find : (xs : List SessionAct) (us vs : List Fact) (g : Fact) → all_shown xs ≡ us ++ g ∷ vs → Found xs us vs g
 find [] us vs g e = absurd (nowhere us vs g e)
 find (a ∷ xs) us vs g e = found_by a xs (shown a) us vs g refl (one_shown a) (λ us e. find xs us vs g e) e
 
 -- ---- which act it is
 
-pub is_meets : (a : Act) (text : Text) (holder : ℕ) → shown a ≡ met text holder ∷ [] → a ≡ meets text holder
+pub is_meets : (a : SessionAct) (text : Text) (holder : ℕ) → shown a ≡ met text holder ∷ [] → a ≡ meets text holder
 is_meets (meets t h) text holder e = let a : t ≡ text = cc in let b : h ≡ holder = cc in λ k. meets (a k) (b k)
 is_meets a text holder e = cc
 
-pub is_lacks : (a : Act) → shown a ≡ no_digest ∷ [] → a ≡ lacks
+pub is_lacks : (a : SessionAct) → shown a ≡ no_digest ∷ [] → a ≡ lacks
 is_lacks lacks e = refl
 is_lacks a e = cc
 

@@ -8,10 +8,10 @@ use Rattle.lg_history.specs.Lists.{Text}
 use Rattle.lg_history.specs.Journals.{blocks, in_blocks, times}
 use Rattle.lg_history.specs.Meaning.{Meaning}
 use Rattle.lg_history.specs.Digests.{Digest, last_time, IsDigest}
-use Rattle.lg_history.specs.Acts.{Event, by, closes}
+use Rattle.lg_history.specs.Acts.{Act, by, closes}
 use Rattle.lg_history.specs.Worlds.{World, items_by, step, run}
 
-pub grows : (w : World) (es : List Event) → (K : List JournalItem) × ((run w es).items ≡ w.items ++ K)
+pub grows : (w : World) (es : List Act) → (K : List JournalItem) × ((run w es).items ≡ w.items ++ K)
 grows w [] = ([], sym (append-nil w.items))
 grows w (by s a ∷ es) = let r = grows (step w (by s a)) es in (items_by (w.at s) a ++ r.0, r.1 ∙ append_assoc w.items (items_by (w.at s) a) r.0)
 grows w (closes k ∷ es) = let r = grows (step w (closes k)) es in (Close k ∷ r.0, r.1 ∙ append_assoc w.items (Close k ∷ []) r.0)
@@ -26,7 +26,7 @@ closed_append [] K = omega arith
 closed_append (Tx id session time opened script ∷ is) K = closed_append is K
 closed_append (Close k ∷ is) K = omega (arith, closed_append is K)
 
-pub blocks_step : (w : World) (e : Event) → blocks w.items ≤ blocks (step w e).items
+pub blocks_step : (w : World) (e : Act) → blocks w.items ≤ blocks (step w e).items
 blocks_step w (by s a) = omega (arith, blocks_append w.items (items_by (w.at s) a))
 blocks_step w (closes k) = omega (arith, blocks_append w.items (Close k ∷ []))
 

@@ -4,16 +4,16 @@ use Rattle.std.specs.Prelude.{◌==◌}
 use Rattle.std.proofs.lemmas.Bool.{eq-eqb, ne_eqb, cases_eq}
 use Rattle.lg_types.specs.declared.journal.JournalItem.{JournalItem}
 use Rattle.lg_types.specs.declared.journal.JournalItem.TheVariants.{Close}
-use Rattle.lg_history.specs.Lists.{Text, Each, sum}
+use Rattle.lg_history.specs.Lists.{Text, Each, sum, sum_from}
 use Rattle.lg_history.specs.Journals.{blocks}
 use Rattle.lg_history.specs.Meaning.{Meaning}
 use Rattle.lg_history.specs.Transcripts.{Transcript}
 use Rattle.lg_history.specs.Facts.{Fact, facts_of}
 use Rattle.lg_history.specs.Digests.{Digest, IsDigest, of_block, replies_of_block, BlocksRise}
 use Rattle.lg_history.specs.Agree.{ShowsHash}
-use Rattle.lg_history.specs.Acts.{Act, starts, takes, looks, issues, answers, stops, Event, by, closes, of, shown, all_shown}
+use Rattle.lg_history.specs.Acts.{SessionAct, starts, takes, looks, issues, answers, stops, Act, by, closes, of, shown, all_shown}
 use Rattle.lg_history.specs.Worlds.{World, items_by, issued_by, step, run}
-use Rattle.lg_history.specs.Guards.{Ok, Good}
+use Rattle.lg_history.specs.Guards.{MayHappen, Good}
 use Rattle.lg_history.specs.Histories.{SessionsBelow}
 use Rattle.lg_history.proofs.Trace.{each_append, each_weaker}
 use Rattle.lg_history.proofs.Grows.{grows, blocks_append, blocks_step, digest_stays}
@@ -22,7 +22,7 @@ use Rattle.lg_history.proofs.Rising.{shown_more}
 module _ (q : Meaning) (db : Text) where
   -- ---- what a digest shows stays
 
-  hash_at : (w : World) (t : ℕ) (a : Act) (es : List Event) → Ok q db w (by t a) → Each (ShowsHash q (run w (by t a ∷ es)).items) (shown a)
+  hash_at : (w : World) (t : ℕ) (a : SessionAct) (es : List Act) → MayHappen q db w (by t a) → Each (ShowsHash q (run w (by t a ∷ es)).items) (shown a)
   hash_at w t (issues d mark) es k = let g = grows w (by t (issues d mark) ∷ es) in let inside : d.block < blocks w.items = omega (arith, k.last) in
       ((omega (arith, inside, ap blocks g.1, blocks_append w.items g.0), (k.is).hash ∙ sym (q.hash_stays w.items g.0 d.block inside) ∙ ap (λ (J : List JournalItem). q.block_hash J d.block) (sym g.1)), tt)
   hash_at w t (starts name) es k = tt
@@ -32,7 +32,7 @@ module _ (q : Meaning) (db : Text) where
   hash_at w t stops es k = tt
   hash_at w t a es k = (tt, tt)
 
-  pub hashes : (s : ℕ) (w : World) (es : List Event) → Good q db w es → Each (ShowsHash q (run w es).items) (all_shown (of s es))
+  pub hashes : (s : ℕ) (w : World) (es : List Act) → Good q db w es → Each (ShowsHash q (run w es).items) (all_shown (of s es))
   hashes s w [] g = tt
   hashes s w (by t a ∷ es) g = shown_more (ShowsHash q (run w (by t a ∷ es)).items) (t == s) a (of s es) (hash_at w t a es g.0) (hashes s (step w (by t a)) es g.1)
   hashes s w (closes k ∷ es) g = hashes s (step w (closes k)) es g.1
@@ -48,16 +48,16 @@ module _ (q : Meaning) (db : Text) where
   all_of : (J K : List JournalItem) (G : List Digest) → Each (IsOf J) G → Each (IsOf (J ++ K)) G
   all_of J K G h = each_weaker (IsOf J) (IsOf (J ++ K)) (λ d i. is_of_more J K d i) G h
 
-  new_of : (w : World) (s : ℕ) (a : Act) → Ok q db w (by s a) → Each (IsOf w.items) (issued_by a)
+  new_of : (w : World) (s : ℕ) (a : SessionAct) → MayHappen q db w (by s a) → Each (IsOf w.items) (issued_by a)
   new_of w s (issues d mark) k = ((omega (arith, k.last), k.is), tt)
   new_of w s a k = tt
 
-  issued_run : (w : World) (es : List Event) → Good q db w es → Each (IsOf w.items) w.issued → Each (IsOf (run w es).items) (run w es).issued
+  issued_run : (w : World) (es : List Act) → Good q db w es → Each (IsOf w.items) w.issued → Each (IsOf (run w es).items) (run w es).issued
   issued_run w [] g h = h
   issued_run w (by s a ∷ es) g h = issued_run (step w (by s a)) es g.1 (all_of w.items (items_by (w.at s) a) (w.issued ++ issued_by a) (each_append (IsOf w.items) w.issued (issued_by a) h (new_of w s a g.0)))
   issued_run w (closes k ∷ es) g h = issued_run (step w (closes k)) es g.1 (all_of w.items (Close k ∷ []) w.issued h)
 
-  pub issued : (w : World) (es : List Event) → Good q db w es → Each (IsOf w.items) w.issued → Each (IsDigest q db (run w es).items) (run w es).issued
+  pub issued : (w : World) (es : List Act) → Good q db w es → Each (IsOf w.items) w.issued → Each (IsDigest q db (run w es).items) (run w es).issued
   issued w es g h = each_weaker (IsOf (run w es).items) (IsDigest q db (run w es).items) (λ d i. i.1) (run w es).issued (issued_run w es g h)
 
   -- ---- blocks never fall
@@ -69,23 +69,19 @@ module _ (q : Meaning) (db : Text) where
   rise_append [] e r h = (tt, tt)
   rise_append (d ∷ ds) e r h = (each_append (λ z. d.block ≤ z.block) ds (e ∷ []) r.0 (h.0, tt), rise_append ds e r.1 h.1)
 
-  blocks_by : (w : World) (s : ℕ) (a : Act) → Ok q db w (by s a) → BlocksRise w.issued → AllBelow (blocks w.items) w.issued → BlocksRise (w.issued ++ issued_by a) × AllBelow (blocks w.items) (w.issued ++ issued_by a)
+  blocks_by : (w : World) (s : ℕ) (a : SessionAct) → MayHappen q db w (by s a) → BlocksRise w.issued → AllBelow (blocks w.items) w.issued → BlocksRise (w.issued ++ issued_by a) × AllBelow (blocks w.items) (w.issued ++ issued_by a)
   blocks_by w s (issues d mark) k r h = (
     rise_append w.issued d r (each_weaker (λ e. e.block < blocks w.items) (λ e. e.block ≤ d.block) (λ e l. omega (arith, k.last)) w.issued h),
     each_append (λ e. e.block < blocks w.items) w.issued (d ∷ []) h (omega (arith, k.last), tt),
   )
   blocks_by w s a k r h = rw append-nil (r, h)
 
-  pub blocks_rise : (w : World) (es : List Event) → Good q db w es → BlocksRise w.issued → AllBelow (blocks w.items) w.issued → BlocksRise (run w es).issued
+  pub blocks_rise : (w : World) (es : List Act) → Good q db w es → BlocksRise w.issued → AllBelow (blocks w.items) w.issued → BlocksRise (run w es).issued
   blocks_rise w [] g r h = r
   blocks_rise w (by s a ∷ es) g r h = let n = blocks_by w s a g.0 r h in blocks_rise (step w (by s a)) es g.1 n.0 (each_weaker (λ e. e.block < blocks w.items) (λ e. e.block < blocks (step w (by s a)).items) (λ e l. omega (arith, blocks_step w (by s a))) (w.issued ++ issued_by a) n.1)
   blocks_rise w (closes k ∷ es) g r h = blocks_rise (step w (closes k)) es g.1 r (each_weaker (λ e. e.block < blocks w.items) (λ e. e.block < blocks (step w (closes k)).items) (λ e l. omega (arith, blocks_step w (closes k))) w.issued h)
 
 -- ---- as many digests as replies
-
-abbrev pub sum_from : ℕ → ℕ → (ℕ → ℕ) → ℕ
-sum_from n zero f = 0
-sum_from n (suc k) f = f n + sum_from (suc n) k f
 
 sum_same : (n k : ℕ) (f g : ℕ → ℕ) → ((s : ℕ) → n ≤ s → f s ≡ g s) → sum_from n k f ≡ sum_from n k g
 sum_same n zero f g h = refl
@@ -113,18 +109,18 @@ replies_append : (b : ℕ) (gs hs : List Fact) → replies_of_block b (gs ++ hs)
 replies_append b [] hs = omega arith
 replies_append b (g ∷ gs) hs = let e = replies_append b gs hs in omega arith
 
-issued_block : (b : ℕ) (a : Act) → of_block b (issued_by a) ≡ replies_of_block b (shown a)
+issued_block : (b : ℕ) (a : SessionAct) → of_block b (issued_by a) ≡ replies_of_block b (shown a)
 issued_block b (issues d mark) = omega arith
 issued_block b (starts name) = refl
 issued_block b a = refl
 
-at_session : (b s t : ℕ) (a : Act) (es : List Event) → s ≢ t → replies_of_block b (all_shown (of s (by t a ∷ es))) ≡ replies_of_block b (all_shown (of s es))
+at_session : (b s t : ℕ) (a : SessionAct) (es : List Act) → s ≢ t → replies_of_block b (all_shown (of s (by t a ∷ es))) ≡ replies_of_block b (all_shown (of s es))
 at_session b s t a es ne = rw (ne_eqb t s (λ e. ne (sym e))) refl
 
-here : (b t : ℕ) (a : Act) (es : List Event) → replies_of_block b (all_shown (of t (by t a ∷ es))) ≡ replies_of_block b (shown a) + replies_of_block b (all_shown (of t es))
+here : (b t : ℕ) (a : SessionAct) (es : List Act) → replies_of_block b (all_shown (of t (by t a ∷ es))) ≡ replies_of_block b (shown a) + replies_of_block b (all_shown (of t es))
 here b t a es = rw (eq-eqb t t refl) (replies_append b (shown a) (all_shown (of t es)))
 
-pub digests_counted : (b k : ℕ) (w : World) (es : List Event) → SessionsBelow k es → of_block b (run w es).issued ≡ of_block b w.issued + sum_from 0 k (λ s. replies_of_block b (all_shown (of s es)))
+pub digests_counted : (b k : ℕ) (w : World) (es : List Act) → SessionsBelow k es → of_block b (run w es).issued ≡ of_block b w.issued + sum_from 0 k (λ s. replies_of_block b (all_shown (of s es)))
 digests_counted b k w [] h = let e = no_sum 0 k in omega arith
 digests_counted b k w (by t a ∷ es) h = let rest = digests_counted b k (step w (by t a)) es h.1 in let front = of_append_block b w.issued (issued_by a) in let one = issued_block b a in
     let all = sum_one 0 k t (replies_of_block b (shown a)) (λ s. replies_of_block b (all_shown (of s (by t a ∷ es)))) (λ s. replies_of_block b (all_shown (of s es))) (omega arith) (let l = h.0 in omega arith) (here b t a es) (λ s ne. at_session b s t a es ne) in omega arith

@@ -10,21 +10,21 @@ use Rattle.lg_history.specs.Journals.{ids_of}
 use Rattle.lg_history.specs.Meaning.{Meaning}
 use Rattle.lg_history.specs.Serial.{Replays, ClosesPending, Differ, IsLegal}
 use Rattle.lg_history.specs.Transactions.{unfixed, committed, ended, on_some}
-use Rattle.lg_history.specs.Acts.{Act, draws, looks, says, fails, meets, commits, ends, frees, Event, by, closes, drawn_id}
-use Rattle.lg_history.specs.Sessions.{Deal, Sess, drawn, asks, hears, scripts, fixes, acted, deal_by}
+use Rattle.lg_history.specs.Acts.{SessionAct, draws, looks, says, fails, meets, commits, ends, frees, Act, by, closes, drawn_id}
+use Rattle.lg_history.specs.Sessions.{SessionTransaction, SessionState, drawn, asks, hears, scripts, fixes, acted, transaction_by}
 use Rattle.lg_history.specs.Worlds.{World, first, item_of, items_by, put, step, run, tables}
-use Rattle.lg_history.specs.Guards.{Stands, Ok, Good}
+use Rattle.lg_history.specs.Guards.{Stands, MayHappen, Good}
 use Rattle.lg_history.proofs.Trace.{each_append, each_weaker, id_is, next_step}
 use Rattle.lg_history.proofs.Stable.{replays_append}
 
 -- ---- replies
 
 module _ (q : Meaning) (db : Text) where
-  replays_item : (w : World) (s : ℕ) (a : Act) → Ok q db w (by s a) → Replays q (tables q w) (items_by (w.at s) a)
-  replays_item w s (commits time place) k = subst (λ (o : Option Deal). Replays q (tables q w) (item_of (w.at s) o time)) (sym k.stands.has) (k.agrees, tt)
+  replays_item : (w : World) (s : ℕ) (a : SessionAct) → MayHappen q db w (by s a) → Replays q (tables q w) (items_by (w.at s) a)
+  replays_item w s (commits time place) k = subst (λ (o : Option SessionTransaction). Replays q (tables q w) (item_of (w.at s) o time)) (sym k.stands.has) (k.agrees, tt)
   replays_item w s a k = tt
 
-  replays_run : (w : World) (es : List Event) → Good q db w es → Replays q q.first w.items → Replays q q.first (run w es).items
+  replays_run : (w : World) (es : List Act) → Good q db w es → Replays q q.first w.items → Replays q q.first (run w es).items
   replays_run w [] g h = h
   replays_run w (by s a ∷ es) g h = replays_run (step w (by s a)) es g.1 (replays_append q q.first w.items (items_by (w.at s) a) h (replays_item w s a g.0))
   replays_run w (closes k ∷ es) g h = replays_run (step w (closes k)) es g.1 (replays_append q q.first w.items (Close k ∷ []) h (tt, tt))
@@ -45,15 +45,15 @@ pending_sum : (J : List JournalItem) → ClosesPending 0 J → 0 + tx_count J �
 pending_sum J h = omega (arith, closed_within 0 J h)
 
 module _ (q : Meaning) (db : Text) where
-  closes_item : (w : World) (s n : ℕ) (a : Act) → ClosesPending n (items_by (w.at s) a)
-  closes_item w s n (commits time place) = go (w.at s).deal
+  closes_item : (w : World) (s n : ℕ) (a : SessionAct) → ClosesPending n (items_by (w.at s) a)
+  closes_item w s n (commits time place) = go (w.at s).transaction
     where
-      go : (o : Option Deal) → ClosesPending n (item_of (w.at s) o time)
+      go : (o : Option SessionTransaction) → ClosesPending n (item_of (w.at s) o time)
       go None = tt
       go (Some d) = tt
   closes_item w s n a = tt
 
-  pub closings_run : (w : World) (es : List Event) → Good q db w es → ClosesPending 0 w.items → ClosesPending 0 (run w es).items
+  pub closings_run : (w : World) (es : List Act) → Good q db w es → ClosesPending 0 w.items → ClosesPending 0 (run w es).items
   closings_run w [] g h = h
   closings_run w (by s a ∷ es) g h = closings_run (step w (by s a)) es g.1 (closings_append 0 (tx_count w.items - closed w.items) w.items (items_by (w.at s) a) (pending_sum w.items h) h (closes_item w s (tx_count w.items - closed w.items) a))
   closings_run w (closes k ∷ es) g h = let k1 = g.0.0 in let k2 = g.0.1 in let k3 = g.0.2 in closings_run (step w (closes k)) es g.1 (closings_append 0 (tx_count w.items - closed w.items) w.items (Close k ∷ []) (pending_sum w.items h) h (k1, k2, omega arith, tt))
@@ -70,18 +70,18 @@ differ_more [] i d h = (tt, tt)
 differ_more (n ∷ ns) i d h = (each_append (λ k. n ≢ k) ns (i ∷ []) d.0 (h.0, tt), differ_more ns i d.1 h.1)
 
 -- a transaction that is there after an act was there before, or has just drawn its id
-abbrev pub Came : Option Deal → Act → Deal → Type 0
-Came o a d = In d.id (drawn_id a) ⊎ ((c : Deal) × (o ≡ Some c) × (d.id ≡ c.id) × (d.fixed ≡ unfixed → c.fixed ≡ unfixed))
+abbrev pub Came : Option SessionTransaction → SessionAct → SessionTransaction → Type 0
+Came o a d = In d.id (drawn_id a) ⊎ ((c : SessionTransaction) × (o ≡ Some c) × (d.id ≡ c.id) × (d.fixed ≡ unfixed → c.fixed ≡ unfixed))
 
-came_on : (f : Deal → Deal) (o : Option Deal) (a : Act) (d : Deal) → ((c : Deal) → (f c).id ≡ c.id) → ((c : Deal) → (f c).fixed ≡ unfixed → c.fixed ≡ unfixed) → on_some f o ≡ Some d → Came o a d
+came_on : (f : SessionTransaction → SessionTransaction) (o : Option SessionTransaction) (a : SessionAct) (d : SessionTransaction) → ((c : SessionTransaction) → (f c).id ≡ c.id) → ((c : SessionTransaction) → (f c).fixed ≡ unfixed → c.fixed ≡ unfixed) → on_some f o ≡ Some d → Came o a d
 came_on f None a d same fixed e = cc
-came_on f (Some c) a d same fixed e = let is : f c ≡ d = cc in inr (c, refl, ap (λ (x : Deal). x.id) (sym is) ∙ same c, λ u. fixed c (ap (λ (x : Deal). x.fixed) is ∙ u))
+came_on f (Some c) a d same fixed e = let is : f c ≡ d = cc in inr (c, refl, ap (λ (x : SessionTransaction). x.id) (sym is) ∙ same c, λ u. fixed c (ap (λ (x : SessionTransaction). x.fixed) is ∙ u))
 
-came_same : (o : Option Deal) (a : Act) (d : Deal) → o ≡ Some d → Came o a d
+came_same : (o : Option SessionTransaction) (a : SessionAct) (d : SessionTransaction) → o ≡ Some d → Came o a d
 came_same o a d e = inr (d, e, refl, λ u. u)
 
-pub came : (o : Option Deal) (a : Act) (d : Deal) → deal_by o a ≡ Some d → Came o a d
-came o (draws id opened) d e = inl (inl (let same : drawn id opened ≡ d = cc in ap (λ (x : Deal). x.id) same))
+pub came : (o : Option SessionTransaction) (a : SessionAct) (d : SessionTransaction) → transaction_by o a ≡ Some d → Came o a d
+came o (draws id opened) d e = inl (inl (let same : drawn id opened ≡ d = cc in ap (λ (x : SessionTransaction). x.id) same))
 came o (looks text table) d e = came_on (asks text table) o (looks text table) d (λ c. refl) (λ c u. u) e
 came o (says line) d e = came_on (scripts line) o (says line) d (λ c. refl) (λ c u. u) e
 came o (fails text) d e = came_on (hears text true) o (fails text) d (λ c. refl) (λ c u. u) e
@@ -94,59 +94,59 @@ came o a d e = came_same o a d e
 pub record IdsApart (w : World) : Type 0 where
   pub differ : Differ (ids_of w.items)
   pub below : Each (λ i. i < w.next) (ids_of w.items)
-  pub drawn : (t : ℕ) (d : Deal) → (w.at t).deal ≡ Some d → d.id < w.next
+  pub drawn : (t : ℕ) (d : SessionTransaction) → (w.at t).transaction ≡ Some d → d.id < w.next
   -- one that isn't committed isn't in the journal
-  pub outside : (t : ℕ) (d : Deal) → (w.at t).deal ≡ Some d → d.fixed ≡ unfixed → Each (λ i. i ≢ d.id) (ids_of w.items)
+  pub outside : (t : ℕ) (d : SessionTransaction) → (w.at t).transaction ≡ Some d → d.fixed ≡ unfixed → Each (λ i. i ≢ d.id) (ids_of w.items)
   -- two sessions' transactions have different ids
-  pub apart : (s t : ℕ) (c d : Deal) → s ≢ t → (w.at s).deal ≡ Some c → (w.at t).deal ≡ Some d → c.id ≢ d.id
+  pub apart : (s t : ℕ) (c d : SessionTransaction) → s ≢ t → (w.at s).transaction ≡ Some c → (w.at t).transaction ≡ Some d → c.id ≢ d.id
 
 -- the act commits this transaction, whose end is fixed then
-abbrev Commit : World → ℕ → Act → Type 0
-Commit w s a = (c : Deal) × Stands (w.at s) c × (ids_of (items_by (w.at s) a) ≡ c.id ∷ []) × ((d : Deal) → deal_by (w.at s).deal a ≡ Some d → d.fixed ≢ unfixed)
+abbrev Commit : World → ℕ → SessionAct → Type 0
+Commit w s a = (c : SessionTransaction) × Stands (w.at s) c × (ids_of (items_by (w.at s) a) ≡ c.id ∷ []) × ((d : SessionTransaction) → transaction_by (w.at s).transaction a ≡ Some d → d.fixed ≢ unfixed)
 
 module _ (q : Meaning) (db : Text) where
   -- ---- one act of session s
 
-  committed_id : (w : World) (s : ℕ) (a : Act) → Ok q db w (by s a) → (ids_of (items_by (w.at s) a) ≡ []) ⊎ Commit w s a
-  committed_id w s (commits time place) k = inr (k.mine, k.stands, ap (λ (o : Option Deal). ids_of (item_of (w.at s) o time)) k.stands.has, λ d e f. (let same : fixes (committed place) k.mine ≡ d = go d (sym (ap (on_some (fixes (committed place))) k.stands.has) ∙ e) in fixed_not d same f))
+  committed_id : (w : World) (s : ℕ) (a : SessionAct) → MayHappen q db w (by s a) → (ids_of (items_by (w.at s) a) ≡ []) ⊎ Commit w s a
+  committed_id w s (commits time place) k = inr (k.mine, k.stands, ap (λ (o : Option SessionTransaction). ids_of (item_of (w.at s) o time)) k.stands.has, λ d e f. (let same : fixes (committed place) k.mine ≡ d = go d (sym (ap (on_some (fixes (committed place))) k.stands.has) ∙ e) in fixed_not d same f))
     where
-      go : (d : Deal) → Some (fixes (committed place) k.mine) ≡ Some d → fixes (committed place) k.mine ≡ d
+      go : (d : SessionTransaction) → Some (fixes (committed place) k.mine) ≡ Some d → fixes (committed place) k.mine ≡ d
       go d e = cc
 
-      fixed_not : (d : Deal) → fixes (committed place) k.mine ≡ d → d.fixed ≡ unfixed → ⊥
-      fixed_not d e f = let is : committed place ≡ unfixed = ap (λ (x : Deal). x.fixed) e ∙ f in cc
+      fixed_not : (d : SessionTransaction) → fixes (committed place) k.mine ≡ d → d.fixed ≡ unfixed → ⊥
+      fixed_not d e f = let is : committed place ≡ unfixed = ap (λ (x : SessionTransaction). x.fixed) e ∙ f in cc
   committed_id w s a k = inl refl
 
   -- the transaction of session u after the act: at u it came, elsewhere it was there
-  pub was_there : (w : World) (s u : ℕ) (a : Act) (d : Deal) (b : Bool) → (u == s) ≡ b → (put w.at s (acted (w.at s) a) u).deal ≡ Some d → ((u ≡ s) × (deal_by (w.at s).deal a ≡ Some d)) ⊎ ((u ≢ s) × ((w.at u).deal ≡ Some d))
-  was_there w s u a d true e h = inl (eqb-true u s e, (let same : put w.at s (acted (w.at s) a) u ≡ acted (w.at s) a = rw e refl in sym (ap (λ (x : Sess). x.deal) same) ∙ h))
-  was_there w s u a d false e h = inr ((λ same. let is : (u == s) ≡ true = eq-eqb u s same in cc), (let same : put w.at s (acted (w.at s) a) u ≡ w.at u = rw e refl in sym (ap (λ (x : Sess). x.deal) same) ∙ h))
+  pub was_there : (w : World) (s u : ℕ) (a : SessionAct) (d : SessionTransaction) (b : Bool) → (u == s) ≡ b → (put w.at s (acted (w.at s) a) u).transaction ≡ Some d → ((u ≡ s) × (transaction_by (w.at s).transaction a ≡ Some d)) ⊎ ((u ≢ s) × ((w.at u).transaction ≡ Some d))
+  was_there w s u a d true e h = inl (eqb-true u s e, (let same : put w.at s (acted (w.at s) a) u ≡ acted (w.at s) a = rw e refl in sym (ap (λ (x : SessionState). x.transaction) same) ∙ h))
+  was_there w s u a d false e h = inr ((λ same. let is : (u == s) ≡ true = eq-eqb u s same in cc), (let same : put w.at s (acted (w.at s) a) u ≡ w.at u = rw e refl in sym (ap (λ (x : SessionState). x.transaction) same) ∙ h))
 
   each_in : (P : ℕ → Type 0) (ns : List ℕ) (n : ℕ) → Each P ns → In n ns → P n
   each_in P [] n h i = absurd i
   each_in P (m ∷ ns) n h i = ⊎_elim (λ (e : m ≡ n). subst P e h.0) (λ (j : In n ns). each_in P ns n h.1 j) i
 
-  just_drawn : (w : World) (s : ℕ) (a : Act) (n : ℕ) → Ok q db w (by s a) → In n (drawn_id a) → (n ≡ w.next) × (n < (step w (by s a)).next)
+  just_drawn : (w : World) (s : ℕ) (a : SessionAct) (n : ℕ) → MayHappen q db w (by s a) → In n (drawn_id a) → (n ≡ w.next) × (n < (step w (by s a)).next)
   just_drawn w s a n k i = each_in (λ m. (m ≡ w.next) × (m < (step w (by s a)).next)) (drawn_id a) n (id_is q db w s a k) i
 
   -- the id of a transaction that came at session s
-  came_below : (w : World) (s : ℕ) (a : Act) (d : Deal) → Ok q db w (by s a) → IdsApart w → Came (w.at s).deal a d → d.id < (step w (by s a)).next
+  came_below : (w : World) (s : ℕ) (a : SessionAct) (d : SessionTransaction) → MayHappen q db w (by s a) → IdsApart w → Came (w.at s).transaction a d → d.id < (step w (by s a)).next
   came_below w s a d k i c = ⊎_elim (λ (n : In d.id (drawn_id a)). (just_drawn w s a d.id k n).1)
-      (λ (o : (c : Deal) × ((w.at s).deal ≡ Some c) × (d.id ≡ c.id) × (d.fixed ≡ unfixed → c.fixed ≡ unfixed)). let l = i.drawn s o.0 o.1 in let e = o.2 in let m = next_step q db w (by s a) in omega arith) c
+      (λ (o : (c : SessionTransaction) × ((w.at s).transaction ≡ Some c) × (d.id ≡ c.id) × (d.fixed ≡ unfixed → c.fixed ≡ unfixed)). let l = i.drawn s o.0 o.1 in let e = o.2 in let m = next_step q db w (by s a) in omega arith) c
 
-  came_outside : (w : World) (s : ℕ) (a : Act) (d : Deal) → Ok q db w (by s a) → IdsApart w → d.fixed ≡ unfixed → Came (w.at s).deal a d → Each (λ j. j ≢ d.id) (ids_of w.items)
+  came_outside : (w : World) (s : ℕ) (a : SessionAct) (d : SessionTransaction) → MayHappen q db w (by s a) → IdsApart w → d.fixed ≡ unfixed → Came (w.at s).transaction a d → Each (λ j. j ≢ d.id) (ids_of w.items)
   came_outside w s a d k i f c = ⊎_elim
       (λ (n : In d.id (drawn_id a)). let e = (just_drawn w s a d.id k n).0 in each_weaker (λ j. j < w.next) (λ j. j ≢ d.id) (λ j l same. absurd (omega arith)) (ids_of w.items) i.below)
-      (λ (o : (c : Deal) × ((w.at s).deal ≡ Some c) × (d.id ≡ c.id) × (d.fixed ≡ unfixed → c.fixed ≡ unfixed)). subst (λ (n : ℕ). Each (λ j. j ≢ n) (ids_of w.items)) (sym o.2) (i.outside s o.0 o.1 (o.3 f))) c
+      (λ (o : (c : SessionTransaction) × ((w.at s).transaction ≡ Some c) × (d.id ≡ c.id) × (d.fixed ≡ unfixed → c.fixed ≡ unfixed)). subst (λ (n : ℕ). Each (λ j. j ≢ n) (ids_of w.items)) (sym o.2) (i.outside s o.0 o.1 (o.3 f))) c
 
-  came_apart : (w : World) (s t : ℕ) (a : Act) (d e : Deal) → Ok q db w (by s a) → IdsApart w → t ≢ s → (w.at t).deal ≡ Some e → Came (w.at s).deal a d → d.id ≢ e.id
+  came_apart : (w : World) (s t : ℕ) (a : SessionAct) (d e : SessionTransaction) → MayHappen q db w (by s a) → IdsApart w → t ≢ s → (w.at t).transaction ≡ Some e → Came (w.at s).transaction a d → d.id ≢ e.id
   came_apart w s t a d e k i ne h c = ⊎_elim
       (λ (n : In d.id (drawn_id a)). let is = (just_drawn w s a d.id k n).0 in let l = i.drawn t e h in λ same. absurd (omega arith))
-      (λ (o : (c : Deal) × ((w.at s).deal ≡ Some c) × (d.id ≡ c.id) × (d.fixed ≡ unfixed → c.fixed ≡ unfixed)). λ same. i.apart s t o.0 e (λ x. ne (sym x)) o.1 h (sym o.2 ∙ same)) c
+      (λ (o : (c : SessionTransaction) × ((w.at s).transaction ≡ Some c) × (d.id ≡ c.id) × (d.fixed ≡ unfixed → c.fixed ≡ unfixed)). λ same. i.apart s t o.0 e (λ x. ne (sym x)) o.1 h (sym o.2 ∙ same)) c
 
   -- ---- all
 
-  pub apart_by : (w : World) (s : ℕ) (a : Act) → Ok q db w (by s a) → IdsApart w → IdsApart (step w (by s a))
+  pub apart_by : (w : World) (s : ℕ) (a : SessionAct) → MayHappen q db w (by s a) → IdsApart w → IdsApart (step w (by s a))
   apart_by w s a k i = record {
     differ = ⊎_elim
         (λ (none : ids_of (items_by (w.at s) a) ≡ []). subst Differ (sym (ids_append w.items (items_by (w.at s) a) ∙ ap (λ (l : List ℕ). ids_of w.items ++ l) none ∙ append-nil (ids_of w.items))) i.differ)
@@ -156,20 +156,20 @@ module _ (q : Meaning) (db : Text) where
         (let m = next_step q db w (by s a) in each_weaker (λ j. j < w.next) (λ j. j < (step w (by s a)).next) (λ j l. omega arith) (ids_of w.items) i.below)
         (⊎_elim (λ (none : ids_of (items_by (w.at s) a) ≡ []). subst (Each (λ j. j < (step w (by s a)).next)) (sym none) tt)
         (λ (one : Commit w s a). subst (Each (λ j. j < (step w (by s a)).next)) (sym one.2) ((let l = i.drawn s one.0 (one.1).has in let m = next_step q db w (by s a) in omega arith), tt)) (committed_id w s a k)));
-    drawn = λ u d h. ⊎_elim (λ (m : (u ≡ s) × (deal_by (w.at s).deal a ≡ Some d)). came_below w s a d k i (came (w.at s).deal a d m.1))
-        (λ (m : (u ≢ s) × ((w.at u).deal ≡ Some d)). let l = i.drawn u d m.1 in let n = next_step q db w (by s a) in omega arith) (was_there w s u a d (u == s) refl h);
+    drawn = λ u d h. ⊎_elim (λ (m : (u ≡ s) × (transaction_by (w.at s).transaction a ≡ Some d)). came_below w s a d k i (came (w.at s).transaction a d m.1))
+        (λ (m : (u ≢ s) × ((w.at u).transaction ≡ Some d)). let l = i.drawn u d m.1 in let n = next_step q db w (by s a) in omega arith) (was_there w s u a d (u == s) refl h);
     outside = λ u d h f. subst (Each (λ j. j ≢ d.id)) (sym (ids_append w.items (items_by (w.at s) a))) (each_append (λ j. j ≢ d.id) (ids_of w.items) (ids_of (items_by (w.at s) a))
-        (⊎_elim (λ (m : (u ≡ s) × (deal_by (w.at s).deal a ≡ Some d)). came_outside w s a d k i f (came (w.at s).deal a d m.1))
-        (λ (m : (u ≢ s) × ((w.at u).deal ≡ Some d)). i.outside u d m.1 f) (was_there w s u a d (u == s) refl h))
+        (⊎_elim (λ (m : (u ≡ s) × (transaction_by (w.at s).transaction a ≡ Some d)). came_outside w s a d k i f (came (w.at s).transaction a d m.1))
+        (λ (m : (u ≢ s) × ((w.at u).transaction ≡ Some d)). i.outside u d m.1 f) (was_there w s u a d (u == s) refl h))
         (⊎_elim (λ (none : ids_of (items_by (w.at s) a) ≡ []). subst (Each (λ j. j ≢ d.id)) (sym none) tt)
         (λ (one : Commit w s a). subst (Each (λ j. j ≢ d.id)) (sym one.2) (
-          ⊎_elim (λ (m : (u ≡ s) × (deal_by (w.at s).deal a ≡ Some d)). absurd (one.3 d m.1 f))
-              (λ (m : (u ≢ s) × ((w.at u).deal ≡ Some d)). i.apart s u one.0 d (λ x. m.0 (sym x)) (one.1).has m.1) (was_there w s u a d (u == s) refl h),
+          ⊎_elim (λ (m : (u ≡ s) × (transaction_by (w.at s).transaction a ≡ Some d)). absurd (one.3 d m.1 f))
+              (λ (m : (u ≢ s) × ((w.at u).transaction ≡ Some d)). i.apart s u one.0 d (λ x. m.0 (sym x)) (one.1).has m.1) (was_there w s u a d (u == s) refl h),
           tt,
         )) (committed_id w s a k)));
     apart = λ u v c d ne h g. ⊎_elim
-        (λ (m : (u ≡ s) × (deal_by (w.at s).deal a ≡ Some c)). ⊎_elim (λ (n : (v ≡ s) × (deal_by (w.at s).deal a ≡ Some d)). absurd (ne (m.0 ∙ sym n.0))) (λ (n : (v ≢ s) × ((w.at v).deal ≡ Some d)). came_apart w s v a c d k i n.0 n.1 (came (w.at s).deal a c m.1)) (was_there w s v a d (v == s) refl g))
-        (λ (m : (u ≢ s) × ((w.at u).deal ≡ Some c)). ⊎_elim (λ (n : (v ≡ s) × (deal_by (w.at s).deal a ≡ Some d)). λ same. came_apart w s u a d c k i m.0 m.1 (came (w.at s).deal a d n.1) (sym same)) (λ (n : (v ≢ s) × ((w.at v).deal ≡ Some d)). i.apart u v c d ne m.1 n.1) (was_there w s v a d (v == s) refl g))
+        (λ (m : (u ≡ s) × (transaction_by (w.at s).transaction a ≡ Some c)). ⊎_elim (λ (n : (v ≡ s) × (transaction_by (w.at s).transaction a ≡ Some d)). absurd (ne (m.0 ∙ sym n.0))) (λ (n : (v ≢ s) × ((w.at v).transaction ≡ Some d)). came_apart w s v a c d k i n.0 n.1 (came (w.at s).transaction a c m.1)) (was_there w s v a d (v == s) refl g))
+        (λ (m : (u ≢ s) × ((w.at u).transaction ≡ Some c)). ⊎_elim (λ (n : (v ≡ s) × (transaction_by (w.at s).transaction a ≡ Some d)). λ same. came_apart w s u a d c k i m.0 m.1 (came (w.at s).transaction a d n.1) (sym same)) (λ (n : (v ≢ s) × ((w.at v).transaction ≡ Some d)). i.apart u v c d ne m.1 n.1) (was_there w s v a d (v == s) refl g))
         (was_there w s u a c (u == s) refl h);
   }
 
@@ -182,12 +182,12 @@ module _ (q : Meaning) (db : Text) where
     apart = i.apart;
   }
 
-  pub apart_run : (w : World) (es : List Event) → Good q db w es → IdsApart w → IdsApart (run w es)
+  pub apart_run : (w : World) (es : List Act) → Good q db w es → IdsApart w → IdsApart (run w es)
   apart_run w [] g i = i
   apart_run w (by s a ∷ es) g i = apart_run (step w (by s a)) es g.1 (apart_by w s a g.0 i)
   apart_run w (closes k ∷ es) g i = apart_run (step w (closes k)) es g.1 (apart_close w k i)
 
-  pub legal : (es : List Event) → Good q db first es → IsLegal q (run first es).items
+  pub legal : (es : List Act) → Good q db first es → IsLegal q (run first es).items
   legal es g = record {
     replays = replays_run q db first es g tt;
     ids_differ = (apart_run first es g (record { differ = tt; below = tt; drawn = λ t d h. cc; outside = λ t d h f. tt; apart = λ s t c d ne h k. cc })).differ;

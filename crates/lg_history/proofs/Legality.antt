@@ -17,7 +17,7 @@ use Rattle.lg_history.specs.Lists.{Text, Each}
 use Rattle.lg_history.specs.Journals.{ids_of}
 use Rattle.lg_history.specs.Meaning.{Meaning}
 use Rattle.lg_history.specs.Real.{Hashing, IsReal}
-use Rattle.lg_history.specs.Serial.{texts_of, after_item, AgreesTx, Replays, ClosesPending, Differ, IsLegal}
+use Rattle.lg_history.specs.Serial.{texts_of, after_item, ScriptReplays, Replays, ClosesPending, Differ, IsLegal}
 
 some_events : (es : List Event) → es ≢ [] → 0 < length es
 some_events [] h = absurd (h refl)
@@ -46,7 +46,7 @@ other_closing k [] = tt
 other_closing k (id ∷ ids) = (tt, other_closing k ids)
 
 module _ (reads : Reading) (h : Hashing) (q : Meaning) (real : IsReal reads h q) where
-  agrees : (T : Tables) (id : ℕ) (opened : Bool) (lines : List Line) → AgreesTx q T id opened lines
+  agrees : (T : Tables) (id : ℕ) (opened : Bool) (lines : List Line) → ScriptReplays q T id opened lines
       → model.AgreesWith reads T id opened lines (script reads opened T id (texts_of lines))
   agrees T id opened lines a = record {
     replies = a.replies ∙ real.replies opened T id (texts_of lines);
@@ -54,7 +54,7 @@ module _ (reads : Reading) (h : Hashing) (q : Meaning) (real : IsReal reads h q)
   }
 
   agrees_back : (T : Tables) (id : ℕ) (opened : Bool) (lines : List Line) → model.AgreesWith reads T id opened lines (script reads opened T id (texts_of lines))
-      → AgreesTx q T id opened lines
+      → ScriptReplays q T id opened lines
   agrees_back T id opened lines a = record {
     replies = a.replies ∙ sym (real.replies opened T id (texts_of lines));
     acts = subst (λ n. 0 < n) (sym (real.events opened T id (texts_of lines))) (some_events _ a.events);

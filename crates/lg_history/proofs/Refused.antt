@@ -12,10 +12,11 @@ use Rattle.lg_history.specs.Transcripts.{Transcript}
 use Rattle.lg_history.specs.Facts.{Fact, began, over, mark_of, id_of, Shows, first_shown, facts_of}
 use Rattle.lg_history.specs.Transactions.{End, unfixed, committed, ended, transactions}
 use Rattle.lg_history.specs.Refusals.{Within, Spans, EndsAt, Clashes, ClashesAt, NamesRightly}
-use Rattle.lg_history.specs.Acts.{Act, meets, Event, by, closes, of, shown, all_shown, marked}
-use Rattle.lg_history.specs.Sessions.{Deal, Sess, view, transcript_of}
+use Rattle.lg_history.specs.Acts.{SessionAct, meets, Act, by, closes, of, shown, all_shown, marked}
+use Rattle.lg_history.specs.Sessions.{SessionTransaction, SessionState, view, transcript_of}
 use Rattle.lg_history.specs.Worlds.{World, first, step, run}
 use Rattle.lg_history.specs.Guards.{stood, Good, Meets, IsAnswered}
+use Rattle.lg_history.specs.SoFar.{MetBetween}
 use Rattle.lg_history.specs.Standing.{HasIn, StandsAgainst, SettledAt, Settled}
 use Rattle.lg_history.specs.Histories.{SessionsBelow}
 use Rattle.lg_history.proofs.Trace.{each_weaker, marks_from, marks_to, ids_from, ids_to, count_step, next_step}
@@ -25,7 +26,7 @@ use Rattle.lg_history.proofs.Settles.{settles}
 use Rattle.lg_history.proofs.Clash.{against_run, against_step}
 use Rattle.lg_history.proofs.Signs.{marks_same, shows_facts, ids_facts, first_is}
 use Rattle.lg_history.proofs.Books.{within_of, AllAnswered, all_answered}
-use Rattle.lg_history.proofs.Closing.{Closes, closed, spans}
+use Rattle.lg_history.proofs.Closing.{Closes, Leaves, closed, left, spans, stands_among}
 use Rattle.lg_history.proofs.Follow.{shown_append}
 use Rattle.lg_history.proofs.Setup.{shows_weaker, not_nil, nil_left}
 
@@ -41,12 +42,12 @@ in_each : {A : Type 0} (P : A → Type 0) (xs : List A) (x : A) → Each P xs �
 in_each P [] x h i = absurd i
 in_each P (y ∷ xs) x h i = ⊎_elim (λ (e : y ≡ x). subst P e h.0) (λ (j : In x xs). in_each P xs x h.1 j) i
 
-in_map : (ds : List Deal) (d : Deal) → In d ds → In (view d) (map view ds)
+in_map : (ds : List SessionTransaction) (d : SessionTransaction) → In d ds → In (view d) (map view ds)
 in_map [] d i = absurd i
 in_map (c ∷ ds) d i = ⊎_elim (λ (e : c ≡ d). inl (ap view e)) (λ (j : In d ds). inr (in_map ds d j)) i
 
 -- a session that did something is one of the first k
-pub below_or_nil : (t k : ℕ) (es : List Event) → SessionsBelow k es → (t < k) ⊎ (of t es ≡ [])
+pub below_or_nil : (t k : ℕ) (es : List Act) → SessionsBelow k es → (t < k) ⊎ (of t es ≡ [])
 below_or_nil t k [] h = inr refl
 below_or_nil t k (by s a ∷ es) h = by_flag (s == t) refl (below_or_nil t k es h.1)
   where
@@ -62,10 +63,10 @@ module _ (q : Meaning) (db : Text) where
   begun_settled : (u : ℕ) → Settled q (first).items ((first).at u)
   begun_settled u d has = ⊎_elim (λ (e : None ≡ Some d). cc) (λ (i : ⊥). absurd i) has
 
-  pub all_settled : (es : List Event) → Good q db first es → (u : ℕ) → Settled q (run first es).items ((run first es).at u)
+  pub all_settled : (es : List Act) → Good q db first es → (u : ℕ) → Settled q (run first es).items ((run first es).at u)
   all_settled es g = settles q db first es g begun_settled
 
-  fixed_within : (J : List JournalItem) (name : Text) (d : Deal) (e : End) → SettledAt q J name d e → (e ≡ unfixed) ⊎ ((n : ℕ) × EndsAt e n × (n ≤ tx_count J))
+  fixed_within : (J : List JournalItem) (name : Text) (d : SessionTransaction) (e : End) → SettledAt q J name d e → (e ≡ unfixed) ⊎ ((n : ℕ) × EndsAt e n × (n ≤ tx_count J))
   fixed_within J name d unfixed h = inl refl
   fixed_within J name d (committed n) h = inr (n, refl, h.3)
   fixed_within J name d (ended n back) h = inr (n, refl, h.0)
@@ -73,7 +74,7 @@ module _ (q : Meaning) (db : Text) where
   -- the clash at the refusal itself
   met_now : (w : World) (s : ℕ) (text : Text) (holder : ℕ) (m : Meets q w s text holder) → ((u : ℕ) → Settled q w.items (w.at u)) → StandsAgainst q w.items (w.at m.other) holder m.mine.opened text
   met_now w s text holder m all = record {
-    deal = m.theirs;
+    transaction = m.theirs;
     is = m.is;
     lies = ⊎_elim (λ (e : m.theirs.fixed ≡ unfixed). inl (e, m.has)) (λ (p : (n : ℕ) × EndsAt m.theirs.fixed n × (n ≤ tx_count w.items)). inr (p.0, p.1, p.2, inl m.has))
         (fixed_within w.items (w.at m.other).name m.theirs m.theirs.fixed (all m.other m.theirs (inl m.has)));
@@ -81,7 +82,7 @@ module _ (q : Meaning) (db : Text) where
   }
 
   -- and at the end
-  pub clash_stays : (es earlier later : List Event) (s : ℕ) (text : Text) (holder : ℕ) → es ≡ earlier ++ by s (meets text holder) ∷ later → Good q db first earlier → (m : Meets q (run first earlier) s text holder) → Good q db (step (run first earlier) (by s (meets text holder))) later
+  pub clash_stays : (es earlier later : List Act) (s : ℕ) (text : Text) (holder : ℕ) → es ≡ earlier ++ by s (meets text holder) ∷ later → Good q db first earlier → (m : Meets q (run first earlier) s text holder) → Good q db (step (run first earlier) (by s (meets text holder))) later
       → StandsAgainst q (run first es).items ((run first es).at m.other) holder m.mine.opened text
   clash_stays es earlier later s text holder e g m on = let v : World = run first earlier in let alone = alone_run q db first earlier g (λ u. tt) in
       let end : run first es ≡ run (step v (by s (meets text holder))) later = ap (run first) e ∙ run_append first earlier (by s (meets text holder) ∷ later) in
@@ -111,19 +112,19 @@ module _ (q : Meaning) (db : Text) where
   stood_at J (ended m back) n h = ap (λ (k : ℕ). after_tx q q.first k J) h
 
   -- what stands against a transaction that is over
-  pub record PastClash (J : List JournalItem) (x : Sess) (holder : ℕ) (o : Bool) (text : Text) : Type 0 where
-    pub deal : Deal
-    pub is : deal.id ≡ holder
-    pub done : In deal x.done
+  pub record PastClash (J : List JournalItem) (x : SessionState) (holder : ℕ) (o : Bool) (text : Text) : Type 0 where
+    pub transaction : SessionTransaction
+    pub is : transaction.id ≡ holder
+    pub done : In transaction x.done
     pub n : ℕ
-    pub ends_at : EndsAt deal.fixed n
-    pub clash : ClashesAt q J n o text (view deal)
+    pub ends_at : EndsAt transaction.fixed n
+    pub clash : ClashesAt q J n o text (view transaction)
 
-  past_clash : (J : List JournalItem) (x : Sess) (holder : ℕ) (o : Bool) (text : Text) → x.deal ≡ None → Each AllAnswered x.done → StandsAgainst q J x holder o text → PastClash J x holder o text
-  past_clash J x holder o text none all s = let d = s.deal in ⊎_elim
-      (λ (l : (d.fixed ≡ unfixed) × (x.deal ≡ Some d)). absurd (no_deal x.deal d none l.1))
-      (λ (l : (n : ℕ) × EndsAt d.fixed n × (n ≤ tx_count J) × HasIn true x d). let i : In d x.done = ⊎_elim (λ (e : x.deal ≡ Some d). absurd (no_deal x.deal d none e)) (λ (k : (true ≡ true) × In d x.done). k.1) l.3 in record {
-        deal = d;
+  past_clash : (J : List JournalItem) (x : SessionState) (holder : ℕ) (o : Bool) (text : Text) → x.transaction ≡ None → Each AllAnswered x.done → StandsAgainst q J x holder o text → PastClash J x holder o text
+  past_clash J x holder o text none all s = let d = s.transaction in ⊎_elim
+      (λ (l : (d.fixed ≡ unfixed) × (x.transaction ≡ Some d)). absurd (no_transaction x.transaction d none l.1))
+      (λ (l : (n : ℕ) × EndsAt d.fixed n × (n ≤ tx_count J) × HasIn true x d). let i : In d x.done = ⊎_elim (λ (e : x.transaction ≡ Some d). absurd (no_transaction x.transaction d none e)) (λ (k : (true ≡ true) × In d x.done). k.1) l.3 in record {
+        transaction = d;
         is = s.is;
         done = i;
         n = l.0;
@@ -133,8 +134,8 @@ module _ (q : Meaning) (db : Text) where
       })
       s.lies
     where
-      no_deal : (z : Option Deal) (d : Deal) → z ≡ None → z ≡ Some d → ⊥
-      no_deal z d a b = cc
+      no_transaction : (z : Option SessionTransaction) (d : SessionTransaction) → z ≡ None → z ≡ Some d → ⊥
+      no_transaction z d a b = cc
 
   -- ---- the whole
 
@@ -146,7 +147,7 @@ module _ (q : Meaning) (db : Text) where
     pub next_of_refused : Each (λ i. holder < i) (first_shown id_of later)
     pub next_of_holder : Each (λ i. mine < i) (first_shown id_of spans.after)
 
-  module _ (es : List Event) (g : Good q db first es) (setup : Option ℕ) (X : List Transcript) where
+  module _ (es : List Act) (g : Good q db first es) (setup : Option ℕ) (X : List Transcript) where
     abbrev W : World
     W = run first es
 
@@ -155,26 +156,26 @@ module _ (q : Meaning) (db : Text) where
       pub facts : (t : ℕ) → t < length X → facts_of q (transcript_of (W.at t)) ≡ all_shown (of t es)
       pub there : (t : ℕ) → t < length X → At X t (transcript_of (W.at t))
       pub book : (t : ℕ) → t < length X → transactions (facts_of q (transcript_of (W.at t))) ≡ map view (W.at t).done
-      pub free : (t : ℕ) → t < length X → (W.at t).deal ≡ None
+      pub free : (t : ℕ) → t < length X → (W.at t).transaction ≡ None
       pub below : SessionsBelow (length X) es
 
     abbrev J : List JournalItem
     J = W.items
 
-    part_left : (s : ℕ) (xs ys : List Act) → of s es ≡ xs ++ ys → Each (λ a. Each (λ f. mark_of J f ≡ marked a) (shown a)) xs
+    part_left : (s : ℕ) (xs ys : List SessionAct) → of s es ≡ xs ++ ys → Each (λ a. Each (λ f. mark_of J f ≡ marked a) (shown a)) xs
     part_left s xs ys e = each_left (λ a. Each (λ f. mark_of J f ≡ marked a) (shown a)) xs ys (subst (Each (λ a. Each (λ f. mark_of J f ≡ marked a) (shown a))) e (marks_same q db s first es g))
 
-    part_right : (s : ℕ) (xs ys : List Act) → of s es ≡ xs ++ ys → Each (λ a. Each (λ f. mark_of J f ≡ marked a) (shown a)) ys
+    part_right : (s : ℕ) (xs ys : List SessionAct) → of s es ≡ xs ++ ys → Each (λ a. Each (λ f. mark_of J f ≡ marked a) (shown a)) ys
     part_right s xs ys e = each_right (λ a. Each (λ f. mark_of J f ≡ marked a) (shown a)) xs ys (subst (Each (λ a. Each (λ f. mark_of J f ≡ marked a) (shown a))) e (marks_same q db s first es g))
 
-    module _ (s : ℕ) (text : Text) (holder : ℕ) (xs ys : List Act) (c : Cut s es xs ys (meets text holder)) where
+    module _ (s : ℕ) (text : Text) (holder : ℕ) (xs ys : List SessionAct) (c : Cut s es xs ys (meets text holder)) where
       abbrev v : World
       v = run first c.earlier
 
       abbrev u : World
       u = step v (by s (meets text holder))
 
-      parts : Good q db first c.earlier × Good q db v (by s (meets text holder) ∷ c.later)
+      pub parts : Good q db first c.earlier × Good q db v (by s (meets text holder) ∷ c.later)
       parts = good_append q db first c.earlier (by s (meets text holder) ∷ c.later) (subst (Good q db first) c.is g)
 
       abbrev m : Meets q v s text holder
@@ -186,11 +187,11 @@ module _ (q : Meaning) (db : Text) where
       end : W ≡ run u c.later
       end = ap (run first) c.is ∙ run_append first c.earlier (by s (meets text holder) ∷ c.later)
 
-      its_cut : of t es ≡ of t c.earlier ++ of t c.later
-      its_cut = ap (of t) c.is ∙ of_append t c.earlier (by s (meets text holder) ∷ c.later) ∙ ap (λ (l : List Act). of t c.earlier ++ l) (rw (ne_eqb s t (λ same. m.differs (sym same))) refl)
+      pub its_cut : of t es ≡ of t c.earlier ++ of t c.later
+      its_cut = ap (of t) c.is ∙ of_append t c.earlier (by s (meets text holder) ∷ c.later) ∙ ap (λ (l : List SessionAct). of t c.earlier ++ l) (rw (ne_eqb s t (λ same. m.differs (sym same))) refl)
 
       own_cut : of s es ≡ of s c.earlier ++ (meets text holder ∷ of s c.later)
-      own_cut = ap (of s) c.is ∙ of_append s c.earlier (by s (meets text holder) ∷ c.later) ∙ ap (λ (l : List Act). of s c.earlier ++ l) (rw (eq-eqb s s refl) refl)
+      own_cut = ap (of s) c.is ∙ of_append s c.earlier (by s (meets text holder) ∷ c.later) ∙ ap (λ (l : List SessionAct). of s c.earlier ++ l) (rw (eq-eqb s s refl) refl)
 
       -- numbers before and after the refusal
       marks_before_s : Shows (mark_of J) (λ k. k ≤ tx_count v.items) (all_shown (of s c.earlier))
@@ -217,11 +218,14 @@ module _ (q : Meaning) (db : Text) where
       refused : Within m.mine.id m.mine.opened (all_shown (of s c.earlier))
       refused = within_of q db first c.earlier s m.mine parts.0 refl m.stands.has
 
-      closing : (W.at t).deal ≡ None → Closes (all_shown (of t c.later))
-      closing none = closed q db t u c.later m.theirs parts.1.1 (rw (ne_eqb t s m.differs) m.has) (subst (λ (z : World). (z.at t).deal ≡ None) end none)
+      closing : (W.at t).transaction ≡ None → Closes (all_shown (of t c.later))
+      closing none = closed q db t u c.later m.theirs parts.1.1 (rw (ne_eqb t s m.differs) m.has) (subst (λ (z : World). (z.at t).transaction ≡ None) end none)
 
       after_holder : (f : Fact → List ℕ) (P : ℕ → Type 0) (cl : Closes (all_shown (of t c.later))) → Shows f P (all_shown (of t c.later)) → Shows f P cl.after
       after_holder f P cl h = (each_right (λ x. Each P (f x)) cl.inside (over ∷ cl.after) (subst (Shows f P) cl.is h)).1
+
+      in_rest : (f : Fact → List ℕ) (P : ℕ → Type 0) (lf : Leaves (all_shown (of t c.later))) → Shows f P (all_shown (of t c.later)) → Shows f P lf.rest
+      in_rest f P lf h = each_right (λ x. Each P (f x)) lf.inside lf.rest (subst (Shows f P) lf.is h)
 
       before_holder : (f : Fact → List ℕ) (P : ℕ → Type 0) → Shows f P (all_shown (of t c.earlier)) → Shows f P standing.before
       before_holder f P h = each_left (λ x. Each P (f x)) standing.before (began m.theirs.id m.theirs.opened ∷ standing.inside) (subst (Shows f P) standing.is h)
@@ -233,7 +237,7 @@ module _ (q : Meaning) (db : Text) where
       above_first : (i : ℕ) (gs : List Fact) → i < v.next → Shows id_of (λ n. v.next ≤ n) gs → Each (λ n. i < n) (first_shown id_of gs)
       above_first i gs l h = each_weaker (λ n. v.next ≤ n) (λ n. i < n) (λ n k. omega arith) (first_shown id_of gs) (first_is id_of (λ n. v.next ≤ n) gs h)
 
-      placing : (none : (W.at t).deal ≡ None) → Placing J (all_shown (of s c.earlier)) (all_shown (of s c.later)) m.mine.id m.theirs.id (all_shown (of t c.earlier) ++ all_shown (of t c.later))
+      placing : (none : (W.at t).transaction ≡ None) → Placing J (all_shown (of s c.earlier)) (all_shown (of s c.later)) m.mine.id m.theirs.id (all_shown (of t c.earlier) ++ all_shown (of t c.later))
       placing none = let cl = closing none in record {
         spans = spans m.theirs.id m.theirs.opened (all_shown (of t c.earlier)) (all_shown (of t c.later)) standing cl;
         marks_before = at_most_first cl.after (after_holder (mark_of J) (λ k. tx_count v.items ≤ k) cl marks_after_t) (all_shown (of s c.earlier)) marks_before_s;
@@ -242,12 +246,22 @@ module _ (q : Meaning) (db : Text) where
         next_of_holder = above_first m.mine.id cl.after (begun_is (λ i. i < v.next) m.mine.id m.mine.opened (all_shown (of s c.earlier)) refused (ids_before s)) (after_holder id_of (λ i. v.next ≤ i) cl (ids_after t));
       }
 
+      -- so it is at each moment, also before the holder is over
+      pub met_between : MetBetween J (all_shown (of s c.earlier)) (all_shown (of s c.later)) m.mine.id m.theirs.id (all_shown (of t c.earlier) ++ all_shown (of t c.later))
+      met_between = let lf = left q db t u c.later m.theirs parts.1.1 (rw (ne_eqb t s m.differs) m.has) in record {
+        among = stands_among m.theirs.id m.theirs.opened (all_shown (of t c.earlier)) (all_shown (of t c.later)) standing lf;
+        marks_before = at_most_first lf.rest (in_rest (mark_of J) (λ k. tx_count v.items ≤ k) lf marks_after_t) (all_shown (of s c.earlier)) marks_before_s;
+        marks_of_holder = at_most_first (all_shown (of s c.later)) marks_after_s standing.before (before_holder (mark_of J) (λ k. k ≤ tx_count v.items) marks_before_t);
+        next_of_refused = above_first m.theirs.id (all_shown (of s c.later)) (begun_is (λ i. i < v.next) m.theirs.id m.theirs.opened (all_shown (of t c.earlier)) standing (ids_before t)) (ids_after s);
+        next_of_holder = above_first m.mine.id lf.rest (begun_is (λ i. i < v.next) m.mine.id m.mine.opened (all_shown (of s c.earlier)) refused (ids_before s)) (in_rest id_of (λ i. v.next ≤ i) lf (ids_after t));
+      }
+
       its_session : SessionsBelow (length X) es → t < length X
       its_session h = ⊎_elim (λ (l : t < length X). l)
           (λ (none : of t es ≡ []). absurd (not_nil m.theirs.id m.theirs.opened (all_shown (of t c.earlier)) (ap all_shown (nil_left (of t c.earlier) (of t c.later) (sym its_cut ∙ none))) standing))
           (below_or_nil t (length X) es h)
 
-      pub names_rightly : (k : Known) → ((r : ℕ) (d : Deal) → ((run first c.earlier).at r).deal ≡ Some d → setup ≢ Some r) → NamesRightly q J setup X s text holder (all_shown xs) (all_shown ys)
+      pub names_rightly : (k : Known) → ((r : ℕ) (d : SessionTransaction) → ((run first c.earlier).at r).transaction ≡ Some d → setup ≢ Some r) → NamesRightly q J setup X s text holder (all_shown xs) (all_shown ys)
       names_rightly k safe = let l = its_session k.below in
           let p = past_clash J (W.at t) holder m.mine.opened text (k.free t l) (all_answered q db t first es [] g tt) (clash_stays es c.earlier c.later s text holder c.is parts.0 m parts.1.1) in
           let whole : all_shown (of t c.earlier) ++ all_shown (of t c.later) ≡ facts_of q (transcript_of (W.at t)) = sym (shown_append (of t c.earlier) (of t c.later)) ∙ ap all_shown (sym its_cut) ∙ sym (k.facts t l) in
@@ -260,9 +274,9 @@ module _ (q : Meaning) (db : Text) where
             differs = m.differs;
             transcript = transcript_of (W.at t);
             there = k.there t l;
-            theirs = view p.deal;
+            theirs = view p.transaction;
             named = p.is;
-            is = subst (In (view p.deal)) (sym (k.book t l)) (in_map (W.at t).done p.deal p.done);
+            is = subst (In (view p.transaction)) (sym (k.book t l)) (in_map (W.at t).done p.transaction p.done);
             not_of_setup = safe t m.theirs m.has;
             not_in_setup = safe s m.mine m.stands.has;
             n = p.n;

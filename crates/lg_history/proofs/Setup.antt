@@ -11,10 +11,10 @@ use Rattle.lg_history.specs.Facts.{Fact, began, digest, no_digest, mark_of, Show
 use Rattle.lg_history.specs.Marks.{NoneBelow, ClosedIn, ImagesOfOthersHave, NoneCounted}
 use Rattle.lg_history.specs.Agree.{ShowsHash}
 use Rattle.lg_history.specs.Refusals.{Within}
-use Rattle.lg_history.specs.Acts.{Act, starts, takes, draws, looks, says, fails, meets, commits, ends, frees, issues, keeps, lacks, answers, stops, Event, by, closes, of, all_shown, marked}
-use Rattle.lg_history.specs.Sessions.{unborn, runs, gone, Deal, Sess, fresh, acted}
+use Rattle.lg_history.specs.Acts.{SessionAct, starts, takes, draws, looks, says, fails, meets, commits, ends, frees, issues, keeps, lacks, answers, stops, Act, by, closes, of, all_shown, marked}
+use Rattle.lg_history.specs.Sessions.{unborn, runs, gone, SessionTransaction, SessionState, fresh, acted}
 use Rattle.lg_history.specs.Worlds.{World, first, step, run}
-use Rattle.lg_history.specs.Guards.{Ok, Good, Meets}
+use Rattle.lg_history.specs.Guards.{MayHappen, Good, Meets}
 use Rattle.lg_history.proofs.Trace.{each_weaker, marks_from, marks_to, count_run}
 use Rattle.lg_history.proofs.Cuts.{good_append, run_append, of_append, Cut, cut}
 use Rattle.lg_history.proofs.Signs.{marks_same, shows_facts}
@@ -25,11 +25,11 @@ use Rattle.lg_history.proofs.Books.{within_of}
 
 -- ---- a transaction stands only while its session runs
 
-abbrev pub Alive : Sess → Type 0
-Alive x = (d : Deal) → x.deal ≡ Some d → x.phase ≡ runs
+abbrev pub Alive : SessionState → Type 0
+Alive x = (d : SessionTransaction) → x.transaction ≡ Some d → x.phase ≡ runs
 
 module _ (q : Meaning) (db : Text) where
-  mine : (w : World) (s : ℕ) (a : Act) → Ok q db w (by s a) → Alive (w.at s) → Alive (acted (w.at s) a)
+  mine : (w : World) (s : ℕ) (a : SessionAct) → MayHappen q db w (by s a) → Alive (w.at s) → Alive (acted (w.at s) a)
   mine w s (starts name) k h = λ d e. refl
   mine w s (draws id opened) k h = λ d e. k.0
   mine w s (looks text table) k h = λ d e. k.1.runs
@@ -42,18 +42,18 @@ module _ (q : Meaning) (db : Text) where
   mine w s stops k h = λ d e. let none = (k.1).free in cc
   mine w s a k h = h
 
-  by_cases : (w : World) (t s : ℕ) (a : Act) (b : Bool) → Ok q db w (by s a) → ((u : ℕ) → Alive (w.at u)) → Alive (if b then acted (w.at s) a else w.at t)
+  by_cases : (w : World) (t s : ℕ) (a : SessionAct) (b : Bool) → MayHappen q db w (by s a) → ((u : ℕ) → Alive (w.at u)) → Alive (if b then acted (w.at s) a else w.at t)
   by_cases w t s a true k h = mine w s a k (h s)
   by_cases w t s a false k h = h t
 
-  pub alive_run : (w : World) (es : List Event) → Good q db w es → ((u : ℕ) → Alive (w.at u)) → (u : ℕ) → Alive ((run w es).at u)
+  pub alive_run : (w : World) (es : List Act) → Good q db w es → ((u : ℕ) → Alive (w.at u)) → (u : ℕ) → Alive ((run w es).at u)
   alive_run w [] g h = h
   alive_run w (by s a ∷ es) g h = alive_run (step w (by s a)) es g.1 (λ u. by_cases w u s a (u == s) g.0 h)
   alive_run w (closes n ∷ es) g h = alive_run (step w (closes n)) es g.1 h
 
   -- ---- a session that is over does nothing more
 
-  who_acts : (w : World) (t : ℕ) (a : Act) → Ok q db w (by t a) → ((w.at t).phase ≡ runs) ⊎ (w.at t ≡ fresh)
+  who_acts : (w : World) (t : ℕ) (a : SessionAct) → MayHappen q db w (by t a) → ((w.at t).phase ≡ runs) ⊎ (w.at t ≡ fresh)
   who_acts w t (starts name) k = inr k
   who_acts w t (takes text) k = inl k.0
   who_acts w t (draws id opened) k = inl k.0
@@ -70,11 +70,11 @@ module _ (q : Meaning) (db : Text) where
   who_acts w t (answers entry) k = inl k.running
   who_acts w t stops k = inl k.0
 
-  silent_ne : (u : ℕ) (w : World) (t : ℕ) (a : Act) → (w.at u).phase ≡ gone → Ok q db w (by t a) → t ≢ u
+  silent_ne : (u : ℕ) (w : World) (t : ℕ) (a : SessionAct) → (w.at u).phase ≡ gone → MayHappen q db w (by t a) → t ≢ u
   silent_ne u w t a e k = λ same. let p : (w.at t).phase ≡ gone = ap (λ (x : ℕ). (w.at x).phase) same ∙ e in
-      ⊎_elim (λ (r : (w.at t).phase ≡ runs). cc) (λ (r : w.at t ≡ fresh). let b : (w.at t).phase ≡ unborn = ap (λ (x : Sess). x.phase) r in cc) (who_acts w t a k)
+      ⊎_elim (λ (r : (w.at t).phase ≡ runs). cc) (λ (r : w.at t ≡ fresh). let b : (w.at t).phase ≡ unborn = ap (λ (x : SessionState). x.phase) r in cc) (who_acts w t a k)
 
-  pub silent : (u : ℕ) (w : World) (fs : List Event) → (w.at u).phase ≡ gone → Good q db w fs → (of u fs ≡ []) × (((run w fs).at u).phase ≡ gone)
+  pub silent : (u : ℕ) (w : World) (fs : List Act) → (w.at u).phase ≡ gone → Good q db w fs → (of u fs ≡ []) × (((run w fs).at u).phase ≡ gone)
   silent u w [] e k = (refl, e)
   silent u w (by t a ∷ fs) e k = let ne = silent_ne u w t a e k.0 in
       let stays : ((step w (by t a)).at u).phase ≡ gone = rw (ne_eqb u t (λ x. ne (sym x))) e in let r = silent u (step w (by t a)) fs stays k.1 in
@@ -96,13 +96,13 @@ not_nil id o gs e m = go m.before (sym e ∙ m.is)
     go [] k = cc
     go (x ∷ xs) k = cc
 
-pub nil_left : (xs ys : List Act) → xs ++ ys ≡ [] → xs ≡ []
+pub nil_left : (xs ys : List SessionAct) → xs ++ ys ≡ [] → xs ≡ []
 nil_left [] ys k = refl
 nil_left (x ∷ xs) ys k = cc
 
 -- ---- setup: the session u, over after h
 
-module _ (q : Meaning) (db : Text) (u : ℕ) (h es : List Event) (g : Good q db first (h ++ es)) (others : (s : ℕ) → s ≢ u → of s h ≡ []) (ended : ((run first h).at u).phase ≡ gone) where
+module _ (q : Meaning) (db : Text) (u : ℕ) (h es : List Act) (g : Good q db first (h ++ es)) (others : (s : ℕ) → s ≢ u → of s h ≡ []) (ended : ((run first h).at u).phase ≡ gone) where
   abbrev v : World
   v = run first h
 
@@ -113,7 +113,7 @@ module _ (q : Meaning) (db : Text) (u : ℕ) (h es : List Event) (g : Good q db 
   parts = good_append q db first h es g
 
   part : (s : ℕ) → s ≢ u → of s (h ++ es) ≡ of s es
-  part s ne = of_append s h es ∙ ap (λ (l : List Act). l ++ of s es) (others s ne)
+  part s ne = of_append s h es ∙ ap (λ (l : List SessionAct). l ++ of s es) (others s ne)
 
   its_part : of u (h ++ es) ≡ of u h
   its_part = of_append u h es ∙ (rw ((silent q db u (run first h) es ended parts.1).0, append-nil) refl)
@@ -132,14 +132,14 @@ module _ (q : Meaning) (db : Text) (u : ℕ) (h es : List Event) (g : Good q db 
   -- its digests' blocks are closed in the others' images
   pub setup_images : (s : ℕ) → s ≢ u → ImagesOfOthersHave J (all_shown (of u (h ++ es))) (all_shown (of s (h ++ es)))
   setup_images s ne = others_have q J v.items (all_shown (of u (h ++ es))) (all_shown (of s (h ++ es)))
-      (subst (λ (l : List Act). Each (ShowsHash q v.items) (all_shown l)) (sym its_part) (hashes q db u first h parts.0))
-      (λ b l. subst (λ (w : World). Each (ClosedIn w.items b) (all_shown (of s (h ++ es)))) (sym (run_append first h es)) (subst (λ (l : List Act). Each (ClosedIn (run v es).items b) (all_shown l)) (sym (part s ne)) (images_from q db b s v es parts.1 l)))
+      (subst (λ (l : List SessionAct). Each (ShowsHash q v.items) (all_shown l)) (sym its_part) (hashes q db u first h parts.0))
+      (λ b l. subst (λ (w : World). Each (ClosedIn w.items b) (all_shown (of s (h ++ es)))) (sym (run_append first h es)) (subst (λ (l : List SessionAct). Each (ClosedIn (run v es).items b) (all_shown l)) (sym (part s ne)) (images_from q db b s v es parts.1 l)))
 
   -- where another is told that there is no digest, its marks are 0
   pub setup_lacks : (s : ℕ) → s ≢ u → In no_digest (all_shown (of s (h ++ es))) → NoneCounted J (all_shown (of u (h ++ es)))
-  setup_lacks s ne i = let sp = split no_digest (all_shown (of s es)) (subst (λ (l : List Act). In no_digest (all_shown l)) (part s ne) i) in
+  setup_lacks s ne i = let sp = split no_digest (all_shown (of s es)) (subst (λ (l : List SessionAct). In no_digest (all_shown l)) (part s ne) i) in
       let f = find (of s es) sp.before sp.after no_digest sp.is in
-      let c = cut s es f.front f.back lacks (f.is ∙ ap (λ (a : Act). f.front ++ a ∷ f.back) (is_lacks f.act f.shows)) in
+      let c = cut s es f.front f.back lacks (f.is ∙ ap (λ (a : SessionAct). f.front ++ a ∷ f.back) (is_lacks f.act f.shows)) in
       let two = good_append q db v c.earlier (by s lacks ∷ c.later) (subst (Good q db v) c.is parts.1) in
       let none : tx_count (run v c.earlier).items ≡ 0 = two.1.0.1 in let less = count_run q db v c.earlier in
       shows_weaker (mark_of J) (λ m. m ≤ tx_count v.items) (λ m. m ≡ 0) (λ m l. omega arith) (all_shown (of u (h ++ es))) its_marks
@@ -147,7 +147,7 @@ module _ (q : Meaning) (db : Text) (u : ℕ) (h es : List Event) (g : Good q db 
   -- ---- refusals
 
   -- none of its statements is refused
-  pub not_refused : (s : ℕ) (text : Text) (holder : ℕ) (xs ys : List Act) → of s (h ++ es) ≡ xs ++ meets text holder ∷ ys → s ≢ u
+  pub not_refused : (s : ℕ) (text : Text) (holder : ℕ) (xs ys : List SessionAct) → of s (h ++ es) ≡ xs ++ meets text holder ∷ ys → s ≢ u
   not_refused s text holder xs ys e same = let c = cut u h xs ys (meets text holder) (sym its_part ∙ ap (λ (t : ℕ). of t (h ++ es)) (sym same) ∙ e) in
       let two = good_append q db first c.earlier (by u (meets text holder) ∷ c.later) (subst (Good q db first) c.is parts.0) in
       let m : Meets q (run first c.earlier) u text holder = two.1.0 in
@@ -155,18 +155,18 @@ module _ (q : Meaning) (db : Text) (u : ℕ) (h es : List Event) (g : Good q db 
       not_nil m.theirs.id m.theirs.opened (all_shown (of m.other c.earlier)) (ap all_shown (nil_left (of m.other c.earlier) (of m.other (by u (meets text holder) ∷ c.later)) all)) (within_of q db first c.earlier m.other m.theirs two.0 refl m.has)
 
   -- a refusal comes when it is over
-  pub record CutAfter (s : ℕ) (xs ys : List Act) (a : Act) : Type 0 where
+  pub record CutAfter (s : ℕ) (xs ys : List SessionAct) (a : SessionAct) : Type 0 where
     pub at : Cut s (h ++ es) xs ys a
     pub over : ((run first at.earlier).at u).phase ≡ gone
 
-  pub cut_after : (s : ℕ) (xs ys : List Act) (a : Act) → s ≢ u → of s (h ++ es) ≡ xs ++ a ∷ ys → CutAfter s xs ys a
+  pub cut_after : (s : ℕ) (xs ys : List SessionAct) (a : SessionAct) → s ≢ u → of s (h ++ es) ≡ xs ++ a ∷ ys → CutAfter s xs ys a
   cut_after s xs ys a ne e = let c = cut s es xs ys a (sym (part s ne) ∙ e) in
       let two = good_append q db v c.earlier (by s a ∷ c.later) (subst (Good q db v) c.is parts.1) in record {
         at = record {
           earlier = h ++ c.earlier;
           later = c.later;
-          is = ap (λ (l : List Event). h ++ l) c.is ∙ sym (append_assoc h c.earlier (by s a ∷ c.later));
-          before = of_append s h c.earlier ∙ ap (λ (l : List Act). l ++ of s c.earlier) (others s ne) ∙ c.before;
+          is = ap (λ (l : List Act). h ++ l) c.is ∙ sym (append_assoc h c.earlier (by s a ∷ c.later));
+          before = of_append s h c.earlier ∙ ap (λ (l : List SessionAct). l ++ of s c.earlier) (others s ne) ∙ c.before;
           after = c.after;
         };
         over = subst (λ (w : World). (w.at u).phase ≡ gone) (sym (run_append first h c.earlier)) (silent q db u v c.earlier ended two.0).1;

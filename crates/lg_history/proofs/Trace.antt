@@ -7,10 +7,10 @@ use Rattle.lg_model.specs.Journals.{tx_count}
 use Rattle.lg_history.specs.Lists.{Text, Each}
 use Rattle.lg_history.specs.Meaning.{Meaning}
 use Rattle.lg_history.specs.Facts.{Shows}
-use Rattle.lg_history.specs.Acts.{Act, draws, commits, ends, issues, keeps, Event, by, closes, of, marked, placed_at, drawn_id}
-use Rattle.lg_history.specs.Sessions.{Deal}
+use Rattle.lg_history.specs.Acts.{SessionAct, draws, commits, ends, issues, keeps, Act, by, closes, of, marked, placed_at, drawn_id}
+use Rattle.lg_history.specs.Sessions.{SessionTransaction}
 use Rattle.lg_history.specs.Worlds.{World, item_of, items_by, step, run}
-use Rattle.lg_history.specs.Guards.{Ok, Good}
+use Rattle.lg_history.specs.Guards.{MayHappen, Good}
 
 -- ---- lists
 
@@ -27,34 +27,34 @@ count_append [] js = omega arith
 count_append (Tx id session time opened script ∷ is) js = omega (arith, count_append is js)
 count_append (Close k ∷ is) js = count_append is js
 
-pub one_more : (P : Act → Type 0) (b : Bool) (a : Act) (xs : List Act) → P a → Each P xs → Each P (if b then a ∷ xs else xs)
+pub one_more : (P : SessionAct → Type 0) (b : Bool) (a : SessionAct) (xs : List SessionAct) → P a → Each P xs → Each P (if b then a ∷ xs else xs)
 one_more P true a xs p h = (p, h)
 one_more P false a xs p h = h
 
 module _ (q : Meaning) (db : Text) where
-  count_by : (w : World) (s : ℕ) (a : Act) → tx_count w.items ≤ tx_count (step w (by s a)).items
+  count_by : (w : World) (s : ℕ) (a : SessionAct) → tx_count w.items ≤ tx_count (step w (by s a)).items
   count_by w s a = omega (arith, count_append w.items (items_by (w.at s) a))
 
   -- the number of transactions never falls
-  pub count_step : (w : World) (e : Event) → tx_count w.items ≤ tx_count (step w e).items
+  pub count_step : (w : World) (e : Act) → tx_count w.items ≤ tx_count (step w e).items
   count_step w (by s a) = count_by w s a
   count_step w (closes k) = omega (arith, count_append w.items (Close k ∷ []))
 
-  pub count_run : (w : World) (es : List Event) → tx_count w.items ≤ tx_count (run w es).items
+  pub count_run : (w : World) (es : List Act) → tx_count w.items ≤ tx_count (run w es).items
   count_run w [] = omega arith
   count_run w (e ∷ es) = omega (arith, count_step w e, count_run (step w e) es)
 
-  pub next_step : (w : World) (e : Event) → w.next ≤ (step w e).next
+  pub next_step : (w : World) (e : Act) → w.next ≤ (step w e).next
   next_step w (by s a) = omega arith
   next_step w (closes k) = omega arith
 
-  pub next_run : (w : World) (es : List Event) → w.next ≤ (run w es).next
+  pub next_run : (w : World) (es : List Act) → w.next ≤ (run w es).next
   next_run w [] = omega arith
   next_run w (e ∷ es) = omega (arith, next_step w e, next_run (step w e) es)
 
-  -- what each event keeps, and what then holds of each act, holds of all acts of a session
-  module _ (I : World → Type 0) (P : Act → Type 0) (keep : (w : World) (e : Event) → Ok q db w e → I w → I (step w e)) (each : (w : World) (s : ℕ) (a : Act) → Ok q db w (by s a) → I w → P a) where
-    pub along : (s : ℕ) (w : World) (es : List Event) → Good q db w es → I w → Each P (of s es)
+  -- what each act keeps, and what then holds of each act of a session, holds of all of them
+  module _ (I : World → Type 0) (P : SessionAct → Type 0) (keep : (w : World) (e : Act) → MayHappen q db w e → I w → I (step w e)) (each : (w : World) (s : ℕ) (a : SessionAct) → MayHappen q db w (by s a) → I w → P a) where
+    pub along : (s : ℕ) (w : World) (es : List Act) → Good q db w es → I w → Each P (of s es)
     along s w [] g i = tt
     along s w (by t a ∷ es) g i = one_more P (t == s) a (of s es) (each w t a g.0 i) (along s (step w (by t a)) es g.1 (keep w (by t a) g.0 i))
     along s w (closes k ∷ es) g i = along s (step w (closes k)) es g.1 (keep w (closes k) g.0 i)
@@ -62,46 +62,46 @@ module _ (q : Meaning) (db : Text) where
   -- ---- marks
 
   -- a mark is the number of transactions after its act
-  pub mark_is : (w : World) (s : ℕ) (a : Act) → Ok q db w (by s a) → Each (λ m. m ≡ tx_count (step w (by s a)).items) (marked a)
-  mark_is w s (commits time place) h = (omega (arith, h.last, count_append w.items (item_of (w.at s) (w.at s).deal time), ap (λ (o : Option Deal). tx_count (item_of (w.at s) o time)) h.stands.has), tt)
+  pub mark_is : (w : World) (s : ℕ) (a : SessionAct) → MayHappen q db w (by s a) → Each (λ m. m ≡ tx_count (step w (by s a)).items) (marked a)
+  mark_is w s (commits time place) h = (omega (arith, h.last, count_append w.items (item_of (w.at s) (w.at s).transaction time), ap (λ (o : Option SessionTransaction). tx_count (item_of (w.at s) o time)) h.stands.has), tt)
   mark_is w s (ends n back) h = (omega (arith, h.last, count_append w.items []), tt)
   mark_is w s (issues d mark) h = (omega (arith, h.counts, count_append w.items []), tt)
   mark_is w s (keeps items mark) h = (omega (arith, h.2, count_append w.items []), tt)
   mark_is w s a h = tt
 
-  more_than : (w : World) (n : ℕ) (s : ℕ) (a : Act) → Ok q db w (by s a) → n ≤ tx_count w.items → Each (λ m. n ≤ m) (marked a)
+  more_than : (w : World) (n : ℕ) (s : ℕ) (a : SessionAct) → MayHappen q db w (by s a) → n ≤ tx_count w.items → Each (λ m. n ≤ m) (marked a)
   more_than w n s a h i = let c = count_by w s a in each_weaker (λ m. m ≡ tx_count (step w (by s a)).items) (λ m. n ≤ m) (λ m e. omega arith) (marked a) (mark_is w s a h)
 
   -- marks that come later are no less than the number of transactions
-  pub marks_from : (n s : ℕ) (w : World) (es : List Event) → Good q db w es → n ≤ tx_count w.items → Shows marked (λ m. n ≤ m) (of s es)
+  pub marks_from : (n s : ℕ) (w : World) (es : List Act) → Good q db w es → n ≤ tx_count w.items → Shows marked (λ m. n ≤ m) (of s es)
   marks_from n = along (λ w. n ≤ tx_count w.items) (λ a. Each (λ m. n ≤ m) (marked a)) (λ w e h i. omega (arith, count_step w e)) (λ w t a h i. more_than w n t a h i)
 
   -- and those that came are no greater
-  pub marks_to : (s : ℕ) (w : World) (es : List Event) → Good q db w es → Shows marked (λ m. m ≤ tx_count (run w es).items) (of s es)
+  pub marks_to : (s : ℕ) (w : World) (es : List Act) → Good q db w es → Shows marked (λ m. m ≤ tx_count (run w es).items) (of s es)
   marks_to s w [] g = tt
   marks_to s w (by t a ∷ es) g = one_more (λ b. Each (λ m. m ≤ tx_count (run (step w (by t a)) es).items) (marked b)) (t == s) a (of s es)
       (let c = count_run (step w (by t a)) es in each_weaker (λ m. m ≡ tx_count (step w (by t a)).items) (λ m. m ≤ tx_count (run (step w (by t a)) es).items) (λ m e. omega arith) (marked a) (mark_is w t a g.0))
       (marks_to s (step w (by t a)) es g.1)
   marks_to s w (closes k ∷ es) g = marks_to s (step w (closes k)) es g.1
 
-  place_above : (w : World) (n : ℕ) (s : ℕ) (a : Act) → Ok q db w (by s a) → n ≤ tx_count w.items → Each (λ m. n < m) (placed_at a)
+  place_above : (w : World) (n : ℕ) (s : ℕ) (a : SessionAct) → MayHappen q db w (by s a) → n ≤ tx_count w.items → Each (λ m. n < m) (placed_at a)
   place_above w n s (commits time place) h i = (omega (arith, h.last), tt)
   place_above w n s a h i = tt
 
-  pub places_from : (n s : ℕ) (w : World) (es : List Event) → Good q db w es → n ≤ tx_count w.items → Shows placed_at (λ m. n < m) (of s es)
+  pub places_from : (n s : ℕ) (w : World) (es : List Act) → Good q db w es → n ≤ tx_count w.items → Shows placed_at (λ m. n < m) (of s es)
   places_from n = along (λ w. n ≤ tx_count w.items) (λ a. Each (λ m. n < m) (placed_at a)) (λ w e h i. omega (arith, count_step w e)) (λ w t a h i. place_above w n t a h i)
 
   -- ---- ids
 
-  pub id_is : (w : World) (s : ℕ) (a : Act) → Ok q db w (by s a) → Each (λ m. (m ≡ w.next) × (m < (step w (by s a)).next)) (drawn_id a)
+  pub id_is : (w : World) (s : ℕ) (a : SessionAct) → MayHappen q db w (by s a) → Each (λ m. (m ≡ w.next) × (m < (step w (by s a)).next)) (drawn_id a)
   id_is w s (draws id opened) h = ((h.2, omega (arith, h.2)), tt)
   id_is w s a h = tt
 
-  pub ids_from : (n s : ℕ) (w : World) (es : List Event) → Good q db w es → n ≤ w.next → Shows drawn_id (λ m. n ≤ m) (of s es)
+  pub ids_from : (n s : ℕ) (w : World) (es : List Act) → Good q db w es → n ≤ w.next → Shows drawn_id (λ m. n ≤ m) (of s es)
   ids_from n = along (λ w. n ≤ w.next) (λ a. Each (λ m. n ≤ m) (drawn_id a)) (λ w e h i. omega (arith, next_step w e))
       (λ w t a h i. each_weaker (λ m. (m ≡ w.next) × (m < (step w (by t a)).next)) (λ m. n ≤ m) (λ m e. omega arith) (drawn_id a) (id_is w t a h))
 
-  pub ids_to : (s : ℕ) (w : World) (es : List Event) → Good q db w es → Shows drawn_id (λ m. m < (run w es).next) (of s es)
+  pub ids_to : (s : ℕ) (w : World) (es : List Act) → Good q db w es → Shows drawn_id (λ m. m < (run w es).next) (of s es)
   ids_to s w [] g = tt
   ids_to s w (by t a ∷ es) g = one_more (λ b. Each (λ m. m < (run (step w (by t a)) es).next) (drawn_id b)) (t == s) a (of s es)
       (let c = next_run (step w (by t a)) es in each_weaker (λ m. (m ≡ w.next) × (m < (step w (by t a)).next)) (λ m. m < (run (step w (by t a)) es).next) (λ m e. omega arith) (drawn_id a) (id_is w t a g.0))

@@ -7,45 +7,46 @@ use Rattle.lg_history.specs.Digests.{Digest}
 use Rattle.lg_history.specs.Facts.{Fact, began, said, failed, met, placed, passed, over, digest, image, no_digest}
 
 -- what a session does
-pub data Act : Type 0 where
+pub data SessionAct : Type 0 where
   -- it begins
-  starts : (name : Text) → Act
+  starts : (name : Text) → SessionAct
   -- it takes up its next statement
-  takes : (text : Text) → Act
+  takes : (text : Text) → SessionAct
   -- it draws an id, for BEGIN or for a statement that is a transaction of its own
-  draws : (id : ℕ) (opened : Bool) → Act
+  draws : (id : ℕ) (opened : Bool) → SessionAct
   -- it has taken this statement's want in the catalog; with true, those in the table's cell too
-  looks : (text : Text) (table : Bool) → Act
+  looks : (text : Text) (table : Bool) → SessionAct
   -- a statement of the script, with its reply: from the moment after which it can't be answered E30 any more
-  says : (line : Line) → Act
+  says : (line : Line) → SessionAct
   -- a statement is to be answered E30
-  fails : (text : Text) → Act
+  fails : (text : Text) → SessionAct
   -- a statement met this transaction's lock
-  meets : (text : Text) (holder : ℕ) → Act
+  meets : (text : Text) (holder : ℕ) → SessionAct
   -- the transaction is committed
-  commits : (time place : ℕ) → Act
+  commits : (time place : ℕ) → SessionAct
   -- its end is fixed otherwise; true where a ROLLBACK or the session's end fixed it
-  ends : (n : ℕ) (back : Bool) → Act
+  ends : (n : ℕ) (back : Bool) → SessionAct
   -- it holds nothing any more
-  frees : Act
+  frees : SessionAct
   -- a digest is issued; the mark is the number of transactions
-  issues : (issued : Digest) (mark : ℕ) → Act
+  issues : (issued : Digest) (mark : ℕ) → SessionAct
   -- an image is kept
-  keeps : (items mark : ℕ) → Act
+  keeps : (items mark : ℕ) → SessionAct
   -- there is no block to issue a digest of
-  lacks : Act
+  lacks : SessionAct
   -- it writes an entry of its transcript
-  answers : (entry : Entry) → Act
+  answers : (entry : Entry) → SessionAct
   -- it is over
-  stops : Act
+  stops : SessionAct
 
-pub data Event : Type 0 where
-  by : (session : ℕ) (act : Act) → Event
+-- what happens: a session does something, or a block is closed
+pub data Act : Type 0 where
+  by : (session : ℕ) (act : SessionAct) → Act
   -- a block is closed
-  closes : (k : ℕ) → Event
+  closes : (k : ℕ) → Act
 
 -- the part of one session
-abbrev pub of : ℕ → List Event → List Act
+abbrev pub of : ℕ → List Act → List SessionAct
 of s [] = []
 of s (by t a ∷ es) = if t == s then a ∷ of s es else of s es
 of s (closes k ∷ es) = of s es
@@ -53,7 +54,7 @@ of s (closes k ∷ es) = of s es
 -- ---- what an act shows
 
 -- the fact, one or none, that the transcript is to show
-abbrev pub shown : Act → List Fact
+abbrev pub shown : SessionAct → List Fact
 shown (draws id opened) = began id opened ∷ []
 shown (says line) = said line ∷ []
 shown (fails text) = failed text ∷ []
@@ -66,21 +67,21 @@ shown (keeps items mark) = image items ∷ []
 shown lacks = no_digest ∷ []
 shown _ = []
 
-abbrev pub marked : Act → List ℕ
+abbrev pub marked : SessionAct → List ℕ
 marked (commits time place) = place ∷ []
 marked (ends n back) = n ∷ []
 marked (issues d mark) = mark ∷ []
 marked (keeps items mark) = mark ∷ []
 marked _ = []
 
-abbrev pub placed_at : Act → List ℕ
+abbrev pub placed_at : SessionAct → List ℕ
 placed_at (commits time place) = place ∷ []
 placed_at _ = []
 
-abbrev pub drawn_id : Act → List ℕ
+abbrev pub drawn_id : SessionAct → List ℕ
 drawn_id (draws id opened) = id ∷ []
 drawn_id _ = []
 
-abbrev pub all_shown : List Act → List Fact
+abbrev pub all_shown : List SessionAct → List Fact
 all_shown [] = []
 all_shown (a ∷ xs) = shown a ++ all_shown xs

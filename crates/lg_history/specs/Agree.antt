@@ -5,6 +5,7 @@ use Rattle.lg_types.specs.declared.journal.JournalItem.{JournalItem}
 use Rattle.lg_types.specs.declared.journal.JournalItem.TheVariants.{Tx, Close}
 use Rattle.lg_model.specs.Journals.{Line, tx_count}
 use Rattle.lg_history.specs.Lists.{Text, Each, Some_of, In, At, sum}
+use Rattle.lg_history.specs.Inputs.{InputSession}
 use Rattle.lg_history.specs.Journals.{blocks}
 use Rattle.lg_history.specs.Meaning.{Meaning}
 use Rattle.lg_history.specs.Serial.{texts_of, replies_of, after_tx, IsLegal}
@@ -18,18 +19,19 @@ use Rattle.lg_history.specs.Refusals.{NamesRightly}
 
 -- ---- statements
 
--- a session's statements are those of the input, in order; where a transaction is open after the last one, an entry (end)
--- follows that ends it
-pub record StatementsInOrder (texts : List Text) (x : Transcript) : Type 0 where
-  pub are : statements x.entries ≡ texts
+-- the transcript of this session of the input: its statements are those of the input, in order; where a
+-- transaction is open after the last one, an entry (end) follows that ends it
+pub record StatementsInOrder (s : InputSession) (x : Transcript) : Type 0 where
+  pub named : x.session ≡ s.name
+  pub are : statements x.entries ≡ s.texts
   pub end_is_last : EndIsLast x.entries
   pub end_ends : Throughout EndsOpen None 0 x.entries
   pub none_is_left : open_at_end None x.entries ≡ None
 
--- each session's
-abbrev pub AreStatements : List (List Text) → List Transcript → Type 0
+-- each session of the input has its transcript, and there are no others
+abbrev pub AreStatements : List InputSession → List Transcript → Type 0
 AreStatements [] [] = Unit {0}
-AreStatements (texts ∷ input) (x ∷ X) = StatementsInOrder texts x × AreStatements input X
+AreStatements (s ∷ input) (x ∷ X) = StatementsInOrder s x × AreStatements input X
 AreStatements _ _ = ⊥
 
 -- ---- ids
@@ -77,26 +79,26 @@ abbrev pub committed_ones : List Transaction → List Placed
 committed_ones [] = []
 committed_ones (u ∷ us) = committed_at_place u u.end ++ committed_ones us
 
--- one of these sessions committed it
-abbrev pub IsOneOfTheirs : List Transcript → JournalItem → Type 0
-IsOneOfTheirs X (Tx id session time opened script) =
-    (i : ℕ) × (x : Transcript) × At X i x × (x.session ≡ session)
-IsOneOfTheirs X (Close k) = Unit {0}
+-- it has the name of a session of the input
+abbrev pub IsOneOfTheirs : List InputSession → JournalItem → Type 0
+IsOneOfTheirs input (Tx id session time opened script) = Some_of (λ s. s.name ≡ session) input
+IsOneOfTheirs input (Close k) = Unit {0}
 
--- J is legal; for each session, the transactions of J with its name are the committed transactions of its transcript in
--- order, with id, `opened` and script, each at the place that it printed, and no others stand there; end lines stand where
--- they may
-pub record JournalIsTheirs (q : Meaning) (X : List Transcript) (J : List JournalItem) : Type 0 where
+-- J is legal; for each session of the input, the transactions of J with its name are the committed
+-- transactions of its transcript in order, with id, `opened` and script, each at the place that it printed,
+-- and no others stand there; end lines stand where they may
+pub record JournalIsTheirs (q : Meaning) (input : List InputSession) (X : List Transcript)
+    (J : List JournalItem) : Type 0 where
   pub legal : IsLegal q J
-  pub no_others : Each (IsOneOfTheirs X) J
-  pub items : (i : ℕ) (x : Transcript) → At X i x
-      → of_session x.session J ≡ committed_ones (transactions (facts_of q x))
+  pub no_others : Each (IsOneOfTheirs input) J
+  pub items : (i : ℕ) (s : InputSession) (x : Transcript) → At input i s → At X i x
+      → of_session s.name J ≡ committed_ones (transactions (facts_of q x))
   pub ends : (i : ℕ) (x : Transcript) → At X i x → Throughout (EndsWhereItMay q) None 0 x.entries
 
 -- ---- transactions that changed nothing
 
--- a transaction that ended after n has the replies of its script over the tables after n transactions; if COMMIT or a
--- statement of its own ended it, that script leaves no start or end there
+-- a transaction that ended after n has the replies of its script over the tables after n transactions; if
+-- COMMIT or a statement of its own ended it, that script leaves no start or end there
 pub record EndedOver (q : Meaning) (J : List JournalItem) (u : Transaction) (n : ℕ)
     (back : Bool) : Type 0 where
   pub within : n ≤ tx_count J
@@ -114,9 +116,9 @@ EndedHaveTheirReplies q X J =
 
 -- ---- marks
 
--- marks never fall in a transcript, and the place of a commit is above each earlier mark; no mark of another session is below
--- one of `setup`; block b is closed in an image that comes after a digest of block b in one transcript, or stands in
--- another session's than `setup`, which has the digest
+-- marks never fall in a transcript, and the place of a commit is above each earlier mark; no mark of another
+-- session is below one of `setup`; block b is closed in an image that comes after a digest of block b in one
+-- transcript, or stands in another session's than `setup`, which has the digest
 pub record MarksNeverFall (q : Meaning) (setup : Option ℕ) (X : List Transcript)
     (J : List JournalItem) : Type 0 where
   pub rise : (i : ℕ) (x : Transcript) → At X i x → MarksRise J (facts_of q x)
@@ -132,9 +134,10 @@ abbrev pub ShowsHash : Meaning → List JournalItem → Fact → Type 0
 ShowsHash q J (digest b hash) = (b < blocks J) × (hash ≡ q.block_hash J b)
 ShowsHash q J _ = Unit {0}
 
--- `digest b` shows the hash of J's digest of block b; G has as many digests of block b as X has such replies, each of them J's
--- with the moment of its making, and their blocks never fall; E19 comes only where every mark before it in its
--- transcript is 0, and in a session other than `setup` only where every mark of `setup` is 0 too
+-- `digest b` shows the hash of J's digest of block b; G has as many digests of block b as X has such replies,
+-- each of them J's with the moment of its making, and their blocks never fall; E19 comes only where every
+-- mark before it in its transcript is 0, and in a session other than `setup` only where every mark of `setup`
+-- is 0 too
 pub record DigestsAreOf (q : Meaning) (database : Text) (setup : Option ℕ) (X : List Transcript)
     (J : List JournalItem) (G : List Digest) : Type 0 where
   pub shown : (i : ℕ) (x : Transcript) → At X i x → Each (ShowsHash q J) (facts_of q x)
@@ -155,13 +158,14 @@ LockRefusals q setup X J = (s : ℕ) (x : Transcript) (text : Text) (holder : �
 
 -- ---- agreement
 
--- transcripts, a journal and digests of a database, of the sessions and statements of one input; the session at the place
--- `setup`, if there is one, ran to its end before all others
-pub record Agree (q : Meaning) (database : Text) (input : List (List Text)) (setup : Option ℕ)
+-- transcripts, a journal and digests of a database, of the sessions and statements of one input, in which no
+-- two sessions have one name; the session at the place `setup`, if there is one, ran to its end before all
+-- others
+pub record Agree (q : Meaning) (database : Text) (input : List InputSession) (setup : Option ℕ)
     (X : List Transcript) (J : List JournalItem) (G : List Digest) : Type 0 where
   pub statements_are_answered : AreStatements input X
   pub ids_are_drawn_once : IdsDrawnOnce q X
-  pub journal_is_theirs : JournalIsTheirs q X J
+  pub journal_is_theirs : JournalIsTheirs q input X J
   pub ended_have_their_replies : EndedHaveTheirReplies q X J
   pub marks_never_fall : MarksNeverFall q setup X J
   pub digests_are_the_journals : DigestsAreOf q database setup X J G

@@ -1,67 +1,131 @@
--- In step order, E20 comes exactly where a lock is in the way. A definition alone: no law says yet that histories have it.
-use Rattle.std.specs.Prelude.{ℕ, zero, suc, ◌≡◌, ◌⊎◌, ◌+◌, ◌==◌, if◌then◌else◌, Bool, true, false, List, [], ◌∷◌, ◌++◌, map, Option, Some, None}
+-- In step order, E20 comes exactly where a lock is in the way.
+use Rattle.std.specs.Prelude.{ℕ, zero, suc, ◌≡◌, ◌⊎◌, ◌+◌, ◌==◌, if◌then◌else◌, Bool, List, [], ◌∷◌, ◌++◌, map, flat_map, length, Option, Some, None}
 use Rattle.lg_value.specs.declared.refusal.Refusal.TheVariants.{Locked, E30}
+use Rattle.lg_types.specs.declared.lock.Hold.{Hold}
+use Rattle.lg_types.specs.declared.lock.Mode.{Mode}
+use Rattle.lg_types.specs.declared.lock.Want.{Want}
 use Rattle.lg_types.specs.declared.reply.Reply.{Reply}
 use Rattle.lg_types.specs.declared.reply.Reply.TheVariants as reply
 use Rattle.lg_types.specs.declared.journal.JournalItem.{JournalItem}
 use Rattle.lg_model.specs.Catalog.{Defs}
+use Rattle.lg_model.specs.Holds.{hold}
+use Rattle.lg_model.specs.InTheWay.{Conflict, first_conflict}
+use Rattle.lg_model.specs.Locks.{CellWants, whole}
+use Rattle.lg_history.specs.Inputs.{InputLine}
 use Rattle.lg_history.specs.Lists.{Text}
 use Rattle.lg_history.specs.Meaning.{Meaning}
+use Rattle.lg_history.specs.Real.{wants_catalog, wants_cell}
 use Rattle.lg_history.specs.Serial.{after_tx}
-use Rattle.lg_history.specs.Transcripts.{Entry, statement, end_of_session, Kind, create, rows, kind_of}
+use Rattle.lg_history.specs.Transcripts.{EndLine, Entry, statement, end_of_session, Transcript, ended_id}
 use Rattle.lg_history.specs.Facts.{Fact, placed, entry_facts}
 use Rattle.lg_history.specs.InPlace.{is_open}
-use Rattle.lg_history.specs.Transactions.{Transaction, Book, read_facts}
-use Rattle.lg_history.specs.StepOrder.{Row, opened_by}
+use Rattle.lg_history.specs.Transactions.{Transaction, Book, blank, read_facts}
+use Rattle.lg_history.specs.StepOrder.{Row, opened_by, IsStepOrder}
 
--- a statement of an open transaction's script, whose locks stand
-pub record Held : Type 0 where
+-- ---- whose locks stand
+
+-- a statement of the script of an open transaction: it was answered neither E20 nor E30
+pub record HeldStatement : Type 0 where
   pub id : ℕ
   pub opened : Bool
   pub text : Text
 
-abbrev pub held_by : Option Transaction → List Held
+abbrev pub held_by : Option Transaction → List HeldStatement
 held_by None = []
 held_by (Some u) = map (λ line. record { id = u.id; opened = u.opened; text = line.0 }) u.script
 
--- of the first k sessions, but for session s
-abbrev pub held : (ℕ → Book) → ℕ → ℕ → List Held
-held books s zero = []
-held books s (suc k) = held books s k ++ (if k == s then [] else held_by (books k).open_one)
+-- of the open transactions of the first k sessions, but for session s
+abbrev pub held_beside : ℕ → ℕ → (ℕ → Option Transaction) → List HeldStatement
+held_beside s zero opens = []
+held_beside s (suc k) opens = held_beside s k opens ++ (if k == s then [] else held_by (opens k))
 
--- a statement that takes locks
-abbrev pub takes_locks : Option ℕ → Kind → Bool
-takes_locks None create = true
-takes_locks o rows = true
-takes_locks o _ = false
+-- ---- what is in the way
 
-abbrev pub commits_in : List Fact → ℕ
-commits_in [] = 0
-commits_in (placed place ∷ gs) = suc (commits_in gs)
-commits_in (_ ∷ gs) = commits_in gs
+abbrev pub catalog_wants : Option Mode → List Want
+catalog_wants None = []
+catalog_wants (Some mode) = whole mode ∷ []
+
+-- those in the cell of this table
+abbrev pub wants_in : ℕ → CellWants → List Want
+wants_in id None = []
+wants_in id (Some c) = if c.0 == id then c.1 else []
+
+abbrev pub holder_named : Option Conflict → Option ℕ
+holder_named None = None
+holder_named (Some c) = Some c.0.0
+
+abbrev pub first_some : Option ℕ → Option ℕ → Option ℕ
+first_some None o = o
+first_some (Some n) o = Some n
+
+module _ (q : Meaning) where
+  -- what these statements hold in the catalog
+  abbrev pub catalog_holds : List HeldStatement → List Hold
+  catalog_holds hs =
+      flat_map (λ h. map (hold h.id) (catalog_wants (wants_catalog h.opened (q.reads h.text)))) hs
+
+  -- and in the cell of a table, over these definitions
+  abbrev pub cell_holds : Defs → ℕ → List HeldStatement → List Hold
+  cell_holds D id hs = flat_map (λ h. map (hold h.id) (wants_in id (wants_cell D (q.reads h.text)))) hs
+
+  abbrev pub in_the_way_there : Defs → ℕ → List HeldStatement → CellWants → Option ℕ
+  in_the_way_there D id hs None = None
+  in_the_way_there D id hs (Some c) = holder_named (first_conflict (cell_holds D c.0 hs) id c.1)
+
+  -- the transaction that is in the way of a statement of transaction id: in the catalog, and else in its
+  -- table's cell, the least of those that conflict with the first want that conflicts
+  abbrev pub in_the_way : Defs → List HeldStatement → ℕ → Bool → Text → Option ℕ
+  in_the_way D hs id opened text = first_some
+      (holder_named
+      (first_conflict (catalog_holds hs) id (catalog_wants (wants_catalog opened (q.reads text)))))
+      (in_the_way_there D id hs (wants_cell D (q.reads text)))
+
+-- ---- replies
 
 -- E20 names this holder, and comes if there is one, unless it is E30
 pub record IsExact (holder : Option ℕ) (r : Reply) : Type 0 where
   pub only : (h : ℕ) → r ≡ reply.Refused (Locked h) → holder ≡ Some h
   pub always : (h : ℕ) → holder ≡ Some h → (r ≡ reply.Refused (Locked h)) ⊎ (r ≡ reply.Refused E30)
 
-abbrev pub ExactIf : Bool → Option ℕ → Reply → Type 0
-ExactIf true holder r = IsExact holder r
-ExactIf false holder r = Unit {0}
+-- the id of the transaction in which a statement stands, or 0, which is nobody's, where it drew none
+abbrev pub id_around : Option ℕ → Option EndLine → ℕ
+id_around (Some id) end = id
+id_around None (Some end) = ended_id end
+id_around None None = 0
 
--- who refuses a statement over these definitions, if these statements' locks stand: the least id among those that conflict with
--- its first want that conflicts
-module _ (q : Meaning) (refuses : Defs → Bool → Text → List Held → Option ℕ) (k : ℕ)
-    (J : List JournalItem) where
-  -- over the tables of the commits so far, against the statements of the transactions then open in other sessions
-  abbrev pub ExactRow : ℕ → (ℕ → Option ℕ) → (ℕ → Book) → ℕ → Entry → Type 0
-  ExactRow c opens books s (statement text r end) =
-      ExactIf (takes_locks (opens s) (kind_of (q.reads text)))
-      (refuses (q.defs (after_tx q q.first c J)) (is_open (opens s)) text (held books s k)) r
-  ExactRow c opens books s (end_of_session end) = Unit {0}
+abbrev pub commits_in : List Fact → ℕ
+commits_in [] = 0
+commits_in (placed place ∷ gs) = suc (commits_in gs)
+commits_in (_ ∷ gs) = commits_in gs
 
-  abbrev pub ExactRefusals : ℕ → (ℕ → Option ℕ) → (ℕ → Book) → List Row → Type 0
-  ExactRefusals c opens books [] = Unit {0}
-  ExactRefusals c opens books (row ∷ rest) = ExactRow c opens books row.0 row.1
-      × ExactRefusals (c + commits_in (entry_facts q (opens row.0) row.1)) (opened_by opens row.0 row.1)
-      (λ t. if t == row.0 then read_facts (books row.0) (entry_facts q (opens row.0) row.1) else books t) rest
+module _ (q : Meaning) (k : ℕ) (J : List JournalItem) where
+  -- over the tables of the c commits so far, against the statements of the transactions then open in other
+  -- sessions
+  abbrev pub IsExactRow : ℕ → (ℕ → Option ℕ) → (ℕ → Book) → ℕ → Entry → Type 0
+  IsExactRow c opens books s (statement text r end) = IsExact
+      (in_the_way q (q.defs (after_tx q q.first c J)) (held_beside s k (λ t. (books t).open_one))
+      (id_around (opens s) end) (is_open (opens s)) text) r
+  IsExactRow c opens books s (end_of_session end) = Unit {0}
+
+  abbrev pub book_after : (ℕ → Option ℕ) → (ℕ → Book) → ℕ → Entry → ℕ → Book
+  book_after opens books s e t = if t == s then read_facts (books s) (entry_facts q (opens s) e) else books t
+
+  abbrev pub AreExact : ℕ → (ℕ → Option ℕ) → (ℕ → Book) → List Row → Type 0
+  AreExact c opens books [] = Unit {0}
+  AreExact c opens books (row ∷ rest) =
+      IsExactRow c opens books row.0 row.1
+      × AreExact (c + commits_in (entry_facts q (opens row.0) row.1)) (opened_by opens row.0 row.1)
+      (book_after opens books row.0 row.1) rest
+
+-- so it is for each entry of k transcripts
+abbrev pub ExactRefusals : Meaning → ℕ → List JournalItem → List Row → Type 0
+ExactRefusals q k J rows = AreExact q k J 0 (λ s. None) (λ s. blank) rows
+
+-- ---- step order, whole
+
+-- the transcripts are one list in this order, and E20 is exact in it
+pub record StepOrder (q : Meaning) (N : ℕ) (lines : List InputLine) (X : List Transcript)
+    (J : List JournalItem) : Type 0 where
+  pub rows : List Row
+  pub order : IsStepOrder q N lines X J rows
+  pub lock_refusals : ExactRefusals q (length X) J rows

@@ -1,4 +1,4 @@
--- What each event owes at the moment at which it happens, and good histories.
+-- When an act may happen, by what is so at that moment, and good histories.
 use Rattle.std.specs.Prelude.{ℕ, ◌≡◌, ◌≢◌, ◌⊎◌, ◌+◌, ◌≤◌, Bool, true, false, List, [], ◌∷◌, length, Option, Some, None}
 use Rattle.lg_types.specs.declared.journal.JournalItem.{JournalItem}
 use Rattle.lg_model.specs.Catalog.{Tables}
@@ -7,21 +7,21 @@ use Rattle.lg_model.specs.Limits.{max_block}
 use Rattle.lg_history.specs.Lists.{Text, Each, Some_of, In}
 use Rattle.lg_history.specs.Journals.{blocks}
 use Rattle.lg_history.specs.Meaning.{Meaning}
-use Rattle.lg_history.specs.Serial.{texts_of, replies_of, serial, after_tx, AgreesTx}
+use Rattle.lg_history.specs.Serial.{texts_of, replies_of, serial, after_tx, ScriptReplays}
 use Rattle.lg_history.specs.Transcripts.{Entry, statement, end_of_session}
 use Rattle.lg_history.specs.Facts.{entry_facts, open_at_end}
 use Rattle.lg_history.specs.InPlace.{InPlace, images_after}
 use Rattle.lg_history.specs.Transactions.{End, unfixed, committed, ended}
 use Rattle.lg_history.specs.Refusals.{Clashes}
 use Rattle.lg_history.specs.Digests.{Digest, IsDigest}
-use Rattle.lg_history.specs.Acts.{Act, starts, takes, draws, looks, says, fails, meets, commits, ends, frees, issues, keeps, lacks, answers, stops, Event, by, closes}
-use Rattle.lg_history.specs.Sessions.{runs, Deal, Sess, fresh}
+use Rattle.lg_history.specs.Acts.{SessionAct, starts, takes, draws, looks, says, fails, meets, commits, ends, frees, issues, keeps, lacks, answers, stops, Act, by, closes}
+use Rattle.lg_history.specs.Sessions.{runs, SessionTransaction, SessionState, fresh}
 use Rattle.lg_history.specs.Worlds.{World, tables, step}
 
 -- the session's open transaction, whose end isn't fixed
-pub record Stands (x : Sess) (d : Deal) : Type 0 where
+pub record Stands (x : SessionState) (d : SessionTransaction) : Type 0 where
   pub runs : x.phase ≡ runs
-  pub has : x.deal ≡ Some d
+  pub has : x.transaction ≡ Some d
   pub unfixed : d.fixed ≡ unfixed
 
 abbrev pub Fixed : End → Type 0
@@ -29,7 +29,7 @@ Fixed unfixed = ⊥
 Fixed _ = Unit {0}
 
 -- a transaction of one statement asks for that statement alone, and says it once
-abbrev pub OnlyOne : Deal → Text → Type 0
+abbrev pub OnlyOne : SessionTransaction → Text → Type 0
 OnlyOne d text = d.opened ≡ false → (d.script ≡ []) × Each (λ x. x.1 ≡ true → x.0 ≡ text) d.asked
 
 -- a want that counts is one of a statement that was answered, and not E20 where those in a table's cell count
@@ -53,20 +53,20 @@ abbrev pub Answered : Option Text → Entry → Type 0
 Answered o (statement text r end) = o ≡ Some text
 Answered o (end_of_session end) = o ≡ None
 
-pub record Answers (q : Meaning) (x : Sess) (e : Entry) : Type 0 where
+pub record Answers (q : Meaning) (x : SessionState) (e : Entry) : Type 0 where
   pub running : x.phase ≡ runs
-  pub none_ended : Each IsStatement x.desk.entries
-  pub answered : Answered x.desk.under e
+  pub none_ended : Each IsStatement x.so_far.entries
+  pub answered : Answered x.so_far.under e
   -- the entry shows just what happened since the last one
-  pub shows : x.desk.pending ≡ entry_facts q (open_at_end None x.desk.entries) e
-  pub in_place : InPlace q (open_at_end None x.desk.entries) (images_of 0 x.desk.entries) e
+  pub shows : x.so_far.pending ≡ entry_facts q (open_at_end None x.so_far.entries) e
+  pub in_place : InPlace q (open_at_end None x.so_far.entries) (images_of 0 x.so_far.entries) e
 
 -- in no statement and in no transaction
-pub record AtRest (x : Sess) : Type 0 where
-  pub idle : x.desk.under ≡ None
-  pub shown : x.desk.pending ≡ []
-  pub none_open : open_at_end None x.desk.entries ≡ None
-  pub free : x.deal ≡ None
+pub record AtRest (x : SessionState) : Type 0 where
+  pub idle : x.so_far.under ≡ None
+  pub shown : x.so_far.pending ≡ []
+  pub none_open : open_at_end None x.so_far.entries ≡ None
+  pub free : x.transaction ≡ None
 
 module _ (q : Meaning) where
   -- the tables over which a transaction's clashes stand
@@ -75,48 +75,48 @@ module _ (q : Meaning) where
   stood J (committed n) = after_tx q q.first n J
   stood J (ended n back) = after_tx q q.first n J
 
-  abbrev pub ClashesWith : List JournalItem → Bool → Text → Deal → Type 0
+  abbrev pub ClashesWith : List JournalItem → Bool → Text → SessionTransaction → Type 0
   ClashesWith J o text d = Some_of (Clashes q (q.defs (stood J d.fixed)) o text d.opened) d.asked
 
   -- no statement of the script of a transaction whose end isn't fixed wants anything
-  abbrev pub NoTable : Option Deal → Type 0
+  abbrev pub NoTable : Option SessionTransaction → Type 0
   NoTable None = Unit {0}
   NoTable (Some d) = d.fixed ≡ unfixed → Each (λ x. x.1 ≡ true → q.wants d.opened x.0 ≡ false) d.asked
 
   -- ---- locks
 
   pub record Meets (w : World) (s : ℕ) (text : Text) (holder : ℕ) : Type 0 where
-    pub mine : Deal
+    pub mine : SessionTransaction
     pub stands : Stands (w.at s) mine
     pub other : ℕ
     pub differs : other ≢ s
-    pub theirs : Deal
-    pub has : (w.at other).deal ≡ Some theirs
+    pub theirs : SessionTransaction
+    pub has : (w.at other).transaction ≡ Some theirs
     pub is : theirs.id ≡ holder
     pub clash : ClashesWith w.items mine.opened text theirs
 
   -- ---- ends
 
   pub record Commits (w : World) (s time place : ℕ) : Type 0 where
-    pub mine : Deal
+    pub mine : SessionTransaction
     pub stands : Stands (w.at s) mine
-    pub agrees : AgreesTx q (tables q w) mine.id mine.opened mine.script
+    pub agrees : ScriptReplays q (tables q w) mine.id mine.opened mine.script
     pub last : place ≡ tx_count w.items + 1
     -- the definitions stay, or nobody else has a statement that wants anything
     pub others : (q.defs (q.after mine.opened (tables q w) mine.id (texts_of mine.script))
-        ≡ q.defs (tables q w)) ⊎ ((t : ℕ) → t ≢ s → NoTable (w.at t).deal)
+        ≡ q.defs (tables q w)) ⊎ ((t : ℕ) → t ≢ s → NoTable (w.at t).transaction)
 
   pub record Ends (w : World) (s n : ℕ) (back : Bool) : Type 0 where
-    pub mine : Deal
+    pub mine : SessionTransaction
     pub stands : Stands (w.at s) mine
     pub replies : replies_of mine.script ≡ q.replies mine.opened (tables q w) mine.id (texts_of mine.script)
     pub quiet : back ≡ false → q.events mine.opened (tables q w) mine.id (texts_of mine.script) ≡ 0
     pub last : n ≡ tx_count w.items
 
-  pub record Frees (x : Sess) : Type 0 where
-    pub mine : Deal
+  pub record Frees (x : SessionState) : Type 0 where
+    pub mine : SessionTransaction
     pub running : x.phase ≡ runs
-    pub has : x.deal ≡ Some mine
+    pub has : x.transaction ≡ Some mine
     pub fixed : Fixed mine.fixed
     pub all_answered : Each (IsAnswered mine.answered) mine.asked
 
@@ -131,31 +131,31 @@ module _ (q : Meaning) where
     pub counts : mark ≡ tx_count w.items
 
   module _ (database : Text) where
-    abbrev pub OkBy : World → ℕ → Act → Type 0
-    OkBy w s (starts name) = w.at s ≡ fresh
-    OkBy w s (takes text) =
-        ((w.at s).phase ≡ runs) × ((w.at s).desk.under ≡ None) × ((w.at s).desk.pending ≡ [])
-        × Each IsStatement (w.at s).desk.entries
-    OkBy w s (draws id opened) = ((w.at s).phase ≡ runs) × ((w.at s).deal ≡ None) × (id ≡ w.next)
-    OkBy w s (looks text table) = (d : Deal) × Stands (w.at s) d × OnlyOne d text
-    OkBy w s (says line) = (d : Deal) × Stands (w.at s) d × OnlyOne d line.0
-    OkBy w s (fails text) = (d : Deal) × Stands (w.at s) d
-    OkBy w s (meets text holder) = Meets w s text holder
-    OkBy w s (commits time place) = Commits w s time place
-    OkBy w s (ends n back) = Ends w s n back
-    OkBy w s frees = Frees (w.at s)
-    OkBy w s (issues d mark) = Issues database w s d mark
-    OkBy w s (keeps items mark) =
+    abbrev pub MayDo : World → ℕ → SessionAct → Type 0
+    MayDo w s (starts name) = w.at s ≡ fresh
+    MayDo w s (takes text) =
+        ((w.at s).phase ≡ runs) × ((w.at s).so_far.under ≡ None) × ((w.at s).so_far.pending ≡ [])
+        × Each IsStatement (w.at s).so_far.entries
+    MayDo w s (draws id opened) = ((w.at s).phase ≡ runs) × ((w.at s).transaction ≡ None) × (id ≡ w.next)
+    MayDo w s (looks text table) = (d : SessionTransaction) × Stands (w.at s) d × OnlyOne d text
+    MayDo w s (says line) = (d : SessionTransaction) × Stands (w.at s) d × OnlyOne d line.0
+    MayDo w s (fails text) = (d : SessionTransaction) × Stands (w.at s) d
+    MayDo w s (meets text holder) = Meets w s text holder
+    MayDo w s (commits time place) = Commits w s time place
+    MayDo w s (ends n back) = Ends w s n back
+    MayDo w s frees = Frees (w.at s)
+    MayDo w s (issues d mark) = Issues database w s d mark
+    MayDo w s (keeps items mark) =
         ((w.at s).phase ≡ runs) × (items ≡ length w.items) × (mark ≡ tx_count w.items)
-    OkBy w s lacks = ((w.at s).phase ≡ runs) × (tx_count w.items ≡ 0)
-    OkBy w s (answers entry) = Answers q (w.at s) entry
-    OkBy w s stops = ((w.at s).phase ≡ runs) × AtRest (w.at s)
+    MayDo w s lacks = ((w.at s).phase ≡ runs) × (tx_count w.items ≡ 0)
+    MayDo w s (answers entry) = Answers q (w.at s) entry
+    MayDo w s stops = ((w.at s).phase ≡ runs) × AtRest (w.at s)
 
-    abbrev pub Ok : World → Event → Type 0
-    Ok w (by s a) = OkBy w s a
-    Ok w (closes k) = (1 ≤ k) × (k ≤ max_block) × (closed w.items + k ≤ tx_count w.items)
+    abbrev pub MayHappen : World → Act → Type 0
+    MayHappen w (by s a) = MayDo w s a
+    MayHappen w (closes k) = (1 ≤ k) × (k ≤ max_block) × (closed w.items + k ≤ tx_count w.items)
 
-    -- a history in which each event pays what it owes
-    abbrev pub Good : World → List Event → Type 0
+    -- each act of a good history might happen when it did
+    abbrev pub Good : World → List Act → Type 0
     Good w [] = Unit {0}
-    Good w (e ∷ es) = Ok w e × Good (step w e) es
+    Good w (e ∷ es) = MayHappen w e × Good (step w e) es

@@ -1,4 +1,5 @@
--- Where end lines and refusals may stand: rules on one entry, by whether a transaction that BEGIN opened is open.
+-- Where end lines and refusals may stand: rules on one entry, by whether a transaction that BEGIN opened is
+-- open.
 use Rattle.std.specs.Prelude.{ℕ, ◌≡◌, ◌⊎◌, ◌+◌, ◌==◌, ◌&&◌, Bool, true, false, List, [], ◌∷◌, Option, Some, None}
 use Rattle.lg_value.specs.declared.refusal.Refusal.{Refusal}
 use Rattle.lg_value.specs.declared.refusal.Refusal.TheVariants.{E01, E13, E14, E16, E17, E19, E30}
@@ -42,8 +43,8 @@ abbrev pub NotCommitted : EndLine → Type 0
 NotCommitted (committed_at id place) = ⊥
 NotCommitted (ended_after id n) = Unit {0}
 
--- while the transaction of this id is open: a COMMIT or a ROLLBACK without a name ends it, with its id, or is answered
--- E30; nothing else ends it, and `committed` stands at a COMMIT
+-- while the transaction of this id is open: a COMMIT or a ROLLBACK without a name ends it, with its id, or is
+-- answered E30; nothing else ends it, and `committed` stands at a COMMIT
 abbrev pub EndsInside : Kind → ℕ → Reply → Option EndLine → Type 0
 EndsInside commit id r (Some end) = ended_id end ≡ id
 EndsInside commit id r None = r ≡ reply.Refused E30
@@ -122,7 +123,8 @@ pub record ControlledBy (o : Option ℕ) (n : ℕ) (k : Kind) (r : Reply) : Type
 abbrev pub IsE30 : Reply → Type 0
 IsE30 r = r ≡ reply.Refused E30
 
--- what a statement outside a transaction, which is none itself, may be answered but a refusal of transaction control
+-- what a statement outside a transaction, which is none itself, may be answered but a refusal of transaction
+-- control
 abbrev pub HasItsForm : Kind → Reply → Option EndLine → Type 0
 HasItsForm issue (reply.Digest block hash) end = Unit {0}
 HasItsForm issue (reply.Refused E19) end = Unit {0}

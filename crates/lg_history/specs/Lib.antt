@@ -1,11 +1,13 @@
 pub mod Acts
 pub mod Agree
+pub mod ByLocks
 pub mod Digests
 pub mod ExactRefusals
 pub mod Facts
 pub mod Guards
 pub mod Histories
 pub mod InPlace
+pub mod Inputs
 pub mod Journals
 pub mod Lists
 pub mod Marks

@@ -25,6 +25,11 @@ At [] i x = ⊥
 At (y ∷ ys) zero x = y ≡ x
 At (y ∷ ys) (suc i) x = At ys i x
 
+-- f n and so on, k numbers
+abbrev pub sum_from : ℕ → ℕ → (ℕ → ℕ) → ℕ
+sum_from n zero f = 0
+sum_from n (suc k) f = f n + sum_from (suc n) k f
+
 abbrev pub sum : List ℕ → ℕ
 sum [] = 0
 sum (n ∷ ns) = n + sum ns

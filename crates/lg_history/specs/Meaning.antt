@@ -15,8 +15,8 @@ pub record Meaning : Type 0 where
   pub reads : Text → Option Stmt
   -- the text of a reply
   pub writes : Reply → Text
-  -- the script of a transaction, which BEGIN opened or not: over these tables, with this id, its statements' texts
-  -- the tables after it
+  -- the script of a transaction, which BEGIN opened or not: over these tables, with this id, its statements'
+  -- texts the tables after it
   pub after : Bool → Tables → ℕ → List Text → Tables
   -- the texts of its replies
   pub replies : Bool → Tables → ℕ → List Text → List Text

@@ -47,7 +47,8 @@ module _ (q : Meaning) where
   abbrev pub ClashesAt : List JournalItem → ℕ → Bool → Text → Transaction → Type 0
   ClashesAt J n o text u = Some_of (Clashes (q.defs (after_tx q q.first n J)) o text u.opened) u.answered
 
--- A statement of session s is answered E20 and names this holder; before and after it stand these facts in its transcript.
+-- A statement of session s is answered E20 and names this holder; before and after it stand these facts in
+-- its transcript.
 pub record NamesRightly (q : Meaning) (J : List JournalItem) (setup : Option ℕ) (X : List Transcript) (s : ℕ)
     (text : Text) (holder : ℕ) (earlier later : List Fact) : Type 0 where
   -- the refused statement stands in this transaction
@@ -71,10 +72,11 @@ pub record NamesRightly (q : Meaning) (J : List JournalItem) (setup : Option ℕ
   pub clash : ClashesAt q J n opened text theirs
   -- where the holder stands in its transcript
   pub spans : Spans holder (facts_of q transcript)
-  -- marks: those before the refusal are at most the first mark of the holder's session after the holder, if there is one
+  -- marks: those before the refusal are at most the first mark of the holder's session after the holder, if
+  -- there is one
   pub marks_before : Shows (mark_of J) (λ m. Each (λ k. m ≤ k) (first_shown (mark_of J) spans.after)) earlier
-  -- and those of the holder's session before the holder are at most the mark of the end of the refused transaction, which is
-  -- the first after the refusal
+  -- and those of the holder's session before the holder are at most the mark of the end of the refused
+  -- transaction, which is the first after the refusal
   pub marks_of_holder : Shows (mark_of J)
       (λ m. Each (λ k. m ≤ k) (first_shown (mark_of J) later)) spans.before
   -- ids: the next id that the refused session has after the refusal is above the holder, if there is one

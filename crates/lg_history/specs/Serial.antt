@@ -34,18 +34,18 @@ module _ (q : Meaning) where
       after_tx (q.after opened T id (texts_of script)) n is
 
   -- each kept reply is that of the script over these tables, and the script leaves at least one start or end
-  pub record AgreesTx (T : Tables) (id : ℕ) (opened : Bool) (script : List Line) : Type 0 where
+  pub record ScriptReplays (T : Tables) (id : ℕ) (opened : Bool) (script : List Line) : Type 0 where
     pub replies : replies_of script ≡ q.replies opened T id (texts_of script)
     pub acts : 0 < q.events opened T id (texts_of script)
 
-  abbrev pub Agrees : Tables → JournalItem → Type 0
-  Agrees T (Tx id session time opened script) = AgreesTx T id opened script
-  Agrees T (Close k) = Unit {0}
+  abbrev pub ItemReplays : Tables → JournalItem → Type 0
+  ItemReplays T (Tx id session time opened script) = ScriptReplays T id opened script
+  ItemReplays T (Close k) = Unit {0}
 
   -- so it is for each transaction, over the tables so far
   abbrev pub Replays : Tables → List JournalItem → Type 0
   Replays T [] = Unit {0}
-  Replays T (i ∷ is) = Agrees T i × Replays (after_item T i) is
+  Replays T (i ∷ is) = ItemReplays T i × Replays (after_item T i) is
 
 -- each closing takes 1 to 100,000 pending entries; so many are pending before
 abbrev pub ClosesPending : ℕ → List JournalItem → Type 0

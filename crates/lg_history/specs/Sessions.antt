@@ -5,7 +5,7 @@ use Rattle.lg_history.specs.Lists.{Text}
 use Rattle.lg_history.specs.Transcripts.{Entry, Transcript}
 use Rattle.lg_history.specs.Facts.{Fact}
 use Rattle.lg_history.specs.Transactions.{End, unfixed, committed, ended, Transaction, on_some, listed}
-use Rattle.lg_history.specs.Acts.{Act, starts, takes, draws, looks, says, fails, meets, commits, ends, frees, answers, stops, shown}
+use Rattle.lg_history.specs.Acts.{SessionAct, starts, takes, draws, looks, says, fails, meets, commits, ends, frees, answers, stops, shown}
 
 pub data Phase : Type 0 where
   unborn : Phase
@@ -13,7 +13,7 @@ pub data Phase : Type 0 where
   gone : Phase
 
 -- a transaction of a session
-pub record Deal : Type 0 where
+pub record SessionTransaction : Type 0 where
   pub id : ℕ
   pub opened : Bool
   pub script : List Line
@@ -24,11 +24,15 @@ pub record Deal : Type 0 where
   pub fixed : End
 
 -- what its transcript shows of it
-abbrev pub view : Deal → Transaction
+abbrev pub view : SessionTransaction → Transaction
 view d = record { id = d.id; opened = d.opened; script = d.script; answered = d.answered; end = d.fixed }
 
+abbrev pub viewed : Option SessionTransaction → Option Transaction
+viewed None = None
+viewed (Some d) = Some (view d)
+
 -- a session and its transcript
-pub record Desk : Type 0 where
+pub record TranscriptSoFar : Type 0 where
   -- the statements that it took up so far
   pub taken : List Text
   -- the one in which it stands
@@ -37,33 +41,33 @@ pub record Desk : Type 0 where
   -- what is to be shown of it, or of the session's end
   pub pending : List Fact
 
-pub record Sess : Type 0 where
+pub record SessionState : Type 0 where
   pub phase : Phase
   pub name : Text
-  pub deal : Option Deal
+  pub transaction : Option SessionTransaction
   -- the transactions that are over, in order
-  pub done : List Deal
-  pub desk : Desk
+  pub done : List SessionTransaction
+  pub so_far : TranscriptSoFar
 
-abbrev pub fresh : Sess
+abbrev pub fresh : SessionState
 fresh =
     record {
       phase = unborn;
       name = [];
-      deal = None;
+      transaction = None;
       done = [];
-      desk = record { taken = []; under = None; entries = []; pending = [] };
+      so_far = record { taken = []; under = None; entries = []; pending = [] };
     }
 
-abbrev pub transcript_of : Sess → Transcript
-transcript_of x = record { session = x.name; entries = x.desk.entries }
+abbrev pub transcript_of : SessionState → Transcript
+transcript_of x = record { session = x.name; entries = x.so_far.entries }
 
 -- ---- what an act changes
 
-abbrev pub drawn : ℕ → Bool → Deal
+abbrev pub drawn : ℕ → Bool → SessionTransaction
 drawn id opened = record { id = id; opened = opened; script = []; answered = []; asked = []; fixed = unfixed }
 
-abbrev pub asks : Text → Bool → Deal → Deal
+abbrev pub asks : Text → Bool → SessionTransaction → SessionTransaction
 asks text table d =
     record {
       id = d.id;
@@ -74,7 +78,7 @@ asks text table d =
       fixed = d.fixed;
     }
 
-abbrev pub hears : Text → Bool → Deal → Deal
+abbrev pub hears : Text → Bool → SessionTransaction → SessionTransaction
 hears text b d =
     record {
       id = d.id;
@@ -85,7 +89,7 @@ hears text b d =
       fixed = d.fixed;
     }
 
-abbrev pub scripts : Line → Deal → Deal
+abbrev pub scripts : Line → SessionTransaction → SessionTransaction
 scripts line d =
     record {
       id = d.id;
@@ -96,7 +100,7 @@ scripts line d =
       fixed = d.fixed;
     }
 
-abbrev pub fixes : End → Deal → Deal
+abbrev pub fixes : End → SessionTransaction → SessionTransaction
 fixes e d =
     record {
       id = d.id;
@@ -107,43 +111,45 @@ fixes e d =
       fixed = e;
     }
 
-abbrev pub phase_by : Phase → Act → Phase
+abbrev pub phase_by : Phase → SessionAct → Phase
 phase_by p (starts name) = runs
 phase_by p stops = gone
 phase_by p _ = p
 
-abbrev pub name_by : Text → Act → Text
+abbrev pub name_by : Text → SessionAct → Text
 name_by n (starts name) = name
 name_by n _ = n
 
-abbrev pub deal_by : Option Deal → Act → Option Deal
-deal_by o (draws id opened) = Some (drawn id opened)
-deal_by o (looks text table) = on_some (asks text table) o
-deal_by o (says line) = on_some (scripts line) o
-deal_by o (fails text) = on_some (hears text true) o
-deal_by o (meets text holder) = on_some (hears text false) o
-deal_by o (commits time place) = on_some (fixes (committed place)) o
-deal_by o (ends n back) = on_some (fixes (ended n back)) o
-deal_by o frees = None
-deal_by o _ = o
+abbrev pub transaction_by : Option SessionTransaction → SessionAct → Option SessionTransaction
+transaction_by o (draws id opened) = Some (drawn id opened)
+transaction_by o (looks text table) = on_some (asks text table) o
+transaction_by o (says line) = on_some (scripts line) o
+transaction_by o (fails text) = on_some (hears text true) o
+transaction_by o (meets text holder) = on_some (hears text false) o
+transaction_by o (commits time place) = on_some (fixes (committed place)) o
+transaction_by o (ends n back) = on_some (fixes (ended n back)) o
+transaction_by o frees = None
+transaction_by o _ = o
 
-abbrev pub done_by : Option Deal → List Deal → Act → List Deal
+abbrev pub done_by : Option SessionTransaction → List SessionTransaction → SessionAct
+    → List SessionTransaction
 done_by o ds frees = ds ++ listed o
 done_by o ds _ = ds
 
-abbrev pub desk_by : Desk → Act → Desk
-desk_by k (takes text) =
+abbrev pub so_far_by : TranscriptSoFar → SessionAct → TranscriptSoFar
+so_far_by k (takes text) =
     record { taken = k.taken ++ text ∷ []; under = Some text; entries = k.entries; pending = k.pending }
-desk_by k (answers entry) =
+so_far_by k (answers entry) =
     record { taken = k.taken; under = None; entries = k.entries ++ entry ∷ []; pending = [] }
-desk_by k a = record { taken = k.taken; under = k.under; entries = k.entries; pending = k.pending ++ shown a }
+so_far_by k a =
+    record { taken = k.taken; under = k.under; entries = k.entries; pending = k.pending ++ shown a }
 
-abbrev pub acted : Sess → Act → Sess
+abbrev pub acted : SessionState → SessionAct → SessionState
 acted x a =
     record {
       phase = phase_by x.phase a;
       name = name_by x.name a;
-      deal = deal_by x.deal a;
-      done = done_by x.deal x.done a;
-      desk = desk_by x.desk a;
+      transaction = transaction_by x.transaction a;
+      done = done_by x.transaction x.done a;
+      so_far = so_far_by x.so_far a;
     }

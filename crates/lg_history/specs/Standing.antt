@@ -10,30 +10,31 @@ use Rattle.lg_history.specs.Meaning.{Meaning}
 use Rattle.lg_history.specs.Serial.{texts_of, replies_of, after_tx}
 use Rattle.lg_history.specs.Transactions.{End, unfixed, committed, ended}
 use Rattle.lg_history.specs.Refusals.{EndsAt, Clashes}
-use Rattle.lg_history.specs.Sessions.{Deal, Sess}
+use Rattle.lg_history.specs.Sessions.{SessionTransaction, SessionState}
 use Rattle.lg_history.specs.Guards.{stood}
 
 -- a transaction of a session, the open one or an earlier one
-abbrev pub Has : Sess → Deal → Type 0
-Has x d = (x.deal ≡ Some d) ⊎ In d x.done
+abbrev pub Has : SessionState → SessionTransaction → Type 0
+Has x d = (x.transaction ≡ Some d) ⊎ In d x.done
 
 -- the same, where earlier ones count only if they are to
-abbrev pub HasIn : Bool → Sess → Deal → Type 0
-HasIn past x d = (x.deal ≡ Some d) ⊎ ((past ≡ true) × In d x.done)
+abbrev pub HasIn : Bool → SessionState → SessionTransaction → Type 0
+HasIn past x d = (x.transaction ≡ Some d) ⊎ ((past ≡ true) × In d x.done)
 
 -- where a transaction of a session is: open, or at an end that is fixed
-abbrev pub Lies : Bool → List JournalItem → Sess → Deal → Type 0
+abbrev pub Lies : Bool → List JournalItem → SessionState → SessionTransaction → Type 0
 Lies past J x d =
-    ((d.fixed ≡ unfixed) × (x.deal ≡ Some d))
+    ((d.fixed ≡ unfixed) × (x.transaction ≡ Some d))
     ⊎ ((n : ℕ) × EndsAt d.fixed n × (n ≤ tx_count J) × HasIn past x d)
 
--- some want that counts of this transaction is such, over the definitions after its end or, until then, those of J
+-- some want that counts of this transaction is such, over the definitions after its end or, until then, those
+-- of J
 pub record StandsFor (q : Meaning) (P : Defs → Bool → Text × Bool → Type 0) (past : Bool)
-    (J : List JournalItem) (x : Sess) (id : ℕ) : Type 0 where
-  pub deal : Deal
-  pub is : deal.id ≡ id
-  pub lies : Lies past J x deal
-  pub some : Some_of (P (q.defs (stood q J deal.fixed)) deal.opened) deal.asked
+    (J : List JournalItem) (x : SessionState) (id : ℕ) : Type 0 where
+  pub transaction : SessionTransaction
+  pub is : transaction.id ≡ id
+  pub lies : Lies past J x transaction
+  pub some : Some_of (P (q.defs (stood q J transaction.fixed)) transaction.opened) transaction.asked
 
 -- what is said of a want stays where definitions change that it can't see
 pub record Firm (q : Meaning) (P : Defs → Bool → Text × Bool → Type 0) : Type 0 where
@@ -44,23 +45,24 @@ pub record Firm (q : Meaning) (P : Defs → Bool → Text × Bool → Type 0) : 
       → P (q.defs (q.after false T tx (b ∷ []))) false (b, true)
 
 -- a refused statement clashes with the transaction of this id
-abbrev pub StandsAgainst : (q : Meaning) → List JournalItem → Sess → ℕ → Bool → Text → Type 0
+abbrev pub StandsAgainst : (q : Meaning) → List JournalItem → SessionState → ℕ → Bool → Text → Type 0
 StandsAgainst q J x holder opened text = StandsFor q (λ D p y. Clashes q D opened text p y) true J x holder
 
--- a transaction of one statement has that statement alone in its script, and only its wants in a table's cell count
-abbrev pub IsAlone : Deal → Type 0
+-- a transaction of one statement has that statement alone in its script, and only its wants in a table's cell
+-- count
+abbrev pub IsAlone : SessionTransaction → Type 0
 IsAlone d =
     d.opened ≡ false
     → (d.script ≡ [])
     ⊎ ((line : Line) × (d.script ≡ line ∷ []) × In (line.0, true) d.asked
     × Each (λ x. x.1 ≡ true → x.0 ≡ line.0) d.asked)
 
-abbrev pub AloneIn : Option Deal → Type 0
+abbrev pub AloneIn : Option SessionTransaction → Type 0
 AloneIn None = Unit {0}
 AloneIn (Some d) = IsAlone d
 
 -- what an end that is fixed says of the journal
-abbrev pub SettledAt : Meaning → List JournalItem → Text → Deal → End → Type 0
+abbrev pub SettledAt : Meaning → List JournalItem → Text → SessionTransaction → End → Type 0
 SettledAt q J name d unfixed = Unit {0}
 SettledAt q J name d (committed n) =
     (m : ℕ) × (time : ℕ) × (n ≡ suc m) × (n ≤ tx_count J)
@@ -70,5 +72,5 @@ SettledAt q J name d (ended n back) =
     × (replies_of d.script ≡ q.replies d.opened (after_tx q q.first n J) d.id (texts_of d.script))
     × (back ≡ false → q.events d.opened (after_tx q q.first n J) d.id (texts_of d.script) ≡ 0)
 
-abbrev pub Settled : Meaning → List JournalItem → Sess → Type 0
-Settled q J x = (d : Deal) → Has x d → SettledAt q J x.name d d.fixed
+abbrev pub Settled : Meaning → List JournalItem → SessionState → Type 0
+Settled q J x = (d : SessionTransaction) → Has x d → SettledAt q J x.name d d.fixed

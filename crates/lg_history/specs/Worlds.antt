@@ -6,8 +6,8 @@ use Rattle.lg_model.specs.Catalog.{Tables}
 use Rattle.lg_history.specs.Meaning.{Meaning}
 use Rattle.lg_history.specs.Serial.{serial}
 use Rattle.lg_history.specs.Digests.{Digest}
-use Rattle.lg_history.specs.Acts.{Act, draws, commits, issues, Event, by, closes}
-use Rattle.lg_history.specs.Sessions.{Deal, Sess, fresh, acted}
+use Rattle.lg_history.specs.Acts.{SessionAct, draws, commits, issues, Act, by, closes}
+use Rattle.lg_history.specs.Sessions.{SessionTransaction, SessionState, fresh, acted}
 
 pub record World : Type 0 where
   pub items : List JournalItem
@@ -15,33 +15,33 @@ pub record World : Type 0 where
   pub next : ℕ
   pub issued : List Digest
   -- the sessions, by number
-  pub at : ℕ → Sess
+  pub at : ℕ → SessionState
 
--- before all events
+-- before all acts
 abbrev pub first : World
 first = record { items = []; next = 1; issued = []; at = λ s. fresh }
 
-abbrev pub put : (ℕ → Sess) → ℕ → Sess → ℕ → Sess
+abbrev pub put : (ℕ → SessionState) → ℕ → SessionState → ℕ → SessionState
 put f s x k = if k == s then x else f k
 
-abbrev pub item_of : Sess → Option Deal → ℕ → List JournalItem
+abbrev pub item_of : SessionState → Option SessionTransaction → ℕ → List JournalItem
 item_of x None time = []
 item_of x (Some d) time = Tx d.id x.name time d.opened d.script ∷ []
 
 -- what an act adds to the journal, to the ids drawn, to the digests
-abbrev pub items_by : Sess → Act → List JournalItem
-items_by x (commits time place) = item_of x x.deal time
+abbrev pub items_by : SessionState → SessionAct → List JournalItem
+items_by x (commits time place) = item_of x x.transaction time
 items_by x _ = []
 
-abbrev pub ids_by : Act → ℕ
+abbrev pub ids_by : SessionAct → ℕ
 ids_by (draws id opened) = 1
 ids_by _ = 0
 
-abbrev pub issued_by : Act → List Digest
+abbrev pub issued_by : SessionAct → List Digest
 issued_by (issues d mark) = d ∷ []
 issued_by _ = []
 
-abbrev pub step : World → Event → World
+abbrev pub step : World → Act → World
 step w (by s a) =
     record {
       items = w.items ++ items_by (w.at s) a;
@@ -51,7 +51,7 @@ step w (by s a) =
     }
 step w (closes k) = record { items = w.items ++ Close k ∷ []; next = w.next; issued = w.issued; at = w.at }
 
-abbrev pub run : World → List Event → World
+abbrev pub run : World → List Act → World
 run w [] = w
 run w (e ∷ es) = run (step w e) es
 

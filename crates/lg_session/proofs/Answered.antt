@@ -14,7 +14,7 @@ use Rattle.lg_history.specs.Transcripts.{EndLine, ended_id, Entry, statement, Ki
 use Rattle.lg_history.specs.Facts.{Fact, began, said, end_facts, answer_facts, own_facts, facts_outside, entry_facts, begun_by, open_after, open_at_end}
 use Rattle.lg_history.specs.InPlace.{EndsOutside, ComesAt, ControlledBy, HasItsForm, InPlace}
 use Rattle.lg_history.specs.Guards.{IsStatement, images_of, Answers}
-use Rattle.lg_history.specs.Sessions.{runs, Sess}
+use Rattle.lg_history.specs.Sessions.{runs, SessionState}
 use Rattle.lg_session.specs.OneSession.{is_table_statement, is_built}
 use Rattle.lg_frames.proofs.PlainRefusals.{IsPlain, IsPlainReply, effect_reply}
 
@@ -134,7 +134,7 @@ module _ (q : Meaning) (text : Text) where
   own_answer (Some s.Image) reply end own h = cc
 
   -- the reply of such a statement
-  plain_reply : (tx : ℕ) (T : Tables) (o : Option Stmt) → is_table_statement o ≡ true → IsPlainReply (by_statement false tx (start T) o).1
+  pub plain_reply : (tx : ℕ) (T : Tables) (o : Option Stmt) → is_table_statement o ≡ true → IsPlainReply (by_statement false tx (start T) o).1
   plain_reply tx T (Some (s.Create c)) own = effect_reply T tx 0 (s.Create c)
   plain_reply tx T (Some (s.Index c)) own = effect_reply T tx 0 (s.Index c)
   plain_reply tx T (Some (s.Change stmt)) own = effect_reply T tx 0 (s.Change stmt)
@@ -184,14 +184,14 @@ module _ (q : Meaning) (text : Text) where
 
   -- ---- its entry
 
-  pub entry_guard : (x : Sess) (reply : Reply) (end : Option EndLine) (shown : List Fact) → x.phase ≡ runs → x.desk.under ≡ Some text → x.desk.pending ≡ shown → open_at_end None x.desk.entries ≡ None → Each IsStatement x.desk.entries
+  pub entry_guard : (x : SessionState) (reply : Reply) (end : Option EndLine) (shown : List Fact) → x.phase ≡ runs → x.so_far.under ≡ Some text → x.so_far.pending ≡ shown → open_at_end None x.so_far.entries ≡ None → Each IsStatement x.so_far.entries
       → Answer q text (kind_of (q.reads text)) reply end shown → Answers q x (statement text reply end)
   entry_guard x reply end shown running under pending none all a = record {
     running = running;
     none_ended = all;
     answered = under;
     shows = pending ∙ a.facts ∙ ap (λ (o : Option ℕ). entry_facts q o (statement text reply end)) (sym none);
-    in_place = subst (λ (o : Option ℕ). InPlace q o (images_of 0 x.desk.entries) (statement text reply end)) (sym none) (record { open_ended = tt; ends = a.ends; controlled = a.controlled (images_of 0 x.desk.entries); else_e30 = a.form });
+    in_place = subst (λ (o : Option ℕ). InPlace q o (images_of 0 x.so_far.entries) (statement text reply end)) (sym none) (record { open_ended = tt; ends = a.ends; controlled = a.controlled (images_of 0 x.so_far.entries); else_e30 = a.form });
   }
 
 -- ---- entries

@@ -3,7 +3,7 @@ use Rattle.std.proofs.Common.{◌≡◌, ◌≢◌, ◌<◌, inl, inr, ℕ, zero
 use Rattle.std.proofs.lemmas.Bool.{ne_eqb}
 use Rattle.std.specs.Prelude.{if◌then◌else◌}
 use Rattle.std.specs.List.{AllByRecursion}
-use Rattle.lg_types.specs.declared.event.Event as row
+use Rattle.lg_types.specs.declared.event.Event.{Event}
 use Rattle.lg_types.specs.declared.journal.JournalItem.{JournalItem}
 use Rattle.lg_types.specs.declared.journal.JournalItem.TheVariants.{Tx, Close}
 use Rattle.lg_types.specs.declared.reply.Reply.{Reply}
@@ -15,14 +15,16 @@ use Rattle.lg_model.specs.Replies.{reply_text}
 use Rattle.lg_model.specs.Script.{Reading, Step, by_statement, start, text_step, script_from, script}
 use Rattle.lg_model.specs.SystemTables.{first_tables}
 use Rattle.lg_history.specs.Lists.{Text, Each, At}
+use Rattle.lg_history.specs.Inputs.{InputSession}
+use Rattle.lg_history.specs.Digests.{Digest}
 use Rattle.lg_history.specs.Meaning.{Meaning}
 use Rattle.lg_history.specs.Real.{Hashing, IsReal}
 use Rattle.lg_history.specs.Serial.{texts_of, serial}
 use Rattle.lg_history.specs.Transcripts.{EndLine, committed_at, ended_after, Entry, statement, Transcript, kind_of}
 use Rattle.lg_history.specs.Facts.{Fact, began, said, placed, passed, over, open_at_end}
 use Rattle.lg_history.specs.Transactions.{committed, ended}
-use Rattle.lg_history.specs.Acts.{starts, takes, draws, says, commits, ends, frees, answers, Event, by, closes}
-use Rattle.lg_history.specs.Sessions.{runs, Deal, drawn, scripts, fixes, Sess, fresh}
+use Rattle.lg_history.specs.Acts.{starts, takes, draws, says, commits, ends, frees, answers, Act, by, closes}
+use Rattle.lg_history.specs.Sessions.{runs, SessionTransaction, drawn, scripts, fixes, SessionState, fresh}
 use Rattle.lg_history.specs.Worlds.{World, first, put, step, run}
 use Rattle.lg_history.specs.Guards.{IsStatement, NoTable, Good}
 use Rattle.lg_history.specs.Histories.{SessionsBelow, AreOf, IsWhole}
@@ -43,76 +45,76 @@ regrouped : (xs : List Text) (y : Text) (ys : List Text) → (xs ++ y ∷ []) ++
 regrouped [] y ys = refl
 regrouped (x ∷ xs) y ys = ap (λ (zs : List Text). x ∷ zs) (regrouped xs y ys)
 
-some_length : (es : List row.Event) (x : row.Event) (xs : List row.Event) → es ≡ x ∷ xs → 0 < length es
+some_length : (es : List Event) (x : Event) (xs : List Event) → es ≡ x ∷ xs → 0 < length es
 some_length [] x xs e = cc
 some_length (y ∷ ys) x xs e = omega arith
 
 -- ---- histories of session 0
 
-run_join : (w : World) (es fs : List Event) → run w (es ++ fs) ≡ run (run w es) fs
+run_join : (w : World) (es fs : List Act) → run w (es ++ fs) ≡ run (run w es) fs
 run_join w [] fs = refl
 run_join w (e ∷ es) fs = run_join (step w e) es fs
 
-good_join : (q : Meaning) (database : Text) (w : World) (es fs : List Event) → Good q database w es → Good q database (run w es) fs → Good q database w (es ++ fs)
+good_join : (q : Meaning) (database : Text) (w : World) (es fs : List Act) → Good q database w es → Good q database (run w es) fs → Good q database w (es ++ fs)
 good_join q database w [] fs g h = h
 good_join q database w (e ∷ es) fs g h = (g.0, good_join q database (step w e) es fs g.1 h)
 
-below_join : (k : ℕ) (es fs : List Event) → SessionsBelow k es → SessionsBelow k fs → SessionsBelow k (es ++ fs)
+pub below_join : (k : ℕ) (es fs : List Act) → SessionsBelow k es → SessionsBelow k fs → SessionsBelow k (es ++ fs)
 below_join k [] fs h l = l
 below_join k (by s a ∷ es) fs h l = (h.0, below_join k es fs h.1 l)
 below_join k (closes n ∷ es) fs h l = below_join k es fs h l
 
 -- no other session has a transaction
-abbrev Alone : (ℕ → Sess) → Type 0
-Alone f = (t : ℕ) → t ≢ 0 → (f t).deal ≡ None
+abbrev Alone : (ℕ → SessionState) → Type 0
+Alone f = (t : ℕ) → t ≢ 0 → (f t).transaction ≡ None
 
-put_alone : (f : ℕ → Sess) (s : ℕ) (x : Sess) → s < 1 → Alone f → Alone (put f s x)
+put_alone : (f : ℕ → SessionState) (s : ℕ) (x : SessionState) → s < 1 → Alone f → Alone (put f s x)
 put_alone f s x lt h t ne = rw (ne_eqb t s (λ e. ne (omega (arith, e, lt)))) (h t ne)
 
-run_alone : (w : World) (es : List Event) → SessionsBelow 1 es → Alone w.at → Alone (run w es).at
+run_alone : (w : World) (es : List Act) → SessionsBelow 1 es → Alone w.at → Alone (run w es).at
 run_alone w [] below h = h
 run_alone w (by s a ∷ es) below h = run_alone (step w (by s a)) es below.1 (put_alone w.at s _ below.0 h)
 run_alone w (closes k ∷ es) below h = run_alone (step w (closes k)) es below h
 
-no_table : (q : Meaning) (w : World) → Alone w.at → (t : ℕ) → t ≢ 0 → NoTable q (w.at t).deal
+no_table : (q : Meaning) (w : World) → Alone w.at → (t : ℕ) → t ≢ 0 → NoTable q (w.at t).transaction
 no_table q w h t ne = subst (NoTable q) (sym (h t ne)) tt
 
 -- ---- what happens at a statement
 
 -- up to its end
-abbrev own_begins : ℕ → Text → Reply → List Event
+abbrev pub own_begins : ℕ → Text → Reply → List Act
 own_begins id text reply = by 0 (takes text) ∷ by 0 (draws id false) ∷ by 0 (says (text, reply_text reply)) ∷ []
 
 -- a transaction of its own, which is committed where it left an event
-abbrev own_ends : ℕ → Text → Reply → List row.Event → Run → List Event
+abbrev pub own_ends : ℕ → Text → Reply → List Event → Run → List Act
 own_ends time text reply [] x = by 0 (ends (journals.tx_count x.items) false) ∷ by 0 frees ∷ by 0 (answers (statement text reply (Some (ended_after x.next (journals.tx_count x.items))))) ∷ []
 own_ends time text reply (e ∷ es) x = by 0 (commits time (journals.tx_count x.items + 1)) ∷ by 0 frees ∷ by 0 (answers (statement text reply (Some (committed_at x.next (journals.tx_count x.items + 1))))) ∷ []
 
-abbrev own_events : ℕ → Text → Reply → List row.Event → Run → List Event
-own_events time text reply es x = own_begins x.next text reply ++ own_ends time text reply es x
+abbrev pub own_acts : ℕ → Text → Reply → List Event → Run → List Act
+own_acts time text reply es x = own_begins x.next text reply ++ own_ends time text reply es x
 
-abbrev other_events : Text → Reply → List Event
-other_events text reply = by 0 (takes text) ∷ by 0 (answers (statement text reply None)) ∷ []
+abbrev pub other_acts : Text → Reply → List Act
+other_acts text reply = by 0 (takes text) ∷ by 0 (answers (statement text reply None)) ∷ []
 
--- the deal of such a transaction
-abbrev said_one : ℕ → Text → Reply → Deal
+-- such a transaction
+abbrev said_one : ℕ → Text → Reply → SessionTransaction
 said_one id text reply = scripts (text, reply_text reply) (drawn id false)
 
-own_below : (time : ℕ) (text : Text) (reply : Reply) (es : List row.Event) (x : Run) → SessionsBelow 1 (own_events time text reply es x)
+own_below : (time : ℕ) (text : Text) (reply : Reply) (es : List Event) (x : Run) → SessionsBelow 1 (own_acts time text reply es x)
 own_below time text reply [] x = (omega arith, (omega arith, (omega arith, (omega arith, (omega arith, (omega arith, tt))))))
 own_below time text reply (e ∷ es) x = (omega arith, (omega arith, (omega arith, (omega arith, (omega arith, (omega arith, tt))))))
 
 module _ (q : Meaning) (database : Text) (reads : Reading) (h : Hashing) (real : IsReal reads h q) (session : Text) where
-  abbrev answer_of : Run → Text → Step
+  abbrev pub answer_of : Run → Text → Step
   answer_of x text = by_statement false x.next (start x.tables) (reads text)
 
-  abbrev statement_events : ℕ → Text → Run → List Event
-  statement_events time text x =
-      if is_table_statement (reads text) then own_events time text (answer_of x text).1 (all_events x.next (answer_of x text).0.tables) x else other_events text (answer_of x text).1
+  abbrev pub statement_acts : ℕ → Text → Run → List Act
+  statement_acts time text x =
+      if is_table_statement (reads text) then own_acts time text (answer_of x text).1 (all_events x.next (answer_of x text).0.tables) x else other_acts text (answer_of x text).1
 
-  abbrev events_from : Run → List (ℕ × Text) → List Event
-  events_from x [] = []
-  events_from x (t ∷ ts) = statement_events t.0 t.1 x ++ events_from (stepped session t.0 t.1 (reads t.1) x) ts
+  abbrev pub acts_from : Run → List (ℕ × Text) → List Act
+  acts_from x [] = []
+  acts_from x (t ∷ ts) = statement_acts t.0 t.1 x ++ acts_from (stepped session t.0 t.1 (reads t.1) x) ts
 
   -- ---- the tables
 
@@ -138,18 +140,18 @@ module _ (q : Meaning) (database : Text) (reads : Reading) (h : Hashing) (real :
 
   -- ---- the world between two statements
 
-  abbrev resting : List Entry → List Text → List Deal → Sess
-  resting entries taken done = record { phase = runs; name = session; deal = None; done = done; desk = record { taken = taken; under = None; entries = entries; pending = [] } }
+  abbrev resting : List Entry → List Text → List SessionTransaction → SessionState
+  resting entries taken done = record { phase = runs; name = session; transaction = None; done = done; so_far = record { taken = taken; under = None; entries = entries; pending = [] } }
 
-  abbrev world : List JournalItem → ℕ → (ℕ → Sess) → List Entry → List Text → List Deal → World
+  abbrev world : List JournalItem → ℕ → (ℕ → SessionState) → List Entry → List Text → List SessionTransaction → World
   world J n f entries taken done = record { items = J; next = n; issued = []; at = put f 0 (resting entries taken done) }
 
   -- session 0 was answered as in the run, and no other has a transaction
   record After (w : World) (x : Run) (taken : List Text) : Type 0 where
     journal : List JournalItem
     number : ℕ
-    others : ℕ → Sess
-    done : List Deal
+    others : ℕ → SessionState
+    done : List SessionTransaction
     items : journal ≡ x.items
     next : number ≡ x.next
     alone : Alone others
@@ -157,12 +159,12 @@ module _ (q : Meaning) (database : Text) (reads : Reading) (h : Hashing) (real :
     none_open : open_at_end None x.entries ≡ None
     all : Each IsStatement x.entries
 
-  abbrev Reaches : World → List Event → Run → List Text → Type 0
+  abbrev Reaches : World → List Act → Run → List Text → Type 0
   Reaches w es x taken = Good q database w es × After (run w es) x taken
 
   -- ---- a statement
 
-  module _ (time : ℕ) (text : Text) (x : Run) (j : Journaled reads x) (J : List JournalItem) (n : ℕ) (f : ℕ → Sess) (taken : List Text) (done : List Deal)
+  module _ (time : ℕ) (text : Text) (x : Run) (j : Journaled reads x) (J : List JournalItem) (n : ℕ) (f : ℕ → SessionState) (taken : List Text) (done : List SessionTransaction)
       (items : J ≡ x.items) (next : n ≡ x.next) (alone : Alone f) (none : open_at_end None x.entries ≡ None) (all : Each IsStatement x.entries) where
     abbrev reply : Reply
     reply = (answer_of x text).1
@@ -195,11 +197,11 @@ module _ (q : Meaning) (database : Text) (reads : Reading) (h : Hashing) (real :
     event_count : q.events false (serial q q.first there) x.next (text ∷ []) ≡ length (all_events x.next after)
     event_count = ap (λ (T : Tables). q.events false T x.next (text ∷ [])) (tables_are x j there unmoved) ∙ its_events x text
 
-    commits_well : (e : row.Event) (es : List row.Event) → all_events x.next after ≡ e ∷ es → is_table_statement (reads text) ≡ true
-        → Reaches before (own_events time text reply (e ∷ es) x) (transacted session time text after reply (e ∷ es) x) (taken ++ text ∷ [])
+    commits_well : (e : Event) (es : List Event) → all_events x.next after ≡ e ∷ es → is_table_statement (reads text) ≡ true
+        → Reaches before (own_acts time text reply (e ∷ es) x) (transacted session time text after reply (e ∷ es) x) (taken ++ text ∷ [])
     commits_well e es some own =
         let place : ℕ = journals.tx_count x.items + 1 in
-        let d : Deal = said_one x.next text reply in
+        let d : SessionTransaction = said_one x.next text reply in
         let a = statement_alone q text x.next x.tables (reads text) (committed_at x.next place) own in
         let i : JournalItem = Tx x.next session time false ((text, reply_text reply) ∷ []) in (
           (
@@ -229,8 +231,8 @@ module _ (q : Meaning) (database : Text) (reads : Reading) (h : Hashing) (real :
             ),
           ),
           record {
-            journal = (run before (own_events time text reply (e ∷ es) x)).items;
-            number = (run before (own_events time text reply (e ∷ es) x)).next;
+            journal = (run before (own_acts time text reply (e ∷ es) x)).items;
+            number = (run before (own_acts time text reply (e ∷ es) x)).next;
             others = (run before (own_begins x.next text reply ++ by 0 (commits time place) ∷ by 0 frees ∷ [])).at;
             done = done ++ fixes (committed place) d ∷ [];
             items = nothing ((there ++ i ∷ []) ++ []) (x.items ++ i ∷ []) (nothing (there ++ i ∷ []) (x.items ++ i ∷ []) (ap (λ (K : List JournalItem). K ++ i ∷ []) unmoved));
@@ -242,10 +244,10 @@ module _ (q : Meaning) (database : Text) (reads : Reading) (h : Hashing) (real :
           },
         )
 
-    ends_well : all_events x.next after ≡ [] → is_table_statement (reads text) ≡ true → Reaches before (own_events time text reply [] x) (transacted session time text after reply [] x) (taken ++ text ∷ [])
+    ends_well : all_events x.next after ≡ [] → is_table_statement (reads text) ≡ true → Reaches before (own_acts time text reply [] x) (transacted session time text after reply [] x) (taken ++ text ∷ [])
     ends_well quiet own =
         let m : ℕ = journals.tx_count x.items in
-        let d : Deal = said_one x.next text reply in
+        let d : SessionTransaction = said_one x.next text reply in
         let a = statement_alone q text x.next x.tables (reads text) (ended_after x.next m) own in (
           (
             (refl, refl, refl, all),
@@ -258,7 +260,7 @@ module _ (q : Meaning) (database : Text) (reads : Reading) (h : Hashing) (real :
                     mine = d;
                     stands = record { runs = refl; has = refl; unfixed = refl };
                     replies = replies;
-                    quiet = λ back. event_count ∙ ap (λ (es : List row.Event). length es) quiet;
+                    quiet = λ back. event_count ∙ ap (λ (es : List Event). length es) quiet;
                     last = ap (λ (K : List JournalItem). journals.tx_count K) (sym unmoved);
                   },
                   (
@@ -273,8 +275,8 @@ module _ (q : Meaning) (database : Text) (reads : Reading) (h : Hashing) (real :
             ),
           ),
           record {
-            journal = (run before (own_events time text reply [] x)).items;
-            number = (run before (own_events time text reply [] x)).next;
+            journal = (run before (own_acts time text reply [] x)).items;
+            number = (run before (own_acts time text reply [] x)).next;
             others = (run before (own_begins x.next text reply ++ by 0 (ends m false) ∷ by 0 frees ∷ [])).at;
             done = done ++ fixes (ended m false) d ∷ [];
             items = nothing ((there ++ []) ++ []) x.items (nothing (there ++ []) x.items (nothing there x.items unmoved));
@@ -286,13 +288,13 @@ module _ (q : Meaning) (database : Text) (reads : Reading) (h : Hashing) (real :
           },
         )
 
-    is_answered : is_table_statement (reads text) ≡ false → is_built (reads text) ≡ true → Reaches before (other_events text reply) (answered text reply x) (taken ++ text ∷ [])
+    is_answered : is_table_statement (reads text) ≡ false → is_built (reads text) ≡ true → Reaches before (other_acts text reply) (answered text reply x) (taken ++ text ∷ [])
     is_answered other built =
         let a = statement_refused q text x.next x.tables (reads text) other built in (
           ((refl, refl, refl, all), (entry_guard q text _ reply None [] refl refl refl none all (real_answer None [] a), tt)),
           record {
-            journal = (run before (other_events text reply)).items;
-            number = (run before (other_events text reply)).next;
+            journal = (run before (other_acts text reply)).items;
+            number = (run before (other_acts text reply)).next;
             others = (run before (by 0 (takes text) ∷ [])).at;
             done = done;
             items = nothing (J ++ []) x.items (nothing J x.items items);
@@ -304,37 +306,37 @@ module _ (q : Meaning) (database : Text) (reads : Reading) (h : Hashing) (real :
           },
         )
 
-    own_well : (es : List row.Event) → all_events x.next after ≡ es → is_table_statement (reads text) ≡ true → Reaches before (own_events time text reply es x) (transacted session time text after reply es x) (taken ++ text ∷ [])
+    own_well : (es : List Event) → all_events x.next after ≡ es → is_table_statement (reads text) ≡ true → Reaches before (own_acts time text reply es x) (transacted session time text after reply es x) (taken ++ text ∷ [])
     own_well [] e own = ends_well e own
     own_well (y ∷ ys) e own = commits_well y ys e own
 
-    goes_well : is_built (reads text) ≡ true → Reaches before (statement_events time text x) (stepped session time text (reads text) x) (taken ++ text ∷ [])
+    goes_well : is_built (reads text) ≡ true → Reaches before (statement_acts time text x) (stepped session time text (reads text) x) (taken ++ text ∷ [])
     unfolding stepped
     goes_well built = here (is_table_statement (reads text)) refl
       where
         here : (b : Bool) → is_table_statement (reads text) ≡ b
-            → Reaches before (if b then own_events time text reply (all_events x.next after) x else other_events text reply) (if b then transacts session time text (answer_of x text) x else answered text reply x) (taken ++ text ∷ [])
+            → Reaches before (if b then own_acts time text reply (all_events x.next after) x else other_acts text reply) (if b then transacts session time text (answer_of x text) x else answered text reply x) (taken ++ text ∷ [])
         here true own = own_well (all_events x.next after) refl own
         here false other = is_answered other built
 
-  statement_below : (time : ℕ) (text : Text) (x : Run) → SessionsBelow 1 (statement_events time text x)
+  statement_below : (time : ℕ) (text : Text) (x : Run) → SessionsBelow 1 (statement_acts time text x)
   statement_below time text x = here (is_table_statement (reads text))
     where
-      here : (b : Bool) → SessionsBelow 1 (if b then own_events time text (answer_of x text).1 (all_events x.next (answer_of x text).0.tables) x else other_events text (answer_of x text).1)
+      here : (b : Bool) → SessionsBelow 1 (if b then own_acts time text (answer_of x text).1 (all_events x.next (answer_of x text).0.tables) x else other_acts text (answer_of x text).1)
       here true = own_below time text (answer_of x text).1 (all_events x.next (answer_of x text).0.tables) x
       here false = (omega arith, (omega arith, tt))
 
   statement_reaches : (time : ℕ) (text : Text) (x : Run) (w : World) (taken : List Text) → Journaled reads x → is_built (reads text) ≡ true → After w x taken
-      → Reaches w (statement_events time text x) (stepped session time text (reads text) x) (taken ++ text ∷ [])
+      → Reaches w (statement_acts time text x) (stepped session time text (reads text) x) (taken ++ text ∷ [])
   statement_reaches time text x w taken j built a =
-      subst (λ (v : World). Reaches v (statement_events time text x) (stepped session time text (reads text) x) (taken ++ text ∷ [])) (sym a.is)
+      subst (λ (v : World). Reaches v (statement_acts time text x) (stepped session time text (reads text) x) (taken ++ text ∷ [])) (sym a.is)
       (goes_well time text x j a.journal a.number a.others taken a.done a.items a.next a.alone a.none_open a.all built)
 
   -- ---- all statements
 
   module _ (has : GivesColumns reads) where
     run_reaches : (x : Run) (statements : List (ℕ × Text)) (w : World) (taken : List Text) → Steady x → Ordered x → Journaled reads x → AllByRecursion (λ t. is_built (reads t.1) ≡ true) statements → After w x taken
-        → Reaches w (events_from x statements) (run_from reads session x statements) (taken ++ map (λ t. t.1) statements)
+        → Reaches w (acts_from x statements) (run_from reads session x statements) (taken ++ map (λ t. t.1) statements)
     unfolding run_from
     run_reaches x [] w taken s o j built a = (tt, subst (After w x) (sym (no_texts taken)) a)
       where
@@ -342,9 +344,9 @@ module _ (q : Meaning) (database : Text) (reads : Reading) (h : Hashing) (real :
         no_texts [] = refl
         no_texts (t ∷ ts) = ap (λ (us : List Text). t ∷ us) (no_texts ts)
     run_reaches x (t ∷ ts) w taken s o j built a =
-        let es : List Event = statement_events t.0 t.1 x in
+        let es : List Act = statement_acts t.0 t.1 x in
         let y : Run = stepped session t.0 t.1 (reads t.1) x in
-        let fs : List Event = events_from y ts in
+        let fs : List Act = acts_from y ts in
         let z : Run = run_from reads session y ts in
         let one = statement_reaches t.0 t.1 x w taken j built.0 a in
         let rest = run_reaches y ts (run w es) (taken ++ t.1 ∷ []) (steady_step reads session t.0 t.1 x s) (ordered_step reads session t.0 t.1 x o) (journaled_step reads session t.0 t.1 has x s o j) built.1 one.1 in (
@@ -353,40 +355,56 @@ module _ (q : Meaning) (database : Text) (reads : Reading) (h : Hashing) (real :
               (subst (After (run (run w es) fs) z) (regrouped taken t.1 (map (λ u. u.1) ts)) rest.1),
         )
 
-    run_below : (x : Run) (statements : List (ℕ × Text)) → SessionsBelow 1 (events_from x statements)
+    run_below : (x : Run) (statements : List (ℕ × Text)) → SessionsBelow 1 (acts_from x statements)
     run_below x [] = tt
-    run_below x (t ∷ ts) = below_join 1 (statement_events t.0 t.1 x) (events_from (stepped session t.0 t.1 (reads t.1) x) ts) (statement_below t.0 t.1 x) (run_below (stepped session t.0 t.1 (reads t.1) x) ts)
+    run_below x (t ∷ ts) = below_join 1 (statement_acts t.0 t.1 x) (acts_from (stepped session t.0 t.1 (reads t.1) x) ts) (statement_below t.0 t.1 x) (run_below (stepped session t.0 t.1 (reads t.1) x) ts)
 
     first_world : After (step first (by 0 (starts session))) first_run []
     first_world = record { journal = []; number = 1; others = λ s. fresh; done = []; items = refl; next = refl; alone = λ t ne. refl; is = refl; none_open = refl; all = tt }
 
-    abbrev history : List (ℕ × Text) → List Event
-    history statements = by 0 (starts session) ∷ events_from first_run statements
+    abbrev pub history : List (ℕ × Text) → List Act
+    history statements = by 0 (starts session) ∷ acts_from first_run statements
 
-    pub one_agrees : (statements : List (ℕ × Text)) → AllByRecursion (λ t. is_built (reads t.1) ≡ true) statements
-        → Agree q database (map (λ t. t.1) statements ∷ []) None (transcript_of session (run_of reads session statements) ∷ []) (run_of reads session statements).items []
-    one_agrees statements built =
+    abbrev pub input : List (ℕ × Text) → List InputSession
+    input statements = record { name = session; texts = map (λ t. t.1) statements } ∷ []
+
+    abbrev pub transcripts : List (ℕ × Text) → List Transcript
+    transcripts statements = transcript_of session (run_of reads session statements) ∷ []
+
+    -- the run is this history
+    pub record Plays (statements : List (ℕ × Text)) : Type 0 where
+      pub good : Good q database first (history statements)
+      pub whole : IsWhole (input statements) None (transcripts statements) (history statements)
+      pub items : (run first (history statements)).items ≡ (run_of reads session statements).items
+      pub issued : (run first (history statements)).issued ≡ []
+
+    pub plays : (statements : List (ℕ × Text)) → AllByRecursion (λ t. is_built (reads t.1) ≡ true) statements → Plays statements
+    plays statements built =
         let x : Run = run_of reads session statements in
-        let texts : List Text = map (λ t. t.1) statements in
-        let input : List (List Text) = texts ∷ [] in
-        let X : List Transcript = transcript_of session x ∷ [] in
         let reached = run_reaches first_run statements (step first (by 0 (starts session))) [] first_steady first_ordered (first_journaled reads) built first_world in
-        let a : After (run first (history statements)) x texts = reached.1 in
-        let good : Good q database first (history statements) = (refl, reached.0) in
-        let whole : IsWhole input None X (history statements) = record {
-          sessions = subst (λ (w : World). AreOf w.at 0 input X) (sym a.is) (refl, refl, record { idle = refl; shown = refl; none_open = a.none_open; free = refl }, tt);
-          all = (omega arith, run_below first_run statements);
-          names_differ = one_name (transcript_of session x);
-          setup_ran = tt;
-        } in
-        subst (λ (J : List JournalItem). Agree q database input None X J []) (ap (λ (w : World). w.items) a.is ∙ a.items)
-        (subst (λ (w : World). Agree q database input None X (run first (history statements)).items w.issued) a.is
-        (agrees q database (history statements) good input None X whole))
+        let a : After (run first (history statements)) x (map (λ t. t.1) statements) = reached.1 in record {
+          good = (refl, reached.0);
+          whole = record {
+            sessions = subst (λ (w : World). AreOf w.at 0 (input statements) (transcripts statements)) (sym a.is) (record { name = refl; texts = refl }, refl, record { idle = refl; shown = refl; none_open = a.none_open; free = refl }, tt);
+            all = (omega arith, run_below first_run statements);
+            names_differ = one_name (transcript_of session x);
+            setup_ran = tt;
+          };
+          items = ap (λ (w : World). w.items) a.is ∙ a.items;
+          issued = ap (λ (w : World). w.issued) a.is;
+        }
       where
         one_name : (z : Transcript) (i k : ℕ) (u v : Transcript) → At (z ∷ []) i u → At (z ∷ []) k v → i ≢ k → u.session ≢ v.session
         one_name z zero zero u v at bt ne = absurd (ne refl)
         one_name z (suc i) k u v at bt ne = absurd at
         one_name z zero (suc k) u v at bt ne = absurd bt
+
+    pub one_agrees : (statements : List (ℕ × Text)) → AllByRecursion (λ t. is_built (reads t.1) ≡ true) statements
+        → Agree q database (input statements) None (transcripts statements) (run_of reads session statements).items []
+    one_agrees statements built = let p = plays statements built in
+        subst (λ (J : List JournalItem). Agree q database (input statements) None (transcripts statements) J []) p.items
+        (subst (λ (G : List Digest). Agree q database (input statements) None (transcripts statements) (run first (history statements)).items G) p.issued
+        (agrees q database (history statements) p.good (input statements) None (transcripts statements) p.whole))
 
 pub none_agrees : (q : Meaning) (database : Text) → Agree q database [] None [] [] []
 none_agrees q database =

@@ -3,4 +3,4 @@
 
 mod laws;
 
-pub use laws::{one_session_agrees, one_session_is_legal};
+pub use laws::{one_session_agrees, one_session_is_legal, one_session_keeps_step_order};

@@ -36,11 +36,7 @@ unbuilt statements = unbuilt_from (session_of statements) statements
 unfoldable pub ran : List ℕ → List Statement → Run
 ran times statements = run_of statement_of (session_of statements) (zip times (texts_of statements))
 
--- of an input of one session: its statements and its transcript, or none where there is no line
-abbrev pub input_of : List Statement → List (List (List ℕ))
-input_of [] = []
-input_of (s ∷ ss) = texts_of (s ∷ ss) ∷ []
-
+-- of an input of one session its transcript, or none where there is no line
 abbrev pub transcripts_of : List Statement → Run → List Transcript
 transcripts_of [] x = []
 transcripts_of (s ∷ ss) x = transcript_of s.session x ∷ []
