@@ -1,1 +1,2 @@
+pub mod CellsImage
 pub mod Serves

@@ -1,12 +1,43 @@
 //! Laws of the server.
 
-ghost use Rattle.std.specs.Prelude.{ℕ, List};
+ghost use Rattle.std.specs.Prelude.{ℕ, ◌≡◌, List};
+ghost use Rattle.lg_types.specs.declared.journal.JournalItem.{JournalItem};
 ghost use Rattle.lg_model.specs.Script.{Reading};
-ghost use Rattle.lg_standing.specs.Server.{Server};
+ghost use Rattle.lg_ledger.specs.Ledger.{block_hash};
+ghost use Rattle.lg_standing.specs.StandTogether.{History};
+ghost use Rattle.lg_image.specs.Image.{image_of};
+ghost use Rattle.lg_image.specs.ImageBytes.{image_bytes};
+ghost use Rattle.lg_standing.specs.Cells.{Cell};
+ghost use Rattle.lg_standing.specs.Seats.{SeatState};
+ghost use Rattle.lg_standing.specs.Server.{Server, journal_image};
+ghost use Rattle.lg_standing.specs.StandTogether.{Stands};
+ghost use Rattle.lg_server.specs.CellsImage.{cells_image};
 ghost use Rattle.lg_server.specs.Serves.{Serves};
 
-/// For every grammar and every hash there is a server whose blocks are hashed as the ledger of its journal says, whose
-/// leaves are the bytes of events, and whose images are the bytes of its journal's image.
+/// For every grammar and every hash there is a server that reads and hashes so.
 pub fn there_is_such_a_server()
     ensures { (h : List ℕ → List ℕ) (reads : Reading) → (v : Server) × Serves h reads v }
+{}
+
+/// Its blocks are hashed as the ledger of its journal says, and the images that it keeps have the bytes of
+/// its journal's image.
+pub fn such_a_server_hashes_and_keeps_so()
+    ensures blocks { (h : List ℕ → List ℕ) (reads : Reading) (v : Server) → Serves h reads v
+        → (J : List JournalItem) (b : ℕ) → v.hashing.hash J b ≡ block_hash h reads J b }
+    ensures images { (h : List ℕ → List ℕ) (reads : Reading) (v : Server) → Serves h reads v
+        → (database : List ℕ) (J : List JournalItem)
+        → journal_image v database J ≡ image_bytes (image_of h reads database J) }
+{}
+
+/// The image of what lies in cells that stand together with seats, without what isn't committed, is that
+/// of the journal in their ledger's cell; and the image that the server keeps has its bytes.
+pub fn cells_have_the_image_of_their_journal()
+    ensures image { (v : Server) (history : History) (cells : List Cell) (seats : List SeatState)
+        → (st : Stands v history cells seats)
+        → cells_image cells st.catalog st.ledger
+        ≡ image_of v.hash v.reads st.ledger.database st.ledger.items }
+    ensures bytes { (v : Server) (history : History) (cells : List Cell) (seats : List SeatState)
+        → (st : Stands v history cells seats)
+        → journal_image v st.ledger.database st.ledger.items
+        ≡ image_bytes (cells_image cells st.catalog st.ledger) }
 {}

@@ -3,4 +3,7 @@
 
 mod laws;
 
-pub use laws::there_is_such_a_server;
+pub use laws::{
+    cells_have_the_image_of_their_journal, such_a_server_hashes_and_keeps_so,
+    there_is_such_a_server,
+};

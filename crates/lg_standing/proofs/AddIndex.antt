@@ -27,7 +27,7 @@ use Rattle.lg_standing.specs.Moves.{visiting, at_place, sits}
 use Rattle.lg_standing.specs.TablesAreSerial.{HasAdded, IsAdding, IsSortedProjection, def_at, ordinals_of, HasIndexes, IsCarried}
 use Rattle.lg_standing.specs.RowsAgree.{IsOpenedAt}
 use Rattle.lg_standing.specs.LocksCover.{IsAfter}
-use Rattle.lg_standing.specs.StandTogether.{StandTogether}
+use Rattle.lg_standing.specs.StandTogether.{History, Stands}
 use Rattle.lg_standing.proofs.AfterSet.{set_here, set_else}
 use Rattle.lg_standing.proofs.SeatsAfter.{open_here, each_open}
 use Rattle.lg_standing.proofs.CellsAfter.{table_changed}
@@ -40,7 +40,7 @@ use Rattle.lg_standing.proofs.SameOne.{IsSame, same_end}
 use Rattle.lg_standing.proofs.Takes.{tables_now, Takes, covered, agree, rows, scripts, trees, same_rows, looked_stays, stayed, definitions_after, creator_after, indexes_after}
 use Rattle.lg_standing.proofs.TakesInTable.{IsAtPlace, table_place, cell_at}
 use Rattle.lg_standing.proofs.OfCells.{Creates, HasLooked, HoldsInCatalog, IsGotAt, IsIndexed, StandsAs, TableStands, committed, in_journal, looked_now, table_there}
-use Rattle.lg_standing.specs.Desks.{FitsWith, shown_with}
+use Rattle.lg_standing.specs.TranscriptsSoFar.{FitsWith, shown_with}
 use Rattle.lg_standing.specs.Contents.{HasAlone, contents, table_found}
 use Rattle.lg_standing.proofs.VisitActs.{stage_act}
 use Rattle.lg_model.specs.Holds.{holds_after}
@@ -54,7 +54,7 @@ new_sorted : (cols : List ColumnDef) (vs : List Version) (is : List IndexDef) �
 new_sorted cols vs [] = tt
 new_sorted cols vs (x ∷ is) = (refl, new_sorted cols vs is)
 
-module _ (v : Server) (cells : List Cell) (seats : List SeatState) (S : StandTogether v cells seats) (j : ℕ) (s : SeatState) (there : get_elem? seats j ≡ some s) (i : ℕ) (c d : TableCell) (t : SeatState) (out : get_elem? cells i ≡ some (Rows c)) (L : AddsIndex v c s d t) where
+module _ (v : Server) (cells : List Cell) (seats : List SeatState) {history : History} (S : Stands v history cells seats) (j : ℕ) (s : SeatState) (there : get_elem? seats j ≡ some s) (i : ℕ) (c d : TableCell) (t : SeatState) (out : get_elem? cells i ≡ some (Rows c)) (L : AddsIndex v c s d t) where
   abbrev T : Tables
   T = tables_now S
 
@@ -242,9 +242,8 @@ module _ (v : Server) (cells : List Cell) (seats : List SeatState) (S : StandTog
   same_fits true n f = f
   same_fits false n f = f
 
-  together : StandTogether v C' seats'
+  together : Stands v history C' seats'
   together = record {
-    history = _;
     catalog = S.catalog;
     ledger = S.ledger;
     are_cells = subst (λ (m : ℕ). AreCells (set cells m (Rows e)) S.catalog S.ledger) (sym at.is) (table_changed cells S.catalog S.ledger at.n c e (ap (get_elem? cells) (sym at.is) ∙ out) refl S.are_cells);
@@ -268,6 +267,6 @@ module _ (v : Server) (cells : List Cell) (seats : List SeatState) (S : StandTog
   }
 
   -- CREATE INDEX, in its table's cell
-  pub adds_index : StandTogether v (set cells i (Rows d)) (set seats j t)
-  adds_index = subst (λ (u : TableCell). StandTogether v (set cells i (Rows u)) (set seats j t)) (sym L.cell)
-      (subst (λ (u : SeatState). StandTogether v C' (set seats j u)) (ap (λ (n : ℕ). sits s (at_place (Some (visiting n o)) (inside text (made def true)) x)) (sym (cell_at i c at)) ∙ sym L.seat) together)
+  pub adds_index : Stands v history (set cells i (Rows d)) (set seats j t)
+  adds_index = subst (λ (u : TableCell). Stands v history (set cells i (Rows u)) (set seats j t)) (sym L.cell)
+      (subst (λ (u : SeatState). Stands v history C' (set seats j u)) (ap (λ (n : ℕ). sits s (at_place (Some (visiting n o)) (inside text (made def true)) x)) (sym (cell_at i c at)) ∙ sym L.seat) together)

@@ -11,7 +11,7 @@ use Rattle.lg_model.specs.Touched.{touched}
 use Rattle.lg_history.specs.Lists.{Text, Each, In}
 use Rattle.lg_history.specs.Refusals.{EndsAt}
 use Rattle.lg_history.specs.Transactions.{unfixed}
-use Rattle.lg_history.specs.Acts.{Event}
+use Rattle.lg_history.specs.Acts.{Act, SessionAct, by}
 use Rattle.lg_standing.specs.Server.{Server}
 use Rattle.lg_standing.specs.Cells.{Cell, catalog_at}
 use Rattle.lg_standing.specs.Contents.{Contents, Known, contents, known, HasAlone}
@@ -20,10 +20,11 @@ use Rattle.lg_standing.specs.LocksCover.{KeepsLocks, LookedAt, HasLock, IsGotAt,
 use Rattle.lg_standing.specs.OpenOnes.{HasOpen, text_at, lines_at, script_so_far, script_end}
 use Rattle.lg_standing.specs.OpenScripts.{IsOfItsScript, counted}
 use Rattle.lg_standing.specs.Seats.{OpenTransaction, Session, session, SeatState}
-use Rattle.lg_standing.specs.StandTogether.{StandTogether}
+use Rattle.lg_standing.specs.StandTogether.{History, Stands, StandsAfter}
 use Rattle.lg_standing.specs.TranscriptsAgree.{TranscriptsAgree}
 use Rattle.lg_standing.specs.TreesAreOfEvents.{AreTrees, AreFrames, HasItsTrees}
 use Rattle.lg_standing.specs.WantsIn.{wants_in, Holds}
+use Rattle.lg_standing.proofs.GoesOn.{each_so}
 use Rattle.lg_standing.proofs.Draws.{at_own}
 use Rattle.lg_standing.proofs.OpenSeats.{Own}
 use Rattle.lg_standing.proofs.Turns.{MayHave, Turns, tables_turn, scripts_turn, trees_turn, agree_turn, cover_turn, Owes, StillStands, owed, rows_turn}
@@ -39,16 +40,15 @@ use Rattle.lg_history.specs.Worlds.{tables}
 abbrev pub with_script : List Line → OpenTransaction → OpenTransaction
 with_script ls o = record { id = o.id; opened = o.opened; script = ls; seq = o.seq; trees = o.trees; frames = o.frames; end = o.end; visited = o.visited; released = o.released }
 
-module _ (v : Server) (cells : List Cell) (seats : List SeatState) (st : StandTogether v cells seats) (j : ℕ) (s : SeatState) (there : get_elem? seats j ≡ some s) where
+module _ (v : Server) (cells : List Cell) (seats : List SeatState) {history : History} (st : Stands v history cells seats) (j : ℕ) (s : SeatState) (there : get_elem? seats j ≡ some s) where
   abbrev c : Contents
   c = contents cells
 
   abbrev k : Known
   k = known v.reads st.ledger.items
 
-  pub alone_stands : (t : SeatState) (h : List Event) → Turns v c k st.catalog.defs s t → TranscriptsAgree v h st.ledger (slice_set seats j t) → StandTogether v cells (slice_set seats j t)
+  pub alone_stands : (t : SeatState) (h : List Act) → Turns v c k st.catalog.defs s t → TranscriptsAgree v h st.ledger (slice_set seats j t) → Stands v h cells (slice_set seats j t)
   alone_stands t h turn agree = record {
-    history = h;
     catalog = st.catalog;
     ledger = st.ledger;
     are_cells = st.are_cells;
@@ -61,6 +61,15 @@ module _ (v : Server) (cells : List Cell) (seats : List SeatState) (st : StandTo
     trees_are_of_events = trees_turn v c k st.catalog.defs seats j s t there turn st.trees_are_of_events;
     transcripts_agree = agree;
   }
+
+  -- so whose a session is stays
+  pub alone_own : (t : SeatState) (h : History) (turn : Turns v c k st.catalog.defs s t) (agree : TranscriptsAgree v h st.ledger (slice_set seats j t)) (n : ℕ) → agree.owner n ≡ j → (alone_stands t h turn agree).transcripts_agree.owner n ≡ j
+  unfolding alone_stands
+  alone_own t h turn agree n own = own
+
+  -- with acts of one session
+  abbrev pub alone_after : (t : SeatState) (n : ℕ) {acts : List SessionAct} → Turns v c k st.catalog.defs s t → (agree : TranscriptsAgree v (history ++ map (by n) acts) st.ledger (slice_set seats j t)) → agree.owner n ≡ j → StandsAfter v j history acts cells (slice_set seats j t)
+  alone_after t n {acts} turn agree own = record { session = n; stands = alone_stands t (history ++ map (by n) acts) turn agree; mine = each_so acts (alone_own t (history ++ map (by n) acts) turn agree n own) }
 
   -- what one that creates has done, it has done still
   pub record StillAt (x : Session) (o : OpenTransaction) (y : Session) (p : OpenTransaction) : Type 0 where
@@ -184,8 +193,8 @@ module _ (v : Server) (cells : List Cell) (seats : List SeatState) (st : StandTo
 
       pub trees_kept : o.end ≡ unfixed → HasItsTrees v c k y p
       trees_kept u = let h = st.trees_are_of_events j x o has u in record {
-        trees = subst (λ f. AreTrees v f o.trees) (λ i id. events_in o.id id (sym (same_versions id) i)) h.trees;
-        frames = subst (λ ms. AreFrames v o.id o.frames (script v.reads o.opened k.tables o.id (texts ms)).state.saved) same_script h.frames;
+        trees = subst (λ f. AreTrees f o.trees) (λ i id. events_in o.id id (sym (same_versions id) i)) h.trees;
+        frames = subst (λ ms. AreFrames o.id o.frames (script v.reads o.opened k.tables o.id (texts ms)).state.saved) same_script h.frames;
       }
 
       owes_kept : PlaceOwes y p → Owes v c k st.catalog.defs y p

@@ -10,14 +10,14 @@ use Rattle.lg_types.specs.declared.lock.Mode.{Mode}
 use Rattle.lg_frames.proofs.NoClash.{Relies}
 use Rattle.lg_standing.specs.Seats.{SeatState}
 use Rattle.lg_standing.specs.Server.{Server}
-use Rattle.lg_standing.specs.StandTogether.{StandTogether}
+use Rattle.lg_standing.specs.StandTogether.{History, Stands}
 use Rattle.lg_frames.proofs.SameKeys.{and_true}
 use Rattle.lg_model.specs.Reach.{has_key, is_exclusive, lets_change}
 use Rattle.lg_standing.proofs.Locks.{no_conflict}
 use Rattle.lg_model.specs.Locks.{wants_conflict}
 use Rattle.lg_types.specs.declared.lock.Mode.TheVariants.{X}
 
-module _ (v : Server) (cells : List Cell) (seats : List SeatState) (S : StandTogether v cells seats) (i : ℕ) (key : Key) (g h : Hold) (has_g : In g (holds_at cells i)) (has_h : In h (holds_at cells i)) (apart : h.tx ≢ g.tx)
+module _ (v : Server) (cells : List Cell) (seats : List SeatState) {history : History} (S : Stands v history cells seats) (i : ℕ) (key : Key) (g h : Hold) (has_g : In g (holds_at cells i)) (has_h : In h (holds_at cells i)) (apart : h.tx ≢ g.tx)
     (reach_g : lets_change key g.want ≡ true) (reach_h : lets_change key h.want ≡ true) where
   exclusive_mode : (m : Mode) → is_exclusive m ≡ true → m ≡ X
   exclusive_mode X e = refl
@@ -44,7 +44,7 @@ module _ (v : Server) (cells : List Cell) (seats : List SeatState) (S : StandTog
       key g.want (inl refl) relies_g parts_g.1 h has_h apart in cc
   -- so where one has it, another hasn't
 
-pub none_besides : (v : Server) (cells : List Cell) (seats : List SeatState) (S : StandTogether v cells seats) (i tx : ℕ) (key : Key) (h : Hold) → In h (holds_at cells i) → h.tx ≢ tx → lets_change key h.want ≡ true → HasNoX (holds_at cells i) tx key
+pub none_besides : (v : Server) (cells : List Cell) (seats : List SeatState) {history : History} (S : Stands v history cells seats) (i tx : ℕ) (key : Key) (h : Hold) → In h (holds_at cells i) → h.tx ≢ tx → lets_change key h.want ≡ true → HasNoX (holds_at cells i) tx key
 none_besides v cells seats S i tx key h has ne reach g is m = by (lets_change key g.want) refl
   where
     by : (b : Bool) → lets_change key g.want ≡ b → b ≡ false

@@ -1,4 +1,5 @@
 -- The cells at the beginning and the first seat stand together.
+use Rattle.lg_standing.specs.May.{first_seat}
 use Rattle.std.proofs.Common.{◌≡◌, ℕ, zero, suc, ◌+◌, ◌≤◌, Bool, true, false, List, [], ◌∷◌, refl, sym, ap, ◌∙◌, subst, inl, arith, Option, Some, None}
 use Rattle.std.proofs.lemmas.Bool.{ne_eqb}
 use Rattle.std.specs.Prelude.{◌==◌, if◌then◌else◌}
@@ -23,9 +24,10 @@ use Rattle.lg_standing.specs.TablesAreSerial.{StandsAs, def_at}
 use Rattle.lg_standing.specs.LocksCover.{IsUnderLocks}
 use Rattle.lg_standing.specs.Parts.{Numbers}
 use Rattle.lg_standing.specs.TranscriptsAgree.{SeatAgrees, TranscriptsAgree}
-use Rattle.lg_standing.specs.StandTogether.{StandTogether}
+use Rattle.lg_standing.specs.StandTogether.{LocksAskedFor, Stands}
 use Rattle.lg_model.specs.Agreement.{columns_at}
 use Rattle.lg_model.specs.Keys.{of_key}
+use Rattle.lg_ledger.specs.Ledger.{ledger_from}
 
 -- ---- cells
 
@@ -198,8 +200,6 @@ module _ (database : Text) (size : ℕ) where
       no_others = λ n l. (refl, refl);
       times = tt;
       made = tt;
-      setup = None;
-      setup_ran = tt;
     }
 
     -- ---- all
@@ -210,14 +210,13 @@ module _ (database : Text) (size : ℕ) where
     under_nothing : (k : Known) (id : ℕ) → Each (IsUnderLocks (contents (first_cells database size)) k id) (versions_at (first_cells database size) id)
     under_nothing k id = subst (Each (IsUnderLocks (contents (first_cells database size)) k id)) (sym (nothing_in database size id (cell_of id))) tt
 
-    pub begins : 1 ≤ size → size ≤ max_block → StandTogether v (first_cells database size) (seat ∷ [])
-    unfolding serial_from first_tables
+    pub begins : 1 ≤ size → size ≤ max_block → Stands v [] (first_cells database size) (seat ∷ [])
+    unfolding serial_from first_tables ledger_from
     begins some_size most_size = record {
-      history = [];
       catalog = first_catalog;
       ledger = first_ledger database size;
-      are_cells = record { has_catalog = refl; has_ledger = refl; has_tables = tables_there database size };
-      ledger_is_legal = record { legal = tt; entries = refl; blocks = refl; pending = refl; digests = tt; closings = tt; some_size = some_size; most_size = most_size };
+      are_cells = record { count = refl; has_catalog = refl; has_ledger = refl; has_tables = tables_there database size };
+      ledger_is_legal = record { legal = tt; chain = refl; digests = tt; closings = tt; some_size = some_size; most_size = most_size };
       tables_are_serial = record {
         definitions = inl refl;
         goes_back = λ k e. absurd (let z : None ≡ Some k = e in cc);
@@ -254,3 +253,7 @@ module _ (database : Text) (size : ℕ) where
       trees_are_of_events = λ j x o h. absurd (none_open j x o h);
       transcripts_agree = transcripts;
     }
+
+-- there is no lock that could be asked for
+pub none_asked : (database : Text) (size : ℕ) (v : Server) (st : Stands v [] (first_cells database size) (first_seat (first_cells database size) ∷ [])) → LocksAskedFor st
+none_asked database size v st i lock has = absurd (subst (In lock) (held_nowhere database size i) has)

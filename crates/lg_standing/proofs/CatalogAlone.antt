@@ -10,7 +10,7 @@ use Rattle.lg_standing.specs.Server.{Server}
 use Rattle.lg_types.specs.declared.lock.Hold.{Hold}
 use Rattle.lg_standing.specs.Cells.{Cell, holds_at, catalog_at}
 use Rattle.lg_standing.specs.Seats.{SeatState}
-use Rattle.lg_standing.specs.StandTogether.{StandTogether}
+use Rattle.lg_standing.specs.StandTogether.{History, Stands}
 use Rattle.lg_standing.proofs.Locks.{no_conflict}
 use Rattle.lg_standing.proofs.OfCells.{HasLock}
 use Rattle.lg_types.specs.declared.lock.Item.TheVariants as item
@@ -35,7 +35,7 @@ against_whole x mode.X e = ap (λ (y : Item). same_item item.Whole y && true) e
 pub on_all : (w : Want) → w.item ≡ item.Whole → wants_conflict (whole mode.X) w ≡ true
 on_all w e = against_whole w.item w.mode e
 
-module _ (v : Server) (cells : List Cell) (seats : List SeatState) (S : StandTogether v cells seats) (id : ℕ) (exclusive : In (record { tx = id; want = whole mode.X }) (holds_at cells catalog_at)) where
+module _ (v : Server) (cells : List Cell) (seats : List SeatState) {history : History} (S : Stands v history cells seats) (id : ℕ) (exclusive : In (record { tx = id; want = whole mode.X }) (holds_at cells catalog_at)) where
   pub none_besides : (h : Hold) → In h (holds_at cells catalog_at) → h.tx ≡ id
   none_besides h has = ⊎_elim (λ (e : h.tx ≡ id). e)
       (λ (ne : h.tx ≢ id).

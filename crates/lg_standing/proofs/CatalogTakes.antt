@@ -35,7 +35,7 @@ use Rattle.lg_standing.specs.TablesAreSerial.{HasAdded}
 use Rattle.lg_standing.specs.LocksCover.{IsDropping, LookedFirst}
 use Rattle.lg_standing.specs.RowsAgree.{IsOpenedAt}
 use Rattle.lg_standing.specs.CatalogVisits as c
-use Rattle.lg_standing.specs.StandTogether.{StandTogether}
+use Rattle.lg_standing.specs.StandTogether.{History, Stands}
 use Rattle.lg_standing.proofs.AfterSet.{set_here, set_else, each_at}
 use Rattle.lg_standing.proofs.CellsAfter.{catalog_changed, held_here}
 use Rattle.lg_standing.proofs.CatalogAlone.{on_all}
@@ -48,7 +48,7 @@ use Rattle.lg_standing.proofs.Takes.{tables_now, Takes, covered, agree, rows, sc
 use Rattle.lg_standing.proofs.OfCells.{HasLooked, IsGotAt, in_journal}
 use Rattle.lg_standing.proofs.VisitActs.{unmoved}
 
-pub record Exclusive (v : Server) (cells : List Cell) (seats : List SeatState) (S : StandTogether v cells seats) (j : ℕ) (s : SeatState) (x : Session) (o : OpenTransaction) (text : Text) (stmt : Stmt) (old : CatalogCell) : Type 0 where
+pub record Exclusive (v : Server) (cells : List Cell) (seats : List SeatState) {history : History} (S : Stands v history cells seats) (j : ℕ) (s : SeatState) (x : Session) (o : OpenTransaction) (text : Text) (stmt : Stmt) (old : CatalogCell) : Type 0 where
   pub there : get_elem? seats j ≡ some s
   pub role : s.role ≡ session x
   pub open_one : x.open_one ≡ Some o
@@ -60,7 +60,7 @@ pub record Exclusive (v : Server) (cells : List Cell) (seats : List SeatState) (
   pub wanted : catalog_want false stmt ≡ Some mode.X
   pub free : AreFree old.holds o.id (whole mode.X ∷ [])
 
-module _ (v : Server) (cells : List Cell) (seats : List SeatState) (S : StandTogether v cells seats) (j : ℕ) (s : SeatState) (x : Session) (o : OpenTransaction) (text : Text) (stmt : Stmt) (old : CatalogCell) (K : Exclusive v cells seats S j s x o text stmt old) where
+module _ (v : Server) (cells : List Cell) (seats : List SeatState) {history : History} (S : Stands v history cells seats) (j : ℕ) (s : SeatState) (x : Session) (o : OpenTransaction) (text : Text) (stmt : Stmt) (old : CatalogCell) (K : Exclusive v cells seats S j s x o text stmt old) where
   abbrev T : Tables
   T = tables_now S
 
@@ -153,9 +153,8 @@ module _ (v : Server) (cells : List Cell) (seats : List SeatState) (S : StandTog
       (λ (ne : i ≢ catalog_at). (cell, cell.holds, sym (set_else cells catalog_at i (Catalog then_catalog) ne) ∙ e, refl))
       (cases_eq i catalog_at)
 
-  pub exclusive_there : StandTogether v then_cells then_seats
+  pub exclusive_there : Stands v history then_cells then_seats
   exclusive_there = record {
-    history = _;
     catalog = then_catalog;
     ledger = S.ledger;
     are_cells = catalog_changed cells S.catalog S.ledger then_catalog S.are_cells;

@@ -6,6 +6,7 @@ use lib.ListN.{get_elem?}
 use Rattle.lg_types.specs.declared.lock.Hold.{Hold}
 use Rattle.lg_standing.specs.Cells.{CatalogCell, LedgerCell, TableCell, Cell, Catalog, Rows, holds_in, holds_found, holds_at, versions_in, versions_found, versions_at, catalog_at, ledger_at, cell_of, AreCells}
 use Rattle.lg_standing.proofs.AfterSet.{set_here, set_else}
+use Rattle.std.proofs.lemmas.List.{length-set}
 
 module _ (cells : List Cell) (i : ℕ) (old new : Cell) (out : get_elem? cells i ≡ some old) where
   pub holds_here : holds_at (set cells i new) i ≡ holds_in new
@@ -43,6 +44,7 @@ module _ (cells : List Cell) (i : ℕ) (old new : Cell) (out : get_elem? cells i
 -- the catalog's cell changed
 pub catalog_changed : (cells : List Cell) (c : CatalogCell) (ledger : LedgerCell) (d : CatalogCell) → AreCells cells c ledger → AreCells (set cells catalog_at (Catalog d)) d ledger
 catalog_changed cells c ledger d h = record {
+  count = length-set cells catalog_at (Catalog d) ∙ h.count;
   has_catalog = set_here cells catalog_at (Catalog c) (Catalog d) h.has_catalog;
   has_ledger = set_else cells catalog_at ledger_at (Catalog d) (λ e. omega arith) ∙ h.has_ledger;
   has_tables = λ k e f. h.has_tables k e (sym (set_else cells catalog_at (suc (suc k)) (Catalog d) (λ z. omega arith)) ∙ f);
@@ -63,6 +65,7 @@ module _ (cells : List Cell) (catalog : CatalogCell) (ledger : LedgerCell) (k : 
 
   pub table_changed : AreCells cells catalog ledger → AreCells (set cells (suc (suc k)) (Rows new)) catalog ledger
   table_changed h = record {
+    count = length-set cells (suc (suc k)) (Rows new) ∙ h.count;
     has_catalog = set_else cells (suc (suc k)) catalog_at (Rows new) (λ e. omega arith) ∙ h.has_catalog;
     has_ledger = set_else cells (suc (suc k)) ledger_at (Rows new) (λ e. omega arith) ∙ h.has_ledger;
     has_tables = λ i e f. is_one i e h f (cases_eq i k);

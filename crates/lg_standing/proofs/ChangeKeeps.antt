@@ -1,4 +1,6 @@
 -- A statement that changed the rows of a table's cell: scripts and locks stand as before, with it.
+use Rattle.lg_standing.proofs.Ids.{in_transaction}
+use Rattle.lg_standing.proofs.ActedFor.{StandsBy, by_number}
 use Rattle.lg_standing.proofs.SaidThere.{rows_replied}
 use Rattle.std.proofs.Common.{◌≡◌, ◌≢◌, ◌⊎◌, ℕ, suc, ◌+◌, ◌≤◌, Bool, true, false, List, [], ◌∷◌, ◌++◌, map, length, set, Option, Some, None, refl, sym, ap, ◌∙◌, subst, inl, inr, ⊎_elim, arith, append-nil}
 use Rattle.std.proofs.lemmas.Bool.{cases_eq, ne_eqb, eq-eqb}
@@ -58,7 +60,7 @@ use Rattle.lg_model.specs.Plans.{plan, defined}
 use Rattle.lg_model.specs.Reach.{creates}
 use Rattle.lg_standing.specs.WantsIn.{of_catalog, of_cell, wants_at, wants_in, Holds}
 use Rattle.lg_standing.specs.LocksCover.{KeepsLocks, Belongs, HasIntent, LookedFirst, IsDropping}
-use Rattle.lg_standing.specs.StandTogether.{StandTogether}
+use Rattle.lg_standing.specs.StandTogether.{History, Stands}
 use Rattle.lg_standing.proofs.AfterSet.{set_here, set_else, each_at, all_at}
 use Rattle.lg_standing.proofs.CellsAfter.{held_here, table_changed}
 use Rattle.lg_standing.proofs.SeatsAfter.{one_session, open_here, open_else, each_open, kept_open}
@@ -75,6 +77,7 @@ use Rattle.lg_standing.proofs.GotMore.{got_at_more}
 use Rattle.lg_history.specs.Transcripts.{kind_of}
 use Rattle.lg_model.specs.Touched.{touched}
 use Rattle.lg_standing.proofs.Apart.{x_apart}
+use Rattle.lg_standing.specs.ActsOf.{done_acts}
 
 -- ---- equal keys
 
@@ -127,7 +130,7 @@ absent_others (Close k ∷ is) id h = (tt, absent_others is id h)
 
 -- ---- rows without an event of a transaction
 
-module _ (v : Server) (cells : List Cell) (seats : List SeatState) (S : StandTogether v cells seats) (id : ℕ) (l : 1 ≤ id) (key : Key) (tx : ℕ) (out : (n : ℕ) → in_journal S.ledger.items (tx, n) ≡ false) (free : HasNoX (holds_at cells (cell_of id)) tx key) where
+module _ (v : Server) (cells : List Cell) (seats : List SeatState) {history : History} (S : Stands v history cells seats) (id : ℕ) (l : 1 ≤ id) (key : Key) (tx : ℕ) (out : (n : ℕ) → in_journal S.ledger.items (tx, n) ≡ false) (free : HasNoX (holds_at cells (cell_of id)) tx key) where
   abbrev cols : List ColumnDef
   cols = columns_at (defs_of (tables_now S)) id
 
@@ -151,7 +154,7 @@ module _ (v : Server) (cells : List Cell) (seats : List SeatState) (S : StandTog
   pub untouched : AllByRecursion (MadeBefore tx 0) (of_key cols key (versions_at cells id))
   untouched = all_in (MadeBefore tx 0) (of_key cols key (versions_at cells id)) one_not
 
-module _ (v : Server) (cells : List Cell) (seats : List SeatState) (S : StandTogether v cells seats) (j : ℕ) (s : SeatState) (x : Session) (o : OpenTransaction) (text : Text) (named : Named) (fresh : Bool)
+module _ (v : Server) (cells : List Cell) (seats : List SeatState) {history : History} (S : Stands v history cells seats) (j : ℕ) (s : SeatState) (x : Session) (o : OpenTransaction) (text : Text) (named : Named) (fresh : Bool)
     (i : ℕ) (c : TableCell) (row : RowStmt) (changes : List Change) (count : ℕ) (K : ch.Changing v cells seats S j s x o text named fresh i c row changes count) where
   abbrev T : Tables
   T = tables_now S
@@ -561,30 +564,34 @@ module _ (v : Server) (cells : List Cell) (seats : List SeatState) (S : StandTog
     are_cells = let a = ch.at v cells seats S j s x o text named fresh i c row changes count K in
         subst (λ (m : ℕ). AreCells (set cells m (Rows (ch.cell_then v cells seats S j s x o text named fresh i c row changes count K))) S.catalog S.ledger) (sym a.is) (table_changed cells S.catalog S.ledger a.n c _ (ap (get_elem? cells) (sym a.is) ∙ K.out) refl S.are_cells)
 
-    pub changes_there : StandTogether v C' seats'
+    pub changes_there : StandsBy v j history o.id o.opened (done_acts o.opened text true (reply.Changed count)) C' seats'
     changes_there = let said = done_act v cells seats S j s K.there x K.role o K.open_one K.unfixed text (found (Some named) fresh) K.place refl (λ id ws. refl) true (λ a h. h) refl (λ k. refl) refl refl
         (reply.Changed count) (record { e01 = λ e. cc; e13 = λ e. cc; e14 = λ e. cc; e17 = λ e. cc }) refl refl refl refl refl refl p refl refl refl refl (λ e. ap kind_of (v.real.reading text ∙ K.is)) in record {
-          history = said.history;
-          catalog = S.catalog;
-          ledger = S.ledger;
-          are_cells = are_cells;
-          ledger_is_legal = S.ledger_is_legal;
-          tables_are_serial = record {
-            definitions = definitions_then;
-            goes_back = creator_then;
-            carried = each_open seats j (sits s y) x o y p (ch.goes v cells seats S j s x o text named fresh i c row changes count K) (λ n z r. r.end ≡ unfixed → IsCarried S.catalog.defs T (script_end v T z r).state.tables)
-                (λ e. inr (ch.then_defs v cells seats S j s x o text named fresh i c row changes count K)) (λ n z r ne h e. S.tables_are_serial.carried n z r h e);
-            indexed = each_open seats j (sits s y) x o y p (ch.goes v cells seats S j s x o text named fresh i c row changes count K) (λ n z r. r.end ≡ unfixed → IsIndexed C' z.place)
-                (λ e. indexed_here o.opened) (λ n z r ne h e. indexed_else z.place (S.tables_are_serial.indexed n z r h e));
-            versions = ch.by_table v cells seats S j s x o text named fresh i c row changes count K (λ id. committed S.ledger.items (versions_at C' id) ≡ versions_of T id)
-                (ap (committed S.ledger.items) (ch.rows_are v cells seats S j s x o text named fresh i c row changes count K) ∙ commits_same ∙ ap (committed S.ledger.items) (sym rows_were) ∙ S.tables_are_serial.versions c.id one_le)
-                (λ id l ne. ap (committed S.ledger.items) (ch.rows_elsewhere v cells seats S j s x o text named fresh i c row changes count K id ne) ∙ S.tables_are_serial.versions id l);
-            tables = λ n cell e. at_cells n cell (table_there (get_elem? C' n) cell e);
+          session = said.session;
+          of = by_number v.meaning history (S.transcripts_agree.of_seat j) x o (in_transaction v history S.ledger seats S.transcripts_agree j x o (record { seat = s; there = K.there; role = K.role; open_one = K.open_one })) said.session said.is;
+          stands = record {
+            catalog = S.catalog;
+            ledger = S.ledger;
+            are_cells = are_cells;
+            ledger_is_legal = S.ledger_is_legal;
+            tables_are_serial = record {
+              definitions = definitions_then;
+              goes_back = creator_then;
+              carried = each_open seats j (sits s y) x o y p (ch.goes v cells seats S j s x o text named fresh i c row changes count K) (λ n z r. r.end ≡ unfixed → IsCarried S.catalog.defs T (script_end v T z r).state.tables)
+                  (λ e. inr (ch.then_defs v cells seats S j s x o text named fresh i c row changes count K)) (λ n z r ne h e. S.tables_are_serial.carried n z r h e);
+              indexed = each_open seats j (sits s y) x o y p (ch.goes v cells seats S j s x o text named fresh i c row changes count K) (λ n z r. r.end ≡ unfixed → IsIndexed C' z.place)
+                  (λ e. indexed_here o.opened) (λ n z r ne h e. indexed_else z.place (S.tables_are_serial.indexed n z r h e));
+              versions = ch.by_table v cells seats S j s x o text named fresh i c row changes count K (λ id. committed S.ledger.items (versions_at C' id) ≡ versions_of T id)
+                  (ap (committed S.ledger.items) (ch.rows_are v cells seats S j s x o text named fresh i c row changes count K) ∙ commits_same ∙ ap (committed S.ledger.items) (sym rows_were) ∙ S.tables_are_serial.versions c.id one_le)
+                  (λ id l ne. ap (committed S.ledger.items) (ch.rows_elsewhere v cells seats S j s x o text named fresh i c row changes count K id ne) ∙ S.tables_are_serial.versions id l);
+              tables = λ n cell e. at_cells n cell (table_there (get_elem? C' n) cell e);
+            };
+            rows_agree = ch.rows_agree v cells seats S j s x o text named fresh i c row changes count K;
+            open_scripts = scripts;
+            locks_cover = covered;
+            locks_agree = agree;
+            trees_are_of_events = trees;
+            transcripts_agree = said.agree;
           };
-          rows_agree = ch.rows_agree v cells seats S j s x o text named fresh i c row changes count K;
-          open_scripts = scripts;
-          locks_cover = covered;
-          locks_agree = agree;
-          trees_are_of_events = trees;
-          transcripts_agree = said.agree;
+          mine = said.own;
         }

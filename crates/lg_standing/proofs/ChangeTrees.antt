@@ -18,7 +18,7 @@ use Rattle.lg_standing.specs.EventsIn.{events_in}
 use Rattle.lg_standing.specs.Doing.{events_from}
 use Rattle.lg_standing.specs.Moves.{sits}
 use Rattle.lg_standing.specs.TreesAreOfEvents.{AreFrames}
-use Rattle.lg_standing.specs.StandTogether.{StandTogether}
+use Rattle.lg_standing.specs.StandTogether.{History, Stands}
 use Rattle.lg_standing.proofs.SeatsAfter.{each_open}
 use Rattle.lg_standing.proofs.NewEvents.{come_last}
 use Rattle.lg_standing.proofs.Grown.{grown_trees}
@@ -28,7 +28,7 @@ use Rattle.lg_standing.proofs.ChangeKeeps as keeps
 use Rattle.lg_standing.proofs.OfCells.{HasItsTrees, TreesAreOfEvents, events_counted}
 use Rattle.lg_standing.proofs.FreshIds.{events_of_touched}
 
-module _ (v : Server) (cells : List Cell) (seats : List SeatState) (S : StandTogether v cells seats) (j : ℕ) (s : SeatState) (x : Session) (o : OpenTransaction) (text : Text) (named : Named) (fresh : Bool)
+module _ (v : Server) (cells : List Cell) (seats : List SeatState) {history : History} (S : Stands v history cells seats) (j : ℕ) (s : SeatState) (x : Session) (o : OpenTransaction) (text : Text) (named : Named) (fresh : Bool)
     (i : ℕ) (c : TableCell) (row : RowStmt) (changes : List Change) (count : ℕ) (K : ch.Changing v cells seats S j s x o text named fresh i c row changes count) where
   abbrev V' : List Version
   V' = ch.rows_then v cells seats S j s x o text named fresh i c row changes count K
@@ -72,7 +72,7 @@ module _ (v : Server) (cells : List Cell) (seats : List SeatState) (S : StandTog
   here = let was = S.trees_are_of_events j x o (ch.has_open v cells seats S j s x o text named fresh i c row changes count K) K.unfixed in record {
     trees = grown_trees v c.id (events_from o.id o.seq c.id V') (events_counted C' y p) (events_counted cells x o) more_here
         (λ id l ne. events_are id ∙ ap (events_in o.id id) (same_else id ne) ∙ sym (events_were id)) o.trees (omega (arith, user)) was.trees;
-    frames = subst (λ (e : ScriptEnd). AreFrames v o.id o.frames e.state.saved) (sym (ch.ends_so v cells seats S j s x o text named fresh i c row changes count K)) was.frames;
+    frames = subst (λ (e : ScriptEnd). AreFrames o.id o.frames e.state.saved) (sym (ch.ends_so v cells seats S j s x o text named fresh i c row changes count K)) was.frames;
   }
 
   other_events : (n : ℕ) (z : Session) (r : OpenTransaction) → n ≢ j → HasOpen seats n z r → r.end ≡ unfixed → (id : ℕ) → events_counted C' z r id ≡ events_counted cells z r id

@@ -1,5 +1,6 @@
 -- INSERT, UPDATE and DELETE in a table's cell: locks are taken, rows are changed, trees grow.
-use Rattle.std.proofs.Common.{◌≡◌, ◌≢◌, ◌⊎◌, ℕ, ◌+◌, Bool, false, List, [], ◌∷◌, map, length, set, Option, Some, None, Ok, refl, sym, ap, ap₂, ◌∙◌, subst, inl, inr, ⊎_elim, arith, ◌++◌}
+use Rattle.lg_standing.proofs.ActedFor.{StandsBy}
+use Rattle.std.proofs.Common.{◌≡◌, ◌≢◌, ◌⊎◌, ℕ, ◌+◌, Bool, false, List, [], ◌∷◌, map, length, set, Option, Some, None, Ok, refl, sym, ap, ap₂, ◌∙◌, subst, inl, inr, ⊎_elim, arith, ◌++◌, true}
 use Rattle.std.proofs.lemmas.Bool.{ne_eqb, eq-eqb}
 use Rattle.std.specs.Prelude.{not, if◌then◌else◌}
 use mathlib.Core.Option.{some}
@@ -37,7 +38,7 @@ use Rattle.lg_standing.specs.WantsIn.{of_catalog, of_cell, wants_at, wants_in}
 use Rattle.lg_standing.proofs.Taken.{AreFree}
 use Rattle.lg_standing.specs.TableVisits.{reordered, ChangesRows}
 use Rattle.lg_standing.specs.LocksCover.{name_of, IsNamed, HasIntent}
-use Rattle.lg_standing.specs.StandTogether.{StandTogether}
+use Rattle.lg_standing.specs.StandTogether.{History, Stands}
 use Rattle.lg_standing.proofs.AfterSet.{set_here, set_twice, each_at, all_at}
 use Rattle.lg_standing.proofs.CellsAfter.{held_here}
 use Rattle.lg_standing.proofs.Excluded.{HasX, HasNoX, has_x_or_not, excluded}
@@ -64,6 +65,7 @@ use Rattle.lg_types.specs.declared.version.Version.{Version}
 use Rattle.lg_standing.proofs.OfCells.{AreIndexes, HasLooked, IsGotAt, StandsAs, TableStands, in_journal, looked_now}
 use Rattle.lg_standing.proofs.TakenLocks.{all_free}
 use Rattle.lg_standing.specs.Contents.{table_found}
+use Rattle.lg_standing.specs.ActsOf.{done_acts}
 
 -- ---- the wants of a row statement
 
@@ -84,7 +86,7 @@ rows_announced def (Insert table names rows) = keys_announced (all_some (map (ke
 rows_announced def (Update table sets cond) = key_announced (key_fixed def.columns cond)
 rows_announced def (Delete table cond) = key_announced (key_fixed def.columns cond)
 
-module _ (v : Server) (cells : List Cell) (seats : List SeatState) (S : StandTogether v cells seats) (j : ℕ) (s : SeatState) (there : get_elem? seats j ≡ some s) (i : ℕ) (c d : TableCell) (t : SeatState) (out : get_elem? cells i ≡ some (Rows c)) (L : ChangesRows v c s d t) where
+module _ (v : Server) (cells : List Cell) (seats : List SeatState) {history : History} (S : Stands v history cells seats) (j : ℕ) (s : SeatState) (there : get_elem? seats j ≡ some s) (i : ℕ) (c d : TableCell) (t : SeatState) (out : get_elem? cells i ≡ some (Rows c)) (L : ChangesRows v c s d t) where
   abbrev o : OpenTransaction
   o = L.o
 
@@ -167,7 +169,7 @@ module _ (v : Server) (cells : List Cell) (seats : List SeatState) (S : StandTog
   abbrev o1 : OpenTransaction
   o1 = visiting i o
 
-  pub S1 : StandTogether v cells1 seats1
+  pub S1 : Stands v history cells1 seats1
   S1 = take.takes_there v cells seats S j s x o text (Some L.named) L.fresh i c (row_wants L.named.0 L.row) takes_at
 
   same_ledger : S1.ledger ≡ S.ledger
@@ -225,7 +227,7 @@ module _ (v : Server) (cells : List Cell) (seats : List SeatState) (S : StandTog
   TableStandsThen = StandsAs v cells2 seats2 S1.ledger cell2 (def_at (defs_of (tables_now S1)) c.id)
 
   module _ (stands : TableStandsThen) where
-    together : StandTogether v cells2 seats2
+    together : StandsBy v j history o.id o.opened (done_acts o.opened text true (reply.Changed L.count)) cells2 seats2
     together = changes_there v cells1 seats1 S1 j (sits s x1) x1 o1 text L.named false i cell1 L.row L.changes L.count changing stands
         (trees_then v cells1 seats1 S1 j (sits s x1) x1 o1 text L.named false i cell1 L.row L.changes L.count changing)
 
@@ -235,12 +237,12 @@ module _ (v : Server) (cells : List Cell) (seats : List SeatState) (S : StandTog
     same_seats : seats2 ≡ set seats j t
     same_seats = set_twice seats j (sits s x1) _ ∙ ap (set seats j) (seat_is ∙ sym L.seat)
       where
-        seat_is : ch.then_sits v cells1 seats1 S1 j (sits s x1) x1 o1 text L.named false i cell1 L.row L.changes L.count changing ≡ done s L.at.at.stands (noting (o.seq + length L.changes) (grown v c.id (events_from o.id o.seq c.id d.versions) o.trees) (visiting (cell_of c.id) o)) (reply.Changed L.count)
-        seat_is = ap₂ (λ (n : ℕ) (vs : List Version). done s L.at.at.stands (noting (o.seq + length L.changes) (grown v c.id (events_from o.id o.seq c.id vs) o.trees) (visiting n o)) (reply.Changed L.count))
+        seat_is : ch.then_sits v cells1 seats1 S1 j (sits s x1) x1 o1 text L.named false i cell1 L.row L.changes L.count changing ≡ done s L.at.at.stands (noting (o.seq + length L.changes) (grown c.id (events_from o.id o.seq c.id d.versions) o.trees) (visiting (cell_of c.id) o)) (reply.Changed L.count)
+        seat_is = ap₂ (λ (n : ℕ) (vs : List Version). done s L.at.at.stands (noting (o.seq + length L.changes) (grown c.id (events_from o.id o.seq c.id vs) o.trees) (visiting n o)) (reply.Changed L.count))
             (sym (take.cell_at i c at)) (ap (λ (e : TableCell). e.versions) (sym L.cell))
 
-    pub changes : StandTogether v (set cells i (Rows d)) (set seats j t)
-    changes = subst (λ (u : List SeatState). StandTogether v (set cells i (Rows d)) u) same_seats (subst (λ (u : List Cell). StandTogether v u seats2) same_cells together)
+    pub changes : StandsBy v j history o.id o.opened (done_acts o.opened text true (reply.Changed L.count)) (set cells i (Rows d)) (set seats j t)
+    changes = subst (λ (u : List SeatState). StandsBy v j history o.id o.opened (done_acts o.opened text true (reply.Changed L.count)) (set cells i (Rows d)) u) same_seats (subst (λ (u : List Cell). StandsBy v j history o.id o.opened (done_acts o.opened text true (reply.Changed L.count)) u seats2) same_cells together)
 
   -- ---- the table's own form: what is left to be shown is a law on rows alone
 
@@ -269,7 +271,7 @@ module _ (v : Server) (cells : List Cell) (seats : List SeatState) (S : StandTog
     })
 
     -- INSERT, UPDATE and DELETE keep cells and seats together, where the rows that they leave fit and have different keys
-    pub changes_rows : StandTogether v (set cells i (Rows d)) (set seats j t)
+    pub changes_rows : StandsBy v j history o.id o.opened (done_acts o.opened text true (reply.Changed L.count)) (set cells i (Rows d)) (set seats j t)
     changes_rows = changes stands_so
 
   -- ---- fit and keys, by those of the script
@@ -321,5 +323,5 @@ module _ (v : Server) (cells : List Cell) (seats : List SeatState) (S : StandTog
       (subst (λ (cols : List ColumnDef). KeysDiffer cols (live c.versions)) defines.columns was.keys_differ))
 
   -- INSERT, UPDATE and DELETE keep cells and seats together
-  pub changes_stand : StandTogether v (set cells i (Rows d)) (set seats j t)
+  pub changes_stand : StandsBy v j history o.id o.opened (done_acts o.opened text true (reply.Changed L.count)) (set cells i (Rows d)) (set seats j t)
   changes_stand = changes_rows defines.def defines.is defined_columns formed.0 formed.1

@@ -46,7 +46,7 @@ use Rattle.lg_standing.specs.Doing.{grown, events_from, with_line, with_reply, s
 use Rattle.lg_standing.specs.TableVisits.{with_versions}
 use Rattle.lg_standing.specs.WantsIn.{Holds}
 use Rattle.lg_standing.specs.RowsAgree.{GoesBackTo, IsOpenedAt}
-use Rattle.lg_standing.specs.StandTogether.{StandTogether}
+use Rattle.lg_standing.specs.StandTogether.{History, Stands}
 use Rattle.lg_standing.proofs.SeatsAfter.{Goes, each_open}
 use Rattle.lg_standing.proofs.CellsAfter.{held_here, each_holds, versions_here, were_here, versions_else}
 use Rattle.lg_standing.proofs.ChangedRows.{all_rising, all_before, all_untouched, keys_follow, all_undo, undone_of_key, IsCounted, all_count, some_undone, counted_is, later, undone_before}
@@ -61,7 +61,7 @@ use Rattle.lg_standing.proofs.OfCells.{IsFree, RowsAgree, in_journal}
 use Rattle.lg_standing.proofs.Apart.{x_apart}
 
 -- a seat stands at what it found in the catalog, has its locks in the cell of its table, and makes these changes there
-pub record Changing (v : Server) (cells : List Cell) (seats : List SeatState) (S : StandTogether v cells seats) (j : ℕ) (s : SeatState) (x : Session) (o : OpenTransaction) (text : Text) (named : Named) (fresh : Bool)
+pub record Changing (v : Server) (cells : List Cell) (seats : List SeatState) {history : History} (S : Stands v history cells seats) (j : ℕ) (s : SeatState) (x : Session) (o : OpenTransaction) (text : Text) (named : Named) (fresh : Bool)
     (i : ℕ) (c : TableCell) (row : RowStmt) (changes : List Change) (count : ℕ) : Type 0 where
   pub there : get_elem? seats j ≡ some s
   pub role : s.role ≡ session x
@@ -81,7 +81,7 @@ pub record Changing (v : Server) (cells : List Cell) (seats : List SeatState) (S
 pub user_cell : (id : ℕ) → 3 ≤ id → cell_of id ≡ id - 1
 user_cell id l = rw (ne_eqb id 1 (λ e. omega arith), ne_eqb id 2 (λ e. omega arith)) refl
 
-module _ (v : Server) (cells : List Cell) (seats : List SeatState) (S : StandTogether v cells seats) (j : ℕ) (s : SeatState) (x : Session) (o : OpenTransaction) (text : Text) (named : Named) (fresh : Bool)
+module _ (v : Server) (cells : List Cell) (seats : List SeatState) {history : History} (S : Stands v history cells seats) (j : ℕ) (s : SeatState) (x : Session) (o : OpenTransaction) (text : Text) (named : Named) (fresh : Bool)
     (i : ℕ) (c : TableCell) (row : RowStmt) (changes : List Change) (count : ℕ) (K : Changing v cells seats S j s x o text named fresh i c row changes count) where
   abbrev T : Tables
   T = tables_now S
@@ -99,7 +99,7 @@ module _ (v : Server) (cells : List Cell) (seats : List SeatState) (S : StandTog
   cells_then = set cells i (Rows cell_then)
 
   abbrev pub open_then : OpenTransaction
-  open_then = with_reply text (reply.Changed count) (noting (o.seq + length changes) (grown v c.id (events_from o.id o.seq c.id rows_then) o.trees) o)
+  open_then = with_reply text (reply.Changed count) (noting (o.seq + length changes) (grown c.id (events_from o.id o.seq c.id rows_then) o.trees) o)
 
   abbrev pub session_then : Session
   session_then = at_place (Some open_then) (inside text (stage_after o.opened (reply.Changed count))) x

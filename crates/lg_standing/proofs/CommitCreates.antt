@@ -5,7 +5,7 @@ use Rattle.lg_types.specs.declared.lock.Mode.TheVariants.{X}
 use Rattle.lg_standing.specs.LocksCover.{HasLock, LiesUnder, EndLiesUnder, IsUnderLocks, Belongs, IsDropping}
 use Rattle.lg_standing.specs.Committed.{with_committed_end}
 use Rattle.std.proofs.Common.{◌≡◌, ◌≢◌, ℕ, ◌+◌, ◌<◌, ◌≤◌, ◌⊎◌, not, Bool, true, false, List, [], ◌∷◌, ◌++◌, map, Option, Some, None, slice_set, refl, sym, ap, ◌∙◌, subst, subst₂, inl, inr, ⊎_elim, append-nil, arith, ap₂, suc, zero}
-use Rattle.std.proofs.lemmas.Bool.{cases_lt, cases_eq}
+use Rattle.std.proofs.lemmas.Bool.{cases_eq}
 use Rattle.std.specs.Prelude.{if◌then◌else◌, ◌==◌, is_some}
 use mathlib.Core.Option.{some}
 use lib.ListN.{get_elem?}
@@ -16,7 +16,7 @@ use Rattle.lg_types.specs.declared.reply.Reply.TheVariants as reply
 use Rattle.lg_types.specs.declared.statement.Stmt.{Stmt}
 use Rattle.lg_types.specs.declared.statement.Stmt.TheVariants as stmt
 use Rattle.lg_types.specs.declared.version.Version.{Version}
-use Rattle.lg_model.specs.Catalog.{Defs, Named, Tables, defs_of, find_part, versions_of}
+use Rattle.lg_model.specs.Catalog.{Defs, Tables, defs_of, versions_of}
 use Rattle.lg_model.specs.Journals.{Line, tx_count, serial, AgreesWith, IsLegal}
 use Rattle.lg_model.specs.Reach.{creates, lets_change}
 use Rattle.lg_model.specs.Replies.{reply_text}
@@ -24,18 +24,14 @@ use Rattle.lg_model.specs.Rows.{EventId, live}
 use Rattle.lg_model.specs.Runs.{EndsBefore, MadeBefore, Sound, Rising}
 use Rattle.lg_model.specs.Script.{script}
 use Rattle.lg_model.specs.Touched.{touched}
-use Rattle.lg_model.specs.Undo.{undone, versions_undone}
+use Rattle.lg_model.specs.Undo.{versions_undone}
 use Rattle.lg_frames.proofs.AtTable.{rising_at, before_at}
-use Rattle.lg_frames.proofs.Definitions.{opened_keep_defs, one_keeps_defs, nothing_done, plan_keeps}
 use Rattle.lg_frames.proofs.LegalSound.{legal_sound}
-use Rattle.lg_frames.proofs.SameEnds.{IsShort}
-use Rattle.lg_frames.proofs.UndoneTables.{none_undone}
-use Rattle.lg_frames.proofs.UndoneWhole.{CreatesNot, opened_undone, one_undone, undone_at}
 use Rattle.lg_history.specs.Lists.{Text, Each, In}
 use Rattle.lg_history.specs.Journals.{ids_of}
 use Rattle.lg_history.specs.Refusals.{EndsAt}
 use Rattle.lg_history.specs.Transactions.{unfixed, committed}
-use Rattle.lg_history.specs.Acts.{Event}
+use Rattle.lg_history.specs.Acts.{Act, SessionAct, by}
 use Rattle.lg_history.proofs.Trace.{each_weaker}
 use Rattle.lg_standing.specs.Server.{Server}
 use Rattle.lg_standing.specs.Cells.{LedgerCell, Cell, Ledger, ledger_at, catalog_at, cell_of, Index, TableCell}
@@ -44,50 +40,38 @@ use Rattle.lg_standing.specs.Contents.{Contents, Known, contents, known, HasAlon
 use Rattle.lg_standing.specs.Seats.{Stage, begun, found, made, going_back, replied, answering, refused, Place, between, inside, leaving, OpenTransaction, Session, SeatState}
 use Rattle.lg_standing.specs.OpenOnes.{HasOpen, text_at, last_line, lines_at, script_so_far, texts_so_far, script_end}
 use Rattle.lg_standing.specs.WantsIn.{wants_in, Holds, of_catalog, of_cell, wants_at}
-use Rattle.lg_standing.specs.TablesAreSerial.{Creates, TablesAreSerial, HasActed, HasAdded, IsAdding, IsSortedProjection, KeysDiffer, def_at, ordinals_of}
+use Rattle.lg_standing.specs.TablesAreSerial.{Creates, TablesAreSerial, HasAdded, IsAdding, IsSortedProjection, KeysDiffer, def_at, ordinals_of}
 use Rattle.lg_standing.specs.OpenScripts.{IsOfItsScript, OpenScripts, counted}
-use Rattle.lg_standing.specs.LocksCover.{KeepsLocks, IsNamed, IsGot, IsGotAt, LocksCover, IsAfter, LookedAt, LookedFirst}
+use Rattle.lg_standing.specs.LocksCover.{KeepsLocks, IsGot, IsGotAt, LocksCover, LookedAt, LookedFirst}
 use Rattle.lg_standing.specs.TreesAreOfEvents.{AreFrames, TreesAreOfEvents}
 use Rattle.lg_standing.specs.LocksAgree.{LocksAgree}
 use Rattle.lg_standing.specs.TranscriptsAgree.{TranscriptsAgree}
-use Rattle.lg_history.specs.Transcripts.{kind_of}
 use Rattle.lg_history.specs.Facts.{said, placed}
-use Rattle.lg_standing.specs.Parts.{asking}
 use Rattle.lg_standing.specs.OpenOnes.{last_line}
-use Rattle.lg_standing.specs.Desks.{Fits, FitsWith, FitsOwn, IsSaid}
-use Rattle.lg_standing.proofs.DeskActs.{GoesFrom}
-use Rattle.lg_standing.proofs.DeskStages.{GoesAt, from_at, fits_if, at_commit, at_said, at_own_end, made_fits}
-use Rattle.lg_standing.specs.StandTogether.{StandTogether}
+use Rattle.lg_standing.specs.TranscriptsSoFar.{Fits, FitsWith, FitsOwn, IsSaid}
+use Rattle.lg_standing.proofs.TranscriptActs.{GoesFrom}
+use Rattle.lg_standing.proofs.TranscriptStages.{from_at, fits_if, at_said, at_own_end, made_fits}
+use Rattle.lg_standing.specs.StandTogether.{History, Stands, StandsAfter}
 use Rattle.lg_standing.specs.Moves.{saying, ending, at_place, at_moment, sits, marking, StandsIn}
-use Rattle.lg_standing.specs.LedgerVisits.{Commits, is_quiet, with_item, CommitsNow}
-use Rattle.lg_standing.proofs.CatalogLocks.{WantsCatalog, wants_or_not, does_nothing, nobody_alone}
-use Rattle.lg_standing.proofs.CommitsLedger.{its_script, its_touched, some_event, next_item, commit_is_legal}
-use Rattle.lg_standing.proofs.FreshIds.{events_of_touched}
-use Rattle.lg_standing.proofs.QuietOnes.{none_at_all}
-use Rattle.lg_model.specs.Agreement.{IdsFrom, columns_at}
-use Rattle.lg_model.specs.Events.{all_events}
+use Rattle.lg_standing.specs.LedgerVisits.{Commits, is_quiet, with_item, CommitsNow, entry_of_trees}
+use Rattle.lg_standing.proofs.CommitsLedger.{its_script, its_touched, next_item, commit_is_legal}
+use Rattle.lg_model.specs.Agreement.{columns_at}
 use Rattle.lg_model.specs.ScriptWants.{text_wants}
-use Rattle.lg_frames.proofs.SameTouched.{untouched_at}
-use Rattle.lg_standing.specs.EventsIn.{events_in}
 use Rattle.lg_standing.proofs.CommittedMore.{IsWithin, committed_more, each_all, all_in, all_pass, unchanged}
-use Rattle.lg_standing.proofs.Draws.{at_own}
 use Rattle.lg_standing.proofs.Ids.{below, differ, drawn, others, has_not, outside}
 use Rattle.lg_standing.proofs.JournalMore.{serial_more}
-use Rattle.lg_standing.proofs.KnownMore.{has_own, has_other, had_not, upto_within, upto_past, upto_all, none_of_id}
-use Rattle.lg_standing.proofs.KnownTurns.{Says, tables_more, scripts_more, trees_more, cover_more}
-use Rattle.lg_standing.proofs.CommitsHistory.{commit_act}
+use Rattle.lg_standing.proofs.KnownMore.{has_own, has_other, upto_all, none_of_id}
+use Rattle.lg_standing.proofs.CommitsHistory.{commit_by}
 use Rattle.lg_standing.proofs.LedgerKept.{same_contents, are_cells}
 use Rattle.lg_standing.proofs.LedgerVisit.{the_ledger}
 use Rattle.lg_standing.proofs.Places.{set_here, set_again}
-use Rattle.lg_standing.proofs.SaysHistory.{says_act}
+use Rattle.lg_standing.proofs.SaysHistory.{told}
 use Rattle.lg_standing.proofs.OpenSeats.{Own, was_open}
-use Rattle.lg_standing.proofs.OthersScripts.{is_short, sound_for, locked, script_stays, frames_stay, each_map}
-use Rattle.lg_standing.proofs.Turns.{MayHave, StillStands, Owes, rows_turn, Turns, tables_turn, scripts_turn, trees_turn, agree_turn, cover_turn}
+use Rattle.lg_standing.proofs.OthersScripts.{sound_for, locked, script_stays, frames_stay, each_map}
 use Rattle.lg_standing.specs.RowsAgree.{RowsAgree, GoesBackTo, IsOpenedAt}
 use Rattle.lg_types.specs.declared.table.TableDef.{TableDef}
 use Rattle.lg_model.specs.Plans.{as_before, in_place, defined, plan, Definition, new}
-use Rattle.lg_standing.proofs.SaidThere.{same_replied}
-use Rattle.lg_standing.proofs.CommitRows.{rows_then, sound_left, undone_end}
+use Rattle.lg_standing.proofs.CommitRows.{sound_left, undone_end}
 use Rattle.lg_standing.proofs.CommitsLedger.{counts}
 use Rattle.lg_standing.proofs.OfCells.{HasLooked, looked_now, looked_so}
 use Rattle.lg_standing.specs.TreesAreOfEvents.{HasItsTrees}
@@ -113,9 +97,12 @@ use Rattle.lg_invariants.proofs.DefLists.{defs_append, defs_redefined, redef}
 use Rattle.lg_standing.proofs.SeatsAfter.{one_session, Goes, each_open, open_else, open_here}
 use Rattle.std.specs.List.{AllByRecursion}
 use Rattle.lg_standing.proofs.StepsSaid.{none_wanted}
-use Rattle.lg_standing.proofs.VisitActs.{ActsAt}
 use Rattle.lg_standing.proofs.CommitsStand.{commits_stand}
 use Rattle.lg_standing.proofs.NoneWanting.{none_wanting}
+use Rattle.lg_standing.specs.ActsOf.{commit_acts}
+use Rattle.lg_standing.proofs.GoesOn.{Owned, each_so, ActsBy, then_more}
+use Rattle.lg_history.specs.Acts as act
+use Rattle.lg_types.specs.declared.entry.TxEntry.{TxEntry}
 
 first_looked : (place : Place) → LookedFirst place → HasLooked place
 first_looked (inside text (found named true)) h = tt
@@ -149,7 +136,7 @@ ready_of false d (replied q) r e f = was_replied q refl
 ready_of false d (made def true) r e f = was_added def refl
 ready_of b d stage r e f = absurd f
 
-module _ (v : Server) (cells : List Cell) (seats : List SeatState) (st : StandTogether v cells seats) (j : ℕ) (s : SeatState) (there : get_elem? seats j ≡ some s)
+module _ (v : Server) (cells : List Cell) (seats : List SeatState) {history : History} (st : Stands v history cells seats) (j : ℕ) (s : SeatState) (there : get_elem? seats j ≡ some s)
     (p : StandsIn v s) (o : OpenTransaction) (open_one : p.x.open_one ≡ Some o) (open_end : o.end ≡ unfixed) (r : Reply) (commits : Commits o.opened p.stmt p.stage r) (acts : is_quiet o ≡ false) (time : ℕ)
     (creating : creates p.stmt ≡ true) where
   abbrev ledger : LedgerCell
@@ -166,6 +153,9 @@ module _ (v : Server) (cells : List Cell) (seats : List SeatState) (st : StandTo
 
   abbrev lines : List Line
   lines = script_so_far p.x o
+
+  abbrev entry : TxEntry
+  entry = entry_of_trees v o p.x.transcript.session time
 
   abbrev item : JournalItem
   item = Tx o.id p.x.transcript.session time o.opened lines
@@ -201,7 +191,7 @@ module _ (v : Server) (cells : List Cell) (seats : List SeatState) (st : StandTo
   lines_are : lines ≡ (p.text, (last_of ready).0) ∷ []
   lines_are = ap (λ (ls : List Line). ls ++ lines_at p.x.place) (its_alone own) ∙ ap lines_at p.place ∙ (last_of ready).1
 
-  texts_are : texts_so_far p.x o ≡ p.text ∷ []
+  pub texts_are : texts_so_far p.x o ≡ p.text ∷ []
   texts_are = ap (map (λ l. l.0)) lines_are
 
   left_is : left ≡ (effect T o.id 0 p.stmt).tables
@@ -229,11 +219,11 @@ module _ (v : Server) (cells : List Cell) (seats : List SeatState) (st : StandTo
   no_lock zero id l = alone v cells seats st o.id exclusive id l
   no_lock (suc i) id l = alone v cells seats st o.id exclusive id (st.locks_cover.catalog i id l)
 
-  its : (i : ℕ) (h : Hold) → In h (c.holds i) → h.tx ≡ o.id
+  pub its : (i : ℕ) (h : Hold) → In h (c.holds i) → h.tx ≡ o.id
   its i h is = no_lock i h.tx (record { hold = h; has = is; mine = refl })
 
   differ_ids : (i : ℕ) (z : Session) (u : OpenTransaction) → i ≢ j → HasOpen seats i z u → u.id ≢ o.id
-  differ_ids i z u ne w e = differ v st.history ledger seats st.transcripts_agree j i p.x z o u (λ q. ne (sym q)) has w (sym e)
+  differ_ids i z u ne w e = differ v history ledger seats st.transcripts_agree j i p.x z o u (λ q. ne (sym q)) has w (sym e)
 
   not_locked : (i : ℕ) (z : Session) (u : OpenTransaction) → i ≢ j → HasOpen seats i z u → (n : ℕ) → HasLock c n u.id → ⊥
   not_locked i z u ne w n l = differ_ids i z u ne w (no_lock n u.id l)
@@ -271,8 +261,8 @@ module _ (v : Server) (cells : List Cell) (seats : List SeatState) (st : StandTo
   m_other = has_other o.id p.x.transcript.session time o.opened lines ledger.items
 
   next_not : m.has ledger.next ≡ false
-  next_not = m_other ledger.next (λ e. let l = below v st.history ledger seats st.transcripts_agree j p.x o has in absurd (omega arith))
-      ∙ has_not ledger.next ledger.items (each_weaker (λ i. i < ledger.next) (λ i. i ≢ ledger.next) (λ i l e. absurd (omega arith)) (ids_of ledger.items) (drawn v st.history ledger seats st.transcripts_agree))
+  next_not = m_other ledger.next (λ e. let l = below v history ledger seats st.transcripts_agree j p.x o has in absurd (omega arith))
+      ∙ has_not ledger.next ledger.items (each_weaker (λ i. i < ledger.next) (λ i. i ≢ ledger.next) (λ i l e. absurd (omega arith)) (ids_of ledger.items) (drawn v history ledger seats st.transcripts_agree))
 
   no_count : (id : ℕ) (ws : List Version) → counted o.id id p.x.place ws ≡ ws
   no_count = counts v cells seats st j s there p o open_one open_end r commits acts
@@ -307,7 +297,7 @@ module _ (v : Server) (cells : List Cell) (seats : List SeatState) (st : StandTo
     where
       in_catalog : cell_of id ≡ catalog_at → versions_of T id ≡ versions_undone o.id 0 (versions_of m.tables id)
       in_catalog e = by_keys (columns_at (defs_of T) id) (versions_of T id) (versions_undone o.id 0 (versions_of m.tables id)) (rising_at o.id 0 id T sound.each) (rising_undone o.id 0 (versions_of m.tables id) (left_rising id))
-          (λ key. sym (st.rows_agree.undone id key l (record { tx = o.id; want = whole X }) held (has_not o.id ledger.items (outside v st.history ledger seats st.transcripts_agree j p.x o has open_end)) (reach key))
+          (λ key. sym (st.rows_agree.undone id key l (record { tx = o.id; want = whole X }) held (has_not o.id ledger.items (outside v history ledger seats st.transcripts_agree j p.x o has open_end)) (reach key))
           ∙ ap (versions_undone o.id 0) (sym (no_count id _) ∙ st.rows_agree.own j p.x o has open_end id key l (record { tx = o.id; want = whole X }) held refl (reach key) ∙ ap (λ (U : Tables). of_key (columns_at (defs_of T) id) key (versions_of U id)) (sym tables_are))
           ∙ undone_of_key (columns_at (defs_of T) id) key o.id 0 (versions_of m.tables id))
         where
@@ -515,7 +505,7 @@ module _ (v : Server) (cells : List Cell) (seats : List SeatState) (st : StandTo
 
   trees_then : TreesAreOfEvents v c m after
   trees_then = each_open seats j t p.x o y q goes (λ n z u. u.end ≡ unfixed → HasItsTrees v c m z u) (λ e. absurd (not_open e))
-      (λ n z u ne w e. let h = st.trees_are_of_events n z u w e in record { trees = h.trees; frames = subst (λ (U : Tables). AreFrames v u.id u.frames (script_end v U z u).state.saved) (sym tables_are) (frames_stay v cells seats st j p.x o has open_end n z u ne w e h.frames) })
+      (λ n z u ne w e. let h = st.trees_are_of_events n z u w e in record { trees = h.trees; frames = subst (λ (U : Tables). AreFrames u.id u.frames (script_end v U z u).state.saved) (sym tables_are) (frames_stay v cells seats st j p.x o has open_end n z u ne w e h.frames) })
 
   -- ---- locks
 
@@ -606,15 +596,16 @@ module _ (v : Server) (cells : List Cell) (seats : List SeatState) (st : StandTo
 
   -- ---- the history
 
-  pub record AgreesAt (ls : List Line) (us : List SeatState) : Type 0 where
-    pub history : List Event
-    pub agree : TranscriptsAgree v history (with_item (Tx o.id p.x.transcript.session time o.opened ls) ledger) us
+  pub record AgreesAt (ls : List Line) (deeds : List SessionAct) (us : List SeatState) : Type 0 where
+    pub session : ℕ
+    pub agree : TranscriptsAgree v (history ++ map (by session) deeds) (with_item entry (Tx o.id p.x.transcript.session time o.opened ls) ledger) us
+    pub own : agree.owner session ≡ j
 
   abbrev Agrees : Type 0
-  Agrees = AgreesAt lines after
+  Agrees = AgreesAt lines (commit_acts p.x time place) after
 
-  at_history : (h : List Event) (ls : List Line) (us : List SeatState) → TranscriptsAgree v h (with_item (Tx o.id p.x.transcript.session time o.opened ls) ledger) us → AgreesAt ls us
-  at_history h ls us a = record { history = h; agree = a }
+  at_history : (n : ℕ) (deeds : List SessionAct) (ls : List Line) (us : List SeatState) → Owned v (history ++ map (by n) deeds) (with_item entry (Tx o.id p.x.transcript.session time o.opened ls) ledger) us n j → AgreesAt ls deeds us
+  at_history n deeds ls us a = record { session = n; agree = a.0; own = a.1 }
 
   abbrev right_with : List Line → Type 0
   right_with ls = AgreesWith v.reads T o.id o.opened ls (script v.reads o.opened T o.id (map (λ l. l.0) ls))
@@ -653,8 +644,8 @@ module _ (v : Server) (cells : List Cell) (seats : List SeatState) (st : StandTo
     abbrev t1 : SeatState
     t1 = marking place (sits s1 y1)
 
-    said_it : ActsAt v ledger seats1
-    said_it = record { history = _; agree = says_act v ledger seats st.history st.transcripts_agree j s there p.x p.role o open_one open_end its_alone line (λ a i. subst (λ (ls : List Line). In a (map (λ l. l.0) (o.script ++ ls))) line_is i) in_text (answering r None) goes_so }
+    said_it : ActsBy v history (act.says line ∷ []) ledger seats1 j
+    said_it = told v ledger seats history st.transcripts_agree j s there p.x p.role o open_one open_end its_alone line (λ a i. subst (λ (ls : List Line). In a (map (λ l. l.0) (o.script ++ ls))) line_is i) in_text (answering r None) goes_so
 
     there1 : get_elem? seats1 j ≡ some s1
     there1 = set_here seats j s1 s there
@@ -666,12 +657,14 @@ module _ (v : Server) (cells : List Cell) (seats : List SeatState) (st : StandTo
     nobody_wants1 i z u ne k e = nobody_wants i z u ne (⊎_elim (λ (f : (i ≡ j) × Own s1 z u). absurd (ne f.0)) (λ (f : (i ≢ j) × HasOpen seats i z u). f.1) (was_open seats j s s1 there i z u k)) e
 
     by_line : Agrees
-    by_line = subst₂ AgreesAt (sym all_lines) (set_again seats j s1 t1 ∙ ap (λ (ls : List Line). slice_set seats j (seat_with ls)) (sym all_lines))
-        (at_history _ (o.script ++ line ∷ []) (slice_set seats1 j t1)
-        (commit_act v ledger seats1 said_it.history said_it.agree j s1 there1
+    by_line = subst₂ (λ (ls : List Line) (us : List SeatState). AgreesAt ls (commit_acts p.x time place) us) (sym all_lines) (set_again seats j s1 t1 ∙ ap (λ (ls : List Line). slice_set seats j (seat_with ls)) (sym all_lines))
+        (subst (λ (ls : List Line). AgreesAt (o.script ++ line ∷ []) (map act.says ls ++ act.commits time place ∷ []) (slice_set seats1 j t1)) (sym line_is)
+        (at_history said_it.session (act.says line ∷ act.commits time place ∷ []) (o.script ++ line ∷ []) (slice_set seats1 j t1)
+        (then_more v history (by said_it.session (act.says line) ∷ []) (by said_it.session (act.commits time place) ∷ []) _ _
+        (commit_by v ledger seats1 _ said_it.agree j s1 there1
         x1 refl (saying line o) refl open_end time p.text refl r refl
         (from_at v.meaning x1 y1 (inside p.text (answering r None)) (Some (saying line o)) (placed place ∷ []) refl refl refl (λ n i f. at_own_end v.meaning n p.text r None (saying line o) (committed place) (o.script ++ line ∷ []) own open_end tt f))
-        (subst right_with all_lines right) (inr (none_wanting v said_it.history ledger seats1 said_it.agree j x1 (saying line o) has1 nobody_wants1))))
+        (subst right_with all_lines right) (inr (none_wanting v (history ++ by said_it.session (act.says line) ∷ []) ledger seats1 said_it.agree j x1 (saying line o) has1 nobody_wants1)) said_it.session said_it.now))))
 
   own_fits : (n : ℕ) (stage : Stage) → Fits v.meaning n (inside p.text stage) (Some o) → FitsWith v.meaning false n p.text stage o.id o.end
   own_fits n stage f = fits_if v.meaning n p.text stage o false own f
@@ -691,37 +684,41 @@ module _ (v : Server) (cells : List Cell) (seats : List SeatState) (st : StandTo
 
   -- ---- all
 
-  over : (P : Contents → Type 0) → P c → P (contents (slice_set cells ledger_at (Ledger (with_item item ledger))))
-  over P h = subst P (sym (same_contents cells ledger (with_item item ledger) st.are_cells.has_ledger)) h
+  over : (P : Contents → Type 0) → P c → P (contents (slice_set cells ledger_at (Ledger (with_item entry item ledger))))
+  over P h = subst P (sym (same_contents cells ledger (with_item entry item ledger) st.are_cells.has_ledger)) h
 
-  pub create_commits : StandTogether v (slice_set cells ledger_at (Ledger (with_item item ledger))) after
+  pub create_commits : StandsAfter v j history (commit_acts p.x time place) (slice_set cells ledger_at (Ledger (with_item entry item ledger))) after
   create_commits = record {
-    history = agrees.history;
-    catalog = st.catalog;
-    ledger = with_item item ledger;
-    are_cells = are_cells cells ledger (with_item item ledger) st.are_cells.has_ledger st.catalog ledger st.are_cells;
-    ledger_is_legal = commit_is_legal v cells seats st j s there p o open_one open_end r commits acts time;
-    tables_are_serial = over (λ a. TablesAreSerial v a m st.catalog.defs st.catalog.creator after) serial_then;
-    rows_agree = over (λ a. RowsAgree v a m after) rows_agree_then;
-    open_scripts = over (λ a. OpenScripts v a m after) scripts_then;
-    locks_cover = over (λ a. LocksCover v a m after) cover_then;
-    locks_agree = over (λ a. LocksAgree a after) agree_then;
-    trees_are_of_events = over (λ a. TreesAreOfEvents v a m after) trees_then;
-    transcripts_agree = agrees.agree;
+    session = agrees.session;
+    stands = record {
+      catalog = st.catalog;
+      ledger = with_item entry item ledger;
+      are_cells = are_cells cells ledger (with_item entry item ledger) st.are_cells.has_ledger st.catalog ledger st.are_cells;
+      ledger_is_legal = commit_is_legal v cells seats st j s there p o open_one open_end r commits acts time;
+      tables_are_serial = over (λ a. TablesAreSerial v a m st.catalog.defs st.catalog.creator after) serial_then;
+      rows_agree = over (λ a. RowsAgree v a m after) rows_agree_then;
+      open_scripts = over (λ a. OpenScripts v a m after) scripts_then;
+      locks_cover = over (λ a. LocksCover v a m after) cover_then;
+      locks_agree = over (λ a. LocksAgree a after) agree_then;
+      trees_are_of_events = over (λ a. TreesAreOfEvents v a m after) trees_then;
+      transcripts_agree = agrees.agree;
+    };
+    mine = each_so (commit_acts p.x time place) agrees.own;
   }
 
 -- A commit keeps cells and seats standing together.
-pub every_commit_stands : (v : Server) (cells : List Cell) (seats : List SeatState) → StandTogether v cells seats → (j : ℕ) (s : SeatState) → get_elem? seats j ≡ some s
-    → (time : ℕ) (c d : LedgerCell) (t : SeatState) → get_elem? cells ledger_at ≡ some (Ledger c) → CommitsNow v time c s d t
-    → StandTogether v (slice_set cells ledger_at (Ledger d)) (slice_set seats j t)
-every_commit_stands v cells seats st j s there time c d t here visit = by (creates visit.stands.stmt) refl
+pub every_commit_stands : (v : Server) (cells : List Cell) (seats : List SeatState) {history : History} → Stands v history cells seats → (j : ℕ) (s : SeatState) → get_elem? seats j ≡ some s
+    → (time : ℕ) (c d : LedgerCell) (t : SeatState) → get_elem? cells ledger_at ≡ some (Ledger c) → (w : CommitsNow v time c s d t)
+    → StandsAfter v j history (commit_acts w.stands.x time (tx_count c.items + 1)) (slice_set cells ledger_at (Ledger d)) (slice_set seats j t)
+every_commit_stands v cells seats {history} st j s there time c d t here visit = by (creates visit.stands.stmt) refl
   where
-    from : (e : LedgerCell) → e ≡ st.ledger → (w : CommitsNow v time e s d t) → creates w.stands.stmt ≡ true → StandTogether v (slice_set cells ledger_at (Ledger d)) (slice_set seats j t)
-    from e is w f = subst₂ (λ (e : LedgerCell) (u : SeatState). StandTogether v (slice_set cells ledger_at (Ledger e)) (slice_set seats j u))
-        (ap (with_item (Tx w.o.id w.stands.x.transcript.session time w.o.opened (script_so_far w.stands.x w.o))) (sym is) ∙ sym w.cell)
+    from : (e : LedgerCell) → e ≡ st.ledger → (w : CommitsNow v time e s d t) → creates w.stands.stmt ≡ true → StandsAfter v j history (commit_acts w.stands.x time (tx_count e.items + 1)) (slice_set cells ledger_at (Ledger d)) (slice_set seats j t)
+    from e is w f = subst (λ (l : LedgerCell). StandsAfter v j history (commit_acts w.stands.x time (tx_count l.items + 1)) (slice_set cells ledger_at (Ledger d)) (slice_set seats j t)) (sym is)
+        (subst₂ (λ (l : LedgerCell) (u : SeatState). StandsAfter v j history (commit_acts w.stands.x time (tx_count st.ledger.items + 1)) (slice_set cells ledger_at (Ledger l)) (slice_set seats j u))
+        (ap (with_item (entry_of_trees v w.o w.stands.x.transcript.session time) (Tx w.o.id w.stands.x.transcript.session time w.o.opened (script_so_far w.stands.x w.o))) (sym is) ∙ sym w.cell)
         (ap (λ (l : LedgerCell). marking (tx_count l.items + 1) (sits s (at_moment time (at_place (Some (ending (committed (tx_count l.items + 1)) (script_so_far w.stands.x w.o) w.o)) (inside w.stands.text (answering w.reply None)) w.stands.x)))) (sym is) ∙ sym w.seat)
-        (create_commits v cells seats st j s there w.stands w.o w.open_one w.unfixed w.reply w.commits w.acts time f)
+        (create_commits v cells seats st j s there w.stands w.o w.open_one w.unfixed w.reply w.commits w.acts time f))
 
-    by : (b : Bool) → creates visit.stands.stmt ≡ b → StandTogether v (slice_set cells ledger_at (Ledger d)) (slice_set seats j t)
+    by : (b : Bool) → creates visit.stands.stmt ≡ b → StandsAfter v j history (commit_acts visit.stands.x time (tx_count c.items + 1)) (slice_set cells ledger_at (Ledger d)) (slice_set seats j t)
     by true e = from c (the_ledger cells st.catalog st.ledger c st.are_cells here) visit e
     by false e = commits_stand v cells seats st j s there time c d t here visit e

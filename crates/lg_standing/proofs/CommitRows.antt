@@ -16,7 +16,7 @@ use Rattle.lg_model.specs.Keys.{Key, of_key, same_key, version_key}
 use Rattle.lg_standing.specs.Seats.{OpenTransaction, SeatState, Session}
 use Rattle.lg_model.specs.Runs.{Rising, Sound}
 use Rattle.lg_standing.specs.Server.{Server}
-use Rattle.lg_standing.specs.StandTogether.{StandTogether}
+use Rattle.lg_standing.specs.StandTogether.{History, Stands}
 use Rattle.lg_types.specs.declared.statement.Stmt.{Stmt}
 use Rattle.lg_types.specs.declared.version.Version.{Version}
 use Rattle.lg_types.specs.declared.lock.Want.{Want}
@@ -45,7 +45,7 @@ use Rattle.lg_history.specs.Transactions.{unfixed}
 use Rattle.lg_standing.proofs.Taken.{whole_alone}
 use Rattle.lg_types.specs.declared.lock.Mode.TheVariants.{X}
 
-module _ (v : Server) (cells : List Cell) (seats : List SeatState) (st : StandTogether v cells seats) (j : ℕ) (x : Session) (o : OpenTransaction) (has : HasOpen seats j x o) (open_end : o.end ≡ unfixed)
+module _ (v : Server) (cells : List Cell) (seats : List SeatState) {history : History} (st : Stands v history cells seats) (j : ℕ) (x : Session) (o : OpenTransaction) (has : HasOpen seats j x o) (open_end : o.end ≡ unfixed)
     (counts : (id : ℕ) (ws : List Version) → counted o.id id x.place ws ≡ ws)
     (nobody_alone : (i : ℕ) (z : Session) (u : OpenTransaction) → i ≢ j → HasOpen seats i z u → HasAlone (contents cells) u.id → ⊥) where
   abbrev c : Contents
@@ -105,7 +105,7 @@ module _ (v : Server) (cells : List Cell) (seats : List SeatState) (st : StandTo
       undone_end = kept_and_undone v.reads S u.id sound u.opened (texts_so_far z u) (short i z u has_u open_u) (λ own. texts_not own (texts_so_far z u) (locked v cells seats st i z u has_u open_u catalog_at))
 
     differ_ids : o.id ≢ u.id
-    differ_ids = differ v st.history st.ledger seats st.transcripts_agree j i x z o u (λ e. ne (sym e)) has has_u
+    differ_ids = differ v history st.ledger seats st.transcripts_agree j i x z o u (λ e. ne (sym e)) has has_u
 
     sound_t : Sound u.id 0 T
     sound_t = sound_for v cells seats st i z u has_u open_u
@@ -128,7 +128,7 @@ module _ (v : Server) (cells : List Cell) (seats : List SeatState) (st : StandTo
     next_sound = legal_sound v.reads st.ledger.items st.ledger.next st.ledger_is_legal.legal (others st.ledger.next st.ledger.items (others_in_journal v cells seats st))
 
     not_next : (i : ℕ) (z : Session) (u : OpenTransaction) → HasOpen seats i z u → u.id ≢ st.ledger.next
-    not_next i z u w e = let l = below v st.history st.ledger seats st.transcripts_agree i z u w in absurd (omega arith)
+    not_next i z u w e = let l = below v history st.ledger seats st.transcripts_agree i z u w in absurd (omega arith)
 
     rising_t : (id : ℕ) → Rising (versions_of over_t id)
     rising_t id = rising_at st.ledger.next 0 id over_t (others_sound u.id st.ledger.next 0 (not_next i z u has_u) v.reads u.opened T (texts_so_far z u) sound_t next_sound).each

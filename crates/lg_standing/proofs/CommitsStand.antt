@@ -30,7 +30,7 @@ use Rattle.lg_history.specs.Lists.{Text, Each, In}
 use Rattle.lg_history.specs.Journals.{ids_of}
 use Rattle.lg_history.specs.Refusals.{EndsAt}
 use Rattle.lg_history.specs.Transactions.{unfixed, committed}
-use Rattle.lg_history.specs.Acts.{Event}
+use Rattle.lg_history.specs.Acts.{Act, SessionAct, by}
 use Rattle.lg_history.proofs.Trace.{each_weaker}
 use Rattle.lg_standing.specs.Server.{Server}
 use Rattle.lg_standing.specs.Cells.{LedgerCell, Cell, Ledger, ledger_at}
@@ -49,12 +49,12 @@ use Rattle.lg_history.specs.Transcripts.{kind_of}
 use Rattle.lg_history.specs.Facts.{said, placed}
 use Rattle.lg_standing.specs.Parts.{asking}
 use Rattle.lg_standing.specs.OpenOnes.{last_line}
-use Rattle.lg_standing.specs.Desks.{Fits, FitsWith, FitsOwn, IsSaid}
-use Rattle.lg_standing.proofs.DeskActs.{GoesFrom}
-use Rattle.lg_standing.proofs.DeskStages.{GoesAt, from_at, fits_if, at_commit, at_said, at_own_end, made_fits}
-use Rattle.lg_standing.specs.StandTogether.{StandTogether}
+use Rattle.lg_standing.specs.TranscriptsSoFar.{Fits, FitsWith, FitsOwn, IsSaid}
+use Rattle.lg_standing.proofs.TranscriptActs.{GoesFrom}
+use Rattle.lg_standing.proofs.TranscriptStages.{GoesAt, from_at, fits_if, at_commit, at_said, at_own_end, made_fits}
+use Rattle.lg_standing.specs.StandTogether.{History, Stands, StandsAfter}
 use Rattle.lg_standing.specs.Moves.{saying, ending, at_place, at_moment, sits, marking, StandsIn}
-use Rattle.lg_standing.specs.LedgerVisits.{Commits, is_quiet, with_item, CommitsNow}
+use Rattle.lg_standing.specs.LedgerVisits.{Commits, is_quiet, with_item, CommitsNow, entry_of_trees}
 use Rattle.lg_standing.proofs.CatalogLocks.{WantsCatalog, wants_or_not, does_nothing, nobody_alone}
 use Rattle.lg_standing.proofs.CommitsLedger.{its_script, its_touched, some_event, next_item, commit_is_legal}
 use Rattle.lg_standing.proofs.FreshIds.{events_of_touched}
@@ -70,11 +70,11 @@ use Rattle.lg_standing.proofs.Ids.{below, drawn, others, has_not}
 use Rattle.lg_standing.proofs.JournalMore.{serial_more}
 use Rattle.lg_standing.proofs.KnownMore.{has_own, has_other, had_not, upto_within, upto_past, upto_all, none_of_id}
 use Rattle.lg_standing.proofs.KnownTurns.{Says, tables_more, scripts_more, trees_more, cover_more}
-use Rattle.lg_standing.proofs.CommitsHistory.{commit_act}
+use Rattle.lg_standing.proofs.CommitsHistory.{commit_act, commit_by}
 use Rattle.lg_standing.proofs.LedgerKept.{same_contents, are_cells}
 use Rattle.lg_standing.proofs.LedgerVisit.{the_ledger}
 use Rattle.lg_standing.proofs.Places.{set_here, set_again}
-use Rattle.lg_standing.proofs.SaysHistory.{says_act}
+use Rattle.lg_standing.proofs.SaysHistory.{told}
 use Rattle.lg_standing.proofs.OpenSeats.{Own, was_open}
 use Rattle.lg_standing.proofs.OthersScripts.{is_short, sound_for, locked, script_stays, frames_stay}
 use Rattle.lg_standing.proofs.Turns.{MayHave, StillStands, Owes, rows_turn, Turns, tables_turn, scripts_turn, trees_turn, agree_turn, cover_turn}
@@ -84,13 +84,17 @@ use Rattle.lg_model.specs.Plans.{as_before, in_place}
 use Rattle.lg_standing.proofs.SaidThere.{same_replied}
 use Rattle.lg_standing.proofs.CommitRows.{rows_then, sound_left, undone_end}
 use Rattle.lg_standing.proofs.CommitsLedger.{counts}
+use Rattle.lg_standing.specs.ActsOf.{commit_acts}
+use Rattle.lg_standing.proofs.GoesOn.{Owned, each_so, ActsBy, then_more}
+use Rattle.lg_history.specs.Acts as act
+use Rattle.lg_types.specs.declared.entry.TxEntry.{TxEntry}
 
 in_texts : (a : Text) (xs ys : List Line) (zs : List Text) → In a (map (λ l. l.0) xs ++ zs) → In a (map (λ l. l.0) (xs ++ ys) ++ zs)
 in_texts a [] [] zs i = i
 in_texts a [] (y ∷ ys) zs i = inr (in_texts a [] ys zs i)
 in_texts a (x ∷ xs) ys zs i = ⊎_elim (λ e. inl e) (λ e. inr (in_texts a xs ys zs e)) i
 
-module _ (v : Server) (cells : List Cell) (seats : List SeatState) (st : StandTogether v cells seats) (j : ℕ) (s : SeatState) (there : get_elem? seats j ≡ some s)
+module _ (v : Server) (cells : List Cell) (seats : List SeatState) {history : History} (st : Stands v history cells seats) (j : ℕ) (s : SeatState) (there : get_elem? seats j ≡ some s)
     (p : StandsIn v s) (o : OpenTransaction) (open_one : p.x.open_one ≡ Some o) (open_end : o.end ≡ unfixed) (r : Reply) (commits : Commits o.opened p.stmt p.stage r) (acts : is_quiet o ≡ false) (time : ℕ)
     (not_creating : creates p.stmt ≡ false) where
   abbrev ledger : LedgerCell
@@ -104,6 +108,9 @@ module _ (v : Server) (cells : List Cell) (seats : List SeatState) (st : StandTo
 
   abbrev lines : List Line
   lines = script_so_far p.x o
+
+  abbrev entry : TxEntry
+  entry = entry_of_trees v o p.x.transcript.session time
 
   abbrev item : JournalItem
   item = Tx o.id p.x.transcript.session time o.opened lines
@@ -151,7 +158,7 @@ module _ (v : Server) (cells : List Cell) (seats : List SeatState) (st : StandTo
       (one_keeps_defs v.reads k.tables o.id t p.stmt is not_creating, one_undone v.reads k.tables o.id sound t (subst (CreatesNot v.reads k.tables o.id sound) (sym is) not_creating))
   by_kind false e (t ∷ u ∷ ts) short own = absurd (short refl)
 
-  both : (defs_of left ≡ defs_of k.tables) × (undone o.id 0 left ≡ k.tables)
+  pub both : (defs_of left ≡ defs_of k.tables) × (undone o.id 0 left ≡ k.tables)
   both = by_kind o.opened refl (texts_so_far p.x o) (is_short v p.x o its_alone) own_texts
 
   defs_stay : defs_of m.tables ≡ defs_of k.tables
@@ -184,8 +191,8 @@ module _ (v : Server) (cells : List Cell) (seats : List SeatState) (st : StandTo
   end_within id w i (Some e) is = end_if id w i e is (m.has e.0) refl
 
   next_not : m.has ledger.next ≡ false
-  next_not = has_other o.id p.x.transcript.session time o.opened lines ledger.items ledger.next (λ e. let l = below v st.history ledger seats st.transcripts_agree j p.x o has in absurd (omega arith))
-      ∙ has_not ledger.next ledger.items (each_weaker (λ i. i < ledger.next) (λ i. i ≢ ledger.next) (λ i l e. absurd (omega arith)) (ids_of ledger.items) (drawn v st.history ledger seats st.transcripts_agree))
+  next_not = has_other o.id p.x.transcript.session time o.opened lines ledger.items ledger.next (λ e. let l = below v history ledger seats st.transcripts_agree j p.x o has in absurd (omega arith))
+      ∙ has_not ledger.next ledger.items (each_weaker (λ i. i < ledger.next) (λ i. i ≢ ledger.next) (λ i l e. absurd (omega arith)) (ids_of ledger.items) (drawn v history ledger seats st.transcripts_agree))
 
   versions_are : (id : ℕ) → 1 ≤ id → committed_at m.has (c.versions id) ≡ versions_then id
   versions_are id l = committed_more o.id k.has m.has (has_own o.id p.x.transcript.session time o.opened lines ledger.items) (λ n ne. has_other o.id p.x.transcript.session time o.opened lines ledger.items n ne)
@@ -363,7 +370,7 @@ module _ (v : Server) (cells : List Cell) (seats : List SeatState) (st : StandTo
         (was_open seats j s t there i z u w);
     trees = λ i z u w e h. ⊎_elim
         (λ (f : (i ≡ j) × Own t z u). absurd (is_fixed z u f.1 e))
-        (λ (f : (i ≢ j) × HasOpen seats i z u). record { trees = h.trees; frames = subst (λ (T : Tables). AreFrames v u.id u.frames (script_end v T z u).state.saved) (sym tables_are) (frames_stay v cells seats st j p.x o has open_end i z u f.0 f.1 e h.frames) })
+        (λ (f : (i ≢ j) × HasOpen seats i z u). record { trees = h.trees; frames = subst (λ (T : Tables). AreFrames u.id u.frames (script_end v T z u).state.saved) (sym tables_are) (frames_stay v cells seats st j p.x o has open_end i z u f.0 f.1 e h.frames) })
         (was_open seats j s t there i z u w);
   }
     where
@@ -372,15 +379,16 @@ module _ (v : Server) (cells : List Cell) (seats : List SeatState) (st : StandTo
 
   -- ---- the history
 
-  pub record AgreesAt (ls : List Line) (us : List SeatState) : Type 0 where
-    pub history : List Event
-    pub agree : TranscriptsAgree v history (with_item (Tx o.id p.x.transcript.session time o.opened ls) ledger) us
+  pub record AgreesAt (ls : List Line) (deeds : List SessionAct) (us : List SeatState) : Type 0 where
+    pub session : ℕ
+    pub agree : TranscriptsAgree v (history ++ map (by session) deeds) (with_item entry (Tx o.id p.x.transcript.session time o.opened ls) ledger) us
+    pub own : agree.owner session ≡ j
 
   abbrev Agrees : Type 0
-  Agrees = AgreesAt lines after
+  Agrees = AgreesAt lines (commit_acts p.x time place) after
 
-  at_history : (h : List Event) (ls : List Line) (us : List SeatState) → TranscriptsAgree v h (with_item (Tx o.id p.x.transcript.session time o.opened ls) ledger) us → AgreesAt ls us
-  at_history h ls us a = record { history = h; agree = a }
+  at_history : (n : ℕ) (deeds : List SessionAct) (ls : List Line) (us : List SeatState) → Owned v (history ++ map (by n) deeds) (with_item entry (Tx o.id p.x.transcript.session time o.opened ls) ledger) us n j → AgreesAt ls deeds us
+  at_history n deeds ls us a = record { session = n; agree = a.0; own = a.1 }
 
   abbrev right_with : List Line → Type 0
   right_with ls = AgreesWith v.reads k.tables o.id o.opened ls (script v.reads o.opened k.tables o.id (map (λ l. l.0) ls))
@@ -398,9 +406,9 @@ module _ (v : Server) (cells : List Cell) (seats : List SeatState) (st : StandTo
   by_commit : p.x.place ≡ inside p.text begun → o.opened ≡ true → p.stmt ≡ stmt.Commit → r ≡ reply.Quiet → Agrees
   by_commit at opened is quiet = let e : lines ≡ o.script = ap (λ (x : Place). o.script ++ lines_at x) at ∙ append-nil o.script in
       let y1 : Session = at_moment time (at_place (Some (ending (committed place) o.script o)) (inside p.text (answering r None)) p.x) in
-      subst (λ (ls : List Line). AgreesAt ls (slice_set seats j (seat_with ls))) (sym e)
-      (at_history _ o.script (slice_set seats j (seat_with o.script))
-      (commit_act v ledger seats st.history st.transcripts_agree j s there p.x p.role o open_one open_end time p.text in_text r (ap asking at)
+      subst₂ (λ (ls : List Line) (more : List SessionAct). AgreesAt ls more (slice_set seats j (seat_with ls))) (sym e) (ap (λ (q : Place). map act.says (lines_at q) ++ act.commits time place ∷ []) (sym at))
+      (at_history _ (act.commits time place ∷ []) o.script (slice_set seats j (seat_with o.script))
+      (commit_act v ledger seats history st.transcripts_agree j s there p.x p.role o open_one open_end time p.text in_text r (ap asking at)
       (from_at v.meaning p.x y1 (inside p.text begun) (Some o) (placed place ∷ []) at open_one refl (λ n i f. subst (λ (a : Reply). GoesAt v.meaning n (inside p.text begun) (Some o) (inside p.text (answering a None)) (Some (ending (committed place) o.script o)) (placed place ∷ [])) (sym quiet) (at_commit v.meaning n p.text o place o.script opened open_end (kind ∙ ap (λ z. kind_of (Some z)) is))))
       (subst right_with e right) (inl (subst stays_with e both.0))))
 
@@ -414,12 +422,15 @@ module _ (v : Server) (cells : List Cell) (seats : List SeatState) (st : StandTo
       let s1 : SeatState = sits s x1 in
       let y1 : Session = at_moment time (at_place (Some (ending (committed place) (o.script ++ line ∷ []) (saying line o))) (inside p.text (answering r None)) x1) in
       let t1 : SeatState = marking place (sits s1 y1) in
-      subst₂ AgreesAt (sym e) (set_again seats j s1 t1 ∙ ap (λ (ls : List Line). slice_set seats j (seat_with ls)) (sym e))
-      (at_history _ (o.script ++ line ∷ []) (slice_set (slice_set seats j s1) j t1)
-      (commit_act v ledger (slice_set seats j s1) _ (says_act v ledger seats st.history st.transcripts_agree j s there p.x p.role o open_one open_end its_alone line (λ a i. subst (λ (ls : List Line). In a (map (λ l. l.0) (o.script ++ ls))) f i) in_text (answering r None) goes) j s1 (set_here seats j s1 s there)
+      let said_it : ActsBy v history (act.says line ∷ []) ledger (slice_set seats j s1) j = told v ledger seats history st.transcripts_agree j s there p.x p.role o open_one open_end its_alone line (λ a i. subst (λ (ls : List Line). In a (map (λ l. l.0) (o.script ++ ls))) f i) in_text (answering r None) goes in
+      subst₂ (λ (ls : List Line) (us : List SeatState). AgreesAt ls (commit_acts p.x time place) us) (sym e) (set_again seats j s1 t1 ∙ ap (λ (ls : List Line). slice_set seats j (seat_with ls)) (sym e))
+      (subst (λ (ls : List Line). AgreesAt (o.script ++ line ∷ []) (map act.says ls ++ act.commits time place ∷ []) (slice_set (slice_set seats j s1) j t1)) (sym f)
+      (at_history said_it.session (act.says line ∷ act.commits time place ∷ []) (o.script ++ line ∷ []) (slice_set (slice_set seats j s1) j t1)
+      (then_more v history (by said_it.session (act.says line) ∷ []) (by said_it.session (act.commits time place) ∷ []) _ _
+      (commit_by v ledger (slice_set seats j s1) _ said_it.agree j s1 (set_here seats j s1 s there)
       x1 refl (saying line o) refl open_end time p.text refl r refl
       (from_at v.meaning x1 y1 (inside p.text (answering r None)) (Some (saying line o)) (placed place ∷ []) refl refl refl (λ n i f. at_own_end v.meaning n p.text r None (saying line o) (committed place) (o.script ++ line ∷ []) own open_end tt f))
-      (subst right_with e right) (inl (subst stays_with e both.0))))
+      (subst right_with e right) (inl (subst stays_with e both.0)) said_it.session said_it.now))))
 
   own_fits : (n : ℕ) (stage : Stage) → o.opened ≡ false → Fits v.meaning n (inside p.text stage) (Some o) → FitsWith v.meaning false n p.text stage o.id o.end
   own_fits n stage own f = fits_if v.meaning n p.text stage o false own f
@@ -439,38 +450,42 @@ module _ (v : Server) (cells : List Cell) (seats : List SeatState) (st : StandTo
 
   -- ---- all
 
-  over : (P : Contents → Type 0) → P c → P (contents (slice_set cells ledger_at (Ledger (with_item item ledger))))
-  over P h = subst P (sym (same_contents cells ledger (with_item item ledger) st.are_cells.has_ledger)) h
+  over : (P : Contents → Type 0) → P c → P (contents (slice_set cells ledger_at (Ledger (with_item entry item ledger))))
+  over P h = subst P (sym (same_contents cells ledger (with_item entry item ledger) st.are_cells.has_ledger)) h
 
   still_open : (i : ℕ) (z : Session) (u : OpenTransaction) → HasOpen after i z u → u.end ≡ unfixed → (i ≢ j) × HasOpen seats i z u
   still_open i z u w e = ⊎_elim (λ (f : (i ≡ j) × Own t z u). absurd (is_fixed z u f.1 e)) (λ f. f) (was_open seats j s t there i z u w)
 
-  pub commit_stands : StandTogether v (slice_set cells ledger_at (Ledger (with_item item ledger))) after
+  pub commit_stands : StandsAfter v j history (commit_acts p.x time place) (slice_set cells ledger_at (Ledger (with_item entry item ledger))) after
   commit_stands = record {
-    history = agrees.history;
-    catalog = st.catalog;
-    ledger = with_item item ledger;
-    are_cells = are_cells cells ledger (with_item item ledger) st.are_cells.has_ledger st.catalog ledger st.are_cells;
-    ledger_is_legal = commit_is_legal v cells seats st j s there p o open_one open_end r commits acts time;
-    tables_are_serial = over (λ a. TablesAreSerial v a m st.catalog.defs st.catalog.creator after) (tables_more v c k m after says st.catalog.defs st.catalog.creator (tables_turn v c k st.catalog.defs seats j s t there turns st.catalog.creator st.tables_are_serial));
-    rows_agree = over (λ a. RowsAgree v a m after) (subst (λ (T : Tables). RowsAgree v c (record { tables = T; after = m.after; has = m.has }) after) (sym tables_are)
-        (rows_then v cells seats st j p.x o has open_end no_count none_alone m.has (has_own o.id p.x.transcript.session time o.opened lines ledger.items) (λ n ne. has_other o.id p.x.transcript.session time o.opened lines ledger.items n ne) both.0 after m.after
-        still_open (rows_turn v c k st.catalog.defs seats j s t there turns st.rows_agree)));
-    open_scripts = over (λ a. OpenScripts v a m after) (scripts_more v c k m after says (scripts_turn v c k st.catalog.defs seats j s t there turns st.open_scripts));
-    locks_cover = over (λ a. LocksCover v a m after) (cover_more v c k m after says (cover_turn v c k st.catalog.defs seats j s t there turns st.locks_cover));
-    locks_agree = over (λ a. LocksAgree a after) (agree_turn v c k st.catalog.defs seats j s t there turns st.locks_agree);
-    trees_are_of_events = over (λ a. TreesAreOfEvents v a m after) (trees_more v c k m after says (trees_turn v c k st.catalog.defs seats j s t there turns st.trees_are_of_events));
-    transcripts_agree = agrees.agree;
+    session = agrees.session;
+    stands = record {
+      catalog = st.catalog;
+      ledger = with_item entry item ledger;
+      are_cells = are_cells cells ledger (with_item entry item ledger) st.are_cells.has_ledger st.catalog ledger st.are_cells;
+      ledger_is_legal = commit_is_legal v cells seats st j s there p o open_one open_end r commits acts time;
+      tables_are_serial = over (λ a. TablesAreSerial v a m st.catalog.defs st.catalog.creator after) (tables_more v c k m after says st.catalog.defs st.catalog.creator (tables_turn v c k st.catalog.defs seats j s t there turns st.catalog.creator st.tables_are_serial));
+      rows_agree = over (λ a. RowsAgree v a m after) (subst (λ (T : Tables). RowsAgree v c (record { tables = T; after = m.after; has = m.has }) after) (sym tables_are)
+          (rows_then v cells seats st j p.x o has open_end no_count none_alone m.has (has_own o.id p.x.transcript.session time o.opened lines ledger.items) (λ n ne. has_other o.id p.x.transcript.session time o.opened lines ledger.items n ne) both.0 after m.after
+          still_open (rows_turn v c k st.catalog.defs seats j s t there turns st.rows_agree)));
+      open_scripts = over (λ a. OpenScripts v a m after) (scripts_more v c k m after says (scripts_turn v c k st.catalog.defs seats j s t there turns st.open_scripts));
+      locks_cover = over (λ a. LocksCover v a m after) (cover_more v c k m after says (cover_turn v c k st.catalog.defs seats j s t there turns st.locks_cover));
+      locks_agree = over (λ a. LocksAgree a after) (agree_turn v c k st.catalog.defs seats j s t there turns st.locks_agree);
+      trees_are_of_events = over (λ a. TreesAreOfEvents v a m after) (trees_more v c k m after says (trees_turn v c k st.catalog.defs seats j s t there turns st.trees_are_of_events));
+      transcripts_agree = agrees.agree;
+    };
+    mine = each_so (commit_acts p.x time place) agrees.own;
   }
 
 -- A commit keeps cells and seats standing together, where its statement changes no definitions.
-pub commits_stand : (v : Server) (cells : List Cell) (seats : List SeatState) → StandTogether v cells seats → (j : ℕ) (s : SeatState) → get_elem? seats j ≡ some s
+pub commits_stand : (v : Server) (cells : List Cell) (seats : List SeatState) {history : History} → Stands v history cells seats → (j : ℕ) (s : SeatState) → get_elem? seats j ≡ some s
     → (time : ℕ) (c d : LedgerCell) (t : SeatState) → get_elem? cells ledger_at ≡ some (Ledger c) → (w : CommitsNow v time c s d t) → creates w.stands.stmt ≡ false
-    → StandTogether v (slice_set cells ledger_at (Ledger d)) (slice_set seats j t)
-commits_stand v cells seats st j s there time c d t here visit free = from c (the_ledger cells st.catalog st.ledger c st.are_cells here) visit free
+    → StandsAfter v j history (commit_acts w.stands.x time (tx_count c.items + 1)) (slice_set cells ledger_at (Ledger d)) (slice_set seats j t)
+commits_stand v cells seats {history} st j s there time c d t here visit free = from c (the_ledger cells st.catalog st.ledger c st.are_cells here) visit free
   where
-    from : (e : LedgerCell) → e ≡ st.ledger → (w : CommitsNow v time e s d t) → creates w.stands.stmt ≡ false → StandTogether v (slice_set cells ledger_at (Ledger d)) (slice_set seats j t)
-    from e is w f = subst₂ (λ (e : LedgerCell) (u : SeatState). StandTogether v (slice_set cells ledger_at (Ledger e)) (slice_set seats j u))
-        (ap (with_item (Tx w.o.id w.stands.x.transcript.session time w.o.opened (script_so_far w.stands.x w.o))) (sym is) ∙ sym w.cell)
+    from : (e : LedgerCell) → e ≡ st.ledger → (w : CommitsNow v time e s d t) → creates w.stands.stmt ≡ false → StandsAfter v j history (commit_acts w.stands.x time (tx_count e.items + 1)) (slice_set cells ledger_at (Ledger d)) (slice_set seats j t)
+    from e is w f = subst (λ (l : LedgerCell). StandsAfter v j history (commit_acts w.stands.x time (tx_count l.items + 1)) (slice_set cells ledger_at (Ledger d)) (slice_set seats j t)) (sym is)
+        (subst₂ (λ (l : LedgerCell) (u : SeatState). StandsAfter v j history (commit_acts w.stands.x time (tx_count st.ledger.items + 1)) (slice_set cells ledger_at (Ledger l)) (slice_set seats j u))
+        (ap (with_item (entry_of_trees v w.o w.stands.x.transcript.session time) (Tx w.o.id w.stands.x.transcript.session time w.o.opened (script_so_far w.stands.x w.o))) (sym is) ∙ sym w.cell)
         (ap (λ (l : LedgerCell). marking (tx_count l.items + 1) (sits s (at_moment time (at_place (Some (ending (committed (tx_count l.items + 1)) (script_so_far w.stands.x w.o) w.o)) (inside w.stands.text (answering w.reply None)) w.stands.x)))) (sym is) ∙ sym w.seat)
-        (commit_stands v cells seats st j s there w.stands w.o w.open_one w.unfixed w.reply w.commits w.acts time f)
+        (commit_stands v cells seats st j s there w.stands w.o w.open_one w.unfixed w.reply w.commits w.acts time f))

@@ -1,4 +1,5 @@
 -- The visits of the catalog's cell that create, or are refused: cells and seats stand together.
+use Rattle.lg_standing.proofs.ActedFor.{StandsBy}
 use Rattle.std.proofs.Common.{◌≡◌, ◌≢◌, ℕ, ◌+◌, ◌≤◌, Bool, true, false, List, [], ◌∷◌, ◌++◌, map, length, set, Option, Some, Ok, refl, sym, ap, ap₂, ◌∙◌, subst, inl, inr, ⊎_elim, arith, None}
 use Rattle.std.proofs.lemmas.Bool.{eq-eqb, ne_eqb, eqb-true, eqb-false}
 use Rattle.std.proofs.lemmas.List.{length-map}
@@ -61,7 +62,7 @@ use Rattle.lg_standing.specs.Moves.{visiting, noting, StandsOpen, at_place, sits
 use Rattle.lg_standing.specs.Doing.{with_reply, with_line, stage_after}
 use Rattle.lg_standing.specs.LocksCover.{IsRepliedTo, IsAfter}
 use Rattle.lg_standing.specs.CatalogVisits.{CreateRefused, RefusesCreate, CreatesTable, CreatesIndex}
-use Rattle.lg_standing.specs.StandTogether.{StandTogether}
+use Rattle.lg_standing.specs.StandTogether.{History, Stands}
 use Rattle.lg_standing.proofs.AfterSet.{set_here, set_same, set_twice}
 use Rattle.lg_standing.proofs.CellsAfter.{were_here, versions_here}
 use Rattle.lg_standing.proofs.Looks.{put_there}
@@ -76,6 +77,7 @@ use Rattle.lg_standing.proofs.TakenLocks.{all_free}
 use Rattle.lg_model.specs.InTheWay.{first_conflict}
 use Rattle.lg_standing.proofs.PlainReplies.{replied_fits}
 use Rattle.lg_history.specs.Transactions.{unfixed}
+use Rattle.lg_history.specs.Acts.{SessionAct, looks}
 
 nothing : (tx : ℕ) (vs : List Version) → vs ≡ changed_all tx 0 [] vs
 unfolding changed_all
@@ -182,7 +184,7 @@ step_of : (v : Server) (tx : ℕ) (T : Tables) (text : Text) (stmt : Stmt) → v
 unfolding text_step
 step_of v tx T text stmt e = ap (by_statement false tx (start T)) e
 
-module _ (v : Server) (cells : List Cell) (seats : List SeatState) (S : StandTogether v cells seats) (j : ℕ) (s : SeatState) (there : get_elem? seats j ≡ some s) (c : CatalogCell) (out : get_elem? cells catalog_at ≡ some (Catalog c))
+module _ (v : Server) (cells : List Cell) (seats : List SeatState) {history : History} (S : Stands v history cells seats) (j : ℕ) (s : SeatState) (there : get_elem? seats j ≡ some s) (c : CatalogCell) (out : get_elem? cells catalog_at ≡ some (Catalog c))
     (o : OpenTransaction) (at : StandsOpen v s o) (at_begin : at.stands.stage ≡ begun) (alone : o.opened ≡ false) (wants : catalog_want false at.stands.stmt ≡ Some X) (its : creates at.stands.stmt ≡ true) (free : first_conflict c.holds o.id (whole X ∷ []) ≡ None) where
   abbrev x : Session
   x = at.stands.x
@@ -214,7 +216,7 @@ module _ (v : Server) (cells : List Cell) (seats : List SeatState) (S : StandTog
   abbrev seats1 : List SeatState
   seats1 = take.then_seats v cells seats S j s x o text stmt c K
 
-  S1 : StandTogether v cells1 seats1
+  S1 : Stands v history cells1 seats1
   S1 = take.exclusive_there v cells seats S j s x o text stmt c K
 
   abbrev T : Tables
@@ -264,7 +266,7 @@ module _ (v : Server) (cells : List Cell) (seats : List SeatState) (S : StandTog
       creator = inl (refl, refl);
     }
 
-    refuses : StandTogether v (set cells1 catalog_at (Catalog c1)) (set seats1 j (sits (sits s x1) (at_place (Some p) (inside text (replied (reply.Refused e))) x1)))
+    refuses : StandsBy v j history o.id o.opened (looks text false ∷ []) (set cells1 catalog_at (Catalog c1)) (set seats1 j (sits (sits s x1) (at_place (Some p) (inside text (replied (reply.Refused e))) x1)))
     refuses = creates_there v cells1 seats1 S1 j (sits s x1) x1 o1 p text stmt c1 c1 (replied (reply.Refused e)) (reply.Refused e) T refusing
         (trees_from x1 o1 x1 o1 (no_change x1 o1) v (λ id. []) _ p.trees
         (λ id l. same_here_none v cells1 seats1 S1 j (sits s x1) x1 o1 p text stmt c1 c1 (replied (reply.Refused e)) (reply.Refused e) T refusing id l (ap (λ (cs : List Cell). versions_at cs id) (set_same cells1 catalog_at (Catalog c1) out1)))
@@ -280,7 +282,7 @@ module _ (v : Server) (cells : List Cell) (seats : List SeatState) (S : StandTog
     E = (table_effect T o.id o.seq (Ok def)).tables
 
     abbrev q : OpenTransaction
-    q = with_reply text reply.Made (noting (o.seq + 1 + length def.columns) (with_system_leaves v o.id o.seq d o.trees) o1)
+    q = with_reply text reply.Made (noting (o.seq + 1 + length def.columns) (with_system_leaves o.id o.seq d o.trees) o1)
 
     ids : Described T
     ids = legal_described v.reads S1.ledger.items S1.ledger_is_legal.legal
@@ -362,16 +364,16 @@ module _ (v : Server) (cells : List Cell) (seats : List SeatState) (S : StandTog
     mid : ℕ → List Event
     mid id = if id == 1 then events_in o.id 1 (versions_at cells2 1) else []
 
-    first_trees : AreTrees v mid (grown v 1 (events_from o.id o.seq 1 d.tables) o.trees)
+    first_trees : AreTrees mid (grown 1 (events_from o.id o.seq 1 d.tables) o.trees)
     unfolding mid
     first_trees = grown_trees v 1 (events_from o.id o.seq 1 d.tables) mid (λ id. []) first_same (λ i l ne. rw (ne_eqb i 1 ne) refl) o.trees (omega arith) (was_trees v cells1 seats1 S1 j (sits s x1) x1 o1 q text stmt c1 d (replied reply.Made) reply.Made E making)
       where
         first_same : events_in o.id 1 (versions_at cells2 1) ≡ filter (λ e. nat_le o.seq e.seq) (events_in o.id 1 d.tables)
         first_same = ap (events_in o.id 1) (rows2 1 refl) ∙ sym (ap (λ (n : ℕ). filter (λ e. nat_le n e.seq) (events_in o.id 1 d.tables)) (no_seq v cells1 seats1 S1 j (sits s x1) x1 o1 q text stmt c1 d (replied reply.Made) reply.Made E making) ∙ all_events (events_in o.id 1 d.tables))
 
-    both_trees : AreTrees v (λ id. events_in o.id id (versions_at cells2 id)) q.trees
+    both_trees : AreTrees (λ id. events_in o.id id (versions_at cells2 id)) q.trees
     unfolding mid
-    both_trees = grown_trees v 2 (events_from o.id o.seq 2 d.columns) (λ id. events_in o.id id (versions_at cells2 id)) mid second_same others_same (grown v 1 (events_from o.id o.seq 1 d.tables) o.trees) (omega arith) first_trees
+    both_trees = grown_trees v 2 (events_from o.id o.seq 2 d.columns) (λ id. events_in o.id id (versions_at cells2 id)) mid second_same others_same (grown 1 (events_from o.id o.seq 1 d.tables) o.trees) (omega arith) first_trees
       where
         second_same : events_in o.id 2 (versions_at cells2 2) ≡ filter (λ e. nat_le o.seq e.seq) (events_in o.id 2 d.columns)
         second_same = ap (events_in o.id 2) (rows2 2 refl) ∙ sym (ap (λ (n : ℕ). filter (λ e. nat_le n e.seq) (events_in o.id 2 d.columns)) (no_seq v cells1 seats1 S1 j (sits s x1) x1 o1 q text stmt c1 d (replied reply.Made) reply.Made E making) ∙ all_events (events_in o.id 2 d.columns))
@@ -387,7 +389,7 @@ module _ (v : Server) (cells : List Cell) (seats : List SeatState) (S : StandTog
                 is_not (is_tables m) = eqb-false i 1 e m
                 is_not (is_columns m) = ne m
 
-    makes : StandTogether v cells2 (set seats1 j (sits (sits s x1) (at_place (Some q) (inside text (replied reply.Made)) x1)))
+    makes : StandsBy v j history o.id o.opened (looks text false ∷ []) cells2 (set seats1 j (sits (sits s x1) (at_place (Some q) (inside text (replied reply.Made)) x1)))
     makes = creates_there v cells1 seats1 S1 j (sits s x1) x1 o1 q text stmt c1 d (replied reply.Made) reply.Made E making both_trees
 
   -- ---- an index is made
@@ -403,7 +405,7 @@ module _ (v : Server) (cells : List Cell) (seats : List SeatState) (S : StandTog
     Ei = (index_effect T o.id o.seq (Ok (def, index))).tables
 
     abbrev qi : OpenTransaction
-    qi = noting (o.seq + length index.ordinals) (grown v columns_id (events_from o.id o.seq columns_id di.columns) o.trees) o1
+    qi = noting (o.seq + length index.ordinals) (grown columns_id (events_from o.id o.seq columns_id di.columns) o.trees) o1
 
     idsi : Described T
     idsi = legal_described v.reads S1.ledger.items S1.ledger_is_legal.legal
@@ -488,7 +490,7 @@ module _ (v : Server) (cells : List Cell) (seats : List SeatState) (S : StandTog
     rows3 : (id : ℕ) → cell_of id ≡ catalog_at → versions_at cells3 id ≡ versions_in id (Catalog di)
     rows3 id e = versions_here cells1 catalog_at (Catalog c1) (Catalog di) out1 id e
 
-    index_trees : AreTrees v (λ id. events_in o.id id (versions_at cells3 id)) qi.trees
+    index_trees : AreTrees (λ id. events_in o.id id (versions_at cells3 id)) qi.trees
     index_trees = grown_trees v 2 (events_from o.id o.seq 2 di.columns) (λ id. events_in o.id id (versions_at cells3 id)) (λ id. []) here_same others_same o.trees (omega arith) (was_trees v cells1 seats1 S1 j (sits s x1) x1 o1 qi text stmt c1 di (made wi false) reply.Made Ei indexing)
       where
         here_same : events_in o.id 2 (versions_at cells3 2) ≡ filter (λ e. nat_le o.seq e.seq) (events_in o.id 2 di.columns)
@@ -506,32 +508,32 @@ module _ (v : Server) (cells : List Cell) (seats : List SeatState) (S : StandTog
                 is_not (is_tables m) = eqb-false i 1 e m
                 is_not (is_columns m) = ne m
 
-    indexes : StandTogether v cells3 (set seats1 j (sits (sits s x1) (at_place (Some qi) (inside text (made wi false)) x1)))
+    indexes : StandsBy v j history o.id o.opened (looks text false ∷ []) cells3 (set seats1 j (sits (sits s x1) (at_place (Some qi) (inside text (made wi false)) x1)))
     indexes = creates_there v cells1 seats1 S1 j (sits s x1) x1 o1 qi text stmt c1 di (made wi false) reply.Made Ei indexing index_trees
 
 -- ---- the visits, in their own form
 
-module _ (v : Server) (cells : List Cell) (seats : List SeatState) (S : StandTogether v cells seats) (j : ℕ) (s : SeatState) (there : get_elem? seats j ≡ some s) (c d : CatalogCell) (t : SeatState) (out : get_elem? cells catalog_at ≡ some (Catalog c)) where
-  after_two : (e f : CatalogCell) (u w : SeatState) → e ≡ d → u ≡ t → StandTogether v (set (set cells catalog_at (Catalog f)) catalog_at (Catalog e)) (set (set seats j w) j u) → StandTogether v (set cells catalog_at (Catalog d)) (set seats j t)
-  after_two e f u w q r h = subst (λ (cs : List Cell). StandTogether v cs (set seats j t)) (set_twice cells catalog_at (Catalog f) (Catalog e) ∙ ap (λ (g : CatalogCell). set cells catalog_at (Catalog g)) q)
-      (subst (StandTogether v (set (set cells catalog_at (Catalog f)) catalog_at (Catalog e))) (set_twice seats j w u ∙ ap (set seats j) r) h)
+module _ (v : Server) (cells : List Cell) (seats : List SeatState) {history : History} (S : Stands v history cells seats) (j : ℕ) (s : SeatState) (there : get_elem? seats j ≡ some s) (c d : CatalogCell) (t : SeatState) (out : get_elem? cells catalog_at ≡ some (Catalog c)) where
+  after_two : {id : ℕ} {opened : Bool} {acts : List SessionAct} (e f : CatalogCell) (u w : SeatState) → e ≡ d → u ≡ t → StandsBy v j history id opened acts (set (set cells catalog_at (Catalog f)) catalog_at (Catalog e)) (set (set seats j w) j u) → StandsBy v j history id opened acts (set cells catalog_at (Catalog d)) (set seats j t)
+  after_two {id} {opened} {acts} e f u w q r h = subst (λ (cs : List Cell). StandsBy v j history id opened acts cs (set seats j t)) (set_twice cells catalog_at (Catalog f) (Catalog e) ∙ ap (λ (g : CatalogCell). set cells catalog_at (Catalog g)) q)
+      (subst (StandsBy v j history id opened acts (set (set cells catalog_at (Catalog f)) catalog_at (Catalog e))) (set_twice seats j w u ∙ ap (set seats j) r) h)
 
   -- the refusal of a CREATE
-  pub refuses_create : RefusesCreate v c s d t → StandTogether v (set cells catalog_at (Catalog d)) (set seats j t)
+  pub refuses_create : (L : RefusesCreate v c s d t) → StandsBy v j history L.o.id L.o.opened (looks L.at.stands.text false ∷ []) (set cells catalog_at (Catalog d)) (set seats j t)
   refuses_create L = let k = refused_creates c L.at.stands.stmt L.refusal L.is in
       after_two _ _ _ _ (sym L.cell) (ap (λ (b : Bool). sits s (at_place (Some (with_reply L.at.stands.text (reply.Refused L.refusal) (visiting catalog_at L.o))) (inside L.at.stands.text (stage_after b (reply.Refused L.refusal))) L.at.stands.x)) (sym L.alone) ∙ sym L.seat)
       (refuses v cells seats S j s there c out L.o L.at L.at_begin L.alone k.1 k.0 L.free L.refusal L.is)
 
   -- CREATE TABLE
-  pub creates_table : CreatesTable v c s d t → StandTogether v (set cells catalog_at (Catalog d)) (set seats j t)
+  pub creates_table : (L : CreatesTable v c s d t) → StandsBy v j history L.o.id L.o.opened (looks L.at.stands.text false ∷ []) (set cells catalog_at (Catalog d)) (set seats j t)
   creates_table L =
       after_two _ _ _ _ (sym L.cell)
-      (ap₂ (λ (e : CatalogCell) (b : Bool). sits s (at_place (Some (with_reply L.at.stands.text reply.Made (noting (L.o.seq + 1 + length L.def.columns) (with_system_leaves v L.o.id L.o.seq e L.o.trees) (visiting catalog_at L.o)))) (inside L.at.stands.text (stage_after b reply.Made)) L.at.stands.x)) (sym L.cell) (sym L.alone) ∙ sym L.seat)
+      (ap₂ (λ (e : CatalogCell) (b : Bool). sits s (at_place (Some (with_reply L.at.stands.text reply.Made (noting (L.o.seq + 1 + length L.def.columns) (with_system_leaves L.o.id L.o.seq e L.o.trees) (visiting catalog_at L.o)))) (inside L.at.stands.text (stage_after b reply.Made)) L.at.stands.x)) (sym L.cell) (sym L.alone) ∙ sym L.seat)
       (makes v cells seats S j s there c out L.o L.at L.at_begin L.alone (ap (catalog_want false) L.creates) (ap creates L.creates) L.free L.create L.creates L.def L.passes)
 
   -- CREATE INDEX, as far as the catalog goes
-  pub creates_index : CreatesIndex v c s d t → StandTogether v (set cells catalog_at (Catalog d)) (set seats j t)
+  pub creates_index : (L : CreatesIndex v c s d t) → StandsBy v j history L.o.id L.o.opened (looks L.at.stands.text false ∷ []) (set cells catalog_at (Catalog d)) (set seats j t)
   creates_index L =
       after_two _ _ _ _ (sym L.cell)
-      (ap (λ (e : CatalogCell). sits s (at_place (Some (noting (L.o.seq + length L.index.ordinals) (grown v columns_id (events_from L.o.id L.o.seq columns_id e.columns) L.o.trees) (visiting catalog_at L.o))) (inside L.at.stands.text (made (with_index L.def L.index) false)) L.at.stands.x)) (sym L.cell) ∙ sym L.seat)
+      (ap (λ (e : CatalogCell). sits s (at_place (Some (noting (L.o.seq + length L.index.ordinals) (grown columns_id (events_from L.o.id L.o.seq columns_id e.columns) L.o.trees) (visiting catalog_at L.o))) (inside L.at.stands.text (made (with_index L.def L.index) false)) L.at.stands.x)) (sym L.cell) ∙ sym L.seat)
       (indexes v cells seats S j s there c out L.o L.at L.at_begin L.alone (ap (catalog_want false) L.creates) (ap creates L.creates) L.free L.create L.creates L.def L.index L.passes)

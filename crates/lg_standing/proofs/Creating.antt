@@ -1,4 +1,5 @@
 -- A CREATE changes the catalog, or is refused there, under its X: cells and seats stand together then.
+use Rattle.lg_standing.proofs.ActedFor.{StandsBy, its_session}
 use Rattle.std.proofs.Common.{◌≡◌, ◌≢◌, ◌⊎◌, ℕ, suc, ◌+◌, ◌≤◌, Bool, true, false, List, [], ◌∷◌, ◌++◌, map, length, set, Option, Some, None, refl, sym, ap, ap₂, ◌∙◌, subst, inl, inr, ⊎_elim, append-nil, ◌-◌, arith}
 use Rattle.std.proofs.lemmas.Bool.{cases_eq, ne_eqb}
 use Rattle.std.specs.Prelude.{not, if◌then◌else◌, ◌==◌}
@@ -34,7 +35,7 @@ use Rattle.lg_standing.specs.WantsIn.{wants_in, Holds}
 use Rattle.lg_standing.specs.LocksCover as at
 use Rattle.lg_standing.specs.TablesAreSerial.{HasActed, def_at, ordinals_of, IsAdding, IsCarried}
 use Rattle.lg_standing.specs.LocksCover.{KeepsLocks, Belongs, HasIntent, LookedFirst, IsDropping}
-use Rattle.lg_standing.specs.StandTogether.{StandTogether}
+use Rattle.lg_standing.specs.StandTogether.{History, Stands}
 use Rattle.lg_standing.proofs.AfterSet.{set_here, set_else, all_at}
 use Rattle.lg_standing.proofs.SeatsAfter.{Goes, one_session, open_here, open_else, each_open}
 use Rattle.lg_standing.proofs.CellsAfter.{held_here}
@@ -61,7 +62,7 @@ use Rattle.lg_standing.specs.Seats.{OpenTransaction, Stage, begun, made, going_b
 use Rattle.lg_standing.specs.Cells.{CatalogCell, Catalog, versions_in}
 use Rattle.lg_standing.proofs.CellsAfter.{catalog_changed}
 use Rattle.lg_standing.proofs.CatalogAlone.{none_besides}
-use Rattle.lg_standing.proofs.VisitActs.{IsAlike, asks_act, g}
+use Rattle.lg_standing.proofs.VisitActs.{IsAlike, asks_act, asks_owner, g}
 use Rattle.lg_model.specs.Changes.{Change, changed_all}
 use Rattle.lg_model.specs.Locks.{catalog_want, cell_wants}
 use Rattle.lg_model.specs.Reach.{creates}
@@ -86,13 +87,13 @@ use Rattle.lg_model.specs.Runs.{EndsBefore}
 use Rattle.lg_model.specs.Keys.{same_key, version_key}
 use Rattle.lg_frames.proofs.LegalSound.{legal_sound}
 use Rattle.lg_standing.proofs.OfCells.{AreDefinitions, AreIndexes, Creates, EndLiesUnder, GoesBack, HasItsTrees, HasLock, HoldsInCatalog, IsFree, IsGotAt, IsIndexed, IsOfItsScript, IsUnderLocks, IsUnderWay, LiesUnder, LocksAgree, LocksCover, OpenScripts, RowsAgree, SeatHas, StandsAs, TreesAreOfEvents, WantsNone, committed, events_counted, in_journal, LookedAt, looked_now, looked_so, table_there}
-use Rattle.lg_standing.specs.Desks.{EndsOwn, StageOwn, end_shown, image_in, is_begin, shown_alone, shown_with}
+use Rattle.lg_standing.specs.TranscriptsSoFar.{EndsOwn, StageOwn, end_shown, image_in, is_begin, shown_alone, shown_with}
 use Rattle.lg_standing.specs.Contents.{HasAlone, contents, table_found}
 use Rattle.lg_history.specs.Guards.{IsAnswered}
 use Rattle.lg_standing.specs.TranscriptsAgree.{TranscriptsAgree}
 use Rattle.lg_standing.specs.Parts.{asking_in}
 use Rattle.lg_standing.proofs.FreshIds.{events_of_touched}
-use Rattle.lg_standing.proofs.DeskStages.{fits_if, from_at, if_fits}
+use Rattle.lg_standing.proofs.TranscriptStages.{fits_if, from_at, if_fits}
 use Rattle.lg_standing.proofs.GotMore.{got_at_more}
 use Rattle.lg_history.specs.Transcripts.{kind_of}
 use Rattle.lg_history.specs.Acts.{looks, by}
@@ -153,7 +154,7 @@ whole_same = refl
 
 -- ---- where one transaction has the catalog's X, the scripts of others leave the definitions
 
-module _ (v : Server) (cells : List Cell) (seats : List SeatState) (S : StandTogether v cells seats) (id : ℕ) (exclusive : In (record { tx = id; want = whole X }) (holds_at cells catalog_at))
+module _ (v : Server) (cells : List Cell) (seats : List SeatState) {history : History} (S : Stands v history cells seats) (id : ℕ) (exclusive : In (record { tx = id; want = whole X }) (holds_at cells catalog_at))
     (n : ℕ) (z : Session) (r : OpenTransaction) (h : HasOpen seats n z r) (e : r.end ≡ unfixed) (other : r.id ≢ id) where
   abbrev T0 : Tables
   T0 = tables_now S
@@ -217,7 +218,7 @@ pub record SystemChange (tx : ℕ) (V V' W' : List Version) (seq : ℕ) : Type 0
   pub within : from + length changes ≤ seq
   pub undoes : AllByRecursion (Undoes tx 0 V) changes
 
-pub record Creating (v : Server) (cells : List Cell) (seats : List SeatState) (S : StandTogether v cells seats) (j : ℕ) (s : SeatState) (x : Session) (o p : OpenTransaction) (text : Text) (stmt : Stmt) (old new : CatalogCell) (stage : Stage) (r : Reply) (E : Tables) : Type 0 where
+pub record Creating (v : Server) (cells : List Cell) (seats : List SeatState) {history : History} (S : Stands v history cells seats) (j : ℕ) (s : SeatState) (x : Session) (o p : OpenTransaction) (text : Text) (stmt : Stmt) (old new : CatalogCell) (stage : Stage) (r : Reply) (E : Tables) : Type 0 where
   pub there : get_elem? seats j ≡ some s
   pub role : s.role ≡ session x
   pub open_one : x.open_one ≡ Some o
@@ -241,7 +242,7 @@ pub record Creating (v : Server) (cells : List Cell) (seats : List SeatState) (S
   pub left : old.defs ≡ defs_of (tables_now S) → new.defs ≡ defs_of E
   pub creator : ((new.defs ≡ old.defs) × (new.creator ≡ old.creator)) ⊎ ((new.creator ≡ Some (record { tx = o.id; before = old.defs })) × (old.defs ≡ defs_of (tables_now S) → new.defs ≡ defs_of (defined (plan (tables_now S) stmt).definition (tables_now S))))
 
-module _ (v : Server) (cells : List Cell) (seats : List SeatState) (S : StandTogether v cells seats) (j : ℕ) (s : SeatState) (x : Session) (o p : OpenTransaction) (text : Text) (stmt : Stmt) (old new : CatalogCell) (stage : Stage) (r : Reply) (E : Tables) (K : Creating v cells seats S j s x o p text stmt old new stage r E) where
+module _ (v : Server) (cells : List Cell) (seats : List SeatState) {history : History} (S : Stands v history cells seats) (j : ℕ) (s : SeatState) (x : Session) (o p : OpenTransaction) (text : Text) (stmt : Stmt) (old new : CatalogCell) (stage : Stage) (r : Reply) (E : Tables) (K : Creating v cells seats S j s x o p text stmt old new stage r E) where
   abbrev T : Tables
   T = tables_now S
 
@@ -657,7 +658,7 @@ module _ (v : Server) (cells : List Cell) (seats : List SeatState) (S : StandTog
 
   -- ---- what is shown
 
-  act : TranscriptsAgree v (S.history ++ by (g v cells seats S j s K.there x K.role o K.open_one).runs.number (looks text false) ∷ []) S.ledger seats'
+  act : TranscriptsAgree v (history ++ by (g v cells seats S j s K.there x K.role o K.open_one).runs.number (looks text false) ∷ []) S.ledger seats'
   act = let stands = K.stage_is old_defs in
       asks_act v cells seats S j s K.there x K.role o K.open_one K.unfixed text begun K.place refl false stage p K.alike stands.asks (λ f. cc)
       (λ answered a h. ⊎_elim (λ (k : IsAnswered answered a). inl k) (λ (k : ⊥). absurd k) h)
@@ -668,6 +669,10 @@ module _ (v : Server) (cells : List Cell) (seats : List SeatState) (S : StandTog
         images = sym stands.image;
         fits = if_fits v.meaning n text stage p false (K.alike.opened ∙ K.alone) (subst (EndsOwn (kind_of (v.meaning.reads text))) (sym K.alike.end) z.0, stands.fits n (subst (EndsOwn (kind_of (v.meaning.reads text))) K.unfixed z.0));
       }))
+
+  act_owner : act.owner (g v cells seats S j s K.there x K.role o K.open_one).runs.number ≡ j
+  unfolding act
+  act_owner = asks_owner _ _ _ _ _ _ _ _ _ _ _ _ _ _ _ _ _ _ _ _ _ _ _ _
 
   events_all : (n : ℕ) (z : Session) (q : OpenTransaction) → n ≢ j → HasOpen seats n z q → q.end ≡ unfixed → (id : ℕ) → 1 ≤ id → events_counted C' z q id ≡ events_counted cells z q id
   events_all n z q ne h e id l = events_of_touched q.id id _ ∙ ap (events_in q.id id) (seen_stays n z q ne h e id l) ∙ sym (events_of_touched q.id id _)
@@ -684,7 +689,7 @@ module _ (v : Server) (cells : List Cell) (seats : List SeatState) (S : StandTog
   pub events_then : (id : ℕ) → events_counted C' y p id ≡ events_in o.id id (versions_at C' id)
   events_then id = ap (events_in p.id id) (counts_then id _) ∙ ap (λ (n : ℕ). events_in n id (versions_at C' id)) K.alike.id
 
-  pub was_trees : AreTrees v (λ id. []) o.trees
+  pub was_trees : AreTrees (λ id. []) o.trees
   was_trees = trees_from x o x o (no_change x o) v (events_counted cells x o) (λ id. []) o.trees (λ id l. sym (none_yet id l)) (S.trees_are_of_events j x o has_open K.unfixed).trees
 
   -- what it didn't do anything in
@@ -694,39 +699,43 @@ module _ (v : Server) (cells : List Cell) (seats : List SeatState) (S : StandTog
   pub same_here_none : (id : ℕ) → 1 ≤ id → versions_at C' id ≡ versions_at cells id → events_in o.id id (versions_at C' id) ≡ []
   same_here_none id l e = ap (events_in o.id id) (e ∙ sym (no_count id _)) ∙ none_yet id l
 
-  module _ (its_trees : AreTrees v (λ id. events_in o.id id (versions_at C' id)) p.trees) where
+  module _ (its_trees : AreTrees (λ id. events_in o.id id (versions_at C' id)) p.trees) where
     trees : TreesAreOfEvents v C' S.ledger seats'
     trees = each_open seats j (sits s y) x o y p goes (λ n z q. q.end ≡ unfixed → HasItsTrees v C' S.ledger z q)
         (λ e. record {
           trees = trees_from x o x o (no_change x o) v (λ id. events_in o.id id (versions_at C' id)) (events_counted C' y p) p.trees (λ id l. events_then id) its_trees;
-          frames = subst (λ (fs : List Frame). AreFrames v p.id fs (script_end v T y p).state.saved) (sym K.same_frames) (subst (λ (q : List Saved). AreFrames v p.id o.frames q) (sym (ap (λ (q : State). q.saved) end_state))
-              (subst (λ (n : ℕ). AreFrames v n o.frames []) (sym K.alike.id) (subst (AreFrames v o.id o.frames) none_saved (S.trees_are_of_events j x o has_open K.unfixed).frames)));
+          frames = subst (λ (fs : List Frame). AreFrames p.id fs (script_end v T y p).state.saved) (sym K.same_frames) (subst (λ (q : List Saved). AreFrames p.id o.frames q) (sym (ap (λ (q : State). q.saved) end_state))
+              (subst (λ (n : ℕ). AreFrames n o.frames []) (sym K.alike.id) (subst (AreFrames o.id o.frames) none_saved (S.trees_are_of_events j x o has_open K.unfixed).frames)));
         })
         (λ n z q ne h e. let was = S.trees_are_of_events n z q h e in record { trees = trees_from z q z q (no_change z q) v (events_counted cells z q) (events_counted C' z q) q.trees (events_all n z q ne h e) was.trees; frames = was.frames })
 
-    pub creates_there : StandTogether v C' seats'
+    pub creates_there : StandsBy v j history o.id o.opened (looks text false ∷ []) C' seats'
     creates_there = record {
-      history = _;
-      catalog = new;
-      ledger = S.ledger;
-      are_cells = catalog_changed cells S.catalog S.ledger new S.are_cells;
-      ledger_is_legal = S.ledger_is_legal;
-      tables_are_serial = record {
-        definitions = definitions_then;
-        goes_back = creator_then;
-        carried = each_open seats j (sits s y) x o y p goes (λ n z q. q.end ≡ unfixed → IsCarried new.defs T (script_end v T z q).state.tables)
-            (λ e. inl (K.left old_defs ∙ ap defs_of (sym end_tables)))
-            (λ n z q ne h e. inr (others_keep v cells seats S o.id exclusive n z q h e (other_id n z q ne h)));
-        indexed = each_open seats j (sits s y) x o y p goes (λ n z q. q.end ≡ unfixed → IsIndexed C' z.place) (λ e. (K.stage_is old_defs).indexed C') (λ n z q ne h e. indexed_else z.place (S.tables_are_serial.indexed n z q h e));
-        versions = by_cell (λ id. committed S.ledger.items (versions_at C' id) ≡ versions_of T id)
-            (λ id l e. committed_undone S.ledger.items o.id (mine_out 0) (versions_at C' id) ∙ ap (committed S.ledger.items) (undone_is id l e ∙ sym (were id l e)) ∙ S.tables_are_serial.versions id l)
-            (λ id l ne. ap (committed S.ledger.items) (rows_else id ne) ∙ S.tables_are_serial.versions id l);
-        tables = λ n cell e. stands_then cell (def_at (defs_of T) cell.id) (S.tables_are_serial.tables n cell (table_was n cell e));
+      session = _;
+      of = its_session v.meaning history (S.transcripts_agree.of_seat j) x o (g v cells seats S j s K.there x K.role o K.open_one);
+      stands = record {
+        catalog = new;
+        ledger = S.ledger;
+        are_cells = catalog_changed cells S.catalog S.ledger new S.are_cells;
+        ledger_is_legal = S.ledger_is_legal;
+        tables_are_serial = record {
+          definitions = definitions_then;
+          goes_back = creator_then;
+          carried = each_open seats j (sits s y) x o y p goes (λ n z q. q.end ≡ unfixed → IsCarried new.defs T (script_end v T z q).state.tables)
+              (λ e. inl (K.left old_defs ∙ ap defs_of (sym end_tables)))
+              (λ n z q ne h e. inr (others_keep v cells seats S o.id exclusive n z q h e (other_id n z q ne h)));
+          indexed = each_open seats j (sits s y) x o y p goes (λ n z q. q.end ≡ unfixed → IsIndexed C' z.place) (λ e. (K.stage_is old_defs).indexed C') (λ n z q ne h e. indexed_else z.place (S.tables_are_serial.indexed n z q h e));
+          versions = by_cell (λ id. committed S.ledger.items (versions_at C' id) ≡ versions_of T id)
+              (λ id l e. committed_undone S.ledger.items o.id (mine_out 0) (versions_at C' id) ∙ ap (committed S.ledger.items) (undone_is id l e ∙ sym (were id l e)) ∙ S.tables_are_serial.versions id l)
+              (λ id l ne. ap (committed S.ledger.items) (rows_else id ne) ∙ S.tables_are_serial.versions id l);
+          tables = λ n cell e. stands_then cell (def_at (defs_of T) cell.id) (S.tables_are_serial.tables n cell (table_was n cell e));
+        };
+        rows_agree = rows_agree;
+        open_scripts = scripts;
+        locks_cover = covered;
+        locks_agree = agree;
+        trees_are_of_events = trees;
+        transcripts_agree = act;
       };
-      rows_agree = rows_agree;
-      open_scripts = scripts;
-      locks_cover = covered;
-      locks_agree = agree;
-      trees_are_of_events = trees;
-      transcripts_agree = act;
+      mine = act_owner;
     }

@@ -15,11 +15,11 @@ use Rattle.lg_history.specs.Digests.{Digest}
 use Rattle.lg_history.specs.Facts.{began}
 use Rattle.lg_history.specs.Transactions.{unfixed}
 use Rattle.lg_history.specs.Transcripts.{kind_of}
-use Rattle.lg_standing.specs.Desks.{EndsOwn}
-use Rattle.lg_standing.proofs.DeskActs.{GoesFrom, goes_on}
-use Rattle.lg_standing.proofs.DeskStages.{from_at, at_begin, at_draw, runs_own}
-use Rattle.lg_history.specs.Acts.{draws, Event, by}
-use Rattle.lg_history.specs.Sessions.{Deal, Sess, acted}
+use Rattle.lg_standing.specs.TranscriptsSoFar.{EndsOwn}
+use Rattle.lg_standing.proofs.TranscriptActs.{GoesFrom, goes_on}
+use Rattle.lg_standing.proofs.TranscriptStages.{from_at, at_begin, at_draw, runs_own}
+use Rattle.lg_history.specs.Acts.{draws, Act, by}
+use Rattle.lg_history.specs.Sessions.{SessionTransaction, SessionState, acted}
 use Rattle.lg_history.specs.Worlds.{first}
 use Rattle.lg_history.proofs.Trace.{each_weaker}
 use Rattle.lg_standing.specs.Server.{Server}
@@ -35,27 +35,28 @@ use Rattle.lg_standing.specs.OpenScripts.{IsOfItsScript, counted}
 use Rattle.lg_standing.specs.LocksCover.{KeepsLocks, LookedAt, LiesUnder, EndLiesUnder, IsUnderLocks, IsGotAt, IsDropping, LookedFirst}
 use Rattle.lg_standing.specs.TreesAreOfEvents.{HasItsTrees}
 use Rattle.lg_standing.specs.LedgerIsLegal.{IsOfCell, LedgerIsLegal}
-use Rattle.lg_standing.specs.Parts.{AreDeals, IsNow}
+use Rattle.lg_standing.specs.Parts.{AreTransactions, IsNow}
 use Rattle.lg_standing.specs.TranscriptsAgree.{session_moments, moments_of}
-use Rattle.lg_standing.specs.StandTogether.{StandTogether}
+use Rattle.lg_standing.specs.StandTogether.{History, Stands, StandsAfter}
 use Rattle.lg_standing.specs.Moves.{new_transaction, at_place, StandsIn, then_at}
 use Rattle.lg_standing.specs.LedgerVisits.{drawn, stage_drawn, DrawsFor, Draws}
 use Rattle.lg_standing.proofs.FreshIds.{EndIsNotOf, IsNotOf, no_events, none_touched, none_touched_in, made_before}
 use Rattle.lg_standing.proofs.Ids.{Running, running, below, drawn as drawn_ids, others, has_not}
 use Rattle.lg_standing.proofs.OpenSeats.{Own, own_session, owns_none, owns_one}
-use Rattle.lg_standing.proofs.OneMore.{Acts, agrees_then, images_stay_each}
-use Rattle.lg_standing.proofs.LedgerVisit.{the_ledger, ledger_visit}
+use Rattle.lg_standing.proofs.OneMore.{Acts, agrees_then, agrees_owner, images_stay_each}
+use Rattle.lg_standing.proofs.LedgerVisit.{the_ledger, ledger_visit, ledger_after}
 use Rattle.lg_standing.proofs.Turns.{Turns, Owes}
 use Rattle.std.specs.List.{AllByRecursion}
 use Rattle.lg_standing.specs.RowsAgree.{GoesBackTo, IsOpenedAt}
 use Rattle.lg_standing.specs.TablesAreSerial.{IsIndexed}
 use Rattle.lg_model.specs.Runs.{MadeBefore}
+use Rattle.lg_standing.specs.ActsOf.{closings}
 
 -- what is said of what a seat has is said of all that it has
 pub at_own : (t : SeatState) (y : Session) (o : OpenTransaction) (P : Session → OpenTransaction → Type 0) → t.role ≡ session y → y.open_one ≡ Some o → P y o → (z : Session) (p : OpenTransaction) → Own t z p → P z p
 at_own t y o P role one h z p own = subst (λ (x : Session). P x p) (own_session t y role z p own) (subst (P y) (owns_one t y role o one z p own) h)
 
-module _ (v : Server) (cells : List Cell) (seats : List SeatState) (st : StandTogether v cells seats) where
+module _ (v : Server) (cells : List Cell) (seats : List SeatState) {history : History} (st : Stands v history cells seats) where
   abbrev ledger : LedgerCell
   ledger = st.ledger
 
@@ -68,10 +69,10 @@ module _ (v : Server) (cells : List Cell) (seats : List SeatState) (st : StandTo
   -- ---- nothing is of the id that is drawn next
 
   pub others_in_journal : Each (λ i. i ≢ ledger.next) (ids_of ledger.items)
-  others_in_journal = each_weaker (λ i. i < ledger.next) (λ i. i ≢ ledger.next) (λ i l e. absurd (omega arith)) (ids_of ledger.items) (drawn_ids v st.history ledger seats st.transcripts_agree)
+  others_in_journal = each_weaker (λ i. i < ledger.next) (λ i. i ≢ ledger.next) (λ i l e. absurd (omega arith)) (ids_of ledger.items) (drawn_ids v history ledger seats st.transcripts_agree)
 
   pub no_lock : (i : ℕ) (h : Hold) → In h (c.holds i) → h.tx ≢ ledger.next
-  no_lock i h has e = let b = st.locks_cover.belong i h has in let l = below v st.history ledger seats st.transcripts_agree b.j b.x b.o b.has in let m = b.mine in absurd (omega arith)
+  no_lock i h has e = let b = st.locks_cover.belong i h has in let l = below v history ledger seats st.transcripts_agree b.j b.x b.o b.has in let m = b.mine in absurd (omega arith)
 
   not_its : (id : ℕ) (w : Version) (event : EventId) → (k.has event.0 ≡ false → LiesUnder c k.tables id w event) → event.0 ≢ ledger.next
   not_its id w event h e = let u = h (ap k.has e ∙ has_not ledger.next ledger.items others_in_journal) in no_lock _ u.hold u.has (u.mine ∙ e)
@@ -201,23 +202,23 @@ module _ (v : Server) (cells : List Cell) (seats : List SeatState) (st : StandTo
     of_cell g e = record { closed = e.closed; is = e.is }
 
     legal : LedgerIsLegal v (drawn ledger)
-    legal = let l = st.ledger_is_legal in record { legal = l.legal; entries = l.entries; blocks = l.blocks; pending = l.pending; digests = each_weaker (IsOfCell v ledger) (IsOfCell v (drawn ledger)) of_cell ledger.issued l.digests; closings = l.closings; some_size = l.some_size; most_size = l.most_size }
+    legal = let l = st.ledger_is_legal in record { legal = l.legal; chain = l.chain; digests = each_weaker (IsOfCell v ledger) (IsOfCell v (drawn ledger)) of_cell ledger.issued l.digests; closings = l.closings; some_size = l.some_size; most_size = l.most_size }
 
     -- ---- the history
 
     module _ (j : ℕ) (there : get_elem? seats j ≡ some s) where
-      run : Running v.meaning st.history (st.transcripts_agree.of_seat j) p.x
-      run = running v st.history ledger seats st.transcripts_agree j s p.x there p.role
+      run : Running v.meaning history (st.transcripts_agree.of_seat j) p.x
+      run = running v history ledger seats st.transcripts_agree j s p.x there p.role
 
-      abbrev sess : Sess
-      sess = (Rattle.lg_history.specs.Worlds.run first st.history).at run.number
+      abbrev sess : SessionState
+      sess = (Rattle.lg_history.specs.Worlds.run first history).at run.number
 
-      no_deal : (z : Option Deal) → AreDeals z p.x None → z ≡ None
-      no_deal None e = refl
-      no_deal (Some d) e = absurd e
+      no_transaction : (z : Option SessionTransaction) → AreTransactions z p.x None → z ≡ None
+      no_transaction None e = refl
+      no_transaction (Some d) e = absurd e
 
-      deal_none : sess.deal ≡ None
-      deal_none = no_deal sess.deal (subst (AreDeals sess.deal p.x) free run.now.open_one)
+      transaction_none : sess.transaction ≡ None
+      transaction_none = no_transaction sess.transaction (subst (AreTransactions sess.transaction p.x) free run.now.open_one)
 
       under_text : (b : Bool) → text_at p.x.place ≡ text_at (then_session p.x p.text b).place
       under_text b = ap text_at p.place
@@ -230,10 +231,7 @@ module _ (v : Server) (cells : List Cell) (seats : List SeatState) (st : StandTo
       goes false e = from_at v.meaning p.x (then_session p.x p.text false) (inside p.text begun) None (began ledger.next false ∷ []) (p.place ∙ ap (λ z. inside p.text z) at_begun) free refl (λ n i f. at_draw v.meaning n p.text ledger.next (subst (λ z. EndsOwn z unfixed) (sym kind) (runs_own p.stmt e)))
 
       now : IsNow v.meaning (acted sess (draws ledger.next opened)) y
-      now = record { running = run.now.running; transcript = run.now.transcript; under = run.now.under ∙ under_text opened; open_one = record { id = refl; opened = refl; script = refl; end = refl; asked = λ e. tt; heard = tt }; desk = goes_on v.meaning sess.desk (acted sess (draws ledger.next opened)).desk p.x y (began ledger.next opened ∷ []) refl refl run.now.desk (goes opened draws_for) }
-
-      abbrev history : List Event
-      history = st.history ++ by run.number (draws ledger.next opened) ∷ []
+      now = record { running = run.now.running; transcript = run.now.transcript; under = run.now.under ∙ under_text opened; open_one = record { id = refl; opened = refl; script = refl; end = refl; asked = λ e. tt; heard = tt }; so_far = goes_on v.meaning sess.so_far (acted sess (draws ledger.next opened)).so_far p.x y (began ledger.next opened ∷ []) refl refl run.now.so_far (goes opened draws_for) }
 
       within : (s.least ≤ s.greatest) × (s.greatest ≤ tx_count ledger.items)
       within = (st.transcripts_agree.agree j s there).greatest
@@ -241,9 +239,9 @@ module _ (v : Server) (cells : List Cell) (seats : List SeatState) (st : StandTo
       moments_same : (time : ℕ) → In time (moments_of s) → In time (moments_of t)
       moments_same time e = subst (λ (r : Role). In time (flat_map (λ (x : Written). x.moments) s.written ++ session_moments r)) p.role e
 
-      acts : Acts v st.history run.number (draws ledger.next opened) ledger (drawn ledger) s t
+      acts : Acts v history run.number (draws ledger.next opened) ledger (drawn ledger) s t
       acts = record {
-        ok = (run.now.running, deal_none, sym st.transcripts_agree.next);
+        ok = (run.now.running, transaction_none, sym st.transcripts_agree.next);
         items = sym (append-nil ledger.items);
         next = refl;
         issued = sym (append-nil ledger.issued);
@@ -271,14 +269,15 @@ module _ (v : Server) (cells : List Cell) (seats : List SeatState) (st : StandTo
         made = tt;
       }
 
-      pub draw_stands : StandTogether v (slice_set cells ledger_at (Ledger (drawn ledger))) (slice_set seats j t)
-      draw_stands = ledger_visit v cells seats st j s t there (drawn ledger) refl history legal turns (agrees_then v st.history ledger (drawn ledger) seats st.transcripts_agree j s t there run.number (draws ledger.next opened) run.is acts)
+      pub draw_stands : StandsAfter v j history (draws ledger.next opened ∷ []) (slice_set cells ledger_at (Ledger (drawn ledger))) (slice_set seats j t)
+      draw_stands = ledger_after v cells seats st j s t there (drawn ledger) refl run.number legal turns (agrees_then v history ledger (drawn ledger) seats st.transcripts_agree j s t there run.number (draws ledger.next opened) run.is acts) (agrees_owner _ _ _ _ _ _ _ _ _ _ _ _ _ _)
 
 -- Drawing an id keeps cells and seats standing together.
-pub draws_stands : (v : Server) (cells : List Cell) (seats : List SeatState) → StandTogether v cells seats → (j : ℕ) (s : SeatState) → get_elem? seats j ≡ some s
+pub draws_stands : (v : Server) (cells : List Cell) (seats : List SeatState) {history : History} → Stands v history cells seats → (j : ℕ) (s : SeatState) → get_elem? seats j ≡ some s
     → (opened : Bool) (c d : LedgerCell) (t : SeatState) → get_elem? cells ledger_at ≡ some (Ledger c) → Draws v opened c s d t
-    → StandTogether v (slice_set cells ledger_at (Ledger d)) (slice_set seats j t)
-draws_stands v cells seats st j s there opened c d t here visit = from (subst (λ (e : LedgerCell). Draws v opened e s d t) (the_ledger cells st.catalog st.ledger c st.are_cells here) visit)
+    → StandsAfter v j history (draws c.next opened ∷ []) (slice_set cells ledger_at (Ledger d)) (slice_set seats j t)
+draws_stands v cells seats {history} st j s there opened c d t here = subst (λ (e : LedgerCell). Draws v opened e s d t → StandsAfter v j history (draws e.next opened ∷ []) (slice_set cells ledger_at (Ledger d)) (slice_set seats j t))
+    (sym (the_ledger cells st.catalog st.ledger c st.are_cells here)) from
   where
-    from : Draws v opened st.ledger s d t → StandTogether v (slice_set cells ledger_at (Ledger d)) (slice_set seats j t)
-    from w = subst₂ (λ (e : LedgerCell) (u : SeatState). StandTogether v (slice_set cells ledger_at (Ledger e)) (slice_set seats j u)) (sym w.cell) (sym w.seat) (draw_stands v cells seats st s opened w.stands w.none_open w.at_begin w.draws_for j there)
+    from : Draws v opened st.ledger s d t → StandsAfter v j history (draws st.ledger.next opened ∷ []) (slice_set cells ledger_at (Ledger d)) (slice_set seats j t)
+    from w = subst₂ (λ (l : LedgerCell) (u : SeatState). StandsAfter v j history (draws st.ledger.next opened ∷ []) (slice_set cells ledger_at (Ledger l)) (slice_set seats j u)) (sym w.cell) (sym w.seat) (draw_stands v cells seats st s opened w.stands w.none_open w.at_begin w.draws_for j there)

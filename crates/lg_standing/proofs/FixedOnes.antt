@@ -9,10 +9,10 @@ use Rattle.lg_history.specs.Lists.{Text, Each, In}
 use Rattle.lg_history.specs.Journals.{ids_of}
 use Rattle.lg_history.specs.Meaning.{Meaning}
 use Rattle.lg_history.specs.Transactions.{End, unfixed, committed, ended, on_some}
-use Rattle.lg_history.specs.Acts.{Act, draws, looks, says, fails, meets, commits, ends, frees, Event, by, closes}
-use Rattle.lg_history.specs.Sessions.{Deal, drawn, asks, hears, scripts, fixes, deal_by}
+use Rattle.lg_history.specs.Acts.{SessionAct, draws, looks, says, fails, meets, commits, ends, frees, Act, by, closes}
+use Rattle.lg_history.specs.Sessions.{SessionTransaction, drawn, asks, hears, scripts, fixes, transaction_by}
 use Rattle.lg_history.specs.Worlds.{World, first, run, step, items_by, item_of}
-use Rattle.lg_history.specs.Guards.{Ok, Good}
+use Rattle.lg_history.specs.Guards.{MayHappen, Good}
 use Rattle.lg_history.proofs.Legal.{IdsApart, apart_by, apart_close, ids_append, was_there}
 use Rattle.lg_history.proofs.Settles.{in_left, in_right}
 use Rattle.lg_history.proofs.Trace.{each_append}
@@ -20,7 +20,7 @@ use Rattle.lg_standing.specs.Server.{Server}
 use Rattle.lg_standing.specs.Cells.{Cell}
 use Rattle.lg_standing.specs.Seats.{OpenTransaction, Session, SeatState}
 use Rattle.lg_standing.specs.OpenOnes.{HasOpen}
-use Rattle.lg_standing.specs.StandTogether.{StandTogether}
+use Rattle.lg_standing.specs.StandTogether.{History, Stands}
 use Rattle.lg_standing.proofs.Ids as ids
 use Rattle.lg_standing.proofs.OfCells.{in_journal}
 
@@ -39,45 +39,45 @@ no_end : (e : End) (id : ℕ) (ids : List ℕ) → e ≡ unfixed → Placing e i
 no_end e id ids h = subst (λ (z : End). Placing z id ids) (sym h) tt
 
 abbrev pub AllPlaced : World → Type 0
-AllPlaced w = (t : ℕ) (d : Deal) → (w.at t).deal ≡ Some d → Placing d.fixed d.id (ids_of w.items)
+AllPlaced w = (t : ℕ) (d : SessionTransaction) → (w.at t).transaction ≡ Some d → Placing d.fixed d.id (ids_of w.items)
 
-same_one : (f : Deal → Deal) (o : Option Deal) (c d : Deal) → o ≡ Some c → on_some f o ≡ Some d → f c ≡ d
+same_one : (f : SessionTransaction → SessionTransaction) (o : Option SessionTransaction) (c d : SessionTransaction) → o ≡ Some c → on_some f o ≡ Some d → f c ≡ d
 same_one f o c d e h = let z : Some (f c) ≡ Some d = ap (on_some f) (sym e) ∙ h in cc
 
-still_open : (f : Deal → Deal) (o : Option Deal) (c d : Deal) → o ≡ Some c → ((z : Deal) → (f z).fixed ≡ z.fixed) → c.fixed ≡ unfixed → on_some f o ≡ Some d → d.fixed ≡ unfixed
-still_open f o c d e same u h = ap (λ (z : Deal). z.fixed) (sym (same_one f o c d e h)) ∙ same c ∙ u
+still_open : (f : SessionTransaction → SessionTransaction) (o : Option SessionTransaction) (c d : SessionTransaction) → o ≡ Some c → ((z : SessionTransaction) → (f z).fixed ≡ z.fixed) → c.fixed ≡ unfixed → on_some f o ≡ Some d → d.fixed ≡ unfixed
+still_open f o c d e same u h = ap (λ (z : SessionTransaction). z.fixed) (sym (same_one f o c d e h)) ∙ same c ∙ u
 
 module _ (q : Meaning) (db : Text) where
-  placed_here : (w : World) (s : ℕ) (a : Act) (d : Deal) → Ok q db w (by s a) → IdsApart w → AllPlaced w → deal_by (w.at s).deal a ≡ Some d → Placing d.fixed d.id (ids_of (w.items ++ items_by (w.at s) a))
-  placed_here w s (draws id opened) d k i h e = no_end d.fixed d.id _ (let z : drawn id opened ≡ d = cc in ap (λ (z : Deal). z.fixed) (sym z))
-  placed_here w s (looks text table) d k i h e = no_end d.fixed d.id _ (still_open (asks text table) (w.at s).deal k.0 d k.1.has (λ z. refl) k.1.unfixed e)
-  placed_here w s (says line) d k i h e = no_end d.fixed d.id _ (still_open (scripts line) (w.at s).deal k.0 d k.1.has (λ z. refl) k.1.unfixed e)
-  placed_here w s (fails text) d k i h e = no_end d.fixed d.id _ (still_open (hears text true) (w.at s).deal k.0 d k.1.has (λ z. refl) k.1.unfixed e)
-  placed_here w s (meets text holder) d k i h e = no_end d.fixed d.id _ (still_open (hears text false) (w.at s).deal k.mine d k.stands.has (λ z. refl) k.stands.unfixed e)
+  placed_here : (w : World) (s : ℕ) (a : SessionAct) (d : SessionTransaction) → MayHappen q db w (by s a) → IdsApart w → AllPlaced w → transaction_by (w.at s).transaction a ≡ Some d → Placing d.fixed d.id (ids_of (w.items ++ items_by (w.at s) a))
+  placed_here w s (draws id opened) d k i h e = no_end d.fixed d.id _ (let z : drawn id opened ≡ d = cc in ap (λ (z : SessionTransaction). z.fixed) (sym z))
+  placed_here w s (looks text table) d k i h e = no_end d.fixed d.id _ (still_open (asks text table) (w.at s).transaction k.0 d k.1.has (λ z. refl) k.1.unfixed e)
+  placed_here w s (says line) d k i h e = no_end d.fixed d.id _ (still_open (scripts line) (w.at s).transaction k.0 d k.1.has (λ z. refl) k.1.unfixed e)
+  placed_here w s (fails text) d k i h e = no_end d.fixed d.id _ (still_open (hears text true) (w.at s).transaction k.0 d k.1.has (λ z. refl) k.1.unfixed e)
+  placed_here w s (meets text holder) d k i h e = no_end d.fixed d.id _ (still_open (hears text false) (w.at s).transaction k.mine d k.stands.has (λ z. refl) k.stands.unfixed e)
   placed_here w s (commits time place) d k i h e =
-      subst (λ (z : Deal). Placing z.fixed z.id (ids_of (w.items ++ item_of (w.at s) (w.at s).deal time))) (same_one (fixes (committed place)) (w.at s).deal k.mine d k.stands.has e)
-      (subst (In k.mine.id) (sym (ids_append w.items (item_of (w.at s) (w.at s).deal time)))
-      (in_right k.mine.id (ids_of w.items) (ids_of (item_of (w.at s) (w.at s).deal time)) (subst (λ (o : Option Deal). In k.mine.id (ids_of (item_of (w.at s) o time))) (sym k.stands.has) (inl refl))))
+      subst (λ (z : SessionTransaction). Placing z.fixed z.id (ids_of (w.items ++ item_of (w.at s) (w.at s).transaction time))) (same_one (fixes (committed place)) (w.at s).transaction k.mine d k.stands.has e)
+      (subst (In k.mine.id) (sym (ids_append w.items (item_of (w.at s) (w.at s).transaction time)))
+      (in_right k.mine.id (ids_of w.items) (ids_of (item_of (w.at s) (w.at s).transaction time)) (subst (λ (o : Option SessionTransaction). In k.mine.id (ids_of (item_of (w.at s) o time))) (sym k.stands.has) (inl refl))))
   placed_here w s (ends n back) d k i h e =
-      subst (λ (z : Deal). Placing z.fixed z.id (ids_of (w.items ++ []))) (same_one (fixes (ended n back)) (w.at s).deal k.mine d k.stands.has e)
+      subst (λ (z : SessionTransaction). Placing z.fixed z.id (ids_of (w.items ++ []))) (same_one (fixes (ended n back)) (w.at s).transaction k.mine d k.stands.has e)
       (subst (λ (l : List JournalItem). Each (λ j. j ≢ k.mine.id) (ids_of l)) (sym (append-nil w.items)) (i.outside s k.mine k.stands.has k.stands.unfixed))
   placed_here w s frees d k i h e = cc
   placed_here w s a d k i h e = subst (λ (l : List JournalItem). Placing d.fixed d.id (ids_of l)) (sym (append-nil w.items)) (h s d e)
 
-  not_new : (w : World) (s u : ℕ) (a : Act) (d : Deal) → Ok q db w (by s a) → IdsApart w → u ≢ s → (w.at u).deal ≡ Some d → Each (λ j. j ≢ d.id) (ids_of (items_by (w.at s) a))
-  not_new w s u (commits time place) d k i ne e = subst (λ (o : Option Deal). Each (λ j. j ≢ d.id) (ids_of (item_of (w.at s) o time))) (sym k.stands.has) (i.apart s u k.mine d (λ z. ne (sym z)) k.stands.has e, tt)
+  not_new : (w : World) (s u : ℕ) (a : SessionAct) (d : SessionTransaction) → MayHappen q db w (by s a) → IdsApart w → u ≢ s → (w.at u).transaction ≡ Some d → Each (λ j. j ≢ d.id) (ids_of (items_by (w.at s) a))
+  not_new w s u (commits time place) d k i ne e = subst (λ (o : Option SessionTransaction). Each (λ j. j ≢ d.id) (ids_of (item_of (w.at s) o time))) (sym k.stands.has) (i.apart s u k.mine d (λ z. ne (sym z)) k.stands.has e, tt)
   not_new w s u a d k i ne e = tt
 
-  placed_by : (w : World) (s : ℕ) (a : Act) → Ok q db w (by s a) → IdsApart w → AllPlaced w → AllPlaced (step w (by s a))
+  placed_by : (w : World) (s : ℕ) (a : SessionAct) → MayHappen q db w (by s a) → IdsApart w → AllPlaced w → AllPlaced (step w (by s a))
   placed_by w s a k i h u d e = ⊎_elim
-      (λ (m : (u ≡ s) × (deal_by (w.at s).deal a ≡ Some d)). placed_here w s a d k i h m.1)
-      (λ (m : (u ≢ s) × ((w.at u).deal ≡ Some d)). subst (Placing d.fixed d.id) (sym (ids_append w.items (items_by (w.at s) a))) (placing_more d.fixed d.id (ids_of w.items) (ids_of (items_by (w.at s) a)) (not_new w s u a d k i m.0 m.1) (h u d m.1)))
+      (λ (m : (u ≡ s) × (transaction_by (w.at s).transaction a ≡ Some d)). placed_here w s a d k i h m.1)
+      (λ (m : (u ≢ s) × ((w.at u).transaction ≡ Some d)). subst (Placing d.fixed d.id) (sym (ids_append w.items (items_by (w.at s) a))) (placing_more d.fixed d.id (ids_of w.items) (ids_of (items_by (w.at s) a)) (not_new w s u a d k i m.0 m.1) (h u d m.1)))
       (was_there q db w s u a d (u == s) refl e)
 
   placed_close : (w : World) (k : ℕ) → AllPlaced w → AllPlaced (step w (closes k))
   placed_close w k h u d e = subst (Placing d.fixed d.id) (sym (ids_append w.items (Close k ∷ []) ∙ append-nil (ids_of w.items))) (h u d e)
 
-  pub placed_run : (w : World) (es : List Event) → Good q db w es → IdsApart w → AllPlaced w → AllPlaced (run w es)
+  pub placed_run : (w : World) (es : List Act) → Good q db w es → IdsApart w → AllPlaced w → AllPlaced (run w es)
   placed_run w [] g i h = h
   placed_run w (by s a ∷ es) g i h = placed_run (step w (by s a)) es g.1 (apart_by q db w s a g.0 i) (placed_by w s a g.0 i h)
   placed_run w (closes k ∷ es) g i h = placed_run (step w (closes k)) es g.1 (apart_close q db w k i) (placed_close w k h)
@@ -101,19 +101,19 @@ abbrev pub is_committed : End → Bool
 is_committed (committed n) = true
 is_committed _ = false
 
-module _ (v : Server) (cells : List Cell) (seats : List SeatState) (S : StandTogether v cells seats) (j : ℕ) (x : Session) (o : OpenTransaction) (h : HasOpen seats j x o) where
-  abbrev mine : ids.Dealt v.meaning S.history (S.transcripts_agree.of_seat j) x o
-  mine = ids.dealt v S.history S.ledger seats S.transcripts_agree j x o h
+module _ (v : Server) (cells : List Cell) (seats : List SeatState) {history : History} (S : Stands v history cells seats) (j : ℕ) (x : Session) (o : OpenTransaction) (h : HasOpen seats j x o) where
+  abbrev mine : ids.InTransaction v.meaning history (S.transcripts_agree.of_seat j) x o
+  mine = ids.in_transaction v history S.ledger seats S.transcripts_agree j x o h
 
   abbrev world : World
-  world = run first S.history
+  world = run first history
 
   placing : Placing o.end o.id (ids_of S.ledger.items)
   placing = subst (λ (l : List JournalItem). Placing o.end o.id (ids_of l)) S.transcripts_agree.items
       (subst (λ (e : End). Placing e o.id (ids_of world.items)) mine.is.end
-      (subst (λ (n : ℕ). Placing mine.deal.fixed n (ids_of world.items)) mine.is.id
-      (placed_run v.meaning S.ledger.database first S.history S.transcripts_agree.good (record { differ = tt; below = tt; drawn = λ t d e. cc; outside = λ t d e f. tt; apart = λ s t c d ne e k. cc }) (λ t d e. cc)
-      mine.runs.number mine.deal mine.has)))
+      (subst (λ (n : ℕ). Placing mine.transaction.fixed n (ids_of world.items)) mine.is.id
+      (placed_run v.meaning S.ledger.database first history S.transcripts_agree.good (record { differ = tt; below = tt; drawn = λ t d e. cc; outside = λ t d e f. tt; apart = λ s t c d ne e k. cc }) (λ t d e. cc)
+      mine.runs.number mine.transaction mine.has)))
 
   -- a transaction whose end is fixed is in the journal just where it is committed
   pub is_placed : o.end ≢ unfixed → (m : ℕ) → in_journal S.ledger.items (o.id, m) ≡ is_committed o.end

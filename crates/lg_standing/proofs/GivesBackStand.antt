@@ -31,7 +31,7 @@ use Rattle.lg_standing.specs.Moves.{at_place, sits}
 use Rattle.lg_standing.specs.WantsIn.{wants_in, Holds, of_catalog}
 use Rattle.lg_standing.specs.TablesAreSerial.{HasActed, def_at, ordinals_of, IsAdding, IsCarried}
 use Rattle.lg_standing.specs.LocksCover.{KeepsLocks, Belongs, HasIntent, LookedFirst, IsDropping}
-use Rattle.lg_standing.specs.StandTogether.{StandTogether}
+use Rattle.lg_standing.specs.StandTogether.{History, Stands}
 use Rattle.lg_standing.proofs.AfterSet.{set_here, set_else}
 use Rattle.lg_standing.proofs.SeatsAfter.{Goes, one_session, open_else, each_open}
 use Rattle.lg_standing.proofs.CellsAfter.{held_here, holds_here, holds_else}
@@ -58,7 +58,7 @@ use Rattle.lg_types.specs.declared.lock.Mode.TheVariants as mode
 use Rattle.lg_standing.proofs.ChangeKeeps.{passes}
 use Rattle.std.proofs.Common.{append-nil}
 use Rattle.lg_standing.proofs.OfCells.{LookedAt, AreDefinitions, AreIndexes, Creates, EndLiesUnder, GoesBack, HasItsTrees, HasLock, HoldsInCatalog, IsGotAt, IsIndexed, IsOfItsScript, IsUnderLocks, IsUnderWay, LiesUnder, LocksAgree, LocksCover, RowsAgree, SeatHas, StandsAs, WantsNone, committed, in_journal, looked_now, looked_so, table_there}
-use Rattle.lg_standing.specs.Desks.{FitsWith, shown_with}
+use Rattle.lg_standing.specs.TranscriptsSoFar.{FitsWith, shown_with}
 use Rattle.lg_standing.specs.Contents.{HasAlone, contents, table_found}
 use Rattle.lg_standing.proofs.GotMore.{got_at_more}
 use Rattle.lg_standing.proofs.SeatIds.{one_seat}
@@ -73,7 +73,7 @@ listed_is u (Some w) h = ⊎_elim (λ (e : w ≡ u). ap (λ (r : Text). Some r) 
 shared_not : (key : Key) (w : Want) → w.mode ≡ mode.S → lets_change key w ≡ false
 shared_not key w e = ap (λ m. is_exclusive m && has_key key w.item) e
 
-module _ (v : Server) (cells : List Cell) (seats : List SeatState) (S : StandTogether v cells seats) (j : ℕ) (s : SeatState) (there : get_elem? seats j ≡ some s) (c d : CatalogCell) (t : SeatState) (out : get_elem? cells catalog_at ≡ some (Catalog c)) (L : GivesBack v c s d t) where
+module _ (v : Server) (cells : List Cell) (seats : List SeatState) {history : History} (S : Stands v history cells seats) (j : ℕ) (s : SeatState) (there : get_elem? seats j ≡ some s) (c d : CatalogCell) (t : SeatState) (out : get_elem? cells catalog_at ≡ some (Catalog c)) (L : GivesBack v c s d t) where
   abbrev T : Tables
   T = tables_now S
 
@@ -335,9 +335,8 @@ module _ (v : Server) (cells : List Cell) (seats : List SeatState) (S : StandTog
   same_fits false n f = f
 
   -- a refused statement that gives the catalog's lock back keeps cells and seats together
-  pub gives_back : StandTogether v C' (set seats j t)
-  gives_back = subst (λ (u : SeatState). StandTogether v C' (set seats j u)) (sym L.seat) (record {
-    history = _;
+  pub gives_back : Stands v history C' (set seats j t)
+  gives_back = subst (λ (u : SeatState). Stands v history C' (set seats j u)) (sym L.seat) (record {
     catalog = d;
     ledger = S.ledger;
     are_cells = catalog_changed cells S.catalog S.ledger d S.are_cells;

@@ -8,7 +8,7 @@ use lib.ListN.{get_elem?}
 use Rattle.lg_history.specs.Lists.{Each, In}
 use Rattle.lg_history.specs.Serial.{Differ}
 use Rattle.lg_history.specs.Transactions.{listed}
-use Rattle.lg_history.specs.Acts.{Event, of, marked}
+use Rattle.lg_history.specs.Acts.{Act, of, marked}
 use Rattle.lg_history.proofs.Trace.{each_append, each_weaker}
 use Rattle.lg_standing.specs.Server.{Server}
 use Rattle.lg_standing.specs.Cells.{LedgerCell, Cell}
@@ -16,7 +16,7 @@ use Rattle.lg_standing.specs.Contents.{contents, known}
 use Rattle.lg_standing.specs.OpenOnes.{HasOpen}
 use Rattle.lg_standing.specs.Parts.{Numbers, all_of, Past, Now}
 use Rattle.lg_standing.specs.Seats.{OpenTransaction, Session, Written, Role, idle, session, builder, SeatState, nobody, IsAtRest, may_end, joined}
-use Rattle.lg_standing.specs.StandTogether.{StandTogether}
+use Rattle.lg_standing.specs.StandTogether.{History, Stands}
 use Rattle.lg_standing.specs.TranscriptsAgree.{session_moments, moments_of, IsMoment, ImagesOfPast, MarksWithin, SeatAgrees, TranscriptsAgree}
 use Rattle.lg_standing.proofs.Places.{set_here, set_else}
 use Rattle.lg_standing.proofs.SameOpens.{tables_same, scripts_same, trees_same, agree_same, cover_same, rows_same}
@@ -45,13 +45,13 @@ owners_cross owner a b ne (x ∷ xs) ys p q = (each_weaker (λ n. owner n ≡ b)
 cross_append : (xs ys zs : List ℕ) → Cross xs zs → Cross ys zs → Cross (xs ++ ys) zs
 cross_append xs ys zs p q = each_append (λ x. Each (λ y. x ≢ y) zs) xs ys p q
 
-past_append : (h : List Event) (ms ns : List ℕ) (xs ys : List Written) → Past h ms xs → Past h ns ys → Past h (ms ++ ns) (xs ++ ys)
+past_append : (h : List Act) (ms ns : List ℕ) (xs ys : List Written) → Past h ms xs → Past h ns ys → Past h (ms ++ ns) (xs ++ ys)
 past_append h [] ns [] ys p q = q
 past_append h [] ns (x ∷ xs) ys p q = absurd p
 past_append h (m ∷ ms) ns [] ys p q = absurd p
 past_append h (m ∷ ms) ns (x ∷ xs) ys p q = (p.0, past_append h ms ns xs ys p.1 q)
 
-images_append : (v : Server) (h : List Event) (c : LedgerCell) (ms ns : List ℕ) (xs ys : List Written) → Past h ms xs → ImagesOfPast v h c ms xs → ImagesOfPast v h c ns ys → ImagesOfPast v h c (ms ++ ns) (xs ++ ys)
+images_append : (v : Server) (h : List Act) (c : LedgerCell) (ms ns : List ℕ) (xs ys : List Written) → Past h ms xs → ImagesOfPast v h c ms xs → ImagesOfPast v h c ns ys → ImagesOfPast v h c (ms ++ ns) (xs ++ ys)
 images_append v h c [] ns [] ys p i k = k
 images_append v h c [] ns (x ∷ xs) ys p i k = absurd p
 images_append v h c (m ∷ ms) ns [] ys p i k = absurd p
@@ -69,7 +69,7 @@ in_parts : (i : ℕ) (xs ys : List ℕ) → In i (xs ++ ys) → (In i xs) ⊎ (I
 in_parts i [] ys e = inr e
 in_parts i (x ∷ xs) ys e = ⊎_elim (λ f. inl (inl f)) (λ f. ⊎_elim (λ g. inl (inr g)) (λ g. inr g) (in_parts i xs ys f)) e
 
-rests_none : (q : _) (h : List Event) (o : Option ℕ) (r : Role) → IsAtRest r → Now h q o r → o ≡ None
+pub rests_none : (q : _) (h : List Act) (o : Option ℕ) (r : Role) → IsAtRest r → Now h q o r → o ≡ None
 rests_none q h None r rest p = refl
 rests_none q h (Some n) (session x) rest p = absurd rest
 rests_none q h (Some n) idle rest p = absurd p
@@ -85,7 +85,7 @@ not_session idle rest x e = cc
 not_session builder rest x e = cc
 not_session (session y) rest x e = absurd rest
 
-module _ (v : Server) (cells : List Cell) (seats : List SeatState) (st : StandTogether v cells seats) (j k : ℕ) (s t : SeatState) (there : get_elem? seats j ≡ some s) (there_k : get_elem? seats k ≡ some t) (apart : k ≢ j) (rest : may_end t) where
+module _ (v : Server) (cells : List Cell) (seats : List SeatState) {history : History} (st : Stands v history cells seats) (j k : ℕ) (s t : SeatState) (there : get_elem? seats j ≡ some s) (there_k : get_elem? seats k ≡ some t) (apart : k ≢ j) (rest : may_end t) where
   abbrev u : SeatState
   u = joined s t
 
@@ -98,7 +98,7 @@ module _ (v : Server) (cells : List Cell) (seats : List SeatState) (st : StandTo
   abbrev ledger : LedgerCell
   ledger = st.ledger
 
-  abbrev agree : TranscriptsAgree v st.history ledger seats
+  abbrev agree : TranscriptsAgree v history ledger seats
   agree = st.transcripts_agree
 
   at_k : get_elem? half k ≡ some t
@@ -145,10 +145,10 @@ module _ (v : Server) (cells : List Cell) (seats : List SeatState) (st : StandTo
   abbrev w : Numbers
   w = agree.of_seat k
 
-  was : SeatAgrees v st.history ledger m s
+  was : SeatAgrees v history ledger m s
   was = agree.agree j s there
 
-  other : SeatAgrees v st.history ledger w t
+  other : SeatAgrees v history ledger w t
   other = agree.agree k t there_k
 
   abbrev new : Numbers
@@ -179,7 +179,7 @@ module _ (v : Server) (cells : List Cell) (seats : List SeatState) (st : StandTo
   owner_else n ne = ap (λ (b : Bool). if b then j else agree.owner n) (ne_eqb (agree.owner n) k ne)
 
   no_now : w.now ≡ None
-  no_now = rests_none v.meaning st.history w.now t.role rest other.sessions.now
+  no_now = rests_none v.meaning history w.now t.role rest other.sessions.now
 
   only_past : all_of w ≡ w.past
   only_past = ap (λ (o : Option ℕ). w.past ++ listed o) no_now ∙ append-nil w.past
@@ -196,32 +196,32 @@ module _ (v : Server) (cells : List Cell) (seats : List SeatState) (st : StandTo
       (cross_append m.past w.past (listed m.now) a.2 (owners_cross agree.owner k j apart w.past (listed m.now) theirs mine.1))
 
   abbrev Within : List ℕ → Type 0
-  Within ns = Each (MarksWithin v st.history ledger u) ns
+  Within ns = Each (MarksWithin v history ledger u) ns
 
-  wider : (ns : List ℕ) → Each (MarksWithin v st.history ledger s) ns → Within ns
-  wider = each_weaker (MarksWithin v st.history ledger s) (MarksWithin v st.history ledger u) (λ n. each_weaker (λ a. Each (λ i. (s.least ≤ i) × (i ≤ s.greatest)) (marked a)) (λ a. Each (λ i. (u.least ≤ i) × (i ≤ u.greatest)) (marked a))
-      (λ a. each_weaker (λ i. (s.least ≤ i) × (i ≤ s.greatest)) (λ i. (u.least ≤ i) × (i ≤ u.greatest)) (λ i e. let p = e.0 in let q = e.1 in (omega arith, omega arith)) (marked a)) (of n st.history))
+  wider : (ns : List ℕ) → Each (MarksWithin v history ledger s) ns → Within ns
+  wider = each_weaker (MarksWithin v history ledger s) (MarksWithin v history ledger u) (λ n. each_weaker (λ a. Each (λ i. (s.least ≤ i) × (i ≤ s.greatest)) (marked a)) (λ a. Each (λ i. (u.least ≤ i) × (i ≤ u.greatest)) (marked a))
+      (λ a. each_weaker (λ i. (s.least ≤ i) × (i ≤ s.greatest)) (λ i. (u.least ≤ i) × (i ≤ u.greatest)) (λ i e. let p = e.0 in let q = e.1 in (omega arith, omega arith)) (marked a)) (of n history))
 
-  wider_k : (ns : List ℕ) → Each (MarksWithin v st.history ledger t) ns → Within ns
-  wider_k = each_weaker (MarksWithin v st.history ledger t) (MarksWithin v st.history ledger u) (λ n. each_weaker (λ a. Each (λ i. (t.least ≤ i) × (i ≤ t.greatest)) (marked a)) (λ a. Each (λ i. (u.least ≤ i) × (i ≤ u.greatest)) (marked a))
-      (λ a. each_weaker (λ i. (t.least ≤ i) × (i ≤ t.greatest)) (λ i. (u.least ≤ i) × (i ≤ u.greatest)) (λ i e. let p = e.0 in let q = e.1 in (omega arith, omega arith)) (marked a)) (of n st.history))
+  wider_k : (ns : List ℕ) → Each (MarksWithin v history ledger t) ns → Within ns
+  wider_k = each_weaker (MarksWithin v history ledger t) (MarksWithin v history ledger u) (λ n. each_weaker (λ a. Each (λ i. (t.least ≤ i) × (i ≤ t.greatest)) (marked a)) (λ a. Each (λ i. (u.least ≤ i) × (i ≤ u.greatest)) (marked a))
+      (λ a. each_weaker (λ i. (t.least ≤ i) × (i ≤ t.greatest)) (λ i. (u.least ≤ i) × (i ≤ u.greatest)) (λ i e. let p = e.0 in let q = e.1 in (omega arith, omega arith)) (marked a)) (of n history))
 
   marks_then : Within (all_of new)
-  marks_then = let a = parts (MarksWithin v st.history ledger s) m.past (listed m.now) was.marks in
-      each_append (MarksWithin v st.history ledger u) (m.past ++ w.past) (listed m.now) (each_append (MarksWithin v st.history ledger u) m.past w.past (wider m.past a.0) (wider_k w.past (subst (Each (MarksWithin v st.history ledger t)) only_past other.marks))) (wider (listed m.now) a.1)
+  marks_then = let a = parts (MarksWithin v history ledger s) m.past (listed m.now) was.marks in
+      each_append (MarksWithin v history ledger u) (m.past ++ w.past) (listed m.now) (each_append (MarksWithin v history ledger u) m.past w.past (wider m.past a.0) (wider_k w.past (subst (Each (MarksWithin v history ledger t)) only_past other.marks))) (wider (listed m.now) a.1)
 
-  both : SeatAgrees v st.history ledger new u
+  both : SeatAgrees v history ledger new u
   both = record {
-    sessions = record { differ = differs; past = past_append st.history m.past w.past s.written t.written was.sessions.past other.sessions.past; now = was.sessions.now; earlier = was.sessions.earlier };
+    sessions = record { differ = differs; past = past_append history m.past w.past s.written t.written was.sessions.past other.sessions.past; now = was.sessions.now; earlier = was.sessions.earlier };
     database = was.database;
     block_size = was.block_size;
     marks = marks_then;
     greatest = (let a = was.greatest.0 in let b = other.greatest.0 in omega arith, let a = was.greatest.1 in let b = other.greatest.1 in omega arith);
-    past_images = images_append v st.history ledger m.past w.past s.written t.written was.sessions.past was.past_images other.past_images;
+    past_images = images_append v history ledger m.past w.past s.written t.written was.sessions.past was.past_images other.past_images;
     images = was.images;
   }
 
-  gone_seat : SeatAgrees v st.history ledger none_yet nobody
+  gone_seat : SeatAgrees v history ledger none_yet nobody
   gone_seat = record {
     sessions = record { differ = tt; past = tt; now = tt; earlier = tt };
     database = λ e. let no : false ≡ true = e in cc;
@@ -232,11 +232,11 @@ module _ (v : Server) (cells : List Cell) (seats : List SeatState) (st : StandTo
     images = tt;
   }
 
-  all_agree : (i : ℕ) (z : SeatState) → get_elem? after i ≡ some z → SeatAgrees v st.history ledger (of_seat i) z
-  all_agree = which (λ i z. SeatAgrees v st.history ledger (of_seat i) z)
-      (subst (λ (n : Numbers). SeatAgrees v st.history ledger n nobody) (sym of_k) gone_seat)
-      (subst (λ (n : Numbers). SeatAgrees v st.history ledger n u) (sym of_j) both)
-      (λ i z nk nj e. subst (λ (n : Numbers). SeatAgrees v st.history ledger n z) (sym (of_else i nk nj)) (agree.agree i z e))
+  all_agree : (i : ℕ) (z : SeatState) → get_elem? after i ≡ some z → SeatAgrees v history ledger (of_seat i) z
+  all_agree = which (λ i z. SeatAgrees v history ledger (of_seat i) z)
+      (subst (λ (n : Numbers). SeatAgrees v history ledger n nobody) (sym of_k) gone_seat)
+      (subst (λ (n : Numbers). SeatAgrees v history ledger n u) (sym of_j) both)
+      (λ i z nk nj e. subst (λ (n : Numbers). SeatAgrees v history ledger n z) (sym (of_else i nk nj)) (agree.agree i z e))
 
   abbrev Owned : ℕ → List ℕ → Type 0
   Owned i ns = Each (λ n. owner n ≡ i) ns
@@ -292,9 +292,8 @@ module _ (v : Server) (cells : List Cell) (seats : List SeatState) (st : StandTo
       (cases_eq e.j j))
       (cases_eq e.j k)
 
-  pub join_stands : StandTogether v cells after
+  pub join_stands : Stands v history cells after
   join_stands = let c = contents cells in let n = known v.reads ledger.items in record {
-    history = st.history;
     catalog = st.catalog;
     ledger = ledger;
     are_cells = st.are_cells;
@@ -319,7 +318,5 @@ module _ (v : Server) (cells : List Cell) (seats : List SeatState) (st : StandTo
       no_others = agree.no_others;
       times = each_weaker (IsMoment seats) (IsMoment after) moment _ agree.times;
       made = each_weaker (λ g. IsMoment seats g.made) (λ g. IsMoment after g.made) (λ g. moment g.made) ledger.issued agree.made;
-      setup = agree.setup;
-      setup_ran = agree.setup_ran;
     };
   }

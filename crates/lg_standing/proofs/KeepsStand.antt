@@ -13,17 +13,17 @@ use Rattle.lg_history.specs.Transcripts.{issue, kind_of, Kind, keep}
 use Rattle.lg_types.specs.declared.statement.Stmt.TheVariants as stmt
 use Rattle.lg_history.specs.Sessions.{acted}
 use Rattle.lg_standing.specs.Seats.{begun, KeptImage, Place}
-use Rattle.lg_standing.proofs.DeskActs.{goes_on, GoesFrom}
-use Rattle.lg_standing.proofs.DeskStages.{from_at, at_lack, at_digest}
+use Rattle.lg_standing.proofs.TranscriptActs.{goes_on, GoesFrom}
+use Rattle.lg_standing.proofs.TranscriptStages.{from_at, at_lack, at_digest}
 use Rattle.lg_history.specs.Lists.{Text, In}
 use Rattle.lg_history.specs.Journals.{blocks}
 use Rattle.lg_history.specs.Digests.{Digest, IsDigest}
 use Rattle.lg_history.specs.Acts.{issues, lacks, by, keeps}
-use Rattle.lg_history.specs.Sessions.{Deal, Sess}
+use Rattle.lg_history.specs.Sessions.{SessionTransaction, SessionState}
 use Rattle.lg_history.specs.Worlds.{first, run}
 use Rattle.lg_history.proofs.Settles.{in_append, in_left, in_right}
 use Rattle.lg_history.proofs.Trace.{each_append, each_weaker, count_append}
-use Rattle.lg_standing.specs.Server.{Server}
+use Rattle.lg_standing.specs.Server.{Server, journal_image}
 use Rattle.lg_standing.specs.Cells.{LedgerCell, Cell, Ledger, ledger_at}
 use Rattle.lg_standing.specs.Contents.{Contents, Known, contents, known}
 use Rattle.lg_standing.specs.Seats.{answering, inside, OpenTransaction, Session, Written, Role, SeatState}
@@ -31,22 +31,22 @@ use Rattle.lg_standing.specs.LedgerIsLegal.{IsOfCell, LedgerIsLegal}
 use Rattle.lg_standing.specs.LedgerVisits.{closed_by, all_closed, with_digest, Issues, LacksBlock}
 use Rattle.lg_standing.specs.Moves.{at_place, at_moment, sits, marking, StandsIn, keeping}
 use Rattle.lg_standing.specs.OpenOnes.{text_at}
-use Rattle.lg_standing.specs.Parts.{AreDeals}
+use Rattle.lg_standing.specs.Parts.{AreTransactions}
 use Rattle.lg_standing.specs.TranscriptsAgree.{session_moments, moments_of, IsImage}
-use Rattle.lg_standing.specs.StandTogether.{StandTogether}
+use Rattle.lg_standing.specs.StandTogether.{History, Stands, StandsAfter}
 use Rattle.lg_standing.proofs.Closes.{close_stands}
 use Rattle.lg_standing.proofs.Ids.{Running, running}
 use Rattle.lg_standing.proofs.LedgerVisit.{the_ledger, ledger_visit}
-use Rattle.lg_standing.proofs.OneMore.{Acts, agrees_then, images_stay_each}
+use Rattle.lg_standing.proofs.OneMore.{Acts, agrees_then, agrees_owner, images_stay_each}
 use Rattle.lg_standing.proofs.OpenSeats.{Own, owns_none}
 use Rattle.lg_standing.proofs.Places.{set_here, set_same, set_again}
 use Rattle.lg_standing.proofs.PlainAct.{plain_act}
 use Rattle.lg_standing.proofs.Turns.{Turns}
 use Rattle.lg_model.specs.Catalog.{Defs}
 use Rattle.lg_history.specs.InPlace.{ComesAt}
-use Rattle.lg_standing.specs.Desks.{FitsOutside, image_at, open_before, shown_at}
+use Rattle.lg_standing.specs.TranscriptsSoFar.{FitsOutside, image_at, open_before, shown_at}
 use Rattle.lg_standing.specs.ImageVisits.{KeepsImage}
-use Rattle.lg_standing.proofs.AloneTurns.{alone_stands}
+use Rattle.lg_standing.proofs.AloneTurns.{alone_stands, alone_after}
 use Rattle.std.proofs.lemmas.Bool.{ne_eqb}
 use Rattle.lg_standing.proofs.InPlaces.{never, outside}
 use Rattle.lg_standing.proofs.DigestsStand.{no_turn, same_none}
@@ -63,18 +63,18 @@ length_end : (ks : List KeptImage) (k : KeptImage) → length (ks ++ k ∷ []) �
 length_end [] k = refl
 length_end (i ∷ is) k = omega (arith, length_end is k)
 
-module _ (v : Server) (cells : List Cell) (seats : List SeatState) (st : StandTogether v cells seats) (j : ℕ) (s : SeatState) (there : get_elem? seats j ≡ some s) (p : StandsIn v s) (free : p.x.open_one ≡ None) (at_begun : p.stage ≡ begun) (asks : p.stmt ≡ stmt.Image) (fewer : length p.x.images < 2) where
+module _ (v : Server) (cells : List Cell) (seats : List SeatState) {history : History} (st : Stands v history cells seats) (j : ℕ) (s : SeatState) (there : get_elem? seats j ≡ some s) (p : StandsIn v s) (free : p.x.open_one ≡ None) (at_begun : p.stage ≡ begun) (asks : p.stmt ≡ stmt.Image) (fewer : length p.x.images < 2) where
   abbrev ledger : LedgerCell
   ledger = st.ledger
 
-  r : Running v.meaning st.history (st.transcripts_agree.of_seat j) p.x
-  r = running v st.history ledger seats st.transcripts_agree j s p.x there p.role
+  r : Running v.meaning history (st.transcripts_agree.of_seat j) p.x
+  r = running v history ledger seats st.transcripts_agree j s p.x there p.role
 
-  abbrev sess : Sess
-  sess = (run first st.history).at r.number
+  abbrev sess : SessionState
+  sess = (run first history).at r.number
 
-  no_deal : AreDeals sess.deal p.x None
-  no_deal = subst (AreDeals sess.deal p.x) free r.now.open_one
+  no_transaction : AreTransactions sess.transaction p.x None
+  no_transaction = subst (AreTransactions sess.transaction p.x) free r.now.open_one
 
   was_greatest : (s.least ≤ s.greatest) × (s.greatest ≤ tx_count ledger.items)
   was_greatest = (st.transcripts_agree.agree j s there).greatest
@@ -92,7 +92,7 @@ module _ (v : Server) (cells : List Cell) (seats : List SeatState) (st : StandTo
   mark = tx_count ledger.items
 
   abbrev kept_image : KeptImage
-  kept_image = (items, v.image ledger.database ledger.items)
+  kept_image = (items, journal_image v ledger.database ledger.items)
 
   abbrev z : Session
   z = keeping kept_image (at_place None (inside p.text (answering (reply.Image items) None)) p.x)
@@ -124,7 +124,7 @@ module _ (v : Server) (cells : List Cell) (seats : List SeatState) (st : StandTo
   same_moments : (i : ℕ) → In i (moments_of s) → In i (moments_of t)
   same_moments i e = subst (λ (r : Role). In i (flat_map (λ (w : Written). w.moments) s.written ++ session_moments r)) p.role e
 
-  acts : Acts v st.history r.number (keeps items mark) ledger ledger s t
+  acts : Acts v history r.number (keeps items mark) ledger ledger s t
   acts = record {
     ok = (r.now.running, ap length (sym st.transcripts_agree.items), ap tx_count (sym st.transcripts_agree.items));
     items = sym (append-nil ledger.items);
@@ -137,7 +137,7 @@ module _ (v : Server) (cells : List Cell) (seats : List SeatState) (st : StandTo
     was = p.role;
     role = refl;
     same_name = refl;
-    now = record { running = r.now.running; transcript = r.now.transcript; under = r.now.under ∙ ap text_at p.place; open_one = same_none sess.deal p.x z no_deal; desk = goes_on v.meaning sess.desk (acted sess (keeps items mark)).desk p.x z (image items ∷ []) refl refl r.now.desk goes };
+    now = record { running = r.now.running; transcript = r.now.transcript; under = r.now.under ∙ ap text_at p.place; open_one = same_none sess.transaction p.x z no_transaction; so_far = goes_on v.meaning sess.so_far (acted sess (keeps items mark)).so_far p.x z (image items ∷ []) refl refl r.now.so_far goes };
     same_present = refl;
     seat_database = refl;
     seat_size = refl;
@@ -148,21 +148,21 @@ module _ (v : Server) (cells : List Cell) (seats : List SeatState) (st : StandTo
     greatest = let l = was_greatest.1 in omega arith;
     marks = ((let l = was_greatest.0 in let m = was_greatest.1 in omega arith, omega arith), tt);
     images = map_end p.x.images kept_image;
-    each_image = λ e. each_append (IsImage v ledger) p.x.images (kept_image ∷ []) e (record { within = omega arith; bytes = ap (v.image ledger.database) (sym (take_all ledger.items)) }, tt);
+    each_image = λ e. each_append (IsImage v ledger) p.x.images (kept_image ∷ []) e (record { within = omega arith; bytes = ap (journal_image v ledger.database) (sym (take_all ledger.items)) }, tt);
     moments = same_moments;
     times = tt;
     made = tt;
   }
 
-  pub image_stands : StandTogether v cells (slice_set seats j t)
-  image_stands = alone_stands v cells seats st j s there t (st.history ++ by r.number (keeps items mark) ∷ [])
+  pub image_stands : StandsAfter v j history (keeps items mark ∷ []) cells (slice_set seats j t)
+  image_stands = alone_after v cells seats st j s there t r.number
       (no_turn v (contents cells) (known v.reads ledger.items) st.catalog.defs s t (owns_none s p.x p.role free) (owns_none t z refl refl))
-      (agrees_then v st.history ledger ledger seats st.transcripts_agree j s t there r.number (keeps items mark) r.is acts)
+      (agrees_then v history ledger ledger seats st.transcripts_agree j s t there r.number (keeps items mark) r.is acts) (agrees_owner _ _ _ _ _ _ _ _ _ _ _ _ _ _)
 
 -- what is out is as it lies there
-pub keeps_stand : (v : Server) (cells : List Cell) (seats : List SeatState) → StandTogether v cells seats → (j : ℕ) (s : SeatState) → get_elem? seats j ≡ some s
-    → (out : List (ℕ × Cell)) → ((i : ℕ) (c : Cell) → In (i, c) out → get_elem? cells i ≡ some c) → (t : SeatState) → KeepsImage v out s t → StandTogether v cells (slice_set seats j t)
-keeps_stand v cells seats st j s there out lies t w = subst (λ (u : SeatState). StandTogether v cells (slice_set seats j u)) (sym (w.seat ∙ ap (λ (l : LedgerCell). marking (tx_count l.items) (sits s (keeping (length l.items, v.image l.database l.items) (at_place None (inside w.stands.text (answering (reply.Image (length l.items)) None)) w.stands.x)))) is))
+pub keeps_stand : (v : Server) (cells : List Cell) (seats : List SeatState) {history : History} → Stands v history cells seats → (j : ℕ) (s : SeatState) → get_elem? seats j ≡ some s
+    → (out : List (ℕ × Cell)) → ((i : ℕ) (c : Cell) → In (i, c) out → get_elem? cells i ≡ some c) → (t : SeatState) → (w : KeepsImage v out s t) → StandsAfter v j history (keeps (length w.ledger.items) (tx_count w.ledger.items) ∷ []) cells (slice_set seats j t)
+keeps_stand v cells seats {history} st j s there out lies t w = subst₂ (λ (l : LedgerCell) (u : SeatState). StandsAfter v j history (keeps (length l.items) (tx_count l.items) ∷ []) cells (slice_set seats j u)) (sym is) (sym (w.seat ∙ ap (λ (l : LedgerCell). marking (tx_count l.items) (sits s (keeping (length l.items, journal_image v l.database l.items) (at_place None (inside w.stands.text (answering (reply.Image (length l.items)) None)) w.stands.x)))) is))
     (image_stands v cells seats st j s there w.stands w.none_open w.at_begin w.asks w.fewer)
   where
     is : w.ledger ≡ st.ledger

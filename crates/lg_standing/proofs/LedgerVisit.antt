@@ -1,8 +1,8 @@
 -- A visit of the ledger's cell that leaves what the journal says: what it owes, and that cells and seats stand together then.
-use Rattle.std.proofs.Common.{◌≡◌, ℕ, zero, suc, List, slice_set, refl, sym, ◌∙◌, subst₂}
+use Rattle.std.proofs.Common.{◌≡◌, ℕ, zero, suc, List, slice_set, refl, sym, ◌∙◌, subst₂, map, ◌++◌}
 use mathlib.Core.Option.{some, some-injective}
 use lib.ListN.{get_elem?}
-use Rattle.lg_history.specs.Acts.{Event}
+use Rattle.lg_history.specs.Acts.{Act, SessionAct, by}
 use Rattle.lg_standing.specs.Server.{Server}
 use Rattle.lg_standing.specs.Cells.{CatalogCell, LedgerCell, Cell, Catalog, Ledger, Rows, AreCells, ledger_at}
 use Rattle.lg_standing.specs.Contents.{Contents, Known, contents, known}
@@ -14,7 +14,8 @@ use Rattle.lg_standing.specs.LocksCover.{LocksCover}
 use Rattle.lg_standing.specs.LocksAgree.{LocksAgree}
 use Rattle.lg_standing.specs.TreesAreOfEvents.{TreesAreOfEvents}
 use Rattle.lg_standing.specs.TranscriptsAgree.{TranscriptsAgree}
-use Rattle.lg_standing.specs.StandTogether.{StandTogether}
+use Rattle.lg_standing.specs.StandTogether.{History, Stands, StandsAfter}
+use Rattle.lg_standing.proofs.GoesOn.{each_so}
 use Rattle.lg_standing.proofs.LedgerKept.{same_contents, are_cells}
 use Rattle.lg_standing.proofs.Turns.{Turns, tables_turn, scripts_turn, trees_turn, agree_turn, cover_turn, rows_turn}
 use Rattle.lg_standing.specs.RowsAgree.{RowsAgree}
@@ -33,7 +34,7 @@ lies_there cells catalog ledger c a zero e = let same : Catalog catalog ≡ Ledg
 lies_there cells catalog ledger c a (suc zero) e = refl
 lies_there cells catalog ledger c a (suc (suc i)) e = let t = a.has_tables i (Ledger c) e in let same : Ledger c ≡ Rows t.0 = t.1 in cc
 
-module _ (v : Server) (cells : List Cell) (seats : List SeatState) (st : StandTogether v cells seats) (j : ℕ) (s t : SeatState) (there : get_elem? seats j ≡ some s) (d : LedgerCell)
+module _ (v : Server) (cells : List Cell) (seats : List SeatState) {history : History} (st : Stands v history cells seats) (j : ℕ) (s t : SeatState) (there : get_elem? seats j ≡ some s) (d : LedgerCell)
     (says : known v.reads d.items ≡ known v.reads st.ledger.items) where
   abbrev before : Contents
   before = contents cells
@@ -47,9 +48,8 @@ module _ (v : Server) (cells : List Cell) (seats : List SeatState) (st : StandTo
   over : (P : Contents → Known → Type 0) → P before said → P (contents (slice_set cells ledger_at (Ledger d))) (known v.reads d.items)
   over P p = subst₂ P (sym (same_contents cells st.ledger d st.are_cells.has_ledger)) (sym says) p
 
-  pub ledger_visit : (h : List Event) → LedgerIsLegal v d → Turns v before said st.catalog.defs s t → TranscriptsAgree v h d after → StandTogether v (slice_set cells ledger_at (Ledger d)) after
+  pub ledger_visit : (h : List Act) → LedgerIsLegal v d → Turns v before said st.catalog.defs s t → TranscriptsAgree v h d after → Stands v h (slice_set cells ledger_at (Ledger d)) after
   ledger_visit h legal turn agree = record {
-    history = h;
     catalog = st.catalog;
     ledger = d;
     are_cells = are_cells cells st.ledger d st.are_cells.has_ledger st.catalog st.ledger st.are_cells;
@@ -62,3 +62,8 @@ module _ (v : Server) (cells : List Cell) (seats : List SeatState) (st : StandTo
     trees_are_of_events = over (λ c k. TreesAreOfEvents v c k after) (trees_turn v before said st.catalog.defs seats j s t there turn st.trees_are_of_events);
     transcripts_agree = agree;
   }
+
+  -- with acts of one session
+  pub ledger_after : (n : ℕ) {acts : List SessionAct} → LedgerIsLegal v d → Turns v before said st.catalog.defs s t → (agree : TranscriptsAgree v (history ++ map (by n) acts) d after) → agree.owner n ≡ j → StandsAfter v j history acts (slice_set cells ledger_at (Ledger d)) after
+  unfolding ledger_visit
+  ledger_after n {acts} legal turn agree own = record { session = n; stands = ledger_visit (history ++ map (by n) acts) legal turn agree; mine = each_so acts own }

@@ -1,4 +1,5 @@
 -- A statement looks a name up in the catalog, under S: cells and seats stand together afterwards.
+use Rattle.lg_standing.proofs.ActedFor.{IsOf, StandsBy, its_session}
 use Rattle.std.proofs.Common.{◌≡◌, ◌≢◌, ℕ, suc, Bool, true, false, List, [], ◌∷◌, ◌++◌, set, Option, Some, refl, sym, ap, ◌∙◌, subst, inl, inr, ⊎_elim, arith}
 use Rattle.std.proofs.lemmas.Bool.{cases_eq, eqb-true}
 use Rattle.std.specs.Prelude.{◌==◌, ◌||◌, not, if◌then◌else◌}
@@ -31,7 +32,7 @@ use Rattle.lg_standing.proofs.Taken.{holds_none, AreFree}
 use Rattle.lg_standing.specs.TablesAreSerial.{HasAdded, HasActed}
 use Rattle.lg_standing.specs.LocksCover.{IsNamed, LookedFirst}
 use Rattle.lg_standing.specs.CatalogVisits as c
-use Rattle.lg_standing.specs.StandTogether.{StandTogether}
+use Rattle.lg_standing.specs.StandTogether.{History, Stands}
 use Rattle.lg_standing.proofs.AfterSet.{set_here, set_else, each_at}
 use Rattle.lg_standing.proofs.SeatsAfter.{one_session}
 use Rattle.lg_standing.proofs.CellsAfter.{catalog_changed, holds_here, held_here}
@@ -43,8 +44,8 @@ use Rattle.lg_standing.proofs.OfCells.{Creates, HasLock, IsGotAt, IsUnderWay, Wa
 use Rattle.lg_history.specs.Guards.{IsAnswered}
 use Rattle.lg_standing.specs.TranscriptsAgree.{TranscriptsAgree}
 use Rattle.lg_standing.proofs.TakenLocks.{all_free}
-use Rattle.lg_standing.proofs.VisitActs.{asks_act}
-use Rattle.lg_standing.proofs.DeskStages.{at_found, from_at, shares_rows}
+use Rattle.lg_standing.proofs.VisitActs.{asks_act, asks_owner, asks_number}
+use Rattle.lg_standing.proofs.TranscriptStages.{at_found, from_at, shares_rows}
 use Rattle.lg_history.specs.Transcripts.{kind_of}
 use Rattle.lg_history.specs.Acts.{looks}
 use Rattle.lg_history.specs.Transcripts as told
@@ -93,7 +94,7 @@ none_wanted : (holds : List Hold) (id : ℕ) (ws : List Want) → ((h : Hold) �
 none_wanted holds id [] free h = refl
 none_wanted holds id (w ∷ ws) free h = absurd (free h.0.hold h.0.has h.0.mine)
 
-module _ (v : Server) (cells : List Cell) (seats : List SeatState) (S : StandTogether v cells seats) (j : ℕ) (s : SeatState) (there : get_elem? seats j ≡ some s)
+module _ (v : Server) (cells : List Cell) (seats : List SeatState) {history : History} (S : Stands v history cells seats) (j : ℕ) (s : SeatState) (there : get_elem? seats j ≡ some s)
     (old new : CatalogCell) (t : SeatState) (out : get_elem? cells catalog_at ≡ some (Catalog old)) (L : c.Looks v old s new t) where
   abbrev o : OpenTransaction
   o = L.o
@@ -249,14 +250,17 @@ module _ (v : Server) (cells : List Cell) (seats : List SeatState) (S : StandTog
   kind : kind_of (v.meaning.reads text) ≡ told.rows
   kind = ap kind_of (v.real.reading text ∙ L.at.stands.is) ∙ shares_rows o.opened L.at.stands.stmt L.shares
 
-  act : TranscriptsAgree v (S.history ++ by (g v cells seats S j s there x L.at.stands.role o L.at.open_one).runs.number (looks text false) ∷ []) S.ledger (set seats j (sits s y))
+  act : TranscriptsAgree v (history ++ by (g v cells seats S j s there x L.at.stands.role o L.at.open_one).runs.number (looks text false) ∷ []) S.ledger (set seats j (sits s y))
   act = asks_act v cells seats S j s there x L.at.stands.role o L.at.open_one L.at.unfixed text begun place refl false stage p (record { id = refl; opened = refl; script = refl; end = refl }) (inl refl) (λ f. cc)
       (λ answered a h. ⊎_elim (λ (k : IsAnswered answered a). inl k) (λ (k : ⊥). absurd k) h)
       (from_at v.meaning x y (inside text begun) (Some o) [] place L.at.open_one refl (λ m i f. at_found v.meaning m text o p (find_part old.defs L.name) (holds_none L.o.id old.holds) refl refl refl kind f))
 
-  pub stands_so : StandTogether v cells_after (set seats j (sits s y))
+  -- the number of its session in the history
+  abbrev pub number : ℕ
+  number = (g v cells seats S j s there x L.at.stands.role o L.at.open_one).runs.number
+
+  pub stands_so : Stands v (history ++ by number (looks text false) ∷ []) cells_after (set seats j (sits s y))
   stands_so = record {
-    history = _;
     catalog = new;
     ledger = S.ledger;
     are_cells = catalog_changed cells S.catalog S.ledger new S.are_cells;
@@ -270,9 +274,23 @@ module _ (v : Server) (cells : List Cell) (seats : List SeatState) (S : StandTog
     transcripts_agree = act;
   }
 
-  pub looks_up : StandTogether v (set cells catalog_at (Catalog new)) (set seats j t)
-  looks_up = subst (λ (u : SeatState). StandTogether v cells_after (set seats j u)) (sym L.seat) stands_so
+  own_so : stands_so.transcripts_agree.owner number ≡ j
+  unfolding stands_so act
+  own_so = asks_owner _ _ _ _ _ _ _ _ _ _ _ _ _ _ _ _ _ _ _ _ _ _ _ _
+
+  pub looks_up : StandsBy v j history o.id o.opened (looks text false ∷ []) (set cells catalog_at (Catalog new)) (set seats j t)
+  looks_up = subst (λ (u : SeatState). StandsBy v j history o.id o.opened (looks text false ∷ []) cells_after (set seats j u)) (sym L.seat) (record { session = number; of = its_session v.meaning history (S.transcripts_agree.of_seat j) x o (g v cells seats S j s there x L.at.stands.role o L.at.open_one); stands = stands_so; mine = own_so })
+
+  pub is_number : IsOf history number o.id o.opened
+  is_number = its_session v.meaning history (S.transcripts_agree.of_seat j) x o (g v cells seats S j s there x L.at.stands.role o L.at.open_one)
 
   pub same_ledger : stands_so.ledger ≡ S.ledger
   unfolding stands_so
   same_ledger = refl
+
+  -- its number stays
+  pub same_number : (stands_so.transcripts_agree.of_seat j).now ≡ Some number
+  unfolding stands_so act
+  same_number = asks_number v cells seats S j s there x L.at.stands.role o L.at.open_one L.at.unfixed text begun place refl false stage p (record { id = refl; opened = refl; script = refl; end = refl }) (inl refl) (λ f. cc)
+      (λ answered a h. ⊎_elim (λ (k : IsAnswered answered a). inl k) (λ (k : ⊥). absurd k) h)
+      (from_at v.meaning x y (inside text begun) (Some o) [] place L.at.open_one refl (λ m i f. at_found v.meaning m text o p (find_part old.defs L.name) (holds_none L.o.id old.holds) refl refl refl kind f))

@@ -20,7 +20,7 @@ use Rattle.lg_standing.specs.EventsIn.{events_in}
 use Rattle.lg_standing.specs.WantsIn.{wants_in, Holds}
 use Rattle.lg_standing.specs.OpenScripts.{IsOfItsScript}
 use Rattle.lg_standing.specs.TreesAreOfEvents.{AreTrees, IsFrame, AreFrames}
-use Rattle.lg_standing.specs.StandTogether.{StandTogether}
+use Rattle.lg_standing.specs.StandTogether.{History, Stands}
 use Rattle.lg_standing.proofs.FreshIds.{events_of_touched}
 use Rattle.lg_standing.proofs.Ids.{outside, others, differ}
 use Rattle.lg_standing.proofs.OthersAgree.{AllLocked, all_agree}
@@ -47,14 +47,14 @@ module _ (v : Server) where
 
   -- ---- frames
 
-  same_frame : (id : ℕ) (f : Frame) (a b : Saved) → SameSaved id a b → IsFrame v id f a → IsFrame v id f b
+  same_frame : (id : ℕ) (f : Frame) (a b : Saved) → SameSaved id a b → IsFrame id f a → IsFrame id f b
   same_frame id f a b s h = record {
     name = h.name ∙ s.name;
     counter = h.counter ∙ s.seq;
-    trees = subst (λ (events : ℕ → List Event). AreTrees v events f.trees) (λ i t. (events_of_touched id t (versions_of a.tables t) ∙ ap (events_in id t) (s.mine t) ∙ sym (events_of_touched id t (versions_of b.tables t))) i) h.trees;
+    trees = subst (λ (events : ℕ → List Event). AreTrees events f.trees) (λ i t. (events_of_touched id t (versions_of a.tables t) ∙ ap (events_in id t) (s.mine t) ∙ sym (events_of_touched id t (versions_of b.tables t))) i) h.trees;
   }
 
-  same_frames : (id : ℕ) (fs : List Frame) (us bs : List Saved) → AllSaved id us bs → AreFrames v id fs us → AreFrames v id fs bs
+  same_frames : (id : ℕ) (fs : List Frame) (us bs : List Saved) → AllSaved id us bs → AreFrames id fs us → AreFrames id fs bs
   same_frames id [] [] [] s h = tt
   same_frames id (f ∷ fs) (a ∷ us) (b ∷ bs) s h = (same_frame id f a b s.0 h.0, same_frames id fs us bs s.1 h.1)
   same_frames id fs [] (b ∷ bs) s h = absurd s
@@ -68,7 +68,7 @@ each_map f P (l ∷ ls) h = (h.0, each_map f P ls h.1)
 
 -- ---- beside a transaction of seat j
 
-module _ (v : Server) (cells : List Cell) (seats : List SeatState) (st : StandTogether v cells seats) where
+module _ (v : Server) (cells : List Cell) (seats : List SeatState) {history : History} (st : Stands v history cells seats) where
   abbrev c : Contents
   c = contents cells
 
@@ -77,7 +77,7 @@ module _ (v : Server) (cells : List Cell) (seats : List SeatState) (st : StandTo
 
   -- until its end is fixed the tables of the journal are sound for it
   pub sound_for : (j : ℕ) (x : Session) (o : OpenTransaction) → HasOpen seats j x o → o.end ≡ unfixed → Sound o.id 0 k.tables
-  sound_for j x o has u = legal_sound v.reads st.ledger.items o.id st.ledger_is_legal.legal (others o.id st.ledger.items (outside v st.history st.ledger seats st.transcripts_agree j x o has u))
+  sound_for j x o has u = legal_sound v.reads st.ledger.items o.id st.ledger_is_legal.legal (others o.id st.ledger.items (outside v history st.ledger seats st.transcripts_agree j x o has u))
 
   -- and all that its script wants is locked
   pub locked : (j : ℕ) (x : Session) (o : OpenTransaction) → HasOpen seats j x o → o.end ≡ unfixed → AllLocked v c k.tables o.opened o.id (texts_so_far x o)
@@ -90,7 +90,7 @@ module _ (v : Server) (cells : List Cell) (seats : List SeatState) (st : StandTo
 
     module _ (i : ℕ) (y : Session) (p : OpenTransaction) (ne : i ≢ j) (has_p : HasOpen seats i y p) (open_p : p.end ≡ unfixed) where
       differ_ids : o.id ≢ p.id
-      differ_ids = differ v st.history st.ledger seats st.transcripts_agree j i x y o p (λ e. ne (sym e)) has has_p
+      differ_ids = differ v history st.ledger seats st.transcripts_agree j i x y o p (λ e. ne (sym e)) has has_p
 
       pub same_end : SameEnds p.id (script_end v k.tables y p) (script_end v After y p)
       same_end = same_ends v.reads p.id p.opened k.tables After (texts_so_far y p) (is_short v y p (st.open_scripts i y p has_p open_p).alone)
@@ -107,5 +107,5 @@ module _ (v : Server) (cells : List Cell) (seats : List SeatState) (st : StandTo
         alone = h.alone;
       }
 
-      pub frames_stay : AreFrames v p.id p.frames (script_end v k.tables y p).state.saved → AreFrames v p.id p.frames (script_end v After y p).state.saved
+      pub frames_stay : AreFrames p.id p.frames (script_end v k.tables y p).state.saved → AreFrames p.id p.frames (script_end v After y p).state.saved
       frames_stay h = same_frames v p.id p.frames (script_end v k.tables y p).state.saved (script_end v After y p).state.saved same_end.saved h

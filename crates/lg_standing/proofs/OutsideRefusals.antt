@@ -12,8 +12,10 @@ use Rattle.lg_history.specs.Transcripts.{Kind, unread, begin, commit, roll_back,
 use Rattle.lg_history.specs.Facts.{failed, facts_inside, facts_outside}
 use Rattle.lg_history.specs.InPlace.{ComesAt, ControlledBy}
 use Rattle.lg_standing.specs.Answering.{refused_outside}
-use Rattle.lg_standing.specs.Desks.{FitsOutside}
+use Rattle.lg_standing.specs.TranscriptsSoFar.{FitsOutside}
 use Rattle.lg_standing.proofs.InPlaces.{never, comes, outside, e30_outside}
+use Rattle.lg_standing.specs.ActsOf.{failed_acts}
+use Rattle.lg_history.specs.Acts.{fails}
 
 module _ (q : Meaning) (text : Text) where
   abbrev k : Kind
@@ -35,16 +37,16 @@ module _ (q : Meaning) (text : Text) where
   no_memory_outside n = (record { plain = refl; in_place = e30_outside q n text }, facts_none k)
 
   -- and in one that BEGIN opened: COMMIT and ROLLBACK show nothing then
-  pub no_memory_facts : (a : Kind) → (facts_inside q a text (reply.Refused E30) None ≡ []) ⊎ (facts_inside q a text (reply.Refused E30) None ≡ failed text ∷ [])
-  no_memory_facts unread = inr refl
-  no_memory_facts begin = inr refl
-  no_memory_facts commit = inl refl
-  no_memory_facts roll_back = inl refl
-  no_memory_facts to_savepoint = inr refl
-  no_memory_facts create = inr refl
-  no_memory_facts rows = inr refl
-  no_memory_facts issue = inr refl
-  no_memory_facts keep = inr refl
+  pub no_memory_facts : (a : Kind) → ((facts_inside q a text (reply.Refused E30) None ≡ []) × (failed_acts a text ≡ [])) ⊎ ((facts_inside q a text (reply.Refused E30) None ≡ failed text ∷ []) × (failed_acts a text ≡ fails text ∷ []))
+  no_memory_facts unread = inr (refl, refl)
+  no_memory_facts begin = inr (refl, refl)
+  no_memory_facts commit = inl (refl, refl)
+  no_memory_facts roll_back = inl (refl, refl)
+  no_memory_facts to_savepoint = inr (refl, refl)
+  no_memory_facts create = inr (refl, refl)
+  no_memory_facts rows = inr (refl, refl)
+  no_memory_facts issue = inr (refl, refl)
+  no_memory_facts keep = inr (refl, refl)
 
   -- ---- refused where no transaction is open
 

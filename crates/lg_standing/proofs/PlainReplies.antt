@@ -11,7 +11,7 @@ use Rattle.lg_history.specs.Facts.{begun_by, said}
 use Rattle.lg_history.specs.InPlace.{image_by}
 use Rattle.lg_history.specs.Transactions.{End}
 use Rattle.lg_history.specs.Transcripts.{kind_of, rows}
-use Rattle.lg_standing.specs.Desks.{EndsOwn, IsSaid, StageOwn, image_in, is_begin, shown_inside}
+use Rattle.lg_standing.specs.TranscriptsSoFar.{EndsOwn, IsSaid, StageOwn, image_in, is_begin, shown_inside}
 use Rattle.lg_standing.specs.Seats.{replied, answering}
 use Rattle.lg_standing.proofs.InPlaces.{NoControl, fits_own}
 

@@ -15,6 +15,7 @@ use Rattle.lg_standing.specs.EventsIn.{events_in}
 use Rattle.lg_standing.specs.LedgerVisits.{is_empty}
 use Rattle.lg_standing.specs.TreesAreOfEvents.{AreTrees}
 use Rattle.lg_standing.proofs.Ids.{each_in}
+use Rattle.lg_row.specs.Leaf.{event_bytes}
 
 is_nil : (xs : List Text) → is_empty xs ≡ true → xs ≡ []
 is_nil [] e = refl
@@ -41,13 +42,13 @@ tree_or_none id (t ∷ ts) = ⊎_elim
     (λ (ne : t.table ≢ id). ⊎_elim (λ (r : TreeOf id ts). inl (record { tree = r.tree; is = inr r.is; of = r.of })) (λ (r : Each (λ t. t.table ≢ id) ts). inr (ne, r)) (tree_or_none id ts))
     (cases_eq t.table id)
 
-no_map : (v : Server) (es : List Event) → map v.leaf es ≡ [] → es ≡ []
+no_map : (v : Server) (es : List Event) → map event_bytes es ≡ [] → es ≡ []
 no_map v [] e = refl
 no_map v (x ∷ xs) e = cc
 
-pub no_events : (v : Server) (events : ℕ → List Event) (trees : List Tree) → AreTrees v events trees → list_all (λ t. is_empty t.leaves) trees ≡ true → (id : ℕ) → 1 ≤ id → events id ≡ []
+pub no_events : (v : Server) (events : ℕ → List Event) (trees : List Tree) → AreTrees events trees → list_all (λ t. is_empty t.leaves) trees ≡ true → (id : ℕ) → 1 ≤ id → events id ≡ []
 no_events v events trees h e id l = ⊎_elim
-    (λ (r : TreeOf id trees). subst (λ n. events n ≡ []) r.of (no_map v (events r.tree.table) (sym (each_in (λ t. t.leaves ≡ map v.leaf (events t.table)) trees r.tree h.leaves r.is) ∙ each_in (λ t. t.leaves ≡ []) trees r.tree (no_leaves trees e) r.is)))
+    (λ (r : TreeOf id trees). subst (λ n. events n ≡ []) r.of (no_map v (events r.tree.table) (sym (each_in (λ t. t.leaves ≡ map event_bytes (events t.table)) trees r.tree h.leaves r.is) ∙ each_in (λ t. t.leaves ≡ []) trees r.tree (no_leaves trees e) r.is)))
     (λ (r : Each (λ t. t.table ≢ id) trees). h.others id l r)
     (tree_or_none id trees)
 

@@ -21,7 +21,7 @@ use Rattle.lg_frames.proofs.LegalSound.{legal_sound}
 use Rattle.lg_history.specs.Lists.{Text, Each, In}
 use Rattle.lg_history.specs.Refusals.{EndsAt}
 use Rattle.lg_history.specs.Transactions.{unfixed, ended}
-use Rattle.lg_history.specs.Acts.{Event}
+use Rattle.lg_history.specs.Acts.{Act, SessionAct, by}
 use Rattle.lg_standing.specs.Server.{Server}
 use Rattle.lg_standing.specs.Cells.{LedgerCell, Cell, Ledger, ledger_at, catalog_at}
 use Rattle.lg_standing.specs.Contents.{Contents, Known, contents, known, HasAlone}
@@ -38,27 +38,30 @@ use Rattle.lg_history.specs.Transcripts.{kind_of}
 use Rattle.lg_history.specs.Facts.{said, failed, passed}
 use Rattle.lg_standing.specs.Parts.{asking}
 use Rattle.lg_standing.specs.Seats.{Stage, begun, replied, made}
-use Rattle.lg_standing.specs.Desks.{image_in, shown_alone}
-use Rattle.lg_standing.proofs.DeskActs.{GoesFrom}
-use Rattle.lg_standing.proofs.DeskStages.{from_at, fits_if, at_quiet_commit, at_roll_back, at_leaving, at_said, at_own_end, at_fail_end}
-use Rattle.lg_standing.specs.StandTogether.{StandTogether}
+use Rattle.lg_standing.specs.TranscriptsSoFar.{image_in, shown_alone}
+use Rattle.lg_standing.proofs.TranscriptActs.{GoesFrom}
+use Rattle.lg_standing.proofs.TranscriptStages.{from_at, fits_if, at_quiet_commit, at_roll_back, at_leaving, at_said, at_own_end, at_fail_end}
+use Rattle.lg_standing.specs.StandTogether.{History, Stands, StandsAfter}
 use Rattle.lg_standing.specs.Moves.{saying, ending, at_place, sits, marking}
 use Rattle.lg_standing.specs.LedgerVisits.{is_quiet, Ends, commits_nothing, rolls_back, leaves, did_nothing, was_refused, lacks_memory, lacks_index, ReadsPoint}
 use Rattle.lg_standing.proofs.Draws.{at_own, others_in_journal}
-use Rattle.lg_standing.proofs.EndsHistory.{ends_act, fails_ends_act}
+use Rattle.lg_standing.proofs.EndsHistory.{ends_act, fails_ends_act, ends_by}
 use Rattle.lg_standing.proofs.FreshIds.{events_of_touched}
 use Rattle.lg_standing.proofs.Ids.{below, others}
-use Rattle.lg_standing.proofs.LedgerVisit.{the_ledger, ledger_visit}
+use Rattle.lg_standing.proofs.LedgerVisit.{the_ledger, ledger_after}
 use Rattle.lg_standing.proofs.OpenSeats.{Own}
 use Rattle.lg_standing.proofs.OthersScripts.{sound_for}
 use Rattle.lg_standing.proofs.Places.{set_here, set_again}
 use Rattle.lg_standing.proofs.QuietOnes.{no_events, none_at_all}
-use Rattle.lg_standing.proofs.SaysHistory.{says_act}
+use Rattle.lg_standing.proofs.SaysHistory.{told}
 use Rattle.lg_standing.proofs.Turns.{MayHave, StillStands, Owes, Turns}
 use Rattle.lg_standing.specs.RowsAgree.{GoesBackTo, IsOpenedAt}
 use Rattle.lg_standing.specs.TablesAreSerial.{HasActed, HasAdded}
 use Rattle.lg_standing.proofs.PlainPlaces.{IsBare, not_back, not_dropping, of_either}
 use Rattle.lg_standing.proofs.AloneTurns.{bare}
+use Rattle.lg_standing.specs.ActsOf.{end_acts}
+use Rattle.lg_standing.proofs.GoesOn.{Owned, ActsBy, then_more}
+use Rattle.lg_history.specs.Acts as act
 
 -- ---- lists
 
@@ -136,7 +139,7 @@ module _ (v : Server) (x : Session) (o : OpenTransaction) where
       was_added true after a = a.0
       was_added false after a = absurd a
 
-module _ (v : Server) (cells : List Cell) (seats : List SeatState) (st : StandTogether v cells seats) (j : ℕ) (s : SeatState) (there : get_elem? seats j ≡ some s)
+module _ (v : Server) (cells : List Cell) (seats : List SeatState) {history : History} (st : Stands v history cells seats) (j : ℕ) (s : SeatState) (there : get_elem? seats j ≡ some s)
     (x : Session) (role : s.role ≡ session x) (o : OpenTransaction) (open_one : x.open_one ≡ Some o) (open_end : o.end ≡ unfixed) where
   abbrev ledger : LedgerCell
   ledger = st.ledger
@@ -236,16 +239,17 @@ module _ (v : Server) (cells : List Cell) (seats : List SeatState) (st : StandTo
       next_sound = legal_sound v.reads ledger.items ledger.next st.ledger_is_legal.legal (others ledger.next ledger.items (others_in_journal v cells seats st))
 
       sound_left : Sound ledger.next 0 left
-      sound_left = others_sound o.id ledger.next 0 (λ e. let l = below v st.history ledger seats st.transcripts_agree j x o has in absurd (omega arith)) v.reads o.opened k.tables (texts_so_far x o) sound next_sound
+      sound_left = others_sound o.id ledger.next 0 (λ e. let l = below v history ledger seats st.transcripts_agree j x o has in absurd (omega arith)) v.reads o.opened k.tables (texts_so_far x o) sound next_sound
 
   -- ---- the history
 
-  pub record AgreesAt (us : List SeatState) : Type 0 where
-    pub history : List Event
-    pub agree : TranscriptsAgree v history ledger us
+  pub record AgreesAt (acts : List SessionAct) (us : List SeatState) : Type 0 where
+    pub session : ℕ
+    pub agree : TranscriptsAgree v (history ++ map (by session) acts) ledger us
+    pub own : agree.owner session ≡ j
 
-  at_history : (h : List Event) (us : List SeatState) → TranscriptsAgree v h ledger us → AgreesAt us
-  at_history h us a = record { history = h; agree = a }
+  at_history : (n : ℕ) (acts : List SessionAct) (us : List SeatState) → Owned v (history ++ map (by n) acts) ledger us n j → AgreesAt acts us
+  at_history n acts us a = record { session = n; agree = a.0; own = a.1 }
 
   abbrev then_seats : Bool → List Line → Place → List SeatState
   then_seats back ls place = slice_set seats j (marking count (sits s (at_place (Some (ending (ended count back) ls o)) place x)))
@@ -260,8 +264,8 @@ module _ (v : Server) (cells : List Cell) (seats : List SeatState) (st : StandTo
   ended_at back ls place = at_place (Some (ending (ended count back) ls o)) place x
 
   -- the script as it is
-  by_script : (back : Bool) (place : Place) → text_at x.place ≡ text_at place → asking x.place ≡ [] → GoesFrom v.meaning x (ended_at back o.script place) (passed count back ∷ []) → replies_with o.script → (back ≡ false → none_with o.script) → AgreesAt (then_seats back o.script place)
-  by_script back place same none_asked goes replies quiet = at_history _ _ (ends_act v ledger seats st.history st.transcripts_agree j s there x role o open_one open_end back place same none_asked goes replies quiet)
+  by_script : (back : Bool) (place : Place) → text_at x.place ≡ text_at place → asking x.place ≡ [] → GoesFrom v.meaning x (ended_at back o.script place) (passed count back ∷ []) → replies_with o.script → (back ≡ false → none_with o.script) → AgreesAt (act.ends count back ∷ []) (then_seats back o.script place)
+  by_script back place same none_asked goes replies quiet = at_history _ _ _ (ends_act v ledger seats history st.transcripts_agree j s there x role o open_one open_end back place same none_asked goes replies quiet)
 
   no_lines : lines_at x.place ≡ [] → script_so_far x o ≡ o.script
   no_lines e = ap (λ (ls : List Line). o.script ++ ls) e ∙ append-nil o.script
@@ -271,32 +275,33 @@ module _ (v : Server) (cells : List Cell) (seats : List SeatState) (st : StandTo
       (let same = nothing_done v.reads o.opened k.tables o.id in (ap (λ z. map reply_text z.replies) (sym same), ap (λ z. all_events o.id z.state.tables) same ∙ before.no_events o.id k.tables sound.each))
 
   -- the statement was answered E30 first
-  by_failure : (text : Text) (stage : Stage) (def : Option TableDef) → x.place ≡ inside text stage → o.opened ≡ false → image_in stage ≡ 0 → shown_alone v.meaning text stage ≡ [] → AgreesAt (then_seats false o.script (inside text (answering (reply.Refused E30) def)))
+  by_failure : (text : Text) (stage : Stage) (def : Option TableDef) → x.place ≡ inside text stage → o.opened ≡ false → image_in stage ≡ 0 → shown_alone v.meaning text stage ≡ [] → AgreesAt (act.fails text ∷ act.ends count false ∷ []) (then_seats false o.script (inside text (answering (reply.Refused E30) def)))
   by_failure text stage def at own none_shown nothing = let none = its.alone own in
-      at_history _ _ (fails_ends_act v ledger seats st.history st.transcripts_agree j s there x role o open_one open_end text (ap text_at at) (inside text (answering (reply.Refused E30) def)) refl none
+      at_history _ _ _ (fails_ends_act v ledger seats history st.transcripts_agree j s there x role o open_one open_end text (ap text_at at) (inside text (answering (reply.Refused E30) def)) refl none
       (from_at v.meaning x (ended_at false o.script (inside text (answering (reply.Refused E30) def))) (inside text stage) (Some o) (failed text ∷ passed count false ∷ []) at open_one refl
       (λ n i f. at_fail_end v.meaning n text o stage def count o.script own open_end none_shown nothing (fits_if v.meaning n text stage o false own f).0))
       (nothing_with none).0 (nothing_with none).1)
 
   -- the statement is said first
-  by_line : (text : Text) (r : Reply) → x.place ≡ inside text (replied r) → o.opened ≡ false → is_quiet o ≡ true → AgreesAt (then_seats false (script_so_far x o) (inside text (answering r None)))
+  by_line : (text : Text) (r : Reply) → x.place ≡ inside text (replied r) → o.opened ≡ false → is_quiet o ≡ true → AgreesAt (act.says (text, reply_text r) ∷ act.ends count false ∷ []) (then_seats false (script_so_far x o) (inside text (answering r None)))
   by_line text r at own quiet = let line : Line = (text, reply_text r) in let counts : lines_at x.place ≡ line ∷ [] = ap lines_at at in let e : script_so_far x o ≡ o.script ++ line ∷ [] = ap (λ (ls : List Line). o.script ++ ls) counts in
       let x1 : Session = at_place (Some (saying line o)) (inside text (answering r None)) x in let s1 : SeatState = sits s x1 in
       let y1 : Session = at_place (Some (ending (ended count false) (o.script ++ line ∷ []) (saying line o))) (inside text (answering r None)) x1 in
       let t1 : SeatState = marking count (sits s1 y1) in
-      subst AgreesAt (set_again seats j s1 t1 ∙ ap (λ (ls : List Line). then_seats false ls (inside text (answering r None))) (sym e))
-      (at_history _ (slice_set (slice_set seats j s1) j t1) (ends_act v ledger (slice_set seats j s1) _
-      (says_act v ledger seats st.history st.transcripts_agree j s there x role o open_one open_end its.alone line (λ a i. subst (λ (ls : List Line). In a (map (λ l. l.0) (o.script ++ ls))) counts i) (ap text_at at) (answering r None)
+      let said_it : ActsBy v history (act.says line ∷ []) ledger (slice_set seats j s1) j = told v ledger seats history st.transcripts_agree j s there x role o open_one open_end its.alone line (λ a i. subst (λ (ls : List Line). In a (map (λ l. l.0) (o.script ++ ls))) counts i) (ap text_at at) (answering r None)
       (from_at v.meaning x x1 (inside text (replied r)) (Some o) (said line ∷ []) at open_one refl (λ n i z. let g = fits_if v.meaning n text (replied r) o false own z in
-      at_said v.meaning n text r o (replied r) (reply_text r) own (v.real.writes r) refl refl open_end g.0 g.1.0 g.1.1)))
-      j s1 (set_here seats j s1 s there) x1 refl (saying line o) refl open_end false (inside text (answering r None)) refl refl
+      at_said v.meaning n text r o (replied r) (reply_text r) own (v.real.writes r) refl refl open_end g.0 g.1.0 g.1.1)) in
+      subst (AgreesAt (act.says line ∷ act.ends count false ∷ [])) (set_again seats j s1 t1 ∙ ap (λ (ls : List Line). then_seats false ls (inside text (answering r None))) (sym e))
+      (at_history said_it.session (act.says line ∷ act.ends count false ∷ []) (slice_set (slice_set seats j s1) j t1)
+      (then_more v history (by said_it.session (act.says line) ∷ []) (by said_it.session (act.ends count false) ∷ []) _ _
+      (ends_by v ledger (slice_set seats j s1) _ said_it.agree j s1 (set_here seats j s1 s there) x1 refl (saying line o) refl open_end false (inside text (answering r None)) refl refl
       (from_at v.meaning x1 y1 (inside text (answering r None)) (Some (saying line o)) (passed count false ∷ []) refl refl refl (λ n i f. at_own_end v.meaning n text r None (saying line o) (ended count false) (o.script ++ line ∷ []) own open_end refl f))
-      (subst replies_with e its.replies) (λ f. subst none_with e (quiet_left quiet))))
+      (subst replies_with e its.replies) (λ f. subst none_with e (quiet_left quiet)) said_it.session said_it.now)))
 
   kind_at : (text : Text) (d : Stmt) → v.reads text ≡ Some d → kind_of (v.meaning.reads text) ≡ kind_of (Some d)
   kind_at text d is = ap kind_of (v.real.reading text ∙ is)
 
-  then_agree : (back : Bool) (ls : List Line) (place : Place) → Ends v x o back ls place → AgreesAt (then_seats back ls place)
+  then_agree : (back : Bool) (ls : List Line) (place : Place) → (e : Ends v x o back ls place) → AgreesAt (end_acts e count) (then_seats back ls place)
   then_agree _ _ _ (commits_nothing text by_begin at is quiet) = let e = no_lines (ap lines_at at) in by_script false (inside text (answering reply.Quiet None)) (ap text_at at) (ap asking at)
       (from_at v.meaning x (ended_at false o.script (inside text (answering reply.Quiet None))) (inside text begun) (Some o) (passed count false ∷ []) at open_one refl (λ n i f. at_quiet_commit v.meaning n text o count o.script by_begin open_end (kind_at text _ is)))
       (subst replies_with e its.replies) (λ f. subst none_with e (quiet_left quiet))
@@ -313,19 +318,17 @@ module _ (v : Server) (cells : List Cell) (seats : List SeatState) (st : StandTo
   then_agree _ _ _ (lacks_memory text r alone at) = by_failure text (replied r) None at alone refl refl
   then_agree _ _ _ (lacks_index text def indexed alone at) = by_failure text (made def indexed) (Some def) at alone refl refl
 
-  pub read_stands : (back : Bool) (ls : List Line) (place : Place) → Ends v x o back ls place → StandTogether v (slice_set cells ledger_at (Ledger ledger)) (then_seats back ls place)
+  pub read_stands : (back : Bool) (ls : List Line) (place : Place) → (e : Ends v x o back ls place) → StandsAfter v j history (end_acts e count) (slice_set cells ledger_at (Ledger ledger)) (then_seats back ls place)
   read_stands back ls place e = let a = then_agree back ls place e in
-      ledger_visit v cells seats st j s (marking count (sits s (at_place (Some (ending (ended count back) ls o)) place x))) there ledger refl a.history st.ledger_is_legal (ends_turn back ls place (so v x o back ls place e)) a.agree
+      ledger_after v cells seats st j s (marking count (sits s (at_place (Some (ending (ended count back) ls o)) place x))) there ledger refl a.session st.ledger_is_legal (ends_turn back ls place (so v x o back ls place e)) a.agree a.own
 
 -- Reading the point keeps cells and seats standing together.
-pub reads_stand : (v : Server) (cells : List Cell) (seats : List SeatState) → StandTogether v cells seats → (j : ℕ) (s : SeatState) → get_elem? seats j ≡ some s
-    → (c d : LedgerCell) (t : SeatState) → get_elem? cells ledger_at ≡ some (Ledger c) → ReadsPoint v c s t → d ≡ c
-    → StandTogether v (slice_set cells ledger_at (Ledger d)) (slice_set seats j t)
-reads_stand v cells seats st j s there c d t here visit same = from (subst (λ (e : LedgerCell). ReadsPoint v e s t) is visit)
+pub reads_stand : (v : Server) (cells : List Cell) (seats : List SeatState) {history : History} → Stands v history cells seats → (j : ℕ) (s : SeatState) → get_elem? seats j ≡ some s
+    → (c d : LedgerCell) (t : SeatState) → get_elem? cells ledger_at ≡ some (Ledger c) → (w : ReadsPoint v c s t) → d ≡ c
+    → StandsAfter v j history (end_acts w.ends (tx_count c.items)) (slice_set cells ledger_at (Ledger d)) (slice_set seats j t)
+reads_stand v cells seats {history} st j s there c d t here = subst (λ (e : LedgerCell). (w : ReadsPoint v e s t) → d ≡ e → StandsAfter v j history (end_acts w.ends (tx_count e.items)) (slice_set cells ledger_at (Ledger d)) (slice_set seats j t))
+    (sym (the_ledger cells st.catalog st.ledger c st.are_cells here)) from
   where
-    is : c ≡ st.ledger
-    is = the_ledger cells st.catalog st.ledger c st.are_cells here
-
-    from : ReadsPoint v st.ledger s t → StandTogether v (slice_set cells ledger_at (Ledger d)) (slice_set seats j t)
-    from w = subst₂ (λ (e : LedgerCell) (u : SeatState). StandTogether v (slice_set cells ledger_at (Ledger e)) (slice_set seats j u)) (sym (same ∙ is)) (sym w.seat)
+    from : (w : ReadsPoint v st.ledger s t) → d ≡ st.ledger → StandsAfter v j history (end_acts w.ends (tx_count st.ledger.items)) (slice_set cells ledger_at (Ledger d)) (slice_set seats j t)
+    from w same = subst₂ (λ (l : LedgerCell) (u : SeatState). StandsAfter v j history (end_acts w.ends (tx_count st.ledger.items)) (slice_set cells ledger_at (Ledger l)) (slice_set seats j u)) (sym same) (sym w.seat)
         (read_stands v cells seats st j s there w.x w.role w.o w.open_one w.unfixed w.back w.script w.place w.ends)

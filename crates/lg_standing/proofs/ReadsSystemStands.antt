@@ -1,8 +1,7 @@
 -- SELECT on a system table, answered in the catalog: cells and seats stand together.
-use Rattle.lg_types.specs.declared.lock.Mode.TheVariants.{IS, IX, S, X}
-use Rattle.lg_types.specs.declared.lock.Item.TheVariants.{Whole}
+use Rattle.lg_standing.proofs.ActedFor.{StandsBy, first_by}
+use Rattle.lg_types.specs.declared.lock.Mode.TheVariants.{S}
 use Rattle.lg_types.specs.declared.table.Part.TheVariants.{System}
-use Rattle.lg_types.specs.declared.reply.Reply.TheVariants as reply
 use Rattle.lg_types.specs.declared.statement.Stmt.TheVariants as stmt
 use Rattle.lg_standing.proofs.SaidMore as more
 use Rattle.lg_standing.proofs.SaidThere as say
@@ -26,10 +25,9 @@ use Rattle.lg_standing.specs.Seats.{OpenTransaction, SeatState, Session, Stage, 
 use Rattle.lg_types.specs.declared.reply.Reply.{Reply}
 use Rattle.lg_model.specs.Rows.{Row}
 use Rattle.lg_standing.specs.Server.{Server}
-use Rattle.lg_standing.specs.StandTogether.{StandTogether}
+use Rattle.lg_standing.specs.StandTogether.{History, Stands, StandsAfter}
 use Rattle.lg_model.specs.Script.{State, by_effect, by_statement, script}
 use Rattle.lg_types.specs.declared.statement.Stmt.{Stmt}
-use Rattle.lg_types.specs.declared.lock.Want.{Want}
 use Rattle.lg_standing.proofs.RowsFor.{agree_on, sound}
 use Rattle.lg_standing.proofs.AfterSet.{all_at, each_at, set_here, set_twice}
 use Rattle.lg_standing.proofs.TakenLocks.{all_free}
@@ -48,13 +46,17 @@ use Rattle.std.specs.Prelude.{if◌then◌else◌, not, ◌==◌}
 use Rattle.lg_history.specs.Transcripts.{kind_of}
 use Rattle.lg_standing.specs.LocksCover.{name_of}
 use Rattle.lg_model.specs.Query.{query_check}
-use Rattle.lg_standing.specs.Doing.{rows_reply}
+use Rattle.lg_standing.specs.Doing.{rows_reply, with_reply, stage_after}
 use mathlib.Core.Option.{some}
 use Rattle.lg_standing.proofs.ScriptMore.{step_is}
 use Rattle.lg_standing.proofs.Takes.{tables_now}
 use Rattle.lg_model.specs.ScriptWants.{text_wants}
+use Rattle.lg_standing.specs.ActsOf.{done_acts}
+use Rattle.lg_history.specs.Acts.{by}
+use Rattle.lg_standing.proofs.GoesOn.{one_number}
+use Rattle.lg_history.specs.Acts as act
 
-module _ (v : Server) (cells : List Cell) (seats : List SeatState) (S0 : StandTogether v cells seats) (j : ℕ) (s : SeatState) (there : get_elem? seats j ≡ some s) (c d : CatalogCell) (t : SeatState) (out : get_elem? cells catalog_at ≡ some (Catalog c)) (L : ReadsSystem v c s d t) where
+module _ (v : Server) (cells : List Cell) (seats : List SeatState) {history : History} (S0 : Stands v history cells seats) (j : ℕ) (s : SeatState) (there : get_elem? seats j ≡ some s) (c d : CatalogCell) (t : SeatState) (out : get_elem? cells catalog_at ≡ some (Catalog c)) (L : ReadsSystem v c s d t) where
   abbrev o : OpenTransaction
   o = L.o
 
@@ -96,12 +98,20 @@ module _ (v : Server) (cells : List Cell) (seats : List SeatState) (S0 : StandTo
   abbrev seats1 : List SeatState
   seats1 = set seats j (sits s x1)
 
-  S1 : StandTogether v cells1 seats1
+  -- the number of its session in the history
+  abbrev number : ℕ
+  number = look.number v cells seats S0 j s there c d (then_at s L.at.stands (Some (visiting catalog_at o)) stage) out looks
+
+  S1 : Stands v (history ++ by number (act.looks text false) ∷ []) cells1 seats1
   S1 = look.stands_so v cells seats S0 j s there c d (then_at s L.at.stands (Some (visiting catalog_at o)) stage) out looks
 
   same_ledger : S1.ledger ≡ S0.ledger
   unfolding S1
   same_ledger = look.same_ledger v cells seats S0 j s there c d (then_at s L.at.stands (Some (visiting catalog_at o)) stage) out looks
+
+  same_number : (S1.transcripts_agree.of_seat j).now ≡ Some number
+  unfolding S1
+  same_number = look.same_number v cells seats S0 j s there c d (then_at s L.at.stands (Some (visiting catalog_at o)) stage) out looks
 
   abbrev T : Tables
   T = tables_now S1
@@ -225,8 +235,25 @@ module _ (v : Server) (cells : List Cell) (seats : List SeatState) (S0 : StandTo
       reply_is (Ok rs) = refl
       reply_is (Err r) = refl
 
-  pub reads_system : StandTogether v (set cells catalog_at (Catalog d)) (set seats j t)
-  reads_system = subst (StandTogether v cells1) (set_twice seats j (sits s x1) _ ∙ ap (set seats j) (sym L.seat))
-      (say.said_there v cells1 seats1 S1 j (sits s x1) there1 x1 refl o1 refl L.at.unfixed text (find_part c.defs L.q.table) (not (holds_any c.holds o.id)) refl answer plain
+  abbrev SaidAt : List SeatState → Type 0
+  SaidAt = StandsAfter v j (history ++ by number (act.looks text false) ∷ []) (done_acts o.opened text true answer) cells1
+
+  then_said : SaidAt (set seats1 j (sits (sits s x1) (at_place (Some (with_reply text answer o1)) (inside text (stage_after o1.opened answer)) x1)))
+  then_said = say.said_there v cells1 seats1 S1 j (sits s x1) there1 x1 refl o1 refl L.at.unfixed text (find_part c.defs L.q.table) (not (holds_any c.holds o.id)) refl answer plain
       (step_is v.reads o.opened o.id state text ∙ ap (by_statement o.opened o.id state) L.at.stands.is ∙ step) covers
-      (ap kind_of (v.real.reading text ∙ reads)))
+      (ap kind_of (v.real.reading text ∙ reads))
+
+  said_by_it : then_said.session ≡ number
+  unfolding then_said
+  said_by_it = one_number then_said.session number (say.said_by v cells1 seats1 S1 j (sits s x1) there1 x1 refl o1 refl L.at.unfixed text (find_part c.defs L.q.table) (not (holds_any c.holds o.id)) refl answer plain
+      (step_is v.reads o.opened o.id state text ∙ ap (by_statement o.opened o.id state) L.at.stands.is ∙ step) covers
+      (ap kind_of (v.real.reading text ∙ reads))) same_number
+
+  said_own_it : then_said.stands.transcripts_agree.owner then_said.session ≡ j
+  unfolding then_said
+  said_own_it = say.said_own v cells1 seats1 S1 j (sits s x1) there1 x1 refl o1 refl L.at.unfixed text (find_part c.defs L.q.table) (not (holds_any c.holds o.id)) refl answer plain
+      (step_is v.reads o.opened o.id state text ∙ ap (by_statement o.opened o.id state) L.at.stands.is ∙ step) covers
+      (ap kind_of (v.real.reading text ∙ reads))
+
+  pub reads_system : StandsBy v j history o.id o.opened (act.looks text false ∷ done_acts o.opened text true answer) (set cells catalog_at (Catalog d)) (set seats j t)
+  reads_system = subst (StandsBy v j history o.id o.opened (act.looks text false ∷ done_acts o.opened text true answer) cells1) (set_twice seats j (sits s x1) _ ∙ ap (set seats j) (sym L.seat)) (first_by v history number o.id o.opened (look.is_number v cells seats S0 j s there c d (then_at s L.at.stands (Some (visiting catalog_at o)) stage) out looks) then_said said_own_it said_by_it)

@@ -25,7 +25,7 @@ use Rattle.lg_standing.specs.OpenOnes.{HasOpen, script_end}
 use Rattle.lg_standing.specs.OpenScripts.{counted}
 use Rattle.lg_standing.specs.Moves.{releasing, at_place, sits}
 use Rattle.lg_standing.specs.RowsAgree.{GoesBackTo, IsOpenedAt}
-use Rattle.lg_standing.specs.StandTogether.{StandTogether}
+use Rattle.lg_standing.specs.StandTogether.{History, Stands}
 use Rattle.lg_standing.proofs.SeatsAfter.{Goes, each_open}
 use Rattle.lg_standing.proofs.CellsAfter.{held_here, holds_here, holds_else, versions_here, were_here, versions_else}
 use Rattle.lg_standing.proofs.ChangedRows.{in_passed, was_in, undone_of_key, rising_undone, undone_untouched, IsCounted, all_count, some_undone, counted_is, undone_before}
@@ -45,7 +45,7 @@ abbrev pub left_by : Bool → ℕ → List Version → List Version
 left_by true tx vs = vs
 left_by false tx vs = versions_undone tx 0 vs
 
-pub record GivesUp (v : Server) (cells : List Cell) (seats : List SeatState) (S : StandTogether v cells seats) (j : ℕ) (s : SeatState) (x : Session) (o : OpenTransaction) (i : ℕ) (c d : TableCell) (placed : Bool) : Type 0 where
+pub record GivesUp (v : Server) (cells : List Cell) (seats : List SeatState) {history : History} (S : Stands v history cells seats) (j : ℕ) (s : SeatState) (x : Session) (o : OpenTransaction) (i : ℕ) (c d : TableCell) (placed : Bool) : Type 0 where
   pub there : get_elem? seats j ≡ some s
   pub role : s.role ≡ session x
   pub open_one : x.open_one ≡ Some o
@@ -56,7 +56,7 @@ pub record GivesUp (v : Server) (cells : List Cell) (seats : List SeatState) (S 
   pub versions : d.versions ≡ left_by placed o.id c.versions
   pub holds : d.holds ≡ released c.holds o.id
 
-module _ (v : Server) (cells : List Cell) (seats : List SeatState) (S : StandTogether v cells seats) (j : ℕ) (s : SeatState) (x : Session) (o : OpenTransaction) (i : ℕ) (c d : TableCell) (placed : Bool) (K : GivesUp v cells seats S j s x o i c d placed) where
+module _ (v : Server) (cells : List Cell) (seats : List SeatState) {history : History} (S : Stands v history cells seats) (j : ℕ) (s : SeatState) (x : Session) (o : OpenTransaction) (i : ℕ) (c d : TableCell) (placed : Bool) (K : GivesUp v cells seats S j s x o i c d placed) where
   abbrev pub T : Tables
   T = tables_now S
 

@@ -35,7 +35,7 @@ use Rattle.lg_standing.specs.Moves.{releasing, at_place, sits}
 use Rattle.lg_standing.specs.WantsIn.{wants_in, Holds, of_catalog}
 use Rattle.lg_standing.specs.TablesAreSerial.{def_at, ordinals_of, IsAdding, IsCarried}
 use Rattle.lg_standing.specs.LocksCover.{KeepsLocks, Belongs, HasIntent, LookedFirst, IsDropping}
-use Rattle.lg_standing.specs.StandTogether.{StandTogether}
+use Rattle.lg_standing.specs.StandTogether.{History, Stands}
 use Rattle.lg_standing.proofs.AfterSet.{set_here, set_else, each_at, all_at}
 use Rattle.lg_standing.proofs.SeatsAfter.{Goes, one_session, open_here, open_else, each_open}
 use Rattle.lg_standing.proofs.CellsAfter.{held_here, holds_here, holds_else}
@@ -130,7 +130,7 @@ creator_other tx (Some q) k e = by (q.tx == tx) refl e
 creator_stays : (tx : ℕ) (k : Creator) → k.tx ≢ tx → creator_left tx (Some k) ≡ Some k
 creator_stays tx k ne = rw (ne_eqb k.tx tx ne) refl
 
-module _ (v : Server) (cells : List Cell) (seats : List SeatState) (S : StandTogether v cells seats) (j : ℕ) (s : SeatState) (there : get_elem? seats j ≡ some s) (c d : CatalogCell) (t : SeatState) (out : get_elem? cells catalog_at ≡ some (Catalog c)) (L : ReleasesCatalog c s d t) where
+module _ (v : Server) (cells : List Cell) (seats : List SeatState) {history : History} (S : Stands v history cells seats) (j : ℕ) (s : SeatState) (there : get_elem? seats j ≡ some s) (c d : CatalogCell) (t : SeatState) (out : get_elem? cells catalog_at ≡ some (Catalog c)) (L : ReleasesCatalog c s d t) where
   abbrev T : Tables
   T = tables_now S
 
@@ -631,9 +631,8 @@ module _ (v : Server) (cells : List Cell) (seats : List SeatState) (S : StandTog
       user q = let a = table_place cells S.catalog S.ledger n cell S.are_cells (table_there (get_elem? cells n) cell f) in let z : n ≡ 0 = sym (cell_at n cell a) ∙ ap cell_of (sym (found_id (defs_of T) cell.id def e)) ∙ q in let w = a.is in omega arith
 
   -- a transaction that undoes and releases the catalog keeps cells and seats together
-  pub releases_catalog : StandTogether v C' (set seats j t)
-  releases_catalog = subst (λ (u : SeatState). StandTogether v C' (set seats j u)) (sym L.seat) (record {
-    history = _;
+  pub releases_catalog : Stands v history C' (set seats j t)
+  releases_catalog = subst (λ (u : SeatState). Stands v history C' (set seats j u)) (sym L.seat) (record {
     catalog = d;
     ledger = S.ledger;
     are_cells = catalog_changed cells S.catalog S.ledger d S.are_cells;

@@ -41,7 +41,7 @@ use Rattle.lg_standing.specs.WantsIn.{wants_in, Holds, of_catalog}
 use Rattle.lg_standing.specs.UndoVisits.{undone_unless, refused_def, without_last, index_dropped, unlocked}
 use Rattle.lg_standing.specs.TablesAreSerial.{HasActed, def_at, ordinals_of, HasAdded, IsAdding, IsCarried}
 use Rattle.lg_standing.specs.LocksCover.{KeepsLocks, Belongs, HasIntent, LookedFirst, IsDropping, IsAfter}
-use Rattle.lg_standing.specs.StandTogether.{StandTogether}
+use Rattle.lg_standing.specs.StandTogether.{History, Stands}
 use Rattle.lg_standing.proofs.AfterSet.{set_here, set_else, each_at, all_at}
 use Rattle.lg_standing.proofs.SeatsAfter.{Goes, one_session, open_here, open_else, each_open}
 use Rattle.lg_standing.proofs.CellsAfter.{holds_else, table_changed}
@@ -74,7 +74,7 @@ use Rattle.lg_model.specs.Holds.{released}
 use Rattle.lg_model.specs.ScriptWants.{text_wants}
 use Rattle.lg_model.specs.Touched.{touched}
 
-pub record Releasing (v : Server) (cells : List Cell) (seats : List SeatState) (S : StandTogether v cells seats) (j : ℕ) (s : SeatState) (x : Session) (o : OpenTransaction) (i : ℕ) (c d : TableCell) : Type 0 where
+pub record Releasing (v : Server) (cells : List Cell) (seats : List SeatState) {history : History} (S : Stands v history cells seats) (j : ℕ) (s : SeatState) (x : Session) (o : OpenTransaction) (i : ℕ) (c d : TableCell) : Type 0 where
   pub there : get_elem? seats j ≡ some s
   pub role : s.role ≡ session x
   pub open_one : x.open_one ≡ Some o
@@ -149,7 +149,7 @@ ordinals_more : (is : List IndexDef) (x : IndexDef) → ordinals_of (is ++ x ∷
 ordinals_more [] x = refl
 ordinals_more (y ∷ is) x = ap (λ (l : List (List ℕ)). y.ordinals ∷ l) (ordinals_more is x)
 
-module _ (v : Server) (cells : List Cell) (seats : List SeatState) (S : StandTogether v cells seats) (j : ℕ) (s : SeatState) (x : Session) (o : OpenTransaction) (i : ℕ) (c d : TableCell) (R : Releasing v cells seats S j s x o i c d) where
+module _ (v : Server) (cells : List Cell) (seats : List SeatState) {history : History} (S : Stands v history cells seats) (j : ℕ) (s : SeatState) (x : Session) (o : OpenTransaction) (i : ℕ) (c d : TableCell) (R : Releasing v cells seats S j s x o i c d) where
   abbrev T : Tables
   T = tables_now S
 
@@ -746,9 +746,8 @@ module _ (v : Server) (cells : List Cell) (seats : List SeatState) (S : StandTog
   commits_by false e = sym (committed_undone S.ledger.items o.id (e 0) c.versions)
 
   -- a transaction that undoes and releases a table's cell keeps cells and seats together
-  pub releases_stand : StandTogether v C' seats'
+  pub releases_stand : Stands v history C' seats'
   releases_stand = record {
-    history = _;
     catalog = S.catalog;
     ledger = S.ledger;
     are_cells = are_cells;

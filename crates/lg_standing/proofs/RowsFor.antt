@@ -1,5 +1,5 @@
 -- What a seat's transaction finds in a table is what its script has there, where nobody else has X on it.
-use Rattle.std.proofs.Common.{◌≡◌, ◌≢◌, ◌⊎◌, ℕ, ◌≤◌, Bool, true, false, List, [], ◌∷◌, map, refl, sym, ap, ◌∙◌, subst, inl, inr, ⊎_elim, arith}
+use Rattle.std.proofs.Common.{◌≡◌, ◌≢◌, ◌⊎◌, ℕ, ◌≤◌, Bool, true, false, List, [], ◌∷◌, map, refl, sym, ap, ◌∙◌, subst, inl, inr, ⊎_elim}
 use Rattle.std.proofs.lemmas.Bool.{cases_eq}
 use Rattle.std.specs.List.{AllByRecursion}
 use Rattle.lg_value.specs.declared.column.ColumnDef.{ColumnDef}
@@ -30,7 +30,7 @@ use Rattle.lg_standing.specs.Cells.{Cell, holds_at, versions_at, cell_of}
 use Rattle.lg_standing.specs.Seats.{OpenTransaction, Session, SeatState}
 use Rattle.lg_standing.specs.OpenOnes.{HasOpen, script_so_far, texts_so_far, script_end}
 use Rattle.lg_standing.specs.OpenScripts.{counted}
-use Rattle.lg_standing.specs.StandTogether.{StandTogether}
+use Rattle.lg_standing.specs.StandTogether.{History, Stands}
 use Rattle.lg_standing.proofs.Takes.{tables_now}
 use Rattle.lg_standing.proofs.Excluded.{HasX, HasNoX, has_x_or_not}
 use Rattle.lg_standing.proofs.OfCells.{in_journal}
@@ -43,13 +43,13 @@ use Rattle.lg_standing.proofs.Ids as ids
 
 -- ---- sound tables
 
-module _ (v : Server) (cells : List Cell) (seats : List SeatState) (S : StandTogether v cells seats) (j : ℕ) (x : Session) (o : OpenTransaction) (has_open : HasOpen seats j x o) (fixed : o.end ≡ unfixed) where
+module _ (v : Server) (cells : List Cell) (seats : List SeatState) {history : History} (S : Stands v history cells seats) (j : ℕ) (x : Session) (o : OpenTransaction) (has_open : HasOpen seats j x o) (fixed : o.end ≡ unfixed) where
   abbrev T : Tables
   T = tables_now S
 
   -- it isn't in the journal
   pub elsewhere : AllByRecursion (IsOther o.id) S.ledger.items
-  elsewhere = ids.others o.id S.ledger.items (ids.outside v S.history S.ledger seats S.transcripts_agree j x o has_open fixed)
+  elsewhere = ids.others o.id S.ledger.items (ids.outside v history S.ledger seats S.transcripts_agree j x o has_open fixed)
 
   -- the tables that the journal leads to have no event of an open transaction
   pub sound : Sound o.id 0 T

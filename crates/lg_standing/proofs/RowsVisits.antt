@@ -1,4 +1,5 @@
 -- A statement of rows that is done in its table's cell, and changes none of its rows: cells and seats stand together.
+use Rattle.lg_standing.proofs.ActedFor.{StandsBy}
 use Rattle.std.proofs.Common.{subst₂, Bool, List, None, Option, Some, [], ap, append-nil, arith, false, inl, inr, map, refl, set, subst, sym, true, ℕ, ⊎_elim, ◌++◌, ◌∙◌, ◌∷◌, ◌≡◌, ◌≢◌, ◌≤◌, ◌⊎◌, Err, Ok}
 use Rattle.lg_types.specs.declared.lock.Mode.TheVariants.{IS, IX, S, X}
 use Rattle.lg_types.specs.declared.lock.Item.TheVariants.{Whole}
@@ -31,7 +32,7 @@ use Rattle.lg_types.specs.declared.reply.Reply.{Reply}
 use Rattle.lg_model.specs.Script.{ScriptEnd, State, by_statement, script, by_effect}
 use Rattle.lg_types.specs.declared.statement.Select.{Select}
 use Rattle.lg_standing.specs.Server.{Server}
-use Rattle.lg_standing.specs.StandTogether.{StandTogether}
+use Rattle.lg_standing.specs.StandTogether.{Stands}
 use Rattle.lg_types.specs.declared.statement.Stmt.{Stmt}
 use Rattle.lg_types.specs.declared.version.Version.{Version}
 use Rattle.lg_types.specs.declared.lock.Want.{Want}
@@ -69,6 +70,8 @@ use Rattle.lg_model.specs.Changes.{row_changes}
 use Rattle.lg_model.specs.Checks.{row_statement_check}
 use Rattle.lg_standing.proofs.Changes.{rows_announced}
 use Rattle.lg_frames.proofs.SamePlan.{same_changes, rows_by_wants}
+use Rattle.lg_standing.specs.ActsOf.{done_acts}
+use Rattle.lg_history.specs.Acts.{Act}
 
 abbrev Announces : List Want → Type 0
 Announces ws = (w : Want) → In w ws → (u : Want) × In u ws × (u.item ≡ Whole)
@@ -107,7 +110,7 @@ query_shares (def, History) q w i = whole_shares w i
 query_shares (def, View) q w i = whole_shares w i
 query_shares (def, System) q w i = absurd i
 
-module _ (v : Server) (cells : List Cell) (seats : List SeatState) (S0 : StandTogether v cells seats) (j : ℕ) (s : SeatState) (there : get_elem? seats j ≡ some s) (i : ℕ) (c : TableCell) (out : get_elem? cells i ≡ some (Rows c))
+module _ (v : Server) (cells : List Cell) (seats : List SeatState) {history : List Act} (S0 : Stands v history cells seats) (j : ℕ) (s : SeatState) (there : get_elem? seats j ≡ some s) (i : ℕ) (c : TableCell) (out : get_elem? cells i ≡ some (Rows c))
     (o : OpenTransaction) (named : Named) (fresh : Bool) (L : Found v c s o named fresh) (ws : List Want) (no_conflict : first_conflict c.holds o.id ws ≡ None) (announced : Announces ws)
     (intents : (w : Want) → In w ws → w.mode ≡ X → (u : Want) × In u ws × (u.item ≡ Whole) × ((u.mode ≡ IX) ⊎ (u.mode ≡ X))) where
   abbrev x : Session
@@ -172,7 +175,7 @@ module _ (v : Server) (cells : List Cell) (seats : List SeatState) (S0 : StandTo
   abbrev o1 : OpenTransaction
   o1 = visiting i o
 
-  S1 : StandTogether v cells1 seats1
+  S1 : Stands v history cells1 seats1
   S1 = take.takes_there v cells seats S0 j s x o text (Some named) fresh i c ws takes_at
 
   same_ledger : S1.ledger ≡ S0.ledger
@@ -258,24 +261,24 @@ module _ (v : Server) (cells : List Cell) (seats : List SeatState) (S0 : StandTo
       plain : IsPlainReply r
       plain = subst IsPlainReply (sym (by_effects o.opened state) ∙ ap (λ (q : State × Reply). q.1) (step o.opened state state_defs agree)) (effect_reply state.tables o.id state.seq L.at.stands.stmt)
 
-      said : StandTogether v cells1 (set seats1 j (sits (sits s x1) (at_place (Some (with_reply text r o1)) (inside text (stage_after o1.opened r)) x1)))
-      said = say.said_there v cells1 seats1 S1 j (sits s x1) there1 x1 refl o1 refl L.at.unfixed text (Some named) false refl r plain
+      said : StandsBy v j history o.id o.opened (done_acts o.opened text true r) cells1 (set seats1 j (sits (sits s x1) (at_place (Some (with_reply text r o1)) (inside text (stage_after o1.opened r)) x1)))
+      said = say.said_for_it v cells1 seats1 S1 j (sits s x1) there1 x1 refl o1 refl L.at.unfixed text (Some named) false refl r plain
           (step_is v.reads o.opened o.id state text ∙ ap (by_statement o.opened o.id state) L.at.stands.is ∙ step o.opened state state_defs agree)
           covers (ap kind_of (v.real.reading text ∙ L.at.stands.is) ∙ kind)
 
-      pub row_said : StandTogether v (set cells i (Rows d)) (set seats j t)
-      row_said = subst₂ (λ (cs : List Cell) (us : List SeatState). StandTogether v cs us) (ap (λ (e : TableCell). set cells i (Rows e)) (sym cell))
+      pub row_said : StandsBy v j history o.id o.opened (done_acts o.opened text true r) (set cells i (Rows d)) (set seats j t)
+      row_said = subst₂ (λ (cs : List Cell) (us : List SeatState). StandsBy v j history o.id o.opened (done_acts o.opened text true r) cs us) (ap (λ (e : TableCell). set cells i (Rows e)) (sym cell))
           (set_twice seats j (sits s x1) _ ∙ ap (set seats j) (ap (λ (n : ℕ). done s L.at.stands (visiting n o) r) (sym (take.cell_at i c at)) ∙ sym seat)) said
 
 -- ---- the visits
 
-same_query : (defs : Defs) (q : Select) (one : Named) → find_part defs q.table ≡ Some one → query_check (one.0 ∷ []) q ≡ query_check defs q
+pub same_query : (defs : Defs) (q : Select) (one : Named) → find_part defs q.table ≡ Some one → query_check (one.0 ∷ []) q ≡ query_check defs q
 unfolding query_check
 same_query defs q one e = ap (λ (o : Option Named). and_then (or_refused E02 o) (λ n. and_then (select_check (columns_of n.0 n.1) q) (λ passed. Ok n))) (found_alone defs q.table one e ∙ sym e)
 
-module _ (v : Server) (cells : List Cell) (seats : List SeatState) (S0 : StandTogether v cells seats) (j : ℕ) (s : SeatState) (there : get_elem? seats j ≡ some s) (i : ℕ) (c d : TableCell) (t : SeatState) (out : get_elem? cells i ≡ some (Rows c)) where
+module _ (v : Server) (cells : List Cell) (seats : List SeatState) {history : List Act} (S0 : Stands v history cells seats) (j : ℕ) (s : SeatState) (there : get_elem? seats j ≡ some s) (i : ℕ) (c d : TableCell) (t : SeatState) (out : get_elem? cells i ≡ some (Rows c)) where
   -- INSERT, UPDATE and DELETE that a row refuses
-  pub refuses_rows : RefusesRows v c s d t → StandTogether v (set cells i (Rows d)) (set seats j t)
+  pub refuses_rows : (L : RefusesRows v c s d t) → StandsBy v j history L.o.id L.o.opened (done_acts L.o.opened L.at.at.stands.text true (reply.Refused L.refusal)) (set cells i (Rows d)) (set seats j t)
   unfolding effect cell_wants
   refuses_rows L = row_said v cells seats S0 j s there i c out L.o L.named L.fresh L.at (row_wants L.named.0 L.row) L.free
       (λ w h. let u = rows_announced L.named.0 L.row w h in (u.0, u.1, u.2)) (λ w h m. rows_announced L.named.0 L.row w h)
@@ -323,7 +326,7 @@ module _ (v : Server) (cells : List Cell) (seats : List SeatState) (S0 : StandTo
           by false = refl
 
   -- SELECT
-  pub reads_rows : ReadsRows v c s d t → StandTogether v (set cells i (Rows d)) (set seats j t)
+  pub reads_rows : (L : ReadsRows v c s d t) → StandsBy v j history L.o.id L.o.opened (done_acts L.o.opened L.at.at.stands.text true (rows_reply (query_rows L.q L.named c.versions))) (set cells i (Rows d)) (set seats j t)
   unfolding effect cell_wants
   reads_rows L = row_said v cells seats S0 j s there i c out L.o L.named L.fresh L.at (query_wants L.named L.q) L.free
       (query_announced L.named L.q) (λ w h m. absurd (query_shares L.named L.q w h m))

@@ -15,7 +15,7 @@ use Rattle.lg_history.specs.Lists.{Text, Each, In}
 use Rattle.lg_history.specs.Facts.{said}
 use Rattle.lg_history.specs.Transactions.{unfixed, on_some}
 use Rattle.lg_history.specs.Acts.{says, by}
-use Rattle.lg_history.specs.Sessions.{Deal, Sess, acted, scripts}
+use Rattle.lg_history.specs.Sessions.{SessionTransaction, SessionState, acted, scripts}
 use Rattle.lg_history.specs.Worlds.{first, run}
 use Rattle.lg_history.specs.Guards.{OnlyOne}
 use Rattle.lg_history.proofs.Trace.{each_append, each_weaker}
@@ -27,28 +27,30 @@ use Rattle.lg_standing.specs.LocksCover.{KeepsLocks, LookedAt, HasLock, IsGotAt}
 use Rattle.lg_standing.specs.Moves.{at_place, sits}
 use Rattle.lg_standing.specs.OpenOnes.{HasOpen, text_at, last_line, lines_at, script_so_far, texts_so_far}
 use Rattle.lg_standing.specs.OpenScripts.{counted, counted_in}
-use Rattle.lg_standing.specs.Parts.{AreDeals, IsNow}
+use Rattle.lg_standing.specs.Parts.{AreTransactions, IsNow}
 use Rattle.lg_standing.specs.Seats.{Tree, OpenTransaction, Stage, answering, Place, inside, Session, session, SeatState}
-use Rattle.lg_standing.specs.StandTogether.{StandTogether}
+use Rattle.lg_standing.specs.StandTogether.{History, Stands, StandsAfter}
 use Rattle.lg_standing.specs.TranscriptsAgree.{TranscriptsAgree}
 use Rattle.lg_standing.specs.TreesAreOfEvents.{AreTrees, AreFrames}
 use Rattle.lg_standing.specs.WantsIn.{wants_in, Holds}
-use Rattle.lg_standing.proofs.AloneTurns.{Keeps, alone_stands, keeps_turn, StillAt, owes_like, bare}
-use Rattle.lg_standing.proofs.Deeds.{IsPlain, plain_acts}
-use Rattle.lg_standing.proofs.DeskActs.{GoesFrom, goes_on}
+use Rattle.lg_standing.proofs.AloneTurns.{Keeps, alone_stands, keeps_turn, StillAt, owes_like, bare, alone_after}
+use Rattle.lg_standing.proofs.Deeds.{IsPlain, plain_acts, plain_owner}
+use Rattle.lg_standing.proofs.TranscriptActs.{GoesFrom, goes_on}
 use Rattle.lg_standing.proofs.FreshIds.{events_of_touched}
 use Rattle.lg_standing.proofs.Heard.{heard_answer, heard_now}
-use Rattle.lg_standing.proofs.Ids.{Dealt, dealt}
+use Rattle.lg_standing.proofs.Ids.{InTransaction, in_transaction}
 use Rattle.lg_standing.proofs.ScriptMore.{last_state, last_reply}
 use Rattle.lg_standing.proofs.PlainPlaces.{AddsNone, none_added, IsBare, all_counted}
 use Rattle.lg_standing.specs.TablesAreSerial.{IsAdding, HasActed}
 use Rattle.lg_standing.proofs.Turns.{Owes}
+use Rattle.lg_standing.proofs.GoesOn.{still, one_number}
+use Rattle.lg_row.specs.Leaf.{event_bytes}
 
 pub plain_say : (line : Line) → IsPlain (says line)
 plain_say line = record { items = λ x. refl; ids = refl; issued = refl; marks = refl; images = refl }
 
 -- trees over events that are the same
-pub trees_over : (v : Server) (es fs : ℕ → List RowEvent) (trees : List Tree) → ((id : ℕ) → 1 ≤ id → es id ≡ fs id) → AreTrees v es trees → AreTrees v fs trees
+pub trees_over : (v : Server) (es fs : ℕ → List RowEvent) (trees : List Tree) → ((id : ℕ) → 1 ≤ id → es id ≡ fs id) → AreTrees es trees → AreTrees fs trees
 trees_over v es fs trees same h = record {
   differ = h.differ;
   tables = h.tables;
@@ -56,11 +58,11 @@ trees_over v es fs trees same h = record {
   others = λ id l e. sym (same id l) ∙ h.others id l e;
 }
   where
-    leaves : (ts : List Tree) → Each (λ t. 1 ≤ t.table) ts → Each (λ t. t.leaves ≡ map v.leaf (es t.table)) ts → Each (λ t. t.leaves ≡ map v.leaf (fs t.table)) ts
+    leaves : (ts : List Tree) → Each (λ t. 1 ≤ t.table) ts → Each (λ t. t.leaves ≡ map event_bytes (es t.table)) ts → Each (λ t. t.leaves ≡ map event_bytes (fs t.table)) ts
     leaves [] l e = tt
-    leaves (t ∷ ts) l e = (e.0 ∙ ap (map v.leaf) (same t.table l.0), leaves ts l.1 e.1)
+    leaves (t ∷ ts) l e = (e.0 ∙ ap (map event_bytes) (same t.table l.0), leaves ts l.1 e.1)
 
-module _ {b : Bool} (v : Server) (cells : List Cell) (seats : List SeatState) (st : StandTogether v cells seats) (j : ℕ) (s : SeatState) (there : get_elem? seats j ≡ some s) (x : Session) (role : s.role ≡ session x)
+module _ {b : Bool} (v : Server) (cells : List Cell) (seats : List SeatState) {history : History} (st : Stands v history cells seats) (j : ℕ) (s : SeatState) (there : get_elem? seats j ≡ some s) (x : Session) (role : s.role ≡ session x)
     (o : OpenTransaction) (one : x.open_one ≡ Some o) (open_end : o.end ≡ unfixed) (opened : o.opened ≡ b) (text : Text) (stage : Stage) (at : x.place ≡ inside text stage)
     (no_lines : last_line text stage ≡ []) (all_count : (id : ℕ) (ws : List Version) → counted_in o.id id stage ws ≡ ws) where
   abbrev pub c : Contents
@@ -94,16 +96,16 @@ module _ {b : Bool} (v : Server) (cells : List Cell) (seats : List SeatState) (s
   pub its_counter : o.seq ≡ X.seq
   its_counter = subst (λ ls. o.seq ≡ (end_of ls).state.seq) so_far (st.open_scripts j x o has open_end).counter
 
-  pub its_trees : AreTrees v (λ id. events_in o.id id (c.versions id)) o.trees
-  its_trees = subst (λ f. AreTrees v f o.trees) (λ i id. events_in o.id id (((λ n. counted o.id id (at n) (c.versions id)) ∙ all_count id (c.versions id)) i)) (st.trees_are_of_events j x o has open_end).trees
+  pub its_trees : AreTrees (λ id. events_in o.id id (c.versions id)) o.trees
+  its_trees = subst (λ f. AreTrees f o.trees) (λ i id. events_in o.id id (((λ n. counted o.id id (at n) (c.versions id)) ∙ all_count id (c.versions id)) i)) (st.trees_are_of_events j x o has open_end).trees
 
   -- over the tables of its script too
-  pub its_trees_there : AreTrees v (λ id. events_in o.id id (versions_of X.tables id)) o.trees
+  pub its_trees_there : AreTrees (λ id. events_in o.id id (versions_of X.tables id)) o.trees
   its_trees_there = trees_over v (λ id. events_in o.id id (c.versions id)) (λ id. events_in o.id id (versions_of X.tables id)) o.trees
       (λ id l. events_of_touched o.id id (c.versions id) ∙ ap (events_in o.id id) (its_versions id l) ∙ sym (events_of_touched o.id id (versions_of X.tables id))) its_trees
 
-  pub its_frames : AreFrames v o.id o.frames X.saved
-  its_frames = subst (λ ls. AreFrames v o.id o.frames (end_of ls).state.saved) so_far (st.trees_are_of_events j x o has open_end).frames
+  pub its_frames : AreFrames o.id o.frames X.saved
+  its_frames = subst (λ ls. AreFrames o.id o.frames (end_of ls).state.saved) so_far (st.trees_are_of_events j x o has open_end).frames
 
   pub its_cover : (i : ℕ) → KeepsLocks o i → Each (λ l. Each (Holds (c.holds i) o.id) (wants_in v (defs_of k.tables) o.opened i l.0)) o.script
   its_cover i free = subst (Each (λ l. Each (Holds (c.holds i) o.id) (wants_in v (defs_of k.tables) o.opened i l.0))) so_far (st.locks_cover.cover j x o has i free)
@@ -131,7 +133,7 @@ module _ {b : Bool} (v : Server) (cells : List Cell) (seats : List SeatState) (s
     module _ (y : Session) (p : OpenTransaction) (ls : List Line) (id : p.id ≡ o.id) (opened_same : p.opened ≡ o.opened) (visited : p.visited ≡ o.visited) (released : p.released ≡ o.released) (end : p.end ≡ o.end)
         (script_is : p.script ≡ ls) (lines_are : ls ++ lines_at y.place ≡ lines)
         (versions : (id : ℕ) → 1 ≤ id → touched o.id (counted o.id id y.place (c.versions id)) ≡ touched o.id (versions_of then_state.tables id)) (counter : p.seq ≡ then_state.seq)
-        (trees : AreTrees v (λ id. events_in o.id id (counted o.id id y.place (c.versions id))) p.trees) (frames : AreFrames v o.id p.frames then_state.saved)
+        (trees : AreTrees (λ id. events_in o.id id (counted o.id id y.place (c.versions id))) p.trees) (frames : AreFrames o.id p.frames then_state.saved)
         (got : HasLock c catalog_at o.id → IsGotAt v k.tables (HasAlone c o.id) (not (k.has o.id)) y.place) (looked : LookedAt v c (defs_of k.tables) o.id o.opened y.place) (stands : o.opened ≡ false → text_at x.place ≡ text_at y.place) (alone : o.opened ≡ false → p.script ≡ []) where
       all_lines : script_so_far y p ≡ lines
       all_lines = ap (λ (ms : List Line). ms ++ lines_at y.place) script_is ∙ lines_are
@@ -154,8 +156,8 @@ module _ {b : Bool} (v : Server) (cells : List Cell) (seats : List SeatState) (s
           alone = λ e. alone (sym opened_same ∙ e);
         };
         trees = λ u. record {
-          trees = subst (λ n. AreTrees v (λ a. events_in n a (counted n a y.place (c.versions a))) p.trees) (sym id) trees;
-          frames = subst (λ n. AreFrames v n p.frames (script v.reads p.opened k.tables p.id (texts_so_far y p)).state.saved) (sym id) (subst (AreFrames v o.id p.frames) (ap (λ z. z.saved) (sym state_is) ∙ sym (ap (λ z. z.state.saved) ends_so)) frames);
+          trees = subst (λ n. AreTrees (λ a. events_in n a (counted n a y.place (c.versions a))) p.trees) (sym id) trees;
+          frames = subst (λ n. AreFrames n p.frames (script v.reads p.opened k.tables p.id (texts_so_far y p)).state.saved) (sym id) (subst (AreFrames o.id p.frames) (ap (λ z. z.saved) (sym state_is) ∙ sym (ap (λ z. z.state.saved) ends_so)) frames);
         };
         cover = λ i free. subst (Each (λ l. Each (Holds (c.holds i) o.id) (wants_in v (defs_of k.tables) o.opened i l.0))) (sym all_lines) (each_append (λ l. Each (Holds (c.holds i) o.id) (wants_in v (defs_of k.tables) o.opened i l.0)) o.script (line ∷ []) (its_cover i free) (covers i, tt));
         got = got;
@@ -182,14 +184,14 @@ module _ {b : Bool} (v : Server) (cells : List Cell) (seats : List SeatState) (s
     abbrev told : Line
     told = (text, reply_text r)
 
-    pub d : Dealt v.meaning st.history (st.transcripts_agree.of_seat j) x o
-    d = dealt v st.history st.ledger seats st.transcripts_agree j x o has
+    pub d : InTransaction v.meaning history (st.transcripts_agree.of_seat j) x o
+    d = in_transaction v history st.ledger seats st.transcripts_agree j x o has
 
     abbrev n : ℕ
     n = d.runs.number
 
-    abbrev sess : Sess
-    sess = (run first st.history).at n
+    abbrev sess : SessionState
+    sess = (run first history).at n
 
     in_old : (a : Text) (ls : List Line) → In a (texts ls) → In a (texts (ls ++ told ∷ []))
     in_old a [] i = absurd i
@@ -202,7 +204,7 @@ module _ {b : Bool} (v : Server) (cells : List Cell) (seats : List SeatState) (s
     then_texts : texts_so_far y p ≡ texts (o.script ++ told ∷ [])
     then_texts = ap texts (append-nil p.script ∙ script_is)
 
-    only : OnlyOne d.deal text
+    only : OnlyOne d.transaction text
     only e = let no : true ≡ false = sym by_begin ∙ sym d.is.opened ∙ e in cc
 
     now : IsNow v.meaning (acted sess (says told)) y
@@ -210,33 +212,42 @@ module _ {b : Bool} (v : Server) (cells : List Cell) (seats : List SeatState) (s
       running = d.runs.now.running;
       transcript = d.runs.now.transcript;
       under = d.runs.now.under ∙ ap text_at at;
-      open_one = subst (λ (z : Option Deal). AreDeals (on_some (scripts told) z) y y.open_one) (sym d.has) (record {
+      open_one = subst (λ (z : Option SessionTransaction). AreTransactions (on_some (scripts told) z) y y.open_one) (sym d.has) (record {
         id = d.is.id ∙ sym id;
         opened = d.is.opened ∙ sym opened_same;
         script = ap (λ (ls : List Line). ls ++ told ∷ []) d.is.script ∙ sym script_is;
         end = d.is.end ∙ sym end;
-        asked = λ u. subst (λ ts. Each (λ a. a.1 ≡ true → In a.0 ts) ((text, true) ∷ d.deal.asked)) (sym then_texts) (
+        asked = λ u. subst (λ ts. Each (λ a. a.1 ≡ true → In a.0 ts) ((text, true) ∷ d.transaction.asked)) (sym then_texts) (
           (λ e. in_new o.script),
-          each_weaker (λ a. a.1 ≡ true → In a.0 (texts_so_far x o)) (λ a. a.1 ≡ true → In a.0 (texts (o.script ++ told ∷ []))) (λ a f e. in_old a.0 o.script (subst (λ ls. In a.0 (texts ls)) so_far (f e))) d.deal.asked (d.is.asked open_end),
+          each_weaker (λ a. a.1 ≡ true → In a.0 (texts_so_far x o)) (λ a. a.1 ≡ true → In a.0 (texts (o.script ++ told ∷ []))) (λ a f e. in_old a.0 o.script (subst (λ ls. In a.0 (texts ls)) so_far (f e))) d.transaction.asked (d.is.asked open_end),
         );
-        heard = (heard_now y.place d.deal.answered text true, heard_answer x.place y.place d.deal.answered d.deal.asked text (ap text_at at) d.is.heard);
+        heard = (heard_now y.place d.transaction.answered text true, heard_answer x.place y.place d.transaction.answered d.transaction.asked text (ap text_at at) d.is.heard);
       });
-      desk = goes_on v.meaning sess.desk (acted sess (says told)).desk x y (said told ∷ []) refl refl d.runs.now.desk goes;
+      so_far = goes_on v.meaning sess.so_far (acted sess (says told)).so_far x y (said told ∷ []) refl refl d.runs.now.so_far goes;
     }
 
-    pub said_act : TranscriptsAgree v (st.history ++ by n (says told) ∷ []) st.ledger (slice_set seats j (sits s y))
-    said_act = plain_acts v st.ledger seats st.history st.transcripts_agree j s there x y role n d.runs.is (says told ∷ []) (plain_say told, tt)
-        ((d.deal, record { runs = d.runs.now.running; has = d.has; unfixed = d.is.end ∙ open_end }, only), tt) now (record { images = refl; moments = refl; earlier = refl })
+    pub said_act : TranscriptsAgree v (history ++ by n (says told) ∷ []) st.ledger (slice_set seats j (sits s y))
+    said_act = plain_acts v st.ledger seats history st.transcripts_agree j s there x y role n d.runs.is (says told ∷ []) (plain_say told, tt)
+        ((d.transaction, record { runs = d.runs.now.running; has = d.has; unfixed = d.is.end ∙ open_end }, only), tt) now (record { images = refl; moments = refl; earlier = refl })
+
+    -- by the session whose number is known
+    pub said_owner : said_act.owner n ≡ j
+    unfolding said_act
+    said_owner = (plain_owner _ _ _ _ _ _ _ _ _ _ _ _ _ _ _ _ _ _)
+
+    -- known by its number
+    pub said_by : (m : ℕ) → (st.transcripts_agree.of_seat j).now ≡ Some m → (agree : TranscriptsAgree v (history ++ by m (says told) ∷ []) st.ledger (slice_set seats j (sits s y))) × (agree.owner m ≡ j)
+    said_by m e = subst (λ (i : ℕ). (agree : TranscriptsAgree v (history ++ by i (says told) ∷ []) st.ledger (slice_set seats j (sits s y))) × (agree.owner i ≡ j)) (one_number n m d.runs.is e) (said_act, said_owner)
 
   -- ---- it is said, and certain at once
 
   module _ (by_begin : o.opened ≡ true) (r : Reply) (then_state : State) (step : text_step v.reads o.opened o.id X text ≡ (then_state, r)) (covers : (i : ℕ) → Each (Holds (c.holds i) o.id) (wants_in v (defs_of k.tables) o.opened i text))
       (p : OpenTransaction) (id : p.id ≡ o.id) (opened_same : p.opened ≡ o.opened) (visited : p.visited ≡ o.visited) (released : p.released ≡ o.released) (end : p.end ≡ o.end) (script_is : p.script ≡ o.script ++ (text, reply_text r) ∷ [])
-      (same_tables : then_state.tables ≡ X.tables) (counter : p.seq ≡ then_state.seq) (same_trees : p.trees ≡ o.trees) (frames : AreFrames v o.id p.frames then_state.saved) (same_seq : p.seq ≡ o.seq) (adds : AddsNone (inside text stage))
+      (same_tables : then_state.tables ≡ X.tables) (counter : p.seq ≡ then_state.seq) (same_trees : p.trees ≡ o.trees) (frames : AreFrames o.id p.frames then_state.saved) (same_seq : p.seq ≡ o.seq) (adds : AddsNone (inside text stage))
       (goes : GoesFrom v.meaning x (at_place (Some p) (inside text (answering r None)) x) (said (text, reply_text r) ∷ [])) where
-    pub said_stands : StandTogether v cells (slice_set seats j (sits s (at_place (Some p) (inside text (answering r None)) x)))
-    said_stands = alone_stands v cells seats st j s there _ _
+    pub said_stands : StandsAfter v j history (says (text, reply_text r) ∷ []) cells (slice_set seats j (sits s (at_place (Some p) (inside text (answering r None)) x)))
+    said_stands = alone_after v cells seats st j s there _ _
         (keeps_turn v cells seats st j s there x role o one _ _ p refl refl
         (keeps_bare r then_state step covers (at_place (Some p) (inside text (answering r None)) x) p p.script id opened_same visited released end refl (append-nil p.script ∙ script_is)
-        (λ n l. its_versions n l ∙ ap (λ (T : Tables). touched o.id (versions_of T n)) (sym same_tables)) counter (subst (AreTrees v (λ a. events_in o.id a (c.versions a))) (sym same_trees) its_trees) frames (λ l. tt) tt (λ e. ap text_at at) (λ e. let no : true ≡ false = sym by_begin ∙ e in cc) adds (λ e f. tt) same_tables same_seq tt))
-        (said_act by_begin r p id opened_same end script_is goes)
+        (λ n l. its_versions n l ∙ ap (λ (T : Tables). touched o.id (versions_of T n)) (sym same_tables)) counter (subst (AreTrees (λ a. events_in o.id a (c.versions a))) (sym same_trees) its_trees) frames (λ l. tt) tt (λ e. ap text_at at) (λ e. let no : true ≡ false = sym by_begin ∙ e in cc) adds (λ e f. tt) same_tables same_seq tt))
+        (said_act by_begin r p id opened_same end script_is goes) (said_owner _ _ _ _ _ _ _ _)

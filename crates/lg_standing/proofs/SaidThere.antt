@@ -1,4 +1,7 @@
 -- A statement of rows is said at what it found, where it leaves the tables as they are: cells and seats stand together.
+use Rattle.lg_history.specs.Acts.{by}
+use Rattle.lg_standing.proofs.Ids.{in_transaction}
+use Rattle.lg_standing.proofs.ActedFor.{StandsBy, by_number}
 use Rattle.std.specs.Prelude.{slice_set, not}
 use Rattle.lg_types.specs.declared.statement.Stmt.{Stmt}
 use Rattle.lg_types.specs.declared.statement.Stmt.TheVariants as stmt
@@ -15,12 +18,12 @@ use Rattle.lg_standing.specs.TablesAreSerial.{HasActed}
 use Rattle.lg_standing.specs.WantsIn.{Holds, wants_in}
 use Rattle.lg_standing.proofs.PlainPlaces.{IsBare, all_counted}
 use Rattle.lg_frames.proofs.PlainRefusals.{IsPlainReply}
-use Rattle.lg_standing.proofs.AloneTurns.{Keeps, alone_stands, keeps_turn}
+use Rattle.lg_standing.proofs.AloneTurns.{alone_own, Keeps, alone_stands, keeps_turn, alone_after}
 use Rattle.lg_model.specs.Catalog.{Named, defs_of}
 use Rattle.lg_standing.specs.Seats.{OpenTransaction, SeatState, Session, session, Stage, found, inside}
 use Rattle.lg_types.specs.declared.reply.Reply.{Reply}
 use Rattle.lg_standing.specs.Server.{Server}
-use Rattle.lg_standing.specs.StandTogether.{StandTogether}
+use Rattle.lg_standing.specs.StandTogether.{History, Stands, StandsAfter}
 use Rattle.lg_model.specs.Script.{State, script, text_step}
 use Rattle.lg_types.specs.declared.version.Version.{Version}
 use Rattle.lg_standing.specs.Moves.{at_place, sits}
@@ -37,6 +40,7 @@ use mathlib.Core.Option.{some}
 use Rattle.lg_standing.specs.Doing.{stage_after, with_line, with_reply}
 use Rattle.lg_model.specs.Touched.{touched}
 use Rattle.lg_history.specs.Transactions.{unfixed}
+use Rattle.lg_standing.specs.ActsOf.{done_acts}
 
 bare_after : (b : Bool) (text : Text) (r : Reply) → IsBare (inside text (stage_after b r))
 bare_after true text r = tt
@@ -71,7 +75,7 @@ same_replied T U e (Some stmt.Digest) h = tt
 same_replied T U e (Some stmt.Image) h = tt
 same_replied T U e None h = tt
 
-module _ (v : Server) (cells : List Cell) (seats : List SeatState) (S : StandTogether v cells seats) (j : ℕ) (s : SeatState) (there : get_elem? seats j ≡ some s) (x : Session) (role : s.role ≡ session x)
+module _ (v : Server) (cells : List Cell) (seats : List SeatState) {history : History} (S : Stands v history cells seats) (j : ℕ) (s : SeatState) (there : get_elem? seats j ≡ some s) (x : Session) (role : s.role ≡ session x)
     (o : OpenTransaction) (one : x.open_one ≡ Some o) (open_end : o.end ≡ unfixed) (text : Text) (named : Option Named) (fresh : Bool) (place : x.place ≡ inside text (found named fresh)) where
   abbrev c : Contents
   c = contents cells
@@ -129,7 +133,7 @@ module _ (v : Server) (cells : List Cell) (seats : List SeatState) (S : StandTog
     alone_so : o.opened ≡ false → p.script ≡ []
     alone_so e = ap (λ (b : Bool). with_line b (text, reply_text r) o.script) e ∙ (S.open_scripts j x o (record { seat = s; there = there; role = role; open_one = one }) open_end).alone e
 
-    done_so : ActsAt v S.ledger (slice_set seats j (sits s y))
+    done_so : ActsAt v history j (S.transcripts_agree.of_seat j).now (done_acts o.opened text true r) S.ledger (slice_set seats j (sits s y))
     done_so = done_act v cells seats S j s there x role o one open_end text stage place refl (λ id ws. refl) true (λ a h. h) refl (λ k. refl) refl refl
         r (no_control r plain) (not_begun v.meaning text r plain) (kept_none v.meaning text r plain) (none_begun v.meaning text r plain) (none_kept v.meaning text r plain) (inside_said v.meaning text r plain) (is_said v.meaning text r plain)
         p refl refl refl refl (λ e. kind)
@@ -143,6 +147,24 @@ module _ (v : Server) (cells : List Cell) (seats : List SeatState) (S : StandTog
         (its_frames v cells seats S j s there x role o one open_end refl text stage place refl (λ id ws. refl))
         (λ l. got_bare o.opened) (looked_bare o.opened) (λ e. ap text_at place ∙ sym (text_bare o.opened)) alone_so tt (λ e f. acted_bare o.opened) refl refl bare
 
-    pub said_there : StandTogether v cells (slice_set seats j (sits s y))
-    said_there = alone_stands v cells seats S j s there (sits s y) done_so.history
-        (keeps_turn v cells seats S j s there x role o one (sits s y) y p refl refl keeps) done_so.agree
+    pub said_there : StandsAfter v j history (done_acts o.opened text true r) cells (slice_set seats j (sits s y))
+    said_there = alone_after v cells seats S j s there (sits s y) done_so.session
+        (keeps_turn v cells seats S j s there x role o one (sits s y) y p refl refl keeps) done_so.agree done_so.own
+
+    -- by the session that runs there
+    pub said_by : (S.transcripts_agree.of_seat j).now ≡ Some said_there.session
+    unfolding said_there
+    said_by = done_so.is
+
+    pub said_own : said_there.stands.transcripts_agree.owner said_there.session ≡ j
+    unfolding said_there
+    said_own = alone_own v cells seats S j s there (sits s y) (history ++ map (by done_so.session) (done_acts o.opened text true r)) (keeps_turn v cells seats S j s there x role o one (sits s y) y p refl refl keeps) done_so.agree done_so.session done_so.own
+
+    -- of its transaction
+    pub said_for_it : StandsBy v j history o.id o.opened (done_acts o.opened text true r) cells (slice_set seats j (sits s y))
+    said_for_it = record {
+      session = done_so.session;
+      of = by_number v.meaning history (S.transcripts_agree.of_seat j) x o (in_transaction v history S.ledger seats S.transcripts_agree j x o (record { seat = s; there = there; role = role; open_one = one })) done_so.session done_so.is;
+      stands = alone_stands v cells seats S j s there (sits s y) (history ++ map (by done_so.session) (done_acts o.opened text true r)) (keeps_turn v cells seats S j s there x role o one (sits s y) y p refl refl keeps) done_so.agree;
+      mine = alone_own v cells seats S j s there (sits s y) (history ++ map (by done_so.session) (done_acts o.opened text true r)) (keeps_turn v cells seats S j s there x role o one (sits s y) y p refl refl keeps) done_so.agree done_so.session done_so.own;
+    }

@@ -16,6 +16,7 @@ use Rattle.lg_standing.specs.EventsIn.{events_in}
 use Rattle.lg_standing.specs.TreesAreOfEvents.{AreTrees, AreFrames}
 use Rattle.lg_standing.proofs.OfCells.{HasItsTrees, IsOfItsScript, events_counted}
 use Rattle.lg_model.specs.Touched.{touched}
+use Rattle.lg_row.specs.Leaf.{event_bytes}
 
 pub record IsSame (x : Session) (o : OpenTransaction) (y : Session) (p : OpenTransaction) : Type 0 where
   pub id : p.id ≡ o.id
@@ -56,28 +57,28 @@ module _ (x : Session) (o : OpenTransaction) (y : Session) (p : OpenTransaction)
       alone = λ e. m.script ∙ h.alone (sym m.opened ∙ e);
     }
 
-  pub trees_same : (v : Server) (E F : ℕ → List Event) (trees : List Tree) → ((id : ℕ) → F id ≡ E id) → AreTrees v E trees → AreTrees v F trees
+  pub trees_same : (v : Server) (E F : ℕ → List Event) (trees : List Tree) → ((id : ℕ) → F id ≡ E id) → AreTrees E trees → AreTrees F trees
   trees_same v E F trees e h = record { differ = h.differ; tables = h.tables; leaves = each trees h.leaves; others = λ id l none. e id ∙ h.others id l none }
     where
-      each : (ts : List Tree) → Each (λ t. t.leaves ≡ map v.leaf (E t.table)) ts → Each (λ t. t.leaves ≡ map v.leaf (F t.table)) ts
+      each : (ts : List Tree) → Each (λ t. t.leaves ≡ map event_bytes (E t.table)) ts → Each (λ t. t.leaves ≡ map event_bytes (F t.table)) ts
       each [] k = tt
-      each (t ∷ ts) k = (k.0 ∙ ap (map v.leaf) (sym (e t.table)), each ts k.1)
+      each (t ∷ ts) k = (k.0 ∙ ap (map event_bytes) (sym (e t.table)), each ts k.1)
 
   -- a tree is of a table
-  pub trees_from : (v : Server) (E F : ℕ → List Event) (trees : List Tree) → ((id : ℕ) → 1 ≤ id → F id ≡ E id) → AreTrees v E trees → AreTrees v F trees
+  pub trees_from : (v : Server) (E F : ℕ → List Event) (trees : List Tree) → ((id : ℕ) → 1 ≤ id → F id ≡ E id) → AreTrees E trees → AreTrees F trees
   trees_from v E F trees e h = record { differ = h.differ; tables = h.tables; leaves = each trees h.tables h.leaves; others = λ id l none. e id l ∙ h.others id l none }
     where
-      each : (ts : List Tree) → Each (λ t. 1 ≤ t.table) ts → Each (λ t. t.leaves ≡ map v.leaf (E t.table)) ts → Each (λ t. t.leaves ≡ map v.leaf (F t.table)) ts
+      each : (ts : List Tree) → Each (λ t. 1 ≤ t.table) ts → Each (λ t. t.leaves ≡ map event_bytes (E t.table)) ts → Each (λ t. t.leaves ≡ map event_bytes (F t.table)) ts
       each [] one k = tt
-      each (t ∷ ts) one k = (k.0 ∙ ap (map v.leaf) (sym (e t.table one.0)), each ts one.1 k.1)
+      each (t ∷ ts) one k = (k.0 ∙ ap (map event_bytes) (sym (e t.table one.0)), each ts one.1 k.1)
 
   module _ (v : Server) (cells others : List Cell) (ledger : LedgerCell) (same : (id : ℕ) → versions_at others id ≡ versions_at cells id) where
     pub trees_stay : HasItsTrees v cells ledger x o → HasItsTrees v others ledger y p
     trees_stay h = record {
-      trees = subst (AreTrees v (events_counted others y p)) (sym m.trees) (trees_same v (events_counted cells x o) (events_counted others y p) o.trees (same_events cells others same) h.trees);
-      frames = subst (λ (n : ℕ). AreFrames v n p.frames (script_end v (serial v.reads ledger.items) y p).state.saved) (sym m.id)
-          (subst (λ (fs : List Frame). AreFrames v o.id fs (script_end v (serial v.reads ledger.items) y p).state.saved) (sym m.frames)
-          (subst (λ (e : ScriptEnd). AreFrames v o.id o.frames e.state.saved) (sym (same_end v (serial v.reads ledger.items))) h.frames));
+      trees = subst (AreTrees (events_counted others y p)) (sym m.trees) (trees_same v (events_counted cells x o) (events_counted others y p) o.trees (same_events cells others same) h.trees);
+      frames = subst (λ (n : ℕ). AreFrames n p.frames (script_end v (serial v.reads ledger.items) y p).state.saved) (sym m.id)
+          (subst (λ (fs : List Frame). AreFrames o.id fs (script_end v (serial v.reads ledger.items) y p).state.saved) (sym m.frames)
+          (subst (λ (e : ScriptEnd). AreFrames o.id o.frames e.state.saved) (sym (same_end v (serial v.reads ledger.items))) h.frames));
     }
 
 -- nothing changed

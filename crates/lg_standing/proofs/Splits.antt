@@ -5,7 +5,7 @@ use Rattle.std.specs.Prelude.{◌==◌, if◌then◌else◌}
 use mathlib.Core.Option.{some, some-injective, some-ne-none}
 use lib.ListN.{get_elem?}
 use Rattle.lg_history.specs.Lists.{Each, In}
-use Rattle.lg_history.specs.Acts.{Event}
+use Rattle.lg_history.specs.Acts.{Act}
 use Rattle.lg_history.proofs.Trace.{each_append, each_weaker}
 use Rattle.lg_standing.specs.Server.{Server}
 use Rattle.lg_standing.specs.Cells.{LedgerCell, Cell}
@@ -14,7 +14,7 @@ use Rattle.lg_standing.specs.Seats.{OpenTransaction, Session, Written, idle, ses
 use Rattle.lg_standing.specs.OpenOnes.{HasOpen}
 use Rattle.lg_standing.specs.Parts.{Numbers, all_of, IsOver, Past}
 use Rattle.lg_standing.specs.TranscriptsAgree.{IsMoment, SeatAgrees, TranscriptsAgree}
-use Rattle.lg_standing.specs.StandTogether.{StandTogether}
+use Rattle.lg_standing.specs.StandTogether.{History, Stands}
 use Rattle.lg_standing.proofs.Places.{set_same}
 use Rattle.lg_standing.proofs.SameOpens.{tables_same, scripts_same, trees_same, agree_same, cover_same, rows_same}
 
@@ -36,13 +36,13 @@ module _ {A : Type 0} where
   within (x ∷ xs) zero b e = omega arith
   within (x ∷ xs) (suc i) b e = omega (arith, within xs i b e)
 
-all_over : (h : List Event) (ns : List ℕ) (xs : List Written) → Past h ns xs → Each (IsOver h) (map (λ x. x.transcript) xs)
+all_over : (h : List Act) (ns : List ℕ) (xs : List Written) → Past h ns xs → Each (IsOver h) (map (λ x. x.transcript) xs)
 all_over h [] [] p = tt
 all_over h [] (x ∷ xs) p = absurd p
 all_over h (n ∷ ns) [] p = absurd p
 all_over h (n ∷ ns) (x ∷ xs) p = (record { number = n; over = p.0.over; is = p.0.is }, all_over h ns xs p.1)
 
-module _ (v : Server) (cells : List Cell) (seats : List SeatState) (st : StandTogether v cells seats) (j : ℕ) (s : SeatState) (there : get_elem? seats j ≡ some s) (n : ℕ) where
+module _ (v : Server) (cells : List Cell) (seats : List SeatState) {history : History} (st : Stands v history cells seats) (j : ℕ) (s : SeatState) (there : get_elem? seats j ≡ some s) (n : ℕ) where
   abbrev new : SeatState
   new = split s n
 
@@ -67,7 +67,7 @@ module _ (v : Server) (cells : List Cell) (seats : List SeatState) (st : StandTo
   abbrev none_yet : Numbers
   none_yet = record { past = []; now = None }
 
-  abbrev agree : TranscriptsAgree v st.history ledger seats
+  abbrev agree : TranscriptsAgree v history ledger seats
   agree = st.transcripts_agree
 
   abbrev of_seat : ℕ → Numbers
@@ -79,12 +79,12 @@ module _ (v : Server) (cells : List Cell) (seats : List SeatState) (st : StandTo
   at_old : (k : ℕ) → k < length seats → of_seat k ≡ agree.of_seat k
   at_old k l = ap (λ (b : Bool). if b then none_yet else agree.of_seat k) (ne_eqb k (length seats) (λ e. omega arith))
 
-  was : SeatAgrees v st.history ledger (agree.of_seat j) s
+  was : SeatAgrees v history ledger (agree.of_seat j) s
   was = agree.agree j s there
 
-  new_agrees : SeatAgrees v st.history ledger none_yet new
+  new_agrees : SeatAgrees v history ledger none_yet new
   new_agrees = record {
-    sessions = record { differ = tt; past = tt; now = tt; earlier = each_append (IsOver st.history) (map (λ x. x.transcript) s.written) s.earlier (all_over st.history (agree.of_seat j).past s.written was.sessions.past) was.sessions.earlier };
+    sessions = record { differ = tt; past = tt; now = tt; earlier = each_append (IsOver history) (map (λ x. x.transcript) s.written) s.earlier (all_over history (agree.of_seat j).past s.written was.sessions.past) was.sessions.earlier };
     database = was.database;
     block_size = was.block_size;
     marks = tt;
@@ -93,10 +93,10 @@ module _ (v : Server) (cells : List Cell) (seats : List SeatState) (st : StandTo
     images = tt;
   }
 
-  all_agree : (k : ℕ) (u : SeatState) → get_elem? then_seats k ≡ some u → SeatAgrees v st.history ledger (of_seat k) u
+  all_agree : (k : ℕ) (u : SeatState) → get_elem? then_seats k ≡ some u → SeatAgrees v history ledger (of_seat k) u
   all_agree k u e = ⊎_elim
-      (λ (f : (get_elem? seats k ≡ some u) × (k < length seats)). subst (λ (m : Numbers). SeatAgrees v st.history ledger m u) (sym (at_old k f.1)) (agree.agree k u f.0))
-      (λ (f : (k ≡ length seats) × (new ≡ u)). subst (λ (w : SeatState). SeatAgrees v st.history ledger (of_seat k) w) f.1 (subst (λ (i : ℕ). SeatAgrees v st.history ledger (of_seat i) new) (sym f.0) (subst (λ (m : Numbers). SeatAgrees v st.history ledger m new) (sym at_new) new_agrees)))
+      (λ (f : (get_elem? seats k ≡ some u) × (k < length seats)). subst (λ (m : Numbers). SeatAgrees v history ledger m u) (sym (at_old k f.1)) (agree.agree k u f.0))
+      (λ (f : (k ≡ length seats) × (new ≡ u)). subst (λ (w : SeatState). SeatAgrees v history ledger (of_seat k) w) f.1 (subst (λ (i : ℕ). SeatAgrees v history ledger (of_seat i) new) (sym f.0) (subst (λ (m : Numbers). SeatAgrees v history ledger m new) (sym at_new) new_agrees)))
       (at_snoc seats new u k e)
 
   all_own : (k : ℕ) (u : SeatState) → get_elem? then_seats k ≡ some u → Each (λ i. agree.owner i ≡ k) (all_of (of_seat k))
@@ -108,9 +108,8 @@ module _ (v : Server) (cells : List Cell) (seats : List SeatState) (st : StandTo
   moment : (time : ℕ) → IsMoment seats time → IsMoment then_seats time
   moment time e = record { j = e.j; seat = e.seat; there = at_longer seats new e.j e.seat e.there; is = e.is }
 
-  pub split_stands : StandTogether v cells then_seats
+  pub split_stands : Stands v history cells then_seats
   split_stands = let c = contents cells in let k = known v.reads ledger.items in record {
-    history = st.history;
     catalog = st.catalog;
     ledger = ledger;
     are_cells = st.are_cells;
@@ -135,12 +134,10 @@ module _ (v : Server) (cells : List Cell) (seats : List SeatState) (st : StandTo
       no_others = agree.no_others;
       times = each_weaker (IsMoment seats) (IsMoment then_seats) moment _ agree.times;
       made = each_weaker (λ g. IsMoment seats g.made) (λ g. IsMoment then_seats g.made) (λ g. moment g.made) ledger.issued agree.made;
-      setup = agree.setup;
-      setup_ran = agree.setup_ran;
     };
   }
 
 -- the form in which a board asks for it
-pub splits_stand : (v : Server) (cells : List Cell) (seats : List SeatState) (j : ℕ) (s : SeatState) (n : ℕ) → StandTogether v cells seats → get_elem? seats j ≡ some s
-    → StandTogether v cells (slice_set seats j (kept s n) ++ split s n ∷ [])
-splits_stand v cells seats j s n st there = subst (λ (us : List SeatState). StandTogether v cells (us ++ split s n ∷ [])) (sym (set_same seats j s there)) (split_stands v cells seats st j s there n)
+pub splits_stand : (v : Server) (cells : List Cell) (seats : List SeatState) (j : ℕ) (s : SeatState) (n : ℕ) {history : History} → Stands v history cells seats → get_elem? seats j ≡ some s
+    → Stands v history cells (slice_set seats j (kept s n) ++ split s n ∷ [])
+splits_stand v cells seats j s n {history} st there = subst (λ (us : List SeatState). Stands v history cells (us ++ split s n ∷ [])) (sym (set_same seats j s there)) (split_stands v cells seats st j s there n)

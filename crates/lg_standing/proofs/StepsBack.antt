@@ -20,7 +20,7 @@ use Rattle.lg_history.specs.Lists.{Text, Each, In}
 use Rattle.lg_history.specs.Transcripts.{Kind, to_savepoint, kind_of}
 use Rattle.lg_history.specs.Facts.{said}
 use Rattle.lg_history.specs.Transactions.{unfixed}
-use Rattle.lg_history.specs.Sessions.{Deal, Sess}
+use Rattle.lg_history.specs.Sessions.{SessionTransaction, SessionState}
 use Rattle.lg_history.specs.Worlds.{first, run}
 use Rattle.lg_history.proofs.Trace.{each_weaker}
 use Rattle.lg_standing.specs.Server.{Server}
@@ -29,26 +29,26 @@ use Rattle.lg_standing.specs.Cells.{Cell, cell_of}
 use Rattle.lg_standing.specs.Contents.{Contents, Known, contents, known}
 use Rattle.lg_standing.specs.Alone.{tables_visited}
 use Rattle.lg_standing.specs.Answering.{frames_from}
-use Rattle.lg_standing.specs.Desks.{shown_inside, FitsWith, Fits}
+use Rattle.lg_standing.specs.TranscriptsSoFar.{shown_inside, FitsWith, Fits}
 use Rattle.lg_standing.specs.EventsIn.{events_in}
 use Rattle.lg_standing.specs.Moves.{saying, framed, at_place, sits}
 use Rattle.lg_standing.specs.OpenOnes.{HasOpen, text_at, lines_at, texts_so_far, script_end}
 use Rattle.lg_standing.specs.OpenScripts.{counted}
-use Rattle.lg_standing.specs.Parts.{asking, AreDeals, IsNow}
+use Rattle.lg_standing.specs.Parts.{asking, AreTransactions, IsNow}
 use Rattle.lg_standing.specs.Seats.{Frame, OpenTransaction, begun, going_back, answering, Place, inside, Session, session, SeatState}
-use Rattle.lg_standing.specs.StandTogether.{StandTogether}
+use Rattle.lg_standing.specs.StandTogether.{History, Stands, StandsAfter}
 use Rattle.lg_standing.specs.TreesAreOfEvents.{IsFrame, AreFrames}
 use Rattle.lg_standing.specs.WantsIn.{wants_in, Holds}
-use Rattle.lg_standing.proofs.AloneTurns.{alone_stands, kept, keeps_turn, StillAt, bare}
+use Rattle.lg_standing.proofs.AloneTurns.{alone_stands, kept, keeps_turn, StillAt, bare, alone_after}
 use Rattle.lg_standing.proofs.Deeds.{plain_acts}
-use Rattle.lg_standing.proofs.DeskActs.{goes_on}
-use Rattle.lg_standing.proofs.DeskStages.{from_at, at_opened, savepoint_fits}
+use Rattle.lg_standing.proofs.TranscriptActs.{goes_on}
+use Rattle.lg_standing.proofs.TranscriptStages.{from_at, at_opened, savepoint_fits}
 use Rattle.lg_standing.proofs.FreshIds.{events_of_touched, IsNotOf, each_filter_not, made_before, none_of_touched, undone_nothing}
 use Rattle.lg_standing.proofs.Heard.{heard_still}
-use Rattle.lg_standing.proofs.Ids.{Dealt, dealt}
+use Rattle.lg_standing.proofs.Ids.{InTransaction, in_transaction}
 use Rattle.lg_standing.proofs.OthersScripts.{sound_for}
 use Rattle.lg_standing.proofs.SaidMore.{trees_over, X, its_versions, its_counter, its_frames, keeps_said, state_is}
-use Rattle.lg_standing.proofs.SaysHistory.{says_act}
+use Rattle.lg_standing.proofs.SaysHistory.{says_act, says_owner}
 use Rattle.lg_standing.proofs.ScriptMore.{step_is, back_one}
 use Rattle.lg_standing.proofs.StepsSaid.{none_wanted, back_wants, same_back}
 use Rattle.lg_standing.proofs.Visited.{touched_undone, nothing_there}
@@ -62,16 +62,18 @@ use Rattle.lg_standing.specs.RowsAgree.{key_rows}
 use Rattle.lg_model.specs.Reach.{lets_change}
 use Rattle.lg_frames.proofs.Definitions.{opened_keep_defs}
 use Rattle.lg_standing.proofs.ChangedRows.{undone_before, undone_of_key}
+use Rattle.lg_standing.proofs.GoesOn.{nothing_added}
+use Rattle.lg_history.specs.Acts.{says}
 
 -- the savepoint of a frame
 record BackAt (v : Server) (id : ℕ) (f : Frame) (fs : List Frame) (ks : List Saved) : Type 0 where
   c : Saved
   cs : List Saved
   is : ks ≡ c ∷ cs
-  frame : IsFrame v id f c
-  rest : AreFrames v id fs cs
+  frame : IsFrame id f c
+  rest : AreFrames id fs cs
 
-back_at : (v : Server) (id : ℕ) (f : Frame) (fs : List Frame) (ks : List Saved) → AreFrames v id (f ∷ fs) ks → BackAt v id f fs ks
+back_at : (v : Server) (id : ℕ) (f : Frame) (fs : List Frame) (ks : List Saved) → AreFrames id (f ∷ fs) ks → BackAt v id f fs ks
 back_at v id f fs [] h = absurd h
 back_at v id f fs (c ∷ cs) h = record { c = c; cs = cs; is = refl; frame = h.0; rest = h.1 }
 
@@ -83,7 +85,7 @@ all_back P name (k ∷ ks) h = by_name (bytes_eq k.name name) (all_back P name k
     by_name true r = h
     by_name false r = r
 
-module _ (v : Server) (cells : List Cell) (seats : List SeatState) (st : StandTogether v cells seats) (j : ℕ) (s : SeatState) (there : get_elem? seats j ≡ some s) (x : Session) (role : s.role ≡ session x)
+module _ (v : Server) (cells : List Cell) (seats : List SeatState) {history : History} (st : Stands v history cells seats) (j : ℕ) (s : SeatState) (there : get_elem? seats j ≡ some s) (x : Session) (role : s.role ≡ session x)
     (o : OpenTransaction) (one : x.open_one ≡ Some o) (open_end : o.end ≡ unfixed) where
   abbrev c : Contents
   c = contents cells
@@ -94,8 +96,8 @@ module _ (v : Server) (cells : List Cell) (seats : List SeatState) (st : StandTo
   has : HasOpen seats j x o
   has = record { seat = s; there = there; role = role; open_one = one }
 
-  d : Dealt v.meaning st.history (st.transcripts_agree.of_seat j) x o
-  d = dealt v st.history st.ledger seats st.transcripts_agree j x o has
+  d : InTransaction v.meaning history (st.transcripts_agree.of_seat j) x o
+  d = in_transaction v history st.ledger seats st.transcripts_agree j x o has
 
   -- ---- it begins
 
@@ -110,7 +112,7 @@ module _ (v : Server) (cells : List Cell) (seats : List SeatState) (st : StandTo
     versions = its_versions v cells seats st j s there x role o one open_end opened text begun at refl (λ id ws. refl)
 
     to : BackAt v o.id f fs (back_to state.saved name)
-    to = back_at v o.id f fs (back_to state.saved name) (subst (λ fs. AreFrames v o.id fs (back_to state.saved name)) found (same_back v o.id name o.frames state.saved (its_frames v cells seats st j s there x role o one open_end opened text begun at refl (λ id ws. refl))))
+    to = back_at v o.id f fs (back_to state.saved name) (subst (λ fs. AreFrames o.id fs (back_to state.saved name)) found (same_back v o.id name o.frames state.saved (its_frames v cells seats st j s there x role o one open_end opened text begun at refl (λ id ws. refl))))
 
     -- the savepoint's tables are what undo by its counter gives
     undo : undone o.id to.c.seq state.tables ≡ to.c.tables
@@ -153,8 +155,8 @@ module _ (v : Server) (cells : List Cell) (seats : List SeatState) (st : StandTo
     kind : kind_of (v.meaning.reads text) ≡ to_savepoint
     kind = ap kind_of (v.real.reading text ∙ is)
 
-    abbrev sess : Sess
-    sess = (run first st.history).at d.runs.number
+    abbrev sess : SessionState
+    sess = (run first history).at d.runs.number
 
     in_old : (a : Text) (ls : List Line) (l : Line) → In a (map (λ l. l.0) ls) → In a (map (λ l. l.0) (ls ++ l ∷ []))
     in_old a [] l i = absurd i
@@ -165,16 +167,16 @@ module _ (v : Server) (cells : List Cell) (seats : List SeatState) (st : StandTo
       running = d.runs.now.running;
       transcript = d.runs.now.transcript;
       under = d.runs.now.under ∙ ap text_at at;
-      open_one = subst (λ (z : Option Deal). AreDeals z y y.open_one) (sym d.has) (record {
+      open_one = subst (λ (z : Option SessionTransaction). AreTransactions z y y.open_one) (sym d.has) (record {
         id = d.is.id;
         opened = d.is.opened;
         script = d.is.script;
         end = d.is.end;
         asked = λ u. each_weaker (λ a. a.1 ≡ true → In a.0 (texts_so_far x o)) (λ a. a.1 ≡ true → In a.0 (texts_so_far y p))
-            (λ a g e. in_old a.0 o.script (text, reply_text reply.Back) (subst (λ ls. In a.0 (map (λ l. l.0) ls)) (ap (λ (z : Place). o.script ++ lines_at z) at ∙ append-nil o.script) (g e))) d.deal.asked (d.is.asked u);
-        heard = heard_still x.place place d.deal.answered d.deal.asked (ap asking at) d.is.heard;
+            (λ a g e. in_old a.0 o.script (text, reply_text reply.Back) (subst (λ ls. In a.0 (map (λ l. l.0) ls)) (ap (λ (z : Place). o.script ++ lines_at z) at ∙ append-nil o.script) (g e))) d.transaction.asked (d.is.asked u);
+        heard = heard_still x.place place d.transaction.answered d.transaction.asked (ap asking at) d.is.heard;
       });
-      desk = goes_on v.meaning sess.desk sess.desk x y [] refl (sym (append-nil sess.desk.pending)) d.runs.now.desk
+      so_far = goes_on v.meaning sess.so_far sess.so_far x y [] refl (sym (append-nil sess.so_far.pending)) d.runs.now.so_far
           (from_at v.meaning x y (inside text begun) (Some o) [] at one refl (λ n i g. at_opened v.meaning n text o p begun (going_back f.seq (tables_visited o)) [] opened open_end refl opened open_end refl refl refl refl refl refl kind));
     }
 
@@ -226,15 +228,15 @@ module _ (v : Server) (cells : List Cell) (seats : List SeatState) (st : StandTo
         by_cell_before id l true g = undone_before o.id f.seq (c.versions id)
         by_cell_before id l false g = made_before o.id f.seq (c.versions id) (untouched_there id l g)
 
-    pub went_back : StandTogether v cells (slice_set seats j (sits s y))
-    went_back = alone_stands v cells seats st j s there _ _
+    pub went_back : Stands v history cells (slice_set seats j (sits s y))
+    went_back = alone_stands v cells seats st j s there _ history
         (keeps_turn v cells seats st j s there x role o one _ y p refl refl
         (keeps_said v cells seats st j s there x role o one open_end opened text begun at refl (λ id ws. refl) reply.Back (record { tables = to.c.tables; seq = to.c.seq; saved = to.c ∷ to.cs })
         (step_is v.reads o.opened o.id state text ∙ step) wants_none y p o.script refl refl refl refl refl refl refl counts to.frame.counter
         (trees_over v (λ id. events_in o.id id (versions_of to.c.tables id)) (λ id. events_in o.id id (counted o.id id place (c.versions id))) f.trees
         (λ id l. events_of_touched o.id id (versions_of to.c.tables id) ∙ ap (events_in o.id id) (sym (counts id l)) ∙ sym (events_of_touched o.id id (counted o.id id place (c.versions id)))) to.frame.trees)
         (to.frame, to.rest) (λ l. tt) tt (λ e. ap text_at at) (λ e. let no : true ≡ false = sym opened ∙ e in cc) back_still back_owes))
-        (plain_acts v st.ledger seats st.history st.transcripts_agree j s there x y role d.runs.number d.runs.is [] tt tt now (record { images = refl; moments = refl; earlier = refl }))
+        (nothing_added v history st.ledger _ (plain_acts v st.ledger seats history st.transcripts_agree j s there x y role d.runs.number d.runs.is [] tt tt now (record { images = refl; moments = refl; earlier = refl })))
 
   -- ---- it ends
 
@@ -250,7 +252,7 @@ module _ (v : Server) (cells : List Cell) (seats : List SeatState) (st : StandTo
     by_begin false n g = absurd g.1
 
     pub opened_by_begin : (o.opened ≡ true) × (kind_of (v.meaning.reads text) ≡ to_savepoint)
-    opened_by_begin = by_begin o.opened _ (fits_there _ d.runs.now.desk.fits)
+    opened_by_begin = by_begin o.opened _ (fits_there _ d.runs.now.so_far.fits)
 
     abbrev opened : o.opened ≡ true
     opened = opened_by_begin.0
@@ -258,12 +260,12 @@ module _ (v : Server) (cells : List Cell) (seats : List SeatState) (st : StandTo
     abbrev z : Session
     z = at_place (Some (saying line o)) (inside text (answering reply.Back None)) x
 
-    pub is_back_stands : StandTogether v cells (slice_set seats j (sits s z))
-    is_back_stands = alone_stands v cells seats st j s there _ _
+    pub is_back_stands : StandsAfter v j history (says line ∷ []) cells (slice_set seats j (sits s z))
+    is_back_stands = alone_after v cells seats st j s there _ _
         (keeps_turn v cells seats st j s there x role o one _ z (saying line o) refl refl
         (kept v cells seats st j s there x role o one z (o.script ++ line ∷ []) (ap (λ q. o.script ++ lines_at q) at ∙ sym (append-nil (o.script ++ line ∷ []))) (λ id ws. ap (λ q. counted o.id id q ws) at) (λ e f. let no : true ≡ false = sym opened ∙ e in cc) (λ e. ap text_at at) (λ l. tt) tt
         (bare v cells seats st j s there x role o one z (saying line o) tt (subst AddsNone (sym at) tt) (λ e. let no : true ≡ false = sym opened ∙ e in cc))))
-        (says_act v st.ledger seats st.history st.transcripts_agree j s there x role o one open_end (st.open_scripts j x o has open_end).alone line (λ a i. subst (λ q. In a (map (λ l. l.0) (o.script ++ lines_at q))) at i) (ap text_at at) (answering reply.Back None)
+        (says_act v st.ledger seats history st.transcripts_agree j s there x role o one open_end (st.open_scripts j x o has open_end).alone line (λ a i. subst (λ q. In a (map (λ l. l.0) (o.script ++ lines_at q))) at i) (ap text_at at) (answering reply.Back None)
         (from_at v.meaning x z (inside text (going_back seq [])) (Some o) (said line ∷ []) at one refl (λ n i f. at_opened v.meaning n text o (saying line o) (going_back seq []) (answering reply.Back None) (said line ∷ []) opened open_end refl opened open_end refl refl refl
         (ap (λ (q : Kind). shown_inside v.meaning q text (answering reply.Back None)) opened_by_begin.1 ∙ ap (λ w. said (text, w) ∷ []) (v.real.writes reply.Back)) refl refl
-        (savepoint_fits v.meaning n text o.id reply.Back opened_by_begin.1 (record { e01 = λ f. cc; e13 = λ f. cc; e14 = λ f. cc; e17 = λ f. cc })))))
+        (savepoint_fits v.meaning n text o.id reply.Back opened_by_begin.1 (record { e01 = λ f. cc; e13 = λ f. cc; e14 = λ f. cc; e17 = λ f. cc }))))) (says_owner _ _ _ _ _ _ _ _ _ _ _ _ _ _ _ _ _ _ _)

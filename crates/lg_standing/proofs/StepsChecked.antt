@@ -1,6 +1,6 @@
 -- A statement of rows is refused by what is checked before any row, over the definition that it found.
 use Rattle.lg_standing.proofs.SaidThere.{rows_replied}
-use Rattle.std.proofs.Common.{◌≡◌, ℕ, not, Bool, true, false, List, [], ◌∷◌, ◌++◌, map, Option, Some, None, Ok, Err, slice_set, refl, sym, ap, ◌∙◌, subst, inl, inr, ⊎_elim, append-nil, eqb-true, cond}
+use Rattle.std.proofs.Common.{◌≡◌, ℕ, not, Bool, true, false, List, [], ◌∷◌, ◌++◌, map, Option, Some, None, Ok, Err, slice_set, refl, sym, ap, ◌∙◌, subst, inl, inr, ⊎_elim, append-nil, eqb-true, cond, subst₂}
 use Rattle.std.specs.Prelude.{◌==◌, if◌then◌else◌}
 use mathlib.Core.Option.{some}
 use lib.ListN.{get_elem?}
@@ -30,7 +30,7 @@ use Rattle.lg_history.specs.Meaning.{Meaning}
 use Rattle.lg_history.specs.Transcripts.{Kind, rows, kind_of}
 use Rattle.lg_history.specs.Facts.{said, answer_facts}
 use Rattle.lg_history.specs.Transactions.{unfixed}
-use Rattle.lg_history.specs.Sessions.{Deal, Sess}
+use Rattle.lg_history.specs.Sessions.{SessionTransaction, SessionState}
 use Rattle.lg_history.specs.Worlds.{first, run}
 use Rattle.lg_history.specs.Guards.{IsAnswered}
 use Rattle.lg_history.proofs.Trace.{each_weaker}
@@ -38,25 +38,28 @@ use Rattle.lg_standing.specs.Server.{Server}
 use Rattle.lg_standing.specs.Cells.{Cell, catalog_at}
 use Rattle.lg_standing.specs.Contents.{Contents, Known, contents, known, HasAlone}
 use Rattle.lg_standing.specs.Answering.{error_of, defs_got, refused_by_check}
-use Rattle.lg_standing.specs.Desks.{end_shown, shown_with, FitsWith, Fits, EndsOwn}
+use Rattle.lg_standing.specs.TranscriptsSoFar.{end_shown, shown_with, FitsWith, Fits, EndsOwn}
 use Rattle.lg_standing.specs.Doing.{stage_after, done, with_line}
 use Rattle.lg_standing.specs.LocksCover.{HoldsCatalog, table_of, IsNamed, IsGotAt, LookedAt}
 use Rattle.lg_standing.specs.Moves.{saying, at_place, sits, StandsOpen, then_at}
 use Rattle.lg_standing.specs.OpenOnes.{HasOpen, text_at, lines_at, texts_so_far}
-use Rattle.lg_standing.specs.Parts.{IsHeard, AreDeals, IsNow}
+use Rattle.lg_standing.specs.Parts.{IsHeard, AreTransactions, IsNow}
 use Rattle.lg_standing.specs.Seats.{OpenTransaction, found, replied, answering, Place, inside, Session, session, SeatState}
-use Rattle.lg_standing.specs.StandTogether.{StandTogether}
+use Rattle.lg_standing.specs.StandTogether.{History, Stands, StandsAfter}
 use Rattle.lg_standing.specs.WantsIn.{of_catalog, wants_at, wants_in, Holds}
 use Rattle.lg_standing.proofs.AloneTurns.{alone_stands, keeps_turn}
 use Rattle.lg_standing.proofs.Deeds.{plain_acts}
-use Rattle.lg_standing.proofs.DeskActs.{goes_on}
-use Rattle.lg_standing.proofs.DeskStages.{from_at, fits_if, if_fits, at_opened}
-use Rattle.lg_standing.proofs.Ids.{Dealt, dealt}
+use Rattle.lg_standing.proofs.TranscriptActs.{goes_on}
+use Rattle.lg_standing.proofs.TranscriptStages.{from_at, fits_if, if_fits, at_opened}
+use Rattle.lg_standing.proofs.Ids.{InTransaction, in_transaction}
 use Rattle.lg_standing.proofs.InPlaces.{NoControl, within, controlled_inside, fits_own}
 use Rattle.lg_frames.proofs.PlainRefusals.{IsPlain, IsPlainReply, effect_reply}
 use Rattle.lg_standing.proofs.SaidMore.{X, its_versions, its_counter, its_trees, its_frames, keeps_bare, said_stands}
 use Rattle.lg_standing.proofs.ScriptMore.{step_is}
 use Rattle.lg_standing.proofs.StepsSaid.{done_is}
+use Rattle.lg_standing.specs.ActsOf.{checked_acts}
+use Rattle.lg_standing.proofs.GoesOn.{nothing_added, unacted}
+use Rattle.lg_history.specs.Acts.{says}
 
 -- ---- the check over the found definition alone
 
@@ -140,7 +143,7 @@ refusal_said q text code h = refl
 
 -- ---- the step
 
-module _ (v : Server) (cells : List Cell) (seats : List SeatState) (st : StandTogether v cells seats) (j : ℕ) (s : SeatState) (there : get_elem? seats j ≡ some s) (o : OpenTransaction) (at : StandsOpen v s o) (named : Option Named) (fresh : Bool) (r : Refusal)
+module _ (v : Server) (cells : List Cell) (seats : List SeatState) {history : History} (st : Stands v history cells seats) (j : ℕ) (s : SeatState) (there : get_elem? seats j ≡ some s) (o : OpenTransaction) (at : StandsOpen v s o) (named : Option Named) (fresh : Bool) (r : Refusal)
     (stage : at.stands.stage ≡ found named fresh) (is : refused_by_check named at.stands.stmt ≡ Some r) where
   abbrev x : Session
   x = at.stands.x
@@ -205,12 +208,12 @@ module _ (v : Server) (cells : List Cell) (seats : List SeatState) (st : StandTo
     same_defs : defs_of state.tables ≡ defs_of k.tables
     same_defs = ap (λ z. defs_of (script v.reads z k.tables o.id (map (λ l. l.0) o.script)).state.tables) opened ∙ (opened_keep_defs v.reads k.tables o.id (map (λ l. l.0) o.script)).tables
 
-    opened_checked : StandTogether v cells (slice_set seats j (sits s (at_place (Some (saying (text, reply_text a) o)) (inside text (answering a None)) x)))
+    opened_checked : StandsAfter v j history (says (text, reply_text a) ∷ []) cells (slice_set seats j (sits s (at_place (Some (saying (text, reply_text a) o)) (inside text (answering a None)) x)))
     opened_checked = said_stands v cells seats st j s there x role o one open_end opened text (found named fresh) place refl (λ id ws. refl) opened a state
         (step_is v.reads o.opened o.id state text ∙ ap (by_statement o.opened o.id state) at.stands.is ∙ so.0.step o.opened o.id state same_defs) covers (saying (text, reply_text a) o) refl refl refl refl refl refl refl
         (its_counter v cells seats st j s there x role o one open_end opened text (found named fresh) place refl (λ id ws. refl)) refl (its_frames v cells seats st j s there x role o one open_end opened text (found named fresh) place refl (λ id ws. refl)) refl tt
         (from_at v.meaning x _ (inside text (found named fresh)) (Some o) (said (text, reply_text a) ∷ []) place one refl (λ n i f. at_opened v.meaning n text o (saying (text, reply_text a) o) (found named fresh) (answering a None) (said (text, reply_text a) ∷ []) opened open_end refl opened open_end refl refl refl
-        (ap (λ (z : Kind). Rattle.lg_standing.specs.Desks.shown_inside v.meaning z text (answering a None)) kind ∙ refusal_said v.meaning text r plain ∙ ap (λ w. said (text, w) ∷ []) (v.real.writes a)) refl refl
+        (ap (λ (z : Kind). Rattle.lg_standing.specs.TranscriptsSoFar.shown_inside v.meaning z text (answering a None)) kind ∙ refusal_said v.meaning text r plain ∙ ap (λ w. said (text, w) ∷ []) (v.real.writes a)) refl refl
         (within v.meaning n text a o.id rows None kind refl (controlled_inside n a (no_control r plain) o.id rows refl refl) tt)))
 
   -- in one of its own
@@ -227,34 +230,34 @@ module _ (v : Server) (cells : List Cell) (seats : List SeatState) (st : StandTo
     abbrev y : Session
     y = at_place (Some o) (inside text (replied a)) x
 
-    d : Dealt v.meaning st.history (st.transcripts_agree.of_seat j) x o
-    d = dealt v st.history st.ledger seats st.transcripts_agree j x o has
+    d : InTransaction v.meaning history (st.transcripts_agree.of_seat j) x o
+    d = in_transaction v history st.ledger seats st.transcripts_agree j x o has
 
-    abbrev sess : Sess
-    sess = (run first st.history).at d.runs.number
+    abbrev sess : SessionState
+    sess = (run first history).at d.runs.number
 
     in_old : (t : Text) (ls : List Line) (l : Line) → In t (map (λ l. l.0) ls) → In t (map (λ l. l.0) (ls ++ l ∷ []))
     in_old t [] l i = absurd i
     in_old t (m ∷ ls) l i = ⊎_elim (λ e. inl e) (λ e. inr (in_old t ls l e)) i
 
-    heard : (b : Text × Bool) → IsHeard (inside text (found named fresh)) d.deal.answered b → IsHeard y.place d.deal.answered b
-    heard b h = ⊎_elim (λ (g : IsAnswered d.deal.answered b). inl g) (λ (g : In b ((text, false) ∷ [])). inr (⊎_elim (λ e. inl e) (λ (e : ⊥). absurd e) g)) h
+    heard : (b : Text × Bool) → IsHeard (inside text (found named fresh)) d.transaction.answered b → IsHeard y.place d.transaction.answered b
+    heard b h = ⊎_elim (λ (g : IsAnswered d.transaction.answered b). inl g) (λ (g : In b ((text, false) ∷ [])). inr (⊎_elim (λ e. inl e) (λ (e : ⊥). absurd e) g)) h
 
     now : IsNow v.meaning sess y
     now = record {
       running = d.runs.now.running;
       transcript = d.runs.now.transcript;
       under = d.runs.now.under ∙ ap text_at place;
-      open_one = subst (λ (z : Option Deal). AreDeals z y y.open_one) (sym d.has) (record {
+      open_one = subst (λ (z : Option SessionTransaction). AreTransactions z y y.open_one) (sym d.has) (record {
         id = d.is.id;
         opened = d.is.opened;
         script = d.is.script;
         end = d.is.end;
         asked = λ u. each_weaker (λ b. b.1 ≡ true → In b.0 (texts_so_far x o)) (λ b. b.1 ≡ true → In b.0 (texts_so_far y o))
-            (λ b g e. in_old b.0 o.script (text, reply_text a) (subst (λ ls. In b.0 (map (λ l. l.0) ls)) (ap (λ (z : Place). o.script ++ lines_at z) place ∙ append-nil o.script) (g e))) d.deal.asked (d.is.asked u);
-        heard = each_weaker (IsHeard (inside text (found named fresh)) d.deal.answered) (IsHeard y.place d.deal.answered) heard d.deal.asked (subst (λ p. Each (IsHeard p d.deal.answered) d.deal.asked) place d.is.heard);
+            (λ b g e. in_old b.0 o.script (text, reply_text a) (subst (λ ls. In b.0 (map (λ l. l.0) ls)) (ap (λ (z : Place). o.script ++ lines_at z) place ∙ append-nil o.script) (g e))) d.transaction.asked (d.is.asked u);
+        heard = each_weaker (IsHeard (inside text (found named fresh)) d.transaction.answered) (IsHeard y.place d.transaction.answered) heard d.transaction.asked (subst (λ p. Each (IsHeard p d.transaction.answered) d.transaction.asked) place d.is.heard);
       });
-      desk = goes_on v.meaning sess.desk sess.desk x y [] refl (sym (append-nil sess.desk.pending)) d.runs.now.desk
+      so_far = goes_on v.meaning sess.so_far sess.so_far x y [] refl (sym (append-nil sess.so_far.pending)) d.runs.now.so_far
           (from_at v.meaning x y (inside text (found named fresh)) (Some o) [] place one refl (λ n i f. let g = fits_if v.meaning n text (found named fresh) o false own f in record {
             shown = append-nil _ ∙ (λ i. shown_with v.meaning (own i) o.id text (found named fresh) ++ end_shown o.end) ∙ (λ i. shown_with v.meaning (sym own i) o.id text (replied a) ++ end_shown o.end);
             before = refl;
@@ -263,8 +266,8 @@ module _ (v : Server) (cells : List Cell) (seats : List SeatState) (st : StandTo
           }));
     }
 
-    own_checked : StandTogether v cells (slice_set seats j (sits s y))
-    own_checked = alone_stands v cells seats st j s there _ _
+    own_checked : Stands v history cells (slice_set seats j (sits s y))
+    own_checked = alone_stands v cells seats st j s there _ history
         (keeps_turn v cells seats st j s there x role o one _ y o refl refl
         (keeps_bare v cells seats st j s there x role o one open_end own text (found named fresh) place refl (λ id ws. refl) a own_state
         (step_is v.reads o.opened o.id own_state text ∙ ap (by_statement o.opened o.id own_state) at.stands.is ∙ so.0.step o.opened o.id own_state own_defs) covers
@@ -273,11 +276,11 @@ module _ (v : Server) (cells : List Cell) (seats : List SeatState) (st : StandTo
         (its_trees v cells seats st j s there x role o one open_end own text (found named fresh) place refl (λ id ws. refl))
         (its_frames v cells seats st j s there x role o one open_end own text (found named fresh) place refl (λ id ws. refl))
         (λ l. rows_replied k.tables (v.reads text) (ap kind_of at.stands.is ∙ so.1)) tt (λ e. ap text_at place) (λ e. none) tt (λ e f. tt) refl refl tt))
-        (plain_acts v st.ledger seats st.history st.transcripts_agree j s there x y role d.runs.number d.runs.is [] tt tt now (record { images = refl; moments = refl; earlier = refl }))
+        (nothing_added v history st.ledger _ (plain_acts v st.ledger seats history st.transcripts_agree j s there x y role d.runs.number d.runs.is [] tt tt now (record { images = refl; moments = refl; earlier = refl })))
 
-  pub checked_stands : StandTogether v cells (slice_set seats j (done s at.stands o a))
+  pub checked_stands : StandsAfter v j history (checked_acts o.opened text a) cells (slice_set seats j (done s at.stands o a))
   checked_stands = by_opened o.opened refl
     where
-      by_opened : (b : Bool) → o.opened ≡ b → StandTogether v cells (slice_set seats j (done s at.stands o a))
-      by_opened true e = subst (λ t. StandTogether v cells (slice_set seats j t)) (sym (done_is v s at.stands o a e)) (opened_checked e)
-      by_opened false e = subst (λ t. StandTogether v cells (slice_set seats j t)) (λ i. then_at s at.stands (Some (record { id = o.id; opened = o.opened; script = with_line (sym e i) (text, reply_text a) o.script; seq = o.seq; trees = o.trees; frames = o.frames; end = o.end; visited = o.visited; released = o.released })) (stage_after (sym e i) a)) (own_checked e)
+      by_opened : (b : Bool) → o.opened ≡ b → StandsAfter v j history (checked_acts o.opened text a) cells (slice_set seats j (done s at.stands o a))
+      by_opened true e = subst₂ (λ (z : Bool) (t : SeatState). StandsAfter v j history (checked_acts z text a) cells (slice_set seats j t)) (sym e) (sym (done_is v s at.stands o a e)) (opened_checked e)
+      by_opened false e = subst₂ (λ (z : Bool) (t : SeatState). StandsAfter v j history (checked_acts z text a) cells (slice_set seats j t)) (sym e) (λ i. then_at s at.stands (Some (record { id = o.id; opened = o.opened; script = with_line (sym e i) (text, reply_text a) o.script; seq = o.seq; trees = o.trees; frames = o.frames; end = o.end; visited = o.visited; released = o.released })) (stage_after (sym e i) a)) (unacted v (own_checked e))

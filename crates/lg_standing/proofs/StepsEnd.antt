@@ -13,7 +13,7 @@ use Rattle.lg_history.specs.Transcripts.{EndLine, Entry, statement, end_of_sessi
 use Rattle.lg_history.specs.Facts.{Fact, over, open_after, open_at_end}
 use Rattle.lg_history.specs.Transactions.{End, unfixed, committed, ended}
 use Rattle.lg_history.specs.Acts.{frees, answers, stops, by}
-use Rattle.lg_history.specs.Sessions.{Deal, Sess, acted}
+use Rattle.lg_history.specs.Sessions.{SessionTransaction, SessionState, acted}
 use Rattle.lg_history.specs.Worlds.{World, first, run, step}
 use Rattle.lg_history.specs.Guards.{Fixed, images_of, Answers, AtRest, Frees}
 use Rattle.lg_standing.specs.Server.{Server}
@@ -21,20 +21,20 @@ use Rattle.lg_standing.specs.Cells.{Cell, catalog_at}
 use Rattle.lg_standing.specs.Contents.{Contents, Known, contents, known}
 use Rattle.lg_standing.specs.Answering.{end_line, with_entry}
 use Rattle.lg_standing.specs.Alone.{over as session_over, IsReleased}
-use Rattle.lg_standing.specs.Desks.{image_at, shown_at, open_before, Fits}
+use Rattle.lg_standing.specs.TranscriptsSoFar.{image_at, shown_at, open_before, Fits}
 use Rattle.lg_standing.specs.Moves.{sits}
 use Rattle.lg_standing.specs.OpenOnes.{HasOpen, text_at}
-use Rattle.lg_standing.specs.Parts.{asking, AreDeals}
+use Rattle.lg_standing.specs.Parts.{asking, AreTransactions}
 use Rattle.lg_standing.specs.Seats.{OpenTransaction, answering, between, inside, leaving, idle, Session, session, SeatState}
-use Rattle.lg_standing.specs.StandTogether.{StandTogether}
-use Rattle.lg_standing.proofs.AloneTurns.{alone_stands}
-use Rattle.lg_standing.proofs.Deeds.{IsPlain, at_after, plain_acts}
+use Rattle.lg_standing.specs.StandTogether.{History, Stands, StandsAfter}
+use Rattle.lg_standing.proofs.AloneTurns.{alone_stands, alone_after}
+use Rattle.lg_standing.proofs.Deeds.{IsPlain, at_after, plain_acts, plain_owner}
 use Rattle.lg_standing.proofs.DigestsStand.{no_turn}
 use Rattle.lg_standing.proofs.Entries.{open_snoc, Pays, line_is, pays_end_at, pays_leaving}
 use Rattle.lg_standing.proofs.Heard.{heard_all}
-use Rattle.lg_standing.proofs.Ids.{each_in, Running, running, Dealt, dealt}
+use Rattle.lg_standing.proofs.Ids.{each_in, Running, running, InTransaction, in_transaction}
 use Rattle.lg_standing.proofs.OpenSeats.{Own, owns_none, owns_one, one_open}
-use Rattle.lg_standing.proofs.Overs.{over_agrees}
+use Rattle.lg_standing.proofs.Overs.{over_agrees, over_owner}
 use Rattle.lg_standing.proofs.StepsTake.{plain_answer, paid, written}
 use Rattle.lg_standing.proofs.Turns.{Turns}
 
@@ -49,11 +49,11 @@ is_fixed o unfixed line e = cc
 is_fixed o (committed n) line e = tt
 is_fixed o (ended n back) line e = tt
 
-none_deal : (z : Option Deal) (x : Session) → AreDeals z x None → z ≡ None
-none_deal None x e = refl
-none_deal (Some d) x e = absurd e
+none_transaction : (z : Option SessionTransaction) (x : Session) → AreTransactions z x None → z ≡ None
+none_transaction None x e = refl
+none_transaction (Some d) x e = absurd e
 
-module _ (v : Server) (cells : List Cell) (seats : List SeatState) (st : StandTogether v cells seats) (j : ℕ) (s : SeatState) (there : get_elem? seats j ≡ some s) (x : Session) (role : s.role ≡ session x) where
+module _ (v : Server) (cells : List Cell) (seats : List SeatState) {history : History} (st : Stands v history cells seats) (j : ℕ) (s : SeatState) (there : get_elem? seats j ≡ some s) (x : Session) (role : s.role ≡ session x) where
   abbrev c : Contents
   c = contents cells
 
@@ -63,26 +63,26 @@ module _ (v : Server) (cells : List Cell) (seats : List SeatState) (st : StandTo
   -- ---- where none is open the session stops
 
   module _ (at : x.place ≡ between) (free : x.open_one ≡ None) where
-    r : Running v.meaning st.history (st.transcripts_agree.of_seat j) x
-    r = running v st.history st.ledger seats st.transcripts_agree j s x there role
+    r : Running v.meaning history (st.transcripts_agree.of_seat j) x
+    r = running v history st.ledger seats st.transcripts_agree j s x there role
 
-    abbrev sess : Sess
-    sess = (run first st.history).at r.number
+    abbrev sess : SessionState
+    sess = (run first history).at r.number
 
     rests : AtRest sess
     rests = record {
       idle = r.now.under ∙ ap text_at at;
-      shown = r.now.desk.pending ∙ (λ i. shown_at v.meaning (at i) x.open_one);
-      none_open = r.now.desk.open_before ∙ (λ i. open_before v.meaning (at i) (free i));
-      free = none_deal sess.deal x (subst (AreDeals sess.deal x) free r.now.open_one);
+      shown = r.now.so_far.pending ∙ (λ i. shown_at v.meaning (at i) x.open_one);
+      none_open = r.now.so_far.open_before ∙ (λ i. open_before v.meaning (at i) (free i));
+      free = none_transaction sess.transaction x (subst (AreTransactions sess.transaction x) free r.now.open_one);
     }
 
     owns_nothing : (z : Session) (u : OpenTransaction) → Own (session_over x s) z u → ⊥
     owns_nothing z u w = let f : idle ≡ session z = w.role in cc
 
-    pub stopped : StandTogether v cells (slice_set seats j (session_over x s))
-    stopped = alone_stands v cells seats st j s there (session_over x s) _ (no_turn v c k st.catalog.defs s (session_over x s) (owns_none s x role free) owns_nothing)
-        (over_agrees v st.ledger seats st.history st.transcripts_agree j s there x x role r.number r.is (stops ∷ []) (plain_stop, tt) ((r.now.running, rests), tt) refl r.now.transcript (record { images = refl; moments = refl; earlier = refl }))
+    pub stopped : StandsAfter v j history (stops ∷ []) cells (slice_set seats j (session_over x s))
+    stopped = alone_after v cells seats st j s there (session_over x s) _ (no_turn v c k st.catalog.defs s (session_over x s) (owns_none s x role free) owns_nothing)
+        (over_agrees v st.ledger seats history st.transcripts_agree j s there x x role r.number r.is (stops ∷ []) (plain_stop, tt) ((r.now.running, rests), tt) refl r.now.transcript (record { images = refl; moments = refl; earlier = refl })) (over_owner _ _ _ _ _ _ _ _ _ _ _ _ _ _ _ _ _ _ _)
 
   -- ---- a transaction that holds nothing any more
 
@@ -111,26 +111,26 @@ module _ (v : Server) (cells : List Cell) (seats : List SeatState) (st : StandTo
       owes = λ z u w. absurd (free z u w);
     }
 
-    d : Dealt v.meaning st.history (st.transcripts_agree.of_seat j) x o
-    d = dealt v st.history st.ledger seats st.transcripts_agree j x o has
+    d : InTransaction v.meaning history (st.transcripts_agree.of_seat j) x o
+    d = in_transaction v history st.ledger seats st.transcripts_agree j x o has
 
     abbrev n : ℕ
     n = d.runs.number
 
     abbrev w0 : World
-    w0 = run first st.history
+    w0 = run first history
 
-    abbrev old : Sess
+    abbrev old : SessionState
     old = w0.at n
 
-    abbrev freed : Sess
+    abbrev freed : SessionState
     freed = acted old frees
 
     w1_at : (step w0 (by n frees)).at n ≡ freed
     w1_at = at_after w0 n frees
 
     frees_ok : asking x.place ≡ [] → Frees v.meaning old
-    frees_ok none = record { mine = d.deal; running = d.runs.now.running; has = d.has; fixed = subst Fixed (sym d.is.end) (is_fixed o o.end line is); all_answered = heard_all x.place d.deal.answered d.deal.asked none d.is.heard }
+    frees_ok none = record { mine = d.transaction; running = d.runs.now.running; has = d.has; fixed = subst Fixed (sym d.is.end) (is_fixed o o.end line is); all_answered = heard_all x.place d.transaction.answered d.transaction.asked none d.is.heard }
 
     -- the answer of a statement
     module _ (text : Text) (a : Reply) (def : Option TableDef) (at : x.place ≡ inside text (answering a def)) where
@@ -146,27 +146,27 @@ module _ (v : Server) (cells : List Cell) (seats : List SeatState) (st : StandTo
       abbrev shown : List Fact
       shown = shown_at v.meaning (inside text (answering a def)) (Some o) ++ over ∷ []
 
-      opens : open_at_end None old.desk.entries ≡ before
-      opens = d.runs.now.desk.open_before ∙ (λ i. open_before v.meaning (at i) (one i))
+      opens : open_at_end None old.so_far.entries ≡ before
+      opens = d.runs.now.so_far.open_before ∙ (λ i. open_before v.meaning (at i) (one i))
 
-      pays : Pays v.meaning (images_of 0 old.desk.entries) before shown e None
-      pays = pays_end_at v.meaning (images_of 0 old.desk.entries) text a def o line is (subst (λ p. Fits v.meaning (images_of 0 old.desk.entries) p (Some o)) at (subst (Fits v.meaning (images_of 0 old.desk.entries) x.place) one d.runs.now.desk.fits))
+      pays : Pays v.meaning (images_of 0 old.so_far.entries) before shown e None
+      pays = pays_end_at v.meaning (images_of 0 old.so_far.entries) text a def o line is (subst (λ p. Fits v.meaning (images_of 0 old.so_far.entries) p (Some o)) at (subst (Fits v.meaning (images_of 0 old.so_far.entries) x.place) one d.runs.now.so_far.fits))
 
       guard : Answers v.meaning freed e
-      guard = paid v freed x y e None shown d.runs.now.running d.runs.now.desk.statements (d.runs.now.under ∙ ap text_at at) before opens (ap (λ (l : List Fact). l ++ over ∷ []) (d.runs.now.desk.pending ∙ (λ i. shown_at v.meaning (at i) (one i)))) pays
+      guard = paid v freed x y e None shown d.runs.now.running d.runs.now.so_far.statements (d.runs.now.under ∙ ap text_at at) before opens (ap (λ (l : List Fact). l ++ over ∷ []) (d.runs.now.so_far.pending ∙ (λ i. shown_at v.meaning (at i) (one i)))) pays
 
-      pub answered_end : StandTogether v cells (slice_set seats j (sits s y))
-      answered_end = alone_stands v cells seats st j s there (sits s y) _ (released_turn (sits s y) (owns_none (sits s y) y refl refl))
-          (plain_acts v st.ledger seats st.history st.transcripts_agree j s there x y role n d.runs.is (frees ∷ answers e ∷ []) (plain_free, (plain_answer e, tt))
+      pub answered_end : StandsAfter v j history (frees ∷ answers e ∷ []) cells (slice_set seats j (sits s y))
+      answered_end = alone_after v cells seats st j s there (sits s y) _ (released_turn (sits s y) (owns_none (sits s y) y refl refl))
+          (plain_acts v st.ledger seats history st.transcripts_agree j s there x y role n d.runs.is (frees ∷ answers e ∷ []) (plain_free, (plain_answer e, tt))
           (frees_ok (ap asking at), (subst (λ z. Answers v.meaning z e) (sym w1_at) guard, tt))
           (record {
             running = d.runs.now.running;
             transcript = ap (λ (t : Transcript). record { session = t.session; entries = t.entries ++ e ∷ [] }) d.runs.now.transcript;
             under = refl;
             open_one = tt;
-            desk = written v freed x y e None shown (acted freed (answers e)).desk refl refl d.runs.now.desk.statements tt before opens pays refl refl ((λ i. images_of 0 old.desk.entries + image_at (sym at i)) ∙ d.runs.now.desk.images);
+            so_far = written v freed x y e None shown (acted freed (answers e)).so_far refl refl d.runs.now.so_far.statements tt before opens pays refl refl ((λ i. images_of 0 old.so_far.entries + image_at (sym at i)) ∙ d.runs.now.so_far.images);
           })
-          (record { images = refl; moments = refl; earlier = refl }))
+          (record { images = refl; moments = refl; earlier = refl })) (plain_owner _ _ _ _ _ _ _ _ _ _ _ _ _ _ _ _ _ _)
 
     -- the session's end
     module _ (at : x.place ≡ leaving) where
@@ -176,26 +176,26 @@ module _ (v : Server) (cells : List Cell) (seats : List SeatState) (st : StandTo
       abbrev z : Session
       z = with_entry last None between x
 
-      fits_there : Fits v.meaning (images_of 0 old.desk.entries) leaving (Some o)
-      fits_there = subst (λ p. Fits v.meaning (images_of 0 old.desk.entries) p (Some o)) at (subst (Fits v.meaning (images_of 0 old.desk.entries) x.place) one d.runs.now.desk.fits)
+      fits_there : Fits v.meaning (images_of 0 old.so_far.entries) leaving (Some o)
+      fits_there = subst (λ p. Fits v.meaning (images_of 0 old.so_far.entries) p (Some o)) at (subst (Fits v.meaning (images_of 0 old.so_far.entries) x.place) one d.runs.now.so_far.fits)
 
-      opens_there : open_at_end None old.desk.entries ≡ Some o.id
-      opens_there = d.runs.now.desk.open_before ∙ (λ i. open_before v.meaning (at i) (one i)) ∙ (λ i. if fits_there.0 i then Some o.id else None)
+      opens_there : open_at_end None old.so_far.entries ≡ Some o.id
+      opens_there = d.runs.now.so_far.open_before ∙ (λ i. open_before v.meaning (at i) (one i)) ∙ (λ i. if fits_there.0 i then Some o.id else None)
 
-      pays_there : Pays v.meaning (images_of 0 old.desk.entries) (Some o.id) (shown_at v.meaning leaving (Some o) ++ over ∷ []) last None
-      pays_there = pays_leaving v.meaning (images_of 0 old.desk.entries) o.id o.end line (sym (line_is v.meaning o o.end) ∙ is) fits_there.1
+      pays_there : Pays v.meaning (images_of 0 old.so_far.entries) (Some o.id) (shown_at v.meaning leaving (Some o) ++ over ∷ []) last None
+      pays_there = pays_leaving v.meaning (images_of 0 old.so_far.entries) o.id o.end line (sym (line_is v.meaning o o.end) ∙ is) fits_there.1
 
       guard_there : Answers v.meaning freed last
-      guard_there = paid v freed x z last None (shown_at v.meaning leaving (Some o) ++ over ∷ []) d.runs.now.running d.runs.now.desk.statements (d.runs.now.under ∙ ap text_at at) (Some o.id) opens_there (ap (λ (l : List Fact). l ++ over ∷ []) (d.runs.now.desk.pending ∙ (λ i. shown_at v.meaning (at i) (one i)))) pays_there
+      guard_there = paid v freed x z last None (shown_at v.meaning leaving (Some o) ++ over ∷ []) d.runs.now.running d.runs.now.so_far.statements (d.runs.now.under ∙ ap text_at at) (Some o.id) opens_there (ap (λ (l : List Fact). l ++ over ∷ []) (d.runs.now.so_far.pending ∙ (λ i. shown_at v.meaning (at i) (one i)))) pays_there
 
-      abbrev done : Sess
+      abbrev done : SessionState
       done = acted freed (answers last)
 
       rests_there : AtRest done
       rests_there = record {
         idle = refl;
         shown = refl;
-        none_open = open_snoc None old.desk.entries last ∙ ap (λ (b : Option ℕ). open_after b last) opens_there ∙ pays_there.after;
+        none_open = open_snoc None old.so_far.entries last ∙ ap (λ (b : Option ℕ). open_after b last) opens_there ∙ pays_there.after;
         free = refl;
       }
 
@@ -205,10 +205,10 @@ module _ (v : Server) (cells : List Cell) (seats : List SeatState) (st : StandTo
       owns_no_one : (y : Session) (u : OpenTransaction) → Own (session_over z s) y u → ⊥
       owns_no_one y u w = let f : idle ≡ session y = w.role in cc
 
-      pub left : StandTogether v cells (slice_set seats j (session_over z s))
-      left = alone_stands v cells seats st j s there (session_over z s) _ (released_turn (session_over z s) owns_no_one)
-          (over_agrees v st.ledger seats st.history st.transcripts_agree j s there x z role n d.runs.is (frees ∷ answers last ∷ stops ∷ []) (plain_free, (plain_answer last, (plain_stop, tt)))
+      pub left : StandsAfter v j history (frees ∷ answers last ∷ stops ∷ []) cells (slice_set seats j (session_over z s))
+      left = alone_after v cells seats st j s there (session_over z s) _ (released_turn (session_over z s) owns_no_one)
+          (over_agrees v st.ledger seats history st.transcripts_agree j s there x z role n d.runs.is (frees ∷ answers last ∷ stops ∷ []) (plain_free, (plain_answer last, (plain_stop, tt)))
           (frees_ok (ap asking at), (subst (λ y. Answers v.meaning y last) (sym w1_at) guard_there, (((ap (λ y. y.phase) w2_at ∙ d.runs.now.running), subst AtRest (sym w2_at) rests_there), tt)))
           refl
           (ap (λ (t : Transcript). record { session = t.session; entries = t.entries ++ last ∷ [] }) d.runs.now.transcript)
-          (record { images = refl; moments = refl; earlier = refl }))
+          (record { images = refl; moments = refl; earlier = refl })) (over_owner _ _ _ _ _ _ _ _ _ _ _ _ _ _ _ _ _ _ _)

@@ -1,10 +1,10 @@
 -- A seat takes up the builder's part, or lays it down; a session begins.
-use Rattle.std.proofs.Common.{◌≡◌, ◌≢◌, ℕ, List, [], ◌++◌, flat_map, Option, Some, None, slice_set, refl, sym, ap, ◌∙◌, subst, ⊎_elim}
+use Rattle.std.proofs.Common.{◌≡◌, ◌≢◌, ℕ, List, [], ◌++◌, flat_map, Option, Some, None, slice_set, refl, sym, ap, ◌∙◌, subst, ⊎_elim, ◌∷◌}
 use Rattle.std.proofs.lemmas.Bool.{cases_eq}
 use mathlib.Core.Option.{some, some-injective}
 use lib.ListN.{get_elem?}
 use Rattle.lg_history.specs.Lists.{Text, Each, In}
-use Rattle.lg_history.specs.Acts.{Event}
+use Rattle.lg_history.specs.Acts.{Act, starts}
 use Rattle.lg_history.proofs.Trace.{each_weaker}
 use Rattle.lg_standing.specs.Server.{Server}
 use Rattle.lg_standing.specs.Cells.{LedgerCell, Cell}
@@ -13,10 +13,10 @@ use Rattle.lg_standing.specs.Alone.{new_session, with_role}
 use Rattle.lg_standing.specs.Moves.{sits}
 use Rattle.lg_standing.specs.Parts.{all_of, Now}
 use Rattle.lg_standing.specs.Seats.{OpenTransaction, Session, Written, Role, idle, session, builder, SeatState}
-use Rattle.lg_standing.specs.StandTogether.{StandTogether}
+use Rattle.lg_standing.specs.StandTogether.{History, Stands, StandsAfter}
 use Rattle.lg_standing.specs.TranscriptsAgree.{session_moments, moments_of, IsMoment, ImagesNow, SeatAgrees, TranscriptsAgree}
-use Rattle.lg_standing.proofs.AloneTurns.{alone_stands}
-use Rattle.lg_standing.proofs.Begins.{begin_agrees}
+use Rattle.lg_standing.proofs.AloneTurns.{alone_stands, alone_after}
+use Rattle.lg_standing.proofs.Begins.{begin_agrees, begin_owner}
 use Rattle.lg_standing.proofs.DigestsStand.{no_turn}
 use Rattle.lg_standing.proofs.OpenSeats.{Own}
 use Rattle.lg_standing.proofs.Places.{at_set, set_here, set_else}
@@ -26,7 +26,7 @@ abbrev pub Rests : Role → Type 0
 Rests (session x) = ⊥
 Rests _ = Unit {0}
 
-now_rests : (v : Server) (h : List Event) (o : Option ℕ) (a b : Role) → Rests a → Rests b → Now h v.meaning o a → Now h v.meaning o b
+now_rests : (v : Server) (h : List Act) (o : Option ℕ) (a b : Role) → Rests a → Rests b → Now h v.meaning o a → Now h v.meaning o b
 now_rests v h None idle idle r t p = tt
 now_rests v h None idle builder r t p = tt
 now_rests v h None builder idle r t p = tt
@@ -36,7 +36,7 @@ now_rests v h o a (session x) r t p = absurd t
 now_rests v h (Some n) idle b r t p = absurd p
 now_rests v h (Some n) builder b r t p = absurd p
 
-images_rest : (v : Server) (h : List Event) (c : LedgerCell) (o : Option ℕ) (b : Role) → Rests b → ImagesNow v h c o b
+images_rest : (v : Server) (h : List Act) (c : LedgerCell) (o : Option ℕ) (b : Role) → Rests b → ImagesNow v h c o b
 images_rest v h c None b r = tt
 images_rest v h c (Some n) idle r = tt
 images_rest v h c (Some n) builder r = tt
@@ -55,33 +55,33 @@ owns_nothing s a e r z u w = by_role a r (sym e ∙ w.role)
     by_role builder r f = cc
     by_role (session x) r f = absurd r
 
-module _ (v : Server) (cells : List Cell) (seats : List SeatState) (st : StandTogether v cells seats) (j : ℕ) (s : SeatState) (there : get_elem? seats j ≡ some s) (a b : Role) (role : s.role ≡ a) (rests : Rests a) (rests_then : Rests b) where
+module _ (v : Server) (cells : List Cell) (seats : List SeatState) {history : History} (st : Stands v history cells seats) (j : ℕ) (s : SeatState) (there : get_elem? seats j ≡ some s) (a b : Role) (role : s.role ≡ a) (rests : Rests a) (rests_then : Rests b) where
   abbrev t : SeatState
   t = with_role b s
 
   abbrev after : List SeatState
   after = slice_set seats j t
 
-  abbrev agree : TranscriptsAgree v st.history st.ledger seats
+  abbrev agree : TranscriptsAgree v history st.ledger seats
   agree = st.transcripts_agree
 
-  was : SeatAgrees v st.history st.ledger (agree.of_seat j) s
+  was : SeatAgrees v history st.ledger (agree.of_seat j) s
   was = agree.agree j s there
 
-  seat_then : SeatAgrees v st.history st.ledger (agree.of_seat j) t
+  seat_then : SeatAgrees v history st.ledger (agree.of_seat j) t
   seat_then = record {
-    sessions = record { differ = was.sessions.differ; past = was.sessions.past; now = now_rests v st.history (agree.of_seat j).now a b rests rests_then (subst (Now st.history v.meaning (agree.of_seat j).now) role was.sessions.now); earlier = was.sessions.earlier };
+    sessions = record { differ = was.sessions.differ; past = was.sessions.past; now = now_rests v history (agree.of_seat j).now a b rests rests_then (subst (Now history v.meaning (agree.of_seat j).now) role was.sessions.now); earlier = was.sessions.earlier };
     database = was.database;
     block_size = was.block_size;
     marks = was.marks;
     greatest = was.greatest;
     past_images = was.past_images;
-    images = images_rest v st.history st.ledger (agree.of_seat j).now b rests_then;
+    images = images_rest v history st.ledger (agree.of_seat j).now b rests_then;
   }
 
-  all_seats : (k : ℕ) (u : SeatState) → get_elem? after k ≡ some u → SeatAgrees v st.history st.ledger (agree.of_seat k) u
+  all_seats : (k : ℕ) (u : SeatState) → get_elem? after k ≡ some u → SeatAgrees v history st.ledger (agree.of_seat k) u
   all_seats k u e = ⊎_elim
-      (λ (f : (k ≡ j) × (t ≡ u)). subst (λ (w : SeatState). SeatAgrees v st.history st.ledger (agree.of_seat k) w) f.1 (subst (λ (i : ℕ). SeatAgrees v st.history st.ledger (agree.of_seat i) t) (sym f.0) seat_then))
+      (λ (f : (k ≡ j) × (t ≡ u)). subst (λ (w : SeatState). SeatAgrees v history st.ledger (agree.of_seat k) w) f.1 (subst (λ (i : ℕ). SeatAgrees v history st.ledger (agree.of_seat i) t) (sym f.0) seat_then))
       (λ (f : (k ≢ j) × (get_elem? seats k ≡ some u)). agree.agree k u f.1)
       (at_set seats j k t u e)
 
@@ -106,7 +106,7 @@ module _ (v : Server) (cells : List Cell) (seats : List SeatState) (st : StandTo
       (λ (f : e.j ≢ j). record { j = e.j; seat = e.seat; there = set_else seats j e.j t f ∙ e.there; is = e.is })
       (cases_eq e.j j)
 
-  role_agrees : TranscriptsAgree v st.history st.ledger after
+  role_agrees : TranscriptsAgree v history st.ledger after
   role_agrees = record {
     good = agree.good;
     items = agree.items;
@@ -121,17 +121,15 @@ module _ (v : Server) (cells : List Cell) (seats : List SeatState) (st : StandTo
     no_others = agree.no_others;
     times = each_weaker (IsMoment seats) (IsMoment after) moment _ agree.times;
     made = each_weaker (λ g. IsMoment seats g.made) (λ g. IsMoment after g.made) (λ g. moment g.made) _ agree.made;
-    setup = agree.setup;
-    setup_ran = agree.setup_ran;
   }
 
-  pub role_stands : StandTogether v cells after
-  role_stands = alone_stands v cells seats st j s there t st.history (no_turn v (contents cells) (known v.reads st.ledger.items) st.catalog.defs s t (owns_nothing s a role rests) (owns_nothing t b refl rests_then)) role_agrees
+  pub role_stands : Stands v history cells after
+  role_stands = alone_stands v cells seats st j s there t history (no_turn v (contents cells) (known v.reads st.ledger.items) st.catalog.defs s t (owns_nothing s a role rests) (owns_nothing t b refl rests_then)) role_agrees
 
-pub begin_stands : (v : Server) (cells : List Cell) (seats : List SeatState) (st : StandTogether v cells seats) (j : ℕ) (s : SeatState) (there : get_elem? seats j ≡ some s) → s.role ≡ idle → (name : Text) → StandTogether v cells (slice_set seats j (sits s (new_session name s)))
-begin_stands v cells seats st j s there role name = alone_stands v cells seats st j s there (sits s (new_session name s)) _
+pub begin_stands : (v : Server) (cells : List Cell) (seats : List SeatState) {history : History} (st : Stands v history cells seats) (j : ℕ) (s : SeatState) (there : get_elem? seats j ≡ some s) → s.role ≡ idle → (name : Text) → StandsAfter v j history (starts name ∷ []) cells (slice_set seats j (sits s (new_session name s)))
+begin_stands v cells seats {history} st j s there role name = alone_after v cells seats st j s there (sits s (new_session name s)) _
     (no_turn v (contents cells) (known v.reads st.ledger.items) st.catalog.defs s _ (owns_nothing s idle role tt) (λ z u w. new_owns z u w))
-    (begin_agrees v st.ledger seats st.history st.transcripts_agree j s there role name)
+    (begin_agrees v st.ledger seats history st.transcripts_agree j s there role name) (begin_owner _ _ _ _ _ _ _ _ _ _)
   where
     new_owns : (z : Session) (u : OpenTransaction) → Own (sits s (new_session name s)) z u → ⊥
     new_owns z u w = let same : new_session name s ≡ z = cc in let no : None ≡ Some u = ap (λ y. y.open_one) same ∙ w.open_one in cc

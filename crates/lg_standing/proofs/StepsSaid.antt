@@ -26,20 +26,21 @@ use Rattle.lg_standing.specs.Server.{Server}
 use Rattle.lg_standing.specs.Cells.{Cell, catalog_at}
 use Rattle.lg_standing.specs.Contents.{contents, known}
 use Rattle.lg_standing.specs.Answering.{refused_inside, frames_from}
-use Rattle.lg_standing.specs.Desks.{is_begin, image_in, StageOpened, shown_inside}
+use Rattle.lg_standing.specs.TranscriptsSoFar.{is_begin, image_in, StageOpened, shown_inside}
 use Rattle.lg_standing.specs.Doing.{stage_after, done, with_line}
 use Rattle.lg_standing.specs.Moves.{saying, framed, at_place, sits, StandsIn, then_at}
 use Rattle.lg_standing.specs.Seats.{Frame, OpenTransaction, begun, answering, inside, Session, session, SeatState}
-use Rattle.lg_standing.specs.StandTogether.{StandTogether}
+use Rattle.lg_standing.specs.StandTogether.{History, Stands, StandsAfter}
 use Rattle.lg_standing.specs.TreesAreOfEvents.{AreFrames}
 use Rattle.lg_standing.specs.WantsIn.{of_catalog, of_cell, wants_at, wants_in, Holds}
-use Rattle.lg_standing.proofs.DeskActs.{GoesFrom}
-use Rattle.lg_standing.proofs.DeskStages.{from_at, at_opened, savepoint_fits, refused_fits}
+use Rattle.lg_standing.proofs.TranscriptActs.{GoesFrom}
+use Rattle.lg_standing.proofs.TranscriptStages.{from_at, at_opened, savepoint_fits, refused_fits}
 use Rattle.lg_standing.proofs.SaidMore.{X, its_counter, its_trees_there, its_frames, said_stands}
 use Rattle.lg_standing.proofs.ScriptMore.{step_is, step_refused, with_saved, saves_one, saves_none, back_none}
 use Rattle.lg_model.specs.Columns.{fits}
 use Rattle.lg_standing.proofs.AloneTurns.{kept}
 use Rattle.lg_history.specs.Worlds.{step, tables}
+use Rattle.lg_history.specs.Acts.{says}
 
 -- ---- what wants nothing
 
@@ -76,26 +77,26 @@ back_wants defs false name = (refl, refl)
 
 -- ---- frames
 
-pub as_many : (v : Server) (id : ℕ) (fs : List Frame) (ks : List Saved) → AreFrames v id fs ks → length fs ≡ length ks
+pub as_many : (v : Server) (id : ℕ) (fs : List Frame) (ks : List Saved) → AreFrames id fs ks → length fs ≡ length ks
 as_many v id [] [] h = refl
 as_many v id (f ∷ fs) (k ∷ ks) h = ap suc (as_many v id fs ks h.1)
 as_many v id [] (k ∷ ks) h = absurd h
 as_many v id (f ∷ fs) [] h = absurd h
 
 -- the frames from a name on are those of the savepoints
-pub same_back : (v : Server) (id : ℕ) (name : List ℕ) (fs : List Frame) (ks : List Saved) → AreFrames v id fs ks → AreFrames v id (frames_from name fs) (back_to ks name)
+pub same_back : (v : Server) (id : ℕ) (name : List ℕ) (fs : List Frame) (ks : List Saved) → AreFrames id fs ks → AreFrames id (frames_from name fs) (back_to ks name)
 same_back v id name [] [] h = tt
 same_back v id name [] (k ∷ ks) h = absurd h
 same_back v id name (f ∷ fs) [] h = absurd h
 same_back v id name (f ∷ fs) (k ∷ ks) h = by_name (bytes_eq f.name name) (bytes_eq k.name name) (ap (λ (n : Text). bytes_eq n name) h.0.name) (same_back v id name fs ks h.1)
   where
-    by_name : (a b : Bool) → a ≡ b → AreFrames v id (frames_from name fs) (back_to ks name) → AreFrames v id (if a then f ∷ fs else frames_from name fs) (if b then k ∷ ks else back_to ks name)
+    by_name : (a b : Bool) → a ≡ b → AreFrames id (frames_from name fs) (back_to ks name) → AreFrames id (if a then f ∷ fs else frames_from name fs) (if b then k ∷ ks else back_to ks name)
     by_name true true e r = h
     by_name false false e r = r
     by_name true false e r = cc
     by_name false true e r = cc
 
-no_back : (v : Server) (id : ℕ) (fs : List Frame) (ks : List Saved) → AreFrames v id fs ks → fs ≡ [] → ks ≡ []
+no_back : (v : Server) (id : ℕ) (fs : List Frame) (ks : List Saved) → AreFrames id fs ks → fs ≡ [] → ks ≡ []
 no_back v id [] [] h e = refl
 no_back v id [] (k ∷ ks) h e = absurd h
 no_back v id (f ∷ fs) ks h e = cc
@@ -105,10 +106,10 @@ no_back v id (f ∷ fs) ks h e = cc
 pub done_is : (v : Server) (s : SeatState) (p : StandsIn v s) (o : OpenTransaction) (r : Reply) → o.opened ≡ true → done s p o r ≡ then_at s p (Some (saying (p.text, reply_text r) o)) (answering r None)
 done_is v s p o r e = λ i. then_at s p (Some (record { id = o.id; opened = o.opened; script = with_line (e i) (p.text, reply_text r) o.script; seq = o.seq; trees = o.trees; frames = o.frames; end = o.end; visited = o.visited; released = o.released })) (stage_after (e i) r)
 
-module _ (v : Server) (cells : List Cell) (seats : List SeatState) (st : StandTogether v cells seats) (j : ℕ) (s : SeatState) (there : get_elem? seats j ≡ some s) (x : Session) (role : s.role ≡ session x)
+module _ (v : Server) (cells : List Cell) (seats : List SeatState) {history : History} (st : Stands v history cells seats) (j : ℕ) (s : SeatState) (there : get_elem? seats j ≡ some s) (x : Session) (role : s.role ≡ session x)
     (o : OpenTransaction) (one : x.open_one ≡ Some o) (open_end : o.end ≡ unfixed) (opened : o.opened ≡ true) (text : Text) (at : x.place ≡ inside text begun) where
   abbrev stands_with : OpenTransaction → Reply → Type 0
-  stands_with p r = StandTogether v cells (slice_set seats j (sits s (at_place (Some p) (inside text (answering r None)) x)))
+  stands_with p r = StandsAfter v j history (says (text, reply_text r) ∷ []) cells (slice_set seats j (sits s (at_place (Some p) (inside text (answering r None)) x)))
 
   abbrev state : State
   state = X v cells seats st j s there x role o one open_end opened text begun at refl (λ id ws. refl)
@@ -116,7 +117,7 @@ module _ (v : Server) (cells : List Cell) (seats : List SeatState) (st : StandTo
   counter : o.seq ≡ state.seq
   counter = its_counter v cells seats st j s there x role o one open_end opened text begun at refl (λ id ws. refl)
 
-  frames : AreFrames v o.id o.frames state.saved
+  frames : AreFrames o.id o.frames state.saved
   frames = its_frames v cells seats st j s there x role o one open_end opened text begun at refl (λ id ws. refl)
 
   abbrev wanted : Option Stmt → ℕ → Type 0
@@ -148,7 +149,7 @@ module _ (v : Server) (cells : List Cell) (seats : List SeatState) (st : StandTo
     wants_none i = let w = wants (defs_of (known v.reads st.ledger.items).tables) o.opened in subst (λ z. wanted z i) (sym is) (none_wanted (Holds ((contents cells).holds i) o.id) i _ w.0 w.1)
 
     at_savepoint : (r : Reply) (then_state : State) (p : OpenTransaction) → by_statement true o.id state (Some d) ≡ (then_state, r) → then_state.tables ≡ state.tables → p.id ≡ o.id → p.opened ≡ o.opened → p.visited ≡ o.visited → p.released ≡ o.released → p.end ≡ o.end → p.script ≡ o.script ++ (text, reply_text r) ∷ []
-        → p.seq ≡ then_state.seq → p.seq ≡ o.seq → p.trees ≡ o.trees → AreFrames v o.id p.frames then_state.saved → facts_inside v.meaning to_savepoint text r None ≡ said (text, v.meaning.writes r) ∷ []
+        → p.seq ≡ then_state.seq → p.seq ≡ o.seq → p.trees ≡ o.trees → AreFrames o.id p.frames then_state.saved → facts_inside v.meaning to_savepoint text r None ≡ said (text, v.meaning.writes r) ∷ []
         → shown_inside v.meaning to_savepoint text (answering r None) ≡ facts_inside v.meaning to_savepoint text r None → is_begin (answering r None) ≡ false → image_in (answering r None) ≡ 0
         → ((n : ℕ) → StageOpened v.meaning n text o.id unfixed (answering r None)) → stands_with p r
     at_savepoint r then_state p step tables a b c g e f seq same_seq trees kept shows same not_begin no_image fits =

@@ -38,7 +38,7 @@ use Rattle.lg_standing.specs.TableVisits.{with_holds}
 use Rattle.lg_standing.specs.TablesAreSerial.{HasActed, IsCarried, def_at, ordinals_of, HasAdded, IsAdding}
 use Rattle.lg_standing.specs.LocksCover.{KeepsLocks, Belongs, HasIntent, LookedFirst, IsDropping}
 use Rattle.lg_standing.specs.RowsAgree.{GoesBackTo, IsOpenedAt}
-use Rattle.lg_standing.specs.StandTogether.{StandTogether}
+use Rattle.lg_standing.specs.StandTogether.{History, Stands}
 use Rattle.lg_standing.proofs.AfterSet.{each_at}
 use Rattle.lg_standing.proofs.SeatsAfter.{Goes, one_session, open_here, open_else, each_open, kept_open}
 use Rattle.lg_standing.proofs.CellsAfter.{holds_here, held_here, each_holds, versions_kept}
@@ -51,10 +51,10 @@ use Rattle.lg_standing.proofs.GotMore.{got_at_more}
 use Rattle.lg_model.specs.ScriptWants.{text_wants}
 
 -- the tables that the journal leads to
-abbrev pub tables_now : {v : Server} {cells : List Cell} {seats : List SeatState} → StandTogether v cells seats → Tables
+abbrev pub tables_now : {v : Server} {cells : List Cell} {seats : List SeatState} {history : History} → Stands v history cells seats → Tables
 tables_now {v = v} S = serial v.reads S.ledger.items
 
-pub record Takes (v : Server) (cells : List Cell) (seats : List SeatState) (S : StandTogether v cells seats) (j : ℕ) (t : SeatState) (x : Session) (o : OpenTransaction) (y : Session) (p : OpenTransaction)
+pub record Takes (v : Server) (cells : List Cell) (seats : List SeatState) {history : History} (S : Stands v history cells seats) (j : ℕ) (t : SeatState) (x : Session) (o : OpenTransaction) (y : Session) (p : OpenTransaction)
     (k : ℕ) (old new : Cell) (wants : List Want) (text : Text) : Type 0 where
   pub goes : Goes seats j t x o y p
   pub unfixed : o.end ≡ unfixed
@@ -85,7 +85,7 @@ pub record Takes (v : Server) (cells : List Cell) (seats : List SeatState) (S : 
       → versions_undone o.id 0 (of_key (columns_at (defs_of (tables_now S)) id) key (versions_at cells id))
       ≡ of_key (columns_at (defs_of (tables_now S)) id) key (versions_of (tables_now S) id)
 
-module _ (v : Server) (cells : List Cell) (seats : List SeatState) (S : StandTogether v cells seats) (j : ℕ) (t : SeatState) (x : Session) (o : OpenTransaction) (y : Session) (p : OpenTransaction)
+module _ (v : Server) (cells : List Cell) (seats : List SeatState) {history : History} (S : Stands v history cells seats) (j : ℕ) (t : SeatState) (x : Session) (o : OpenTransaction) (y : Session) (p : OpenTransaction)
     (k : ℕ) (old new : Cell) (wants : List Want) (text : Text) (K : Takes v cells seats S j t x o y p k old new wants text) where
   abbrev pub cells_then : List Cell
   cells_then = set cells k new

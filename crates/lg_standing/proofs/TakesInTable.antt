@@ -34,7 +34,7 @@ use Rattle.lg_standing.specs.TableVisits.{with_holds}
 use Rattle.lg_standing.proofs.Taken.{taken, AreFree}
 use Rattle.lg_standing.specs.TablesAreSerial.{HasAdded, HasActed}
 use Rattle.lg_standing.specs.LocksCover.{HasIntent}
-use Rattle.lg_standing.specs.StandTogether.{StandTogether}
+use Rattle.lg_standing.specs.StandTogether.{History, Stands}
 use Rattle.lg_standing.proofs.AfterSet.{set_here, set_else}
 use Rattle.lg_standing.proofs.CellsAfter.{table_changed, held_here}
 use Rattle.lg_standing.proofs.SameOne.{IsSame}
@@ -45,10 +45,10 @@ use Rattle.lg_standing.proofs.Looks.{put_there, put_keeps}
 use Rattle.lg_standing.proofs.Takes.{tables_now, Takes, looked_stays, covered, agree, rows, scripts, trees, tables}
 use Rattle.lg_standing.proofs.OfCells.{HasLock, HasLooked, HoldsInCatalog, IsGotAt, in_journal, looked_now}
 use Rattle.lg_standing.specs.TranscriptsAgree.{TranscriptsAgree}
-use Rattle.lg_standing.proofs.DeskStages.{from_at}
+use Rattle.lg_standing.proofs.TranscriptStages.{from_at}
 use Rattle.lg_standing.proofs.VisitActs.{still_act}
 use Rattle.lg_history.specs.Facts.{Fact}
-use Rattle.lg_standing.specs.Desks.{FitsWith, end_shown, shown_with}
+use Rattle.lg_standing.specs.TranscriptsSoFar.{FitsWith, end_shown, shown_with}
 
 -- ---- the place of a table's cell
 
@@ -74,7 +74,7 @@ users id n l e = by (id == 1) (id == 2) refl refl
     by false false f g = let ne = eqb-false id 1 f in let nd = eqb-false id 2 g in omega arith
 
 -- a seat stands at what it found in the catalog, and takes these wants of its statement in the cell of its table
-pub record TakesAt (v : Server) (cells : List Cell) (seats : List SeatState) (S : StandTogether v cells seats) (j : ℕ) (s : SeatState) (x : Session) (o : OpenTransaction) (text : Text) (named : Option Named) (fresh : Bool) (i : ℕ) (c : TableCell) (wants : List Want) : Type 0 where
+pub record TakesAt (v : Server) (cells : List Cell) (seats : List SeatState) {history : History} (S : Stands v history cells seats) (j : ℕ) (s : SeatState) (x : Session) (o : OpenTransaction) (text : Text) (named : Option Named) (fresh : Bool) (i : ℕ) (c : TableCell) (wants : List Want) : Type 0 where
   pub there : get_elem? seats j ≡ some s
   pub role : s.role ≡ session x
   pub open_one : x.open_one ≡ Some o
@@ -85,7 +85,7 @@ pub record TakesAt (v : Server) (cells : List Cell) (seats : List SeatState) (S 
   pub intents : (w : Want) → In w wants → w.mode ≡ X → (u : Want) × In u wants × (u.item ≡ Whole) × ((u.mode ≡ IX) ⊎ (u.mode ≡ X))
   pub announced : (w : Want) → In w wants → (u : Want) × In u wants × (u.item ≡ Whole)
 
-module _ (v : Server) (cells : List Cell) (seats : List SeatState) (S : StandTogether v cells seats) (j : ℕ) (s : SeatState) (x : Session) (o : OpenTransaction) (text : Text) (named : Option Named) (fresh : Bool) (i : ℕ) (c : TableCell) (wants : List Want)
+module _ (v : Server) (cells : List Cell) (seats : List SeatState) {history : History} (S : Stands v history cells seats) (j : ℕ) (s : SeatState) (x : Session) (o : OpenTransaction) (text : Text) (named : Option Named) (fresh : Bool) (i : ℕ) (c : TableCell) (wants : List Want)
     (K : TakesAt v cells seats S j s x o text named fresh i c wants) where
   abbrev pub then_open : OpenTransaction
   then_open = visiting i o
@@ -216,14 +216,13 @@ module _ (v : Server) (cells : List Cell) (seats : List SeatState) (S : StandTog
   same_fits true n f = f
   same_fits false n f = f
 
-  act : TranscriptsAgree v (S.history ++ []) S.ledger then_seats
+  act : TranscriptsAgree v history S.ledger then_seats
   act = still_act v cells seats S j s K.there x K.role o K.open_one then_session then_open (record { id = refl; opened = refl; script = refl; end = refl }) refl (ap text_at (sym K.place)) (ap lines_at (sym K.place))
       (λ answered a h. subst (λ q. IsHeard q answered a) K.place h) refl (record { images = refl; moments = refl; earlier = refl })
       (from_at v.meaning x then_session (inside text (found named fresh)) (Some o) [] K.place K.open_one refl (λ m n f. record { shown = append-nil _ ∙ ap (λ (l : List Fact). l ++ end_shown o.end) (same_shown o.opened); before = refl; images = refl; fits = same_fits o.opened m f }))
 
-  pub takes_there : StandTogether v then_cells then_seats
+  pub takes_there : Stands v history then_cells then_seats
   takes_there = record {
-    history = _;
     catalog = S.catalog;
     ledger = S.ledger;
     are_cells = subst (λ (m : ℕ). AreCells (set cells m (Rows then_cell)) S.catalog S.ledger) (sym at.is) (table_changed cells S.catalog S.ledger at.n c then_cell (ap (get_elem? cells) (sym at.is) ∙ K.out) refl S.are_cells);

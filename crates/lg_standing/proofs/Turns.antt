@@ -26,7 +26,7 @@ use Rattle.std.specs.List.{AllByRecursion}
 use Rattle.lg_standing.specs.RowsAgree.{GoesBackTo, IsOpenedAt, RowsAgree, key_rows}
 use Rattle.lg_model.specs.Keys.{Key}
 use Rattle.lg_model.specs.Runs.{MadeBefore}
-use Rattle.lg_standing.specs.StandTogether.{StandTogether}
+use Rattle.lg_standing.specs.StandTogether.{History, Stands}
 use Rattle.lg_model.specs.Reach.{lets_change}
 
 -- the seat's transaction is one whose lock this may be
@@ -57,7 +57,7 @@ pub record Owes (v : Server) (c : Contents) (k : Known) (defs : Defs) (x : Sessi
   pub back : GoesBackTo x.place o.seq
   pub opened : IsOpenedAt x.place o.opened
 
-pub owed : (v : Server) (cells : List Cell) (seats : List SeatState) (st : StandTogether v cells seats) (j : ℕ) (x : Session) (o : OpenTransaction) → HasOpen seats j x o → Owes v (contents cells) (known v.reads st.ledger.items) st.catalog.defs x o
+pub owed : (v : Server) (cells : List Cell) (seats : List SeatState) {history : History} (st : Stands v history cells seats) (j : ℕ) (x : Session) (o : OpenTransaction) → HasOpen seats j x o → Owes v (contents cells) (known v.reads st.ledger.items) st.catalog.defs x o
 owed v cells seats st j x o h = record {
   carried = λ e. st.tables_are_serial.carried j x o h e;
   indexed = λ e. st.tables_are_serial.indexed j x o h e;

@@ -34,7 +34,7 @@ use Rattle.lg_standing.specs.Moves.{at_place, sits}
 use Rattle.lg_standing.specs.WantsIn.{wants_in, Holds, of_catalog}
 use Rattle.lg_standing.specs.TablesAreSerial.{HasActed, def_at, ordinals_of, IsAdding, IsCarried}
 use Rattle.lg_standing.specs.LocksCover.{KeepsLocks, Belongs, HasIntent, LookedFirst, IsDropping}
-use Rattle.lg_standing.specs.StandTogether.{StandTogether}
+use Rattle.lg_standing.specs.StandTogether.{History, Stands}
 use Rattle.lg_standing.proofs.AfterSet.{set_here, set_else, each_at, all_at}
 use Rattle.lg_standing.proofs.SeatsAfter.{Goes, one_session, open_here, open_else, each_open}
 use Rattle.lg_standing.proofs.CellsAfter.{held_here, table_changed}
@@ -69,7 +69,7 @@ use Rattle.lg_standing.specs.TreesAreOfEvents.{AreFrames}
 use Rattle.lg_standing.proofs.Formed.{nothing_undone_to}
 use Rattle.lg_standing.proofs.OfCells.{LookedAt, AreDefinitions, AreIndexes, Creates, EndLiesUnder, GoesBack, HasItsTrees, HasLock, HoldsInCatalog, IsFree, IsGotAt, IsIndexed, IsOfItsScript, IsUnderLocks, IsUnderWay, LiesUnder, LocksAgree, LocksCover, OpenScripts, RowsAgree, SeatHas, StandsAs, TreesAreOfEvents, WantsNone, committed, events_counted, in_journal, looked_now, looked_so, table_there}
 use Rattle.lg_standing.proofs.Apart.{x_apart}
-use Rattle.lg_standing.specs.Desks.{FitsWith, shown_with}
+use Rattle.lg_standing.specs.TranscriptsSoFar.{FitsWith, shown_with}
 use Rattle.lg_standing.specs.Contents.{HasAlone, contents, table_found}
 use Rattle.lg_standing.proofs.FreshIds.{events_of_touched}
 use Rattle.lg_standing.proofs.GotMore.{got_at_more}
@@ -78,7 +78,7 @@ use Rattle.lg_standing.proofs.VisitActs.{stage_act}
 use Rattle.lg_model.specs.ScriptWants.{text_wants}
 use Rattle.lg_model.specs.Touched.{touched}
 
-pub record Undoing (v : Server) (cells : List Cell) (seats : List SeatState) (S : StandTogether v cells seats) (j : ℕ) (s : SeatState) (x : Session) (o : OpenTransaction) (text : Text) (seq : ℕ) (rest : List ℕ) (i : ℕ) (c d : TableCell) : Type 0 where
+pub record Undoing (v : Server) (cells : List Cell) (seats : List SeatState) {history : History} (S : Stands v history cells seats) (j : ℕ) (s : SeatState) (x : Session) (o : OpenTransaction) (text : Text) (seq : ℕ) (rest : List ℕ) (i : ℕ) (c d : TableCell) : Type 0 where
   pub there : get_elem? seats j ≡ some s
   pub role : s.role ≡ session x
   pub open_one : x.open_one ≡ Some o
@@ -87,7 +87,7 @@ pub record Undoing (v : Server) (cells : List Cell) (seats : List SeatState) (S 
   pub out : get_elem? cells i ≡ some (Rows c)
   pub cell : d ≡ undone_to o.id seq c
 
-module _ (v : Server) (cells : List Cell) (seats : List SeatState) (S : StandTogether v cells seats) (j : ℕ) (s : SeatState) (x : Session) (o : OpenTransaction) (text : Text) (seq : ℕ) (rest : List ℕ) (i : ℕ) (c d : TableCell) (R : Undoing v cells seats S j s x o text seq rest i c d) where
+module _ (v : Server) (cells : List Cell) (seats : List SeatState) {history : History} (S : Stands v history cells seats) (j : ℕ) (s : SeatState) (x : Session) (o : OpenTransaction) (text : Text) (seq : ℕ) (rest : List ℕ) (i : ℕ) (c d : TableCell) (R : Undoing v cells seats S j s x o text seq rest i c d) where
   abbrev T : Tables
   T = tables_now S
 
@@ -368,7 +368,7 @@ module _ (v : Server) (cells : List Cell) (seats : List SeatState) (S : StandTog
   trees = each_open seats j (sits s y) x o y o goes (λ n z r. r.end ≡ unfixed → HasItsTrees v C' S.ledger z r)
       (λ e. let was = S.trees_are_of_events j x o has_open R.unfixed in record {
         trees = trees_same x o x o (no_change x o) v (events_counted cells x o) (events_counted C' y o) o.trees (λ id. ap (events_in o.id id) (counts_all id)) was.trees;
-        frames = subst (λ (q : ScriptEnd). AreFrames v o.id o.frames q.state.saved) (sym same_end) was.frames;
+        frames = subst (λ (q : ScriptEnd). AreFrames o.id o.frames q.state.saved) (sym same_end) was.frames;
       })
       (λ n z r ne h e. let was = S.trees_are_of_events n z r h e in record { trees = trees_same z r z r (no_change z r) v (events_counted cells z r) (events_counted C' z r) r.trees (events_all n z r ne h e) was.trees; frames = was.frames })
 
@@ -557,9 +557,8 @@ module _ (v : Server) (cells : List Cell) (seats : List SeatState) (S : StandTog
   same_fits false n f = f
 
   -- a transaction that drops, on its way back, what it did in a table's cell keeps cells and seats together
-  pub undoes_stand : StandTogether v C' seats'
+  pub undoes_stand : Stands v history C' seats'
   undoes_stand = record {
-    history = _;
     catalog = S.catalog;
     ledger = S.ledger;
     are_cells = are_cells;

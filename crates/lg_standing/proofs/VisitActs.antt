@@ -1,17 +1,17 @@
 -- What the history has of a visit of a catalog or a table's cell: a statement asked for its locks, was done, or went on.
 use Rattle.std.proofs.Common.{◌≡◌, ℕ, Bool, true, false, List, [], ◌∷◌, ◌++◌, Option, Some, None, refl, sym, ap, ◌∙◌, subst, inl, inr, ⊎_elim, append-nil, map, slice_set}
-use Rattle.lg_standing.specs.Parts.{AreDeals, IsDeal, IsHeard, IsNow, asking_in}
+use Rattle.lg_standing.specs.Parts.{AreTransactions, IsTransaction, IsHeard, IsNow, asking_in, Numbers}
 use Rattle.lg_standing.specs.Cells.{Cell, LedgerCell}
-use Rattle.lg_history.specs.Sessions.{Deal, Sess, acted, asks}
-use Rattle.lg_standing.proofs.Ids.{Dealt}
+use Rattle.lg_history.specs.Sessions.{SessionTransaction, SessionState, acted, asks}
+use Rattle.lg_standing.proofs.Ids.{InTransaction}
 use Rattle.lg_history.specs.Lists.{Each, In, Text}
-use Rattle.lg_standing.specs.Desks.{EndsOwn, IsSaid, end_shown, image_in, is_begin, shown_alone, shown_inside, shown_with, FitsOpened, EndsLeaving, Fits, FitsWith, open_before, shown_at}
-use Rattle.lg_history.specs.Acts.{Event, looks}
+use Rattle.lg_standing.specs.TranscriptsSoFar.{EndsOwn, IsSaid, end_shown, image_in, is_begin, shown_alone, shown_inside, shown_with, FitsOpened, EndsLeaving, Fits, FitsWith, open_before, shown_at}
+use Rattle.lg_history.specs.Acts.{looks, SessionAct, by}
 use Rattle.lg_history.specs.Facts.{Fact, began, begun_by, said}
-use Rattle.lg_standing.proofs.DeskActs.{GoesFrom, goes_on}
+use Rattle.lg_standing.proofs.TranscriptActs.{GoesFrom, goes_on}
 use Rattle.lg_standing.specs.OpenOnes.{HasOpen, last_line, lines_at, text_at, texts_so_far}
 use Rattle.lg_history.specs.Guards.{IsAnswered, OnlyOne}
-use Rattle.lg_standing.proofs.Deeds.{IsPlain, plain_acts}
+use Rattle.lg_standing.proofs.Deeds.{IsPlain, plain_acts, plain_owner, plain_parts}
 use Rattle.lg_standing.proofs.PlainAct.{KeepsAll}
 use Rattle.lg_history.specs.Transcripts.{Kind, kind_of, statement}
 use Rattle.lg_model.specs.Journals.{Line}
@@ -19,10 +19,10 @@ use Rattle.lg_standing.proofs.InPlaces.{NoControl, controlled_inside, fits_own, 
 use Rattle.lg_standing.specs.Seats.{OpenTransaction, SeatState, Session, Stage, answering, inside, replied, session, Place, between, leaving}
 use Rattle.lg_types.specs.declared.reply.Reply.{Reply}
 use Rattle.lg_standing.specs.Server.{Server}
-use Rattle.lg_standing.specs.StandTogether.{StandTogether}
+use Rattle.lg_standing.specs.StandTogether.{History, Stands}
 use Rattle.lg_standing.specs.TranscriptsAgree.{TranscriptsAgree}
 use Rattle.lg_types.specs.declared.version.Version.{Version}
-use Rattle.lg_standing.proofs.DeskStages.{at_opened, fits_if, from_at, if_fits}
+use Rattle.lg_standing.proofs.TranscriptStages.{at_opened, fits_if, from_at, if_fits}
 use Rattle.lg_standing.specs.Moves.{at_place, sits}
 use Rattle.lg_standing.specs.OpenScripts.{counted_in}
 use Rattle.lg_history.specs.Worlds.{first, run}
@@ -32,15 +32,17 @@ use Rattle.lg_history.specs.InPlace.{image_by, InPlace}
 use Rattle.lg_value.specs.Order.{kind}
 use Rattle.lg_history.specs.Transactions.{on_some, unfixed, End}
 use Rattle.lg_model.specs.Replies.{reply_text}
-use Rattle.lg_standing.proofs.SaidMore.{said_act}
+use Rattle.lg_standing.proofs.SaidMore.{said_by}
 use mathlib.Core.Option.{some}
 use Rattle.lg_standing.specs.Doing.{stage_after, with_line}
 use Rattle.lg_history.specs.Transcripts.{rows}
 use Rattle.lg_history.specs.Acts.{by}
-use Rattle.lg_standing.proofs.Ids.{dealt}
+use Rattle.lg_standing.proofs.Ids.{in_transaction}
 use Rattle.lg_history.proofs.Trace.{each_weaker}
 use Rattle.lg_types.specs.declared.reply.Reply.TheVariants as reply
 use Rattle.lg_history.specs.Meaning.{Meaning}
+use Rattle.lg_standing.specs.ActsOf.{done_acts}
+use Rattle.lg_standing.proofs.GoesOn.{nothing_added}
 
 plain_look : (text : Text) (b : Bool) → IsPlain (looks text b)
 plain_look text b = record { items = λ x. refl; ids = refl; issued = refl; marks = refl; images = refl }
@@ -49,10 +51,12 @@ opened_fits : (q : Meaning) (n : ℕ) (text : Text) (id : ℕ) (r : Reply) → b
 opened_fits q n text id (reply.Begun i) e h = cc
 opened_fits q n text id r e h = h
 
--- the history then
-pub record ActsAt (v : Server) (ledger : LedgerCell) (seats : List SeatState) : Type 0 where
-  pub history : List Event
-  pub agree : TranscriptsAgree v history ledger seats
+-- the history then, with these acts of one session behind it
+pub record ActsAt (v : Server) (history : History) (j : ℕ) (number : Option ℕ) (acts : List SessionAct) (ledger : LedgerCell) (seats : List SeatState) : Type 0 where
+  pub session : ℕ
+  pub is : number ≡ Some session
+  pub agree : TranscriptsAgree v (history ++ map (by session) acts) ledger seats
+  pub own : agree.owner session ≡ j
 
 -- a transaction that the history can't tell from another
 pub record IsAlike (o p : OpenTransaction) : Type 0 where
@@ -61,16 +65,16 @@ pub record IsAlike (o p : OpenTransaction) : Type 0 where
   pub script : p.script ≡ o.script
   pub end : p.end ≡ o.end
 
-module _ (v : Server) (cells : List Cell) (seats : List SeatState) (st : StandTogether v cells seats) (j : ℕ) (s : SeatState) (there : get_elem? seats j ≡ some s) (x : Session) (role : s.role ≡ session x)
+module _ (v : Server) (cells : List Cell) (seats : List SeatState) {history : History} (st : Stands v history cells seats) (j : ℕ) (s : SeatState) (there : get_elem? seats j ≡ some s) (x : Session) (role : s.role ≡ session x)
     (o : OpenTransaction) (one : x.open_one ≡ Some o) where
   has : HasOpen seats j x o
   has = record { seat = s; there = there; role = role; open_one = one }
 
-  pub g : Dealt v.meaning st.history (st.transcripts_agree.of_seat j) x o
-  g = dealt v st.history st.ledger seats st.transcripts_agree j x o has
+  pub g : InTransaction v.meaning history (st.transcripts_agree.of_seat j) x o
+  g = in_transaction v history st.ledger seats st.transcripts_agree j x o has
 
-  abbrev sess : Sess
-  sess = (run first st.history).at g.runs.number
+  abbrev sess : SessionState
+  sess = (run first history).at g.runs.number
 
   -- ---- nothing is done: what is said of the seat stays
 
@@ -79,14 +83,14 @@ module _ (v : Server) (cells : List Cell) (seats : List SeatState) (st : StandTo
     same_texts : texts_so_far y p ≡ texts_so_far x o
     same_texts = λ i. map (λ l. l.0) (alike.script i ++ same_lines i)
 
-    still_deal : IsDeal g.deal y p
-    still_deal = record {
+    still_transaction : IsTransaction g.transaction y p
+    still_transaction = record {
       id = g.is.id ∙ sym alike.id;
       opened = g.is.opened ∙ sym alike.opened;
       script = g.is.script ∙ sym alike.script;
       end = g.is.end ∙ sym alike.end;
-      asked = λ u. subst (λ ts. Each (λ a. a.1 ≡ true → In a.0 ts) g.deal.asked) (sym same_texts) (g.is.asked (sym alike.end ∙ u));
-      heard = each_weaker (IsHeard x.place g.deal.answered) (IsHeard y.place g.deal.answered) (heard_more g.deal.answered) g.deal.asked g.is.heard;
+      asked = λ u. subst (λ ts. Each (λ a. a.1 ≡ true → In a.0 ts) g.transaction.asked) (sym same_texts) (g.is.asked (sym alike.end ∙ u));
+      heard = each_weaker (IsHeard x.place g.transaction.answered) (IsHeard y.place g.transaction.answered) (heard_more g.transaction.answered) g.transaction.asked g.is.heard;
     }
 
     still_now : IsNow v.meaning sess y
@@ -94,12 +98,12 @@ module _ (v : Server) (cells : List Cell) (seats : List SeatState) (st : StandTo
       running = g.runs.now.running;
       transcript = g.runs.now.transcript ∙ sym same_transcript;
       under = g.runs.now.under ∙ sym same_text;
-      open_one = subst (AreDeals sess.deal y) (sym one_then) (subst (λ (z : Option Deal). AreDeals z y (Some p)) (sym g.has) still_deal);
-      desk = goes_on v.meaning sess.desk sess.desk x y [] refl (sym (append-nil sess.desk.pending)) g.runs.now.desk goes;
+      open_one = subst (AreTransactions sess.transaction y) (sym one_then) (subst (λ (z : Option SessionTransaction). AreTransactions z y (Some p)) (sym g.has) still_transaction);
+      so_far = goes_on v.meaning sess.so_far sess.so_far x y [] refl (sym (append-nil sess.so_far.pending)) g.runs.now.so_far goes;
     }
 
-    pub still_act : TranscriptsAgree v (st.history ++ []) st.ledger (slice_set seats j (sits s y))
-    still_act = plain_acts v st.ledger seats st.history st.transcripts_agree j s there x y role g.runs.number g.runs.is [] tt tt still_now keeps
+    pub still_act : TranscriptsAgree v history st.ledger (slice_set seats j (sits s y))
+    still_act = nothing_added v history st.ledger (slice_set seats j (sits s y)) (plain_acts v st.ledger seats history st.transcripts_agree j s there x y role g.runs.number g.runs.is [] tt tt still_now keeps)
 
   -- its place stays
   shown_alike : (p : OpenTransaction) → IsAlike o p → (place : Place) → shown_at v.meaning place (Some o) ≡ shown_at v.meaning place (Some p)
@@ -117,7 +121,7 @@ module _ (v : Server) (cells : List Cell) (seats : List SeatState) (st : StandTo
   fits_alike p a n (inside text stage) f = subst (λ (b : Bool). FitsWith v.meaning b n text stage p.id p.end) (sym a.opened) (subst (λ (i : ℕ). FitsWith v.meaning o.opened n text stage i p.end) (sym a.id) (subst (λ (e : End). FitsWith v.meaning o.opened n text stage o.id e) (sym a.end) f))
   fits_alike p a n leaving f = (a.opened ∙ f.0, subst EndsLeaving (sym a.end) f.1)
 
-  pub unmoved : (p : OpenTransaction) → IsAlike o p → TranscriptsAgree v (st.history ++ []) st.ledger (slice_set seats j (sits s (at_place (Some p) x.place x)))
+  pub unmoved : (p : OpenTransaction) → IsAlike o p → TranscriptsAgree v history st.ledger (slice_set seats j (sits s (at_place (Some p) x.place x)))
   unmoved p a = still_act (at_place (Some p) x.place x) p a refl refl refl (λ answered b h. h) refl (record { images = refl; moments = refl; earlier = refl })
       (λ n images f. record {
         shown = append-nil _ ∙ (λ i. shown_at v.meaning x.place (one i)) ∙ shown_alike p a x.place;
@@ -130,7 +134,7 @@ module _ (v : Server) (cells : List Cell) (seats : List SeatState) (st : StandTo
   module _ (text : Text) (stage next : Stage) (at : x.place ≡ inside text stage) (same_shown : (b : Bool) → shown_with v.meaning b o.id text stage ≡ shown_with v.meaning b o.id text next) (same_begin : is_begin stage ≡ is_begin next) (same_image : image_in stage ≡ image_in next)
       (more_fits : (b : Bool) (n : ℕ) → FitsWith v.meaning b n text stage o.id o.end → FitsWith v.meaning b n text next o.id o.end) (same_lines : last_line text next ≡ last_line text stage)
       (more_heard : (answered : List (Text × Bool)) (a : Text × Bool) → IsHeard (inside text stage) answered a → IsHeard (inside text next) answered a) where
-    pub stage_act : (p : OpenTransaction) → IsAlike o p → TranscriptsAgree v (st.history ++ []) st.ledger (slice_set seats j (sits s (at_place (Some p) (inside text next) x)))
+    pub stage_act : (p : OpenTransaction) → IsAlike o p → TranscriptsAgree v history st.ledger (slice_set seats j (sits s (at_place (Some p) (inside text next) x)))
     stage_act p a = still_act (at_place (Some p) (inside text next) x) p a refl (ap text_at (sym at)) (same_lines ∙ ap lines_at (sym at)) (λ answered b h. more_heard answered b (subst (λ q. IsHeard q answered b) at h)) refl (record { images = refl; moments = refl; earlier = refl })
         (from_at v.meaning x (at_place (Some p) (inside text next) x) (inside text stage) (Some o) [] at one refl (λ n i f. record {
           shown = append-nil _ ∙ ap (λ (l : List Fact). l ++ end_shown o.end) (same_shown o.opened) ∙ shown_alike p a (inside text next);
@@ -142,15 +146,15 @@ module _ (v : Server) (cells : List Cell) (seats : List SeatState) (st : StandTo
   -- ---- a statement asks for its locks
 
   module _ (open_end : o.end ≡ unfixed) (text : Text) (stage : Stage) (at : x.place ≡ inside text stage) (no_lines : last_line text stage ≡ []) where
-    only : OnlyOne g.deal text
+    only : OnlyOne g.transaction text
     only e = let none : o.script ≡ [] = (st.open_scripts j x o has open_end).alone (sym g.is.opened ∙ e) in (
       g.is.script ∙ none,
       each_weaker (λ a. a.1 ≡ true → In a.0 (map (λ l. l.0) (o.script ++ lines_at x.place))) (λ a. a.1 ≡ true → a.0 ≡ text)
-          (λ a f h. absurd (subst (λ (ls : List Line). In a.0 (map (λ l. l.0) ls)) (ap (λ (ls : List Line). ls ++ lines_at x.place) none ∙ ap lines_at at ∙ no_lines) (f h))) g.deal.asked (g.is.asked open_end),
+          (λ a f h. absurd (subst (λ (ls : List Line). In a.0 (map (λ l. l.0) ls)) (ap (λ (ls : List Line). ls ++ lines_at x.place) none ∙ ap lines_at at ∙ no_lines) (f h))) g.transaction.asked (g.is.asked open_end),
     )
 
-    was_asked : Each (λ a. a.1 ≡ true → In a.0 (map (λ l. l.0) (o.script ++ []))) g.deal.asked
-    was_asked = subst (λ (ls : List Line). Each (λ a. a.1 ≡ true → In a.0 (map (λ l. l.0) (o.script ++ ls))) g.deal.asked) (ap lines_at at ∙ no_lines) (g.is.asked open_end)
+    was_asked : Each (λ a. a.1 ≡ true → In a.0 (map (λ l. l.0) (o.script ++ []))) g.transaction.asked
+    was_asked = subst (λ (ls : List Line). Each (λ a. a.1 ≡ true → In a.0 (map (λ l. l.0) (o.script ++ ls))) g.transaction.asked) (ap lines_at at ∙ no_lines) (g.is.asked open_end)
 
     in_more : (a : Text) (xs ys : List Line) → In a (map (λ l. l.0) (xs ++ [])) → In a (map (λ l. l.0) (xs ++ ys))
     in_more a [] ys i = absurd i
@@ -161,17 +165,17 @@ module _ (v : Server) (cells : List Cell) (seats : List SeatState) (st : StandTo
       abbrev y : Session
       y = at_place (Some p) (inside text next) x
 
-      asks_deal : IsDeal (asks text b g.deal) y p
-      asks_deal = record {
+      asks_transaction : IsTransaction (asks text b g.transaction) y p
+      asks_transaction = record {
         id = g.is.id ∙ sym alike.id;
         opened = g.is.opened ∙ sym alike.opened;
         script = g.is.script ∙ sym alike.script;
         end = g.is.end ∙ sym alike.end;
         asked = λ u. (
           in_text,
-          each_weaker (λ a. a.1 ≡ true → In a.0 (map (λ l. l.0) (o.script ++ []))) (λ a. a.1 ≡ true → In a.0 (texts_so_far y p)) (λ a f e. subst (λ (ls : List Line). In a.0 (map (λ l. l.0) (ls ++ last_line text next))) (sym alike.script) (in_more a.0 o.script (last_line text next) (f e))) g.deal.asked was_asked,
+          each_weaker (λ a. a.1 ≡ true → In a.0 (map (λ l. l.0) (o.script ++ []))) (λ a. a.1 ≡ true → In a.0 (texts_so_far y p)) (λ a f e. subst (λ (ls : List Line). In a.0 (map (λ l. l.0) (ls ++ last_line text next))) (sym alike.script) (in_more a.0 o.script (last_line text next) (f e))) g.transaction.asked was_asked,
         );
-        heard = (inr is_asking, each_weaker (IsHeard (inside text stage) g.deal.answered) (IsHeard (inside text next) g.deal.answered) (heard_more g.deal.answered) g.deal.asked (subst (λ q. Each (IsHeard q g.deal.answered) g.deal.asked) at g.is.heard));
+        heard = (inr is_asking, each_weaker (IsHeard (inside text stage) g.transaction.answered) (IsHeard (inside text next) g.transaction.answered) (heard_more g.transaction.answered) g.transaction.asked (subst (λ q. Each (IsHeard q g.transaction.answered) g.transaction.asked) at g.is.heard));
       }
 
       asks_now : IsNow v.meaning (acted sess (looks text b)) y
@@ -179,13 +183,24 @@ module _ (v : Server) (cells : List Cell) (seats : List SeatState) (st : StandTo
         running = g.runs.now.running;
         transcript = g.runs.now.transcript;
         under = g.runs.now.under ∙ ap text_at at;
-        open_one = subst (λ (z : Option Deal). AreDeals (on_some (asks text b) z) y y.open_one) (sym g.has) asks_deal;
-        desk = goes_on v.meaning sess.desk (acted sess (looks text b)).desk x y [] refl refl g.runs.now.desk goes;
+        open_one = subst (λ (z : Option SessionTransaction). AreTransactions (on_some (asks text b) z) y y.open_one) (sym g.has) asks_transaction;
+        so_far = goes_on v.meaning sess.so_far (acted sess (looks text b)).so_far x y [] refl refl g.runs.now.so_far goes;
       }
 
-      pub asks_act : TranscriptsAgree v (st.history ++ by g.runs.number (looks text b) ∷ []) st.ledger (slice_set seats j (sits s y))
-      asks_act = plain_acts v st.ledger seats st.history st.transcripts_agree j s there x y role g.runs.number g.runs.is (looks text b ∷ []) (plain_look text b, tt)
-          ((g.deal, record { runs = g.runs.now.running; has = g.has; unfixed = g.is.end ∙ open_end }, only), tt) asks_now (record { images = refl; moments = refl; earlier = refl })
+      pub asks_act : TranscriptsAgree v (history ++ by g.runs.number (looks text b) ∷ []) st.ledger (slice_set seats j (sits s y))
+      asks_act = plain_acts v st.ledger seats history st.transcripts_agree j s there x y role g.runs.number g.runs.is (looks text b ∷ []) (plain_look text b, tt)
+          ((g.transaction, record { runs = g.runs.now.running; has = g.has; unfixed = g.is.end ∙ open_end }, only), tt) asks_now (record { images = refl; moments = refl; earlier = refl })
+
+      -- its session keeps its number
+      pub asks_number : (asks_act.of_seat j).now ≡ Some g.runs.number
+      unfolding asks_act
+      asks_number = ap (λ (f : ℕ → Numbers). (f j).now) (plain_parts v st.ledger seats history st.transcripts_agree j s there x y role g.runs.number g.runs.is (looks text b ∷ []) (plain_look text b, tt)
+          ((g.transaction, record { runs = g.runs.now.running; has = g.has; unfixed = g.is.end ∙ open_end }, only), tt) asks_now (record { images = refl; moments = refl; earlier = refl })) ∙ g.runs.is
+
+      -- and is the seat's
+      pub asks_owner : asks_act.owner g.runs.number ≡ j
+      unfolding asks_act
+      asks_owner = (plain_owner _ _ _ _ _ _ _ _ _ _ _ _ _ _ _ _ _ _)
 
   -- ---- a statement of rows is done
 
@@ -198,17 +213,19 @@ module _ (v : Server) (cells : List Cell) (seats : List SeatState) (st : StandTo
     then_seat = sits s (at_place (Some p) (inside text (stage_after o.opened r)) x)
 
     abbrev Done : Type 0
-    Done = ActsAt v st.ledger (slice_set seats j then_seat)
+    Done = ActsAt v history j (st.transcripts_agree.of_seat j).now (done_acts o.opened text b r) st.ledger (slice_set seats j then_seat)
 
-    by_opened : (e : o.opened ≡ true) → kind_of (v.meaning.reads text) ≡ rows → ActsAt v st.ledger (slice_set seats j (sits s (at_place (Some p) (inside text (answering r None)) x)))
-    by_opened e kind = record {
-      history = _;
-      agree = said_act v cells seats st j s there x role o one open_end e text stage at no_lines all_count e r p id opened end (script ∙ ap (λ (z : Bool). with_line z (text, reply_text r) o.script) e)
-          (from_at v.meaning x _ (inside text stage) (Some o) (said (text, reply_text r) ∷ []) at one refl (λ n i f. at_opened v.meaning n text o p stage (answering r None) (said (text, reply_text r) ∷ []) e open_end id (opened ∙ e) (end ∙ open_end)
-          (nothing_inside (kind_of (v.meaning.reads text))) not_begin no_image
-          (ap (λ (k : Kind). shown_inside v.meaning k text (answering r None)) kind ∙ inside_shown ∙ ap (λ w. said (text, w) ∷ []) (v.real.writes r)) not_begun kept_none
-          (opened_fits v.meaning n text o.id r no_begin (within v.meaning n text r o.id rows None kind refl (controlled_inside n r plain o.id rows refl refl) tt))));
-    }
+    by_opened : (e : o.opened ≡ true) → kind_of (v.meaning.reads text) ≡ rows → ActsAt v history j (st.transcripts_agree.of_seat j).now (done_acts true text b r) st.ledger (slice_set seats j (sits s (at_place (Some p) (inside text (answering r None)) x)))
+    by_opened e kind = let said_so = said_by v cells seats st j s there x role o one open_end e text stage at no_lines all_count e r p id opened end (script ∙ ap (λ (z : Bool). with_line z (text, reply_text r) o.script) e)
+        (from_at v.meaning x _ (inside text stage) (Some o) (said (text, reply_text r) ∷ []) at one refl (λ n i f. at_opened v.meaning n text o p stage (answering r None) (said (text, reply_text r) ∷ []) e open_end id (opened ∙ e) (end ∙ open_end)
+        (nothing_inside (kind_of (v.meaning.reads text))) not_begin no_image
+        (ap (λ (k : Kind). shown_inside v.meaning k text (answering r None)) kind ∙ inside_shown ∙ ap (λ w. said (text, w) ∷ []) (v.real.writes r)) not_begun kept_none
+        (opened_fits v.meaning n text o.id r no_begin (within v.meaning n text r o.id rows None kind refl (controlled_inside n r plain o.id rows refl refl) tt)))) g.runs.number g.runs.is in record {
+          session = g.runs.number;
+          is = g.runs.is;
+          agree = said_so.0;
+          own = said_so.1;
+        }
 
     own_heard : (answered : List (Text × Bool)) (a : Text × Bool) → IsHeard (inside text stage) answered a → IsHeard (inside text (replied r)) answered a
     own_heard answered a h = ⊎_elim (λ (g : IsAnswered answered a). inl g) (λ (g : In a (asking_in text stage)). inr (⊎_elim (λ e. inl e) (λ (e : ⊥). absurd e) (asks_for a g))) h
@@ -224,9 +241,10 @@ module _ (v : Server) (cells : List Cell) (seats : List SeatState) (st : StandTo
     is_asked false = inl refl
     is_asked true = inr (inl refl)
 
-    by_own : (e : o.opened ≡ false) → ActsAt v st.ledger (slice_set seats j (sits s (at_place (Some p) (inside text (replied r)) x)))
+    by_own : (e : o.opened ≡ false) → ActsAt v history j (st.transcripts_agree.of_seat j).now (done_acts false text b r) st.ledger (slice_set seats j (sits s (at_place (Some p) (inside text (replied r)) x)))
     by_own e = record {
-      history = _;
+      session = g.runs.number;
+      is = g.runs.is;
       agree = asks_act open_end text stage at no_lines b (replied r) p (record { id = id; opened = opened; script = own_script e; end = end }) (is_asked b) (λ f. in_last p.script (text, reply_text r)) own_heard
           (from_at v.meaning x _ (inside text stage) (Some o) [] at one refl (λ n i f. let z = fits_if v.meaning n text stage o false e f in record {
             shown = append-nil _ ∙ (λ m. shown_with v.meaning (e m) o.id text stage ++ end_shown o.end) ∙ ap (λ (l : List Fact). (began o.id false ∷ l) ++ end_shown o.end) nothing ∙ (λ m. shown_with v.meaning (sym (opened ∙ e) m) (sym id m) text (replied r) ++ end_shown (sym end m));
@@ -234,11 +252,12 @@ module _ (v : Server) (cells : List Cell) (seats : List SeatState) (st : StandTo
             images = no_image;
             fits = if_fits v.meaning n text (replied r) p false (opened ∙ e) (subst (EndsOwn (kind_of (v.meaning.reads text))) (sym end) z.0, (fits_own n r plain v.meaning text o.end z.0 no_begin none_kept, is_said));
           }));
+      own = asks_owner _ _ _ _ _ _ _ _ _ _ _ _ _;
     }
 
     pub done_act : (o.opened ≡ true → kind_of (v.meaning.reads text) ≡ rows) → Done
     done_act kind = by o.opened refl
       where
         by : (c : Bool) → o.opened ≡ c → Done
-        by true e = subst (λ (z : Bool). ActsAt v st.ledger (slice_set seats j (sits s (at_place (Some p) (inside text (stage_after z r)) x)))) (sym e) (by_opened e (kind e))
-        by false e = subst (λ (z : Bool). ActsAt v st.ledger (slice_set seats j (sits s (at_place (Some p) (inside text (stage_after z r)) x)))) (sym e) (by_own e)
+        by true e = subst (λ (z : Bool). ActsAt v history j (st.transcripts_agree.of_seat j).now (done_acts z text b r) st.ledger (slice_set seats j (sits s (at_place (Some p) (inside text (stage_after z r)) x)))) (sym e) (by_opened e (kind e))
+        by false e = subst (λ (z : Bool). ActsAt v history j (st.transcripts_agree.of_seat j).now (done_acts z text b r) st.ledger (slice_set seats j (sits s (at_place (Some p) (inside text (stage_after z r)) x)))) (sym e) (by_own e)

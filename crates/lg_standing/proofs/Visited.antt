@@ -21,7 +21,7 @@ use Rattle.lg_standing.specs.Contents.{Contents, Known, contents, known}
 use Rattle.lg_standing.specs.LocksCover.{LiesUnder, EndLiesUnder, IsUnderLocks}
 use Rattle.lg_standing.specs.OpenOnes.{HasOpen}
 use Rattle.lg_standing.specs.Seats.{OpenTransaction, Session, SeatState}
-use Rattle.lg_standing.specs.StandTogether.{StandTogether}
+use Rattle.lg_standing.specs.StandTogether.{History, Stands}
 use Rattle.lg_standing.proofs.FreshIds.{EndIsNotOf, IsNotOf, none_touched, none_touched_in}
 use Rattle.lg_standing.proofs.Ids.{outside, has_not}
 use Rattle.lg_standing.proofs.OpenSeats.{one_open}
@@ -82,7 +82,7 @@ cell_of_user id l = rw (ne_eqb id 1 (λ e. omega (arith, e)), ne_eqb id 2 (λ e.
 le_true : (n : ℕ) → 1 ≤ n → nat_le 1 n ≡ true
 le_true n l = le-leb 1 n l
 
-module _ (v : Server) (cells : List Cell) (seats : List SeatState) (st : StandTogether v cells seats) (j : ℕ) (x : Session) (o : OpenTransaction) (has : HasOpen seats j x o) (open_end : o.end ≡ unfixed) where
+module _ (v : Server) (cells : List Cell) (seats : List SeatState) {history : History} (st : Stands v history cells seats) (j : ℕ) (x : Session) (o : OpenTransaction) (has : HasOpen seats j x o) (open_end : o.end ≡ unfixed) where
   abbrev c : Contents
   c = contents cells
 
@@ -96,7 +96,7 @@ module _ (v : Server) (cells : List Cell) (seats : List SeatState) (st : StandTo
       subst (λ u. In i u.visited) (one_open seats j b.x x b.o o (subst (λ n. HasOpen seats n b.x b.o) (sym here) b.has) has).1 b.visited
 
   not_in_journal : k.has o.id ≡ false
-  not_in_journal = has_not o.id st.ledger.items (outside v st.history st.ledger seats st.transcripts_agree j x o has open_end)
+  not_in_journal = has_not o.id st.ledger.items (outside v history st.ledger seats st.transcripts_agree j x o has open_end)
 
   module _ (id : ℕ) (away : In (cell_of id) o.visited → ⊥) where
     not_its : (w : Version) (event : EventId) → (k.has event.0 ≡ false → LiesUnder c k.tables id w event) → event.0 ≢ o.id

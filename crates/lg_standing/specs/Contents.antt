@@ -1,5 +1,5 @@
--- What the cells have, and what the journal says, as far as others than the ledger's cell ask for it: functions, so that a visit that leaves them
--- leaves all that is said of them.
+-- What the cells have, and what the journal says, as far as others than the ledger's cell ask for it:
+-- functions, so that a visit that leaves them leaves all that is said of them.
 use Rattle.std.specs.Prelude.{ℕ, ◌==◌, Bool, List}
 use Rattle.std.specs.List.{list_any}
 use mathlib.Core.Option.{Option, some, none}

@@ -1,10 +1,12 @@
+pub mod ActsOf
 pub mod Alone
 pub mod Answering
+pub mod AtTheEnd
 pub mod CatalogVisits
 pub mod Cells
 pub mod Committed
 pub mod Contents
-pub mod Desks
+pub mod Deeds
 pub mod Doing
 pub mod EventsIn
 pub mod ImageVisits
@@ -12,6 +14,7 @@ pub mod LedgerIsLegal
 pub mod LedgerVisits
 pub mod LocksAgree
 pub mod LocksCover
+pub mod LocksWereAsked
 pub mod May
 pub mod Moves
 pub mod OpenOnes
@@ -25,6 +28,7 @@ pub mod Steps
 pub mod TableVisits
 pub mod TablesAreSerial
 pub mod TranscriptsAgree
+pub mod TranscriptsSoFar
 pub mod TreesAreOfEvents
 pub mod UndoVisits
 pub mod Visits

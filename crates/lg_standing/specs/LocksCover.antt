@@ -1,4 +1,5 @@
--- Locks cover: each lock is a want, each want of a script has its lock, and what isn't committed lies under locks.
+-- Locks cover: each lock is one seat's, each want of a script has its lock, and what isn't committed lies
+-- under locks.
 use Rattle.std.specs.Prelude.{ℕ, suc, ◌≡◌, ◌⊎◌, ◌≤◌, Bool, true, false, not, List, [], Option, Some, None}
 use Rattle.lg_types.specs.declared.statement.Stmt.{Stmt}
 use Rattle.lg_types.specs.declared.statement.Stmt.TheVariants as s
@@ -93,8 +94,8 @@ abbrev pub IsRepliedTo : Tables → Option Stmt → Type 0
 IsRepliedTo T (Some (s.Index create)) = (plan T (s.Index create)).definition ≡ as_before
 IsRepliedTo T _ = Unit {0}
 
--- what a statement has got is that of the tables or, where the statement changes definitions and isn't in the journal, that
--- after itself; then it has the catalog alone
+-- what a statement has got is that of the tables or, where the statement changes definitions and isn't in the
+-- journal, that after itself; then it has the catalog alone
 abbrev pub IsGot : Tables → Type 0 → Bool → Option Stmt → Stage → Type 0
 IsGot T Exclusive outside stmt (found named fresh) = IsNamed T stmt named
 IsGot T Exclusive outside stmt (made def indexed) = (outside ≡ true) × IsAfter T stmt def × Exclusive
@@ -123,7 +124,8 @@ LookedFirst (inside text (found named true)) = Unit {0}
 LookedFirst (inside text (refused reply)) = Unit {0}
 LookedFirst _ = ⊥
 
--- the statements before it want nothing in the catalog, its transaction's locks there are S, and it has none in a table's cell
+-- the statements before it want nothing in the catalog, its transaction's locks there are S, and it has none
+-- in a table's cell
 pub record WantsNone (v : Server) (c : Contents) (T : Tables) (o : OpenTransaction) : Type 0 where
   pub before : Each (λ l. wants_in v (defs_of T) o.opened catalog_at l.0 ≡ []) o.script
   pub shares : (h : Hold) → In h (c.holds catalog_at) → h.tx ≡ o.id → h.want.mode ≡ S
@@ -162,14 +164,16 @@ KeepsLocks o i = (In i o.released → ⊥) × (In catalog_at o.released → ⊥)
 pub record LocksCover (v : Server) (c : Contents) (k : Known) (seats : List SeatState) : Type 0 where
   -- each lock in a cell belongs to one seat
   pub belong : (i : ℕ) (h : Hold) → In h (c.holds i) → Belongs seats i h
-  -- until it has released the catalog, in the cells that it hasn't released a transaction's locks cover all wants of its script
+  -- until it has released the catalog, in the cells that it hasn't released a transaction's locks cover all
+  -- wants of its script
   pub cover : (j : ℕ) (x : Session) (o : OpenTransaction) → HasOpen seats j x o → (i : ℕ) → KeepsLocks o i
       → Each (λ l. Each (Holds (c.holds i) o.id) (wants_in v (defs_of k.tables) o.opened i l.0))
       (script_so_far x o)
   -- it has released none before its end is fixed
   pub unreleased : (j : ℕ) (x : Session) (o : OpenTransaction) → HasOpen seats j x o → o.end ≡ unfixed
       → o.released ≡ []
-  -- while its end isn't fixed, and its statement has been in the catalog, it has the lock there that the statement wants
+  -- while its end isn't fixed, and its statement has been in the catalog, it has the lock there that the
+  -- statement wants
   pub looked : (j : ℕ) (x : Session) (o : OpenTransaction) → HasOpen seats j x o → o.end ≡ unfixed
       → LookedAt v c (defs_of k.tables) o.id o.opened x.place
   -- where it was the first of its transaction there, none before it wants anything there
@@ -181,12 +185,13 @@ pub record LocksCover (v : Server) (c : Contents) (k : Known) (seats : List Seat
   pub on_whole : (h : Hold) → In h (c.holds catalog_at) → h.want.item ≡ Whole
   -- a transaction that has a lock in a table's cell has one in the catalog
   pub catalog : (i id : ℕ) → HasLock c (suc i) id → HasLock c catalog_at id
-  -- while a transaction whose end number n is fixed has a lock in the catalog, the journal has the definitions of its first n
-  -- transactions
+  -- while a transaction whose end number n is fixed has a lock in the catalog, the journal has the
+  -- definitions of its first n transactions
   pub definitions : (j : ℕ) (x : Session) (o : OpenTransaction) (n : ℕ) → HasOpen seats j x o → EndsAt o.end n
       → HasLock c catalog_at o.id
       → defs_of k.tables ≡ defs_of (k.after n)
-  -- while a seat inside a statement has a lock in the catalog, the definition that it got there for this statement is that
+  -- while a seat inside a statement has a lock in the catalog, the definition that it got there for this
+  -- statement is that
   pub got : (j : ℕ) (x : Session) (o : OpenTransaction) → HasOpen seats j x o → HasLock c catalog_at o.id
       → IsGotAt v k.tables (HasAlone c o.id) (not (k.has o.id)) x.place
   -- until it has dropped its index, a refused CREATE INDEX has the catalog alone

@@ -1,5 +1,6 @@
--- Rows agree, key by key: what the versions of each key are, by who may have changed them. What the sentences on committed tables
--- and on the versions of open transactions say of whole tables follows from this; and this is what each visit can be shown to keep.
+-- Rows agree, key by key: what the versions of each key are, by who may have changed them. What the sentences
+-- on committed tables and on the versions of open transactions say of whole tables follows from this; and
+-- this is what each visit can be shown to keep.
 use Rattle.std.specs.Prelude.{ℕ, ◌≡◌, ◌≤◌, Bool, true, false, List}
 use Rattle.std.specs.List.{AllByRecursion}
 use Rattle.lg_types.specs.declared.version.Version.{Version}
@@ -47,7 +48,8 @@ pub record RowsAgree (v : Server) (c : Contents) (k : Known) (seats : List SeatS
       → (h : Hold) → In h (c.holds (cell_of id)) → h.tx ≡ o.id → lets_change key h.want ≡ true
       → counted o.id id x.place (key_rows k.tables id key (c.versions id))
       ≡ key_rows k.tables id key (versions_of (script_end v k.tables x o).state.tables id)
-  -- without its starts and ends, what a transaction outside the journal has an X on is as the journal leads to it
+  -- without its starts and ends, what a transaction outside the journal has an X on is as the journal leads
+  -- to it
   pub undone : (id : ℕ) (key : Key) → 1 ≤ id
       → (h : Hold) → In h (c.holds (cell_of id)) → k.has h.tx ≡ false → lets_change key h.want ≡ true
       → versions_undone h.tx 0 (key_rows k.tables id key (c.versions id)) ≡ key_rows k.tables id key

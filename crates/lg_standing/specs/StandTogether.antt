@@ -1,7 +1,9 @@
 -- When cells and seats stand together.
-use Rattle.std.specs.Prelude.{List}
-use Rattle.lg_history.specs.Acts.{Event}
+use Rattle.std.specs.Prelude.{ℕ, ◌≡◌, ◌++◌, List, map}
+use Rattle.lg_history.specs.Lists.{Each}
+use Rattle.lg_history.specs.Acts.{SessionAct, Act, by, closes}
 use Rattle.lg_standing.specs.Server.{Server}
+use Rattle.lg_standing.specs.Deeds.{Deed, deed}
 use Rattle.lg_standing.specs.Cells.{CatalogCell, LedgerCell, Cell, AreCells}
 use Rattle.lg_standing.specs.Contents.{contents, known}
 use Rattle.lg_standing.specs.Seats.{SeatState}
@@ -11,13 +13,16 @@ use Rattle.lg_standing.specs.RowsAgree.{RowsAgree}
 use Rattle.lg_standing.specs.OpenScripts.{OpenScripts}
 use Rattle.lg_standing.specs.LocksCover.{LocksCover}
 use Rattle.lg_standing.specs.LocksAgree.{LocksAgree}
+use Rattle.lg_standing.specs.LocksWereAsked.{LocksWereAsked}
 use Rattle.lg_standing.specs.TreesAreOfEvents.{TreesAreOfEvents}
 use Rattle.lg_standing.specs.TranscriptsAgree.{TranscriptsAgree}
 
--- Cells that are out count as they were when they were taken.
-pub record StandTogether (v : Server) (cells : List Cell) (seats : List SeatState) : Type 0 where
-  -- all that happened, in the order in which it happened
-  pub history : List Event
+-- all that happened, in the order in which it happened
+abbrev pub History : Type 0
+History = List Act
+
+-- They stand together at the end of this history. Cells that are out count as they were when they were taken.
+pub record Stands (v : Server) (history : History) (cells : List Cell) (seats : List SeatState) : Type 0 where
   pub catalog : CatalogCell
   pub ledger : LedgerCell
   pub are_cells : AreCells cells catalog ledger
@@ -30,3 +35,53 @@ pub record StandTogether (v : Server) (cells : List Cell) (seats : List SeatStat
   pub locks_agree : LocksAgree (contents cells) seats
   pub trees_are_of_events : TreesAreOfEvents v (contents cells) (known v.reads ledger.items) seats
   pub transcripts_agree : TranscriptsAgree v history ledger seats
+
+-- then each lock is a want that its transaction asked for
+abbrev pub LocksAskedFor : {v : Server} {history : History} {cells : List Cell} {seats : List SeatState}
+    → Stands v history cells seats → Type 0
+LocksAskedFor {v} {history} {cells} st =
+    LocksWereAsked v history (contents cells) (known v.reads st.ledger.items)
+
+-- both hold at the end of some history
+pub record StandTogether (v : Server) (cells : List Cell) (seats : List SeatState) : Type 0 where
+  pub history : History
+  pub stands : Stands v history cells seats
+  pub locks_were_asked : LocksAskedFor stands
+
+-- ---- how a history goes on
+
+-- they stand together once a session of seat j did this, behind the history
+pub record StandsAfter (v : Server) (j : ℕ) (history : History) (acts : List SessionAct) (cells : List Cell)
+    (seats : List SeatState) : Type 0 where
+  -- the number of the session in the history
+  pub session : ℕ
+  pub stands : Stands v (history ++ map (by session) acts) cells seats
+  -- each act is one of a session of this seat
+  pub mine : Each (λ act. stands.transcripts_agree.owner session ≡ j) acts
+
+-- what a session of seat j did, or nothing of a session
+abbrev pub IsOfSeat : (ℕ → ℕ) → ℕ → Act → Type 0
+IsOfSeat owner j (by session act) = owner session ≡ j
+IsOfSeat owner j (closes k) = Unit {0}
+
+-- They stand together once these deeds were done behind the history, all that are of sessions by those of seat j,
+-- and each lock was asked for.
+pub record StandsDone (v : Server) (j : ℕ) (history : History) (deeds : List Deed) (cells : List Cell)
+    (seats : List SeatState) : Type 0 where
+  pub events : List Act
+  pub are : map deed events ≡ deeds
+  pub stands : Stands v (history ++ events) cells seats
+  pub mine : Each (IsOfSeat stands.transcripts_agree.owner j) events
+  pub locks_were_asked : LocksAskedFor stands
+
+-- They stand together later on: their history is the one before with just these deeds behind it, each lock
+-- was asked for, and database and block size are as they were.
+pub record StandsLater {v : Server} {earlier : History} {cells : List Cell} {seats : List SeatState}
+    (st : Stands v earlier cells seats) (deeds : List Deed) (then_cells : List Cell)
+    (then_seats : List SeatState) : Type 0 where
+  pub events : List Act
+  pub are : map deed events ≡ deeds
+  pub stands : Stands v (earlier ++ events) then_cells then_seats
+  pub locks_were_asked : LocksAskedFor stands
+  pub database : stands.ledger.database ≡ st.ledger.database
+  pub block_size : stands.ledger.block_size ≡ st.ledger.block_size

@@ -1,4 +1,4 @@
--- Transcripts agree so far: they are the parts of one history in which each event paid what it owed.
+-- Transcripts agree so far: they are the parts of one history in which each act might happen when it did.
 use Rattle.std.specs.Prelude.{ℕ, ◌≡◌, ◌<◌, ◌≤◌, ◌++◌, true, List, [], ◌∷◌, map, flat_map, length, Option, Some}
 use mathlib.Core.Option.{some}
 use lib.ListN.{get_elem?}
@@ -6,12 +6,11 @@ use Rattle.lg_model.specs.Journals.{tx_count, cut}
 use Rattle.lg_history.specs.Lists.{Each, In}
 use Rattle.lg_history.specs.Journals.{times}
 use Rattle.lg_history.specs.Facts.{Shows}
-use Rattle.lg_history.specs.Acts.{Act, keeps, Event, of, marked}
+use Rattle.lg_history.specs.Acts.{SessionAct, keeps, Act, of, marked}
 use Rattle.lg_history.specs.Sessions.{fresh}
 use Rattle.lg_history.specs.Worlds.{first, run}
 use Rattle.lg_history.specs.Guards.{Good}
-use Rattle.lg_history.specs.Histories.{SetupRan}
-use Rattle.lg_standing.specs.Server.{Server}
+use Rattle.lg_standing.specs.Server.{Server, journal_image}
 use Rattle.lg_standing.specs.Cells.{LedgerCell}
 use Rattle.lg_standing.specs.Seats.{KeptImage, Role, session, Written, SeatState}
 use Rattle.lg_standing.specs.Parts.{Numbers, all_of, Sessions}
@@ -34,22 +33,23 @@ pub record IsMoment (seats : List SeatState) (time : ℕ) : Type 0 where
   pub is : In time (moments_of seat)
 
 -- the number of items of an image that it kept
-abbrev pub image_of : Act → List ℕ
+abbrev pub image_of : SessionAct → List ℕ
 image_of (keeps items mark) = items ∷ []
 image_of _ = []
 
--- each m is at most the number of the journal's items, and the bytes are those of the image of its first m items
+-- each m is at most the number of the journal's items, and the bytes are those of the image of its first m
+-- items
 pub record IsImage (v : Server) (ledger : LedgerCell) (k : KeptImage) : Type 0 where
   pub within : k.0 ≤ length ledger.items
-  pub bytes : k.1 ≡ v.image ledger.database (cut ledger.items k.0)
+  pub bytes : k.1 ≡ journal_image v ledger.database (cut ledger.items k.0)
 
 -- the images that a seat kept are those of its sessions' acts, which their replies show
-pub record AreImages (v : Server) (ledger : LedgerCell) (acts : List Act)
+pub record AreImages (v : Server) (ledger : LedgerCell) (acts : List SessionAct)
     (images : List KeptImage) : Type 0 where
   pub shown : map (λ k. k.0) images ≡ flat_map image_of acts
   pub each : Each (IsImage v ledger) images
 
-module _ (v : Server) (h : List Event) (ledger : LedgerCell) where
+module _ (v : Server) (h : List Act) (ledger : LedgerCell) where
   abbrev pub ImagesOfPast : List ℕ → List Written → Type 0
   ImagesOfPast (n ∷ ns) (x ∷ xs) = AreImages v ledger (of n h) x.images × ImagesOfPast ns xs
   ImagesOfPast _ _ = Unit {0}
@@ -76,9 +76,10 @@ module _ (v : Server) (h : List Event) (ledger : LedgerCell) where
 
 -- ---- all
 
-pub record TranscriptsAgree (v : Server) (h : List Event) (ledger : LedgerCell)
+pub record TranscriptsAgree (v : Server) (h : List Act) (ledger : LedgerCell)
     (seats : List SeatState) : Type 0 where
-  -- each event of the history paid what it owed; so what the sessions have shown so far meets the rules of agreement
+  -- each act of the history might happen when it did; so what the sessions have shown so far meets the rules
+  -- of agreement
   pub good : Good v.meaning ledger.database first h
   -- the history leads to the journal, the digests and the next id of the ledger's cell
   pub items : (run first h).items ≡ ledger.items
@@ -99,6 +100,3 @@ pub record TranscriptsAgree (v : Server) (h : List Event) (ledger : LedgerCell)
   -- each time in the journal, and each moment at which a digest was made, is one of the moments of a seat
   pub times : Each (IsMoment seats) (times ledger.items)
   pub made : Each (λ d. IsMoment seats d.made) ledger.issued
-  -- `setup` is the session that the first seat ran to its end before any other session, if there is one
-  pub setup : Option ℕ
-  pub setup_ran : SetupRan setup h

@@ -12,32 +12,33 @@ use Rattle.lg_standing.specs.Seats.{Tree, Frame, OpenTransaction, Session, SeatS
 use Rattle.lg_standing.specs.OpenOnes.{HasOpen, script_end}
 use Rattle.lg_standing.specs.EventsIn.{events_in}
 use Rattle.lg_standing.specs.OpenScripts.{events_counted}
+use Rattle.lg_row.specs.Leaf.{event_bytes}
 
 -- each tree is that of the leaves of the events in its table, and a table without a tree has no event
-pub record AreTrees (v : Server) (events : ℕ → List Event) (trees : List Tree) : Type 0 where
+pub record AreTrees (events : ℕ → List Event) (trees : List Tree) : Type 0 where
   -- a table has one tree at most
   pub differ : Differ (map (λ t. t.table) trees)
   pub tables : Each (λ t. 1 ≤ t.table) trees
-  pub leaves : Each (λ t. t.leaves ≡ map v.leaf (events t.table)) trees
+  pub leaves : Each (λ t. t.leaves ≡ map event_bytes (events t.table)) trees
   pub others : (id : ℕ) → 1 ≤ id → Each (λ t. t.table ≢ id) trees → events id ≡ []
 
 -- a frame has the counter and the trees that the script had there
-pub record IsFrame (v : Server) (id : ℕ) (f : Frame) (kept : Saved) : Type 0 where
+pub record IsFrame (id : ℕ) (f : Frame) (kept : Saved) : Type 0 where
   pub name : f.name ≡ kept.name
   pub counter : f.seq ≡ kept.seq
-  pub trees : AreTrees v (λ t. events_in id t (versions_of kept.tables t)) f.trees
+  pub trees : AreTrees (λ t. events_in id t (versions_of kept.tables t)) f.trees
 
-abbrev pub AreFrames : Server → ℕ → List Frame → List Saved → Type 0
-AreFrames v id [] [] = Unit {0}
-AreFrames v id (f ∷ fs) (k ∷ ks) = IsFrame v id f k × AreFrames v id fs ks
-AreFrames v id _ _ = ⊥
+abbrev pub AreFrames : ℕ → List Frame → List Saved → Type 0
+AreFrames id [] [] = Unit {0}
+AreFrames id (f ∷ fs) (k ∷ ks) = IsFrame id f k × AreFrames id fs ks
+AreFrames id _ _ = ⊥
 
 pub record HasItsTrees (v : Server) (c : Contents) (k : Known) (x : Session)
     (o : OpenTransaction) : Type 0 where
   -- each tree of the transaction is that of the leaves of its events in its table
-  pub trees : AreTrees v (events_counted c x o) o.trees
+  pub trees : AreTrees (events_counted c x o) o.trees
   -- each frame has the counter and trees that its script had there
-  pub frames : AreFrames v o.id o.frames (script_end v k.tables x o).state.saved
+  pub frames : AreFrames o.id o.frames (script_end v k.tables x o).state.saved
 
 -- of each transaction whose end isn't fixed
 abbrev pub TreesAreOfEvents : Server → Contents → Known → List SeatState → Type 0

@@ -1,85 +1,117 @@
 //! Visits of the catalog's cell keep cells and seats standing together.
 
-ghost use Rattle.std.specs.Prelude.{◌≡◌, ℕ, List, slice_set};
+ghost use Rattle.std.specs.Prelude.{◌≡◌, ℕ, false, true, List, [], ◌∷◌, slice_set, Some};
 ghost use mathlib.Core.Option.{some};
 ghost use lib.ListN.{get_elem?};
+ghost use Rattle.lg_types.specs.declared.table.Part.TheVariants.{System};
+ghost use Rattle.lg_model.specs.Effect.{query_rows};
+ghost use Rattle.lg_history.specs.Acts.{looks, meets};
+ghost use Rattle.lg_standing.specs.ActsOf.{done_acts, failed_in};
+ghost use Rattle.lg_standing.specs.Doing.{rows_reply};
 ghost use Rattle.lg_standing.specs.Server.{Server};
-ghost use Rattle.lg_standing.specs.Cells.{Cell, Catalog, CatalogCell, catalog_at};
+ghost use Rattle.lg_standing.specs.Cells.{Cell, Catalog, CatalogCell, catalog_at, versions_in};
 ghost use Rattle.lg_standing.specs.Seats.{SeatState};
 ghost use Rattle.lg_types.specs.declared.reply.Reply.TheVariants.{Refused};
-ghost use Rattle.lg_value.specs.declared.refusal.Refusal.TheVariants.{E30};
+ghost use Rattle.lg_value.specs.declared.refusal.Refusal.TheVariants.{E30, Locked};
 ghost use Rattle.lg_standing.specs.CatalogVisits.{CreatesIndex, CreatesTable, GivesBack, Looks, ReadsSystem, RefusesCreate, StopsInCatalog};
 ghost use Rattle.lg_standing.specs.UndoVisits.{ReleasesCatalog};
-ghost use Rattle.lg_standing.specs.StandTogether.{StandTogether};
+ghost use Rattle.lg_standing.specs.StandTogether.{History, LocksAskedFor, Stands, StandsAfter};
 
 /// Looking a name up does.
 pub fn looking_up_keeps_standing()
-    ensures { (v : Server) (cells : List Cell) (seats : List SeatState) → StandTogether v cells seats
+    ensures { (v : Server) (history : History) (cells : List Cell) (seats : List SeatState)
+        → Stands v history cells seats
         → (j : ℕ) (s : SeatState) → get_elem? seats j ≡ some s
         → (c d : CatalogCell) (t : SeatState) → get_elem? cells catalog_at ≡ some (Catalog c)
-        → Looks v c s d t
-        → StandTogether v (slice_set cells catalog_at (Catalog d)) (slice_set seats j t) }
+        → (w : Looks v c s d t)
+        → StandsAfter v j history (looks w.at.stands.text false ∷ [])
+        (slice_set cells catalog_at (Catalog d)) (slice_set seats j t) }
 {}
 
 /// A refused statement gives the catalog's lock back.
 pub fn giving_back_keeps_standing()
-    ensures { (v : Server) (cells : List Cell) (seats : List SeatState) → StandTogether v cells seats
+    ensures { (v : Server) (history : History) (cells : List Cell) (seats : List SeatState)
+        → Stands v history cells seats
         → (j : ℕ) (s : SeatState) → get_elem? seats j ≡ some s
         → (c d : CatalogCell) (t : SeatState) → get_elem? cells catalog_at ≡ some (Catalog c)
         → GivesBack v c s d t
-        → StandTogether v (slice_set cells catalog_at (Catalog d)) (slice_set seats j t) }
+        → Stands v history (slice_set cells catalog_at (Catalog d)) (slice_set seats j t) }
 {}
 
 /// CREATE TABLE does.
 pub fn creating_a_table_keeps_standing()
-    ensures { (v : Server) (cells : List Cell) (seats : List SeatState) → StandTogether v cells seats
+    ensures { (v : Server) (history : History) (cells : List Cell) (seats : List SeatState)
+        → Stands v history cells seats
         → (j : ℕ) (s : SeatState) → get_elem? seats j ≡ some s
         → (c d : CatalogCell) (t : SeatState) → get_elem? cells catalog_at ≡ some (Catalog c)
-        → CreatesTable v c s d t
-        → StandTogether v (slice_set cells catalog_at (Catalog d)) (slice_set seats j t) }
+        → (w : CreatesTable v c s d t)
+        → StandsAfter v j history (looks w.at.stands.text false ∷ [])
+        (slice_set cells catalog_at (Catalog d)) (slice_set seats j t) }
 {}
 
 /// CREATE INDEX does, as far as the catalog goes.
 pub fn creating_an_index_keeps_standing()
-    ensures { (v : Server) (cells : List Cell) (seats : List SeatState) → StandTogether v cells seats
+    ensures { (v : Server) (history : History) (cells : List Cell) (seats : List SeatState)
+        → Stands v history cells seats
         → (j : ℕ) (s : SeatState) → get_elem? seats j ≡ some s
         → (c d : CatalogCell) (t : SeatState) → get_elem? cells catalog_at ≡ some (Catalog c)
-        → CreatesIndex v c s d t
-        → StandTogether v (slice_set cells catalog_at (Catalog d)) (slice_set seats j t) }
+        → (w : CreatesIndex v c s d t)
+        → StandsAfter v j history (looks w.at.stands.text false ∷ [])
+        (slice_set cells catalog_at (Catalog d)) (slice_set seats j t) }
 {}
 
 /// A CREATE that the catalog refuses does.
 pub fn refusing_a_create_keeps_standing()
-    ensures { (v : Server) (cells : List Cell) (seats : List SeatState) → StandTogether v cells seats
+    ensures { (v : Server) (history : History) (cells : List Cell) (seats : List SeatState)
+        → Stands v history cells seats
         → (j : ℕ) (s : SeatState) → get_elem? seats j ≡ some s
         → (c d : CatalogCell) (t : SeatState) → get_elem? cells catalog_at ≡ some (Catalog c)
-        → RefusesCreate v c s d t
-        → StandTogether v (slice_set cells catalog_at (Catalog d)) (slice_set seats j t) }
+        → (w : RefusesCreate v c s d t)
+        → StandsAfter v j history (looks w.at.stands.text false ∷ [])
+        (slice_set cells catalog_at (Catalog d)) (slice_set seats j t) }
 {}
 
 /// After the end is fixed, the catalog is released.
 pub fn releasing_the_catalog_keeps_standing()
-    ensures { (v : Server) (cells : List Cell) (seats : List SeatState) → StandTogether v cells seats
+    ensures { (v : Server) (history : History) (cells : List Cell) (seats : List SeatState)
+        → Stands v history cells seats
         → (j : ℕ) (s : SeatState) → get_elem? seats j ≡ some s
         → (c d : CatalogCell) (t : SeatState) → get_elem? cells catalog_at ≡ some (Catalog c)
         → ReleasesCatalog c s d t
-        → StandTogether v (slice_set cells catalog_at (Catalog d)) (slice_set seats j t) }
+        → Stands v history (slice_set cells catalog_at (Catalog d)) (slice_set seats j t) }
 {}
 
 /// SELECT on a system table does.
 pub fn reading_a_system_table_keeps_standing()
-    ensures { (v : Server) (cells : List Cell) (seats : List SeatState) → StandTogether v cells seats
+    ensures { (v : Server) (history : History) (cells : List Cell) (seats : List SeatState)
+        → Stands v history cells seats
         → (j : ℕ) (s : SeatState) → get_elem? seats j ≡ some s
         → (c d : CatalogCell) (t : SeatState) → get_elem? cells catalog_at ≡ some (Catalog c)
-        → ReadsSystem v c s d t
-        → StandTogether v (slice_set cells catalog_at (Catalog d)) (slice_set seats j t) }
+        → (w : ReadsSystem v c s d t)
+        → StandsAfter v j history (looks w.at.stands.text false ∷ done_acts w.o.opened w.at.stands.text true
+        (rows_reply (query_rows w.q (w.def, System) (versions_in w.def.id (Catalog c)))))
+        (slice_set cells catalog_at (Catalog d)) (slice_set seats j t) }
 {}
 
 /// So does a visit that lacks memory, and leaves the cell.
 pub fn lacking_memory_in_the_catalog_keeps_standing()
-    ensures { (v : Server) (cells : List Cell) (seats : List SeatState) → StandTogether v cells seats
+    ensures { (v : Server) (history : History) (cells : List Cell) (seats : List SeatState)
+        → Stands v history cells seats
         → (j : ℕ) (s : SeatState) → get_elem? seats j ≡ some s
         → (c d : CatalogCell) (t : SeatState) → get_elem? cells catalog_at ≡ some (Catalog c)
         → (w : StopsInCatalog v c s t) → w.r ≡ Refused E30 → d ≡ c
-        → StandTogether v (slice_set cells catalog_at (Catalog d)) (slice_set seats j t) }
+        → StandsAfter v j history (failed_in v.meaning (Some w.o) w.at.stands.text)
+        (slice_set cells catalog_at (Catalog d)) (slice_set seats j t) }
+{}
+
+/// A visit that meets a lock of another transaction does, where each lock was asked for: the history names
+/// the holder.
+pub fn meeting_a_lock_in_the_catalog_keeps_standing()
+    ensures { (v : Server) (history : History) (cells : List Cell) (seats : List SeatState)
+        → (st : Stands v history cells seats) → LocksAskedFor st
+        → (j : ℕ) (s : SeatState) → get_elem? seats j ≡ some s
+        → (c d : CatalogCell) (t : SeatState) → get_elem? cells catalog_at ≡ some (Catalog c)
+        → (w : StopsInCatalog v c s t) (holder : ℕ) → w.r ≡ Refused (Locked holder) → d ≡ c
+        → StandsAfter v j history (meets w.at.stands.text holder ∷ [])
+        (slice_set cells catalog_at (Catalog d)) (slice_set seats j t) }
 {}

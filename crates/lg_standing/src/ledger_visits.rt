@@ -1,71 +1,87 @@
 //! Visits of the ledger's cell keep cells and seats standing together.
 
-ghost use Rattle.std.specs.Prelude.{◌≡◌, ℕ, Bool, List, slice_set};
+ghost use Rattle.std.specs.Prelude.{◌≡◌, ◌+◌, ◌++◌, ℕ, Bool, List, [], ◌∷◌, length, slice_set};
 ghost use mathlib.Core.Option.{some};
 ghost use lib.ListN.{get_elem?};
+ghost use Rattle.lg_model.specs.Journals.{tx_count};
+ghost use Rattle.lg_history.specs.Acts.{draws, closes, issues, keeps, lacks};
+ghost use Rattle.lg_standing.specs.ActsOf.{closings, commit_acts, end_acts};
 ghost use Rattle.lg_standing.specs.Server.{Server};
-ghost use Rattle.lg_standing.specs.Cells.{Cell, Ledger, LedgerCell};
+ghost use Rattle.lg_standing.specs.Cells.{Cell, Ledger, LedgerCell, pending_in};
 ghost use Rattle.lg_standing.specs.Seats.{SeatState};
 ghost use Rattle.lg_standing.specs.LedgerVisits.{Draws, CommitsNow, ReadsPoint, Closes, Issues, LacksBlock};
-ghost use Rattle.lg_history.specs.Lists.{In};
+ghost use Rattle.lg_standing.specs.May.{OutsStand};
 ghost use Rattle.lg_standing.specs.ImageVisits.{KeepsImage};
-ghost use Rattle.lg_standing.specs.StandTogether.{StandTogether};
+ghost use Rattle.lg_standing.specs.StandTogether.{History, Stands, StandsAfter};
 
 /// Drawing an id does.
 pub fn drawing_keeps_standing()
-    ensures { (v : Server) (cells : List Cell) (seats : List SeatState) → StandTogether v cells seats
+    ensures { (v : Server) (history : History) (cells : List Cell) (seats : List SeatState)
+        → Stands v history cells seats
         → (i j : ℕ) (s : SeatState) → get_elem? seats j ≡ some s
         → (opened : Bool) (c d : LedgerCell) (t : SeatState) → get_elem? cells i ≡ some (Ledger c)
         → Draws v opened c s d t
-        → StandTogether v (slice_set cells i (Ledger d)) (slice_set seats j t) }
+        → StandsAfter v j history (draws c.next opened ∷ [])
+        (slice_set cells i (Ledger d)) (slice_set seats j t) }
 {}
 
 /// So does a commit.
 pub fn committing_keeps_standing()
-    ensures { (v : Server) (cells : List Cell) (seats : List SeatState) → StandTogether v cells seats
+    ensures { (v : Server) (history : History) (cells : List Cell) (seats : List SeatState)
+        → Stands v history cells seats
         → (i j : ℕ) (s : SeatState) → get_elem? seats j ≡ some s
         → (time : ℕ) (c d : LedgerCell) (t : SeatState) → get_elem? cells i ≡ some (Ledger c)
-        → CommitsNow v time c s d t
-        → StandTogether v (slice_set cells i (Ledger d)) (slice_set seats j t) }
+        → (w : CommitsNow v time c s d t)
+        → StandsAfter v j history (commit_acts w.stands.x time (tx_count c.items + 1))
+        (slice_set cells i (Ledger d)) (slice_set seats j t) }
 {}
 
 /// So does reading the point at which a transaction ends.
 pub fn reading_the_point_keeps_standing()
-    ensures { (v : Server) (cells : List Cell) (seats : List SeatState) → StandTogether v cells seats
+    ensures { (v : Server) (history : History) (cells : List Cell) (seats : List SeatState)
+        → Stands v history cells seats
         → (i j : ℕ) (s : SeatState) → get_elem? seats j ≡ some s
-        → (c d : LedgerCell) (t : SeatState) → get_elem? cells i ≡ some (Ledger c) → ReadsPoint v c s t
+        → (c d : LedgerCell) (t : SeatState) → get_elem? cells i ≡ some (Ledger c) → (w : ReadsPoint v c s t)
         → d ≡ c
-        → StandTogether v (slice_set cells i (Ledger d)) (slice_set seats j t) }
+        → StandsAfter v j history (end_acts w.ends (tx_count c.items))
+        (slice_set cells i (Ledger d)) (slice_set seats j t) }
 {}
 
 /// So does closing a block.
 pub fn closing_keeps_standing()
-    ensures { (v : Server) (cells : List Cell) (seats : List SeatState) → StandTogether v cells seats
+    ensures { (v : Server) (history : History) (cells : List Cell) (seats : List SeatState)
+        → Stands v history cells seats
         → (i j : ℕ) (s : SeatState) → get_elem? seats j ≡ some s
-        → (n : ℕ) (c d : LedgerCell) (t : SeatState) → get_elem? cells i ≡ some (Ledger c) → Closes n c d
+        → (n : ℕ) (c d : LedgerCell) (t : SeatState) → get_elem? cells i ≡ some (Ledger c) → Closes v n c d
         → t ≡ s
-        → StandTogether v (slice_set cells i (Ledger d)) (slice_set seats j t) }
+        → Stands v (history ++ closes n ∷ []) (slice_set cells i (Ledger d)) (slice_set seats j t) }
 {}
 
 /// So do issuing a digest, and finding that there is no block.
 pub fn digests_keep_standing()
-    ensures issues { (v : Server) (cells : List Cell) (seats : List SeatState) → StandTogether v cells seats
+    ensures issues { (v : Server) (history : History) (cells : List Cell) (seats : List SeatState)
+        → Stands v history cells seats
         → (i j : ℕ) (s : SeatState) → get_elem? seats j ≡ some s
         → (moment : ℕ) (c d : LedgerCell) (t : SeatState) → get_elem? cells i ≡ some (Ledger c)
-        → Issues v moment c s d t
-        → StandTogether v (slice_set cells i (Ledger d)) (slice_set seats j t) }
-    ensures lacks { (v : Server) (cells : List Cell) (seats : List SeatState) → StandTogether v cells seats
+        → (w : Issues v moment c s d t)
+        → StandsAfter v j (history ++ closings v (pending_in c) c) (issues w.digest (tx_count c.items) ∷ [])
+        (slice_set cells i (Ledger d)) (slice_set seats j t) }
+    ensures lacks { (v : Server) (history : History) (cells : List Cell) (seats : List SeatState)
+        → Stands v history cells seats
         → (i j : ℕ) (s : SeatState) → get_elem? seats j ≡ some s
         → (c d : LedgerCell) (t : SeatState) → get_elem? cells i ≡ some (Ledger c) → LacksBlock v c s t
         → d ≡ c
-        → StandTogether v (slice_set cells i (Ledger d)) (slice_set seats j t) }
+        → StandsAfter v j history (lacks ∷ [])
+        (slice_set cells i (Ledger d)) (slice_set seats j t) }
 {}
 
 /// So does keeping an image, with all cells out as they lie there.
 pub fn keeping_an_image_keeps_standing()
-    ensures { (v : Server) (cells : List Cell) (seats : List SeatState) → StandTogether v cells seats
+    ensures { (v : Server) (history : History) (cells : List Cell) (seats : List SeatState)
+        → Stands v history cells seats
         → (j : ℕ) (s : SeatState) → get_elem? seats j ≡ some s
-        → (out : List (ℕ × Cell)) → ((i : ℕ) (c : Cell) → In (i, c) out → get_elem? cells i ≡ some c)
-        → (t : SeatState) → KeepsImage v out s t
-        → StandTogether v cells (slice_set seats j t) }
+        → (out : List (ℕ × Cell)) → OutsStand cells out
+        → (t : SeatState) → (w : KeepsImage v out s t)
+        → StandsAfter v j history (keeps (length w.ledger.items) (tx_count w.ledger.items) ∷ [])
+        cells (slice_set seats j t) }
 {}

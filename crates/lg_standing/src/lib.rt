@@ -1,4 +1,5 @@
-//! When cells and seats stand together: definitions of cells, seats, visits and of what holds of them at each moment.
+//! When cells and seats stand together: definitions of cells, seats, visits and of what holds of them at each
+//! moment.
 #![tactic(auto)]
 
 mod catalog_visits;
@@ -10,12 +11,14 @@ mod table_visits;
 pub use catalog_visits::{
     creating_a_table_keeps_standing, creating_an_index_keeps_standing, giving_back_keeps_standing,
     lacking_memory_in_the_catalog_keeps_standing, looking_up_keeps_standing,
-    reading_a_system_table_keeps_standing, refusing_a_create_keeps_standing,
-    releasing_the_catalog_keeps_standing,
+    meeting_a_lock_in_the_catalog_keeps_standing, reading_a_system_table_keeps_standing,
+    refusing_a_create_keeps_standing, releasing_the_catalog_keeps_standing,
 };
 pub use laws::{
     all_steps_keep_standing, conflicting_locks_dont_stand, first_cells_stand,
-    transcripts_agree_so_far, whatever_happens_agrees,
+    kept_images_are_those_that_transcripts_show, one_step_keeps_standing,
+    the_journal_has_its_sessions_names, transcripts_agree_at_the_end, transcripts_agree_so_far,
+    what_a_seat_may_do_keeps_standing, what_seats_knew_tells_setup, whatever_happens_agrees,
 };
 pub use ledger_visits::{
     closing_keeps_standing, committing_keeps_standing, digests_keep_standing,
@@ -24,6 +27,7 @@ pub use ledger_visits::{
 pub use seat_steps::{splits_and_joins_keep_standing, steps_alone_keep_standing};
 pub use table_visits::{
     adding_an_index_keeps_standing, changing_rows_keeps_standing,
-    lacking_memory_in_a_table_keeps_standing, reading_rows_keeps_standing,
-    refusing_rows_keeps_standing, releasing_a_table_keeps_standing, undoing_keeps_standing,
+    lacking_memory_in_a_table_keeps_standing, meeting_a_lock_in_a_table_keeps_standing,
+    reading_rows_keeps_standing, refusing_rows_keeps_standing, releasing_a_table_keeps_standing,
+    undoing_keeps_standing,
 };

@@ -6,22 +6,25 @@ ghost use lib.ListN.{get_elem?};
 ghost use Rattle.lg_standing.specs.Server.{Server};
 ghost use Rattle.lg_standing.specs.Cells.{Cell};
 ghost use Rattle.lg_standing.specs.Seats.{SeatState, kept, split, joined, nobody, may_end};
+ghost use Rattle.lg_standing.specs.ActsOf.{alone_acts};
 ghost use Rattle.lg_standing.specs.Alone.{Alone};
-ghost use Rattle.lg_standing.specs.StandTogether.{StandTogether};
+ghost use Rattle.lg_standing.specs.StandTogether.{History, Stands, StandsAfter};
 
 /// Each step alone does.
 pub fn steps_alone_keep_standing()
-    ensures { (v : Server) (cells : List Cell) (seats : List SeatState) → StandTogether v cells seats
+    ensures { (v : Server) (history : History) (cells : List Cell) (seats : List SeatState)
+        → Stands v history cells seats
         → (j : ℕ) (s t : SeatState) → get_elem? seats j ≡ some s
-        → Alone v s t → StandTogether v cells (slice_set seats j t) }
+        → (step : Alone v s t) → StandsAfter v j history (alone_acts step) cells (slice_set seats j t) }
 {}
 
 /// So do a split and a join.
 pub fn splits_and_joins_keep_standing()
-    ensures splits { (v : Server) (cells : List Cell) (seats : List SeatState) (j n : ℕ) (s : SeatState)
-        → StandTogether v cells seats → get_elem? seats j ≡ some s
-        → StandTogether v cells (slice_set seats j (kept s n) ++ split s n ∷ []) }
-    ensures joins { (v : Server) (cells : List Cell) (seats : List SeatState) (j k : ℕ) (s t : SeatState)
-        → StandTogether v cells seats → get_elem? seats j ≡ some s → get_elem? seats k ≡ some t
-        → k ≢ j → may_end t → StandTogether v cells (slice_set (slice_set seats j (joined s t)) k nobody) }
+    ensures splits { (v : Server) (history : History) (cells : List Cell) (seats : List SeatState) (j n : ℕ)
+        (s : SeatState) → Stands v history cells seats → get_elem? seats j ≡ some s
+        → Stands v history cells (slice_set seats j (kept s n) ++ split s n ∷ []) }
+    ensures joins { (v : Server) (history : History) (cells : List Cell) (seats : List SeatState) (j k : ℕ)
+        (s t : SeatState) → Stands v history cells seats
+        → get_elem? seats j ≡ some s → get_elem? seats k ≡ some t
+        → k ≢ j → may_end t → Stands v history cells (slice_set (slice_set seats j (joined s t)) k nobody) }
 {}

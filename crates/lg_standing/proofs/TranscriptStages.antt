@@ -1,4 +1,4 @@
--- How a desk goes on at each visit and step of a seat, by the stage of its statement.
+-- How a transcript goes on at each visit and step of a seat, by the stage of its statement.
 use Rattle.std.proofs.Common.{◌≡◌, ℕ, ◌+◌, Bool, true, false, List, [], ◌∷◌, ◌++◌, length, Option, Some, None, refl, sym, ap, ◌∙◌, subst, inl, append-nil}
 use Rattle.std.specs.Prelude.{if◌then◌else◌}
 use Rattle.lg_value.specs.declared.refusal.Refusal.{Refusal}
@@ -21,8 +21,8 @@ use Rattle.lg_standing.specs.Answering.{refused_inside}
 use Rattle.lg_standing.specs.Seats.{OpenTransaction, Stage, begun, found, made, answering, Place, inside, leaving, Session}
 use Rattle.lg_standing.specs.Moves.{new_transaction, ending, saying}
 use Rattle.lg_standing.specs.LedgerVisits.{stage_drawn}
-use Rattle.lg_standing.specs.Desks.{end_shown, line_of, is_begin, image_in, image_at, NotBack, EndsOwn, EndsOpened, shown_inside, shown_alone, shown_with, shown_at, open_before, FitsOutside, FitsOwn, FitsOpened, IsSaid, StageOpened, FitsWith, Fits}
-use Rattle.lg_standing.proofs.DeskActs.{GoesFrom}
+use Rattle.lg_standing.specs.TranscriptsSoFar.{end_shown, line_of, is_begin, image_in, image_at, NotBack, EndsOwn, EndsOpened, shown_inside, shown_alone, shown_with, shown_at, open_before, FitsOutside, FitsOwn, FitsOpened, IsSaid, StageOpened, FitsWith, Fits}
+use Rattle.lg_standing.proofs.TranscriptActs.{GoesFrom}
 use Rattle.lg_standing.proofs.InPlaces.{NoControl, never, comes, outside, within, controlled_inside, fits_own}
 
 -- ---- ends

@@ -1,5 +1,5 @@
--- What is to be shown of the statement in which a session stands, how its entries so far stand to its transaction, and which replies
--- its stage may come to.
+-- What is to be shown of the statement in which a session stands, how its entries so far stand to its
+-- transaction, and which replies its stage may come to.
 use Rattle.std.specs.Prelude.{ℕ, ◌≡◌, ◌+◌, ◌++◌, Bool, true, false, if◌then◌else◌, List, [], ◌∷◌, length, Option, Some, None}
 use Rattle.lg_types.specs.declared.reply.Reply.{Reply}
 use Rattle.lg_types.specs.declared.reply.Reply.TheVariants as reply
@@ -9,7 +9,7 @@ use Rattle.lg_history.specs.Transcripts.{EndLine, committed_at, ended_after, sta
 use Rattle.lg_history.specs.Facts.{Fact, began, said, placed, passed, answer_facts, facts_inside, facts_outside, begun_by, open_at_end}
 use Rattle.lg_history.specs.Transactions.{End, unfixed, committed, ended}
 use Rattle.lg_history.specs.InPlace.{InPlace, image_by}
-use Rattle.lg_history.specs.Sessions.{Desk}
+use Rattle.lg_history.specs.Sessions.{TranscriptSoFar}
 use Rattle.lg_history.specs.Guards.{IsStatement, images_of}
 use Rattle.lg_standing.specs.Seats.{OpenTransaction, Stage, found, going_back, replied, answering, refused, Place, between, inside, leaving, Session}
 
@@ -158,8 +158,8 @@ module _ (q : Meaning) where
   Fits n leaving None = ⊥
   Fits n leaving (Some o) = (o.opened ≡ true) × EndsLeaving o.end
 
-  -- the desk of a session is that of the one at the seat
-  pub record IsDesk (k : Desk) (s : Session) : Type 0 where
+  -- the transcript of a session is that of the one at the seat
+  pub record IsTranscript (k : TranscriptSoFar) (s : Session) : Type 0 where
     pub pending : k.pending ≡ shown_at s.place s.open_one
     pub statements : Each IsStatement k.entries
     pub open_before : open_at_end None k.entries ≡ open_before s.place s.open_one

@@ -1,4 +1,4 @@
--- How a desk goes on at the visits that aren't proved yet: an image is kept, a lock is in the way.
+-- How a transcript goes on at the visits that aren't proved yet: an image is kept, a lock is in the way.
 use Rattle.std.proofs.Common.{◌≡◌, ℕ, ◌+◌, ◌<◌, Bool, true, false, List, [], ◌∷◌, ◌++◌, length, Some, None, refl, sym, ap, ◌∙◌, subst, length-append, arith}
 use Rattle.std.proofs.lemmas.Bool.{ne_eqb}
 use Rattle.std.specs.Prelude.{if◌then◌else◌}
@@ -10,12 +10,12 @@ use Rattle.lg_history.specs.Transcripts.{Kind, rows, keep, kind_of}
 use Rattle.lg_history.specs.Facts.{Fact, began, met, image, facts_outside}
 use Rattle.lg_history.specs.InPlace.{ComesAt}
 use Rattle.lg_history.specs.Transactions.{unfixed}
-use Rattle.lg_standing.specs.Desks.{end_shown, is_begin, image_in, image_at, shown_inside, shown_alone, shown_with, shown_at, open_before, Fits}
+use Rattle.lg_standing.specs.TranscriptsSoFar.{end_shown, is_begin, image_in, image_at, shown_inside, shown_alone, shown_with, shown_at, open_before, Fits}
 use Rattle.lg_standing.specs.Doing.{stage_refused}
 use Rattle.lg_standing.specs.Moves.{keeping, at_place}
 use Rattle.lg_standing.specs.Seats.{OpenTransaction, Stage, begun, answering, refused, inside, Session}
-use Rattle.lg_standing.proofs.DeskActs.{GoesFrom}
-use Rattle.lg_standing.proofs.DeskStages.{GoesAt, fits_if, if_fits, at_opened}
+use Rattle.lg_standing.proofs.TranscriptActs.{GoesFrom}
+use Rattle.lg_standing.proofs.TranscriptStages.{GoesAt, fits_if, if_fits, at_opened}
 use Rattle.lg_standing.proofs.InPlaces.{NoControl, never, outside, within, controlled_inside, fits_own}
 
 locked_plain : (holder : ℕ) → NoControl (reply.Refused (Locked holder))
