@@ -17,7 +17,8 @@ flag b = if b then 1 else 0
 
 -- the name, the type, 1 where the column may be NULL, and its key position
 abbrev pub column_bytes : ColumnDef → List ℕ
-column_bytes c = short_field c.name ++ (type_bytes c.ty ++ (u8_field (flag c.nullable) ++ u8_field c.key_position))
+column_bytes c =
+    short_field c.name ++ (type_bytes c.ty ++ (u8_field (flag c.nullable) ++ u8_field c.key_position))
 
 pub record IsColumn (c : ColumnDef) : Type 0 where
   pub name : is_proper_name c.name ≡ true
@@ -44,11 +45,13 @@ indexes_bytes indexes = u8_field (length indexes) ++ flat_map index_bytes indexe
 -- the kind, and the names of table, history and view
 abbrev pub names_bytes : TableDef → List ℕ
 names_bytes def =
-    u8_field (kind_code def.kind) ++ (short_field def.name ++ (short_field def.history ++ short_field def.view))
+    u8_field (kind_code def.kind)
+    ++ (short_field def.name ++ (short_field def.history ++ short_field def.view))
 
 -- the id, the kind and the names, the columns, and the indexes
 abbrev pub def_bytes : TableDef → List ℕ
-def_bytes def = u32_field def.id ++ (names_bytes def ++ (columns_bytes def.columns ++ indexes_bytes def.indexes))
+def_bytes def =
+    u32_field def.id ++ (names_bytes def ++ (columns_bytes def.columns ++ indexes_bytes def.indexes))
 
 -- a definition that has a spelling; an append-only table alone has no history
 pub record IsDef (def : TableDef) : Type 0 where

@@ -14,8 +14,8 @@ abbrev pub user_defs : Tables → Defs
 user_defs tables = drop system_tables (defs_of tables)
 
 module _ (h : List ℕ → List ℕ) (reads : Reading) where
-  -- the database, the blocks of its journal, the entries in ledger order, and the definitions and rows of the tables
-  -- to which the journal leads
+  -- the database, the blocks of its journal, the entries in ledger order, and the definitions and rows of
+  -- the tables to which the journal leads
   unfoldable pub image_of : List ℕ → List JournalItem → Image
   image_of database items =
       record {

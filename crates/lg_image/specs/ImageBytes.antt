@@ -58,14 +58,15 @@ AreTables _ _ = ⊥
 
 -- ---- the image
 
--- `LGIM`, the number of the format, the database, the blocks, the entries, the definitions, and the rows of the two tables of
--- the system and of each definition
+-- `LGIM`, the number of the format, the database, the blocks, the entries, the definitions, and the rows
+-- of the two tables of the system and of each definition
 unfoldable pub image_bytes : Image → List ℕ
 image_bytes i =
     codes "LGIM"
     ++ (u8_field 1
     ++ (short_field i.database
-    ++ ((blocks_bytes i.blocks ++ entries_bytes i.entries) ++ (defs_bytes i.defs ++ tables_bytes (defs_in i) i.tables))))
+    ++ ((blocks_bytes i.blocks ++ entries_bytes i.entries)
+    ++ (defs_bytes i.defs ++ tables_bytes (defs_in i) i.tables))))
 
 -- an image that has a spelling; its entries stand at the places that the sizes of the blocks give them
 pub record IsImage (i : Image) : Type 0 where

@@ -106,7 +106,8 @@ some_typed t = Some t
 
 -- the value behind a 0 or a 1
 unfoldable pub value_behind : ℕ → Reader (Option Typed)
-value_behind n bytes = if n == 0 then Some (None, bytes) else (if n == 1 then mapped some_typed typed_at bytes else None)
+value_behind n bytes =
+    if n == 0 then Some (None, bytes) else (if n == 1 then mapped some_typed typed_at bytes else None)
 
 unfoldable pub value_at : Reader (Option Typed)
 value_at bytes = u8_at bytes >>= λ n. value_behind n.0 n.1
@@ -170,7 +171,9 @@ placeless_of x =
     Some (record { id = x.0; block = 0; ordinal = 0; time = x.1.0; principal = x.1.1.0; roots = x.1.1.1 })
 
 unfoldable pub placeless_at : Reader TxEntry
-placeless_at = decoded placeless_of (both tx_id_at (both moment_at (both session_at (after (u8_field 1) roots_at))))
+placeless_at =
+    decoded placeless_of
+    (both tx_id_at (both moment_at (both session_at (after (u8_field 1) roots_at))))
 
 -- blocks and entries
 abbrev pub Ledgers : Type 0
@@ -194,4 +197,7 @@ image_from x =
     record { database = x.0; blocks = x.1.0.0; entries = x.1.0.1; defs = x.1.1.0; tables = x.1.1.1 }
 
 unfoldable pub image_at : Reader Image
-image_at = mapped image_from (after (codes "LGIM") (after (u8_field 1) (both database_at (both ledger_at (depends defs_at tables_at)))))
+image_at =
+    mapped image_from
+    (after (codes "LGIM")
+    (after (u8_field 1) (both database_at (both ledger_at (depends defs_at tables_at)))))

@@ -96,7 +96,9 @@ indexes_bytes _ _ = []
 
 -- the base rows, the history rows, and for each index its rows
 abbrev pub table_bytes : TableDef → TableRows → List ℕ
-table_bytes def rows = base_rows_bytes rows.base ++ (history_rows_bytes rows.history ++ indexes_bytes def.indexes rows.indexes)
+table_bytes def rows =
+    base_rows_bytes rows.base
+    ++ (history_rows_bytes rows.history ++ indexes_bytes def.indexes rows.indexes)
 
 abbrev pub AreBaseRows : List Version → Type 0
 AreBaseRows rows = ((length rows < 2 ^ 64) × AllByRecursion IsBaseRow rows) × (starts_rise rows ≡ true)

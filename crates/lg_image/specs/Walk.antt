@@ -14,7 +14,9 @@ pub record Spot : Type 0 where
 abbrev pub free_spot : List ℕ → ℕ → ℕ → Spot
 free_spot [] block ordinal = record { sizes = []; block = block; ordinal = ordinal }
 free_spot (k ∷ ks) block ordinal =
-    if nat_lt ordinal k then record { sizes = k ∷ ks; block = block; ordinal = ordinal } else free_spot ks (block + 1) 0
+    if nat_lt ordinal k
+    then record { sizes = k ∷ ks; block = block; ordinal = ordinal }
+    else free_spot ks (block + 1) 0
 
 -- these entries, each at the first place that is free
 abbrev pub walked : List ℕ → ℕ → ℕ → List TxEntry → List TxEntry
@@ -24,5 +26,7 @@ walked sizes block ordinal (e ∷ es) =
     at_place spot.block spot.ordinal e ∷ walked spot.sizes spot.block (spot.ordinal + 1) es
 
 -- entries that are read and placed from here on, behind those that are there
-abbrev pub walked_behind : List TxEntry → List ℕ → ℕ → ℕ → Option (List TxEntry × List ℕ) → Option (List TxEntry × List ℕ)
-walked_behind before sizes block ordinal read = read >>= λ x. Some (before ++ walked sizes block ordinal x.0, x.1)
+abbrev pub walked_behind : List TxEntry → List ℕ → ℕ → ℕ
+    → Option (List TxEntry × List ℕ) → Option (List TxEntry × List ℕ)
+walked_behind before sizes block ordinal read =
+    read >>= λ x. Some (before ++ walked sizes block ordinal x.0, x.1)

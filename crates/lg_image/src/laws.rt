@@ -9,8 +9,8 @@ ghost use Rattle.lg_image.specs.ImageBytes.{image_bytes, IsImage};
 /// Equal bytes are of equal images, and no image's bytes begin another's.
 pub fn equal_bytes_are_of_equal_images()
     ensures equal { (i j : Image) → IsImage i → IsImage j → image_bytes i ≡ image_bytes j → i ≡ j }
-    ensures prefix { (i j : Image) (rest : List ℕ) → IsImage i → IsImage j → image_bytes i ≡ image_bytes j ++ rest
-        → rest ≡ [] }
+    ensures prefix { (i j : Image) (rest : List ℕ) → IsImage i → IsImage j
+        → image_bytes i ≡ image_bytes j ++ rest → rest ≡ [] }
 {}
 
 /// The image of an empty journal has 67 bytes: the head, and 0 of everything.

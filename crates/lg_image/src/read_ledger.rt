@@ -110,8 +110,8 @@ fn at_place(entry: TxEntry, block: u64, ordinal: u64) -> TxEntry
     }
 }
 
-// The first place that is free in these blocks, the first of which has this number and is full up to this place: the
-// blocks from there on, the number of the block, and the place in it.
+// The first place that is free in these blocks, the first of which has this number and is full up to this
+// place: the blocks from there on, the number of the block, and the place in it.
 fn free_spot(blocks: &[BlockRecord], block: u64, ordinal: u64) -> (&[BlockRecord], u64, u64)
     requires { block + length blocks.now < 2 ^ 64 }
     ensures spot { free_spot (sizes_of blocks.now) block ordinal

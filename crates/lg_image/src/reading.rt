@@ -14,8 +14,8 @@ use lg_items::Memory;
 use lg_types::Image;
 use std::alloc::Global;
 
-/// The image whose bytes these are, all of them, or None exactly where they are those of no image (`docs/FORMATS.md`).
-/// The only error is want of memory. Takes time in proportion to the bytes.
+/// The image whose bytes these are, all of them, or None exactly where they are those of no image
+/// (`docs/FORMATS.md`). The only error is want of memory. Takes time in proportion to the bytes.
 pub fn read_image(alloc: Global, bytes: &[u8]) -> Result<Option<Image>, Memory>
     ensures found { IfOk result (λ read. IfSome read (λ i. IsImage i × (bytes.now ≡ image_bytes i))) }
     ensures only { (i : Image) → IsImage i → bytes.now ≡ image_bytes i → IfOk result (λ read. read ≡ Some i) }

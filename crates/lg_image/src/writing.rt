@@ -13,8 +13,8 @@ use lg_items::Memory;
 use lg_types::{BlockRecord, Image, TxEntry};
 use std::alloc::Global;
 
-/// The bytes of an image that has a spelling (`docs/FORMATS.md`). The only error is want of memory. Takes time in
-/// proportion to the bytes.
+/// The bytes of an image that has a spelling (`docs/FORMATS.md`). The only error is want of memory. Takes
+/// time in proportion to the bytes.
 #[tactic(auto, unfolding(crate::specs::ImageBytes::image_bytes))]
 pub fn write_image(alloc: Global, image: &Image) -> Result<Vec<u8>, Memory>
     requires { IsImage image.now }
@@ -80,7 +80,8 @@ fn put_entry(entry: &TxEntry, out: &mut Vec<u8>) -> Result<(), Memory>
 // The rows of the two tables of the system, and of the table of each definition.
 fn put_image_rows(image: &Image, out: &mut Vec<u8>) -> Result<(), Memory>
     requires { IsImage image.now }
-    ensures { OnOk result (out.new.items ≡ out.old.items ++ tables_bytes (defs_in image.now) image.now.tables) }
+    ensures { OnOk result
+        (out.new.items ≡ out.old.items ++ tables_bytes (defs_in image.now) image.now.tables) }
 {
     put_tables(image.tables.as_slice(), out)
 }

@@ -5,19 +5,19 @@ use Rattle.std.proofs.lemmas.Bool.Decides.{Decides-int_eq}
 use Rattle.std.proofs.lemmas.List.Sorted.{list_any-IsPermutation}
 use Rattle.std.proofs.lemmas.List.Sorted.{length_permutation}
 use Rattle.std.specs.Bool.{Decides}
-use Rattle.std.specs.Prelude.{◌&&◌, ◌||◌, not, slice_get, if◌then◌else◌}
+use Rattle.std.specs.Prelude.{◌&&◌, ◌||◌, not, if◌then◌else◌}
 use Rattle.std.specs.List.{AllByRecursion, list_any, list_all, filter, filter_map}
 use Rattle.std.specs.List.Sorted.{IsPermutation}
 use Rattle.std.specs.Ordering.{int_cmp, int_eq}
 use Rattle.lg_types.specs.declared.table.TableDef.{TableDef}
 use Rattle.lg_value.specs.declared.value.Value.TheVariants.{Null, Num, Text, Bytes, Date}
-use Rattle.lg_model.specs.Lists.{sorted}
 use Rattle.lg_model.specs.Rows.{Row}
 use Rattle.lg_model.specs.Keys.{same_key}
 use Rattle.lg_model.specs.Catalog.{Defs}
 use Rattle.lg_model.specs.SystemTables.{table_row}
 use Rattle.lg_frames.proofs.Alls.{all_append}
 use Rattle.lg_frames.proofs.SameKeys.{same_itself}
+use Rattle.lg_spell.specs.Least.{least}
 use Rattle.lg_spell.specs.Spelled.{item_rows, is_about, about, IsAmong, AreRowsOfOne, AreRowsOfEach, Spell}
 use Rattle.lg_spell.specs.MayBeSpelled.{may_be_spelled, has_new_names}
 use Rattle.lg_spell.specs.Differs.{are_rows, table_of, is_spelled, is_wrong, all_ids, spelling_fault}
@@ -131,7 +131,7 @@ module _ (first second : List Row) (defs : Defs) (all : AllByRecursion (λ d. is
   unfolding spelling_fault
   nothing h =
       let P : ℤ → Type 0 = λ id. is_wrong first second defs id ≡ false in
-      ap (λ (ids : List ℤ). slice_get (sorted int_cmp ids) 0) (none_wrong (all_ids first second defs)
+      ap (least int_cmp) (none_wrong (all_ids first second defs)
       (all_append P (filter_map table_of first) (filter_map table_of second ++ map (λ (d : TableDef). pos d.id) defs)
       (rows_right first (λ id e. about_none id first (h.others id (no_def defs id e)).0))
       (all_append P (filter_map table_of second) (map (λ (d : TableDef). pos d.id) defs)

@@ -1,18 +1,19 @@
 -- Where the definitions are not exactly those that the rows of the two system tables spell.
-use Rattle.std.specs.Prelude.{ℤ, pos, ◌==◌, ◌≡◌, ◌&&◌, not, Bool, List, [], ◌∷◌, ◌++◌, map, length, Option, Some, None, slice_get}
+use Rattle.std.specs.Prelude.{ℤ, pos, ◌==◌, ◌≡◌, ◌&&◌, not, Bool, List, [], ◌∷◌, ◌++◌, map, length, Option, Some, None}
 use Rattle.std.specs.List.{list_any, list_all, filter, filter_map}
 use Rattle.std.specs.Ordering.{int_cmp, int_eq}
 use Rattle.lg_value.specs.declared.value.Value.TheVariants.{Num}
 use Rattle.lg_types.specs.declared.table.TableDef.{TableDef}
-use Rattle.lg_model.specs.Lists.{sorted}
 use Rattle.lg_model.specs.Rows.{Row}
 use Rattle.lg_model.specs.Keys.{same_key}
 use Rattle.lg_model.specs.Catalog.{Defs, Tables, defs_of}
 use Rattle.lg_model.specs.SystemTables.{table_row}
+use Rattle.lg_spell.specs.Least.{least}
 use Rattle.lg_spell.specs.Spelled.{live_rows, item_rows, about}
 use Rattle.lg_spell.specs.MayBeSpelled.{may_be_spelled, has_new_names}
 
--- the same rows, in any order, where no two of the second are equal
+-- the same rows, in any order, where no two of the second are equal; rows are equal whose values compare as
+-- equal, so 1 and 1.0 are one value here
 abbrev pub are_rows : List Row → List Row → Bool
 are_rows rows wanted = length rows == length wanted && list_all (λ w. list_any (same_key w) rows) wanted
 
@@ -20,8 +21,9 @@ abbrev pub table_of : Row → Option ℤ
 table_of (Num n s ∷ values) = Some n
 table_of _ = None
 
--- Rows whose first value is no number are about no table and are passed over, and the scale of a number isn't
--- looked at: that each value is one of its column is a rule on rows, which comes before this one.
+-- Rows whose first value is no number are about no table and are passed over, and values are compared up to
+-- their scale: that each value is one of its column, with the column's scale, is a rule on rows, which comes
+-- before this one.
 module _ (first second : List Row) (defs : Defs) where
   -- the rows about its table spell this definition
   abbrev pub is_spelled : TableDef → Bool
@@ -40,7 +42,7 @@ module _ (first second : List Row) (defs : Defs) where
 
   -- the least of these tables for which no definition is spelled
   unfoldable pub spelling_fault : Option ℤ
-  spelling_fault = slice_get (sorted int_cmp (filter is_wrong all_ids)) 0
+  spelling_fault = least int_cmp (filter is_wrong all_ids)
 
 -- no fault is found: not in the rows that stand in the system tables, nor in the definitions of all others
 abbrev pub SpellingHolds : Tables → Type 0

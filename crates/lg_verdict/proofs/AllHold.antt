@@ -7,7 +7,7 @@ use Rattle.lg_types.specs.declared.image.Image.{Image}
 use Rattle.lg_verdict.specs.declared.place.Invariant.{Invariant}
 use Rattle.lg_verdict.specs.declared.place.Place.{Place}
 use Rattle.lg_verdict.specs.declared.place.Verdict.{Verdict}
-use Rattle.lg_verdict.specs.declared.place.Verdict.TheVariants.{Yes, No}
+use Rattle.lg_verdict.specs.declared.place.Verdict.TheVariants.{Yes}
 use Rattle.lg_verdict.specs.Verdict.{Tried, failed_or, first_failed, all_tried, image_verdict, AllHold}
 
 nothing_failed : (v : Invariant) (found : Option Place) (rest : Verdict) → failed_or v found rest ≡ Yes → (found ≡ None) × (rest ≡ Yes)

@@ -1,5 +1,5 @@
 -- The verdict on bytes is that on their image.
-use Rattle.std.proofs.Common.{◌≡◌, ◌≢◌, ℕ, List, Option, Some, None, refl, sym, ap}
+use Rattle.std.proofs.Common.{◌≡◌, ◌≢◌, ℕ, List, Option, Some, None, refl, ap}
 use Rattle.lg_bytes.specs.Exact.{IsBytes}
 use Rattle.lg_bytes.specs.Readers.{whole}
 use Rattle.lg_types.specs.declared.digest.HeldDigest.{HeldDigest}

@@ -1,5 +1,6 @@
 -- Small images, worked out.
-use Rattle.std.proofs.Common.{◌≡◌, refl, [], ◌∷◌, pos, codes}
+use Rattle.std.proofs.Common.{◌≡◌, ◌≢◌, ℕ, refl, sym, ap, ◌∙◌, arith, List, [], ◌∷◌, ◌++◌, map, pos, codes, None}
+use Rattle.std.specs.Prelude.{flat_map}
 use Rattle.std.specs.Fmt.{digits}
 use Rattle.std.specs.Str.{chars}
 use Rattle.lg_bytes.specs.Fields.{u16_field, u32_field, u64_field, signed_field, i128_field}
@@ -20,7 +21,7 @@ use Rattle.lg_model.specs.Events.{events_of, all_events}
 use Rattle.lg_model.specs.Journals.{serial_from}
 use Rattle.lg_model.specs.Keys.{key_places, key_of, key_cmp, same_key, stands, standing}
 use Rattle.lg_model.specs.Rows.{started, ended}
-use Rattle.lg_model.specs.Script.{saves, rolls_back_to, text_step, script_from, script}
+use Rattle.lg_model.specs.Script.{saves, rolls_back_to, text_step, script_from}
 use Rattle.lg_model.specs.SystemTables.{first_tables, table_row, column_rows, index_rows}
 use Rattle.lg_spell.specs.Spelled.{item_rows}
 use Rattle.lg_spell.specs.Differs.{spelling_fault}
@@ -36,68 +37,97 @@ use Rattle.lg_verdict.specs.Versions.{version_fault}
 use Rattle.lg_verdict.specs.Definitions.{definition_fault}
 use Rattle.lg_verdict.specs.Indexes.{index_fault}
 use Rattle.lg_verdict.specs.Verdict.{image_verdict}
-use Rattle.lg_samples.specs.Samples.{read_in}
+use Rattle.lg_samples.specs.Samples.{read_in, typed}
 use Rattle.lg_verdict.specs.declared.place.Invariant.TheVariants.{V1, V2, V3, V4, V5, V6, V7, V8}
 use Rattle.lg_verdict.specs.declared.place.Place.TheVariants as at
 use Rattle.lg_verdict.specs.declared.place.Verdict.TheVariants.{Yes, No}
-use Rattle.lg_verdict.specs.Samples.{summed, honest, digest_of, statements, items, with_rows_of, with_blocks, two_blocks, older_block, index_left, key_twice, ended_early, misnamed, id_again, of_nobody, misnumbered}
+use Rattle.lg_value.specs.declared.value.Value.{Value}
+use Rattle.lg_value.specs.declared.value.Value.TheVariants.{Num}
+use Rattle.lg_value.specs.declared.sql_type.SqlType.TheVariants.{BigInt}
+use Rattle.lg_types.specs.declared.event.Event.{Event}
+use Rattle.lg_types.specs.declared.event.FieldOf.{FieldOf}
+use Rattle.lg_verdict.specs.Covered.{CoveredEntry, covered_of}
+use Rattle.lg_verdict.specs.Samples.{summed, honest, digest_of, statements, items, with_rows_of, with_blocks, two_blocks, one_pending, ids_fall, older_block, index_left, key_twice, ended_early, misnamed, id_again, of_nobody, misnumbered, of_another, root_more, rootless, with_values, typed_as, appended_and_ended, two_rows, index_t, start_t}
 
 pub honest_image : image_of summed (read_in statements) (codes "d") items ≡ honest
 unfolding image_of serial_from ledger_from script_from text_step saves rolls_back_to effect create_check index_check table_def row_statement_check insert_check values_check listed_check row_changes inserted_rows is_duplicate arranged kept kept_row changed_all find_part chars key_places key_of key_cmp same_key stands standing started ended first_tables table_row column_rows index_rows value_cmp raised is_in_range is_stored utf16_units conversion_of digits events_of all_events roots_of block_of event_bytes entry_bytes record_bytes table_rows rows.index_rows index_ordinals stored_cmp u16_field u32_field u64_field signed_field i128_field
 honest_image = refl
 
-pub honest_holds : image_verdict summed honest (digest_of honest ∷ []) ≡ Yes
+pub holds :
+    (image_verdict summed honest (digest_of honest ∷ []) ≡ Yes)
+    × (image_verdict summed two_blocks (digest_of two_blocks ∷ []) ≡ Yes)
+    × (image_verdict summed one_pending (digest_of one_pending ∷ []) ≡ Yes)
+    × (image_verdict summed ids_fall (digest_of ids_fall ∷ []) ≡ Yes)
 unfolding image_verdict digest_fault chain_fault block_fault id_fault root_fault version_fault definition_fault index_fault roots_of block_of events_of all_events event_bytes entry_bytes record_bytes key_places key_of key_cmp same_key value_cmp raised is_in_range is_stored utf16_units chars table_row column_rows index_rows item_rows spelling_fault rows.index_rows index_ordinals stored_cmp u16_field u32_field u64_field signed_field i128_field
-honest_holds = refl
+holds = (refl, refl, refl, refl)
 
-pub value : image_verdict summed (with_rows_of honest index_left) (digest_of honest ∷ []) ≡ No V5 (at.Root 3 3)
+pub damage :
+    (image_verdict summed (with_rows_of honest index_left) (digest_of honest ∷ []) ≡ No V5 (at.Root 3 3))
+    × (image_verdict summed index_left (digest_of index_left ∷ []) ≡ No V8 (at.Index 3 1))
+    × (image_verdict summed key_twice (digest_of key_twice ∷ []) ≡ No V6 (at.Event 3 4 0))
+    × (image_verdict summed ended_early (digest_of ended_early ∷ []) ≡ No V6 (at.Event 3 4 0))
+    × (image_verdict summed misnamed (digest_of misnamed ∷ []) ≡ No V7 (at.Table (pos 3)))
+    × (image_verdict summed id_again (digest_of id_again ∷ []) ≡ No V4 (at.Entry 3))
+    × (image_verdict summed of_nobody (digest_of of_nobody ∷ []) ≡ No V4 (at.Event 3 98 5))
+    × (image_verdict summed misnumbered (digest_of misnumbered ∷ []) ≡ No V5 (at.Numbers 3))
+    × (image_verdict summed (with_blocks (block_of summed 1 honest.entries no_hash ∷ [])) [] ≡ No V2 (at.Block 0))
+    × (image_verdict summed (with_blocks (block_of summed 0 [] no_hash ∷ [])) [] ≡ No V3 (at.Block 0))
+    × (image_verdict summed older_block (digest_of older_block ∷ []) ≡ No V3 (at.Block 0))
+    × (image_verdict summed honest (digest_of honest ∷ digest_of index_left ∷ []) ≡ No V1 (at.Digest 1))
 unfolding image_verdict digest_fault chain_fault block_fault id_fault root_fault version_fault definition_fault index_fault roots_of block_of events_of all_events event_bytes entry_bytes record_bytes key_places key_of key_cmp same_key value_cmp raised is_in_range is_stored utf16_units chars table_row column_rows index_rows item_rows spelling_fault rows.index_rows index_ordinals stored_cmp u16_field u32_field u64_field signed_field i128_field
-value = refl
+damage = (refl, refl, refl, refl, refl, refl, refl, refl, refl, refl, refl, refl)
 
-pub index : image_verdict summed index_left (digest_of index_left ∷ []) ≡ No V8 (at.Index 3 1)
+pub others :
+    (image_verdict summed honest (of_another (digest_of honest) ∷ []) ≡ No V1 (at.Digest 0))
+    × (let image = root_more ((9, no_hash) ∷ []) in image_verdict summed image (digest_of image ∷ []) ≡ No V5 (at.Root 3 9))
+    × (image_verdict summed rootless (digest_of rootless ∷ []) ≡ No V5 (at.Root 1 2))
 unfolding image_verdict digest_fault chain_fault block_fault id_fault root_fault version_fault definition_fault index_fault roots_of block_of events_of all_events event_bytes entry_bytes record_bytes key_places key_of key_cmp same_key value_cmp raised is_in_range is_stored utf16_units chars table_row column_rows index_rows item_rows spelling_fault rows.index_rows index_ordinals stored_cmp u16_field u32_field u64_field signed_field i128_field
-index = refl
+others = (refl, refl, refl)
 
-pub key : image_verdict summed key_twice (digest_of key_twice ∷ []) ≡ No V6 (at.Event 3 4 0)
+pub rules :
+    (let image = with_values (typed 1 ∷ typed_as BigInt 10 ∷ []) in image_verdict summed image (digest_of image ∷ []) ≡ No V6 (at.Event 3 3 0))
+    × (let image = with_values (typed 1 ∷ []) in image_verdict summed image (digest_of image ∷ []) ≡ No V6 (at.Event 3 3 0))
+    × (let image = with_values (None ∷ typed 10 ∷ []) in image_verdict summed image (digest_of image ∷ []) ≡ No V6 (at.Event 3 3 0))
+    × (image_verdict summed appended_and_ended (digest_of appended_and_ended ∷ []) ≡ No V6 (at.Event 3 3 0))
+    × (let image = two_rows (index_t 2 10 ∷ []) in image_verdict summed image (digest_of image ∷ []) ≡ No V8 (at.Index 3 1))
+    × (let image = two_rows (index_t 1 20 ∷ index_t 2 10 ∷ []) in image_verdict summed image (digest_of image ∷ []) ≡ No V8 (at.Index 3 1))
+    × (let image = two_rows (index_t 2 10 ∷ index_t 1 20 ∷ []) in image_verdict summed image (digest_of image ∷ []) ≡ Yes)
 unfolding image_verdict digest_fault chain_fault block_fault id_fault root_fault version_fault definition_fault index_fault roots_of block_of events_of all_events event_bytes entry_bytes record_bytes key_places key_of key_cmp same_key value_cmp raised is_in_range is_stored utf16_units chars table_row column_rows index_rows item_rows spelling_fault rows.index_rows index_ordinals stored_cmp u16_field u32_field u64_field signed_field i128_field
-key = refl
+rules = (refl, refl, refl, refl, refl, refl, refl)
 
-pub order : image_verdict summed ended_early (digest_of ended_early ∷ []) ≡ No V6 (at.Event 3 4 0)
-unfolding image_verdict digest_fault chain_fault block_fault id_fault root_fault version_fault definition_fault index_fault roots_of block_of events_of all_events event_bytes entry_bytes record_bytes key_places key_of key_cmp same_key value_cmp raised is_in_range is_stored utf16_units chars table_row column_rows index_rows item_rows spelling_fault rows.index_rows index_ordinals stored_cmp u16_field u32_field u64_field signed_field i128_field
-order = refl
+pub covered :
+    (map (λ e. e.id) (covered_of honest 0) ≡ 1 ∷ 2 ∷ 3 ∷ [])
+    × (map (λ e. e.tables) (covered_of two_blocks 1) ≡ map (λ e. e.tables) (covered_of two_blocks 0) ++ ((3, start_t 1 10 ∷ []) ∷ []) ∷ [])
+    × (map {B = ℕ × ℕ × ℕ} (λ e. (e.block, e.ordinal, e.id)) (covered_of two_blocks 0) ≡ (0, 0, 1) ∷ (0, 1, 2) ∷ [])
+    × (covered_of (with_rows_of two_blocks index_left) 0 ≡ covered_of two_blocks 0)
+unfolding covered_of digest_fault chain_fault block_fault id_fault root_fault version_fault definition_fault index_fault roots_of block_of events_of all_events event_bytes entry_bytes record_bytes key_places key_of key_cmp same_key value_cmp raised is_in_range is_stored utf16_units chars table_row column_rows index_rows item_rows spelling_fault rows.index_rows index_ordinals stored_cmp u16_field u32_field u64_field signed_field i128_field
+covered = (refl, refl, refl, refl)
 
-pub definition : image_verdict summed misnamed (digest_of misnamed ∷ []) ≡ No V7 (at.Table (pos 3))
-unfolding image_verdict digest_fault chain_fault block_fault id_fault root_fault version_fault definition_fault index_fault roots_of block_of events_of all_events event_bytes entry_bytes record_bytes key_places key_of key_cmp same_key value_cmp raised is_in_range is_stored utf16_units chars table_row column_rows index_rows item_rows spelling_fault rows.index_rows index_ordinals stored_cmp u16_field u32_field u64_field signed_field i128_field
-definition = refl
+abbrev tables_of_third : List CoveredEntry → List Event
+tables_of_third (a ∷ b ∷ c ∷ more) = flat_map (λ t. t.1) c.tables
+tables_of_third _ = []
 
-pub id : image_verdict summed id_again (digest_of id_again ∷ []) ≡ No V4 (at.Entry 3)
-unfolding image_verdict digest_fault chain_fault block_fault id_fault root_fault version_fault definition_fault index_fault roots_of block_of events_of all_events event_bytes entry_bytes record_bytes key_places key_of key_cmp same_key value_cmp raised is_in_range is_stored utf16_units chars table_row column_rows index_rows item_rows spelling_fault rows.index_rows index_ordinals stored_cmp u16_field u32_field u64_field signed_field i128_field
-id = refl
+abbrev number : Value → ℕ
+number (Num (pos n) s) = n
+number _ = 0
 
-pub event : image_verdict summed of_nobody (digest_of of_nobody ∷ []) ≡ No V4 (at.Event 3 98 5)
-unfolding image_verdict digest_fault chain_fault block_fault id_fault root_fault version_fault definition_fault index_fault roots_of block_of events_of all_events event_bytes entry_bytes record_bytes key_places key_of key_cmp same_key value_cmp raised is_in_range is_stored utf16_units chars table_row column_rows index_rows item_rows spelling_fault rows.index_rows index_ordinals stored_cmp u16_field u32_field u64_field signed_field i128_field
-event = refl
+abbrev second_number : List FieldOf → ℕ
+second_number (a ∷ b ∷ rest) = number b.value
+second_number _ = 0
 
-pub numbers : image_verdict summed misnumbered (digest_of misnumbered ∷ []) ≡ No V5 (at.Numbers 3)
-unfolding image_verdict digest_fault chain_fault block_fault id_fault root_fault version_fault definition_fault index_fault roots_of block_of events_of all_events event_bytes entry_bytes record_bytes key_places key_of key_cmp same_key value_cmp raised is_in_range is_stored utf16_units chars table_row column_rows index_rows item_rows spelling_fault rows.index_rows index_ordinals stored_cmp u16_field u32_field u64_field signed_field i128_field
-numbers = refl
+abbrev value_of : List Event → ℕ
+value_of (e ∷ more) = second_number e.columns
+value_of [] = 0
 
-pub chain : image_verdict summed (with_blocks (block_of summed 1 honest.entries no_hash ∷ [])) [] ≡ No V2 (at.Block 0)
-unfolding image_verdict digest_fault chain_fault block_fault id_fault root_fault version_fault definition_fault index_fault roots_of block_of events_of all_events event_bytes entry_bytes record_bytes key_places key_of key_cmp same_key value_cmp raised is_in_range is_stored utf16_units chars table_row column_rows index_rows item_rows spelling_fault rows.index_rows index_ordinals stored_cmp u16_field u32_field u64_field signed_field i128_field
-chain = refl
+value_left : value_of (tables_of_third (covered_of (with_rows_of honest index_left) 0)) ≡ 11
+unfolding covered_of digest_fault chain_fault block_fault id_fault root_fault version_fault definition_fault index_fault roots_of block_of events_of all_events event_bytes entry_bytes record_bytes key_places key_of key_cmp same_key value_cmp raised is_in_range is_stored utf16_units chars table_row column_rows index_rows item_rows spelling_fault rows.index_rows index_ordinals stored_cmp u16_field u32_field u64_field signed_field i128_field
+value_left = refl
 
-pub size : image_verdict summed (with_blocks (block_of summed 0 [] no_hash ∷ [])) [] ≡ No V3 (at.Block 0)
-unfolding image_verdict digest_fault chain_fault block_fault id_fault root_fault version_fault definition_fault index_fault roots_of block_of events_of all_events event_bytes entry_bytes record_bytes key_places key_of key_cmp same_key value_cmp raised is_in_range is_stored utf16_units chars table_row column_rows index_rows item_rows spelling_fault rows.index_rows index_ordinals stored_cmp u16_field u32_field u64_field signed_field i128_field
-size = refl
+value_honest : value_of (tables_of_third (covered_of honest 0)) ≡ 10
+unfolding covered_of digest_fault chain_fault block_fault id_fault root_fault version_fault definition_fault index_fault roots_of block_of events_of all_events event_bytes entry_bytes record_bytes key_places key_of key_cmp same_key value_cmp raised is_in_range is_stored utf16_units chars table_row column_rows index_rows item_rows spelling_fault rows.index_rows index_ordinals stored_cmp u16_field u32_field u64_field signed_field i128_field
+value_honest = refl
 
-pub digest : image_verdict summed honest (digest_of honest ∷ digest_of index_left ∷ []) ≡ No V1 (at.Digest 1)
-unfolding image_verdict digest_fault chain_fault block_fault id_fault root_fault version_fault definition_fault index_fault roots_of block_of events_of all_events event_bytes entry_bytes record_bytes key_places key_of key_cmp same_key value_cmp raised is_in_range is_stored utf16_units chars table_row column_rows index_rows item_rows spelling_fault rows.index_rows index_ordinals stored_cmp u16_field u32_field u64_field signed_field i128_field
-digest = refl
-
-pub older : image_verdict summed older_block (digest_of older_block ∷ []) ≡ No V3 (at.Block 0)
-unfolding image_verdict digest_fault chain_fault block_fault id_fault root_fault version_fault definition_fault index_fault roots_of block_of events_of all_events event_bytes entry_bytes record_bytes key_places key_of key_cmp same_key value_cmp raised is_in_range is_stored utf16_units chars table_row column_rows index_rows item_rows spelling_fault rows.index_rows index_ordinals stored_cmp u16_field u32_field u64_field signed_field i128_field
-older = refl
-
-pub halves : image_verdict summed two_blocks (digest_of two_blocks ∷ []) ≡ Yes
-unfolding image_verdict digest_fault chain_fault block_fault id_fault root_fault version_fault definition_fault index_fault roots_of block_of events_of all_events event_bytes entry_bytes record_bytes key_places key_of key_cmp same_key value_cmp raised is_in_range is_stored utf16_units chars table_row column_rows index_rows item_rows spelling_fault rows.index_rows index_ordinals stored_cmp u16_field u32_field u64_field signed_field i128_field
-halves = refl
+pub changed : covered_of (with_rows_of honest index_left) 0 ≢ covered_of honest 0
+changed e =
+    let f : 11 ≡ 10 = sym value_left ∙ ap (λ c. value_of (tables_of_third c)) e ∙ value_honest in
+    absurd (omega (arith, f))

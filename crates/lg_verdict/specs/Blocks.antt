@@ -1,5 +1,5 @@
 -- Digests, and blocks: their chain, their sizes and their roots.
-use Rattle.std.specs.Prelude.{ℕ, zero, suc, ◌+◌, ◌==◌, ◌&&◌, ◌||◌, nat_lt, nat_le, Bool, List, length, map, take, drop, Option}
+use Rattle.std.specs.Prelude.{ℕ, zero, suc, ◌+◌, ◌==◌, ◌&&◌, nat_lt, nat_le, Bool, List, length, map, take, drop, Option}
 use Rattle.std.specs.List.{sum_by}
 use Rattle.std.specs.Str.{bytes_eq}
 use Rattle.lg_entry.specs.Entry.{entry_bytes}
@@ -23,19 +23,20 @@ abbrev pub entries_in : Image → ℕ → BlockRecord → List TxEntry
 entries_in i b r = take r.size (drop (entries_before i b) i.entries)
 
 module _ (h : List ℕ → List ℕ) (i : Image) where
-  -- ---- each digest names the image's database and a block of it, and its hash is that block's hash
+  -- ---- a digest: it is of this database, of a block that the image has, and tells that block's hash
 
   abbrev pub digest_holds : HeldDigest → Bool
   digest_holds d =
       bytes_eq d.database i.database
       && (nat_lt d.block (length i.blocks) && bytes_eq d.hash (hash_at h i.blocks d.block))
 
-  -- the first digest for which it fails
+  -- the first digest that is of something else
   unfoldable pub digest_fault : List HeldDigest → Option Place
   digest_fault digests = first (λ k d. unless (digest_holds d) (at.Digest k)) digests
 
-  -- ---- block b has the number b, and its previous hash is the hash of block b - 1, or zeros for b = 0
+  -- ---- the chain: blocks are numbered by their places, and each keeps the hash of the one before it
 
+  -- what block b keeps: the hash of the block before it, or zeros where it is the first
   abbrev pub hash_before : ℕ → List ℕ
   hash_before zero = no_hash
   hash_before (suc b) = hash_at h i.blocks b
@@ -43,12 +44,12 @@ module _ (h : List ℕ → List ℕ) (i : Image) where
   abbrev pub link_holds : ℕ → BlockRecord → Bool
   link_holds b r = r.id == b && bytes_eq r.previous (hash_before b)
 
-  -- the first block for which it fails
+  -- the first block that breaks the chain
   unfoldable pub chain_fault : Option Place
   chain_fault = first (λ b r. unless (link_holds b r) (at.Block b)) i.blocks
 
-  -- ---- each size is 1 to 100,000, the sizes up to block b together are at most the entries, and the root is the
-  -- tree hash of the bytes of the block's entries
+  -- ---- a block and its entries: it has some, and not too many; the image has all that it and the blocks
+  -- before it count; and its root is the tree hash of their bytes
 
   abbrev pub block_holds : ℕ → BlockRecord → Bool
   block_holds b r =
@@ -56,6 +57,6 @@ module _ (h : List ℕ → List ℕ) (i : Image) where
       && (nat_le (entries_before i b + r.size) (length i.entries)
       && bytes_eq r.root (tree_hash h (map entry_bytes (entries_in i b r))))
 
-  -- the first block for which it fails
+  -- the first block that is not that of its entries
   unfoldable pub block_fault : Option Place
   block_fault = first (λ b r. unless (block_holds b r) (at.Block b)) i.blocks

@@ -1,5 +1,5 @@
--- The definitions are exactly those that the base rows of the tables of the system spell.
-use Rattle.std.specs.Prelude.{ℤ, List, [], ◌∷◌, map, Option, Some, None}
+-- The rows that stand in the two tables of the system spell the definitions of all others.
+use Rattle.std.specs.Prelude.{ℕ, zero, suc, ℤ, List, [], ◌∷◌, map, Option, Some, None}
 use Rattle.lg_types.specs.declared.image.Image.{Image}
 use Rattle.lg_types.specs.declared.image.TableRows.{TableRows}
 use Rattle.lg_model.specs.Rows.{Row, values_of}
@@ -11,14 +11,13 @@ abbrev pub table_place : Option ℤ → Option Place
 table_place None = None
 table_place (Some id) = Some (at.Table id)
 
-abbrev pub base_rows : TableRows → List Row
-base_rows rows = map values_of rows.base
+-- the values of the base rows of the table that stands at this place; of no table there are none
+abbrev pub base_rows : List TableRows → ℕ → List Row
+base_rows [] k = []
+base_rows (rows ∷ more) zero = map values_of rows.base
+base_rows (rows ∷ more) (suc k) = base_rows more k
 
--- the least table id whose definition and spelling differ, or of which only one is there
-abbrev pub spelled_by : List TableRows → Image → Option Place
-spelled_by (tables ∷ columns ∷ users) i =
-    table_place (spelling_fault (base_rows tables) (base_rows columns) i.defs)
-spelled_by _ i = table_place (spelling_fault [] [] i.defs)
-
+-- the least table, by its id, that is defined otherwise than its rows spell it, or not at all, or without
+-- rows
 unfoldable pub definition_fault : Image → Option Place
-definition_fault i = spelled_by i.tables i
+definition_fault i = table_place (spelling_fault (base_rows i.tables 0) (base_rows i.tables 1) i.defs)

@@ -1,5 +1,5 @@
 -- Entries, and the starts and ends that they are of.
-use Rattle.std.specs.Prelude.{ℕ, ◌+◌, ◌==◌, ◌&&◌, not, Bool, true, false, if◌then◌else◌, List, [], ◌∷◌, ◌++◌, length, map, flat_map, take, Option, Some, None}
+use Rattle.std.specs.Prelude.{ℕ, ◌==◌, not, Bool, true, false, if◌then◌else◌, List, [], ◌∷◌, ◌++◌, length, map, flat_map, take, Option, Some, None}
 use Rattle.std.specs.List.{list_any, list_all, filter, range_with_len}
 use Rattle.std.specs.Str.{bytes_eq}
 use Rattle.std.specs.declared.cmp.Ordering.{Ordering}
@@ -15,9 +15,10 @@ use Rattle.lg_ledger.specs.Entries.{roots_of}
 use Rattle.lg_image.specs.Tables.{tables_in}
 use Rattle.lg_verdict.specs.declared.place.Place.{Place}
 use Rattle.lg_verdict.specs.declared.place.Place.TheVariants as at
-use Rattle.lg_verdict.specs.First.{unless, first, least}
+use Rattle.lg_spell.specs.Least.{least}
+use Rattle.lg_verdict.specs.First.{unless, first}
 
--- ---- the ids of entries differ; each start and each end names an entry's id
+-- ---- no two entries have one id, and no version was started or ended by a transaction without an entry
 
 abbrev pub has_id : List TxEntry → ℕ → Bool
 has_id entries id = list_any (λ (e : TxEntry). e.id == id) entries
@@ -41,20 +42,24 @@ least_event events = event_place (least table_event_cmp events)
 abbrev pub events_in : Table → List TableEvent
 events_in t = map (λ (e : Event). (e.table, (e.tx, e.seq))) (flat_map (version_events t.def.id) t.versions)
 
+-- starts and ends by transactions that have no entry
 abbrev pub strangers : Image → List TableEvent
 strangers i = filter (λ (e : TableEvent). not (has_id i.entries e.1.0)) (flat_map events_in (tables_in i))
 
--- the first entry with an id that came before; else the least start or end with an id that no entry has
+-- the first entry whose id an earlier one has
+abbrev pub repeated_id : Image → Option Place
+repeated_id i =
+    first (λ k (e : TxEntry). unless (not (has_id (take k i.entries) e.id)) (at.Entry k)) i.entries
+
+-- where there is none, the least start or end of a stranger
 unfoldable pub id_fault : Image → Option Place
-id_fault i =
-    or_else
-    (first (λ k (e : TxEntry). unless (not (has_id (take k i.entries) e.id)) (at.Entry k)) i.entries)
-    (least_event (strangers i))
+id_fault i = or_else (repeated_id i) (least_event (strangers i))
 
--- ---- for each entry in order: the numbers of its events over all tables are 0 to k - 1, each once; its pairs name
--- exactly the tables where it has events, and each root is the tree hash of the table's leaves by number
+-- ---- an entry and its events: counted over all tables they bear the numbers from 0 on, without a gap or a
+-- repetition; and the entry has a root for each table with an event of its transaction and for no other, the
+-- tree hash of its leaves there
 
--- they are 0 to k - 1, each once
+-- each number below their count stands among them once
 abbrev pub are_numbered : List ℕ → Bool
 are_numbered ns = list_all (λ n. length (filter (λ m. m == n) ns) == 1) (range_with_len 0 (length ns))
 
@@ -81,13 +86,13 @@ root_place tx None = None
 root_place tx (Some table) = Some (at.Root tx table)
 
 module _ (h : List ℕ → List ℕ) (i : Image) where
-  -- the numbers, and else the least table
+  -- its numbers are at fault; where they are not, the least table whose root is
   abbrev pub entry_fault : TxEntry → Option Place
   entry_fault e =
       or_else
       (unless (are_numbered (map (λ (x : Event). x.seq) (all_events e.id (tables_in i)))) (at.Numbers e.id))
       (root_place e.id (least nat_cmp (other_roots e.roots (roots_of h e.id (tables_in i)))))
 
-  -- the first entry for which it fails
+  -- the first entry with such a fault
   unfoldable pub root_fault : Option Place
   root_fault = first (λ k e. entry_fault e) i.entries

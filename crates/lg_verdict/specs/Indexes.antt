@@ -1,4 +1,4 @@
--- The rows of each index are the projection of the base rows to the index's columns and the key's, sorted by them.
+-- The rows of each index: the base rows, cut down to the columns of the index and of the key, and sorted.
 use Rattle.std.specs.Prelude.{ℕ, ◌+◌, ◌&&◌, Bool, true, false, List, [], ◌∷◌, get_or, Option, Some, None}
 use Rattle.std.specs.Ordering.{is_eq}
 use Rattle.lg_value.specs.Order.{value_cmp}
@@ -47,6 +47,6 @@ abbrev pub first_table : Defs → List TableRows → Option Place
 first_table (def ∷ defs) (rows ∷ more) = or_else (table_fault def rows) (first_table defs more)
 first_table _ _ = None
 
--- the first table and index for which it fails
+-- the first table, and its first index, whose rows are not the base's
 unfoldable pub index_fault : Image → Option Place
 index_fault i = first_table (defs_in i) i.tables

@@ -1,11 +1,16 @@
 pub mod Blocks
 pub mod Bytes
+pub mod Collision
 pub mod Covered
 pub mod Definitions
 pub mod Entries
 pub mod First
+pub mod Groups
 pub mod Indexes
+pub mod Line
 pub mod Order
 pub mod Samples
+pub mod Sentences
+pub mod Told
 pub mod Verdict
 pub mod Versions

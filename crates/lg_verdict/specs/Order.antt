@@ -1,5 +1,5 @@
 -- The order of the versions of one key, by the places of their transactions in the ledger.
-use Rattle.std.specs.Prelude.{ℕ, zero, suc, ◌==◌, ◌&&◌, ◌||◌, not, Bool, true, false, if◌then◌else◌, nat_lt, List, [], ◌∷◌, Option, Some, None, is_some, is_none}
+use Rattle.std.specs.Prelude.{ℕ, zero, suc, ◌==◌, ◌&&◌, ◌||◌, Bool, true, false, if◌then◌else◌, nat_lt, List, [], ◌∷◌, Option, Some, None, is_some, is_none}
 use Rattle.std.specs.List.{list_any, filter}
 use Rattle.lg_value.specs.declared.column.ColumnDef.{ColumnDef}
 use Rattle.lg_types.specs.declared.entry.TxEntry.{TxEntry}
@@ -53,7 +53,8 @@ module _ (entries : List TxEntry) where
     abbrev pub before : Version → List Version
     before v = filter (λ w. is_earlier w v) (of_key columns (version_key columns v) versions)
 
-    -- it ends after it starts, and the version just before it among those of its key ends before it starts
+    -- its end, if it has one, is behind its start, and the latest of the earlier versions of its key had
+    -- ended before that start
     abbrev pub is_in_order : Version → Bool
     is_in_order v = ends_well v v.end && follows v (latest (before v))
 

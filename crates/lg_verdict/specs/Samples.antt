@@ -1,31 +1,36 @@
 -- Small images, for worked examples: a table t (id INT PRIMARY KEY, v INT) with an index on v, and a row.
-use Rattle.std.specs.Prelude.{ℕ, true, false, List, [], ◌∷◌, ◌++◌, map, sum, take, drop, codes, Some, None}
+use Rattle.std.specs.Prelude.{ℕ, true, false, List, [], ◌∷◌, ◌++◌, map, replicate, sum, take, drop, codes, Option, Some, None}
+use Rattle.lg_bytes.specs.Fields.{u32_field}
 use Rattle.lg_types.specs.declared.digest.HeldDigest.{HeldDigest}
 use Rattle.lg_types.specs.declared.entry.BlockRecord.{BlockRecord}
 use Rattle.lg_types.specs.declared.entry.TxEntry.{TxEntry}
+use Rattle.lg_types.specs.declared.event.Event.{Event}
 use Rattle.lg_types.specs.declared.image.Image.{Image}
 use Rattle.lg_types.specs.declared.image.TableRows.{TableRows}
 use Rattle.lg_types.specs.declared.journal.JournalItem.{JournalItem}
 use Rattle.lg_types.specs.declared.journal.JournalItem.TheVariants.{Tx, Close}
 use Rattle.lg_types.specs.declared.statement.Stmt.{Stmt}
 use Rattle.lg_types.specs.declared.table.TableDef.{TableDef}
+use Rattle.lg_types.specs.declared.version.Typed.{Typed}
 use Rattle.lg_types.specs.declared.version.Version.{Version}
 use Rattle.lg_value.specs.declared.column.ColumnDef.{ColumnDef}
+use Rattle.lg_value.specs.declared.column.TableKind.TheVariants.{AppendOnly}
+use Rattle.lg_value.specs.declared.sql_type.SqlType.{SqlType}
 use Rattle.lg_value.specs.declared.sql_type.SqlType.TheVariants.{Int}
 use Rattle.lg_model.specs.Rows.{Row, EventId, stored_row}
-use Rattle.lg_model.specs.Catalog.{Defs}
 use Rattle.lg_model.specs.Create.{with_index}
 use Rattle.lg_model.specs.SystemTables.{a_column, tables_columns, columns_columns, table_row, column_row, index_row}
 use Rattle.lg_samples.specs.Samples.{create_t, insert, index_on, num, def_t, typed, version}
 use Rattle.lg_ledger.specs.Blocks.{no_hash, block_of, record_hash, hash_at}
 use Rattle.lg_ledger.specs.Entries.{entry_of, placed}
 use Rattle.lg_image.specs.Rows.{Stored}
-use Rattle.lg_image.specs.Tables.{table_in, tables_with}
+use Rattle.lg_image.specs.Tables.{tables_with}
 use Rattle.lg_model.specs.SystemTables.{tables_def, columns_def}
+use Rattle.lg_verdict.specs.Entries.{TableRoot}
 
--- a small hash: the sum of the bytes
+-- a small hash of 32 bytes: zeros, and the sum of the bytes in the last 4
 abbrev pub summed : List ℕ → List ℕ
-summed bytes = sum bytes ∷ []
+summed bytes = replicate 28 0 ++ u32_field (sum bytes)
 
 -- ---- statements and a journal
 
@@ -130,11 +135,15 @@ ended_early = made_of (1 ∷ 2 ∷ 3 ∷ 4 ∷ []) def_iv (rows_t [] (version 1 
 
 -- the definition has another name than its rows
 abbrev pub misnamed : Image
-misnamed = made_of (1 ∷ 2 ∷ 3 ∷ []) (named_u def_iv) (rows_t (version 1 10 (3, 0) None ∷ []) [] (index_t 1 10 ∷ []))
+misnamed =
+    made_of (1 ∷ 2 ∷ 3 ∷ []) (named_u def_iv)
+    (rows_t (version 1 10 (3, 0) None ∷ []) [] (index_t 1 10 ∷ []))
 
 -- the id 3 stands three times
 abbrev pub id_again : Image
-id_again = made_of (1 ∷ 2 ∷ 3 ∷ 3 ∷ 3 ∷ []) def_iv (rows_t (version 1 10 (3, 0) None ∷ []) [] (index_t 1 10 ∷ []))
+id_again =
+    made_of (1 ∷ 2 ∷ 3 ∷ 3 ∷ 3 ∷ []) def_iv
+    (rows_t (version 1 10 (3, 0) None ∷ []) [] (index_t 1 10 ∷ []))
 
 -- two rows are of transactions that have no entry
 abbrev pub of_nobody : Image
@@ -177,3 +186,106 @@ two_blocks = in_two (take 2 honest.entries)
 -- block 0 is of other entries, and block 1 stands behind it
 abbrev pub older_block : Image
 older_block = in_two (placed 0 0 (drop 1 honest.entries))
+
+-- with these entries, in one block
+abbrev pub with_entries : List TxEntry → Image
+with_entries entries =
+    record {
+      database = honest.database;
+      blocks = block_of summed 0 entries no_hash ∷ [];
+      entries = entries;
+      defs = honest.defs;
+      tables = honest.tables;
+    }
+
+abbrev pub with_roots : List TableRoot → TxEntry → TxEntry
+with_roots roots e =
+    record {
+      id = e.id;
+      block = e.block;
+      ordinal = e.ordinal;
+      time = e.time;
+      principal = e.principal;
+      roots = roots;
+    }
+
+-- the last entry has these roots behind its own
+abbrev pub root_more : List TableRoot → Image
+root_more more =
+    with_entries
+    (take 2 honest.entries ++ map (λ (e : TxEntry). with_roots (e.roots ++ more) e) (drop 2 honest.entries))
+
+-- the first entry, of the CREATE TABLE, has its root of table 1 alone
+abbrev pub rootless : Image
+rootless =
+    with_entries
+    (map (λ (e : TxEntry). with_roots (take 1 e.roots) e) (take 1 honest.entries) ++ drop 1 honest.entries)
+
+-- the last entry is in no block yet
+abbrev pub one_pending : Image
+one_pending =
+    record {
+      database = honest.database;
+      blocks = take 1 two_blocks.blocks;
+      entries = two_blocks.entries;
+      defs = honest.defs;
+      tables = honest.tables;
+    }
+
+-- a digest that names another database
+abbrev pub of_another : HeldDigest → HeldDigest
+of_another d = record { database = codes "e"; block = d.block; hash = d.hash }
+
+-- ---- rows that break a rule, with the roots that they make
+
+-- the row of t has these values
+abbrev pub with_values : Stored → Image
+with_values values =
+    made_of (1 ∷ 2 ∷ 3 ∷ []) def_iv
+    (rows_t (record { values = values; start = (3, 0); end = None } ∷ []) [] (index_t 1 10 ∷ []))
+
+abbrev pub typed_as : SqlType → ℕ → Option Typed
+typed_as ty n = Some (record { ty = ty; value = num n })
+
+-- t is append-only, and has a row that was ended
+abbrev pub appended_and_ended : Image
+appended_and_ended =
+    made_of (1 ∷ 2 ∷ 3 ∷ 4 ∷ [])
+    (record {
+      id = def_iv.id;
+      name = def_iv.name;
+      kind = AppendOnly;
+      history = [];
+      view = def_iv.view;
+      columns = def_iv.columns;
+      indexes = def_iv.indexes;
+    })
+    (rows_t [] (version 1 10 (3, 0) (Some (4, 0)) ∷ []) [])
+
+-- transaction 5 stands before transaction 4, which ends its row
+abbrev pub ids_fall : Image
+ids_fall =
+    made_of (1 ∷ 2 ∷ 5 ∷ 4 ∷ []) def_iv
+    (rows_t (version 1 20 (4, 1) None ∷ []) (version 1 10 (5, 0) (Some (4, 0)) ∷ []) (index_t 1 20 ∷ []))
+
+-- t has two rows, with these rows of its index
+abbrev pub two_rows : List Stored → Image
+two_rows index =
+    made_of (1 ∷ 2 ∷ 3 ∷ []) def_iv
+    (rows_t (version 1 20 (3, 0) None ∷ version 2 10 (3, 1) None ∷ []) [] index)
+
+-- ---- what is covered
+
+-- the start of a row (id, v) of t by transaction 3, its first event
+abbrev pub start_t : ℕ → ℕ → Event
+start_t id v =
+    record {
+      table = 3;
+      op = 1;
+      tx = 3;
+      seq = 0;
+      start = None;
+      columns =
+          record { ordinal = 1; ty = Int; value = num id }
+          ∷ record { ordinal = 2; ty = Int; value = num v } ∷ [];
+    }

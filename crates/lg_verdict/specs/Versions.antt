@@ -1,9 +1,7 @@
 -- Versions: each has its table's columns and fits them, and those of one key follow one another.
-use Rattle.std.specs.Prelude.{ℕ, ◌==◌, ◌&&◌, ◌||◌, not, Bool, true, false, List, [], ◌∷◌, map, flat_map, Option, Some, None, is_some}
+use Rattle.std.specs.Prelude.{◌==◌, ◌&&◌, ◌||◌, not, Bool, true, false, List, [], ◌∷◌, map, flat_map, Option, Some, None, is_some}
 use Rattle.std.specs.List.{filter}
 use Rattle.lg_value.specs.declared.column.ColumnDef.{ColumnDef}
-use Rattle.lg_value.specs.declared.column.TableKind.{TableKind}
-use Rattle.lg_value.specs.declared.column.TableKind.TheVariants.{AppendOnly, Updatable}
 use Rattle.lg_value.specs.declared.sql_type.SqlType.{SqlType}
 use Rattle.lg_value.specs.Stored.{is_stored}
 use Rattle.lg_types.specs.declared.entry.TxEntry.{TxEntry}
@@ -37,29 +35,29 @@ has_columns (c ∷ cs) (v ∷ vs) = is_of c v && has_columns cs vs
 has_columns _ _ = false
 
 -- NULL stands only where the column may be NULL
-abbrev pub has_values : List ColumnDef → Stored → Bool
-has_values (c ∷ cs) (v ∷ vs) = (c.nullable || is_some v) && has_values cs vs
-has_values _ _ = true
+abbrev pub keeps_nulls_out : List ColumnDef → Stored → Bool
+keeps_nulls_out (c ∷ cs) (v ∷ vs) = (c.nullable || is_some v) && keeps_nulls_out cs vs
+keeps_nulls_out _ _ = true
 
 -- the versions that have the columns of their table and their types: keys are compared among these
 abbrev pub with_columns : List ColumnDef → List Version → List Version
 with_columns columns versions = filter (λ (v : Version). has_columns columns v.values) versions
 
 module _ (entries : List TxEntry) where
-  -- it has its table's columns, their types and nullability; a table that is append-only has no history; no earlier
-  -- base row has its key; it ends after it starts, and the version just before it among those of its key ends before
-  -- it starts
+  -- its values are those of the table's columns; it has no end where the table is append-only; where it is in
+  -- the base no earlier base row has its key; and it stands in order among the versions of its key
   abbrev pub version_holds : Table → Version → Bool
   version_holds t v =
-      has_columns t.def.columns v.values && has_values t.def.columns v.values
+      has_columns t.def.columns v.values && keeps_nulls_out t.def.columns v.values
       && not (is_append_only t.def.kind && is_some v.end)
       && not (shares_key entries t.def.columns (with_columns t.def.columns t.versions) v)
       && is_in_order entries t.def.columns (with_columns t.def.columns t.versions) v
 
+  -- the starts of those for which it does not hold
   abbrev pub bad_versions : Table → List TableEvent
   bad_versions t =
       map (λ (v : Version). (t.def.id, v.start)) (filter (λ v. not (version_holds t v)) t.versions)
 
--- the least version for which it fails, by its start
+-- of the versions for which that fails, in all tables, the start of the least
 unfoldable pub version_fault : Image → Option Place
 version_fault i = least_event (flat_map (bad_versions i.entries) (tables_in i))

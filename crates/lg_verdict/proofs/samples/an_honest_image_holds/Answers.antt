@@ -1,5 +1,11 @@
-use Rattle.lg_verdict.proofs.Worked.{honest_image, honest_holds, halves}
+use Rattle.lg_verdict.proofs.Worked as worked
 use Rattle.lg_verdict.proofs.samples.an_honest_image_holds.Goals as goal
 
 pub returns : goal.returns
-returns c = record { image = honest_image; verdict = honest_holds; two_blocks = halves }
+returns c = record {
+  image = worked.honest_image;
+  verdict = worked.holds.0;
+  two_blocks = worked.holds.1;
+  pending = worked.holds.2;
+  falling = worked.holds.3;
+}

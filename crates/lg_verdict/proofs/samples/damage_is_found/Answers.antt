@@ -3,16 +3,16 @@ use Rattle.lg_verdict.proofs.samples.damage_is_found.Goals as goal
 
 pub returns : goal.returns
 returns c = record {
-  value = worked.value;
-  index = worked.index;
-  key = worked.key;
-  order = worked.order;
-  definition = worked.definition;
-  id = worked.id;
-  event = worked.event;
-  numbers = worked.numbers;
-  size = worked.size;
-  chain = worked.chain;
-  older = worked.older;
-  digest = worked.digest;
+  value = worked.damage.0;
+  index = worked.damage.1;
+  key = worked.damage.2;
+  order = worked.damage.3;
+  definition = worked.damage.4;
+  id = worked.damage.5;
+  event = worked.damage.6;
+  numbers = worked.damage.7;
+  chain = worked.damage.8;
+  size = worked.damage.9;
+  older = worked.damage.10;
+  digest = worked.damage.11;
 }

@@ -1,0 +1,4 @@
+pub mod Defs
+pub mod Entries
+pub mod Images
+pub mod Rows
