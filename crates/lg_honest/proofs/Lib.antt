@@ -1,0 +1,16 @@
+pub mod Along
+pub mod Begins
+pub mod Blocks
+pub mod ByNumber
+pub mod Definitions
+pub mod Events
+pub mod Firsts
+pub mod Ids
+pub mod Indexes
+pub mod RoomOfCuts
+pub mod Roots
+pub mod Shown
+pub mod Sizes
+pub mod Stay
+pub mod Versions
+pub mod Whole
