@@ -1,0 +1,19 @@
+-- Starts and ends by transactions that have no entry, version by version.
+use Rattle.std.specs.Prelude.{ℕ, not, Bool, List, map}
+use Rattle.std.specs.List.{filter}
+use Rattle.lg_types.specs.declared.entry.TxEntry.{TxEntry}
+use Rattle.lg_types.specs.declared.event.Event.{Event}
+use Rattle.lg_types.specs.declared.version.Table.{Table}
+use Rattle.lg_types.specs.declared.version.Version.{Version}
+use Rattle.lg_model.specs.Events.{version_events}
+use Rattle.lg_verdict.specs.Entries.{TableEvent, has_id, events_in}
+
+abbrev pub is_stranger : List TxEntry → TableEvent → Bool
+is_stranger entries e = not (has_id entries e.1.0)
+
+abbrev pub strangers_of : List TxEntry → ℕ → Version → List TableEvent
+strangers_of entries table v =
+    filter (is_stranger entries) (map (λ (e : Event). (e.table, (e.tx, e.seq))) (version_events table v))
+
+abbrev pub strangers_in : List TxEntry → Table → List TableEvent
+strangers_in entries t = filter (is_stranger entries) (events_in t)

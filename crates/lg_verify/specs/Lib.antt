@@ -1,0 +1,11 @@
+pub mod Ids
+pub mod Indexes
+pub mod Marks
+pub mod Numbers
+pub mod Order
+pub mod Roots
+pub mod Rules
+pub mod Shown
+pub mod Spelling
+pub mod Versions
+pub mod Verdict

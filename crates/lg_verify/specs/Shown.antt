@@ -1,0 +1,22 @@
+-- The tables that an image shows, each with its rows.
+use Rattle.std.specs.Prelude.{◌≡◌, List, map}
+use Rattle.lg_types.specs.declared.image.Image.{Image}
+use Rattle.lg_types.specs.declared.image.TableRows.{TableRows}
+use Rattle.lg_types.specs.declared.table.TableDef.{TableDef}
+use Rattle.lg_types.specs.declared.version.Table.{Table}
+use Rattle.lg_image.specs.Tables.{table_in, defs_in}
+use Rattle.lg_verify.specs.declared.shown.Shown.{Shown}
+
+abbrev pub def_of : Shown → TableDef
+def_of s = s.def.now
+
+abbrev pub rows_of : Shown → TableRows
+rows_of s = s.rows.now
+
+abbrev pub table_of : Shown → Table
+table_of s = table_in (def_of s) (rows_of s)
+
+-- they are the tables of the image, in its order
+pub record Show (tables : List Shown) (i : Image) : Type 0 where
+  pub defs : map def_of tables ≡ defs_in i
+  pub rows : map rows_of tables ≡ i.tables

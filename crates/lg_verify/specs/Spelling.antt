@@ -1,0 +1,35 @@
+-- Rows of the tables of the system, as values that are asked for one by one.
+use Rattle.std.specs.Prelude.{ℕ, zero, suc, FitsSigned, Bool, List, [], ◌∷◌, map, IfSome}
+use Rattle.std.specs.List.{list_any}
+use Rattle.std.specs.Int.{w64}
+use Rattle.lg_value.specs.declared.value.Value.{Value}
+use Rattle.lg_value.specs.declared.value.Value.TheVariants as values
+use Rattle.lg_types.specs.declared.image.TableRows.{TableRows}
+use Rattle.lg_types.specs.declared.version.Version.{Version}
+use Rattle.lg_model.specs.Rows.{Row, values_of}
+use Rattle.lg_model.specs.Keys.{same_key}
+use Rattle.lg_spell.specs.Differs.{table_of}
+use Rattle.lg_verify.specs.declared.items.Wanted.{Wanted}
+use Rattle.lg_verify.specs.declared.items.Wanted.TheVariants as wants
+
+abbrev pub value_of : Wanted → Value
+value_of wants.Null = values.Null
+value_of (wants.Number n) = values.Num n 0
+value_of (wants.Name name) = values.Text name.now
+
+abbrev pub rows_in : List Version → List Row
+rows_in versions = map values_of versions
+
+-- one of these rows is this one
+abbrev pub has_row : List Row → Row → Bool
+has_row rows row = list_any (same_key row) rows
+
+-- the number of the table that the row is about has 64 bits
+abbrev pub HasSmallId : Version → Type 0
+HasSmallId v = IfSome (table_of (values_of v)) (λ n. FitsSigned w64 n)
+
+-- the base rows of the table at this place; of no table there are none
+abbrev pub base_in : List TableRows → ℕ → List Version
+base_in [] k = []
+base_in (rows ∷ more) zero = rows.base
+base_in (rows ∷ more) (suc k) = base_in more k

@@ -1,0 +1,16 @@
+-- The invariants that speak of the rows of tables.
+use Rattle.std.specs.Prelude.{ℕ, List, [], ◌∷◌}
+use Rattle.lg_types.specs.declared.image.Image.{Image}
+use Rattle.lg_verdict.specs.declared.place.Invariant.TheVariants.{V4, V5, V6, V7, V8}
+use Rattle.lg_verdict.specs.declared.place.Verdict.{Verdict}
+use Rattle.lg_verdict.specs.Entries.{id_fault, root_fault}
+use Rattle.lg_verdict.specs.Versions.{version_fault}
+use Rattle.lg_verdict.specs.Definitions.{definition_fault}
+use Rattle.lg_verdict.specs.Indexes.{index_fault}
+use Rattle.lg_verdict.specs.Verdict.{first_failed}
+
+abbrev pub tables_tried : (List ℕ → List ℕ) → Image → Verdict
+tables_tried h i =
+    first_failed (
+    (V4, id_fault i) ∷ (V5, root_fault h i) ∷ (V6, version_fault i) ∷ (V7, definition_fault i) ∷ (V8, index_fault i)
+    ∷ [])

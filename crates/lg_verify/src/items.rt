@@ -1,0 +1,296 @@
+//! Rows of the tables of the system, compared with what definitions want of them.
+
+ghost use Rattle.std.specs.Prelude.{◌≡◌, ◌<◌, ◌^◌, ◌==◌, ◌+◌, ◌*◌, ◌∷◌, [], pos, length, map};
+ghost use Rattle.std.specs.List.{list_all, list_any};
+ghost use Rattle.std.specs.Ordering.{is_eq};
+ghost use Rattle.lg_model.specs.Keys.{same_key};
+ghost use Rattle.lg_model.specs.Rows.{values_of, value_or_null};
+ghost use Rattle.lg_model.specs.SystemTables as system;
+ghost use Rattle.lg_spell.specs.Spelled.{about, is_about, item_rows, rows_of_indexes};
+ghost use Rattle.lg_spell.specs.Differs.{are_rows};
+ghost use Rattle.lg_value.specs.Order.{value_cmp};
+ghost use Rattle.lg_value.specs.declared.value.Value.TheVariants.{Text as TextOf};
+ghost use Rattle.lg_verify.specs.Numbers.{about_number};
+ghost use Rattle.lg_verify.specs.Spelling.{value_of, rows_in, has_row};
+
+use crate::first_values::table_of;
+use lg_items::{Name, TableId};
+use lg_types::{IndexDef, TableDef, Typed, Version};
+use lg_value::{ColumnDef, TableKind, Value, compare, type_parts};
+
+/// A value that a row is to have.
+#[derive(Clone, Copy, Debug)]
+pub enum Wanted<'a> {
+    Null,
+    Number(i128),
+    Name(&'a Name),
+}
+
+fn is_value(wanted: Wanted, stored: &Option<Typed>) -> bool
+    ensures { result ≡ is_eq (value_cmp (value_of wanted.entry) (value_or_null stored.now)) }
+{
+    match wanted {
+        Wanted::Null => is_equal(&Value::Null, stored),
+        Wanted::Number(v) => is_equal(&Value::Num { v, s: 0 }, stored),
+        Wanted::Name(name) => is_name(name, stored),
+    }
+}
+
+fn is_equal(value: &Value, stored: &Option<Typed>) -> bool
+    ensures { result ≡ is_eq (value_cmp value.now (value_or_null stored.now)) }
+{
+    match stored {
+        Some(typed) => compare(value, &typed.value).is_eq(),
+        None => compare(value, &Value::Null).is_eq(),
+    }
+}
+
+#[tactic(auto, unfolding(lg_value::specs::Order::value_cmp))]
+fn is_name(name: &Name, stored: &Option<Typed>) -> bool
+    ensures { result ≡ is_eq (value_cmp (TextOf name.now) (value_or_null stored.now)) }
+{
+    match stored {
+        Some(typed) => is_text(name, &typed.value),
+        None => false,
+    }
+}
+
+#[tactic(auto, unfolding(lg_value::specs::Order::value_cmp))]
+fn is_text(name: &Name, value: &Value) -> bool
+    ensures { result ≡ is_eq (value_cmp (TextOf name.now) value.now) }
+{
+    match value {
+        Value::Text(text) => name.bytes().cmp(text.bytes()).is_eq(),
+        Value::Null | Value::Num { .. } | Value::Bytes(_) | Value::Date(_) => false,
+    }
+}
+
+/// Whether these are the values of the row, and no more.
+#[tactic(auto, unfolding(lg_model::specs::Keys::same_key, lg_model::specs::Keys::key_cmp))]
+fn is_row(wanted: &[Wanted], row: &[Option<Typed>]) -> bool
+    ensures { result ≡ same_key (map value_of wanted.now) (map value_or_null row.now) }
+{
+    let mut wanted = wanted;
+    let mut row = row;
+    'each: loop {
+        match wanted {
+            [] => return row.is_empty(),
+            [item, more @ ..] => match row {
+                [] => return false,
+                [value, others @ ..] => {
+                    if !is_value(*item, value) {
+                        return false;
+                    }
+                    wanted = more;
+                    row = others;
+                }
+            },
+        }
+    }
+}
+
+fn is_table(table: Option<i128>, id: TableId) -> bool
+    ensures { result ≡ about_number (pos id) table }
+{
+    match table {
+        Some(table) => table == i128::from(id),
+        None => false,
+    }
+}
+
+fn is_about(id: TableId, version: &Version) -> bool
+    ensures { result ≡ is_about (pos id) (values_of version.now) }
+{
+    is_table(table_of(version), id)
+}
+
+fn count_about(versions: &[Version], id: TableId) -> usize
+    ensures { result ≡ length (about (pos id) (rows_in versions.now)) }
+{
+    let mut count = 0;
+    for version in versions {
+        if is_about(id, version) {
+            count += 1;
+        }
+    }
+    count
+}
+
+/// Whether one of the rows about the table has these values.
+fn has_row(versions: &[Version], id: TableId, wanted: &[Wanted]) -> bool
+    ensures { result ≡ has_row (about (pos id) (rows_in versions.now)) (map value_of wanted.now) }
+{
+    for version in versions {
+        if is_about(id, version) && is_row(wanted, version.values.as_slice()) {
+            return true;
+        }
+    }
+    false
+}
+
+fn kind_code(kind: TableKind) -> i128
+    ensures { result ≡ pos (system.kind_code kind) }
+{
+    match kind {
+        TableKind::AppendOnly => 1,
+        TableKind::Updatable => 2,
+    }
+}
+
+fn history_of(def: &TableDef) -> Wanted<'_>
+    ensures { value_of result ≡ system.history_value def.now.kind def.now.history }
+{
+    match def.kind {
+        TableKind::AppendOnly => Wanted::Null,
+        TableKind::Updatable => Wanted::Name(&def.history),
+    }
+}
+
+#[tactic(auto, unfolding(lg_model::specs::SystemTables::table_row))]
+fn table_row(def: &TableDef) -> [Wanted<'_>; 6]
+    ensures { map value_of result ≡ system.table_row def.now }
+{
+    [
+        Wanted::Number(def.id.into()),
+        Wanted::Number(0),
+        Wanted::Name(&def.name),
+        Wanted::Number(kind_code(def.kind)),
+        history_of(def),
+        Wanted::Name(&def.view),
+    ]
+}
+
+/// Whether of the rows about the table there is one, which is that of its definition.
+pub fn has_table_row(versions: &[Version], def: &TableDef) -> bool
+    ensures { result ≡ are_rows (about (pos def.now.id) (rows_in versions.now)) (system.table_row def.now ∷ []) }
+{
+    count_about(versions, def.id) == 1 && has_row(versions, def.id, &table_row(def))
+}
+
+fn bit(b: bool) -> i128
+    ensures { result ≡ pos (system.bit b) }
+{
+    if b { 1 } else { 0 }
+}
+
+/// The row of the column at this place, counted from 0.
+fn column_row(id: TableId, place: usize, column: &ColumnDef) -> [Wanted<'_>; 9]
+    ensures { map value_of result ≡ system.column_row id (place + 1, column.now) }
+{
+    let (code, first, second) = type_parts(column.ty);
+    [
+        Wanted::Number(id.into()),
+        Wanted::Number(place as i128 + 1),
+        Wanted::Number(0),
+        Wanted::Name(&column.name),
+        Wanted::Number(code.into()),
+        Wanted::Number(first.into()),
+        Wanted::Number(second.into()),
+        Wanted::Number(bit(column.nullable)),
+        Wanted::Number(column.key_position.into()),
+    ]
+}
+
+fn has_column_row(versions: &[Version], id: TableId, place: usize, column: &ColumnDef) -> bool
+    ensures { result ≡ has_row (about (pos id) (rows_in versions.now)) (system.column_row id (place + 1, column.now)) }
+{
+    has_row(versions, id, &column_row(id, place, column))
+}
+
+#[tactic(auto, unfolding(lg_model::specs::SystemTables::column_rows))]
+fn has_column_rows(versions: &[Version], def: &TableDef) -> bool
+    ensures { result ≡ list_all (has_row (about (pos def.now.id) (rows_in versions.now))) (system.column_rows def.now) }
+{
+    for (place, column) in def.columns.as_slice().iter().enumerate() {
+        if !has_column_row(versions, def.id, place, column) {
+            return false;
+        }
+    }
+    true
+}
+
+/// The row of the part at this place, counted from 0, of an index behind so many others.
+fn part_row(id: TableId, others: usize, name: &Name, place: usize, ordinal: u16) -> [Wanted<'_>; 9]
+    ensures { map value_of result ≡ system.index_row id (others + 1) name.now (place + 1, ordinal) }
+{
+    [
+        Wanted::Number(id.into()),
+        Wanted::Number(1000 * (others as i128 + 1) + (place as i128 + 1)),
+        Wanted::Number(0),
+        Wanted::Name(name),
+        Wanted::Number(0),
+        Wanted::Number(0),
+        Wanted::Number(0),
+        Wanted::Number(0),
+        Wanted::Number(ordinal.into()),
+    ]
+}
+
+fn has_part_row(
+    versions: &[Version],
+    id: TableId,
+    others: usize,
+    name: &Name,
+    place: usize,
+    ordinal: u16,
+) -> bool
+    ensures { result ≡ has_row (about (pos id) (rows_in versions.now))
+        (system.index_row id (others + 1) name.now (place + 1, ordinal)) }
+{
+    has_row(versions, id, &part_row(id, others, name, place, ordinal))
+}
+
+#[tactic(auto, unfolding(lg_model::specs::SystemTables::index_rows))]
+fn has_part_rows(versions: &[Version], id: TableId, others: usize, index: &IndexDef) -> bool
+    ensures { result ≡ list_all (has_row (about (pos id) (rows_in versions.now)))
+        (system.index_rows id (others + 1) index.now) }
+{
+    for (place, ordinal) in index.ordinals.as_slice().iter().enumerate() {
+        if !has_part_row(versions, id, others, &index.name, place, *ordinal) {
+            return false;
+        }
+    }
+    true
+}
+
+fn has_index_rows(versions: &[Version], def: &TableDef) -> bool
+    ensures { result ≡ list_all (has_row (about (pos def.now.id) (rows_in versions.now)))
+        (rows_of_indexes def.now.id 1 def.now.indexes) }
+{
+    for (others, index) in def.indexes.as_slice().iter().enumerate() {
+        if !has_part_rows(versions, def.id, others, index) {
+            return false;
+        }
+    }
+    true
+}
+
+/// Whether so many rows are those of the columns and of the parts of the indexes.
+#[tactic(auto, unfolding(lg_spell::specs::Spelled::item_rows))]
+fn are_so_many(count: usize, def: &TableDef) -> bool
+    ensures { result ≡ (count == length (item_rows def.now)) }
+{
+    let columns = def.columns.len();
+    if count < columns {
+        return false;
+    }
+    let mut left = count - columns;
+    for index in def.indexes.as_slice() {
+        let parts = index.ordinals.len();
+        if left < parts {
+            return false;
+        }
+        left -= parts;
+    }
+    left == 0
+}
+
+/// Whether the rows about the table are those of the columns and of the indexes of its definition.
+#[tactic(auto, unfolding(lg_spell::specs::Spelled::item_rows))]
+pub fn has_item_rows(versions: &[Version], def: &TableDef) -> bool
+    ensures { result ≡ are_rows (about (pos def.now.id) (rows_in versions.now)) (item_rows def.now) }
+{
+    are_so_many(count_about(versions, def.id), def)
+        && has_column_rows(versions, def)
+        && has_index_rows(versions, def)
+}

@@ -1,0 +1,23 @@
+//! The verifier: what is said of the bytes of an image with the digests that an auditor holds.
+#![tactic(auto)]
+
+mod blocks;
+mod columns;
+mod first_values;
+mod ids;
+mod indexes;
+mod items;
+mod least;
+mod marks;
+mod names;
+mod order;
+mod roots;
+mod rules;
+mod shown;
+mod spelling;
+mod verdict;
+mod versions;
+
+pub use lg_types::HeldDigest;
+pub use lg_verdict::{Invariant, Place, Verdict};
+pub use verdict::{verify, verify_image};

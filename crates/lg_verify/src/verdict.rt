@@ -1,0 +1,94 @@
+//! The verdict on bytes, and on the image that they are.
+
+ghost use Rattle.std.specs.Prelude.{◌≡◌, IfOk};
+ghost use Rattle.lg_image.specs.ImageBytes.{IsImage};
+ghost use Rattle.lg_verdict.specs.Bytes.{verdict_of};
+ghost use Rattle.lg_verdict.specs.Verdict.{image_verdict};
+ghost use Rattle.lg_verify.specs.Shown.{Show};
+ghost use Rattle.lg_verify.specs.Verdict.{tables_tried};
+
+use crate::blocks::{block_fault, chain_fault, digest_fault};
+use crate::ids::id_fault;
+use crate::indexes::index_fault;
+use crate::roots::root_fault;
+use crate::shown::{Shown, shown_tables};
+use crate::spelling::definition_fault;
+use crate::versions::version_fault;
+use lg_image::{Image, read_image};
+use lg_items::Memory;
+use lg_merkle::Hash32;
+use lg_system::first_tables;
+use lg_types::HeldDigest;
+use lg_verdict::{Invariant, Place, Verdict};
+use std::alloc::Global;
+
+/// The verdict on these bytes with these digests: Yes, or the first invariant that fails with its least place. The only
+/// error is want of memory. One thread does the work, for any number of workers.
+pub fn verify<H: Hash32>(
+    alloc: Global,
+    hasher: H,
+    bytes: &[u8],
+    digests: &[HeldDigest],
+    _workers: u32,
+) -> Result<Verdict, Memory>
+    ensures { IfOk result (λ v. v ≡ verdict_of (H.digest hasher) digests.now bytes.now) }
+{
+    match read_image(alloc, bytes)? {
+        Some(image) => verify_image(alloc, hasher, &image, digests),
+        None => Ok(Verdict::No(Invariant::V0, Place::Whole)),
+    }
+}
+
+/// The verdict on an image that has a spelling.
+#[tactic(auto, unfolding(lg_verdict::specs::Verdict::image_verdict))]
+pub fn verify_image<H: Hash32>(
+    alloc: Global,
+    hasher: H,
+    image: &Image,
+    digests: &[HeldDigest],
+) -> Result<Verdict, Memory>
+    requires { IsImage image.now }
+    ensures { IfOk result (λ v. v ≡ image_verdict (H.digest hasher) image.now digests.now) }
+{
+    if let Some(place) = digest_fault(hasher, image, digests) {
+        return Ok(Verdict::No(Invariant::V1, place));
+    }
+    if let Some(place) = chain_fault(hasher, image) {
+        return Ok(Verdict::No(Invariant::V2, place));
+    }
+    if let Some(place) = block_fault(alloc, hasher, image)? {
+        return Ok(Verdict::No(Invariant::V3, place));
+    }
+    let system = first_tables(alloc)?;
+    let tables = shown_tables(alloc, &system, image)?;
+    verify_tables(alloc, hasher, image, &tables)
+}
+
+/// The invariants that speak of the rows of tables.
+fn verify_tables<H: Hash32>(
+    alloc: Global,
+    hasher: H,
+    image: &Image,
+    tables: &[Shown],
+) -> Result<Verdict, Memory>
+    requires image { IsImage image.now }
+    requires tables { Show tables.now image.now }
+    ensures { IfOk result (λ v. v ≡ tables_tried (H.digest hasher) image.now) }
+{
+    if let Some(place) = id_fault(image, tables) {
+        return Ok(Verdict::No(Invariant::V4, place));
+    }
+    if let Some(place) = root_fault(alloc, hasher, image, tables)? {
+        return Ok(Verdict::No(Invariant::V5, place));
+    }
+    if let Some(place) = version_fault(alloc, image, tables)? {
+        return Ok(Verdict::No(Invariant::V6, place));
+    }
+    if let Some(place) = definition_fault(alloc, image)? {
+        return Ok(Verdict::No(Invariant::V7, place));
+    }
+    if let Some(place) = index_fault(alloc, image, tables)? {
+        return Ok(Verdict::No(Invariant::V8, place));
+    }
+    Ok(Verdict::Yes)
+}
