@@ -1,0 +1,26 @@
+-- What an accepted image meets.
+use Rattle.std.proofs.Common.{◌≡◌, ℕ, true, List, [], ◌∷◌, drop, None, ap}
+use Rattle.lg_types.specs.declared.digest.HeldDigest.{HeldDigest}
+use Rattle.lg_types.specs.declared.image.Image.{Image}
+use Rattle.lg_image.specs.ImageBytes.{IsImage}
+use Rattle.lg_model.specs.Lists.{or_else}
+use Rattle.lg_verdict.specs.declared.place.Place.TheVariants as at
+use Rattle.lg_verdict.specs.declared.place.Verdict.TheVariants.{Yes}
+use Rattle.lg_verdict.specs.Blocks.{digest_holds, digest_fault}
+use Rattle.lg_verdict.specs.First.{unless}
+use Rattle.lg_verdict.specs.Verdict.{image_verdict}
+use Rattle.lg_verdict.proofs.AllHold.{yes_exactly}
+use Rattle.lg_extract.specs.Meets.{Meets}
+use Rattle.lg_extract.proofs.Heads.{none_first, passes}
+
+one_digest : (h : List ℕ → List ℕ) (i : Image) (digests : List HeldDigest) → digest_fault h i digests ≡ None → (k : ℕ) (d : HeldDigest) (more : List HeldDigest) → drop k digests ≡ d ∷ more
+    → digest_fault h i (d ∷ []) ≡ None
+unfolding digest_fault
+one_digest h i digests none k d more e =
+    let holds : digest_holds h i d ≡ true = passes (digest_holds h i d) _ (none_first _ digests none k d more e) in
+    ap (λ b. or_else (unless b (at.Digest 0)) None) holds
+
+pub accepted : (h : List ℕ → List ℕ) (i : Image) (digests : List HeldDigest) → IsImage i → image_verdict h i digests ≡ Yes → (k : ℕ) (d : HeldDigest) (more : List HeldDigest) → drop k digests ≡ d ∷ more → Meets h i d
+accepted h i digests is accepts k d more e =
+    let a = (yes_exactly h i digests).0 accepts in
+    record { image = is; digest_holds = one_digest h i digests a.digests_hold k d more e; chain = a.chain; blocks = a.blocks; ids = a.ids; roots = a.roots }

@@ -1,0 +1,10 @@
+pub mod Accepted
+pub mod Agreeing
+pub mod Covering
+pub mod Groups
+pub mod Halves
+pub mod Heads
+pub mod ImageLeaves
+pub mod Linked
+pub mod Parted
+pub mod Rooted

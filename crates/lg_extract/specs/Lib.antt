@@ -1,0 +1,5 @@
+pub mod Finds
+pub mod Hashed
+pub mod Leaves
+pub mod Meets
+pub mod Parts
