@@ -64,6 +64,23 @@ impl Plain {
         })
     }
 
+    /// The tables between two scripts.
+    pub fn tables(&self) -> &[Table]
+        requires rests { self.now.script ≡ None }
+        ensures { result.now ≡ self.now.tables }
+    {
+        &self.tables
+    }
+
+    /// The tables behind the last script.
+    pub fn into_tables(self) -> Vec<Table>
+        requires rests { self.script ≡ None }
+        ensures { result.items ≡ self.tables }
+    {
+        let Plain { tables, .. } = self;
+        tables
+    }
+
     /// Begins the script of a transaction, which BEGIN opened or not, over the tables so far. Takes no memory.
     #[tactic(auto, using(crate::proofs::Running::begins, crate::proofs::Ready::rest_steady))]
     pub fn begin(&mut self, alloc: Global, opened: bool, tx: TxId)

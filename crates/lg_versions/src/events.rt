@@ -29,7 +29,7 @@ pub fn all_events(alloc: Global, tx: TxId, tables: &[Table]) -> Result<Items<Eve
 
 /// The events of the transaction in a table, by number.
 #[tactic(auto, unfolding(lg_model::specs::Events::events_of), using(crate::proofs::Owned::owned))]
-fn events_of(alloc: Global, tx: TxId, table: &Table) -> Result<Vec<Event>, Memory>
+pub fn events_of(alloc: Global, tx: TxId, table: &Table) -> Result<Vec<Event>, Memory>
     requires { AllByRecursion IsShort table.now.versions }
     ensures { IfOk result (λ events. events.items ≡ spec.events_of tx table.now) }
 {

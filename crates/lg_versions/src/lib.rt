@@ -6,6 +6,6 @@ mod events;
 mod undoing;
 
 pub use changing::change_table;
-pub use events::all_events;
+pub use events::{all_events, events_of};
 pub use lg_types::{Change, Event, Table, Version};
 pub use undoing::undo;

@@ -1,0 +1,6 @@
+//! Which starts and ends have a leaf: all to which a legal journal leads, where they have room in one.
+#![tactic(auto)]
+
+mod laws;
+
+pub use laws::events_of_legal_journals_have_leaves;

@@ -1,0 +1,4 @@
+pub mod Roots
+pub mod Rules
+pub mod Steps
+pub mod Texts

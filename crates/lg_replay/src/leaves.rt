@@ -1,0 +1,53 @@
+//! Events have room in a leaf.
+
+ghost use Rattle.std.specs.Prelude.{◌≡◌, true, IfSome};
+ghost use Rattle.std.specs.List.{AllByRecursion};
+ghost use Rattle.lg_row.specs.Leaf.{is_text};
+ghost use Rattle.lg_leaves.specs.Room.{IsSmall, AreTexts, HasRoom};
+
+use lg_items::TxId;
+use lg_types::{Event, FieldOf};
+use lg_value::Value;
+
+/// Does nothing: it is there for its contract.
+pub(crate) fn is_text(value: &Value)
+    ensures { is_text value.now ≡ true }
+{
+    if let Value::Text(text) = value {
+        text.as_str();
+    }
+}
+
+/// Does nothing: it is there for its contract.
+fn are_texts(columns: &[FieldOf])
+    ensures { AreTexts columns.now }
+{
+    for column in columns {
+        is_text(&column.value);
+    }
+}
+
+/// Does nothing: it is there for its contract.
+fn is_small(start: Option<(TxId, u64)>)
+    ensures { IfSome start IsSmall }
+{}
+
+/// Does nothing: it is there for its contract.
+fn has_room(event: &Event)
+    ensures { HasRoom event.now }
+{
+    let _table = event.table;
+    let _tx = event.tx;
+    let _seq = event.seq;
+    is_small(event.start);
+    are_texts(event.columns.as_slice());
+}
+
+/// The numbers of events have room in a leaf, and their texts are UTF-8. Does nothing: it is there for its contract.
+pub(crate) fn have_room(events: &[Event])
+    ensures { AllByRecursion HasRoom events.now }
+{
+    for event in events {
+        has_room(event);
+    }
+}
