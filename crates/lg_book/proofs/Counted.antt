@@ -1,0 +1,59 @@
+-- The counts of the cell, after a commit and after a closing.
+use Rattle.std.proofs.Common.{◌≡◌, ℕ, suc, ◌+◌, Bool, List, [], ◌∷◌, ◌++◌, length, take, drop, refl, ap, sym, ◌∙◌, arith}
+use Rattle.std.proofs.lemmas.List.{length-append, take-append-drop}
+use Rattle.lg_types.specs.declared.entry.TxEntry.{TxEntry}
+use Rattle.lg_types.specs.declared.journal.JournalItem.{JournalItem}
+use Rattle.lg_types.specs.declared.journal.JournalItem.TheVariants.{Tx, Close}
+use Rattle.lg_model.specs.Journals.{Line}
+use Rattle.lg_history.proofs.Trace.{count_append}
+use Rattle.lg_ledger.specs.Blocks.{no_hash, block_of, last_hash}
+use Rattle.lg_ledger.specs.Entries.{at_place, placed}
+use Rattle.lg_ledger.specs.Ledger.{Ledger, commits, closes}
+use Rattle.lg_book.specs.HashedCell.{IsCounted}
+
+pub length_placed : (block ordinal : ℕ) (es : List TxEntry) → length (placed block ordinal es) ≡ length es
+length_placed block ordinal [] = refl
+length_placed block ordinal (e ∷ es) = ap suc (length_placed block (ordinal + 1) es)
+
+parts : (k : ℕ) (es : List TxEntry) → length (take k es) + length (drop k es) ≡ length es
+parts k es = sym (length-append (take k es) (drop k es)) ∙ ap length (take-append-drop k es)
+
+module _ (size : ℕ) (items after : List JournalItem) (chain next : Ledger)
+    (counted : IsCounted size items chain) where
+  pub committed : (entry : TxEntry) (id time : ℕ) (session : List ℕ) (opened : Bool) (script : List Line)
+      → after ≡ items ++ Tx id session time opened script ∷ [] → next ≡ commits entry chain
+      → IsCounted size after next
+  committed entry id time session opened script item more =
+      rw (item, more) (record {
+        some_size = counted.some_size;
+        most_size = counted.most_size;
+        entries = omega (
+          arith,
+          counted.entries,
+          length-append chain.pending (at_place (length chain.blocks) (length chain.pending) entry ∷ []),
+          count_append items (Tx id session time opened script ∷ []),
+        );
+        in_blocks = counted.in_blocks;
+      })
+
+  pub closed : (h : List ℕ → List ℕ) (k : ℕ) → after ≡ items ++ Close k ∷ [] → next ≡ closes h k chain
+      → IsCounted size after next
+  closed h k item more =
+      rw (item, more) (record {
+        some_size = counted.some_size;
+        most_size = counted.most_size;
+        entries = omega (
+          arith,
+          counted.entries,
+          parts k chain.pending,
+          length-append chain.closed (take k chain.pending),
+          length_placed (length chain.blocks + 1) 0 (drop k chain.pending),
+          count_append items (Close k ∷ []),
+        );
+        in_blocks = λ none. absurd (omega (
+          arith,
+          none,
+          length-append chain.blocks
+              (block_of h (length chain.blocks) (take k chain.pending) (last_hash h no_hash chain.blocks) ∷ []),
+        ));
+      })

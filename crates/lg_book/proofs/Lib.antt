@@ -1,0 +1,4 @@
+pub mod Closings
+pub mod Counted
+pub mod Newest
+pub mod OfJournal

@@ -1,0 +1,18 @@
+use Rattle.std.proofs.Common.{◌≡◌, ℕ}
+use Rattle.lg_model.specs.Journals.{tx_count}
+use Rattle.lg_standing.specs.Cells.{pending_in}
+use Rattle.lg_standing.specs.LedgerVisits.{all_closed}
+use Rattle.lg_book.specs.HashedCell.{KeepsHash}
+use Rattle.lg_book.proofs.cell.LedgerCell.close_pending.Given as goal
+
+abbrev pub invariant-loop-alloc : goal.invariant-loop-alloc
+invariant-loop-alloc g l =
+    let digest = g.H.Hash32.digest l.fn.h in
+    KeepsHash digest l.self
+    × (all_closed digest (pending_in l.self.cell) l.self.cell
+    ≡ all_closed digest (pending_in l.fn.self.cell) l.fn.self.cell)
+    × (tx_count l.self.cell.items ≡ tx_count l.fn.self.cell.items)
+    × (n : ℕ) × (l.self.cell ≡ all_closed digest n l.fn.self.cell)
+
+abbrev pub decreases-loop-alloc : goal.decreases-loop-alloc
+decreases-loop-alloc g l = pending_in l.self.cell

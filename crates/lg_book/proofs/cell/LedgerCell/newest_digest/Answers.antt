@@ -1,0 +1,33 @@
+use Rattle.std.proofs.Common.{◌≤◌, ◌≡◌, length, sym, subst, ◌-◌, ◌∙◌}
+use Rattle.lg_model.specs.Journals.{tx_count}
+use Rattle.lg_standing.specs.Cells.{LedgerCell, pending_in}
+use Rattle.lg_book.specs.HashedCell.{HashedCell, KeepsHash}
+use Rattle.lg_book.specs.Issues.{IsOfNewest}
+use Rattle.lg_book.proofs.Newest.{newest}
+use Rattle.lg_book.proofs.cell.LedgerCell.newest_digest.Goals as goal
+
+pub returns-clause-newest : goal.returns-clause-newest
+returns-clause-newest c = λ h keeps.
+    let back = sym c.self.view_is in
+    let inside = c.self.inside in
+    let cell : LedgerCell = record {
+      database = inside.database;
+      block_size = inside.block_size;
+      items = inside.items.items;
+      next = inside.next;
+      chain = inside.books.ledger;
+      issued = inside.issued;
+    } in
+    subst (λ (v : HashedCell). IsOfNewest h v.cell (record {
+      database = c.in_ok-copy.field-0;
+      block = length c.blocks-2.result.now - 1;
+      hash = c.hash.result;
+      last_commit = c.index-entries-entries.result.time;
+      made = c.args.made;
+    })) c.self.view_is
+    (newest h cell c.entries-entries.result.now c.index-entries-entries.result c.blocks-2.result.now
+    c.hash.result c.in_ok-copy.field-0 c.args.made c.self.invariant
+    (subst (λ (v : HashedCell). pending_in v.cell ≡ 0) back c.requires.none_pending)
+    (subst (λ (v : HashedCell). 1 ≤ tx_count v.cell.items) back c.requires.some) c.entries-entries.ensures
+    c.index-entries-entries.is c.blocks-2.ensures (c.hash.ensures ∙ subst (KeepsHash h) back keeps)
+    c.in_ok-copy.ensures)

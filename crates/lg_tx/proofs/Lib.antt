@@ -1,0 +1,7 @@
+pub mod Frames
+pub mod Leaves
+pub mod Marks
+pub mod Represented
+pub mod RootsMade
+pub mod Sorting
+pub mod Trees

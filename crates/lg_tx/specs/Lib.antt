@@ -1,0 +1,4 @@
+pub mod Leaves
+pub mod Represents
+pub mod Roots
+pub mod Trees
