@@ -41,7 +41,7 @@ fn main(rt: HostRuntime) -> ExitCode {
             }
         }
     };
-    if status != Status::Done {
+    if status.code() > 1 {
         let _ = eprintln!(rt; "ledgerd: {status}");
     }
     ExitCode::from(status.code())

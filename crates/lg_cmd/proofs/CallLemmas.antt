@@ -9,14 +9,13 @@ use Rattle.lg_base.specs.declared.vault.VaultErr.{VaultErr}
 use Rattle.lg_base.specs.declared.vault.VaultErr.TheVariants as refused
 use Rattle.lg_base.specs.History.{Adds, Since, EndsAt}
 use Rattle.lg_cmd.specs.declared.status.Status.{Status}
-use Rattle.lg_cmd.specs.declared.status.Status.TheVariants.{Done, Words, Limit, SourceFault, SinkFault, VaultFault, Form, Unbuilt, Memory}
-use Rattle.lg_cmd.specs.Answer.{HasCause, vault_status}
-use Rattle.lg_cmd.specs.Calls.{Moved, Kept, ReadsOf, AreReads, ArePuts, AreWrites}
+use Rattle.lg_cmd.specs.declared.status.Status.TheVariants.{Done, No, Words, Limit, SourceFault, SinkFault, VaultFault, Missing, Digests, Form, Unbuilt, Memory}
+use Rattle.lg_cmd.specs.Answer.{StepCause, vault_status}
+use Rattle.lg_cmd.specs.Calls.{Moved, KeptFile, ReadsOf, AreReads, ArePuts, AreWrites}
 use Rattle.lg_cmd.specs.Input.{IsRefused}
-use Rattle.lg_cmd.specs.Words.{Step}
 
 module _ {A : Type 0} (old now new : List A → Type 0) (goes_on : A → Type 0) where
-  adds_more : (answers : List A) (answer : A) → Adds old now answers → Adds now new (answer ∷ []) → Adds old new (answers ++ answer ∷ [])
+  pub adds_more : (answers : List A) (answer : A) → Adds old now answers → Adds now new (answer ∷ []) → Adds old new (answers ++ answer ∷ [])
   adds_more answers answer so_far one =
       λ earlier had. subst new (append_assoc earlier answers (answer ∷ [])) (one (earlier ++ answers) (so_far earlier had))
 
@@ -50,28 +49,31 @@ pub since_weaker : {A : Type 0} (old now are also : List A → Type 0) → ((ans
 since_weaker old now are also so s = record { answers = s.answers; adds = s.adds; such = so s.answers s.such }
 
 -- an input that was read to its end, by the status of what follows
-read_to_end : (status : Status) (step : Step) (input : Option (List ℕ)) (vault sink : Type 0) → HasCause status (Some step) input ⊥ vault sink
+read_to_end : (status : Status) (input : Option (List ℕ)) (vault sink : Type 0) → StepCause status input ⊥ vault sink
     → (answers : List (Result ℕ Failed)) → EndsAt Moved (Ok 0) answers → AreReads status answers
-read_to_end Done step input vault sink cause answers end = end
-read_to_end Words step input vault sink cause answers end = absurd cc
-read_to_end Limit step input vault sink cause answers end = inr end
-read_to_end SourceFault step input vault sink cause answers end = absurd cause
-read_to_end SinkFault step input vault sink cause answers end = end
-read_to_end VaultFault step input vault sink cause answers end = end
-read_to_end (Form line) step input vault sink cause answers end = end
-read_to_end (Unbuilt line) step input vault sink cause answers end = end
-read_to_end Memory step input vault sink cause answers end = inr end
+read_to_end Done input vault sink cause answers end = end
+read_to_end Words input vault sink cause answers end = absurd cause
+read_to_end No input vault sink cause answers end = absurd cause
+read_to_end (Missing which) input vault sink cause answers end = absurd cause
+read_to_end (Digests index) input vault sink cause answers end = absurd cause
+read_to_end Limit input vault sink cause answers end = inr end
+read_to_end SourceFault input vault sink cause answers end = absurd cause
+read_to_end SinkFault input vault sink cause answers end = end
+read_to_end VaultFault input vault sink cause answers end = end
+read_to_end (Form line) input vault sink cause answers end = end
+read_to_end (Unbuilt line) input vault sink cause answers end = end
+read_to_end Memory input vault sink cause answers end = inr end
 
-pub reads_whole : (status : Status) (step : Step) (input : Option (List ℕ)) (vault sink : Type 0) (v : Vec ℕ Global) (old now : List (Result ℕ Failed) → Type 0)
-    → HasCause status (Some step) input ⊥ vault sink → Since old now (ReadsOf (Ok v)) → Since old now (AreReads status)
-reads_whole status step input vault sink v old now cause reads =
-    since_weaker old now (ReadsOf (Ok v)) (AreReads status) (read_to_end status step input vault sink cause) reads
+pub reads_whole : (status : Status) (input : Option (List ℕ)) (vault sink : Type 0) (v : Vec ℕ Global) (old now : List (Result ℕ Failed) → Type 0)
+    → StepCause status input ⊥ vault sink → Since old now (ReadsOf (Ok v)) → Since old now (AreReads status)
+reads_whole status input vault sink v old now cause reads =
+    since_weaker old now (ReadsOf (Ok v)) (AreReads status) (read_to_end status input vault sink cause) reads
 
 -- where the vault refused a file
 pub refused_puts : (e : VaultErr) (old now : List (Result (Unit {0}) VaultErr) → Type 0) → (e ≡ refused.Missing → ⊥) × (e ≡ refused.TooLong → ⊥)
-    → Since old now (EndsAt Kept (Err e)) → Since old now (ArePuts (vault_status e))
+    → Since old now (EndsAt KeptFile (Err e)) → Since old now (ArePuts (vault_status e))
 refused_puts refused.Failed old now known puts = puts
-refused_puts refused.Memory old now known puts = since_weaker old now (EndsAt Kept (Err refused.Memory)) (ArePuts Memory) (λ answers end. inr end) puts
+refused_puts refused.Memory old now known puts = since_weaker old now (EndsAt KeptFile (Err refused.Memory)) (ArePuts Memory) (λ answers end. inr end) puts
 refused_puts refused.Missing old now known puts = absurd (known.0 refl)
 refused_puts refused.TooLong old now known puts = absurd (known.1 refl)
 
@@ -89,6 +91,9 @@ unput (Unbuilt line) bytes is = refl
 unput Memory bytes is = inl refl
 unput Done bytes is = absurd is
 unput Words bytes is = absurd is
+unput No bytes is = absurd is
+unput (Missing which) bytes is = absurd is
+unput (Digests index) bytes is = absurd is
 unput SourceFault bytes is = absurd is
 unput SinkFault bytes is = absurd is
 unput VaultFault bytes is = absurd is
@@ -100,6 +105,9 @@ unwritten (Unbuilt line) bytes is = refl
 unwritten Memory bytes is = refl
 unwritten Done bytes is = absurd is
 unwritten Words bytes is = absurd is
+unwritten No bytes is = absurd is
+unwritten (Missing which) bytes is = absurd is
+unwritten (Digests index) bytes is = absurd is
 unwritten SourceFault bytes is = absurd is
 unwritten SinkFault bytes is = absurd is
 unwritten VaultFault bytes is = absurd is

@@ -17,32 +17,40 @@ use Rattle.lg_step.specs.Moments.{IsMoment}
 use Rattle.lg_cmd.specs.declared.status.Status.{Status}
 use Rattle.lg_cmd.specs.declared.status.Status.TheVariants.{Done, Words, Limit, SourceFault, SinkFault, VaultFault, Form, Unbuilt, Memory}
 use Rattle.lg_cmd.specs.declared.files.File.{File}
-use Rattle.lg_cmd.specs.Agreement.{AgreesWith}
+use Rattle.lg_cmd.specs.Agreement.{RunAgrees}
 use Rattle.lg_cmd.specs.Input.{HasStatements, IsBuilt, IsBeyond, LacksForm, LacksBuilt}
 use Rattle.lg_cmd.specs.Files.{StandFirst, StopsOpen, TellsHeld}
 use Rattle.lg_cmd.specs.Run.{files_of, text_of, journal_name, transcripts_text}
 use Rattle.lg_cmd.specs.Transfer.{input_limit, TellsPart}
-use Rattle.lg_cmd.specs.Words.{Step}
+use Rattle.lg_cmd.specs.Verify.{VerifyCause}
+use Rattle.lg_cmd.specs.Words.{Command, Step, Verify}
 
--- Why a status comes, by what the words and the input are, as far as it is told, and by whose faults rose in
--- the call. The causes of Done, Words, Limit, Form and Unbuilt exclude one another, so each of these five
--- comes exactly where its cause stands, unless a fault or want of memory comes before it.
-abbrev pub HasCause : Status → Option Step → Option (List ℕ) → Type 0 → Type 0 → Type 0 → Type 0
-HasCause Done words input source vault sink = IfSome input IsBuilt
-HasCause Words words input source vault sink = words ≡ None
-HasCause Limit words input source vault sink = IfSome input IsBeyond
-HasCause SourceFault words input source vault sink = source
-HasCause SinkFault words input source vault sink = sink
-HasCause VaultFault words input source vault sink = vault
-HasCause (Form line) words input source vault sink = IfSome input (λ bytes. LacksForm bytes line)
-HasCause (Unbuilt line) words input source vault sink = IfSome input (λ bytes. LacksBuilt bytes line)
-HasCause Memory words input source vault sink = Unit {0}
+-- Why a status comes of `step`, by what the input is, as far as it is told, and by whose faults rose in the
+-- call. The causes of Done, Limit, Form and Unbuilt exclude one another, so each of these four comes exactly
+-- where its cause stands, unless a fault or want of memory comes before it.
+abbrev pub StepCause : Status → Option (List ℕ) → Type 0 → Type 0 → Type 0 → Type 0
+StepCause Done input source vault sink = IfSome input IsBuilt
+StepCause Limit input source vault sink = IfSome input IsBeyond
+StepCause SourceFault input source vault sink = source
+StepCause SinkFault input source vault sink = sink
+StepCause VaultFault input source vault sink = vault
+StepCause (Form line) input source vault sink = IfSome input (λ bytes. LacksForm bytes line)
+StepCause (Unbuilt line) input source vault sink = IfSome input (λ bytes. LacksBuilt bytes line)
+StepCause Memory input source vault sink = Unit {0}
+StepCause _ input source vault sink = ⊥
 
--- what is left of an input that is told: nothing was taken where the words were refused, and else at most one
--- byte past the limit; so at Limit all was, or the limit and one byte of more. All of it was taken where it
--- was run, or a line of it lacks its form or isn't built.
+-- why a status comes, by the command that the words say, and Words exactly where they say none
+abbrev pub HasCause : Status → (List ℕ → List ℕ) → Option Command → Option (List ℕ) → Option Names
+    → Type 0 → Type 0 → Type 0 → Type 0
+HasCause status h None input names source vault sink = status ≡ Words
+HasCause status h (Some (Step save)) input names source vault sink = StepCause status input source vault sink
+HasCause status h (Some (Verify image digests)) input names source vault sink =
+    VerifyCause status h image digests names vault sink
+
+-- what is left of an input that is told, where it is read: at most one byte past the limit was taken; so at
+-- Limit all was, or the limit and one byte of more. All of it was taken where it was run, or a line of it lacks
+-- its form or isn't built.
 abbrev pub HasRead : Status → List ℕ → Option (List ℕ) → Type 0
-HasRead Words input rest = rest ≡ Some input
 HasRead Limit input rest = rest ≡ Some (drop (input_limit + 1) input)
 HasRead Memory input rest = (n : ℕ) × (n ≤ input_limit + 1) × (rest ≡ Some (drop n input))
 HasRead SourceFault input rest = (n : ℕ) × (n ≤ input_limit) × (rest ≡ Some (drop n input))
@@ -67,7 +75,7 @@ HasWritten _ text old new = ⊥
 -- The input was within its limits and built, and was run, each statement at a moment that the clock says:
 -- this is what was put and written of what it came to.
 pub record Ran (status : Status) (h : List ℕ → List ℕ)
-    (words : Option Step) (input : Option (List ℕ)) (says : ℕ → Type 0)
+    (save : List ℕ) (input : Option (List ℕ)) (says : ℕ → Type 0)
     (names_old names_new : Option Names) (taken_old taken_new : Option (List ℕ)) : Type 0 where
   pub statements : List Statement
   pub times : List ℕ
@@ -75,20 +83,20 @@ pub record Ran (status : Status) (h : List ℕ → List ℕ)
   pub built : unbuilt statements ≡ None
   pub as_many : length times ≡ length statements
   pub moments : AllByRecursion (IsMoment says) times
-  pub put : IfSome words (λ step. HasPut status (files_of h step (ran times statements)) names_old names_new)
+  pub put : HasPut status (files_of h save (ran times statements)) names_old names_new
   pub written : HasWritten status (text_of statements (ran times statements)) taken_old taken_new
 
 -- the transcripts that were written and the journal that was put agree, and that journal is a legal one
-pub record Agrees (words : Option Step) (input : Option (List ℕ))
+pub record OutputAgrees (save : List ℕ) (input : Option (List ℕ))
     (names_old names_new : Option Names) (taken_old taken_new : Option (List ℕ)) : Type 0 where
   pub statements : List Statement
   pub X : List Transcript
   pub J : Journal
   pub within : IfSome input (λ bytes. HasStatements bytes statements)
   pub legal : IsLegalJournal statement_of J
-  pub agree : AgreesWith statements X J
+  pub agree : RunAgrees statements X J
   pub written : TellsTaken taken_old taken_new (transcripts_text X)
-  pub put : IfSome words (λ step. TellsHeld names_old names_new (journal_name step.save) (journal_bytes J))
+  pub put : TellsHeld names_old names_new (journal_name save) (journal_bytes J)
   -- so it is read back from its bytes
   pub journal : IsJournal J
 

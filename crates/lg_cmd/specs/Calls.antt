@@ -1,13 +1,13 @@
 -- What the source, the vault and the sink have answered in a call of the server. The first answer that ends
 -- their calls is the last one: nothing is tried again, and nothing is read behind the end of an input.
-use Rattle.std.specs.Prelude.{⊤, ◌≡◌, ◌<◌, ◌⊎◌, ℕ, List, [], Result, Ok, Err, Vec, All}
+use Rattle.std.specs.Prelude.{⊤, ◌≡◌, ◌<◌, ◌≤◌, ◌⊎◌, ℕ, List, [], length, Result, Ok, Err, Vec, All}
 use Rattle.std.specs.declared.alloc.Global.{Global}
 use Rattle.lg_base.specs.declared.failed.Failed.{Failed}
 use Rattle.lg_base.specs.declared.vault.VaultErr.{VaultErr}
 use Rattle.lg_base.specs.declared.vault.VaultErr.TheVariants as refused
 use Rattle.lg_base.specs.History.{EndsAt}
 use Rattle.lg_cmd.specs.declared.status.Status.{Status}
-use Rattle.lg_cmd.specs.declared.status.Status.TheVariants.{Done, Words, Limit, SourceFault, SinkFault, VaultFault, Memory}
+use Rattle.lg_cmd.specs.declared.status.Status.TheVariants.{Done, No, Words, Limit, SourceFault, SinkFault, VaultFault, Missing, Memory}
 use Rattle.lg_cmd.specs.declared.transfer.ReadErr.{ReadErr}
 use Rattle.lg_cmd.specs.declared.transfer.ReadErr.TheVariants as reading
 
@@ -17,8 +17,8 @@ Moved (Ok n) = 0 < n
 Moved (Err e) = ⊥
 
 -- a put that kept its file
-abbrev pub Kept : Result ⊤ VaultErr → Type 0
-Kept answer = answer ≡ Ok tt
+abbrev pub KeptFile : Result ⊤ VaultErr → Type 0
+KeptFile answer = answer ≡ Ok tt
 
 -- a read or a write that failed
 abbrev pub failed : Result ℕ Failed
@@ -38,13 +38,29 @@ AreReads Limit answers = All Moved answers ⊎ EndsAt Moved (Ok 0) answers
 AreReads Memory answers = All Moved answers ⊎ EndsAt Moved (Ok 0) answers
 AreReads _ answers = EndsAt Moved (Ok 0) answers
 
--- what the vault answered
+-- what the vault answered where files are put
 abbrev pub ArePuts : Status → List (Result ⊤ VaultErr) → Type 0
-ArePuts Done answers = All Kept answers
-ArePuts SinkFault answers = All Kept answers
-ArePuts VaultFault answers = EndsAt Kept (Err refused.Failed) answers
-ArePuts Memory answers = (answers ≡ []) ⊎ EndsAt Kept (Err refused.Memory) answers
+ArePuts Done answers = All KeptFile answers
+ArePuts SinkFault answers = All KeptFile answers
+ArePuts VaultFault answers = EndsAt KeptFile (Err refused.Failed) answers
+ArePuts Memory answers = (answers ≡ []) ⊎ EndsAt KeptFile (Err refused.Memory) answers
 ArePuts _ answers = answers ≡ []
+
+-- a get that gave a file
+abbrev pub GaveFile : Result ⊤ VaultErr → Type 0
+GaveFile answer = answer ≡ Ok tt
+
+-- so many gets each gave something
+abbrev pub Gave : ℕ → List (Result ⊤ VaultErr) → Type 0
+Gave k answers = All GaveFile answers × (length answers ≡ k)
+
+-- what the vault answered where k names are read: all of them, or up to the first that gave nothing
+abbrev pub AreGets : ℕ → Status → List (Result ⊤ VaultErr) → Type 0
+AreGets k Limit answers = EndsAt GaveFile (Err refused.TooLong) answers × (length answers ≤ k)
+AreGets k (Missing which) answers = EndsAt GaveFile (Err refused.Missing) answers × (length answers ≡ which)
+AreGets k VaultFault answers = EndsAt GaveFile (Err refused.Failed) answers × (length answers ≤ k)
+AreGets k Memory answers = (All GaveFile answers ⊎ EndsAt GaveFile (Err refused.Memory) answers) × (length answers ≤ k)
+AreGets k _ answers = Gave k answers
 
 -- the writes up to a fault, or to one that took nothing
 abbrev pub StopsWriting : List (Result ℕ Failed) → Type 0
@@ -53,5 +69,6 @@ StopsWriting answers = EndsAt Moved failed answers ⊎ EndsAt Moved (Ok 0) answe
 -- what the sink answered
 abbrev pub AreWrites : Status → List (Result ℕ Failed) → Type 0
 AreWrites Done answers = All Moved answers
+AreWrites No answers = All Moved answers
 AreWrites SinkFault answers = StopsWriting answers
 AreWrites _ answers = answers ≡ []

@@ -4,8 +4,10 @@ pub mod Calls
 pub mod Files
 pub mod Input
 pub mod Letters
+pub mod Names
 pub mod Root
 pub mod Run
 pub mod Status
 pub mod Transfer
+pub mod Verify
 pub mod Words

@@ -15,10 +15,9 @@ use Rattle.lg_step.specs.Lines.{ran, unbuilt, transcripts_of}
 use Rattle.lg_step.specs.Moments.{IsMoment}
 use Rattle.lg_step.specs.TranscriptText.{transcript_text}
 use Rattle.lg_cmd.specs.declared.files.File.{File}
-use Rattle.lg_cmd.specs.Agreement.{AgreesWith}
+use Rattle.lg_cmd.specs.Agreement.{RunAgrees}
 use Rattle.lg_cmd.specs.Input.{HasStatements}
 use Rattle.lg_cmd.specs.Root.{root_of}
-use Rattle.lg_cmd.specs.Words.{Step}
 
 -- NAME.root has the root over the last events that were committed; there is none where there are none
 abbrev pub root_file : (List ℕ → List ℕ) → List ℕ → List Event → List File
@@ -37,8 +36,8 @@ abbrev pub saved_files : (List ℕ → List ℕ) → List ℕ → List Event →
 saved_files h save last journal = root_file h save last ++ journal_file save journal ∷ []
 
 -- the files of a run
-abbrev pub files_of : (List ℕ → List ℕ) → Step → session.Run → List File
-files_of h step x = saved_files h step.save x.last (journal_of x)
+abbrev pub files_of : (List ℕ → List ℕ) → List ℕ → session.Run → List File
+files_of h save x = saved_files h save x.last (journal_of x)
 
 -- the text of some transcripts
 abbrev pub transcripts_text : List Transcript → List ℕ
@@ -60,5 +59,5 @@ pub record IsRun (says : ℕ → Type 0) (bytes : List ℕ) (r : Ran) : Type 0 w
   pub last : r.last ≡ (ran times statements).last
   pub transcript : r.transcript ≡ text_of statements (ran times statements)
   pub legal : IsLegalJournal statement_of (journal_of (ran times statements))
-  pub agrees : AgreesWith statements (transcripts_of statements (ran times statements))
+  pub agrees : RunAgrees statements (transcripts_of statements (ran times statements))
       (journal_of (ran times statements))

@@ -1,10 +1,11 @@
 -- What the words after the program's name say.
-use Rattle.std.specs.Prelude.{ℕ, Bool, false, ◌&&◌, ◌||◌, ◌==◌, nat_le, List, [], ◌∷◌, length, codes, Option, Some, None, if◌then◌else◌, bytes_eq}
+use Rattle.std.specs.Prelude.{ℕ, Bool, true, false, ◌&&◌, ◌||◌, ◌==◌, nat_le, List, [], ◌∷◌, length, codes, Option, Some, None, if◌then◌else◌, bytes_eq}
 use Rattle.std.specs.List.{list_all}
 use Rattle.lg_cmd.specs.Letters.{is_letter, is_digit}
-use Rattle.lg_cmd.specs.declared.words.StepWords.{StepWords}
+use Rattle.lg_cmd.specs.declared.words.CommandWords.{CommandWords}
+use Rattle.lg_cmd.specs.declared.words.CommandWords.TheVariants as words
 
--- a byte of a name that files are saved under
+-- a byte of a name that files have
 abbrev pub is_name_byte : ℕ → Bool
 is_name_byte b = is_letter b || is_digit b || (b == 95) || (b == 45) || (b == 46)
 
@@ -13,21 +14,57 @@ starts_well [] = false
 starts_well (b ∷ bs) = is_letter b || is_digit b
 
 -- 1 to `most` letters, digits, `_`, `-` or `.`, the first a letter or a digit
-abbrev pub is_name : ℕ → List ℕ → Bool
+unfoldable pub is_name : ℕ → List ℕ → Bool
 is_name most name = starts_well name && nat_le (length name) most && list_all is_name_byte name
 
--- what `step` is given
-pub record Step : Type 0 where
-  -- the name that the files are saved under
-  pub save : List ℕ
+-- a command, and the names that it is given
+pub data Command : Type 0 where
+  -- the name that the files of a run are saved under
+  Step : List ℕ → Command
+  -- the names of an image and of digests
+  Verify : List ℕ → List ℕ → Command
 
--- `step --save NAME`; none where the words are others
-abbrev pub step_words : List (List ℕ) → Option Step
-step_words (command ∷ option ∷ name ∷ []) =
-    if bytes_eq command (codes "step") && bytes_eq option (codes "--save") && is_name 100 name
-    then Some (record { save = name }) else None
+-- `--save NAME`
+abbrev pub step_words : List (List ℕ) → Option Command
+step_words (option ∷ save ∷ []) =
+    if bytes_eq option (codes "--save") && is_name 100 save then Some (Step save) else None
 step_words words = None
 
--- what the command that was read says
-abbrev pub step_view : StepWords → Step
-step_view words = record { save = words.save.now }
+-- `IMAGE DIGESTS`
+abbrev pub verify_words : List (List ℕ) → Option Command
+verify_words (image ∷ digests ∷ []) =
+    if is_name 100 image && is_name 100 digests then Some (Verify image digests) else None
+verify_words words = None
+
+-- the command that is named first, with what stands behind it; none where the words have no command's form
+unfoldable pub command_words : List (List ℕ) → Option Command
+command_words [] = None
+command_words (command ∷ rest) =
+    if bytes_eq command (codes "step") then step_words rest
+    else if bytes_eq command (codes "verify") then verify_words rest
+    else None
+
+-- the command that was read
+abbrev pub command_view : CommandWords → Command
+command_view (words.Step save) = Step save.now
+command_view (words.Verify image digests) = Verify image.now digests.now
+
+-- what is so of the name that `step` is given
+abbrev pub OfStep : Option Command → (List ℕ → Type 0) → Type 0
+OfStep (Some (Step save)) P = P save
+OfStep words P = Unit {0}
+
+-- what is so of the names that `verify` is given
+abbrev pub OfVerify : Option Command → (List ℕ → List ℕ → Type 0) → Type 0
+OfVerify (Some (Verify image digests)) P = P image digests
+OfVerify words P = Unit {0}
+
+-- the command reads the input
+abbrev pub reads_input : Option Command → Bool
+reads_input (Some (Step save)) = true
+reads_input words = false
+
+-- the command puts files
+abbrev pub puts_files : Option Command → Bool
+puts_files (Some (Step save)) = true
+puts_files words = false

@@ -3,7 +3,7 @@ ghost use Rattle.std.specs.Prelude.{⊤, ◌≡◌, ◌≤◌, ◌⊎◌, ℕ, A
 ghost use Rattle.lg_base.specs.Count.{Rises};
 ghost use Rattle.lg_base.specs.History.{Since, EndsAt};
 ghost use Rattle.lg_base.specs.Outside.{CountsFault};
-ghost use Rattle.lg_cmd.specs.Calls.{Kept, ArePuts, AreWrites};
+ghost use Rattle.lg_cmd.specs.Calls.{KeptFile, ArePuts, AreWrites};
 ghost use Rattle.lg_cmd.specs.Files.{StandFirst, StopsBy};
 ghost use Rattle.lg_cmd.specs.Answer.{HasPut, HasWritten, EndsBy, Unfailed, vault_status};
 
@@ -25,9 +25,9 @@ fn put_all<V: Vault>(vault: &mut V, files: &[File]) -> Result<(), VaultErr>
         (StandFirst files.now (length files.now) (V.names vault.old) (V.names vault.new)) }
     ensures err { IfErr result (λ error. StopsBy error files.now (V.names vault.old) (V.names vault.new)) }
     ensures known { IfErr result (λ error. (error ≡ VaultErr.Missing → ⊥) × (error ≡ VaultErr.TooLong → ⊥)) }
-    ensures all_puts { OnOk result (Since (V.history vault.old) (V.history vault.new) (All Kept)) }
+    ensures all_puts { OnOk result (Since (V.history vault.old) (V.history vault.new) (All KeptFile)) }
     ensures some_puts { IfErr result
-        (λ error. Since (V.history vault.old) (V.history vault.new) (EndsAt Kept (Err error))) }
+        (λ error. Since (V.history vault.old) (V.history vault.new) (EndsAt KeptFile (Err error))) }
     ensures counts { CountsFault result (V.faults vault.old) (V.faults vault.new) }
 {
     for file in files {

@@ -2,12 +2,15 @@
 #![tactic(auto)]
 
 mod files;
+mod names;
 mod root;
 mod run;
 mod saved;
 mod status;
+mod step;
 mod top;
 mod transfer;
+mod verify;
 mod words;
 
 pub use lg_journal::{Journal, JournalItem, Script, write_journal};

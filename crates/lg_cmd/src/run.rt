@@ -7,7 +7,7 @@ ghost use Rattle.lg_row.specs.Leaf.{HasLeaf};
 ghost use Rattle.lg_journal.specs.Rules.{IsJournal};
 ghost use Rattle.lg_session.specs.OneSession.{journal_of};
 ghost use Rattle.lg_step.specs.Lines.{ran, unbuilt, transcripts_of};
-ghost use Rattle.lg_cmd.specs.Agreement.{AgreesWith};
+ghost use Rattle.lg_cmd.specs.Agreement.{RunAgrees};
 ghost use Rattle.lg_cmd.specs.Input.{HasStatements, IsRefused};
 ghost use Rattle.lg_cmd.specs.Run.{IsRun};
 ghost use Rattle.lg_cmd.specs.Transfer.{input_limit};
@@ -17,7 +17,7 @@ use lg_base::Clock;
 use lg_input::{InputErr, Line, read_lines, session_names};
 use lg_items::Memory;
 use lg_parse::printing_is_read_back;
-use lg_session::one_session_agrees;
+use lg_session::{one_session_agrees, one_session_keeps_step_order};
 use lg_step::{Ran, StepErr, journals_of_one_session_are_legal, run_lines};
 use std::alloc::Global;
 
@@ -50,15 +50,16 @@ fn statements<'a>(alloc: Global, input: &'a [u8]) -> Result<Input<'a>, Status>
     }
 }
 
-/// What is answered in a run of one session agrees with what is committed in it.
+/// What is answered in a run of one session agrees with what is committed in it, in the order of the lines.
 fn runs_agree()
     ensures { (times : List ℕ) (statements : List Statement)
         → length times ≡ length statements → unbuilt statements ≡ None
-        → AgreesWith statements (transcripts_of statements (ran times statements))
+        → RunAgrees statements (transcripts_of statements (ran times statements))
         (journal_of (ran times statements)) }
 {
     printing_is_read_back();
     one_session_agrees();
+    one_session_keeps_step_order();
 }
 
 /// Runs the statements of an input, or says why it is refused.

@@ -7,18 +7,25 @@ use std::fmt;
 /// How a call of the server ends. Each but `Done` and `Memory` has its cause in the contract of the top call.
 #[derive(Clone, Copy, Debug, PartialEq, Eq)]
 pub enum Status {
-    /// The command did its work.
+    /// The command did its work, and `verify` said Yes.
     Done,
+    /// The verdict is No.
+    No,
     /// The words have none of the commands' forms.
     Words,
-    /// A limit was exceeded: more than 4 MiB came as input, or statements of more than 64 sessions.
+    /// A limit was exceeded: more than 4 MiB came as input, or statements of more than 64 sessions; or more than
+    /// 256 MiB stand under the name of an image, or 16 MiB under that of digests.
     Limit,
     /// Reading the input failed.
     SourceFault,
     /// Writing the output failed, or the sink took nothing of a piece.
     SinkFault,
-    /// Putting a file failed.
+    /// Putting or getting a file failed.
     VaultFault,
+    /// Nothing stands under the name with this number, counted from 1 among the names of the command.
+    Missing { which: u8 },
+    /// The digests can't be read, or the item with this index, counted from 0, is the first that is no digest.
+    Digests { index: Option<u64> },
     /// This line of the input has no session, or isn't UTF-8. It is the first such line, counted from 1.
     Form { line: u64 },
     /// This line of the input has a statement that isn't built yet: one of a second session, or one that
@@ -36,28 +43,34 @@ impl Status {
     {
         match self {
             Status::Done => 0,
+            Status::No => 1,
             Status::Words => 2,
             Status::Limit => 3,
             Status::SourceFault => 4,
             Status::SinkFault => 5,
             Status::VaultFault => 6,
+            Status::Missing { .. } => 7,
+            Status::Digests { .. } => 8,
             Status::Form { .. } => 10,
             Status::Memory => 12,
             Status::Unbuilt { .. } => 13,
         }
     }
 
-    /// What it says, without its place. It is empty where the command did its work.
+    /// What it says, without its place. It is empty where the command did its work, or said No.
     pub fn text(self) -> &'static str
         ensures { result.now ≡ text_of self }
     {
         match self {
             Status::Done => "",
+            Status::No => "",
             Status::Words => "the words were refused",
             Status::Limit => "a limit was exceeded",
             Status::SourceFault => "reading the input failed",
             Status::SinkFault => "writing the output failed",
             Status::VaultFault => "the vault failed",
+            Status::Missing { .. } => "no such name in the vault",
+            Status::Digests { .. } => "the digests were refused",
             Status::Form { .. } => "a line has no session",
             Status::Memory => "out of memory",
             Status::Unbuilt { .. } => "this input is not built yet",
@@ -75,6 +88,8 @@ impl fmt::Display for Status {
     fn fmt<W: fmt::Write>(&self, f: &mut fmt::Formatter<W>) -> fmt::Result {
         f.write_str(self.text())?;
         match self {
+            Status::Missing { which } => write!(f, " (name {which})"),
+            Status::Digests { index: Some(index) } => write!(f, " (digest {index})"),
             Status::Form { line } | Status::Unbuilt { line } => write!(f, " (line {line})"),
             _ => Ok(()),
         }

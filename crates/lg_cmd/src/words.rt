@@ -1,13 +1,24 @@
 // The words after the program's name.
 ghost use Rattle.std.specs.Prelude.{bytes_eq, codes, ◌&&◌, ◌≡◌, map, string_bytes, option_map};
 ghost use Rattle.std.specs.List.{list_all};
-ghost use Rattle.lg_cmd.specs.Words.{is_name, is_name_byte, starts_well, step_words, step_view};
+ghost use Rattle.lg_cmd.specs.Words.{is_name, is_name_byte, starts_well};
+ghost use Rattle.lg_cmd.specs.Words.{step_words, verify_words, command_words, command_view};
 
-/// What the words of `step` give.
+/// A command, and the names that it is given.
 #[derive(Clone, Copy)]
-pub(crate) struct StepWords<'a> {
-    /// The name that the files are saved under.
-    pub save: &'a str,
+pub(crate) enum CommandWords<'a> {
+    /// Runs an input and saves its files.
+    Step {
+        /// The name that the files are saved under.
+        save: &'a str,
+    },
+    /// Says the verdict on an image.
+    Verify {
+        /// The name of the image.
+        image: &'a str,
+        /// The name of the digests that it is held against.
+        digests: &'a str,
+    },
 }
 
 fn is_name_byte(b: u8) -> bool
@@ -31,32 +42,65 @@ fn are_name_bytes(name: &[u8]) -> bool
     name.iter().all(|b| is_name_byte(*b))
 }
 
+#[tactic(auto, unfolding(crate::specs::Words::is_name))]
 fn is_name(most: usize, name: &[u8]) -> bool
     ensures { result ≡ is_name most name.now }
 {
     starts_well(name) && name.len() <= most && are_name_bytes(name)
 }
 
-fn is_step_save(command: &str, option: &str) -> bool
-    ensures { result ≡ (bytes_eq command.now (codes "step") && bytes_eq option.now (codes "--save")) }
-{
-    command == "step" && option == "--save"
-}
-
-/// What the words of `step` say; none exactly where they lack its form.
-pub(crate) fn read_step(words: &[String]) -> Option<StepWords<'_>>
-    ensures { option_map step_view result ≡ step_words (map string_bytes words.now) }
+/// What stands behind `step`.
+fn read_step(words: &[String]) -> Option<CommandWords<'_>>
+    ensures { option_map command_view result ≡ step_words (map string_bytes words.now) }
 {
     match words {
-        [command, option, name] => {
-            if is_step_save(command.as_str(), option.as_str()) && is_name(100, name.as_bytes()) {
-                Some(StepWords {
-                    save: name.as_str(),
+        [option, save] => {
+            if option.as_str() == "--save" && is_name(100, save.as_bytes()) {
+                Some(CommandWords::Step {
+                    save: save.as_str(),
                 })
             } else {
                 None
             }
         }
         _ => None,
+    }
+}
+
+/// What stands behind `verify`.
+fn read_verify(words: &[String]) -> Option<CommandWords<'_>>
+    ensures { option_map command_view result ≡ verify_words (map string_bytes words.now) }
+{
+    match words {
+        [image, digests] => {
+            if is_name(100, image.as_bytes()) && is_name(100, digests.as_bytes()) {
+                Some(CommandWords::Verify {
+                    image: image.as_str(),
+                    digests: digests.as_str(),
+                })
+            } else {
+                None
+            }
+        }
+        _ => None,
+    }
+}
+
+/// The command that the words say; none exactly where they have no command's form.
+#[tactic(auto, unfolding(crate::specs::Words::command_words))]
+pub(crate) fn read_command(words: &[String]) -> Option<CommandWords<'_>>
+    ensures { option_map command_view result ≡ command_words (map string_bytes words.now) }
+{
+    match words {
+        [] => None,
+        [command, rest @ ..] => {
+            if command.as_str() == "step" {
+                read_step(rest)
+            } else if command.as_str() == "verify" {
+                read_verify(rest)
+            } else {
+                None
+            }
+        }
     }
 }

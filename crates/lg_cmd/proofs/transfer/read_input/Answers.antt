@@ -3,7 +3,7 @@ use Rattle.std.proofs.lemmas.Grind.{common_steps}
 use Rattle.lg_base.specs.History.{Adds}
 use Rattle.lg_cmd.specs.Calls.{Moved, failed}
 use Rattle.lg_cmd.proofs.CallLemmas.{since_more, since_end}
-use Rattle.lg_cmd.proofs.TransferLemmas.{came_on, came_short, came_past}
+use Rattle.lg_cmd.proofs.TransferLemmas.{came_on, came_short, came_past, too_much}
 use Rattle.lg_cmd.proofs.transfer.read_input.Goals as goal
 
 pub returns-then-is_err-clause-came : goal.returns-then-is_err-clause-came
@@ -36,3 +36,7 @@ loop-n-preserved g c = (
   grind (arith, common_steps),
   since_more _ _ _ Moved (Ok c.in-Ok.n) c.loop-n.invariant.4 c.in-Ok.ensures.answered (omega arith),
 )
+
+pub returns-then-len-gt-INPUT_LIMIT-clause-beyond : goal.returns-then-len-gt-INPUT_LIMIT-clause-beyond
+returns-then-len-gt-INPUT_LIMIT-clause-beyond g c is =
+    too_much _ _ (came_past _ _ _ _ _ _ c.loop-n.invariant.0 c.in-Ok.ensures.bytes (grind (arith, common_steps)))

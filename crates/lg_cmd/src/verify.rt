@@ -1,0 +1,125 @@
+// The verdict on an image, with the digests that an auditor holds.
+ghost use Rattle.std.specs.Prelude.{⊤, ◌≡◌, ◌⊎◌, string_bytes, IfOk, IfErr, IfSome};
+ghost use Rattle.lg_base.specs.Count.{Rises};
+ghost use Rattle.lg_base.specs.History.{Since};
+ghost use Rattle.lg_cmd.specs.Answer.{Unfailed};
+ghost use Rattle.lg_cmd.specs.Calls.{AreGets, Gave, AreWrites};
+ghost use Rattle.lg_cmd.specs.Verify.{IsEvidence, LacksEvidence, IsVerdictOn, AreRefused, IsJudged, LacksVerdict};
+ghost use Rattle.lg_cmd.specs.Verify.{verdict_text, VerifyCause, Verified, SaidOrIdle};
+
+use crate::Status;
+use crate::names::{DIGESTS_LIMIT, IMAGE_LIMIT, read_name};
+use crate::transfer::write_all;
+use lg_base::{Failed, Sink, Vault};
+use lg_digest::{DigestErr, read_digests};
+use lg_items::Memory;
+use lg_merkle::Hash32;
+use lg_verdict::Verdict;
+use std::alloc::{AllocError, Global};
+
+/// What stands under the two names.
+#[derive(Drop)]
+struct Evidence {
+    image: Vec<u8>,
+    digests: Vec<u8>,
+}
+
+/// Reads what stands under the two names, the image's first.
+fn read_evidence<V: Vault>(vault: &mut V, image: &str, digests: &str) -> Result<Evidence, Status>
+    ensures are { IfOk result (λ read. IfSome (V.names vault.old)
+        (λ names. IsEvidence image.now digests.now names read.image.items read.digests.items)) }
+    ensures lacks { IfErr result (λ status. LacksEvidence status image.now digests.now (V.names vault.old)) }
+    ensures same { V.names vault.new ≡ V.names vault.old }
+    ensures gave { IfOk result (λ read. Since (V.history vault.old) (V.history vault.new) (Gave 2)) }
+    ensures gets { IfErr result (λ status. Since (V.history vault.old) (V.history vault.new) (AreGets 2 status)) }
+    ensures calm { IfOk result (λ read. V.faults vault.new ≡ V.faults vault.old) }
+    ensures unfailed { IfErr result (λ status. Unfailed status ⊤ (V.faults vault.new ≡ V.faults vault.old) ⊤) }
+    ensures cause { IfErr result
+        (λ status. status ≡ Status.VaultFault → Rises (V.faults vault.old) (V.faults vault.new)) }
+{
+    let image = read_name(vault, image, 1, IMAGE_LIMIT)?;
+    let digests = read_name(vault, digests, 2, DIGESTS_LIMIT)?;
+    Ok(Evidence { image, digests })
+}
+
+/// The verdict on these bytes, with the digests of this file.
+fn judge<H: Hash32>(alloc: Global, h: H, image: &[u8], digests: &[u8]) -> Result<Verdict, Status>
+    ensures verdict { IfOk result (IsVerdictOn (H.digest h) image.now digests.now) }
+    ensures refused { IfErr result (λ status. AreRefused status digests.now) }
+{
+    let held = match read_digests(alloc, digests) {
+        Ok(held) => held,
+        Err(DigestErr::Unreadable) => return Err(Status::Digests { index: None }),
+        Err(DigestErr::Bad { index }) => return Err(Status::Digests { index: Some(index) }),
+        Err(DigestErr::Memory) => return Err(Status::Memory),
+    };
+    match lg_verify::verify(alloc, h, image, held.as_slice(), 1) {
+        Ok(verdict) => Ok(verdict),
+        Err(Memory) => Err(Status::Memory),
+    }
+}
+
+/// The verdict on what stands under the two names.
+fn judge_names<H: Hash32, V: Vault>(
+    alloc: Global,
+    h: H,
+    image: &str,
+    digests: &str,
+    vault: &mut V,
+) -> Result<Verdict, Status>
+    ensures judged { IfOk result (IsJudged (H.digest h) image.now digests.now (V.names vault.old)) }
+    ensures lacks { IfErr result (λ status. LacksVerdict status image.now digests.now (V.names vault.old)
+        (Rises (V.faults vault.old) (V.faults vault.new))) }
+    ensures same { V.names vault.new ≡ V.names vault.old }
+    ensures gave { IfOk result (λ verdict. Since (V.history vault.old) (V.history vault.new) (Gave 2)) }
+    ensures gets { IfErr result (λ status. Since (V.history vault.old) (V.history vault.new) (AreGets 2 status)) }
+    ensures calm { IfOk result (λ verdict. V.faults vault.new ≡ V.faults vault.old) }
+    ensures unfailed { IfErr result (λ status. Unfailed status ⊤ (V.faults vault.new ≡ V.faults vault.old) ⊤) }
+{
+    let evidence = read_evidence(vault, image, digests)?;
+    judge(alloc, h, &evidence.image, &evidence.digests)
+}
+
+/// The line that is written of a verdict.
+fn text_of(alloc: Global, verdict: &Verdict) -> Result<String, AllocError>
+    ensures { IfOk result (λ text. string_bytes text ≡ verdict_text verdict.now) }
+{
+    format!(in alloc; "{verdict}\n")
+}
+
+/// Says the verdict on the image under a name, with the digests under another.
+pub(crate) fn verify<H: Hash32, K: Sink, V: Vault>(
+    alloc: Global,
+    h: H,
+    image: &str,
+    digests: &str,
+    sink: &mut K,
+    vault: &mut V,
+) -> Status
+    ensures cause { VerifyCause result (H.digest h) image.now digests.now (V.names vault.old)
+        (Rises (V.faults vault.old) (V.faults vault.new))
+        (Rises (K.faults sink.old) (K.faults sink.new) ⊎ Rises (K.stalls sink.old) (K.stalls sink.new)) }
+    ensures verified { SaidOrIdle result
+        (Verified result (H.digest h) image.now digests.now
+        (V.names vault.old) (K.taken sink.old) (K.taken sink.new)) (sink.new ≡ sink.old) }
+    ensures same { V.names vault.new ≡ V.names vault.old }
+    ensures gets { Since (V.history vault.old) (V.history vault.new) (AreGets 2 result) }
+    ensures writes { Since (K.history sink.old) (K.history sink.new) (AreWrites result) }
+    ensures unfailed { Unfailed result ⊤ (V.faults vault.new ≡ V.faults vault.old)
+        ((K.faults sink.new ≡ K.faults sink.old) × (K.stalls sink.new ≡ K.stalls sink.old)) }
+{
+    let verdict = match judge_names(alloc, h, image, digests, vault) {
+        Ok(verdict) => verdict,
+        Err(status) => return status,
+    };
+    let Ok(text) = text_of(alloc, &verdict) else {
+        return Status::Memory;
+    };
+    if let Err(Failed) = write_all(sink, text.as_bytes()) {
+        return Status::SinkFault;
+    }
+    match verdict {
+        Verdict::Yes => Status::Done,
+        Verdict::No(..) => Status::No,
+    }
+}
