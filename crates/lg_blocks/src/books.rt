@@ -18,8 +18,8 @@ use std::marker::Model;
 /// The most entries that may be pending: each place in a block has 4 bytes.
 const MAX_PENDING: usize = 4294967295;
 
-/// The blocks of a database and its entries in ledger order, and the hash of the last block, which is kept so that no
-/// record is hashed twice.
+/// The blocks of a database and its entries in ledger order, and the hash of the last block, which is kept so
+/// that no record is hashed twice.
 #[derive(Drop)]
 pub struct Books {
     blocks: Items<BlockRecord>,
@@ -85,8 +85,8 @@ impl Books {
         self.hash
     }
 
-    /// Adds the entry of a transaction that was committed to those that are pending. For want of memory nothing
-    /// changes; it also answers this where 2^32 - 1 entries are pending, since a place has 4 bytes.
+    /// Adds the entry of a transaction that was committed to those that are pending. For want of memory
+    /// nothing changes; it also answers this where 2^32 - 1 entries are pending, since a place has 4 bytes.
     pub fn commit(&mut self, entry: TxEntry) -> Result<(), Memory>
         requires { IsEntry entry }
         ensures ledger { OnOk result (self.new.ledger ≡ commits entry self.old.ledger) }
@@ -103,8 +103,9 @@ impl Books {
         Ok(())
     }
 
-    /// Closes a block of the first `count` entries that are pending; those behind them get their places anew. It hashes
-    /// each of these entries, about one node for each, and the record. For want of memory nothing changes.
+    /// Closes a block of the first `count` entries that are pending; those behind them get their places anew.
+    /// It hashes each of these entries, about one node for each, and the record. For want of memory nothing
+    /// changes.
     pub fn close<H: Hash32>(&mut self, alloc: Global, h: H, count: usize) -> Result<(), Memory>
         requires count { count ≤ length self.old.ledger.pending }
         requires hash { KeepsHash (H.digest h) self.old }

@@ -16,7 +16,8 @@ pub(crate) fn place_at(entry: &mut TxEntry, block: u64, ordinal: u64)
 /// Puts the entries from this one on at the places of a block, from its first one on.
 pub(crate) fn place_from(entries: &mut Vec<TxEntry>, from: usize, block: u64)
     requires { from ≤ length entries.old.items }
-    ensures { entries.new.items ≡ take from entries.old.items ++ placed block 0 (drop from entries.old.items) }
+    ensures { entries.new.items
+        ≡ take from entries.old.items ++ placed block 0 (drop from entries.old.items) }
 {
     for place in from..entries.len() {
         place_at(&mut entries[place], block, (place - from) as u64);

@@ -29,7 +29,8 @@ fn push_entry<H: Hash32>(
     Ok(())
 }
 
-/// The tree hash over the bytes of the entries. It costs the hash of each entry's bytes, and about one of a node.
+/// The tree hash over the bytes of the entries. It costs the hash of each entry's bytes, and about one of a
+/// node.
 pub(crate) fn root_of<H: Hash32>(
     alloc: Global,
     h: H,

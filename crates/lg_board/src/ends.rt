@@ -19,7 +19,8 @@ pub const MOST_CELLS: usize = 34;
 // Moves the cells into slots. The cells' row keeps its room.
 fn slots_of<C: Drop>(alloc: Global, cells: &mut Vec<C>) -> Result<Vec<Option<C>>, AllocError>
     ensures slots { IfOk result (λ v. v.items ≡ map Some cells.old.items) }
-    ensures empty { IfOk result (λ _. (vec_len cells.new ≡ 0) × (vec_capacity cells.new ≡ vec_capacity cells.old)) }
+    ensures empty { IfOk result (λ _. (vec_len cells.new ≡ 0)
+        × (vec_capacity cells.new ≡ vec_capacity cells.old)) }
 {
     let count = cells.len();
     let mut slots = Vec::with_capacity(alloc, count)?;
@@ -57,7 +58,8 @@ impl<W: World> Board<W> {
         requires count { (0 < length cells.items) × (length cells.items ≤ MOST_CELLS) }
         requires parts { 0 < parts }
         requires stand { W.stand cells.items (W.first cells.items ∷ []) }
-        ensures board { IfOk result (λ b. (board_cells b.0 ≡ length cells.items) × (board_parts b.0 ≡ parts)) }
+        ensures board { IfOk result (λ b. (board_cells b.0 ≡ length cells.items)
+            × (board_parts b.0 ≡ parts)) }
         ensures seat { IfOk result (λ b. IsSeatOf b.0 b.1 × (seat_state b.1 ≡ W.first cells.items)
             × (seat_parts b.1 ≡ parts) × (seat_out b.1 ≡ [])) }
     {

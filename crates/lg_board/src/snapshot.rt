@@ -43,11 +43,13 @@ impl<W: World> Board<W> {
     // Gives the last of the cells back, if there is one.
     fn give_top<P: After<W::Seat>>(&self, seat: &mut BoardSeat<W>, cells: &mut Vec<W::Cell>) -> bool
         requires seat { IsSeatOf self.now seat.old }
-        requires out { (seat_out seat.old ≡ all_out 0 cells.old.items []) × (vec_len cells.old ≤ board_cells self.now) }
+        requires out { (seat_out seat.old ≡ all_out 0 cells.old.items [])
+            × (vec_len cells.old ≤ board_cells self.now) }
         requires may { (i : ℕ) (c : W.Cell) (out : List (ℕ × W.Cell)) → seat_out seat.old ≡ (i, c) ∷ out
             → W.may (seat_state seat.old) (seat_out seat.old) i c P.after }
         ensures seat { IsSameSeat seat.old seat.new × (seat_parts seat.new ≡ seat_parts seat.old) }
-        ensures out { (seat_out seat.new ≡ all_out 0 cells.new.items []) × (vec_len cells.new ≤ vec_len cells.old) }
+        ensures out { (seat_out seat.new ≡ all_out 0 cells.new.items [])
+            × (vec_len cells.new ≤ vec_len cells.old) }
         ensures more { MatchBool result
             ((seat_state seat.new ≡ P.after) × (vec_len cells.new < vec_len cells.old))
             ((seat_state seat.new ≡ seat_state seat.old) × (vec_len cells.old ≡ 0) × (cells.new.items ≡ [])) }
@@ -68,10 +70,12 @@ impl<W: World> Board<W> {
     /// gives change neither a cell nor what the seat knows, and the world has to allow that (`nothing`).
     pub fn give_all<P: After<W::Seat>>(&self, seat: &mut BoardSeat<W>, mut cells: Vec<W::Cell>)
         requires seat { IsSeatOf self.now seat.old }
-        requires out { (seat_out seat.old ≡ all_out 0 cells.items []) × (vec_len cells ≡ board_cells self.now) }
+        requires out { (seat_out seat.old ≡ all_out 0 cells.items [])
+            × (vec_len cells ≡ board_cells self.now) }
         requires visit { (i : ℕ) (c : W.Cell) (out : List (ℕ × W.Cell)) → seat_out seat.old ≡ (i, c) ∷ out
             → W.may (seat_state seat.old) (seat_out seat.old) i c P.after }
-        requires nothing { (i : ℕ) (c : W.Cell) (out : List (ℕ × W.Cell)) → W.may P.after ((i, c) ∷ out) i c P.after }
+        requires nothing { (i : ℕ) (c : W.Cell) (out : List (ℕ × W.Cell))
+            → W.may P.after ((i, c) ∷ out) i c P.after }
         ensures seat { IsSameSeat seat.old seat.new × (seat_parts seat.new ≡ seat_parts seat.old) }
         ensures state { (seat_state seat.new ≡ P.after) × (seat_out seat.new ≡ []) }
     {

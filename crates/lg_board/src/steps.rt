@@ -109,10 +109,14 @@ pub(crate) fn divide<W: World, K: Cut>(
     token: &mut TableSeat<W>,
     parts: u32,
 ) -> TableSeat<W>
-    requires table { (token.old.table_id ≡ table.now.shared.table_id) × (0 < table.now.shared.table_id.words) }
+    requires table { (token.old.table_id ≡ table.now.shared.table_id)
+        × (0 < table.now.shared.table_id.words) }
     requires count { (parts ≡ K.count) × (0 < parts) × (parts < token.old.me.0.parts) }
     ensures table { (token.new.table_id ≡ token.old.table_id) × (result.table_id ≡ token.old.table_id) }
-    ensures left { token.new.me ≡ (seat_view (W.kept token.old.me.0.state parts) (token.old.me.0.parts - parts) token.old.me.0.out, token.old.me.1) }
+    ensures left { token.new.me ≡ (
+      seat_view (W.kept token.old.me.0.state parts) (token.old.me.0.parts - parts) token.old.me.0.out,
+      token.old.me.1,
+    ) }
     ensures right { result.me ≡ (seat_view (W.split token.old.me.0.state parts) parts [], []) }
 {
     // the parts exist in the proof alone: `K` has the same number
@@ -122,12 +126,17 @@ pub(crate) fn divide<W: World, K: Cut>(
 
 // Takes in a seat that may end.
 pub(crate) fn unite<W: World>(table: &CellTable<W>, token: &mut TableSeat<W>, other: TableSeat<W>)
-    requires table { (token.old.table_id ≡ table.now.shared.table_id) × (other.table_id ≡ table.now.shared.table_id)
+    requires table { (token.old.table_id ≡ table.now.shared.table_id)
+        × (other.table_id ≡ table.now.shared.table_id)
         × (0 < table.now.shared.table_id.words) }
     requires part { 0 < token.old.me.0.parts }
     requires end { (other.me.0.out ≡ []) × (other.me.1 ≡ []) × W.may_end other.me.0.state }
     ensures table { token.new.table_id ≡ token.old.table_id }
-    ensures both { token.new.me ≡ (seat_view (W.joined token.old.me.0.state other.me.0.state) (token.old.me.0.parts + other.me.0.parts) token.old.me.0.out, token.old.me.1) }
+    ensures both { token.new.me ≡ (
+      seat_view (W.joined token.old.me.0.state other.me.0.state) (token.old.me.0.parts + other.me.0.parts)
+          token.old.me.0.out,
+      token.old.me.1,
+    ) }
 {
     table.shared.join_seat::<Unite<W>>(token, other);
 }

@@ -14,7 +14,8 @@ impl<W: World> Board<W> {
     pub fn split(&self, seat: &mut BoardSeat<W>, parts: u32) -> BoardSeat<W>
         requires seat { IsSeatOf self.now seat.old }
         requires parts { (0 < parts) × (parts < seat_parts seat.old) }
-        ensures kept { IsSameSeat seat.old seat.new × (seat_state seat.new ≡ W.kept (seat_state seat.old) parts)
+        ensures kept { IsSameSeat seat.old seat.new
+            × (seat_state seat.new ≡ W.kept (seat_state seat.old) parts)
             × (seat_parts seat.new ≡ seat_parts seat.old - parts)
             × (seat_out seat.new ≡ seat_out seat.old) }
         ensures new { IsSeatOf self.now result × (seat_state result ≡ W.split (seat_state seat.old) parts)

@@ -34,7 +34,8 @@ impl<W: World> Board<W> {
         ensures seat { IsSameSeat seat.old seat.new × (seat_state seat.new ≡ seat_state seat.old)
             × (seat_parts seat.new ≡ seat_parts seat.old) }
         ensures out { seat_out seat.new ≡ (i, result.cell) ∷ seat_out seat.old }
-        ensures stand { StandTogether W.stand (board_cells self.now) (seat_state seat.new) (seat_out seat.new) }
+        ensures stand { StandTogether W.stand (board_cells self.now)
+            (seat_state seat.new) (seat_out seat.new) }
     {
         if let Some(cell) = try_take(&self.table, &mut seat.token, i) {
             return Held { cell };

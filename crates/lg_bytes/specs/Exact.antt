@@ -1,4 +1,5 @@
--- A reader is exact for a spelling: what it takes is spelled so, and what is spelled so it takes, whatever follows.
+-- A reader is exact for a spelling: what it takes is spelled so, and what is spelled so it takes, whatever
+-- follows.
 use Rattle.std.specs.Prelude.{◌≡◌, ◌<◌, ℕ, List, ◌++◌, Some, slice_index}
 use Rattle.lg_bytes.specs.Readers.{Reader}
 

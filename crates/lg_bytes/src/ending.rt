@@ -8,8 +8,8 @@ ghost use Rattle.lg_bytes.specs.declared.read_error.ReadError.TheVariants as err
 use crate::ReadError;
 use lg_items::Memory;
 
-/// What was read of the front of some bytes, if nothing follows it, or None exactly where the bytes have another form.
-/// It takes no memory itself.
+/// What was read of the front of some bytes, if nothing follows it, or None exactly where the bytes have
+/// another form. It takes no memory itself.
 pub fn whole<T: Drop>(read: Result<(T, &[u8]), ReadError>) -> Result<Option<T>, Memory>
     ensures ok { (reader : Reader T) (bytes : List ℕ)
         → ReadsAs (λ x. (x.0, x.1.now)) read.entry (reader bytes)

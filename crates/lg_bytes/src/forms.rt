@@ -1,5 +1,6 @@
-//! Reading fields that have a form of their own: numbers of transactions, moments, and the names of sessions and
-//! databases. Each answers the value and what follows it, or `Malformed` exactly where no such field is in front.
+//! Reading fields that have a form of their own: numbers of transactions, moments, and the names of
+//! sessions and databases. Each answers the value and what follows it, or `Malformed` exactly where no such
+//! field is in front.
 
 ghost use Rattle.std.specs.Prelude.{◌≡◌};
 ghost use Rattle.lg_bytes.specs.Forms.{tx_id_at, moment_at, session_at, database_at};

@@ -1,5 +1,5 @@
-//! The fields at the front of a byte string: the value and what follows it, or None exactly where too few bytes
-//! are left.
+//! The fields at the front of a byte string: the value and what follows it, or None exactly where too
+//! few bytes are left.
 
 ghost use Rattle.std.specs.Prelude.{◌≡◌, IfSome, length};
 ghost use Rattle.std.specs.Option.{option_map};

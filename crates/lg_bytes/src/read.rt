@@ -1,5 +1,5 @@
-//! Reading the fields from the front of a byte string, for the readers of formats. Each answers the value and what
-//! follows it, or `Malformed` exactly where too few bytes are left. None takes memory.
+//! Reading the fields from the front of a byte string, for the readers of formats. Each answers the value and
+//! what follows it, or `Malformed` exactly where too few bytes are left. None takes memory.
 
 ghost use Rattle.std.specs.Prelude.{◌≡◌};
 ghost use Rattle.lg_bytes.specs.Readers.{literal, taken, u8_at, u16_at, u32_at, u64_at, i128_at, hash_at, short_at, long_at, wide_at};

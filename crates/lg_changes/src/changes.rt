@@ -16,12 +16,12 @@ use lg_types::{Change, Row, RowStmt, Version};
 use lg_value::{ColumnDef, Expr, Refusal};
 use std::alloc::Global;
 
-/// The changes that a statement makes to the versions of its table, which its name stands for, and the number of rows
-/// that it replies. The first refusal in the order of the definition decides: for INSERT row by row E06, E05, E08 and
-/// E09 of its values, and then E07 where a row of its key stands or was inserted before it; for UPDATE and DELETE those
-/// of the condition for all rows in key order, and then those of the new values. E30 for want of memory. Nothing is
-/// changed. INSERT compares each row with all versions and with all rows before it; the others look at each version
-/// once, and sort those that stand.
+/// The changes that a statement makes to the versions of its table, which its name stands for, and the number
+/// of rows that it replies. The first refusal in the order of the definition decides: for INSERT row by row
+/// E06, E05, E08 and E09 of its values, and then E07 where a row of its key stands or was inserted before it;
+/// for UPDATE and DELETE those of the condition for all rows in key order, and then those of the new values.
+/// E30 for want of memory. Nothing is changed. INSERT compares each row with all versions and with all rows
+/// before it; the others look at each version once, and sort those that stand.
 #[tactic(auto, unfolding(lg_model::specs::Changes::row_changes))]
 pub fn row_changes(
     alloc: Global,

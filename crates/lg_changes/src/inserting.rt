@@ -55,8 +55,8 @@ fn kept_as_listed(
     kept_row(alloc, columns, row)
 }
 
-/// The rows of VALUES as they are kept, in written order. A row is refused with E07 where one of its key stands, or is
-/// among those before it.
+/// The rows of VALUES as they are kept, in written order. A row is refused with E07 where one of its key
+/// stands, or is among those before it.
 #[tactic(auto, unfolding(lg_model::specs::Changes::inserted_rows))]
 pub fn inserted_rows(
     alloc: Global,

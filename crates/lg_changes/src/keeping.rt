@@ -14,9 +14,9 @@ use lg_types::Row;
 use lg_value::{ColumnDef, Refusal, Value, to_column};
 use std::alloc::Global;
 
-/// What a column keeps of a value. NULL is E06 where the column is NOT NULL; for any other value the conversion to the
-/// column's type decides, with E05 for a value of another kind, E08 for a number out of range and E09 for what is too
-/// long.
+/// What a column keeps of a value. NULL is E06 where the column is NOT NULL; for any other value the
+/// conversion to the column's type decides, with E05 for a value of another kind, E08 for a number out of
+/// range and E09 for what is too long.
 #[tactic(auto, unfolding(lg_model::specs::Changes::kept))]
 pub fn kept(column: &ColumnDef, value: Value) -> Result<Value, Refusal>
     ensures { result ≡ spec.kept column.now value }
@@ -28,8 +28,8 @@ pub fn kept(column: &ColumnDef, value: Value) -> Result<Value, Refusal>
     }
 }
 
-/// What the columns keep of a row, each of its own value, from the first to the last: the first that keeps nothing
-/// decides the refusal. E30 for want of memory.
+/// What the columns keep of a row, each of its own value, from the first to the last: the first that keeps
+/// nothing decides the refusal. E30 for want of memory.
 #[tactic(auto, unfolding(lg_model::specs::Changes::kept_row))]
 pub fn kept_row(alloc: Global, columns: &[ColumnDef], row: Row) -> Result<Row, Refusal>
     ensures { Gives (spec.kept_row columns.now row) result }
@@ -67,8 +67,8 @@ fn value_named<'a>(names: &[Name], row: &'a [Value], name: &Name) -> Option<&'a 
     }
 }
 
-/// The values of a row of VALUES in the order of the columns, copied: as they are where no columns are listed, and else
-/// NULL where a column isn't listed. Looks through the listed columns once for each column.
+/// The values of a row of VALUES in the order of the columns, copied: as they are where no columns are
+/// listed, and else NULL where a column isn't listed. Looks through the listed columns once for each column.
 #[tactic(auto, unfolding(lg_model::specs::Changes::arranged))]
 pub fn arranged(
     alloc: Global,

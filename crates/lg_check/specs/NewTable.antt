@@ -55,7 +55,8 @@ key_null columns key = list_any (λ c. c.nullable && has_name key c.name) column
 unfoldable pub new_check : List TableDef → CreateTable → List ℕ → List ℕ → Checked (Unit {0})
 new_check defs c history view =
     refused_if
-    ((names_repeat c.name history view || names_used defs c.name history view) || columns_bad c.columns c.key) E03
+    ((names_repeat c.name history view || names_used defs c.name history view)
+    || columns_bad c.columns c.key) E03
     (refused_if
     ((counts_over defs c.columns c.key || names_long c.name history view) || columns_long c.columns) E16
     (refused_if (not (list_all (is_declared c.columns) c.key)) E04

@@ -8,7 +8,8 @@ use lg_expr::{class, class_of_literal, names_columns, written_day};
 use lg_parts::Columns;
 use lg_value::{Class, ColumnDef, Expr, SqlType, Value, day_of};
 
-/// Whether a column of the type takes values of the class; `is_date` says that they are a text literal that is a date.
+/// Whether a column of the type takes values of the class; `is_date` says that they are a text literal that
+/// is a date.
 fn accepts_class(ty: &SqlType, class: Class, is_date: bool) -> bool
     ensures { result ≡ spec.accepts_class ty.now class is_date }
 {

@@ -235,8 +235,8 @@ fn exceeds_limit(defs: &[&TableDef], c: &CreateTable, history: &Name, view: &Nam
         || columns_long(c.columns.as_slice())
 }
 
-/// The definition of a new table beside those that are there, which are fewer than 2^32 - 1: E03, E16, E04 and E06, in this
-/// order, or E30 for want of memory. Its id is one more than their number.
+/// The definition of a new table beside those that are there, which are fewer than 2^32 - 1: E03, E16, E04
+/// and E06, in this order, or E30 for want of memory. Its id is one more than their number.
 #[tactic(auto, using(crate::proofs::NewTables::refused_gives, crate::proofs::NewTables::made, crate::proofs::NewTables::few_key))]
 pub fn new_table(alloc: Global, defs: &[&TableDef], c: &CreateTable) -> Result<TableDef, Refusal>
     requires { length defs.now < 2 ^ 32 - 1 }

@@ -45,8 +45,8 @@ fn is_over(def: &TableDef, c: &CreateIndex) -> bool
     c.columns.len() > MOST_INDEX_COLUMNS || def.indexes.len() >= MOST_INDEXES || is_long(&c.name)
 }
 
-/// The ordinal of a column, which is its place counted from 1, or 0 where there is no such column. A table has fewer than
-/// 65,535 columns.
+/// The ordinal of a column, which is its place counted from 1, or 0 where there is no such column. A table
+/// has fewer than 65,535 columns.
 fn ordinal_of(columns: &[ColumnDef], name: &Name) -> u16
     requires { length columns.now < 2 ^ 16 - 1 }
     ensures { result ≡ spec.ordinal_at (place_of columns.now name.now) }
@@ -68,8 +68,8 @@ fn ordinals_of(alloc: Global, columns: &[ColumnDef], names: &[Name]) -> Result<I
     Ok(Items::from_vec(ordinals))
 }
 
-/// The checks of a new index of a table, of which the statement names this part: E03, E16, E11 and E04, in this order, or
-/// E30 for want of memory; and the index. The table has fewer than 65,535 columns.
+/// The checks of a new index of a table, of which the statement names this part: E03, E16, E11 and E04, in
+/// this order, or E30 for want of memory; and the index. The table has fewer than 65,535 columns.
 pub fn new_index(
     alloc: Global,
     def: &TableDef,

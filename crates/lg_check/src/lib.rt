@@ -1,4 +1,5 @@
-//! What is checked of a statement before any row is looked at: names, counts, columns and classes, in their order.
+//! What is checked of a statement before any row is looked at: names, counts, columns and classes, in their
+//! order.
 #![tactic(auto)]
 
 mod accepting;

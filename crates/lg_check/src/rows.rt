@@ -46,8 +46,8 @@ pub fn table_of(stmt: &RowStmt) -> &Name
     }
 }
 
-/// Checks all of a statement that changes rows that doesn't hang on the rows of its table, of which it names this part:
-/// E03, E16, E11, E10, E04, E18, E12 and E05, in this order, or E30 for want of memory.
+/// Checks all of a statement that changes rows that doesn't hang on the rows of its table, of which it names
+/// this part: E03, E16, E11, E10, E04, E18, E12 and E05, in this order, or E30 for want of memory.
 pub fn check_stmt(alloc: Global, stmt: &RowStmt, def: &TableDef, part: Part) -> Result<(), Refusal>
     ensures { Gives (spec.row_check stmt.now def.now part) result }
 {

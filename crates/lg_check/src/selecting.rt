@@ -97,8 +97,8 @@ fn has_classes(q: &Select, columns: &Columns) -> bool
     sums_numbers(columns, &q.what) && is_condition(columns, &q.cond)
 }
 
-/// Checks a SELECT over the columns of the part that it reads: E04 where one that it names isn't there, and else E05 where
-/// classes don't agree.
+/// Checks a SELECT over the columns of the part that it reads: E04 where one that it names isn't there, and
+/// else E05 where classes don't agree.
 #[tactic(auto, unfolding(lg_model::specs::Query::select_check))]
 pub fn check_select(q: &Select, columns: &Columns) -> Result<(), Refusal>
     ensures { result ≡ spec.select_check columns.now q.now }

@@ -48,7 +48,8 @@ HasCause status h (Some (Verify image digests)) input names source vault sink =
     VerifyCause status h image digests names vault sink
 
 -- what is left of an input that is told, where it is read: at most one byte past the limit was taken; so at
--- Limit all was, or the limit and one byte of more. All of it was taken where it was run, or a line of it lacks
+-- Limit all was, or the limit and one byte of more. All of it was taken where it was run, or a line of it
+-- lacks
 -- its form or isn't built.
 abbrev pub HasRead : Status → List ℕ → Option (List ℕ) → Type 0
 HasRead Limit input rest = rest ≡ Some (drop (input_limit + 1) input)

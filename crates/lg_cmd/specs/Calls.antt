@@ -59,7 +59,8 @@ abbrev pub AreGets : ℕ → Status → List (Result ⊤ VaultErr) → Type 0
 AreGets k Limit answers = EndsAt GaveFile (Err refused.TooLong) answers × (length answers ≤ k)
 AreGets k (Missing which) answers = EndsAt GaveFile (Err refused.Missing) answers × (length answers ≡ which)
 AreGets k VaultFault answers = EndsAt GaveFile (Err refused.Failed) answers × (length answers ≤ k)
-AreGets k Memory answers = (All GaveFile answers ⊎ EndsAt GaveFile (Err refused.Memory) answers) × (length answers ≤ k)
+AreGets k Memory answers = (All GaveFile answers ⊎ EndsAt GaveFile (Err refused.Memory) answers)
+    × (length answers ≤ k)
 AreGets k _ answers = Gave k answers
 
 -- the writes up to a fault, or to one that took nothing

@@ -26,7 +26,8 @@ LacksEvidence status image digests names =
     ⊎ ((bytes : List ℕ) × IfSome names (λ n. Stands (n image) image_limit bytes)
     × LacksName status 2 digests_limit names digests)
 
--- why the file of the digests is refused: it can't be read, or its first item that is no digest has this index
+-- why the file of the digests is refused: it can't be read, or its first item that is no digest has this
+-- index
 abbrev pub AreRefused : Status → List ℕ → Type 0
 AreRefused (Digests None) file = IsRead file (Err reading.Unreadable)
 AreRefused (Digests (Some index)) file = IsRead file (Err (reading.Bad index))
@@ -62,7 +63,8 @@ LacksVerdict VaultFault image digests names vault = vault
 LacksVerdict Memory image digests names vault = Unit {0}
 LacksVerdict _ image digests names vault = ⊥
 
--- Why a status comes. The causes exclude one another but for those of faults and want of memory, so each comes
+-- Why a status comes. The causes exclude one another but for those of faults and want of memory, so each
+-- comes
 -- exactly where its cause stands, unless a fault or want of memory comes before it.
 abbrev pub VerifyCause : Status → (List ℕ → List ℕ) → List ℕ → List ℕ → Option Names
     → Type 0 → Type 0 → Type 0

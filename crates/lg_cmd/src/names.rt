@@ -27,7 +27,8 @@ pub(crate) fn read_name<V: Vault>(
     ensures same { V.names vault.new ≡ V.names vault.old }
     ensures answered { Adds (V.history vault.old) (V.history vault.new) (name_answer result ∷ []) }
     ensures calm { IfOk result (λ bytes. V.faults vault.new ≡ V.faults vault.old) }
-    ensures unfailed { IfErr result (λ status. Unfailed status ⊤ (V.faults vault.new ≡ V.faults vault.old) ⊤) }
+    ensures unfailed { IfErr result
+        (λ status. Unfailed status ⊤ (V.faults vault.new ≡ V.faults vault.old) ⊤) }
     ensures cause { IfErr result
         (λ status. status ≡ Status.VaultFault → Rises (V.faults vault.old) (V.faults vault.new)) }
 {

@@ -13,8 +13,8 @@ pub enum Status {
     No,
     /// The words have none of the commands' forms.
     Words,
-    /// A limit was exceeded: more than 4 MiB came as input, or statements of more than 64 sessions; or more than
-    /// 256 MiB stand under the name of an image, or 16 MiB under that of digests.
+    /// A limit was exceeded: more than 4 MiB came as input, or statements of more than 64 sessions; or more
+    /// than 256 MiB stand under the name of an image, or 16 MiB under that of digests.
     Limit,
     /// Reading the input failed.
     SourceFault,
@@ -24,7 +24,8 @@ pub enum Status {
     VaultFault,
     /// Nothing stands under the name with this number, counted from 1 among the names of the command.
     Missing { which: u8 },
-    /// The digests can't be read, or the item with this index, counted from 0, is the first that is no digest.
+    /// The digests can't be read, or the item with this index, counted from 0, is the first that is no
+    /// digest.
     Digests { index: Option<u64> },
     /// This line of the input has no session, or isn't UTF-8. It is the first such line, counted from 1.
     Form { line: u64 },

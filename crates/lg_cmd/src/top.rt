@@ -37,9 +37,10 @@ use std::alloc::Global;
 /// `Words` comes before anything else. Of `step`, `Limit`, `Form` and `Unbuilt` come before anything is put;
 /// of these the size of the input is looked at first, then the form of all lines, the number of sessions, and
 /// last what is built. After `VaultFault` the files before the one that failed stand, its name is open, and
-/// nothing was written; after `Memory` the first of the files may stand. After `SinkFault` all files stand and a
-/// first part of the text was written. Of `verify`, the names are looked at in the order of the words, each
-/// whether it is there and then how long, then the digests, and last the image: `Digests` comes before `No`.
+/// nothing was written; after `Memory` the first of the files may stand. After `SinkFault` all files stand
+/// and a first part of the text was written. Of `verify`, the names are looked at in the order of the words,
+/// each whether it is there and then how long, then the digests, and last the image: `Digests` comes before
+/// `No`.
 pub fn ledgerd<S: Source, K: Sink, V: Vault, C: Clock, G: Gate>(
     alloc: Global,
     words: &[String],
@@ -78,7 +79,8 @@ pub fn ledgerd<S: Source, K: Sink, V: Vault, C: Clock, G: Gate>(
         (V.names vault.old) (V.names vault.new) (K.taken sink.old) (K.taken sink.new)) }
 
     // `verify`: the line of the verdict on what stands under the names, by the status.
-    ensures verified { OfVerify (command_words (map string_bytes words.now)) (λ image digests. SaidOrIdle result
+    ensures verified { OfVerify (command_words (map string_bytes words.now))
+        (λ image digests. SaidOrIdle result
         (Verified result sha256 image digests
         (V.names vault.old) (K.taken sink.old) (K.taken sink.new)) (sink.new ≡ sink.old)) }
 
@@ -95,7 +97,8 @@ pub fn ledgerd<S: Source, K: Sink, V: Vault, C: Clock, G: Gate>(
         ((K.faults sink.new ≡ K.faults sink.old) × (K.stalls sink.new ≡ K.stalls sink.old)) }
 
     // Nothing is written before all is put, and before the verdict.
-    ensures unwritten { (result ≡ Status.Done → ⊥) → (result ≡ Status.No → ⊥) → (result ≡ Status.SinkFault → ⊥)
+    ensures unwritten { (result ≡ Status.Done → ⊥) → (result ≡ Status.No → ⊥)
+        → (result ≡ Status.SinkFault → ⊥)
         → sink.new ≡ sink.old }
 {
     let Some(command) = read_command(words) else {

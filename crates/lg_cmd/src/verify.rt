@@ -31,9 +31,11 @@ fn read_evidence<V: Vault>(vault: &mut V, image: &str, digests: &str) -> Result<
     ensures lacks { IfErr result (λ status. LacksEvidence status image.now digests.now (V.names vault.old)) }
     ensures same { V.names vault.new ≡ V.names vault.old }
     ensures gave { IfOk result (λ read. Since (V.history vault.old) (V.history vault.new) (Gave 2)) }
-    ensures gets { IfErr result (λ status. Since (V.history vault.old) (V.history vault.new) (AreGets 2 status)) }
+    ensures gets { IfErr result
+        (λ status. Since (V.history vault.old) (V.history vault.new) (AreGets 2 status)) }
     ensures calm { IfOk result (λ read. V.faults vault.new ≡ V.faults vault.old) }
-    ensures unfailed { IfErr result (λ status. Unfailed status ⊤ (V.faults vault.new ≡ V.faults vault.old) ⊤) }
+    ensures unfailed { IfErr result
+        (λ status. Unfailed status ⊤ (V.faults vault.new ≡ V.faults vault.old) ⊤) }
     ensures cause { IfErr result
         (λ status. status ≡ Status.VaultFault → Rises (V.faults vault.old) (V.faults vault.new)) }
 {
@@ -72,9 +74,11 @@ fn judge_names<H: Hash32, V: Vault>(
         (Rises (V.faults vault.old) (V.faults vault.new))) }
     ensures same { V.names vault.new ≡ V.names vault.old }
     ensures gave { IfOk result (λ verdict. Since (V.history vault.old) (V.history vault.new) (Gave 2)) }
-    ensures gets { IfErr result (λ status. Since (V.history vault.old) (V.history vault.new) (AreGets 2 status)) }
+    ensures gets { IfErr result
+        (λ status. Since (V.history vault.old) (V.history vault.new) (AreGets 2 status)) }
     ensures calm { IfOk result (λ verdict. V.faults vault.new ≡ V.faults vault.old) }
-    ensures unfailed { IfErr result (λ status. Unfailed status ⊤ (V.faults vault.new ≡ V.faults vault.old) ⊤) }
+    ensures unfailed { IfErr result
+        (λ status. Unfailed status ⊤ (V.faults vault.new ≡ V.faults vault.old) ⊤) }
 {
     let evidence = read_evidence(vault, image, digests)?;
     judge(alloc, h, &evidence.image, &evidence.digests)

@@ -54,7 +54,8 @@ fn run_one<G: Gate, R: Wait>(
     requires board { IsSeatOf board.now seat × (board_cells board.now ≡ 2) }
     requires idle { seat_out seat ≡ [] }
     requires left { counts_a_part ≤ (seat_state seat).left }
-    ensures seat { IsSeatOf board.now result × (seat_parts result ≡ seat_parts seat) × (seat_out result ≡ []) }
+    ensures seat { IsSeatOf board.now result × (seat_parts result ≡ seat_parts seat)
+        × (seat_out result ≡ []) }
     ensures counted { seat_state result ≡ counted_by session (seat_state seat) }
 {
     run_session(rt, gate, number, board, &mut seat, session);
@@ -77,7 +78,8 @@ fn run_part<G: Gate + Sync, R: Threads + Wait + Sync>(
     requires idle { seat_out seat ≡ [] }
     requires parts { (length plan.now ≤ seat_parts seat) × (from + length plan.now < counts_a_part) }
     requires left { length plan.now * counts_a_part ≤ (seat_state seat).left }
-    ensures seat { IsSeatOf board.now result × (seat_parts result ≡ seat_parts seat) × (seat_out result ≡ []) }
+    ensures seat { IsSeatOf board.now result × (seat_parts result ≡ seat_parts seat)
+        × (seat_out result ≡ []) }
     ensures first { (seat_state result).first ≡ (seat_state seat).first + sum_by first_times plan.now }
     ensures second { (seat_state result).second ≡ (seat_state seat).second + sum_by second_times plan.now }
 {
@@ -98,19 +100,26 @@ fn run_part<G: Gate + Sync, R: Threads + Wait + Sync>(
             requires idle { seat_out seat ≡ [] }
             requires parts { (length left.now ≤ seat_parts seat) × (from + length left.now < counts_a_part) }
             requires left { length left.now * counts_a_part ≤ (seat_state seat).left }
-            ensures seat { IsSeatOf board.entry.now result × (seat_parts result ≡ seat_parts seat) × (seat_out result ≡ []) }
-            ensures first { (seat_state result).first ≡ (seat_state seat).first + sum_by first_times left.entry.now }
-            ensures second { (seat_state result).second ≡ (seat_state seat).second + sum_by second_times left.entry.now }
+            ensures seat { IsSeatOf board.entry.now result × (seat_parts result ≡ seat_parts seat)
+                × (seat_out result ≡ []) }
+            ensures first { (seat_state result).first
+                ≡ (seat_state seat).first + sum_by first_times left.entry.now }
+            ensures second { (seat_state result).second
+                ≡ (seat_state seat).second + sum_by second_times left.entry.now }
         { run_part(rt, gate, from, board, seat, left) },
         move || -> BoardSeat<Counting>
             requires sync { IsSync R.row × IsSync G.row }
             requires board { IsSeatOf board.now other × (board_cells board.now ≡ 2) }
             requires idle { seat_out other ≡ [] }
-            requires parts { (length right.now ≤ seat_parts other) × (middle + length right.now < counts_a_part) }
+            requires parts { (length right.now ≤ seat_parts other)
+                × (middle + length right.now < counts_a_part) }
             requires left { length right.now * counts_a_part ≤ (seat_state other).left }
-            ensures seat { IsSeatOf board.entry.now result × (seat_parts result ≡ seat_parts other) × (seat_out result ≡ []) }
-            ensures first { (seat_state result).first ≡ (seat_state other).first + sum_by first_times right.entry.now }
-            ensures second { (seat_state result).second ≡ (seat_state other).second + sum_by second_times right.entry.now }
+            ensures seat { IsSeatOf board.entry.now result × (seat_parts result ≡ seat_parts other)
+                × (seat_out result ≡ []) }
+            ensures first { (seat_state result).first
+                ≡ (seat_state other).first + sum_by first_times right.entry.now }
+            ensures second { (seat_state result).second
+                ≡ (seat_state other).second + sum_by second_times right.entry.now }
         { run_part(rt, gate, middle, board, other, right) },
     );
     board.join(&mut mine, theirs);

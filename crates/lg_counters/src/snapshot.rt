@@ -21,7 +21,8 @@ pub fn look<R: Wait>(
     requires idle { seat_out seat.old ≡ [] }
     ensures seat { IsSameSeat seat.old seat.new × (seat_parts seat.new ≡ seat_parts seat.old)
         × (seat_out seat.new ≡ []) × (seat_state seat.new ≡ seat_state seat.old) }
-    ensures own { IfOk result (λ t. ((seat_state seat.old).first ≤ t.first) × ((seat_state seat.old).second ≤ t.second)) }
+    ensures own { IfOk result (λ t. ((seat_state seat.old).first ≤ t.first)
+        × ((seat_state seat.old).second ≤ t.second)) }
     ensures room { IfOk result (λ t. t.first + t.second ≤ most_counts) }
 {
     let cells = board.take_all(rt, alloc, seat)?;

@@ -19,7 +19,8 @@ if_ok (Err e) = None
 unfoldable pub hash_of : List ℕ → Option (List ℕ)
 hash_of text = if bytes_eq (take 2 text) (codes "0x") then if_ok (decode_sized (drop 2 text) 32) else None
 
--- the digest that a value is: an object whose `database_name` is a string, whose `block_id` is a number in digits alone
+-- the digest that a value is: an object whose `database_name` is a string, whose `block_id` is a number in
+-- digits alone
 -- below 2^64, and whose `hash` is a string that writes one
 unfoldable pub held_of : Data → Option HeldDigest
 held_of d = get (codes "database_name") d >>= as_str >>= λ database.
@@ -32,7 +33,8 @@ abbrev pub on_found : {A B : Type 0} → Option A → B → (A → B) → B
 on_found None b f = b
 on_found (Some a) b f = f a
 
--- the digests of the items after `i` items before them, behind `before`; or the place of the first that is none
+-- the digests of the items after `i` items before them, behind `before`; or the place of the first that is
+-- none
 abbrev pub each_held : ℕ → List HeldDigest → Items → Result (List HeldDigest) ℕ
 each_held i before no_items = Ok before
 each_held i before (item d ds) =

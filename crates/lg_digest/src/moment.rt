@@ -8,7 +8,8 @@ use arrayvec::ArrayString;
 use jiff_core::civil::DateTime;
 use jiff_fmt::temporal::DateTimePrinter;
 
-/// The text of a moment, in ticks of 100 ns since 1970-01-01T00:00:00: ISO 8601 with seven decimals and no zone.
+/// The text of a moment, in ticks of 100 ns since 1970-01-01T00:00:00: ISO 8601 with seven decimals and no
+/// zone.
 pub(crate) fn moment_text(ticks: u64) -> ArrayString<32>
     requires { ticks ≤ MAX_TICKS }
     ensures { IsMomentText ticks result.bytes }

@@ -10,11 +10,11 @@ use lg_items::{Items, Memory, Name};
 use serde_json::Value;
 use std::alloc::Global;
 
-/// The digests that a file holds: an array of them, or one alone. A digest is an object with a string `database_name`,
-/// a `block_id` in digits alone and below 2^64, and a `hash` of `0x` and 64 hexadecimal digits; other keys may have any
-/// value, and of a repeated key the last counts. `Unreadable` exactly where the bytes aren't one JSON value, whose arrays
-/// and objects nest to 127 at most; `Bad` exactly at the first item that is no digest, and at 0 where the value is
-/// neither an array nor an object.
+/// The digests that a file holds: an array of them, or one alone. A digest is an object with a string
+/// `database_name`, a `block_id` in digits alone and below 2^64, and a `hash` of `0x` and 64 hexadecimal
+/// digits; other keys may have any value, and of a repeated key the last counts. `Unreadable` exactly where
+/// the bytes aren't one JSON value, whose arrays and objects nest to 127 at most; `Bad` exactly at the first
+/// item that is no digest, and at 0 where the value is neither an array nor an object.
 pub fn read_digests(alloc: Global, bytes: &[u8]) -> Result<Items<HeldDigest>, DigestErr>
     ensures { spec.IsRead bytes.now result }
 {

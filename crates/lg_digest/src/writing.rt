@@ -13,9 +13,9 @@ use lg_items::Memory;
 use serde_json::{Value, json};
 use std::alloc::{AllocError, Global};
 
-/// The file of some digests: a compact JSON array, its keys in alphabetical order, the digits of hashes in upper case,
-/// the times in ISO 8601 with seven decimals and no zone. What is read of it is the database, block and hash of each.
-/// Both times of each digest are at most `MAX_TICKS`.
+/// The file of some digests: a compact JSON array, its keys in alphabetical order, the digits of hashes in
+/// upper case, the times in ISO 8601 with seven decimals and no zone. What is read of it is the database,
+/// block and hash of each. Both times of each digest are at most `MAX_TICKS`.
 pub fn write_digests(alloc: Global, list: &[Digest]) -> Result<Vec<u8>, Memory>
     requires { AllByRecursion spec.HasMoments list.now }
     ensures text { IfOk result (λ b. spec.IsFile list.now b.items) }

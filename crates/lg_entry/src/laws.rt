@@ -6,8 +6,8 @@ ghost use Rattle.lg_types.specs.declared.entry.BlockRecord.{BlockRecord};
 ghost use Rattle.lg_entry.specs.Entry.{IsEntry, entry_bytes};
 ghost use Rattle.lg_entry.specs.Record.{IsRecord, record_bytes};
 
-/// Equal bytes are of equal entries and of equal records, and no entry's bytes begin another's. All that a digest
-/// shows rests on this.
+/// Equal bytes are of equal entries and of equal records, and no entry's bytes begin another's. All that a
+/// digest shows rests on this.
 pub fn equal_bytes_are_of_equal_values()
     ensures entries { (e f : TxEntry) → IsEntry e → IsEntry f → entry_bytes e ≡ entry_bytes f → e ≡ f }
     ensures prefix { (e f : TxEntry) (rest : List ℕ) → IsEntry e → IsEntry f

@@ -10,7 +10,8 @@ use lg_bytes::Fields;
 use lg_merkle::Hash32;
 use lg_types::BlockRecord;
 
-/// The bytes of a record: the block, the root of its entries, how many they are, and the hash of the record before.
+/// The bytes of a record: the block, the root of its entries, how many they are, and the hash of the record
+/// before.
 #[tactic(auto, unfolding(crate::specs::Record::record_bytes))]
 pub fn record_bytes(block: &BlockRecord) -> [u8; 80]
     ensures { result ≡ record_bytes block.now }

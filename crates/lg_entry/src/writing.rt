@@ -7,9 +7,9 @@ use lg_bytes::{put_hash, put_short, put_u8, put_u32, put_u64};
 use lg_items::{Memory, TableId};
 use lg_types::TxEntry;
 
-/// Appends the bytes of an entry that has a spelling: its transaction is from 1 to 2^63 - 1, its place in the block
-/// is below 2^32, its time is at most `MAX_TICKS`, its principal is the name of a session, and it has 1 to 255 roots
-/// by strictly rising table. For want of memory the bytes are as they were.
+/// Appends the bytes of an entry that has a spelling: its transaction is from 1 to 2^63 - 1, its place in the
+/// block is below 2^32, its time is at most `MAX_TICKS`, its principal is the name of a session, and it has 1
+/// to 255 roots by strictly rising table. For want of memory the bytes are as they were.
 #[tactic(auto, unfolding(crate::specs::Entry::entry_bytes))]
 pub fn write_entry(entry: &TxEntry, out: &mut Vec<u8>) -> Result<(), Memory>
     requires { IsEntry entry.now }

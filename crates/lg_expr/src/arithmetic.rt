@@ -25,7 +25,8 @@ fn is_in_size(v: i128) -> bool
     v.unsigned_abs() < LIMIT
 }
 
-/// A result: E08 exactly where its size is 10^38 or more. What leaves 128 bits, and is none, leaves that size too.
+/// A result: E08 exactly where its size is 10^38 or more. What leaves 128 bits, and is none, leaves that size
+/// too.
 pub fn sized(v: Option<i128>, s: u8) -> Result<Number, Refusal>
     ensures { MatchOption v (result ≡ Err E08) (λ v. IsNumber (spec.in_38_digits v s) result) }
 {
@@ -35,7 +36,8 @@ pub fn sized(v: Option<i128>, s: u8) -> Result<Number, Refusal>
     }
 }
 
-/// The number in units that are smaller by so many places, where 128 bits hold it. At 0 places nothing is multiplied.
+/// The number in units that are smaller by so many places, where 128 bits hold it. At 0 places nothing is
+/// multiplied.
 #[tactic(auto, unfolding(lg_value::specs::Number::raised))]
 fn in_units(v: i128, places: u8) -> Option<i128>
     ensures { SomeIff result (FitsSigned w128 (spec_raised v places)) (spec_raised v places) }
@@ -64,7 +66,8 @@ fn aligned(v: i128, s: u8, w: i128, z: u8) -> Option<(i128, i128)>
     Some((v, w))
 }
 
-/// The sum of two numbers: E08 exactly where it, or an operand brought to the greater scale, has size 10^38 or more.
+/// The sum of two numbers: E08 exactly where it, or an operand brought to the greater scale, has size 10^38
+/// or more.
 #[tactic(auto, unfolding(lg_model::specs::Numbers::sum_of))]
 pub fn sum(v: i128, s: u8, w: i128, z: u8) -> Result<Number, Refusal>
     ensures { IsNumber (spec.sum_of v s w z) result }

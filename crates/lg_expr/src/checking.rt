@@ -73,8 +73,8 @@ pub fn class(e: &Expr, columns: &Columns) -> Result<Class, Refusal>
     }
 }
 
-/// The class of an expression over the columns: E04 exactly where it names a column that isn't there, else E05 exactly
-/// where its classes don't agree. One pass over the expression serves where it has a class.
+/// The class of an expression over the columns: E04 exactly where it names a column that isn't there, else
+/// E05 exactly where its classes don't agree. One pass over the expression serves where it has a class.
 #[tactic(auto, unfolding(lg_model::specs::Classes::class_of), using(lg_model::proofs::Missing::there))]
 pub fn check(e: &Expr, columns: &Columns) -> Result<Class, Refusal>
     ensures { result ≡ spec.class_of columns.now e.now }

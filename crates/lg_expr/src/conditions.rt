@@ -10,7 +10,8 @@ use lg_parts::Columns;
 use lg_types::Outcome;
 use lg_value::{Expr, Refusal};
 
-/// Whether a condition that came out so takes the row: it does where it is true, not where it is false or unknown.
+/// Whether a condition that came out so takes the row: it does where it is true, not where it is false or
+/// unknown.
 fn is_true(outcome: Outcome) -> Result<bool, Refusal>
     ensures { result ≡ spec.is_true outcome }
 {
@@ -20,8 +21,8 @@ fn is_true(outcome: Outcome) -> Result<bool, Refusal>
     }
 }
 
-/// Whether a condition over the columns takes a row of them; without a condition each row is taken. E05 and E08 come
-/// where the condition's evaluation gives them, and E30 for want of memory.
+/// Whether a condition over the columns takes a row of them; without a condition each row is taken. E05 and
+/// E08 come where the condition's evaluation gives them, and E30 for want of memory.
 #[tactic(auto, unfolding(lg_model::specs::Where::holds))]
 pub fn holds(columns: &Columns, cond: &Option<Expr>, row: &SeenRow) -> Result<bool, Refusal>
     ensures { Gives (spec.holds columns.now cond.now row.now) result }

@@ -64,10 +64,10 @@ fn seen<'a>(e: &'a Expr, columns: &Columns, row: &SeenRow<'a>) -> Result<Seen<'a
     }
 }
 
-/// The value or truth of an expression over the columns, in a row of them. Both sides of an operator are always evaluated.
-/// E08 comes exactly where a result of arithmetic, or an operand brought to the greater scale, has size 10^38 or more; E05
-/// where a use is one that classes forbid, so never after `check` in a row that fits; E30 for want of memory alone. Only
-/// the text or the bytes of the answer take memory.
+/// The value or truth of an expression over the columns, in a row of them. Both sides of an operator are
+/// always evaluated. E08 comes exactly where a result of arithmetic, or an operand brought to the greater
+/// scale, has size 10^38 or more; E05 where a use is one that classes forbid, so never after `check` in a row
+/// that fits; E30 for want of memory alone. Only the text or the bytes of the answer take memory.
 #[tactic(auto, unfolding(lg_model::specs::Evaluation::meaning_of))]
 pub fn eval(e: &Expr, columns: &Columns, row: &SeenRow) -> Result<Outcome, Refusal>
     ensures { Gives (spec.meaning_of columns.now row.now e.now) result }

@@ -12,7 +12,8 @@ use lg_types::{EventId, Typed, Version};
 use lg_value::Value;
 use std::marker::Model;
 
-/// A row in which expressions are evaluated, which contracts see as the list of its values. Nothing is copied.
+/// A row in which expressions are evaluated, which contracts see as the list of its values. Nothing is
+/// copied.
 #[derive(Debug, Drop)]
 pub struct SeenRow<'a> {
     place: Place<'a>,

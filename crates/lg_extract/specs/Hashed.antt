@@ -2,7 +2,8 @@
 use Rattle.std.specs.Prelude.{ℕ, List, [], ◌∷◌, ◌++◌, length, take, drop}
 use Rattle.lg_merkle.specs.TreeHash.{tree_hash, split_of}
 
--- of no leaves none; of one leaf a zero byte and the leaf; of more a one byte and the tree hashes of the two halves
+-- of no leaves none; of one leaf a zero byte and the leaf; of more a one byte and the tree hashes of the two
+-- halves
 abbrev pub hashed : (List ℕ → List ℕ) → List (List ℕ) → List ℕ
 hashed h [] = []
 hashed h (leaf ∷ []) = 0 ∷ leaf

@@ -1,4 +1,5 @@
--- The leaves of an image: one for each start and each end of a version, with the transaction and the table that it is of.
+-- The leaves of an image: one for each start and each end of a version, with the transaction and the table
+-- that it is of.
 use Rattle.std.specs.Prelude.{ℕ, ◌≡◌, Bool, List, ◌++◌, map, flat_map, length, Option, is_some}
 use Rattle.std.specs.List.{filter, AllByRecursion}
 use Rattle.std.specs.declared.cmp.Ordering.{Ordering}

@@ -6,7 +6,8 @@ use Rattle.lg_types.specs.declared.image.Image.{Image}
 use Rattle.lg_verdict.specs.Blocks.{digest_fault, chain_fault, block_fault}
 use Rattle.lg_verdict.specs.Entries.{id_fault, root_fault}
 
--- it has a spelling, the digest is of a block of it, and its blocks, ids and roots are those of its entries and events:
+-- it has a spelling, the digest is of a block of it, and its blocks, ids and roots are those of its entries
+-- and events:
 -- the first five invariants, with this one digest
 pub record Meets (h : List ℕ → List ℕ) (i : Image) (digest : HeldDigest) : Type 0 where
   pub image : IsImage i

@@ -1,4 +1,5 @@
-//! The trees of entries: block by block, the entries of two images are the same, or the trees give a collision.
+//! The trees of entries: block by block, the entries of two images are the same,
+//! or the trees give a collision.
 
 ghost use Rattle.std.specs.Prelude.{◌≡◌, ◌<◌, ◌^◌, All, map, length, IfOk};
 ghost use Rattle.std.specs.List.{AllByRecursion};
@@ -63,7 +64,8 @@ fn in_block<H: Hash32>(
 ) -> Result<Extracted, Memory>
     requires fit_a { AllByRecursion IsEntry a.now }
     requires fit_b { AllByRecursion IsEntry b.now }
-    requires root { tree_hash (H.digest h) (map entry_bytes a.now) ≡ tree_hash (H.digest h) (map entry_bytes b.now) }
+    requires root { tree_hash (H.digest h) (map entry_bytes a.now)
+        ≡ tree_hash (H.digest h) (map entry_bytes b.now) }
     ensures { IfOk result (Finds (H.digest h) (a.now ≡ b.now)) }
 {
     let first = entry_leaves(alloc, a)?;

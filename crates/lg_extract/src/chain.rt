@@ -14,8 +14,8 @@ use lg_merkle::Hash32;
 use lg_types::{BlockRecord, HeldDigest, Image};
 use std::alloc::Global;
 
-/// Goes down from the digest's block, whose hash is one in both images. As long as the hashes are one, records that differ
-/// collide, and records that are the same tell one hash of the block before.
+/// Goes down from the digest's block, whose hash is one in both images. As long as the hashes are one,
+/// records that differ collide, and records that are the same tell one hash of the block before.
 pub(crate) fn in_chain<H: Hash32>(
     alloc: Global,
     h: H,

@@ -1,5 +1,5 @@
-//! The trees of leaves: entry by entry and table by table, the events of two images are the same, or the trees give a
-//! collision.
+//! The trees of leaves: entry by entry and table by table, the events of two images are the same, or the
+//! trees give a collision.
 
 ghost use Rattle.std.specs.Prelude.{◌≡◌, ◌≤◌, ◌<◌, ◌+◌, IsSorted, IfOk, length};
 ghost use Rattle.std.specs.List.{AllByRecursion, sum_by};
@@ -131,7 +131,8 @@ fn in_table<H: Hash32>(
 ) -> Result<Extracted, Memory>
     requires sorted_a { IsSorted leaf_cmp a.now }
     requires sorted_b { IsSorted leaf_cmp b.now }
-    requires root { tree_hash (H.digest h) (tree_of a.now group) ≡ tree_hash (H.digest h) (tree_of b.now group) }
+    requires root { tree_hash (H.digest h) (tree_of a.now group)
+        ≡ tree_hash (H.digest h) (tree_of b.now group) }
     ensures { IfOk result (Finds (H.digest h) (tree_of a.now group ≡ tree_of b.now group)) }
 {
     let x = leaves_of(a, group);

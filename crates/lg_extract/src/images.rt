@@ -14,8 +14,9 @@ use lg_merkle::Hash32;
 use lg_types::{HeldDigest, Image};
 use std::alloc::Global;
 
-/// `Same` exactly where the entries and events that the digest covers are the same in both images, and else two
-/// different byte strings with one hash. So whoever shows two histories under one digest has broken the hash.
+/// `Same` exactly where the entries and events that the digest covers are the same in both images,
+/// and else two different byte strings with one hash. So whoever shows two histories under one digest
+/// has broken the hash.
 pub fn extract<H: Hash32>(
     alloc: Global,
     h: H,

@@ -8,7 +8,8 @@ ghost use Rattle.lg_verdict.specs.declared.place.Verdict.TheVariants.{Yes};
 ghost use Rattle.lg_verdict.specs.Verdict.{image_verdict};
 ghost use Rattle.lg_extract.specs.Meets.{Meets};
 
-/// An image that is accepted with some digests meets each of them, so `extract` may be asked of two such images.
+/// An image that is accepted with some digests meets each of them,
+/// so `extract` may be asked of two such images.
 pub fn accepted_images_meet_each_digest()
     ensures { (h : List ℕ → List ℕ) (i : Image) (digests : List HeldDigest)
         → IsImage i → image_verdict h i digests ≡ Yes

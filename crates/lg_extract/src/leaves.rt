@@ -32,7 +32,8 @@ pub struct Leaf {
 pub(crate) fn sorted_leaves(alloc: Global, image: &Image) -> Result<Vec<Leaf>, Memory>
     requires { IsImage image.now }
     ensures sorted { IfOk result (λ leaves. IsSorted leaf_cmp leaves.items) }
-    ensures stable { IfOk result (λ leaves. IsStable leaf_cmp (all_leaves (tables_in image.now)) leaves.items) }
+    ensures stable { IfOk result (λ leaves.
+        IsStable leaf_cmp (all_leaves (tables_in image.now)) leaves.items) }
 {
     let mut leaves = Vec::new(alloc);
     add_all(alloc, image, &mut leaves)?;
@@ -79,7 +80,8 @@ fn add_each(
     requires second { AreRows second.now }
     requires users { AreTables defs.now users.now }
     ensures { OnOk result (leaves.new.items ≡ leaves.old.items
-        ++ all_leaves (tables_with (tables_def ∷ columns_def ∷ defs.now) (first.now ∷ second.now ∷ users.now))) }
+        ++ all_leaves
+        (tables_with (tables_def ∷ columns_def ∷ defs.now) (first.now ∷ second.now ∷ users.now))) }
 {
     add_table(alloc, 1, first, leaves)?;
     add_table(alloc, 2, second, leaves)?;

@@ -1,4 +1,5 @@
-//! Two images under one digest: either all that it covers is the same in both, or two byte strings have one hash.
+//! Two images under one digest:
+//! either all that it covers is the same in both, or two byte strings have one hash.
 #![tactic(auto)]
 
 mod blocks;

@@ -11,8 +11,9 @@ use lg_items::{Blob, Memory};
 use lg_merkle::{Frontier, Hash32};
 use std::alloc::Global;
 
-/// Of two different lists of leaves that have one tree hash, two different byte strings with one hash. Halves the lists
-/// until the bytes that were hashed differ, and hashes no more than the halves on its way: about two hashes for each leaf.
+/// Of two different lists of leaves that have one tree hash, two different byte strings with one hash.
+/// Halves the lists until the bytes that were hashed differ, and hashes no more than the halves on its way:
+/// about two hashes for each leaf.
 pub(crate) fn find_in_trees<H: Hash32>(
     alloc: Global,
     h: H,

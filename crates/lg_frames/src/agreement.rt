@@ -1,5 +1,5 @@
-//! Laws on which serial execution stands: what two states have to agree on, so that a statement does the same over both,
-//! and what a statement leaves alone.
+//! Laws on which serial execution stands: what two states have to agree on, so that a statement does the same
+//! over both, and what a statement leaves alone.
 
 ghost use Rattle.std.specs.Prelude.{ℕ, ◌≡◌, false, List};
 ghost use Rattle.lg_value.specs.declared.column.ColumnDef.{ColumnDef};
@@ -13,15 +13,16 @@ ghost use Rattle.lg_model.specs.Agreement.{AgreeFor, IdsFrom, columns_at, wants_
 ghost use Rattle.lg_model.specs.Reach.{reaches, reaches_table};
 ghost use Rattle.lg_model.specs.Runs.{Rising, Sound};
 
-/// A statement does what its plan says: its starts and ends in order, numbered from the counter, and its definition; and
-/// it replies what its plan says.
+/// A statement does what its plan says: its starts and ends in order, numbered from the counter, and its
+/// definition; and it replies what its plan says.
 pub fn effects_are_plans_carried_out()
     ensures { (T : Tables) (tx seq : ℕ) (stmt : Stmt)
         → effect T tx seq stmt ≡ carried_out T tx seq (plan T stmt) }
 {}
 
-/// Over two states that agree on all that a statement wants, it has one plan: the same starts and ends, the same
-/// definition and the same reply. With `effects_are_plans_carried_out` the counter after it is the same too.
+/// Over two states that agree on all that a statement wants, it has one plan: the same starts and
+/// ends, the same definition and the same reply. With `effects_are_plans_carried_out` the counter
+/// after it is the same too.
 pub fn agreeing_states_give_one_plan()
     ensures plan { (T U : Tables) (stmt : Stmt) → IdsFrom 1 (defs_of T)
         → AgreeFor T U (wants_of (defs_of T) false stmt) → plan T stmt ≡ plan U stmt }
@@ -33,8 +34,8 @@ pub fn agreeing_states_give_one_plan()
         → (effect T tx seq stmt).seq ≡ (effect U tx seq stmt).seq }
 {}
 
-/// Where a statement wants no X on the rows of a key, their versions are those from before; and where it wants none on
-/// anything of a table, all versions of the table are.
+/// Where a statement wants no X on the rows of a key, their versions are those from before; and where it
+/// wants none on anything of a table, all versions of the table are.
 pub fn statements_leave_what_they_dont_want()
     ensures keys { (T : Tables) (tx seq id : ℕ) (key : Key) (stmt : Stmt) → Sound tx seq T
         → reaches id key (wants_of (defs_of T) false stmt) ≡ false
@@ -45,7 +46,8 @@ pub fn statements_leave_what_they_dont_want()
         → versions_of (effect T tx seq stmt).tables id ≡ versions_of T id }
 {}
 
-/// Versions by rising start are the same where those of each key are: who agrees on each key agrees on the whole table.
+/// Versions by rising start are the same where those of each key are: who agrees on each key agrees
+/// on the whole table.
 pub fn versions_are_those_of_their_keys()
     ensures { (columns : List ColumnDef) (V W : List Version) → Rising V → Rising W
         → ((key : Key) → of_key columns key V ≡ of_key columns key W) → V ≡ W }

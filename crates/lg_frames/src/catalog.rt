@@ -14,7 +14,8 @@ ghost use Rattle.lg_model.specs.Locks.{catalog_want, cell_wants, conflict, some_
 ghost use Rattle.lg_model.specs.Reach.{creates};
 ghost use Rattle.lg_model.specs.Script.{Reading, State, start, in_transaction, script};
 
-/// A statement that doesn't create leaves all definitions: a table statement, and a transaction of such a statement alone.
+/// A statement that doesn't create leaves all definitions: a table statement, and a transaction of such
+/// a statement alone.
 pub fn creates_alone_change_definitions()
     ensures statement { (T : Tables) (tx seq : ℕ) (stmt : Stmt) → creates stmt ≡ false
         → defs_of (effect T tx seq stmt).tables ≡ defs_of T }
@@ -23,7 +24,8 @@ pub fn creates_alone_change_definitions()
         → defs_of (script reads false T tx (text ∷ [])).state.tables ≡ defs_of T }
 {}
 
-/// A script of a transaction that BEGIN opened leaves all definitions, and the copies of its savepoints have them too.
+/// A script of a transaction that BEGIN opened leaves all definitions, and the copies of its
+/// savepoints have them too.
 pub fn opened_scripts_leave_definitions()
     ensures tables { (reads : Reading) (T : Tables) (tx : ℕ) (texts : List (List ℕ))
         → defs_of (script reads true T tx texts).state.tables ≡ defs_of T }
@@ -40,7 +42,8 @@ pub fn cell_wants_share_the_catalog()
         → catalog_want opened stmt ≡ Some S }
 {}
 
-/// Who creates wants the catalog alone, which conflicts with each mode. In a transaction that BEGIN opened nobody creates.
+/// Who creates wants the catalog alone, which conflicts with each mode. In a transaction that BEGIN
+/// opened nobody creates.
 pub fn creates_want_the_catalog_alone()
     ensures wants { (stmt : Stmt) → creates stmt ≡ true → catalog_want false stmt ≡ Some X }
     ensures conflicts { (m : Mode) → (conflict X m ≡ true) × (conflict m X ≡ true) }
@@ -54,7 +57,8 @@ pub fn no_texts_do_nothing()
         → script reads opened T tx [] ≡ record { state = start T; replies = [] } }
 {}
 
-/// Statements clash whose wants in the catalog conflict, and those with wants on one item of one table that conflict.
+/// Statements clash whose wants in the catalog conflict, and those with wants on one item of one
+/// table that conflict.
 pub fn conflicting_wants_clash()
     ensures catalog { (defs : Defs) (o p : Bool) (a b : Stmt) (v w : Mode) → catalog_want o a ≡ Some v
         → catalog_want p b ≡ Some w

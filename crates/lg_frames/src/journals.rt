@@ -8,8 +8,8 @@ ghost use Rattle.lg_model.specs.Journals.{IsLegal};
 ghost use Rattle.lg_model.specs.LegalJournals.{IsLegalJournal};
 ghost use Rattle.lg_model.specs.Script.{Reading};
 
-/// Where the items are legal, their ids differ, and each closing takes no more than is pending there; so a legal journal
-/// keeps all side rules.
+/// Where the items are legal, their ids differ, and each closing takes no more than is pending there; so a
+/// legal journal keeps all side rules.
 pub fn legal_journals_keep_the_rules()
     ensures ids { (reads : Reading) (items : List JournalItem) → IsLegal reads items
         → ids_differ [] items ≡ true }

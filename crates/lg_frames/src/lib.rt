@@ -1,4 +1,5 @@
-//! Laws of statements and scripts: what they read and what they leave alone, what agreeing states give, and undo.
+//! Laws of statements and scripts: what they read and what they leave alone, what agreeing
+//! states give, and undo.
 #![tactic(auto)]
 
 mod agreement;

@@ -12,15 +12,16 @@ ghost use Rattle.lg_model.specs.Script.{Reading, script};
 ghost use Rattle.lg_model.specs.Events.{all_events};
 ghost use Rattle.lg_model.specs.Journals.{IsOther, serial, IsLegal};
 
-/// The first tables are sound, and each statement keeps tables sound: ids in order, no two columns of one name, versions by
-/// rising start, and no event of the transaction with the next number or above.
+/// The first tables are sound, and each statement keeps tables sound: ids in order, no two columns of one
+/// name, versions by rising start, and no event of the transaction with the next number or above.
 pub fn statements_keep_tables_sound()
     ensures first { (tx seq : ℕ) → Sound tx seq first_tables }
     ensures statement { (T : Tables) (tx seq : ℕ) (stmt : Stmt) → Sound tx seq T
         → Sound tx (effect T tx seq stmt).seq (effect T tx seq stmt).tables }
 {}
 
-/// A script of a transaction that BEGIN opened keeps tables sound: those after it, and the copy of each savepoint.
+/// A script of a transaction that BEGIN opened keeps tables sound: those after it, and the copy
+/// of each savepoint.
 pub fn opened_scripts_keep_tables_sound()
     ensures tables { (reads : Reading) (T : Tables) (tx : ℕ) (texts : List (List ℕ)) → Sound tx 0 T
         → Sound tx (script reads true T tx texts).state.seq (script reads true T tx texts).state.tables }
@@ -28,8 +29,8 @@ pub fn opened_scripts_keep_tables_sound()
         → AllByRecursion (λ c. Sound tx c.seq c.tables) (script reads true T tx texts).state.saved }
 {}
 
-/// A transaction makes no event of another one: tables that are sound for another one stay so under its script, whether BEGIN
-/// opened it or not.
+/// A transaction makes no event of another one: tables that are sound for another one stay so under its
+/// script, whether BEGIN opened it or not.
 pub fn scripts_keep_tables_sound_for_others()
     ensures { (reads : Reading) (opened : Bool) (T : Tables) (tx other n : ℕ) (texts : List (List ℕ))
         → tx ≢ other → Sound tx 0 T → Sound other n T

@@ -11,8 +11,8 @@ ghost use Rattle.lg_model.specs.Runs.{Sound};
 ghost use Rattle.lg_model.specs.Script.{Reading, rolls_back_to, script};
 ghost use Rattle.lg_model.specs.Undo.{undone};
 
-/// Undo by number of a statement that doesn't create gives the tables before it: of the whole statement, and of one that
-/// was refused after so many of its starts and ends.
+/// Undo by number of a statement that doesn't create gives the tables before it: of the whole statement, and
+/// of one that was refused after so many of its starts and ends.
 pub fn undo_by_number_takes_a_statement_back()
     ensures whole { (T : Tables) (tx seq : ℕ) (stmt : Stmt) → Sound tx seq T → creates stmt ≡ false
         → undone tx seq (effect T tx seq stmt).tables ≡ T }
@@ -20,8 +20,8 @@ pub fn undo_by_number_takes_a_statement_back()
         → undone tx seq (changed_from tx seq (take k (plan T stmt).changes) T) ≡ T }
 {}
 
-/// In a transaction that BEGIN opened, each savepoint's copy is what undo by its counter gives. So going back by a name is
-/// undo by the counter after it, also where no savepoint has the name.
+/// In a transaction that BEGIN opened, each savepoint's copy is what undo by its counter gives. So going back
+/// by a name is undo by the counter after it, also where no savepoint has the name.
 pub fn going_back_is_undo_by_number()
     ensures copies { (reads : Reading) (T : Tables) (tx : ℕ) (texts : List (List ℕ)) → Sound tx 0 T
         → AllByRecursion (λ c. undone tx c.seq (script reads true T tx texts).state.tables ≡ c.tables)

@@ -1,5 +1,7 @@
--- What holds of definitions and of the system tables between two statements: which columns the system tables have, and
--- that their keys are below those that a new table or index gets, so that its rows are at keys that no row has.
+-- What holds of definitions and of the system tables between two statements: which columns the system tables
+-- have, and
+-- that their keys are below those that a new table or index gets, so that its rows are at keys that no row
+-- has.
 use Rattle.std.specs.Prelude.{ℕ, ◌+◌, ◌*◌, ◌==◌, ◌≡◌, ◌<◌, ◌≤◌, if◌then◌else◌, [], ◌∷◌, length}
 use Rattle.std.specs.List.{AllByRecursion}
 use Rattle.lg_model.specs.Limits.{max_columns, max_tables}
@@ -10,7 +12,8 @@ use Rattle.lg_model.specs.Create.{system_tables}
 use Rattle.lg_model.specs.SystemTables.{tables_id, columns_id, tables_columns, columns_columns}
 use Rattle.lg_invariants.specs.Fine.{OfTable}
 
--- the items of a table's rows are below 1000 for its columns, from 1000 on for its first index, and so on: from this
+-- the items of a table's rows are below 1000 for its columns, from 1000 on for its first index, and so on:
+-- from this
 -- number on are the items of its next index, and a table that isn't there has none
 abbrev pub items_below : Defs → ℕ → ℕ
 items_below [] id = 0
@@ -20,7 +23,8 @@ items_below (def ∷ defs) id = if def.id == id then 1000 * (length def.indexes 
 abbrev pub IsTableKey : Defs → Key → Type 0
 IsTableKey defs key = (id : ℕ) × (id ≤ length defs) × (key ≡ number id ∷ number 0 ∷ [])
 
--- a key of the table of columns, with the id of a table that there is and no item from those of its next index on
+-- a key of the table of columns, with the id of a table that there is and no item from those of its next
+-- index on
 abbrev pub IsColumnKey : Defs → Key → Type 0
 IsColumnKey defs key =
     (id : ℕ) × (item : ℕ) × (item < items_below defs id) × (key ≡ number id ∷ number item ∷ number 0 ∷ [])

@@ -1,4 +1,5 @@
--- What each change of a statement is: the start of a row that fits, at a key that no standing row has, or the end of a
+-- What each change of a statement is: the start of a row that fits, at a key that no standing row has, or the
+-- end of a
 -- version that stands.
 use Rattle.std.specs.Prelude.{ℕ, ◌+◌, ◌≡◌, ◌⊎◌, false, List, [], ◌∷◌, map, None, Option}
 use Rattle.lg_value.specs.declared.column.ColumnDef.{ColumnDef}

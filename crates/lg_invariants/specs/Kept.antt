@@ -1,4 +1,5 @@
--- What one transaction after another keeps: numbers without a gap, each once; what ends began before; of two versions of one
+-- What one transaction after another keeps: numbers without a gap, each once; what ends began before; of two
+-- versions of one
 -- key one ends before the other starts; and each version fits its table.
 use Rattle.std.specs.Prelude.{ℕ, ◌+◌, ◌≡◌, ◌<◌, ◌⊎◌, true, cond, nat_lt, List, [], ◌∷◌, Option, Some, None, IfSome}
 use Rattle.std.specs.List.{AllByRecursion, sum_by}

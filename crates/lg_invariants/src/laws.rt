@@ -19,24 +19,24 @@ ghost use Rattle.lg_invariants.specs.Fine.{IsFineIn, AllFine};
 ghost use Rattle.lg_invariants.specs.Kept.{Kept};
 ghost use Rattle.lg_invariants.specs.Serial.{TablesOf};
 
-/// Each change that a statement makes, over the tables that the changes before it left, is the start of a row that fits its
-/// columns, at a key that no standing row has, or the end of a version that stands: of INSERT, UPDATE and DELETE, and of the
-/// system rows of CREATE TABLE and CREATE INDEX.
+/// Each change that a statement makes, over the tables that the changes before it left, is the start of a row
+/// that fits its columns, at a key that no standing row has, or the end of a version that stands: of INSERT,
+/// UPDATE and DELETE, and of the system rows of CREATE TABLE and CREATE INDEX.
 pub fn changes_are_fine()
     ensures { (place : ℕ → ℕ) (T : Tables) (tx seq : ℕ) (stmt : Stmt) → Kept place tx seq T → Described T
         → AllFine tx seq (plan T stmt).changes T }
 {}
 
-/// Each such change, as the next event of its transaction, keeps what is kept: the numbers of the transaction are those
-/// below its counter, each once; each other event stands once; ends come after their starts and before now; of two versions
-/// of one key one ends before the other starts; and every version fits its table.
+/// Each such change, as the next event of its transaction, keeps what is kept: the numbers of the transaction
+/// are those below its counter, each once; each other event stands once; ends come after their starts and
+/// before now; of two versions of one key one ends before the other starts; and every version fits its table.
 pub fn fine_changes_keep()
     ensures { (place : ℕ → ℕ) (T : Tables) (tx seq : ℕ) (c : TableChange) → Kept place tx seq T → IsFineIn c T
         → Kept place tx (seq + 1) (changed_in (tx, seq) c T) }
 {}
 
-/// So it holds of the first tables, and each statement keeps it; and the system tables have their columns, and no keys
-/// from those on that the next table or index gets.
+/// So it holds of the first tables, and each statement keeps it; and the system tables have their columns,
+/// and no keys from those on that the next table or index gets.
 pub fn statements_keep()
     ensures first { (place : ℕ → ℕ) (tx : ℕ) → Kept place tx 0 first_tables }
     ensures first_described { Described first_tables }
@@ -48,8 +48,8 @@ pub fn statements_keep()
         → Described (effect T tx seq stmt).tables }
 {}
 
-/// Scripts keep it, whether BEGIN opened them or not: it holds of the tables after a script, and of the copy of each
-/// savepoint with its counter.
+/// Scripts keep it, whether BEGIN opened them or not: it holds of the tables after a script, and of the copy
+/// of each savepoint with its counter.
 pub fn scripts_keep()
     ensures tables { (place : ℕ → ℕ) (reads : Reading) (opened : Bool) (T : Tables) (tx : ℕ)
         (texts : List (List ℕ)) → Kept place tx 0 T → Described T
@@ -69,10 +69,11 @@ pub fn refusals_leave_everything()
         → (by_statement opened tx x text).0 ≡ x }
 {}
 
-/// In the tables to which a legal journal leads each start and each end stands once, its id is that of a transaction of the
-/// journal, the events of a transaction are numbered from 0 without a gap, an end comes after its start, every version fits
-/// its table, and of two versions of one key one ends before the other starts, in the order of the journal. The system
-/// tables have their columns, and no keys from those on that the next table or index gets.
+/// In the tables to which a legal journal leads each start and each end stands once, its id is that of a
+/// transaction of the journal, the events of a transaction are numbered from 0 without a gap, an end comes
+/// after its start, every version fits its table, and of two versions of one key one ends before the other
+/// starts, in the order of the journal. The system tables have their columns, and no keys from those on that
+/// the next table or index gets.
 pub fn legal_journals_keep()
     ensures tables { (reads : Reading) (items : List JournalItem) → IsLegal reads items
         → TablesOf items (serial reads items) }
@@ -80,8 +81,8 @@ pub fn legal_journals_keep()
         → Described (serial reads items) }
 {}
 
-/// No version of an append-only table ever ends: statements and scripts keep it so, and it holds of the tables to which a
-/// legal journal leads.
+/// No version of an append-only table ever ends: statements and scripts keep it so, and it holds of the
+/// tables to which a legal journal leads.
 pub fn append_only_tables_keep_their_rows()
     ensures statement { (T : Tables) (tx seq : ℕ) (stmt : Stmt) → Sound tx seq T → AllKeepRows T
         → AllKeepRows (effect T tx seq stmt).tables }
@@ -91,7 +92,8 @@ pub fn append_only_tables_keep_their_rows()
         → AllKeepRows (serial reads items) }
 {}
 
-/// The first items of a legal journal are a legal journal, so the same holds of the tables to which they lead.
+/// The first items of a legal journal are a legal journal, so the same holds of the tables to which they
+/// lead.
 pub fn cuts_of_legal_journals_are_legal()
     ensures legal { (reads : Reading) (items : List JournalItem) (m : ℕ) → IsLegal reads items
         → IsLegal reads (cut items m) }

@@ -4,8 +4,8 @@ ghost use Rattle.std.specs.Prelude.{◌≡◌};
 ghost use Rattle.std.specs.List.{list_all};
 ghost use Rattle.lg_items.specs.DatabaseName.{is_database_byte, starts_as_name, is_database_name};
 
-/// Whether these bytes are the name of a database: 1 to 64 letters or digits of ASCII, `_`, `-` or `.`, the first a
-/// letter or a digit.
+/// Whether these bytes are the name of a database: 1 to 64 letters or digits of ASCII, `_`, `-` or `.`, the
+/// first a letter or a digit.
 #[tactic(auto, unfolding(crate::specs::DatabaseName::is_database_name))]
 pub fn is_database_name(name: &[u8]) -> bool
     ensures { result ≡ is_database_name name.now }

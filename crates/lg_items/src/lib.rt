@@ -1,6 +1,6 @@
 //! What every crate of the ledger stands on: want of memory, lists, boxes, texts and byte strings that
-//! contracts see as their contents, the numbers of transactions and tables, moments, and the names of sessions and
-//! databases.
+//! contracts see as their contents, the numbers of transactions and tables, moments, and the names of
+//! sessions and databases.
 #![tactic(auto)]
 
 mod blob;

@@ -3,7 +3,8 @@
 ghost use Rattle.std.specs.Prelude.{◌≡◌};
 ghost use Rattle.lg_items.specs.Moment.{is_moment};
 
-/// The greatest moment that is used, the last tick of the year 9999: a greater answer of a clock counts as this.
+/// The greatest moment that is used, the last tick of the year 9999: a greater answer of a
+/// clock counts as this.
 pub const MAX_TICKS: u64 = 2_534_023_007_999_999_999;
 
 /// Whether so many ticks are a moment that is used.

@@ -18,7 +18,8 @@ script_bytes script = u64_field (length script) ++ flat_map statement_bytes scri
 abbrev pub opened_bytes : Bool → List ℕ
 opened_bytes opened = u8_field (if opened then 1 else 0)
 
--- a transaction behind 1: its id, session, time, whether BEGIN opened it, and its statements; a closing behind 2
+-- a transaction behind 1: its id, session, time, whether BEGIN opened it, and its statements; a closing
+-- behind 2
 abbrev pub item_bytes : JournalItem → List ℕ
 item_bytes (Tx id session time opened script) =
     u8_field 1 ++ (u64_field id ++ (short_field session ++

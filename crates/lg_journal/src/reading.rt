@@ -17,9 +17,9 @@ use lg_items::{Items, Memory, Text};
 use lg_types::{Journal, JournalItem, MAX_BLOCK, Script};
 use std::alloc::Global;
 
-/// The journal whose bytes these are, all of them, or None exactly where they are those of no journal that keeps the
-/// side rules (`docs/FORMATS.md`). The only error is want of memory. Takes time in proportion to the bytes, but for the
-/// look-up of each id in an ordered set.
+/// The journal whose bytes these are, all of them, or None exactly where they are those of no journal that
+/// keeps the side rules (`docs/FORMATS.md`). The only error is want of memory. Takes time in proportion to
+/// the bytes, but for the look-up of each id in an ordered set.
 pub fn read_journal(alloc: Global, bytes: &[u8]) -> Result<Option<Journal>, Memory>
     ensures found { IfOk result (λ read. IfSome read (λ j. IsJournal j × (bytes.now ≡ journal_bytes j))) }
     ensures only { (j : Journal) → IsJournal j → bytes.now ≡ journal_bytes j

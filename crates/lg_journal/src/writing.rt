@@ -9,8 +9,8 @@ use lg_items::{Memory, Text};
 use lg_types::{Journal, JournalItem};
 use std::alloc::Global;
 
-/// The bytes of a journal that keeps the side rules (`docs/FORMATS.md`). The only error is want of memory. Takes time
-/// in proportion to the bytes.
+/// The bytes of a journal that keeps the side rules (`docs/FORMATS.md`). The only error is want of memory.
+/// Takes time in proportion to the bytes.
 #[tactic(auto, unfolding(crate::specs::Journal::journal_bytes))]
 pub fn write_journal(alloc: Global, journal: &Journal) -> Result<Vec<u8>, Memory>
     requires { IsJournal journal.now }

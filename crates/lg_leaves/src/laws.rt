@@ -10,8 +10,8 @@ ghost use Rattle.lg_leaves.specs.Room.{FitsLeaf};
 
 use lg_invariants::legal_journals_keep;
 
-/// Each event of a transaction in the tables to which a legal journal leads has a leaf, where its numbers have room
-/// in one and its texts are UTF-8.
+/// Each event of a transaction in the tables to which a legal journal leads has a leaf, where its numbers
+/// have room in one and its texts are UTF-8.
 pub fn events_of_legal_journals_have_leaves()
     ensures { (reads : Reading) (items : List JournalItem) (tx : ℕ) → IsLegal reads items
         → AllByRecursion FitsLeaf (all_events tx (serial reads items)) }

@@ -27,7 +27,8 @@ goes_on at None rest = Err at
 goes_on at (Some t) rest =
     with_front (record { start = at; end = at + t.1; kind = t.0 } ∷ []) (rest (t.1 - 1))
 
--- The tokens of the bytes from the place `at` on, of which the first `left` belong to a token before. Blanks are
+-- The tokens of the bytes from the place `at` on, of which the first `left` belong to a token before. Blanks
+-- are
 -- passed, a comment ends the text, and else the longest token is taken.
 abbrev pub scan : ℕ → ℕ → List ℕ → Scan
 scan left at [] = Ok []

@@ -1,4 +1,5 @@
--- How the longest token is found: for each kind the length of the longest token of that kind, or none. A place past
+-- How the longest token is found: for each kind the length of the longest token of that kind, or none. A
+-- place past
 -- the end reads as 0.
 use Rattle.std.specs.Prelude.{ℕ, ◌+◌, ◌-◌, ◌%◌, Bool, true, false, ◌&&◌, ◌||◌, if◌then◌else◌, ◌==◌, nat_lt, min, List, [], ◌∷◌, drop, slice_index, Option, Some, None}
 use Rattle.std.specs.Char.{is_ascii_digit, is_ascii_hexdigit}
@@ -36,7 +37,8 @@ bytes z =
     then (let hex = past class.Hex z 2 - 2 in Some (2 + hex - hex % 2))
     else None
 
--- the place behind the last quote that can close the text; the first argument says whether the byte before is such
+-- the place behind the last quote that can close the text; the first argument says whether the byte before is
+-- such
 -- a quote
 abbrev pub closing : Bool → Option ℕ → ℕ → List ℕ → Option ℕ
 closing is_second best at [] = best
@@ -59,7 +61,8 @@ word z = if is_in class.WordStart (slice_index z 0) then Some (past class.Word z
 abbrev pub bracketed : List ℕ → Option ℕ
 bracketed z =
     if slice_index z 0 == 91
-    then (let end = past class.Inside z 1 in if nat_lt 1 end && slice_index z end == 93 then Some (end + 1) else None)
+    then (let end = past class.Inside z 1 in
+    if nat_lt 1 end && slice_index z end == 93 then Some (end + 1) else None)
     else None
 
 -- the longest sign

@@ -68,7 +68,8 @@ is_bytes (b ∷ x ∷ z) = (b == 48 && (x == 120 || x == 88)) && list_all is_asc
 -- one of ( ) , ; = < > + - * .
 abbrev pub is_single : ℕ → Bool
 is_single b =
-    b == 40 || b == 41 || b == 44 || b == 59 || b == 61 || b == 60 || b == 62 || b == 43 || b == 45 || b == 42 || b == 46
+    b == 40 || b == 41 || b == 44 || b == 59 || b == 61 || b == 60
+    || b == 62 || b == 43 || b == 45 || b == 42 || b == 46
 
 -- one of <> <= >= !=
 abbrev pub is_pair : ℕ → ℕ → Bool

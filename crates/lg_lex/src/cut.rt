@@ -53,8 +53,8 @@ fn cut(alloc: Global, text: &str) -> Result<Items<Token>, LexErr>
     Ok(found)
 }
 
-/// The tokens of a text, each the longest that begins at its place, with blanks (spaces and tabs) and a comment at the
-/// end left out. It takes time linear in the text.
+/// The tokens of a text, each the longest that begins at its place, with blanks (spaces and tabs) and a
+/// comment at the end left out. It takes time linear in the text.
 pub fn tokens(alloc: Global, text: &str) -> Result<Items<Token>, LexErr>
     ensures found { IfOk result (λ found. tokens_of text.now ≡ Ok found) }
     ensures bad { (at : ℕ) → result ≡ Err (LexErr.Bad at) → tokens_of text.now ≡ Err at }

@@ -91,8 +91,8 @@ fn bytes(z: &[u8]) -> Option<usize>
     }
 }
 
-// The place behind the last quote that can close the text whose inside begins at `first`. A doubled quote may have no
-// closing one behind it, and then its first half closes the text.
+// The place behind the last quote that can close the text whose inside begins at `first`. A doubled quote may
+// have no closing one behind it, and then its first half closes the text.
 fn closing(mut z: &[u8], first: usize) -> Option<usize>
     requires start { first ≤ 2 }
     requires room { length z.now < 2 ^ 63 }

@@ -5,8 +5,8 @@ ghost use Rattle.lg_lex.specs.declared.token.Kind.{Kind};
 ghost use Rattle.lg_lex.specs.IsToken.{kind_of};
 ghost use Rattle.lg_lex.specs.Longest.{longest};
 
-/// The longest token that some bytes begin with is a token of its kind. Neither do they begin with a longer one of any
-/// kind, nor with one at all where there is no longest one.
+/// The longest token that some bytes begin with is a token of its kind. Neither do they begin with a longer
+/// one of any kind, nor with one at all where there is no longest one.
 pub fn longest_law()
     ensures found { (z : List ℕ) (k : Kind) (n : ℕ) → longest z ≡ Some (k, n)
         → (1 ≤ n) × (n ≤ length z) × (kind_of (take n z) ≡ Some k) }

@@ -44,7 +44,8 @@ abbrev pub Covers : List Hold → Item → List ℕ → Type 0
 Covers holds item places =
     (place : ℕ) → place < length holds → same_item item (item_at holds place) ≡ true → Has places place
 
--- what a lock list keeps beside the holds: their places by item, room to note where holds move, and who holds something
+-- what a lock list keeps beside the holds: their places by item, room to note where holds move, and who holds
+-- something
 pub record Bookkeeping (holds : List Hold) (places moved who : List ℕ) : Type 0 where
   pub indexed : Indexed holds places
   pub room : length holds ≤ length moved

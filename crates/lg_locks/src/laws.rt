@@ -13,7 +13,8 @@ pub fn back_undoes_an_ask()
         → take (length holds) (holds_after holds tx wants) ≡ holds }
 {}
 
-/// The holder that is named bars the want, and no holder that does precedes it; none is named exactly where none bars it.
+/// The holder that is named bars the want, and no holder that does precedes it; none is named exactly where
+/// none bars it.
 pub fn least_holder_is_named()
     ensures named { (holds : List Hold) (tx : ℕ) (want : Want) (a : Holder) → barrier holds tx want ≡ Some a
         → Any (λ h. (bars tx want h ≡ true) × (holder_of h ≡ a)) holds }

@@ -53,13 +53,14 @@ impl LockList {
         }
     }
 
-    /// IsMeant the transaction all that it wants, or nothing: what it doesn't hold yet comes behind what is held. The
-    /// answer is whether it held nothing before. `Locked` where another transaction holds something that conflicts;
-    /// the first such want decides, and the holder is the least transaction, with the least of its modes that conflict.
-    /// After an error nothing has changed.
+    /// Grants the transaction all that it wants, or nothing: what it doesn't hold yet comes behind what is
+    /// held. The answer is whether it held nothing before. `Locked` where another transaction holds something
+    /// that conflicts; the first such want decides, and the holder is the least transaction, with the least
+    /// of its modes that conflict. After an error nothing has changed.
     ///
-    /// For each want this looks at the locks on its item alone, which it finds by halving, and at the transactions that
-    /// hold something. A lock that is new moves the places, a word each, of those on items behind its own.
+    /// For each want this looks at the locks on its item alone, which it finds by halving, and at the
+    /// transactions that hold something. A lock that is new moves the places, a word each, of those on items
+    /// behind its own.
     pub fn ask(&mut self, tx: TxId, wants: &[Want]) -> Result<bool, LockErr>
         ensures answer { IsMeant (asked self.old tx wants.now) result }
         ensures ok { OnOk result (self.new ≡ holds_after self.old tx wants.now) }
@@ -82,9 +83,9 @@ impl LockList {
         self.holds.len() as u64
     }
 
-    /// Keeps the first so many locks. Where their number before an `ask` is given, and nothing else has changed since,
-    /// the list is again as it was then. Takes no memory, and looks at the locks that stay once for each transaction that
-    /// holds something.
+    /// Keeps the first so many locks. Where their number before an `ask` is given, and nothing else has
+    /// changed since, the list is again as it was then. Takes no memory, and looks at the locks that stay
+    /// once for each transaction that holds something.
     pub fn back(&mut self, holds: u64)
         requires { holds ≤ length self.old }
         ensures { self.new ≡ take holds self.old }
@@ -96,8 +97,8 @@ impl LockList {
         self.holders.retain(|holder| holds_any(holds, *holder));
     }
 
-    /// Drops the locks of the transaction; those of others stay as they are. Takes no memory, and looks at each lock
-    /// once.
+    /// Drops the locks of the transaction; those of others stay as they are. Takes no memory, and looks at
+    /// each lock once.
     #[tactic(auto, unfolding(lg_model::specs::Holds::released))]
     pub fn release(&mut self, tx: TxId)
         ensures { self.new ≡ released self.old tx }

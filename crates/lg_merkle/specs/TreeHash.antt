@@ -1,4 +1,5 @@
--- The Merkle tree hash of RFC 6962, section 2.1, over any hash h. `tree_hash_law` has the section's own equations.
+-- The Merkle tree hash of RFC 6962, section 2.1, over any hash h. `tree_hash_law` has the section's own
+-- equations.
 use Rattle.std.specs.Prelude.{ℕ, zero, suc, ◌*◌, List, [], ◌∷◌, ◌++◌, length, take, drop, nat_lt, if◌then◌else◌}
 
 -- the largest power of two smaller than n, for n above 1

@@ -9,7 +9,8 @@ use crate::Hash32;
 use crate::node::{Node, leaf_hash, node_hash};
 use arrayvec::ArrayVec;
 
-/// A tree over the leaves that were pushed. It has room for 64 nodes, takes no memory, and does not keep the leaves.
+/// A tree over the leaves that were pushed. It has room for 64 nodes, takes no memory, and does not keep the
+/// leaves.
 #[derive(Drop)]
 pub struct Frontier<H: Hash32> {
     nodes: ArrayVec<Node, 64>,
@@ -100,8 +101,8 @@ impl<H: Hash32> Frontier<H> {
         self.count
     }
 
-    /// Adds a leaf behind the others. Besides the hash of the leaf it costs one hash of a node a call on average, and
-    /// one for each node at most.
+    /// Adds a leaf behind the others. Besides the hash of the leaf it costs one hash of a node a call on
+    /// average, and one for each node at most.
     pub fn push_leaf(&mut self, bytes: &[u8])
         requires { HasRoom H.digest self.old }
         ensures { (h : H) (leaves : List (List ℕ)) → Holds H.digest h self.old leaves
@@ -112,8 +113,8 @@ impl<H: Hash32> Frontier<H> {
         self.count += 1;
     }
 
-    /// The Merkle tree hash of the leaves (RFC 6962, section 2.1). It costs one hash for each node but one, so at most
-    /// one for each binary digit of `count`.
+    /// The Merkle tree hash of the leaves (RFC 6962, section 2.1). It costs one hash for each node but one,
+    /// so at most one for each binary digit of `count`.
     pub fn root(&self) -> [u8; 32]
         ensures { (h : H) (leaves : List (List ℕ)) → Holds H.digest h self.now leaves
             → result ≡ tree_hash (H.digest h) leaves }
@@ -134,8 +135,8 @@ impl<H: Hash32> Frontier<H> {
         }
     }
 
-    /// Takes the tree back to the leaves that it had at the mark, or on to them. The mark may be of another tree with
-    /// the same hash; of one with another hash nothing is said. It copies at most 64 nodes.
+    /// Takes the tree back to the leaves that it had at the mark, or on to them. The mark may be of another
+    /// tree with the same hash; of one with another hash nothing is said. It copies at most 64 nodes.
     pub fn restore(&mut self, mark: &FrontierMark)
         ensures { (h : H) (leaves before : List (List ℕ)) → Holds H.digest h self.old leaves
             → Marks (H.digest h) mark.now before → Holds H.digest h self.new before }

@@ -6,13 +6,14 @@ ghost use Rattle.sha2.proofs.Facts256.{length-sha256};
 
 use sha2::{Digest, Sha256};
 
-/// A hash function. Nothing but the length of its hashes is known of it, so whatever is proved over this trait
-/// holds for a weak hash too.
+/// A hash function. Nothing but the length of its hashes is known of it, so whatever is proved over this
+/// trait holds for a weak hash too.
 pub trait Hash32: Copy + Send + Sync {
     /// The hash of some bytes.
     ghost digest: { Self → List ℕ → List ℕ };
 
-    /// The hash of two pieces that are taken as one. It costs one hash of their joint length, and copies neither.
+    /// The hash of two pieces that are taken as one. It costs one hash of their joint length, and copies
+    /// neither.
     fn hash(&self, head: &[u8], rest: &[u8]) -> [u8; 32]
         ensures { result ≡ digest self.now (head.now ++ rest.now) };
 

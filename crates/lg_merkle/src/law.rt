@@ -6,9 +6,9 @@ ghost use Rattle.lg_merkle.specs.TreeHash.{tree_hash};
 use crate::Hash32;
 use crate::node::leaf_hash;
 
-/// RFC 6962, section 2.1, for any hash `h`: of no leaves it is the hash of no bytes; of one leaf that of a zero byte
-/// and the leaf; of more that of a one byte and the tree hashes of the first `k` leaves and of the rest, where `k` is
-/// the power of two that is below their number and at least half of it.
+/// RFC 6962, section 2.1, for any hash `h`: of no leaves it is the hash of no bytes; of one leaf that of a
+/// zero byte and the leaf; of more that of a one byte and the tree hashes of the first `k` leaves and of the
+/// rest, where `k` is the power of two that is below their number and at least half of it.
 pub fn tree_hash_law()
     ensures none { (h : List ℕ → List ℕ) → tree_hash h [] ≡ h [] }
     ensures one { (h : List ℕ → List ℕ) (leaf : List ℕ) → tree_hash h (leaf ∷ []) ≡ h (0 ∷ leaf) }

@@ -1,4 +1,5 @@
--- What a statement does to the rows of a table: the list of its starts and ends, without the transaction or its numbers.
+-- What a statement does to the rows of a table: the list of its starts and ends, without the transaction or
+-- its numbers.
 use Rattle.std.specs.Prelude.{ℕ, ◌+◌, ◌||◌, Bool, if◌then◌else◌, List, [], ◌∷◌, ◌++◌, map, flat_map, length, Option, Some, None, Ok, Err}
 use Rattle.std.specs.List.{list_any, zip}
 use Rattle.std.specs.Str.{bytes_eq}

@@ -34,7 +34,8 @@ refused_if fails e rest = if fails then Err e else rest
 
 -- ---- classes
 
--- a column of the type takes values of the class: NULL each, a DECIMAL all numbers, the other number types those without
+-- a column of the type takes values of the class: NULL each, a DECIMAL all numbers, the other number types
+-- those without
 -- a point, and a DATE a text literal that is a date
 abbrev pub accepts_class : SqlType → Class → Bool → Bool
 accepts_class ty Null date = true
@@ -175,7 +176,8 @@ table_of (Insert table names rows) = table
 table_of (Update table sets cond) = table
 table_of (Delete table cond) = table
 
--- the definition of the table that a row statement changes, where nothing is refused before a row is looked at
+-- the definition of the table that a row statement changes, where nothing is refused before a row is looked
+-- at
 unfoldable pub row_statement_check : Defs → RowStmt → Checked TableDef
 row_statement_check defs stmt =
     and_then (or_refused E02 (find_part defs (table_of stmt)))

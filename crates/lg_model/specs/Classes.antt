@@ -145,6 +145,7 @@ names_columns columns (not a) = names_columns columns a
 names_columns columns (is_null a negated) = names_columns columns a
 names_columns columns (binary op a b) = names_columns columns a && names_columns columns b
 
--- the class of an expression over columns: E04 where it names one that isn't there, else E05 where its classes don't agree
+-- the class of an expression over columns: E04 where it names one that isn't there, else E05 where its
+-- classes don't agree
 unfoldable pub class_of : List ColumnDef → Expr → Checked Class
 class_of columns e = if names_columns columns (tree e) then class columns (tree e) else Err E04

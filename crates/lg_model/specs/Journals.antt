@@ -60,7 +60,8 @@ module _ (reads : Reading) where
 
   -- ---- legal journals
 
-  -- what the journal keeps of a transaction is what its script gives over the tables before it, and it left an event
+  -- what the journal keeps of a transaction is what its script gives over the tables before it, and it left
+  -- an event
   pub record AgreesWith (tables : Tables) (id : ℕ) (opened : Bool) (lines : List Line)
       (o : ScriptEnd) : Type 0 where
     pub replies : map (λ l. l.1) lines ≡ map reply_text o.replies
@@ -78,7 +79,8 @@ module _ (reads : Reading) where
   IsLegalFrom before tables (i ∷ is) =
       IsNext before tables i × IsLegalFrom (before ++ i ∷ []) (after_item tables i) is
 
-  -- a journal that could have been made: each reply is the one that its script gives over the tables so far, each
+  -- a journal that could have been made: each reply is the one that its script gives over the tables so far,
+  -- each
   -- transaction left an event, ids differ, and blocks are closed of what is pending
   abbrev pub IsLegal : List JournalItem → Type 0
   IsLegal items = IsLegalFrom [] first_tables items

@@ -7,7 +7,8 @@ use Rattle.lg_types.specs.JournalRules.{ItemRules}
 use Rattle.lg_model.specs.Journals.{IsLegal}
 use Rattle.lg_model.specs.Script.{Reading}
 
--- the database has a name, and each item keeps its rules; each kept reply is that of its script over the tables so far,
+-- the database has a name, and each item keeps its rules; each kept reply is that of its script over the
+-- tables so far,
 -- each transaction left an event, ids differ, and blocks are closed of what is pending
 pub record IsLegalJournal (reads : Reading) (j : Journal) : Type 0 where
   pub database : is_database_name j.database ≡ true

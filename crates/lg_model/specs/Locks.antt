@@ -62,7 +62,8 @@ whole mode = record { item = item.Whole; mode = mode }
 abbrev pub of_key : Mode → Key → Want
 of_key mode key = record { item = item.Key key; mode = mode }
 
--- in the catalog: CREATE wants X, the other table statements S. A CREATE in a transaction that BEGIN opened is refused
+-- in the catalog: CREATE wants X, the other table statements S. A CREATE in a transaction that BEGIN opened
+-- is refused
 -- before.
 abbrev pub catalog_want : Bool → Stmt → Option Mode
 catalog_want true (s.Create c) = None
@@ -73,7 +74,8 @@ catalog_want opened (s.Change stmt) = Some S
 catalog_want opened (s.Select q) = Some S
 catalog_want opened _ = None
 
--- in the table's cell, where WHERE fixes the key: an intent on the table and the key; and else the whole table
+-- in the table's cell, where WHERE fixes the key: an intent on the table and the key; and else the whole
+-- table
 abbrev pub by_key_or_whole : Mode → Mode → Option Key → List Want
 by_key_or_whole intent mode (Some key) = whole intent ∷ of_key mode key ∷ []
 by_key_or_whole intent mode None = whole mode ∷ []
@@ -139,7 +141,8 @@ abbrev pub catalog_clash : Option Mode → Option Mode → Bool
 catalog_clash (Some a) (Some b) = conflict a b
 catalog_clash _ _ = false
 
--- two statements clash: their wants in the catalog conflict, or those on one item of one table. Each may stand in a
+-- two statements clash: their wants in the catalog conflict, or those on one item of one table. Each may
+-- stand in a
 -- transaction that BEGIN opened.
 unfoldable pub clash : Defs → Bool → Stmt → Bool → Stmt → Bool
 clash defs a_opened a b_opened b =

@@ -8,7 +8,8 @@ use Rattle.lg_types.specs.declared.outcome.Outcome.{Outcome}
 use Rattle.lg_types.specs.declared.outcome.Outcome.TheVariants as out
 use Rattle.lg_model.specs.Evaluation.{Answer}
 
--- an outcome is of a class: a truth of Truth, NULL of each other, a number of that with its scale, other values of their own
+-- an outcome is of a class: a truth of Truth, NULL of each other, a number of that with its scale, other
+-- values of their own
 abbrev pub IsOf : Class → Outcome → Type 0
 IsOf Truth (out.Truth t) = ⊤
 IsOf Truth (out.Value x) = ⊥

@@ -1,4 +1,5 @@
--- What a statement does to the tables, apart from the transaction and the numbers of its events: its starts and ends in
+-- What a statement does to the tables, apart from the transaction and the numbers of its events: its starts
+-- and ends in
 -- order, the definition that it makes, and its reply.
 use Rattle.std.specs.Prelude.{ℕ, ◌+◌, List, [], ◌∷◌, ◌++◌, map, length, Ok, Err}
 use Rattle.lg_types.specs.declared.statement.Stmt.{Stmt}

@@ -119,7 +119,8 @@ what_shown columns shown (Columns names) rows = Ok (map (projected columns names
 what_shown columns shown (Aggs aggs) rows =
     and_then (checked_map (agg_value columns rows) aggs) (λ values. Ok (values ∷ []))
 
--- of the rows of a part those that the condition takes, sorted, and of each what is to be shown; `*` shows so many columns
+-- of the rows of a part those that the condition takes, sorted, and of each what is to be shown; `*` shows so
+-- many columns
 unfoldable pub selected : List ColumnDef → ℕ → Select → List Row → Checked (List Row)
 selected columns shown q rows =
     and_then (checked_filter (holds columns q.cond) rows) (λ taken.

@@ -27,7 +27,8 @@ pub record MadeBefore (tx seq : ℕ) (v : Version) : Type 0 where
   pub start : IsBefore tx seq v.start
   pub end : EndsBefore tx seq v.end
 
--- a table before the event of transaction tx with the number seq: it has no event of tx with that number or above
+-- a table before the event of transaction tx with the number seq: it has no event of tx with that number or
+-- above
 pub record SoundTable (tx seq : ℕ) (t : Table) : Type 0 where
   -- no two columns have one name
   pub names : repeats (names_of t.def.columns) ≡ false

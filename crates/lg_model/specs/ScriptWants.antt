@@ -32,7 +32,8 @@ module _ (reads : Reading) where
   abbrev pub script_wants : Defs → Bool → List (List ℕ) → List Wants
   script_wants defs opened texts = map (λ t. text_wants defs opened (reads t)) texts
 
-  -- the starts and ends that stand after the texts, by their numbers: going back drops those from the counter on
+  -- the starts and ends that stand after the texts, by their numbers: going back drops those from the counter
+  -- on
   unfoldable pub changes_from : Bool → ℕ → State → List TableChange → List (List ℕ) → List TableChange
   changes_from opened tx x changes [] = changes
   changes_from opened tx x changes (t ∷ ts) =

@@ -32,7 +32,8 @@ tables_columns =
     ∷ a_column (codes "history_name") name_type true 0
     ∷ a_column (codes "view_name") name_type false 0 ∷ []
 
--- a row for each column of a table and for each column of an index, its key is the table, the item and the change
+-- a row for each column of a table and for each column of an index, its key is the table, the item and the
+-- change
 abbrev pub columns_columns : List ColumnDef
 columns_columns =
     a_column (codes "table_id") Int false 1
@@ -108,7 +109,8 @@ column_row id c =
 unfoldable pub column_rows : TableDef → List Row
 column_rows def = map (column_row def.id) (numbered 1 def.columns)
 
--- the row of a part of an index: index g has the items 1000 * g + 1 and on, and the place of the key has the ordinal
+-- the row of a part of an index: index g has the items 1000 * g + 1 and on, and the place of the key has the
+-- ordinal
 abbrev pub index_row : ℕ → ℕ → List ℕ → ℕ × ℕ → Row
 index_row id g name part =
     number id ∷ number (1000 * g + part.0) ∷ number 0 ∷ Text name ∷ number 0 ∷ number 0

@@ -58,7 +58,8 @@ abbrev pub unchanged_value : Value → Converted → Option Value
 unchanged_value v (Ok w) = if is_unchanged v w then Some w else None
 unchanged_value v (Err e) = None
 
--- what the column is fixed to: a literal that isn't NULL and converts to the column's type without changing its value
+-- what the column is fixed to: a literal that isn't NULL and converts to the column's type without changing
+-- its value
 abbrev pub fixed_to : ColumnDef → Value → Option Value
 fixed_to c val.Null = None
 fixed_to c v = unchanged_value v (conversion_of v c.ty)

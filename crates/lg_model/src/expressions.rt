@@ -19,16 +19,17 @@ ghost use Rattle.lg_model.specs.Operators.{IsComparison};
 ghost use Rattle.lg_model.specs.Outcomes.{Answers};
 ghost use Rattle.lg_model.specs.Truths.{Truth3, both, either, opposite, rank};
 
-/// In a row that fits, an expression that has a class gives an outcome of this class or E08: a truth of class Truth, and
-/// else NULL or a value of the class, a number with the scale that the class names.
+/// In a row that fits, an expression that has a class gives an outcome of this class or E08: a truth of class
+/// Truth, and else NULL or a value of the class, a number with the scale that the class names.
 pub fn classes_foretell_outcomes()
     ensures { (columns : List ColumnDef) (row : List Value) (e : Expr) (c : Class) → class_of columns e ≡ Ok c
         → fits columns row ≡ true
         → Answers c (meaning_of columns row e) }
 {}
 
-/// An expression has no class exactly for one of two reasons: it names a column that isn't there, which is E04, or its
-/// classes don't agree, which is E05. One that has a class from the leaves up names only columns that are there.
+/// An expression has no class exactly for one of two reasons: it names a column that isn't there, which is
+/// E04, or its classes don't agree, which is E05. One that has a class from the leaves up names only
+/// columns that are there.
 pub fn missing_columns_come_first()
     ensures missing { (columns : List ColumnDef) (e : Expr) → (class_of columns e ≡ Err E04)
         ↔ (names_columns columns (tree e) ≡ false) }
@@ -50,8 +51,8 @@ pub fn comparison_with_null_is_unknown()
         → meaning columns row (binary o a b) ≡ Ok (out.Truth None) }
 {}
 
-/// Of two truths AND takes the less true one and OR the more true one, where false is less than unknown and unknown less
-/// than true; NOT turns this order round. These are Kleene's tables.
+/// Of two truths AND takes the less true one and OR the more true one, where false is less than unknown and
+/// unknown less than true; NOT turns this order round. These are Kleene's tables.
 pub fn truths_are_kleenes()
     ensures and { (s t : Truth3) → rank (both s t) ≡ min (rank s) (rank t) }
     ensures or { (s t : Truth3) → rank (either s t) ≡ max (rank s) (rank t) }

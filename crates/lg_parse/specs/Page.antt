@@ -1,4 +1,5 @@
--- How tokens are written: with one blank between two of them, but none behind '(' and none before ')' and ','.
+-- How tokens are written: with one blank between two of them, but none behind '(' and none before ')' and
+-- ','.
 use Rattle.std.specs.Prelude.{ℕ, Bool, true, false, if◌then◌else◌, List, [], ◌∷◌, ◌++◌}
 use Rattle.lg_parse.specs.declared.tag.Tag.{Tag}
 use Rattle.lg_parse.specs.declared.tag.Tag.TheVariants as t

@@ -91,7 +91,8 @@ IsHistory AppendOnly h = h ≡ None
 
 abbrev pub IsTable : CreateTable → Type 0
 IsTable c =
-    IsName c.name × OneOrMore IsColumn c.columns × OneOrMore IsName c.key × IsHistory c.kind c.history × Maybe IsName c.view
+    IsName c.name × OneOrMore IsColumn c.columns × OneOrMore IsName c.key
+    × IsHistory c.kind c.history × Maybe IsName c.view
 
 abbrev pub IsIndex : CreateIndex → Type 0
 IsIndex c = IsName c.name × IsName c.table × OneOrMore IsName c.columns

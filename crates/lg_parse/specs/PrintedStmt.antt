@@ -70,7 +70,8 @@ more_view None = []
 -- SYSTEM_VERSIONING and then LEDGER
 abbrev pub updatable : Option (List ℕ) → Option (List ℕ) → List Sym
 updatable h v =
-    word (codes "SYSTEM_VERSIONING") ∷ on ++ history h ++ key t.Comma ∷ word (codes "LEDGER") ∷ on ++ own_view v
+    word (codes "SYSTEM_VERSIONING") ∷ on ++ history h
+    ++ key t.Comma ∷ word (codes "LEDGER") ∷ on ++ own_view v
 
 unfoldable pub choices : Option (List ℕ) → List Sym
 choices v = word (codes "APPEND_ONLY") ∷ on ++ more_view v

@@ -33,7 +33,8 @@ aggs = list agg
 -- '*' | name {',' name} | agg {',' agg}. No name of a column has a '(' behind it.
 unfoldable pub what : Parser What
 what = λ i.
-    if calls i then (Aggs <$> aggs) i else (do star ← eat t.Star; if star then pure All else Columns <$> names) i
+    if calls i then (Aggs <$> aggs) i
+    else (do star ← eat t.Star; if star then pure All else Columns <$> names) i
 
 -- [ASC | DESC], true for DESC
 unfoldable pub falls : Parser Bool

@@ -138,7 +138,12 @@ nullable_of None in_key = not in_key
 
 abbrev pub column_def : List (List ℕ) → Column → ColumnDef
 column_def key c =
-    record { name = c.name; ty = c.ty; nullable = nullable_of c.nullable (is_in key c.name); key_position = 0 }
+    record {
+      name = c.name;
+      ty = c.ty;
+      nullable = nullable_of c.nullable (is_in key c.name);
+      key_position = 0;
+    }
 
 -- a table has a column and a primary key
 abbrev pub table_of : List ℕ → List Column → Option (List (List ℕ)) → Ledger → Option CreateTable
@@ -146,7 +151,14 @@ table_of n [] key l = None
 table_of n (c ∷ cs) None l = None
 table_of n (c ∷ cs) (Some key) l =
     let columns = map (column_def key) (c ∷ cs) in
-    Some (record { name = n; columns = columns; key = key; kind = l.kind; history = l.history; view = l.view })
+    Some (record {
+      name = n;
+      columns = columns;
+      key = key;
+      kind = l.kind;
+      history = l.history;
+      view = l.view;
+    })
 
 -- name '(' item {',' item} ')' [WITH '(' ledger ')']
 unfoldable pub create_table : Parser CreateTable

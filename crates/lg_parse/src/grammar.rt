@@ -8,8 +8,8 @@ ghost use Rattle.lg_parse.specs.Text.{statement_of};
 
 use crate::law::printing_is_read_back;
 
-/// The parser reads the statements of the grammar and nothing else. A text is one statement at most, and what is printed
-/// of a statement is that statement.
+/// The parser reads the statements of the grammar and nothing else. A text is one statement at most, and
+/// what is printed of a statement is that statement.
 pub fn parsing_keeps_to_the_grammar()
     ensures sound { (text : List ℕ) (s : Stmt) → statement_of text ≡ Some s → IsStatement text s }
     ensures complete { (text : List ℕ) (s : Stmt) → IsStatement text s → statement_of text ≡ Some s }

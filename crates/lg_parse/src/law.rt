@@ -8,10 +8,11 @@ ghost use Rattle.lg_parse.specs.Text.{statement_of};
 
 use lg_value::{expressions_are_trees, literals_are_read_back};
 
-/// What is printed of a statement that parsing can give is parsed as that statement. Parsing gives statements that keep to
-/// `IsParsed` alone, and of each of these the same holds.
+/// What is printed of a statement that parsing can give is parsed as that statement. Parsing gives statements
+/// that keep to `IsParsed` alone, and of each of these the same holds.
 pub fn printing_is_read_back()
-    ensures again { (text : List ℕ) (s : Stmt) → statement_of text ≡ Some s → statement_of (printed s) ≡ Some s }
+    ensures again { (text : List ℕ) (s : Stmt) → statement_of text ≡ Some s
+        → statement_of (printed s) ≡ Some s }
     ensures parsed { (text : List ℕ) (s : Stmt) → statement_of text ≡ Some s → IsParsed s }
     ensures read { (s : Stmt) → IsParsed s → statement_of (printed s) ≡ Some s }
 {

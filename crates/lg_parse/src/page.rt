@@ -12,7 +12,8 @@ use lg_value::{Value, print_literal};
 use std::alloc::Global;
 use std::marker::Model;
 
-/// A text that tokens are written to: with one blank between two of them, but none behind `(` and none before `)` and `,`.
+/// A text that tokens are written to: with one blank between two of them, but none behind `(` and none before
+/// `)` and `,`.
 #[derive(Drop)]
 pub struct Page {
     text: Vec<u8>,

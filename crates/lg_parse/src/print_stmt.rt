@@ -103,7 +103,8 @@ fn put_append_only(page: &mut Page, table: &CreateTable) -> Result<(), Memory>
 /// What a table says of the ledger.
 #[tactic(auto, unfolding(crate::specs::PrintedStmt::ledger))]
 fn put_ledger(page: &mut Page, table: &CreateTable) -> Result<(), Memory>
-    ensures { OnOk result (page.new ≡ write page.old (spec.ledger table.now.kind table.now.history table.now.view)) }
+    ensures { OnOk result (page.new
+        ≡ write page.old (spec.ledger table.now.kind table.now.history table.now.view)) }
 {
     match table.kind {
         TableKind::Updatable => put_updatable(page, table),
@@ -285,9 +286,10 @@ fn put_stmt(page: &mut Page, s: &Stmt) -> Result<(), Memory>
     }
 }
 
-/// The text of a statement: names in brackets, other words in capitals, one blank between two tokens but none behind `(`
-/// and none before `)` and `,`, and parentheses round each operator's whole expression. What may be left out is written,
-/// save NONCLUSTERED and CLUSTERED. It takes time linear in the text. Its calls nest no deeper than the expressions.
+/// The text of a statement: names in brackets, other words in capitals, one blank between two tokens but none
+/// behind `(` and none before `)` and `,`, and parentheses round each operator's whole expression. What may
+/// be left out is written, save NONCLUSTERED and CLUSTERED. It takes time linear in the text. Its calls nest
+/// no deeper than the expressions.
 #[tactic(auto, unfolding(crate::specs::PrintedStmt::printed, crate::specs::Page::spelled))]
 pub fn print(alloc: Global, s: &Stmt) -> Result<Vec<u8>, Memory>
     ensures { IfOk result (λ text. text.items ≡ printed s.now) }

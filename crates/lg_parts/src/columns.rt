@@ -47,8 +47,8 @@ pub fn column_of<'a>(columns: &'a [ColumnDef], name: &Name) -> Option<&'a Column
     columns.get(place_of(columns, name)?)
 }
 
-/// The columns of a part of a table, which contracts see as their list: the declared ones, and then those that the part
-/// adds. Nothing is copied.
+/// The columns of a part of a table, which contracts see as their list: the declared ones, and then those
+/// that the part adds. Nothing is copied.
 #[derive(Debug, Drop)]
 pub struct Columns<'a> {
     declared: &'a [ColumnDef],

@@ -89,9 +89,9 @@ fn fixed_value(column: &ColumnDef, e: &Expr) -> Result<Option<Value>, Memory>
     }
 }
 
-/// The key that a condition fixes, where it fixes each column of the key: by `column = literal` or `literal = column`
-/// among the parts that AND joins at the top, where the literal isn't NULL and conversion to the column's type doesn't
-/// change it. Looks through the condition once for each column of the key.
+/// The key that a condition fixes, where it fixes each column of the key: by `column = literal` or
+/// `literal = column` among the parts that AND joins at the top, where the literal isn't NULL and conversion
+/// to the column's type doesn't change it. Looks through the condition once for each column of the key.
 #[tactic(auto, using(crate::proofs::Fixed::key_fixed_some, crate::proofs::Fixed::key_fixed_none))]
 pub fn key_fixed(alloc: Global, table: &Keyed, cond: &Option<Expr>) -> Result<Option<Key>, Memory>
     ensures { IfOk result (λ key. key ≡ spec.key_fixed table.now.columns cond.now) }

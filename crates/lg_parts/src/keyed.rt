@@ -7,7 +7,8 @@ use lg_types::TableDef;
 use lg_value::ColumnDef;
 use std::marker::Model;
 
-/// The definition of a table, as contracts see it, with the places of the columns of its key, which are worked out once.
+/// The definition of a table, as contracts see it, with the places of the columns of its key, which are
+/// worked out once.
 #[derive(Debug, Drop)]
 pub struct Keyed<'a> {
     def: &'a TableDef,

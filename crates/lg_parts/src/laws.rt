@@ -6,8 +6,8 @@ ghost use Rattle.std.specs.Cmp.{IsTotalOrder};
 ghost use Rattle.std.specs.declared.cmp.Ordering.{Ordering};
 ghost use Rattle.lg_model.specs.Lists.{sorted};
 
-/// Sorted by a total order, a list rises, elements that are equal keep their order, and they are the same elements. It is
-/// the one list that rises and keeps this order.
+/// Sorted by a total order, a list rises, elements that are equal keep their order, and they are the same
+/// elements. It is the one list that rises and keeps this order.
 pub fn sorted_lists_rise_stably<T>()
     ensures rises { (cmp : T → T → Ordering) (xs : List T) → IsTotalOrder cmp → IsSorted cmp (sorted cmp xs) }
     ensures stable { (cmp : T → T → Ordering) (xs : List T) → IsTotalOrder cmp

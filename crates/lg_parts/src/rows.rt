@@ -16,9 +16,9 @@ use lg_types::{EventId, Key, Part, Row, Version};
 use lg_value::Value;
 use std::alloc::Global;
 
-/// The rows of a part of a table, in its order: the versions that stand by key, those that ended by their start, and for
-/// the view one row for each start and each end by its event. Where a base table's key is fixed, the one row with that
-/// key. Each version is copied at most twice, and the rows are sorted once.
+/// The rows of a part of a table, in its order: the versions that stand by key, those that ended by their
+/// start, and for the view one row for each start and each end by its event. Where a base table's key is
+/// fixed, the one row with that key. Each version is copied at most twice, and the rows are sorted once.
 #[tactic(auto, unfolding(lg_model::specs::Parts::rows_of))]
 pub fn part_rows(
     alloc: Global,

@@ -11,12 +11,13 @@ use lg_types::{Row, Select};
 use lg_value::Refusal;
 use std::alloc::Global;
 
-/// What a SELECT shows of the rows of a part with these columns, of which `*` shows the first so many: the rows that the
-/// condition takes, sorted by ORDER BY, and of each the columns that are to be shown, or of all their count and sums.
-/// E08 comes exactly where the condition leaves the numbers' range in a row, or else where a sum does after one of the
-/// rows; E05 where classes don't agree, so never after `check_select` over rows that fit; E30 for want of memory alone.
-/// Takes one evaluation of the condition for each row, comparisons as the stable sort of `std`, and a pass over what is
-/// left; only values that named columns show are copied.
+/// What a SELECT shows of the rows of a part with these columns, of which `*` shows the first so many: the
+/// rows that the condition takes, sorted by ORDER BY, and of each the columns that are to be shown, or of all
+/// their count and sums. E08 comes exactly where the condition leaves the numbers' range in a row, or else
+/// where a sum does after one of the rows; E05 where classes don't agree, so never after `check_select` over
+/// rows that fit; E30 for want of memory alone. Takes one evaluation of the condition for each row,
+/// comparisons as the stable sort of `std`, and a pass over what is left; only values that named columns show
+/// are copied.
 #[tactic(auto, unfolding(lg_model::specs::Query::selected))]
 pub fn select(
     alloc: Global,

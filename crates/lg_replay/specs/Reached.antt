@@ -38,7 +38,8 @@ abbrev pub HaveLeaves : ℕ → Tables → Type 0
 HaveLeaves tx tables = AllByRecursion (λ t. AllByRecursion FitsLeaf (events_of tx t)) tables
 
 -- these items are legal, and the machine and the books are where they lead
-pub record Reached (h : List ℕ → List ℕ) (items : List JournalItem) (m : Machine) (b : HashedLedger) : Type 0 where
+pub record Reached (h : List ℕ → List ℕ) (items : List JournalItem) (m : Machine)
+    (b : HashedLedger) : Type 0 where
   pub legal : IsLegal statement_of items
   pub machine : m ≡ at_rest (serial statement_of items)
   pub order : InOrder m

@@ -69,7 +69,8 @@ fn add_root<H: Hash32>(
 ) -> Result<(), Memory>
     requires short { AreShort (table.now ∷ []) }
     requires leaves { HaveLeaves id (table.now ∷ []) }
-    ensures { OnOk result (roots.new.items ≡ roots.old.items ++ spec.roots_of (H.digest h) id (table.now ∷ [])) }
+    ensures { OnOk result (roots.new.items
+        ≡ roots.old.items ++ spec.roots_of (H.digest h) id (table.now ∷ [])) }
 {
     let events = events_of(alloc, id, table)?;
     if has_none(&events) {

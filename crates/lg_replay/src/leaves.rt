@@ -43,7 +43,8 @@ fn has_room(event: &Event)
     are_texts(event.columns.as_slice());
 }
 
-/// The numbers of events have room in a leaf, and their texts are UTF-8. Does nothing: it is there for its contract.
+/// The numbers of events have room in a leaf, and their texts are UTF-8. Does nothing: it is there for its
+/// contract.
 pub(crate) fn have_room(events: &[Event])
     ensures { AllByRecursion HasRoom events.now }
 {

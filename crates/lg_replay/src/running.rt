@@ -23,8 +23,9 @@ use std::alloc::Global;
 /// Why a journal has no image.
 #[derive(Clone, Copy, Debug, PartialEq, Eq)]
 pub enum ReplayErr {
-    /// This statement of this item, both counted from 0, is the first whose kept reply isn't the one that the plain
-    /// machine gives; or it is the number of the item's statements, where all replies agree and no event is left.
+    /// This statement of this item, both counted from 0, is the first whose kept reply isn't the one that the
+    /// plain machine gives; or it is the number of the item's statements, where all replies agree and no
+    /// event is left.
     Differs { item: u64, statement: u64 },
     /// There is no more memory.
     Memory,
@@ -41,9 +42,10 @@ impl From<Memory> for ReplayErr {
     }
 }
 
-/// Runs a journal again on the plain machine. Where it is legal the answer is its image: the one of the tables to which
-/// its transactions lead, with their entries and the blocks that it closed, and the image has a spelling. It costs what the machine costs, the hashes
-/// of each event, entry and block, and for each transaction a look at each version of each table.
+/// Runs a journal again on the plain machine. Where it is legal the answer is its image: the one of the
+/// tables to which its transactions lead, with their entries and the blocks that it closed, and the image has
+/// a spelling. It costs what the machine costs, the hashes of each event, entry and block, and for each
+/// transaction a look at each version of each table.
 pub fn replay<H: Hash32>(alloc: Global, h: H, journal: &Journal) -> Result<Image, ReplayErr>
     requires { IsJournal journal.now }
     ensures legal { OnOk result (IsLegalJournal statement_of journal.now) }

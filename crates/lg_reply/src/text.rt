@@ -14,7 +14,8 @@ use std::alloc::Global;
 
 /// `E` and two digits.
 fn code_line(alloc: Global, indent: &str, refusal: Refusal) -> Result<String, Memory>
-    ensures { IfOk result (λ text. string_bytes text ≡ indent.now ++ spec.code_line (code_of refusal) ++ 10 ∷ []) }
+    ensures { IfOk result (λ text.
+        string_bytes text ≡ indent.now ++ spec.code_line (code_of refusal) ++ 10 ∷ []) }
 {
     let code = refusal.code();
     Ok(format!(in alloc; "{indent}E{}{}\n", code / 10, code % 10)?)
@@ -32,7 +33,9 @@ fn refusal_line(alloc: Global, indent: &str, refusal: Refusal) -> Result<String,
 
 /// The number of a block, and `0x` with the upper-case digits of its hash.
 fn digest_line(alloc: Global, indent: &str, block: u64, hash: [u8; 32]) -> Result<String, Memory>
-    ensures { IfOk result (λ text. string_bytes text ≡ indent.now ++ (codes "digest " ++ decimal block ++ codes " 0x" ++ encode_upper hash) ++ 10 ∷ []) }
+    ensures { IfOk result (λ text.
+        string_bytes text
+        ≡ indent.now ++ (codes "digest " ++ decimal block ++ codes " 0x" ++ encode_upper hash) ++ 10 ∷ []) }
 {
     let digits = hex::encode_upper(alloc, hash)?;
     Ok(format!(in alloc; "{indent}digest {block} 0x{digits}\n")?)
@@ -41,7 +44,8 @@ fn digest_line(alloc: Global, indent: &str, block: u64, hash: [u8; 32]) -> Resul
 /// The lines of a reply, each behind an indent and ended by LF.
 #[tactic(auto, unfolding(lg_model::specs::Replies::reply_lines))]
 fn lines(alloc: Global, indent: &str, reply: &Reply) -> Result<String, Memory>
-    ensures { IfOk result (λ text. string_bytes text ≡ flat_map (λ line. indent.now ++ line ++ 10 ∷ []) (spec.reply_lines reply.now)) }
+    ensures { IfOk result (λ text.
+        string_bytes text ≡ flat_map (λ line. indent.now ++ line ++ 10 ∷ []) (spec.reply_lines reply.now)) }
 {
     match reply {
         Reply::Begun(id) => Ok(format!(in alloc; "{indent}begun {id}\n")?),
@@ -57,9 +61,9 @@ fn lines(alloc: Global, indent: &str, reply: &Reply) -> Result<String, Memory>
     }
 }
 
-/// The text of a reply: its lines, each ended by LF. The values of a row are joined by vertical bars, and the count of the
-/// rows stands behind them; a refusal is E with two digits, and E20 names the transaction that holds the lock. Takes time
-/// in proportion to the text, but for a copy while it grows.
+/// The text of a reply: its lines, each ended by LF. The values of a row are joined by vertical bars, and the
+/// count of the rows stands behind them; a refusal is E with two digits, and E20 names the transaction that
+/// holds the lock. Takes time in proportion to the text, but for a copy while it grows.
 #[tactic(auto, unfolding(lg_model::specs::Replies::reply_text))]
 pub fn reply_text(alloc: Global, reply: &Reply) -> Result<Text, Memory>
     ensures { IfOk result (λ text. text ≡ spec.reply_text reply.now) }
@@ -69,7 +73,8 @@ pub fn reply_text(alloc: Global, reply: &Reply) -> Result<Text, Memory>
 
 /// The lines of a reply, each behind two blanks, as a transcript has them. Costs what `reply_text` does.
 pub fn indented_reply(alloc: Global, reply: &Reply) -> Result<String, Memory>
-    ensures { IfOk result (λ text. string_bytes text ≡ flat_map (λ line. codes "  " ++ line ++ 10 ∷ []) (spec.reply_lines reply.now)) }
+    ensures { IfOk result (λ text.
+        string_bytes text ≡ flat_map (λ line. codes "  " ++ line ++ 10 ∷ []) (spec.reply_lines reply.now)) }
 {
     lines(alloc, "  ", reply)
 }

@@ -52,7 +52,14 @@ has_value f = is_told f.value
 
 -- the event without its NULL columns
 abbrev pub without_nulls : Event → Event
-without_nulls e = record { table = e.table; op = e.op; tx = e.tx; seq = e.seq; start = e.start; columns = filter has_value e.columns }
+without_nulls e = record {
+  table = e.table;
+  op = e.op;
+  tx = e.tx;
+  seq = e.seq;
+  start = e.start;
+  columns = filter has_value e.columns;
+}
 
 -- the transaction and the number of the start of the version that an end ends
 abbrev pub start_bytes : Option (ℕ × ℕ) → List ℕ

@@ -28,7 +28,8 @@ coded code first second =
 
 -- the type has this code and these parameters
 abbrev pub is_coded : SqlType → ℕ → ℕ → ℕ → Bool
-is_coded ty code first second = type_code ty == code && (first_parameter ty == first && second_parameter ty == second)
+is_coded ty code first second =
+    type_code ty == code && (first_parameter ty == first && second_parameter ty == second)
 
 -- the type that a code and two parameters stand for, if there is one
 abbrev pub type_of : (ℕ × ℕ) × ℕ → Option SqlType
@@ -90,10 +91,13 @@ some_start start = Some start
 
 -- for an end the start of the version
 unfoldable pub start_at : ℕ → Reader (Option (ℕ × ℕ))
-start_at op bytes = if op == 1 then Some (None, bytes) else (if op == 2 then mapped some_start (both u64_at u64_at) bytes else None)
+start_at op bytes =
+    if op == 1 then Some (None, bytes)
+    else (if op == 2 then mapped some_start (both u64_at u64_at) bytes else None)
 
 abbrev pub event_of : Head × (Option (ℕ × ℕ) × List FieldOf) → Event
-event_of x = record { table = x.0.0; op = x.0.1.0; tx = x.0.1.1.0; seq = x.0.1.1.1; start = x.1.0; columns = x.1.1 }
+event_of x =
+    record { table = x.0.0; op = x.0.1.0; tx = x.0.1.1.0; seq = x.0.1.1.1; start = x.1.0; columns = x.1.1 }
 
 unfoldable pub event_at : Reader Event
 event_at = mapped event_of (depends head_at (λ head. both (start_at head.1.0) columns_at))

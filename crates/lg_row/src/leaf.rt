@@ -10,8 +10,9 @@ use lg_items::Memory;
 use lg_types::{Event, FieldOf};
 use lg_value::{SqlType, Value, type_parts};
 
-/// Appends the leaf of an event, which leaves its NULL columns out. The event is to have one: its values are those of
-/// their types, and their ordinals rise. The only error is want of memory, and then the bytes are as they were.
+/// Appends the leaf of an event, which leaves its NULL columns out. The event is to have one: its values are
+/// those of their types, and their ordinals rise. The only error is want of memory, and then the bytes are as
+/// they were.
 #[tactic(auto, unfolding(crate::specs::Leaf::event_bytes))]
 pub fn write_event(e: &Event, out: &mut Vec<u8>) -> Result<(), Memory>
     requires { HasLeaf e.now }
@@ -97,7 +98,8 @@ fn is_told(value: &Value) -> bool
 
 fn put_each(columns: &[FieldOf], out: &mut Vec<u8>) -> Result<(), Memory>
     requires { All IsFieldOrNull columns.now }
-    ensures ok { OnOk result (out.new.items ≡ out.old.items ++ flat_map column_bytes (filter has_value columns.now)) }
+    ensures ok { OnOk result (out.new.items
+        ≡ out.old.items ++ flat_map column_bytes (filter has_value columns.now)) }
     ensures grows { take (length out.old.items) out.new.items ≡ out.old.items }
 {
     for column in columns {

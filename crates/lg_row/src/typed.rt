@@ -23,7 +23,8 @@ pub fn put_typed(typed: &Typed, out: &mut Vec<u8>) -> Result<(), Memory>
     put_value(typed.ty, &typed.value, out)
 }
 
-/// The value with its type at the front of the bytes, and what follows it; or `Malformed` exactly where none is there.
+/// The value with its type at the front of the bytes, and what follows it; or `Malformed` exactly where none
+/// is there.
 #[tactic(auto, unfolding(crate::specs::TypedBytes::typed_at))]
 pub fn typed_at(alloc: Global, bytes: &[u8]) -> Result<(Typed, &[u8]), ReadError>
     ensures { ReadsAs (λ x. (x.0, x.1.now)) result (typed_at bytes.now) }

@@ -248,7 +248,10 @@ wide id d n =
 abbrev pub wide_tables : Tables
 wide_tables =
     first_tables
-    ++ record { def = wide_def; versions = wide 1 (pos 1) 0 ∷ wide 2 (pos nines) 1 ∷ wide 3 (negsuc 6) 2 ∷ [] } ∷ []
+    ++ record {
+      def = wide_def;
+      versions = wide 1 (pos 1) 0 ∷ wide 2 (pos nines) 1 ∷ wide 3 (negsuc 6) 2 ∷ [];
+    } ∷ []
 
 abbrev pub doubled_is_positive : Expr
 doubled_is_positive = Bin op.Gt (Bin op.Add (Col (codes "d")) (Col (codes "d"))) (Lit (num 0))
@@ -268,14 +271,18 @@ pair_def = record {
   history = codes "h";
   view = codes "p_Ledger";
   columns =
-      record { name = codes "a"; ty = Int; nullable = false; key_position = 2 } ∷ record { name = codes "b"; ty = Int; nullable = false; key_position = 1 } ∷ [];
+      record { name = codes "a"; ty = Int; nullable = false; key_position = 2 }
+      ∷ record { name = codes "b"; ty = Int; nullable = false; key_position = 1 } ∷ [];
   indexes = [];
 }
 
 abbrev pub pairs : Tables
 pairs =
     first_tables
-    ++ record { def = pair_def; versions = version 1 9 (2, 0) None ∷ version 2 3 (2, 1) None ∷ version 1 3 (2, 2) None ∷ [] } ∷ []
+    ++ record {
+      def = pair_def;
+      versions = version 1 9 (2, 0) None ∷ version 2 3 (2, 1) None ∷ version 1 3 (2, 2) None ∷ [];
+    } ∷ []
 
 -- UPDATE t SET v = v + 1 WHERE id = 5
 abbrev pub update_5 : RowStmt

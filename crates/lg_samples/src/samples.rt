@@ -38,23 +38,33 @@ ghost use Rattle.lg_samples.specs.Samples.{pair_def, pairs, in_journal, journal,
 
 /// Replies to small statements.
 pub fn statements_are_answered()
-    ensures system_columns { answers first_tables 1 (create_t ∷ insert (codes "t") ((num 1 ∷ num 10 ∷ []) ∷ []) ∷ all_of (codes "sys_ledger_columns") ∷ [])
+    ensures system_columns { answers first_tables 1
+        (create_t ∷ insert (codes "t") ((num 1 ∷ num 10 ∷ []) ∷ [])
+        ∷ all_of (codes "sys_ledger_columns") ∷ [])
         ≡ (codes "made" ∷ []) ∷ (codes "1 rows" ∷ [])
         ∷ (codes "3|1|0|N'id'|2|0|0|0|1" ∷ codes "3|2|0|N'v'|2|0|0|1|0" ∷ codes "2 rows" ∷ []) ∷ [] }
-    ensures ends_of_bigint { answers first_tables 1 (create (codes "b") (column (codes "id") BigInt false ∷ []) Updatable None
+    ensures ends_of_bigint { answers first_tables 1
+        (create (codes "b") (column (codes "id") BigInt false ∷ []) Updatable None
         ∷ insert (codes "b") ((Num (negsuc 9223372036854775807) 0 ∷ []) ∷ (num 9223372036854775807 ∷ []) ∷ [])
         ∷ insert (codes "b") ((num 9223372036854775808 ∷ []) ∷ []) ∷ [])
         ≡ (codes "made" ∷ []) ∷ (codes "2 rows" ∷ []) ∷ (codes "E08" ∷ []) ∷ [] }
-    ensures units_of_text { answers first_tables 1 (create (codes "n") (column (codes "id") Int false ∷ column (codes "x") (NVarChar 2) true ∷ []) Updatable None
+    ensures units_of_text { answers first_tables 1
+        (create (codes "n")
+        (column (codes "id") Int false ∷ column (codes "x") (NVarChar 2) true ∷ []) Updatable None
         ∷ insert (codes "n") ((num 1 ∷ Text (240 ∷ 159 ∷ 152 ∷ 128 ∷ []) ∷ []) ∷ [])
         ∷ insert (codes "n") ((num 2 ∷ Text (240 ∷ 159 ∷ 152 ∷ 128 ∷ 97 ∷ []) ∷ []) ∷ []) ∷ [])
         ≡ (codes "made" ∷ []) ∷ (codes "1 rows" ∷ []) ∷ (codes "E09" ∷ []) ∷ [] }
-    ensures append_only { answers first_tables 1 (create (codes "log") (column (codes "id") Int false ∷ []) AppendOnly None
-        ∷ insert (codes "log") ((num 7 ∷ []) ∷ []) ∷ s.Change (Delete (codes "log") None) ∷ all_of (codes "log") ∷ [])
+    ensures append_only { answers first_tables 1
+        (create (codes "log") (column (codes "id") Int false ∷ []) AppendOnly None
+        ∷ insert (codes "log") ((num 7 ∷ []) ∷ []) ∷ s.Change (Delete (codes "log") None)
+        ∷ all_of (codes "log") ∷ [])
         ≡ (codes "made" ∷ []) ∷ (codes "1 rows" ∷ []) ∷ (codes "E10" ∷ []) ∷ (codes "7" ∷ codes "1 rows" ∷ [])
         ∷ [] }
-    ensures index_rows_made { answers (with_t []) 4 (index_on (codes "iv") (codes "t") (codes "v" ∷ codes "id" ∷ []) ∷ index_on (codes "iv") (codes "t_Ledger") (codes "v" ∷ [])
-        ∷ index_on (codes "iw") (codes "t_Ledger") (codes "v" ∷ []) ∷ all_of (codes "sys_ledger_columns") ∷ [])
+    ensures index_rows_made { answers (with_t []) 4
+        (index_on (codes "iv") (codes "t") (codes "v" ∷ codes "id" ∷ [])
+        ∷ index_on (codes "iv") (codes "t_Ledger") (codes "v" ∷ [])
+        ∷ index_on (codes "iw") (codes "t_Ledger") (codes "v" ∷ [])
+        ∷ all_of (codes "sys_ledger_columns") ∷ [])
         ≡ (codes "made" ∷ []) ∷ (codes "E03" ∷ []) ∷ (codes "E11" ∷ [])
         ∷ (codes "3|1001|0|N'iv'|0|0|0|0|2" ∷ codes "3|1002|0|N'iv'|0|0|0|0|1" ∷ codes "2 rows" ∷ []) ∷ [] }
     ensures no_leap_day { conversion_of (Text (codes "2023-02-29")) Date ≡ Err Mismatch }
@@ -62,15 +72,24 @@ pub fn statements_are_answered()
 
 /// The starts and ends of small statements, and what history and view show of them.
 pub fn events_are_numbered()
-    ensures starts { effect (with_t []) 2 0 (insert (codes "t") ((num 1 ∷ num 10 ∷ []) ∷ (num 2 ∷ num 20 ∷ []) ∷ []))
-        ≡ record { tables = with_t (version 1 10 (2, 0) None ∷ version 2 20 (2, 1) None ∷ []); seq = 2; reply = r.Changed 2 } }
-    ensures ends_and_starts { effect (with_t (version 1 10 (2, 0) None ∷ version 2 20 (2, 1) None ∷ [])) 3 0 update_t
+    ensures starts { effect (with_t []) 2 0
+        (insert (codes "t") ((num 1 ∷ num 10 ∷ []) ∷ (num 2 ∷ num 20 ∷ []) ∷ []))
         ≡ record {
-          tables = with_t (version 1 10 (2, 0) (Some (3, 0)) ∷ version 2 20 (2, 1) (Some (3, 2)) ∷ version 1 11 (3, 1) None ∷ version 2 21 (3, 3) None ∷ []);
+          tables = with_t (version 1 10 (2, 0) None ∷ version 2 20 (2, 1) None ∷ []);
+          seq = 2;
+          reply = r.Changed 2;
+        } }
+    ensures ends_and_starts { effect
+        (with_t (version 1 10 (2, 0) None ∷ version 2 20 (2, 1) None ∷ [])) 3 0 update_t
+        ≡ record {
+          tables = with_t (version 1 10 (2, 0) (Some (3, 0)) ∷ version 2 20 (2, 1) (Some (3, 2))
+              ∷ version 1 11 (3, 1) None ∷ version 2 21 (3, 3) None ∷ []);
           seq = 4;
           reply = r.Changed 2;
         } }
-    ensures view { reply_lines (effect (with_t (version 1 10 (2, 0) (Some (3, 0)) ∷ version 2 20 (2, 1) (Some (3, 2)) ∷ version 1 11 (3, 1) None ∷ version 2 21 (3, 3) None ∷ [])) 4 0 (all_of (codes "t_Ledger"))).reply
+    ensures view { reply_lines (effect (with_t (version 1 10 (2, 0) (Some (3, 0))
+        ∷ version 2 20 (2, 1) (Some (3, 2)) ∷ version 1 11 (3, 1) None
+        ∷ version 2 21 (3, 3) None ∷ [])) 4 0 (all_of (codes "t_Ledger"))).reply
         ≡ codes "1|10|2|0|1|N'INSERT'" ∷ codes "2|20|2|1|1|N'INSERT'" ∷ codes "1|10|3|0|2|N'DELETE'"
         ∷ codes "1|11|3|1|1|N'INSERT'"
         ∷ codes "2|20|3|2|2|N'DELETE'" ∷ codes "2|21|3|3|1|N'INSERT'" ∷ codes "6 rows" ∷ [] }
@@ -82,15 +101,28 @@ pub fn events_are_numbered()
         (all_events 2 (with_t (version 1 1 (2, 0) (Some (2, 1)) ∷ []))) ≡ (1, 0) ∷ (2, 1) ∷ [] }
     ensures written_names { defs_of (effect first_tables 1 0 create_balance).tables ≡ defs_of first_tables
         ++ def_balance ∷ [] }
-    ensures units_kept { effect (balance []) 2 0 (insert (codes "Balance") ((num 1 ∷ Text (codes "Jones") ∷ Text (codes "Nick") ∷ num 50 ∷ []) ∷ []))
-        ≡ record { tables = balance (record { values = of_nick 5000; start = (2, 0); end = None } ∷ []); seq = 1; reply = r.Changed 1 } }
-    ensures units_set { effect (balance (record { values = of_nick 5000; start = (2, 0); end = None } ∷ [])) 3 0 (s.Change set_100)
+    ensures units_kept { effect (balance []) 2 0
+        (insert (codes "Balance") ((num 1 ∷ Text (codes "Jones") ∷ Text (codes "Nick") ∷ num 50 ∷ []) ∷ []))
         ≡ record {
-          tables = balance (record { values = of_nick 5000; start = (2, 0); end = Some (3, 0) } ∷ record { values = of_nick 10000; start = (3, 1); end = None } ∷ []);
+          tables = balance (record {
+            values = of_nick 5000;
+            start = (2, 0);
+            end = None;
+          } ∷ []);
+          seq = 1;
+          reply = r.Changed 1;
+        } }
+    ensures units_set { effect
+        (balance (record { values = of_nick 5000; start = (2, 0); end = None } ∷ [])) 3 0 (s.Change set_100)
+        ≡ record {
+          tables = balance (record { values = of_nick 5000; start = (2, 0); end = Some (3, 0) }
+              ∷ record { values = of_nick 10000; start = (3, 1); end = None } ∷ []);
           seq = 2;
           reply = r.Changed 1;
         } }
-    ensures written_history { answer (balance (record { values = of_nick 5000; start = (2, 0); end = Some (3, 0) } ∷ record { values = of_nick 10000; start = (3, 1); end = None } ∷ []))
+    ensures written_history { answer
+        (balance (record { values = of_nick 5000; start = (2, 0); end = Some (3, 0) }
+        ∷ record { values = of_nick 10000; start = (3, 1); end = None } ∷ []))
         (all_of (codes "BalanceHistory")) ≡ codes "1|N'Jones'|N'Nick'|50.00|2|3|0|0" ∷ codes "1 rows" ∷ [] }
 {}
 
@@ -164,7 +196,9 @@ pub fn rows_are_selected()
         ≡ codes "0|1" ∷ codes "1|2" ∷ codes "3|3" ∷ codes "2|4" ∷ codes "4 rows" ∷ [] }
     ensures no_hidden_end { answer four
         (select (codes "t") (Columns (codes "ledger_end_sequence_number" ∷ [])) []) ≡ codes "E04" ∷ [] }
-    ensures history_order { answer (with_t (version 1 10 (2, 0) (Some (5, 0)) ∷ version 2 20 (2, 1) (Some (3, 0)) ∷ [])) (all_of (codes "MSSQL_LedgerHistoryFor_3"))
+    ensures history_order { answer
+        (with_t (version 1 10 (2, 0) (Some (5, 0)) ∷ version 2 20 (2, 1) (Some (3, 0)) ∷ []))
+        (all_of (codes "MSSQL_LedgerHistoryFor_3"))
         ≡ codes "1|10|2|5|0|0" ∷ codes "2|20|2|3|1|0" ∷ codes "2 rows" ∷ [] }
     ensures key_hides { query_rows (wide_select op.Eq) (wide_def, Base)
         (wide 1 (pos 1) 0 ∷ wide 2 (pos nines) 1 ∷ []) ≡ Ok ((num 1 ∷ num 1 ∷ []) ∷ []) }
@@ -178,16 +212,22 @@ pub fn rows_are_selected()
 
 /// Replies to the texts of scripts.
 pub fn scripts_are_answered()
-    ensures savepoints { map reply_lines (script (read_in in_script) true (effect first_tables 1 0 create_t).tables 2 (texts (0 ∷ 3 ∷ 1 ∷ 3 ∷ 2 ∷ 4 ∷ 5 ∷ 6 ∷ []))).replies
+    ensures savepoints { map reply_lines
+        (script (read_in in_script) true (effect first_tables 1 0 create_t).tables 2
+        (texts (0 ∷ 3 ∷ 1 ∷ 3 ∷ 2 ∷ 4 ∷ 5 ∷ 6 ∷ []))).replies
         ≡ (codes "1 rows" ∷ []) ∷ (codes "saved" ∷ []) ∷ (codes "1 rows" ∷ []) ∷ (codes "saved" ∷ [])
         ∷ (codes "1 rows" ∷ []) ∷ (codes "back" ∷ [])
-        ∷ (codes "E15" ∷ []) ∷ (codes "1|1|2|0|1|N'INSERT'" ∷ codes "2|2|2|1|1|N'INSERT'" ∷ codes "2 rows" ∷ []) ∷ [] }
+        ∷ (codes "E15" ∷ [])
+        ∷ (codes "1|1|2|0|1|N'INSERT'" ∷ codes "2|2|2|1|1|N'INSERT'" ∷ codes "2 rows" ∷ []) ∷ [] }
     ensures savepoint_65 { (script (read_in in_script) true first_tables 1 (replicate 65 (3 ∷ []))).replies
         ≡ replicate 64 r.Saved ++ r.Refused E16 ∷ [] }
-    ensures alone { map (each_alone (effect first_tables 1 0 create_t).tables by_themselves) (0 ∷ 1 ∷ 9 ∷ 2 ∷ 3 ∷ [])
+    ensures alone { map (each_alone (effect first_tables 1 0 create_t).tables by_themselves)
+        (0 ∷ 1 ∷ 9 ∷ 2 ∷ 3 ∷ [])
         ≡ ((codes "0 rows" ∷ []) ∷ []) ∷ ((codes "E13" ∷ []) ∷ []) ∷ ((codes "E01" ∷ []) ∷ [])
         ∷ ((codes "E18" ∷ []) ∷ []) ∷ ((codes "E02" ∷ []) ∷ []) ∷ [] }
-    ensures back_twice { map reply_lines (script (read_in in_script) true (effect first_tables 1 0 create_t).tables 2 (texts (0 ∷ 3 ∷ 1 ∷ 4 ∷ 2 ∷ 4 ∷ 6 ∷ 2 ∷ 6 ∷ []))).replies
+    ensures back_twice { map reply_lines
+        (script (read_in in_script) true (effect first_tables 1 0 create_t).tables 2
+        (texts (0 ∷ 3 ∷ 1 ∷ 4 ∷ 2 ∷ 4 ∷ 6 ∷ 2 ∷ 6 ∷ []))).replies
         ≡ (codes "1 rows" ∷ []) ∷ (codes "saved" ∷ []) ∷ (codes "1 rows" ∷ []) ∷ (codes "back" ∷ [])
         ∷ (codes "1 rows" ∷ []) ∷ (codes "back" ∷ [])
         ∷ (codes "1|1|2|0|1|N'INSERT'" ∷ codes "1 rows" ∷ []) ∷ (codes "1 rows" ∷ [])
@@ -200,7 +240,8 @@ pub fn keys_are_locked()
         (insert (codes "t") ((num 2147483648 ∷ num 1 ∷ []) ∷ [])) ≡ Some (3, whole X ∷ []) }
     ensures read_and_inserted { clash (defs_of first_tables ++ def_t ∷ []) true (s.Select select_5) false
         (insert (codes "t") ((num 5 ∷ num 1 ∷ []) ∷ [])) ≡ true }
-    ensures key_locked { cell_wants (defs_of pairs) (s.Change (Insert (codes "p") (Some (codes "a" ∷ codes "b" ∷ [])) ((num 1 ∷ num 2 ∷ []) ∷ [])))
+    ensures key_locked { cell_wants (defs_of pairs)
+        (s.Change (Insert (codes "p") (Some (codes "a" ∷ codes "b" ∷ [])) ((num 1 ∷ num 2 ∷ []) ∷ [])))
         ≡ Some (3, whole IX ∷ of_key X (num 2 ∷ num 1 ∷ []) ∷ []) }
 {}
 
@@ -219,7 +260,8 @@ pub fn parts_are_locked()
         ≡ Some (3, whole IX ∷ of_key X (num 1 ∷ []) ∷ []) }
     ensures create { (cell_wants (defs_of first_tables ++ def_t ∷ []) create_t ≡ None)
         × (catalog_want false create_t ≡ Some X) × (catalog_want true create_t ≡ None) }
-    ensures history { cell_wants (defs_of first_tables ++ def_t ∷ []) (all_of (codes "MSSQL_LedgerHistoryFor_3"))
+    ensures history { cell_wants (defs_of first_tables ++ def_t ∷ [])
+        (all_of (codes "MSSQL_LedgerHistoryFor_3"))
         ≡ Some (3, whole S ∷ []) }
     ensures view { cell_wants (defs_of first_tables ++ def_t ∷ []) (all_of (codes "t_Ledger"))
         ≡ Some (3, whole S ∷ []) }

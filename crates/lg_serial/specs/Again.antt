@@ -1,4 +1,5 @@
--- A script that is run again: what its statements come to from where it is, and where the kept replies end to agree.
+-- A script that is run again: what its statements come to from where it is, and where the kept replies end to
+-- agree.
 use Rattle.std.specs.Prelude.{ℕ, ◌≡◌, ◌≢◌, List, map, take, slice_get, Some}
 use Rattle.lg_types.specs.declared.reply.Reply.{Reply}
 use Rattle.lg_model.specs.Journals.{Line}

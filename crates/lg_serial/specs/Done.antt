@@ -25,16 +25,19 @@ use Rattle.lg_serial.specs.Order.{InOrder}
 use Rattle.lg_serial.specs.Seen.{HasPlaces, running_of, state_of, machine_of}
 use Rattle.lg_serial.specs.declared.changing.Planned.{Planned}
 
--- the effect that is meant, with the tables after it; or a refusal that leaves the tables; or that there is no more memory
+-- the effect that is meant, with the tables after it; or a refusal that leaves the tables; or that there is
+-- no more memory
 abbrev pub Does : Effect → Tables → Tables → ℕ → Result Done Refusal → Type 0
 Does e old new seq (Ok done) = e ≡ record { tables = new; seq = done.seq; reply = done.reply }
-Does e old new seq (Err refusal) = refusal ≢ E30 → (e ≡ record { tables = old; seq = seq; reply = r.Refused refusal }) × (new ≡ old)
+Does e old new seq (Err refusal) = refusal ≢ E30
+    → (e ≡ record { tables = old; seq = seq; reply = r.Refused refusal }) × (new ≡ old)
 
 -- tables before the event of transaction tx with the number seq
 abbrev pub IsReady : ℕ → ℕ → Tables → Type 0
 IsReady tx seq tables = ((place : ℕ → ℕ) × Kept place tx seq tables) × Described tables
 
--- the starts and ends that a row statement makes, in the table with this id, and the number of rows that it replies
+-- the starts and ends that a row statement makes, in the table with this id, and the number of rows that it
+-- replies
 abbrev pub planned : Tables → RowStmt → Checked (ℕ × Changes)
 planned tables stmt =
     and_then (row_statement_check (defs_of tables) stmt) (λ def.
@@ -46,23 +49,28 @@ Plans meant (Err e) = e ≢ E30 → meant ≡ Err e
 
 -- the rows that a SELECT shows
 abbrev pub rows_shown : Tables → Select → Checked (List Row)
-rows_shown tables q = and_then (query_check (defs_of tables) q) (λ n. query_rows q n (versions_of tables n.0.id))
+rows_shown tables q = and_then (query_check (defs_of tables) q) (λ n.
+    query_rows q n (versions_of tables n.0.id))
 
 -- ---- in a script
 
--- the effect that is meant, with the script's counter and these definitions to restore after it; or a refusal that leaves
+-- the effect that is meant, with the script's counter and these definitions to restore after it; or a refusal
+-- that leaves
 -- everything; or that there is no more memory
 abbrev pub CarriesOut : Effect → Option Defs → Tables → Begun → Tables → Begun → Result Reply Refusal → Type 0
 CarriesOut e defs T b U c (Ok reply) =
-    (e ≡ record { tables = U; seq = c.seq; reply = reply }) × (c ≡ record { tx = b.tx; opened = b.opened; seq = c.seq; saved = b.saved; defs = defs })
-CarriesOut e defs T b U c (Err refusal) = refusal ≢ E30 → (e ≡ record { tables = T; seq = b.seq; reply = r.Refused refusal }) × (U ≡ T) × (c ≡ b)
+    (e ≡ record { tables = U; seq = c.seq; reply = reply })
+    × (c ≡ record { tx = b.tx; opened = b.opened; seq = c.seq; saved = b.saved; defs = defs })
+CarriesOut e defs T b U c (Err refusal) = refusal ≢ E30
+    → (e ≡ record { tables = T; seq = b.seq; reply = r.Refused refusal }) × (U ≡ T) × (c ≡ b)
 
 -- the step that a table statement makes
 abbrev pub carried : ℕ → State → Stmt → Step
 carried tx x stmt = by_effect x (effect x.tables tx x.seq stmt)
 
 -- the machine after a step
-pub record Stepped (T : Tables) (b : Begun) (U : Tables) (c : Begun) (step : Step) (reply : Reply) : Type 0 where
+pub record Stepped (T : Tables) (b : Begun) (U : Tables) (c : Begun)
+    (step : Step) (reply : Reply) : Type 0 where
   pub reply_is : reply ≡ step.1
   pub machine : machine_of U (Some c) ≡ moved (machine_of T (Some b)) (running_of T b) step.0
   pub order : InOrder (machine_of U (Some c))

@@ -22,11 +22,13 @@ abbrev pub at_rest : Tables → Machine
 at_rest tables = record { tables = tables; script = None }
 
 abbrev pub begun : ℕ → Bool → Tables → Machine
-begun tx opened tables = record { tables = tables; script = Some (record { tx = tx; opened = opened; state = start tables }) }
+begun tx opened tables =
+    record { tables = tables; script = Some (record { tx = tx; opened = opened; state = start tables }) }
 
 -- what a statement, or a text that is none, does in a script
 abbrev pub step_of : Running → Option Stmt → Step
 step_of x stmt = by_statement x.opened x.tx x.state stmt
 
 abbrev pub moved : Machine → Running → State → Machine
-moved m x state = record { tables = m.tables; script = Some (record { tx = x.tx; opened = x.opened; state = state }) }
+moved m x state =
+    record { tables = m.tables; script = Some (record { tx = x.tx; opened = x.opened; state = state }) }

@@ -17,7 +17,8 @@ use Rattle.lg_serial.specs.declared.plain.PlainEnd.TheVariants.{Agrees, Differs}
 abbrev pub first_difference : ℕ → List Line → List Reply → Option ℕ
 first_difference n [] replies = None
 first_difference n (line ∷ lines) [] = Some n
-first_difference n (line ∷ lines) (reply ∷ replies) = if bytes_eq line.1 (reply_text reply) then first_difference (n + 1) lines replies else Some n
+first_difference n (line ∷ lines) (reply ∷ replies) =
+    if bytes_eq line.1 (reply_text reply) then first_difference (n + 1) lines replies else Some n
 
 -- where the replies agree and no event is left, the script's length
 abbrev pub left_by : ℕ → List Event → PlainEnd
@@ -33,5 +34,6 @@ judged id lines o = ends_so (length lines) (first_difference 0 lines o.replies) 
 
 module _ (reads : Reading) where
   unfoldable pub run_end : Tables → JournalItem → PlainEnd
-  run_end tables (Tx id session time opened lines) = judged id lines (script reads opened tables id (map (λ l. l.0) lines))
+  run_end tables (Tx id session time opened lines) =
+      judged id lines (script reads opened tables id (map (λ l. l.0) lines))
   run_end tables (Close k) = Agrees

@@ -1,4 +1,5 @@
--- How the machine keeps what its contracts see: a savepoint by its number alone, and the tables before a script by the
+-- How the machine keeps what its contracts see: a savepoint by its number alone, and the tables before a
+-- script by the
 -- changes that the script made.
 use Rattle.std.specs.Prelude.{ℕ, ◌≤◌, [], ◌∷◌, map, length, Option, Some, None}
 use Rattle.lg_model.specs.Catalog.{Defs, Tables}

@@ -29,15 +29,17 @@ fn left_by(statement: u64, events: &[Event]) -> PlainEnd
 
 impl Plain {
     /// Runs an item of a journal over the tables to which the items before it led: `Differs` names the first
-    /// statement whose kept reply isn't the machine's, or the number of statements where all agree and no event is left.
-    /// The closing of a block always agrees. After `Differs` the machine isn't to be used again.
+    /// statement whose kept reply isn't the machine's, or the number of statements where all agree and no
+    /// event is left. The closing of a block always agrees. After `Differs` the machine isn't to be used
+    /// again.
     #[tactic(auto, unfolding(crate::specs::RunEnd::run_end))]
     pub fn run(&mut self, alloc: Global, item: &JournalItem) -> Result<PlainEnd, Memory>
         requires rests { self.old.script ≡ None }
         requires order { InOrder self.old }
         requires new { IsNewItem item.now self.old.tables }
         ensures end { IfOk result (λ end. end ≡ run_end statement_of self.old.tables item.now) }
-        ensures tables { IfOk result (λ end. end ≡ PlainEnd.Agrees → self.new ≡ at_rest (after_item statement_of self.old.tables item.now)) }
+        ensures tables { IfOk result (λ end. end ≡ PlainEnd.Agrees
+            → self.new ≡ at_rest (after_item statement_of self.old.tables item.now)) }
         ensures order { IfOk result (λ end. end ≡ PlainEnd.Agrees → InOrder self.new) }
     {
         match item {
@@ -51,7 +53,8 @@ impl Plain {
         }
     }
 
-    /// Runs a transaction's script. Where all replies agree it ends the script, which then has to have left an event.
+    /// Runs a transaction's script. Where all replies agree it ends the script, which then has to have left
+    /// an event.
     fn run_script(
         &mut self,
         alloc: Global,
@@ -62,8 +65,12 @@ impl Plain {
         requires rests { self.old.script ≡ None }
         requires order { InOrder self.old }
         requires new { IsNew tx self.old.tables }
-        ensures end { IfOk result (λ end. end ≡ judged tx script.now (script_of statement_of opened self.old.tables tx (map (λ l. l.0) script.now))) }
-        ensures tables { IfOk result (λ end. end ≡ PlainEnd.Agrees → self.new ≡ at_rest (script_of statement_of opened self.old.tables tx (map (λ l. l.0) script.now)).state.tables) }
+        ensures end { IfOk result (λ end.
+            end ≡ judged tx script.now
+            (script_of statement_of opened self.old.tables tx (map (λ l. l.0) script.now))) }
+        ensures tables { IfOk result (λ end. end ≡ PlainEnd.Agrees
+            → self.new ≡ at_rest
+            (script_of statement_of opened self.old.tables tx (map (λ l. l.0) script.now)).state.tables) }
         ensures order { IfOk result (λ end. end ≡ PlainEnd.Agrees → InOrder self.new) }
     {
         self.begin(alloc, opened, tx);
@@ -82,8 +89,10 @@ impl Plain {
     ) -> Result<Option<u64>, Memory>
         requires begun { self.old.script ≢ None }
         requires order { InOrder self.old }
-        ensures difference { (x : Running) → self.old.script ≡ Some x → IfOk result (λ found. found ≡ difference_of 0 script.now (goes_on x script.now).replies) }
-        ensures script { (x : Running) → self.old.script ≡ Some x → IfOk result (λ found. found ≡ None → self.new ≡ moved self.old x (goes_on x script.now).state) }
+        ensures difference { (x : Running) → self.old.script ≡ Some x
+            → IfOk result (λ found. found ≡ difference_of 0 script.now (goes_on x script.now).replies) }
+        ensures script { (x : Running) → self.old.script ≡ Some x
+            → IfOk result (λ found. found ≡ None → self.new ≡ moved self.old x (goes_on x script.now).state) }
         ensures order { IfOk result (λ found. found ≡ None → InOrder self.new) }
     {
         for (place, line) in script.iter().enumerate() {
@@ -99,8 +108,11 @@ impl Plain {
     fn agrees_with(&mut self, alloc: Global, line: &(Text, Text)) -> Result<bool, Memory>
         requires begun { self.old.script ≢ None }
         requires order { InOrder self.old }
-        ensures reply { (x : Running) → self.old.script ≡ Some x → IfOk result (λ same. same ≡ bytes_eq line.now.1 (text_of (step_of x (statement_of line.now.0)).1)) }
-        ensures script { (x : Running) → self.old.script ≡ Some x → IfOk result (λ same. self.new ≡ moved self.old x (step_of x (statement_of line.now.0)).0) }
+        ensures reply { (x : Running) → self.old.script ≡ Some x
+            → IfOk result (λ same.
+            same ≡ bytes_eq line.now.1 (text_of (step_of x (statement_of line.now.0)).1)) }
+        ensures script { (x : Running) → self.old.script ≡ Some x
+            → IfOk result (λ same. self.new ≡ moved self.old x (step_of x (statement_of line.now.0)).0) }
         ensures order { IfOk result (λ same. InOrder self.new) }
         ensures begun { IfOk result (λ same. self.new.script ≢ None) }
     {

@@ -70,7 +70,8 @@ impl Begun {
     ) -> Result<Reply, Memory>
         requires order { InOrder (machine_of tables.old.items (Some self.old)) }
         requires places { HasPlaces self.old.defs tables.old.items }
-        ensures { Answers tables.old.items self.old tables.new.items self.new (step_of (running_of tables.old.items self.old) (Some stmt.now)) result }
+        ensures { Answers tables.old.items self.old tables.new.items self.new
+            (step_of (running_of tables.old.items self.old) (Some stmt.now)) result }
     {
         match self.step(alloc, tables, stmt) {
             Ok(reply) => Ok(reply),
@@ -79,7 +80,8 @@ impl Begun {
         }
     }
 
-    /// A statement's step. A refusal leaves the script and the tables; after want of memory, E30, they may be anything.
+    /// A statement's step. A refusal leaves the script and the tables; after want of memory, E30, they may be
+    /// anything.
     fn step(
         &mut self,
         alloc: Global,
@@ -88,7 +90,8 @@ impl Begun {
     ) -> Result<Reply, Refusal>
         requires order { InOrder (machine_of tables.old.items (Some self.old)) }
         requires places { HasPlaces self.old.defs tables.old.items }
-        ensures { Steps tables.old.items self.old tables.new.items self.new (step_of (running_of tables.old.items self.old) (Some stmt.now)) result }
+        ensures { Steps tables.old.items self.old tables.new.items self.new
+            (step_of (running_of tables.old.items self.old) (Some stmt.now)) result }
     {
         if self.opened {
             self.in_transaction(alloc, tables, stmt)
@@ -108,7 +111,8 @@ impl Begun {
         requires order { InOrder (machine_of tables.old.items (Some self.old)) }
         requires places { HasPlaces self.old.defs tables.old.items }
         requires opened { self.old.opened ≡ true }
-        ensures { Steps tables.old.items self.old tables.new.items self.new (spec.in_transaction self.old.tx (state_of tables.old.items self.old) stmt.now) result }
+        ensures { Steps tables.old.items self.old tables.new.items self.new
+            (spec.in_transaction self.old.tx (state_of tables.old.items self.old) stmt.now) result }
     {
         match stmt {
             Stmt::Create(_) | Stmt::Index(_) | Stmt::Digest | Stmt::Image => Err(Refusal::E17),
@@ -131,7 +135,8 @@ impl Begun {
         requires order { InOrder (machine_of tables.old.items (Some self.old)) }
         requires places { HasPlaces self.old.defs tables.old.items }
         requires alone { self.old.opened ≡ false }
-        ensures { Steps tables.old.items self.old tables.new.items self.new (spec.alone self.old.tx (state_of tables.old.items self.old) stmt.now) result }
+        ensures { Steps tables.old.items self.old tables.new.items self.new
+            (spec.alone self.old.tx (state_of tables.old.items self.old) stmt.now) result }
     {
         match stmt {
             Stmt::Create(_) | Stmt::Index(_) => self.create(alloc, tables, stmt),
@@ -152,7 +157,8 @@ impl Begun {
         requires order { InOrder (machine_of tables.old.items (Some self.old)) }
         requires places { HasPlaces self.old.defs tables.old.items }
         requires keeps { creates stmt.now ≡ false }
-        ensures { Steps tables.old.items self.old tables.new.items self.new (carried self.old.tx (state_of tables.old.items self.old) stmt.now) result }
+        ensures { Steps tables.old.items self.old tables.new.items self.new
+            (carried self.old.tx (state_of tables.old.items self.old) stmt.now) result }
     {
         self.carry_out(alloc, tables, stmt)
     }
@@ -169,7 +175,8 @@ impl Begun {
         requires places { HasPlaces self.old.defs tables.old.items }
         requires creates { creates stmt.now ≡ true }
         requires alone { self.old.opened ≡ false }
-        ensures { Steps tables.old.items self.old tables.new.items self.new (carried self.old.tx (state_of tables.old.items self.old) stmt.now) result }
+        ensures { Steps tables.old.items self.old tables.new.items self.new
+            (carried self.old.tx (state_of tables.old.items self.old) stmt.now) result }
     {
         self.carry_out_create(alloc, tables, stmt)
     }
@@ -182,7 +189,8 @@ impl Begun {
         stmt: &Stmt,
     ) -> Result<Reply, Refusal>
         requires { IsReady self.old.tx self.old.seq tables.old.items }
-        ensures { CarriesOut (effect_of tables.old.items self.old.tx self.old.seq stmt.now) self.old.defs tables.old.items self.old tables.new.items self.new result }
+        ensures { CarriesOut (effect_of tables.old.items self.old.tx self.old.seq stmt.now)
+            self.old.defs tables.old.items self.old tables.new.items self.new result }
     {
         let done = effect(alloc, tables, self.tx, self.seq, stmt)?;
         self.seq = done.seq;
@@ -197,7 +205,9 @@ impl Begun {
         stmt: &Stmt,
     ) -> Result<Reply, Refusal>
         requires { IsReady self.old.tx self.old.seq tables.old.items }
-        ensures { CarriesOut (effect_of tables.old.items self.old.tx self.old.seq stmt.now) (first_defs self.old.defs (defs_of tables.old.items)) tables.old.items self.old tables.new.items self.new result }
+        ensures { CarriesOut (effect_of tables.old.items self.old.tx self.old.seq stmt.now)
+            (first_defs self.old.defs (defs_of tables.old.items))
+            tables.old.items self.old tables.new.items self.new result }
     {
         if self.defs.is_some() {
             return self.carry_out(alloc, tables, stmt);
@@ -211,7 +221,8 @@ impl Begun {
     /// SAVE TRANSACTION: E16 where there are as many savepoints as there may be.
     fn save(&mut self, name: &Name) -> Result<Reply, Refusal>
         requires opened { self.old.opened ≡ true }
-        ensures { (T : Tables) → InOrder (machine_of T (Some self.old)) → HasPlaces self.old.defs T → Steps T self.old T self.new (saves (state_of T self.old) name.now) result }
+        ensures { (T : Tables) → InOrder (machine_of T (Some self.old)) → HasPlaces self.old.defs T
+            → Steps T self.old T self.new (saves (state_of T self.old) name.now) result }
     {
         if self.saved.len() >= MOST_SAVEPOINTS {
             return Err(Refusal::E16);
@@ -233,7 +244,8 @@ impl Begun {
     ) -> Result<Reply, Refusal>
         requires order { InOrder (machine_of tables.old.items (Some self.old)) }
         requires places { HasPlaces self.old.defs tables.old.items }
-        ensures { Steps tables.old.items self.old tables.new.items self.new (rolls_back_to (state_of tables.old.items self.old) name.now) result }
+        ensures { Steps tables.old.items self.old tables.new.items self.new
+            (rolls_back_to (state_of tables.old.items self.old) name.now) result }
     {
         let Some(place) = place_of(self.saved.as_slice(), name) else {
             return Err(Refusal::E15);
@@ -245,8 +257,17 @@ impl Begun {
     /// Goes back to the savepoint at a place. It stays, and those newer go. Takes no memory.
     fn rewind(&mut self, alloc: Global, tables: &mut Vec<Table>, place: usize)
         requires { place < length self.old.saved }
-        ensures tables { (s : Savepoint) → (ss : List Savepoint) → drop place self.old.saved ≡ s ∷ ss → tables.new.items ≡ undone self.old.tx s.seq tables.old.items }
-        ensures script { (s : Savepoint) → (ss : List Savepoint) → drop place self.old.saved ≡ s ∷ ss → self.new ≡ record { tx = self.old.tx; opened = self.old.opened; seq = s.seq; saved = s ∷ ss; defs = self.old.defs } }
+        ensures tables { (s : Savepoint) → (ss : List Savepoint) → drop place self.old.saved ≡ s ∷ ss
+            → tables.new.items ≡ undone self.old.tx s.seq tables.old.items }
+        ensures script { (s : Savepoint) → (ss : List Savepoint) → drop place self.old.saved ≡ s ∷ ss
+            → self.new
+            ≡ record {
+              tx = self.old.tx;
+              opened = self.old.opened;
+              seq = s.seq;
+              saved = s ∷ ss;
+              defs = self.old.defs;
+            } }
     {
         self.drop_newer(alloc, place);
         self.seq = self.saved.as_slice()[0].seq;
@@ -256,7 +277,13 @@ impl Begun {
     /// Drops the savepoints newer than the one at a place.
     fn drop_newer(&mut self, alloc: Global, place: usize)
         requires { place ≤ length self.old.saved }
-        ensures { self.new ≡ record { tx = self.old.tx; opened = self.old.opened; seq = self.old.seq; saved = drop place self.old.saved; defs = self.old.defs } }
+        ensures { self.new ≡ record {
+          tx = self.old.tx;
+          opened = self.old.opened;
+          seq = self.old.seq;
+          saved = drop place self.old.saved;
+          defs = self.old.defs;
+        } }
     {
         let mut saved = mem::replace(&mut self.saved, Items::new(alloc)).into_vec();
         saved.drain(..place);

@@ -12,8 +12,11 @@ use std::alloc::Global;
 /// The table, and the part of it, that a name stands for.
 #[tactic(auto, unfolding(lg_model::specs::Catalog::find_part))]
 pub(crate) fn find<'a>(tables: &'a [Table], name: &Name) -> Option<(&'a Table, Part)>
-    ensures part { option_map (λ p. (p.0.now.def, p.1)) result ≡ spec.find_part (spec.defs_of tables.now) name.now }
-    ensures versions { (n : ℕ) → IdsFrom n (spec.defs_of tables.now) → IfSome result (λ p. (n ≤ p.0.now.def.id) × (p.0.now.versions ≡ spec.versions_of tables.now p.0.now.def.id)) }
+    ensures part { option_map (λ p. (p.0.now.def, p.1)) result
+        ≡ spec.find_part (spec.defs_of tables.now) name.now }
+    ensures versions { (n : ℕ) → IdsFrom n (spec.defs_of tables.now)
+        → IfSome result (λ p. (n ≤ p.0.now.def.id)
+        × (p.0.now.versions ≡ spec.versions_of tables.now p.0.now.def.id)) }
 {
     match tables {
         [] => None,

@@ -36,8 +36,8 @@ struct NewIndex {
     starts: Items<Change>,
 }
 
-/// Adds rows to the table of tables and, with the numbers behind theirs, to the table of columns. Gives the number of the
-/// next event.
+/// Adds rows to the table of tables and, with the numbers behind theirs, to the table of columns. Gives the
+/// number of the next event.
 fn add_system_rows(
     alloc: Global,
     tables: &mut Vec<Table>,
@@ -47,7 +47,8 @@ fn add_system_rows(
     second: Items<Change>,
 ) -> Result<u64, Memory>
     requires { Sound tx seq tables.old.items }
-    ensures tables { OnOk result (tables.new.items ≡ spec.with_system_rows tx seq first second tables.old.items) }
+    ensures tables { OnOk result (tables.new.items
+        ≡ spec.with_system_rows tx seq first second tables.old.items) }
     ensures next { IfOk result (λ next. next ≡ seq + length first + length second) }
 {
     let between = counted(seq, first.len())?;
@@ -75,7 +76,8 @@ pub(crate) fn create_table(
     c: &CreateTable,
 ) -> Result<Done, Refusal>
     requires { IsReady tx seq tables.old.items }
-    ensures { Does (spec.table_effect tables.old.items tx seq (create_check (defs_of tables.old.items) c.now)) tables.old.items tables.new.items seq result }
+    ensures { Does (spec.table_effect tables.old.items tx seq (create_check (defs_of tables.old.items) c.now))
+        tables.old.items tables.new.items seq result }
 {
     let def = plan_table(alloc, tables, c)?;
     let (first, second) = (table_start(alloc, &def)?, column_starts(alloc, &def)?);
@@ -94,7 +96,10 @@ pub(crate) fn create_table(
 #[tactic(auto, unfolding(lg_model::specs::Create::index_check))]
 fn plan_index(alloc: Global, tables: &[Table], c: &CreateIndex) -> Result<NewIndex, Refusal>
     requires { AllByRecursion (λ def. length def.columns < 2 ^ 16 - 1) (defs_of tables.now) }
-    ensures { MatchResult result (λ new. (def : TableDef) × (index_check (defs_of tables.now) c.now ≡ Ok (def, new.index)) × (new.id ≡ def.id) × (new.starts ≡ spec.index_starts def new.index)) (λ e. e ≢ E30 → index_check (defs_of tables.now) c.now ≡ Err e) }
+    ensures { MatchResult result (λ new. (def : TableDef)
+        × (index_check (defs_of tables.now) c.now ≡ Ok (def, new.index))
+        × (new.id ≡ def.id) × (new.starts ≡ spec.index_starts def new.index))
+        (λ e. e ≢ E30 → index_check (defs_of tables.now) c.now ≡ Err e) }
 {
     let Some((table, part)) = find(tables, &c.table) else {
         return Err(Refusal::E02);
@@ -117,7 +122,9 @@ fn push_index(table: &mut Table, index: IndexDef) -> Result<(), Memory>
 /// Adds an index to the definition of the table with this id. Where no table has it nothing is changed.
 fn add_index(tables: &mut Vec<Table>, id: TableId, index: IndexDef) -> Result<(), Memory>
     requires { IdsFrom 1 (defs_of tables.old.items) }
-    ensures { OnOk result (tables.new.items ≡ map (λ t. if t.def.id == id then spec.with_def (with_index t.def index) t else t) tables.old.items) }
+    ensures { OnOk result (tables.new.items
+        ≡ map (λ t.
+        if t.def.id == id then spec.with_def (with_index t.def index) t else t) tables.old.items) }
 {
     // the first table has the id 1, the next 2, and so on
     let id = id as usize;
@@ -136,7 +143,8 @@ pub(crate) fn create_index(
     c: &CreateIndex,
 ) -> Result<Done, Refusal>
     requires { IsReady tx seq tables.old.items }
-    ensures { Does (spec.index_effect tables.old.items tx seq (index_check (defs_of tables.old.items) c.now)) tables.old.items tables.new.items seq result }
+    ensures { Does (spec.index_effect tables.old.items tx seq (index_check (defs_of tables.old.items) c.now))
+        tables.old.items tables.new.items seq result }
 {
     let NewIndex { id, index, starts } = plan_index(alloc, tables, c)?;
     let next = add_system_rows(alloc, tables, tx, seq, Items::new(alloc), starts)?;

@@ -31,8 +31,9 @@ pub(crate) fn counted(seq: u64, events: usize) -> Result<u64, Memory>
     }
 }
 
-/// What a statement of transaction `tx`, whose next event has the number `seq`, does to the tables. A refusal leaves
-/// them; after want of memory they may be anything. Statements that are no table statements do nothing.
+/// What a statement of transaction `tx`, whose next event has the number `seq`, does to the tables. A refusal
+/// leaves them; after want of memory they may be anything. Statements that are no table statements do
+/// nothing.
 #[tactic(auto, unfolding(lg_model::specs::Effect::effect))]
 pub(crate) fn effect(
     alloc: Global,
@@ -42,7 +43,8 @@ pub(crate) fn effect(
     stmt: &Stmt,
 ) -> Result<Done, Refusal>
     requires { IsReady tx seq tables.old.items }
-    ensures { Does (spec.effect tables.old.items tx seq stmt.now) tables.old.items tables.new.items seq result }
+    ensures { Does (spec.effect tables.old.items tx seq stmt.now)
+        tables.old.items tables.new.items seq result }
 {
     match stmt {
         Stmt::Create(c) => create_table(alloc, tables, tx, seq, c),

@@ -24,13 +24,13 @@ use std::marker::Model;
 pub enum PlainEnd {
     /// Each reply is the one that the journal keeps, and the script left an event.
     Agrees,
-    /// This statement's reply, counted from 0, is the first that isn't the kept one; or the number of statements, where
-    /// all replies agree and no event is left.
+    /// This statement's reply, counted from 0, is the first that isn't the kept one; or the number of
+    /// statements, where all replies agree and no event is left.
     Differs { statement: u64 },
 }
 
-/// The machine that runs scripts one after another. It keeps whole lists of versions: a statement looks at each version
-/// of its table. After want of memory it isn't to be used again.
+/// The machine that runs scripts one after another. It keeps whole lists of versions: a statement looks at
+/// each version of its table. After want of memory it isn't to be used again.
 #[derive(Drop)]
 pub struct Plain {
     tables: Vec<Table>,
@@ -81,7 +81,8 @@ impl Plain {
         tables
     }
 
-    /// Begins the script of a transaction, which BEGIN opened or not, over the tables so far. Takes no memory.
+    /// Begins the script of a transaction, which BEGIN opened or not, over the tables so far. Takes no
+    /// memory.
     #[tactic(auto, using(crate::proofs::Running::begins, crate::proofs::Ready::rest_steady))]
     pub fn begin(&mut self, alloc: Global, opened: bool, tx: TxId)
         requires rests { self.old.script ≡ None }
@@ -93,13 +94,15 @@ impl Plain {
         self.begun = Some(Begun::new(alloc, opened, tx));
     }
 
-    /// Takes the script's next statement and answers it. Costs a look at each version of the table that it names, and
-    /// for SELECT, UPDATE and DELETE a sort of those that stand.
+    /// Takes the script's next statement and answers it. Costs a look at each version of the table that it
+    /// names, and for SELECT, UPDATE and DELETE a sort of those that stand.
     pub fn answer(&mut self, alloc: Global, stmt: &Stmt) -> Result<Reply, Memory>
         requires begun { self.old.script ≢ None }
         requires order { InOrder self.old }
-        ensures reply { (x : Running) → self.old.script ≡ Some x → IfOk result (λ reply. reply ≡ (step_of x (Some stmt.now)).1) }
-        ensures script { (x : Running) → self.old.script ≡ Some x → OnOk result (self.new ≡ moved self.old x (step_of x (Some stmt.now)).0) }
+        ensures reply { (x : Running) → self.old.script ≡ Some x
+            → IfOk result (λ reply. reply ≡ (step_of x (Some stmt.now)).1) }
+        ensures script { (x : Running) → self.old.script ≡ Some x
+            → OnOk result (self.new ≡ moved self.old x (step_of x (Some stmt.now)).0) }
         ensures order { OnOk result (InOrder self.new) }
     {
         let Some(mut begun) = self.begun.take() else {
@@ -115,8 +118,10 @@ impl Plain {
     fn reply_to(&mut self, alloc: Global, text: &str) -> Result<Reply, Memory>
         requires begun { self.old.script ≢ None }
         requires order { InOrder self.old }
-        ensures reply { (x : Running) → self.old.script ≡ Some x → IfOk result (λ reply. reply ≡ (step_of x (statement_of text.now)).1) }
-        ensures script { (x : Running) → self.old.script ≡ Some x → OnOk result (self.new ≡ moved self.old x (step_of x (statement_of text.now)).0) }
+        ensures reply { (x : Running) → self.old.script ≡ Some x
+            → IfOk result (λ reply. reply ≡ (step_of x (statement_of text.now)).1) }
+        ensures script { (x : Running) → self.old.script ≡ Some x
+            → OnOk result (self.new ≡ moved self.old x (step_of x (statement_of text.now)).0) }
         ensures order { OnOk result (InOrder self.new) }
     {
         match parse(alloc, text) {
@@ -130,22 +135,27 @@ impl Plain {
     pub fn execute(&mut self, alloc: Global, text: &str) -> Result<Text, Memory>
         requires begun { self.old.script ≢ None }
         requires order { InOrder self.old }
-        ensures reply { (x : Running) → self.old.script ≡ Some x → IfOk result (λ reply. reply ≡ text_of (step_of x (statement_of text.now)).1) }
-        ensures script { (x : Running) → self.old.script ≡ Some x → OnOk result (self.new ≡ moved self.old x (step_of x (statement_of text.now)).0) }
+        ensures reply { (x : Running) → self.old.script ≡ Some x
+            → IfOk result (λ reply. reply ≡ text_of (step_of x (statement_of text.now)).1) }
+        ensures script { (x : Running) → self.old.script ≡ Some x
+            → OnOk result (self.new ≡ moved self.old x (step_of x (statement_of text.now)).0) }
         ensures order { OnOk result (InOrder self.new) }
     {
         let reply = self.reply_to(alloc, text)?;
         reply_text(alloc, &reply)
     }
 
-    /// Ends the script and answers the starts and ends that it left, by table and number. The tables are then those after
-    /// the script where it is to be kept, and else those before it. Looks at each version once or twice.
+    /// Ends the script and answers the starts and ends that it left, by table and number. The tables are then
+    /// those after the script where it is to be kept, and else those before it. Looks at each version once or
+    /// twice.
     #[tactic(auto, unfolding(crate::specs::Seen::state_of), using(crate::proofs::Ended::short))]
     pub fn end(&mut self, alloc: Global, keep: bool) -> Result<Items<Event>, Memory>
         requires begun { self.old.script ≢ None }
         requires order { InOrder self.old }
-        ensures events { (x : Running) → self.old.script ≡ Some x → IfOk result (λ events. events ≡ events_left x.tx x.state.tables) }
-        ensures tables { (x : Running) → self.old.script ≡ Some x → OnOk result (self.new ≡ at_rest (if keep then x.state.tables else self.old.tables)) }
+        ensures events { (x : Running) → self.old.script ≡ Some x
+            → IfOk result (λ events. events ≡ events_left x.tx x.state.tables) }
+        ensures tables { (x : Running) → self.old.script ≡ Some x
+            → OnOk result (self.new ≡ at_rest (if keep then x.state.tables else self.old.tables)) }
         ensures order { OnOk result (InOrder self.new) }
     {
         let Some(begun) = self.begun.take() else {

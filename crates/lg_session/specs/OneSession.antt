@@ -1,4 +1,5 @@
--- What one session is answered that runs alone, each of its statements a transaction of its own or none, and what of it
+-- What one session is answered that runs alone, each of its statements a transaction of its own or none, and
+-- what of it
 -- is committed.
 use Rattle.std.specs.Prelude.{ℕ, ◌+◌, ◌≡◌, ◌≢◌, Bool, true, false, if◌then◌else◌, List, [], ◌∷◌, ◌++◌, codes, Option, Some, None}
 use Rattle.lg_types.specs.declared.event.Event.{Event}

@@ -25,9 +25,9 @@ pub fn one_session_agrees()
         → Agree q (codes "LedgerDB") [] None [] [] [] }
 {}
 
-/// Its transcript is also one list, in the order of its statements, in which ids and marks count and nothing is answered E20;
-/// the items of the journal stand in the order of the entries that made them. So it is for each block size that the
-/// journal doesn't reach.
+/// Its transcript is also one list, in the order of its statements, in which ids and marks count and nothing
+/// is answered E20; the items of the journal stand in the order of the entries that made them. So it is for
+/// each block size that the journal doesn't reach.
 pub fn one_session_keeps_step_order()
     ensures some { (q : Meaning) (reads : Reading) (h : Hashing) (session : Text)
         (statements : List (ℕ × Text)) → IsReal reads h q → spec.GivesColumns reads
@@ -39,8 +39,8 @@ pub fn one_session_keeps_step_order()
     ensures none { (q : Meaning) (N : ℕ) → StepOrder q N [] [] [] }
 {}
 
-/// Its journal is legal and leads to its tables, in which the next transaction has no event; the ids of its transactions
-/// differ, and it closes no block.
+/// Its journal is legal and leads to its tables, in which the next transaction has no event; the ids of its
+/// transactions differ, and it closes no block.
 pub fn one_session_is_legal()
     ensures legal { (reads : Reading) (session : Text) (statements : List (ℕ × Text))
         → spec.GivesColumns reads

@@ -12,7 +12,8 @@ use lg_types::{IndexRow, Typed};
 use lg_value::{Value, compare};
 use std::cmp::Ordering;
 
-/// A copy of the value of the column with this ordinal, counted from 1; there is none at 0 or behind the last one.
+/// A copy of the value of the column with this ordinal, counted from 1; there is none at 0 or behind the
+/// last one.
 pub(crate) fn copy_at(row: &[Option<Typed>], ordinal: u16) -> Result<Option<Typed>, Memory>
     ensures { IfOk result (λ value. value ≡ stored_at row.now ordinal) }
 {

@@ -259,9 +259,9 @@ module _ (v : Server) (cells : List Cell) (seats : List SeatState) {history : Hi
     after_here : (key : Key) → HasX (holds_at cells (cell_of c.id)) o.id key → AllByRecursion (MadeBefore r.id 0) (of_key columns key V')
     after_here key k =
         let V0 = ch.V_before v cells seats S j s x o text named fresh i c row changes count K in
-        let R0 = ch.V_rising v cells seats S j s x o text named fresh i c row changes count K in
+        let rising_before = ch.V_rising v cells seats S j s x o text named fresh i c row changes count K in
         subst (AllByRecursion (MadeBefore r.id 0))
-        (sym (keys_follow o.id columns key o.seq changes c.versions (of_key columns key c.versions) V0 (all_filter (MadeBefore o.id o.seq) (λ (w : Version). same_key (version_key columns w) key) c.versions V0) R0 (rising_filter (λ (w : Version). same_key (version_key columns w) key) c.versions R0) (sym (twice (λ (w : Version). same_key (version_key columns w) key) c.versions))))
+        (sym (keys_follow o.id columns key o.seq changes c.versions (of_key columns key c.versions) V0 (all_filter (MadeBefore o.id o.seq) (λ (w : Version). same_key (version_key columns w) key) c.versions V0) rising_before (rising_filter (λ (w : Version). same_key (version_key columns w) key) c.versions rising_before) (sym (twice (λ (w : Version). same_key (version_key columns w) key) c.versions))))
         (all_filter (MadeBefore r.id 0) (λ (w : Version). same_key (version_key columns w) key) _ (all_untouched o.id r.id 0 (λ e. differs (sym e)) o.seq changes (of_key columns key c.versions) (before_here key k)))
 
     their_keys : (f : List Version → List Version) → ((vs : List Version) → AllByRecursion (MadeBefore r.id 0) vs → AllByRecursion (MadeBefore r.id 0) (f vs)) → (key : Key)
@@ -276,13 +276,13 @@ module _ (v : Server) (cells : List Cell) (seats : List SeatState) {history : Hi
     their_seen : touched r.id (counted r.id c.id z.place V') ≡ touched r.id (counted r.id c.id z.place c.versions)
     their_seen = by (counted_is r.id c.id z.place)
       where
-        R0 : Rising c.versions
-        R0 = ch.V_rising v cells seats S j s x o text named fresh i c row changes count K
+        rising_before : Rising c.versions
+        rising_before = ch.V_rising v cells seats S j s x o text named fresh i c row changes count K
 
         by : IsCounted r.id c.id z.place → touched r.id (counted r.id c.id z.place V') ≡ touched r.id (counted r.id c.id z.place c.versions)
-        by (all_count same) = ap (touched r.id) (same V') ∙ touched_agree r.id columns V' c.versions V_rising' R0 (λ key. their_keys (λ vs. vs) (λ vs h. h) key) ∙ ap (touched r.id) (sym (same c.versions))
+        by (all_count same) = ap (touched r.id) (same V') ∙ touched_agree r.id columns V' c.versions V_rising' rising_before (λ key. their_keys (λ vs. vs) (λ vs h. h) key) ∙ ap (touched r.id) (sym (same c.versions))
         by (some_undone seq goes same) = ap (touched r.id) (same V')
-            ∙ touched_agree r.id columns (versions_undone r.id seq V') (versions_undone r.id seq c.versions) (rising_undone r.id seq V' V_rising') (rising_undone r.id seq c.versions R0)
+            ∙ touched_agree r.id columns (versions_undone r.id seq V') (versions_undone r.id seq c.versions) (rising_undone r.id seq V' V_rising') (rising_undone r.id seq c.versions rising_before)
             (λ key. turned key (their_keys (versions_undone r.id seq) (undone_untouched r.id r.id seq 0) key))
             ∙ ap (touched r.id) (sym (same c.versions))
           where

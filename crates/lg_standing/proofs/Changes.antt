@@ -288,18 +288,18 @@ module _ (v : Server) (cells : List Cell) (seats : List SeatState) {history : Hi
   has_open1 : HasOpen seats1 j x1 o1
   has_open1 = ch.has_open v cells1 seats1 S1 j (sits s x1) x1 o1 text L.named false i cell1 L.row L.changes L.count changing
 
-  abbrev W2 : List Version
-  W2 = ch.W_then v cells1 seats1 S1 j (sits s x1) x1 o1 text L.named false i cell1 L.row L.changes L.count changing
+  abbrev script_rows_after : List Version
+  script_rows_after = ch.W_then v cells1 seats1 S1 j (sits s x1) x1 o1 text L.named false i cell1 L.row L.changes L.count changing
 
-  kept_there : KeptRows (place_in S1.ledger.items) columns W2
+  kept_there : KeptRows (place_in S1.ledger.items) columns script_rows_after
   unfolding columns
-  kept_there = subst (λ (cols : List ColumnDef). KeptRows (place_in S1.ledger.items) cols W2)
+  kept_there = subst (λ (cols : List ColumnDef). KeptRows (place_in S1.ledger.items) cols script_rows_after)
       (ap (λ (ds : Defs). columns_at ds c.id) (ch.then_defs v cells1 seats1 S1 j (sits s x1) x1 o1 text L.named false i cell1 L.row L.changes L.count changing))
       (subst (KeptRows (place_in S1.ledger.items) (columns_at (defs_of (script_end v (tables_now S1) x2 o2).state.tables) c.id))
       (ch.script_rows v cells1 seats1 S1 j (sits s x1) x1 o1 text L.named false i cell1 L.row L.changes L.count changing)
       (kept_script v.reads S1.ledger.items S1.ledger_is_legal.legal o.id (elsewhere v cells1 seats1 S1 j x1 o1 has_open1 L.at.at.unfixed) o.opened (texts_so_far x2 o2) c.id))
 
-  each_key : ByKey columns cell2.versions c.versions W2
+  each_key : ByKey columns cell2.versions c.versions script_rows_after
   unfolding columns
   each_key key = ⊎_elim
       (λ (k : HasX (holds_at cells1 (cell_of c.id)) o.id key). inr (ch.owned v cells1 seats1 S1 j (sits s x1) x1 o1 text L.named false i cell1 L.row L.changes L.count changing key k.hold k.has k.mine k.reaches))
@@ -318,7 +318,7 @@ module _ (v : Server) (cells : List Cell) (seats : List SeatState) {history : Hi
   formed : Each (λ u. Fits defines.def.columns u.values) cell2.versions × KeysDiffer defines.def.columns (live cell2.versions)
   unfolding columns
   formed = subst (λ (cols : List ColumnDef). Each (λ u. Fits cols u.values) cell2.versions × KeysDiffer cols (live cell2.versions)) (sym defines.columns)
-      (kept_by_key columns cell2.versions c.versions W2 each_key (place_in S1.ledger.items) kept_there
+      (kept_by_key columns cell2.versions c.versions script_rows_after each_key (place_in S1.ledger.items) kept_there
       (subst (λ (cols : List ColumnDef). Each (λ u. Fits cols u.values) c.versions) defines.columns was.fit)
       (subst (λ (cols : List ColumnDef). KeysDiffer cols (live c.versions)) defines.columns was.keys_differ))
 

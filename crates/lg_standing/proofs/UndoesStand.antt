@@ -253,11 +253,11 @@ module _ (v : Server) (cells : List Cell) (seats : List SeatState) {history : Hi
       ∙ ap (versions_undone o.id 0) (sym (undone_of_key columns key o.id seq c.versions)) ∙ undone_twice o.id 0 seq (of_key columns key c.versions) (omega arith)
       ∙ ap (λ (vs : List Version). versions_undone o.id 0 (of_key columns key vs)) (sym rows_were)
 
-  R0 : Rising c.versions
-  R0 = subst Rising rows_were (S.rows_agree.rising c.id one_le)
+  rising_before : Rising c.versions
+  rising_before = subst Rising rows_were (S.rows_agree.rising c.id one_le)
 
   R1 : Rising d.versions
-  R1 = subst Rising (sym versions_left) (rising_undone o.id seq c.versions R0)
+  R1 = subst Rising (sym versions_left) (rising_undone o.id seq c.versions rising_before)
 
   still_before : (tx n id : ℕ) (place : Place) → IsCounted tx id place → GoesBackTo place n → AllByRecursion (MadeBefore tx n) (counted tx id place c.versions) → AllByRecursion (MadeBefore tx n) (counted tx id place d.versions)
   still_before tx n id place (all_count same) back h = subst (AllByRecursion (MadeBefore tx n)) (sym (same _)) (subst (AllByRecursion (MadeBefore tx n)) (sym versions_left) (undone_untouched tx o.id seq n c.versions (subst (AllByRecursion (MadeBefore tx n)) (same _) h)))
@@ -339,9 +339,9 @@ module _ (v : Server) (cells : List Cell) (seats : List SeatState) {history : Hi
         turned seq key (inr h) = inr (subst (AllByRecursion (MadeBefore r.id 0)) (undone_of_key columns key r.id seq d.versions) h.0, subst (AllByRecursion (MadeBefore r.id 0)) (undone_of_key columns key r.id seq c.versions) h.1)
 
         by : IsCounted r.id c.id z.place → touched r.id (counted r.id c.id z.place d.versions) ≡ touched r.id (counted r.id c.id z.place c.versions)
-        by (all_count same) = ap (touched r.id) (same d.versions) ∙ touched_agree r.id columns d.versions c.versions R1 R0 (λ key. their_keys (λ vs. vs) (λ vs h. h) key) ∙ ap (touched r.id) (sym (same c.versions))
+        by (all_count same) = ap (touched r.id) (same d.versions) ∙ touched_agree r.id columns d.versions c.versions R1 rising_before (λ key. their_keys (λ vs. vs) (λ vs h. h) key) ∙ ap (touched r.id) (sym (same c.versions))
         by (some_undone k to same) = ap (touched r.id) (same d.versions)
-            ∙ touched_agree r.id columns (versions_undone r.id k d.versions) (versions_undone r.id k c.versions) (rising_undone r.id k d.versions R1) (rising_undone r.id k c.versions R0)
+            ∙ touched_agree r.id columns (versions_undone r.id k d.versions) (versions_undone r.id k c.versions) (rising_undone r.id k d.versions R1) (rising_undone r.id k c.versions rising_before)
             (λ key. turned k key (their_keys (versions_undone r.id k) (undone_untouched r.id r.id k 0) key))
             ∙ ap (touched r.id) (sym (same c.versions))
 

@@ -64,7 +64,8 @@ abbrev pub IsOfSeat : (ℕ → ℕ) → ℕ → Act → Type 0
 IsOfSeat owner j (by session act) = owner session ≡ j
 IsOfSeat owner j (closes k) = Unit {0}
 
--- They stand together once these deeds were done behind the history, all that are of sessions by those of seat j,
+-- They stand together once these deeds were done behind the history, all that are of sessions by those of
+-- seat j,
 -- and each lock was asked for.
 pub record StandsDone (v : Server) (j : ℕ) (history : History) (deeds : List Deed) (cells : List Cell)
     (seats : List SeatState) : Type 0 where

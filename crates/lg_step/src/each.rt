@@ -34,10 +34,12 @@ fn run_line<C: Clock>(
 ) -> Result<(), StepErr>
     requires ready { Ready session.old }
     requires name { is_session_name line.now.session.now ≡ true }
-    ensures came { (before : List Statement) → Came (C.says clock.now) name.now before session.old → OnOk result (Came (C.says clock.now) name.now (before ++ seen line.now ∷ []) session.new) }
+    ensures came { (before : List Statement) → Came (C.says clock.now) name.now before session.old
+        → OnOk result (Came (C.says clock.now) name.now (before ++ seen line.now ∷ []) session.new) }
     ensures steady { OnOk result (Steady session.new) }
     ensures built { OnOk result (spec.is_of name.now (seen line.now) ≡ true) }
-    ensures unbuilt { (number : ℕ) → result ≡ Err (StepErr.Unbuilt number) → (spec.is_of name.now (seen line.now) ≡ false) × (number ≡ line.now.number) }
+    ensures unbuilt { (number : ℕ) → result ≡ Err (StepErr.Unbuilt number)
+        → (spec.is_of name.now (seen line.now) ≡ false) × (number ≡ line.now.number) }
 {
     if line.session != name {
         return Err(StepErr::Unbuilt { line: line.number });
@@ -60,10 +62,12 @@ pub(crate) fn run_each<C: Clock>(
     requires count { length lines.now < 2 ^ 63 - 1 }
     requires begins { Came (C.says clock.now) (spec.session_of (map seen lines.now)) [] session.old }
     requires steady { Steady session.old }
-    ensures came { OnOk result (Came (C.says clock.now) (spec.session_of (map seen lines.now)) (map seen lines.now) session.new) }
+    ensures came { OnOk result (Came (C.says clock.now)
+        (spec.session_of (map seen lines.now)) (map seen lines.now) session.new) }
     ensures steady { OnOk result (Steady session.new) }
     ensures built { OnOk result (spec.unbuilt (map seen lines.now) ≡ None) }
-    ensures unbuilt { (number : ℕ) → result ≡ Err (StepErr.Unbuilt number) → spec.unbuilt (map seen lines.now) ≡ Some number }
+    ensures unbuilt { (number : ℕ) → result ≡ Err (StepErr.Unbuilt number)
+        → spec.unbuilt (map seen lines.now) ≡ Some number }
 {
     for line in lines {
         // By this law the next transaction is new to the tables.

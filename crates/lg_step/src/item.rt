@@ -45,7 +45,8 @@ pub(crate) fn item_of(
     requires first { 1 ≤ id }
     requires last { id < 2 ^ 63 }
     requires time { time ≤ MAX_TICKS }
-    ensures value { IfOk result (λ item. item ≡ Tx id line.now.session.now time false ((line.now.text.now, text_of reply.now) ∷ [])) }
+    ensures value { IfOk result (λ item. item
+        ≡ Tx id line.now.session.now time false ((line.now.text.now, text_of reply.now) ∷ [])) }
     ensures item { IfOk result IsItem }
 {
     let session = Name::of_str(alloc, line.session)?;

@@ -15,8 +15,8 @@ pub(crate) fn is_table_statement(stmt: &Stmt) -> bool
     )
 }
 
-/// Whether a statement neither begins a transaction of many statements, nor goes back in one, nor asks for a digest or an
-/// image.
+/// Whether a statement neither begins a transaction of many statements, nor goes back in one, nor asks for a
+/// digest or an image.
 pub(crate) fn is_built(stmt: &Stmt) -> bool
     ensures { result ≡ spec.is_built (Some stmt.now) }
 {

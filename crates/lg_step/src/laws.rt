@@ -15,8 +15,8 @@ ghost use Rattle.lg_step.specs.Lines.{ran};
 use lg_parse::printing_is_read_back;
 use lg_session::one_session_is_legal;
 
-/// Each event of the last transaction that a session commits has a leaf, where its numbers have room in one and its texts
-/// are UTF-8.
+/// Each event of the last transaction that a session commits has a leaf, where its numbers have room in one
+/// and its texts are UTF-8.
 pub fn last_events_have_leaves()
     ensures { (reads : Reading) (session : Text) (statements : List (ℕ × Text))
         → AllByRecursion (λ e. e.table < 2 ^ 32 → e.tx < 2 ^ 64 → e.seq < 2 ^ 64

@@ -39,7 +39,8 @@ const DATABASE: &str = "LedgerDB";
 
 /// What a session leaves.
 fn left_by(alloc: Global, session: Session) -> Result<Ran, Memory>
-    ensures journal { IfOk result (λ r. r.journal ≡ record { database = codes "LedgerDB"; items = session.items }) }
+    ensures journal { IfOk result (λ r. r.journal
+        ≡ record { database = codes "LedgerDB"; items = session.items }) }
     ensures last { IfOk result (λ r. r.last ≡ session.last) }
     ensures transcript { IfOk result (λ r. r.transcript ≡ string_bytes session.transcript) }
     ensures room { IfOk result (λ r. AllByRecursion HasRoom r.last) }
@@ -66,8 +67,9 @@ fn first_of<'a>(names: &[&'a str]) -> &'a str
     }
 }
 
-/// Runs the statements of the lines in their order, each as a transaction of its own, or outside of one where it is no
-/// table statement. Each begins at a moment that the clock says. The sessions are those of the lines.
+/// Runs the statements of the lines in their order, each as a transaction of its own, or outside of one where
+/// it is no table statement. Each begins at a moment that the clock says. The sessions are those of the
+/// lines.
 pub fn run_lines<C: Clock>(
     alloc: Global,
     sessions: &[&str],
@@ -77,13 +79,17 @@ pub fn run_lines<C: Clock>(
     requires sessions { map (λ n. n.now) sessions.now ≡ sessions_of (map seen lines.now) }
     requires names { All (λ l. is_session_name l.session.now ≡ true) lines.now }
     requires count { length lines.now < 2 ^ 63 - 1 }
-    ensures ran { IfOk result (λ r. (times : List ℕ) × (length times ≡ length lines.now) × AllByRecursion (IsMoment (C.says clock.now)) times
-        × (r.journal ≡ journal_of (ran times (map seen lines.now))) × (r.last ≡ (ran times (map seen lines.now)).last)
-        × (r.transcript ≡ flat_map transcript_text (transcripts_of (map seen lines.now) (ran times (map seen lines.now))))) }
+    ensures ran { IfOk result (λ r. (times : List ℕ) × (length times ≡ length lines.now)
+        × AllByRecursion (IsMoment (C.says clock.now)) times
+        × (r.journal ≡ journal_of (ran times (map seen lines.now)))
+        × (r.last ≡ (ran times (map seen lines.now)).last)
+        × (r.transcript ≡ flat_map transcript_text
+        (transcripts_of (map seen lines.now) (ran times (map seen lines.now))))) }
     ensures journal { IfOk result (λ r. IsJournal r.journal) }
     ensures leaves { IfOk result (λ r. AllByRecursion HasLeaf r.last) }
     ensures built { OnOk result (unbuilt (map seen lines.now) ≡ None) }
-    ensures unbuilt { (line : ℕ) → result ≡ Err (StepErr.Unbuilt line) → unbuilt (map seen lines.now) ≡ Some line }
+    ensures unbuilt { (line : ℕ) → result ≡ Err (StepErr.Unbuilt line)
+        → unbuilt (map seen lines.now) ≡ Some line }
 {
     let mut session = Session::new(alloc)?;
     run_each(alloc, first_of(sessions), lines, clock, &mut session)?;

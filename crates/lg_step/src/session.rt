@@ -55,7 +55,9 @@ impl Session {
     /// Answers a statement outside any transaction.
     #[tactic(auto, using(crate::proofs::Sessions::answers))]
     fn refuse(&mut self, alloc: Global, line: &Line<'_>, refusal: Refusal) -> Result<(), Memory>
-        ensures shows { (x : Run) → Shows line.now.session.now x self.old → OnOk result (Shows line.now.session.now (answered line.now.text.now (Refused refusal) x) self.new) }
+        ensures shows { (x : Run) → Shows line.now.session.now x self.old
+            → OnOk result (Shows line.now.session.now
+            (answered line.now.text.now (Refused refusal) x) self.new) }
         ensures steady { Steady self.old → OnOk result (Steady self.new) }
     {
         push_statement(alloc, line, &Reply::Refused(refusal), &mut self.transcript)
@@ -67,7 +69,9 @@ impl Session {
         ensures next { self.new.next ≡ self.old.next }
         ensures items { self.new.items ≡ self.old.items }
         ensures last { self.new.last ≡ self.old.last }
-        ensures transcript { OnOk result (string_bytes self.new.transcript ≡ string_bytes self.old.transcript ++ indented (end_line (ended_after id (length self.old.items)))) }
+        ensures transcript { OnOk result (string_bytes self.new.transcript
+            ≡ string_bytes self.old.transcript
+            ++ indented (end_line (ended_after id (length self.old.items)))) }
     {
         push_ended(alloc, id, self.items.len() as u64, &mut self.transcript)
     }
@@ -84,7 +88,9 @@ impl Session {
         ensures next { self.new.next ≡ self.old.next }
         ensures items { OnOk result (self.new.items ≡ self.old.items ++ item ∷ []) }
         ensures last { OnOk result (self.new.last ≡ events) }
-        ensures transcript { OnOk result (string_bytes self.new.transcript ≡ string_bytes self.old.transcript ++ indented (end_line (committed_at id (length self.old.items + 1)))) }
+        ensures transcript { OnOk result (string_bytes self.new.transcript
+            ≡ string_bytes self.old.transcript
+            ++ indented (end_line (committed_at id (length self.old.items + 1)))) }
     {
         self.items.push(item)?;
         self.last = events;
@@ -104,7 +110,9 @@ impl Session {
         requires name { is_session_name line.now.session.now ≡ true }
         requires time { time ≤ MAX_TICKS }
         ensures shows { (x : Run) → Shows line.now.session.now x self.old
-            → OnOk result (Shows line.now.session.now (transacts line.now.session.now time line.now.text.now (done_alone x.next x.tables stmt.now) x) self.new) }
+            → OnOk result (Shows line.now.session.now
+            (transacts line.now.session.now time line.now.text.now
+            (done_alone x.next x.tables stmt.now) x) self.new) }
         ensures steady { OnOk result (Steady self.new) }
     {
         let id = self.next;
@@ -131,10 +139,12 @@ impl Session {
         requires name { is_session_name line.now.session.now ≡ true }
         requires time { time ≤ MAX_TICKS }
         ensures shows { (x : Run) → Shows line.now.session.now x self.old
-            → OnOk result (Shows line.now.session.now (stepped line.now.session.now time line.now.text.now (Some stmt.now) x) self.new) }
+            → OnOk result (Shows line.now.session.now
+            (stepped line.now.session.now time line.now.text.now (Some stmt.now) x) self.new) }
         ensures steady { OnOk result (Steady self.new) }
         ensures built { OnOk result (spec.is_built (Some stmt.now) ≡ true) }
-        ensures unbuilt { (number : ℕ) → result ≡ Err (StepErr.Unbuilt number) → (spec.is_built (Some stmt.now) ≡ false) × (number ≡ line.now.number) }
+        ensures unbuilt { (number : ℕ) → result ≡ Err (StepErr.Unbuilt number)
+            → (spec.is_built (Some stmt.now) ≡ false) × (number ≡ line.now.number) }
     {
         if !is_built(stmt) {
             return Err(StepErr::Unbuilt { line: line.number });
@@ -147,18 +157,21 @@ impl Session {
         Ok(())
     }
 
-    /// Runs the statement of a line, which begins at this time. After an error the session isn't to be used again. Costs
-    /// what the plain machine's answer does, and time in proportion to the text and the reply.
+    /// Runs the statement of a line, which begins at this time. After an error the session isn't to be used
+    /// again. Costs what the plain machine's answer does, and time in proportion to the text and the reply.
     #[tactic(auto, using(crate::proofs::Steps::unread_steps))]
     pub fn step(&mut self, alloc: Global, line: &Line<'_>, time: u64) -> Result<(), StepErr>
         requires ready { Ready self.old }
         requires name { is_session_name line.now.session.now ≡ true }
         requires time { time ≤ MAX_TICKS }
         ensures shows { (x : Run) → Shows line.now.session.now x self.old
-            → OnOk result (Shows line.now.session.now (stepped line.now.session.now time line.now.text.now (statement_of line.now.text.now) x) self.new) }
+            → OnOk result (Shows line.now.session.now
+            (stepped line.now.session.now time line.now.text.now
+            (statement_of line.now.text.now) x) self.new) }
         ensures steady { OnOk result (Steady self.new) }
         ensures built { OnOk result (spec.is_built (statement_of line.now.text.now) ≡ true) }
-        ensures unbuilt { (number : ℕ) → result ≡ Err (StepErr.Unbuilt number) → (spec.is_built (statement_of line.now.text.now) ≡ false) × (number ≡ line.now.number) }
+        ensures unbuilt { (number : ℕ) → result ≡ Err (StepErr.Unbuilt number)
+            → (spec.is_built (statement_of line.now.text.now) ≡ false) × (number ≡ line.now.number) }
     {
         match parse(alloc, line.text) {
             Ok(stmt) => self.execute(alloc, line, time, &stmt),

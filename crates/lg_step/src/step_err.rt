@@ -5,8 +5,8 @@ use lg_items::Memory;
 /// Why there is no run.
 #[derive(Clone, Copy, Debug, PartialEq, Eq)]
 pub enum StepErr {
-    /// This line is of a second session, or its statement opens a transaction, sets a savepoint or goes back to one, or
-    /// asks for a digest or an image: these aren't built yet. It is the first such line.
+    /// This line is of a second session, or its statement opens a transaction, sets a savepoint or goes back
+    /// to one, or asks for a digest or an image: these aren't built yet. It is the first such line.
     Unbuilt { line: u64 },
     Memory,
 }

@@ -22,7 +22,8 @@ pub(crate) fn transact(
     requires order { InOrder plain.old }
     requires new { IsNew id plain.old.tables }
     ensures reply { IfOk result (λ done. done.0 ≡ (done_alone id plain.old.tables stmt.now).1) }
-    ensures events { IfOk result (λ done. done.1 ≡ all_events id (done_alone id plain.old.tables stmt.now).0.tables) }
+    ensures events { IfOk result (λ done. done.1
+        ≡ all_events id (done_alone id plain.old.tables stmt.now).0.tables) }
     ensures tables { OnOk result (plain.new ≡ at_rest (done_alone id plain.old.tables stmt.now).0.tables) }
     ensures order { OnOk result (InOrder plain.new) }
 {

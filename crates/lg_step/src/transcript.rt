@@ -17,7 +17,8 @@ pub(crate) fn push_statement(
     reply: &Reply,
     transcript: &mut String,
 ) -> Result<(), Memory>
-    ensures { OnOk result (string_bytes transcript.new ≡ string_bytes transcript.old ++ entry_text line.now.session.now (statement line.now.text.now reply.now None)) }
+    ensures { OnOk result (string_bytes transcript.new ≡ string_bytes transcript.old
+        ++ entry_text line.now.session.now (statement line.now.text.now reply.now None)) }
 {
     let head = format!(in alloc; "{}: {}\n", line.session, line.text)?;
     let lines = indented_reply(alloc, reply)?;
@@ -33,7 +34,8 @@ pub(crate) fn push_committed(
     place: u64,
     transcript: &mut String,
 ) -> Result<(), Memory>
-    ensures { OnOk result (string_bytes transcript.new ≡ string_bytes transcript.old ++ indented (end_line (committed_at id place))) }
+    ensures { OnOk result (string_bytes transcript.new
+        ≡ string_bytes transcript.old ++ indented (end_line (committed_at id place))) }
 {
     let line = format!(in alloc; "  committed {id} at {place}\n")?;
     transcript.push_str(line.as_str())?;
@@ -47,7 +49,8 @@ pub(crate) fn push_ended(
     count: u64,
     transcript: &mut String,
 ) -> Result<(), Memory>
-    ensures { OnOk result (string_bytes transcript.new ≡ string_bytes transcript.old ++ indented (end_line (ended_after id count))) }
+    ensures { OnOk result (string_bytes transcript.new
+        ≡ string_bytes transcript.old ++ indented (end_line (ended_after id count))) }
 {
     let line = format!(in alloc; "  ended {id} after {count}\n")?;
     transcript.push_str(line.as_str())?;

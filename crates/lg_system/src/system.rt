@@ -1,4 +1,5 @@
-//! The tables of the system: their definitions, and the starts of the rows that they have of each table and index.
+//! The tables of the system: their definitions, and the starts of the rows that they have of each table and
+//! index.
 
 ghost use Rattle.std.specs.Prelude.{◌≡◌, ◌+◌, IfOk, map, length};
 ghost use Rattle.lg_model.specs.Effect as effects;

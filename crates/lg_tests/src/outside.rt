@@ -11,8 +11,8 @@ const LINES: &[u8] =
 const TRANSCRIPT: &[u8] =
     b"a: CREATE TABLE log (id INT PRIMARY KEY) WITH (LEDGER = ON (APPEND_ONLY = ON))\n  made\n  committed 1 at 1\na: INSERT INTO log VALUES (7)\n  1 rows\n  committed 2 at 2\n";
 
-// The fields of the layout one after another: format, table, start, transaction, number, count, and the column's
-// ordinal, type, length and value.
+// The fields of the layout one after another: format, table, start, transaction, number, count, and the
+// column's ordinal, type, length and value.
 const LEAF: &[u8] =
     b"\x01\x00\x00\x00\x03\x01\x00\x00\x00\x00\x00\x00\x00\x02\x00\x00\x00\x00\x00\x00\x00\x00\x00\x01\x00\x01\x02\x00\x00\x00\x00\x00\x00\x04\x00\x00\x00\x07";
 
@@ -67,8 +67,8 @@ const WORDS: [(&[&str], Status); 11] = [
     (&["step", "--save", "9._-Z"], Status::Done),
 ];
 
-// The calls of the source, the vault and the sink that fail, an input, and the status. The source is read first, then
-// the input is looked at, then the files are put, and then the text is written.
+// The calls of the source, the vault and the sink that fail, an input, and the status. The source is read
+// first, then the input is looked at, then the files are put, and then the text is written.
 const FAULTS: [(&[u64], &[u64], &[u64], &[u8], Status); 10] = [
     (&[1], &[], &[], LINES, Status::SourceFault),
     (&[3], &[], &[], LINES, Status::SourceFault),
@@ -162,7 +162,8 @@ fn two_lines_make_these_bytes(rt: HostRuntime) -> Result<(), Fail> {
     Ok(())
 }
 
-// SHA-256 of a zero byte and the leaf of the start of the row (1, NULL), which has the column 1 alone, by another program.
+// SHA-256 of a zero byte and the leaf of the start of the row (1, NULL), which has the column 1 alone, by
+// another program.
 const ROOT_WITHOUT_NULL: &[u8] =
     b"\x91\xcf\x7c\x88\x5b\xdb\xe8\x40\x15\xb9\xbb\x43\xfc\x15\xb0\xe4\x42\xbd\x1c\x3c\xfa\x55\x16\xcf\x58\xcb\x3e\x80\x05\xc0\x0f\x19";
 

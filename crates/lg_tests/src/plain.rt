@@ -5,7 +5,8 @@ use lg_types::JournalItem;
 use std::alloc::Global;
 use std::test::Fail;
 
-// Texts of a transaction that BEGIN opened, with their replies. They leave no event, so all are run and none differs.
+// Texts of a transaction that BEGIN opened, with their replies. They leave no event, so all are run and none
+// differs.
 const OPENED: [(&str, &str); 9] = [
     ("SAVE TRAN s", "saved\n"),
     ("SELECT * FROM sys_ledger_tables", "0 rows\n"),

@@ -14,8 +14,8 @@ use crate::trees::{restored, tree};
 use crate::values::{column, compared, day, literal};
 use std::alloc::Global;
 
-/// What a line is answered: an empty line and one that begins with `#` as they are, and a case by its first word. A line
-/// with the word `let` names a text.
+/// What a line is answered: an empty line and one that begins with `#` as they are, and a case by its first
+/// word. A line with the word `let` names a text.
 pub fn answer(alloc: Global, pieces: &mut Pieces, line: &str) -> Result<String, Fault> {
     if line.is_empty() || line.starts_with("#") {
         return Ok(String::from_str(alloc, line)?);

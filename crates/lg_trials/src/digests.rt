@@ -27,7 +27,8 @@ pub fn read(alloc: Global, bytes: &[u8]) -> Result<String, Fault> {
     Ok(out)
 }
 
-/// The digest file of one digest: database, number of the block, its hash, the time of its last entry and when it was made.
+/// The digest file of one digest: database, number of the block, its hash, the time of its last entry and
+/// when it was made.
 pub fn issued(alloc: Global, text: &str) -> Result<String, Fault> {
     let (database, text) = first_word(text);
     let (block, text) = first_word(text);

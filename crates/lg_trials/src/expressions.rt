@@ -88,8 +88,8 @@ fn outcome(alloc: Global, answer: Result<Outcome, Refusal>) -> Result<String, Fa
     Ok(String::from_str(alloc, word)?)
 }
 
-/// The class of an expression over the columns and its value, truth or refusal in the row, or the refusal by which it has
-/// no class.
+/// The class of an expression over the columns and its value, truth or refusal in the row, or the refusal by
+/// which it has no class.
 pub fn evaluated(alloc: Global, text: &str) -> Result<String, Fault> {
     let Some(e) = condition(alloc, text)? else {
         return Ok(String::from_str(alloc, "no expression")?);
@@ -113,7 +113,8 @@ pub fn evaluated(alloc: Global, text: &str) -> Result<String, Fault> {
 /// An operand of each class: number without a point and with one, text, bytes, date, NULL and truth.
 const OPERANDS: [&str; 7] = ["i", "d", "t", "x", "day", "NULL", "1 = 1"];
 
-/// An operand and an operator: for each right operand `y` where the operator takes it beside the left one, or `-`.
+/// An operand and an operator: for each right operand `y` where the operator takes it beside the left one, or
+/// `-`.
 pub fn classes(alloc: Global, text: &str) -> Result<String, Fault> {
     let (left, op) = two_sides(text)?;
     let mut taken = String::new(alloc);

@@ -1,4 +1,5 @@
-//! Cases of locks. A lock is written as its mode for the whole, and with the literal of the key behind it for a key.
+//! Cases of locks. A lock is written as its mode for the whole, and with the literal of the key behind it for
+//! a key.
 
 use crate::fault::Fault;
 use crate::texts::{first_word, number};
@@ -63,7 +64,8 @@ fn ask(alloc: Global, list: &mut LockList, tx: u64, words: &str) -> Result<Strin
     }
 }
 
-/// What one step is answered: `TX LOCK ..` asks, `release TX` releases, and `back N` leaves the first so many.
+/// What one step is answered: `TX LOCK ..` asks, `release TX` releases, and `back N` leaves the first so
+/// many.
 fn step(alloc: Global, list: &mut LockList, text: &str) -> Result<String, Fault> {
     let (word, rest) = first_word(text);
     match word {

@@ -1,5 +1,6 @@
-//! Answers cases, one in each line of standard input, by public calls of the libraries. Its stored run holds the tables of
-//! cases that were worked out by hand: a line of `stdout` is what the same line of `stdin` is to be answered.
+//! Answers cases, one in each line of standard input, by public calls of the libraries. Its stored run holds
+//! the tables of cases that were worked out by hand: a line of `stdout` is what the same line of `stdin` is
+//! to be answered.
 #![tactic(auto)]
 
 mod answers;

@@ -1,5 +1,5 @@
-//! What a line has in short: `$<NAME>` for a text that an earlier line named, `$<3 ab>` for `ababab`, and `$<#0d0a>` for
-//! bytes.
+//! What a line has in short: `$<NAME>` for a text that an earlier line named, `$<3 ab>` for `ababab`, and
+//! `$<#0d0a>` for bytes.
 
 use crate::fault::Fault;
 use crate::texts::{hex_bytes, number};

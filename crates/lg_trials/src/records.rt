@@ -154,7 +154,8 @@ pub fn cut(alloc: Global, text: &str) -> Result<String, Fault> {
     Ok(format!(in alloc; "{whole} bytes alone")?)
 }
 
-/// A place, a byte in digits, and the word and the digits of a case: what is said where the byte stands at the place.
+/// A place, a byte in digits, and the word and the digits of a case: what is said where the byte stands at
+/// the place.
 pub fn changed(alloc: Global, text: &str) -> Result<String, Fault> {
     let (place, text) = first_word(text);
     let (byte, text) = first_word(text);

@@ -178,8 +178,8 @@ pub fn name(alloc: Global, word: &str) -> Result<String, Fault> {
     Ok(format!(in alloc; "{bare}, {bracketed}")?)
 }
 
-/// The statements of an input: number of the line, session and text, each ended by `;`; or `!` and the first line that
-/// lacks its form.
+/// The statements of an input: number of the line, session and text, each ended by `;`; or `!` and the first
+/// line that lacks its form.
 pub fn lines(alloc: Global, input: &[u8]) -> Result<String, Fault> {
     let lines = match read_lines(alloc, input) {
         Ok(lines) => lines,

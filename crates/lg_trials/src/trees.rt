@@ -30,7 +30,8 @@ fn push_all<H: Hash32>(tree: &mut Frontier<H>, leaves: &[Vec<u8>])
     }
 }
 
-/// The root of the first leaves, that with the second behind them, and that with the third in the place of the second.
+/// The root of the first leaves, that with the second behind them, and that with the third in the place of
+/// the second.
 fn roots(first: &[Vec<u8>], second: &[Vec<u8>], third: &[Vec<u8>]) -> ([u8; 32], [u8; 32], [u8; 32])
     requires first { length first.now ≤ 1000 }
     requires second { length second.now ≤ 1000 }

@@ -1,4 +1,5 @@
--- What a journal keeps whatever its statements mean: the side rules of its items, by themselves and among each other.
+-- What a journal keeps whatever its statements mean: the side rules of its items, by themselves and among
+-- each other.
 use Rattle.std.specs.Prelude.{ℕ, ◌≡◌, ◌+◌, ◌-◌, ◌==◌, ◌&&◌, ◌||◌, not, nat_le, Bool, true, List, [], ◌∷◌, length}
 use Rattle.std.specs.List.{AllByRecursion, list_any}
 use Rattle.lg_items.specs.DatabaseName.{is_database_name}

@@ -5,7 +5,8 @@ use crate::table::TableDef;
 use crate::version::{Typed, Version};
 use lg_items::{Items, Name};
 
-/// A row of an index: the values of the index's columns, and then those of the primary key's, NULL being none.
+/// A row of an index: the values of the index's columns, and then those of the primary key's,
+/// NULL being none.
 pub type IndexRow = Items<Option<Typed>>;
 
 /// The rows of a table.

@@ -7,7 +7,8 @@ use lg_value::{SqlType, Value};
 /// The values of a row, one for each column.
 pub type Row = Items<Value>;
 
-/// The transaction of an event, and its number there, from 0. Events are ordered by the transaction and then the number.
+/// The transaction of an event, and its number there, from 0. Events are ordered by the transaction
+/// and then the number.
 pub type EventId = (TxId, u64);
 
 /// A value other than NULL, with the type of the column that stored it.

@@ -11,7 +11,8 @@ use Rattle.lg_value.specs.declared.refusal.LitErr.TheVariants.{NotLiteral, Memor
 
 -- ---- texts
 
--- what a text says, of what stands behind its first quote: two quotes stand for one, and a quote alone ends it.
+-- what a text says, of what stands behind its first quote: two quotes stand for one, and a quote alone ends
+-- it.
 -- `at_quote` says that the byte before was a quote, and `before` is what was read so far
 abbrev pub unquoted_from : Bool → List ℕ → List ℕ → Option (List ℕ)
 unquoted_from false before [] = None

@@ -17,7 +17,8 @@ abbrev pub behind_point : List ℕ → List ℕ
 behind_point [] = []
 behind_point (d ∷ ds) = 46 ∷ d ∷ ds
 
--- digits with a point before the last s of them; where there are no more than s, zeros fill up what stands behind the
+-- digits with a point before the last s of them; where there are no more than s, zeros fill up what stands
+-- behind the
 -- point, and `zero` stands before it
 unfoldable pub pointed : List ℕ → List ℕ → ℕ → List ℕ
 pointed zero ds s =
@@ -51,7 +52,8 @@ printed_with zero (Date d) = quoted (day_text d)
 unfoldable pub printed : Value → List ℕ
 printed v = printed_with (48 ∷ []) v
 
--- the digit before a point that has no other before it: a literal with 38 digits behind its point has none, since a
+-- the digit before a point that has no other before it: a literal with 38 digits behind its point has none,
+-- since a
 -- literal has no more than 38
 abbrev pub leading_zero : Value → List ℕ
 leading_zero (Num v s) = if s == 38 then [] else 48 ∷ []

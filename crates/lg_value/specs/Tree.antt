@@ -6,7 +6,8 @@ use Rattle.lg_value.specs.declared.expr.Expr.{Expr}
 use Rattle.lg_value.specs.declared.expr.Expr.TheOpen.{Expr-F}
 use Rattle.lg_value.specs.declared.expr.Expr.TheFolds.{fold-Expr}
 
--- a literal, a column, a negation, an inversion, a test for NULL (negated or not), or an operator with its operands
+-- a literal, a column, a negation, an inversion, a test for NULL (negated or not), or an operator with its
+-- operands
 pub data Tree : Type 0 where
   literal : Value → Tree
   column : List ℕ → Tree

@@ -14,10 +14,11 @@ use crate::{Blob, SqlType, Text, Value, ValueErr};
 
 /// The value that a column of the type takes in place of `v`.
 ///
-/// NULL stays. A whole number becomes 0 or 1 for BIT, and stays itself for INT and BIGINT. Any number is rounded for
-/// DECIMAL to its places, half away from zero. A text stays itself for NVARCHAR, and for DATE is read as `YYYY-MM-DD`.
-/// Bytes and days stay themselves. All else, and each other value for a type outside its ranges, is a `Mismatch`; a
-/// number that the type doesn't have is `OutOfRange`, and a text or bytes beyond its length are `TooLong`.
+/// NULL stays. A whole number becomes 0 or 1 for BIT, and stays itself for INT and BIGINT. Any number is
+/// rounded for DECIMAL to its places, half away from zero. A text stays itself for NVARCHAR, and for DATE is
+/// read as `YYYY-MM-DD`. Bytes and days stay themselves. All else, and each other value for a type outside
+/// its ranges, is a `Mismatch`; a number that the type doesn't have is `OutOfRange`, and a text or bytes
+/// beyond its length are `TooLong`.
 #[tactic(auto, unfolding(crate::specs::Conversion::conversion_of))]
 pub fn to_column(v: Value, t: &SqlType) -> Result<Value, ValueErr>
     ensures { result ≡ spec.conversion_of v t.now }

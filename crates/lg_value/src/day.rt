@@ -70,7 +70,8 @@ fn number_of(date: Date) -> u32
     (date.to_plain().to_unix_epoch_day() + 719_162) as u32
 }
 
-/// The number of the day that a text writes, where it is a date in the form `YYYY-MM-DD` from 0001-01-01 to 9999-12-31.
+/// The number of the day that a text writes, where it is a date in the form `YYYY-MM-DD` from
+/// 0001-01-01 to 9999-12-31.
 #[tactic(auto, unfolding(crate::specs::Day::day_of, crate::specs::Day::number_of))]
 pub fn day_of(text: &[u8]) -> Option<u32>
     ensures { result ≡ spec.day_of text.now }

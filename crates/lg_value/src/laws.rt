@@ -21,8 +21,8 @@ ghost use Rattle.lg_value.specs.Literals.{IsLiteral, HasWholePart};
 ghost use Rattle.lg_value.specs.Printed.{printed, literal_text};
 ghost use Rattle.lg_value.specs.Order.{value_cmp, IsSameValue, HasScale};
 
-/// Any two values stand in the order of `compare`, one way or the other, the order goes on through a third, and two are
-/// equal in it exactly where they are one value.
+/// Any two values stand in the order of `compare`, one way or the other, the order goes on through a third,
+/// and two are equal in it exactly where they are one value.
 pub fn order_is_total()
     ensures turned { (a b : Value) → value_cmp a b ≡ ordering_reverse (value_cmp b a) }
     ensures transitive { (a b c : Value) → IsTrue (is_le (value_cmp a b)) → IsTrue (is_le (value_cmp b c))
@@ -30,8 +30,8 @@ pub fn order_is_total()
     ensures equal { (a b : Value) → HasScale a → HasScale b → (value_cmp a b ≡ Equal) ↔ IsSameValue a b }
 {}
 
-/// What the order says of values of one kind: NULL is the least; numbers go by their exact values, for which each is
-/// brought to the units of both; texts and bytes go byte by byte, and days by their numbers.
+/// What the order says of values of one kind: NULL is the least; numbers go by their exact values, for which
+/// each is brought to the units of both; texts and bytes go byte by byte, and days by their numbers.
 pub fn order_of_kinds()
     ensures null { (b : Value) → b ≢ Null → value_cmp Null b ≡ Less }
     ensures numbers { (v w : ℤ) (s z : ℕ) → s < 2 ^ 8 → z < 2 ^ 8
@@ -41,8 +41,8 @@ pub fn order_of_kinds()
     ensures days { (d e : ℕ) → value_cmp (Date d) (Date e) ≡ nat_cmp d e }
 {}
 
-/// What rounding half away from zero means: of the numbers in the greater units the nearest is taken, and of two that
-/// are as near the one with the greater size; on both sides of zero alike.
+/// What rounding half away from zero means: of the numbers in the greater units the nearest is taken, and of
+/// two that are as near the one with the greater size; on both sides of zero alike.
 pub fn rounding_is_half_away_from_zero()
     ensures nearest { (n k : ℕ)
         → (2 * (rounded_size n k * 10 ^ k) ≤ 2 * n + 10 ^ k)
@@ -57,16 +57,16 @@ pub fn conversion_is_stored()
     ensures kept { (v : Value) (ty : SqlType) → is_stored v ty ≡ true → conversion_of v ty ≡ Ok v }
 {}
 
-/// The text of each day's date is read as the day, and each text that is read is one of the days from 0001-01-01 to
-/// 9999-12-31.
+/// The text of each day's date is read as the day, and each text that is read is one of the days from
+/// 0001-01-01 to 9999-12-31.
 pub fn days_are_read_back()
     ensures read { (n : ℕ) → n ≤ last_day → day_of (date_text (date_of n)) ≡ Some n }
     ensures within { (text : List ℕ) (n : ℕ) → day_of text ≡ Some n → n ≤ last_day }
 {}
 
-/// What is read is a value that literals write. What is written of such a value as a literal is read as the value, and so
-/// is what is shown of it, unless all its 38 digits stand behind the point. A day is shown as a text, which is read as its
-/// date.
+/// What is read is a value that literals write. What is written of such a value as a literal is read as the
+/// value, and so is what is shown of it, unless all its 38 digits stand behind the point. A day is shown as a
+/// text, which is read as its date.
 pub fn literals_are_read_back()
     ensures literal { (text : List ℕ) (v : Value) → literal_of text ≡ Some v → IsLiteral v }
     ensures written { (v : Value) → IsLiteral v → literal_of (literal_text v) ≡ Some v }

@@ -15,9 +15,10 @@ use std::alloc::Global;
 /// The most digits that a number is written with.
 const MOST_DIGITS: usize = 38;
 
-/// The value that a text writes as a literal: NULL in any case; a number, with or without a sign and a point, of at most
-/// 38 digits; a text in single quotes, each quote in it doubled, with or without an N before it; or bytes as `0x` and
-/// an even number of hexadecimal digits. No blank stands anywhere, and each other text is `NotLiteral`.
+/// The value that a text writes as a literal: NULL in any case; a number, with or without a sign and a
+/// point, of at most 38 digits; a text in single quotes, each quote in it doubled, with or without an N
+/// before it; or bytes as `0x` and an even number of hexadecimal digits. No blank stands anywhere, and each
+/// other text is `NotLiteral`.
 #[tactic(auto, unfolding(crate::specs::Literal::literal_of))]
 pub fn read_literal(alloc: Global, text: &str) -> Result<Value, LitErr>
     ensures { spec.Reads (spec.literal_of text.now) result }
@@ -186,8 +187,8 @@ fn unquoted(alloc: Global, quoted: &str) -> Result<Text, LitErr>
     Err(LitErr::NotLiteral)
 }
 
-/// What stands before the next quote, and behind it where it is doubled. None where no quote ends the text, or something
-/// stands behind one that isn't doubled.
+/// What stands before the next quote, and behind it where it is doubled. None where no quote ends the text,
+/// or something stands behind one that isn't doubled.
 fn next_piece(rest: &str) -> Option<(&str, Option<&str>)>
     ensures { MatchOption result ((before : List ℕ) → unquoted_from false before rest.now ≡ None)
         (λ p. IsPiece rest.now p.0.now (option_copied p.1)) }

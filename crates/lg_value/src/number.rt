@@ -31,7 +31,8 @@ fn compare_raised(v: i128, places: u8, w: i128) -> Ordering
     }
 }
 
-/// `v` in units of 10^-s against `w` in units of 10^-z, exactly. Numbers of one scale are compared as they are.
+/// `v` in units of 10^-s against `w` in units of 10^-z, exactly. Numbers of one scale are
+/// compared as they are.
 pub fn compare_numbers(v: i128, s: u8, w: i128, z: u8) -> Ordering
     ensures { result ≡ int_cmp (spec.raised v (255 - s)) (spec.raised w (255 - z)) }
 {
@@ -69,7 +70,8 @@ fn rounded(v: i128, places: u8) -> i128
     if v < 0 { -(size as i128) } else { size as i128 }
 }
 
-/// `v` in units of 10^-s, in units of 10^-z: exact, or rounded half away from zero. None where 128 bits don't hold it.
+/// `v` in units of 10^-s, in units of 10^-z: exact, or rounded half away from zero. None where 128
+/// bits don't hold it.
 pub fn rescaled(v: i128, s: u8, z: u8) -> Option<i128>
     ensures { SomeIff result (FitsSigned w128 (spec.rescaled v s z)) (spec.rescaled v s z) }
 {

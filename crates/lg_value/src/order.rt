@@ -11,8 +11,9 @@ use crate::Value;
 use crate::number::compare_numbers;
 use std::cmp::Ordering;
 
-/// NULL, then numbers by their exact values, then texts and bytes byte by byte, then days. It is a total order, and
-/// numbers of one value and different scales are equal in it. Numbers of one scale are compared as they are.
+/// NULL, then numbers by their exact values, then texts and bytes byte by byte, then days. It is a total
+/// order, and numbers of one value and different scales are equal in it. Numbers of one scale are
+/// compared as they are.
 #[tactic(auto, unfolding(crate::specs::Order::value_cmp))]
 pub fn compare(a: &Value, b: &Value) -> Ordering
     ensures { result ≡ value_cmp a.now b.now }
@@ -55,7 +56,8 @@ impl Eq for Value {
 impl PartialOrd for Value {
     ghost partial_cmp = { as_partial_cmp value_cmp };
 
-    ghost laws = { partial_order_from_own_ties (Prim.search (value_total, comparing, rules)) (Prim.search (value_total, comparing, rules)) };
+    ghost laws = { partial_order_from_own_ties (Prim.search (value_total, comparing, rules))
+        (Prim.search (value_total, comparing, rules)) };
 
     fn partial_cmp(&self, other: &Value) -> Option<Ordering> {
         Some(compare(self, other))

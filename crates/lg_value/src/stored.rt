@@ -9,8 +9,8 @@ use crate::text::units_of;
 use crate::{SqlType, Value};
 
 impl SqlType {
-    /// Whether the parameters are in their ranges: 1 to 38 digits, at most so many of them after the point; 1 to 4,000
-    /// UTF-16 units; 1 to 8,000 bytes.
+    /// Whether the parameters are in their ranges: 1 to 38 digits, at most so many of them after the point; 1
+    /// to 4,000 UTF-16 units; 1 to 8,000 bytes.
     #[tactic(auto, unfolding(crate::specs::Stored::is_in_range))]
     pub fn is_in_range(&self) -> bool
         ensures { result ≡ spec.is_in_range self.now }
@@ -24,7 +24,8 @@ impl SqlType {
     }
 }
 
-/// Whether a column of the type may hold the value, NULL among them. A type outside its ranges holds NULL alone.
+/// Whether a column of the type may hold the value, NULL among them. A type outside its ranges
+/// holds NULL alone.
 #[tactic(auto, unfolding(crate::specs::Stored::is_stored))]
 pub fn fits(v: &Value, t: &SqlType) -> bool
     ensures { result ≡ spec.is_stored v.now t.now }

@@ -12,5 +12,5 @@ use Rattle.lg_verdict.specs.Verdict.{first_failed}
 abbrev pub tables_tried : (List ℕ → List ℕ) → Image → Verdict
 tables_tried h i =
     first_failed (
-    (V4, id_fault i) ∷ (V5, root_fault h i) ∷ (V6, version_fault i) ∷ (V7, definition_fault i) ∷ (V8, index_fault i)
-    ∷ [])
+    (V4, id_fault i) ∷ (V5, root_fault h i) ∷ (V6, version_fault i) ∷ (V7, definition_fault i)
+    ∷ (V8, index_fault i) ∷ [])

@@ -67,7 +67,8 @@ fn no_hash() -> [u8; 32]
     [0; 32]
 }
 
-/// The first block that hasn't the size or the root of its entries. The entries are hashed in order, each once.
+/// The first block that hasn't the size or the root of its entries.
+/// The entries are hashed in order, each once.
 #[tactic(auto, unfolding(lg_verdict::specs::Blocks::block_fault))]
 pub fn block_fault<H: Hash32>(
     alloc: Global,
@@ -104,7 +105,8 @@ fn block_holds<H: Hash32>(
     requires before { before ≡ spec.entries_before image.now b }
     requires within { before ≤ length image.now.entries }
     ensures holds { IfOk result (λ holds. holds ≡ spec.block_holds (H.digest hasher) image.now b block.now) }
-    ensures within { IfOk result (λ holds. holds ≡ true → before + block.now.size ≤ length image.now.entries) }
+    ensures within { IfOk result (λ holds. holds ≡ true
+        → before + block.now.size ≤ length image.now.entries) }
 {
     let entries = image.entries.as_slice();
     if block.size < 1 || u64::from(MAX_BLOCK) < block.size {

@@ -13,8 +13,8 @@ use lg_items::TableId;
 use lg_types::{EventId, TxEntry, Version};
 use lg_verdict::Place;
 
-/// The first entry whose id an earlier one has; where there is none, the least start or end by a transaction that has
-/// no entry.
+/// The first entry whose id an earlier one has; where there is none, the least start or end by a
+/// transaction that has no entry.
 #[tactic(auto, unfolding(lg_verdict::specs::Entries::id_fault))]
 pub fn id_fault(image: &Image, tables: &[Shown]) -> Option<Place>
     requires { Show tables.now image.now }
@@ -64,7 +64,8 @@ fn least_stranger(image: &Image, tables: &[Shown]) -> Option<TableEvent>
 
 #[tactic(auto, using(crate::proofs::Strangers::least_of_parts))]
 fn lesser_in(image: &Image, table: &Shown, best: Option<TableEvent>) -> Option<TableEvent>
-    ensures { result ≡ least_from spec.table_event_cmp best (strangers_in image.now.entries (table_of table.now)) }
+    ensures { result ≡ least_from spec.table_event_cmp best
+        (strangers_in image.now.entries (table_of table.now)) }
 {
     let entries = image.entries.as_slice();
     let id = table.def.id;
@@ -78,7 +79,8 @@ fn lesser_among(
     versions: &[Version],
     best: Option<TableEvent>,
 ) -> Option<TableEvent>
-    ensures { result ≡ least_from spec.table_event_cmp best (flat_map (strangers_of entries.now table) versions.now) }
+    ensures { result ≡ least_from spec.table_event_cmp best
+        (flat_map (strangers_of entries.now table) versions.now) }
 {
     let mut best = best;
     for version in versions {

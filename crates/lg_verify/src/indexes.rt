@@ -72,7 +72,8 @@ fn index_holds(
     index: &IndexDef,
 ) -> Result<bool, Memory>
     requires { key.now ≡ key_places table.now.def.now.columns }
-    ensures { IfOk result (λ holds. holds ≡ spec.index_holds table.now.def.now table.now.rows.now g index.now) }
+    ensures { IfOk result (λ holds. holds
+        ≡ spec.index_holds table.now.def.now table.now.rows.now g index.now) }
 {
     let ordinals = ordinals_of(alloc, key, index)?;
     let versions = sorted_versions(alloc, &ordinals, table.rows.base.as_slice())?;
@@ -151,7 +152,8 @@ fn compare_rows(ordinals: &[usize], a: &Version, b: &Version) -> Ordering
 }
 
 fn compare_values(a: Option<&Typed>, b: Option<&Typed>) -> Ordering
-    ensures { result ≡ value_cmp (value_or_null (option_copied a.entry)) (value_or_null (option_copied b.entry)) }
+    ensures { result ≡ value_cmp (value_or_null (option_copied a.entry))
+        (value_or_null (option_copied b.entry)) }
 {
     match (a, b) {
         (Some(a), Some(b)) => compare(&a.value, &b.value),

@@ -162,7 +162,8 @@ fn table_row(def: &TableDef) -> [Wanted<'_>; 6]
 
 /// Whether of the rows about the table there is one, which is that of its definition.
 pub fn has_table_row(versions: &[Version], def: &TableDef) -> bool
-    ensures { result ≡ are_rows (about (pos def.now.id) (rows_in versions.now)) (system.table_row def.now ∷ []) }
+    ensures { result ≡ are_rows (about (pos def.now.id) (rows_in versions.now))
+        (system.table_row def.now ∷ []) }
 {
     count_about(versions, def.id) == 1 && has_row(versions, def.id, &table_row(def))
 }
@@ -192,14 +193,16 @@ fn column_row(id: TableId, place: usize, column: &ColumnDef) -> [Wanted<'_>; 9]
 }
 
 fn has_column_row(versions: &[Version], id: TableId, place: usize, column: &ColumnDef) -> bool
-    ensures { result ≡ has_row (about (pos id) (rows_in versions.now)) (system.column_row id (place + 1, column.now)) }
+    ensures { result ≡ has_row (about (pos id) (rows_in versions.now))
+        (system.column_row id (place + 1, column.now)) }
 {
     has_row(versions, id, &column_row(id, place, column))
 }
 
 #[tactic(auto, unfolding(lg_model::specs::SystemTables::column_rows))]
 fn has_column_rows(versions: &[Version], def: &TableDef) -> bool
-    ensures { result ≡ list_all (has_row (about (pos def.now.id) (rows_in versions.now))) (system.column_rows def.now) }
+    ensures { result ≡ list_all (has_row (about (pos def.now.id) (rows_in versions.now)))
+        (system.column_rows def.now) }
 {
     for (place, column) in def.columns.as_slice().iter().enumerate() {
         if !has_column_row(versions, def.id, place, column) {

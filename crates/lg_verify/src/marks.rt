@@ -128,7 +128,8 @@ fn put_head(table: TableId, mark: &Mark, out: &mut Vec<u8>) -> Result<(), Memory
 // One array, so that the head is appended at once.
 #[tactic(auto, unfolding(lg_bytes::specs::Fields::u32_field, lg_bytes::specs::Fields::u64_field))]
 fn head_of(table: TableId, op: u8, event: EventId) -> [u8; 22]
-    ensures { result ≡ u8_field 1 ++ (u32_field table ++ (u8_field op ++ (u64_field event.0 ++ u64_field event.1))) }
+    ensures { result ≡ u8_field 1
+        ++ (u32_field table ++ (u8_field op ++ (u64_field event.0 ++ u64_field event.1))) }
 {
     let [a, b, c, d] = table.to_be_bytes();
     let [x0, x1, x2, x3, x4, x5, x6, x7] = event.0.to_be_bytes();
@@ -140,7 +141,8 @@ fn head_of(table: TableId, op: u8, event: EventId) -> [u8; 22]
 
 // The start of the version that an end ends.
 fn put_start(mark: &Mark, out: &mut Vec<u8>) -> Result<(), Memory>
-    ensures { OnOk result ((table : ℕ) → out.new.items ≡ out.old.items ++ start_bytes (event_of table mark.now).start) }
+    ensures { OnOk result ((table : ℕ) → out.new.items
+        ≡ out.old.items ++ start_bytes (event_of table mark.now).start) }
 {
     if mark.end.is_some() {
         put_u64(out, mark.version.start.0)?;

@@ -119,7 +119,8 @@ fn has_index(indexes: &[IndexDef], name: &Name) -> bool
     false
 }
 
-/// Whether no name of the table is one of a table of the system, or stands in one of these rows with a lower id.
+/// Whether no name of the table is one of a table of the system,
+/// or stands in one of these rows with a lower id.
 pub fn has_new_names(versions: &[Version], def: &TableDef) -> bool
     ensures { result ≡ spec.has_new_names (map values_of versions.now) def.now }
 {
@@ -141,7 +142,8 @@ fn is_system_name(name: &Name) -> bool
 }
 
 fn has_older_name(versions: &[Version], def: &TableDef) -> bool
-    ensures { result ≡ list_any (λ row. spec.is_before def.now.id row && spec.share_name (spec.names_in row) def.now)
+    ensures { result ≡ list_any
+        (λ row. spec.is_before def.now.id row && spec.share_name (spec.names_in row) def.now)
         (map values_of versions.now) }
 {
     for version in versions {

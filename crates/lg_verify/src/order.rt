@@ -51,7 +51,8 @@ fn precedes(entries: &[TxEntry], table: &Keyed, w: &Version, v: &Version) -> boo
 
 /// Whether one of these versions that is earlier and of v's key has no end.
 fn any_open(entries: &[TxEntry], table: &Keyed, versions: &[Version], v: &Version) -> bool
-    ensures { result ≡ list_any (λ w. is_none w.end) (earlier_of_key entries.now table.now.columns v.now versions.now) }
+    ensures { result ≡ list_any (λ w. is_none w.end)
+        (earlier_of_key entries.now table.now.columns v.now versions.now) }
 {
     for w in versions {
         if is_open_before(entries, table, w, v) {
@@ -70,7 +71,8 @@ fn is_open_before(entries: &[TxEntry], table: &Keyed, w: &Version, v: &Version) 
 /// Whether the version has no end, and an earlier one of its key has none either.
 #[tactic(auto, using(crate::proofs::Latest::any_of_parts))]
 pub fn shares_key(entries: &[TxEntry], table: &Keyed, rows: &TableRows, v: &Version) -> bool
-    ensures { result ≡ spec.shares_key entries.now table.now.columns (with_columns table.now.columns (rows.now.base ++ rows.now.history)) v.now }
+    ensures { result ≡ spec.shares_key entries.now table.now.columns
+        (with_columns table.now.columns (rows.now.base ++ rows.now.history)) v.now }
 {
     v.end.is_none()
         && (any_open(entries, table, rows.base.as_slice(), v)
@@ -157,10 +159,12 @@ fn follows(entries: &[TxEntry], v: &Version, before: Option<&Version>) -> bool
     }
 }
 
-/// Whether the version ends after it starts, and the one just before it among those of its key ends before it starts.
+/// Whether the version ends after it starts, and the one just before it among those of its key ends
+/// before it starts.
 #[tactic(auto, using(crate::proofs::Latest::latest_of_parts))]
 pub fn is_in_order(entries: &[TxEntry], table: &Keyed, rows: &TableRows, v: &Version) -> bool
-    ensures { result ≡ spec.is_in_order entries.now table.now.columns (with_columns table.now.columns (rows.now.base ++ rows.now.history)) v.now }
+    ensures { result ≡ spec.is_in_order entries.now table.now.columns
+        (with_columns table.now.columns (rows.now.base ++ rows.now.history)) v.now }
 {
     let history = latest(entries, table, rows.history.as_slice(), v, None);
     let before = latest(entries, table, rows.base.as_slice(), v, history);

@@ -52,7 +52,8 @@ fn entry_fault<H: Hash32>(
     tables: &[Shown],
 ) -> Result<Option<Place>, Memory>
     requires { All AreSpelled tables.now }
-    ensures { IfOk result (λ place. place ≡ fault_among (H.digest hasher) (map table_of tables.now) entry.now) }
+    ensures { IfOk result (λ place. place
+        ≡ fault_among (H.digest hasher) (map table_of tables.now) entry.now) }
 {
     let events = events_of(alloc, hasher, entry.id, tables)?;
     if !are_numbered(&events.numbers) {
@@ -83,7 +84,8 @@ fn events_of<H: Hash32>(
 ) -> Result<TxEvents, Memory>
     requires { All AreSpelled tables.now }
     ensures numbers { IfOk result (λ events. events.numbers.items ≡ numbers_in tx (map table_of tables.now)) }
-    ensures roots { IfOk result (λ events. events.roots.items ≡ roots_of (H.digest hasher) tx (map table_of tables.now)) }
+    ensures roots { IfOk result (λ events. events.roots.items
+        ≡ roots_of (H.digest hasher) tx (map table_of tables.now)) }
 {
     let mut numbers = Vec::new(alloc);
     let mut roots = Vec::new(alloc);
@@ -126,7 +128,8 @@ fn add_root<H: Hash32>(
     Ok(())
 }
 
-/// The root over the leaves of these starts and ends. The buffer has the last leaf then, whatever it had before.
+/// The root over the leaves of these starts and ends.
+/// The buffer has the last leaf then, whatever it had before.
 fn root_of<H: Hash32>(
     hasher: H,
     table: TableId,
@@ -181,7 +184,8 @@ fn least_among(
     best: Option<TableId>,
 ) -> Option<TableId>
     ensures { result ≡ least_from nat_cmp best
-        (filter (λ t. not (spec.same_root (spec.root_at a.now t) (spec.root_at b.now t))) (map (λ r. r.0) roots.now)) }
+        (filter (λ t. not (spec.same_root (spec.root_at a.now t) (spec.root_at b.now t)))
+        (map (λ r. r.0) roots.now)) }
 {
     let mut best = best;
     for root in roots {

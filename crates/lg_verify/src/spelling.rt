@@ -73,7 +73,8 @@ fn is_spelled(
     second: &[Version],
     def: &TableDef,
 ) -> Result<bool, Memory>
-    ensures { IfOk result (λ is. (defs : Defs) → is ≡ spec.is_spelled (rows_in first.now) (rows_in second.now) defs def.now) }
+    ensures { IfOk result (λ is. (defs : Defs)
+        → is ≡ spec.is_spelled (rows_in first.now) (rows_in second.now) defs def.now) }
 {
     Ok(
         has_table_row(first, def)

@@ -22,8 +22,8 @@ use lg_types::HeldDigest;
 use lg_verdict::{Invariant, Place, Verdict};
 use std::alloc::Global;
 
-/// The verdict on these bytes with these digests: Yes, or the first invariant that fails with its least place. The only
-/// error is want of memory. One thread does the work, for any number of workers.
+/// The verdict on these bytes with these digests: Yes, or the first invariant that fails with its least
+/// place. The only error is want of memory. One thread does the work, for any number of workers.
 pub fn verify<H: Hash32>(
     alloc: Global,
     hasher: H,

@@ -37,7 +37,8 @@ pub fn version_fault(
 
 fn least_bad(alloc: Global, image: &Image, tables: &[Shown]) -> Result<Option<TableEvent>, Memory>
     ensures { IfOk result (λ worst. worst
-        ≡ least table_event_cmp (flat_map (λ t. spec.bad_versions image.now.entries (table_of t)) tables.now)) }
+        ≡ least table_event_cmp
+        (flat_map (λ t. spec.bad_versions image.now.entries (table_of t)) tables.now)) }
 {
     let mut worst = None;
     for table in tables {
@@ -71,7 +72,8 @@ fn worst_among(
     versions: &[Version],
     worst: Option<TableEvent>,
 ) -> Option<TableEvent>
-    ensures { result ≡ least_from table_event_cmp worst (bad_among entries.now (table_in table.now rows.now) versions.now) }
+    ensures { result ≡ least_from table_event_cmp worst
+        (bad_among entries.now (table_in table.now rows.now) versions.now) }
 {
     let mut worst = worst;
     for version in versions {

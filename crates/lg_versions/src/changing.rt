@@ -13,9 +13,10 @@ use lg_types::{Change, EventId, Table, Typed, Version};
 use std::alloc::Global;
 use std::mem;
 
-/// Carries out the changes in the table with this id, one after another, as the events of the transaction that have the
-/// numbers from `seq` on. Where no table has the id nothing is changed. After the only error, want of memory, the tables
-/// may have some of the changes. Each change finds its place by halving, and a start behind all others moves none of them.
+/// Carries out the changes in the table with this id, one after another, as the events of the transaction
+/// that have the numbers from `seq` on. Where no table has the id nothing is changed. After the only error,
+/// want of memory, the tables may have some of the changes. Each change finds its place by halving, and a
+/// start behind all others moves none of them.
 pub fn change_table(
     alloc: Global,
     tables: &mut Vec<Table>,
@@ -26,7 +27,8 @@ pub fn change_table(
 ) -> Result<(), Memory>
     requires sound { Sound tx seq tables.old.items }
     requires room { seq + length changes < 2 ^ 64 }
-    ensures { OnOk result (tables.new.items ≡ changed_table id (changed_all tx seq changes) tables.old.items) }
+    ensures { OnOk result (tables.new.items
+        ≡ changed_table id (changed_all tx seq changes) tables.old.items) }
 {
     // the first table has the id 1, the next 2, and so on
     let id = id as usize;

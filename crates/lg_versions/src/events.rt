@@ -12,8 +12,8 @@ use lg_items::{Items, Memory, TableId, TxId};
 use lg_types::{Event, EventId, FieldOf, Table, Typed, Version};
 use std::alloc::Global;
 
-/// The starts and ends that the transaction left, by table and number, with the values of their versions. Looks at each
-/// version once and copies the values of those alone that the transaction started or ended.
+/// The starts and ends that the transaction left, by table and number, with the values of their versions.
+/// Looks at each version once and copies the values of those alone that the transaction started or ended.
 #[tactic(auto, unfolding(lg_model::specs::Events::all_events))]
 pub fn all_events(alloc: Global, tx: TxId, tables: &[Table]) -> Result<Items<Event>, Memory>
     requires { AreShort tables.now }
@@ -90,7 +90,8 @@ fn add_end(
     events: &mut Vec<Event>,
 ) -> Result<(), Memory>
     requires { IsShort version.now }
-    ensures { OnOk result (events.new.items ≡ events.old.items ++ own_ends tx table version.now version.now.end) }
+    ensures { OnOk result (events.new.items
+        ≡ events.old.items ++ own_ends tx table version.now version.now.end) }
 {
     if let Some(end) = version.end {
         if end.0 == tx {

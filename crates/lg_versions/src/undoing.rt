@@ -9,8 +9,8 @@ use lg_types::{EventId, Table, Version};
 use std::alloc::Global;
 use std::mem;
 
-/// Takes back the starts and ends of the transaction that have the number `seq` or above, in all tables. Looks at each
-/// version once, and takes no memory.
+/// Takes back the starts and ends of the transaction that have the number `seq` or above, in all tables.
+/// Looks at each version once, and takes no memory.
 #[tactic(auto, unfolding(lg_model::specs::Undo::undone))]
 pub fn undo(alloc: Global, tables: &mut Vec<Table>, tx: TxId, seq: u64)
     ensures { tables.new.items ≡ undone tx seq tables.old.items }
@@ -32,7 +32,8 @@ fn undo_versions(versions: &mut Vec<Version>, tx: TxId, seq: u64)
     ensures { versions.new.items ≡ versions_undone tx seq versions.old.items }
 {
     let keep = |version: &mut Version| -> bool
-        ensures { (result ≡ not (is_undone tx seq version.entry.now.start)) × (version.exit.now ≡ end_undone tx seq version.entry.now) }
+        ensures { (result ≡ not (is_undone tx seq version.entry.now.start))
+            × (version.exit.now ≡ end_undone tx seq version.entry.now) }
     {
         version.end = end_left(version.end, tx, seq);
         !is_undone(version.start, tx, seq)
