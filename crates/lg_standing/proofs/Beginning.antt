@@ -21,6 +21,7 @@ use Rattle.lg_standing.specs.OpenOnes.{HasOpen}
 use Rattle.lg_standing.specs.Committed.{committed}
 use Rattle.lg_standing.specs.Contents.{Contents, Known, contents, known, table_found}
 use Rattle.lg_standing.specs.TablesAreSerial.{StandsAs, def_at}
+use Rattle.lg_standing.specs.LocksAreWanted.{LocksAreWanted}
 use Rattle.lg_standing.specs.LocksCover.{IsUnderLocks}
 use Rattle.lg_standing.specs.Parts.{Numbers}
 use Rattle.lg_standing.specs.TranscriptsAgree.{SeatAgrees, TranscriptsAgree}
@@ -257,3 +258,7 @@ module _ (database : Text) (size : ℕ) where
 -- there is no lock that could be asked for
 pub none_asked : (database : Text) (size : ℕ) (v : Server) (st : Stands v [] (first_cells database size) (first_seat (first_cells database size) ∷ [])) → LocksAskedFor st
 none_asked database size v st i lock has = absurd (subst (In lock) (held_nowhere database size i) has)
+
+-- and none that anybody wants
+pub none_wanted : (database : Text) (size : ℕ) (v : Server) → LocksAreWanted v (contents (first_cells database size)) (first_seat (first_cells database size) ∷ [])
+none_wanted database size v j x o has opened open_end lock = absurd (subst (In lock.hold) (held_nowhere database size 0) lock.has)

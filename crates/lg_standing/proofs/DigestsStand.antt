@@ -18,7 +18,7 @@ use Rattle.lg_standing.proofs.TranscriptStages.{from_at, at_lack, at_digest}
 use Rattle.lg_history.specs.Lists.{Text, In}
 use Rattle.lg_history.specs.Journals.{blocks}
 use Rattle.lg_history.specs.Digests.{Digest, IsDigest}
-use Rattle.lg_history.specs.Acts.{issues, lacks, by, closes}
+use Rattle.lg_history.specs.Acts.{issues, lacks, closes}
 use Rattle.lg_history.specs.Sessions.{SessionTransaction, SessionState}
 use Rattle.lg_history.specs.Worlds.{first, run}
 use Rattle.lg_history.proofs.Settles.{in_append, in_left, in_right}
@@ -36,7 +36,7 @@ use Rattle.lg_standing.specs.TranscriptsAgree.{session_moments, moments_of}
 use Rattle.lg_standing.specs.StandTogether.{History, Stands, StandsAfter}
 use Rattle.lg_standing.proofs.Closes.{close_stands, next_within}
 use Rattle.lg_standing.proofs.Ids.{Running, running}
-use Rattle.lg_standing.proofs.LedgerVisit.{the_ledger, ledger_visit, ledger_after}
+use Rattle.lg_standing.proofs.LedgerVisit.{the_ledger, ledger_after}
 use Rattle.lg_standing.proofs.OneMore.{Acts, agrees_then, agrees_owner, images_stay_each}
 use Rattle.lg_standing.proofs.OpenSeats.{Own, owns_none}
 use Rattle.lg_standing.proofs.Places.{set_here, set_same, set_again}

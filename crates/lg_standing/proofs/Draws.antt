@@ -18,7 +18,7 @@ use Rattle.lg_history.specs.Transcripts.{kind_of}
 use Rattle.lg_standing.specs.TranscriptsSoFar.{EndsOwn}
 use Rattle.lg_standing.proofs.TranscriptActs.{GoesFrom, goes_on}
 use Rattle.lg_standing.proofs.TranscriptStages.{from_at, at_begin, at_draw, runs_own}
-use Rattle.lg_history.specs.Acts.{draws, Act, by}
+use Rattle.lg_history.specs.Acts.{draws}
 use Rattle.lg_history.specs.Sessions.{SessionTransaction, SessionState, acted}
 use Rattle.lg_history.specs.Worlds.{first}
 use Rattle.lg_history.proofs.Trace.{each_weaker}
@@ -44,13 +44,12 @@ use Rattle.lg_standing.proofs.FreshIds.{EndIsNotOf, IsNotOf, no_events, none_tou
 use Rattle.lg_standing.proofs.Ids.{Running, running, below, drawn as drawn_ids, others, has_not}
 use Rattle.lg_standing.proofs.OpenSeats.{Own, own_session, owns_none, owns_one}
 use Rattle.lg_standing.proofs.OneMore.{Acts, agrees_then, agrees_owner, images_stay_each}
-use Rattle.lg_standing.proofs.LedgerVisit.{the_ledger, ledger_visit, ledger_after}
+use Rattle.lg_standing.proofs.LedgerVisit.{the_ledger, ledger_after}
 use Rattle.lg_standing.proofs.Turns.{Turns, Owes}
 use Rattle.std.specs.List.{AllByRecursion}
 use Rattle.lg_standing.specs.RowsAgree.{GoesBackTo, IsOpenedAt}
 use Rattle.lg_standing.specs.TablesAreSerial.{IsIndexed}
 use Rattle.lg_model.specs.Runs.{MadeBefore}
-use Rattle.lg_standing.specs.ActsOf.{closings}
 
 -- what is said of what a seat has is said of all that it has
 pub at_own : (t : SeatState) (y : Session) (o : OpenTransaction) (P : Session → OpenTransaction → Type 0) → t.role ≡ session y → y.open_one ≡ Some o → P y o → (z : Session) (p : OpenTransaction) → Own t z p → P z p

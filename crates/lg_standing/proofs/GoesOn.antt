@@ -9,6 +9,10 @@ use Rattle.lg_standing.specs.Parts.{all_of}
 use Rattle.lg_standing.proofs.Ids.{each_in}
 use Rattle.lg_history.specs.Acts.{SessionAct, Act, by, closes}
 use Rattle.lg_standing.specs.Server.{Server}
+use Rattle.lg_standing.specs.Contents.{contents}
+use Rattle.lg_standing.specs.LocksAreWanted.{LocksAreWanted}
+use Rattle.lg_standing.specs.LocksDecideIn.{LocksDecideIn}
+use Rattle.lg_standing.proofs.ByLocksMore.{decides_on}
 use Rattle.lg_standing.specs.Deeds.{Deed, did, closed, deed}
 use Rattle.lg_standing.specs.Cells.{Cell, LedgerCell}
 use Rattle.lg_standing.specs.Seats.{SeatState}
@@ -64,6 +68,8 @@ pub record Goes (v : Server) (history : History) (deeds : List Deed) (cells : Li
   pub are : map deed events ≡ deeds
   pub stands : Stands v (history ++ events) cells seats
   pub locks_were_asked : LocksAskedFor stands
+  pub locks_are_wanted : LocksAreWanted v (contents cells) seats
+  pub locks_decide : LocksDecideIn v history events
 
 -- the deeds of a session's acts
 pub deeds_by : (n : ℕ) (acts : List SessionAct) → map deed (map (by n) acts) ≡ map did acts
@@ -75,12 +81,12 @@ deeds_append [] ys = refl
 deeds_append (x ∷ xs) ys = ap (λ (ds : List Deed). deed x ∷ ds) (deeds_append xs ys)
 
 -- of one history and of another that is the same
-moved : (v : Server) {h g : History} {cells : List Cell} {seats : List SeatState} → h ≡ g → (st : Stands v h cells seats) → LocksAskedFor st → (moved_to : Stands v g cells seats) × LocksAskedFor moved_to
+pub moved : (v : Server) {h g : History} {cells : List Cell} {seats : List SeatState} → h ≡ g → (st : Stands v h cells seats) → LocksAskedFor st → (moved_to : Stands v g cells seats) × LocksAskedFor moved_to
 moved v {h} {g} {cells} {seats} e st asked = subst (λ (k : History). (moved_to : Stands v k cells seats) × LocksAskedFor moved_to) e (st, asked)
 
 -- whoever did it
-abbrev pub goes : {v : Server} {j : ℕ} {history : History} {deeds : List Deed} {cells : List Cell} {seats : List SeatState} → StandsDone v j history deeds cells seats → Goes v history deeds cells seats
-goes d = record { events = d.events; are = d.are; stands = d.stands; locks_were_asked = d.locks_were_asked }
+abbrev pub goes : {v : Server} {j : ℕ} {history : History} {deeds : List Deed} {cells : List Cell} {seats : List SeatState} → (d : StandsDone v j history deeds cells seats) → LocksAreWanted v (contents cells) seats → LocksDecideIn v history d.events → Goes v history deeds cells seats
+goes d wanted decide = record { events = d.events; are = d.are; stands = d.stands; locks_were_asked = d.locks_were_asked; locks_are_wanted = wanted; locks_decide = decide }
 
 -- with whose a session is
 moved_of : (v : Server) {h g : History} {cells : List Cell} {seats : List SeatState} (j : ℕ) (events : List Act) → h ≡ g → (st : Stands v h cells seats) → LocksAskedFor st → Each (IsOfSeat st.transcripts_agree.owner j) events
@@ -105,8 +111,8 @@ closings_mine owner j (closes k ∷ xs) ys c m = (tt, closings_mine owner j xs y
 pub closed_one : (v : Server) {j : ℕ} {history : History} {cells : List Cell} {seats : List SeatState} (k : ℕ) (st : Stands v (history ++ closes k ∷ []) cells seats) → LocksAskedFor st → StandsDone v j history (closed k ∷ []) cells seats
 closed_one v k st asked = record { events = closes k ∷ []; are = refl; stands = st; mine = (tt, tt); locks_were_asked = asked }
 
-pub still : (v : Server) {history : History} {cells : List Cell} {seats : List SeatState} (st : Stands v history cells seats) → LocksAskedFor st → Goes v history [] cells seats
-still v {history} st asked = let m = moved v (sym (append-nil history)) st asked in record { events = []; are = refl; stands = m.0; locks_were_asked = m.1 }
+unfoldable pub still : (v : Server) {history : History} {cells : List Cell} {seats : List SeatState} (st : Stands v history cells seats) → LocksAskedFor st → LocksAreWanted v (contents cells) seats → Goes v history [] cells seats
+still v {history} st asked wanted = let m = moved v (sym (append-nil history)) st asked in record { events = []; are = refl; stands = m.0; locks_were_asked = m.1; locks_are_wanted = wanted; locks_decide = λ k below alone. tt }
 
 -- nothing was done
 pub none_done : (v : Server) (j : ℕ) {history : History} {cells : List Cell} {seats : List SeatState} (st : Stands v history cells seats) → LocksAskedFor st → StandsDone v j history [] cells seats
@@ -115,12 +121,14 @@ none_done v j {history} st asked = let m = moved_of v j [] (sym (append-nil hist
 pub after_acts : (v : Server) {j : ℕ} {history : History} {acts : List SessionAct} {cells : List Cell} {seats : List SeatState} (st : StandsAfter v j history acts cells seats) → LocksAskedFor st.stands → StandsDone v j history (map did acts) cells seats
 after_acts v {j} {history} {acts} st asked = record { events = map (by st.session) acts; are = deeds_by st.session acts; stands = st.stands; mine = mine_by st.stands.transcripts_agree.owner j st.session acts st.mine; locks_were_asked = asked }
 
-pub goes_on : (v : Server) {history : History} {deeds more : List Deed} {cells then_cells : List Cell} {seats then_seats : List SeatState} (st : Goes v history deeds cells seats) → Goes v (history ++ st.events) more then_cells then_seats → Goes v history (deeds ++ more) then_cells then_seats
+unfoldable pub goes_on : (v : Server) {history : History} {deeds more : List Deed} {cells then_cells : List Cell} {seats then_seats : List SeatState} (st : Goes v history deeds cells seats) → Goes v (history ++ st.events) more then_cells then_seats → Goes v history (deeds ++ more) then_cells then_seats
 goes_on v {history} {deeds} {more} st last = let m = moved v (append_assoc history st.events last.events) last.stands last.locks_were_asked in record {
   events = st.events ++ last.events;
   are = deeds_append st.events last.events ∙ ap₂ (λ (xs ys : List Deed). xs ++ ys) st.are last.are;
   stands = m.0;
   locks_were_asked = m.1;
+  locks_are_wanted = last.locks_are_wanted;
+  locks_decide = decides_on v history st.events last.events st.locks_decide last.locks_decide;
 }
 
 pub closed_first : (v : Server) {j : ℕ} {history : History} {deeds : List Deed} {cells : List Cell} {seats : List SeatState} (more : History) → Each IsClosing more → StandsDone v j (history ++ more) deeds cells seats → StandsDone v j history (map deed more ++ deeds) cells seats

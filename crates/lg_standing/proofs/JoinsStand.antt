@@ -133,7 +133,7 @@ module _ (v : Server) (cells : List Cell) (seats : List SeatState) {history : Hi
       (cases_eq i j))
       (cases_eq i k)
 
-  back : (i : ℕ) (y : Session) (p : OpenTransaction) → HasOpen after i y p → HasOpen seats i y p
+  pub back : (i : ℕ) (y : Session) (p : OpenTransaction) → HasOpen after i y p → HasOpen seats i y p
   back i y p h = which (λ n w. w.role ≡ session y → HasOpen seats n y p) (λ e. let no : idle ≡ session y = e in cc) (λ e. record { seat = s; there = there; role = e; open_one = h.open_one })
       (λ n w nk nj e f. record { seat = w; there = e; role = f; open_one = h.open_one }) i h.seat h.there h.role
 

@@ -1,52 +1,39 @@
 -- The visit in which an image is kept: all cells stay.
-use Rattle.std.proofs.Common.{◌≡◌, ℕ, zero, suc, ◌+◌, ◌≤◌, Bool, true, false, List, [], ◌∷◌, ◌++◌, flat_map, Option, Some, None, slice_set, refl, sym, ap, ◌∙◌, subst, subst₂, inl, ⊎_elim, append-nil, leb-true, leb-false, arith, length, map, take, ◌<◌}
-use Rattle.std.specs.Prelude.{if◌then◌else◌, nat_le}
+use Rattle.std.proofs.Common.{◌≡◌, ℕ, ◌+◌, ◌≤◌, Bool, List, [], ◌∷◌, ◌++◌, flat_map, Some, None, slice_set, refl, sym, ap, ◌∙◌, subst, subst₂, append-nil, arith, length, map, take, ◌<◌}
 use mathlib.Core.Option.{some}
 use lib.ListN.{get_elem?}
-use Rattle.lg_value.specs.declared.refusal.Refusal.TheVariants.{E19, E01, E13, E14, E16, E17}
+use Rattle.lg_value.specs.declared.refusal.Refusal.TheVariants.{E01, E13, E14, E16, E17}
 use Rattle.lg_types.specs.declared.journal.JournalItem.{JournalItem}
-use Rattle.lg_types.specs.declared.journal.JournalItem.TheVariants.{Close}
 use Rattle.lg_types.specs.declared.reply.Reply.TheVariants as reply
-use Rattle.lg_model.specs.Journals.{tx_count, closed}
-use Rattle.lg_history.specs.Facts.{no_digest, digest, facts_outside, image}
-use Rattle.lg_history.specs.Transcripts.{issue, kind_of, Kind, keep}
+use Rattle.lg_model.specs.Journals.{tx_count}
+use Rattle.lg_history.specs.Facts.{facts_outside, image}
+use Rattle.lg_history.specs.Transcripts.{kind_of, Kind, keep}
 use Rattle.lg_types.specs.declared.statement.Stmt.TheVariants as stmt
 use Rattle.lg_history.specs.Sessions.{acted}
 use Rattle.lg_standing.specs.Seats.{begun, KeptImage, Place}
 use Rattle.lg_standing.proofs.TranscriptActs.{goes_on, GoesFrom}
-use Rattle.lg_standing.proofs.TranscriptStages.{from_at, at_lack, at_digest}
-use Rattle.lg_history.specs.Lists.{Text, In}
-use Rattle.lg_history.specs.Journals.{blocks}
-use Rattle.lg_history.specs.Digests.{Digest, IsDigest}
-use Rattle.lg_history.specs.Acts.{issues, lacks, by, keeps}
-use Rattle.lg_history.specs.Sessions.{SessionTransaction, SessionState}
+use Rattle.lg_history.specs.Lists.{In}
+use Rattle.lg_history.specs.Acts.{keeps}
+use Rattle.lg_history.specs.Sessions.{SessionState}
 use Rattle.lg_history.specs.Worlds.{first, run}
-use Rattle.lg_history.proofs.Settles.{in_append, in_left, in_right}
-use Rattle.lg_history.proofs.Trace.{each_append, each_weaker, count_append}
+use Rattle.lg_history.proofs.Trace.{each_append}
 use Rattle.lg_standing.specs.Server.{Server, journal_image}
 use Rattle.lg_standing.specs.Cells.{LedgerCell, Cell, Ledger, ledger_at}
-use Rattle.lg_standing.specs.Contents.{Contents, Known, contents, known}
-use Rattle.lg_standing.specs.Seats.{answering, inside, OpenTransaction, Session, Written, Role, SeatState}
-use Rattle.lg_standing.specs.LedgerIsLegal.{IsOfCell, LedgerIsLegal}
-use Rattle.lg_standing.specs.LedgerVisits.{closed_by, all_closed, with_digest, Issues, LacksBlock}
-use Rattle.lg_standing.specs.Moves.{at_place, at_moment, sits, marking, StandsIn, keeping}
+use Rattle.lg_standing.specs.Contents.{contents, known}
+use Rattle.lg_standing.specs.Seats.{answering, inside, Session, Written, Role, SeatState}
+use Rattle.lg_standing.specs.Moves.{at_place, sits, marking, StandsIn, keeping}
 use Rattle.lg_standing.specs.OpenOnes.{text_at}
 use Rattle.lg_standing.specs.Parts.{AreTransactions}
 use Rattle.lg_standing.specs.TranscriptsAgree.{session_moments, moments_of, IsImage}
 use Rattle.lg_standing.specs.StandTogether.{History, Stands, StandsAfter}
-use Rattle.lg_standing.proofs.Closes.{close_stands}
 use Rattle.lg_standing.proofs.Ids.{Running, running}
-use Rattle.lg_standing.proofs.LedgerVisit.{the_ledger, ledger_visit}
-use Rattle.lg_standing.proofs.OneMore.{Acts, agrees_then, agrees_owner, images_stay_each}
-use Rattle.lg_standing.proofs.OpenSeats.{Own, owns_none}
-use Rattle.lg_standing.proofs.Places.{set_here, set_same, set_again}
-use Rattle.lg_standing.proofs.PlainAct.{plain_act}
-use Rattle.lg_standing.proofs.Turns.{Turns}
-use Rattle.lg_model.specs.Catalog.{Defs}
+use Rattle.lg_standing.proofs.LedgerVisit.{the_ledger}
+use Rattle.lg_standing.proofs.OneMore.{Acts, agrees_then, agrees_owner}
+use Rattle.lg_standing.proofs.OpenSeats.{owns_none}
 use Rattle.lg_history.specs.InPlace.{ComesAt}
 use Rattle.lg_standing.specs.TranscriptsSoFar.{FitsOutside, image_at, open_before, shown_at}
 use Rattle.lg_standing.specs.ImageVisits.{KeepsImage}
-use Rattle.lg_standing.proofs.AloneTurns.{alone_stands, alone_after}
+use Rattle.lg_standing.proofs.AloneTurns.{alone_after}
 use Rattle.std.proofs.lemmas.Bool.{ne_eqb}
 use Rattle.lg_standing.proofs.InPlaces.{never, outside}
 use Rattle.lg_standing.proofs.DigestsStand.{no_turn, same_none}

@@ -70,7 +70,7 @@ table_at id i e = by (id == 1) (id == 2) refl refl
     by false true f g = absurd (let z : 0 ≡ suc i = ap (λ (q : Bool). if q then 0 else id - 1) (sym g) ∙ ap (λ (q : Bool). if q then 0 else (if id == 2 then 0 else id - 1)) (sym f) ∙ e in omega arith)
     by false false f g = let z : id - 1 ≡ suc i = ap (λ (q : Bool). if q then 0 else id - 1) (sym g) ∙ ap (λ (q : Bool). if q then 0 else (if id == 2 then 0 else id - 1)) (sym f) ∙ e in omega arith
 
-wanted_there : (i : ℕ) (c : ℕ × List Want) (w : Want) → In w (of_cell (suc i) (Some c)) → (c.0 ≡ suc (suc i)) × In w c.1
+pub wanted_there : (i : ℕ) (c : ℕ × List Want) (w : Want) → In w (of_cell (suc i) (Some c)) → (c.0 ≡ suc (suc i)) × In w c.1
 wanted_there i c w h = by (cell_of c.0 == suc i) refl h
   where
     by : (b : Bool) → (cell_of c.0 == suc i) ≡ b → In w (if b then c.1 else []) → (c.0 ≡ suc (suc i)) × In w c.1
@@ -109,28 +109,28 @@ module _ (v : Server) (h : List Act) (ledger : LedgerCell) (c : Contents) (seats
 
   -- the seat whose transaction has the lock, and that this is what asked for it
   module _ (i : ℕ) (lock : Hold) (has : In lock (c.holds i)) where
-    theirs : Belongs seats i lock
+    pub theirs : Belongs seats i lock
     theirs = cover.belong i lock has
 
-    b : InTransaction v.meaning h (agree.of_seat theirs.j) theirs.x theirs.o
+    pub b : InTransaction v.meaning h (agree.of_seat theirs.j) theirs.x theirs.o
     b = in_transaction v h ledger seats agree theirs.j theirs.x theirs.o theirs.has
 
     pub was : IsAskedFor v W.at D i lock
     was = were_asked i lock has
 
-    one_session : was.asked.session ≡ b.runs.number
+    pub one_session : was.asked.session ≡ b.runs.number
     one_session = ⊎_elim (λ (e : was.asked.session ≡ b.runs.number). e)
         (λ (ne : was.asked.session ≢ b.runs.number). absurd ((apart v h ledger seats agree).apart was.asked.session b.runs.number was.asked.transaction b.transaction ne was.asked.has b.has (was.asked.is ∙ sym theirs.mine ∙ sym b.is.id)))
         (cases_eq was.asked.session b.runs.number)
 
-    one_transaction : was.asked.transaction ≡ b.transaction
+    pub one_transaction : was.asked.transaction ≡ b.transaction
     one_transaction = let e : Some was.asked.transaction ≡ Some b.transaction = sym was.asked.has ∙ ap (λ (n : ℕ). (W.at n).transaction) one_session ∙ b.has in cc
 
     holder_lock : (n : ℕ) → i ≡ n → HasLock c catalog_at theirs.o.id
     holder_lock zero e = record { hold = lock; has = subst (λ (n : ℕ). In lock (c.holds n)) e has; mine = sym theirs.mine }
     holder_lock (suc n) e = cover.catalog n theirs.o.id (record { hold = lock; has = subst (λ (n : ℕ). In lock (c.holds n)) e has; mine = sym theirs.mine })
 
-    now : defs_of (history.serial v.meaning v.meaning.first W.items) ≡ D
+    pub now : defs_of (history.serial v.meaning v.meaning.first W.items) ≡ D
     now = ap (λ (items : List JournalItem). defs_of (history.serial v.meaning v.meaning.first items)) agree.items ∙ ap defs_of (same_serial v.reads v.hashing v.meaning v.real ledger.items)
 
     later : (m : ℕ) → EndsAt theirs.o.end m → defs_of (history.after_tx v.meaning v.meaning.first m W.items) ≡ D

@@ -25,7 +25,7 @@ past_over h [] xs n p i = absurd i
 past_over h (m ∷ ns) [] n p i = absurd p
 past_over h (m ∷ ns) (x ∷ xs) n p i = ⊎_elim (λ (e : m ≡ n). ap (λ (k : ℕ). ((run first h).at k).phase) (sym e) ∙ p.0.over) (λ (k : In n ns). past_over h ns xs n p.1 k) i
 
-listed_is : (m : ℕ) (q : Option ℕ) → In m (listed q) → q ≡ Some m
+pub listed_is : (m : ℕ) (q : Option ℕ) → In m (listed q) → q ≡ Some m
 listed_is m None h = absurd h
 listed_is m (Some n) h = ⊎_elim (λ (e : n ≡ m). ap (λ (r : ℕ). Some r) e) (λ (z : ⊥). absurd z) h
 

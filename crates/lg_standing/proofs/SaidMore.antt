@@ -33,7 +33,7 @@ use Rattle.lg_standing.specs.StandTogether.{History, Stands, StandsAfter}
 use Rattle.lg_standing.specs.TranscriptsAgree.{TranscriptsAgree}
 use Rattle.lg_standing.specs.TreesAreOfEvents.{AreTrees, AreFrames}
 use Rattle.lg_standing.specs.WantsIn.{wants_in, Holds}
-use Rattle.lg_standing.proofs.AloneTurns.{Keeps, alone_stands, keeps_turn, StillAt, owes_like, bare, alone_after}
+use Rattle.lg_standing.proofs.AloneTurns.{Keeps, keeps_turn, StillAt, owes_like, bare, alone_after}
 use Rattle.lg_standing.proofs.Deeds.{IsPlain, plain_acts, plain_owner}
 use Rattle.lg_standing.proofs.TranscriptActs.{GoesFrom, goes_on}
 use Rattle.lg_standing.proofs.FreshIds.{events_of_touched}

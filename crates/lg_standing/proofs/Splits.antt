@@ -58,7 +58,7 @@ module _ (v : Server) (cells : List Cell) (seats : List SeatState) {history : Hi
   on : (k : ℕ) (y : Session) (p : OpenTransaction) → HasOpen seats k y p → HasOpen then_seats k y p
   on k y p h = record { seat = h.seat; there = at_longer seats new k h.seat h.there; role = h.role; open_one = h.open_one }
 
-  back : (k : ℕ) (y : Session) (p : OpenTransaction) → HasOpen then_seats k y p → HasOpen seats k y p
+  pub back : (k : ℕ) (y : Session) (p : OpenTransaction) → HasOpen then_seats k y p → HasOpen seats k y p
   back k y p h = ⊎_elim
       (λ (e : (get_elem? seats k ≡ some h.seat) × (k < length seats)). record { seat = h.seat; there = e.0; role = h.role; open_one = h.open_one })
       (λ (e : (k ≡ length seats) × (new ≡ h.seat)). absurd (not_new y (ap (λ (u : SeatState). u.role) e.1 ∙ h.role)))

@@ -27,7 +27,7 @@ use Rattle.lg_standing.specs.OpenOnes.{HasOpen, text_at}
 use Rattle.lg_standing.specs.Parts.{asking, AreTransactions}
 use Rattle.lg_standing.specs.Seats.{OpenTransaction, answering, between, inside, leaving, idle, Session, session, SeatState}
 use Rattle.lg_standing.specs.StandTogether.{History, Stands, StandsAfter}
-use Rattle.lg_standing.proofs.AloneTurns.{alone_stands, alone_after}
+use Rattle.lg_standing.proofs.AloneTurns.{alone_after}
 use Rattle.lg_standing.proofs.Deeds.{IsPlain, at_after, plain_acts, plain_owner}
 use Rattle.lg_standing.proofs.DigestsStand.{no_turn}
 use Rattle.lg_standing.proofs.Entries.{open_snoc, Pays, line_is, pays_end_at, pays_leaving}

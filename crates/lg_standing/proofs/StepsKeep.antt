@@ -15,13 +15,13 @@ use Rattle.lg_types.specs.declared.statement.Stmt.{Stmt}
 use Rattle.lg_types.specs.declared.statement.Stmt.TheVariants as stmt
 use Rattle.lg_types.specs.declared.table.TableDef.{TableDef}
 use Rattle.lg_model.specs.Catalog.{Defs, Named, defs_of}
-use Rattle.lg_model.specs.Holds.{holds_after, released}
+use Rattle.lg_model.specs.Holds.{holds_after}
 use Rattle.lg_model.specs.Journals.{serial, tx_count}
 use Rattle.lg_model.specs.Locks.{catalog_want, query_wants, row_wants, whole}
 use Rattle.lg_model.specs.Reach.{creates}
 use Rattle.lg_history.specs.Lists.{Text, Each, In}
 use Rattle.lg_history.specs.Real.{wants_catalog}
-use Rattle.lg_history.specs.Transactions.{End, unfixed, committed, ended}
+use Rattle.lg_history.specs.Transactions.{End}
 use Rattle.lg_history.specs.Acts.{SessionAct, Act, closes, fails, looks, meets}
 use Rattle.lg_standing.specs.Server.{Server}
 use Rattle.lg_standing.specs.Deeds.{Deed, did, stopped_acts, visit_deeds, alones_acts, may_deeds, step_deeds, steps_deeds}
@@ -34,18 +34,37 @@ use Rattle.lg_standing.specs.LedgerVisits.{CommitsNow, closed_by, next_block}
 use Rattle.lg_standing.specs.LocksWereAsked.{IsAskedFor}
 use Rattle.lg_standing.specs.OpenOnes.{HasOpen, script_end}
 use Rattle.lg_standing.specs.Seats.{OpenTransaction, SeatState, kept}
-use Rattle.lg_standing.specs.StandTogether.{History, LocksAskedFor, Stands, StandsAfter, StandsDone, StandsLater}
+use Rattle.lg_standing.specs.StandTogether.{History, IsOfSeat, LocksAskedFor, Stands, StandsAfter, StandsDone, StandsLater, StandsNext}
 use Rattle.lg_standing.specs.Steps.{Step, alone, visits, splits, joins, Steps, none, more}
 use Rattle.lg_standing.specs.TableVisits.{Found, StopsInTable, wants_here}
-use Rattle.lg_standing.specs.UndoVisits.{catalog_left, index_dropped, refused_def, undone_unless}
+use Rattle.lg_standing.specs.UndoVisits.{index_dropped, refused_def, undone_unless}
 use Rattle.lg_standing.specs.Visits.{Visit, draw, look, read_system, create_table, create_index, refuse_create, stop_in_catalog, change, refuse_change, read, stop_in_table, add_index, undo_to, commit, read_point, release, release_catalog, give_back, close, issue, lack_block, keep, nothing, Happens}
 use Rattle.lg_standing.specs.WantsIn.{of_catalog}
 use Rattle.lg_standing.proofs.ActedFor.{StandsBy, sessions_at, by_any, looked_then, done_for}
 use Rattle.lg_standing.proofs.AddIndex.{adds_index}
 use Rattle.lg_standing.proofs.AfterSet.{set_same}
 use Rattle.lg_standing.specs.May.{OutsStand, May}
-use Rattle.lg_standing.proofs.AlonesKeep.{alones_keep, one_keeps}
+use Rattle.lg_standing.proofs.AlonesKeep.{alones_one, quiet_then, step_one}
+use Rattle.lg_history.specs.Histories.{OneAtATime}
+use Rattle.lg_history.specs.Inputs.{InputLine}
+use Rattle.lg_standing.specs.Follows.{Follows, alone_lines, alones_lines, may_lines, step_lines, steps_lines}
+use Rattle.lg_standing.proofs.FollowsMore.{follows_append}
+use Rattle.lg_standing.proofs.FollowsSteps.{visit_follows}
+use Rattle.lg_history.specs.Worlds.{World, first, run}
+use Rattle.lg_history.proofs.Cuts.{run_append}
+use Rattle.lg_standing.specs.QuietElse.{QuietElse}
+use Rattle.lg_standing.specs.OneByOne.{IsOneAlone, OneByOne}
+use Rattle.lg_standing.proofs.ByLocksMore.{alone_append}
+use Rattle.lg_standing.proofs.StepsAlone.{visit_one_at_a_time}
+use Rattle.lg_standing.proofs.OneSeat.{OneSeat, one_did, one_on, quieter, seats_own}
+use Rattle.lg_standing.proofs.SeatNames.{KeepsNames, alones_names, visit_names}
+use Rattle.lg_standing.specs.SeatNames.{OthersDiffer, names_of}
+use Rattle.lg_standing.proofs.DecidesSteps.{visit_decides}
+use Rattle.lg_standing.proofs.KeepsWanted.{same_wanted, split_wanted, visit_wanted}
+use Rattle.lg_standing.specs.Contents.{contents}
+use Rattle.lg_standing.specs.LocksAreWanted.{LocksAreWanted}
 use Rattle.lg_standing.proofs.Places.{set_again, set_here}
+use Rattle.lg_standing.proofs.CatalogThere.{catalog_held, catalog_there}
 use Rattle.lg_standing.proofs.AskedMore.{NotFree}
 use Rattle.lg_standing.proofs.AskedStays.{DrawsNone}
 use Rattle.lg_standing.proofs.Changes.{changes_stand}
@@ -59,10 +78,10 @@ use Rattle.lg_standing.proofs.DrawNone.{done_none, done_kept, failed_in_none, co
 use Rattle.lg_standing.proofs.Draws.{draws_stands}
 use Rattle.lg_standing.proofs.Formed.{dropped_as, left_unless}
 use Rattle.lg_standing.proofs.GivesBackStand.{gives_back}
-use Rattle.lg_standing.proofs.GoesOn.{Goes, IsClosing, goes, unacted, after_acts, closed_one, none_done, still, closed_first, goes_on}
+use Rattle.lg_standing.proofs.GoesOn.{Goes, IsClosing, unacted, after_acts, closed_one, none_done, still, closed_first, goes_on}
 use Rattle.lg_standing.proofs.LedgerBase.{KeepsBase, base_stays, may_base, steps_base}
 use Rattle.lg_standing.proofs.GoingBack.{undoes_to, releases_table}
-use Rattle.lg_standing.proofs.JoinsStand.{join_stands}
+use Rattle.lg_standing.proofs.JoinsStand.{back, join_stands}
 use Rattle.lg_standing.proofs.JournalMore.{serial_more}
 use Rattle.lg_standing.proofs.KeepsAsked.{defs_at, same_ledger, stay_asked, still_asked_for}
 use Rattle.lg_standing.proofs.KeepsStand.{keeps_stand}
@@ -78,13 +97,7 @@ use Rattle.lg_standing.proofs.StopsAtLock as lock
 use Rattle.lg_standing.proofs.StopsForMemory as memory
 use Rattle.lg_standing.proofs.VisitsAsked.{no_more, taken_there, were_held, wanted_there, not_ledger}
 
--- the catalog's cell lies there alone
-catalog_there : (cells : List Cell) (catalog c : CatalogCell) (ledger : LedgerCell) → AreCells cells catalog ledger → (i : ℕ) → get_elem? cells i ≡ some (Catalog c) → i ≡ catalog_at
-catalog_there cells catalog c ledger a zero e = refl
-catalog_there cells catalog c ledger a (suc zero) e = let f : some (Ledger ledger) ≡ some (Catalog c) = sym a.has_ledger ∙ e in cc
-catalog_there cells catalog c ledger a (suc (suc i)) e = let t = a.has_tables i (Catalog c) e in let same : Catalog c ≡ Rows t.0 = t.1 in cc
-
--- and a table's cell isn't the ledger's
+-- a table's cell isn't the ledger's
 not_rows : (cells : List Cell) (catalog : CatalogCell) (ledger : LedgerCell) (c : TableCell) → AreCells cells catalog ledger → (i : ℕ) → get_elem? cells i ≡ some (Rows c) → ledger_at ≡ i → ⊥
 not_rows cells catalog ledger c a i e same = let f : some (Ledger ledger) ≡ some (Rows c) = sym a.has_ledger ∙ ap (get_elem? cells) same ∙ e in cc
 
@@ -98,12 +111,7 @@ select_shares : (b : Bool) (q : Select) → catalog_want b (stmt.Select q) ≡ S
 select_shares true q = refl
 select_shares false q = refl
 
--- what is released was locked
-catalog_held : (e : End) (tx : ℕ) (c : CatalogCell) → (catalog_left e tx c).holds ≡ released c.holds tx
-catalog_held (committed n) tx c = refl
-catalog_held unfixed tx c = refl
-catalog_held (ended n back) tx c = refl
-
+-- what a table's cell releases was locked
 table_held : (e : End) (tx : ℕ) (r : Option TableDef) (c : TableCell) → (index_dropped r (undone_unless e tx c)).holds ≡ c.holds
 table_held e tx r c = let same : (undone_unless e tx c).holds ≡ c.holds = (left_unless e tx c).holds in
     dropped_as (λ (z : TableCell). z.holds ≡ c.holds) (undone_unless e tx c) same same r
@@ -267,55 +275,111 @@ out_lies cells [] outs n b i = absurd i
 out_lies cells (x ∷ xs) outs n b i = ⊎_elim (λ (e : x ≡ (n, b)). subst (λ (y : ℕ × Cell). get_elem? cells y.0 ≡ some y.1) e outs.0) (λ k. out_lies cells xs outs.1 n b k) i
 
 -- a visit alone
-pub visit_stands : (v : Server) (cells : List Cell) (seats : List SeatState) {history : History} (st : Stands v history cells seats) → LocksAskedFor st → (j : ℕ) (s : SeatState) → get_elem? seats j ≡ some s
+visit_stands : (v : Server) (cells : List Cell) (seats : List SeatState) {history : History} (st : Stands v history cells seats) → LocksAskedFor st → (j : ℕ) (s : SeatState) → get_elem? seats j ≡ some s
     → (out : List (ℕ × Cell)) → OutsStand cells out → (visit : Visit) (i : ℕ) (c d : Cell) (t : SeatState) → get_elem? cells i ≡ some c → (w : Happens v out visit c s d t)
     → StandsDone v j history (visit_deeds v out visit c s d t w) (set cells i d) (set seats j t)
 visit_stands v cells seats st asked j s there out outs visit i c d t e w = visit_keeps v cells seats st asked out (out_lies cells out outs) i j s there visit c d t e w
 
+pub visit_next : (v : Server) (cells : List Cell) (seats : List SeatState) {history : History} (st : Stands v history cells seats) → LocksAskedFor st → LocksAreWanted v (contents cells) seats → (j : ℕ) (s : SeatState) → get_elem? seats j ≡ some s
+    → (out : List (ℕ × Cell)) → OutsStand cells out → (visit : Visit) (i : ℕ) (c d : Cell) (t : SeatState) → get_elem? cells i ≡ some c → (w : Happens v out visit c s d t)
+    → StandsNext v j history (visit_deeds v out visit c s d t w) [] (set cells i d) (set seats j t)
+visit_next v cells seats {history} st asked wanted j s there out outs visit i c d t e w = let a = visit_stands v cells seats st asked j s there out outs visit i c d t e w in record {
+  done = a;
+  locks_are_wanted = visit_wanted v cells seats st wanted j s there out visit i c d t e w;
+  follows = visit_follows v (run first history) out visit c s d t w a.events a.are;
+  locks_decide = visit_decides v st j s there asked wanted i out visit c d t e w a.events a.are a.stands;
+}
+
 -- in the form in which a board asks for it
-may_goes : (v : Server) (cells : List Cell) (seats : List SeatState) {history : History} (st : Stands v history cells seats) → LocksAskedFor st → (j : ℕ) (s : SeatState) → get_elem? seats j ≡ some s
+may_one : (v : Server) (cells : List Cell) (seats : List SeatState) {history : History} (st : Stands v history cells seats) → LocksAskedFor st → LocksAreWanted v (contents cells) seats → (j : ℕ) (s : SeatState) → get_elem? seats j ≡ some s
     → (out : List (ℕ × Cell)) → OutsStand cells out → (i : ℕ) (c : Cell) (t : SeatState) → (m : May v s out i c t)
-    → Goes v history (may_deeds m) (set cells i c) (set seats j t)
-may_goes v cells seats {history} st asked j s there out outs i c t m = goes_on v first_steps (goes_on v the_visit last_steps)
+    → OneSeat v history (may_deeds m) (may_lines m) (set cells i c) (set seats j t) (names_of t) (QuietElse seats j)
+may_one v cells seats {history} st asked wanted j s there out outs i c t m = one_on v first_steps longer.keeps (one_on v the_visit longer_then.keeps last_steps)
   where
     begun_there : get_elem? (set seats j m.begun) j ≡ some m.begun
     begun_there = set_here seats j m.begun s there
 
-    first_steps : Goes v history (map did (alones_acts m.before)) cells (set seats j m.begun)
-    first_steps = alones_keep v cells seats st asked j s m.begun there m.before
+    first_steps : OneSeat v history (map did (alones_acts m.before)) (alones_lines m.before) cells (set seats j m.begun) (names_of m.begun) (QuietElse seats j)
+    first_steps = alones_one v cells seats st asked wanted j s m.begun there m.before
 
     old_there : get_elem? cells i ≡ some m.old
     old_there = (subst (OutsStand cells) m.is_out outs).0
 
-    the_visit : Goes v (history ++ first_steps.events) (visit_deeds v out m.visit m.old m.begun c m.ended m.happens) (set cells i c) (set seats j m.ended)
-    the_visit = subst (Goes v (history ++ first_steps.events) (visit_deeds v out m.visit m.old m.begun c m.ended m.happens) (set cells i c)) (set_again seats j m.begun m.ended)
-        (goes (visit_keeps v cells (set seats j m.begun) first_steps.stands first_steps.locks_were_asked out (out_lies cells out outs) i j m.begun begun_there m.visit m.old c m.ended old_there m.happens))
+    visited : StandsDone v j (history ++ first_steps.goes.events) (visit_deeds v out m.visit m.old m.begun c m.ended m.happens) (set cells i c) (set (set seats j m.begun) j m.ended)
+    visited = visit_keeps v cells (set seats j m.begun) first_steps.goes.stands first_steps.goes.locks_were_asked out (out_lies cells out outs) i j m.begun begun_there m.visit m.old c m.ended old_there m.happens
 
-    last_steps : Goes v ((history ++ first_steps.events) ++ the_visit.events) (map did (alones_acts m.after)) (set cells i c) (set seats j t)
-    last_steps = subst (Goes v ((history ++ first_steps.events) ++ the_visit.events) (map did (alones_acts m.after)) (set cells i c)) (set_again seats j m.ended t)
-        (alones_keep v (set cells i c) (set seats j m.ended) the_visit.stands the_visit.locks_were_asked j m.ended t (set_here seats j m.ended s there) m.after)
+    the_visit : OneSeat v (history ++ first_steps.goes.events) (visit_deeds v out m.visit m.old m.begun c m.ended m.happens) [] (set cells i c) (set seats j m.ended) (names_of m.ended) (QuietElse seats j)
+    the_visit = subst (λ (us : List SeatState). OneSeat v (history ++ first_steps.goes.events) (visit_deeds v out m.visit m.old m.begun c m.ended m.happens) [] (set cells i c) us (names_of m.ended) (QuietElse seats j)) (set_again seats j m.begun m.ended)
+        (one_did v visited (visit_wanted v cells (set seats j m.begun) first_steps.goes.stands first_steps.goes.locks_are_wanted j m.begun begun_there out m.visit i m.old c m.ended old_there m.happens)
+        (visit_decides v first_steps.goes.stands j m.begun begun_there first_steps.goes.locks_were_asked first_steps.goes.locks_are_wanted i out m.visit m.old c m.ended old_there m.happens visited.events visited.are visited.stands)
+        m.ended (set_here (set seats j m.begun) j m.ended m.begun begun_there) (QuietElse seats j)
+        (λ q. visit_one_at_a_time v first_steps.goes.stands j m.begun begun_there (quiet_then seats j m.begun q) out m.visit m.old c m.ended m.happens visited)
+        (visit_follows v (run first (history ++ first_steps.goes.events)) out m.visit m.old m.begun c m.ended m.happens visited.events visited.are))
 
-step_goes : (v : Server) (cells : List Cell) (seats : List SeatState) (then_cells : List Cell) (then_seats : List SeatState) {history : History} (st : Stands v history cells seats) → LocksAskedFor st → (step : Step v cells seats then_cells then_seats) → Goes v history (step_deeds step) then_cells then_seats
-step_goes v cells seats then_cells then_seats {history} st asked (alone j s t there step a b) = subst₂ (Goes v history (map did (alone_acts step))) (sym a) (sym b) (goes (one_keeps v cells seats st asked j s t there step))
-step_goes v cells seats then_cells then_seats {history} st asked (visits w) = subst₂ (Goes v history (may_deeds w.may)) (sym w.cells_are) (sym w.seats_are)
-    (may_goes v cells seats st asked w.j w.s w.is_seat w.out w.are_out w.i w.c w.t w.may)
-step_goes v cells seats then_cells then_seats {history} st asked (splits j n s there a b) = subst₂ (Goes v history []) (sym a) (sym b) (let q = splits_stand v cells seats j s n st there in still v q (still_asked_for v st asked q))
-step_goes v cells seats then_cells then_seats {history} st asked (joins j k s t there there_k apart rest a b) = subst₂ (Goes v history []) (sym a) (sym b) (let q = join_stands v cells seats st j k s t there there_k apart rest in still v q (still_asked_for v st asked q))
+    last_steps : OneSeat v ((history ++ first_steps.goes.events) ++ the_visit.goes.events) (map did (alones_acts m.after)) (alones_lines m.after) (set cells i c) (set seats j t) (names_of t) (QuietElse seats j)
+    last_steps = subst (λ (us : List SeatState). OneSeat v ((history ++ first_steps.goes.events) ++ the_visit.goes.events) (map did (alones_acts m.after)) (alones_lines m.after) (set cells i c) us (names_of t) (QuietElse seats j)) (set_again seats j m.ended t)
+        (quieter (quiet_then seats j m.ended) (alones_one v (set cells i c) (set seats j m.ended) the_visit.goes.stands the_visit.goes.locks_were_asked the_visit.goes.locks_are_wanted j m.ended t (set_here seats j m.ended s there) m.after))
 
-all_go : (v : Server) (cells : List Cell) (seats : List SeatState) {history : History} (st : Stands v history cells seats) → LocksAskedFor st → (then_cells : List Cell) (then_seats : List SeatState) → (steps : Steps v cells seats then_cells then_seats) → Goes v history (steps_deeds steps) then_cells then_seats
-all_go v cells seats st asked _ _ none = still v st asked
-all_go v cells seats st asked then_cells then_seats (more {between_cells} {between_seats} steps last) = let h = all_go v cells seats st asked between_cells between_seats steps in
-    goes_on v h (step_goes v between_cells between_seats then_cells then_seats h.stands h.locks_were_asked last)
+    longer_then : KeepsNames m.ended t
+    longer_then = alones_names v m.ended t m.after
+
+    longer : KeepsNames m.begun t
+    longer = record { keeps = λ name k. longer_then.keeps name ((visit_names v m.begun out m.visit m.old c m.ended m.happens).keeps name k) }
+
+-- what is done, one after another where this is so
+record GoesAlone (v : Server) (history : History) (deeds : List Deed) (lines : List InputLine) (cells : List Cell) (seats : List SeatState) (Q : Type 0) : Type 0 where
+  goes : Goes v history deeds cells seats
+  alone : Q → OneAtATime (run first history) goes.events
+  follows : Follows (run first history) goes.events lines
+
+of_seat : {v : Server} {history : History} {deeds : List Deed} {lines : List InputLine} {cells : List Cell} {seats : List SeatState} {names : List Text} {Q : Type 0} → OneSeat v history deeds lines cells seats names Q → GoesAlone v history deeds lines cells seats Q
+of_seat o = record { goes = o.goes; alone = o.alone; follows = o.follows }
+
+none_goes : (v : Server) {history : History} {cells : List Cell} {seats : List SeatState} (st : Stands v history cells seats) → LocksAskedFor st → LocksAreWanted v (contents cells) seats → (Q : Type 0) → GoesAlone v history [] [] cells seats Q
+unfolding still
+none_goes v st asked wanted Q = record { goes = still v st asked wanted; alone = λ q. tt; follows = record { lines_are = refl; in_turn = tt } }
+
+step_goes : (v : Server) (cells : List Cell) (seats : List SeatState) (then_cells : List Cell) (then_seats : List SeatState) {history : History} (st : Stands v history cells seats) → LocksAskedFor st → LocksAreWanted v (contents cells) seats → (step : Step v cells seats then_cells then_seats) → GoesAlone v history (step_deeds step) (step_lines step) then_cells then_seats (IsOneAlone step)
+step_goes v cells seats then_cells then_seats {history} st asked wanted (alone j s t there step a b) = subst₂ (λ (cs : List Cell) (us : List SeatState). GoesAlone v history (map did (alone_acts step)) (alone_lines step) cs us (QuietElse seats j)) (sym a) (sym b) (of_seat (step_one v cells seats st asked wanted j s t there step (QuietElse seats j) (λ q. q)))
+step_goes v cells seats then_cells then_seats {history} st asked wanted (visits w) = subst₂ (λ (cs : List Cell) (us : List SeatState). GoesAlone v history (may_deeds w.may) (may_lines w.may) cs us (QuietElse seats w.j)) (sym w.cells_are) (sym w.seats_are)
+    (of_seat (may_one v cells seats st asked wanted w.j w.s w.is_seat w.out w.are_out w.i w.c w.t w.may))
+step_goes v cells seats then_cells then_seats {history} st asked wanted (splits j n s there a b) = subst₂ (λ (cs : List Cell) (us : List SeatState). GoesAlone v history [] [] cs us (Unit {0})) (sym a) (sym b) (let q = splits_stand v cells seats j s n st there in none_goes v q (still_asked_for v st asked q) (split_wanted v cells seats st j s there n wanted) (Unit {0}))
+step_goes v cells seats then_cells then_seats {history} st asked wanted (joins j k s t there there_k apart rest a b) = subst₂ (λ (cs : List Cell) (us : List SeatState). GoesAlone v history [] [] cs us (Unit {0})) (sym a) (sym b) (let q = join_stands v cells seats st j k s t there there_k apart rest in none_goes v q (still_asked_for v st asked q) (same_wanted v (contents cells) seats _ (back v cells seats st j k s t there there_k apart rest) wanted) (Unit {0}))
+
+both_go : (v : Server) {history : History} {deeds more : List Deed} {lines more_lines : List InputLine} {cells then_cells : List Cell} {seats then_seats : List SeatState} {P Q : Type 0} (st : GoesAlone v history deeds lines cells seats P) → GoesAlone v (history ++ st.goes.events) more more_lines then_cells then_seats Q → GoesAlone v history (deeds ++ more) (lines ++ more_lines) then_cells then_seats (P × Q)
+unfolding goes_on
+both_go v {history} {more_lines = more_lines} st last = record {
+  follows = follows_append (run first history) st.goes.events last.goes.events st.follows (subst (λ (w : World). Follows w last.goes.events more_lines) (run_append first history st.goes.events) last.follows);
+  goes = goes_on v st.goes last.goes;
+  alone = λ q. alone_append (run first history) st.goes.events last.goes.events (st.alone q.0) (subst (λ (w : World). OneAtATime w last.goes.events) (run_append first history st.goes.events) (last.alone q.1));
+}
+
+all_go : (v : Server) (cells : List Cell) (seats : List SeatState) {history : History} (st : Stands v history cells seats) → LocksAskedFor st → LocksAreWanted v (contents cells) seats → (then_cells : List Cell) (then_seats : List SeatState) → (steps : Steps v cells seats then_cells then_seats) → GoesAlone v history (steps_deeds steps) (steps_lines steps) then_cells then_seats (OneByOne steps)
+all_go v cells seats st asked wanted _ _ none = none_goes v st asked wanted (Unit {0})
+all_go v cells seats st asked wanted then_cells then_seats (more {between_cells} {between_seats} steps last) = let h = all_go v cells seats st asked wanted between_cells between_seats steps in
+    both_go v h (step_goes v between_cells between_seats then_cells then_seats h.goes.stands h.goes.locks_were_asked h.goes.locks_are_wanted last)
 
 -- ---- and the ledger's database and block size stay
 
-based : (v : Server) {history : History} {cells then_cells : List Cell} {seats then_seats : List SeatState} {deeds : List Deed} (st : Stands v history cells seats) → KeepsBase cells then_cells → Goes v history deeds then_cells then_seats → StandsLater st deeds then_cells then_seats
-based v st base g = let same = base_stays v base st g.stands in record { events = g.events; are = g.are; stands = g.stands; locks_were_asked = g.locks_were_asked; database = same.database; block_size = same.block_size }
+abbrev based : (v : Server) {history : History} {cells then_cells : List Cell} {seats then_seats : List SeatState} {deeds : List Deed} {lines : List InputLine} (st : Stands v history cells seats) → KeepsBase cells then_cells → (g : Goes v history deeds then_cells then_seats) → Follows (run first history) g.events lines → StandsLater st deeds lines then_cells then_seats
+based v st base g follows = let same = base_stays v base st g.stands in record { events = g.events; are = g.are; stands = g.stands; locks_were_asked = g.locks_were_asked; locks_are_wanted = g.locks_are_wanted; locks_decide = g.locks_decide; follows = follows; database = same.database; block_size = same.block_size }
 
-pub may_keeps : (v : Server) (cells : List Cell) (seats : List SeatState) {history : History} (st : Stands v history cells seats) → LocksAskedFor st → (j : ℕ) (s : SeatState) → get_elem? seats j ≡ some s
+pub may_keeps : (v : Server) (cells : List Cell) (seats : List SeatState) {history : History} (st : Stands v history cells seats) → LocksAskedFor st → LocksAreWanted v (contents cells) seats → (j : ℕ) (s : SeatState) → get_elem? seats j ≡ some s
     → (out : List (ℕ × Cell)) → OutsStand cells out → (i : ℕ) (c : Cell) (t : SeatState) → (m : May v s out i c t)
-    → StandsLater st (may_deeds m) (set cells i c) (set seats j t)
-may_keeps v cells seats st asked j s there out outs i c t m = based v st (may_base v cells s out outs i c t m) (may_goes v cells seats st asked j s there out outs i c t m)
+    → StandsLater st (may_deeds m) (may_lines m) (set cells i c) (set seats j t)
+may_keeps v cells seats st asked wanted j s there out outs i c t m = let o = may_one v cells seats st asked wanted j s there out outs i c t m in based v st (may_base v cells s out outs i c t m) o.goes o.follows
 
-pub all_keep : (v : Server) (cells : List Cell) (seats : List SeatState) {history : History} (st : Stands v history cells seats) → LocksAskedFor st → (then_cells : List Cell) (then_seats : List SeatState) → (steps : Steps v cells seats then_cells then_seats) → StandsLater st (steps_deeds steps) then_cells then_seats
-all_keep v cells seats st asked then_cells then_seats steps = based v st (steps_base v cells seats then_cells then_seats steps) (all_go v cells seats st asked then_cells then_seats steps)
+-- all that it does its own sessions do, where no other seat has sessions of their names
+pub may_owns : (v : Server) (cells : List Cell) (seats : List SeatState) {history : History} (st : Stands v history cells seats) → LocksAskedFor st → LocksAreWanted v (contents cells) seats → (j : ℕ) (s : SeatState) → get_elem? seats j ≡ some s
+    → (out : List (ℕ × Cell)) → OutsStand cells out → (i : ℕ) (c : Cell) (t : SeatState) → (m : May v s out i c t) → OthersDiffer (set seats j t) j
+    → (w : StandsLater st (may_deeds m) (may_lines m) (set cells i c) (set seats j t)) × Each (IsOfSeat w.stands.transcripts_agree.owner j) w.events
+may_owns v cells seats st asked wanted j s there out outs i c t m differ = let o = may_one v cells seats st asked wanted j s there out outs i c t m in
+    (based v st (may_base v cells s out outs i c t m) o.goes o.follows, seats_own v o.goes.stands j differ t (set_here seats j t s there) o.goes.events o.named)
+
+-- and so do all of them
+pub all_alone : (v : Server) (cells : List Cell) (seats : List SeatState) {history : History} (st : Stands v history cells seats) → LocksAskedFor st → LocksAreWanted v (contents cells) seats → (then_cells : List Cell) (then_seats : List SeatState) → (steps : Steps v cells seats then_cells then_seats)
+    → (w : StandsLater st (steps_deeds steps) (steps_lines steps) then_cells then_seats) × (OneByOne steps → OneAtATime (run first history) w.events)
+all_alone v cells seats st asked wanted then_cells then_seats steps = let g = all_go v cells seats st asked wanted then_cells then_seats steps in (based v st (steps_base v cells seats then_cells then_seats steps) g.goes g.follows, g.alone)
+
+pub all_keep : (v : Server) (cells : List Cell) (seats : List SeatState) {history : History} (st : Stands v history cells seats) → LocksAskedFor st → LocksAreWanted v (contents cells) seats → (then_cells : List Cell) (then_seats : List SeatState) → (steps : Steps v cells seats then_cells then_seats) → StandsLater st (steps_deeds steps) (steps_lines steps) then_cells then_seats
+all_keep v cells seats st asked wanted then_cells then_seats steps = (all_alone v cells seats st asked wanted then_cells then_seats steps).0

@@ -25,7 +25,7 @@ use Rattle.lg_standing.specs.OpenScripts.{counted}
 use Rattle.lg_standing.specs.Parts.{asking, AreTransactions}
 use Rattle.lg_standing.specs.Seats.{OpenTransaction, begun, answering, Place, between, inside, Session, session, SeatState}
 use Rattle.lg_standing.specs.StandTogether.{History, Stands, StandsAfter}
-use Rattle.lg_standing.proofs.AloneTurns.{alone_stands, kept, keeps_turn, bare, alone_after}
+use Rattle.lg_standing.proofs.AloneTurns.{kept, keeps_turn, bare, alone_after}
 use Rattle.lg_standing.proofs.Deeds.{IsPlain, plain_acts, plain_owner}
 use Rattle.lg_standing.proofs.TranscriptActs.{goes_on}
 use Rattle.lg_standing.proofs.TranscriptStages.{from_at, if_fits}

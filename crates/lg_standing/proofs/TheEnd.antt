@@ -67,7 +67,7 @@ one_less : (s n : ℕ) (a : SessionAct) (as_of : List SessionAct) (b : Bool) →
 one_less s n a xs true e = cc
 one_less s n a xs false e = e
 
-below : (count : ℕ) (h : List Act) → ((n : ℕ) → count ≤ n → of n h ≡ []) → SessionsBelow count h
+pub below : (count : ℕ) (h : List Act) → ((n : ℕ) → count ≤ n → of n h ≡ []) → SessionsBelow count h
 below count [] none = tt
 below count (by s a ∷ es) none = (⊎_elim (λ (l : s < count). l) (λ l. absurd (acts_there (none s (omega arith)))) (cases_lt s count), below count es (λ n l. one_less s n a (of n es) (s == n) (none n l)))
   where
@@ -77,7 +77,7 @@ below count (closes k ∷ es) none = below count es none
 
 -- ---- the seats
 
-past_has : (h : List Act) (ns : List ℕ) (ws : List Written) (n : ℕ) → Past h ns ws → In n ns → Some_of (λ w. w.transcript ≡ transcript_of ((run first h).at n)) ws
+pub past_has : (h : List Act) (ns : List ℕ) (ws : List Written) (n : ℕ) → Past h ns ws → In n ns → Some_of (λ w. w.transcript ≡ transcript_of ((run first h).at n)) ws
 past_has h [] ws n p i = absurd i
 past_has h (m ∷ ns) [] n p i = absurd p
 past_has h (m ∷ ns) (w ∷ ws) n p i = ⊎_elim (λ (e : m ≡ n). inl (sym p.0.is ∙ ap (λ (k : ℕ). transcript_of ((run first h).at k)) e)) (λ k. inr (past_has h ns ws n p.1 k)) i

@@ -98,14 +98,14 @@ module _ (v : Server) {history : History} {cells : List Cell} {seats : List Seat
   mine : HasOpen seats j x o
   mine = record { seat = s; there = there; role = L.at.stands.role; open_one = L.at.open_one }
 
-  looked : HoldsCatalog v (contents cells) (defs_of T) o.id o.opened text
+  pub looked : HoldsCatalog v (contents cells) (defs_of T) o.id o.opened text
   looked = subst (LookedAt v (contents cells) (defs_of T) o.id o.opened) place (st.locks_cover.looked j x o mine L.at.unfixed)
 
-  got : IsNamed T (Some L.at.stands.stmt) (Some named)
+  pub got : IsNamed T (Some L.at.stands.stmt) (Some named)
   got = subst (λ (d : Option Stmt). IsNamed T d (Some named)) L.at.stands.is
       (subst (IsGotAt v T (HasAlone (contents cells) o.id) (not ((known v.reads st.ledger.items).has o.id))) place (st.locks_cover.got j x o mine looked.lock))
 
-  lies : IsAtPlace i c
+  pub lies : IsAtPlace i c
   lies = table_place cells st.catalog st.ledger i c st.are_cells out
 
   pub not_ledger : ledger_at ≢ i

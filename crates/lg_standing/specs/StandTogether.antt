@@ -2,8 +2,11 @@
 use Rattle.std.specs.Prelude.{ℕ, ◌≡◌, ◌++◌, List, map}
 use Rattle.lg_history.specs.Lists.{Each}
 use Rattle.lg_history.specs.Acts.{SessionAct, Act, by, closes}
+use Rattle.lg_history.specs.Inputs.{InputLine}
+use Rattle.lg_history.specs.Worlds.{first, run}
 use Rattle.lg_standing.specs.Server.{Server}
 use Rattle.lg_standing.specs.Deeds.{Deed, deed}
+use Rattle.lg_standing.specs.Follows.{Follows}
 use Rattle.lg_standing.specs.Cells.{CatalogCell, LedgerCell, Cell, AreCells}
 use Rattle.lg_standing.specs.Contents.{contents, known}
 use Rattle.lg_standing.specs.Seats.{SeatState}
@@ -13,6 +16,8 @@ use Rattle.lg_standing.specs.RowsAgree.{RowsAgree}
 use Rattle.lg_standing.specs.OpenScripts.{OpenScripts}
 use Rattle.lg_standing.specs.LocksCover.{LocksCover}
 use Rattle.lg_standing.specs.LocksAgree.{LocksAgree}
+use Rattle.lg_standing.specs.LocksAreWanted.{LocksAreWanted}
+use Rattle.lg_standing.specs.LocksDecideIn.{LocksDecideIn}
 use Rattle.lg_standing.specs.LocksWereAsked.{LocksWereAsked}
 use Rattle.lg_standing.specs.TreesAreOfEvents.{TreesAreOfEvents}
 use Rattle.lg_standing.specs.TranscriptsAgree.{TranscriptsAgree}
@@ -42,11 +47,13 @@ abbrev pub LocksAskedFor : {v : Server} {history : History} {cells : List Cell} 
 LocksAskedFor {v} {history} {cells} st =
     LocksWereAsked v history (contents cells) (known v.reads st.ledger.items)
 
--- both hold at the end of some history
+-- All this holds at the end of some history, each lock was asked for, and who has a lock in the catalog has
+-- it for a statement (`LocksAreWanted`).
 pub record StandTogether (v : Server) (cells : List Cell) (seats : List SeatState) : Type 0 where
   pub history : History
   pub stands : Stands v history cells seats
   pub locks_were_asked : LocksAskedFor stands
+  pub locks_are_wanted : LocksAreWanted v (contents cells) seats
 
 -- ---- how a history goes on
 
@@ -75,14 +82,28 @@ pub record StandsDone (v : Server) (j : ℕ) (history : History) (deeds : List D
   pub mine : Each (IsOfSeat stands.transcripts_agree.owner j) events
   pub locks_were_asked : LocksAskedFor stands
 
--- They stand together later on: their history is the one before with just these deeds behind it, each lock
--- was asked for, and database and block size are as they were.
+-- And this besides: each lock is wanted, just these statements are taken up and sessions begin in the order
+-- of their numbers, and locks decide where the history takes one statement after another.
+pub record StandsNext (v : Server) (j : ℕ) (history : History) (deeds : List Deed) (lines : List InputLine)
+    (cells : List Cell) (seats : List SeatState) : Type 0 where
+  pub done : StandsDone v j history deeds cells seats
+  pub locks_are_wanted : LocksAreWanted v (contents cells) seats
+  pub follows : Follows (run first history) done.events lines
+  pub locks_decide : LocksDecideIn v history done.events
+
+-- They stand together later on: their history is the one before with just these deeds behind it, in which
+-- just these statements are taken up and sessions begin in the order of their numbers, and in which locks
+-- decide where it takes one statement after another; each lock was asked for and is wanted; and database and
+-- block size are as they were.
 pub record StandsLater {v : Server} {earlier : History} {cells : List Cell} {seats : List SeatState}
-    (st : Stands v earlier cells seats) (deeds : List Deed) (then_cells : List Cell)
-    (then_seats : List SeatState) : Type 0 where
+    (st : Stands v earlier cells seats) (deeds : List Deed) (lines : List InputLine)
+    (then_cells : List Cell) (then_seats : List SeatState) : Type 0 where
   pub events : List Act
   pub are : map deed events ≡ deeds
   pub stands : Stands v (earlier ++ events) then_cells then_seats
   pub locks_were_asked : LocksAskedFor stands
+  pub locks_are_wanted : LocksAreWanted v (contents then_cells) then_seats
+  pub follows : Follows (run first earlier) events lines
+  pub locks_decide : LocksDecideIn v earlier events
   pub database : stands.ledger.database ≡ st.ledger.database
   pub block_size : stands.ledger.block_size ≡ st.ledger.block_size
