@@ -11,6 +11,7 @@ use crate::inserting::inserted_rows;
 use crate::matching::versions_matched;
 use crate::setting::{replacement, rows_set};
 use lg_items::{Items, Memory, Name};
+use lg_lookup::StandingRows;
 use lg_parts::{Keyed, stored_row};
 use lg_types::{Change, Row, RowStmt, Version};
 use lg_value::{ColumnDef, Expr, Refusal};
@@ -20,9 +21,8 @@ use std::alloc::Global;
 /// of rows that it replies. The first refusal in the order of the definition decides: for INSERT row by row
 /// E06, E05, E08 and E09 of its values, and then E07 where a row of its key stands or was inserted before it;
 /// for UPDATE and DELETE those of the condition for all rows in key order, and then those of the new values.
-/// E30 for want of memory. Nothing is changed. INSERT compares each row with all versions and with all rows
-/// before it; the others look at each version once, and sort those that stand.
-#[tactic(auto, unfolding(lg_model::specs::Changes::row_changes))]
+/// E30 for want of memory. Nothing is changed. INSERT compares each row with all versions; the others look at
+/// each version once, and sort those that stand.
 pub fn row_changes(
     alloc: Global,
     table: &Keyed,
@@ -30,6 +30,22 @@ pub fn row_changes(
     stmt: &RowStmt,
 ) -> Result<(Items<Change>, u64), Refusal>
     ensures { Gives (spec.row_changes table.now versions.now stmt.now) result }
+{
+    row_changes_of(alloc, table, &versions, stmt)
+}
+
+/// The same, where the versions that stand are found as `versions` finds them. INSERT of n rows looks each up
+/// there once, and by halving among the n; UPDATE and DELETE look at the versions of the key that the
+/// condition fixes, or at all that stand.
+#[tactic(auto, unfolding(lg_model::specs::Changes::row_changes))]
+pub fn row_changes_of<R: StandingRows>(
+    alloc: Global,
+    table: &Keyed,
+    versions: &R,
+    stmt: &RowStmt,
+) -> Result<(Items<Change>, u64), Refusal>
+    requires { R.are_of versions.now table.now }
+    ensures { Gives (spec.row_changes table.now (R.versions versions.now) stmt.now) result }
 {
     match stmt {
         RowStmt::Insert {
@@ -46,14 +62,16 @@ pub fn row_changes(
     }
 }
 
-fn insert(
+fn insert<R: StandingRows>(
     alloc: Global,
     table: &Keyed,
-    versions: &[Version],
+    versions: &R,
     names: &Option<Items<Name>>,
     rows: &Items<Row>,
 ) -> Result<(Items<Change>, u64), Refusal>
-    ensures { Gives (and_then (spec.inserted_rows table.now.columns versions.now names.now rows.now)
+    requires { R.are_of versions.now table.now }
+    ensures { Gives
+        (and_then (spec.inserted_rows table.now.columns (R.versions versions.now) names.now rows.now)
         (λ kept. Ok (spec.insertion table.now.columns kept))) result }
 {
     let rows = inserted_rows(alloc, table, versions, names, rows.as_slice())?;
@@ -73,13 +91,14 @@ fn starts(alloc: Global, columns: &[ColumnDef], rows: Items<Row>) -> Result<Item
     Ok(changes)
 }
 
-fn delete(
+fn delete<R: StandingRows>(
     alloc: Global,
     table: &Keyed,
-    versions: &[Version],
+    versions: &R,
     cond: &Option<Expr>,
 ) -> Result<(Items<Change>, u64), Refusal>
-    ensures { Gives (and_then (spec.versions_matched table.now.columns cond.now versions.now)
+    requires { R.are_of versions.now table.now }
+    ensures { Gives (and_then (spec.versions_matched table.now.columns cond.now (R.versions versions.now))
         (λ taken. Ok (spec.deletion taken))) result }
 {
     let taken = versions_matched(alloc, table, cond, versions)?;
@@ -97,14 +116,15 @@ fn ends(alloc: Global, taken: &[&Version]) -> Result<Items<Change>, Memory>
     Ok(changes)
 }
 
-fn update(
+fn update<R: StandingRows>(
     alloc: Global,
     table: &Keyed,
-    versions: &[Version],
+    versions: &R,
     sets: &Items<(Name, Expr)>,
     cond: &Option<Expr>,
 ) -> Result<(Items<Change>, u64), Refusal>
-    ensures { Gives (and_then (spec.versions_matched table.now.columns cond.now versions.now)
+    requires { R.are_of versions.now table.now }
+    ensures { Gives (and_then (spec.versions_matched table.now.columns cond.now (R.versions versions.now))
         (λ taken. and_then (checked_map (spec.row_set table.now.columns sets.now) taken)
         (λ rows. Ok (spec.replacement table.now.columns (zip taken rows))))) result }
 {

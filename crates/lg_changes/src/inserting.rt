@@ -1,46 +1,62 @@
 //! The rows that INSERT keeps.
 
-ghost use Rattle.std.specs.Prelude.{◌≡◌, []};
-ghost use Rattle.std.specs.List.{list_any};
+ghost use Rattle.std.specs.Prelude.{◌≡◌, ◌≢◌, [], Ok, Err, IfErr, OnOk};
+ghost use Rattle.lg_value.specs.declared.refusal.Refusal.TheVariants.{E30};
 ghost use Rattle.lg_model.specs.Changes as spec;
 ghost use Rattle.lg_model.specs.Keys as keys;
 ghost use Rattle.lg_model.specs.Lists.{checked_fold};
 ghost use Rattle.lg_model.specs.Refusals.{Gives, and_then};
+ghost use Rattle.lg_changes.specs.KeyOrder.{InKeyOrder, place_of};
 
+use crate::among::KeptRows;
 use crate::keeping::{arranged, kept_row};
 use lg_items::{Items, Name};
-use lg_parts::{Keyed, same_key};
-use lg_types::{Row, Version};
+use lg_lookup::StandingRows;
+use lg_parts::Keyed;
+use lg_types::Row;
 use lg_value::{ColumnDef, Refusal, Value};
 use std::alloc::Global;
 
-/// Whether a version of the row's key stands.
-#[tactic(auto, unfolding(lg_model::specs::Keys::stands))]
-fn stands(table: &Keyed, versions: &[Version], row: &Row) -> bool
-    ensures { result ≡ keys.stands table.now.columns (keys.key_of table.now.columns row.now) versions.now }
-{
-    versions
-        .iter()
-        .filter(|version| same_key(table, *version, row))
-        .any(|version| version.end.is_none())
-}
-
-/// Whether one of these rows has the row's key.
-fn is_among(table: &Keyed, rows: &[Row], row: &Row) -> bool
-    ensures { result
-        ≡ list_any (λ other. keys.same_key (keys.key_of table.now.columns other)
-        (keys.key_of table.now.columns row.now)) rows.now }
-{
-    rows.iter().any(|other| same_key(table, other, row))
-}
-
-/// Whether a row of the row's key stands, or is among those before it.
+/// Whether a row of the row's key stands, or is among those before it, where its key has this place.
 #[tactic(auto, unfolding(lg_model::specs::Changes::is_duplicate))]
-fn is_duplicate(table: &Keyed, versions: &[Version], before: &[Row], row: &Row) -> bool
-    ensures { result ≡ spec.is_duplicate table.now.columns versions.now before.now
+fn is_duplicate<R: StandingRows>(
+    table: &Keyed,
+    versions: &R,
+    before: &KeptRows,
+    place: usize,
+    row: &Row,
+) -> bool
+    requires of_table { R.are_of versions.now table.now }
+    requires in_order { InKeyOrder table.now.columns before.now.rows before.now.by_key.items }
+    requires here { place ≡ place_of table.now.columns before.now.rows row.now before.now.by_key.items }
+    ensures { result ≡ spec.is_duplicate table.now.columns (R.versions versions.now) before.now.rows
         (keys.key_of table.now.columns row.now) }
 {
-    stands(table, versions, row) || is_among(table, before, row)
+    versions.has_key_of(table, row) || before.has_key_of(table, place, row)
+}
+
+/// Adds a row to those before it, where none of its key stands or is among them.
+fn add_row<R: StandingRows>(
+    table: &Keyed,
+    versions: &R,
+    before: &mut KeptRows,
+    row: Row,
+) -> Result<(), Refusal>
+    requires of_table { R.are_of versions.now table.now }
+    requires in_order { InKeyOrder table.now.columns before.old.rows before.old.by_key.items }
+    ensures ok { OnOk result (spec.one_more table.now.columns (R.versions versions.now) before.old.rows row
+        ≡ Ok before.new.rows) }
+    ensures in_order { OnOk result
+        (InKeyOrder table.now.columns before.new.rows before.new.by_key.items) }
+    ensures err { IfErr result (λ e. e ≢ E30 →
+        spec.one_more table.now.columns (R.versions versions.now) before.old.rows row ≡ Err e) }
+{
+    let place = before.place_of(table, &row);
+    if is_duplicate(table, versions, before, place, &row) {
+        return Err(Refusal::E07);
+    }
+    before.add(place, row)?;
+    Ok(())
 }
 
 fn kept_as_listed(
@@ -56,41 +72,43 @@ fn kept_as_listed(
 }
 
 /// The rows of VALUES as they are kept, in written order. A row is refused with E07 where one of its key
-/// stands, or is among those before it.
+/// stands, or is among those before it. Of n rows each is looked up once where `versions` finds those that
+/// stand, and once by halving among those before it.
 #[tactic(auto, unfolding(lg_model::specs::Changes::inserted_rows))]
-pub fn inserted_rows(
+pub fn inserted_rows<R: StandingRows>(
     alloc: Global,
     table: &Keyed,
-    versions: &[Version],
+    versions: &R,
     names: &Option<Items<Name>>,
     rows: &[Row],
 ) -> Result<Items<Row>, Refusal>
-    ensures { Gives (spec.inserted_rows table.now.columns versions.now names.now rows.now) result }
+    requires { R.are_of versions.now table.now }
+    ensures { Gives
+        (spec.inserted_rows table.now.columns (R.versions versions.now) names.now rows.now) result }
 {
     one_by_one(alloc, table, versions, names, rows)
 }
 
 /// The rows one after another, each beside those before it.
-fn one_by_one(
+fn one_by_one<R: StandingRows>(
     alloc: Global,
     table: &Keyed,
-    versions: &[Version],
+    versions: &R,
     names: &Option<Items<Name>>,
     rows: &[Row],
 ) -> Result<Items<Row>, Refusal>
+    requires { R.are_of versions.now table.now }
     ensures { Gives
         (checked_fold
         (λ before row.
         and_then (spec.kept_row table.now.columns (spec.arranged table.now.columns names.now row))
-        (spec.one_more table.now.columns versions.now before)) [] rows.now) result }
+        (spec.one_more table.now.columns (R.versions versions.now) before)) [] rows.now) result }
 {
-    let mut before = Items::new(alloc);
+    let mut before = KeptRows::new(alloc);
     for row in rows {
         let row = kept_as_listed(alloc, table.columns(), names, row.as_slice())?;
-        if is_duplicate(table, versions, before.as_slice(), &row) {
-            return Err(Refusal::E07);
-        }
-        before.push(row)?;
+        add_row(table, versions, &mut before, row)?;
     }
-    Ok(before)
+    let KeptRows { rows, by_key: _ } = before;
+    Ok(rows)
 }

@@ -8,26 +8,29 @@ ghost use Rattle.lg_model.specs.Parts.{base_row};
 ghost use Rattle.lg_model.specs.Where as conditions;
 
 use lg_expr::{SeenRow, holds};
-use lg_parts::{Columns, Keyed, key_fixed, standing};
+use lg_lookup::StandingRows;
+use lg_parts::{Columns, Keyed, key_fixed};
 use lg_types::{Part, Version};
 use lg_value::{Expr, Refusal};
 use std::alloc::Global;
 
 /// The versions that stand and that the condition takes, in key order. None is copied.
 #[tactic(auto, unfolding(lg_model::specs::Changes::versions_matched))]
-pub fn versions_matched<'a>(
+pub fn versions_matched<'a, R: StandingRows>(
     alloc: Global,
     table: &Keyed,
     cond: &Option<Expr>,
-    versions: &'a [Version],
+    versions: &'a R,
 ) -> Result<Vec<&'a Version>, Refusal>
-    ensures ok { IfOk result (λ taken. spec.versions_matched table.now.columns cond.now versions.now
+    requires { R.are_of versions.now table.now }
+    ensures ok { IfOk result (λ taken.
+        spec.versions_matched table.now.columns cond.now (R.versions versions.now)
         ≡ Ok (map (λ v. v.now) taken.items)) }
     ensures err { IfErr result (λ e. e ≢ E30 →
-        spec.versions_matched table.now.columns cond.now versions.now ≡ Err e) }
+        spec.versions_matched table.now.columns cond.now (R.versions versions.now) ≡ Err e) }
 {
     let key = key_fixed(alloc, table, cond)?;
-    let standing = standing(alloc, table, &key, versions)?;
+    let standing = versions.in_key_order(alloc, table, &key)?;
     matched(
         alloc,
         &Columns::of(table.def(), Part::Base),

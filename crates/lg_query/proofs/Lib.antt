@@ -1,2 +1,3 @@
+pub mod FromTaken
 pub mod Projections
 pub mod SortKeys

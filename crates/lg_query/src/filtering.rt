@@ -1,14 +1,16 @@
 //! The rows that a condition takes.
 
-ghost use Rattle.std.specs.Prelude.{[]};
+ghost use Rattle.std.specs.Prelude.{◌≡◌, [], IfOk, map};
 ghost use Rattle.lg_model.specs.Lists.{checked_filter};
+ghost use Rattle.lg_model.specs.Parts as parts;
 ghost use Rattle.lg_model.specs.Where as spec;
 ghost use Rattle.lg_query.specs.Answers.{GivesItems};
 ghost use Rattle.lg_parts.specs.InTurn.{filter_after};
 
 use lg_expr::{SeenRow, holds};
-use lg_parts::Columns;
-use lg_types::Row;
+use lg_items::Memory;
+use lg_parts::{Columns, number, values_of};
+use lg_types::{Row, Version};
 use lg_value::{Expr, Refusal};
 use std::alloc::Global;
 
@@ -42,4 +44,47 @@ fn those_taken(
         }
     }
     Ok(taken)
+}
+
+/// The rows of the versions that a condition takes. Only these are copied.
+pub fn rows_of_taken(
+    alloc: Global,
+    columns: &Columns,
+    cond: &Option<Expr>,
+    versions: &[&Version],
+) -> Result<Vec<Row>, Refusal>
+    ensures { GivesItems
+        (checked_filter (spec.holds columns.now cond.now)
+        (map parts.base_row (map (λ v. v.now) versions.now))) result }
+{
+    each_taken(alloc, columns, cond, versions)
+}
+
+fn each_taken(
+    alloc: Global,
+    columns: &Columns,
+    cond: &Option<Expr>,
+    versions: &[&Version],
+) -> Result<Vec<Row>, Refusal>
+    ensures { GivesItems
+        (filter_after (spec.holds columns.now cond.now) []
+        (map parts.base_row (map (λ v. v.now) versions.now))) result }
+{
+    let mut taken = Vec::new(alloc);
+    for version in versions {
+        if holds(columns, cond, &SeenRow::of_version(*version))? {
+            taken.push(base_row(alloc, *version)?)?;
+        }
+    }
+    Ok(taken)
+}
+
+/// A version that stands, with its start, copied.
+fn base_row(alloc: Global, version: &Version) -> Result<Row, Memory>
+    ensures { IfOk result (λ row. row ≡ parts.base_row version.now) }
+{
+    let mut row = values_of(alloc, version)?;
+    row.push(number(version.start.0))?;
+    row.push(number(version.start.1))?;
+    Ok(row)
 }

@@ -3,9 +3,11 @@
 
 mod filtering;
 mod ordering;
+mod reading;
 mod selecting;
 mod showing;
 mod totals;
 
 pub use lg_types::{Row, Select};
+pub use reading::query_rows;
 pub use selecting::select;

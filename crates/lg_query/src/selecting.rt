@@ -1,5 +1,6 @@
 //! A SELECT over the rows of a part.
 
+ghost use Rattle.lg_model.specs.Lists.{sorted};
 ghost use Rattle.lg_model.specs.Query as spec;
 ghost use Rattle.lg_query.specs.Answers.{GivesItems};
 
@@ -29,6 +30,20 @@ pub fn select(
     ensures { GivesItems (spec.selected columns.now shown q.now rows.items) result }
 {
     let taken = taken(alloc, columns, &q.cond, rows)?;
+    show_taken(alloc, q, columns, shown, taken)
+}
+
+/// What a SELECT shows of the rows that its condition took.
+pub fn show_taken(
+    alloc: Global,
+    q: &Select,
+    columns: &Columns,
+    shown: usize,
+    taken: Vec<Row>,
+) -> Result<Vec<Row>, Refusal>
+    ensures { GivesItems (spec.what_shown columns.now shown q.now.what
+        (sorted (spec.order_cmp columns.now q.now.order) taken.items)) result }
+{
     let ordered = ordered(alloc, columns, q.order.as_slice(), taken)?;
     what_shown(alloc, columns, shown, &q.what, ordered)
 }

@@ -2,9 +2,11 @@ use Rattle.std.proofs.Common.{◌≡◌, [], drop}
 use Rattle.lg_model.specs.Changes as spec
 use Rattle.lg_model.specs.Lists.{checked_fold}
 use Rattle.lg_model.specs.Refusals.{and_then}
+use Rattle.lg_changes.specs.KeyOrder.{InKeyOrder}
 use Rattle.lg_changes.proofs.inserting.one_by_one.Given as goal
 
 abbrev pub invariant-loop-row : goal.invariant-loop-row
-invariant-loop-row l =
-    checked_fold (λ before row. and_then (spec.kept_row l.table.columns (spec.arranged l.table.columns l.names row)) (spec.one_more l.table.columns l.versions before)) l.before (drop l.row-index l.rows)
-    ≡ checked_fold (λ before row. and_then (spec.kept_row l.table.columns (spec.arranged l.table.columns l.names row)) (spec.one_more l.table.columns l.versions before)) [] l.rows
+invariant-loop-row g l =
+    InKeyOrder l.table.columns l.before.rows l.before.by_key.items
+    × (checked_fold (λ before row. and_then (spec.kept_row l.table.columns (spec.arranged l.table.columns l.names row)) (spec.one_more l.table.columns (g.R.StandingRows.versions l.versions) before)) l.before.rows (drop l.row-index l.rows)
+    ≡ checked_fold (λ before row. and_then (spec.kept_row l.table.columns (spec.arranged l.table.columns l.names row)) (spec.one_more l.table.columns (g.R.StandingRows.versions l.versions) before)) [] l.rows)
