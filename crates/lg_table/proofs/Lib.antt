@@ -1,0 +1,15 @@
+pub mod ByKey
+pub mod Done
+pub mod Ends
+pub mod Found
+pub mod Keeping
+pub mod Last
+pub mod Moves
+pub mod OneMore
+pub mod InOrder
+pub mod Passing
+pub mod Rooms
+pub mod Splits
+pub mod Steps
+pub mod UndoSteps
+pub mod Undone

@@ -1,0 +1,143 @@
+-- What is kept beside the versions, as one of them starts or ends, or that is taken back.
+use Rattle.std.proofs.Common.{◌≡◌, ◌<◌, ◌≤◌, ◌+◌, ℕ, zero, suc, refl, sym, ap, subst, ◌∙◌, List, [], ◌∷◌, ◌++◌, map, length, get_or, take, drop, Option, Some, None, arith}
+use Rattle.std.specs.Prelude.{slice_set}
+use Rattle.std.specs.List.{AllByRecursion, insert, remove, HoldsAt}
+use Rattle.std.proofs.lemmas.List.{get_or_default}
+use Rattle.lg_types.specs.declared.version.Version.{Version}
+use Rattle.lg_model.specs.Lists.{inserted, sorted}
+use Rattle.lg_model.specs.Rows.{EventId, with_end}
+use Rattle.lg_model.specs.Runs.{Rising}
+use Rattle.lg_frames.proofs.Alls.{all_weaker}
+use Rattle.lg_table.specs.declared.ending.Ending.{Ending}
+use Rattle.lg_table.specs.declared.index.Index.{Index}
+use Rattle.lg_table.specs.declared.orders.Orders.{Orders}
+use Rattle.lg_table.specs.Ends.{ending, ending_cmp, endings_in}
+use Rattle.lg_table.specs.Kept.{IsOf, IsWith, StandIn, StandWith, AreOf}
+use Rattle.lg_table.specs.Orders.{order_cmp, in_order, starts_of, place_of}
+use Rattle.lg_table.specs.Undoing.{without_end}
+use Rattle.lg_table.proofs.Ends.{none_ended, one_ended}
+use Rattle.lg_table.proofs.InOrder.{one_more, none_more, inserted_alike, taken_from_order, place_inside}
+use Rattle.lg_table.proofs.Splits.{split_at, set_at, rising_instead, rising_without}
+
+-- ---- the version at a place
+
+module _ (vs : List Version) (p : ℕ) (v : Version) (inside : p < length vs) (is : v ≡ get_or vs p v) where
+  abbrev xs : List Version
+  xs = take p vs
+
+  abbrev ys : List Version
+  ys = drop (suc p) vs
+
+  pub around : vs ≡ xs ++ v ∷ ys
+  around = split_at vs p v inside ∙ ap (λ (w : Version). xs ++ w ∷ ys) (sym is)
+
+  pub rising_around : Rising vs → Rising (xs ++ v ∷ ys)
+  rising_around r = subst Rising around r
+
+  pub rising_removed : Rising vs → Rising (remove vs p)
+  rising_removed r = rising_without xs v ys (rising_around r)
+
+  pub rising_set : (w : Version) → w.start ≡ v.start → Rising vs → Rising (slice_set vs p w)
+  rising_set w same r = subst Rising (sym (set_at vs p w inside)) (rising_instead xs v w ys same (rising_around r))
+
+  module _ (ordinals key : List ℕ) (order : List EventId) (r : Rising vs) (stands : v.end ≡ None) (has : order ≡ starts_of (in_order ordinals key vs)) where
+    has_around : order ≡ starts_of (in_order ordinals key (xs ++ v ∷ ys))
+    has_around = has ∙ ap (λ l. starts_of (in_order ordinals key l)) around
+
+    pub taken_at : remove order (place_of ordinals key v vs) ≡ starts_of (in_order ordinals key (remove vs p))
+    taken_at =
+        ap (λ l. remove order (place_of ordinals key v l)) around
+        ∙ taken_from_order ordinals key xs v ys order (rising_around r) stands has_around
+
+    pub inside_order : place_of ordinals key v vs < length order
+    inside_order = subst (λ l. place_of ordinals key v l < length order) (sym around) (place_inside ordinals key xs v ys order (rising_around r) stands has_around)
+
+  -- what an index has where the version ended
+  pub index_past : (key : List ℕ) (end : EventId) (i : Index) → v.end ≡ Some end → IsOf key vs i → IsOf key (remove vs p) i
+  index_past key end i ended h = h ∙ ap starts_of (ap (in_order i.ordinals key) around ∙ none_more i.ordinals key xs v ys end ended)
+
+  pub index_back : (key : List ℕ) (end : EventId) (i : Index) → v.end ≡ Some end → IsOf key (remove vs p) i → IsOf key vs i
+  index_back key end i ended h = h ∙ sym (ap starts_of (ap (in_order i.ordinals key) around ∙ none_more i.ordinals key xs v ys end ended))
+
+  pub stand_past : (key : List ℕ) (end : EventId) (o : Orders) → v.end ≡ Some end → StandIn key vs o → StandIn key (remove vs p) o
+  stand_past key end o ended h = record {
+    no_ordinals = h.no_ordinals;
+    in_key_order = index_past key end o.key_order ended h.in_key_order;
+    indexed = all_weaker (IsOf key vs) (IsOf key (remove vs p)) (λ i k. index_past key end i ended k) o.indexes.items h.indexed;
+  }
+
+  pub stand_back : (key : List ℕ) (end : EventId) (o : Orders) → v.end ≡ Some end → StandIn key (remove vs p) o → StandIn key vs o
+  stand_back key end o ended h = record {
+    no_ordinals = h.no_ordinals;
+    in_key_order = index_back key end o.key_order ended h.in_key_order;
+    indexed = all_weaker (IsOf key (remove vs p)) (IsOf key vs) (λ i k. index_back key end i ended k) o.indexes.items h.indexed;
+  }
+
+  -- the ends have one more
+  pub ends_around : (end : EventId) (ends : List Ending) → Rising vs → v.end ≡ Some end → ends ≡ endings_in vs → ends ≡ inserted ending_cmp (ending end v.start) (endings_in (remove vs p))
+  ends_around end ends r ended has = has ∙ ap endings_in around ∙ one_ended xs v ys end (rising_around r) ended
+
+  pub ends_past : (ends : List Ending) → v.end ≡ None → ends ≡ endings_in vs → ends ≡ endings_in (remove vs p)
+  ends_past ends stands has = has ∙ ap endings_in around ∙ ap (sorted ending_cmp) (none_ended xs v ys stands)
+
+  -- ---- another version in its place
+
+  module _ (w : Version) (same : w.start ≡ v.start) (r : Rising vs) where
+    rising_with : Rising (xs ++ w ∷ ys)
+    rising_with = rising_instead xs v w ys same (rising_around r)
+
+    index_ended : (key : List ℕ) (end : EventId) (i : Index) → w.end ≡ Some end → IsOf key (remove vs p) i → IsOf key (slice_set vs p w) i
+    index_ended key end i ended h = h ∙ sym (ap starts_of (ap (in_order i.ordinals key) (set_at vs p w inside) ∙ none_more i.ordinals key xs w ys end ended))
+
+    pub stand_ended : (key : List ℕ) (end : EventId) (o : Orders) → w.end ≡ Some end → StandIn key (remove vs p) o → StandIn key (slice_set vs p w) o
+    stand_ended key end o ended h = record {
+      no_ordinals = h.no_ordinals;
+      in_key_order = index_ended key end o.key_order ended h.in_key_order;
+      indexed = all_weaker (IsOf key (remove vs p)) (IsOf key (slice_set vs p w)) (λ i k. index_ended key end i ended k) o.indexes.items h.indexed;
+    }
+
+    pub ends_ended : (end : EventId) → w.end ≡ Some end → inserted ending_cmp (ending end v.start) (endings_in (remove vs p)) ≡ endings_in (slice_set vs p w)
+    ends_ended end ended =
+        ap (λ (s : EventId). inserted ending_cmp (ending end s) (endings_in (remove vs p))) (sym same)
+        ∙ sym (ap endings_in (set_at vs p w inside) ∙ one_ended xs w ys end rising_with ended)
+
+    index_reopened : (key : List ℕ) (end : EventId) (i : Index) → v.end ≡ Some end → w.end ≡ None → v.values ≡ w.values → IsWith key v vs i → IsOf key (slice_set vs p w) i
+    index_reopened key end i ended stands values h =
+        h
+        ∙ ap (λ l. starts_of (inserted (order_cmp i.ordinals key) v l)) (ap (in_order i.ordinals key) around ∙ none_more i.ordinals key xs v ys end ended)
+        ∙ inserted_alike i.ordinals key v w (in_order i.ordinals key (remove vs p)) values (sym same)
+        ∙ sym (ap starts_of (ap (in_order i.ordinals key) (set_at vs p w inside) ∙ one_more i.ordinals key xs w ys rising_with stands))
+
+    pub stand_reopened : (key : List ℕ) (end : EventId) (o : Orders) → v.end ≡ Some end → w.end ≡ None → v.values ≡ w.values → StandWith key v vs o → StandIn key (slice_set vs p w) o
+    stand_reopened key end o ended stands values h = record {
+      no_ordinals = h.no_ordinals;
+      in_key_order = index_reopened key end o.key_order ended stands values h.in_key_order;
+      indexed = all_weaker (IsWith key v vs) (IsOf key (slice_set vs p w)) (λ i k. index_reopened key end i ended stands values k) o.indexes.items h.indexed;
+    }
+
+    pub ends_reopened : (ends : List Ending) → w.end ≡ None → ends ≡ endings_in (remove vs p) → ends ≡ endings_in (slice_set vs p w)
+    ends_reopened ends stands has = has ∙ sym (ap endings_in (set_at vs p w inside) ∙ ap (sorted ending_cmp) (none_ended xs w ys stands))
+
+-- a version that stands has no end
+pub ends_left : (vs : List Version) (p : ℕ) → p < length vs → HoldsAt (λ v. v.end ≡ None) vs p → (ends : List Ending) → ends ≡ endings_in vs → ends ≡ endings_in (remove vs p)
+ends_left (v ∷ vs) p inside stands ends has =
+    let w = get_or (v ∷ vs) p v in
+    ends_past (v ∷ vs) p w inside (get_or_default (v ∷ vs) p v w inside) ends (stands v) has
+ends_left [] p inside stands ends has = absurd (omega (arith, inside))
+
+-- ---- a start
+
+module _ (vs xs : List Version) (v : Version) (ys : List Version) (cut : vs ≡ xs ++ ys) (r : Rising (xs ++ v ∷ ys)) (stands : v.end ≡ None) where
+  index_started : (key : List ℕ) (i : Index) → IsWith key v vs i → IsOf key (xs ++ v ∷ ys) i
+  index_started key i h =
+      h ∙ ap (λ l. starts_of (inserted (order_cmp i.ordinals key) v (in_order i.ordinals key l))) cut ∙ sym (ap starts_of (one_more i.ordinals key xs v ys r stands))
+
+  pub are_started : (key : List ℕ) (o : Orders) → StandWith key v vs o → o.ends.items ≡ endings_in vs → AreOf key (xs ++ v ∷ ys) o
+  are_started key o h ends = record {
+    stand = record {
+      no_ordinals = h.no_ordinals;
+      in_key_order = index_started key o.key_order h.in_key_order;
+      indexed = all_weaker (IsWith key v vs) (IsOf key (xs ++ v ∷ ys)) (λ i k. index_started key i k) o.indexes.items h.indexed;
+    };
+    ends = ends ∙ ap endings_in cut ∙ sym (ap (sorted ending_cmp) (none_ended xs v ys stands));
+  }

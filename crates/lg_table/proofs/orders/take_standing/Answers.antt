@@ -1,0 +1,24 @@
+use Rattle.std.proofs.Common.{ap, ◌∙◌, get_or}
+use Rattle.std.proofs.lemmas.List.{get_or_default}
+use Rattle.std.specs.List.{remove}
+use Rattle.lg_table.proofs.Moves.{ends_left}
+use Rattle.lg_table.proofs.orders.take_standing.Goals as goal
+
+pub returns-clause-are : goal.returns-clause-are
+returns-clause-are c =
+    let stand = c.requires.are.stand in
+    record {
+      stand = record {
+        no_ordinals = c.take_start.ensures.ordinals ∙ stand.no_ordinals;
+        in_key_order = c.take_start.ensures.order;
+        indexed = c.take_start_from_all.ensures.order;
+      };
+      ends = ends_left c.args.versions.now c.args.place c.requires.within c.requires.stands c.args.orders.now.ends.items c.requires.are.ends;
+    }
+
+pub returns-clause-room : goal.returns-clause-room
+returns-clause-room c = λ n h. record {
+  for_keys = c.take_start.ensures.room n h.for_keys;
+  for_ends = h.for_ends;
+  for_indexes = c.take_start_from_all.ensures.room n h.for_indexes;
+}

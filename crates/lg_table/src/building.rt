@@ -1,0 +1,66 @@
+//! A new index, which is the only work that sorts.
+
+ghost use Rattle.std.specs.Prelude.{◌≡◌, IfOk, OnOk, map, vec_capacity, ◌≤◌};
+ghost use Rattle.lg_model.specs.Lists.{sorted};
+ghost use Rattle.lg_model.specs.Rows.{live};
+ghost use Rattle.lg_model.specs.Runs.{Rising};
+ghost use Rattle.lg_table.specs.Kept.{HasRoom, IsOf};
+ghost use Rattle.lg_table.specs.Orders.{row_cmp, starts_of};
+
+use crate::comparing::compare_rows;
+use crate::index::Index;
+use lg_items::{Items, Memory};
+use lg_types::{EventId, Version};
+use std::alloc::Global;
+
+/// The index of these versions by the columns with these ordinals, with room for so many starts.
+pub fn new_index(
+    alloc: Global,
+    ordinals: &[u16],
+    key: &[usize],
+    versions: &[Version],
+    room: usize,
+) -> Result<Index, Memory>
+    requires { Rising versions.now }
+    ensures of { IfOk result (λ index. IsOf key.now versions.now index) }
+    ensures ordinals { IfOk result (λ index. index.ordinals ≡ ordinals.now) }
+    ensures room { IfOk result (λ index. HasRoom room index) }
+{
+    let mut standing = live_versions(alloc, versions)?;
+    sort_rows(ordinals, key, &mut standing)?;
+    Ok(Index {
+        ordinals: Items::from_vec(Vec::from_slice(alloc, ordinals)?),
+        order: starts_of(alloc, &standing, room)?,
+    })
+}
+
+fn live_versions(alloc: Global, versions: &[Version]) -> Result<Vec<&Version>, Memory>
+    ensures { IfOk result (λ found. map (λ v. v.now) found.items ≡ live versions.now) }
+{
+    let mut found = Vec::new(alloc);
+    for version in versions {
+        if version.end.is_none() {
+            found.push(version)?;
+        }
+    }
+    Ok(found)
+}
+
+fn sort_rows(ordinals: &[u16], key: &[usize], versions: &mut Vec<&Version>) -> Result<(), Memory>
+    ensures { OnOk result (map (λ v. v.now) versions.new.items
+        ≡ sorted (row_cmp ordinals.now key.now) (map (λ v. v.now) versions.old.items)) }
+{
+    versions.sort_by(|a, b| compare_rows(ordinals, key, *a, *b))?;
+    Ok(())
+}
+
+fn starts_of(alloc: Global, versions: &[&Version], room: usize) -> Result<Vec<EventId>, Memory>
+    ensures starts { IfOk result (λ starts. starts.items ≡ starts_of (map (λ v. v.now) versions.now)) }
+    ensures room { IfOk result (λ starts. room ≤ vec_capacity starts) }
+{
+    let mut starts = Vec::with_capacity(alloc, room)?;
+    for version in versions {
+        starts.push(version.start)?;
+    }
+    Ok(starts)
+}

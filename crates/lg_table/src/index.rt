@@ -1,0 +1,125 @@
+//! An index: its columns, and its order.
+
+ghost use Rattle.std.specs.Prelude.{◌≡◌, ◌<◌, ◌+◌, ℕ, None, OnOk, length, map};
+ghost use Rattle.std.specs.List.{AllByRecursion, HoldsAt, remove};
+ghost use Rattle.lg_model.specs.Rows.{live};
+ghost use Rattle.lg_model.specs.Runs.{Rising};
+ghost use Rattle.lg_table.specs.Kept.{HasRoom, IsOf, IsWith, index_seen};
+
+use crate::searching::place_in_order;
+use lg_items::{Items, Memory};
+use lg_types::{EventId, Version};
+
+/// The ordinals of the columns of an index, and the starts of the versions that stand, sorted by these
+/// columns, then by key, and then by start. An index without columns is the key order.
+#[derive(Debug, Drop)]
+pub struct Index {
+    pub ordinals: Items<u16>,
+    pub order: Vec<EventId>,
+}
+
+/// Puts the start of a version in its place. Takes no memory.
+pub fn add_start(index: &mut Index, key: &[usize], versions: &[Version], version: &Version)
+    requires rising { Rising versions.now }
+    requires order { IsOf key.now versions.now index.old }
+    requires room { HasRoom (length (live versions.now) + 1) index.old }
+    ensures order { IsWith key.now version.now versions.now index.new }
+    ensures ordinals { index.new.ordinals ≡ index.old.ordinals }
+    ensures room { (n : ℕ) → HasRoom n index.old → HasRoom n index.new }
+{
+    let place = place_in_order(
+        index.ordinals.as_slice(),
+        key,
+        versions,
+        &index.order,
+        version,
+    );
+    index.order.insert(place, version.start).unwrap();
+}
+
+/// Takes out the start of the version at this place, which stands.
+pub fn take_start(index: &mut Index, key: &[usize], versions: &[Version], place: usize)
+    requires rising { Rising versions.now }
+    requires order { IsOf key.now versions.now index.old }
+    requires within { place < length versions.now }
+    requires stands { HoldsAt (λ v. v.end ≡ None) versions.now place }
+    ensures order { IsOf key.now (remove versions.now place) index.new }
+    ensures ordinals { index.new.ordinals ≡ index.old.ordinals }
+    ensures room { (n : ℕ) → HasRoom n index.old → HasRoom n index.new }
+{
+    let version = &versions[place];
+    let place = place_in_order(
+        index.ordinals.as_slice(),
+        key,
+        versions,
+        &index.order,
+        version,
+    );
+    index.order.remove(place);
+}
+
+/// Puts the start of a version in its place in each index. Takes no memory.
+pub fn add_start_to_all(
+    indexes: &mut Vec<Index>,
+    key: &[usize],
+    versions: &[Version],
+    version: &Version,
+)
+    requires rising { Rising versions.now }
+    requires order { AllByRecursion (IsOf key.now versions.now) indexes.old.items }
+    requires room { AllByRecursion (HasRoom (length (live versions.now) + 1)) indexes.old.items }
+    ensures order { AllByRecursion (IsWith key.now version.now versions.now) indexes.new.items }
+    ensures ordinals { map (λ i. i.ordinals) indexes.new.items ≡ map (λ i. i.ordinals) indexes.old.items }
+    ensures room { (n : ℕ) → AllByRecursion (HasRoom n) indexes.old.items
+        → AllByRecursion (HasRoom n) indexes.new.items }
+{
+    for index in indexes.iter_mut() {
+        add_start(index, key, versions, version);
+    }
+}
+
+/// Takes out the start of the version at this place, which stands, from each index.
+pub fn take_start_from_all(
+    indexes: &mut Vec<Index>,
+    key: &[usize],
+    versions: &[Version],
+    place: usize,
+)
+    requires rising { Rising versions.now }
+    requires order { AllByRecursion (IsOf key.now versions.now) indexes.old.items }
+    requires within { place < length versions.now }
+    requires stands { HoldsAt (λ v. v.end ≡ None) versions.now place }
+    ensures order { AllByRecursion (IsOf key.now (remove versions.now place)) indexes.new.items }
+    ensures ordinals { map (λ i. i.ordinals) indexes.new.items ≡ map (λ i. i.ordinals) indexes.old.items }
+    ensures room { (n : ℕ) → AllByRecursion (HasRoom n) indexes.old.items
+        → AllByRecursion (HasRoom n) indexes.new.items }
+{
+    for index in indexes.iter_mut() {
+        take_start(index, key, versions, place);
+    }
+}
+
+/// Makes room for so many starts.
+pub fn reserve_index(index: &mut Index, count: usize) -> Result<(), Memory>
+    ensures same { index_seen index.new ≡ index_seen index.old }
+    ensures room { (n : ℕ) → HasRoom n index.old → HasRoom n index.new }
+    ensures ok { OnOk result (HasRoom count index.new) }
+{
+    index
+        .order
+        .reserve(count.saturating_sub(index.order.len()))?;
+    Ok(())
+}
+
+/// Makes room for so many starts in each index. For want of memory some of them may have got room.
+pub fn reserve_indexes(indexes: &mut Vec<Index>, count: usize) -> Result<(), Memory>
+    ensures same { map index_seen indexes.new.items ≡ map index_seen indexes.old.items }
+    ensures room { (n : ℕ) → AllByRecursion (HasRoom n) indexes.old.items
+        → AllByRecursion (HasRoom n) indexes.new.items }
+    ensures ok { OnOk result (AllByRecursion (HasRoom count) indexes.new.items) }
+{
+    for index in indexes.iter_mut() {
+        reserve_index(index, count)?;
+    }
+    Ok(())
+}

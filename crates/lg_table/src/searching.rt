@@ -1,0 +1,105 @@
+//! Searches by halving: for a version by its start, and for places in the order of an index.
+
+ghost use Rattle.std.specs.Prelude.{◌≡◌, ◌≤◌, ◌<◌, true, false, nat_le, IfNone, IfSome, length};
+ghost use Rattle.std.specs.List.{AllByRecursion, HoldsAt};
+ghost use Rattle.std.specs.Option.{option_copied};
+ghost use Rattle.lg_model.specs.Runs.{Rising};
+ghost use Rattle.lg_model.specs.Undo as undo;
+ghost use Rattle.lg_versions.specs.Places.{place, starts_before};
+ghost use Rattle.lg_table.specs.Orders as spec;
+ghost use Rattle.lg_table.specs.Orders.{in_order, passes, starts_of};
+
+use crate::comparing::comes_before;
+use lg_items::TxId;
+use lg_types::{EventId, Version};
+
+/// Where the version stands that the event started, or would stand, among versions by rising start.
+pub fn place_of_start(versions: &[Version], at: EventId) -> usize
+    requires { Rising versions.now }
+    ensures value { result ≡ place at versions.now }
+    ensures bound { result ≤ length versions.now }
+{
+    versions.partition_point(|version| starts_before(version, at))
+}
+
+fn starts_before(version: &Version, at: EventId) -> bool
+    ensures { result ≡ starts_before at version.now }
+{
+    version.start < at
+}
+
+/// The version that the event started.
+pub fn version_at(versions: &[Version], start: EventId) -> Option<&Version>
+    requires { Rising versions.now }
+    ensures { option_copied result ≡ spec.version_at start versions.now }
+{
+    let place = place_of_start(versions, start);
+    if place < versions.len() && versions[place].start == start {
+        Some(&versions[place])
+    } else {
+        None
+    }
+}
+
+// Whether the version of this start comes before another one in the order of an index.
+fn start_comes_before(
+    ordinals: &[u16],
+    key: &[usize],
+    versions: &[Version],
+    start: EventId,
+    version: &Version,
+) -> bool
+    requires { Rising versions.now }
+    ensures { result ≡ passes (spec.comes_before ordinals.now key.now version.now)
+        (spec.version_at start versions.now) }
+{
+    match version_at(versions, start) {
+        Some(other) => comes_before(ordinals, key, other, version),
+        None => false,
+    }
+}
+
+/// Where the version stands in the order of an index, or would stand. The index is of these versions.
+pub fn place_in_order(
+    ordinals: &[u16],
+    key: &[usize],
+    versions: &[Version],
+    order: &[EventId],
+    version: &Version,
+) -> usize
+    requires rising { Rising versions.now }
+    requires order { order.now ≡ starts_of (in_order ordinals.now key.now versions.now) }
+    ensures place { result ≡ spec.place_of ordinals.now key.now version.now versions.now }
+    ensures bound { result ≤ length order.now }
+{
+    order.partition_point(|start| start_comes_before(ordinals, key, versions, *start, version))
+}
+
+/// Whether an event is one of the transaction, with this number or above.
+pub fn is_undone(event: EventId, tx: TxId, seq: u64) -> bool
+    ensures { result ≡ undo.is_undone tx seq event }
+{
+    event.0 == tx && seq <= event.1
+}
+
+fn is_up_to(version: &Version, tx: TxId) -> bool
+    ensures { result ≡ nat_le version.now.start.0 tx }
+{
+    version.start.0 <= tx
+}
+
+/// Where the last version stands that the transaction started, where its number is `seq` or above.
+pub fn last_start(versions: &[Version], tx: TxId, seq: u64) -> Option<usize>
+    requires { Rising versions.now }
+    ensures some { IfSome result (λ place. (place < length versions.now)
+        × HoldsAt (λ v. undo.is_undone tx seq v.start ≡ true) versions.now place) }
+    ensures none { IfNone result
+        (AllByRecursion (λ v. undo.is_undone tx seq v.start ≡ false) versions.now) }
+{
+    let behind = versions.partition_point(|version| is_up_to(version, tx));
+    if behind > 0 && is_undone(versions[behind - 1].start, tx, seq) {
+        Some(behind - 1)
+    } else {
+        None
+    }
+}
