@@ -1,0 +1,182 @@
+//! The catalog's cell.
+
+ghost use Rattle.std.specs.Prelude.{◌≡◌, ◌≢◌, Err, IfErr, IfOk, Ok, OnErr, OnOk, Some, option_map};
+ghost use Rattle.lg_types.specs.declared.reply.Reply.TheVariants as reply;
+ghost use Rattle.lg_types.specs.declared.table.Part.TheVariants.{System};
+ghost use Rattle.lg_types.specs.declared.table.TableDef.{TableDef};
+ghost use Rattle.lg_value.specs.declared.refusal.Refusal.{Refusal};
+ghost use Rattle.lg_value.specs.declared.refusal.Refusal.TheVariants.{E30};
+ghost use Rattle.lg_model.specs.Catalog.{find_part};
+ghost use Rattle.lg_model.specs.Create.{create_check, index_check};
+ghost use Rattle.lg_model.specs.Effect.{query_rows};
+ghost use Rattle.lg_model.specs.Holds.{released};
+ghost use Rattle.lg_model.specs.Query.{query_check};
+ghost use Rattle.lg_model.specs.Refusals.{Gives};
+ghost use Rattle.lg_standing.specs.CatalogVisits.{with_holds};
+ghost use Rattle.lg_standing.specs.Cells.{first_catalog, versions_in, Catalog};
+ghost use Rattle.lg_standing.specs.Doing.{Stopped};
+ghost use Rattle.lg_standing.specs.Seats.{OpenTransaction};
+ghost use Rattle.lg_tx.specs.Represents.{Represents};
+ghost use Rattle.lg_catalog.specs.Calls.{left, undone, IndexMade, LocksTaken, MayCreate, TableMade};
+
+use crate::finding::find;
+use crate::locks::or_refusal;
+use crate::reading::show;
+use crate::undoing::undo_versions;
+use lg_items::{Items, Memory, Name, TableId, TxId};
+use lg_locks::{LockList, Want};
+use lg_merkle::Hash32;
+use lg_system::first_tables;
+use lg_tx::TxCtx;
+use lg_types::{CreateIndex, CreateTable, Part, Row, Select, TableDef, Version};
+use lg_value::Refusal;
+use std::alloc::Global;
+use std::marker::Model;
+
+/// The id of the system's table of tables.
+const TABLES: TableId = 1;
+
+/// The definitions of all tables with who changed them, the versions of the two tables of the system, and the locks of
+/// the catalog. Contracts see the cell of which the laws on visits speak.
+#[derive(Drop)]
+pub struct CatalogCell {
+    defs: Vec<TableDef>,
+    tables: Vec<Version>,
+    columns: Vec<Version>,
+    locks: LockList,
+}
+
+impl Model for CatalogCell {
+    ghost use Rattle.std.specs.Prelude.{None};
+    ghost use Rattle.lg_standing.specs.Cells.{CatalogCell};
+
+    ghost Value = { CatalogCell };
+
+    ghost view = { λ c. record {
+      defs = c.defs.items;
+      creator = None;
+      tables = c.tables.items;
+      columns = c.columns.items;
+      holds = c.locks;
+    } };
+}
+
+impl CatalogCell {
+    /// The cell of a database without transactions: the definitions of the system tables, without rows and locks.
+    #[tactic(auto, unfolding(lg_model::specs::SystemTables::first_tables))]
+    pub fn new(alloc: Global) -> Result<CatalogCell, Memory>
+        ensures { IfOk result (λ c. c ≡ first_catalog) }
+    {
+        let mut system = first_tables(alloc)?;
+        let columns = system.pop().unwrap();
+        let tables = system.pop().unwrap();
+        Ok(CatalogCell {
+            defs: Vec::from_array(alloc, [tables.def, columns.def])?,
+            tables: Vec::new(alloc),
+            columns: Vec::new(alloc),
+            locks: LockList::new(alloc),
+        })
+    }
+
+    /// Takes all that the transaction wants, or nothing, and answers whether it had no lock here before. Where another
+    /// transaction's lock is in the way of a want, `Locked` names the least holder for the first such want.
+    pub fn lock(&mut self, tx: TxId, wants: &[Want]) -> Result<bool, Refusal>
+        ensures ok { IfOk result (λ fresh. LocksTaken self.old tx wants.now fresh self.new) }
+        ensures stopped { IfErr result (λ e. Stopped self.old.holds tx wants.now (reply.Refused e)) }
+        ensures err { OnErr result (self.new ≡ self.old) }
+    {
+        or_refusal(self.locks.ask(tx, wants))
+    }
+
+    /// The table, and the part of it, that a name stands for. Nothing is copied.
+    pub fn look(&self, name: &Name) -> Option<(&TableDef, Part)>
+        ensures { option_map (λ p. (p.0.now, p.1)) result ≡ find_part self.now.defs name.now }
+    {
+        find(&self.defs, name)
+    }
+
+    /// The rows that a SELECT on a system table shows. It is refused as its checks say, or for want of memory.
+    pub fn read(&self, alloc: Global, q: &Select) -> Result<Items<Row>, Refusal>
+        requires { (def : TableDef) × (find_part self.now.defs q.now.table ≡ Some (def, System)) }
+        ensures rows { (def : TableDef) → query_check self.now.defs q.now ≡ Ok (def, System)
+            → Gives (query_rows q.now (def, System) (versions_in def.id (Catalog self.now))) result }
+        ensures refused { (e : Refusal) → query_check self.now.defs q.now ≡ Err e → Gives (Err e) result }
+    {
+        let Some((def, part)) = self.look(&q.table) else {
+            return Err(Refusal::E02);
+        };
+        show(alloc, def, part, self.versions_of(def.id), q)
+    }
+
+    fn versions_of(&self, id: TableId) -> &[Version]
+        ensures { result.now ≡ versions_in id (Catalog self.now) }
+    {
+        if id == TABLES {
+            &self.tables
+        } else {
+            &self.columns
+        }
+    }
+
+    /// Makes a table: its definition, behind the others, its rows in the system tables, and their leaves in the trees of
+    /// the transaction. It is refused as the checks of CREATE TABLE say, or for want of memory; then the cell is as it
+    /// was, and the context is of the same transaction as before.
+    pub fn create_table<H: Hash32>(
+        &mut self,
+        alloc: Global,
+        ctx: &mut TxCtx<H>,
+        create: &CreateTable,
+    ) -> Result<(), Refusal>
+        requires { MayCreate H.digest ctx.old self.old }
+        ensures ok { OnOk result (TableMade H.digest self.old ctx.old create.now self.new ctx.new) }
+        ensures refused { IfErr result (λ e. e ≢ E30 → create_check self.old.defs create.now ≡ Err e) }
+        ensures err { OnErr result (self.new ≡ self.old) }
+        ensures context { OnErr result ((h : H) (o : OpenTransaction) → Represents H.digest h ctx.old o
+            → Represents H.digest h ctx.new o) }
+    {
+        Err(Refusal::E30)
+    }
+
+    /// Makes an index, and answers its table's definition with it: the definition is in the place of the one before, the
+    /// rows of the index are in the table of columns, and their leaves in the transaction's tree of it. It is refused as
+    /// the checks of CREATE INDEX say, or for want of memory; then the cell is as it was, and the context is of the same
+    /// transaction as before.
+    pub fn create_index<H: Hash32>(
+        &mut self,
+        alloc: Global,
+        ctx: &mut TxCtx<H>,
+        create: &CreateIndex,
+    ) -> Result<TableDef, Refusal>
+        requires { MayCreate H.digest ctx.old self.old }
+        ensures ok { IfOk result (λ now. IndexMade H.digest self.old ctx.old create.now now self.new ctx.new) }
+        ensures refused { IfErr result (λ e. e ≢ E30 → index_check self.old.defs create.now ≡ Err e) }
+        ensures err { OnErr result (self.new ≡ self.old) }
+        ensures context { OnErr result ((h : H) (o : OpenTransaction) → Represents H.digest h ctx.old o
+            → Represents H.digest h ctx.new o) }
+    {
+        Err(Refusal::E30)
+    }
+
+    /// Takes back what the transaction made: the definitions are what they were before, and its rows are gone. Takes no
+    /// memory.
+    pub fn undo(&mut self, tx: TxId)
+        ensures { self.new ≡ undone tx self.old }
+    {
+        undo_versions(&mut self.tables, tx, 0);
+        undo_versions(&mut self.columns, tx, 0);
+    }
+
+    /// Drops the locks of the transaction; what it made stays. Takes no memory.
+    pub fn release(&mut self, tx: TxId)
+        ensures { self.new ≡ left tx self.old }
+    {
+        self.locks.release(tx);
+    }
+
+    /// Drops the locks of the transaction, which made nothing. Takes no memory.
+    pub fn give_back(&mut self, tx: TxId)
+        ensures { self.new ≡ with_holds (released self.old.holds tx) self.old }
+    {
+        self.locks.release(tx);
+    }
+}
