@@ -3,14 +3,12 @@ use Rattle.std.proofs.Common.{◌≡◌, ◌+◌, ℕ, refl, sym, ap, ◌∙◌,
 use Rattle.std.specs.List.{AllByRecursion}
 use Rattle.lg_types.specs.declared.event.FieldOf.{FieldOf}
 use Rattle.lg_types.specs.declared.version.Typed.{Typed}
-use Rattle.lg_types.specs.declared.version.Version.{Version}
-use Rattle.lg_model.specs.Rows.{EventId}
 use Rattle.lg_model.specs.Lists.{numbered}
 use Rattle.lg_model.specs.Events.{fields_at, fields_of}
 use Rattle.lg_image.specs.RowBytes.{IsValue, AreValues}
 use Rattle.lg_row.specs.Leaf.{has_value, head_bytes, start_bytes, columns_bytes, event_bytes}
 use Rattle.lg_verify.specs.declared.marks.Mark.{Mark}
-use Rattle.lg_verify.specs.Marks.{event_at, event_of}
+use Rattle.lg_verify.specs.Marks.{event_of}
 
 all_told : (n : ℕ) (values : List (Option Typed)) → AllByRecursion IsValue values → filter has_value (flat_map fields_at (numbered n values)) ≡ flat_map fields_at (numbered n values)
 all_told n [] a = refl
@@ -20,21 +18,13 @@ all_told n (Some t ∷ vs) a = rw a.0.told (ap (λ fs. record { ordinal = n; ty 
 pub told : (values : List (Option Typed)) → AreValues values → filter has_value (fields_of values) ≡ fields_of values
 told values a = all_told 1 values a.1
 
-leaf_at : (table : ℕ) (v : Version) (end : Option EventId) (old : List ℕ) → AreValues v.values
-    → ((old ++ head_bytes (event_at table v end)) ++ start_bytes (event_at table v end).start) ++ columns_bytes (fields_of v.values) ≡ old ++ event_bytes (event_at table v end)
-unfolding event_bytes
-leaf_at table v None old a =
-    let e = event_at table v None in
-    append_assoc (old ++ head_bytes e) (start_bytes e.start) (columns_bytes (fields_of v.values))
-    ∙ append_assoc old (head_bytes e) (start_bytes e.start ++ columns_bytes (fields_of v.values))
-    ∙ ap (λ fs. old ++ (head_bytes e ++ (start_bytes e.start ++ columns_bytes fs))) (sym (told v.values a))
-leaf_at table v (Some end) old a =
-    let e = event_at table v (Some end) in
-    append_assoc (old ++ head_bytes e) (start_bytes e.start) (columns_bytes (fields_of v.values))
-    ∙ append_assoc old (head_bytes e) (start_bytes e.start ++ columns_bytes (fields_of v.values))
-    ∙ ap (λ fs. old ++ (head_bytes e ++ (start_bytes e.start ++ columns_bytes fs))) (sym (told v.values a))
-
 -- the parts that are written one after another are the leaf
-pub leaf_is : (table : ℕ) (m : Mark) (old : List ℕ) → AreValues m.version.now.values
-    → ((old ++ head_bytes (event_of table m)) ++ start_bytes (event_of table m).start) ++ columns_bytes (fields_of m.version.now.values) ≡ old ++ event_bytes (event_of table m)
-leaf_is table m old a = leaf_at table m.version.now m.end old a
+pub leaf_is : (m : Mark) (old : List ℕ) → AreValues m.version.now.values
+    → ((old ++ head_bytes (event_of m)) ++ start_bytes (event_of m).start) ++ columns_bytes (fields_of m.version.now.values) ≡ old ++ event_bytes (event_of m)
+unfolding event_bytes
+leaf_is m old a =
+    let e = event_of m in
+    let values = m.version.now.values in
+    append_assoc (old ++ head_bytes e) (start_bytes e.start) (columns_bytes (fields_of values))
+    ∙ append_assoc old (head_bytes e) (start_bytes e.start ++ columns_bytes (fields_of values))
+    ∙ ap (λ fs. old ++ (head_bytes e ++ (start_bytes e.start ++ columns_bytes fs))) (sym (told values a))

@@ -16,7 +16,7 @@ use Rattle.lg_image.specs.Tables.{defs_in, tables_in, tables_with}
 use Rattle.lg_verdict.specs.Indexes.{first_table, table_fault, index_fault}
 use Rattle.lg_verify.specs.declared.shown.Shown.{Shown}
 use Rattle.lg_verify.specs.Indexes.{first_among, HasFewIndexes}
-use Rattle.lg_verify.specs.Roots.{HasSpelled, AreSpelled}
+use Rattle.lg_verify.specs.Marks.{HasSpelled, AreSpelled}
 use Rattle.lg_verify.specs.Shown.{def_of, rows_of, table_of, Show}
 
 with_tables : (ts : List Shown) → tables_with (map def_of ts) (map rows_of ts) ≡ map table_of ts

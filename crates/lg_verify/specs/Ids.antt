@@ -1,12 +1,20 @@
--- Starts and ends by transactions that have no entry, version by version.
-use Rattle.std.specs.Prelude.{ℕ, not, Bool, List, map}
+-- Ids that stand twice, and starts and ends by transactions that have no entry, version by version.
+use Rattle.std.specs.Prelude.{ℕ, not, Bool, List, map, take, Option}
 use Rattle.std.specs.List.{filter}
 use Rattle.lg_types.specs.declared.entry.TxEntry.{TxEntry}
 use Rattle.lg_types.specs.declared.event.Event.{Event}
 use Rattle.lg_types.specs.declared.version.Table.{Table}
 use Rattle.lg_types.specs.declared.version.Version.{Version}
 use Rattle.lg_model.specs.Events.{version_events}
+use Rattle.lg_verdict.specs.declared.place.Place.{Place}
+use Rattle.lg_verdict.specs.declared.place.Place.TheVariants as at
 use Rattle.lg_verdict.specs.Entries.{TableEvent, has_id, events_in}
+use Rattle.lg_verdict.specs.First.{unless, first}
+
+-- the first of these entries whose id an earlier one has
+abbrev pub repeated_in : List TxEntry → Option Place
+repeated_in entries =
+    first (λ k (e : TxEntry). unless (not (has_id (take k entries) e.id)) (at.Entry k)) entries
 
 abbrev pub is_stranger : List TxEntry → TableEvent → Bool
 is_stranger entries e = not (has_id entries e.1.0)

@@ -1,10 +1,14 @@
+pub mod Entries
 pub mod Ids
 pub mod Indexes
 pub mod Marks
+pub mod Numbered
 pub mod Numbers
 pub mod Order
+pub mod Positions
 pub mod Roots
 pub mod Rules
+pub mod Runs
 pub mod Shown
 pub mod Spelling
 pub mod Versions

@@ -1,48 +1,58 @@
--- The events of a transaction in some tables: their numbers, and the roots over them.
-use Rattle.std.specs.Prelude.{All, ℕ, ◌++◌, List, [], ◌∷◌, map}
+-- The events of a transaction, by table and number: their numbers, and the roots over those of each table.
+use Rattle.std.specs.Prelude.{ℕ, ◌==◌, Bool, true, false, List, [], ◌∷◌, map, Option}
+use Rattle.std.specs.List.{filter}
 use Rattle.std.specs.Ordering.{nat_cmp}
 use Rattle.lg_types.specs.declared.entry.TxEntry.{TxEntry}
 use Rattle.lg_types.specs.declared.event.Event.{Event}
-use Rattle.lg_types.specs.declared.version.Version.{Version}
-use Rattle.lg_image.specs.RowBytes.{AreValues}
-use Rattle.lg_ledger.specs.Entries.{roots_of}
 use Rattle.lg_merkle.specs.TreeHash.{tree_hash}
-use Rattle.lg_model.specs.Catalog.{Tables}
-use Rattle.lg_model.specs.Events.{all_events}
 use Rattle.lg_model.specs.Lists.{or_else}
 use Rattle.lg_row.specs.Leaf.{event_bytes}
 use Rattle.lg_spell.specs.Least.{least}
 use Rattle.lg_verdict.specs.declared.place.Place.{Place}
 use Rattle.lg_verdict.specs.declared.place.Place.TheVariants as at
 use Rattle.lg_verdict.specs.Entries.{TableRoot, are_numbered, other_roots, root_place}
-use Rattle.lg_verdict.specs.First.{unless}
+use Rattle.lg_verdict.specs.First.{unless, first}
 use Rattle.lg_verify.specs.declared.marks.Mark.{Mark}
-use Rattle.lg_verify.specs.declared.shown.Shown.{Shown}
-use Rattle.std.specs.Prelude.{Option}
+use Rattle.lg_verify.specs.Marks.{event_of, tx_of}
 
--- the values of a version have a spelling
-abbrev pub HasSpelled : Version → Type 0
-HasSpelled v = AreValues v.values
+-- ---- in groups: neighbours of one table
 
--- those of all versions of a table
-pub record AreSpelled (s : Shown) : Type 0 where
-  pub base : All HasSpelled s.rows.now.base
-  pub history : All HasSpelled s.rows.now.history
+abbrev pub same_first : Event → List Event → Bool
+same_first x [] = false
+same_first x (y ∷ ys) = x.table == y.table
 
-abbrev pub HasValues : Mark → Type 0
-HasValues m = AreValues m.version.now.values
+-- in front of the first group, where it is of that one's table
+abbrev pub joined : Bool → Event → List (List Event) → List (List Event)
+joined true x (g ∷ gs) = (x ∷ g) ∷ gs
+joined _ x gs = (x ∷ []) ∷ gs
 
-abbrev pub numbers_in : ℕ → Tables → List ℕ
-numbers_in tx tables = map (λ (x : Event). x.seq) (all_events tx tables)
+abbrev pub grouped : List Event → List (List Event)
+grouped [] = []
+grouped (x ∷ xs) = joined (same_first x xs) x (grouped xs)
 
--- the root over these events of a table, if there are some
-abbrev pub root_over : (List ℕ → List ℕ) → ℕ → List Event → List TableRoot
-root_over h table [] = []
-root_over h table (e ∷ es) = (table, tree_hash h (map event_bytes (e ∷ es))) ∷ []
+abbrev pub numbers_in : List Event → List ℕ
+numbers_in es = map (λ (e : Event). e.seq) es
 
--- what fails of an entry over these tables
-abbrev pub fault_among : (List ℕ → List ℕ) → Tables → TxEntry → Option Place
-fault_among h tables e =
-    or_else
-    (unless (are_numbered (numbers_in e.id tables)) (at.Numbers e.id))
-    (root_place e.id (least nat_cmp (other_roots e.roots (roots_of h e.id tables))))
+-- those of a transaction
+abbrev pub run_in : ℕ → List Mark → List Event
+run_in tx marks = map event_of (filter (λ m. tx_of m == tx) marks)
+
+module _ (h : List ℕ → List ℕ) where
+  -- the table of a group, and the root over its leaves
+  abbrev pub group_root : List Event → TableRoot
+  group_root [] = (0, tree_hash h [])
+  group_root (e ∷ es) = (e.table, tree_hash h (map event_bytes (e ∷ es)))
+
+  abbrev pub roots_in : List Event → List TableRoot
+  roots_in es = map group_root (grouped es)
+
+  -- what fails of an entry that has these events
+  abbrev pub fault_of : List Event → TxEntry → Option Place
+  fault_of es e =
+      or_else
+      (unless (are_numbered (numbers_in es)) (at.Numbers e.id))
+      (root_place e.id (least nat_cmp (other_roots e.roots (roots_in es))))
+
+  -- the first entry of which something fails
+  abbrev pub first_fault : List Mark → List TxEntry → Option Place
+  first_fault marks entries = first (λ k (e : TxEntry). fault_of (run_in e.id marks) e) entries

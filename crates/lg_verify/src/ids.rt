@@ -1,86 +1,78 @@
 //! Whether the ids of entries differ, and each start and end is by a transaction that has an entry.
 
-ghost use Rattle.std.specs.Prelude.{◌≡◌, ◌≤◌, flat_map, take, length, if◌then◌else◌};
+ghost use Rattle.std.specs.Prelude.{◌≡◌, flat_map, if◌then◌else◌};
 ghost use Rattle.lg_spell.specs.Least.{least, least_from, lesser};
 ghost use Rattle.lg_verdict.specs.Entries as spec;
-ghost use Rattle.lg_verify.specs.Ids.{strangers_in, strangers_of};
+ghost use Rattle.lg_verify.specs.Entries.{AreFound};
+ghost use Rattle.lg_verify.specs.Ids.{repeated_in, strangers_in, strangers_of};
 ghost use Rattle.lg_verify.specs.Shown.{Show, table_of};
 
+use crate::entries::Entries;
 use crate::least::{TableEvent, event_place, lesser};
 use crate::shown::Shown;
 use lg_image::Image;
 use lg_items::TableId;
-use lg_types::{EventId, TxEntry, Version};
+use lg_types::{EventId, Version};
 use lg_verdict::Place;
 
 /// The first entry whose id an earlier one has; where there is none, the least start or end by a
-/// transaction that has no entry.
-#[tactic(auto, unfolding(lg_verdict::specs::Entries::id_fault))]
-pub fn id_fault(image: &Image, tables: &[Shown]) -> Option<Place>
-    requires { Show tables.now image.now }
+/// transaction that has no entry. Takes an ordered search for each of them.
+pub fn id_fault(image: &Image, entries: &Entries, tables: &[Shown]) -> Option<Place>
+    requires found { AreFound entries.now }
+    requires entries { entries.now.all.now ≡ image.now.entries }
+    requires tables { Show tables.now image.now }
     ensures { result ≡ spec.id_fault image.now }
 {
-    match repeated(image) {
+    match repeated(entries) {
         Some(place) => Some(place),
-        None => event_place(least_stranger(image, tables)),
+        None => event_place(least_stranger(entries, tables)),
     }
 }
 
-fn repeated(image: &Image) -> Option<Place>
-    ensures { result ≡ spec.repeated_id image.now }
+fn repeated(entries: &Entries) -> Option<Place>
+    requires { AreFound entries.now }
+    ensures { result ≡ repeated_in entries.now.all.now }
 {
-    let entries = image.entries.as_slice();
-    for (k, entry) in entries.iter().enumerate() {
-        if has_id(front(entries, k), entry.id) {
+    for (k, entry) in entries.all.iter().enumerate() {
+        if entries.has_before(k, entry.id) {
             return Some(Place::Entry(k as u64));
         }
     }
     None
 }
 
-fn front(entries: &[TxEntry], k: usize) -> &[TxEntry]
-    requires { k ≤ length entries.now }
-    ensures { result.now ≡ take k entries.now }
-{
-    &entries[..k]
-}
-
-fn has_id(entries: &[TxEntry], id: u64) -> bool
-    ensures { result ≡ spec.has_id entries.now id }
-{
-    entries.iter().any(|entry| entry.id == id)
-}
-
-fn least_stranger(image: &Image, tables: &[Shown]) -> Option<TableEvent>
+fn least_stranger(entries: &Entries, tables: &[Shown]) -> Option<TableEvent>
+    requires { AreFound entries.now }
     ensures { result ≡ least spec.table_event_cmp
-        (flat_map (λ t. strangers_in image.now.entries (table_of t)) tables.now) }
+        (flat_map (λ t. strangers_in entries.now.all.now (table_of t)) tables.now) }
 {
     let mut best = None;
     for table in tables {
-        best = lesser_in(image, table, best);
+        best = lesser_in(entries, table, best);
     }
     best
 }
 
 #[tactic(auto, using(crate::proofs::Strangers::least_of_parts))]
-fn lesser_in(image: &Image, table: &Shown, best: Option<TableEvent>) -> Option<TableEvent>
+fn lesser_in(entries: &Entries, table: &Shown, best: Option<TableEvent>) -> Option<TableEvent>
+    requires { AreFound entries.now }
     ensures { result ≡ least_from spec.table_event_cmp best
-        (strangers_in image.now.entries (table_of table.now)) }
+        (strangers_in entries.now.all.now (table_of table.now)) }
 {
-    let entries = image.entries.as_slice();
     let id = table.def.id;
     let best = lesser_among(entries, id, table.rows.base.as_slice(), best);
     lesser_among(entries, id, table.rows.history.as_slice(), best)
 }
 
 fn lesser_among(
-    entries: &[TxEntry],
+    entries: &Entries,
     table: TableId,
     versions: &[Version],
     best: Option<TableEvent>,
 ) -> Option<TableEvent>
+    requires { AreFound entries.now }
     ensures { result ≡ least_from spec.table_event_cmp best
-        (flat_map (strangers_of entries.now table) versions.now) }
+        (flat_map (strangers_of entries.now.all.now table) versions.now) }
 {
     let mut best = best;
     for version in versions {
@@ -90,12 +82,14 @@ fn lesser_among(
 }
 
 fn lesser_of(
-    entries: &[TxEntry],
+    entries: &Entries,
     table: TableId,
     version: &Version,
     best: Option<TableEvent>,
 ) -> Option<TableEvent>
-    ensures { result ≡ least_from spec.table_event_cmp best (strangers_of entries.now table version.now) }
+    requires { AreFound entries.now }
+    ensures { result ≡ least_from spec.table_event_cmp best
+        (strangers_of entries.now.all.now table version.now) }
 {
     let best = lesser_at(entries, table, version.start, best);
     match version.end {
@@ -105,15 +99,16 @@ fn lesser_of(
 }
 
 fn lesser_at(
-    entries: &[TxEntry],
+    entries: &Entries,
     table: TableId,
     event: EventId,
     best: Option<TableEvent>,
 ) -> Option<TableEvent>
-    ensures { result ≡ (if spec.has_id entries.now event.0 then best
+    requires { AreFound entries.now }
+    ensures { result ≡ (if spec.has_id entries.now.all.now event.0 then best
         else lesser spec.table_event_cmp best (table, event)) }
 {
-    if has_id(entries, event.0) {
+    if entries.has(event.0) {
         best
     } else {
         lesser(best, (table, event))

@@ -3,14 +3,18 @@
 
 mod blocks;
 mod columns;
+mod entries;
 mod first_values;
 mod ids;
 mod indexes;
 mod items;
+mod keys;
 mod least;
 mod marks;
 mod names;
+mod numbers;
 mod order;
+mod positions;
 mod roots;
 mod rules;
 mod shown;

@@ -1,16 +1,15 @@
-//! The starts and ends of versions, and their leaves.
+//! The starts and ends of versions, in the order of their leaves, and the leaves.
 
-ghost use Rattle.std.specs.Prelude.{All, ◌≡◌, ◌≤◌, ◌++◌, ℕ, OnOk, IfOk, take, length, map, flat_map};
-ghost use Rattle.std.specs.Ordering.{nat_cmp};
+ghost use Rattle.std.specs.Prelude.{All, ◌≡◌, ◌==◌, ◌≤◌, ◌++◌, IfOk, OnOk, length, map, flat_map};
+ghost use Rattle.std.specs.List.{filter};
+ghost use Rattle.std.specs.List.Sorted.{IsNonDecreasingBy};
 ghost use Rattle.lg_image.specs.RowBytes.{AreValues};
-ghost use Rattle.lg_model.specs.Events.{events_of, fields_of};
+ghost use Rattle.lg_model.specs.Events.{fields_of, version_events};
 ghost use Rattle.lg_model.specs.Lists.{sorted};
 ghost use Rattle.lg_row.specs.Leaf.{event_bytes, head_bytes, start_bytes, columns_bytes, column_bytes};
 ghost use Rattle.lg_bytes.specs.Fields.{u8_field, u32_field, u64_field};
-ghost use Rattle.lg_versions.specs.Own.{own, own_start, own_ends};
-ghost use Rattle.lg_verify.specs.Marks.{event_of, number_of};
-ghost use Rattle.lg_verify.specs.Roots.{AreSpelled, HasSpelled, HasValues};
-ghost use Rattle.lg_verify.specs.Shown.{table_of, def_of};
+ghost use Rattle.lg_verify.specs.Marks.{event_of, tx_of, number_of, leaf_cmp, events_shown, AreMarks, AreSpelled, HasSpelled, HasValues, StartsOther};
+ghost use Rattle.lg_verify.specs.Shown.{table_of};
 
 use crate::shown::Shown;
 use lg_bytes::{put_u16, put_u64};
@@ -18,108 +17,159 @@ use lg_items::{Memory, TableId, TxId};
 use lg_row::put_typed;
 use lg_types::{EventId, Typed, Version};
 use std::alloc::Global;
+use std::cmp::Ordering;
 
-/// The start of a version, or its end.
+/// The start or the end of a version.
 #[derive(Clone, Copy, Debug)]
 pub struct Mark<'a> {
+    /// Its transaction, and its number there.
+    pub event: EventId,
     pub version: &'a Version,
-    /// The event that ended the version, where this is its end.
-    pub end: Option<EventId>,
+    pub table: TableId,
+    /// Whether it is the end.
+    pub is_end: bool,
 }
 
-impl<'a> Mark<'a> {
-    /// The number of the event in its transaction.
-    pub fn number(&self) -> u64
-        ensures { result ≡ number_of self.now }
-    {
-        match self.end {
-            Some(end) => end.1,
-            None => self.version.start.1,
-        }
-    }
-}
-
-/// The starts and ends of the transaction in the table, by number.
-#[tactic(auto, unfolding(lg_model::specs::Events::events_of))]
-pub fn marks_of<'a>(alloc: Global, tx: TxId, table: &Shown<'a>) -> Result<Vec<Mark<'a>>, Memory>
-    requires { AreSpelled table.now }
-    ensures events { IfOk result (λ marks.
-        map (event_of (def_of table.now).id) marks.items ≡ events_of tx (table_of table.now)) }
-    ensures values { IfOk result (λ marks. All HasValues marks.items) }
+/// The starts and ends of all versions of these tables: by the transaction, then by the table, then by
+/// number. Takes the time of sorting them. The only error is want of memory.
+pub fn sorted_marks<'a>(alloc: Global, tables: &[Shown<'a>]) -> Result<Vec<Mark<'a>>, Memory>
+    requires { All AreSpelled tables.now }
+    ensures { IfOk result (λ marks. AreMarks (map table_of tables.now) marks.items) }
 {
     let mut marks = Vec::new(alloc);
-    add_own(tx, table.rows.base.as_slice(), &mut marks)?;
-    add_own(tx, table.rows.history.as_slice(), &mut marks)?;
-    sort_by_number(&mut marks)?;
+    add_tables(tables, &mut marks)?;
+    sort_marks(&mut marks)?;
     Ok(marks)
 }
 
-fn sort_by_number(marks: &mut Vec<Mark>) -> Result<(), Memory>
-    ensures values { All HasValues marks.old.items → All HasValues marks.new.items }
-    ensures events { OnOk result ((table : ℕ) → map (event_of table) marks.new.items
-        ≡ sorted (λ a b. nat_cmp a.seq b.seq) (map (event_of table) marks.old.items)) }
+fn add_tables<'a>(tables: &[Shown<'a>], marks: &mut Vec<Mark<'a>>) -> Result<(), Memory>
+    requires { All AreSpelled tables.now }
+    ensures values { OnOk result (All HasValues marks.old.items → All HasValues marks.new.items) }
+    ensures events { OnOk result (map event_of marks.new.items
+        ≡ map event_of marks.old.items ++ flat_map events_shown tables.now) }
 {
-    marks.sort_by(|a, b| a.number().cmp(&b.number()))?;
+    for table in tables {
+        add_table(table, marks)?;
+    }
     Ok(())
 }
 
-/// Adds the starts and ends of the transaction among these versions.
-fn add_own<'a>(tx: TxId, versions: &'a [Version], marks: &mut Vec<Mark<'a>>) -> Result<(), Memory>
+#[tactic(auto, using(crate::proofs::Owned::events_of_parts))]
+fn add_table<'a>(table: &Shown<'a>, marks: &mut Vec<Mark<'a>>) -> Result<(), Memory>
+    requires { AreSpelled table.now }
+    ensures values { OnOk result (All HasValues marks.old.items → All HasValues marks.new.items) }
+    ensures events { OnOk result (map event_of marks.new.items
+        ≡ map event_of marks.old.items ++ events_shown table.now) }
+{
+    add_versions(table.def.id, table.rows.base.as_slice(), marks)?;
+    add_versions(table.def.id, table.rows.history.as_slice(), marks)
+}
+
+fn add_versions<'a>(
+    table: TableId,
+    versions: &'a [Version],
+    marks: &mut Vec<Mark<'a>>,
+) -> Result<(), Memory>
     requires { All HasSpelled versions.now }
     ensures values { OnOk result (All HasValues marks.old.items → All HasValues marks.new.items) }
-    ensures events { OnOk result ((table : ℕ) → map (event_of table) marks.new.items
-        ≡ map (event_of table) marks.old.items ++ flat_map (own tx table) versions.now) }
+    ensures events { OnOk result (map event_of marks.new.items
+        ≡ map event_of marks.old.items ++ flat_map (version_events table) versions.now) }
 {
     for version in versions {
-        add_start(tx, version, marks)?;
-        add_end(tx, version, marks)?;
+        add_version(table, version, marks)?;
     }
     Ok(())
 }
 
-fn add_start<'a>(tx: TxId, version: &'a Version, marks: &mut Vec<Mark<'a>>) -> Result<(), Memory>
+// Its start, and its end if it has one.
+fn add_version<'a>(
+    table: TableId,
+    version: &'a Version,
+    marks: &mut Vec<Mark<'a>>,
+) -> Result<(), Memory>
     requires { HasSpelled version.now }
     ensures values { OnOk result (All HasValues marks.old.items → All HasValues marks.new.items) }
-    ensures events { OnOk result ((table : ℕ) → map (event_of table) marks.new.items
-        ≡ map (event_of table) marks.old.items ++ own_start tx table version.now) }
+    ensures events { OnOk result (map event_of marks.new.items
+        ≡ map event_of marks.old.items ++ version_events table version.now) }
 {
-    if version.start.0 == tx {
-        marks.push(Mark { version, end: None })?;
+    marks.push(Mark {
+        event: version.start,
+        version,
+        table,
+        is_end: false,
+    })?;
+    if let Some(event) = version.end {
+        marks.push(Mark {
+            event,
+            version,
+            table,
+            is_end: true,
+        })?;
     }
     Ok(())
 }
 
-fn add_end<'a>(tx: TxId, version: &'a Version, marks: &mut Vec<Mark<'a>>) -> Result<(), Memory>
-    requires { HasSpelled version.now }
-    ensures values { OnOk result (All HasValues marks.old.items → All HasValues marks.new.items) }
-    ensures events { OnOk result ((table : ℕ) → map (event_of table) marks.new.items
-        ≡ map (event_of table) marks.old.items ++ own_ends tx table version.now version.now.end) }
+fn sort_marks(marks: &mut Vec<Mark>) -> Result<(), Memory>
+    ensures values { All HasValues marks.old.items → All HasValues marks.new.items }
+    ensures events { OnOk result
+        (map event_of marks.new.items ≡ sorted leaf_cmp (map event_of marks.old.items)) }
+    ensures rise { OnOk result (IsNonDecreasingBy tx_of marks.new.items) }
 {
-    if let Some(end) = version.end {
-        if end.0 == tx {
-            let end = Some(end);
-            marks.push(Mark { version, end })?;
-        }
-    }
+    marks.sort_by(|a, b| compare_marks(a, b))?;
     Ok(())
+}
+
+fn compare_marks(a: &Mark, b: &Mark) -> Ordering
+    ensures { result ≡ leaf_cmp (event_of a.now) (event_of b.now) }
+{
+    a.event
+        .0
+        .cmp(&b.event.0)
+        .then(a.table.cmp(&b.table))
+        .then(a.event.1.cmp(&b.event.1))
+}
+
+/// Those of a transaction, which stand together. Takes two ordered searches.
+pub fn run_of<'m, 'a>(marks: &'m [Mark<'a>], tx: TxId) -> &'m [Mark<'a>]
+    requires { IsNonDecreasingBy tx_of marks.now }
+    ensures { result.now ≡ filter (λ m. tx_of m == tx) marks.now }
+{
+    let from = marks.partition_point(|mark| mark.event.0 < tx);
+    let (_, rest) = marks.split_at(from);
+    let count = rest.partition_point(|mark| mark.event.0 <= tx);
+    let (own, _) = rest.split_at(count);
+    own
+}
+
+/// The first of these as far as they are of the table, and the others.
+pub fn first_group<'m, 'a>(
+    marks: &'m [Mark<'a>],
+    table: TableId,
+) -> (&'m [Mark<'a>], &'m [Mark<'a>])
+    ensures parts { marks.now ≡ result.0.now ++ result.1.now }
+    ensures own { All (λ m. m.table ≡ table) result.0.now }
+    ensures other { StartsOther table result.1.now }
+{
+    let other = marks.iter().position(|mark| mark.table != table);
+    marks.split_at(other.unwrap_or(marks.len()))
 }
 
 /// Appends the leaf of a start or an end. The only error is want of memory.
-pub fn put_leaf(table: TableId, mark: &Mark, out: &mut Vec<u8>) -> Result<(), Memory>
+pub fn put_leaf(mark: &Mark, out: &mut Vec<u8>) -> Result<(), Memory>
     requires { AreValues mark.now.version.now.values }
-    ensures { OnOk result (out.new.items ≡ out.old.items ++ event_bytes (event_of table mark.now)) }
+    ensures { OnOk result (out.new.items ≡ out.old.items ++ event_bytes (event_of mark.now)) }
 {
-    put_head(table, mark, out)?;
+    put_head(mark, out)?;
     put_start(mark, out)?;
     put_columns(mark.version.values.as_slice(), out)
 }
 
-fn put_head(table: TableId, mark: &Mark, out: &mut Vec<u8>) -> Result<(), Memory>
-    ensures { OnOk result (out.new.items ≡ out.old.items ++ head_bytes (event_of table mark.now)) }
+fn put_head(mark: &Mark, out: &mut Vec<u8>) -> Result<(), Memory>
+    ensures { OnOk result (out.new.items ≡ out.old.items ++ head_bytes (event_of mark.now)) }
 {
-    let head = match mark.end {
-        None => head_of(table, 1, mark.version.start),
-        Some(end) => head_of(table, 2, end),
+    let head = match mark.is_end {
+        false => head_of(mark.table, 1, mark.event),
+        true => head_of(mark.table, 2, mark.event),
     };
     out.extend_from_slice(&head)?;
     Ok(())
@@ -141,10 +191,9 @@ fn head_of(table: TableId, op: u8, event: EventId) -> [u8; 22]
 
 // The start of the version that an end ends.
 fn put_start(mark: &Mark, out: &mut Vec<u8>) -> Result<(), Memory>
-    ensures { OnOk result ((table : ℕ) → out.new.items
-        ≡ out.old.items ++ start_bytes (event_of table mark.now).start) }
+    ensures { OnOk result (out.new.items ≡ out.old.items ++ start_bytes (event_of mark.now).start) }
 {
-    if mark.end.is_some() {
+    if mark.is_end {
         put_u64(out, mark.version.start.0)?;
         put_u64(out, mark.version.start.1)?;
     }

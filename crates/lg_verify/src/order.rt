@@ -1,172 +1,290 @@
-//! The order of the versions of one key.
+//! The versions of a table by key, and those of a key by start.
+//!
+//! Sorted so, the versions of one key stand side by side. One pass from the first to the last then knows of
+//! each version the latest of the earlier ones of its key, and whether one of them has no end. It has to know
+//! both, and the neighbour alone wouldn't do: where one version has no end, each later one of its key without
+//! an end is at fault, also behind others that have ended, and the least fault is the one of the least
+//! transaction, which needn't be the first in the ledger.
 
-ghost use Rattle.std.specs.Prelude.{◌≡◌, ◌++◌, ◌&&◌, if◌then◌else◌, is_none};
-ghost use Rattle.std.specs.List.{list_any};
-ghost use Rattle.std.specs.Option.{option_copied};
-ghost use Rattle.lg_verdict.specs.Order as spec;
+ghost use Rattle.std.specs.Prelude.{◌≡◌, ◌<◌, ◌||◌, ◌++◌, ◌∷◌, [], if◌then◌else◌, IsSorted, List, IfOk, OnOk, map, length, get_or, option_map, is_none};
+ghost use Rattle.std.specs.List.{All, AllByRecursion};
+ghost use Rattle.lg_model.specs.Lists.{sorted};
+ghost use Rattle.lg_spell.specs.Least.{least_from, lesser};
+ghost use Rattle.lg_verdict.specs.Entries.{table_event_cmp};
 ghost use Rattle.lg_verdict.specs.Versions.{with_columns};
-ghost use Rattle.lg_verify.specs.Order.{earlier_of_key, latest_from, precedes as spec_precedes};
+ghost use Rattle.lg_verify.specs.Order as spec;
+ghost use Rattle.lg_verify.specs.Positions.{rank_of};
+ghost use Rattle.lg_verify.specs.Runs.{Neighbours};
+ghost use Rattle.lg_verify.specs.declared.order.Ranked.{Ranked as RankedVersion};
 
 use crate::columns::has_columns;
+use crate::keys::compare_keys;
+use crate::least::{TableEvent, lesser};
+use crate::positions::{Positions, Rank};
+use lg_items::Memory;
 use lg_parts::{Keyed, same_key};
-use lg_types::{EventId, TableRows, TxEntry, Version};
+use lg_types::{EventId, TableRows, Version};
+use lg_value::ColumnDef;
+use std::alloc::Global;
+use std::cmp::Ordering;
 
-fn position_of(entries: &[TxEntry], id: u64) -> usize
-    ensures { result ≡ spec.position_of entries.now id }
-{
-    let mut at = 0;
-    for entry in entries {
-        if entry.id == id {
-            return at;
-        }
-        at += 1;
-    }
-    at
+/// A version with the ranks of its start and its end.
+#[derive(Clone, Copy, Debug)]
+pub struct Ranked<'a> {
+    pub version: &'a Version,
+    pub start: Rank,
+    pub end: Option<Rank>,
 }
 
-/// Whether one event comes before another, by the places of their entries and then by number.
-pub fn is_before(entries: &[TxEntry], a: EventId, b: EventId) -> bool
-    ensures { result ≡ spec.is_before entries.now a b }
-{
-    let p = position_of(entries, a.0);
-    let q = position_of(entries, b.0);
-    p < q || (p == q && a.1 < b.1)
+/// What is known of the earlier versions of a version's key.
+#[derive(Clone, Copy, Debug)]
+pub struct Earlier {
+    /// The end of the latest of them, if there are some.
+    pub latest: Option<Option<Rank>>,
+    /// Whether one of them has no end.
+    pub any_open: bool,
 }
 
-fn is_earlier(entries: &[TxEntry], v: &Version, w: &Version) -> bool
-    ensures { result ≡ spec.is_earlier entries.now v.now w.now }
-{
-    is_before(entries, v.start, w.start)
-        || (v.start == w.start && (v.end.is_some() && w.end.is_none()))
-}
-
-/// Whether w has the table's columns and v's key, and is earlier.
-fn precedes(entries: &[TxEntry], table: &Keyed, w: &Version, v: &Version) -> bool
-    ensures { result ≡ spec_precedes entries.now table.now.columns w.now v.now }
-{
-    has_columns(table.columns(), w.values.as_slice())
-        && same_key(table, w, v)
-        && is_earlier(entries, w, v)
-}
-
-/// Whether one of these versions that is earlier and of v's key has no end.
-fn any_open(entries: &[TxEntry], table: &Keyed, versions: &[Version], v: &Version) -> bool
-    ensures { result ≡ list_any (λ w. is_none w.end)
-        (earlier_of_key entries.now table.now.columns v.now versions.now) }
-{
-    for w in versions {
-        if is_open_before(entries, table, w, v) {
-            return true;
-        }
-    }
-    false
-}
-
-fn is_open_before(entries: &[TxEntry], table: &Keyed, w: &Version, v: &Version) -> bool
-    ensures { result ≡ (is_none w.now.end && spec_precedes entries.now table.now.columns w.now v.now) }
-{
-    w.end.is_none() && precedes(entries, table, w, v)
-}
-
-/// Whether the version has no end, and an earlier one of its key has none either.
-#[tactic(auto, using(crate::proofs::Latest::any_of_parts))]
-pub fn shares_key(entries: &[TxEntry], table: &Keyed, rows: &TableRows, v: &Version) -> bool
-    ensures { result ≡ spec.shares_key entries.now table.now.columns
-        (with_columns table.now.columns (rows.now.base ++ rows.now.history)) v.now }
-{
-    v.end.is_none()
-        && (any_open(entries, table, rows.base.as_slice(), v)
-            || any_open(entries, table, rows.history.as_slice(), v))
-}
-
-fn later_of<'a>(
-    entries: &[TxEntry],
-    v: &'a Version,
-    known: Option<&'a Version>,
-) -> Option<&'a Version>
-    ensures { option_copied result ≡ spec.later_of entries.now v.now (option_copied known.entry) }
-{
-    match known {
-        None => Some(v),
-        Some(w) => {
-            if is_earlier(entries, w, v) {
-                Some(v)
-            } else {
-                Some(w)
-            }
-        }
-    }
-}
-
-/// The latest of those of these versions that are earlier and of v's key, and of one that is known.
-fn latest<'a>(
-    entries: &[TxEntry],
+/// The versions that have the table's columns, by key, and those of a key by start. Sorts them once.
+pub fn ranked_versions<'a>(
+    alloc: Global,
+    positions: &Positions,
     table: &Keyed,
+    rows: &'a TableRows,
+) -> Result<Vec<Ranked<'a>>, Memory>
+    requires base { All (spec.IsStarted positions.now) rows.now.base }
+    requires history { All (spec.IsStarted positions.now) rows.now.history }
+    ensures { IfOk result (λ ranked. spec.InRuns positions.now table.now.columns
+        (with_columns table.now.columns (rows.now.base ++ rows.now.history)) ranked.items) }
+{
+    let mut ranked = Vec::new(alloc);
+    add_ranked(
+        positions,
+        table.columns(),
+        rows.base.as_slice(),
+        &mut ranked,
+    )?;
+    add_ranked(
+        positions,
+        table.columns(),
+        rows.history.as_slice(),
+        &mut ranked,
+    )?;
+    sort_in_runs(table, &mut ranked)?;
+    Ok(ranked)
+}
+
+/// Adds those of these versions that have the columns.
+fn add_ranked<'a>(
+    positions: &Positions,
+    columns: &[ColumnDef],
     versions: &'a [Version],
-    v: &Version,
-    known: Option<&'a Version>,
-) -> Option<&'a Version>
-    ensures { option_copied result ≡ latest_from entries.now (option_copied known.entry)
-        (earlier_of_key entries.now table.now.columns v.now versions.now) }
+    ranked: &mut Vec<Ranked<'a>>,
+) -> Result<(), Memory>
+    requires { All (spec.IsStarted positions.now) versions.now }
+    ensures versions { OnOk result (map spec.version_of ranked.new.items
+        ≡ map spec.version_of ranked.old.items ++ with_columns columns.now versions.now) }
+    ensures ranks { OnOk result (AllByRecursion (spec.IsRanked positions.now) ranked.old.items
+        → AllByRecursion (spec.IsRanked positions.now) ranked.new.items) }
 {
-    let mut latest = known;
-    let mut k = versions.len();
-    while k > 0 {
-        k -= 1;
-        latest = with_earlier(entries, table, &versions[k], v, latest);
+    for version in versions {
+        add_one(positions, columns, version, ranked)?;
     }
-    latest
+    Ok(())
 }
 
-/// The later of w, if it precedes v, and a version that is known.
-fn with_earlier<'a>(
-    entries: &[TxEntry],
-    table: &Keyed,
-    w: &'a Version,
-    v: &Version,
-    known: Option<&'a Version>,
-) -> Option<&'a Version>
-    ensures { option_copied result ≡ (if spec_precedes entries.now table.now.columns w.now v.now
-        then spec.later_of entries.now w.now (option_copied known.entry) else option_copied known.entry) }
+/// Adds the version, if it has the columns.
+fn add_one<'a>(
+    positions: &Positions,
+    columns: &[ColumnDef],
+    version: &'a Version,
+    ranked: &mut Vec<Ranked<'a>>,
+) -> Result<(), Memory>
+    requires { spec.IsStarted positions.now version.now }
+    ensures versions { OnOk result (map spec.version_of ranked.new.items
+        ≡ map spec.version_of ranked.old.items ++ with_columns columns.now (version.now ∷ [])) }
+    ensures ranks { OnOk result (AllByRecursion (spec.IsRanked positions.now) ranked.old.items
+        → AllByRecursion (spec.IsRanked positions.now) ranked.new.items) }
 {
-    if precedes(entries, table, w, v) {
-        later_of(entries, w, known)
-    } else {
-        known
+    if has_columns(columns, version.values.as_slice()) {
+        ranked.push(ranked_one(positions, version))?;
     }
+    Ok(())
+}
+
+fn ranked_one<'a>(positions: &Positions, version: &'a Version) -> Ranked<'a>
+    requires { spec.IsStarted positions.now version.now }
+    ensures version { result.version.now ≡ version.now }
+    ensures ranks { spec.IsRanked positions.now result }
+{
+    Ranked {
+        version,
+        start: positions.rank_of(version.start),
+        end: rank_of_end(positions, version.end),
+    }
+}
+
+fn rank_of_end(positions: &Positions, end: Option<EventId>) -> Option<Rank>
+    ensures { result ≡ option_map (rank_of positions.now) end }
+{
+    match end {
+        Some(end) => Some(positions.rank_of(end)),
+        None => None,
+    }
+}
+
+fn sort_in_runs(table: &Keyed, ranked: &mut Vec<Ranked>) -> Result<(), Memory>
+    ensures { OnOk result (ranked.new.items
+        ≡ sorted (spec.ranked_cmp table.now.columns) ranked.old.items) }
+{
+    ranked.sort_by(|a, b| compare_ranked(table, a, b))?;
+    Ok(())
+}
+
+/// By key, and then by start.
+fn compare_ranked(table: &Keyed, a: &Ranked, b: &Ranked) -> Ordering
+    ensures { result ≡ spec.ranked_cmp table.now.columns a.now b.now }
+{
+    match compare_keys(table, a.version, b.version) {
+        Ordering::Equal => compare_starts(a, b),
+        order => order,
+    }
+}
+
+/// By start; of two with one start the one without an end is the later.
+fn compare_starts(a: &Ranked, b: &Ranked) -> Ordering
+    ensures { result ≡ spec.start_cmp a.now b.now }
+{
+    match a.start.cmp(&b.start) {
+        Ordering::Equal => openness(a.end).cmp(&openness(b.end)),
+        order => order,
+    }
+}
+
+fn openness(end: Option<Rank>) -> u8
+    ensures { result ≡ spec.openness end }
+{
+    match end {
+        None => 1,
+        Some(_) => 0,
+    }
+}
+
+/// The least start so far, and of the versions that don't stand in order among those of their key.
+pub fn worst_in_runs(
+    table: &Keyed,
+    ranked: &[Ranked],
+    worst: Option<TableEvent>,
+) -> Option<TableEvent>
+    requires { IsSorted (spec.ranked_cmp table.now.columns) ranked.now }
+    ensures { result ≡ least_from table_event_cmp worst
+        (spec.out_of_order table.now.id table.now.columns ranked.now ranked.now) }
+{
+    let mut worst = worst;
+    let mut earlier = Earlier {
+        latest: None,
+        any_open: false,
+    };
+    for k in 0..ranked.len() {
+        earlier = earlier_at(table, ranked, k, earlier);
+        worst = worst_with(table, &ranked[k], earlier, worst);
+    }
+    worst
+}
+
+/// The lesser of the least so far and the start of the version, if it doesn't stand in order.
+fn worst_with(
+    table: &Keyed,
+    version: &Ranked,
+    earlier: Earlier,
+    worst: Option<TableEvent>,
+) -> Option<TableEvent>
+    ensures { result ≡ (if spec.stands_well version.now earlier.latest earlier.any_open
+        then worst else lesser table_event_cmp worst (table.now.id, version.now.version.now.start)) }
+{
+    if stands_well(version, earlier) {
+        worst
+    } else {
+        lesser(worst, (table.def().id, version.version.start))
+    }
+}
+
+/// What is known at this place, by what was known at the one before.
+fn earlier_at(table: &Keyed, ranked: &[Ranked], k: usize, before: Earlier) -> Earlier
+    requires within { k < length ranked.now }
+    requires order { IsSorted (spec.ranked_cmp table.now.columns) ranked.now }
+    requires before { spec.KnowsBefore table.now.columns ranked.now k before }
+    ensures { (d : RankedVersion) → spec.Knows table.now.columns ranked.now (get_or ranked.now k d) result }
+{
+    if k == 0 {
+        return Earlier {
+            latest: None,
+            any_open: false,
+        };
+    }
+    earlier_behind(table, &ranked[k - 1], &ranked[k], before)
+}
+
+/// What is known of the version that stands behind the last one.
+fn earlier_behind(table: &Keyed, last: &Ranked, version: &Ranked, known: Earlier) -> Earlier
+    ensures { (all : List RankedVersion) → Neighbours (spec.ranked_cmp table.now.columns) all last.now version.now
+        → spec.Knows table.now.columns all last.now known
+        → spec.Knows table.now.columns all version.now result }
+{
+    if !same_key(table, last.version, version.version) {
+        return Earlier {
+            latest: None,
+            any_open: false,
+        };
+    }
+    if compare_starts(last, version).is_lt() {
+        return Earlier {
+            latest: Some(last.end),
+            any_open: is_any_open(last, known),
+        };
+    }
+    known
+}
+
+/// Whether the version or an earlier one has no end.
+fn is_any_open(version: &Ranked, known: Earlier) -> bool
+    ensures { result ≡ (known.any_open || is_none version.now.end) }
+{
+    known.any_open || version.end.is_none()
+}
+
+/// Whether it has an end or each earlier one has one, it ends after it starts, and the latest of the earlier
+/// ones ends before it starts.
+fn stands_well(version: &Ranked, earlier: Earlier) -> bool
+    ensures { result ≡ spec.stands_well version.now earlier.latest earlier.any_open }
+{
+    !(version.end.is_none() && earlier.any_open)
+        && (ends_well(version) && follows(version, earlier.latest))
+}
+
+fn is_before(a: Rank, b: Rank) -> bool
+    ensures { result ≡ spec.rank_before a b }
+{
+    a.0 < b.0 || (a.0 == b.0 && a.1 < b.1)
 }
 
 /// Whether the version ends after it starts, if it ends.
-fn ends_well(entries: &[TxEntry], v: &Version) -> bool
-    ensures { result ≡ spec.ends_well entries.now v.now v.now.end }
+fn ends_well(version: &Ranked) -> bool
+    ensures { result ≡ spec.ends_well version.now version.now.end }
 {
-    match v.end {
+    match version.end {
         None => true,
-        Some(end) => is_before(entries, v.start, end),
+        Some(end) => is_before(version.start, end),
     }
 }
 
 /// Whether the version before, if there is one, ends before this one starts.
-fn follows(entries: &[TxEntry], v: &Version, before: Option<&Version>) -> bool
-    ensures { result ≡ spec.follows entries.now v.now (option_copied before.entry) }
+fn follows(version: &Ranked, latest: Option<Option<Rank>>) -> bool
+    ensures { result ≡ spec.follows version.now latest }
 {
-    match before {
+    match latest {
         None => true,
-        Some(w) => match w.end {
-            None => false,
-            Some(end) => is_before(entries, end, v.start),
-        },
+        Some(None) => false,
+        Some(Some(end)) => is_before(end, version.start),
     }
-}
-
-/// Whether the version ends after it starts, and the one just before it among those of its key ends
-/// before it starts.
-#[tactic(auto, using(crate::proofs::Latest::latest_of_parts))]
-pub fn is_in_order(entries: &[TxEntry], table: &Keyed, rows: &TableRows, v: &Version) -> bool
-    ensures { result ≡ spec.is_in_order entries.now table.now.columns
-        (with_columns table.now.columns (rows.now.base ++ rows.now.history)) v.now }
-{
-    let history = latest(entries, table, rows.history.as_slice(), v, None);
-    let before = latest(entries, table, rows.base.as_slice(), v, history);
-    ends_well(entries, v) && follows(entries, v, before)
 }

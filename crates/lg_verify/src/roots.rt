@@ -1,22 +1,22 @@
 //! Whether each entry has the roots of its transaction's events, which are numbered without a gap.
 
-ghost use Rattle.std.specs.Prelude.{All, ◌≡◌, ◌==◌, ◌<◌, ◌≤◌, ◌^◌, ◌++◌, ◌∷◌, [], ℕ, List, IfOk, OnOk, map, flat_map, filter, length, not};
+ghost use Rattle.std.specs.Prelude.{All, ◌≡◌, ◌<◌, ◌≤◌, ◌+◌, ◌∷◌, ℕ, List, IfOk, OnOk, length, drop, map, filter, not};
+ghost use Rattle.std.specs.List.Sorted.{IsNonDecreasingBy};
 ghost use Rattle.std.specs.Ordering.{nat_cmp};
 ghost use Rattle.lg_image.specs.ImageBytes.{IsImage};
-ghost use Rattle.lg_ledger.specs.Entries.{roots_of};
 ghost use Rattle.lg_merkle.specs.TreeHash.{tree_hash};
-ghost use Rattle.lg_model.specs.Events.{all_events};
 ghost use Rattle.lg_row.specs.Leaf.{event_bytes};
 ghost use Rattle.lg_spell.specs.Least.{least, least_from, lesser};
 ghost use Rattle.lg_verdict.specs.Entries as spec;
-ghost use Rattle.lg_verify.specs.Marks.{event_of};
-ghost use Rattle.lg_verify.specs.Roots.{AreSpelled, HasValues, numbers_in, root_over, fault_among};
-ghost use Rattle.lg_verify.specs.Shown.{Show, table_of};
+ghost use Rattle.lg_verify.specs.Marks.{event_of, tx_of, number_of, HasValues};
+ghost use Rattle.lg_verify.specs.Roots.{fault_of, first_fault, roots_in, run_in};
+ghost use Rattle.lg_verify.specs.Shown.{Show};
 
-use crate::marks::{Mark, marks_of, put_leaf};
+use crate::marks::{Mark, first_group, put_leaf, run_of, sorted_marks};
+use crate::numbers::are_numbered;
 use crate::shown::Shown;
 use lg_image::Image;
-use lg_items::{Memory, TableId, TxId};
+use lg_items::{Memory, TableId};
 use lg_merkle::{Frontier, Hash32};
 use lg_types::TxEntry;
 use lg_verdict::Place;
@@ -26,7 +26,7 @@ use std::alloc::Global;
 type TableRoot = (TableId, [u8; 32]);
 
 /// The first entry whose events aren't numbered without a gap, or that has other roots than theirs.
-#[tactic(auto, unfolding(lg_verdict::specs::Entries::root_fault))]
+/// The starts and ends of all versions are sorted once, and each leaf is hashed once.
 pub fn root_fault<H: Hash32>(
     alloc: Global,
     hasher: H,
@@ -37,29 +37,65 @@ pub fn root_fault<H: Hash32>(
     requires tables { Show tables.now image.now }
     ensures { IfOk result (λ place. place ≡ spec.root_fault (H.digest hasher) image.now) }
 {
-    for entry in image.entries.as_slice() {
-        if let Some(place) = entry_fault(alloc, hasher, entry, tables)? {
+    let marks = sorted_marks(alloc, tables)?;
+    first_fault(alloc, hasher, image.entries.as_slice(), marks.as_slice())
+}
+
+fn first_fault<H: Hash32>(
+    alloc: Global,
+    hasher: H,
+    entries: &[TxEntry],
+    marks: &[Mark],
+) -> Result<Option<Place>, Memory>
+    requires rise { IsNonDecreasingBy tx_of marks.now }
+    requires values { All HasValues marks.now }
+    ensures { IfOk result (λ place. place ≡ first_fault (H.digest hasher) marks.now entries.now) }
+{
+    let mut work = Work::new(alloc);
+    for entry in entries {
+        if let Some(place) = entry_fault(hasher, entry, marks, &mut work)? {
             return Ok(Some(place));
         }
     }
     Ok(None)
 }
 
+/// Room that is used for one entry after another.
+#[derive(Drop)]
+struct Work {
+    numbers: Vec<u64>,
+    roots: Vec<TableRoot>,
+    leaf: Vec<u8>,
+}
+
+impl Work {
+    fn new(alloc: Global) -> Self {
+        Work {
+            numbers: Vec::new(alloc),
+            roots: Vec::new(alloc),
+            leaf: Vec::new(alloc),
+        }
+    }
+}
+
 fn entry_fault<H: Hash32>(
-    alloc: Global,
     hasher: H,
     entry: &TxEntry,
-    tables: &[Shown],
+    marks: &[Mark],
+    work: &mut Work,
 ) -> Result<Option<Place>, Memory>
-    requires { All AreSpelled tables.now }
+    requires rise { IsNonDecreasingBy tx_of marks.now }
+    requires values { All HasValues marks.now }
     ensures { IfOk result (λ place. place
-        ≡ fault_among (H.digest hasher) (map table_of tables.now) entry.now) }
+        ≡ fault_of (H.digest hasher) (run_in entry.now.id marks.now) entry.now) }
 {
-    let events = events_of(alloc, hasher, entry.id, tables)?;
-    if !are_numbered(&events.numbers) {
+    let own = run_of(marks, entry.id);
+    put_numbers(own, &mut work.numbers)?;
+    if !are_numbered(&mut work.numbers) {
         return Ok(Some(Place::Numbers { tx: entry.id }));
     }
-    match least_other(entry.roots.as_slice(), &events.roots) {
+    put_roots(hasher, own, &mut work.leaf, &mut work.roots)?;
+    match least_other(entry.roots.as_slice(), &work.roots) {
         Some(table) => Ok(Some(Place::Root {
             tx: entry.id,
             table,
@@ -68,77 +104,61 @@ fn entry_fault<H: Hash32>(
     }
 }
 
-/// The numbers of a transaction's events, and for each table where it has some the root over their leaves.
-#[derive(Drop)]
-struct TxEvents {
-    numbers: Vec<u64>,
-    roots: Vec<TableRoot>,
-}
-
-#[tactic(auto, unfolding(lg_ledger::specs::Entries::roots_of, lg_model::specs::Events::all_events))]
-fn events_of<H: Hash32>(
-    alloc: Global,
-    hasher: H,
-    tx: TxId,
-    tables: &[Shown],
-) -> Result<TxEvents, Memory>
-    requires { All AreSpelled tables.now }
-    ensures numbers { IfOk result (λ events. events.numbers.items ≡ numbers_in tx (map table_of tables.now)) }
-    ensures roots { IfOk result (λ events. events.roots.items
-        ≡ roots_of (H.digest hasher) tx (map table_of tables.now)) }
+/// Their numbers, in place of those that were there.
+fn put_numbers(marks: &[Mark], numbers: &mut Vec<u64>) -> Result<(), Memory>
+    ensures { OnOk result (numbers.new.items ≡ map number_of marks.now) }
 {
-    let mut numbers = Vec::new(alloc);
-    let mut roots = Vec::new(alloc);
-    let mut leaf = Vec::new(alloc);
-    for table in tables {
-        let marks = marks_of(alloc, tx, table)?;
-        add_numbers(&marks, &mut numbers)?;
-        add_root(hasher, table, &marks, &mut leaf, &mut roots)?;
-    }
-    Ok(TxEvents { numbers, roots })
-}
-
-fn add_numbers(marks: &[Mark], numbers: &mut Vec<u64>) -> Result<(), Memory>
-    ensures { OnOk result ((table : ℕ) → numbers.new.items
-        ≡ numbers.old.items ++ map (λ x. x.seq) (map (event_of table) marks.now)) }
-{
+    numbers.clear();
     for mark in marks {
-        numbers.push(mark.number())?;
+        numbers.push(mark.event.1)?;
     }
     Ok(())
 }
 
-/// Adds the root over the leaves of these starts and ends, where there are some.
-fn add_root<H: Hash32>(
+/// The root over the leaves of each table, in place of those that were there.
+/// The buffer has the last leaf then, whatever it had before.
+fn put_roots<H: Hash32>(
     hasher: H,
-    table: &Shown,
     marks: &[Mark],
     leaf: &mut Vec<u8>,
     roots: &mut Vec<TableRoot>,
 ) -> Result<(), Memory>
     requires { All HasValues marks.now }
-    ensures { OnOk result (roots.new.items ≡ roots.old.items
-        ++ root_over (H.digest hasher) table.now.def.now.id (map (event_of table.now.def.now.id) marks.now)) }
+    ensures { OnOk result (roots.new.items ≡ roots_in (H.digest hasher) (map event_of marks.now)) }
 {
-    if !marks.is_empty() {
-        let id = table.def.id;
-        let root = root_of(hasher, id, marks, leaf)?;
-        roots.push((id, root))?;
+    roots.clear();
+    let mut at = 0;
+    'groups: while at < marks.len() {
+        let (table, own) = group_at(marks, at);
+        let root = root_of(hasher, own, leaf)?;
+        roots.push((table, root))?;
+        at += own.len();
     }
     Ok(())
 }
 
+/// The table of the mark at this place, and this mark with those behind it as far as they are of that table.
+fn group_at<'m, 'a>(marks: &'m [Mark<'a>], at: usize) -> (TableId, &'m [Mark<'a>])
+    requires { at < length marks.now }
+    ensures group { (h : List ℕ → List ℕ) → roots_in h (map event_of (drop at marks.now))
+        ≡ (result.0, tree_hash h (map event_bytes (map event_of result.1.now)))
+        ∷ roots_in h (map event_of (drop (at + length result.1.now) marks.now)) }
+    ensures some { 0 < length result.1.now }
+    ensures within { at + length result.1.now ≤ length marks.now }
+    ensures values { All HasValues marks.now → All HasValues result.1.now }
+{
+    let table = marks[at].table;
+    let (_, rest) = marks.split_at(at);
+    let (own, _) = first_group(rest, table);
+    (table, own)
+}
+
 /// The root over the leaves of these starts and ends.
 /// The buffer has the last leaf then, whatever it had before.
-fn root_of<H: Hash32>(
-    hasher: H,
-    table: TableId,
-    marks: &[Mark],
-    leaf: &mut Vec<u8>,
-) -> Result<[u8; 32], Memory>
+fn root_of<H: Hash32>(hasher: H, marks: &[Mark], leaf: &mut Vec<u8>) -> Result<[u8; 32], Memory>
     requires { All HasValues marks.now }
     ensures { IfOk result (λ root. root
-        ≡ tree_hash (H.digest hasher) (map event_bytes (map (event_of table) marks.now))) }
+        ≡ tree_hash (H.digest hasher) (map event_bytes (map event_of marks.now))) }
 {
     // a tree has room for fewer leaves than 2^63
     if marks.len() > MOST_LEAVES {
@@ -147,7 +167,7 @@ fn root_of<H: Hash32>(
     let mut tree = Frontier::new(hasher);
     for mark in marks {
         leaf.clear();
-        put_leaf(table, mark, leaf)?;
+        put_leaf(mark, leaf)?;
         tree.push_leaf(leaf);
     }
     Ok(tree.root())
@@ -155,19 +175,6 @@ fn root_of<H: Hash32>(
 
 /// More leaves than memory can hold.
 const MOST_LEAVES: usize = 1 << 62;
-
-/// Whether each number below their count stands among them once.
-fn are_numbered(numbers: &[u64]) -> bool
-    ensures { result ≡ spec.are_numbered numbers.now }
-{
-    (0..numbers.len() as u64).all(|n| stands_once(numbers, n))
-}
-
-fn stands_once(numbers: &[u64], n: u64) -> bool
-    ensures { result ≡ (length (filter (λ m. m == n) numbers.now) == 1) }
-{
-    numbers.iter().filter(|m| **m == n).count() == 1
-}
 
 /// The least table in which two lists have another root, or of which only one has one.
 fn least_other(a: &[TableRoot], b: &[TableRoot]) -> Option<TableId>

@@ -8,6 +8,7 @@ ghost use Rattle.lg_verify.specs.Shown.{Show};
 ghost use Rattle.lg_verify.specs.Verdict.{tables_tried};
 
 use crate::blocks::{block_fault, chain_fault, digest_fault};
+use crate::entries::Entries;
 use crate::ids::id_fault;
 use crate::indexes::index_fault;
 use crate::roots::root_fault;
@@ -75,7 +76,8 @@ fn verify_tables<H: Hash32>(
     requires tables { Show tables.now image.now }
     ensures { IfOk result (λ v. v ≡ tables_tried (H.digest hasher) image.now) }
 {
-    if let Some(place) = id_fault(image, tables) {
+    let entries = Entries::new(alloc, image.entries.as_slice())?;
+    if let Some(place) = id_fault(image, &entries, tables) {
         return Ok(Verdict::No(Invariant::V4, place));
     }
     if let Some(place) = root_fault(alloc, hasher, image, tables)? {

@@ -8,5 +8,5 @@ use Rattle.lg_verify.proofs.ids.least_stranger.Goals as goal
 
 pub loop-table-preserved : goal.loop-table-preserved
 loop-table-preserved c =
-    least_next table_event_cmp (λ (t : Shown). strangers_in c.args.image.now.entries (table_of t)) c.loop-table.best c.lesser_in-best.result _ c.args.tables.now c.loop-table.table-index c.table-item.result
+    least_next table_event_cmp (λ (t : Shown). strangers_in c.args.entries.now.all.now (table_of t)) c.loop-table.best c.lesser_in-best.result _ c.args.tables.now c.loop-table.table-index c.table-item.result
     c.loop-table-test.true c.table-item.is c.lesser_in-best.ensures c.loop-table.invariant

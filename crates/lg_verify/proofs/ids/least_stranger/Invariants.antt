@@ -8,5 +8,5 @@ use Rattle.lg_verify.proofs.ids.least_stranger.Given as goal
 
 abbrev pub invariant-loop-table : goal.invariant-loop-table
 invariant-loop-table l =
-    let strangers = λ (t : Shown). strangers_in l.image.entries (table_of t) in
+    let strangers = λ (t : Shown). strangers_in l.entries.all.now (table_of t) in
     least_from table_event_cmp l.best (flat_map strangers (drop l.table-index l.tables)) ≡ least_from table_event_cmp None (flat_map strangers l.tables)

@@ -1,31 +1,25 @@
-use Rattle.std.proofs.Common.{ℕ, ap, sym, ◌∙◌, get_or, length, arith}
-use Rattle.lg_types.specs.declared.entry.TxEntry.{TxEntry}
-use Rattle.lg_verdict.specs.Entries.{entry_fault, root_fault}
-use Rattle.lg_verify.proofs.EntryRoots.{fault_is}
+use Rattle.std.proofs.Common.{sym, subst, ap₂, ◌∙◌}
+use Rattle.std.specs.List.{All}
+use Rattle.std.specs.List.Sorted.{IsNonDecreasingBy}
+use Rattle.lg_verify.specs.Marks.{tx_of, HasValues}
+use Rattle.lg_verify.specs.Roots.{first_fault}
+use Rattle.lg_verify.proofs.EntryRoots.{root_fault_is}
 use Rattle.lg_verify.proofs.Tables.{are_spelled}
-use Rattle.lg_verify.proofs.Walks.{first_skip, first_is_here}
+use Rattle.lg_verify.proofs.Verdicts.{same_ok}
 use Rattle.lg_verify.proofs.roots.root_fault.Goals as goal
 
-pub entry_fault-requires-after_bounds : goal.entry_fault-requires-after_bounds
-entry_fault-requires-after_bounds g c κs within = are_spelled c.args.tables.now c.args.image.now c.requires.tables c.requires.image
+pub sorted_marks-requires : goal.sorted_marks-requires
+sorted_marks-requires g c = are_spelled c.args.tables.now c.args.image.now c.requires.tables c.requires.image
 
-pub returns-in-Some : goal.returns-in-Some
-unfolding root_fault
-returns-in-Some g c =
-    let h = g.H.Hash32.digest c.args.hasher in
-    let i = c.args.image.now in
-    let k = c.loop-entry.entry-index in
-    let e = c.entry-item.result in
-    first_is_here (λ (n : ℕ) (x : TxEntry). entry_fault h i x) i.entries k e (omega (arith, c.loop-entry-test.true, ap length c.as_slice-entry-items.ensures))
-    (c.entry-item.is ∙ ap (λ l. get_or l k e) c.as_slice-entry-items.ensures) _ c.in-Some.place
-    (sym (c.in_ok-place.ensures ∙ fault_is h c.args.tables.now i e c.requires.tables) ∙ c.in-Some.is) c.loop-entry.invariant
+pub first_fault-requires-clause-rise : goal.first_fault-requires-clause-rise
+first_fault-requires-clause-rise g c κs within = subst (IsNonDecreasingBy tx_of) (sym c.as_slice-2.ensures.value) c.in_ok-marks.ensures.rise
 
-pub loop-entry-preserved : goal.loop-entry-preserved
-loop-entry-preserved g c =
+pub first_fault-requires-clause-values : goal.first_fault-requires-clause-values
+first_fault-requires-clause-values g c κs within = subst (All HasValues) (sym c.as_slice-2.ensures.value) c.in_ok-marks.ensures.values
+
+pub returns : goal.returns
+returns g c =
     let h = g.H.Hash32.digest c.args.hasher in
-    let i = c.args.image.now in
-    let k = c.loop-entry.entry-index in
-    let e = c.entry-item.result in
-    first_skip (λ (n : ℕ) (x : TxEntry). entry_fault h i x) i.entries k e (omega (arith, c.loop-entry-test.true, ap length c.as_slice-entry-items.ensures))
-    (c.entry-item.is ∙ ap (λ l. get_or l k e) c.as_slice-entry-items.ensures) _
-    (sym (c.in_ok-place.ensures ∙ fault_is h c.args.tables.now i e c.requires.tables) ∙ c.in_default.is) c.loop-entry.invariant
+    same_ok c.first_fault.result _ _
+    (ap₂ (first_fault h) c.as_slice-2.ensures.value c.as_slice.ensures ∙ root_fault_is h c.args.image.now c.args.tables.now _ c.in_ok-marks.ensures c.requires.tables c.requires.image)
+    c.first_fault.ensures

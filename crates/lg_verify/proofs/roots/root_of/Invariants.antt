@@ -5,4 +5,4 @@ use Rattle.lg_verify.specs.Marks.{event_of}
 use Rattle.lg_verify.proofs.roots.root_of.Given as goal
 
 abbrev pub invariant-loop-mark : goal.invariant-loop-mark
-invariant-loop-mark g l = Holds g.H.Hash32.digest l.fn.hasher l.tree (map event_bytes (map (event_of l.table) (take l.mark-index l.marks)))
+invariant-loop-mark g l = Holds g.H.Hash32.digest l.fn.hasher l.tree (map event_bytes (map event_of (take l.mark-index l.marks)))

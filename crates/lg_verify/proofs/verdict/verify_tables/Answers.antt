@@ -2,6 +2,9 @@ use Rattle.std.proofs.Common.{sym, ◌∙◌}
 use Rattle.lg_verify.proofs.Small.{small_first, small_second}
 use Rattle.lg_verify.proofs.verdict.verify_tables.Goals as goal
 
+pub version_fault-requires-clause-ids : goal.version_fault-requires-clause-ids
+version_fault-requires-clause-ids g c = sym c.id_fault.ensures ∙ c.in_default.is
+
 pub definition_fault-requires-clause-first : goal.definition_fault-requires-clause-first
 definition_fault-requires-clause-first g c = small_first c.args.image.now c.requires.image (sym c.in_ok-place-2.ensures ∙ c.in_default-3.is)
 

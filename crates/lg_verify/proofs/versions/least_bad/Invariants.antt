@@ -8,5 +8,5 @@ use Rattle.lg_verify.proofs.versions.least_bad.Given as goal
 
 abbrev pub invariant-loop-table : goal.invariant-loop-table
 invariant-loop-table l =
-    let bad = λ (t : Shown). bad_versions l.image.entries (table_of t) in
+    let bad = λ (t : Shown). bad_versions l.positions (table_of t) in
     least_from table_event_cmp l.worst (flat_map bad (drop l.table-index l.tables)) ≡ least_from table_event_cmp None (flat_map bad l.tables)
