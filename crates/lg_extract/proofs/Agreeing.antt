@@ -18,7 +18,7 @@ use Rattle.lg_extract.proofs.ImageLeaves.{IsFound, EventsFit}
 cons_is : {A : Type 0} (x y : A) (xs ys : List A) → x ∷ xs ≡ y ∷ ys → (x ≡ y) × (xs ≡ ys)
 cons_is x y xs ys e = (cc, cc)
 
-all_kept : {A : Type 0} (P : A → Type 0) (p : A → Bool) (xs : List A) → AllByRecursion P xs → AllByRecursion P (filter p xs)
+pub all_kept : {A : Type 0} (P : A → Type 0) (p : A → Bool) (xs : List A) → AllByRecursion P xs → AllByRecursion P (filter p xs)
 all_kept P p [] all = tt
 all_kept P p (x ∷ xs) all = cond_both (p x) (x ∷ filter p xs) (filter p xs) (AllByRecursion P) (λ e. (all.0, all_kept P p xs all.1)) (λ e. all_kept P p xs all.1)
 
@@ -31,7 +31,7 @@ all_taken P (suc n) (x ∷ xs) all = (all.0, all_taken P n xs all.1)
 abbrev pub Injective : Type 0
 Injective = (e f : Event) → HasLeaf e → HasLeaf f → event_bytes e ≡ event_bytes f → without_nulls e ≡ without_nulls f
 
-events_from_leaves : Injective → (es fs : List Event) → AllByRecursion HasLeaf es → AllByRecursion HasLeaf fs → map event_bytes es ≡ map event_bytes fs → map without_nulls es ≡ map without_nulls fs
+pub events_from_leaves : Injective → (es fs : List Event) → AllByRecursion HasLeaf es → AllByRecursion HasLeaf fs → map event_bytes es ≡ map event_bytes fs → map without_nulls es ≡ map without_nulls fs
 events_from_leaves one [] [] fe ff e = refl
 events_from_leaves one [] (y ∷ fs) fe ff e = absurd cc
 events_from_leaves one (x ∷ es) [] fe ff e = absurd cc

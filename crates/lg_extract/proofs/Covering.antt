@@ -24,7 +24,7 @@ use Rattle.lg_extract.proofs.ImageLeaves.{all_found, image_fits}
 use Rattle.lg_extract.proofs.Linked.{digested}
 use Rattle.lg_extract.proofs.Rooted.{all_rooted}
 
-entries_rooted : (h : List ℕ → List ℕ) (i : Image) (d : HeldDigest) → Meets h i d → AllByRecursion (RootsOf h (tables_in i) (tables_in i) (tables_in i)) (entries_to i d.block)
+pub entries_rooted : (h : List ℕ → List ℕ) (i : Image) (d : HeldDigest) → Meets h i d → AllByRecursion (RootsOf h (tables_in i) (tables_in i) (tables_in i)) (entries_to i d.block)
 entries_rooted h i d m = all_taken _ (entries_before i (d.block + 1)) i.entries (all_rooted h i m.image m.roots)
 
 pub entries_same : (h : List ℕ → List ℕ) (i j : Image) (d : HeldDigest) → Meets h i d → Meets h j d → covered_of i d.block ≡ covered_of j d.block → entries_to i d.block ≡ entries_to j d.block

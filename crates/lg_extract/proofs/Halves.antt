@@ -72,7 +72,7 @@ module _ (h : List ℕ → List ℕ) (sized : (bytes : List ℕ) → length (h b
       record { more_a = omega arith; more_b = omega arith; left = parts.0; right = parts.1 }
 
 -- where the halves agree the lists do
-joined : (a b : List (List ℕ)) (k m : ℕ) → take k a ≡ take m b → drop k a ≡ drop m b → a ≡ b
+pub joined : (a b : List (List ℕ)) (k m : ℕ) → take k a ≡ take m b → drop k a ≡ drop m b → a ≡ b
 joined a b k m t d = sym (take-append-drop k a) ∙ ap (λ x. x ++ drop k a) t ∙ ap (λ x. take m b ++ x) d ∙ take-append-drop m b
 
 -- what the search keeps of two lists

@@ -1,6 +1,7 @@
 pub mod Accepted
 pub mod Agreeing
 pub mod Covering
+pub mod EachDigest
 pub mod Groups
 pub mod Halves
 pub mod Heads
@@ -8,3 +9,4 @@ pub mod ImageLeaves
 pub mod Linked
 pub mod Parted
 pub mod Rooted
+pub mod Unbroken

@@ -30,12 +30,12 @@ digested h i d m =
     let c = both_true (nat_lt d.block (length i.blocks)) (bytes_eq d.hash (hash_at h i.blocks d.block)) b.1 in
     record { within = ltb-true d.block (length i.blocks) c.0; hash = (bytes_eq-Decides d.hash (hash_at h i.blocks d.block)).0 c.1 }
 
-all_left : {A : Type 0} (P : A → Type 0) (n : ℕ) (xs : List A) → AllByRecursion P xs → AllByRecursion P (drop n xs)
+pub all_left : {A : Type 0} (P : A → Type 0) (n : ℕ) (xs : List A) → AllByRecursion P xs → AllByRecursion P (drop n xs)
 all_left P zero xs all = all
 all_left P (suc n) [] all = tt
 all_left P (suc n) (x ∷ xs) all = all_left P n xs all.1
 
-cons_is : {A : Type 0} (x y : A) (xs ys : List A) → x ∷ xs ≡ y ∷ ys → (x ≡ y) × (xs ≡ ys)
+pub cons_is : {A : Type 0} (x y : A) (xs ys : List A) → x ∷ xs ≡ y ∷ ys → (x ≡ y) × (xs ≡ ys)
 cons_is x y xs ys e = (cc, cc)
 
 -- two chains that agree from a place on, up to block b, and whose blocks before that place have one hash

@@ -4,6 +4,7 @@
 
 mod blocks;
 mod chain;
+mod each;
 mod entries;
 mod found;
 mod images;
@@ -11,6 +12,10 @@ mod laws;
 mod leaves;
 mod trees;
 
+pub use each::extract_each;
 pub use found::{Collision, Extracted};
 pub use images::extract;
-pub use laws::accepted_images_meet_each_digest;
+pub use laws::{
+    accepted_bytes_have_one_history_or_a_collision, accepted_images_meet_each_digest,
+    later_digests_cover_more,
+};
