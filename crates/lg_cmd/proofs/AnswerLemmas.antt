@@ -8,7 +8,7 @@ use Rattle.lg_base.specs.declared.vault.VaultErr.{VaultErr}
 use Rattle.lg_base.specs.declared.vault.VaultErr.TheVariants as refused
 use Rattle.lg_cmd.specs.declared.files.File.{File}
 use Rattle.lg_cmd.specs.declared.status.Status.{Status}
-use Rattle.lg_cmd.specs.declared.status.Status.TheVariants.{Done, No, Words, Limit, SourceFault, SinkFault, VaultFault, Missing, Digests, Form, Unbuilt, Memory}
+use Rattle.lg_cmd.specs.declared.status.Status.TheVariants.{Done, No, Words, Limit, SourceFault, SinkFault, VaultFault, Missing, Digests, Journal, Form, Unbuilt, Memory}
 use Rattle.lg_model.specs.LegalJournals.{IsLegalJournal}
 use Rattle.lg_parse.specs.Text.{statement_of}
 use Rattle.lg_journal.specs.Rules.{IsJournal}
@@ -35,6 +35,7 @@ cause_came Words source vault sink input rest v bytes came is cause = absurd cau
 cause_came No source vault sink input rest v bytes came is cause = absurd cause
 cause_came (Missing which) source vault sink input rest v bytes came is cause = absurd cause
 cause_came (Digests index) source vault sink input rest v bytes came is cause = absurd cause
+cause_came (Journal at) source vault sink input rest v bytes came is cause = absurd cause
 cause_came Limit source vault sink input rest v bytes came is cause = bytes_came input rest v bytes _ came is cause
 cause_came SourceFault source vault sink input rest v bytes came is cause = absurd cause
 cause_came SinkFault source vault sink input rest v bytes came is cause = cause
@@ -51,6 +52,7 @@ read_whole Words bytes vault sink input rest v cause came = absurd cause
 read_whole No bytes vault sink input rest v cause came = absurd cause
 read_whole (Missing which) bytes vault sink input rest v cause came = absurd cause
 read_whole (Digests index) bytes vault sink input rest v cause came = absurd cause
+read_whole (Journal at) bytes vault sink input rest v cause came = absurd cause
 read_whole Limit bytes vault sink input rest v cause came = came.2 ∙ ap Some (sym (drop_all (input_limit + 1) input (omega (arith, came.1))))
 read_whole SourceFault bytes vault sink input rest v cause came = absurd cause
 read_whole SinkFault bytes vault sink input rest v cause came = came.2
@@ -74,6 +76,7 @@ ran_by Words vault sink ran idle ends r = absurd ends
 ran_by No vault sink ran idle ends r = absurd ends
 ran_by (Missing which) vault sink ran idle ends r = absurd ends
 ran_by (Digests index) vault sink ran idle ends r = absurd ends
+ran_by (Journal at) vault sink ran idle ends r = absurd ends
 ran_by Limit vault sink ran idle ends r = absurd ends
 ran_by SourceFault vault sink ran idle ends r = absurd ends
 ran_by (Form line) vault sink ran idle ends r = absurd ends
@@ -90,6 +93,7 @@ ran_within Words ran ran' idle f r = r
 ran_within No ran ran' idle f r = r
 ran_within (Missing which) ran ran' idle f r = r
 ran_within (Digests index) ran ran' idle f r = r
+ran_within (Journal at) ran ran' idle f r = r
 ran_within Limit ran ran' idle f r = r
 ran_within SourceFault ran ran' idle f r = r
 ran_within (Form line) ran ran' idle f r = r
@@ -141,6 +145,7 @@ module _ (h : List ℕ → List ℕ) (save : List ℕ) (input : Option (List ℕ
   agrees_when_done No old new taken now r legal agree journal is = absurd cc
   agrees_when_done (Missing which) old new taken now r legal agree journal is = absurd cc
   agrees_when_done (Digests index) old new taken now r legal agree journal is = absurd cc
+  agrees_when_done (Journal at) old new taken now r legal agree journal is = absurd cc
   agrees_when_done Words old new taken now r legal agree journal is = absurd cc
   agrees_when_done Limit old new taken now r legal agree journal is = absurd cc
   agrees_when_done SourceFault old new taken now r legal agree journal is = absurd cc

@@ -9,7 +9,7 @@ use Rattle.lg_base.specs.declared.vault.VaultErr.{VaultErr}
 use Rattle.lg_base.specs.declared.vault.VaultErr.TheVariants as refused
 use Rattle.lg_base.specs.History.{Adds, Since, EndsAt}
 use Rattle.lg_cmd.specs.declared.status.Status.{Status}
-use Rattle.lg_cmd.specs.declared.status.Status.TheVariants.{Done, No, Words, Limit, SourceFault, SinkFault, VaultFault, Missing, Digests, Form, Unbuilt, Memory}
+use Rattle.lg_cmd.specs.declared.status.Status.TheVariants.{Done, No, Words, Limit, SourceFault, SinkFault, VaultFault, Missing, Digests, Journal, Form, Unbuilt, Memory}
 use Rattle.lg_cmd.specs.Answer.{StepCause, vault_status}
 use Rattle.lg_cmd.specs.Calls.{Moved, KeptFile, ReadsOf, AreReads, ArePuts, AreWrites}
 use Rattle.lg_cmd.specs.Input.{IsRefused}
@@ -56,6 +56,7 @@ read_to_end Words input vault sink cause answers end = absurd cause
 read_to_end No input vault sink cause answers end = absurd cause
 read_to_end (Missing which) input vault sink cause answers end = absurd cause
 read_to_end (Digests index) input vault sink cause answers end = absurd cause
+read_to_end (Journal at) input vault sink cause answers end = absurd cause
 read_to_end Limit input vault sink cause answers end = inr end
 read_to_end SourceFault input vault sink cause answers end = absurd cause
 read_to_end SinkFault input vault sink cause answers end = end
@@ -94,6 +95,7 @@ unput Words bytes is = absurd is
 unput No bytes is = absurd is
 unput (Missing which) bytes is = absurd is
 unput (Digests index) bytes is = absurd is
+unput (Journal at) bytes is = absurd is
 unput SourceFault bytes is = absurd is
 unput SinkFault bytes is = absurd is
 unput VaultFault bytes is = absurd is
@@ -108,6 +110,7 @@ unwritten Words bytes is = absurd is
 unwritten No bytes is = absurd is
 unwritten (Missing which) bytes is = absurd is
 unwritten (Digests index) bytes is = absurd is
+unwritten (Journal at) bytes is = absurd is
 unwritten SourceFault bytes is = absurd is
 unwritten SinkFault bytes is = absurd is
 unwritten VaultFault bytes is = absurd is

@@ -1,7 +1,9 @@
 pub mod AnswerLemmas
 pub mod CallLemmas
+pub mod ExtractLemmas
 pub mod FilesLemmas
 pub mod GetLemmas
+pub mod ReplayLemmas
 pub mod RootLemmas
 pub mod RunLemmas
 pub mod TransferLemmas

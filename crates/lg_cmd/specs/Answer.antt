@@ -15,15 +15,13 @@ use Rattle.lg_input.specs.Line.{Statement}
 use Rattle.lg_step.specs.Lines.{ran, unbuilt}
 use Rattle.lg_step.specs.Moments.{IsMoment}
 use Rattle.lg_cmd.specs.declared.status.Status.{Status}
-use Rattle.lg_cmd.specs.declared.status.Status.TheVariants.{Done, Words, Limit, SourceFault, SinkFault, VaultFault, Form, Unbuilt, Memory}
+use Rattle.lg_cmd.specs.declared.status.Status.TheVariants.{Done, Limit, SourceFault, SinkFault, VaultFault, Form, Unbuilt, Memory}
 use Rattle.lg_cmd.specs.declared.files.File.{File}
 use Rattle.lg_cmd.specs.Agreement.{RunAgrees}
 use Rattle.lg_cmd.specs.Input.{HasStatements, IsBuilt, IsBeyond, LacksForm, LacksBuilt}
 use Rattle.lg_cmd.specs.Files.{StandFirst, StopsOpen, TellsHeld}
 use Rattle.lg_cmd.specs.Run.{files_of, text_of, journal_name, transcripts_text}
 use Rattle.lg_cmd.specs.Transfer.{input_limit, TellsPart}
-use Rattle.lg_cmd.specs.Verify.{VerifyCause}
-use Rattle.lg_cmd.specs.Words.{Command, Step, Verify}
 
 -- Why a status comes of `step`, by what the input is, as far as it is told, and by whose faults rose in the
 -- call. The causes of Done, Limit, Form and Unbuilt exclude one another, so each of these four comes exactly
@@ -39,18 +37,9 @@ StepCause (Unbuilt line) input source vault sink = IfSome input (λ bytes. Lacks
 StepCause Memory input source vault sink = Unit {0}
 StepCause _ input source vault sink = ⊥
 
--- why a status comes, by the command that the words say, and Words exactly where they say none
-abbrev pub HasCause : Status → (List ℕ → List ℕ) → Option Command → Option (List ℕ) → Option Names
-    → Type 0 → Type 0 → Type 0 → Type 0
-HasCause status h None input names source vault sink = status ≡ Words
-HasCause status h (Some (Step save)) input names source vault sink = StepCause status input source vault sink
-HasCause status h (Some (Verify image digests)) input names source vault sink =
-    VerifyCause status h image digests names vault sink
-
 -- what is left of an input that is told, where it is read: at most one byte past the limit was taken; so at
 -- Limit all was, or the limit and one byte of more. All of it was taken where it was run, or a line of it
--- lacks
--- its form or isn't built.
+-- lacks its form or isn't built.
 abbrev pub HasRead : Status → List ℕ → Option (List ℕ) → Type 0
 HasRead Limit input rest = rest ≡ Some (drop (input_limit + 1) input)
 HasRead Memory input rest = (n : ℕ) × (n ≤ input_limit + 1) × (rest ≡ Some (drop n input))

@@ -1,6 +1,6 @@
 -- What the source, the vault and the sink have answered in a call of the server. The first answer that ends
 -- their calls is the last one: nothing is tried again, and nothing is read behind the end of an input.
-use Rattle.std.specs.Prelude.{⊤, ◌≡◌, ◌<◌, ◌≤◌, ◌⊎◌, ℕ, List, [], length, Result, Ok, Err, Vec, All}
+use Rattle.std.specs.Prelude.{⊤, ◌≡◌, ◌<◌, ◌≤◌, ◌⊎◌, ◌++◌, ℕ, List, [], length, Option, Some, None, Result, Ok, Err, Vec, All}
 use Rattle.std.specs.declared.alloc.Global.{Global}
 use Rattle.lg_base.specs.declared.failed.Failed.{Failed}
 use Rattle.lg_base.specs.declared.vault.VaultErr.{VaultErr}
@@ -10,6 +10,7 @@ use Rattle.lg_cmd.specs.declared.status.Status.{Status}
 use Rattle.lg_cmd.specs.declared.status.Status.TheVariants.{Done, No, Words, Limit, SourceFault, SinkFault, VaultFault, Missing, Memory}
 use Rattle.lg_cmd.specs.declared.transfer.ReadErr.{ReadErr}
 use Rattle.lg_cmd.specs.declared.transfer.ReadErr.TheVariants as reading
+use Rattle.lg_cmd.specs.Words.{Command, Step, Verify, Replay, Extract}
 
 -- a read that gave bytes, or a write that took some
 abbrev pub Moved : Result ℕ Failed → Type 0
@@ -62,6 +63,28 @@ AreGets k VaultFault answers = EndsAt GaveFile (Err refused.Failed) answers × (
 AreGets k Memory answers = (All GaveFile answers ⊎ EndsAt GaveFile (Err refused.Memory) answers)
     × (length answers ≤ k)
 AreGets k _ answers = Gave k answers
+
+-- behind so many gets that each gave something, the puts were answered so
+abbrev pub Behind : ℕ → (List (Result ⊤ VaultErr) → Type 0) → List (Result ⊤ VaultErr) → Type 0
+Behind k are answers =
+    (gets : List (Result ⊤ VaultErr)) × (puts : List (Result ⊤ VaultErr)) × (answers ≡ gets ++ puts)
+    × Gave k gets × are puts
+
+-- what the vault answered where k names are read, and then files are put
+abbrev pub AreGetsAndPuts : ℕ → Status → List (Result ⊤ VaultErr) → Type 0
+AreGetsAndPuts k Done answers = Behind k (ArePuts Done) answers
+AreGetsAndPuts k SinkFault answers = Behind k (ArePuts SinkFault) answers
+AreGetsAndPuts k VaultFault answers = AreGets k VaultFault answers ⊎ Behind k (ArePuts VaultFault) answers
+AreGetsAndPuts k Memory answers = AreGets k Memory answers ⊎ Behind k (ArePuts Memory) answers
+AreGetsAndPuts k status answers = AreGets k status answers
+
+-- what the vault answered, by the command
+abbrev pub AreCalls : Option Command → Status → List (Result ⊤ VaultErr) → Type 0
+AreCalls None status answers = answers ≡ []
+AreCalls (Some (Step save)) status answers = ArePuts status answers
+AreCalls (Some (Verify image digests)) status answers = AreGets 2 status answers
+AreCalls (Some (Replay journal save)) status answers = AreGetsAndPuts 1 status answers
+AreCalls (Some (Extract honest suspect digests)) status answers = AreGets 3 status answers
 
 -- the writes up to a fault, or to one that took nothing
 abbrev pub StopsWriting : List (Result ℕ Failed) → Type 0

@@ -1,10 +1,13 @@
 pub mod Agreement
 pub mod Answer
 pub mod Calls
+pub mod Cause
+pub mod Extract
 pub mod Files
 pub mod Input
 pub mod Letters
 pub mod Names
+pub mod Replay
 pub mod Root
 pub mod Run
 pub mod Status

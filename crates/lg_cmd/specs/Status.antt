@@ -2,7 +2,7 @@
 use Rattle.std.specs.Prelude.{ℕ, List, [], ◌++◌, codes, Some}
 use Rattle.std.specs.Fmt.{decimal}
 use Rattle.lg_cmd.specs.declared.status.Status.{Status}
-use Rattle.lg_cmd.specs.declared.status.Status.TheVariants.{Done, No, Words, Limit, SourceFault, SinkFault, VaultFault, Missing, Digests, Form, Unbuilt, Memory}
+use Rattle.lg_cmd.specs.declared.status.Status.TheVariants.{Done, No, Words, Limit, SourceFault, SinkFault, VaultFault, Missing, Digests, Journal, Form, Unbuilt, Memory}
 
 abbrev pub code_of : Status → ℕ
 code_of Done = 0
@@ -14,6 +14,7 @@ code_of SinkFault = 5
 code_of VaultFault = 6
 code_of (Missing which) = 7
 code_of (Digests index) = 8
+code_of (Journal at) = 9
 code_of (Form line) = 10
 code_of Memory = 12
 code_of (Unbuilt line) = 13
@@ -28,6 +29,7 @@ text_of SinkFault = codes "writing the output failed"
 text_of VaultFault = codes "the vault failed"
 text_of (Missing which) = codes "no such name in the vault"
 text_of (Digests index) = codes "the digests were refused"
+text_of (Journal at) = codes "the journal was refused"
 text_of (Form line) = codes "a line has no session"
 text_of Memory = codes "out of memory"
 text_of (Unbuilt line) = codes "this input is not built yet"
@@ -36,6 +38,8 @@ text_of (Unbuilt line) = codes "this input is not built yet"
 abbrev pub place_of : Status → List ℕ
 place_of (Missing which) = codes " (name " ++ decimal which ++ codes ")"
 place_of (Digests (Some index)) = codes " (digest " ++ decimal index ++ codes ")"
+place_of (Journal (Some at)) =
+    codes " (item " ++ decimal at.0 ++ codes ", statement " ++ decimal at.1 ++ codes ")"
 place_of (Form line) = codes " (line " ++ decimal line ++ codes ")"
 place_of (Unbuilt line) = codes " (line " ++ decimal line ++ codes ")"
 place_of _ = []

@@ -1,8 +1,10 @@
 //! The top call of the server: words and bytes that come in, files and texts that go out.
 #![tactic(auto)]
 
+mod extract;
 mod files;
 mod names;
+mod replay;
 mod root;
 mod run;
 mod saved;

@@ -1,12 +1,15 @@
-// The files that a run saves.
-ghost use Rattle.std.specs.Prelude.{◌≡◌, ◌<◌, ◌^◌, ◌++◌, length, IfOk, string_bytes};
+// The files that a run saves, and those that are saved of a journal that was run again.
+ghost use Rattle.std.specs.Prelude.{◌≡◌, ◌<◌, ◌^◌, ◌++◌, ◌∷◌, [], length, IfOk, string_bytes};
 ghost use Rattle.std.specs.List.{AllByRecursion};
 ghost use Rattle.lg_row.specs.Leaf.{HasLeaf};
 ghost use Rattle.lg_journal.specs.Rules.{IsJournal};
-ghost use Rattle.lg_cmd.specs.Run.{root_file, journal_file, saved_files};
+ghost use Rattle.lg_image.specs.ImageBytes.{image_bytes, IsImage};
+ghost use Rattle.lg_cmd.specs.Replay.{image_file};
+ghost use Rattle.lg_cmd.specs.Run.{root_file, journal_name, journal_file, saved_files};
 
 use crate::files::File;
 use crate::root::root;
+use lg_image::{Image, write_image};
 use lg_items::{Blob, Items, Memory, Text};
 use lg_journal::write_journal;
 use lg_merkle::Hash32;
@@ -65,5 +68,23 @@ pub(crate) fn saved_files<H: Hash32>(
 {
     let mut files = root_file(alloc, h, save, last)?;
     files.push(journal_file(alloc, save, journal)?)?;
+    Ok(files)
+}
+
+/// The files of a journal that was run again, in the order in which they are put: its image, and its bytes.
+pub(crate) fn replayed_files(
+    alloc: Global,
+    save: &str,
+    image: &Image,
+    journal: Vec<u8>,
+) -> Result<Items<File>, Memory>
+    requires { IsImage image.now }
+    ensures { IfOk result (λ files. files ≡ image_file save.now (image_bytes image.now)
+        ∷ record { name = journal_name save.now; bytes = journal.items } ∷ []) }
+{
+    let image = Blob::from_vec(write_image(alloc, image)?);
+    let mut files = Items::new(alloc);
+    files.push(file(alloc, save, ".img", image)?)?;
+    files.push(file(alloc, save, ".journal", Blob::from_vec(journal))?)?;
     Ok(files)
 }

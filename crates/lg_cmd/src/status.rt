@@ -14,7 +14,7 @@ pub enum Status {
     /// The words have none of the commands' forms.
     Words,
     /// A limit was exceeded: more than 4 MiB came as input, or statements of more than 64 sessions; or more
-    /// than 256 MiB stand under the name of an image, or 16 MiB under that of digests.
+    /// than 256 MiB stand under the name of an image or of a journal, or 16 MiB under that of digests.
     Limit,
     /// Reading the input failed.
     SourceFault,
@@ -27,6 +27,10 @@ pub enum Status {
     /// The digests can't be read, or the item with this index, counted from 0, is the first that is no
     /// digest.
     Digests { index: Option<u64> },
+    /// The bytes are no journal's, or the journal isn't legal: this statement of this item, both counted from
+    /// 0, is the first that is answered otherwise when it is run again. Where all replies of the item agree
+    /// and it leaves no event, its number of statements stands in the place of the statement.
+    Journal { at: Option<(u64, u64)> },
     /// This line of the input has no session, or isn't UTF-8. It is the first such line, counted from 1.
     Form { line: u64 },
     /// This line of the input has a statement that isn't built yet: one of a second session, or one that
@@ -52,6 +56,7 @@ impl Status {
             Status::VaultFault => 6,
             Status::Missing { .. } => 7,
             Status::Digests { .. } => 8,
+            Status::Journal { .. } => 9,
             Status::Form { .. } => 10,
             Status::Memory => 12,
             Status::Unbuilt { .. } => 13,
@@ -72,6 +77,7 @@ impl Status {
             Status::VaultFault => "the vault failed",
             Status::Missing { .. } => "no such name in the vault",
             Status::Digests { .. } => "the digests were refused",
+            Status::Journal { .. } => "the journal was refused",
             Status::Form { .. } => "a line has no session",
             Status::Memory => "out of memory",
             Status::Unbuilt { .. } => "this input is not built yet",
@@ -87,12 +93,15 @@ impl fmt::Display for Status {
     ghost output = { λ s. Some (message_of s) };
 
     fn fmt<W: fmt::Write>(&self, f: &mut fmt::Formatter<W>) -> fmt::Result {
-        f.write_str(self.text())?;
+        let text = self.text();
         match self {
-            Status::Missing { which } => write!(f, " (name {which})"),
-            Status::Digests { index: Some(index) } => write!(f, " (digest {index})"),
-            Status::Form { line } | Status::Unbuilt { line } => write!(f, " (line {line})"),
-            _ => Ok(()),
+            Status::Missing { which } => write!(f, "{text} (name {which})"),
+            Status::Digests { index: Some(index) } => write!(f, "{text} (digest {index})"),
+            Status::Journal { at: Some(at) } => {
+                write!(f, "{text} (item {}, statement {})", at.0, at.1)
+            }
+            Status::Form { line } | Status::Unbuilt { line } => write!(f, "{text} (line {line})"),
+            _ => f.write_str(text),
         }
     }
 }

@@ -3,12 +3,18 @@ ghost use Rattle.std.specs.Prelude.{◌≡◌, ◌⊎◌, map, string_bytes, Non
 ghost use Rattle.sha2.specs.Sha256.{sha256};
 ghost use Rattle.lg_base.specs.Count.{Rises};
 ghost use Rattle.lg_base.specs.History.{Since};
-ghost use Rattle.lg_cmd.specs.Words.{command_words, OfStep, OfVerify, reads_input, puts_files};
-ghost use Rattle.lg_cmd.specs.Answer.{HasCause, HasRead, Ran, RanOrIdle, OutputAgrees, Unfailed};
-ghost use Rattle.lg_cmd.specs.Calls.{AreReads, ArePuts, AreGets, AreWrites};
+ghost use Rattle.lg_cmd.specs.Words.{command_words, OfStep, OfVerify, OfReplay, OfExtract};
+ghost use Rattle.lg_cmd.specs.Words.{reads_input, puts_files};
+ghost use Rattle.lg_cmd.specs.Answer.{HasRead, Ran, RanOrIdle, OutputAgrees, Unfailed};
+ghost use Rattle.lg_cmd.specs.Calls.{AreReads, AreCalls, AreWrites};
+ghost use Rattle.lg_cmd.specs.Cause.{HasCause};
+ghost use Rattle.lg_cmd.specs.Extract.{Extracts};
+ghost use Rattle.lg_cmd.specs.Replay.{Replayed, ReplayedOrIdle, PutsAccepted};
 ghost use Rattle.lg_cmd.specs.Verify.{Verified, SaidOrIdle};
 
 use crate::Status;
+use crate::extract::extract;
+use crate::replay::replay;
 use crate::step::step;
 use crate::verify::verify;
 use crate::words::{CommandWords, read_command};
@@ -32,15 +38,29 @@ use std::alloc::Global;
 /// digests: `Yes`, and the status is `Done`, or `No` with the first invariant that fails and its least place,
 /// and the status is `No`. It puts nothing and reads no input.
 ///
+/// `replay JOURNAL --save NAME` reads what stands under the name of a journal, as `step` saves one, and runs
+/// its statements again in their order, one transaction after another. Where each is answered with the reply
+/// that the journal keeps, and each transaction leaves a start or an end of a version, the journal is legal:
+/// then its image goes under `NAME.img`, its own bytes under `NAME.journal`, and the number of its
+/// transactions is written. Whoever has digests of blocks that the journal closed gets `Yes` for that image.
+///
+/// `extract HONEST SUSPECT DIGESTS` reads what stands under the three names and verifies both images with the
+/// digests. Where the honest one isn't accepted it writes `honest: ` and the line of the verdict, and else
+/// `suspect: ` where the suspect one isn't; the status is `No`. Where both are, all that any of the digests
+/// covers is the same in both, and it writes `Same`, and the status is `Done`; or it writes `Collision`, and
+/// on two lines, in hexadecimal digits, two different strings of bytes with one SHA-256: the status is `No`.
+/// It puts nothing and reads no input.
+///
 /// Only a run of several threads calls the gate.
 ///
 /// `Words` comes before anything else. Of `step`, `Limit`, `Form` and `Unbuilt` come before anything is put;
 /// of these the size of the input is looked at first, then the form of all lines, the number of sessions, and
 /// last what is built. After `VaultFault` the files before the one that failed stand, its name is open, and
 /// nothing was written; after `Memory` the first of the files may stand. After `SinkFault` all files stand
-/// and a first part of the text was written. Of `verify`, the names are looked at in the order of the words,
-/// each whether it is there and then how long, then the digests, and last the image: `Digests` comes before
-/// `No`.
+/// and a first part of the text was written. Of `verify` and `extract`, the names are looked at in the order
+/// of the words, each whether it is there and then how long, then the digests, and last the images:
+/// `Digests` comes before `No`. Of `replay`, the name is looked at so, then whether the bytes are those of a
+/// journal, and last whether that is legal; all this before anything is put.
 pub fn ledgerd<S: Source, K: Sink, V: Vault, C: Clock, G: Gate>(
     alloc: Global,
     words: &[String],
@@ -57,7 +77,8 @@ pub fn ledgerd<S: Source, K: Sink, V: Vault, C: Clock, G: Gate>(
         (Rises (V.faults vault.old) (V.faults vault.new))
         (Rises (K.faults sink.old) (K.faults sink.new) ⊎ Rises (K.stalls sink.old) (K.stalls sink.new)) }
 
-    // Where the words say no command, nothing is touched. Only a run reads the input, and puts files.
+    // Where the words say no command, nothing is touched. Only a run reads the input; a run, and a journal
+    // that is run again, put files.
     ensures words { command_words (map string_bytes words.now) ≡ None
         → (source.new ≡ source.old) × (vault.new ≡ vault.old) × (sink.new ≡ sink.old) }
     ensures unread { reads_input (command_words (map string_bytes words.now)) ≡ false
@@ -84,13 +105,28 @@ pub fn ledgerd<S: Source, K: Sink, V: Vault, C: Clock, G: Gate>(
         (Verified result sha256 image digests
         (V.names vault.old) (K.taken sink.old) (K.taken sink.new)) (sink.new ≡ sink.old)) }
 
+    // `extract`: the lines of what is found of the two images under the names, by the status.
+    ensures extracts { OfExtract (command_words (map string_bytes words.now))
+        (λ honest suspect digests. SaidOrIdle result
+        (Extracts result sha256 honest suspect digests
+        (V.names vault.old) (K.taken sink.old) (K.taken sink.new)) (sink.new ≡ sink.old)) }
+
+    // `replay`: what is put and written of the legal journal under the name, by the status; and the image
+    // that is put is accepted with any digests of the journal's blocks.
+    ensures replayed { OfReplay (command_words (map string_bytes words.now))
+        (λ journal save. ReplayedOrIdle result
+        (Replayed result sha256 journal save
+        (V.names vault.old) (V.names vault.new) (K.taken sink.old) (K.taken sink.new))
+        ((V.names vault.new ≡ V.names vault.old) × (sink.new ≡ sink.old))) }
+    ensures accepted { OfReplay (command_words (map string_bytes words.now))
+        (λ journal save. result ≡ Status.Done
+        → PutsAccepted sha256 journal save (V.names vault.old) (V.names vault.new)) }
+
     // The first fault or stall is the last call: nothing is tried again, and nothing is read behind the end.
     ensures reads { OfStep (command_words (map string_bytes words.now))
         (λ save. Since (S.history source.old) (S.history source.new) (AreReads result)) }
-    ensures puts { OfStep (command_words (map string_bytes words.now))
-        (λ save. Since (V.history vault.old) (V.history vault.new) (ArePuts result)) }
-    ensures gets { OfVerify (command_words (map string_bytes words.now))
-        (λ image digests. Since (V.history vault.old) (V.history vault.new) (AreGets 2 result)) }
+    ensures calls { Since (V.history vault.old) (V.history vault.new)
+        (AreCalls (command_words (map string_bytes words.now)) result) }
     ensures writes { Since (K.history sink.old) (K.history sink.new) (AreWrites result) }
     ensures unfailed { Unfailed result (S.faults source.new ≡ S.faults source.old)
         (V.faults vault.new ≡ V.faults vault.old)
@@ -109,5 +145,13 @@ pub fn ledgerd<S: Source, K: Sink, V: Vault, C: Clock, G: Gate>(
         CommandWords::Verify { image, digests } => {
             verify(alloc, Sha256Hash, image, digests, sink, vault)
         }
+        CommandWords::Replay { journal, save } => {
+            replay(alloc, Sha256Hash, journal, save, sink, vault)
+        }
+        CommandWords::Extract {
+            honest,
+            suspect,
+            digests,
+        } => extract(alloc, Sha256Hash, honest, suspect, digests, sink, vault),
     }
 }

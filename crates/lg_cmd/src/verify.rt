@@ -1,7 +1,8 @@
 // The verdict on an image, with the digests that an auditor holds.
-ghost use Rattle.std.specs.Prelude.{⊤, ◌≡◌, ◌⊎◌, string_bytes, IfOk, IfErr, IfSome};
+ghost use Rattle.std.specs.Prelude.{⊤, ◌≡◌, ◌⊎◌, string_bytes, Ok, IfOk, IfErr, IfSome};
 ghost use Rattle.lg_base.specs.Count.{Rises};
 ghost use Rattle.lg_base.specs.History.{Since};
+ghost use Rattle.lg_digest.specs.Reading.{IsRead};
 ghost use Rattle.lg_cmd.specs.Answer.{Unfailed};
 ghost use Rattle.lg_cmd.specs.Calls.{AreGets, Gave, AreWrites};
 ghost use Rattle.lg_cmd.specs.Verify.{IsEvidence, LacksEvidence, IsVerdictOn, AreRefused, IsJudged, LacksVerdict};
@@ -12,8 +13,9 @@ use crate::names::{DIGESTS_LIMIT, IMAGE_LIMIT, read_name};
 use crate::transfer::write_all;
 use lg_base::{Failed, Sink, Vault};
 use lg_digest::{DigestErr, read_digests};
-use lg_items::Memory;
+use lg_items::{Items, Memory};
 use lg_merkle::Hash32;
+use lg_types::HeldDigest;
 use lg_verdict::Verdict;
 use std::alloc::{AllocError, Global};
 
@@ -44,17 +46,25 @@ fn read_evidence<V: Vault>(vault: &mut V, image: &str, digests: &str) -> Result<
     Ok(Evidence { image, digests })
 }
 
+/// The digests of a file.
+pub(crate) fn read_held(alloc: Global, file: &[u8]) -> Result<Items<HeldDigest>, Status>
+    ensures held { IfOk result (λ held. IsRead file.now (Ok held)) }
+    ensures refused { IfErr result (λ status. AreRefused status file.now) }
+{
+    match read_digests(alloc, file) {
+        Ok(held) => Ok(held),
+        Err(DigestErr::Unreadable) => Err(Status::Digests { index: None }),
+        Err(DigestErr::Bad { index }) => Err(Status::Digests { index: Some(index) }),
+        Err(DigestErr::Memory) => Err(Status::Memory),
+    }
+}
+
 /// The verdict on these bytes, with the digests of this file.
 fn judge<H: Hash32>(alloc: Global, h: H, image: &[u8], digests: &[u8]) -> Result<Verdict, Status>
     ensures verdict { IfOk result (IsVerdictOn (H.digest h) image.now digests.now) }
     ensures refused { IfErr result (λ status. AreRefused status digests.now) }
 {
-    let held = match read_digests(alloc, digests) {
-        Ok(held) => held,
-        Err(DigestErr::Unreadable) => return Err(Status::Digests { index: None }),
-        Err(DigestErr::Bad { index }) => return Err(Status::Digests { index: Some(index) }),
-        Err(DigestErr::Memory) => return Err(Status::Memory),
-    };
+    let held = read_held(alloc, digests)?;
     match lg_verify::verify(alloc, h, image, held.as_slice(), 1) {
         Ok(verdict) => Ok(verdict),
         Err(Memory) => Err(Status::Memory),

@@ -6,4 +6,6 @@ mod outside;
 #[cfg(test)]
 mod plain;
 #[cfg(test)]
+mod replays;
+#[cfg(test)]
 mod sessions;

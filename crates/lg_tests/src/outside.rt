@@ -21,7 +21,7 @@ const ROOT: &[u8] =
     b"\xc2\x8f\xb2\x4d\xd1\x27\x2e\xc8\x81\x7b\x47\x90\xae\x2f\xa4\xf1\xd1\x8b\xdc\xb2\xeb\x40\x7e\x21\xd5\x8a\x95\xd9\xc9\xa8\xa7\x30";
 
 // A head of 23 bytes, and items of 125 and 78.
-const JOURNAL: &[u8] = b"LGJN\x01\x00\x08LedgerDB\x00\x00\x00\x00\x00\x00\x00\x02\
+pub(crate) const JOURNAL: &[u8] = b"LGJN\x01\x00\x08LedgerDB\x00\x00\x00\x00\x00\x00\x00\x02\
 \x01\x00\x00\x00\x00\x00\x00\x00\x01\x00\x01a\x00\x00\x00\x00\x00\x00\x00\x00\x00\x00\x00\x00\x00\x00\x00\x00\x01\
 \x00\x00\x00\x00\x00\x00\x00\x4bCREATE TABLE log (id INT PRIMARY KEY) WITH (LEDGER = ON (APPEND_ONLY = ON))\
 \x00\x00\x00\x00\x00\x00\x00\x05made\n\
@@ -123,15 +123,26 @@ pub(crate) struct Left {
     pub sink: MemSink,
 }
 
-fn call(alloc: Global, given: &Given) -> Result<Left, AllocError> {
+pub(crate) fn call(alloc: Global, given: &Given) -> Result<Left, AllocError> {
     call_on(alloc, given, given.input.to_vec(alloc)?)
 }
 
 pub(crate) fn call_on(alloc: Global, given: &Given, input: Vec<u8>) -> Result<Left, AllocError> {
+    let vault = MemVault::new(alloc, given.vault_fails.to_vec(alloc)?);
+    call_over(alloc, given, input, vault)
+}
+
+/// A call over a vault that has something already.
+pub(crate) fn call_over(
+    alloc: Global,
+    given: &Given,
+    input: Vec<u8>,
+    vault: MemVault,
+) -> Result<Left, AllocError> {
     let words = words(alloc, given.words)?;
     let mut source = MemSource::new(input, 77, given.source_fails.to_vec(alloc)?);
     let mut sink = MemSink::new(alloc, given.sink_piece, given.sink_fails.to_vec(alloc)?);
-    let mut vault = MemVault::new(alloc, given.vault_fails.to_vec(alloc)?);
+    let mut vault = vault;
     let clock = FixedClock { at: given.clock };
     let status = ledgerd(
         alloc,
