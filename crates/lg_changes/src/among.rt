@@ -5,8 +5,7 @@ ghost use Rattle.std.specs.List.{slice_get};
 ghost use Rattle.lg_changes.specs.KeyOrder.{has_key_of, is_below, is_there, passes};
 
 use lg_items::{Items, Memory};
-use lg_lookup::compare_by_key;
-use lg_parts::{Keyed, same_key};
+use lg_parts::{Keyed, compare_by_key, same_key};
 use lg_types::Row;
 use std::alloc::Global;
 

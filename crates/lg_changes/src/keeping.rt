@@ -48,8 +48,9 @@ fn kept_each(alloc: Global, columns: &[ColumnDef], row: Row) -> Result<Row, Refu
     Ok(Items::from_vec(values))
 }
 
-/// The value that a row gives the column of this name; none is NULL.
-fn value_named<'a>(names: &[Name], row: &'a [Value], name: &Name) -> Option<&'a Value>
+/// The value that a row of VALUES, for the columns with these names, gives the column of this name; none is
+/// NULL. Looks through the names once.
+pub fn value_named<'a>(names: &[Name], row: &'a [Value], name: &Name) -> Option<&'a Value>
     ensures { unwrap_or (option_copied result) Null ≡ spec.value_named (zip names.now row.now) name.now }
 {
     match names {

@@ -9,5 +9,5 @@ mod matching;
 mod setting;
 
 pub use changes::{row_changes, row_changes_of};
-pub use keeping::{arranged, kept, kept_row};
+pub use keeping::{arranged, kept, kept_row, value_named};
 pub use lg_types::{Change, Row, RowStmt, TableDef, Version};

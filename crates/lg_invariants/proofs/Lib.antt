@@ -14,8 +14,8 @@ pub mod Scripts
 pub mod Serials
 pub mod Statements
 pub mod SystemKeys
-mod SystemRows
+pub mod SystemRows
 pub mod Tables
 pub mod Taken
-mod Units
+pub mod Units
 pub mod Values

@@ -86,7 +86,7 @@ module _ (columns : List ColumnDef) (few : length columns ≤ 64) where
   is_field : (f : FieldOf) → IsToldBelow (1 + length columns) f × IsUtf8 f → IsField f
   is_field f h = record { ordinal = omega (arith, few, h.0.ordinal); told = h.0.told; stored = h.0.stored; text = h.1 }
 
-  leaf_of : (table op tx seq : ℕ) (before : Option (ℕ × ℕ)) (values : List (Option Typed))
+  pub leaf_of : (table op tx seq : ℕ) (before : Option (ℕ × ℕ)) (values : List (Option Typed))
       → (IfSome before IsSmall → IsStart op before) → Fits columns values
       → FitsLeaf (record { table = table; op = op; tx = tx; seq = seq; start = before; columns = fields_of values })
   leaf_of table op tx seq before values starts fit room =
@@ -105,11 +105,11 @@ module _ (columns : List ColumnDef) (few : length columns ≤ 64) where
         rise = rw all (fields_rise 0 1 values (omega arith));
       }
 
-  ends_leaf : (table : ℕ) (v : Version) (o : Option EventId) → Suits v → AllByRecursion FitsLeaf (end_events table v o)
+  pub ends_leaf : (table : ℕ) (v : Version) (o : Option EventId) → Suits v → AllByRecursion FitsLeaf (end_events table v o)
   ends_leaf table v (Some e) fit = (leaf_of table 2 e.0 e.1 (Some v.start) v.values (λ h. (refl, h)) fit, tt)
   ends_leaf table v None fit = tt
 
-  version_leaf : (table : ℕ) (v : Version) → Suits v → AllByRecursion FitsLeaf (version_events table v)
+  pub version_leaf : (table : ℕ) (v : Version) → Suits v → AllByRecursion FitsLeaf (version_events table v)
   version_leaf table v fit = (leaf_of table 1 v.start.0 v.start.1 None v.values (λ h. refl) fit, ends_leaf table v v.end fit)
 
 abbrev IsGood : List JournalItem → Table → Type 0

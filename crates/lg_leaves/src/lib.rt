@@ -2,5 +2,9 @@
 #![tactic(auto)]
 
 mod laws;
+mod room;
 
 pub use laws::events_of_legal_journals_have_leaves;
+pub use lg_types::Event;
+pub use lg_value::Value;
+pub use room::{have_room, is_text};

@@ -99,9 +99,9 @@ pub fn key_of(alloc: Global, table: &Keyed, row: &Row) -> Result<Key, Memory>
     Ok(Items::from_vec(key))
 }
 
-/// The order of two values, where none is NULL.
+/// The order of two values. None is NULL.
 #[tactic(auto, unfolding(lg_value::specs::Order::value_cmp))]
-fn compare_values(a: Option<&Value>, b: Option<&Value>) -> Ordering
+pub fn compare_values(a: Option<&Value>, b: Option<&Value>) -> Ordering
     ensures { result ≡ value_cmp (unwrap_or (option_copied a.entry) Null)
         (unwrap_or (option_copied b.entry) Null) }
 {
@@ -122,8 +122,9 @@ pub fn compare_by_key<A: Valued, B: Valued>(table: &Keyed, a: &A, b: &B) -> Orde
     compare_at(table.key(), a, b)
 }
 
+/// The order of the values that two rows or versions have at these places, the first that differ.
 #[tactic(auto, unfolding(crate::specs::Places::key_at, lg_model::specs::Keys::key_cmp))]
-fn compare_at<A: Valued, B: Valued>(places: &[usize], a: &A, b: &B) -> Ordering
+pub fn compare_at<A: Valued, B: Valued>(places: &[usize], a: &A, b: &B) -> Ordering
     ensures { result ≡ spec.key_cmp (key_at places.now (A.values a.now))
         (key_at places.now (B.values b.now)) }
 {
@@ -138,7 +139,7 @@ fn compare_at<A: Valued, B: Valued>(places: &[usize], a: &A, b: &B) -> Ordering
 
 /// The order of the values of a row or a version at these places, and a key.
 #[tactic(auto, unfolding(crate::specs::Places::key_at, lg_model::specs::Keys::key_cmp))]
-fn compare_to_key<A: Valued>(places: &[usize], a: &A, key: &[Value]) -> Ordering
+pub fn compare_to_key<A: Valued>(places: &[usize], a: &A, key: &[Value]) -> Ordering
     ensures { result ≡ spec.key_cmp (key_at places.now (A.values a.now)) key.now }
 {
     match places {

@@ -14,9 +14,12 @@ mod values;
 pub use columns::{Columns, column_of, place_of, shown};
 pub use fixing::key_fixed;
 pub use keyed::Keyed;
-pub use keys::{has_key, key_of, key_places, same_key};
+pub use keys::{
+    compare_at, compare_by_key, compare_to_key, compare_values, has_key, key_of, key_places,
+    same_key,
+};
 pub use laws::sorted_lists_rise_stably;
 pub use lg_types::{Key, Part, Row, TableDef, Version};
 pub use live::standing;
-pub use rows::part_rows;
+pub use rows::{base_row, part_rows};
 pub use values::{Valued, copy_or_null, number, stored_row, value_or_null, values_of};

@@ -9,7 +9,7 @@ ghost use Rattle.lg_parts.specs.InTurn.{filter_after};
 
 use lg_expr::{SeenRow, holds};
 use lg_items::Memory;
-use lg_parts::{Columns, number, values_of};
+use lg_parts::{Columns, base_row};
 use lg_types::{Row, Version};
 use lg_value::{Expr, Refusal};
 use std::alloc::Global;
@@ -77,14 +77,4 @@ fn each_taken(
         }
     }
     Ok(taken)
-}
-
-/// A version that stands, with its start, copied.
-fn base_row(alloc: Global, version: &Version) -> Result<Row, Memory>
-    ensures { IfOk result (λ row. row ≡ parts.base_row version.now) }
-{
-    let mut row = values_of(alloc, version)?;
-    row.push(number(version.start.0))?;
-    row.push(number(version.start.1))?;
-    Ok(row)
 }

@@ -1,4 +1,3 @@
 pub mod Roots
 pub mod Rules
 pub mod Steps
-pub mod Texts

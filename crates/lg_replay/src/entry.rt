@@ -9,8 +9,8 @@ ghost use Rattle.lg_versions.specs.Short.{AreShort};
 ghost use Rattle.lg_ledger.specs.Entries as spec;
 ghost use Rattle.lg_replay.specs.Reached.{HaveLeaves};
 
-use crate::leaves::have_room;
 use lg_items::{Items, Memory, Name, TableId, TxId};
+use lg_leaves::have_room;
 use lg_merkle::{Frontier, Hash32};
 use lg_row::write_event;
 use lg_types::{Event, Table, TxEntry};

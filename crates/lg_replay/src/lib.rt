@@ -4,7 +4,6 @@
 mod entry;
 mod image;
 mod item;
-mod leaves;
 mod room;
 mod running;
 

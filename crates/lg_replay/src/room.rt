@@ -4,7 +4,7 @@ ghost use Rattle.std.specs.Prelude.{◌<◌, ◌^◌, IfSome};
 ghost use Rattle.std.specs.List.{AllByRecursion};
 ghost use Rattle.lg_images.specs.Room.{IsUtf8Text, VersionHasRoom, TableHasRoom};
 
-use crate::leaves::is_text;
+use lg_leaves::is_text;
 use lg_types::{EventId, Table, Typed, Version};
 
 /// Does nothing: it is there for its contract.

@@ -7,7 +7,7 @@ use Rattle.lg_types.specs.declared.journal.Journal.{Journal}
 use Rattle.lg_types.specs.declared.journal.JournalItem.{JournalItem}
 use Rattle.lg_model.specs.Script.{Reading}
 use Rattle.lg_frames.proofs.Alls.{all_weaker, all_both}
-use Rattle.lg_row.specs.Leaf.{is_text, HasLeaf}
+use Rattle.lg_row.specs.Leaf.{HasLeaf}
 use Rattle.lg_input.specs.Line.{Statement}
 use Rattle.lg_parse.specs.Text.{statement_of}
 use Rattle.lg_items.specs.DatabaseName.{is_database_name}
@@ -15,7 +15,7 @@ use Rattle.lg_types.specs.JournalRules.{ids_differ, closes_follow}
 use Rattle.lg_journal.specs.Rules.{IsJournal}
 use Rattle.lg_session.specs.OneSession.{Run, run_from, run_of, first_run, journal_of}
 use Rattle.lg_step.specs.declared.session.Session.{Session}
-use Rattle.lg_step.specs.Leaves.{HasRoom}
+use Rattle.lg_leaves.specs.Room.{HasRoom, FitsLeaf}
 use Rattle.lg_step.specs.Lines.{session_of, texts_of, ran, transcripts_of}
 use Rattle.lg_step.specs.Reached.{Reached, Came}
 use Rattle.lg_step.specs.Sessions.{Steady}
@@ -76,13 +76,10 @@ has_spelling says ss s differ follow came steady few journal is =
 
 -- ---- the last events have leaves
 
-abbrev FitsLeaf : Event → Type 0
-FitsLeaf e = e.table < 2 ^ 32 → e.tx < 2 ^ 64 → e.seq < 2 ^ 64 → IfSome e.start (λ s. (s.0 < 2 ^ 64) × (s.1 < 2 ^ 64)) → AllByRecursion (λ f. is_text f.value ≡ true) e.columns → HasLeaf e
-
 pub have_leaves : (says : ℕ → Type 0) (ss : List Statement) (s : Session) → Everywhere (λ x. AllByRecursion FitsLeaf x.last) → Came says (session_of ss) ss s
     → (last : List Event) → last ≡ s.last → AllByRecursion HasRoom last → AllByRecursion HasLeaf last
 have_leaves says ss s leaves came last is room =
     let r = came.reached in
     let events : (run_of statement_of (session_of ss) (zip r.times (texts_of ss))).last ≡ last = ap (λ (y : Run). y.last) (sym r.comes_to) ∙ sym came.shows.last ∙ sym is in
     let fits : AllByRecursion FitsLeaf last = subst (AllByRecursion FitsLeaf) events (leaves statement_of (session_of ss) (zip r.times (texts_of ss))) in
-    all_weaker (λ e. FitsLeaf e × HasRoom e) HasLeaf (λ e h. h.0 h.1.table h.1.tx h.1.seq h.1.start h.1.texts) last (all_both FitsLeaf HasRoom last fits room)
+    all_weaker (λ e. FitsLeaf e × HasRoom e) HasLeaf (λ e h. h.0 h.1) last (all_both FitsLeaf HasRoom last fits room)

@@ -6,4 +6,3 @@ pub mod Lines
 pub mod Reached
 pub mod Sessions
 pub mod Steps
-pub mod Texts

@@ -1,4 +1,3 @@
-pub mod Leaves
 pub mod Lines
 pub mod Moments
 pub mod Reached

@@ -14,7 +14,7 @@ use lg_types::{JournalItem, Reply};
 use std::alloc::Global;
 
 /// A text is UTF-8, as long as 8 bytes can tell. Does nothing: it is there for its contract.
-#[tactic(auto, using(crate::proofs::Texts::utf8_text))]
+#[tactic(auto, using(lg_leaves::proofs::Texts::utf8_text))]
 fn is_text(text: &Text)
     ensures { IsText text.now }
 {

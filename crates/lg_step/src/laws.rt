@@ -1,6 +1,6 @@
 //! What holds of the events and of the journal that one session leaves.
 
-ghost use Rattle.std.specs.Prelude.{ℕ, ◌≡◌, ◌<◌, ◌^◌, true, List, IfSome};
+ghost use Rattle.std.specs.Prelude.{ℕ, List};
 ghost use Rattle.std.specs.List.{AllByRecursion};
 ghost use Rattle.lg_model.specs.Script.{Reading};
 ghost use Rattle.lg_history.specs.Lists.{Text};
@@ -8,7 +8,7 @@ ghost use Rattle.lg_model.specs.LegalJournals.{IsLegalJournal};
 ghost use Rattle.lg_input.specs.Line.{Statement};
 ghost use Rattle.lg_journal.specs.Rules.{IsJournal};
 ghost use Rattle.lg_parse.specs.Text.{statement_of};
-ghost use Rattle.lg_row.specs.Leaf.{is_text, HasLeaf};
+ghost use Rattle.lg_leaves.specs.Room.{FitsLeaf};
 ghost use Rattle.lg_session.specs.OneSession.{journal_of, run_of};
 ghost use Rattle.lg_step.specs.Lines.{ran};
 
@@ -19,10 +19,7 @@ use lg_session::one_session_is_legal;
 /// and its texts are UTF-8.
 pub fn last_events_have_leaves()
     ensures { (reads : Reading) (session : Text) (statements : List (ℕ × Text))
-        → AllByRecursion (λ e. e.table < 2 ^ 32 → e.tx < 2 ^ 64 → e.seq < 2 ^ 64
-        → IfSome e.start (λ s. (s.0 < 2 ^ 64) × (s.1 < 2 ^ 64))
-        → AllByRecursion (λ f. is_text f.value ≡ true) e.columns → HasLeaf e)
-        (run_of reads session statements).last }
+        → AllByRecursion FitsLeaf (run_of reads session statements).last }
 {}
 
 /// The journal of a session that runs alone, where it has a spelling, is a legal journal.

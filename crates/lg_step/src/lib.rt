@@ -5,7 +5,6 @@ mod each;
 mod item;
 mod kind;
 mod laws;
-mod leaves;
 mod running;
 mod session;
 mod step_err;

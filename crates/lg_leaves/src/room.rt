@@ -1,4 +1,4 @@
-//! Events have room in a leaf.
+//! Events that a program has in memory have room in a leaf.
 
 ghost use Rattle.std.specs.Prelude.{◌≡◌, true, IfSome};
 ghost use Rattle.std.specs.List.{AllByRecursion};
@@ -10,7 +10,7 @@ use lg_types::{Event, FieldOf};
 use lg_value::Value;
 
 /// Does nothing: it is there for its contract.
-pub(crate) fn is_text(value: &Value)
+pub fn is_text(value: &Value)
     ensures { is_text value.now ≡ true }
 {
     if let Value::Text(text) = value {
@@ -45,7 +45,7 @@ fn has_room(event: &Event)
 
 /// The numbers of events have room in a leaf, and their texts are UTF-8. Does nothing: it is there for its
 /// contract.
-pub(crate) fn have_room(events: &[Event])
+pub fn have_room(events: &[Event])
     ensures { AllByRecursion HasRoom events.now }
 {
     for event in events {

@@ -1,5 +1,0 @@
-use Rattle.lg_replay.proofs.Texts.{utf8_text}
-use Rattle.lg_replay.proofs.leaves.is_text.Goals as goal
-
-pub returns-in-Text : goal.returns-in-Text
-returns-in-Text c = rw c.in-Text.is (utf8_text _ c.as_str.ensures.utf8)
