@@ -258,10 +258,10 @@ module _ (v : Server) (cells : List Cell) (seats : List SeatState) {history : Hi
 
     after_here : (key : Key) → HasX (holds_at cells (cell_of c.id)) o.id key → AllByRecursion (MadeBefore r.id 0) (of_key columns key V')
     after_here key k =
-        let V0 = ch.V_before v cells seats S j s x o text named fresh i c row changes count K in
+        let versions_were = ch.V_before v cells seats S j s x o text named fresh i c row changes count K in
         let rising_before = ch.V_rising v cells seats S j s x o text named fresh i c row changes count K in
         subst (AllByRecursion (MadeBefore r.id 0))
-        (sym (keys_follow o.id columns key o.seq changes c.versions (of_key columns key c.versions) V0 (all_filter (MadeBefore o.id o.seq) (λ (w : Version). same_key (version_key columns w) key) c.versions V0) rising_before (rising_filter (λ (w : Version). same_key (version_key columns w) key) c.versions rising_before) (sym (twice (λ (w : Version). same_key (version_key columns w) key) c.versions))))
+        (sym (keys_follow o.id columns key o.seq changes c.versions (of_key columns key c.versions) versions_were (all_filter (MadeBefore o.id o.seq) (λ (w : Version). same_key (version_key columns w) key) c.versions versions_were) rising_before (rising_filter (λ (w : Version). same_key (version_key columns w) key) c.versions rising_before) (sym (twice (λ (w : Version). same_key (version_key columns w) key) c.versions))))
         (all_filter (MadeBefore r.id 0) (λ (w : Version). same_key (version_key columns w) key) _ (all_untouched o.id r.id 0 (λ e. differs (sym e)) o.seq changes (of_key columns key c.versions) (before_here key k)))
 
     their_keys : (f : List Version → List Version) → ((vs : List Version) → AllByRecursion (MadeBefore r.id 0) vs → AllByRecursion (MadeBefore r.id 0) (f vs)) → (key : Key)

@@ -169,14 +169,14 @@ module _ (v : Server) (cells : List Cell) (seats : List SeatState) {history : Hi
   abbrev o1 : OpenTransaction
   o1 = visiting i o
 
-  pub S1 : Stands v history cells1 seats1
-  S1 = take.takes_there v cells seats S j s x o text (Some L.named) L.fresh i c (row_wants L.named.0 L.row) takes_at
+  pub stands_then : Stands v history cells1 seats1
+  stands_then = take.takes_there v cells seats S j s x o text (Some L.named) L.fresh i c (row_wants L.named.0 L.row) takes_at
 
-  same_ledger : S1.ledger ≡ S.ledger
-  unfolding S1
+  same_ledger : stands_then.ledger ≡ S.ledger
+  unfolding stands_then
   same_ledger = take.same_ledger v cells seats S j s x o text (Some L.named) L.fresh i c (row_wants L.named.0 L.row) takes_at
 
-  same_defs : defs_of (tables_now S1) ≡ D
+  same_defs : defs_of (tables_now stands_then) ≡ D
   same_defs = ap (λ (items : List JournalItem). defs_of (serial v.reads items)) (ap (λ l. l.items) same_ledger)
 
   cell_out : get_elem? cells1 i ≡ some (Rows cell1)
@@ -190,9 +190,9 @@ module _ (v : Server) (cells : List Cell) (seats : List SeatState) {history : Hi
 
   intents1 : (h : Hold) → In h cell1.holds → h.want.mode ≡ X → HasIntent cell1.holds h
   intents1 h has m = subst (λ (hs : List Hold). HasIntent hs h) (held_here cells1 i (Rows cell1) (Rows cell1) cell_out)
-      (S1.locks_cover.intents i h (subst (In h) (sym (held_here cells1 i (Rows cell1) (Rows cell1) cell_out)) has) m)
+      (stands_then.locks_cover.intents i h (subst (In h) (sym (held_here cells1 i (Rows cell1) (Rows cell1) cell_out)) has) m)
 
-  pub changing : Changing v cells1 seats1 S1 j (sits s x1) x1 o1 text L.named false i cell1 L.row L.changes L.count
+  pub changing : Changing v cells1 seats1 stands_then j (sits s x1) x1 o1 text L.named false i cell1 L.row L.changes L.count
   changing = record {
     there = set_here seats j s (sits s x1) there;
     role = refl;
@@ -214,22 +214,22 @@ module _ (v : Server) (cells : List Cell) (seats : List SeatState) {history : Hi
   -- ---- the change
 
   abbrev cells2 : List Cell
-  cells2 = ch.cells_then v cells1 seats1 S1 j (sits s x1) x1 o1 text L.named false i cell1 L.row L.changes L.count changing
+  cells2 = ch.cells_then v cells1 seats1 stands_then j (sits s x1) x1 o1 text L.named false i cell1 L.row L.changes L.count changing
 
   abbrev seats2 : List SeatState
-  seats2 = ch.seats_then v cells1 seats1 S1 j (sits s x1) x1 o1 text L.named false i cell1 L.row L.changes L.count changing
+  seats2 = ch.seats_then v cells1 seats1 stands_then j (sits s x1) x1 o1 text L.named false i cell1 L.row L.changes L.count changing
 
   abbrev cell2 : TableCell
-  cell2 = ch.cell_then v cells1 seats1 S1 j (sits s x1) x1 o1 text L.named false i cell1 L.row L.changes L.count changing
+  cell2 = ch.cell_then v cells1 seats1 stands_then j (sits s x1) x1 o1 text L.named false i cell1 L.row L.changes L.count changing
 
   -- the table's cell stands as its definition says: its versions fit, and no two that stand have one key
   abbrev pub TableStandsThen : Type 0
-  TableStandsThen = StandsAs v cells2 seats2 S1.ledger cell2 (def_at (defs_of (tables_now S1)) c.id)
+  TableStandsThen = StandsAs v cells2 seats2 stands_then.ledger cell2 (def_at (defs_of (tables_now stands_then)) c.id)
 
   module _ (stands : TableStandsThen) where
     together : StandsBy v j history o.id o.opened (done_acts o.opened text true (reply.Changed L.count)) cells2 seats2
-    together = changes_there v cells1 seats1 S1 j (sits s x1) x1 o1 text L.named false i cell1 L.row L.changes L.count changing stands
-        (trees_then v cells1 seats1 S1 j (sits s x1) x1 o1 text L.named false i cell1 L.row L.changes L.count changing)
+    together = changes_there v cells1 seats1 stands_then j (sits s x1) x1 o1 text L.named false i cell1 L.row L.changes L.count changing stands
+        (trees_then v cells1 seats1 stands_then j (sits s x1) x1 o1 text L.named false i cell1 L.row L.changes L.count changing)
 
     same_cells : cells2 ≡ set cells i (Rows d)
     same_cells = set_twice cells i (Rows cell1) (Rows cell2) ∙ ap (λ (e : TableCell). set cells i (Rows e)) (sym L.cell)
@@ -237,7 +237,7 @@ module _ (v : Server) (cells : List Cell) (seats : List SeatState) {history : Hi
     same_seats : seats2 ≡ set seats j t
     same_seats = set_twice seats j (sits s x1) _ ∙ ap (set seats j) (seat_is ∙ sym L.seat)
       where
-        seat_is : ch.then_sits v cells1 seats1 S1 j (sits s x1) x1 o1 text L.named false i cell1 L.row L.changes L.count changing ≡ done s L.at.at.stands (noting (o.seq + length L.changes) (grown c.id (events_from o.id o.seq c.id d.versions) o.trees) (visiting (cell_of c.id) o)) (reply.Changed L.count)
+        seat_is : ch.then_sits v cells1 seats1 stands_then j (sits s x1) x1 o1 text L.named false i cell1 L.row L.changes L.count changing ≡ done s L.at.at.stands (noting (o.seq + length L.changes) (grown c.id (events_from o.id o.seq c.id d.versions) o.trees) (visiting (cell_of c.id) o)) (reply.Changed L.count)
         seat_is = ap₂ (λ (n : ℕ) (vs : List Version). done s L.at.at.stands (noting (o.seq + length L.changes) (grown c.id (events_from o.id o.seq c.id vs) o.trees) (visiting n o)) (reply.Changed L.count))
             (sym (take.cell_at i c at)) (ap (λ (e : TableCell). e.versions) (sym L.cell))
 
@@ -246,10 +246,10 @@ module _ (v : Server) (cells : List Cell) (seats : List SeatState) {history : Hi
 
   -- ---- the table's own form: what is left to be shown is a law on rows alone
 
-  module _ (def : TableDef) (defines : def_at (defs_of (tables_now S1)) c.id ≡ Some def) (same_columns : def.columns ≡ L.named.0.columns)
+  module _ (def : TableDef) (defines : def_at (defs_of (tables_now stands_then)) c.id ≡ Some def) (same_columns : def.columns ≡ L.named.0.columns)
       (fit : Each (λ u. Fits def.columns u.values) cell2.versions) (keys_differ : KeysDiffer def.columns (live cell2.versions)) where
-    was_so : TableStands v cells1 seats1 S1.ledger cell1 def
-    was_so = subst (StandsAs v cells1 seats1 S1.ledger cell1) defines (S1.tables_are_serial.tables i cell1 (ap table_found cell_out))
+    was_so : TableStands v cells1 seats1 stands_then.ledger cell1 def
+    was_so = subst (StandsAs v cells1 seats1 stands_then.ledger cell1) defines (stands_then.tables_are_serial.tables i cell1 (ap table_found cell_out))
 
     sorted_so : (xs : List Index) → Each (IsSortedProjection def.columns cell2.versions) (map (reordered L.named.0.columns cell2.versions) xs)
     sorted_so [] = tt
@@ -260,14 +260,14 @@ module _ (v : Server) (cells : List Cell) (seats : List SeatState) {history : Hi
     same_ordinals (x ∷ xs) = ap (λ (l : List (List ℕ)). x.ordinals ∷ l) (same_ordinals xs)
 
     stands_so : TableStandsThen
-    stands_so = subst (StandsAs v cells2 seats2 S1.ledger cell2) (sym defines) (record {
+    stands_so = subst (StandsAs v cells2 seats2 stands_then.ledger cell2) (sym defines) (record {
       columns = inr (sym same_columns);
       fit = fit;
       in_key_order = ap (λ (cols : List ColumnDef). map (λ w. w.start) (standing cols None cell2.versions)) (sym same_columns);
       keys_differ = keys_differ;
       projections = sorted_so c.indexes;
-      indexes = subst (AreIndexes v cells2 seats2 S1.ledger def) (sym (same_ordinals c.indexes))
-          (indexes_then v cells1 seats1 S1 j (sits s x1) x1 o1 text L.named false i cell1 L.row L.changes L.count changing def (map (λ q. q.ordinals) c.indexes) was_so.indexes);
+      indexes = subst (AreIndexes v cells2 seats2 stands_then.ledger def) (sym (same_ordinals c.indexes))
+          (indexes_then v cells1 seats1 stands_then j (sits s x1) x1 o1 text L.named false i cell1 L.row L.changes L.count changing def (map (λ q. q.ordinals) c.indexes) was_so.indexes);
     })
 
     -- INSERT, UPDATE and DELETE keep cells and seats together, where the rows that they leave fit and have different keys
@@ -277,48 +277,48 @@ module _ (v : Server) (cells : List Cell) (seats : List SeatState) {history : Hi
   -- ---- fit and keys, by those of the script
 
   columns : List ColumnDef
-  columns = columns_at (defs_of (tables_now S1)) c.id
+  columns = columns_at (defs_of (tables_now stands_then)) c.id
 
   abbrev x2 : Session
-  x2 = ch.session_then v cells1 seats1 S1 j (sits s x1) x1 o1 text L.named false i cell1 L.row L.changes L.count changing
+  x2 = ch.session_then v cells1 seats1 stands_then j (sits s x1) x1 o1 text L.named false i cell1 L.row L.changes L.count changing
 
   abbrev o2 : OpenTransaction
-  o2 = ch.open_then v cells1 seats1 S1 j (sits s x1) x1 o1 text L.named false i cell1 L.row L.changes L.count changing
+  o2 = ch.open_then v cells1 seats1 stands_then j (sits s x1) x1 o1 text L.named false i cell1 L.row L.changes L.count changing
 
   has_open1 : HasOpen seats1 j x1 o1
-  has_open1 = ch.has_open v cells1 seats1 S1 j (sits s x1) x1 o1 text L.named false i cell1 L.row L.changes L.count changing
+  has_open1 = ch.has_open v cells1 seats1 stands_then j (sits s x1) x1 o1 text L.named false i cell1 L.row L.changes L.count changing
 
   abbrev script_rows_after : List Version
-  script_rows_after = ch.W_then v cells1 seats1 S1 j (sits s x1) x1 o1 text L.named false i cell1 L.row L.changes L.count changing
+  script_rows_after = ch.W_then v cells1 seats1 stands_then j (sits s x1) x1 o1 text L.named false i cell1 L.row L.changes L.count changing
 
-  kept_there : KeptRows (place_in S1.ledger.items) columns script_rows_after
+  kept_there : KeptRows (place_in stands_then.ledger.items) columns script_rows_after
   unfolding columns
-  kept_there = subst (λ (cols : List ColumnDef). KeptRows (place_in S1.ledger.items) cols script_rows_after)
-      (ap (λ (ds : Defs). columns_at ds c.id) (ch.then_defs v cells1 seats1 S1 j (sits s x1) x1 o1 text L.named false i cell1 L.row L.changes L.count changing))
-      (subst (KeptRows (place_in S1.ledger.items) (columns_at (defs_of (script_end v (tables_now S1) x2 o2).state.tables) c.id))
-      (ch.script_rows v cells1 seats1 S1 j (sits s x1) x1 o1 text L.named false i cell1 L.row L.changes L.count changing)
-      (kept_script v.reads S1.ledger.items S1.ledger_is_legal.legal o.id (elsewhere v cells1 seats1 S1 j x1 o1 has_open1 L.at.at.unfixed) o.opened (texts_so_far x2 o2) c.id))
+  kept_there = subst (λ (cols : List ColumnDef). KeptRows (place_in stands_then.ledger.items) cols script_rows_after)
+      (ap (λ (ds : Defs). columns_at ds c.id) (ch.then_defs v cells1 seats1 stands_then j (sits s x1) x1 o1 text L.named false i cell1 L.row L.changes L.count changing))
+      (subst (KeptRows (place_in stands_then.ledger.items) (columns_at (defs_of (script_end v (tables_now stands_then) x2 o2).state.tables) c.id))
+      (ch.script_rows v cells1 seats1 stands_then j (sits s x1) x1 o1 text L.named false i cell1 L.row L.changes L.count changing)
+      (kept_script v.reads stands_then.ledger.items stands_then.ledger_is_legal.legal o.id (elsewhere v cells1 seats1 stands_then j x1 o1 has_open1 L.at.at.unfixed) o.opened (texts_so_far x2 o2) c.id))
 
   each_key : ByKey columns cell2.versions c.versions script_rows_after
   unfolding columns
   each_key key = ⊎_elim
-      (λ (k : HasX (holds_at cells1 (cell_of c.id)) o.id key). inr (ch.owned v cells1 seats1 S1 j (sits s x1) x1 o1 text L.named false i cell1 L.row L.changes L.count changing key k.hold k.has k.mine k.reaches))
-      (λ (k : HasNoX (holds_at cells1 (cell_of c.id)) o.id key). inl (ch.left v cells1 seats1 S1 j (sits s x1) x1 o1 text L.named false i cell1 L.row L.changes L.count changing key k))
+      (λ (k : HasX (holds_at cells1 (cell_of c.id)) o.id key). inr (ch.owned v cells1 seats1 stands_then j (sits s x1) x1 o1 text L.named false i cell1 L.row L.changes L.count changing key k.hold k.has k.mine k.reaches))
+      (λ (k : HasNoX (holds_at cells1 (cell_of c.id)) o.id key). inl (ch.left v cells1 seats1 stands_then j (sits s x1) x1 o1 text L.named false i cell1 L.row L.changes L.count changing key k))
       (has_x_or_not (holds_at cells1 (cell_of c.id)) o.id key)
 
-  defines : IsDefined (defs_of (tables_now S1)) c.id
-  defines = is_defined (defs_of (tables_now S1)) c.id (ch.Changing.defined changing)
+  defines : IsDefined (defs_of (tables_now stands_then)) c.id
+  defines = is_defined (defs_of (tables_now stands_then)) c.id (ch.Changing.defined changing)
 
   defined_columns : defines.def.columns ≡ L.named.0.columns
   defined_columns = defines.columns ∙ ch.Changing.columns changing
 
-  was : TableStands v cells1 seats1 S1.ledger cell1 defines.def
-  was = subst (StandsAs v cells1 seats1 S1.ledger cell1) defines.is (S1.tables_are_serial.tables i cell1 (ap table_found cell_out))
+  was : TableStands v cells1 seats1 stands_then.ledger cell1 defines.def
+  was = subst (StandsAs v cells1 seats1 stands_then.ledger cell1) defines.is (stands_then.tables_are_serial.tables i cell1 (ap table_found cell_out))
 
   formed : Each (λ u. Fits defines.def.columns u.values) cell2.versions × KeysDiffer defines.def.columns (live cell2.versions)
   unfolding columns
   formed = subst (λ (cols : List ColumnDef). Each (λ u. Fits cols u.values) cell2.versions × KeysDiffer cols (live cell2.versions)) (sym defines.columns)
-      (kept_by_key columns cell2.versions c.versions script_rows_after each_key (place_in S1.ledger.items) kept_there
+      (kept_by_key columns cell2.versions c.versions script_rows_after each_key (place_in stands_then.ledger.items) kept_there
       (subst (λ (cols : List ColumnDef). Each (λ u. Fits cols u.values) c.versions) defines.columns was.fit)
       (subst (λ (cols : List ColumnDef). KeysDiffer cols (live c.versions)) defines.columns was.keys_differ))
 

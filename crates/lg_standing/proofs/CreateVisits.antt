@@ -216,11 +216,11 @@ module _ (v : Server) (cells : List Cell) (seats : List SeatState) {history : Hi
   abbrev seats1 : List SeatState
   seats1 = take.then_seats v cells seats S j s x o text stmt c K
 
-  S1 : Stands v history cells1 seats1
-  S1 = take.exclusive_there v cells seats S j s x o text stmt c K
+  stands_then : Stands v history cells1 seats1
+  stands_then = take.exclusive_there v cells seats S j s x o text stmt c K
 
   abbrev T : Tables
-  T = tables_now S1
+  T = tables_now stands_then
 
   out1 : get_elem? cells1 catalog_at ≡ some (Catalog c1)
   out1 = set_here cells catalog_at (Catalog c) (Catalog c1) out
@@ -240,7 +240,7 @@ module _ (v : Server) (cells : List Cell) (seats : List SeatState) {history : Hi
     abbrev p : OpenTransaction
     p = with_reply text (reply.Refused e) o1
 
-    refusing : Creating v cells1 seats1 S1 j (sits s x1) x1 o1 p text stmt c1 c1 (replied (reply.Refused e)) (reply.Refused e) T
+    refusing : Creating v cells1 seats1 stands_then j (sits s x1) x1 o1 p text stmt c1 c1 (replied (reply.Refused e)) (reply.Refused e) T
     refusing = record {
       there = there1;
       role = refl;
@@ -267,10 +267,10 @@ module _ (v : Server) (cells : List Cell) (seats : List SeatState) {history : Hi
     }
 
     refuses : StandsBy v j history o.id o.opened (looks text false ∷ []) (set cells1 catalog_at (Catalog c1)) (set seats1 j (sits (sits s x1) (at_place (Some p) (inside text (replied (reply.Refused e))) x1)))
-    refuses = creates_there v cells1 seats1 S1 j (sits s x1) x1 o1 p text stmt c1 c1 (replied (reply.Refused e)) (reply.Refused e) T refusing
+    refuses = creates_there v cells1 seats1 stands_then j (sits s x1) x1 o1 p text stmt c1 c1 (replied (reply.Refused e)) (reply.Refused e) T refusing
         (trees_from x1 o1 x1 o1 (no_change x1 o1) v (λ id. []) _ p.trees
-        (λ id l. same_here_none v cells1 seats1 S1 j (sits s x1) x1 o1 p text stmt c1 c1 (replied (reply.Refused e)) (reply.Refused e) T refusing id l (ap (λ (cs : List Cell). versions_at cs id) (set_same cells1 catalog_at (Catalog c1) out1)))
-        (was_trees v cells1 seats1 S1 j (sits s x1) x1 o1 p text stmt c1 c1 (replied (reply.Refused e)) (reply.Refused e) T refusing))
+        (λ id l. same_here_none v cells1 seats1 stands_then j (sits s x1) x1 o1 p text stmt c1 c1 (replied (reply.Refused e)) (reply.Refused e) T refusing id l (ap (λ (cs : List Cell). versions_at cs id) (set_same cells1 catalog_at (Catalog c1) out1)))
+        (was_trees v cells1 seats1 stands_then j (sits s x1) x1 o1 p text stmt c1 c1 (replied (reply.Refused e)) (reply.Refused e) T refusing))
 
   -- ---- a table is made
 
@@ -285,7 +285,7 @@ module _ (v : Server) (cells : List Cell) (seats : List SeatState) {history : Hi
     q = with_reply text reply.Made (noting (o.seq + 1 + length def.columns) (with_system_leaves o.id o.seq d o.trees) o1)
 
     ids : Described T
-    ids = legal_described v.reads S1.ledger.items S1.ledger_is_legal.legal
+    ids = legal_described v.reads stands_then.ledger.items stands_then.ledger_is_legal.legal
 
     f1 : List Version → List Version
     f1 = changed_all o.id o.seq (table_start def)
@@ -328,7 +328,7 @@ module _ (v : Server) (cells : List Cell) (seats : List SeatState) {history : Hi
     plan_defs f = ap (λ (ds : Defs). ds ++ def ∷ []) f ∙ sym (defs_append T (record { def = def; versions = [] }))
         ∙ ap (λ m. defs_of (defined (table_plan m).definition T)) (sym (ap (λ (ds : Defs). create_check ds create) (sym f) ∙ passes)) ∙ ap (λ (u : Stmt). defs_of (defined (plan T u).definition T)) (sym is)
 
-    making : Creating v cells1 seats1 S1 j (sits s x1) x1 o1 q text stmt c1 d (replied reply.Made) reply.Made E
+    making : Creating v cells1 seats1 stands_then j (sits s x1) x1 o1 q text stmt c1 d (replied reply.Made) reply.Made E
     unfolding f1 f2
     making = record {
       there = there1;
@@ -366,31 +366,31 @@ module _ (v : Server) (cells : List Cell) (seats : List SeatState) {history : Hi
 
     first_trees : AreTrees mid (grown 1 (events_from o.id o.seq 1 d.tables) o.trees)
     unfolding mid
-    first_trees = grown_trees v 1 (events_from o.id o.seq 1 d.tables) mid (λ id. []) first_same (λ i l ne. rw (ne_eqb i 1 ne) refl) o.trees (omega arith) (was_trees v cells1 seats1 S1 j (sits s x1) x1 o1 q text stmt c1 d (replied reply.Made) reply.Made E making)
+    first_trees = grown_trees v 1 (events_from o.id o.seq 1 d.tables) mid (λ id. []) first_same (λ i l ne. rw (ne_eqb i 1 ne) refl) o.trees (omega arith) (was_trees v cells1 seats1 stands_then j (sits s x1) x1 o1 q text stmt c1 d (replied reply.Made) reply.Made E making)
       where
         first_same : events_in o.id 1 (versions_at cells2 1) ≡ filter (λ e. nat_le o.seq e.seq) (events_in o.id 1 d.tables)
-        first_same = ap (events_in o.id 1) (rows2 1 refl) ∙ sym (ap (λ (n : ℕ). filter (λ e. nat_le n e.seq) (events_in o.id 1 d.tables)) (no_seq v cells1 seats1 S1 j (sits s x1) x1 o1 q text stmt c1 d (replied reply.Made) reply.Made E making) ∙ all_events (events_in o.id 1 d.tables))
+        first_same = ap (events_in o.id 1) (rows2 1 refl) ∙ sym (ap (λ (n : ℕ). filter (λ e. nat_le n e.seq) (events_in o.id 1 d.tables)) (no_seq v cells1 seats1 stands_then j (sits s x1) x1 o1 q text stmt c1 d (replied reply.Made) reply.Made E making) ∙ all_events (events_in o.id 1 d.tables))
 
     both_trees : AreTrees (λ id. events_in o.id id (versions_at cells2 id)) q.trees
     unfolding mid
     both_trees = grown_trees v 2 (events_from o.id o.seq 2 d.columns) (λ id. events_in o.id id (versions_at cells2 id)) mid second_same others_same (grown 1 (events_from o.id o.seq 1 d.tables) o.trees) (omega arith) first_trees
       where
         second_same : events_in o.id 2 (versions_at cells2 2) ≡ filter (λ e. nat_le o.seq e.seq) (events_in o.id 2 d.columns)
-        second_same = ap (events_in o.id 2) (rows2 2 refl) ∙ sym (ap (λ (n : ℕ). filter (λ e. nat_le n e.seq) (events_in o.id 2 d.columns)) (no_seq v cells1 seats1 S1 j (sits s x1) x1 o1 q text stmt c1 d (replied reply.Made) reply.Made E making) ∙ all_events (events_in o.id 2 d.columns))
+        second_same = ap (events_in o.id 2) (rows2 2 refl) ∙ sym (ap (λ (n : ℕ). filter (λ e. nat_le n e.seq) (events_in o.id 2 d.columns)) (no_seq v cells1 seats1 stands_then j (sits s x1) x1 o1 q text stmt c1 d (replied reply.Made) reply.Made E making) ∙ all_events (events_in o.id 2 d.columns))
 
         others_same : (i : ℕ) → 1 ≤ i → i ≢ 2 → events_in o.id i (versions_at cells2 i) ≡ mid i
         others_same i l ne = by (i == 1) refl
           where
             by : (b : Bool) → (i == 1) ≡ b → events_in o.id i (versions_at cells2 i) ≡ (if b then events_in o.id 1 (versions_at cells2 1) else [])
             by true e = ap (λ (n : ℕ). events_in o.id n (versions_at cells2 n)) (eqb-true i 1 e)
-            by false e = none_elsewhere v cells1 seats1 S1 j (sits s x1) x1 o1 q text stmt c1 d (replied reply.Made) reply.Made E making i l (λ k. is_not (system_id i l k))
+            by false e = none_elsewhere v cells1 seats1 stands_then j (sits s x1) x1 o1 q text stmt c1 d (replied reply.Made) reply.Made E making i l (λ k. is_not (system_id i l k))
               where
                 is_not : IsSystemId i → ⊥
                 is_not (is_tables m) = eqb-false i 1 e m
                 is_not (is_columns m) = ne m
 
     makes : StandsBy v j history o.id o.opened (looks text false ∷ []) cells2 (set seats1 j (sits (sits s x1) (at_place (Some q) (inside text (replied reply.Made)) x1)))
-    makes = creates_there v cells1 seats1 S1 j (sits s x1) x1 o1 q text stmt c1 d (replied reply.Made) reply.Made E making both_trees
+    makes = creates_there v cells1 seats1 stands_then j (sits s x1) x1 o1 q text stmt c1 d (replied reply.Made) reply.Made E making both_trees
 
   -- ---- an index is made
 
@@ -408,7 +408,7 @@ module _ (v : Server) (cells : List Cell) (seats : List SeatState) {history : Hi
     qi = noting (o.seq + length index.ordinals) (grown columns_id (events_from o.id o.seq columns_id di.columns) o.trees) o1
 
     idsi : Described T
-    idsi = legal_described v.reads S1.ledger.items S1.ledger_is_legal.legal
+    idsi = legal_described v.reads stands_then.ledger.items stands_then.ledger_is_legal.legal
 
     g1 : List Version → List Version
     g1 = changed_all o.id o.seq []
@@ -457,7 +457,7 @@ module _ (v : Server) (cells : List Cell) (seats : List SeatState) {history : Hi
     index_defs : c1.defs ≡ defs_of T → di.defs ≡ defs_of (defined (plan T stmt).definition T)
     index_defs f = ap (replaced_def wi) f ∙ sym (defs_redefined wi T) ∙ ap (λ p. defs_of (defined p T)) (sym (plan_is f))
 
-    indexing : Creating v cells1 seats1 S1 j (sits s x1) x1 o1 qi text stmt c1 di (made wi false) reply.Made Ei
+    indexing : Creating v cells1 seats1 stands_then j (sits s x1) x1 o1 qi text stmt c1 di (made wi false) reply.Made Ei
     unfolding g1 g2
     indexing = record {
       there = there1;
@@ -491,25 +491,25 @@ module _ (v : Server) (cells : List Cell) (seats : List SeatState) {history : Hi
     rows3 id e = versions_here cells1 catalog_at (Catalog c1) (Catalog di) out1 id e
 
     index_trees : AreTrees (λ id. events_in o.id id (versions_at cells3 id)) qi.trees
-    index_trees = grown_trees v 2 (events_from o.id o.seq 2 di.columns) (λ id. events_in o.id id (versions_at cells3 id)) (λ id. []) here_same others_same o.trees (omega arith) (was_trees v cells1 seats1 S1 j (sits s x1) x1 o1 qi text stmt c1 di (made wi false) reply.Made Ei indexing)
+    index_trees = grown_trees v 2 (events_from o.id o.seq 2 di.columns) (λ id. events_in o.id id (versions_at cells3 id)) (λ id. []) here_same others_same o.trees (omega arith) (was_trees v cells1 seats1 stands_then j (sits s x1) x1 o1 qi text stmt c1 di (made wi false) reply.Made Ei indexing)
       where
         here_same : events_in o.id 2 (versions_at cells3 2) ≡ filter (λ e. nat_le o.seq e.seq) (events_in o.id 2 di.columns)
-        here_same = ap (events_in o.id 2) (rows3 2 refl) ∙ sym (ap (λ (n : ℕ). filter (λ e. nat_le n e.seq) (events_in o.id 2 di.columns)) (no_seq v cells1 seats1 S1 j (sits s x1) x1 o1 qi text stmt c1 di (made wi false) reply.Made Ei indexing) ∙ all_events (events_in o.id 2 di.columns))
+        here_same = ap (events_in o.id 2) (rows3 2 refl) ∙ sym (ap (λ (n : ℕ). filter (λ e. nat_le n e.seq) (events_in o.id 2 di.columns)) (no_seq v cells1 seats1 stands_then j (sits s x1) x1 o1 qi text stmt c1 di (made wi false) reply.Made Ei indexing) ∙ all_events (events_in o.id 2 di.columns))
 
         others_same : (i : ℕ) → 1 ≤ i → i ≢ 2 → events_in o.id i (versions_at cells3 i) ≡ []
         others_same i l ne = by (i == 1) refl
           where
             by : (b : Bool) → (i == 1) ≡ b → events_in o.id i (versions_at cells3 i) ≡ []
-            by true e = same_here_none v cells1 seats1 S1 j (sits s x1) x1 o1 qi text stmt c1 di (made wi false) reply.Made Ei indexing i l
+            by true e = same_here_none v cells1 seats1 stands_then j (sits s x1) x1 o1 qi text stmt c1 di (made wi false) reply.Made Ei indexing i l
                 (subst (λ (n : ℕ). versions_at cells3 n ≡ versions_at cells1 n) (sym (eqb-true i 1 e)) (rows3 1 refl ∙ sym (rows1 1 refl)))
-            by false e = none_elsewhere v cells1 seats1 S1 j (sits s x1) x1 o1 qi text stmt c1 di (made wi false) reply.Made Ei indexing i l (λ k. is_not (system_id i l k))
+            by false e = none_elsewhere v cells1 seats1 stands_then j (sits s x1) x1 o1 qi text stmt c1 di (made wi false) reply.Made Ei indexing i l (λ k. is_not (system_id i l k))
               where
                 is_not : IsSystemId i → ⊥
                 is_not (is_tables m) = eqb-false i 1 e m
                 is_not (is_columns m) = ne m
 
     indexes : StandsBy v j history o.id o.opened (looks text false ∷ []) cells3 (set seats1 j (sits (sits s x1) (at_place (Some qi) (inside text (made wi false)) x1)))
-    indexes = creates_there v cells1 seats1 S1 j (sits s x1) x1 o1 qi text stmt c1 di (made wi false) reply.Made Ei indexing index_trees
+    indexes = creates_there v cells1 seats1 stands_then j (sits s x1) x1 o1 qi text stmt c1 di (made wi false) reply.Made Ei indexing index_trees
 
 -- ---- the visits, in their own form
 

@@ -156,39 +156,39 @@ whole_same = refl
 
 module _ (v : Server) (cells : List Cell) (seats : List SeatState) {history : History} (S : Stands v history cells seats) (id : ℕ) (exclusive : In (record { tx = id; want = whole X }) (holds_at cells catalog_at))
     (n : ℕ) (z : Session) (r : OpenTransaction) (h : HasOpen seats n z r) (e : r.end ≡ unfixed) (other : r.id ≢ id) where
-  abbrev T0 : Tables
-  T0 = tables_now S
+  abbrev tables_were : Tables
+  tables_were = tables_now S
 
   not_held : (w : Want) → Holds (holds_at cells catalog_at) r.id w → ⊥
   not_held w k = other (sym k.mine ∙ none_besides v cells seats S id exclusive k.hold k.has)
 
-  covers : Each (λ l. Each (Holds (holds_at cells catalog_at) r.id) (wants_in v (defs_of T0) r.opened catalog_at l.0)) (script_so_far z r)
+  covers : Each (λ l. Each (Holds (holds_at cells catalog_at) r.id) (wants_in v (defs_of tables_were) r.opened catalog_at l.0)) (script_so_far z r)
   covers = S.locks_cover.cover n z r h catalog_at (λ k. subst (In catalog_at) (S.locks_cover.unreleased n z r h e) k, λ k. subst (In catalog_at) (S.locks_cover.unreleased n z r h e) k)
 
-  no_create : (l : Line) → r.opened ≡ false → Each (Holds (holds_at cells catalog_at) r.id) (wants_in v (defs_of T0) r.opened catalog_at l.0) → (stmt : Stmt) → v.reads l.0 ≡ Some stmt → creates stmt ≡ false
+  no_create : (l : Line) → r.opened ≡ false → Each (Holds (holds_at cells catalog_at) r.id) (wants_in v (defs_of tables_were) r.opened catalog_at l.0) → (stmt : Stmt) → v.reads l.0 ≡ Some stmt → creates stmt ≡ false
   no_create l a held stmt is = by (creates stmt) refl
     where
       by : (b : Bool) → creates stmt ≡ b → b ≡ false
-      by true k = let wants : wants_in v (defs_of T0) r.opened catalog_at l.0 ≡ whole X ∷ [] = ap (λ (q : Option Stmt). wants_at catalog_at (text_wants (defs_of T0) r.opened q)) is ∙ ap (λ (b : Bool). of_catalog (catalog_want b stmt) ++ of_cell catalog_at (cell_wants (defs_of T0) stmt)) a ∙ ap₂ (λ q c. of_catalog q ++ of_cell catalog_at c) (x_of stmt k) (no_cell (defs_of T0) stmt k) in
+      by true k = let wants : wants_in v (defs_of tables_were) r.opened catalog_at l.0 ≡ whole X ∷ [] = ap (λ (q : Option Stmt). wants_at catalog_at (text_wants (defs_of tables_were) r.opened q)) is ∙ ap (λ (b : Bool). of_catalog (catalog_want b stmt) ++ of_cell catalog_at (cell_wants (defs_of tables_were) stmt)) a ∙ ap₂ (λ q c. of_catalog q ++ of_cell catalog_at c) (x_of stmt k) (no_cell (defs_of tables_were) stmt k) in
           absurd (not_held (whole X) (subst (Each (Holds (holds_at cells catalog_at) r.id)) wants held).0)
       by false k = refl
 
-  alone_keeps : r.opened ≡ false → defs_of (script_end v T0 z r).state.tables ≡ defs_of T0
-  alone_keeps a = ap (λ (b : Bool). defs_of (script v.reads b T0 r.id (texts_so_far z r)).state.tables) a ∙ by (script_so_far z r) (ap (λ (ls : List Line). ls ++ lines_at z.place) only) covers
+  alone_keeps : r.opened ≡ false → defs_of (script_end v tables_were z r).state.tables ≡ defs_of tables_were
+  alone_keeps a = ap (λ (b : Bool). defs_of (script v.reads b tables_were r.id (texts_so_far z r)).state.tables) a ∙ by (script_so_far z r) (ap (λ (ls : List Line). ls ++ lines_at z.place) only) covers
     where
       only : r.script ≡ []
       only = (S.open_scripts n z r h e).alone a
 
-      by : (ls : List Line) → ls ≡ lines_at z.place → Each (λ l. Each (Holds (holds_at cells catalog_at) r.id) (wants_in v (defs_of T0) r.opened catalog_at l.0)) ls → defs_of (script v.reads false T0 r.id (map (λ l. l.0) ls)).state.tables ≡ defs_of T0
-      by [] q k = ap (λ q. defs_of q.state.tables) (nothing_done v.reads false T0 r.id)
-      by (l ∷ []) q k = ap (λ (q : State). defs_of q.tables) (one_text v r.id T0 l.0) ∙ ap (λ (q : Step). defs_of q.0.tables) (step_is v r.id T0 l.0) ∙ keeps_defs r.id T0 (v.reads l.0) (no_create l a k.0)
+      by : (ls : List Line) → ls ≡ lines_at z.place → Each (λ l. Each (Holds (holds_at cells catalog_at) r.id) (wants_in v (defs_of tables_were) r.opened catalog_at l.0)) ls → defs_of (script v.reads false tables_were r.id (map (λ l. l.0) ls)).state.tables ≡ defs_of tables_were
+      by [] q k = ap (λ q. defs_of q.state.tables) (nothing_done v.reads false tables_were r.id)
+      by (l ∷ []) q k = ap (λ (q : State). defs_of q.tables) (one_text v r.id tables_were l.0) ∙ ap (λ (q : Step). defs_of q.0.tables) (step_is v r.id tables_were l.0) ∙ keeps_defs r.id tables_were (v.reads l.0) (no_create l a k.0)
       by (l ∷ m ∷ ls) q k = absurd (too_many z.place l m ls q)
 
-  pub others_keep : defs_of (script_end v T0 z r).state.tables ≡ defs_of T0
+  pub others_keep : defs_of (script_end v tables_were z r).state.tables ≡ defs_of tables_were
   others_keep = by r.opened refl
     where
-      by : (b : Bool) → r.opened ≡ b → defs_of (script_end v T0 z r).state.tables ≡ defs_of T0
-      by true a = ap (λ (b : Bool). defs_of (script v.reads b T0 r.id (texts_so_far z r)).state.tables) a ∙ (opened_keep_defs v.reads T0 r.id (texts_so_far z r)).tables
+      by : (b : Bool) → r.opened ≡ b → defs_of (script_end v tables_were z r).state.tables ≡ defs_of tables_were
+      by true a = ap (λ (b : Bool). defs_of (script v.reads b tables_were r.id (texts_so_far z r)).state.tables) a ∙ (opened_keep_defs v.reads tables_were r.id (texts_so_far z r)).tables
       by false a = alone_keeps a
 
 -- ---- the statement creates, or is refused

@@ -56,7 +56,7 @@ use Rattle.lg_history.specs.Acts.{by}
 use Rattle.lg_standing.proofs.GoesOn.{one_number}
 use Rattle.lg_history.specs.Acts as act
 
-module _ (v : Server) (cells : List Cell) (seats : List SeatState) {history : History} (S0 : Stands v history cells seats) (j : ℕ) (s : SeatState) (there : get_elem? seats j ≡ some s) (c d : CatalogCell) (t : SeatState) (out : get_elem? cells catalog_at ≡ some (Catalog c)) (L : ReadsSystem v c s d t) where
+module _ (v : Server) (cells : List Cell) (seats : List SeatState) {history : History} (stands_before : Stands v history cells seats) (j : ℕ) (s : SeatState) (there : get_elem? seats j ≡ some s) (c d : CatalogCell) (t : SeatState) (out : get_elem? cells catalog_at ≡ some (Catalog c)) (L : ReadsSystem v c s d t) where
   abbrev o : OpenTransaction
   o = L.o
 
@@ -67,7 +67,7 @@ module _ (v : Server) (cells : List Cell) (seats : List SeatState) {history : Hi
   text = L.at.stands.text
 
   abbrev D : Defs
-  D = defs_of (tables_now S0)
+  D = defs_of (tables_now stands_before)
 
   abbrev stage : Stage
   stage = found (find_part c.defs L.q.table) (not (holds_any c.holds o.id))
@@ -100,24 +100,24 @@ module _ (v : Server) (cells : List Cell) (seats : List SeatState) {history : Hi
 
   -- the number of its session in the history
   abbrev number : ℕ
-  number = look.number v cells seats S0 j s there c d (then_at s L.at.stands (Some (visiting catalog_at o)) stage) out looks
+  number = look.number v cells seats stands_before j s there c d (then_at s L.at.stands (Some (visiting catalog_at o)) stage) out looks
 
-  S1 : Stands v (history ++ by number (act.looks text false) ∷ []) cells1 seats1
-  S1 = look.stands_so v cells seats S0 j s there c d (then_at s L.at.stands (Some (visiting catalog_at o)) stage) out looks
+  stands_then : Stands v (history ++ by number (act.looks text false) ∷ []) cells1 seats1
+  stands_then = look.stands_so v cells seats stands_before j s there c d (then_at s L.at.stands (Some (visiting catalog_at o)) stage) out looks
 
-  same_ledger : S1.ledger ≡ S0.ledger
-  unfolding S1
-  same_ledger = look.same_ledger v cells seats S0 j s there c d (then_at s L.at.stands (Some (visiting catalog_at o)) stage) out looks
+  same_ledger : stands_then.ledger ≡ stands_before.ledger
+  unfolding stands_then
+  same_ledger = look.same_ledger v cells seats stands_before j s there c d (then_at s L.at.stands (Some (visiting catalog_at o)) stage) out looks
 
-  same_number : (S1.transcripts_agree.of_seat j).now ≡ Some number
-  unfolding S1
-  same_number = look.same_number v cells seats S0 j s there c d (then_at s L.at.stands (Some (visiting catalog_at o)) stage) out looks
+  same_number : (stands_then.transcripts_agree.of_seat j).now ≡ Some number
+  unfolding stands_then
+  same_number = look.same_number v cells seats stands_before j s there c d (then_at s L.at.stands (Some (visiting catalog_at o)) stage) out looks
 
   abbrev T : Tables
-  T = tables_now S1
+  T = tables_now stands_then
 
   same_defs : defs_of T ≡ c.defs
-  same_defs = ap (λ (items : List JournalItem). defs_of (serial v.reads items)) (ap (λ l. l.items) same_ledger) ∙ sym (look.same_definitions v cells seats S0 j s there c d (then_at s L.at.stands (Some (visiting catalog_at o)) stage) out looks)
+  same_defs = ap (λ (items : List JournalItem). defs_of (serial v.reads items)) (ap (λ l. l.items) same_ledger) ∙ sym (look.same_definitions v cells seats stands_before j s there c d (then_at s L.at.stands (Some (visiting catalog_at o)) stage) out looks)
 
   there1 : get_elem? seats1 j ≡ some (sits s x1)
   there1 = set_here seats j s (sits s x1) there
@@ -138,7 +138,7 @@ module _ (v : Server) (cells : List Cell) (seats : List SeatState) {history : Hi
   finds = (query_passed (defs_of T) L.q (L.def, System) checked).by_name
 
   ids : IdsFrom 1 (defs_of T)
-  ids = (sound v cells1 seats1 S1 j x1 o1 has_open1 L.at.unfixed).ids
+  ids = (sound v cells1 seats1 stands_then j x1 o1 has_open1 L.at.unfixed).ids
 
   low : L.def.id ≤ 2
   low = found_is_system (defs_of T) L.q.table (L.def, System) finds refl
@@ -156,7 +156,7 @@ module _ (v : Server) (cells : List Cell) (seats : List SeatState) {history : Hi
       by (suc (suc (suc n))) l h = absurd (omega (arith, l))
 
   looked1 : HoldsInCatalog v cells1 T x1.place o1
-  looked1 = looked_now v cells1 T o1 x1.place (S1.locks_cover.looked j x1 o1 has_open1 L.at.unfixed) tt
+  looked1 = looked_now v cells1 T o1 x1.place (stands_then.locks_cover.looked j x1 o1 has_open1 L.at.unfixed) tt
 
   reads : v.reads text ≡ Some (stmt.Select L.q)
   reads = L.at.stands.is ∙ ap (λ (q : Stmt). Some q) L.selects
@@ -196,15 +196,15 @@ module _ (v : Server) (cells : List Cell) (seats : List SeatState) {history : Hi
   whole_script = append-nil o.script
 
   abbrev state : State
-  state = more.X v cells1 seats1 S1 j (sits s x1) there1 x1 refl o1 refl L.at.unfixed refl text stage refl refl (λ id vs. refl)
+  state = more.X v cells1 seats1 stands_then j (sits s x1) there1 x1 refl o1 refl L.at.unfixed refl text stage refl refl (λ id vs. refl)
 
   same_rows : versions_at cells1 L.def.id ≡ versions_of state.tables L.def.id
-  same_rows = (agree_on v cells1 seats1 S1 j x1 o1 has_open1 L.at.unfixed whole_script L.def.id high (λ vs. refl) (whole S ∷ [])
-      (λ w is r key q h has ne. excluded (holds_at cells1 catalog_at) o.id (whole S ∷ []) free1 (λ g k m. S1.locks_cover.intents catalog_at g k m) (λ u k. (whole S, inl refl, refl)) key w is r q h (subst (λ (n : ℕ). In h (holds_at cells1 n)) here has) ne)).0
+  same_rows = (agree_on v cells1 seats1 stands_then j x1 o1 has_open1 L.at.unfixed whole_script L.def.id high (λ vs. refl) (whole S ∷ [])
+      (λ w is r key q h has ne. excluded (holds_at cells1 catalog_at) o.id (whole S ∷ []) free1 (λ g k m. stands_then.locks_cover.intents catalog_at g k m) (λ u k. (whole S, inl refl, refl)) key w is r q h (subst (λ (n : ℕ). In h (holds_at cells1 n)) here has) ne)).0
       ∙ ap (λ (ls : List Line). versions_of (script v.reads o.opened T o.id (map (λ l. l.0) ls)).state.tables L.def.id) whole_script
 
   state_defs : defs_of state.tables ≡ defs_of T
-  state_defs = say.same_defs v cells1 seats1 S1 j (sits s x1) there1 x1 refl o1 refl L.at.unfixed text (find_part c.defs L.q.table) (not (holds_any c.holds o.id)) refl
+  state_defs = say.same_defs v cells1 seats1 stands_then j (sits s x1) there1 x1 refl o1 refl L.at.unfixed text (find_part c.defs L.q.table) (not (holds_any c.holds o.id)) refl
 
   abbrev answer : Reply
   answer = rows_reply (query_rows L.q (L.def, System) (versions_in L.def.id (Catalog c)))
@@ -239,21 +239,21 @@ module _ (v : Server) (cells : List Cell) (seats : List SeatState) {history : Hi
   SaidAt = StandsAfter v j (history ++ by number (act.looks text false) ∷ []) (done_acts o.opened text true answer) cells1
 
   then_said : SaidAt (set seats1 j (sits (sits s x1) (at_place (Some (with_reply text answer o1)) (inside text (stage_after o1.opened answer)) x1)))
-  then_said = say.said_there v cells1 seats1 S1 j (sits s x1) there1 x1 refl o1 refl L.at.unfixed text (find_part c.defs L.q.table) (not (holds_any c.holds o.id)) refl answer plain
+  then_said = say.said_there v cells1 seats1 stands_then j (sits s x1) there1 x1 refl o1 refl L.at.unfixed text (find_part c.defs L.q.table) (not (holds_any c.holds o.id)) refl answer plain
       (step_is v.reads o.opened o.id state text ∙ ap (by_statement o.opened o.id state) L.at.stands.is ∙ step) covers
       (ap kind_of (v.real.reading text ∙ reads))
 
   said_by_it : then_said.session ≡ number
   unfolding then_said
-  said_by_it = one_number then_said.session number (say.said_by v cells1 seats1 S1 j (sits s x1) there1 x1 refl o1 refl L.at.unfixed text (find_part c.defs L.q.table) (not (holds_any c.holds o.id)) refl answer plain
+  said_by_it = one_number then_said.session number (say.said_by v cells1 seats1 stands_then j (sits s x1) there1 x1 refl o1 refl L.at.unfixed text (find_part c.defs L.q.table) (not (holds_any c.holds o.id)) refl answer plain
       (step_is v.reads o.opened o.id state text ∙ ap (by_statement o.opened o.id state) L.at.stands.is ∙ step) covers
       (ap kind_of (v.real.reading text ∙ reads))) same_number
 
   said_own_it : then_said.stands.transcripts_agree.owner then_said.session ≡ j
   unfolding then_said
-  said_own_it = say.said_own v cells1 seats1 S1 j (sits s x1) there1 x1 refl o1 refl L.at.unfixed text (find_part c.defs L.q.table) (not (holds_any c.holds o.id)) refl answer plain
+  said_own_it = say.said_own v cells1 seats1 stands_then j (sits s x1) there1 x1 refl o1 refl L.at.unfixed text (find_part c.defs L.q.table) (not (holds_any c.holds o.id)) refl answer plain
       (step_is v.reads o.opened o.id state text ∙ ap (by_statement o.opened o.id state) L.at.stands.is ∙ step) covers
       (ap kind_of (v.real.reading text ∙ reads))
 
   pub reads_system : StandsBy v j history o.id o.opened (act.looks text false ∷ done_acts o.opened text true answer) (set cells catalog_at (Catalog d)) (set seats j t)
-  reads_system = subst (StandsBy v j history o.id o.opened (act.looks text false ∷ done_acts o.opened text true answer) cells1) (set_twice seats j (sits s x1) _ ∙ ap (set seats j) (sym L.seat)) (first_by v history number o.id o.opened (look.is_number v cells seats S0 j s there c d (then_at s L.at.stands (Some (visiting catalog_at o)) stage) out looks) then_said said_own_it said_by_it)
+  reads_system = subst (StandsBy v j history o.id o.opened (act.looks text false ∷ done_acts o.opened text true answer) cells1) (set_twice seats j (sits s x1) _ ∙ ap (set seats j) (sym L.seat)) (first_by v history number o.id o.opened (look.is_number v cells seats stands_before j s there c d (then_at s L.at.stands (Some (visiting catalog_at o)) stage) out looks) then_said said_own_it said_by_it)

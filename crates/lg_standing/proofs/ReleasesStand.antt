@@ -287,8 +287,8 @@ module _ (v : Server) (cells : List Cell) (seats : List SeatState) {history : Hi
     rising_before : Rising c.versions
     rising_before = subst Rising rows_were (S.rows_agree.rising c.id one_le)
 
-    R1 : Rising d.versions
-    R1 = subst Rising (sym versions_left) (rel.rising_left v cells seats S j s x o i c d placed K placed rising_before)
+    rising_after : Rising d.versions
+    rising_after = subst Rising (sym versions_left) (rel.rising_left v cells seats S j s x o i c d placed K placed rising_before)
 
     their_seen : touched r.id (counted r.id c.id z.place d.versions) ≡ touched r.id (counted r.id c.id z.place c.versions)
     their_seen = by (counted_is r.id c.id z.place)
@@ -299,9 +299,9 @@ module _ (v : Server) (cells : List Cell) (seats : List SeatState) {history : Hi
         turned seq key (inr h) = inr (subst (AllByRecursion (MadeBefore r.id 0)) (undone_of_key columns key r.id seq d.versions) h.0, subst (AllByRecursion (MadeBefore r.id 0)) (undone_of_key columns key r.id seq c.versions) h.1)
 
         by : IsCounted r.id c.id z.place → touched r.id (counted r.id c.id z.place d.versions) ≡ touched r.id (counted r.id c.id z.place c.versions)
-        by (all_count same) = ap (touched r.id) (same d.versions) ∙ touched_agree r.id columns d.versions c.versions R1 rising_before (λ key. their_keys (λ vs. vs) (λ vs h. h) key) ∙ ap (touched r.id) (sym (same c.versions))
+        by (all_count same) = ap (touched r.id) (same d.versions) ∙ touched_agree r.id columns d.versions c.versions rising_after rising_before (λ key. their_keys (λ vs. vs) (λ vs h. h) key) ∙ ap (touched r.id) (sym (same c.versions))
         by (some_undone seq to same) = ap (touched r.id) (same d.versions)
-            ∙ touched_agree r.id columns (versions_undone r.id seq d.versions) (versions_undone r.id seq c.versions) (rising_undone r.id seq d.versions R1) (rising_undone r.id seq c.versions rising_before)
+            ∙ touched_agree r.id columns (versions_undone r.id seq d.versions) (versions_undone r.id seq c.versions) (rising_undone r.id seq d.versions rising_after) (rising_undone r.id seq c.versions rising_before)
             (λ key. turned seq key (their_keys (versions_undone r.id seq) (undone_untouched r.id r.id seq 0) key))
             ∙ ap (touched r.id) (sym (same c.versions))
 

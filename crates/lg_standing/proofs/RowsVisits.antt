@@ -110,7 +110,7 @@ query_shares (def, History) q w i = whole_shares w i
 query_shares (def, View) q w i = whole_shares w i
 query_shares (def, System) q w i = absurd i
 
-module _ (v : Server) (cells : List Cell) (seats : List SeatState) {history : List Act} (S0 : Stands v history cells seats) (j : ℕ) (s : SeatState) (there : get_elem? seats j ≡ some s) (i : ℕ) (c : TableCell) (out : get_elem? cells i ≡ some (Rows c))
+module _ (v : Server) (cells : List Cell) (seats : List SeatState) {history : List Act} (stands_before : Stands v history cells seats) (j : ℕ) (s : SeatState) (there : get_elem? seats j ≡ some s) (i : ℕ) (c : TableCell) (out : get_elem? cells i ≡ some (Rows c))
     (o : OpenTransaction) (named : Named) (fresh : Bool) (L : Found v c s o named fresh) (ws : List Want) (no_conflict : first_conflict c.holds o.id ws ≡ None) (announced : Announces ws)
     (intents : (w : Want) → In w ws → w.mode ≡ X → (u : Want) × In u ws × (u.item ≡ Whole) × ((u.mode ≡ IX) ⊎ (u.mode ≡ X))) where
   abbrev x : Session
@@ -120,7 +120,7 @@ module _ (v : Server) (cells : List Cell) (seats : List SeatState) {history : Li
   text = L.at.stands.text
 
   abbrev D : Defs
-  D = defs_of (tables_now S0)
+  D = defs_of (tables_now stands_before)
 
   place : x.place ≡ inside text (found (Some named) fresh)
   place = L.at.stands.place ∙ ap (inside text) L.at_found
@@ -128,15 +128,15 @@ module _ (v : Server) (cells : List Cell) (seats : List SeatState) {history : Li
   has_open : HasOpen seats j x o
   has_open = record { seat = s; there = there; role = L.at.stands.role; open_one = L.at.open_one }
 
-  pub got : IsNamed (tables_now S0) (Some L.at.stands.stmt) (Some named)
-  got = subst (λ (q : Option Stmt). IsNamed (tables_now S0) q (Some named)) L.at.stands.is
-      (subst (λ (q : Place). IsGotAt v cells (tables_now S0) o.id (not (in_journal S0.ledger.items (o.id, 0))) q) place (S0.locks_cover.got j x o has_open ((looked_now v cells (tables_now S0) o x.place (S0.locks_cover.looked j x o has_open L.at.unfixed) (subst HasLooked (sym place) tt)).lock)))
+  pub got : IsNamed (tables_now stands_before) (Some L.at.stands.stmt) (Some named)
+  got = subst (λ (q : Option Stmt). IsNamed (tables_now stands_before) q (Some named)) L.at.stands.is
+      (subst (λ (q : Place). IsGotAt v cells (tables_now stands_before) o.id (not (in_journal stands_before.ledger.items (o.id, 0))) q) place (stands_before.locks_cover.got j x o has_open ((looked_now v cells (tables_now stands_before) o x.place (stands_before.locks_cover.looked j x o has_open L.at.unfixed) (subst HasLooked (sym place) tt)).lock)))
 
   pub finds : find_part D got.0 ≡ Some named
   finds = sym got.2
 
   at : take.IsAtPlace i c
-  at = take.table_place cells S0.catalog S0.ledger i c S0.are_cells out
+  at = take.table_place cells stands_before.catalog stands_before.ledger i c stands_before.are_cells out
 
   pub user : 3 ≤ c.id
   user = let e = at.id in omega arith
@@ -147,7 +147,7 @@ module _ (v : Server) (cells : List Cell) (seats : List SeatState) {history : Li
   free : AreFree c.holds o.id ws
   free = all_free c.holds o.id ws no_conflict
 
-  takes_at : take.TakesAt v cells seats S0 j s x o text (Some named) fresh i c ws
+  takes_at : take.TakesAt v cells seats stands_before j s x o text (Some named) fresh i c ws
   takes_at = record {
     there = there;
     role = L.at.stands.role;
@@ -161,29 +161,29 @@ module _ (v : Server) (cells : List Cell) (seats : List SeatState) {history : Li
   }
 
   abbrev cells1 : List Cell
-  cells1 = take.then_cells v cells seats S0 j s x o text (Some named) fresh i c ws takes_at
+  cells1 = take.then_cells v cells seats stands_before j s x o text (Some named) fresh i c ws takes_at
 
   abbrev seats1 : List SeatState
-  seats1 = take.then_seats v cells seats S0 j s x o text (Some named) fresh i c ws takes_at
+  seats1 = take.then_seats v cells seats stands_before j s x o text (Some named) fresh i c ws takes_at
 
   abbrev cell1 : TableCell
-  cell1 = take.then_cell v cells seats S0 j s x o text (Some named) fresh i c ws takes_at
+  cell1 = take.then_cell v cells seats stands_before j s x o text (Some named) fresh i c ws takes_at
 
   abbrev x1 : Session
-  x1 = take.then_session v cells seats S0 j s x o text (Some named) fresh i c ws takes_at
+  x1 = take.then_session v cells seats stands_before j s x o text (Some named) fresh i c ws takes_at
 
   abbrev o1 : OpenTransaction
   o1 = visiting i o
 
-  S1 : Stands v history cells1 seats1
-  S1 = take.takes_there v cells seats S0 j s x o text (Some named) fresh i c ws takes_at
+  stands_then : Stands v history cells1 seats1
+  stands_then = take.takes_there v cells seats stands_before j s x o text (Some named) fresh i c ws takes_at
 
-  same_ledger : S1.ledger ≡ S0.ledger
-  unfolding S1
-  same_ledger = take.same_ledger v cells seats S0 j s x o text (Some named) fresh i c ws takes_at
+  same_ledger : stands_then.ledger ≡ stands_before.ledger
+  unfolding stands_then
+  same_ledger = take.same_ledger v cells seats stands_before j s x o text (Some named) fresh i c ws takes_at
 
   abbrev T : Tables
-  T = tables_now S1
+  T = tables_now stands_then
 
   same_defs : defs_of T ≡ D
   same_defs = ap (λ (items : List JournalItem). defs_of (serial v.reads items)) (ap (λ l. l.items) same_ledger)
@@ -207,13 +207,13 @@ module _ (v : Server) (cells : List Cell) (seats : List SeatState) {history : Li
       (taken_comes o.id ws c.holds h has)))
 
   intents1 : (h : Hold) → In h cell1.holds → h.want.mode ≡ X → HasIntent cell1.holds h
-  intents1 h has m = subst (λ (hs : List Hold). HasIntent hs h) held_here1 (S1.locks_cover.intents i h (subst (In h) (sym held_here1) has) m)
+  intents1 h has m = subst (λ (hs : List Hold). HasIntent hs h) held_here1 (stands_then.locks_cover.intents i h (subst (In h) (sym held_here1) has) m)
 
   -- ---- its wants are held
 
   module _ (cell_is : (text_wants D o.opened (v.reads text)).cell ≡ Some (named.0.id, ws)) where
     looked1 : HoldsInCatalog v cells1 T x1.place o1
-    looked1 = looked_now v cells1 T o1 x1.place (S1.locks_cover.looked j x1 o1 has_open1 L.at.unfixed) tt
+    looked1 = looked_now v cells1 T o1 x1.place (stands_then.locks_cover.looked j x1 o1 has_open1 L.at.unfixed) tt
 
     covers : (n : ℕ) → Each (Holds ((contents cells1).holds n) o1.id) (wants_in v (defs_of T) o1.opened n text)
     covers n = subst (λ cell. Each (Holds ((contents cells1).holds n) o.id) ((if n == catalog_at then of_catalog (text_wants (defs_of T) o.opened (v.reads text)).catalog else []) ++ of_cell n cell))
@@ -231,13 +231,13 @@ module _ (v : Server) (cells : List Cell) (seats : List SeatState) {history : Li
     -- ---- its script's table agrees on them
 
     columns_are : columns_at (defs_of T) c.id ≡ named.0.columns
-    columns_are = ap (λ (ds : Defs). columns_at ds c.id) same_defs ∙ ap (columns_at D) (sym L.here) ∙ (found_stands 1 D got.0 named (sound v cells seats S0 j x o has_open L.at.unfixed).ids finds).columns
+    columns_are = ap (λ (ds : Defs). columns_at ds c.id) same_defs ∙ ap (columns_at D) (sym L.here) ∙ (found_stands 1 D got.0 named (sound v cells seats stands_before j x o has_open L.at.unfixed).ids finds).columns
 
     whole_script : script_so_far x1 o1 ≡ o1.script
     whole_script = append-nil o.script
 
     abbrev state : State
-    state = more.X v cells1 seats1 S1 j (sits s x1) there1 x1 refl o1 refl L.at.unfixed refl text (found (Some named) false) refl refl (λ id vs. refl)
+    state = more.X v cells1 seats1 stands_then j (sits s x1) there1 x1 refl o1 refl L.at.unfixed refl text (found (Some named) false) refl refl (λ id vs. refl)
 
     same_state : script_end v T x1 o1 ≡ script v.reads o.opened T o.id (map (λ l. l.0) o.script)
     same_state = ap (λ (ls : List Line). script v.reads o.opened T o.id (map (λ l. l.0) ls)) whole_script
@@ -249,11 +249,11 @@ module _ (v : Server) (cells : List Cell) (seats : List SeatState) {history : Li
     agree = subst (λ (e : ScriptEnd). AgreeOnAll named.0.columns ws c.versions (versions_of e.state.tables c.id)) same_state
         (subst (λ (cols : List ColumnDef). AgreeOnAll cols ws c.versions (versions_of (script_end v T x1 o1).state.tables c.id)) columns_are
         (subst (λ (vs : List Version). AgreeOnAll (columns_at (defs_of T) c.id) ws vs (versions_of (script_end v T x1 o1).state.tables c.id)) (were_here cells1 i (Rows cell1) (Rows cell1) cell_out c.id (take.cell_at i c at))
-        (agree_on v cells1 seats1 S1 j x1 o1 has_open1 L.at.unfixed whole_script c.id (omega (arith, user)) (λ vs. refl) ws
+        (agree_on v cells1 seats1 stands_then j x1 o1 has_open1 L.at.unfixed whole_script c.id (omega (arith, user)) (λ vs. refl) ws
         (λ w is r key q h has ne. excluded cell1.holds o.id ws free1 intents1 announced key w is r q h (held_in h has) ne))))
 
     state_defs : defs_of state.tables ≡ D
-    state_defs = say.same_defs v cells1 seats1 S1 j (sits s x1) there1 x1 refl o1 refl L.at.unfixed text (Some named) false refl ∙ same_defs
+    state_defs = say.same_defs v cells1 seats1 stands_then j (sits s x1) there1 x1 refl o1 refl L.at.unfixed text (Some named) false refl ∙ same_defs
 
     module _ (r : Reply) (by_effects : (b : Bool) (X : State) → (by_statement b o.id X (Some L.at.stands.stmt)).1 ≡ (effect X.tables o.id X.seq L.at.stands.stmt).reply) (kind : kind_of (Some L.at.stands.stmt) ≡ rows)
         (step : (b : Bool) (X : State) → defs_of X.tables ≡ D → AgreeOnAll named.0.columns ws c.versions (versions_of X.tables c.id) → by_statement b o.id X (Some L.at.stands.stmt) ≡ (X, r))
@@ -262,7 +262,7 @@ module _ (v : Server) (cells : List Cell) (seats : List SeatState) {history : Li
       plain = subst IsPlainReply (sym (by_effects o.opened state) ∙ ap (λ (q : State × Reply). q.1) (step o.opened state state_defs agree)) (effect_reply state.tables o.id state.seq L.at.stands.stmt)
 
       said : StandsBy v j history o.id o.opened (done_acts o.opened text true r) cells1 (set seats1 j (sits (sits s x1) (at_place (Some (with_reply text r o1)) (inside text (stage_after o1.opened r)) x1)))
-      said = say.said_for_it v cells1 seats1 S1 j (sits s x1) there1 x1 refl o1 refl L.at.unfixed text (Some named) false refl r plain
+      said = say.said_for_it v cells1 seats1 stands_then j (sits s x1) there1 x1 refl o1 refl L.at.unfixed text (Some named) false refl r plain
           (step_is v.reads o.opened o.id state text ∙ ap (by_statement o.opened o.id state) L.at.stands.is ∙ step o.opened state state_defs agree)
           covers (ap kind_of (v.real.reading text ∙ L.at.stands.is) ∙ kind)
 
@@ -276,23 +276,23 @@ pub same_query : (defs : Defs) (q : Select) (one : Named) → find_part defs q.t
 unfolding query_check
 same_query defs q one e = ap (λ (o : Option Named). and_then (or_refused E02 o) (λ n. and_then (select_check (columns_of n.0 n.1) q) (λ passed. Ok n))) (found_alone defs q.table one e ∙ sym e)
 
-module _ (v : Server) (cells : List Cell) (seats : List SeatState) {history : List Act} (S0 : Stands v history cells seats) (j : ℕ) (s : SeatState) (there : get_elem? seats j ≡ some s) (i : ℕ) (c d : TableCell) (t : SeatState) (out : get_elem? cells i ≡ some (Rows c)) where
+module _ (v : Server) (cells : List Cell) (seats : List SeatState) {history : List Act} (stands_before : Stands v history cells seats) (j : ℕ) (s : SeatState) (there : get_elem? seats j ≡ some s) (i : ℕ) (c d : TableCell) (t : SeatState) (out : get_elem? cells i ≡ some (Rows c)) where
   -- INSERT, UPDATE and DELETE that a row refuses
   pub refuses_rows : (L : RefusesRows v c s d t) → StandsBy v j history L.o.id L.o.opened (done_acts L.o.opened L.at.at.stands.text true (reply.Refused L.refusal)) (set cells i (Rows d)) (set seats j t)
   unfolding effect cell_wants
-  refuses_rows L = row_said v cells seats S0 j s there i c out L.o L.named L.fresh L.at (row_wants L.named.0 L.row) L.free
+  refuses_rows L = row_said v cells seats stands_before j s there i c out L.o L.named L.fresh L.at (row_wants L.named.0 L.row) L.free
       (λ w h. let u = rows_announced L.named.0 L.row w h in (u.0, u.1, u.2)) (λ w h m. rows_announced L.named.0 L.row w h)
       (ap (λ (q : Option Stmt). (text_wants D L.o.opened q).cell) reads ∙ ap (λ m. row_cell_wants L.row m) checked)
       (reply.Refused L.refusal) by_effects (ap (λ (q : Stmt). kind_of (Some q)) L.is) step d t L.cell L.seat
     where
       D : Defs
-      D = defs_of (tables_now S0)
+      D = defs_of (tables_now stands_before)
 
       reads : v.reads L.at.at.stands.text ≡ Some (stmt.Change L.row)
       reads = L.at.at.stands.is ∙ ap (λ (q : Stmt). Some q) L.is
 
-      is_found : IsNamed (tables_now S0) (Some L.at.at.stands.stmt) (Some L.named)
-      is_found = got v cells seats S0 j s there i c out L.o L.named L.fresh L.at (row_wants L.named.0 L.row) L.free (λ w h. let u = rows_announced L.named.0 L.row w h in (u.0, u.1, u.2)) (λ w h m. rows_announced L.named.0 L.row w h)
+      is_found : IsNamed (tables_now stands_before) (Some L.at.at.stands.stmt) (Some L.named)
+      is_found = got v cells seats stands_before j s there i c out L.o L.named L.fresh L.at (row_wants L.named.0 L.row) L.free (λ w h. let u = rows_announced L.named.0 L.row w h in (u.0, u.1, u.2)) (λ w h m. rows_announced L.named.0 L.row w h)
 
       finds_it : find_part D (table_of L.row) ≡ Some L.named
       finds_it = by L.row (subst (λ (q : Stmt). name_of q ≡ Some is_found.0) L.is is_found.1)
@@ -328,19 +328,19 @@ module _ (v : Server) (cells : List Cell) (seats : List SeatState) {history : Li
   -- SELECT
   pub reads_rows : (L : ReadsRows v c s d t) → StandsBy v j history L.o.id L.o.opened (done_acts L.o.opened L.at.at.stands.text true (rows_reply (query_rows L.q L.named c.versions))) (set cells i (Rows d)) (set seats j t)
   unfolding effect cell_wants
-  reads_rows L = row_said v cells seats S0 j s there i c out L.o L.named L.fresh L.at (query_wants L.named L.q) L.free
+  reads_rows L = row_said v cells seats stands_before j s there i c out L.o L.named L.fresh L.at (query_wants L.named L.q) L.free
       (query_announced L.named L.q) (λ w h m. absurd (query_shares L.named L.q w h m))
       (ap (λ (q : Option Stmt). (text_wants D L.o.opened q).cell) reads ∙ ap (λ m. query_cell_wants L.q m) checked)
       (rows_reply (query_rows L.q L.named c.versions)) by_effects (ap (λ (q : Stmt). kind_of (Some q)) L.is) step d t L.cell L.seat
     where
       D : Defs
-      D = defs_of (tables_now S0)
+      D = defs_of (tables_now stands_before)
 
       reads : v.reads L.at.at.stands.text ≡ Some (stmt.Select L.q)
       reads = L.at.at.stands.is ∙ ap (λ (q : Stmt). Some q) L.is
 
-      is_found : IsNamed (tables_now S0) (Some L.at.at.stands.stmt) (Some L.named)
-      is_found = got v cells seats S0 j s there i c out L.o L.named L.fresh L.at (query_wants L.named L.q) L.free (query_announced L.named L.q) (λ w h m. absurd (query_shares L.named L.q w h m))
+      is_found : IsNamed (tables_now stands_before) (Some L.at.at.stands.stmt) (Some L.named)
+      is_found = got v cells seats stands_before j s there i c out L.o L.named L.fresh L.at (query_wants L.named L.q) L.free (query_announced L.named L.q) (λ w h m. absurd (query_shares L.named L.q w h m))
 
       finds_it : find_part D L.q.table ≡ Some L.named
       finds_it = let e : Some L.q.table ≡ Some is_found.0 = subst (λ (q : Stmt). name_of q ≡ Some is_found.0) L.is is_found.1 in let z : L.q.table ≡ is_found.0 = cc in ap (find_part D) z ∙ sym is_found.2
@@ -349,13 +349,13 @@ module _ (v : Server) (cells : List Cell) (seats : List SeatState) {history : Li
       checked = sym (same_query D L.q L.named finds_it) ∙ L.passes
 
       no_system : L.named.1 ≡ System → ⊥
-      no_system e = let l : L.named.0.id ≤ 2 = found_is_system D L.q.table L.named finds_it e in let u = user v cells seats S0 j s there i c out L.o L.named L.fresh L.at (query_wants L.named L.q) L.free (query_announced L.named L.q) (λ w h m. absurd (query_shares L.named L.q w h m)) in let h = L.at.here in omega (arith, l, u, h)
+      no_system e = let l : L.named.0.id ≤ 2 = found_is_system D L.q.table L.named finds_it e in let u = user v cells seats stands_before j s there i c out L.o L.named L.fresh L.at (query_wants L.named L.q) L.free (query_announced L.named L.q) (λ w h m. absurd (query_shares L.named L.q w h m)) in let h = L.at.here in omega (arith, l, u, h)
 
       step : (b : Bool) (x : State) → defs_of x.tables ≡ D → AgreeOnAll L.named.0.columns (query_wants L.named L.q) c.versions (versions_of x.tables c.id) → by_statement b L.o.id x (Some L.at.at.stands.stmt) ≡ (x, rows_reply (query_rows L.q L.named c.versions))
       step b x e a = ap (λ (q : Stmt). by_statement b L.o.id x (Some q)) L.is ∙ by b
         where
           rows_there : query_rows L.q L.named (versions_of x.tables L.named.0.id) ≡ query_rows L.q L.named c.versions
-          rows_there = ap (λ (n : ℕ). query_rows L.q L.named (versions_of x.tables n)) L.at.here ∙ sym (rows_by_wants (tables_now S0) (tables_now S0) (sound v cells seats S0 j L.at.at.stands.x L.o (record { seat = s; there = there; role = L.at.at.stands.role; open_one = L.at.at.open_one }) L.at.at.unfixed).ids L.q L.named c.versions (versions_of x.tables c.id) (λ z. absurd (no_system z)) a)
+          rows_there = ap (λ (n : ℕ). query_rows L.q L.named (versions_of x.tables n)) L.at.here ∙ sym (rows_by_wants (tables_now stands_before) (tables_now stands_before) (sound v cells seats stands_before j L.at.at.stands.x L.o (record { seat = s; there = there; role = L.at.at.stands.role; open_one = L.at.at.open_one }) L.at.at.unfixed).ids L.q L.named c.versions (versions_of x.tables c.id) (λ z. absurd (no_system z)) a)
 
           shown_is : (m : Checked (List Row)) → by_effect x (shown x.tables x.seq m) ≡ (x, rows_reply m)
           shown_is (Ok rs) = refl

@@ -256,8 +256,8 @@ module _ (v : Server) (cells : List Cell) (seats : List SeatState) {history : Hi
   rising_before : Rising c.versions
   rising_before = subst Rising rows_were (S.rows_agree.rising c.id one_le)
 
-  R1 : Rising d.versions
-  R1 = subst Rising (sym versions_left) (rising_undone o.id seq c.versions rising_before)
+  rising_after : Rising d.versions
+  rising_after = subst Rising (sym versions_left) (rising_undone o.id seq c.versions rising_before)
 
   still_before : (tx n id : ℕ) (place : Place) → IsCounted tx id place → GoesBackTo place n → AllByRecursion (MadeBefore tx n) (counted tx id place c.versions) → AllByRecursion (MadeBefore tx n) (counted tx id place d.versions)
   still_before tx n id place (all_count same) back h = subst (AllByRecursion (MadeBefore tx n)) (sym (same _)) (subst (AllByRecursion (MadeBefore tx n)) (sym versions_left) (undone_untouched tx o.id seq n c.versions (subst (AllByRecursion (MadeBefore tx n)) (same _) h)))
@@ -289,7 +289,7 @@ module _ (v : Server) (cells : List Cell) (seats : List SeatState) {history : Hi
         (λ (ne : h.tx ≢ o.id). kept_at key (versions_undone h.tx 0) (none_besides key h was ne reach))
         (cases_eq h.tx o.id) ∙ S.rows_agree.undone c.id key one_le h was u reach)
         (λ id l q h has u reach. key_else id key (versions_undone h.tx 0) q ∙ S.rows_agree.undone id key l h (was_held (cell_of id) h has) u reach) id l;
-    rising = by_table (λ id. Rising (versions_at C' id)) (subst Rising (sym rows_are) R1) (λ id l ne. subst Rising (sym (rows_else id ne)) (S.rows_agree.rising id l));
+    rising = by_table (λ id. Rising (versions_at C' id)) (subst Rising (sym rows_are) rising_after) (λ id l ne. subst Rising (sym (rows_else id ne)) (S.rows_agree.rising id l));
     back = each_open seats j (sits s y) x o y o goes (λ n z r. GoesBackTo z.place r.seq) (subst (λ (q : Place). GoesBackTo q o.seq) R.place (S.rows_agree.back j x o has_open)) (λ n z r ne g. S.rows_agree.back n z r g);
     opened = each_open seats j (sits s y) x o y o goes (λ n z r. IsOpenedAt z.place r.opened) is_opened (λ n z r ne g. S.rows_agree.opened n z r g);
     before = each_open seats j (sits s y) x o y o goes
@@ -339,9 +339,9 @@ module _ (v : Server) (cells : List Cell) (seats : List SeatState) {history : Hi
         turned seq key (inr h) = inr (subst (AllByRecursion (MadeBefore r.id 0)) (undone_of_key columns key r.id seq d.versions) h.0, subst (AllByRecursion (MadeBefore r.id 0)) (undone_of_key columns key r.id seq c.versions) h.1)
 
         by : IsCounted r.id c.id z.place → touched r.id (counted r.id c.id z.place d.versions) ≡ touched r.id (counted r.id c.id z.place c.versions)
-        by (all_count same) = ap (touched r.id) (same d.versions) ∙ touched_agree r.id columns d.versions c.versions R1 rising_before (λ key. their_keys (λ vs. vs) (λ vs h. h) key) ∙ ap (touched r.id) (sym (same c.versions))
+        by (all_count same) = ap (touched r.id) (same d.versions) ∙ touched_agree r.id columns d.versions c.versions rising_after rising_before (λ key. their_keys (λ vs. vs) (λ vs h. h) key) ∙ ap (touched r.id) (sym (same c.versions))
         by (some_undone k to same) = ap (touched r.id) (same d.versions)
-            ∙ touched_agree r.id columns (versions_undone r.id k d.versions) (versions_undone r.id k c.versions) (rising_undone r.id k d.versions R1) (rising_undone r.id k c.versions rising_before)
+            ∙ touched_agree r.id columns (versions_undone r.id k d.versions) (versions_undone r.id k c.versions) (rising_undone r.id k d.versions rising_after) (rising_undone r.id k c.versions rising_before)
             (λ key. turned k key (their_keys (versions_undone r.id k) (undone_untouched r.id r.id k 0) key))
             ∙ ap (touched r.id) (sym (same c.versions))
 
