@@ -10,7 +10,7 @@ use Rattle.lg_value.specs.declared.column.ColumnDef.{ColumnDef}
 use Rattle.lg_types.specs.declared.version.Version.{Version}
 use Rattle.lg_model.specs.Lists.{sorted}
 use Rattle.lg_model.specs.Rows.{live}
-use Rattle.lg_model.specs.Keys.{Key, key_cmp, key_places, same_key, version_key, of_key, standing}
+use Rattle.lg_model.specs.Keys.{Key, key_cmp, key_places, same_key, version_key, of_key, part_read, standing}
 use Rattle.lg_model.specs.Runs.{Rising}
 use Rattle.lg_parts.proofs.Orders.{key_total}
 use Rattle.lg_frames.proofs.Alls.{all_filter, all_sorted}
@@ -49,7 +49,7 @@ module _ (columns : List ColumnDef) (vs : List Version) (r : Rising vs) where
 
 -- ---- found by their starts
 
-starts_found : (vs us : List Version) → AllByRecursion (λ w. version_at w.start vs ≡ Some w) us → filter_map (λ s. version_at s vs) (starts_of us) ≡ us
+pub starts_found : (vs us : List Version) → AllByRecursion (λ w. version_at w.start vs ≡ Some w) us → filter_map (λ s. version_at s vs) (starts_of us) ≡ us
 starts_found vs [] h = refl
 starts_found vs (u ∷ us) h = rw h.0 (ap (λ l. u ∷ l) (starts_found vs us h.1))
 
@@ -59,16 +59,28 @@ found_in_order ordinals key vs r =
     (all_sorted (λ w. version_at w.start vs ≡ Some w) (order_cmp ordinals key) (live vs)
     (all_filter (λ w. version_at w.start vs ≡ Some w) (λ w. is_none w.end) vs (find_own vs r)))
 
+-- the versions that stand, of a key or all, are found by their starts
+pub standing_found : (columns : List ColumnDef) (key : Option Key) (vs : List Version) → Rising vs
+    → filter_map (λ s. version_at s vs) (starts_of (standing columns key vs)) ≡ standing columns key vs
+unfolding standing
+standing_found columns key vs r =
+    starts_found vs _ (all_sorted (λ w. version_at w.start vs ≡ Some w) (λ v w. key_cmp (version_key columns v) (version_key columns w)) (live (part_read columns key vs))
+    (all_filter (λ w. version_at w.start vs ≡ Some w) (λ w. is_none w.end) (part_read columns key vs) (part key)))
+  where
+    part : (o : Option Key) → AllByRecursion (λ w. version_at w.start vs ≡ Some w) (part_read columns o vs)
+    part None = find_own vs r
+    part (Some k) = all_filter (λ w. version_at w.start vs ≡ Some w) (λ v. same_key (version_key columns v) k) vs (find_own vs r)
+
 -- ---- a key's part of a list in which what is below it comes first, and then what is up to it
+
+-- what passes stands in front of what doesn't
+abbrev pub Front : {A : Type 0} → (A → Bool) → List A → Type 0
+Front p [] = Unit {0}
+Front p (x ∷ xs) = (p x ≡ false → AllByRecursion (λ y. p y ≡ false) xs) × Front p xs
 
 module _ {A : Type 0} (below up : A → Bool) (both : (x : A) → below x ≡ true → up x ≡ true) where
   abbrev has : A → Bool
   has x = not (below x) && up x
-
-  -- what passes stands in front of what doesn't
-  abbrev pub Front : (A → Bool) → List A → Type 0
-  Front p [] = Unit {0}
-  Front p (x ∷ xs) = (p x ≡ false → AllByRecursion (λ y. p y ≡ false) xs) × Front p xs
 
   none_pass : (xs : List A) → AllByRecursion (λ y. up y ≡ false) xs → filter has xs ≡ []
   none_pass [] h = refl

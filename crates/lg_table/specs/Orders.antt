@@ -3,7 +3,7 @@
 use Rattle.std.specs.Prelude.{ℕ, ◌-◌, Bool, false, List, map, Option, Some, None}
 use Rattle.std.specs.List.{find, prefix_len}
 use Rattle.std.specs.declared.cmp.Ordering.{Ordering}
-use Rattle.std.specs.Ordering.{is_lt, ordering_then}
+use Rattle.std.specs.Ordering.{is_eq, is_le, is_lt, ordering_then}
 use Rattle.lg_types.specs.declared.version.Version.{Version}
 use Rattle.lg_model.specs.Lists.{sorted}
 use Rattle.lg_model.specs.Rows.{Row, EventId, same_event, start_cmp, values_of, live}
@@ -52,3 +52,20 @@ comes_before ordinals key v w = is_lt (order_cmp ordinals key w v)
 -- how many come before the version
 abbrev pub place_of : List ℕ → List ℕ → Version → List Version → ℕ
 place_of ordinals key v versions = prefix_len (comes_before ordinals key v) (in_order ordinals key versions)
+
+-- ---- the versions of a key
+
+-- the version's key comes before this one
+abbrev pub is_below : List ℕ → Key → Version → Bool
+is_below places key v = is_lt (key_cmp (key_values places v) key)
+
+-- it doesn't come behind this one
+abbrev pub is_up_to : List ℕ → Key → Version → Bool
+is_up_to places key v = is_le (key_cmp (key_values places v) key)
+
+abbrev pub is_of_key : List ℕ → Key → Version → Bool
+is_of_key places key v = is_eq (key_cmp (key_values places v) key)
+
+-- the version's row in the index with these ordinals comes before that of another
+abbrev pub has_row_below : List ℕ → List ℕ → Version → Version → Bool
+has_row_below ordinals key v w = is_lt (row_cmp ordinals key w v)

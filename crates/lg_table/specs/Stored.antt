@@ -1,24 +1,15 @@
 -- What contracts see of a table's versions with their key order and indexes.
-use Rattle.std.specs.Prelude.{ℕ, ◌++◌, ◌-◌, List, [], ◌∷◌, length, map, None}
+use Rattle.std.specs.Prelude.{ℕ, ◌++◌, List, [], ◌∷◌, length, map, None}
 use Rattle.std.specs.List.{filter}
 use Rattle.std.specs.Ordering.{is_lt}
 use Rattle.lg_value.specs.declared.column.ColumnDef.{ColumnDef}
 use Rattle.lg_types.specs.declared.version.Version.{Version}
-use Rattle.lg_model.specs.Lists.{sorted}
-use Rattle.lg_model.specs.Rows.{Row, EventId, values_of, live}
-use Rattle.lg_model.specs.Keys.{key_cmp, value_at, version_key, standing}
-
-abbrev pub projected : List ColumnDef → List ℕ → Version → Row
-projected columns ordinals v = map (λ n. value_at (values_of v) (n - 1)) ordinals ++ version_key columns v
-
-abbrev pub index_order : List ColumnDef → List ℕ → List Version → List EventId
-index_order columns ordinals versions =
-    map (λ v. v.start) (sorted (λ v w. key_cmp (projected columns ordinals v) (projected columns ordinals w))
-    (live versions))
-
-pub record Index : Type 0 where
-  pub ordinals : List ℕ
-  pub order : List EventId
+use Rattle.lg_model.specs.Rows.{EventId, live}
+use Rattle.lg_model.specs.Keys.{key_cmp, standing}
+pub use Rattle.lg_standing.specs.Cells.{Index}
+pub use Rattle.lg_standing.specs.TablesAreSerial.{projected, index_order}
+pub use Rattle.lg_standing.specs.TableVisits.{reordered}
+pub use Rattle.lg_standing.specs.UndoVisits.{without_last}
 
 pub record Stored : Type 0 where
   pub columns : List ColumnDef
@@ -26,12 +17,6 @@ pub record Stored : Type 0 where
   -- the starts of the versions that stand, in key order
   pub order : List EventId
   pub indexes : List Index
-
-abbrev pub reordered : List ColumnDef → List Version → Index → Index
-reordered columns versions index = record {
-  ordinals = index.ordinals;
-  order = index_order columns index.ordinals versions;
-}
 
 -- key order and indexes follow the versions, which are of these columns
 abbrev pub with_versions : List ColumnDef → List Version → Stored → Stored
@@ -56,11 +41,6 @@ with_index ordinals s = record {
   indexes = s.indexes
       ++ record { ordinals = ordinals; order = index_order s.columns ordinals s.versions } ∷ [];
 }
-
-abbrev pub without_last : List Index → List Index
-without_last [] = []
-without_last (x ∷ []) = []
-without_last (x ∷ y ∷ ys) = x ∷ without_last (y ∷ ys)
 
 abbrev pub without_last_index : Stored → Stored
 without_last_index s = record {

@@ -1,31 +1,13 @@
 //! How versions compare in the order of an index.
 
-ghost use Rattle.std.specs.Prelude.{◌≡◌, unwrap_or};
-ghost use Rattle.std.specs.Option.{option_copied};
-ghost use Rattle.lg_value.specs.declared.value.Value.TheVariants.{Null};
-ghost use Rattle.lg_value.specs.Order.{value_cmp};
+ghost use Rattle.std.specs.Prelude.{◌≡◌};
 ghost use Rattle.lg_model.specs.Keys.{key_cmp};
 ghost use Rattle.lg_model.specs.Rows.{event_cmp};
-ghost use Rattle.lg_table.specs.Orders.{column_values, comes_before, key_values, row_cmp};
+ghost use Rattle.lg_table.specs.Orders.{column_values, comes_before, has_row_below, key_values, row_cmp};
 
-use lg_parts::Valued;
-use lg_types::{EventId, Version};
-use lg_value::{Value, compare};
+use lg_parts::{Valued, compare_at, compare_values};
+use lg_types::Version;
 use std::cmp::Ordering;
-
-/// The order of the values of two versions at a place. A place that a version hasn't is NULL.
-#[tactic(auto, unfolding(lg_value::specs::Order::value_cmp))]
-fn compare_values(a: Option<&Value>, b: Option<&Value>) -> Ordering
-    ensures { result ≡ value_cmp (unwrap_or (option_copied a.entry) Null)
-        (unwrap_or (option_copied b.entry) Null) }
-{
-    match (a, b) {
-        (Some(a), Some(b)) => compare(a, b),
-        (Some(a), None) => compare(a, &Value::Null),
-        (None, Some(b)) => compare(&Value::Null, b),
-        (None, None) => Ordering::Equal,
-    }
-}
 
 /// The order of two versions by the columns with these ordinals.
 #[tactic(auto, unfolding(lg_model::specs::Keys::key_cmp))]
@@ -43,17 +25,11 @@ fn compare_columns(ordinals: &[u16], a: &Version, b: &Version) -> Ordering
 }
 
 /// The order of two versions by the key whose columns stand at these places.
-#[tactic(auto, unfolding(lg_model::specs::Keys::key_cmp))]
+#[tactic(auto, unfolding(lg_parts::specs::Places::key_at))]
 fn compare_keys(key: &[usize], a: &Version, b: &Version) -> Ordering
     ensures { result ≡ key_cmp (key_values key.now a.now) (key_values key.now b.now) }
 {
-    for place in key {
-        let order = compare_values(a.value_at(*place), b.value_at(*place));
-        if order != Ordering::Equal {
-            return order;
-        }
-    }
-    Ordering::Equal
+    compare_at(key, a, b)
 }
 
 /// The order of the rows of an index: by its columns, and then by key.
@@ -83,25 +59,9 @@ pub fn comes_before(ordinals: &[u16], key: &[usize], a: &Version, b: &Version) -
     }
 }
 
-/// The order of the key of a version and a key.
-#[tactic(auto, unfolding(lg_model::specs::Keys::key_cmp))]
-pub fn compare_to_key(places: &[usize], version: &Version, key: &[Value]) -> Ordering
-    ensures { result ≡ key_cmp (key_values places.now version.now) key.now }
+/// Whether the row of `a` comes before that of `b` in an index.
+pub fn has_row_below(ordinals: &[u16], key: &[usize], a: &Version, b: &Version) -> bool
+    ensures { result ≡ has_row_below ordinals.now key.now b.now a.now }
 {
-    match places {
-        [] => {
-            if key.is_empty() {
-                Ordering::Equal
-            } else {
-                Ordering::Less
-            }
-        }
-        [place, places @ ..] => match key {
-            [] => Ordering::Greater,
-            [value, key @ ..] => match compare_values(version.value_at(*place), Some(value)) {
-                Ordering::Equal => compare_to_key(places, version, key),
-                order => order,
-            },
-        },
-    }
+    compare_rows(ordinals, key, a, b).is_lt()
 }

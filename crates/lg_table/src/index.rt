@@ -1,12 +1,13 @@
 //! An index: its columns, and its order.
 
 ghost use Rattle.std.specs.Prelude.{◌≡◌, ◌<◌, ◌+◌, ℕ, None, OnOk, length, map};
-ghost use Rattle.std.specs.List.{AllByRecursion, HoldsAt, remove};
+ghost use Rattle.std.specs.List.{AllByRecursion, HoldsAt, prefix_len, remove};
 ghost use Rattle.lg_model.specs.Rows.{live};
 ghost use Rattle.lg_model.specs.Runs.{Rising};
 ghost use Rattle.lg_table.specs.Kept.{HasRoom, IsOf, IsWith, index_seen};
+ghost use Rattle.lg_table.specs.Orders.{has_row_below, in_order};
 
-use crate::searching::place_in_order;
+use crate::searching::{place_in_order, start_has_row_below};
 use lg_items::{Items, Memory};
 use lg_types::{EventId, Version};
 
@@ -122,4 +123,17 @@ pub fn reserve_indexes(indexes: &mut Vec<Index>, count: usize) -> Result<(), Mem
         reserve_index(index, count)?;
     }
     Ok(())
+}
+
+/// How many rows of the index come before that of this version.
+pub fn rows_below(index: &Index, key: &[usize], versions: &[Version], version: &Version) -> usize
+    requires rising { Rising versions.now }
+    requires order { IsOf key.now versions.now index.now }
+    ensures { result ≡ prefix_len (has_row_below index.now.ordinals key.now version.now)
+        (in_order index.now.ordinals key.now versions.now) }
+{
+    let ordinals = index.ordinals.as_slice();
+    index.order.partition_point(|start| start_has_row_below(
+        ordinals, key, versions, *start, version,
+    ))
 }

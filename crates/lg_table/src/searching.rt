@@ -9,7 +9,7 @@ ghost use Rattle.lg_versions.specs.Places.{place, starts_before};
 ghost use Rattle.lg_table.specs.Orders as spec;
 ghost use Rattle.lg_table.specs.Orders.{in_order, passes, starts_of};
 
-use crate::comparing::comes_before;
+use crate::comparing::{comes_before, has_row_below};
 use lg_items::TxId;
 use lg_types::{EventId, Version};
 
@@ -55,6 +55,24 @@ fn start_comes_before(
 {
     match version_at(versions, start) {
         Some(other) => comes_before(ordinals, key, other, version),
+        None => false,
+    }
+}
+
+/// Whether the row of the version of this start comes before that of another one in an index.
+pub fn start_has_row_below(
+    ordinals: &[u16],
+    key: &[usize],
+    versions: &[Version],
+    start: EventId,
+    version: &Version,
+) -> bool
+    requires { Rising versions.now }
+    ensures { result ≡ passes (spec.has_row_below ordinals.now key.now version.now)
+        (spec.version_at start versions.now) }
+{
+    match version_at(versions, start) {
+        Some(other) => has_row_below(ordinals, key, other, version),
         None => false,
     }
 }

@@ -1,28 +1,35 @@
 //! The versions of a table, with their key order and their indexes.
 
-ghost use Rattle.std.specs.Prelude.{◌≡◌, ◌≤◌, ◌<◌, ◌+◌, ◌⊎◌, [], None, Some, IfOk, OnOk, OnErr, IfSome, IfNone, length, map};
-ghost use Rattle.std.specs.Prelude.{get_or, slice_set};
+ghost use Rattle.std.specs.Prelude.{◌≡◌, ◌≤◌, ◌<◌, ◌+◌, ◌^◌, ◌⊎◌, [], List, None, Some, IfOk, OnOk, OnErr, IfSome, IfNone, length, map};
+ghost use Rattle.std.specs.Prelude.{get_or, slice_get, slice_set};
 ghost use Rattle.std.specs.List.{AllByRecursion, HoldsAt, remove};
 ghost use Rattle.std.specs.Option.{option_copied};
 ghost use Rattle.lg_types.specs.declared.version.Version.{Version as SpecVersion};
+ghost use Rattle.lg_value.specs.declared.column.ColumnDef.{ColumnDef as SpecColumn};
+ghost use Rattle.lg_model.specs.Changes.{changed, changed_all};
+ghost use Rattle.lg_model.specs.Limits.{max_columns};
+ghost use Rattle.lg_row.specs.Leaf.{event_bytes};
+ghost use Rattle.lg_table.specs.Made.{IsMade, events_made};
 ghost use Rattle.lg_model.specs.Keys as keys;
 ghost use Rattle.lg_model.specs.Rows.{EventId as SpecEventId, ended, started, with_end};
-ghost use Rattle.lg_model.specs.Runs.{MadeBefore};
+ghost use Rattle.lg_model.specs.Runs.{MadeBefore, Rising};
 ghost use Rattle.lg_model.specs.Undo.{versions_undone};
 ghost use Rattle.lg_table.specs.Orders as orders;
-ghost use Rattle.lg_table.specs.Stored.{with_index, with_versions, without_last_index};
+ghost use Rattle.lg_table.specs.Stored.{Index as SpecIndex, rows_below, with_index, with_versions, without_last_index};
 ghost use Rattle.lg_table.specs.Undoing.{EndsUndone, NoEndUndone, NoStartUndone, StartsUndone, without_end};
 
 use crate::building::new_index;
+use crate::by_key::{some_has_key, starts_of_key};
 use crate::columns::copy_columns;
 use crate::ending::{Ending, add_ending, last_ending};
-use crate::index::Index;
+use crate::index::{Index, rows_below};
+use crate::leaves::leaves_of;
 use crate::orders::{Orders, add_standing, reserve_orders, take_version};
 use crate::reading::versions_of;
 use crate::searching::{last_start, place_of_start, version_at};
-use lg_items::{Items, Memory, TxId};
+use lg_items::{Blob, Items, Memory, TableId, TxId};
 use lg_parts::key_places;
-use lg_types::{EventId, Typed, Version};
+use lg_types::{Change, EventId, Key, Row, Typed, Version};
 use lg_value::ColumnDef;
 use std::alloc::Global;
 use std::marker::Model;
@@ -232,6 +239,13 @@ impl VersionStore {
         let _ = &self.columns;
     }
 
+    /// The versions rise by their starts.
+    pub fn versions_rise(&self)
+        ensures { Rising self.now.stored.versions }
+    {
+        let _ = &self.versions;
+    }
+
     // Where the version stands whose end is the last one that the transaction made, where that is undone.
     fn last_ended(&self, tx: TxId, seq: u64) -> Option<usize>
         ensures some { IfSome result (EndsUndone tx seq self.now.stored.versions) }
@@ -317,12 +331,102 @@ impl VersionStore {
         version_at(&self.versions, start)
     }
 
-    /// The versions that stand, in key order. Each is found by halving, and none is copied.
-    pub fn in_key_order(&self, alloc: Global) -> Result<Vec<&Version>, Memory>
-        ensures { IfOk result (λ found. map (λ v. v.now) found.items
-            ≡ keys.standing self.now.stored.columns None self.now.stored.versions) }
+    /// Carries out the changes, one after another, as the events of the transaction that have the numbers from
+    /// `seq` on, in the room that is reserved. Takes no memory.
+    #[tactic(auto, using(crate::proofs::Carrying::carrying_first, crate::proofs::Carrying::carrying_one, crate::proofs::Carrying::carried, crate::proofs::Carrying::some_room, crate::proofs::Carrying::some_number))]
+    pub fn carry_out(&mut self, tx: TxId, seq: u64, changes: Items<Change>)
+        requires room { length changes ≤ self.old.room }
+        requires numbers { seq + length changes < 2 ^ 64 }
+        requires before { AllByRecursion (MadeBefore tx seq) self.old.stored.versions }
+        ensures { self.new.stored ≡ with_versions self.old.stored.columns
+            (changed_all tx seq changes self.old.stored.versions) self.old.stored }
     {
-        let found = versions_of(alloc, &self.versions, &self.orders.key_order.order)?;
+        self.orders_follow();
+        let mut number = seq;
+        for change in changes.into_vec() {
+            self.carry_out_one((tx, number), change);
+            number += 1;
+        }
+    }
+
+    fn carry_out_one(&mut self, at: EventId, change: Change)
+        requires room { 1 ≤ self.old.room }
+        requires before { AllByRecursion (MadeBefore at.0 at.1) self.old.stored.versions }
+        ensures stored { self.new.stored ≡ with_versions self.old.stored.columns
+            (changed at change self.old.stored.versions) self.old.stored }
+        ensures room { self.old.room ≤ self.new.room + 1 }
+    {
+        match change {
+            Change::Starts(values) => self.start(at, values),
+            Change::Ends(start) => self.end(at, start),
+        }
+    }
+
+    /// The leaves of the changes, one after another, as the events of the transaction that have the numbers
+    /// from `seq` on.
+    pub fn leaves_of(
+        &self,
+        alloc: Global,
+        table: TableId,
+        tx: TxId,
+        seq: u64,
+        changes: &[Change],
+    ) -> Result<Vec<Blob>, Memory>
+        requires made { (columns : List SpecColumn) × (length columns ≤ max_columns)
+            × AllByRecursion (IsMade columns self.now.stored.versions) changes.now }
+        requires room { seq + length changes.now < 2 ^ 64 }
+        ensures { IfOk result (λ leaves. leaves.items
+            ≡ map event_bytes (events_made table tx seq changes.now self.now.stored.versions)) }
+    {
+        leaves_of(alloc, table, tx, seq, changes, &self.versions)
+    }
+
+    /// Whether a version with the key of the row stands, by halving.
+    pub fn has_key_of_row(&self, row: &Row) -> bool
+        ensures { result ≡ keys.stands self.now.stored.columns (keys.key_of self.now.stored.columns row.now)
+            self.now.stored.versions }
+    {
+        some_has_key(&self.key, &self.versions, &self.orders.key_order.order, row)
+    }
+
+    /// The versions that stand, in key order: those of one key, or all. The place of the key and each version
+    /// are found by halving, and none is copied.
+    pub fn standing(&self, alloc: Global, key: &Option<Key>) -> Result<Vec<&Version>, Memory>
+        ensures { IfOk result (λ found. map (λ v. v.now) found.items
+            ≡ keys.standing self.now.stored.columns key.now self.now.stored.versions) }
+    {
+        let starts = self.starts_standing(key);
+        let found = versions_of(alloc, &self.versions, starts)?;
         Ok(found)
+    }
+
+    // The starts of those versions.
+    fn starts_standing(&self, key: &Option<Key>) -> &[EventId]
+        ensures { result.now ≡ orders.starts_of
+            (keys.standing self.now.stored.columns key.now self.now.stored.versions) }
+    {
+        let order = &self.orders.key_order.order;
+        match key {
+            None => order,
+            Some(key) => starts_of_key(&self.key, &self.versions, order, key.as_slice()),
+        }
+    }
+
+    /// How many rows the index with this number, from 0, has below that of the version which this event
+    /// started. By halving, and takes no memory.
+    pub fn index_place(&self, index: usize, start: EventId) -> usize
+        requires index { index < length self.now.stored.indexes }
+        requires version { (v : SpecVersion) × (orders.version_at start self.now.stored.versions ≡ Some v) }
+        ensures { (i : SpecIndex) (v : SpecVersion) → slice_get self.now.stored.indexes index ≡ Some i
+            → orders.version_at start self.now.stored.versions ≡ Some v
+            → result ≡ rows_below self.now.stored.columns i.ordinals v self.now.stored.versions }
+    {
+        let version = version_at(&self.versions, start).unwrap();
+        rows_below(
+            &self.orders.indexes[index],
+            &self.key,
+            &self.versions,
+            version,
+        )
     }
 }

@@ -1,0 +1,27 @@
+use Rattle.std.proofs.Common.{ap, ap₂, sym, subst, ◌≡◌, ◌∙◌, List, [], ℕ}
+use Rattle.std.specs.List.{list_any}
+use Rattle.lg_types.specs.declared.version.Version.{Version}
+use Rattle.lg_model.specs.Keys.{key_of, stands}
+use Rattle.lg_parts.specs.Places.{key_at}
+use Rattle.lg_table.specs.Orders.{in_order, is_of_key, starts_of}
+use Rattle.lg_table.specs.Stored.{Roomy}
+use Rattle.lg_table.proofs.OfKey.{stands_is}
+use Rattle.lg_table.proofs.version_store.VersionStore.has_key_of_row.Goals as goal
+
+pub some_has_key-requires-clause-order : goal.some_has_key-requires-clause-order
+some_has_key-requires-clause-order c =
+    let s = c.self.inside in
+    let kept = c.self.invariant.0 in
+    c.deref-3.ensures.value ∙ kept.are.stand.in_key_order
+    ∙ ap (λ (ns : List ℕ). starts_of (in_order ns s.key.items s.versions.items)) kept.are.stand.no_ordinals
+    ∙ ap₂ (λ (k : List ℕ) (l : List Version). starts_of (in_order [] k l)) (sym c.deref.ensures.value) (sym c.deref-2.ensures.value)
+
+pub returns : goal.returns
+returns c =
+    let s = c.self.inside in
+    let kept = c.self.invariant.0 in
+    let row = c.args.row.now in
+    c.some_has_key.ensures
+    ∙ ap₂ (λ (k : List ℕ) (l : List Version). list_any (is_of_key k (key_at k row)) (in_order [] k l)) (c.deref.ensures.value ∙ kept.key_is) c.deref-2.ensures.value
+    ∙ sym (stands_is s.columns row s.versions.items)
+    ∙ ap (λ (t : Roomy). stands t.stored.columns (key_of t.stored.columns row) t.stored.versions) c.self.view_is
