@@ -1,5 +1,5 @@
 -- What a transaction that asks for locks gets of the catalog.
-use Rattle.std.proofs.Common.{◌≡◌, ◌≢◌, ℕ, refl, sym, ap, subst, ◌∙◌, Bool, List, Option, Some, None, Ok, Err, not}
+use Rattle.std.proofs.Common.{◌≡◌, ◌≢◌, ℕ, refl, ap, subst, ◌∙◌, Bool, List, Option, Some, None, Ok, Err, not}
 use Rattle.std.specs.Prelude.{Result, IfOk, IfErr, OnOk}
 use Rattle.lg_types.specs.declared.lock.Hold.{Hold}
 use Rattle.lg_types.specs.declared.lock.Want.{Want}

@@ -1,11 +1,10 @@
 -- Locks leave the rest of the cell.
-use Rattle.std.proofs.Common.{◌≡◌, ℕ, refl, sym, ap, subst, ◌∙◌, Bool, true, false, List, ◌∷◌, [], Option, Some, None, Ok}
+use Rattle.std.proofs.Common.{◌≡◌, ℕ, refl, Bool, true, false, List, Option, Some, None}
 use Rattle.std.specs.Prelude.{◌==◌, if◌then◌else◌}
 use Rattle.lg_value.specs.declared.refusal.Refusal.{Refusal}
 use Rattle.lg_types.specs.declared.lock.Hold.{Hold}
 use Rattle.lg_types.specs.declared.statement.Stmt.{Stmt}
 use Rattle.lg_types.specs.declared.statement.Stmt.TheVariants as s
-use Rattle.lg_model.specs.Catalog.{Defs}
 use Rattle.lg_standing.specs.CatalogVisits.{with_holds, CreateRefused}
 use Rattle.lg_standing.specs.Cells.{Creator, CatalogCell}
 use Rattle.lg_standing.specs.UndoVisits.{creator_left}

@@ -1,5 +1,5 @@
 -- What each call of the catalog's cell makes of the cell and of the transaction's context.
-use Rattle.std.specs.Prelude.{ℕ, ◌≡◌, ◌+◌, ◌==◌, not, Bool, false, List, length, Ok, Option, None, Some}
+use Rattle.std.specs.Prelude.{ℕ, ◌≡◌, ◌+◌, not, Bool, List, length, Ok, None}
 use Rattle.std.specs.List.{AllByRecursion}
 use Rattle.lg_types.specs.declared.lock.Want.{Want}
 use Rattle.lg_types.specs.declared.statement.CreateIndex.{CreateIndex}
@@ -13,7 +13,7 @@ use Rattle.lg_model.specs.Runs.{MadeBefore}
 use Rattle.lg_model.specs.SystemTables.{columns_id}
 use Rattle.lg_model.specs.Undo.{versions_undone}
 use Rattle.lg_standing.specs.CatalogVisits.{with_holds, with_table, with_new_index, with_system_leaves}
-use Rattle.lg_standing.specs.Cells.{Creator, CatalogCell}
+use Rattle.lg_standing.specs.Cells.{CatalogCell}
 use Rattle.lg_standing.specs.Doing.{grown, events_from}
 use Rattle.lg_standing.specs.Moves.{noting}
 use Rattle.lg_standing.specs.Seats.{OpenTransaction}
@@ -24,7 +24,8 @@ use Rattle.lg_tx.specs.declared.context.TxCtx.{TxCtx}
 -- ---- locks
 
 -- nothing is in the way, and the transaction has what it wants; true where it had no lock here before
-pub record LocksTaken (c : CatalogCell) (tx : ℕ) (wants : List Want) (answer : Bool) (d : CatalogCell) : Type 0 where
+pub record LocksTaken (c : CatalogCell) (tx : ℕ) (wants : List Want) (answer : Bool)
+    (d : CatalogCell) : Type 0 where
   pub free : first_conflict c.holds tx wants ≡ None
   pub fresh : answer ≡ not (holds_any c.holds tx)
   pub cell : d ≡ with_holds (holds_after c.holds tx wants) c
@@ -73,11 +74,6 @@ pub record IndexMade {H : Type 0} (digest : H → List ℕ → List ℕ) (c : Ca
       → HasIndex digest h c def index o d after
 
 -- ---- undoing and releasing
-
--- the transaction changed the definitions, and hasn't released the catalog
-abbrev pub is_creator : ℕ → Option Creator → Bool
-is_creator tx None = false
-is_creator tx (Some k) = k.tx == tx
 
 -- what the transaction changed of definitions and rows is as it was before
 abbrev pub undone : ℕ → CatalogCell → CatalogCell

@@ -1,6 +1,6 @@
 //! The catalog's cell.
 
-ghost use Rattle.std.specs.Prelude.{◌≡◌, ◌≢◌, Err, IfErr, IfOk, Ok, OnErr, OnOk, Some, option_map};
+ghost use Rattle.std.specs.Prelude.{◌≡◌, ◌≢◌, ◌<◌, Err, IfErr, IfOk, Ok, OnErr, OnOk, Some, length, option_map, vec_capacity};
 ghost use Rattle.lg_types.specs.declared.reply.Reply.TheVariants as reply;
 ghost use Rattle.lg_types.specs.declared.table.Part.TheVariants.{System};
 ghost use Rattle.lg_types.specs.declared.table.TableDef.{TableDef};
@@ -19,50 +19,75 @@ ghost use Rattle.lg_standing.specs.Seats.{OpenTransaction};
 ghost use Rattle.lg_tx.specs.Represents.{Represents};
 ghost use Rattle.lg_catalog.specs.Calls.{left, undone, IndexMade, LocksTaken, MayCreate, TableMade};
 
+use crate::creating::{COLUMNS, NewIndex, NewTable, TABLES, plan_index, plan_table};
+use crate::definitions::{Creator, Replaced, keep_change, undo_change};
 use crate::finding::find;
 use crate::locks::or_refusal;
+use crate::noting::{note_all, note_both, open_both};
 use crate::reading::show;
-use crate::undoing::undo_versions;
+use crate::rows::carry_out;
 use lg_items::{Items, Memory, Name, TableId, TxId};
 use lg_locks::{LockList, Want};
 use lg_merkle::Hash32;
 use lg_system::first_tables;
+use lg_table::VersionStore;
 use lg_tx::TxCtx;
 use lg_types::{CreateIndex, CreateTable, Part, Row, Select, TableDef, Version};
 use lg_value::Refusal;
 use std::alloc::Global;
 use std::marker::Model;
+use std::mem;
 
-/// The id of the system's table of tables.
-const TABLES: TableId = 1;
-
-/// The definitions of all tables with who changed them, the versions of the two tables of the system, and the locks of
-/// the catalog. Contracts see the cell of which the laws on visits speak.
+/// The definitions of all tables with who changed them, the versions of the two tables of the system, and the
+/// locks of the catalog. Contracts see the cell of which the laws on visits speak.
 #[derive(Drop)]
 pub struct CatalogCell {
     defs: Vec<TableDef>,
-    tables: Vec<Version>,
-    columns: Vec<Version>,
+    creator: Option<Creator>,
+    tables: VersionStore,
+    columns: VersionStore,
     locks: LockList,
 }
 
 impl Model for CatalogCell {
-    ghost use Rattle.std.specs.Prelude.{None};
     ghost use Rattle.lg_standing.specs.Cells.{CatalogCell};
+    ghost use Rattle.lg_catalog.specs.Definitions.{creator_seen, AreFormed, MayTakeBack};
 
     ghost Value = { CatalogCell };
 
     ghost view = { λ c. record {
       defs = c.defs.items;
-      creator = None;
-      tables = c.tables.items;
-      columns = c.columns.items;
+      creator = creator_seen c.defs.items c.creator;
+      tables = c.tables.stored.versions;
+      columns = c.columns.stored.versions;
       holds = c.locks;
     } };
+
+    ghost invariant = { λ c. AreFormed c.defs.items × MayTakeBack c.defs.items c.creator };
+}
+
+// Makes room for a definition, for a row in the table of tables, and for so many in that of columns.
+fn reserve(
+    defs: &mut Vec<TableDef>,
+    tables: &mut VersionStore,
+    columns: &mut VersionStore,
+    count: usize,
+) -> Result<(), Memory>
+    ensures defs { defs.new.items ≡ defs.old.items }
+    ensures tables { tables.new.stored ≡ tables.old.stored }
+    ensures columns { columns.new.stored ≡ columns.old.stored }
+    ensures for_def { OnOk result (length defs.new.items < vec_capacity defs.new) }
+    ensures for_row { OnOk result (tables.new.room ≡ 1) }
+    ensures for_rows { OnOk result (columns.new.room ≡ count) }
+{
+    defs.reserve(1)?;
+    tables.reserve(1)?;
+    columns.reserve(count)
 }
 
 impl CatalogCell {
-    /// The cell of a database without transactions: the definitions of the system tables, without rows and locks.
+    /// The cell of a database without transactions: the definitions of the system tables, without rows and
+    /// locks.
     #[tactic(auto, unfolding(lg_model::specs::SystemTables::first_tables))]
     pub fn new(alloc: Global) -> Result<CatalogCell, Memory>
         ensures { IfOk result (λ c. c ≡ first_catalog) }
@@ -72,14 +97,16 @@ impl CatalogCell {
         let tables = system.pop().unwrap();
         Ok(CatalogCell {
             defs: Vec::from_array(alloc, [tables.def, columns.def])?,
-            tables: Vec::new(alloc),
-            columns: Vec::new(alloc),
+            creator: None,
+            tables: VersionStore::new(alloc),
+            columns: VersionStore::new(alloc),
             locks: LockList::new(alloc),
         })
     }
 
-    /// Takes all that the transaction wants, or nothing, and answers whether it had no lock here before. Where another
-    /// transaction's lock is in the way of a want, `Locked` names the least holder for the first such want.
+    /// Takes all that the transaction wants, or nothing, and answers whether it had no lock here before.
+    /// Where another transaction's lock is in the way of a want, `Locked` names the least holder for the
+    /// first such want.
     pub fn lock(&mut self, tx: TxId, wants: &[Want]) -> Result<bool, Refusal>
         ensures ok { IfOk result (λ fresh. LocksTaken self.old tx wants.now fresh self.new) }
         ensures stopped { IfErr result (λ e. Stopped self.old.holds tx wants.now (reply.Refused e)) }
@@ -95,7 +122,8 @@ impl CatalogCell {
         find(&self.defs, name)
     }
 
-    /// The rows that a SELECT on a system table shows. It is refused as its checks say, or for want of memory.
+    /// The rows that a SELECT on a system table shows. It is refused as its checks say, or for want of
+    /// memory.
     pub fn read(&self, alloc: Global, q: &Select) -> Result<Items<Row>, Refusal>
         requires { (def : TableDef) × (find_part self.now.defs q.now.table ≡ Some (def, System)) }
         ensures rows { (def : TableDef) → query_check self.now.defs q.now ≡ Ok (def, System)
@@ -112,15 +140,15 @@ impl CatalogCell {
         ensures { result.now ≡ versions_in id (Catalog self.now) }
     {
         if id == TABLES {
-            &self.tables
+            self.tables.versions()
         } else {
-            &self.columns
+            self.columns.versions()
         }
     }
 
-    /// Makes a table: its definition, behind the others, its rows in the system tables, and their leaves in the trees of
-    /// the transaction. It is refused as the checks of CREATE TABLE say, or for want of memory; then the cell is as it
-    /// was, and the context is of the same transaction as before.
+    /// Makes a table: its definition, behind the others, its rows in the system tables, and their leaves in
+    /// the trees of the transaction. It is refused as the checks of CREATE TABLE say, or for want of memory;
+    /// then the cell is as it was, and the context is of the same transaction as before.
     pub fn create_table<H: Hash32>(
         &mut self,
         alloc: Global,
@@ -134,13 +162,23 @@ impl CatalogCell {
         ensures context { OnErr result ((h : H) (o : OpenTransaction) → Represents H.digest h ctx.old o
             → Represents H.digest h ctx.new o) }
     {
-        Err(Refusal::E30)
+        let (tx, seq) = (ctx.id(), ctx.seq());
+        let NewTable { def, first, second } = plan_table(alloc, &self.defs, tx, seq, create)?;
+        open_both(ctx)?;
+        let count = second.starts.len();
+        reserve(&mut self.defs, &mut self.tables, &mut self.columns, count)?;
+        note_both(ctx, first.leaves.as_slice(), second.leaves.as_slice());
+        carry_out(&mut self.tables, tx, seq, first.starts);
+        carry_out(&mut self.columns, tx, seq + 1, second.starts);
+        self.defs.push_reserved(def);
+        self.creator = Some(Creator { tx, replaced: None });
+        Ok(())
     }
 
-    /// Makes an index, and answers its table's definition with it: the definition is in the place of the one before, the
-    /// rows of the index are in the table of columns, and their leaves in the transaction's tree of it. It is refused as
-    /// the checks of CREATE INDEX say, or for want of memory; then the cell is as it was, and the context is of the same
-    /// transaction as before.
+    /// Makes an index, and answers its table's definition with it: the definition is in the place of the one
+    /// before, the rows of the index are in the table of columns, and their leaves in the transaction's tree
+    /// of it. It is refused as the checks of CREATE INDEX say, or for want of memory; then the cell is as it
+    /// was, and the context is of the same transaction as before.
     pub fn create_index<H: Hash32>(
         &mut self,
         alloc: Global,
@@ -148,28 +186,45 @@ impl CatalogCell {
         create: &CreateIndex,
     ) -> Result<TableDef, Refusal>
         requires { MayCreate H.digest ctx.old self.old }
-        ensures ok { IfOk result (λ now. IndexMade H.digest self.old ctx.old create.now now self.new ctx.new) }
+        ensures ok { IfOk result (λ now.
+            IndexMade H.digest self.old ctx.old create.now now self.new ctx.new) }
         ensures refused { IfErr result (λ e. e ≢ E30 → index_check self.old.defs create.now ≡ Err e) }
         ensures err { OnErr result (self.new ≡ self.old) }
         ensures context { OnErr result ((h : H) (o : OpenTransaction) → Represents H.digest h ctx.old o
             → Represents H.digest h ctx.new o) }
     {
-        Err(Refusal::E30)
+        let (tx, seq) = (ctx.id(), ctx.seq());
+        let NewIndex {
+            place,
+            def,
+            answer,
+            rows,
+        } = plan_index(alloc, &self.defs, tx, seq, create)?;
+        ctx.open_tree(COLUMNS)?;
+        self.columns.reserve(rows.starts.len())?;
+        note_all(ctx, COLUMNS, rows.leaves.as_slice());
+        carry_out(&mut self.columns, tx, seq, rows.starts);
+        let def = mem::replace(&mut self.defs[place], def);
+        let replaced = Some(Replaced { place, def });
+        self.creator = Some(Creator { tx, replaced });
+        Ok(answer)
     }
 
-    /// Takes back what the transaction made: the definitions are what they were before, and its rows are gone. Takes no
-    /// memory.
+    /// Takes back what the transaction made: the definitions are what they were before, and its rows are
+    /// gone. Takes no memory.
     pub fn undo(&mut self, tx: TxId)
         ensures { self.new ≡ undone tx self.old }
     {
-        undo_versions(&mut self.tables, tx, 0);
-        undo_versions(&mut self.columns, tx, 0);
+        self.tables.undo(tx, 0);
+        self.columns.undo(tx, 0);
+        undo_change(&mut self.defs, &mut self.creator, tx);
     }
 
     /// Drops the locks of the transaction; what it made stays. Takes no memory.
     pub fn release(&mut self, tx: TxId)
         ensures { self.new ≡ left tx self.old }
     {
+        keep_change(&mut self.creator, tx);
         self.locks.release(tx);
     }
 

@@ -96,8 +96,8 @@ pub fn stopping_is_a_visit()
         → visits.StopsInCatalog v c s t }
 {}
 
-/// The release of the catalog after a commit drops the locks; after any other end it undoes what the transaction made
-/// before.
+/// The release of the catalog after a commit drops the locks; after any other end it undoes what the
+/// transaction made before.
 pub fn releases_undo_unless_committed()
     ensures committed { (n tx : ℕ) (c : Plain) → left tx c ≡ catalog_left (committed n) tx c }
     ensures ended { (n tx : ℕ) (back : Bool) (c : Plain)

@@ -1,12 +1,17 @@
-//! The catalog's cell: the definitions of all tables, the rows that the system tables have of them, and its locks.
+//! The catalog's cell: the definitions of all tables, the rows that the system tables have of them, and its
+//! locks.
 #![tactic(auto)]
 
 mod cell;
+mod creating;
+mod definitions;
+mod events;
 mod finding;
 mod laws;
 mod locks;
+mod noting;
 mod reading;
-mod undoing;
+mod rows;
 
 pub use cell::CatalogCell;
 pub use laws::{

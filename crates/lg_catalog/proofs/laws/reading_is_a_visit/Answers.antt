@@ -1,5 +1,4 @@
-use Rattle.std.proofs.Common.{◌≡◌, ◌∙◌, ap, sym, refl, Ok}
-use Rattle.lg_types.specs.declared.table.Part.TheVariants.{System}
+use Rattle.std.proofs.Common.{◌≡◌, ◌∙◌, ap, sym, refl}
 use Rattle.lg_model.specs.Query.{query_check}
 use Rattle.lg_standing.specs.Cells.{CatalogCell, Catalog, versions_in}
 use Rattle.lg_catalog.proofs.laws.reading_is_a_visit.Goals as goal

@@ -1,4 +1,4 @@
-use Rattle.std.proofs.Common.{◌≡◌, sym, ap, subst, Bool, List, None}
+use Rattle.std.proofs.Common.{◌≡◌, sym, ap, subst, Bool, List}
 use Rattle.std.specs.Prelude.{Result, IfOk, IfErr, OnOk}
 use Rattle.lg_value.specs.declared.refusal.Refusal.{Refusal}
 use Rattle.lg_types.specs.declared.lock.Hold.{Hold}
@@ -9,6 +9,7 @@ use Rattle.lg_standing.specs.CatalogVisits.{with_holds}
 use Rattle.lg_standing.specs.Cells.{CatalogCell}
 use Rattle.lg_standing.specs.Doing.{Stopped}
 use Rattle.lg_catalog.specs.Calls.{LocksTaken}
+use Rattle.lg_catalog.specs.Definitions.{creator_seen}
 use Rattle.lg_catalog.proofs.Asking.{taken, stopped}
 use Rattle.lg_catalog.proofs.cell.CatalogCell.lock.Goals as goal
 
@@ -17,9 +18,9 @@ returns-clause-ok c =
     let holds = ap (λ (x : CatalogCell). x.holds) c.self.view_is in
     let after : CatalogCell = record {
       defs = c.self.inside.defs.items;
-      creator = None;
-      tables = c.self.inside.tables.items;
-      columns = c.self.inside.columns.items;
+      creator = creator_seen c.self.inside.defs.items c.self.inside.creator;
+      tables = c.self.inside.tables.stored.versions;
+      columns = c.self.inside.columns.stored.versions;
       holds = c.ask.new.self;
     } in
     subst (λ (r : Result Bool Refusal). IfOk r (λ fresh. LocksTaken c.args.self.now c.args.tx c.args.wants.now fresh after)) (sym c.or_refusal.ensures)

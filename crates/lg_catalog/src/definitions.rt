@@ -1,0 +1,73 @@
+//! The last change of the definitions: who made it, and how it is taken back.
+
+ghost use Rattle.std.specs.Prelude.{◌≡◌};
+ghost use Rattle.lg_model.specs.Catalog.{Defs};
+ghost use Rattle.lg_standing.specs.UndoVisits.{creator_left, defs_before};
+ghost use Rattle.lg_catalog.specs.Definitions.{before, creator_seen, is_creator, AreFormed, IsPlace, MayTakeBack};
+
+use lg_items::TxId;
+use lg_types::TableDef;
+
+/// A definition, and its place, in which there is another one now.
+#[derive(Drop)]
+pub(crate) struct Replaced {
+    pub place: usize,
+    pub def: TableDef,
+}
+
+/// The transaction that changed the definitions and hasn't released the catalog. It replaced a definition,
+/// or added one behind the others.
+#[derive(Drop)]
+pub(crate) struct Creator {
+    pub tx: TxId,
+    pub replaced: Option<Replaced>,
+}
+
+fn is_creator(creator: &Option<Creator>, tx: TxId) -> bool
+    ensures { result ≡ is_creator tx creator.now }
+{
+    match creator {
+        Some(creator) => creator.tx == tx,
+        None => false,
+    }
+}
+
+fn take_back(defs: &mut Vec<TableDef>, replaced: Option<Replaced>)
+    requires { IsPlace defs.old.items replaced }
+    ensures { defs.new.items ≡ before defs.old.items replaced }
+{
+    match replaced {
+        Some(Replaced { place, def }) => defs[place] = def,
+        None => {
+            defs.pop();
+        }
+    }
+}
+
+/// Takes the change back, where it is the transaction's. Takes no memory.
+pub(crate) fn undo_change(defs: &mut Vec<TableDef>, creator: &mut Option<Creator>, tx: TxId)
+    requires { MayTakeBack defs.old.items creator.old }
+    ensures defs { defs.new.items ≡ defs_before tx (creator_seen defs.old.items creator.old) defs.old.items }
+    ensures creator { creator_seen defs.new.items creator.new
+        ≡ creator_left tx (creator_seen defs.old.items creator.old) }
+    ensures formed { AreFormed defs.old.items → AreFormed defs.new.items }
+    ensures back { MayTakeBack defs.new.items creator.new }
+{
+    if !is_creator(creator, tx) {
+        return;
+    }
+    if let Some(Creator { replaced, .. }) = creator.take() {
+        take_back(defs, replaced);
+    }
+}
+
+/// The change stays, where it is the transaction's. Takes no memory.
+pub(crate) fn keep_change(creator: &mut Option<Creator>, tx: TxId)
+    ensures creator { (defs : Defs) → creator_seen defs creator.new
+        ≡ creator_left tx (creator_seen defs creator.old) }
+    ensures back { (defs : Defs) → MayTakeBack defs creator.old → MayTakeBack defs creator.new }
+{
+    if is_creator(creator, tx) {
+        *creator = None;
+    }
+}
