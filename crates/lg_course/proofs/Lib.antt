@@ -1,0 +1,13 @@
+pub mod Calm
+pub mod ClosedBefore
+pub mod Closes
+pub mod Ends
+pub mod Goes
+pub mod LedgerInStep
+pub mod Over
+pub mod SameNames
+pub mod SeatOn
+pub mod SessionsStand
+pub mod Texts
+pub mod Told
+pub mod VisitInStep

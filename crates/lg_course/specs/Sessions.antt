@@ -1,0 +1,104 @@
+-- A course by its sessions: what each has been answered so far, which images it kept, and whether it is over.
+use Rattle.std.specs.Prelude.{ℕ, ◌≡◌, ◌≢◌, ◌⊎◌, ◌++◌, true, List, [], ◌∷◌, map}
+use mathlib.Core.Option.{some}
+use lib.ListN.{get_elem?}
+use Rattle.lg_history.specs.Inputs.{InputLine}
+use Rattle.lg_history.specs.Lists.{Text, Each, In}
+use Rattle.lg_history.specs.Transcripts.{Entry, Transcript}
+use Rattle.lg_standing.specs.Cells.{Cell}
+use Rattle.lg_standing.specs.QuietElse.{IsQuiet}
+use Rattle.lg_standing.specs.Seats.{KeptImage, Session, idle, session, SeatState, Written}
+use Rattle.lg_standing.specs.Server.{Server}
+use Rattle.lg_course.specs.Course.{Course}
+use Rattle.lg_course.specs.EndsLast.{Phase}
+
+-- what a session has shown
+pub record Told : Type 0 where
+  pub transcript : Transcript
+  pub images : List KeptImage
+
+abbrev pub names_told : List Told → List Text
+names_told told = map (λ k. k.transcript.session) told
+
+-- one that nothing was asked of yet
+abbrev pub told_nothing : Text → Told
+told_nothing name = record { transcript = record { session = name; entries = [] }; images = [] }
+
+-- a session has shown this that runs at this seat, and was issued its commits and digests at some of these
+-- moments
+pub record Runs (moments : List ℕ) (k : Told) (s : SeatState) : Type 0 where
+  pub x : Session
+  pub role : s.role ≡ session x
+  pub transcript : x.transcript ≡ k.transcript
+  pub images : x.images ≡ k.images
+  pub in_time : Each (λ time. In time moments) x.moments
+  pub first : s.written ≡ []
+
+-- one that is over
+pub record IsOver (moments : List ℕ) (k : Told) (s : SeatState) : Type 0 where
+  pub written : Written
+  pub wrote : s.written ≡ written ∷ []
+  pub transcript : written.transcript ≡ k.transcript
+  pub images : written.images ≡ k.images
+  pub in_time : Each (λ time. In time moments) written.moments
+  pub rests : s.role ≡ idle
+
+abbrev pub IsShown : List ℕ → Told → SeatState → Type 0
+IsShown moments k s = Runs moments k s ⊎ IsOver moments k s
+
+abbrev pub EachShown : List ℕ → List Told → List SeatState → Type 0
+EachShown moments [] [] = Unit {0}
+EachShown moments (k ∷ ks) (s ∷ ss) = IsShown moments k s × EachShown moments ks ss
+EachShown moments _ _ = ⊥
+
+-- The first seat is idle, and behind it each session has its seat: the server took this course, and they have
+-- shown this.
+pub record SessionsStand (v : Server) (database : Text) (size : ℕ) (phase : Phase) (lines : List InputLine)
+    (moments : List ℕ) (told : List Told) (cells : List Cell) (states : List SeatState) : Type 0 where
+  pub parent : SeatState
+  pub present : parent.present ≡ true
+  pub rests : parent.role ≡ idle
+  pub none : parent.written ≡ []
+  pub course : Course v database size phase (names_told told) lines cells (parent ∷ states)
+  pub shown : EachShown moments told states
+
+-- all sessions but this one are between statements
+abbrev pub OthersQuiet : List SeatState → ℕ → Type 0
+OthersQuiet states j = (k : ℕ) (s : SeatState) → k ≢ j → get_elem? states k ≡ some s → IsQuiet s.role
+
+-- ---- what a session gains
+
+-- it shows these entries and images besides
+abbrev pub told_with : Told → List Entry → List KeptImage → Told
+told_with k entries images = record {
+  transcript = record {
+    session = k.transcript.session;
+    entries = k.transcript.entries ++ entries;
+  };
+  images = k.images ++ images;
+}
+
+-- the session at a seat gains these entries, images and moments, and nothing else
+pub record Gains (s : SeatState) (entries : List Entry) (images : List KeptImage) (moments : List ℕ)
+    (t : SeatState) : Type 0 where
+  pub x : Session
+  pub y : Session
+  pub before : s.role ≡ session x
+  pub after : t.role ≡ session y
+  pub name : y.transcript.session ≡ x.transcript.session
+  pub entries_are : y.transcript.entries ≡ x.transcript.entries ++ entries
+  pub images_are : y.images ≡ x.images ++ images
+  pub moments_are : y.moments ≡ x.moments ++ moments
+  pub written : t.written ≡ s.written
+
+-- it is over, and its transcript is written with these entries besides
+pub record Writes (s : SeatState) (entries : List Entry) (t : SeatState) : Type 0 where
+  pub x : Session
+  pub w : Written
+  pub before : s.role ≡ session x
+  pub after : t.role ≡ idle
+  pub name : w.transcript.session ≡ x.transcript.session
+  pub entries_are : w.transcript.entries ≡ x.transcript.entries ++ entries
+  pub images_are : w.images ≡ x.images
+  pub moments_are : w.moments ≡ x.moments
+  pub written : t.written ≡ s.written ++ w ∷ []

@@ -1,0 +1,59 @@
+-- Digests of a run are held where their blocks are closed, and images of its cuts are accepted with them.
+use Rattle.std.proofs.Common.{◌≡◌, ◌<◌, ℕ, List, [], ◌∷◌, map, sym, ap, subst, ◌∙◌, ⊎_elim}
+use Rattle.lg_types.specs.declared.digest.Digest.{Digest}
+use Rattle.lg_types.specs.declared.digest.HeldDigest.{HeldDigest}
+use Rattle.lg_types.specs.declared.journal.JournalItem.{JournalItem}
+use Rattle.lg_model.specs.Journals.{cut}
+use Rattle.lg_model.specs.Script.{Reading}
+use Rattle.lg_history.specs.Digests.{IsDigest}
+use Rattle.lg_history.specs.Inputs.{InputLine}
+use Rattle.lg_history.specs.Journals.{blocks}
+use Rattle.lg_history.specs.Lists.{Text, Each, In}
+use Rattle.lg_history.specs.Meaning.{Meaning}
+use Rattle.lg_history.specs.Transcripts.{Transcript}
+use Rattle.lg_parse.specs.Text.{statement_of}
+use Rattle.lg_image.specs.Image.{image_of_cut}
+use Rattle.lg_image.specs.ImageBytes.{image_bytes, IsImage}
+use Rattle.lg_ledger.specs.Ledger.{block_hash}
+use Rattle.lg_verdict.specs.declared.place.Verdict.TheVariants.{Yes}
+use Rattle.lg_verdict.specs.Bytes.{verdict_of}
+use Rattle.lg_honest.specs.Held.{held, IsHeld, AllHeld}
+use Rattle.lg_standing.specs.Seats.{KeptImage}
+use Rattle.lg_course.specs.Told.{IsMeaning, IsImageOf, RunAgrees}
+use Rattle.lg_course.proofs.Told.{some_meaning}
+use Rattle.lg_kept.specs.Accepted.{IsOfCut, IsAccepted, IsAcceptedIfSpelled}
+
+each_in : {A : Type 0} (P : A → Type 0) (xs : List A) (x : A) → Each P xs → In x xs → P x
+each_in P [] x h i = absurd i
+each_in P (y ∷ ys) x h i = ⊎_elim (λ (e : y ≡ x). subst P e h.0) (λ k. each_in P ys x h.1 k) i
+
+pub each_of : {A : Type 0} (P Q : A → Type 0) → ((x : A) → P x → Q x) → (xs : List A) → Each P xs → Each Q xs
+each_of P Q f [] h = tt
+each_of P Q f (x ∷ xs) h = (f x h.0, each_of P Q f xs h.1)
+
+-- what is held of a digest of this journal, at a cut in which its block is closed
+abbrev pub Held : (List ℕ → List ℕ) → Text → List JournalItem → Type 0
+Held h database J = (q : Meaning) (m : ℕ) (d : Digest) → ((K : List JournalItem) (b : ℕ) → q.block_hash K b ≡ block_hash h statement_of K b)
+    → IsDigest q database J d → d.block < blocks (cut J m) → IsHeld h statement_of database (cut J m) (held d)
+
+-- the verdict on the image of a cut
+abbrev pub Verifies : (List ℕ → List ℕ) → Text → List JournalItem → ℕ → Type 0
+Verifies h database J m = (digests : List HeldDigest) → AllHeld h statement_of database (cut J m) digests → verdict_of h digests (image_bytes (image_of_cut h statement_of database J m)) ≡ Yes
+
+module _ (h : List ℕ → List ℕ) (database : Text) (size : ℕ) (names : List Text) (lines : List InputLine) (X : List Transcript) (images : List (List KeptImage)) (J : List JournalItem) (G : List Digest)
+    (run : RunAgrees h statement_of database size names lines X images J G) (holds : Held h database J) where
+  abbrev q : Meaning
+  q = (some_meaning h statement_of).0
+
+  abbrev real : IsMeaning h statement_of q
+  real = (some_meaning h statement_of).1
+
+  digests_are : Each (IsDigest q database J) G
+  digests_are = (run.agree q real).digests_are_the_journals.each
+
+  all_held : (m : ℕ) (digests : List Digest) → Each (IsOfCut J m G) digests → AllHeld h statement_of database (cut J m) (map held digests)
+  all_held m [] e = tt
+  all_held m (d ∷ ds) e = (holds q m d (λ K b. real.real.block_hash K b ∙ real.hashes K b) (each_in (IsDigest q database J) G d digests_are e.0.0) e.0.1, all_held m ds e.1)
+
+  pub accepted : (k : KeptImage) → IsImageOf h statement_of database J k → Verifies h database J k.0 → IsAccepted h database J G k
+  accepted k is verify digests e = ap (verdict_of h (map held digests)) is.bytes ∙ verify (map held digests) (all_held k.0 digests e)

@@ -1,0 +1,38 @@
+//! Laws of the images that were kept.
+
+ghost use Rattle.std.specs.Prelude.{ℕ, List};
+ghost use Rattle.lg_types.specs.declared.digest.Digest.{Digest};
+ghost use Rattle.lg_types.specs.declared.journal.JournalItem.{JournalItem};
+ghost use Rattle.lg_model.specs.LegalJournals.{IsLegalJournal};
+ghost use Rattle.lg_history.specs.Inputs.{InputLine};
+ghost use Rattle.lg_history.specs.Lists.{Text, Each};
+ghost use Rattle.lg_history.specs.Transcripts.{Transcript};
+ghost use Rattle.lg_parse.specs.Text.{statement_of};
+ghost use Rattle.lg_images.specs.Room.{HasRoom};
+ghost use Rattle.lg_standing.specs.Seats.{KeptImage};
+ghost use Rattle.lg_course.specs.Told.{RunAgrees};
+ghost use Rattle.lg_kept.specs.Accepted.{IsAccepted, IsAcceptedIfSpelled};
+
+use lg_honest::{digests_are_held_where_their_blocks_are_closed, images_of_legal_journals_verify};
+
+/// Each image that a session of a run kept is accepted with any digests that were issued in the run, of
+/// blocks that are closed in it, where the image has a spelling in the format; it has one where the whole
+/// journal has room in it.
+pub fn kept_images_are_accepted()
+    ensures spelled { (h : List ℕ → List ℕ) (database : Text) (size : ℕ) (names : List Text)
+        (lines : List InputLine) (X : List Transcript) (images : List (List KeptImage))
+        (J : List JournalItem) (G : List Digest)
+        → RunAgrees h statement_of database size names lines X images J G
+        → IsLegalJournal statement_of (record { database = database; items = J })
+        → Each (λ kept. Each (IsAcceptedIfSpelled h database J G) kept) images }
+    ensures room { (h : List ℕ → List ℕ) (database : Text) (size : ℕ) (names : List Text)
+        (lines : List InputLine) (X : List Transcript) (images : List (List KeptImage))
+        (J : List JournalItem) (G : List Digest)
+        → RunAgrees h statement_of database size names lines X images J G
+        → IsLegalJournal statement_of (record { database = database; items = J })
+        → HasRoom h statement_of database J
+        → Each (λ kept. Each (IsAccepted h database J G) kept) images }
+{
+    images_of_legal_journals_verify();
+    digests_are_held_where_their_blocks_are_closed();
+}

@@ -1,0 +1,2 @@
+pub mod EndSeen
+pub mod TranscriptText

@@ -1,0 +1,8 @@
+//! The text of transcripts, entry by entry.
+#![tactic(auto)]
+
+mod end_line;
+mod entry;
+
+pub use end_line::EndLine;
+pub use entry::{push_end, push_statement};
