@@ -1,0 +1,303 @@
+-- What a seat does alone at the end of a statement and of its session.
+use Rattle.std.proofs.Common.{◌≡◌, ℕ, Bool, true, false, List, [], ◌∷◌, ◌++◌, Option, Some, None, length, map, reverse, refl, sym, ap, ap₂, ◌∙◌, subst, subst₂, ◌⊎◌, inl, inr}
+use Rattle.std.specs.Prelude.{if◌then◌else◌, slice_get}
+use Rattle.std.specs.Option.{is_some}
+use Rattle.std.proofs.lemmas.List.{append-nil, map-append, reverse-append}
+use Rattle.lg_types.specs.declared.reply.Reply.{Reply}
+use Rattle.lg_types.specs.declared.table.TableDef.{TableDef}
+use Rattle.lg_model.specs.Journals.{Line}
+use Rattle.lg_history.specs.Lists.{Text, Each, In}
+use Rattle.lg_history.specs.Transactions.{End, unfixed, committed, ended}
+use Rattle.lg_history.specs.Transcripts.{Entry, statement, end_of_session}
+use Rattle.lg_history.specs.Transcripts as transcripts
+use Rattle.lg_standing.specs.Alone.{Alone, leaves, stops, answers, answers_end, has_left, none, GoesOn, IsReleased, over}
+use Rattle.lg_standing.specs.Answering.{with_entry, written_of, end_line}
+use Rattle.lg_standing.specs.Moves.{at_place, sits}
+use Rattle.lg_standing.specs.Seats.{OpenTransaction, inside, answering, between, leaving, Session, session, SeatState}
+use Rattle.lg_standing.specs.Server.{Server}
+use Rattle.lg_parse.specs.Text.{statement_of}
+use Rattle.lg_server.specs.Serves.{Serves}
+use Rattle.lg_tx.specs.Represents.{Represents}
+use Rattle.lg_seat.specs.EndSeen.{IsEnd, line_seen}
+use Rattle.lg_seat.specs.Needs.{answer_need, end_need, leaving_need, cell_or_done}
+use Rattle.lg_seat.specs.Points.{IsBetween, IsBetweenAt, IsLeavingAt}
+use Rattle.lg_seat.specs.Rest.{said_pair, RestOpen, RestBy, IsRest, MayEnd, MayEndAt, FinishesBy}
+use Rattle.lg_seat.specs.Sits.{Sits, IsRunning, Runs, HasScript, HasRoom, IsPoint, IsAnswered, line_of, said_line, said_at, left_of}
+use Rattle.lg_seat.specs.Steps.{Steps, StepsAlone, Answers, IsAnsweredBy, Ends, EndsSession, entries_at, entries_by, end_of, last_entries}
+use Rattle.lg_seat.specs.Told.{Adds}
+use Rattle.lg_seat.specs.VisitedCells.{VisitedCells}
+use Rattle.lg_seat.specs.declared.end_line.EndLine.{EndLine}
+use Rattle.lg_seat.specs.declared.end_line.EndLine.TheVariants.{Committed, Ended}
+use Rattle.lg_seat.specs.declared.need.Need.TheVariants.{Done}
+use Rattle.lg_seat.specs.declared.running.Running.{Running}
+use Rattle.lg_seat.specs.declared.seat.Seat.{Seat}
+use Rattle.lg_seat.specs.declared.stage.Answering.{Answering}
+use Rattle.lg_seat.specs.declared.stage.Point.{Point}
+use Rattle.lg_seat.specs.declared.stage.Point.TheVariants.{Between, Inside, Leaving, Over}
+use Rattle.lg_seat.specs.declared.stage.Stage.TheVariants.{Answering as Answered}
+use Rattle.lg_seat.proofs.Alone.{then_seat, between_is, placed, stood, scripted, sits_then, script_same, adds_at, adds_none, one_step, each_both}
+
+-- ---- what was released
+
+more_in : (y : ℕ) (xs zs : List ℕ) → Each (λ i. In i xs) zs → Each (λ i. In i (y ∷ xs)) zs
+more_in y xs [] a = tt
+more_in y xs (z ∷ zs) a = (inr a.0, more_in y xs zs a.1)
+
+each_own : (xs : List ℕ) → Each (λ i. In i xs) xs
+each_own [] = tt
+each_own (x ∷ xs) = (inl refl, more_in x xs xs (each_own xs))
+
+each_back : (ys xs : List ℕ) → Each (λ i. In i ys) xs → Each (λ i. In i ys) (reverse xs)
+each_back ys [] a = tt
+each_back ys (x ∷ xs) a = subst (Each (λ i. In i ys)) (sym (reverse-append (x ∷ []) xs)) (each_both (λ i. In i ys) (reverse xs) (x ∷ []) (each_back ys xs a.1) (a.0, tt))
+
+-- where nothing is left, all is released
+pub all_released : (o : OpenTransaction) (left : List ℕ) → o.visited ≡ reverse o.released ++ left → left ≡ [] → IsReleased o
+all_released o left visited e = subst (Each (λ i. In i o.released)) (sym (visited ∙ ap (λ (l : List ℕ). reverse o.released ++ l) e ∙ append-nil (reverse o.released)))
+    (each_back o.released o.released (each_own o.released))
+
+nothing_left : (left : List ℕ) → cell_or_done (slice_get left 0) ≡ Done → left ≡ []
+nothing_left [] e = refl
+nothing_left (i ∷ is) e = absurd cc
+
+pub done_left : (b : Bool) (line : EndLine) (left : List ℕ) → end_need b (Some line) left ≡ Done → left ≡ []
+done_left true line left e = nothing_left left e
+done_left false line left e = nothing_left left e
+
+-- ---- its end
+
+pub end_is_open : (id : ℕ) (e : End) → IsEnd id None e → e ≡ unfixed
+end_is_open id unfixed k = refl
+end_is_open id (committed n) k = absurd k
+end_is_open id (ended n back) k = absurd k
+
+pub line_is : (o : OpenTransaction) (line : EndLine) (e : End) → IsEnd o.id (Some line) e → end_line o e ≡ line_seen (Some line)
+line_is o (Committed id place) unfixed k = absurd k
+line_is o (Committed id place) (committed n) k = λ i. Some (transcripts.committed_at (sym k.0 i) (sym k.1 i))
+line_is o (Committed id place) (ended n back) k = absurd k
+line_is o (Ended id after) unfixed k = absurd k
+line_is o (Ended id after) (committed n) k = absurd k
+line_is o (Ended id after) (ended n back) k = λ i. Some (transcripts.ended_after (sym k.0 i) (sym k.1 i))
+
+abbrev pub line_now : EndLine → transcripts.EndLine
+line_now (Committed id place) = transcripts.committed_at id place
+line_now (Ended id after) = transcripts.ended_after id after
+
+seen_now : (line : EndLine) → line_seen (Some line) ≡ Some (line_now line)
+seen_now (Committed id place) = refl
+seen_now (Ended id after) = refl
+
+-- ---- the session's end begins
+
+abbrev pub end_point : Bool → Point
+end_point b = if b then Leaving else Between
+
+rest_room : {H : Type 0} (r : Option (Running H)) → HasRoom Between r
+rest_room None = tt
+rest_room (Some r) = tt
+
+leaving_room : {H : Type 0} (r : Option (Running H)) → HasRoom Leaving r
+leaving_room None = tt
+leaving_room (Some r) = tt
+
+pub finishes : {H : Type 0} (digest : H → List ℕ → List ℕ) (y : Seat H) → IsBetween y
+    → StepsAlone digest y [] (then_seat y y.started y.text y.stmt y.running (end_point (is_some y.running)))
+finishes {H} digest y rest v h s serves w = by y.running w.x.open_one refl refl
+  where
+    b : y.point ≡ Between
+    b = between_is y.point rest
+
+    by : (r : Option (Running H)) (o : Option OpenTransaction) → y.running ≡ r → w.x.open_one ≡ o
+        → Steps digest h v s [] (then_seat y y.started y.text y.stmt y.running (end_point (is_some r)))
+    by None o e f = record {
+      t = s;
+      steps = none;
+      lines = refl;
+      plain = tt;
+      sits = sits_then digest h y s w s w.x y.started y.text y.stmt y.running Between w.role refl refl w.moment (placed digest h y s w Between b) w.reads w.runs
+          (scripted digest h y s w Between b) (rest_room y.running) (stood digest h y s w Between b);
+      adds = adds_none s w.x w.role;
+    }
+    by (Some r) None e f = absurd (subst₂ (Runs digest h) e f w.runs)
+    by (Some r) (Some o) e f = let g : GoesOn (Some o) = subst GoesOn f (stood digest h y s w Between b) in
+        let x : Session = at_place (Some o) leaving w.x in
+        one_step digest h v s (sits s x) (then_seat y y.started y.text y.stmt y.running Leaving)
+        (leaves w.x o (record { role = w.role; here = placed digest h y s w Between b }) f g.0 g.1) refl tt
+        (sits_then digest h y s w (sits s x) x y.started y.text y.stmt y.running Leaving refl refl refl w.moment refl w.reads
+        (subst (Runs digest h y.running) f w.runs)
+        (script_same Between Leaving y.text y.text y.running (Some o) refl (subst (HasScript Between y.text y.running) f (scripted digest h y s w Between b)))
+        (leaving_room y.running) g.1)
+        (adds_at s w.x (Some o) leaving w.role)
+
+-- ---- the session's end
+
+pub ends_session : {H : Type 0} (digest : H → List ℕ → List ℕ) (y : Seat H) → MayEnd y → EndsSession digest y
+ends_session {H} digest y may v h s serves w = by y.point y.running w.x.open_one refl refl refl may
+  where
+    by : (p : Point) (r : Option (Running H)) (o : Option OpenTransaction) → y.point ≡ p → y.running ≡ r → w.x.open_one ≡ o → MayEndAt p r → Ends v s y
+    by Between None (Some o) b e f m = absurd (subst₂ (Runs digest h) e f w.runs)
+    by Between None None b e f m = record {
+      t = over w.x s;
+      step = stops w.x (record { role = w.role; here = placed digest h y s w Between b }) f;
+      lines = refl;
+      x = w.x;
+      before = w.role;
+      role = refl;
+      w = written_of w.x;
+      written = refl;
+      session = refl;
+      entries = sym (append-nil w.x.transcript.entries) ∙ ap (λ (q : Option (Running H)). w.x.transcript.entries ++ last_entries (end_of q)) (sym e);
+      images = refl;
+      moments = refl;
+      earlier = refl;
+    }
+    by Between (Some r) o b e f m = absurd m
+    by (Inside stage) r o b e f m = absurd m
+    by Over r o b e f m = absurd m
+    by Leaving None o b e f m = absurd m
+    by Leaving (Some r) None b e f m = absurd (subst₂ (Runs digest h) e f w.runs)
+    by Leaving (Some r) (Some o) b e f m = ends r.end refl m
+      where
+        q : IsRunning digest h r o
+        q = subst₂ (Runs digest h) e f w.runs
+
+        ends : (l : Option EndLine) → r.end ≡ l → end_need false l r.visited.left ≡ Done → Ends v s y
+        ends None k n = absurd cc
+        ends (Some line) k n = let at_end : end_line o o.end ≡ Some (line_now line) = line_is o line o.end (subst (λ (z : Option EndLine). IsEnd o.id z o.end) k q.end) ∙ seen_now line in record {
+          t = over (with_entry (end_of_session (line_now line)) None between w.x) s;
+          step = has_left w.x o (line_now line) (record { role = w.role; here = placed digest h y s w Leaving b }) f at_end
+              (all_released o r.visited.left q.visited (done_left false line r.visited.left n));
+          lines = refl;
+          x = w.x;
+          before = w.role;
+          role = refl;
+          w = written_of (with_entry (end_of_session (line_now line)) None between w.x);
+          written = refl;
+          session = refl;
+          entries = ap (λ (z : Option transcripts.EndLine). w.x.transcript.entries ++ last_entries z)
+              (sym (ap (λ (z : Option (Running H)). end_of z) e ∙ ap line_seen k ∙ seen_now line));
+          images = refl;
+          moments = refl;
+          earlier = refl;
+        }
+
+-- ---- an answer
+
+said_more : (b : Bool) (text : Text) (r : Reply) (xs : List (Text × Reply)) → map line_of (xs ++ said_pair b text r) ≡ map line_of xs ++ said_line b text r
+said_more true text r xs = map-append line_of xs ((text, r) ∷ [])
+said_more false text r xs = map-append line_of xs []
+
+adds_said : (s : SeatState) (x : Session) (e : Entry) (o : Option OpenTransaction) (es : List Entry) → s.role ≡ session x → es ≡ e ∷ [] → Adds s es [] [] (sits s (with_entry e o between x))
+adds_said s x e o es role is = record {
+  x = x;
+  y = with_entry e o between x;
+  before = role;
+  after = refl;
+  session = refl;
+  entries = ap (λ (ls : List Entry). x.transcript.entries ++ ls) (sym is);
+  images = sym (append-nil x.images);
+  moments = sym (append-nil x.moments);
+  earlier = refl;
+  written = refl;
+}
+
+pub answered_by : {H : Type 0} (digest : H → List ℕ → List ℕ) (y : Seat H) (a : Answering) (empty : Text) (q : Option (Running H))
+    → y.point ≡ Inside (Answered a) → answer_need y.running ≡ Done → IsRest y.text a y.running q
+    → IsAnsweredBy digest y (then_seat y y.started empty None q Between)
+answered_by {H} digest y a empty q b done rest v h s serves w = by y.running w.x.open_one refl refl done rest
+  where
+    z : Seat H
+    z = then_seat y y.started empty None q Between
+
+    said : (r : Option (Running H)) → y.running ≡ r → entries_at y ≡ statement y.text a.reply (end_of r) ∷ []
+    said r e = λ i. entries_by (b i) y.text (end_of (e i))
+
+    stands : (o : Option OpenTransaction) → w.x.open_one ≡ o → IsAnswered a o
+    stands o f = subst (IsAnswered a) f (stood digest h y s w (Inside (Answered a)) b)
+
+    here : (def : Option TableDef) → a.def ≡ def → w.x.place ≡ inside y.text (answering a.reply def)
+    here def e = placed digest h y s w (Inside (Answered a)) b ∙ ap (λ (d : Option TableDef). inside y.text (answering a.reply d)) e
+
+    by : (r : Option (Running H)) (o : Option OpenTransaction) → y.running ≡ r → w.x.open_one ≡ o → answer_need r ≡ Done → IsRest y.text a r q → Answers digest h v s y z
+    by None (Some o) e f n k = absurd (subst₂ (Runs digest h) e f w.runs)
+    by (Some r) None e f n k = absurd (subst₂ (Runs digest h) e f w.runs)
+    by None None e f n k = let x : Session = with_entry (statement y.text a.reply None) w.x.open_one between w.x in record {
+      t = sits s x;
+      step = answers w.x y.text a.reply (record { role = w.role; here = here None (stands None f).0 }) (subst GoesOn (sym f) tt);
+      lines = refl;
+      plain = (tt, tt);
+      sits = sits_then digest h y s w (sits s x) x y.started empty None q Between refl refl refl w.moment refl tt
+          (subst₂ (Runs digest h) (sym k) (sym f) tt) (subst (λ (u : Option (Running H)). HasScript Between empty u w.x.open_one) (sym k) tt) (rest_room q) (subst GoesOn (sym f) tt);
+      adds = adds_said s w.x (statement y.text a.reply None) w.x.open_one (entries_at y) w.role (said None e);
+    }
+    by (Some r) (Some o) e f n k = ends r.end refl n k
+      where
+        run : IsRunning digest h r o
+        run = subst₂ (Runs digest h) e f w.runs
+
+        goes : r.opened ≡ true → r.end ≡ None → RestOpen y.text a r q → Answers digest h v s y z
+        goes opened l k = left_open q refl k
+          where
+            free : o.end ≡ unfixed
+            free = end_is_open o.id o.end (subst (λ (u : Option EndLine). IsEnd o.id u o.end) l run.end)
+
+            on : GoesOn (Some o)
+            on = (free, sym run.opened ∙ opened)
+
+            x : Session
+            x = with_entry (statement y.text a.reply None) w.x.open_one between w.x
+
+            left_open : (u : Option (Running H)) → q ≡ u → RestOpen y.text a r u → Answers digest h v s y z
+            left_open None is m = absurd m
+            left_open (Some p) is m = record {
+              t = sits s x;
+              step = answers w.x y.text a.reply (record { role = w.role; here = here None ((stands (Some o) f).0 free) }) (subst GoesOn (sym f) on);
+              lines = refl;
+              plain = (tt, tt);
+              sits = sits_then digest h y s w (sits s x) x y.started empty None q Between refl refl refl w.moment refl tt
+                  (subst₂ (Runs digest h) (sym is) (sym f) (record {
+                    context = subst (λ c. Represents digest h c o) (sym m.0) run.context;
+                    opened = m.4 ∙ run.opened;
+                    id = run.id;
+                    end = subst (λ (u : Option EndLine). IsEnd o.id u o.end) (l ∙ sym m.2) run.end;
+                    visited = run.visited ∙ ap (λ (u : VisitedCells). reverse o.released ++ u.left) (sym m.1);
+                    cells = run.cells;
+                    unreleased = run.unreleased;
+                  }))
+                  (subst₂ (HasScript Between empty) (sym is) (sym f) (λ u. script u ∙ sym (append-nil (map line_of p.script.items))))
+                  (rest_room q) (subst GoesOn (sym f) on);
+              adds = adds_said s w.x (statement y.text a.reply None) w.x.open_one (entries_at y) w.role (said (Some r) e ∙ ap (λ (u : Option EndLine). statement y.text a.reply (line_seen u) ∷ []) l);
+            }
+              where
+                script : o.end ≡ unfixed → o.script ≡ map line_of p.script.items
+                script u = (subst₂ (HasScript (Inside (Answered a)) y.text) e f (scripted digest h y s w (Inside (Answered a)) b)) u
+                    ∙ sym (said_more a.said y.text a.reply r.script.items) ∙ ap (λ (ls : List (Text × Reply)). map line_of ls) (sym m.3)
+
+        own : r.opened ≡ false → end_need r.opened None r.visited.left ≡ Done → Answers digest h v s y z
+        own opened n = absurd (cannot (subst (λ (u : Bool). end_need u None r.visited.left ≡ Done) opened n))
+          where
+            cannot : end_need false None r.visited.left ≡ Done → ⊥
+            cannot n = absurd cc
+
+        ends : (l : Option EndLine) → r.end ≡ l → end_need r.opened l r.visited.left ≡ Done → RestBy l y.text a r q → Answers digest h v s y z
+        ends None l n k = which r.opened refl
+          where
+            which : (u : Bool) → r.opened ≡ u → Answers digest h v s y z
+            which true u = goes u l k
+            which false u = own u n
+        ends (Some line) l n k = let x : Session = with_entry (statement y.text a.reply (Some (line_now line))) None between w.x in record {
+          t = sits s x;
+          step = answers_end w.x o y.text a.reply a.def (line_now line) (record { role = w.role; here = here a.def refl }) f
+              (line_is o line o.end (subst (λ (u : Option EndLine). IsEnd o.id u o.end) l run.end) ∙ seen_now line)
+              (all_released o r.visited.left run.visited (done_left r.opened line r.visited.left n));
+          lines = refl;
+          plain = (tt, (tt, tt));
+          sits = sits_then digest h y s w (sits s x) x y.started empty None q Between refl refl refl w.moment refl tt
+              (subst (λ (u : Option (Running H)). Runs digest h u None) (sym k) tt) (subst (λ (u : Option (Running H)). HasScript Between empty u None) (sym k) tt) (rest_room q) tt;
+          adds = adds_said s w.x (statement y.text a.reply (Some (line_now line))) None (entries_at y) w.role
+              (said (Some r) e ∙ ap (λ (u : Option transcripts.EndLine). statement y.text a.reply u ∷ []) (ap line_seen l ∙ seen_now line));
+        }
+
+pub finishing : {H : Type 0} (r : Option (Running H)) (y z : Seat H) → z.point ≡ end_point (is_some r) → FinishesBy r y z
+finishing None y z e = subst IsBetweenAt (sym e) tt
+finishing (Some r) y z e = subst IsLeavingAt (sym e) tt

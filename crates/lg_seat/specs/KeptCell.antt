@@ -1,0 +1,22 @@
+-- What contracts see of a cell.
+use Rattle.std.specs.Prelude.{ℕ, ◌≡◌, List, []}
+use Rattle.lg_standing.specs.Cells.{Cell, Ledger}
+use Rattle.lg_book.specs.HashedCell.{KeepsHash}
+use Rattle.lg_seat.specs.declared.cell.Kind.{Kind}
+use Rattle.lg_seat.specs.declared.cell.Kind.TheVariants as kind
+
+-- the cell of which the laws on visits speak, and the hash that the ledger's cell keeps of its last block
+pub record KeptCell : Type 0 where
+  pub cell : Cell
+  pub hash : List ℕ
+
+abbrev pub cell_seen : Kind → KeptCell
+cell_seen (kind.Ledger c) = record { cell = Ledger c.cell; hash = c.hash }
+
+abbrev pub KeepsAt : (List ℕ → List ℕ) → List ℕ → Cell → Type 0
+KeepsAt h hash (Ledger c) = KeepsHash h (record { cell = c; hash = hash })
+KeepsAt h hash _ = Unit {0}
+
+-- the ledger's cell keeps the hash of its last block
+abbrev pub Keeps : (List ℕ → List ℕ) → KeptCell → Type 0
+Keeps h c = KeepsAt h c.hash c.cell

@@ -1,0 +1,11 @@
+pub mod Drawing
+pub mod Drew
+pub mod EndSeen
+pub mod KeptCell
+pub mod Needs
+pub mod Points
+pub mod Rest
+pub mod Sits
+pub mod Steps
+pub mod Told
+pub mod VisitedCells

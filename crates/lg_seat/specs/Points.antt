@@ -1,0 +1,58 @@
+-- Where a seat stands, as callers tell it.
+use Rattle.lg_seat.specs.declared.seat.Seat.{Seat}
+use Rattle.lg_seat.specs.declared.stage.Point.{Point}
+use Rattle.lg_seat.specs.declared.stage.Point.TheVariants.{Between, Inside, Leaving, Over}
+use Rattle.lg_seat.specs.declared.stage.Stage.{Stage}
+use Rattle.lg_seat.specs.declared.stage.Stage.TheVariants.{Begun, Answering as Answered}
+
+abbrev pub IsBetweenAt : Point → Type 0
+IsBetweenAt Between = Unit {0}
+IsBetweenAt _ = ⊥
+
+abbrev pub IsInsideAt : Point → Type 0
+IsInsideAt (Inside stage) = Unit {0}
+IsInsideAt _ = ⊥
+
+abbrev pub IsLeavingAt : Point → Type 0
+IsLeavingAt Leaving = Unit {0}
+IsLeavingAt _ = ⊥
+
+abbrev pub IsOverAt : Point → Type 0
+IsOverAt Over = Unit {0}
+IsOverAt _ = ⊥
+
+abbrev pub HasReply : Stage → Type 0
+HasReply (Answered a) = Unit {0}
+HasReply _ = ⊥
+
+abbrev pub IsAnsweringAt : Point → Type 0
+IsAnsweringAt (Inside stage) = HasReply stage
+IsAnsweringAt _ = ⊥
+
+abbrev pub IsBegunAt : Point → Type 0
+IsBegunAt (Inside Begun) = Unit {0}
+IsBegunAt _ = ⊥
+
+-- in no statement
+abbrev pub IsBetween : {H : Type 0} → Seat H → Type 0
+IsBetween y = IsBetweenAt y.point
+
+-- in a statement
+abbrev pub IsInside : {H : Type 0} → Seat H → Type 0
+IsInside y = IsInsideAt y.point
+
+-- in a statement whose reply is certain
+abbrev pub IsAnswering : {H : Type 0} → Seat H → Type 0
+IsAnswering y = IsAnsweringAt y.point
+
+-- at the session's end, while its transaction is ended
+abbrev pub IsLeaving : {H : Type 0} → Seat H → Type 0
+IsLeaving y = IsLeavingAt y.point
+
+-- the session is over
+abbrev pub IsOver : {H : Type 0} → Seat H → Type 0
+IsOver y = IsOverAt y.point
+
+-- a statement is taken up, and nothing else is done
+abbrev pub IsBegun : {H : Type 0} → Seat H → Type 0
+IsBegun y = IsBegunAt y.point

@@ -1,0 +1,189 @@
+//! A seat: a session between its statements, or inside one.
+
+ghost use Rattle.std.specs.Prelude.{◌≡◌, ◌∷◌, [], true, if◌then◌else◌};
+ghost use Rattle.lg_items.specs.Moment.{is_moment};
+ghost use Rattle.lg_items.specs.SessionName.{is_session_name};
+ghost use Rattle.lg_history.specs.Transcripts.{statement};
+ghost use Rattle.lg_standing.specs.Seats.{idle, SeatState};
+ghost use Rattle.lg_standing.specs.Server.{Server};
+ghost use Rattle.lg_seat.specs.EndSeen.{line_seen};
+ghost use Rattle.lg_seat.specs.Needs.{need_of};
+ghost use Rattle.lg_seat.specs.Points.{IsAnswering, IsBegun, IsBetween, IsInside, IsOver};
+ghost use Rattle.lg_seat.specs.Rest.{IsFinishing, MayEnd};
+ghost use Rattle.lg_seat.specs.Steps.{entries_at, end_of as end_in, Begins, EndsSession, Starts, StepsAlone};
+ghost use Rattle.lg_seat.specs.declared.stage.Point.TheVariants.{Between, Leaving};
+
+use crate::end_line::EndLine;
+use crate::need::Need;
+use crate::needing::{leaving_need, stage_need};
+use crate::running::Running;
+use crate::stage::{Answering, Point, Stage};
+use lg_items::{Name, Text};
+use lg_merkle::Hash32;
+use lg_types::{Reply, Stmt};
+use lg_value::Refusal;
+use std::alloc::Global;
+
+/// A session as its thread has it: its transaction, and the statement under way.
+#[derive(Drop)]
+pub struct Seat<H: Hash32> {
+    pub(crate) hasher: H,
+    pub(crate) name: Name,
+    /// When the statement was taken up.
+    pub(crate) started: u64,
+    /// How many images it kept.
+    pub(crate) images: usize,
+    pub(crate) text: Text,
+    pub(crate) stmt: Option<Stmt>,
+    pub(crate) running: Option<Running<H>>,
+    pub(crate) point: Point,
+}
+
+/// What a statement is answered.
+pub struct Answer<'a> {
+    pub text: &'a Text,
+    pub reply: &'a Reply,
+    /// The line of the transaction that ends with it.
+    pub end: Option<EndLine>,
+}
+
+impl<H: Hash32> Seat<H> {
+    /// A session that has no statement yet. Takes no memory.
+    pub fn new(alloc: Global, hasher: H, name: Name) -> Seat<H>
+        requires { is_session_name name ≡ true }
+        ensures begins { (v : Server) (s : SeatState) → s.present ≡ true → s.role ≡ idle
+            → Begins H.digest hasher v name s result }
+        ensures between { IsBetween result }
+        ensures name { result.name ≡ name }
+    {
+        Seat {
+            hasher,
+            name,
+            started: 0,
+            images: 0,
+            text: Text::from_string(String::new(alloc)),
+            stmt: None,
+            running: None,
+            point: Point::Between,
+        }
+    }
+
+    /// Takes up a statement at this moment, and refuses it with E30, as for want of memory: no statement is
+    /// run yet. Takes no memory.
+    pub fn start(&mut self, text: Text, now: u64)
+        requires between { IsBetween self.old }
+        requires moment { is_moment now ≡ true }
+        ensures starts { Starts H.digest self.old text self.new }
+        ensures inside { IsInside self.new }
+        ensures started { self.new.started ≡ now }
+        ensures name { self.new.name ≡ self.old.name }
+    {
+        self.take_up(text, now);
+        self.lack_memory();
+    }
+
+    fn take_up(&mut self, text: Text, now: u64)
+        requires between { IsBetween self.old }
+        requires moment { is_moment now ≡ true }
+        ensures starts { Starts H.digest self.old text self.new }
+        ensures begun { IsBegun self.new }
+        ensures started { self.new.started ≡ now }
+        ensures name { self.new.name ≡ self.old.name }
+    {
+        self.started = now;
+        self.text = text;
+        self.stmt = None;
+        self.point = Point::Inside(Stage::Begun);
+    }
+
+    // Refuses a statement with E30 of which nothing is done.
+    pub(crate) fn lack_memory(&mut self)
+        requires { IsBegun self.old }
+        ensures steps { StepsAlone H.digest self.old [] self.new }
+        ensures inside { IsInside self.new }
+        ensures started { self.new.started ≡ self.old.started }
+        ensures name { self.new.name ≡ self.old.name }
+    {
+        self.point = Point::Inside(Stage::Answering(Answering {
+            reply: Reply::Refused(Refusal::E30),
+            said: false,
+            def: None,
+        }));
+    }
+
+    /// What it needs next.
+    pub fn need(&self) -> Need
+        ensures { result ≡ need_of self.now }
+    {
+        match &self.point {
+            Point::Between => Need::Done,
+            Point::Inside(stage) => stage_need(stage, &self.running),
+            Point::Leaving => leaving_need(&self.running),
+            Point::Over => Need::Done,
+        }
+    }
+
+    /// What the statement is answered, once its seat needs nothing more.
+    pub fn answer(&self) -> Answer<'_>
+        requires { IsAnswering self.now }
+        ensures { entries_at self.now
+            ≡ statement result.text.now result.reply.now (line_seen result.end) ∷ [] }
+    {
+        let Point::Inside(Stage::Answering(answering)) = &self.point else {
+            unreachable!()
+        };
+        Answer {
+            text: &self.text,
+            reply: &answering.reply,
+            end: end_of(&self.running),
+        }
+    }
+
+    /// The session comes to its end: where a transaction is open, cells are still to be visited.
+    pub fn finish(&mut self)
+        requires { IsBetween self.old }
+        ensures steps { StepsAlone H.digest self.old [] self.new }
+        ensures end { IsFinishing self.old self.new }
+        ensures name { self.new.name ≡ self.old.name }
+    {
+        self.point = end_point(self.running.is_some());
+    }
+
+    /// The line of the transaction that the session's end ended.
+    pub fn last_line(&self) -> Option<EndLine>
+        ensures { line_seen result ≡ end_in self.now.running }
+    {
+        end_of(&self.running)
+    }
+
+    /// The session is over, once its last line is in the transcript.
+    pub fn end_session(&mut self)
+        requires { MayEnd self.old }
+        ensures ends { EndsSession H.digest self.old }
+        ensures over { IsOver self.new }
+    {
+        self.running = None;
+        self.point = Point::Over;
+    }
+}
+
+// Where a session stands that comes to its end; with true, its transaction is open.
+fn end_point(is_open: bool) -> Point
+    ensures { result ≡ (if is_open then Leaving else Between) }
+{
+    if is_open {
+        Point::Leaving
+    } else {
+        Point::Between
+    }
+}
+
+// The line with which the transaction ends.
+fn end_of<H: Hash32>(running: &Option<Running<H>>) -> Option<EndLine>
+    ensures { line_seen result ≡ end_in running.now }
+{
+    match running {
+        Some(running) => running.end,
+        None => None,
+    }
+}
