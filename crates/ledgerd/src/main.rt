@@ -2,7 +2,7 @@
 #![tactic(auto)]
 
 use lg_base::{FolderVault, MachineClock, OpenGate, StdinSource, StdoutSink};
-use lg_cmd::{Status, ledgerd};
+use lg_cmd::{Status, USAGE, ledgerd};
 use std::env::Env;
 use std::process::ExitCode;
 use std::{env, io};
@@ -43,6 +43,9 @@ fn main(rt: HostRuntime) -> ExitCode {
     };
     if status.code() > 1 {
         let _ = eprintln!(rt; "ledgerd: {status}");
+    }
+    if status == Status::Words {
+        let _ = eprint!(rt; "{}", USAGE);
     }
     ExitCode::from(status.code())
 }

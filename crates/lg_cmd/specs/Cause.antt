@@ -1,19 +1,21 @@
 -- Why the top call ends with a status, by the command that the words say.
-use Rattle.std.specs.Prelude.{◌≡◌, ℕ, List, Option, Some, None}
+use Rattle.std.specs.Prelude.{◌≡◌, ◌⊎◌, ℕ, List, Option, Some, None}
 use Rattle.lg_base.specs.Store.{Names}
 use Rattle.lg_cmd.specs.declared.status.Status.{Status}
-use Rattle.lg_cmd.specs.declared.status.Status.TheVariants.{Words}
+use Rattle.lg_cmd.specs.declared.status.Status.TheVariants.{Words, Memory}
 use Rattle.lg_cmd.specs.Answer.{StepCause}
 use Rattle.lg_cmd.specs.Extract.{ExtractCause}
 use Rattle.lg_cmd.specs.Replay.{ReplayCause}
+use Rattle.lg_cmd.specs.Tell.{TellCause}
 use Rattle.lg_cmd.specs.Verify.{VerifyCause}
-use Rattle.lg_cmd.specs.Words.{Command, Step, Verify, Replay, Extract}
+use Rattle.lg_cmd.specs.Words.{Command, Step, Verify, Replay, Extract, Tell}
 
--- each command has its causes, by what the input and the vault tell and by whose faults rose in the call; and
--- Words comes exactly where the words say none
+-- Each command has its causes, by what the input and the vault tell and by whose faults rose in the call.
+-- Words comes exactly where the words say none, unless want of memory comes first: the words are read by
+-- means of memory.
 abbrev pub HasCause : Status → (List ℕ → List ℕ) → Option Command → Option (List ℕ) → Option Names
     → Type 0 → Type 0 → Type 0 → Type 0
-HasCause status h None input names source vault sink = status ≡ Words
+HasCause status h None input names source vault sink = (status ≡ Words) ⊎ (status ≡ Memory)
 HasCause status h (Some (Step save)) input names source vault sink = StepCause status input source vault sink
 HasCause status h (Some (Verify image digests)) input names source vault sink =
     VerifyCause status h image digests names vault sink
@@ -21,3 +23,4 @@ HasCause status h (Some (Replay journal save)) input names source vault sink =
     ReplayCause status journal names vault sink
 HasCause status h (Some (Extract honest suspect digests)) input names source vault sink =
     ExtractCause status h honest suspect digests names vault sink
+HasCause status h (Some (Tell text)) input names source vault sink = TellCause status sink

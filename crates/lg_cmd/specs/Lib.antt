@@ -5,12 +5,12 @@ pub mod Cause
 pub mod Extract
 pub mod Files
 pub mod Input
-pub mod Letters
 pub mod Names
 pub mod Replay
 pub mod Root
 pub mod Run
 pub mod Status
+pub mod Tell
 pub mod Transfer
 pub mod Verify
 pub mod Words

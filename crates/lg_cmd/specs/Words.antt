@@ -1,21 +1,11 @@
--- What the words after the program's name say.
-use Rattle.std.specs.Prelude.{ℕ, Bool, true, false, ◌&&◌, ◌||◌, ◌==◌, nat_le, List, [], ◌∷◌, length, codes, Option, Some, None, if◌then◌else◌, bytes_eq}
-use Rattle.std.specs.List.{list_all}
-use Rattle.lg_cmd.specs.Letters.{is_letter, is_digit}
-use Rattle.lg_cmd.specs.declared.words.CommandWords.{CommandWords}
-use Rattle.lg_cmd.specs.declared.words.CommandWords.TheVariants as words
-
--- a byte of a name that files have
-abbrev pub is_name_byte : ℕ → Bool
-is_name_byte b = is_letter b || is_digit b || (b == 95) || (b == 45) || (b == 46)
-
-abbrev pub starts_well : List ℕ → Bool
-starts_well [] = false
-starts_well (b ∷ bs) = is_letter b || is_digit b
-
--- 1 to `most` letters, digits, `_`, `-` or `.`, the first a letter or a digit
-unfoldable pub is_name : ℕ → List ℕ → Bool
-is_name most name = starts_well name && nat_le (length name) most && list_all is_name_byte name
+-- The commands that are built, of those that the words can say.
+use Rattle.std.specs.Prelude.{ℕ, Bool, true, false, not, ◌&&◌, ◌==◌, List, codes, Option, Some, None, is_some, if◌then◌else◌, bytes_eq, option_map, option_and_then}
+use Rattle.lg_words.specs.Commands.{Settings, command_of}
+use Rattle.lg_words.specs.Commands as said
+use Rattle.lg_words.specs.Help.{help_of}
+use Rattle.lg_words.specs.declared.help.TheConstants.{VERSION}
+use Rattle.lg_cmd.specs.declared.words.BuiltCommand.{BuiltCommand}
+use Rattle.lg_cmd.specs.declared.words.BuiltCommand.TheVariants as words
 
 -- a command, and the names that it is given
 pub data Command : Type 0 where
@@ -27,49 +17,36 @@ pub data Command : Type 0 where
   Replay : List ℕ → List ℕ → Command
   -- the names of an honest image, of one that is suspected, and of digests
   Extract : List ℕ → List ℕ → List ℕ → Command
+  -- a text that is printed
+  Tell : List ℕ → Command
 
--- `--save NAME`
-abbrev pub step_words : List (List ℕ) → Option Command
-step_words (option ∷ save ∷ []) =
-    if bytes_eq option (codes "--save") && is_name 100 save then Some (Step save) else None
-step_words words = None
+-- what a run has where its words don't say it: no other settings are built
+abbrev pub are_usual : Settings → Bool
+are_usual settings = settings.block_size == 100000
+    && (not (is_some settings.clock) && bytes_eq settings.database (codes "LedgerDB"))
 
--- `IMAGE DIGESTS`
-abbrev pub verify_words : List (List ℕ) → Option Command
-verify_words (image ∷ digests ∷ []) =
-    if is_name 100 image && is_name 100 digests then Some (Verify image digests) else None
-verify_words words = None
+-- the command, where it is built: runs of many threads, the workload and more than one worker aren't
+unfoldable pub built : said.Command → Option Command
+built (said.Step save settings) = if are_usual settings then Some (Step save) else None
+built (said.Run save settings) = None
+built (said.Verify image digests workers) = if workers == 1 then Some (Verify image digests) else None
+built (said.Extract honest suspect digests) = Some (Extract honest suspect digests)
+built (said.Replay journal save) = Some (Replay journal save)
+built (said.Gen count) = None
+built (said.Help which) = option_map Tell (help_of which)
+built said.Version = Some (Tell VERSION.now)
 
--- `JOURNAL --save NAME`
-abbrev pub replay_words : List (List ℕ) → Option Command
-replay_words (journal ∷ option ∷ save ∷ []) =
-    if is_name 100 journal && bytes_eq option (codes "--save") && is_name 100 save
-    then Some (Replay journal save) else None
-replay_words words = None
-
--- `HONEST SUSPECT DIGESTS`
-abbrev pub extract_words : List (List ℕ) → Option Command
-extract_words (honest ∷ suspect ∷ digests ∷ []) =
-    if is_name 100 honest && is_name 100 suspect && is_name 100 digests
-    then Some (Extract honest suspect digests) else None
-extract_words words = None
-
--- the command that is named first, with what stands behind it; none where the words have no command's form
+-- the command that the words say; none where they have no form of a command that is built
 unfoldable pub command_words : List (List ℕ) → Option Command
-command_words [] = None
-command_words (command ∷ rest) =
-    if bytes_eq command (codes "step") then step_words rest
-    else if bytes_eq command (codes "verify") then verify_words rest
-    else if bytes_eq command (codes "replay") then replay_words rest
-    else if bytes_eq command (codes "extract") then extract_words rest
-    else None
+command_words words = option_and_then built (command_of words)
 
 -- the command that was read
-abbrev pub command_view : CommandWords → Command
+abbrev pub command_view : BuiltCommand → Command
 command_view (words.Step save) = Step save.now
 command_view (words.Verify image digests) = Verify image.now digests.now
 command_view (words.Replay journal save) = Replay journal.now save.now
 command_view (words.Extract honest suspect digests) = Extract honest.now suspect.now digests.now
+command_view (words.Tell text) = Tell text.now
 
 -- what is so of the name that `step` is given
 abbrev pub OfStep : Option Command → (List ℕ → Type 0) → Type 0
@@ -90,6 +67,11 @@ OfReplay words P = Unit {0}
 abbrev pub OfExtract : Option Command → (List ℕ → List ℕ → List ℕ → Type 0) → Type 0
 OfExtract (Some (Extract honest suspect digests)) P = P honest suspect digests
 OfExtract words P = Unit {0}
+
+-- what is so of the text that is printed
+abbrev pub OfTell : Option Command → (List ℕ → Type 0) → Type 0
+OfTell (Some (Tell text)) P = P text
+OfTell words P = Unit {0}
 
 -- the command reads the input
 abbrev pub reads_input : Option Command → Bool

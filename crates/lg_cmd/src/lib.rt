@@ -10,11 +10,13 @@ mod run;
 mod saved;
 mod status;
 mod step;
+mod tell;
 mod top;
 mod transfer;
 mod verify;
 mod words;
 
 pub use lg_journal::{Journal, JournalItem, Script, write_journal};
+pub use lg_words::USAGE;
 pub use status::Status;
 pub use top::ledgerd;

@@ -3,22 +3,25 @@ ghost use Rattle.std.specs.Prelude.{◌≡◌, ◌⊎◌, map, string_bytes, Non
 ghost use Rattle.sha2.specs.Sha256.{sha256};
 ghost use Rattle.lg_base.specs.Count.{Rises};
 ghost use Rattle.lg_base.specs.History.{Since};
-ghost use Rattle.lg_cmd.specs.Words.{command_words, OfStep, OfVerify, OfReplay, OfExtract};
+ghost use Rattle.lg_cmd.specs.Words.{command_words, OfStep, OfVerify, OfReplay, OfExtract, OfTell};
 ghost use Rattle.lg_cmd.specs.Words.{reads_input, puts_files};
 ghost use Rattle.lg_cmd.specs.Answer.{HasRead, Ran, RanOrIdle, OutputAgrees, Unfailed};
 ghost use Rattle.lg_cmd.specs.Calls.{AreReads, AreCalls, AreWrites};
 ghost use Rattle.lg_cmd.specs.Cause.{HasCause};
 ghost use Rattle.lg_cmd.specs.Extract.{Extracts};
 ghost use Rattle.lg_cmd.specs.Replay.{Replayed, ReplayedOrIdle, PutsAccepted};
+ghost use Rattle.lg_cmd.specs.Tell.{HasTold};
 ghost use Rattle.lg_cmd.specs.Verify.{Verified, SaidOrIdle};
 
 use crate::Status;
 use crate::extract::extract;
 use crate::replay::replay;
 use crate::step::step;
+use crate::tell::tell;
 use crate::verify::verify;
-use crate::words::{CommandWords, read_command};
+use crate::words::{BuiltCommand, read_command};
 use lg_base::{Clock, Gate, Sink, Source, Vault};
+use lg_items::Memory;
 use lg_merkle::Sha256Hash;
 use std::alloc::Global;
 
@@ -51,16 +54,24 @@ use std::alloc::Global;
 /// on two lines, in hexadecimal digits, two different strings of bytes with one SHA-256: the status is `No`.
 /// It puts nothing and reads no input.
 ///
+/// `--help` (or `-h`) and `--version` (or `-V`) as the only word, and `--help` as the only word behind a
+/// command, print a text.
+///
+/// An option and its value are two words or one, `--save NAME` or `--save=NAME`, and stand anywhere behind
+/// the command. `step --block-size 100000 --database LedgerDB` and `verify --workers 1` say what is so
+/// without them; other values aren't built yet, nor are `step --clock`, `run` and `gen`.
+///
 /// Only a run of several threads calls the gate.
 ///
-/// `Words` comes before anything else. Of `step`, `Limit`, `Form` and `Unbuilt` come before anything is put;
-/// of these the size of the input is looked at first, then the form of all lines, the number of sessions, and
-/// last what is built. After `VaultFault` the files before the one that failed stand, its name is open, and
-/// nothing was written; after `Memory` the first of the files may stand. After `SinkFault` all files stand
-/// and a first part of the text was written. Of `verify` and `extract`, the names are looked at in the order
-/// of the words, each whether it is there and then how long, then the digests, and last the images:
-/// `Digests` comes before `No`. Of `replay`, the name is looked at so, then whether the bytes are those of a
-/// journal, and last whether that is legal; all this before anything is put.
+/// `Words` comes before anything else, and so does want of memory for the words. Of `step`, `Limit`, `Form`
+/// and `Unbuilt` come before anything is put; of these the size of the input is looked at first, then the
+/// form of all lines, the number of sessions, and last what is built. After `VaultFault` the files before the
+/// one that failed stand, its name is open, and nothing was written; after `Memory` the first of the files
+/// may stand. After `SinkFault` all files stand and a first part of the text was written. Of `verify` and
+/// `extract`, the names are looked at in the order of the words, each whether it is there and then how long,
+/// then the digests, and last the images: `Digests` comes before `No`. Of `replay`, the name is looked at so,
+/// then whether the bytes are those of a journal, and last whether that is legal; all this before anything is
+/// put.
 pub fn ledgerd<S: Source, K: Sink, V: Vault, C: Clock, G: Gate>(
     alloc: Global,
     words: &[String],
@@ -111,6 +122,11 @@ pub fn ledgerd<S: Source, K: Sink, V: Vault, C: Clock, G: Gate>(
         (Extracts result sha256 honest suspect digests
         (V.names vault.old) (K.taken sink.old) (K.taken sink.new)) (sink.new ≡ sink.old)) }
 
+    // Help and the version: the text, by the status.
+    ensures told { OfTell (command_words (map string_bytes words.now))
+        (λ text. SaidOrIdle result
+        (HasTold result text (K.taken sink.old) (K.taken sink.new)) (sink.new ≡ sink.old)) }
+
     // `replay`: what is put and written of the legal journal under the name, by the status; and the image
     // that is put is accepted with any digests of the journal's blocks.
     ensures replayed { OfReplay (command_words (map string_bytes words.now))
@@ -137,21 +153,24 @@ pub fn ledgerd<S: Source, K: Sink, V: Vault, C: Clock, G: Gate>(
         → (result ≡ Status.SinkFault → ⊥)
         → sink.new ≡ sink.old }
 {
-    let Some(command) = read_command(words) else {
-        return Status::Words;
+    let command = match read_command(alloc, words) {
+        Ok(Some(command)) => command,
+        Ok(None) => return Status::Words,
+        Err(Memory) => return Status::Memory,
     };
     match command {
-        CommandWords::Step { save } => step(alloc, Sha256Hash, save, source, sink, vault, clock),
-        CommandWords::Verify { image, digests } => {
+        BuiltCommand::Step { save } => step(alloc, Sha256Hash, save, source, sink, vault, clock),
+        BuiltCommand::Verify { image, digests } => {
             verify(alloc, Sha256Hash, image, digests, sink, vault)
         }
-        CommandWords::Replay { journal, save } => {
+        BuiltCommand::Replay { journal, save } => {
             replay(alloc, Sha256Hash, journal, save, sink, vault)
         }
-        CommandWords::Extract {
+        BuiltCommand::Extract {
             honest,
             suspect,
             digests,
         } => extract(alloc, Sha256Hash, honest, suspect, digests, sink, vault),
+        BuiltCommand::Tell { text } => tell(text, sink),
     }
 }

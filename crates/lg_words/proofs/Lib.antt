@@ -1,0 +1,6 @@
+mod Facts
+mod Run
+mod End
+mod Meant
+mod Spelled
+mod Says

@@ -1,0 +1,95 @@
+// The texts of help.
+ghost use Rattle.std.specs.Prelude.{◌≡◌, option_copied};
+ghost use Rattle.lg_words.specs.Help.{help_of};
+
+use crate::subcommand::Subcommand;
+
+/// What stands on standard error where the words were refused.
+pub const USAGE: &str = "usage: ledgerd step --save NAME
+       ledgerd verify IMAGE DIGESTS
+       ledgerd extract HONEST SUSPECT DIGESTS
+       ledgerd replay JOURNAL --save NAME
+`./ledgerd --help` says what each does.
+";
+
+/// The program's name and version.
+pub const VERSION: &str = "ledgerd 0.1.0
+";
+
+/// Help on all commands.
+pub const HELP: &str =
+    "ledgerd runs statements over ledger tables in memory, and verifies images of them.
+
+  ledgerd step --save NAME                 runs statements and saves the journal
+  ledgerd verify IMAGE DIGESTS             says whether an image and digests hold together
+  ledgerd extract HONEST SUSPECT DIGESTS   says what two images are to each other
+  ledgerd replay JOURNAL --save NAME       runs a journal again and saves its image
+  ledgerd COMMAND --help                   says more of one of these
+  ledgerd --help, ledgerd -h               prints this text
+  ledgerd --version, ledgerd -V            prints the version
+
+Names are those of files in the current folder: 1 to 100 letters, digits, `_`, `-` or `.`, the first a
+letter or a digit. An option and its value are two words, or one: `--save NAME` or `--save=NAME`.
+
+Example, from the top of the repository:
+  ./ledgerd step --save balance < examples/balance.txt
+";
+
+/// Help on `step`.
+pub const STEP_HELP: &str = "ledgerd step --save NAME
+
+Runs the statements of standard input, `session: statement` on each line, and prints what each was answered.
+It puts NAME.journal in the current folder: what was committed, with the replies. Where something was
+committed it puts NAME.root before: the Merkle tree hash over the last transaction's events.
+
+Example, from the top of the repository:
+  ./ledgerd step --save balance < examples/balance.txt
+";
+
+/// Help on `verify`.
+pub const VERIFY_HELP: &str = "ledgerd verify IMAGE DIGESTS
+
+Prints `Yes` where the image IMAGE and the digests DIGESTS hold together, and ends with status 0. Where they
+don't it prints `No`, the first invariant that fails and its place, and ends with status 1.
+Both names are those of files in the current folder. It puts no file.
+
+Example, from the top of the repository:
+  (cd examples && ../ledgerd verify honest.img honest.digests)
+";
+
+/// Help on `extract`.
+pub const EXTRACT_HELP: &str = "ledgerd extract HONEST SUSPECT DIGESTS
+
+Verifies the images HONEST and SUSPECT with the digests DIGESTS, and prints the verdict on the first of them
+that isn't accepted. Where both are, it prints `Same` and ends with status 0 if all that the digests cover is
+the same in both, and else `Collision` and two byte strings with one SHA-256.
+All three names are those of files in the current folder. It puts no file.
+
+Example, from the top of the repository:
+  (cd examples && ../ledgerd extract honest.img rewritten.img honest.digests)
+";
+
+/// Help on `replay`.
+pub const REPLAY_HELP: &str = "ledgerd replay JOURNAL --save NAME
+
+Runs the journal in the file JOURNAL again, as `step` saves one, and prints how many transactions it has.
+Where each statement is answered as the journal keeps it, it puts NAME.img, the journal's image, and
+NAME.journal, its own bytes, in the current folder.
+
+Example, from the top of the repository, behind that of `step`:
+  ./ledgerd replay balance.journal --save again
+";
+
+/// The help on a command, or on all where none is given; none on a command that isn't built yet.
+pub fn help_text(which: Option<Subcommand>) -> Option<&'static str>
+    ensures { option_copied result ≡ help_of which }
+{
+    match which {
+        None => Some(HELP),
+        Some(Subcommand::Step) => Some(STEP_HELP),
+        Some(Subcommand::Verify) => Some(VERIFY_HELP),
+        Some(Subcommand::Extract) => Some(EXTRACT_HELP),
+        Some(Subcommand::Replay) => Some(REPLAY_HELP),
+        Some(Subcommand::Run) | Some(Subcommand::Gen) => None,
+    }
+}

@@ -1,0 +1,14 @@
+// Which words are accepted, in spelled form.
+ghost use Rattle.std.specs.Prelude.{◌≡◌, List, Some};
+ghost use Rattle.lg_words.specs.Arguments.{Says};
+ghost use Rattle.lg_words.specs.Commands.{Command, arguments_of};
+ghost use Rattle.lg_words.specs.Line.{Text};
+ghost use Rattle.lg_words.specs.declared.subcommand.Subcommand.{Subcommand};
+
+/// The words behind a command say a command with its values exactly where they spell it.
+pub fn words_law()
+    ensures accepted { (which : Subcommand) (words : List Text) (command : Command)
+        → Says which words command → arguments_of which words ≡ Some command }
+    ensures spelled { (which : Subcommand) (words : List Text) (command : Command)
+        → arguments_of which words ≡ Some command → Says which words command }
+{}

@@ -1,0 +1,14 @@
+//! The words after the program's name: the command that they say, and the texts of help.
+#![tactic(auto)]
+
+mod command;
+mod forms;
+mod help;
+mod law;
+mod line;
+mod subcommand;
+
+pub use command::{Command, Settings, read_command};
+pub use help::{HELP, USAGE, VERSION, help_text};
+pub use law::words_law;
+pub use subcommand::Subcommand;
