@@ -1,11 +1,11 @@
 -- Two images agree in what a digest covers exactly where they agree in its entries and in the leaves of these.
-use Rattle.std.proofs.Common.{◌≡◌, ℕ, zero, suc, Bool, List, [], ◌∷◌, map, filter, take, refl, sym, ◌∙◌, ap, subst}
+use Rattle.std.proofs.Common.{◌≡◌, ℕ, List, [], ◌∷◌, map, filter, refl, sym, ◌∙◌, ap, subst}
 use Rattle.std.specs.List.{AllByRecursion}
-use Rattle.std.proofs.lemmas.Bool.{cond_both}
 use Rattle.lg_types.specs.declared.entry.TxEntry.{TxEntry}
 use Rattle.lg_types.specs.declared.event.Event.{Event}
 use Rattle.lg_types.specs.declared.version.Table.{Table}
 use Rattle.lg_row.specs.Leaf.{event_bytes, spelled, without_nulls, HasLeaf}
+use Rattle.lg_frames.proofs.Alls.{all_filter}
 use Rattle.lg_merkle.specs.TreeHash.{tree_hash}
 use Rattle.lg_model.specs.Catalog.{Tables}
 use Rattle.lg_model.specs.Events.{events_of}
@@ -14,18 +14,7 @@ use Rattle.lg_verdict.specs.Covered.{TableEvents, told_in, CoveredEntry, covered
 use Rattle.lg_extract.specs.declared.leaves.Leaf.{Leaf}
 use Rattle.lg_extract.specs.Leaves.{tree_of, IsRooted, HasRoots, SameTree, SameTrees}
 use Rattle.lg_extract.proofs.ImageLeaves.{IsFound, EventsFit}
-
-cons_is : {A : Type 0} (x y : A) (xs ys : List A) → x ∷ xs ≡ y ∷ ys → (x ≡ y) × (xs ≡ ys)
-cons_is x y xs ys e = (cc, cc)
-
-pub all_kept : {A : Type 0} (P : A → Type 0) (p : A → Bool) (xs : List A) → AllByRecursion P xs → AllByRecursion P (filter p xs)
-all_kept P p [] all = tt
-all_kept P p (x ∷ xs) all = cond_both (p x) (x ∷ filter p xs) (filter p xs) (AllByRecursion P) (λ e. (all.0, all_kept P p xs all.1)) (λ e. all_kept P p xs all.1)
-
-pub all_taken : {A : Type 0} (P : A → Type 0) (n : ℕ) (xs : List A) → AllByRecursion P xs → AllByRecursion P (take n xs)
-all_taken P zero xs all = tt
-all_taken P (suc n) [] all = tt
-all_taken P (suc n) (x ∷ xs) all = (all.0, all_taken P n xs all.1)
+use Rattle.lg_extract.proofs.Lists.{cons_is}
 
 -- equal leaves are of equal events
 abbrev pub Injective : Type 0
@@ -134,7 +123,7 @@ module _ (h : List ℕ → List ℕ) (A B : Tables) where
     trees_of e ra same =
         subst (AllByRecursion (SameTree ya yb e.id)) (sym ra)
         (trees_from_told h e.id ya yb (filter (has_events e.id) A) (filter (has_events e.id) B)
-        (all_kept (IsFound e.id ya) (has_events e.id) A (found_a e.id)) (all_kept (IsFound e.id yb) (has_events e.id) B (found_b e.id)) (ap (λ (c : CoveredEntry). c.tables) same))
+        (all_filter (IsFound e.id ya) (has_events e.id) A (found_a e.id)) (all_filter (IsFound e.id yb) (has_events e.id) B (found_b e.id)) (ap (λ (c : CoveredEntry). c.tables) same))
 
     pub all_trees : (es : List TxEntry) → AllByRecursion (RootsOf A) es → map (covered_entry A) es ≡ map (covered_entry B) es → AllByRecursion (SameTrees ya yb) es
     all_trees [] ra e = tt
@@ -147,8 +136,8 @@ module _ (h : List ℕ → List ℕ) (A B : Tables) where
       unfolding roots_of
       covered_same e ra rb same =
           let told = told_from_trees h e.id ya yb one (filter (has_events e.id) A) (filter (has_events e.id) B)
-          (all_kept (IsFound e.id ya) (has_events e.id) A (found_a e.id)) (all_kept (IsFound e.id yb) (has_events e.id) B (found_b e.id))
-          (all_kept (EventsFit e.id) (has_events e.id) A (fits_a e.id)) (all_kept (EventsFit e.id) (has_events e.id) B (fits_b e.id))
+          (all_filter (IsFound e.id ya) (has_events e.id) A (found_a e.id)) (all_filter (IsFound e.id yb) (has_events e.id) B (found_b e.id))
+          (all_filter (EventsFit e.id) (has_events e.id) A (fits_a e.id)) (all_filter (EventsFit e.id) (has_events e.id) B (fits_b e.id))
           (sym ra ∙ rb) (subst (AllByRecursion (SameTree ya yb e.id)) ra same) in
           ap (λ (tables : List TableEvents). record { block = e.block; ordinal = e.ordinal; id = e.id; time = e.time; principal = e.principal; tables = tables }) told
 
@@ -161,6 +150,6 @@ module _ (h : List ℕ → List ℕ) (A B : Tables) where
   unfolding roots_of
   all_have ya found [] ra = tt
   all_have ya found (e ∷ es) ra = (
-    subst (AllByRecursion (IsRooted h ya e.id)) (sym ra.0) (rooted h e.id ya ya (filter (has_events e.id) A) (all_kept (IsFound e.id ya) (has_events e.id) A (found e.id))),
+    subst (AllByRecursion (IsRooted h ya e.id)) (sym ra.0) (rooted h e.id ya ya (filter (has_events e.id) A) (all_filter (IsFound e.id ya) (has_events e.id) A (found e.id))),
     all_have ya found es ra.1,
   )

@@ -18,7 +18,8 @@ use Rattle.lg_extract.specs.Finds.{Finds}
 use Rattle.lg_extract.specs.Leaves.{HasRoots, SameTrees, all_leaves, leaf_cmp}
 use Rattle.lg_extract.specs.Meets.{Meets}
 use Rattle.lg_extract.specs.Parts.{blocks_to, entries_to}
-use Rattle.lg_extract.proofs.Agreeing.{Injective, RootsOf, all_covered, all_have, all_taken, all_trees, entries_back}
+use Rattle.lg_extract.proofs.Agreeing.{Injective, RootsOf, all_covered, all_have, all_trees, entries_back}
+use Rattle.lg_extract.proofs.Lists.{all_taken}
 use Rattle.lg_extract.proofs.Heads.{enough, heads, records_back, sizes, sizes_are}
 use Rattle.lg_extract.proofs.ImageLeaves.{all_found, image_fits}
 use Rattle.lg_extract.proofs.Linked.{digested}

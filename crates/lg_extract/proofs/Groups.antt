@@ -14,10 +14,12 @@ use Rattle.std.proofs.lemmas.List.Elements.{filter-append, filter_agree, recursi
 use Rattle.std.proofs.lemmas.List.Sorted.{ranks_by, sorted_far, searchable_from_sorted, IsPartitionedBy-leb, IsPartitionedBy-ltb, IsNonDecreasingBy-drop}
 use Rattle.lg_model.specs.Lists.{sorted}
 use Rattle.lg_model.specs.Rows.{event_cmp}
+use Rattle.lg_frames.proofs.Alls.{all_weaker}
 use Rattle.lg_parts.proofs.Orders.{event_total}
 use Rattle.lg_parts.proofs.Sorting.{sorted_stably}
 use Rattle.lg_extract.specs.declared.leaves.Leaf.{Leaf}
 use Rattle.lg_extract.specs.Leaves.{Group, leaf_cmp, is_of, comes_before, comes_after}
+use Rattle.lg_extract.proofs.Lists.{all_two}
 
 -- ---- orderings
 
@@ -228,14 +230,6 @@ all_of : (p : Leaf → Bool) (ys : List Leaf) → AllByRecursion (λ y. p y ≡ 
 all_of p [] all = refl
 all_of p (y ∷ ys) all = cond-true (p y) (y ∷ filter p ys) (filter p ys) all.0 ∙ ap (λ (l : List Leaf). y ∷ l) (all_of p ys all.1)
 
-pub all_map : {A : Type 0} (P Q : A → Type 0) → ((x : A) → P x → Q x) → (xs : List A) → AllByRecursion P xs → AllByRecursion Q xs
-all_map P Q f [] all = tt
-all_map P Q f (x ∷ xs) all = (f x all.0, all_map P Q f xs all.1)
-
-pub all_two : {A : Type 0} (P Q R : A → Type 0) → ((x : A) → P x → Q x → R x) → (xs : List A) → AllByRecursion P xs → AllByRecursion Q xs → AllByRecursion R xs
-all_two P Q R f [] all both = tt
-all_two P Q R f (x ∷ xs) all both = (f x all.0 both.0, all_two P Q R f xs all.1 both.1)
-
 not_less : (o : Ordering) → is_lt o ≡ true → is_eq o ≡ false
 not_less Less e = refl
 not_less Equal e = sym e
@@ -257,8 +251,8 @@ pub found_between : (g : Group) (ys : List Leaf) (from count : ℕ) → from ≤
     → take count (drop from ys) ≡ filter (is_of g) ys
 found_between g ys from count low high one two =
     let rest = drop from ys in
-    let front = all_map (λ (l : Leaf). comes_before g l ≡ true) (λ l. is_of g l ≡ false) (λ l e. of_group g l ∙ not_less (event_cmp l.group g) e) (take from ys) (all_taken (λ l. comes_before g l ≡ true) ys from low one.0) in
-    let back = all_map (λ (l : Leaf). not_after g l ≡ false) (λ l. is_of g l ≡ false) (λ l e. of_group g l ∙ beyond (event_cmp l.group g) e) (drop count rest) (all_left (λ l. not_after g l ≡ false) rest count two.1) in
+    let front = all_weaker (λ (l : Leaf). comes_before g l ≡ true) (λ l. is_of g l ≡ false) (λ l e. of_group g l ∙ not_less (event_cmp l.group g) e) (take from ys) (all_taken (λ l. comes_before g l ≡ true) ys from low one.0) in
+    let back = all_weaker (λ (l : Leaf). not_after g l ≡ false) (λ l. is_of g l ≡ false) (λ l e. of_group g l ∙ beyond (event_cmp l.group g) e) (drop count rest) (all_left (λ l. not_after g l ≡ false) rest count two.1) in
     let later = all_left (λ (l : Leaf). comes_before g l ≡ false) ys from one.1 in
     let middle = all_two (λ (l : Leaf). comes_before g l ≡ false) (λ l. not_after g l ≡ true) (λ l. is_of g l ≡ true) (λ l e f. of_group g l ∙ between (event_cmp l.group g) e f) (take count rest)
     (all_front (λ (l : Leaf). comes_before g l ≡ false) (take count rest) (drop count rest) (subst (AllByRecursion (λ (l : Leaf). comes_before g l ≡ false)) (sym (take-append-drop count rest)) later))

@@ -2,6 +2,7 @@
 use Rattle.std.proofs.Common.{◌≡◌, ◌≢◌, ◌≤◌, ◌<◌, ◌*◌, ◌^◌, suc, ℕ, List, [], ◌∷◌, ◌++◌, length, take, drop, refl, arith, sym, ◌∙◌, ap, lit<, length-take, length-drop}
 use Rattle.std.proofs.Math.Nat.{one-le-pow, pow-succ'}
 use Rattle.std.proofs.lemmas.List.{take-append-drop}
+use Rattle.lg_bytes.proofs.Fronts.{fronts}
 use Rattle.lg_merkle.specs.TreeHash.{tree_hash, split_of}
 use Rattle.lg_merkle.proofs.Trees.{tree_hash_two}
 use Rattle.lg_merkle.proofs.Split.{split_is, split_of_is}
@@ -39,17 +40,6 @@ pub record Halves (h : List ℕ → List ℕ) (a b : List (List ℕ)) : Type 0 w
   pub more_b : 2 ≤ length b
   pub left : tree_hash h (take (split_of (length a)) a) ≡ tree_hash h (take (split_of (length b)) b)
   pub right : tree_hash h (drop (split_of (length a)) a) ≡ tree_hash h (drop (split_of (length b)) b)
-
--- two lists of one length at the front of equal lists
-pub fronts : {A : Type 0} (a b x y : List A) → length a ≡ length b → a ++ x ≡ b ++ y → (a ≡ b) × (x ≡ y)
-fronts [] [] x y l e = (refl, e)
-fronts [] (c ∷ b) x y l e = absurd (omega arith)
-fronts (c ∷ a) [] x y l e = absurd (omega arith)
-fronts (c ∷ a) (d ∷ b) x y l e =
-    let head : c ≡ d = cc in
-    let tail : a ++ x ≡ b ++ y = cc in
-    let r = fronts a b x y (omega arith) tail in
-    ((rw (head, r.0) refl), r.1)
 
 module _ (h : List ℕ → List ℕ) (sized : (bytes : List ℕ) → length (h bytes) ≡ 32) where
   length_tree_hash : (all : List (List ℕ)) → length (tree_hash h all) ≡ 32

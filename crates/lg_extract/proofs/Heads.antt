@@ -22,7 +22,8 @@ use Rattle.lg_image.specs.ImageBytes.{IsImage, sizes_of}
 use Rattle.lg_verdict.specs.First.{unless, first_from}
 use Rattle.lg_verdict.specs.Blocks.{entries_before, entries_in, hash_before, link_holds, block_holds, chain_fault, block_fault}
 use Rattle.lg_verdict.specs.declared.place.Place.{Place}
-use Rattle.lg_extract.proofs.Halves.{fronts}
+use Rattle.lg_bytes.proofs.Fronts.{fronts}
+use Rattle.lg_extract.proofs.Lists.{cons_is}
 
 -- ---- what no fault says
 
@@ -37,9 +38,6 @@ passes false p e = cc
 pub both_true : (a b : Bool) → (a && b) ≡ true → (a ≡ true) × (b ≡ true)
 both_true true b e = (refl, e)
 both_true false b e = cc
-
-cons_is : {A : Type 0} (x y : A) (xs ys : List A) → x ∷ xs ≡ y ∷ ys → (x ≡ y) × (xs ≡ ys)
-cons_is x y xs ys e = (cc, cc)
 
 pub none_at : {A B : Type 0} (f : ℕ → A → Option B) (n : ℕ) (xs : List A) → first_from f n xs ≡ None → (k : ℕ) (x : A) (more : List A) → drop k xs ≡ x ∷ more → f (n + k) x ≡ None
 none_at f n [] e zero x more d = cc

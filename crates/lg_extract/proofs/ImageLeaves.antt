@@ -4,7 +4,7 @@ use Rattle.std.specs.Prelude.{◌&&◌, ◌==◌, IfSome, is_some}
 use Rattle.std.specs.List.{AllByRecursion}
 use Rattle.std.specs.List.Sorted.{IsStable}
 use Rattle.std.specs.Ordering.{nat_cmp}
-use Rattle.std.proofs.lemmas.Bool.{eq-eqb, ne_eqb, lt-ltb, cond_both}
+use Rattle.std.proofs.lemmas.Bool.{eq-eqb, ne_eqb, lt-ltb}
 use Rattle.std.proofs.lemmas.List.Elements.{filter-append}
 use Rattle.lg_bytes.specs.Fields.{u16_field}
 use Rattle.lg_types.specs.declared.event.Event.{Event}
@@ -19,7 +19,7 @@ use Rattle.lg_types.specs.declared.version.Version.{Version}
 use Rattle.lg_row.specs.Leaf.{event_bytes, start_bytes, column_bytes, columns_bytes, has_value, HasLeaf, IsEvent, IsField, IsStart, rise_from}
 use Rattle.lg_row.specs.TypedBytes.{IsTyped}
 use Rattle.lg_row.proofs.Leaves.{leaf_again}
-use Rattle.lg_frames.proofs.Alls.{all_sorted}
+use Rattle.lg_frames.proofs.Alls.{all_append, all_filter, all_sorted, all_weaker}
 use Rattle.lg_model.specs.Catalog.{Defs, Tables}
 use Rattle.lg_model.specs.Events.{fields_at, fields_of, start_event, end_event, end_events, version_events, events_of}
 use Rattle.lg_model.specs.Lists.{sorted, numbered}
@@ -34,22 +34,15 @@ use Rattle.lg_image.specs.RowBytes.{IsValue, AreValues, AreIndexes, AreRows, IsP
 use Rattle.lg_image.specs.Tables.{tables_in, tables_with, table_in, defs_in}
 use Rattle.lg_extract.specs.declared.leaves.Leaf.{Leaf}
 use Rattle.lg_extract.specs.Leaves.{event_from, head_of, told_bytes, leaf_of, table_leaves, all_leaves, leaf_cmp, is_of, bytes_of, tree_of}
-use Rattle.lg_extract.proofs.Groups.{by_seq, group_sorted, all_map, all_two}
+use Rattle.lg_extract.proofs.Groups.{by_seq, group_sorted}
+use Rattle.lg_extract.proofs.Lists.{all_two}
 use Rattle.lg_extract.proofs.Rooted.{Above, tables_above}
 
 -- ---- all leaves of a table are of the table
 
-all_append : {A : Type 0} (P : A → Type 0) (xs ys : List A) → AllByRecursion P xs → AllByRecursion P ys → AllByRecursion P (xs ++ ys)
-all_append P [] ys all more = more
-all_append P (x ∷ xs) ys all more = (all.0, all_append P xs ys all.1 more)
-
 all_each : {A B : Type 0} (P : B → Type 0) (f : A → List B) (xs : List A) → AllByRecursion (λ x. AllByRecursion P (f x)) xs → AllByRecursion P (flat_map f xs)
 all_each P f [] all = tt
 all_each P f (x ∷ xs) all = all_append P (f x) (flat_map f xs) all.0 (all_each P f xs all.1)
-
-all_kept : {A : Type 0} (P : A → Type 0) (p : A → Bool) (xs : List A) → AllByRecursion P xs → AllByRecursion P (filter p xs)
-all_kept P p [] all = tt
-all_kept P p (x ∷ xs) all = cond_both (p x) (x ∷ filter p xs) (filter p xs) (AllByRecursion P) (λ e. (all.0, all_kept P p xs all.1)) (λ e. all_kept P p xs all.1)
 
 of_table : (id : ℕ) (vs : List Version) → AllByRecursion (λ (e : Event). e.table ≡ id) (flat_map (version_events id) vs)
 of_table id [] = tt
@@ -92,7 +85,7 @@ all_above : (n : ℕ) (ts : Tables) → Above n ts → AllByRecursion (λ (t : T
 all_above n [] above = tt
 all_above n (t ∷ ts) above =
     let lt = above.0 in
-    (lt, all_map (λ (s : Table). t.def.id < s.def.id) (λ s. n < s.def.id) (λ s more. omega arith) ts (all_above t.def.id ts above.1))
+    (lt, all_weaker (λ (s : Table). t.def.id < s.def.id) (λ s. n < s.def.id) (λ s more. omega arith) ts (all_above t.def.id ts above.1))
 
 abbrev InTable : ℕ → Tables → Table → Type 0
 InTable tx ts t = filter (is_of (tx, t.def.id)) (all_leaves ts) ≡ filter (is_of (tx, t.def.id)) (table_leaves t)
@@ -130,7 +123,7 @@ found_in tx ts ys up stable t here =
 
 pub all_found : (i : Image) (ys : List Leaf) → IsImage i → IsSorted leaf_cmp ys → IsStable leaf_cmp (all_leaves (tables_in i)) ys → (tx : ℕ) → AllByRecursion (IsFound tx ys) (tables_in i)
 all_found i ys is up stable tx =
-    all_map (InTable tx (tables_in i)) (IsFound tx ys) (found_in tx (tables_in i) ys up stable) (tables_in i) (each_table tx 0 (tables_in i) (tables_above i.defs i.tables is.ids))
+    all_weaker (InTable tx (tables_in i)) (IsFound tx ys) (found_in tx (tables_in i) ys up stable) (tables_in i) (each_table tx 0 (tables_in i) (tables_above i.defs i.tables is.ids))
 
 -- ---- the bytes of a version's event
 
@@ -242,7 +235,7 @@ history_version v is = record { start = is.start; end = by v.end is.end; values 
 
 pub versions_fit : (def : TableDef) (rows : TableRows) → IsTable def rows → AllByRecursion IsVersion (rows.base ++ rows.history)
 versions_fit def rows is =
-    all_append IsVersion rows.base rows.history (all_map IsBaseRow IsVersion base_version rows.base is.base.0.1) (all_map IsHistoryRow IsVersion history_version rows.history is.history.0.1)
+    all_append IsVersion rows.base rows.history (all_weaker IsBaseRow IsVersion base_version rows.base is.base.0.1) (all_weaker IsHistoryRow IsVersion history_version rows.history is.history.0.1)
 
 abbrev pub EventsFit : ℕ → Table → Type 0
 EventsFit tx t = AllByRecursion HasLeaf (events_of tx t)
@@ -251,9 +244,9 @@ table_fits : (tx : ℕ) (def : TableDef) (rows : TableRows) → def.id < 2 ^ 32 
 unfolding events_of
 table_fits tx def rows small is =
     all_sorted HasLeaf (λ (a b : Event). nat_cmp a.seq b.seq) (filter (λ (e : Event). e.tx == tx) (flat_map (version_events def.id) (rows.base ++ rows.history)))
-    (all_kept HasLeaf (λ (e : Event). e.tx == tx) (flat_map (version_events def.id) (rows.base ++ rows.history))
+    (all_filter HasLeaf (λ (e : Event). e.tx == tx) (flat_map (version_events def.id) (rows.base ++ rows.history))
     (all_each HasLeaf (version_events def.id) (rows.base ++ rows.history)
-    (all_map IsVersion (λ v. AllByRecursion HasLeaf (version_events def.id v)) (λ v fits. version_fits def.id v small fits) (rows.base ++ rows.history) (versions_fit def rows is))))
+    (all_weaker IsVersion (λ v. AllByRecursion HasLeaf (version_events def.id v)) (λ v fits. version_fits def.id v small fits) (rows.base ++ rows.history) (versions_fit def rows is))))
 
 each_fits : (tx : ℕ) (defs : Defs) (rows : List TableRows) → AllByRecursion (λ (d : TableDef). d.id < 2 ^ 32) defs → AreTables defs rows → AllByRecursion (EventsFit tx) (tables_with defs rows)
 each_fits tx [] [] small are = tt
@@ -263,7 +256,7 @@ each_fits tx (d ∷ ds) (r ∷ rs) small are = (table_fits tx d r small.0 are.0,
 
 pub image_fits : (tx : ℕ) (i : Image) → IsImage i → AllByRecursion (EventsFit tx) (tables_in i)
 image_fits tx i is =
-    each_fits tx (defs_in i) i.tables (omega arith, (omega arith, all_map IsDef (λ (d : TableDef). d.id < 2 ^ 32) (λ d f. f.id) i.defs is.defs)) is.tables
+    each_fits tx (defs_in i) i.tables (omega arith, (omega arith, all_weaker IsDef (λ (d : TableDef). d.id < 2 ^ 32) (λ d f. f.id) i.defs is.defs)) is.tables
 
 -- ---- table by table
 

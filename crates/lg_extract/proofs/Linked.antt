@@ -1,5 +1,5 @@
 -- The chains of two images that have one digest.
-use Rattle.std.proofs.Common.{◌≡◌, ◌≢◌, ◌≤◌, ◌<◌, ◌+◌, ◌-◌, ℕ, zero, suc, List, [], ◌∷◌, length, take, drop, arith, sym, ◌∙◌, ap, subst, length-take}
+use Rattle.std.proofs.Common.{◌≡◌, ◌≢◌, ◌≤◌, ◌<◌, ◌+◌, ◌-◌, ℕ, suc, List, [], ◌∷◌, length, take, drop, arith, sym, ◌∙◌, ap, subst, length-take}
 use Rattle.std.specs.Prelude.{◌&&◌, nat_lt, bytes_eq}
 use Rattle.std.specs.List.{AllByRecursion}
 use Rattle.std.proofs.lemmas.Bool.{ltb-true}
@@ -17,6 +17,7 @@ use Rattle.lg_verdict.specs.First.{unless}
 use Rattle.lg_extract.specs.Meets.{Meets}
 use Rattle.lg_extract.specs.Parts.{blocks_to}
 use Rattle.lg_extract.proofs.Heads.{both_true, passes, none_both, link_at}
+use Rattle.lg_extract.proofs.Lists.{cons_is, all_left}
 
 pub record Digested (h : List ℕ → List ℕ) (i : Image) (d : HeldDigest) : Type 0 where
   pub within : d.block < length i.blocks
@@ -29,14 +30,6 @@ digested h i d m =
     (passes (digest_holds h i d) _ (none_both (unless (digest_holds h i d) _) _ m.digest_holds).0) in
     let c = both_true (nat_lt d.block (length i.blocks)) (bytes_eq d.hash (hash_at h i.blocks d.block)) b.1 in
     record { within = ltb-true d.block (length i.blocks) c.0; hash = (bytes_eq-Decides d.hash (hash_at h i.blocks d.block)).0 c.1 }
-
-pub all_left : {A : Type 0} (P : A → Type 0) (n : ℕ) (xs : List A) → AllByRecursion P xs → AllByRecursion P (drop n xs)
-all_left P zero xs all = all
-all_left P (suc n) [] all = tt
-all_left P (suc n) (x ∷ xs) all = all_left P n xs all.1
-
-pub cons_is : {A : Type 0} (x y : A) (xs ys : List A) → x ∷ xs ≡ y ∷ ys → (x ≡ y) × (xs ≡ ys)
-cons_is x y xs ys e = (cc, cc)
 
 -- two chains that agree from a place on, up to block b, and whose blocks before that place have one hash
 pub record Agreed (h : List ℕ → List ℕ) (i j : Image) (b k : ℕ) : Type 0 where

@@ -1,5 +1,5 @@
 -- The entries of two images with the same blocks, block by block.
-use Rattle.std.proofs.Common.{◌≡◌, ◌≢◌, ◌≤◌, ◌<◌, ◌+◌, ◌^◌, ℕ, zero, suc, List, [], ◌∷◌, ◌++◌, length, map, take, drop, refl, arith, sym, ◌∙◌, ap, subst, length-take}
+use Rattle.std.proofs.Common.{◌≡◌, ◌≢◌, ◌≤◌, ◌<◌, ◌+◌, ◌^◌, ℕ, List, [], ◌∷◌, ◌++◌, length, map, take, drop, refl, arith, sym, ◌∙◌, ap, subst, length-take}
 use Rattle.std.specs.List.{AllByRecursion}
 use Rattle.lg_types.specs.declared.digest.HeldDigest.{HeldDigest}
 use Rattle.lg_types.specs.declared.entry.BlockRecord.{BlockRecord}
@@ -16,8 +16,9 @@ use Rattle.lg_image.specs.ImageBytes.{IsPlaceless}
 use Rattle.lg_verdict.specs.Blocks.{entries_before}
 use Rattle.lg_extract.specs.Meets.{Meets}
 use Rattle.lg_extract.specs.Parts.{blocks_to, entries_to}
-use Rattle.lg_extract.proofs.Halves.{fronts}
+use Rattle.lg_bytes.proofs.Fronts.{fronts}
 use Rattle.lg_extract.proofs.Heads.{Heads, heads, sizes, sizes_are, take_parts}
+use Rattle.lg_extract.proofs.Lists.{cons_is, all_taken, all_left}
 
 -- ---- entries at their places have a spelling
 
@@ -29,20 +30,7 @@ placed_fit n o (e ∷ es) block le all =
       placed_fit n (o + 1) es block (omega (arith, le)) all.1,
     )
 
-all_taken : {A : Type 0} (P : A → Type 0) (n : ℕ) (xs : List A) → AllByRecursion P xs → AllByRecursion P (take n xs)
-all_taken P zero xs all = tt
-all_taken P (suc n) [] all = tt
-all_taken P (suc n) (x ∷ xs) all = (all.0, all_taken P n xs all.1)
-
-all_left : {A : Type 0} (P : A → Type 0) (n : ℕ) (xs : List A) → AllByRecursion P xs → AllByRecursion P (drop n xs)
-all_left P zero xs all = all
-all_left P (suc n) [] all = tt
-all_left P (suc n) (x ∷ xs) all = all_left P n xs all.1
-
 -- ---- equal bytes are of equal entries
-
-cons_is : {A : Type 0} (x y : A) (xs ys : List A) → x ∷ xs ≡ y ∷ ys → (x ≡ y) × (xs ≡ ys)
-cons_is x y xs ys e = (cc, cc)
 
 same_bytes : (xs ys : List TxEntry) → AllByRecursion IsEntry xs → AllByRecursion IsEntry ys → map entry_bytes xs ≡ map entry_bytes ys → xs ≡ ys
 same_bytes [] [] fx fy e = refl

@@ -18,6 +18,7 @@ use Rattle.lg_model.specs.Catalog.{Tables}
 use Rattle.lg_model.specs.Events.{events_of}
 use Rattle.lg_ledger.specs.Blocks.{first_or_no_hash}
 use Rattle.lg_ledger.specs.Entries.{has_events, leaves_of, root_in, roots_of}
+use Rattle.lg_frames.proofs.Alls.{all_filter}
 use Rattle.lg_image.specs.Tables.{tables_in}
 use Rattle.lg_verdict.specs.Blocks.{hash_before}
 use Rattle.lg_verdict.specs.Covered.{TableEvents, told_in, CoveredEntry, covered_entry, covered_of}
@@ -25,11 +26,12 @@ use Rattle.lg_extract.specs.Each.{HasCollision}
 use Rattle.lg_extract.specs.Hashed.{hashed}
 use Rattle.lg_extract.specs.Meets.{Meets}
 use Rattle.lg_extract.specs.Parts.{blocks_to, entries_to}
-use Rattle.lg_extract.proofs.Agreeing.{Injective, RootsOf, all_kept, events_from_leaves}
+use Rattle.lg_extract.proofs.Agreeing.{Injective, RootsOf, events_from_leaves}
 use Rattle.lg_extract.proofs.Covering.{entries_rooted}
 use Rattle.lg_extract.proofs.Halves.{Halves, back_length, front_length, halves, hash_of_hashed, joined}
 use Rattle.lg_extract.proofs.ImageLeaves.{EventsFit, image_fits}
-use Rattle.lg_extract.proofs.Linked.{Agreed, agreed_start, all_left, one_less}
+use Rattle.lg_extract.proofs.Linked.{Agreed, agreed_start, one_less}
+use Rattle.lg_extract.proofs.Lists.{cons_is, all_left}
 use Rattle.lg_extract.proofs.Parted.{BlocksLeft, all_left_first, ended, here, next, same_entries}
 
 -- ---- one fact after another
@@ -51,9 +53,6 @@ same_or_not x y = by (bytes_eq x y) refl
     by : (b : Bool) → bytes_eq x y ≡ b → (x ≡ y) ⊎ (x ≢ y)
     by true e = inl ((bytes_eq-Decides x y).0 e)
     by false e = inr (λ i. let yes = (bytes_eq-Decides x y).1 i in absurd cc)
-
-cons_is : {A : Type 0} (x y : A) (xs ys : List A) → x ∷ xs ≡ y ∷ ys → (x ≡ y) × (xs ≡ ys)
-cons_is x y xs ys e = (cc, cc)
 
 two_lists : (x y : List ℕ) (xs ys : List (List ℕ)) → (x ≡ y) ⊎ (x ≢ y) → (xs ≡ ys) ⊎ (xs ≢ ys) → (x ∷ xs ≡ y ∷ ys) ⊎ (x ∷ xs ≢ y ∷ ys)
 two_lists x y xs ys (inl e) (inl f) = inl (rw (e, f) refl)
@@ -158,7 +157,7 @@ module _ (h : List ℕ → List ℕ) where
           so_far (λ (s : map (told_in e.id) (filter (has_events e.id) A) ≡ map (told_in e.id) (filter (has_events e.id) B)). inl
           (ap (λ (tables : List TableEvents). record { block = e.block; ordinal = e.ordinal; id = e.id; time = e.time; principal = e.principal; tables = tables }) s))
           (same_tables e.id one (filter (has_events e.id) A) (filter (has_events e.id) B)
-          (all_kept (EventsFit e.id) (has_events e.id) A (fits_a e.id)) (all_kept (EventsFit e.id) (has_events e.id) B (fits_b e.id)) (sym ra ∙ rb))
+          (all_filter (EventsFit e.id) (has_events e.id) A (fits_a e.id)) (all_filter (EventsFit e.id) (has_events e.id) B (fits_b e.id)) (sym ra ∙ rb))
 
       pub same_covered : (es : List TxEntry) → AllByRecursion (RootsOf h A B A) es → AllByRecursion (RootsOf h A B B) es → (map (covered_entry A) es ≡ map (covered_entry B) es) ⊎ HasCollision h
       same_covered [] ra rb = inl refl
