@@ -3,28 +3,33 @@
 use crate::fault::Fault;
 use crate::texts::{digits_of, first_word, hash_of, number};
 use crate::values::printed_text;
-use lg_digest::{Digest, DigestErr, read_digests, write_digests};
+use lg_digest::{Digest, DigestErr, HeldDigest, read_digests, write_digests};
 use lg_items::{MAX_TICKS, Name};
 use std::alloc::Global;
 
-/// The digests that a file holds: database, number of the block and its hash; or why it holds none.
-pub fn read(alloc: Global, bytes: &[u8]) -> Result<String, Fault> {
-    let held = match read_digests(alloc, bytes) {
-        Ok(held) => held,
-        Err(DigestErr::Unreadable) => return Ok(String::from_str(alloc, "no JSON value")?),
-        Err(DigestErr::Bad { index }) => return Ok(format!(in alloc; "item {index} is no digest")?),
-        Err(DigestErr::Memory) => return Err(Fault::Memory),
-    };
+fn put_digest(alloc: Global, digest: &HeldDigest, out: &mut String) -> Result<(), Fault> {
+    let hash = digits_of(alloc, &digest.hash)?;
+    let database = digest.database.as_str();
+    out.push_str(&format!(in alloc; "; {database} {} {hash}", digest.block)?)?;
+    Ok(())
+}
+
+fn digests_text(alloc: Global, held: &[HeldDigest]) -> Result<String, Fault> {
     let mut out = format!(in alloc; "{} digests", held.len())?;
-    for digest in held.as_slice() {
-        let hash = digits_of(alloc, &digest.hash)?;
-        out.push_str(&format!(in alloc;
-            "; {} {} {hash}",
-            digest.database.as_str(),
-            digest.block
-        )?)?;
+    for digest in held {
+        put_digest(alloc, digest, &mut out)?;
     }
     Ok(out)
+}
+
+/// The digests that a file holds: database, number of the block and its hash; or why it holds none.
+pub fn read(alloc: Global, bytes: &[u8]) -> Result<String, Fault> {
+    match read_digests(alloc, bytes) {
+        Ok(held) => digests_text(alloc, held.as_slice()),
+        Err(DigestErr::Unreadable) => Ok(String::from_str(alloc, "no JSON value")?),
+        Err(DigestErr::Bad { index }) => Ok(format!(in alloc; "item {index} is no digest")?),
+        Err(DigestErr::Memory) => Err(Fault::Memory),
+    }
 }
 
 /// The digest file of one digest: database, number of the block, its hash, the time of its last entry and

@@ -2,13 +2,13 @@
 
 use crate::fault::Fault;
 use crate::statements::statement;
+use crate::tables::{rows_of, table_of};
 use crate::texts::two_sides;
-use crate::values::printed_text;
+use crate::values::value_text;
 use lg_expr::{SeenRow, check, eval};
-use lg_items::{Items, Name};
 use lg_parts::Columns;
-use lg_types::{Outcome, Part, RowStmt, Stmt, TableDef};
-use lg_value::{ColumnDef, Expr, Refusal, Value, print, to_column};
+use lg_types::{Outcome, Part, Row, RowStmt, Stmt, TableDef};
+use lg_value::{ColumnDef, Expr, Refusal, Value, to_column};
 use std::alloc::Global;
 
 /// The table over whose columns expressions are evaluated.
@@ -19,49 +19,34 @@ const TABLE: &str =
 const ROW: &str =
     "INSERT t VALUES (1, 7, NULL, 12.5, NULL, 99999999999999999999999999999999999999, '2024-02-29', 0x01ff, '2024-02-29', NULL, NULL)";
 
-/// The table that a CREATE TABLE declares.
-pub fn table_of(alloc: Global, text: &str) -> Result<TableDef, Fault> {
-    match statement(alloc, text)? {
-        Some(Stmt::Create(table)) => Ok(TableDef {
-            id: 3,
-            name: table.name,
-            kind: table.kind,
-            history: Name::of_str(alloc, "")?,
-            view: Name::of_str(alloc, "")?,
-            columns: table.columns,
-            indexes: Items::new(alloc),
-        }),
-        _ => Err(Fault::Form("a table is wanted")),
-    }
-}
-
-/// The rows that an INSERT lists.
-pub fn rows_of(alloc: Global, text: &str) -> Result<Items<Items<Value>>, Fault> {
-    match statement(alloc, text)? {
-        Some(Stmt::Change(RowStmt::Insert { rows, .. })) => Ok(rows),
-        _ => Err(Fault::Form("rows are wanted")),
+/// The value as its column keeps it.
+fn kept(column: &ColumnDef, value: &Value) -> Result<Value, Fault> {
+    match to_column(value.copy()?, &column.ty) {
+        Ok(value) => Ok(value),
+        Err(_) => Err(Fault::Form("a column doesn't take its value")),
     }
 }
 
 /// The values of a row, each as its column keeps it.
-fn kept(alloc: Global, columns: &[ColumnDef], row: &[Value]) -> Result<Vec<Value>, Fault> {
-    let mut kept = Vec::new(alloc);
+fn kept_row(alloc: Global, columns: &[ColumnDef], row: &[Value]) -> Result<Vec<Value>, Fault> {
+    let mut values = Vec::new(alloc);
     for (column, value) in columns.iter().zip(row) {
-        match to_column(value.copy()?, &column.ty) {
-            Ok(value) => kept.push(value)?,
-            Err(_) => return Err(Fault::Form("a column doesn't take its value")),
-        }
+        values.push(kept(column, value)?)?;
     }
-    Ok(kept)
+    Ok(values)
 }
 
-/// The condition of a DELETE with this text behind WHERE.
-fn condition(alloc: Global, text: &str) -> Result<Option<Expr>, Fault> {
-    let text = format!(in alloc; "DELETE t WHERE {text}")?;
-    match statement(alloc, &text)? {
-        Some(Stmt::Change(RowStmt::Delete { cond, .. })) => Ok(cond),
-        _ => Ok(None),
+fn first_kept(alloc: Global, columns: &[ColumnDef], rows: &[Row]) -> Result<Vec<Value>, Fault> {
+    match rows.first() {
+        Some(row) => kept_row(alloc, columns, row.as_slice()),
+        None => Err(Fault::Form("a row is wanted")),
     }
+}
+
+/// The values of the columns.
+fn values(alloc: Global, columns: &[ColumnDef]) -> Result<Vec<Value>, Fault> {
+    let rows = rows_of(alloc, ROW)?;
+    first_kept(alloc, columns, rows.as_slice())
 }
 
 /// The code of a refusal.
@@ -73,41 +58,61 @@ pub fn refusal_text(alloc: Global, refusal: Refusal) -> Result<String, Fault> {
     Ok(format!(in alloc; "E{code:02}")?)
 }
 
-fn outcome(alloc: Global, answer: Result<Outcome, Refusal>) -> Result<String, Fault> {
-    let word = match answer {
-        Err(refusal) => return refusal_text(alloc, refusal),
-        Ok(Outcome::Value(value)) => {
-            let mut out = Vec::new(alloc);
-            print(&value, &mut out)?;
-            return printed_text(out);
-        }
-        Ok(Outcome::Truth(None)) => "unknown",
-        Ok(Outcome::Truth(Some(true))) => "true",
-        Ok(Outcome::Truth(Some(false))) => "false",
-    };
-    Ok(String::from_str(alloc, word)?)
+fn truth_word(truth: Option<bool>) -> &'static str {
+    match truth {
+        None => "unknown",
+        Some(true) => "true",
+        Some(false) => "false",
+    }
 }
 
-/// The class of an expression over the columns and its value, truth or refusal in the row, or the refusal by
-/// which it has no class.
-pub fn evaluated(alloc: Global, text: &str) -> Result<String, Fault> {
-    let Some(e) = condition(alloc, text)? else {
-        return Ok(String::from_str(alloc, "no expression")?);
-    };
-    let table = table_of(alloc, TABLE)?;
-    let rows = rows_of(alloc, ROW)?;
-    let Some(row) = rows.get(0) else {
-        return Err(Fault::Form("a row is wanted"));
-    };
-    let row = kept(alloc, table.columns.as_slice(), row.as_slice())?;
-    let columns = Columns::of(&table, Part::Base);
-    match check(&e, &columns) {
+fn outcome_text(alloc: Global, outcome: &Outcome) -> Result<String, Fault> {
+    match outcome {
+        Outcome::Value(value) => value_text(alloc, value),
+        Outcome::Truth(truth) => Ok(String::from_str(alloc, truth_word(*truth))?),
+    }
+}
+
+fn answer_text(alloc: Global, e: &Expr, columns: &Columns, row: &[Value]) -> Result<String, Fault> {
+    match eval(e, columns, &SeenRow::of(row)) {
+        Err(refusal) => refusal_text(alloc, refusal),
+        Ok(outcome) => outcome_text(alloc, &outcome),
+    }
+}
+
+fn in_row(alloc: Global, e: &Expr, columns: &Columns, row: &[Value]) -> Result<String, Fault> {
+    match check(e, columns) {
         Err(refusal) => refusal_text(alloc, refusal),
         Ok(class) => {
-            let answer = outcome(alloc, eval(&e, &columns, &SeenRow::of(&row)))?;
+            let answer = answer_text(alloc, e, columns, row)?;
             Ok(format!(in alloc; "{class:?} {answer}")?)
         }
     }
+}
+
+fn over_columns(alloc: Global, e: &Expr, table: &TableDef) -> Result<String, Fault> {
+    let row = values(alloc, table.columns.as_slice())?;
+    in_row(alloc, e, &Columns::of(table, Part::Base), &row)
+}
+
+fn over_table(alloc: Global, e: &Expr) -> Result<String, Fault> {
+    let table = table_of(alloc, TABLE)?;
+    over_columns(alloc, e, &table)
+}
+
+fn of_condition(alloc: Global, found: &Option<Stmt>) -> Result<String, Fault> {
+    match found {
+        Some(Stmt::Change(RowStmt::Delete { cond: Some(e), .. })) => over_table(alloc, e),
+        _ => Ok(String::from_str(alloc, "no expression")?),
+    }
+}
+
+/// The class of an expression over the columns and its value, truth or refusal in the row, or the refusal by
+/// which it has no class. The expression is the condition of a DELETE with this text behind WHERE.
+pub fn evaluated(alloc: Global, text: &str) -> Result<String, Fault> {
+    let text = format!(in alloc; "DELETE t WHERE {text}")?;
+    let found = statement(alloc, &text)?;
+    of_condition(alloc, &found)
 }
 
 /// An operand of each class: number without a point and with one, text, bytes, date, NULL and truth.

@@ -4,7 +4,7 @@ use lg_items::Memory;
 use std::alloc::{AllocError, AllocFailed};
 
 /// Why a case has no answer.
-#[derive(Clone, Copy, Debug)]
+#[derive(Clone, Copy)]
 pub enum Fault {
     /// The line isn't a case, and why.
     Form(&'static str),

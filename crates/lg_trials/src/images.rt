@@ -1,5 +1,8 @@
 //! Cases of images, in hexadecimal digits.
 
+ghost use Rattle.std.specs.Prelude.{IfSome};
+ghost use Rattle.lg_image.specs.ImageBytes.{IsImage};
+
 use crate::fault::Fault;
 use lg_image::{read_image, write_image};
 use lg_types::{BlockRecord, Image, TableDef, TableRows, TxEntry};
@@ -51,13 +54,27 @@ fn image_text(alloc: Global, i: &Image) -> Result<String, Fault> {
     Ok(text)
 }
 
-/// The database of an image, its blocks, entries and tables, or nothing where the bytes are none.
-pub fn image(alloc: Global, bytes: &[u8]) -> Result<Option<String>, Fault> {
-    let Some(i) = read_image(alloc, bytes)? else {
+fn is_written_as(alloc: Global, i: &Image, bytes: &[u8]) -> Result<bool, Fault>
+    requires { IsImage i.now }
+{
+    let again = write_image(alloc, i)?;
+    Ok(again.as_slice() == bytes)
+}
+
+fn image_found(alloc: Global, found: &Option<Image>, bytes: &[u8]) -> Result<Option<String>, Fault>
+    requires { IfSome found.now (λ i. IsImage i) }
+{
+    let Some(i) = found else {
         return Ok(None);
     };
-    if write_image(alloc, &i)?.as_slice() != bytes {
+    if !is_written_as(alloc, i, bytes)? {
         return Err(Fault::Form("the image isn't written as it is read"));
     }
-    Ok(Some(image_text(alloc, &i)?))
+    Ok(Some(image_text(alloc, i)?))
+}
+
+/// The database of an image, its blocks, entries and tables, or nothing where the bytes are none.
+pub fn image(alloc: Global, bytes: &[u8]) -> Result<Option<String>, Fault> {
+    let found = read_image(alloc, bytes)?;
+    image_found(alloc, &found, bytes)
 }

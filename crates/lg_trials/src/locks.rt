@@ -47,21 +47,33 @@ fn wants_of(alloc: Global, words: &str) -> Result<Vec<Want>, Fault> {
     Ok(wants)
 }
 
+fn item_word(item: &Item) -> &'static str {
+    match item {
+        Item::Whole => "whole",
+        Item::Key(_) => "key",
+    }
+}
+
 /// Whether the transaction is new here, or who stands against it, in which mode, on the whole or a key.
-fn ask(alloc: Global, list: &mut LockList, tx: u64, words: &str) -> Result<String, Fault> {
-    match list.ask(tx, &wants_of(alloc, words)?) {
+fn answer_text(alloc: Global, answer: &Result<bool, LockErr>) -> Result<String, Fault> {
+    match answer {
         Ok(true) => Ok(String::from_str(alloc, "new")?),
         Ok(false) => Ok(String::from_str(alloc, "known")?),
         Err(LockErr::Memory) => Err(Fault::Memory),
         Err(LockErr::Locked { holder, item, mode }) => {
-            let item = if matches!(&item, Item::Whole) {
-                "whole"
-            } else {
-                "key"
-            };
-            Ok(format!(in alloc; "{holder} {mode:?} {item}")?)
+            Ok(format!(in alloc; "{holder} {mode:?} {}", item_word(item))?)
         }
     }
+}
+
+fn ask_for(alloc: Global, list: &mut LockList, tx: u64, wants: &[Want]) -> Result<String, Fault> {
+    let answer = list.ask(tx, wants);
+    answer_text(alloc, &answer)
+}
+
+fn ask(alloc: Global, list: &mut LockList, tx: u64, words: &str) -> Result<String, Fault> {
+    let wants = wants_of(alloc, words)?;
+    ask_for(alloc, list, tx, &wants)
 }
 
 /// What one step is answered: `TX LOCK ..` asks, `release TX` releases, and `back N` leaves the first so
@@ -82,15 +94,24 @@ fn step(alloc: Global, list: &mut LockList, text: &str) -> Result<String, Fault>
     Ok(String::from_str(alloc, word)?)
 }
 
+fn put_step(alloc: Global, list: &mut LockList, text: &str, out: &mut String) -> Result<(), Fault> {
+    let answer = step(alloc, list, text)?;
+    out.push_str(&format!(in alloc; "{answer} {}; ", list.holds())?)?;
+    Ok(())
+}
+
+fn steps(alloc: Global, list: &mut LockList, text: &str) -> Result<String, Fault> {
+    let mut out = String::new(alloc);
+    for text in text.split("; ") {
+        put_step(alloc, list, text, &mut out)?;
+    }
+    Ok(out)
+}
+
 /// What each step is answered, and how many locks are held then.
 pub fn asked(alloc: Global, text: &str) -> Result<String, Fault> {
     let mut list = LockList::new(alloc);
-    let mut out = String::new(alloc);
-    for text in text.split("; ") {
-        out.push_str(&step(alloc, &mut list, text)?)?;
-        out.push_str(&format!(in alloc; " {}; ", list.holds())?)?;
-    }
-    Ok(out)
+    steps(alloc, &mut list, text)
 }
 
 /// Whether two modes conflict.

@@ -14,6 +14,7 @@ mod records;
 mod replies;
 mod selecting;
 mod statements;
+mod tables;
 mod texts;
 mod trees;
 mod values;

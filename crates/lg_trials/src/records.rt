@@ -1,5 +1,10 @@
 //! Cases of leaves, entries, records and journals, in hexadecimal digits.
 
+ghost use Rattle.std.specs.Prelude.{IfSome};
+ghost use Rattle.lg_row.specs.Leaf.{HasLeaf};
+ghost use Rattle.lg_entry.specs.Entry.{IsEntry};
+ghost use Rattle.lg_journal.specs.Rules.{IsJournal};
+
 use crate::fault::Fault;
 use crate::images::image;
 use crate::texts::{digits_of, first_word, hash_of, hex_bytes, in_a_line, number};
@@ -28,16 +33,27 @@ fn entry_text(alloc: Global, e: &TxEntry) -> Result<String, Fault> {
     Ok(text)
 }
 
-fn entry(alloc: Global, bytes: &[u8]) -> Result<Option<String>, Fault> {
-    let Some(e) = read_entry(alloc, bytes)? else {
+fn entry_found(
+    alloc: Global,
+    found: &Option<TxEntry>,
+    bytes: &[u8],
+) -> Result<Option<String>, Fault>
+    requires { IfSome found.now (λ e. IsEntry e) }
+{
+    let Some(e) = found else {
         return Ok(None);
     };
     let mut out = Vec::new(alloc);
-    write_entry(&e, &mut out)?;
+    write_entry(e, &mut out)?;
     if out.as_slice() != bytes {
         return Err(Fault::Form("the entry isn't written as it is read"));
     }
-    Ok(Some(entry_text(alloc, &e)?))
+    Ok(Some(entry_text(alloc, e)?))
+}
+
+fn entry(alloc: Global, bytes: &[u8]) -> Result<Option<String>, Fault> {
+    let found = read_entry(alloc, bytes)?;
+    entry_found(alloc, &found, bytes)
 }
 
 /// Each statement with its reply.
@@ -79,14 +95,32 @@ fn journal_text(alloc: Global, j: &Journal) -> Result<String, Fault> {
     Ok(text)
 }
 
-fn journal(alloc: Global, bytes: &[u8]) -> Result<Option<String>, Fault> {
-    let Some(j) = read_journal(alloc, bytes)? else {
+fn is_written_as(alloc: Global, j: &Journal, bytes: &[u8]) -> Result<bool, Fault>
+    requires { IsJournal j.now }
+{
+    let again = write_journal(alloc, j)?;
+    Ok(again.as_slice() == bytes)
+}
+
+fn journal_found(
+    alloc: Global,
+    found: &Option<Journal>,
+    bytes: &[u8],
+) -> Result<Option<String>, Fault>
+    requires { IfSome found.now (λ j. IsJournal j) }
+{
+    let Some(j) = found else {
         return Ok(None);
     };
-    if write_journal(alloc, &j)?.as_slice() != bytes {
+    if !is_written_as(alloc, j, bytes)? {
         return Err(Fault::Form("the journal isn't written as it is read"));
     }
-    Ok(Some(journal_text(alloc, &j)?))
+    Ok(Some(journal_text(alloc, j)?))
+}
+
+fn journal(alloc: Global, bytes: &[u8]) -> Result<Option<String>, Fault> {
+    let found = read_journal(alloc, bytes)?;
+    journal_found(alloc, &found, bytes)
 }
 
 /// The table, op, transaction, number and start of an event, and the ordinal, type and value of each column.
@@ -102,16 +136,23 @@ fn event_text(alloc: Global, e: &Event) -> Result<String, Fault> {
     printed_text(out)
 }
 
-fn leaf(alloc: Global, bytes: &[u8]) -> Result<Option<String>, Fault> {
-    let Some(e) = read_event(alloc, bytes)? else {
+fn leaf_found(alloc: Global, found: &Option<Event>, bytes: &[u8]) -> Result<Option<String>, Fault>
+    requires { IfSome found.now (λ e. HasLeaf e) }
+{
+    let Some(e) = found else {
         return Ok(None);
     };
     let mut out = Vec::new(alloc);
-    write_event(&e, &mut out)?;
+    write_event(e, &mut out)?;
     if out.as_slice() != bytes {
         return Err(Fault::Form("the leaf isn't written as it is read"));
     }
-    Ok(Some(event_text(alloc, &e)?))
+    Ok(Some(event_text(alloc, e)?))
+}
+
+fn leaf(alloc: Global, bytes: &[u8]) -> Result<Option<String>, Fault> {
+    let found = read_event(alloc, bytes)?;
+    leaf_found(alloc, &found, bytes)
 }
 
 /// What an entry, an image, a journal or a leaf says, or nothing where the bytes are none.

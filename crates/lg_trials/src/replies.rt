@@ -1,7 +1,7 @@
 //! Cases of replies.
 
-use crate::expressions::rows_of;
 use crate::fault::Fault;
+use crate::tables::rows_of;
 use crate::texts::{first_word, hash_of, in_a_line, number};
 use lg_items::Items;
 use lg_reply::reply_text;
@@ -46,8 +46,13 @@ fn reply_of(alloc: Global, text: &str) -> Result<Reply, Fault> {
     }
 }
 
+fn shown(alloc: Global, reply: &Reply) -> Result<String, Fault> {
+    let text = reply_text(alloc, reply)?;
+    in_a_line(alloc, text.as_str())
+}
+
 /// The text of a reply; rows are those of an INSERT.
 pub fn reply(alloc: Global, text: &str) -> Result<String, Fault> {
     let reply = reply_of(alloc, text)?;
-    in_a_line(alloc, reply_text(alloc, &reply)?.as_str())
+    shown(alloc, &reply)
 }

@@ -1,8 +1,9 @@
 //! Cases of SELECT over a few rows.
 
-use crate::expressions::{refusal_text, rows_of, table_of};
+use crate::expressions::refusal_text;
 use crate::fault::Fault;
 use crate::statements::statement;
+use crate::tables::{rows_of, table_of};
 use crate::values::printed_text;
 use lg_parts::Columns;
 use lg_query::select;
@@ -48,27 +49,37 @@ fn put_row(row: &Row, out: &mut Vec<u8>) -> Result<(), Fault> {
     Ok(())
 }
 
-fn shown(alloc: Global, q: &Select) -> Result<String, Fault> {
-    let table = table_of(alloc, TABLE)?;
-    let columns = Columns::of(&table, Part::Base);
+fn rows_text(alloc: Global, rows: &[Row]) -> Result<String, Fault> {
+    let mut out = Vec::new(alloc);
+    for row in rows {
+        put_row(row, &mut out)?;
+    }
+    printed_text(out)
+}
+
+fn over_rows(alloc: Global, q: &Select, columns: &Columns) -> Result<String, Fault> {
     let rows = rows_of(alloc, rows_in(q.table.as_str())?)?;
-    match select(alloc, q, &columns, SHOWN, rows.into_vec()) {
+    match select(alloc, q, columns, SHOWN, rows.into_vec()) {
         Err(refusal) => refusal_text(alloc, refusal),
-        Ok(rows) => {
-            let mut out = Vec::new(alloc);
-            for row in &rows {
-                put_row(row, &mut out)?;
-            }
-            printed_text(out)
-        }
+        Ok(rows) => rows_text(alloc, &rows),
+    }
+}
+
+fn over_table(alloc: Global, q: &Select) -> Result<String, Fault> {
+    let table = table_of(alloc, TABLE)?;
+    over_rows(alloc, q, &Columns::of(&table, Part::Base))
+}
+
+fn of_select(alloc: Global, found: &Option<Stmt>) -> Result<String, Fault> {
+    match found {
+        Some(Stmt::Select(q)) => over_table(alloc, q),
+        _ => Ok(String::from_str(alloc, "no statement")?),
     }
 }
 
 /// The rows that a SELECT shows: the values with `|` between them, each row ended by `;`.
 pub fn selected(alloc: Global, text: &str) -> Result<String, Fault> {
     let text = format!(in alloc; "SELECT {text}")?;
-    match statement(alloc, &text)? {
-        Some(Stmt::Select(q)) => shown(alloc, &q),
-        _ => Ok(String::from_str(alloc, "no statement")?),
-    }
+    let found = statement(alloc, &text)?;
+    of_select(alloc, &found)
 }

@@ -1,6 +1,6 @@
 //! Cases of Merkle trees. A leaf is written in hexadecimal digits, and an empty one as `-`.
 
-ghost use Rattle.std.specs.Prelude.{◌≡◌, ◌<◌, ◌≤◌, ◌+◌, ◌^◌, ℕ, List, length};
+ghost use Rattle.std.specs.Prelude.{◌≡◌, ◌<◌, ◌≤◌, ◌+◌, ◌^◌, ℕ, List, IfOk, length, vec_len};
 ghost use Rattle.lg_merkle.specs.Holds.{Holds};
 
 use crate::fault::Fault;
@@ -11,10 +11,24 @@ use std::alloc::Global;
 /// The most leaves of a case.
 const MOST_LEAVES: usize = 1000;
 
-fn leaves_of(alloc: Global, words: &str) -> Result<Vec<Vec<u8>>, Fault> {
+fn leaf_of(alloc: Global, word: &str) -> Result<Vec<u8>, Fault> {
+    hex_bytes(alloc, if word == "-" { "" } else { word })
+}
+
+fn all_leaves(alloc: Global, words: &str) -> Result<Vec<Vec<u8>>, Fault> {
     let mut leaves = Vec::new(alloc);
     for word in words.split_whitespace() {
-        leaves.push(hex_bytes(alloc, if word == "-" { "" } else { word })?)?;
+        leaves.push(leaf_of(alloc, word)?)?;
+    }
+    Ok(leaves)
+}
+
+fn leaves_of(alloc: Global, words: &str) -> Result<Vec<Vec<u8>>, Fault>
+    ensures few { IfOk result (λ leaves. vec_len leaves ≤ 1000) }
+{
+    let leaves = all_leaves(alloc, words)?;
+    if leaves.len() > MOST_LEAVES {
+        return Err(Fault::Form("there are too many leaves"));
     }
     Ok(leaves)
 }
@@ -48,16 +62,26 @@ fn roots(first: &[Vec<u8>], second: &[Vec<u8>], third: &[Vec<u8>]) -> ([u8; 32],
     (before, between, tree.root())
 }
 
+fn tree_text(alloc: Global, leaves: &[Vec<u8>]) -> Result<String, Fault>
+    requires few { length leaves.now ≤ 1000 }
+{
+    let mut tree = Frontier::new(Sha256Hash);
+    push_all(&mut tree, leaves);
+    let root = digits_of(alloc, &tree.root())?;
+    Ok(format!(in alloc; "{} {root}", tree.count())?)
+}
+
 /// How many leaves there are, and the root of their tree.
 pub fn tree(alloc: Global, words: &str) -> Result<String, Fault> {
     let leaves = leaves_of(alloc, words)?;
-    if leaves.len() > MOST_LEAVES {
-        return Err(Fault::Form("there are too many leaves"));
-    }
-    let mut tree = Frontier::new(Sha256Hash);
-    push_all(&mut tree, &leaves);
-    let root = digits_of(alloc, &tree.root())?;
-    Ok(format!(in alloc; "{} {root}", tree.count())?)
+    tree_text(alloc, &leaves)
+}
+
+fn roots_text(alloc: Global, roots: &([u8; 32], [u8; 32], [u8; 32])) -> Result<String, Fault> {
+    let before = digits_of(alloc, &roots.0)?;
+    let between = digits_of(alloc, &roots.1)?;
+    let after = digits_of(alloc, &roots.2)?;
+    Ok(format!(in alloc; "{before}; {between}; {after}")?)
 }
 
 /// The roots before a mark, behind it, and from the mark on with other leaves.
@@ -67,12 +91,5 @@ pub fn restored(alloc: Global, text: &str) -> Result<String, Fault> {
     let first = leaves_of(alloc, first)?;
     let second = leaves_of(alloc, second)?;
     let third = leaves_of(alloc, third)?;
-    if first.len() > MOST_LEAVES || second.len() > MOST_LEAVES || third.len() > MOST_LEAVES {
-        return Err(Fault::Form("there are too many leaves"));
-    }
-    let (before, between, after) = roots(&first, &second, &third);
-    let before = digits_of(alloc, &before)?;
-    let between = digits_of(alloc, &between)?;
-    let after = digits_of(alloc, &after)?;
-    Ok(format!(in alloc; "{before}; {between}; {after}")?)
+    roots_text(alloc, &roots(&first, &second, &third))
 }

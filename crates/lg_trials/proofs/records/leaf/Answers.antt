@@ -1,6 +1,5 @@
-use Rattle.std.proofs.Common.{refl}
-use Rattle.lg_row.proofs.Leaves.{leaf_again}
+use Rattle.lg_trials.proofs.Found.{has_leaf}
 use Rattle.lg_trials.proofs.records.leaf.Goals as goal
 
-pub write_event-requires : goal.write_event-requires
-write_event-requires c = leaf_again c.in-Some.e (rw c.in-Some.is at c.in_ok-e.ensures.found).0
+pub leaf_found-requires : goal.leaf_found-requires
+leaf_found-requires c = has_leaf c.args.bytes.now c.in_ok-found.found c.in_ok-found.ensures.found

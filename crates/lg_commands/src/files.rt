@@ -1,0 +1,105 @@
+//! Files of the stored run that are made of others.
+
+use hex::FromHexError;
+use lg_base::{FixedClock, MemSink, MemSource, MemVault, OpenGate, Vault, VaultErr};
+use lg_cmd::{Status, ledgerd};
+use std::alloc::{AllocError, Global};
+
+/// More than a file of the stored run has.
+const MOST: usize = 1 << 20;
+
+/// The bytes with the new ones in the place of as many from this place on; none where the place lies behind
+/// their end.
+fn with_bytes(
+    alloc: Global,
+    bytes: &[u8],
+    at: usize,
+    new: &[u8],
+) -> Result<Option<Vec<u8>>, AllocError> {
+    if at > bytes.len() {
+        return Ok(None);
+    }
+    let (front, rest) = bytes.split_at(at);
+    let (_, rest) = rest.split_at(new.len().min(rest.len()));
+    let mut out = Vec::new(alloc);
+    out.extend_from_slice(front)?;
+    out.extend_from_slice(new)?;
+    out.extend_from_slice(rest)?;
+    Ok(Some(out))
+}
+
+/// The bytes that hexadecimal digits are, if they are.
+fn bytes_of(alloc: Global, digits: &str) -> Result<Option<Vec<u8>>, AllocError> {
+    match hex::decode(alloc, digits) {
+        Ok(bytes) => Ok(Some(bytes)),
+        Err(FromHexError::OutOfMemory) => Err(AllocError),
+        Err(_) => Ok(None),
+    }
+}
+
+/// Puts the bytes of a name under another with some of them changed: `<name> <place> <new bytes> <other>`.
+/// Answers whether it was done.
+pub fn patch<V: Vault>(alloc: Global, vault: &mut V, words: &[String]) -> Result<bool, AllocError> {
+    let [_, name, at, digits, other] = words else {
+        return Ok(false);
+    };
+    let (Ok(at), Some(new)) = (at.parse::<usize>(), bytes_of(alloc, digits.as_str())?) else {
+        return Ok(false);
+    };
+    let Ok(bytes) = vault.get(name.as_str(), MOST) else {
+        return Ok(false);
+    };
+    match with_bytes(alloc, &bytes, at, &new)? {
+        Some(bytes) => Ok(vault.put(other.as_str(), &bytes).is_ok()),
+        None => Ok(false),
+    }
+}
+
+/// How many of the proper prefixes of a name's bytes are answered `No V0`, and how many prefixes there are.
+pub fn count_cuts<V: Vault>(
+    alloc: Global,
+    vault: &mut V,
+    name: &str,
+) -> Result<(usize, usize), AllocError> {
+    let bytes = match vault.get(name, MOST) {
+        Ok(bytes) => bytes,
+        Err(_) => Vec::new(alloc),
+    };
+    let mut refused = 0;
+    for count in 0..bytes.len() {
+        if is_no_image(alloc, &bytes[..count])? {
+            refused += 1;
+        }
+    }
+    Ok((refused, bytes.len()))
+}
+
+/// Whether `verify` answers `No V0` to the bytes, with no digests.
+fn is_no_image(alloc: Global, bytes: &[u8]) -> Result<bool, AllocError> {
+    let mut vault = MemVault::new(alloc, Vec::new(alloc));
+    if put_both(&mut vault, bytes).is_err() {
+        return Ok(false);
+    }
+    let mut words = Vec::new(alloc);
+    for word in ["verify", "a", "b"] {
+        words.push(String::from_str(alloc, word)?)?;
+    }
+    let mut source = MemSource::new(Vec::new(alloc), 1, Vec::new(alloc));
+    let mut sink = MemSink::new(alloc, 64, Vec::new(alloc));
+    let clock = FixedClock { at: 0 };
+    let status = ledgerd(
+        alloc,
+        &words,
+        &mut source,
+        &mut sink,
+        &mut vault,
+        &clock,
+        &OpenGate,
+    );
+    Ok(status == Status::No && sink.bytes() == b"No V0\n".as_slice())
+}
+
+fn put_both(vault: &mut MemVault, image: &[u8]) -> Result<(), VaultErr> {
+    vault.put("a", image)?;
+    vault.put("b", b"[]")
+}
