@@ -109,6 +109,35 @@ module _ (h : List ℕ → List ℕ) where
           (omega (arith, after, least, more))
           ∙ sym (first_closed m c some)
 
+  -- ---- where one block takes all that is pending
+
+  next_is_all : (c : LedgerCell) → pending_in c ≤ c.block_size → next_block c ≡ pending_in c
+  next_is_all c fits = by (nat_le c.block_size (pending_in c)) refl
+    where
+      by : (b : Bool) → nat_le c.block_size (pending_in c) ≡ b
+          → (if b then c.block_size else pending_in c) ≡ pending_in c
+      by true e = let l = leb-true c.block_size (pending_in c) e in omega (arith, l, fits)
+      by false e = refl
+
+  module _ (c d : LedgerCell) (fits : pending_in c ≤ c.block_size) (some : 1 ≤ pending_in c)
+      (is : d ≡ closed_by h (pending_in c) c) where
+    pub none_then : pending_in d ≡ 0
+    none_then =
+        ap (λ (e : LedgerCell). pending_in e) is
+        ∙ (let after = pending_after (pending_in c) c in omega (arith, after))
+
+    pub by_one : d ≡ all_closed h (pending_in c) c
+    by_one = by (pending_in c) refl
+      where
+        one : d ≡ one_closed c
+        one = is ∙ ap (λ (m : ℕ). closed_by h m c) (sym (next_is_all c fits))
+
+        by : (m : ℕ) → pending_in c ≡ m → d ≡ all_closed h m c
+        by zero none = absurd (omega (arith, some, none))
+        by (suc m) more =
+            one ∙ sym (none_closed m (one_closed c)
+            (ap (λ (e : LedgerCell). pending_in e) (sym one) ∙ none_then)) ∙ sym (first_closed m c some)
+
   -- ---- one block more, of k entries
 
   module _ (k : ℕ) (c d : LedgerCell) (is : d ≡ closed_by h k c) (some : 1 ≤ pending_in c) where

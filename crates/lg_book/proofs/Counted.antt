@@ -18,15 +18,16 @@ length_placed block ordinal (e ∷ es) = ap suc (length_placed block (ordinal + 
 parts : (k : ℕ) (es : List TxEntry) → length (take k es) + length (drop k es) ≡ length es
 parts k es = sym (length-append (take k es) (drop k es)) ∙ ap length (take-append-drop k es)
 
-module _ (size : ℕ) (items after : List JournalItem) (chain next : Ledger)
-    (counted : IsCounted size items chain) where
+module _ (size : ℕ) (items after : List JournalItem) (next : ℕ) (chain then : Ledger)
+    (counted : IsCounted size items next chain) where
   pub committed : (entry : TxEntry) (id time : ℕ) (session : List ℕ) (opened : Bool) (script : List Line)
-      → after ≡ items ++ Tx id session time opened script ∷ [] → next ≡ commits entry chain
-      → IsCounted size after next
+      → after ≡ items ++ Tx id session time opened script ∷ [] → then ≡ commits entry chain
+      → IsCounted size after next then
   committed entry id time session opened script item more =
       rw (item, more) (record {
         some_size = counted.some_size;
         most_size = counted.most_size;
+        most_next = counted.most_next;
         entries = omega (
           arith,
           counted.entries,
@@ -36,12 +37,13 @@ module _ (size : ℕ) (items after : List JournalItem) (chain next : Ledger)
         in_blocks = counted.in_blocks;
       })
 
-  pub closed : (h : List ℕ → List ℕ) (k : ℕ) → after ≡ items ++ Close k ∷ [] → next ≡ closes h k chain
-      → IsCounted size after next
+  pub closed : (h : List ℕ → List ℕ) (k : ℕ) → after ≡ items ++ Close k ∷ [] → then ≡ closes h k chain
+      → IsCounted size after next then
   closed h k item more =
       rw (item, more) (record {
         some_size = counted.some_size;
         most_size = counted.most_size;
+        most_next = counted.most_next;
         entries = omega (
           arith,
           counted.entries,

@@ -1,4 +1,5 @@
 pub mod Closings
 pub mod Counted
+pub mod Issuing
 pub mod Newest
 pub mod OfJournal

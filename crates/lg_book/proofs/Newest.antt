@@ -22,7 +22,7 @@ time_at (x ∷ xs) (suc i) e lt is = time_at xs i e (omega (arith, lt)) is
 module _ (h : List ℕ → List ℕ) (c : LedgerCell) (all : List TxEntry) (last : TxEntry)
     (blocks : List BlockRecord)
     (hash name : List ℕ) (made : ℕ)
-    (counted : IsCounted c.block_size c.items c.chain)
+    (counted : IsCounted c.block_size c.items c.next c.chain)
     (none_pending : pending_in c ≡ 0)
     (some : 1 ≤ tx_count c.items)
     (entries : all ≡ c.chain.closed ++ c.chain.pending)

@@ -1,12 +1,15 @@
 //! The ledger's cell.
 
-ghost use Rattle.std.specs.Prelude.{◌≡◌, ◌↔◌, ◌+◌, ◌≤◌, ◌++◌, ℕ, List, true, Err, length, IfOk, IfErr, OnOk, OnErr};
-ghost use Rattle.lg_types.specs.declared.journal.JournalItem.TheVariants.{Tx};
+ghost use Rattle.std.specs.Prelude.{◌≡◌, ◌↔◌, ◌+◌, ◌≤◌, ◌^◌, ◌++◌, ◌∷◌, [], ℕ, List, true, Err, length};
+ghost use Rattle.std.specs.Prelude.{IfOk, IfErr, OnOk, OnErr};
+ghost use Rattle.lg_types.specs.declared.journal.JournalItem.TheVariants.{Close, Tx};
 ghost use Rattle.lg_types.specs.declared.journal.TheConstants.{MAX_BLOCK};
 ghost use Rattle.lg_items.specs.Ids.{is_tx_id};
 ghost use Rattle.lg_model.specs.Journals.{tx_count};
 ghost use Rattle.lg_entry.specs.Entry.{IsEntry};
+ghost use Rattle.lg_blocks.specs.Books.{KeepsHash as BooksKeepHash};
 ghost use Rattle.lg_ledger.specs.Blocks.{no_hash};
+ghost use Rattle.lg_ledger.specs.Ledger.{closes};
 ghost use Rattle.lg_standing.specs.Cells.{first_ledger, pending_in};
 ghost use Rattle.lg_standing.specs.LedgerVisits.{drawn, with_item, closed_by, all_closed, next_block};
 ghost use Rattle.lg_book.specs.declared.digest_err.DigestErr.TheVariants.{NoBlock};
@@ -38,7 +41,7 @@ pub struct LedgerCell {
     items: Vec<JournalItem>,
     next: TxId,
     books: Books,
-    issued: Items<Digest>,
+    issued: Vec<Digest>,
 }
 
 impl Model for LedgerCell {
@@ -53,14 +56,14 @@ impl Model for LedgerCell {
         items = c.items.items;
         next = c.next;
         chain = c.books.ledger;
-        issued = c.issued;
+        issued = c.issued.items;
       };
       hash = c.books.hash;
     } };
 
     ghost use Rattle.lg_book.specs.HashedCell.{IsCounted};
 
-    ghost invariant = { λ c. IsCounted c.block_size c.items.items c.books.ledger };
+    ghost invariant = { λ c. IsCounted c.block_size c.items.items c.next c.books.ledger };
 }
 
 impl LedgerCell {
@@ -77,7 +80,7 @@ impl LedgerCell {
             items: Vec::new(alloc),
             next: 1,
             books: Books::new(alloc),
-            issued: Items::new(alloc),
+            issued: Vec::new(alloc),
         }
     }
 
@@ -99,7 +102,8 @@ impl LedgerCell {
 
     /// The id that is drawn next.
     pub fn next_id(&self) -> TxId
-        ensures { result ≡ self.now.cell.next }
+        ensures id { result ≡ self.now.cell.next }
+        ensures most { result ≤ 2 ^ 63 }
     {
         self.next
     }
@@ -171,7 +175,7 @@ impl LedgerCell {
     pub fn digests(&self) -> &[Digest]
         ensures { result.now ≡ self.now.cell.issued }
     {
-        self.issued.as_slice()
+        &self.issued
     }
 
     /// Commits a transaction: its script is the journal's last item, its entry is pending. Answers its
@@ -237,60 +241,84 @@ impl LedgerCell {
 
     /// Closes all that is pending, in blocks of the block size with the rest last, and issues the digest
     /// of the newest block, as made at this moment. `NoBlock` exactly where the journal has no
-    /// transaction. After want of memory some blocks may have been closed, and no digest was issued.
+    /// transaction. After want of memory no digest was issued and full blocks may have been closed; nothing
+    /// changed where one block takes all that is pending.
+    #[tactic(auto, using(crate::proofs::Issuing::issued_of_all))]
     pub fn digest<H: Hash32>(&mut self, alloc: Global, h: H, made: u64) -> Result<Issued, DigestErr>
         requires { KeepsHash (H.digest h) self.old }
         ensures ok { IfOk result (λ issued.
             IsIssued (H.digest h) made self.old.cell issued self.new.cell) }
         ensures no_block { (result ≡ Err NoBlock) ↔ (tx_count self.old.cell.items ≡ 0) }
         ensures unchanged { result ≡ Err NoBlock → self.new ≡ self.old }
+        ensures kept { pending_in self.old.cell ≤ self.old.cell.block_size
+            → OnErr result (self.new ≡ self.old) }
         ensures memory { OnErr result ((n : ℕ) × (self.new.cell ≡ all_closed (H.digest h) n self.old.cell)) }
         ensures hash { KeepsHash (H.digest h) self.new }
     {
         if self.point() == 0 {
             return Err(DigestErr::NoBlock);
         }
-        self.close_pending(alloc, h)?;
-        let digest = self.newest_digest(made)?;
-        let block = digest.block;
-        let hash = digest.hash;
-        self.issued.push(digest)?;
-        Ok(Issued { block, hash })
+        self.close_full(alloc, h)?;
+        Ok(self.issue(alloc, h, made)?)
     }
 
-    fn close_pending<H: Hash32>(&mut self, alloc: Global, h: H) -> Result<(), Memory>
+    // Closes full blocks until one block takes what is pending.
+    fn close_full<H: Hash32>(&mut self, alloc: Global, h: H) -> Result<(), Memory>
         requires { KeepsHash (H.digest h) self.old }
-        ensures all { OnOk result
-            (self.new.cell ≡ all_closed (H.digest h) (pending_in self.old.cell) self.old.cell) }
-        ensures none { OnOk result (pending_in self.new.cell ≡ 0) }
+        ensures fits { OnOk result (pending_in self.new.cell ≤ self.new.cell.block_size) }
+        ensures rest { all_closed (H.digest h) (pending_in self.new.cell) self.new.cell
+            ≡ all_closed (H.digest h) (pending_in self.old.cell) self.old.cell }
+        ensures closed { (n : ℕ) × (self.new.cell ≡ all_closed (H.digest h) n self.old.cell) }
+        ensures kept { pending_in self.old.cell ≤ self.old.cell.block_size → self.new ≡ self.old }
         ensures count { tx_count self.new.cell.items ≡ tx_count self.old.cell.items }
-        ensures memory { OnErr result ((n : ℕ) × (self.new.cell ≡ all_closed (H.digest h) n self.old.cell)) }
         ensures hash { KeepsHash (H.digest h) self.new }
     {
-        while self.pending() > 0 {
+        while self.pending() > u64::from(self.block_size()) {
             let count = self.next_count();
             self.close_block(alloc, h, count)?;
         }
         Ok(())
     }
 
+    // Closes what is pending, which one block takes, and issues the digest of the newest block. All that
+    // takes memory comes before the digest. For want of it nothing changes.
+    fn issue<H: Hash32>(&mut self, alloc: Global, h: H, made: u64) -> Result<Issued, Memory>
+        requires fits { pending_in self.old.cell ≤ self.old.cell.block_size }
+        requires some { 1 ≤ tx_count self.old.cell.items }
+        requires hash { KeepsHash (H.digest h) self.old }
+        ensures ok { IfOk result (λ issued.
+            IsIssued (H.digest h) made self.old.cell issued self.new.cell) }
+        ensures hash { KeepsHash (H.digest h) self.new }
+        ensures err { OnErr result (self.new ≡ self.old) }
+    {
+        let database = self.database.copy()?;
+        self.issued.reserve(1)?;
+        close_rest(&mut self.items, &mut self.books, alloc, h)?;
+        let digest = self.newest_digest(database, made);
+        let block = digest.block;
+        let hash = digest.hash;
+        self.issued.push_reserved(digest);
+        Ok(Issued { block, hash })
+    }
+
     // The digest of the newest block, where nothing is pending.
-    fn newest_digest(&self, made: u64) -> Result<Digest, Memory>
+    fn newest_digest(&self, database: Name, made: u64) -> Digest
         requires none_pending { pending_in self.now.cell ≡ 0 }
         requires some { 1 ≤ tx_count self.now.cell.items }
-        ensures made { IfOk result (λ d. d.made ≡ made) }
-        ensures newest { IfOk result (λ d. (h : List ℕ → List ℕ)
-            → KeepsHash h self.now → IsOfNewest h self.now.cell d) }
+        requires database { database ≡ self.now.cell.database }
+        ensures made { result.made ≡ made }
+        ensures newest { (h : List ℕ → List ℕ) → KeepsHash h self.now
+            → IsOfNewest h self.now.cell result }
     {
         let entries = self.books.entries();
         let last = &entries[entries.len() - 1];
-        Ok(Digest {
-            database: self.database.copy()?,
+        Digest {
+            database,
             block: self.books.blocks().len() as u64 - 1,
             hash: self.books.hash(),
             last_commit: last.time,
             made,
-        })
+        }
     }
 
     /// The journal, and the digests in the order of issue. Takes no memory.
@@ -298,6 +326,7 @@ impl LedgerCell {
         ensures database { result.0.database ≡ self.cell.database }
         ensures items { result.0.items ≡ self.cell.items }
         ensures digests { result.1 ≡ self.cell.issued }
+        ensures next { self.cell.next ≤ 2 ^ 63 }
     {
         let LedgerCell {
             database,
@@ -309,7 +338,7 @@ impl LedgerCell {
             database,
             items: Items::from_vec(items),
         };
-        (journal, issued)
+        (journal, Items::from_vec(issued))
     }
 }
 
@@ -318,4 +347,32 @@ fn two_copies(name: &Name) -> Result<(Name, Name), Memory>
     ensures { IfOk result (λ names. (names.0 ≡ name.now) × (names.1 ≡ name.now)) }
 {
     Ok((name.copy()?, name.copy()?))
+}
+
+// Closes a block of all that is pending, where something is. For want of memory nothing changes.
+fn close_rest<H: Hash32>(
+    items: &mut Vec<JournalItem>,
+    books: &mut Books,
+    alloc: Global,
+    h: H,
+) -> Result<(), Memory>
+    requires few { length books.old.ledger.pending ≤ MAX_BLOCK }
+    requires hash { BooksKeepHash (H.digest h) books.old }
+    ensures none { length books.old.ledger.pending ≡ 0
+        → (items.new.items ≡ items.old.items) × (books.new ≡ books.old) }
+    ensures item { OnOk result (1 ≤ length books.old.ledger.pending
+        → items.new.items ≡ items.old.items ++ Close (length books.old.ledger.pending) ∷ []) }
+    ensures ledger { OnOk result (1 ≤ length books.old.ledger.pending
+        → books.new.ledger ≡ closes (H.digest h) (length books.old.ledger.pending) books.old.ledger) }
+    ensures hash { OnOk result (BooksKeepHash (H.digest h) books.new) }
+    ensures err { OnErr result ((items.new.items ≡ items.old.items) × (books.new ≡ books.old)) }
+{
+    let count = books.pending();
+    if count == 0 {
+        return Ok(());
+    }
+    items.reserve(1)?;
+    books.close(alloc, h, count)?;
+    items.push_reserved(JournalItem::Close(count as u32));
+    Ok(())
 }

@@ -42,7 +42,7 @@ module _ {H : Type 0} where
     pub table : t.table ≡ id
     pub is : t.frontier ≡ f
 
-  has_tree : (id : ℕ) (ts : List (TableTree H)) (f : Frontier H) → tree_of id ts ≡ Some f → HasTree id ts f
+  pub has_tree : (id : ℕ) (ts : List (TableTree H)) (f : Frontier H) → tree_of id ts ≡ Some f → HasTree id ts f
   has_tree id [] f e = cc
   has_tree id (t ∷ ts) f e = by (t.table == id) refl e (has_tree id ts f)
     where
@@ -82,7 +82,7 @@ module _ {H : Type 0} (digest : H → List ℕ → List ℕ) where
     from_more t ts [] e = tt
     from_more t ts (r ∷ rs) e = ((e.0.0, in_more e.0.0 t ts e.0.1, e.0.2, e.0.3), from_more t ts rs e.1)
 
-    each_more : (P : TableTree H → Type 0) (t : TableTree H) (ts : List (TableTree H)) → Each P ts → P t → Each P (ts ++ t ∷ [])
+    pub each_more : (P : TableTree H → Type 0) (t : TableTree H) (ts : List (TableTree H)) → Each P ts → P t → Each P (ts ++ t ∷ [])
     each_more P t [] e p = (p, tt)
     each_more P t (u ∷ ts) e p = (e.0, each_more P t ts e.1 p)
 
@@ -126,12 +126,12 @@ module _ {H : Type 0} (digest : H → List ℕ → List ℕ) where
       in_place (u ∷ ts) zero x l = inl refl
       in_place (u ∷ ts) (suc i) x l = inr (in_place ts i x (omega (arith, l)))
 
-  holds_at : (P : TableTree H → Type 0) (ts : List (TableTree H)) (i : ℕ) (t : TableTree H) → Each P ts → i < length ts → t ≡ get_or ts i t → P t
+  pub holds_at : (P : TableTree H → Type 0) (ts : List (TableTree H)) (i : ℕ) (t : TableTree H) → Each P ts → i < length ts → t ≡ get_or ts i t → P t
   holds_at P [] i t e l is = absurd (omega (arith, l))
   holds_at P (u ∷ ts) zero t e l is = subst P (sym is) e.0
   holds_at P (u ∷ ts) (suc i) t e l is = holds_at P ts i t e.1 (omega (arith, l)) is
 
-  one_more : (ts : List (TableTree H)) (i : ℕ) (t : TableTree H) → i < length ts → t ≡ get_or ts i t → take (i + 1) ts ≡ take i ts ++ t ∷ []
+  pub one_more : (ts : List (TableTree H)) (i : ℕ) (t : TableTree H) → i < length ts → t ≡ get_or ts i t → take (i + 1) ts ≡ take i ts ++ t ∷ []
   one_more ts i t l is = let next : i + 1 ≡ suc i = omega arith in ap (λ n. take n ts) next ∙ take-suc ts i t l ∙ ap (λ x. take i ts ++ x ∷ []) (sym is)
 
   pub made_more : (ts : List (TableTree H)) (i : ℕ) (t : TableTree H) (roots new : List Root) → i < length ts → t ≡ get_or ts i t
@@ -152,7 +152,7 @@ module _ {H : Type 0} (digest : H → List ℕ → List ℕ) where
 
 -- ---- the trees of the transaction
 
-leaves_are : (trees : List Tree) (u : Tree) → Differ (map (λ t. t.table) trees) → In u trees → leaves_in u.table trees ≡ u.leaves
+pub leaves_are : (trees : List Tree) (u : Tree) → Differ (map (λ t. t.table) trees) → In u trees → leaves_in u.table trees ≡ u.leaves
 leaves_are [] u d i = absurd i
 leaves_are (t ∷ ts) u d i = ⊎_elim
     (λ (e : t ≡ u). subst (λ v. leaves_in v.table (t ∷ ts) ≡ v.leaves) e (let yes : (t.table == t.table) ≡ true = eq-eqb t.table t.table refl in rw yes refl))
@@ -163,13 +163,13 @@ leaves_are (t ∷ ts) u d i = ⊎_elim
     in_ids u [] i = absurd i
     in_ids u (t ∷ ts) i = ⊎_elim (λ (e : t ≡ u). inl (ap (λ t. t.table) e)) (λ (k : In u ts). inr (in_ids u ts k)) i
 
-record HasLeaves (id : ℕ) (trees : List Tree) : Type 0 where
+pub record HasLeaves (id : ℕ) (trees : List Tree) : Type 0 where
   pub u : Tree
   pub there : In u trees
   pub table : u.table ≡ id
   pub leaves : u.leaves ≡ leaves_in id trees
 
-has_leaves : (id : ℕ) (trees : List Tree) → leaves_in id trees ≢ [] → HasLeaves id trees
+pub has_leaves : (id : ℕ) (trees : List Tree) → leaves_in id trees ≢ [] → HasLeaves id trees
 has_leaves id [] ne = absurd (ne refl)
 has_leaves id (t ∷ ts) ne = by (t.table == id) refl ne (has_leaves id ts)
   where
@@ -195,7 +195,7 @@ module _ {H : Type 0} (digest : H → List ℕ → List ℕ) (h : H) (ts : List 
   abbrev of_tree : Tree → ℕ
   of_tree t = t.table
 
-  holds_each : Each (λ t. Holds digest h t.frontier (leaves_in t.table trees)) ts
+  pub holds_each : Each (λ t. Holds digest h t.frontier (leaves_in t.table trees)) ts
   holds_each = in_each (λ t. Holds digest h t.frontier (leaves_in t.table trees)) ts (λ t i. subst (λ o. IsTree digest h o (leaves_in t.table trees)) (found_in ts t d i) (k t.table))
 
   maps_rise : (us : List Tree) → RisesBy of_tree us → RisesBy table_of_root (map root us)

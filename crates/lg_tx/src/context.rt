@@ -6,12 +6,13 @@ ghost use Rattle.lg_value.specs.declared.refusal.Refusal.TheVariants.{E15, E16, 
 ghost use Rattle.lg_history.specs.Serial.{Differ};
 ghost use Rattle.lg_model.specs.Limits.{max_savepoints};
 ghost use Rattle.lg_standing.specs.Answering.{frames_from};
+ghost use Rattle.lg_standing.specs.LedgerVisits.{is_quiet};
 ghost use Rattle.lg_standing.specs.Moves.{new_transaction, noting, framed};
 ghost use Rattle.lg_standing.specs.Seats.{Frame, OpenTransaction};
 ghost use Rattle.lg_tx.specs.Leaves.{with_leaf, with_savepoint};
 ghost use Rattle.lg_tx.specs.Roots.{roots_of_trees};
 
-use crate::roots::roots_of;
+use crate::roots::{have_no_leaf, roots_of};
 use crate::savepoint::{Savepoint, kept_by};
 use crate::tree::{TableTree, marks_of, open, push_leaf, restore_all};
 use lg_items::{Items, Memory, Name, TableId, TxId};
@@ -140,6 +141,14 @@ impl<H: Hash32> TxCtx<H> {
         restore_all(self.hasher, &mut self.trees, &savepoint.marks);
         self.seq = savepoint.seq;
         Ok(self.seq)
+    }
+
+    /// Whether it left no event. Takes no memory.
+    pub fn is_quiet(&self) -> bool
+        ensures { (h : H) (o : OpenTransaction) → Represents H.digest h self.now o
+            → Differ (map (λ t. t.table) o.trees) → result ≡ is_quiet o }
+    {
+        have_no_leaf(&self.trees)
     }
 
     /// The root of each tree that has a leaf, by rising table.

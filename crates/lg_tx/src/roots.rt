@@ -1,10 +1,11 @@
 //! The roots of the trees of a transaction.
 
 ghost use Rattle.std.specs.Prelude.{◌≡◌, ◌≤◌, nat_le, length, map, IfOk, OnOk, List, ℕ};
-ghost use Rattle.std.specs.List.{position, position_or_len};
+ghost use Rattle.std.specs.List.{list_all, position, position_or_len};
 ghost use Rattle.lg_merkle.specs.Holds.{Holds};
 ghost use Rattle.lg_history.specs.Serial.{Differ};
 ghost use Rattle.lg_model.specs.Lists.{inserted};
+ghost use Rattle.lg_standing.specs.LedgerVisits.{is_empty};
 ghost use Rattle.lg_standing.specs.Seats.{Tree};
 ghost use Rattle.lg_tx.specs.Roots.{by_root, roots_of_trees, with_root};
 ghost use Rattle.lg_tx.specs.Trees.{TreesHold, tables_of};
@@ -52,6 +53,20 @@ fn add_root<H: Hash32>(
         return Ok(());
     }
     insert_root(roots, (tree.table, tree.frontier.root()))
+}
+
+/// Whether no tree has a leaf.
+pub fn have_no_leaf<H: Hash32>(trees: &[TableTree<H>]) -> bool
+    ensures { (h : H) (model : List Tree) → Differ (tables_of trees.now)
+        → Differ (map (λ t. t.table) model) → TreesHold H.digest h trees.now model
+        → result ≡ list_all (λ t. is_empty t.leaves) model }
+{
+    for tree in trees {
+        if tree.frontier.count() != 0 {
+            return false;
+        }
+    }
+    true
 }
 
 /// The root of each tree that has a leaf, by rising table.

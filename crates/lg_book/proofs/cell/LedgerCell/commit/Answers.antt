@@ -12,7 +12,7 @@ use Rattle.lg_book.proofs.cell.LedgerCell.commit.Goals as goal
 pub invariant_of-self-2 : goal.invariant_of-self-2
 invariant_of-self-2 c =
     committed c.self.inside.block_size c.self.inside.items.items c.push_reserved.new.self.items
-    c.self.inside.books.ledger c.commit.new.self.ledger c.self.invariant
+    c.self.inside.next c.self.inside.books.ledger c.commit.new.self.ledger c.self.invariant
     (new_entry c.args.id c.args.session.now c.args.time c.args.roots) c.args.id c.args.time c.args.session.now
     c.args.opened c.args.script (search rules) (search rules)
 

@@ -16,18 +16,18 @@ returns-clause-newest c = λ h keeps.
       items = inside.items.items;
       next = inside.next;
       chain = inside.books.ledger;
-      issued = inside.issued;
+      issued = inside.issued.items;
     } in
     subst (λ (v : HashedCell). IsOfNewest h v.cell (record {
-      database = c.in_ok-copy.field-0;
+      database = c.args.database;
       block = length c.blocks-2.result.now - 1;
       hash = c.hash.result;
       last_commit = c.index-entries-entries.result.time;
       made = c.args.made;
     })) c.self.view_is
     (newest h cell c.entries-entries.result.now c.index-entries-entries.result c.blocks-2.result.now
-    c.hash.result c.in_ok-copy.field-0 c.args.made c.self.invariant
+    c.hash.result c.args.database c.args.made c.self.invariant
     (subst (λ (v : HashedCell). pending_in v.cell ≡ 0) back c.requires.none_pending)
     (subst (λ (v : HashedCell). 1 ≤ tx_count v.cell.items) back c.requires.some) c.entries-entries.ensures
     c.index-entries-entries.is c.blocks-2.ensures (c.hash.ensures ∙ subst (KeepsHash h) back keeps)
-    c.in_ok-copy.ensures)
+    (subst (λ (v : HashedCell). c.args.database ≡ v.cell.database) back c.requires.database))

@@ -1,9 +1,9 @@
-use Rattle.std.proofs.Common.{◌≡◌, ℕ}
+use Rattle.std.proofs.Common.{◌≡◌, ◌≤◌, ℕ}
 use Rattle.lg_model.specs.Journals.{tx_count}
 use Rattle.lg_standing.specs.Cells.{pending_in}
 use Rattle.lg_standing.specs.LedgerVisits.{all_closed}
 use Rattle.lg_book.specs.HashedCell.{KeepsHash}
-use Rattle.lg_book.proofs.cell.LedgerCell.close_pending.Given as goal
+use Rattle.lg_book.proofs.cell.LedgerCell.close_full.Given as goal
 
 abbrev pub invariant-loop-alloc : goal.invariant-loop-alloc
 invariant-loop-alloc g l =
@@ -12,7 +12,8 @@ invariant-loop-alloc g l =
     × (all_closed digest (pending_in l.self.cell) l.self.cell
     ≡ all_closed digest (pending_in l.fn.self.cell) l.fn.self.cell)
     × (tx_count l.self.cell.items ≡ tx_count l.fn.self.cell.items)
-    × (n : ℕ) × (l.self.cell ≡ all_closed digest n l.fn.self.cell)
+    × ((n : ℕ) × (l.self.cell ≡ all_closed digest n l.fn.self.cell))
+    × (pending_in l.fn.self.cell ≤ l.fn.self.cell.block_size → l.self ≡ l.fn.self)
 
 abbrev pub decreases-loop-alloc : goal.decreases-loop-alloc
 decreases-loop-alloc g l = pending_in l.self.cell

@@ -1,7 +1,8 @@
-use Rattle.std.proofs.Common.{◌∙◌, ◌≤◌, suc, arith}
+use Rattle.std.proofs.Common.{◌∙◌, ◌≡◌, ◌≤◌, ◌<◌, ◌+◌, suc, arith, ap, sym}
 use Rattle.lg_standing.specs.Cells.{pending_in}
+use Rattle.lg_book.specs.HashedCell.{HashedCell}
 use Rattle.lg_book.proofs.Closings.{smaller, count_stays, one_further, rest_stays}
-use Rattle.lg_book.proofs.cell.LedgerCell.close_pending.Goals as goal
+use Rattle.lg_book.proofs.cell.LedgerCell.close_full.Goals as goal
 
 pub loop-alloc-smaller : goal.loop-alloc-smaller
 loop-alloc-smaller g c =
@@ -24,7 +25,20 @@ loop-alloc-preserved g c =
       c.close_block.ensures.hash,
       rest_stays digest k before after is some next least ∙ c.loop-alloc.invariant.1,
       count_stays digest k before after is some ∙ c.loop-alloc.invariant.2,
-      suc c.loop-alloc.invariant.3,
-      one_further digest k before after is some next c.loop-alloc.invariant.3 c.args.self.now.cell
-          c.loop-alloc.invariant.4,
+      (
+        suc c.loop-alloc.invariant.3.0,
+        one_further digest k before after is some next c.loop-alloc.invariant.3.0 c.args.self.now.cell
+            c.loop-alloc.invariant.3.1,
+      ),
+      λ few.
+          let same = c.loop-alloc.invariant.4 few in
+          absurd (omega (
+            arith,
+            few,
+            ap (λ (v : HashedCell). pending_in v.cell) same,
+            ap (λ (v : HashedCell). v.cell.block_size) same,
+            c.pending.ensures.count,
+            c.block_size.ensures.size,
+            c.loop-alloc-test.true,
+          )),
     )
