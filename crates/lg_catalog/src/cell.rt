@@ -1,6 +1,7 @@
 //! The catalog's cell.
 
-ghost use Rattle.std.specs.Prelude.{◌≡◌, ◌≢◌, ◌<◌, Err, IfErr, IfOk, Ok, OnErr, OnOk, Some, length, option_map, vec_capacity};
+ghost use Rattle.std.specs.Prelude.{◌≡◌, ◌≢◌, ◌<◌, Err, IfErr, IfOk, IfSome, Ok, OnErr, OnOk, Some, length};
+ghost use Rattle.std.specs.Prelude.{option_map, vec_capacity};
 ghost use Rattle.lg_types.specs.declared.reply.Reply.TheVariants as reply;
 ghost use Rattle.lg_types.specs.declared.table.Part.TheVariants.{System};
 ghost use Rattle.lg_types.specs.declared.table.TableDef.{TableDef};
@@ -20,7 +21,7 @@ ghost use Rattle.lg_tx.specs.Represents.{Represents};
 ghost use Rattle.lg_catalog.specs.Calls.{left, undone, IndexMade, LocksTaken, MayCreate, TableMade};
 
 use crate::creating::{COLUMNS, NewIndex, NewTable, TABLES, plan_index, plan_table};
-use crate::definitions::{Creator, Replaced, keep_change, undo_change};
+use crate::definitions::{Creator, Replaced, copy_before, copy_defs, keep_change, undo_change};
 use crate::finding::find;
 use crate::locks::or_refusal;
 use crate::noting::{note_all, note_both, open_both};
@@ -136,13 +137,41 @@ impl CatalogCell {
         show(alloc, def, part, self.versions_of(def.id), q)
     }
 
-    fn versions_of(&self, id: TableId) -> &[Version]
+    /// The versions of the table of tables, or else of that of columns.
+    pub fn versions_of(&self, id: TableId) -> &[Version]
         ensures { result.now ≡ versions_in id (Catalog self.now) }
     {
         if id == TABLES {
             self.tables.versions()
         } else {
             self.columns.versions()
+        }
+    }
+
+    /// The transaction that changed the definitions and hasn't released the catalog.
+    pub fn creator(&self) -> Option<TxId>
+        ensures { result ≡ option_map (λ c. c.tx) self.now.creator }
+    {
+        match &self.creator {
+            Some(creator) => Some(creator.tx),
+            None => None,
+        }
+    }
+
+    /// Copies of the definitions.
+    pub fn copy_defs(&self, alloc: Global) -> Result<Vec<TableDef>, Memory>
+        ensures { IfOk result (λ copies. copies.items ≡ self.now.defs) }
+    {
+        copy_defs(alloc, &self.defs)
+    }
+
+    /// Copies of the definitions as they were before the creator changed them, where there is one.
+    pub fn copy_defs_before(&self, alloc: Global) -> Result<Vec<TableDef>, Memory>
+        ensures { IfOk result (λ copies. IfSome self.now.creator (λ c. copies.items ≡ c.before)) }
+    {
+        match &self.creator {
+            Some(creator) => copy_before(alloc, &self.defs, &creator.replaced),
+            None => copy_defs(alloc, &self.defs),
         }
     }
 

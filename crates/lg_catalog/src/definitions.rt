@@ -1,12 +1,14 @@
 //! The last change of the definitions: who made it, and how it is taken back.
 
-ghost use Rattle.std.specs.Prelude.{◌≡◌};
+ghost use Rattle.std.specs.Prelude.{◌≡◌, IfOk};
 ghost use Rattle.lg_model.specs.Catalog.{Defs};
 ghost use Rattle.lg_standing.specs.UndoVisits.{creator_left, defs_before};
 ghost use Rattle.lg_catalog.specs.Definitions.{before, creator_seen, is_creator, AreFormed, IsPlace, MayTakeBack};
 
-use lg_items::TxId;
+use lg_items::{Memory, TxId};
+use lg_system::copy_def;
 use lg_types::TableDef;
+use std::alloc::Global;
 
 /// A definition, and its place, in which there is another one now.
 #[derive(Drop)]
@@ -21,6 +23,37 @@ pub(crate) struct Replaced {
 pub(crate) struct Creator {
     pub tx: TxId,
     pub replaced: Option<Replaced>,
+}
+
+/// Copies of the definitions.
+pub(crate) fn copy_defs(alloc: Global, defs: &[TableDef]) -> Result<Vec<TableDef>, Memory>
+    ensures { IfOk result (λ copies. copies.items ≡ defs.now) }
+{
+    let mut copies = Vec::with_capacity(alloc, defs.len())?;
+    for def in defs {
+        copies.push(copy_def(alloc, def)?)?;
+    }
+    Ok(copies)
+}
+
+/// Copies of the definitions as they were before the last one was added, or before one took the place of
+/// another.
+pub(crate) fn copy_before(
+    alloc: Global,
+    defs: &[TableDef],
+    replaced: &Option<Replaced>,
+) -> Result<Vec<TableDef>, Memory>
+    requires { IsPlace defs.now replaced.now }
+    ensures { IfOk result (λ copies. copies.items ≡ before defs.now replaced.now) }
+{
+    let mut copies = copy_defs(alloc, defs)?;
+    match replaced {
+        Some(Replaced { place, def }) => copies[*place] = copy_def(alloc, def)?,
+        None => {
+            copies.pop();
+        }
+    }
+    Ok(copies)
 }
 
 fn is_creator(creator: &Option<Creator>, tx: TxId) -> bool

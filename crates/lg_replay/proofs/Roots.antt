@@ -6,10 +6,8 @@ use Rattle.lg_row.specs.Leaf.{HasLeaf, event_bytes}
 use Rattle.lg_merkle.specs.TreeHash.{tree_hash}
 use Rattle.lg_types.specs.declared.event.Event.{Event}
 use Rattle.lg_types.specs.declared.version.Table.{Table}
-use Rattle.lg_model.specs.Catalog.{Tables, defs_of}
 use Rattle.lg_model.specs.Events.{events_of}
 use Rattle.lg_ledger.specs.Entries.{has_events, root_in, roots_of}
-use Rattle.lg_image.specs.Image.{user_defs}
 use Rattle.lg_leaves.specs.Room.{HasRoom, FitsLeaf}
 
 pub all_fit : (es : List Event) → AllByRecursion FitsLeaf es → AllByRecursion HasRoom es → AllByRecursion HasLeaf es
@@ -25,19 +23,3 @@ pub one_root : (h : List ℕ → List ℕ) (tx : ℕ) (t : Table) → (length (e
     → roots_of h tx (t ∷ []) ≡ (t.def.id, tree_hash h (map event_bytes (events_of tx t))) ∷ []
 unfolding roots_of
 one_root h tx t some = rw some refl
-
--- ---- the definitions of the tables of users
-
-pub few_defs : (ys : Tables) (t : Table) → length ys < 2 → user_defs (ys ++ t ∷ []) ≡ user_defs ys
-few_defs [] t few = refl
-few_defs (x ∷ []) t few = refl
-few_defs (x ∷ y ∷ ys) t few = absurd (omega (arith, few))
-
-defs_more : (ys : Tables) (t : Table) → defs_of (ys ++ t ∷ []) ≡ defs_of ys ++ t.def ∷ []
-defs_more [] t = refl
-defs_more (y ∷ ys) t = ap (λ ds. y.def ∷ ds) (defs_more ys t)
-
-pub more_defs : (ys : Tables) (t : Table) → 2 ≤ length ys → user_defs (ys ++ t ∷ []) ≡ user_defs ys ++ t.def ∷ []
-more_defs [] t many = absurd (omega (arith, many))
-more_defs (x ∷ []) t many = absurd (omega (arith, many))
-more_defs (x ∷ y ∷ ys) t many = defs_more ys t

@@ -1,18 +1,13 @@
 //! The image of books and tables.
 
-ghost use Rattle.std.specs.Prelude.{◌≡◌, ◌++◌, IfOk, map};
-ghost use Rattle.lg_image.specs.Image.{user_defs};
-ghost use Rattle.lg_image.specs.Rows.{table_rows as spec_table_rows};
+ghost use Rattle.std.specs.Prelude.{◌≡◌, IfOk};
 ghost use Rattle.lg_replay.specs.Reached.{image_from};
 
 use lg_blocks::Books;
-use lg_items::{Items, Memory, Name};
-use lg_snapshot::{Stored, table_rows};
-use lg_types::{Image, Table, TableDef, TableRows};
+use lg_items::{Memory, Name};
+use lg_snapshot::split;
+use lg_types::{Image, Table};
 use std::alloc::Global;
-
-/// How many tables the system has.
-const SYSTEM_TABLES: usize = 2;
 
 /// The image of a database with these books and tables. The versions are moved.
 pub(crate) fn image_of(
@@ -33,22 +28,4 @@ pub(crate) fn image_of(
         defs,
         tables,
     })
-}
-
-/// The definitions of the tables of users, and the rows of all tables.
-#[tactic(auto, using(crate::proofs::Roots::few_defs, crate::proofs::Roots::more_defs))]
-fn split(alloc: Global, tables: Vec<Table>) -> Result<(Items<TableDef>, Items<TableRows>), Memory>
-    ensures defs { IfOk result (λ parts. parts.0 ≡ user_defs tables.items) }
-    ensures rows { IfOk result (λ parts. parts.1 ≡ map spec_table_rows tables.items) }
-{
-    let mut defs = Vec::new(alloc);
-    let mut all_rows = Vec::new(alloc);
-    for table in tables {
-        let Stored { def, rows } = table_rows(alloc, table)?;
-        if all_rows.len() >= SYSTEM_TABLES {
-            defs.push(def)?;
-        }
-        all_rows.push(rows)?;
-    }
-    Ok((Items::from_vec(defs), Items::from_vec(all_rows)))
 }

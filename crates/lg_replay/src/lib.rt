@@ -4,7 +4,6 @@
 mod entry;
 mod image;
 mod item;
-mod room;
 mod running;
 
 pub use running::{ReplayErr, replay};

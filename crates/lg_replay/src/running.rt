@@ -10,12 +10,12 @@ ghost use Rattle.lg_replay.specs.Reached.{DiffersAt};
 
 use crate::image::image_of;
 use crate::item::run_item;
-use crate::room::tables_have_room;
 use lg_blocks::Books;
 use lg_images::legal_images_have_a_spelling;
 use lg_items::Memory;
 use lg_merkle::Hash32;
 use lg_serial::{Plain, PlainEnd};
+use lg_snapshot::tables_have_room;
 use lg_types::{Image, Journal};
 use lg_written::readings_of_the_grammar_give_written;
 use std::alloc::Global;

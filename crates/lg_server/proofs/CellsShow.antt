@@ -77,7 +77,7 @@ module _ (v : Server) (c : Contents) (k : Known) (seats : List SeatState) where
 -- ---- all
 
 module _ (v : Server) (history : History) (cells : List Cell) (seats : List SeatState) (st : Stands v history cells seats) where
-  same_tables : tables_in_cells cells st.catalog st.ledger ≡ serial v.reads st.ledger.items
+  pub same_tables : tables_in_cells cells st.catalog st.ledger ≡ serial v.reads st.ledger.items
   same_tables =
       let J = st.ledger.items in
       let serials = st.tables_are_serial in

@@ -2,6 +2,7 @@
 
 ghost use Rattle.std.specs.Prelude.{ℕ, ◌≡◌, List};
 ghost use Rattle.lg_types.specs.declared.journal.JournalItem.{JournalItem};
+ghost use Rattle.lg_model.specs.Journals.{serial};
 ghost use Rattle.lg_model.specs.Script.{Reading};
 ghost use Rattle.lg_ledger.specs.Ledger.{block_hash};
 ghost use Rattle.lg_standing.specs.StandTogether.{History};
@@ -11,7 +12,7 @@ ghost use Rattle.lg_standing.specs.Cells.{Cell};
 ghost use Rattle.lg_standing.specs.Seats.{SeatState};
 ghost use Rattle.lg_standing.specs.Server.{Server, journal_image};
 ghost use Rattle.lg_standing.specs.StandTogether.{Stands};
-ghost use Rattle.lg_server.specs.CellsImage.{cells_image};
+ghost use Rattle.lg_server.specs.CellsImage.{cells_image, tables_in_cells};
 ghost use Rattle.lg_server.specs.Serves.{Serves};
 
 /// For every grammar and every hash there is a server that reads and hashes so.
@@ -29,9 +30,13 @@ pub fn such_a_server_hashes_and_keeps_so()
         → journal_image v database J ≡ image_bytes (image_of h reads database J) }
 {}
 
-/// The image of what lies in cells that stand together with seats, without what isn't committed, is that
-/// of the journal in their ledger's cell; and the image that the server keeps has its bytes.
+/// What lies in cells that stand together with seats, without what isn't committed, is the tables to which
+/// the journal in their ledger's cell leads, and its image is that of the journal; and the image that the
+/// server keeps has its bytes.
 pub fn cells_have_the_image_of_their_journal()
+    ensures tables { (v : Server) (history : History) (cells : List Cell) (seats : List SeatState)
+        → (st : Stands v history cells seats)
+        → tables_in_cells cells st.catalog st.ledger ≡ serial v.reads st.ledger.items }
     ensures image { (v : Server) (history : History) (cells : List Cell) (seats : List SeatState)
         → (st : Stands v history cells seats)
         → cells_image cells st.catalog st.ledger

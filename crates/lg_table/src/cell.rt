@@ -18,7 +18,7 @@ use lg_items::{Items, Memory, TableId, TxId};
 use lg_locks::{LockList, Want};
 use lg_merkle::Hash32;
 use lg_tx::TxCtx;
-use lg_types::{EventId, Part, Row, RowStmt, Select, TableDef};
+use lg_types::{EventId, Part, Row, RowStmt, Select, TableDef, Version};
 use lg_value::Refusal;
 use std::alloc::Global;
 use std::marker::Model;
@@ -71,6 +71,13 @@ impl TableCell {
         ensures { result ≡ self.now.id }
     {
         self.id
+    }
+
+    /// Its versions, by rising start.
+    pub fn versions(&self) -> &[Version]
+        ensures { result.now ≡ self.now.versions }
+    {
+        self.store.versions()
     }
 
     /// INSERT, UPDATE or DELETE, which passes all that is checked before any row: the transaction takes all

@@ -1,4 +1,5 @@
-//! What the machine holds has room in an image's bytes: its numbers and lengths fit, and its texts are UTF-8.
+//! What a program has in memory has room in an image's bytes: its numbers and lengths fit, and its texts are
+//! UTF-8.
 
 ghost use Rattle.std.specs.Prelude.{◌<◌, ◌^◌, IfSome};
 ghost use Rattle.std.specs.List.{AllByRecursion};
@@ -57,7 +58,7 @@ fn table_has_room(table: &Table)
 }
 
 /// Each of the tables has room in an image. Does nothing: it is there for its contract.
-pub(crate) fn tables_have_room(tables: &[Table])
+pub fn tables_have_room(tables: &[Table])
     ensures { AllByRecursion TableHasRoom tables.now }
 {
     for table in tables {

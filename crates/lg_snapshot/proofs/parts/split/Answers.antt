@@ -1,9 +1,9 @@
 use Rattle.std.proofs.Common.{ap, ◌∙◌, sym, ◌++◌, ◌∷◌, [], length, map, arith}
 use Rattle.std.proofs.lemmas.List.{length-map, map-append}
 use Rattle.lg_image.specs.Rows.{table_rows}
-use Rattle.lg_replay.proofs.Roots.{few_defs, more_defs}
-use Rattle.lg_replay.proofs.image.split.Goals.{then-len-ge-SYSTEM_TABLES+in_ok-push, else-len-ge-SYSTEM_TABLES}
-use Rattle.lg_replay.proofs.image.split.Goals as goal
+use Rattle.lg_snapshot.proofs.UserDefs.{few_defs, more_defs}
+use Rattle.lg_snapshot.proofs.parts.split.Goals.{then-len-ge-SYSTEM_TABLES+in_ok-push, else-len-ge-SYSTEM_TABLES}
+use Rattle.lg_snapshot.proofs.parts.split.Goals as goal
 
 pub loop-table-preserved-then-if-drop-2 : goal.loop-table-preserved-then-if-drop-2
 loop-table-preserved-then-if-drop-2 c =

@@ -1,0 +1,80 @@
+//! The image of what lies in cells.
+
+ghost use Rattle.std.specs.Prelude.{◌≡◌, ℕ, List, IfOk, OnOk};
+ghost use Rattle.lg_image.specs.ImageBytes.{image_bytes};
+ghost use Rattle.lg_images.specs.Room.{HasRoom};
+ghost use Rattle.lg_parse.specs.Text.{statement_of};
+ghost use Rattle.lg_server.specs.CellsImage.{cells_image};
+ghost use Rattle.lg_cells_image.specs.Leads.{image_with, LeadsThere};
+
+use crate::entries::copy_entries;
+use crate::forms::has_forms;
+use crate::shown::ShownCells;
+use crate::tables::tables_in_cells;
+use lg_book::LedgerCell;
+use lg_image::write_image;
+use lg_images::legal_images_have_a_spelling;
+use lg_items::{Blob, Items, Memory};
+use lg_snapshot::split;
+use lg_types::{Image, Table};
+use lg_written::readings_of_the_grammar_give_written;
+use std::alloc::Global;
+
+/// The image of what lies in cells, without what isn't committed: the database, blocks and entries of the
+/// ledger's cell, and the definitions and rows of the tables. Copies all of it, and makes the rows of indexes
+/// anew by sorting.
+#[tactic(auto, unfolding(lg_server::specs::CellsImage::cells_image))]
+pub fn image_of_cells<C: ShownCells>(
+    alloc: Global,
+    ledger: &LedgerCell,
+    cells: &C,
+) -> Result<Image, Memory>
+    ensures { IfOk result (λ image. image
+        ≡ cells_image (C.cells cells.now) (C.catalog cells.now) ledger.now.cell) }
+{
+    let tables = tables_in_cells(alloc, ledger, cells)?;
+    image_with(alloc, ledger, tables)
+}
+
+/// The image with these tables.
+fn image_with(alloc: Global, ledger: &LedgerCell, tables: Vec<Table>) -> Result<Image, Memory>
+    ensures { IfOk result (λ image. image ≡ image_with ledger.now.cell tables.items) }
+{
+    let (defs, tables) = split(alloc, tables)?;
+    Ok(Image {
+        database: ledger.database().copy()?,
+        blocks: Items::from_vec(Vec::from_slice(alloc, ledger.blocks())?),
+        entries: copy_entries(alloc, ledger.entries())?,
+        defs,
+        tables,
+    })
+}
+
+/// The bytes of this image; the journal that leads there has room in the format then. It also answers want
+/// of memory where a name, a moment or an id in the ledger's cell hasn't its form: then the image has no
+/// spelling.
+#[tactic(auto, unfolding(lg_server::specs::CellsImage::cells_image))]
+pub fn image_bytes_of_cells<C: ShownCells>(
+    alloc: Global,
+    ledger: &LedgerCell,
+    cells: &C,
+) -> Result<Blob, Memory>
+    requires { (h : List ℕ → List ℕ)
+        × LeadsThere h (C.cells cells.now) (C.catalog cells.now) ledger.now.cell }
+    ensures bytes { IfOk result (λ bytes. bytes
+        ≡ image_bytes (cells_image (C.cells cells.now) (C.catalog cells.now) ledger.now.cell)) }
+    ensures room { (h : List ℕ → List ℕ)
+        → LeadsThere h (C.cells cells.now) (C.catalog cells.now) ledger.now.cell
+        → OnOk result (HasRoom h statement_of ledger.now.cell.database ledger.now.cell.items) }
+{
+    if !has_forms(ledger) {
+        return Err(Memory);
+    }
+    legal_images_have_a_spelling();
+    readings_of_the_grammar_give_written();
+    let tables = tables_in_cells(alloc, ledger, cells)?;
+    let image = image_with(alloc, ledger, tables)?;
+    let _blocks = ledger.blocks().len();
+    let _entries = ledger.entries().len();
+    Ok(Blob::from_vec(write_image(alloc, &image)?))
+}

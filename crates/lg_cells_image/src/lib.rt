@@ -1,0 +1,11 @@
+//! The image of what lies in cells, and its bytes.
+#![tactic(auto)]
+
+mod entries;
+mod forms;
+mod image;
+mod shown;
+mod tables;
+
+pub use image::{image_bytes_of_cells, image_of_cells};
+pub use shown::ShownCells;
