@@ -23,8 +23,8 @@ use Rattle.lg_verify.specs.declared.marks.Mark.{Mark}
 use Rattle.lg_verify.specs.declared.shown.Shown.{Shown}
 use Rattle.lg_verify.specs.Marks.{event_of, tx_of, number_of, leaf_cmp, events_in, AreMarks}
 use Rattle.lg_verify.specs.Roots.{numbers_in, run_in, roots_in, fault_of, first_fault}
-use Rattle.lg_verify.specs.Shown.{table_of, Show}
-use Rattle.lg_verify.proofs.Grouped.{IdsRise, run_is}
+use Rattle.lg_verify.specs.Shown.{IdsRise, table_of, Show}
+use Rattle.lg_verify.proofs.Grouped.{run_is}
 use Rattle.lg_verify.proofs.TableRoots.{roots_are}
 use Rattle.lg_verify.proofs.Tables.{are_tables}
 
@@ -42,12 +42,12 @@ system_first ds [] rise = tt
 system_first ds (r ∷ []) rise = (omega arith, tt)
 system_first ds (r ∷ s ∷ rs) rise = (omega arith, (omega arith, rise_with 2 ds rs rise))
 
-ids_of_image : (i : Image) → IsImage i → IdsRise 0 (tables_in i)
+pub ids_of_image : (i : Image) → IsImage i → IdsRise 0 (tables_in i)
 ids_of_image i is = system_first i.defs i.tables is.ids
 
 -- ---- an entry
 
-filter_seen : {A B : Type 0} (f : A → B) (p : B → Bool) (xs : List A) → map f (filter (λ x. p (f x)) xs) ≡ filter p (map f xs)
+pub filter_seen : {A B : Type 0} (f : A → B) (p : B → Bool) (xs : List A) → map f (filter (λ x. p (f x)) xs) ≡ filter p (map f xs)
 filter_seen f p [] = refl
 filter_seen {A} {B} f p (x ∷ xs) = by (p (f x)) (filter_seen f p xs)
   where
@@ -69,7 +69,7 @@ module _ (h : List ℕ → List ℕ) (i : Image) where
       ∙ ap (λ (rs : List TableRoot). or_else (unless (are_numbered (numbers_in (flat_map (events_of e.id) (tables_in i)))) (at.Numbers e.id)) (root_place e.id (least nat_cmp (other_roots e.roots rs))))
       (roots_are e.id h 0 (tables_in i) (ids_of_image i is))
 
-  first_agree : {A : Type 0} (f g : ℕ → A → Option Place) → ((k : ℕ) (x : A) → f k x ≡ g k x) → (k : ℕ) (xs : List A) → first_from f k xs ≡ first_from g k xs
+  pub first_agree : {A : Type 0} (f g : ℕ → A → Option Place) → ((k : ℕ) (x : A) → f k x ≡ g k x) → (k : ℕ) (xs : List A) → first_from f k xs ≡ first_from g k xs
   first_agree f g same k [] = refl
   first_agree f g same k (x ∷ xs) = ap₂ or_else (same k x) (first_agree f g same (k + 1) xs)
 

@@ -14,6 +14,7 @@ use Rattle.lg_model.specs.Events.{start_event, end_event, end_events, version_ev
 use Rattle.lg_model.specs.Lists.{sorted}
 use Rattle.lg_model.specs.Rows.{EventId}
 use Rattle.lg_verify.specs.Marks.{leaf_cmp, events_in}
+use Rattle.lg_verify.specs.Shown.{IdsRise}
 use Rattle.lg_verify.proofs.LeafOrder.{leaf_total}
 use Rattle.lg_verify.proofs.Sortings.{IsBelow, filter_sorted, sorted_parts, sorted_agree}
 use Rattle.lg_verify.proofs.Walks.{filter_parts}
@@ -25,11 +26,6 @@ equal_to_itself m =
 
 abbrev by_seq : Event → Event → Ordering
 by_seq a b = nat_cmp a.seq b.seq
-
--- tables by rising id
-abbrev pub IdsRise : ℕ → Tables → Type 0
-IdsRise last [] = Unit {0}
-IdsRise last (t ∷ ts) = (last < t.def.id) × IdsRise t.def.id ts
 
 pub append_all : {A : Type 0} (P : A → Type 0) (xs ys : List A) → AllByRecursion P xs → AllByRecursion P ys → AllByRecursion P (xs ++ ys)
 append_all P [] ys a b = b

@@ -3,6 +3,7 @@ pub mod Counts
 pub mod EntryPlaces
 pub mod FirstValues
 pub mod Fitting
+pub mod GroupParts
 pub mod Grouped
 pub mod InRows
 pub mod LeafOrder
@@ -11,6 +12,7 @@ pub mod EntryRoots
 pub mod Folds
 pub mod InRuns
 pub mod LeastParts
+pub mod MergedFaults
 pub mod Leaves
 pub mod Neighbours
 pub mod Owned
@@ -24,8 +26,10 @@ pub mod Spelled
 pub mod Started
 pub mod StoredRows
 pub mod Strangers
+pub mod TableFaults
 pub mod TableRoots
 pub mod Tables
 pub mod Verdicts
 pub mod Walks
 pub mod WorstParts
+pub mod WrongRoots

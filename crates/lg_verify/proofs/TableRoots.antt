@@ -16,7 +16,8 @@ use Rattle.lg_verdict.specs.Entries.{TableRoot}
 use Rattle.lg_verify.specs.declared.marks.Mark.{Mark}
 use Rattle.lg_verify.specs.Marks.{event_of, HasValues, StartsOther}
 use Rattle.lg_verify.specs.Roots.{same_first, joined, grouped, group_root, roots_in}
-use Rattle.lg_verify.proofs.Grouped.{IdsRise, append_all, map_all, all_in}
+use Rattle.lg_verify.specs.Shown.{IdsRise}
+use Rattle.lg_verify.proofs.Grouped.{append_all, map_all, all_in}
 use Rattle.lg_verify.proofs.Sortings.{all_sorted}
 
 -- the first of these, if there is one, is of another table

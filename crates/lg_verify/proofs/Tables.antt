@@ -26,7 +26,7 @@ with_tables (t ∷ ts) = ap (λ more. table_of t ∷ more) (with_tables ts)
 pub are_tables : (ts : List Shown) (i : Image) → Show ts i → map table_of ts ≡ tables_in i
 are_tables ts i s = sym (with_tables ts) ∙ ap₂ tables_with s.defs s.rows
 
-in_order : (ts : List Shown) → first_table (map def_of ts) (map rows_of ts) ≡ first_among ts
+pub in_order : (ts : List Shown) → first_table (map def_of ts) (map rows_of ts) ≡ first_among ts
 in_order [] = refl
 in_order (t ∷ ts) = ap (or_else (table_fault (def_of t) (rows_of t))) (in_order ts)
 

@@ -1,4 +1,5 @@
 pub mod Entries
+pub mod Groups
 pub mod Ids
 pub mod Indexes
 pub mod Marks
@@ -12,4 +13,5 @@ pub mod Runs
 pub mod Shown
 pub mod Spelling
 pub mod Versions
+pub mod WrongRoots
 pub mod Verdict

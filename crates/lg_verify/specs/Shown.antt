@@ -1,9 +1,10 @@
 -- The tables that an image shows, each with its rows.
-use Rattle.std.specs.Prelude.{◌≡◌, List, map}
+use Rattle.std.specs.Prelude.{ℕ, ◌≡◌, ◌<◌, List, [], ◌∷◌, map}
 use Rattle.lg_types.specs.declared.image.Image.{Image}
 use Rattle.lg_types.specs.declared.image.TableRows.{TableRows}
 use Rattle.lg_types.specs.declared.table.TableDef.{TableDef}
 use Rattle.lg_types.specs.declared.version.Table.{Table}
+use Rattle.lg_model.specs.Catalog.{Tables}
 use Rattle.lg_image.specs.Tables.{table_in, defs_in}
 use Rattle.lg_verify.specs.declared.shown.Shown.{Shown}
 
@@ -20,3 +21,8 @@ table_of s = table_in (def_of s) (rows_of s)
 pub record Show (tables : List Shown) (i : Image) : Type 0 where
   pub defs : map def_of tables ≡ defs_in i
   pub rows : map rows_of tables ≡ i.tables
+
+-- tables by rising id, which begin above this one
+abbrev pub IdsRise : ℕ → Tables → Type 0
+IdsRise last [] = Unit {0}
+IdsRise last (t ∷ ts) = (last < t.def.id) × IdsRise t.def.id ts

@@ -1,14 +1,20 @@
 -- Rows of the tables of the system, as values that are asked for one by one.
-use Rattle.std.specs.Prelude.{ℕ, zero, suc, FitsSigned, Bool, List, [], ◌∷◌, map, IfSome}
-use Rattle.std.specs.List.{list_any}
+use Rattle.std.specs.Prelude.{ℕ, zero, suc, ℤ, pos, FitsSigned, ◌&&◌, not, Bool, List, [], ◌∷◌, map, IfSome}
+use Rattle.std.specs.Borrow.{Bor}
+use Rattle.std.specs.List.{filter, list_any}
 use Rattle.std.specs.Int.{w64}
+use Rattle.std.specs.Ordering.{int_eq}
 use Rattle.lg_value.specs.declared.value.Value.{Value}
 use Rattle.lg_value.specs.declared.value.Value.TheVariants as values
 use Rattle.lg_types.specs.declared.image.TableRows.{TableRows}
+use Rattle.lg_types.specs.declared.table.TableDef.{TableDef}
 use Rattle.lg_types.specs.declared.version.Version.{Version}
+use Rattle.lg_model.specs.Catalog.{Defs}
 use Rattle.lg_model.specs.Rows.{Row, values_of}
 use Rattle.lg_model.specs.Keys.{same_key}
-use Rattle.lg_spell.specs.Differs.{table_of}
+use Rattle.lg_model.specs.SystemTables.{table_row}
+use Rattle.lg_spell.specs.Differs.{are_rows, is_spelled, table_of}
+use Rattle.lg_spell.specs.Spelled.{about, item_rows}
 use Rattle.lg_verify.specs.declared.items.Wanted.{Wanted}
 use Rattle.lg_verify.specs.declared.items.Wanted.TheVariants as wants
 
@@ -19,6 +25,9 @@ value_of (wants.Name name) = values.Text name.now
 
 abbrev pub rows_in : List Version → List Row
 rows_in versions = map values_of versions
+
+abbrev pub rows_seen : List (Bor Version) → List Row
+rows_seen versions = map (λ (v : Bor Version). values_of v.now) versions
 
 -- one of these rows is this one
 abbrev pub has_row : List Row → Row → Bool
@@ -33,3 +42,18 @@ abbrev pub base_in : List TableRows → ℕ → List Version
 base_in [] k = []
 base_in (rows ∷ more) zero = rows.base
 base_in (rows ∷ more) (suc k) = base_in more k
+
+-- the rows about its table are those of the definition
+abbrev pub has_its_rows : List Row → List Row → TableDef → Bool
+has_its_rows first second def =
+    are_rows (about (pos def.id) first) (table_row def ∷ [])
+    && are_rows (about (pos def.id) second) (item_rows def)
+
+-- the ids of those of these definitions that the rows spell
+abbrev pub ids_spelled : List Row → List Row → Defs → List ℕ
+ids_spelled first second defs =
+    map (λ (d : TableDef). d.id) (filter (is_spelled first second defs) defs)
+
+-- it is none of these ids
+abbrev pub is_missing : List ℕ → ℤ → Bool
+is_missing ids id = not (list_any (λ n. int_eq (pos n) id) ids)

@@ -34,7 +34,8 @@ pub fn index_fault(alloc: Global, image: &Image, tables: &[Shown]) -> Result<Opt
     fault_among(alloc, tables)
 }
 
-fn fault_among(alloc: Global, tables: &[Shown]) -> Result<Option<Place>, Memory>
+/// The first index of these tables whose rows aren't those of the base.
+pub fn fault_among(alloc: Global, tables: &[Shown]) -> Result<Option<Place>, Memory>
     requires { AllByRecursion HasFewIndexes tables.now }
     ensures { IfOk result (λ place. place ≡ first_among tables.now) }
 {

@@ -1,6 +1,6 @@
 //! Rows of the tables of the system, compared with what definitions want of them.
 
-ghost use Rattle.std.specs.Prelude.{◌≡◌, ◌<◌, ◌^◌, ◌==◌, ◌+◌, ◌*◌, ◌∷◌, [], pos, length, map};
+ghost use Rattle.std.specs.Prelude.{◌≡◌, ◌<◌, ◌^◌, ◌==◌, ◌+◌, ◌*◌, ◌∷◌, [], pos, length, map, IfOk};
 ghost use Rattle.std.specs.List.{list_all, list_any};
 ghost use Rattle.std.specs.Ordering.{is_eq};
 ghost use Rattle.lg_model.specs.Keys.{same_key};
@@ -11,12 +11,13 @@ ghost use Rattle.lg_spell.specs.Differs.{are_rows};
 ghost use Rattle.lg_value.specs.Order.{value_cmp};
 ghost use Rattle.lg_value.specs.declared.value.Value.TheVariants.{Text as TextOf};
 ghost use Rattle.lg_verify.specs.Numbers.{about_number};
-ghost use Rattle.lg_verify.specs.Spelling.{value_of, rows_in, has_row};
+ghost use Rattle.lg_verify.specs.Spelling.{value_of, rows_in, rows_seen, has_row};
 
 use crate::first_values::table_of;
-use lg_items::{Name, TableId};
+use lg_items::{Memory, Name, TableId};
 use lg_types::{IndexDef, TableDef, Typed, Version};
 use lg_value::{ColumnDef, TableKind, Value, compare, type_parts};
+use std::alloc::Global;
 
 /// A value that a row is to have.
 #[derive(Clone, Copy, Debug)]
@@ -104,24 +105,29 @@ fn is_about(id: TableId, version: &Version) -> bool
     is_table(table_of(version), id)
 }
 
-fn count_about(versions: &[Version], id: TableId) -> usize
-    ensures { result ≡ length (about (pos id) (rows_in versions.now)) }
+/// The rows about the table.
+pub fn rows_about<'a>(
+    alloc: Global,
+    versions: &'a [Version],
+    id: TableId,
+) -> Result<Vec<&'a Version>, Memory>
+    ensures { IfOk result (λ rows. rows_seen rows.items ≡ about (pos id) (rows_in versions.now)) }
 {
-    let mut count = 0;
+    let mut rows = Vec::new(alloc);
     for version in versions {
         if is_about(id, version) {
-            count += 1;
+            rows.push(version)?;
         }
     }
-    count
+    Ok(rows)
 }
 
-/// Whether one of the rows about the table has these values.
-fn has_row(versions: &[Version], id: TableId, wanted: &[Wanted]) -> bool
-    ensures { result ≡ has_row (about (pos id) (rows_in versions.now)) (map value_of wanted.now) }
+/// Whether one of the rows has these values.
+fn has_row(rows: &[&Version], wanted: &[Wanted]) -> bool
+    ensures { result ≡ has_row (rows_seen rows.now) (map value_of wanted.now) }
 {
-    for version in versions {
-        if is_about(id, version) && is_row(wanted, version.values.as_slice()) {
+    for row in rows {
+        if is_row(wanted, row.values.as_slice()) {
             return true;
         }
     }
@@ -160,12 +166,11 @@ fn table_row(def: &TableDef) -> [Wanted<'_>; 6]
     ]
 }
 
-/// Whether of the rows about the table there is one, which is that of its definition.
-pub fn has_table_row(versions: &[Version], def: &TableDef) -> bool
-    ensures { result ≡ are_rows (about (pos def.now.id) (rows_in versions.now))
-        (system.table_row def.now ∷ []) }
+/// Whether there is one row, which is that of the definition.
+pub fn has_table_row(rows: &[&Version], def: &TableDef) -> bool
+    ensures { result ≡ are_rows (rows_seen rows.now) (system.table_row def.now ∷ []) }
 {
-    count_about(versions, def.id) == 1 && has_row(versions, def.id, &table_row(def))
+    rows.len() == 1 && has_row(rows, &table_row(def))
 }
 
 fn bit(b: bool) -> i128
@@ -192,20 +197,18 @@ fn column_row(id: TableId, place: usize, column: &ColumnDef) -> [Wanted<'_>; 9]
     ]
 }
 
-fn has_column_row(versions: &[Version], id: TableId, place: usize, column: &ColumnDef) -> bool
-    ensures { result ≡ has_row (about (pos id) (rows_in versions.now))
-        (system.column_row id (place + 1, column.now)) }
+fn has_column_row(rows: &[&Version], id: TableId, place: usize, column: &ColumnDef) -> bool
+    ensures { result ≡ has_row (rows_seen rows.now) (system.column_row id (place + 1, column.now)) }
 {
-    has_row(versions, id, &column_row(id, place, column))
+    has_row(rows, &column_row(id, place, column))
 }
 
 #[tactic(auto, unfolding(lg_model::specs::SystemTables::column_rows))]
-fn has_column_rows(versions: &[Version], def: &TableDef) -> bool
-    ensures { result ≡ list_all (has_row (about (pos def.now.id) (rows_in versions.now)))
-        (system.column_rows def.now) }
+fn has_column_rows(rows: &[&Version], def: &TableDef) -> bool
+    ensures { result ≡ list_all (has_row (rows_seen rows.now)) (system.column_rows def.now) }
 {
     for (place, column) in def.columns.as_slice().iter().enumerate() {
-        if !has_column_row(versions, def.id, place, column) {
+        if !has_column_row(rows, def.id, place, column) {
             return false;
         }
     }
@@ -230,38 +233,38 @@ fn part_row(id: TableId, others: usize, name: &Name, place: usize, ordinal: u16)
 }
 
 fn has_part_row(
-    versions: &[Version],
+    rows: &[&Version],
     id: TableId,
     others: usize,
     name: &Name,
     place: usize,
     ordinal: u16,
 ) -> bool
-    ensures { result ≡ has_row (about (pos id) (rows_in versions.now))
+    ensures { result ≡ has_row (rows_seen rows.now)
         (system.index_row id (others + 1) name.now (place + 1, ordinal)) }
 {
-    has_row(versions, id, &part_row(id, others, name, place, ordinal))
+    has_row(rows, &part_row(id, others, name, place, ordinal))
 }
 
 #[tactic(auto, unfolding(lg_model::specs::SystemTables::index_rows))]
-fn has_part_rows(versions: &[Version], id: TableId, others: usize, index: &IndexDef) -> bool
-    ensures { result ≡ list_all (has_row (about (pos id) (rows_in versions.now)))
+fn has_part_rows(rows: &[&Version], id: TableId, others: usize, index: &IndexDef) -> bool
+    ensures { result ≡ list_all (has_row (rows_seen rows.now))
         (system.index_rows id (others + 1) index.now) }
 {
     for (place, ordinal) in index.ordinals.as_slice().iter().enumerate() {
-        if !has_part_row(versions, id, others, &index.name, place, *ordinal) {
+        if !has_part_row(rows, id, others, &index.name, place, *ordinal) {
             return false;
         }
     }
     true
 }
 
-fn has_index_rows(versions: &[Version], def: &TableDef) -> bool
-    ensures { result ≡ list_all (has_row (about (pos def.now.id) (rows_in versions.now)))
+fn has_index_rows(rows: &[&Version], def: &TableDef) -> bool
+    ensures { result ≡ list_all (has_row (rows_seen rows.now))
         (rows_of_indexes def.now.id 1 def.now.indexes) }
 {
     for (others, index) in def.indexes.as_slice().iter().enumerate() {
-        if !has_part_rows(versions, def.id, others, index) {
+        if !has_part_rows(rows, def.id, others, index) {
             return false;
         }
     }
@@ -288,12 +291,10 @@ fn are_so_many(count: usize, def: &TableDef) -> bool
     left == 0
 }
 
-/// Whether the rows about the table are those of the columns and of the indexes of its definition.
+/// Whether the rows are those of the columns and of the indexes of the definition.
 #[tactic(auto, unfolding(lg_spell::specs::Spelled::item_rows))]
-pub fn has_item_rows(versions: &[Version], def: &TableDef) -> bool
-    ensures { result ≡ are_rows (about (pos def.now.id) (rows_in versions.now)) (item_rows def.now) }
+pub fn has_item_rows(rows: &[&Version], def: &TableDef) -> bool
+    ensures { result ≡ are_rows (rows_seen rows.now) (item_rows def.now) }
 {
-    are_so_many(count_about(versions, def.id), def)
-        && has_column_rows(versions, def)
-        && has_index_rows(versions, def)
+    are_so_many(rows.len(), def) && has_column_rows(rows, def) && has_index_rows(rows, def)
 }

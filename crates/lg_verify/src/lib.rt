@@ -5,6 +5,7 @@ mod blocks;
 mod columns;
 mod entries;
 mod first_values;
+mod groups;
 mod ids;
 mod indexes;
 mod items;
@@ -22,6 +23,7 @@ mod spelling;
 mod verdict;
 mod versions;
 
+pub use groups::{Fault, GroupFaults, group_faults, root_fault_is_merged, roots_of_groups_merge};
 pub use lg_types::HeldDigest;
 pub use lg_verdict::{Invariant, Place, Verdict};
 pub use verdict::{verify, verify_image};

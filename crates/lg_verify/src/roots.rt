@@ -23,7 +23,7 @@ use lg_verdict::Place;
 use std::alloc::Global;
 
 /// A table, and a root in it.
-type TableRoot = (TableId, [u8; 32]);
+pub type TableRoot = (TableId, [u8; 32]);
 
 /// The first entry whose events aren't numbered without a gap, or that has other roots than theirs.
 /// The starts and ends of all versions are sorted once, and each leaf is hashed once.
@@ -62,14 +62,14 @@ fn first_fault<H: Hash32>(
 
 /// Room that is used for one entry after another.
 #[derive(Drop)]
-struct Work {
-    numbers: Vec<u64>,
-    roots: Vec<TableRoot>,
-    leaf: Vec<u8>,
+pub struct Work {
+    pub numbers: Vec<u64>,
+    pub roots: Vec<TableRoot>,
+    pub leaf: Vec<u8>,
 }
 
 impl Work {
-    fn new(alloc: Global) -> Self {
+    pub fn new(alloc: Global) -> Self {
         Work {
             numbers: Vec::new(alloc),
             roots: Vec::new(alloc),
@@ -117,7 +117,7 @@ fn put_numbers(marks: &[Mark], numbers: &mut Vec<u64>) -> Result<(), Memory>
 
 /// The root over the leaves of each table, in place of those that were there.
 /// The buffer has the last leaf then, whatever it had before.
-fn put_roots<H: Hash32>(
+pub fn put_roots<H: Hash32>(
     hasher: H,
     marks: &[Mark],
     leaf: &mut Vec<u8>,
@@ -184,7 +184,7 @@ fn least_other(a: &[TableRoot], b: &[TableRoot]) -> Option<TableId>
     least_among(a, b, b, best)
 }
 
-fn least_among(
+pub fn least_among(
     a: &[TableRoot],
     b: &[TableRoot],
     roots: &[TableRoot],
@@ -203,7 +203,7 @@ fn least_among(
     best
 }
 
-fn lesser(best: Option<TableId>, table: TableId) -> Option<TableId>
+pub fn lesser(best: Option<TableId>, table: TableId) -> Option<TableId>
     ensures { result ≡ lesser nat_cmp best table }
 {
     match best {
@@ -212,7 +212,7 @@ fn lesser(best: Option<TableId>, table: TableId) -> Option<TableId>
     }
 }
 
-fn same_root(a: Option<[u8; 32]>, b: Option<[u8; 32]>) -> bool
+pub fn same_root(a: Option<[u8; 32]>, b: Option<[u8; 32]>) -> bool
     ensures { result ≡ spec.same_root a b }
 {
     match (a, b) {
@@ -222,7 +222,7 @@ fn same_root(a: Option<[u8; 32]>, b: Option<[u8; 32]>) -> bool
     }
 }
 
-fn root_at(roots: &[TableRoot], table: TableId) -> Option<[u8; 32]>
+pub fn root_at(roots: &[TableRoot], table: TableId) -> Option<[u8; 32]>
     ensures { result ≡ spec.root_at roots.now table }
 {
     for root in roots {

@@ -1,21 +1,21 @@
 //! Whether the rows of the two tables of the system spell the definitions of all others.
 
-ghost use Rattle.std.specs.Prelude.{◌≡◌, pos, List, IfOk, length, map, filter, filter_map};
+ghost use Rattle.std.specs.Prelude.{◌≡◌, ◌∷◌, ◌++◌, [], pos, IfOk, OnOk, map, filter, filter_map};
 ghost use Rattle.std.specs.List.{AllByRecursion};
 ghost use Rattle.std.specs.Ordering.{int_cmp};
 ghost use Rattle.lg_model.specs.Catalog.{Defs};
-ghost use Rattle.lg_model.specs.Rows.{Row, values_of};
+ghost use Rattle.lg_model.specs.Rows.{values_of};
 ghost use Rattle.lg_spell.specs.Differs as spec;
 ghost use Rattle.lg_spell.specs.Least.{least_from, lesser};
 ghost use Rattle.lg_verdict.specs.Definitions as verdict;
-ghost use Rattle.lg_verify.specs.Spelling.{HasSmallId, base_in, rows_in};
+ghost use Rattle.lg_verify.specs.Spelling.{HasSmallId, base_in, has_its_rows, ids_spelled, is_missing, rows_in};
 
 use crate::first_values::table_of;
-use crate::items::{has_item_rows, has_table_row};
+use crate::items::{has_item_rows, has_table_row, rows_about};
 use crate::names::has_new_names;
 use crate::rules::may_be_spelled;
 use lg_image::Image;
-use lg_items::Memory;
+use lg_items::{Memory, TableId};
 use lg_types::{TableDef, Version};
 use lg_verdict::Place;
 use std::alloc::Global;
@@ -41,10 +41,10 @@ fn fault_of(
     ensures { IfOk result (λ place. place
         ≡ verdict.table_place (spec.spelling_fault (rows_in first.now) (rows_in second.now) defs.now)) }
 {
-    let spelled = which_are_spelled(alloc, first, second, defs)?;
-    let worst = worst_row(defs, &spelled, first, None);
-    let worst = worst_row(defs, &spelled, second, worst);
-    Ok(table_place(worst_def(defs, &spelled, defs, worst)))
+    let spelled = ids_spelled(alloc, first, second, defs)?;
+    let worst = worst_row(&spelled, first, None);
+    let worst = worst_row(&spelled, second, worst);
+    Ok(table_place(worst_def(&spelled, defs, worst)))
 }
 
 /// The base rows of the table at this place; of no table there are none.
@@ -66,7 +66,42 @@ fn table_place(id: Option<i64>) -> Option<Place>
     }
 }
 
-/// Whether the rows spell the definition.
+/// The ids of the definitions that the rows spell. Takes room for 32 ids at most, since no two definitions of
+/// an image have one id.
+fn ids_spelled(
+    alloc: Global,
+    first: &[Version],
+    second: &[Version],
+    defs: &[TableDef],
+) -> Result<Vec<TableId>, Memory>
+    ensures { IfOk result (λ ids. ids.items ≡ ids_spelled (rows_in first.now) (rows_in second.now) defs.now) }
+{
+    let mut ids = Vec::new(alloc);
+    for def in defs {
+        add_if_spelled(alloc, first, second, def, &mut ids)?;
+    }
+    Ok(ids)
+}
+
+fn add_if_spelled(
+    alloc: Global,
+    first: &[Version],
+    second: &[Version],
+    def: &TableDef,
+    ids: &mut Vec<TableId>,
+) -> Result<(), Memory>
+    ensures { OnOk result ((defs : Defs) → ids.new.items ≡ ids.old.items
+        ++ map (λ d. d.id)
+        (filter (spec.is_spelled (rows_in first.now) (rows_in second.now) defs) (def.now ∷ []))) }
+{
+    if is_spelled(alloc, first, second, def)? {
+        ids.push(def.id)?;
+    }
+    Ok(())
+}
+
+/// Whether the rows spell the definition. Its own rules come first: they let through the ids from 3 to 34,
+/// and the rows are gone through for those alone.
 fn is_spelled(
     alloc: Global,
     first: &[Version],
@@ -76,38 +111,33 @@ fn is_spelled(
     ensures { IfOk result (λ is. (defs : Defs)
         → is ≡ spec.is_spelled (rows_in first.now) (rows_in second.now) defs def.now) }
 {
-    Ok(
-        has_table_row(first, def)
-            && has_item_rows(second, def)
-            && may_be_spelled(alloc, def)?
-            && has_new_names(first, def),
-    )
+    if !may_be_spelled(alloc, def)? {
+        return Ok(false);
+    }
+    let own = has_its_rows(alloc, first, second, def)?;
+    Ok(own && has_new_names(first, def))
 }
 
-fn which_are_spelled(
+/// Whether the rows about its table are those of the definition.
+fn has_its_rows(
     alloc: Global,
     first: &[Version],
     second: &[Version],
-    defs: &[TableDef],
-) -> Result<Vec<bool>, Memory>
-    ensures { IfOk result (λ spelled. spelled.items
-        ≡ map (spec.is_spelled (rows_in first.now) (rows_in second.now) defs.now) defs.now) }
+    def: &TableDef,
+) -> Result<bool, Memory>
+    ensures { IfOk result (λ has. has ≡ has_its_rows (rows_in first.now) (rows_in second.now) def.now) }
 {
-    let mut spelled = Vec::with_capacity(alloc, defs.len())?;
-    for def in defs {
-        spelled.push(is_spelled(alloc, first, second, def)?)?;
-    }
-    Ok(spelled)
+    let tables = rows_about(alloc, first, def.id)?;
+    let items = rows_about(alloc, second, def.id)?;
+    Ok(has_table_row(&tables, def) && has_item_rows(&items, def))
 }
 
-/// Whether of the definitions none with this id is spelled.
-fn is_wrong(defs: &[TableDef], spelled: &[bool], id: i64) -> bool
-    requires { length spelled.now ≡ length defs.now }
-    ensures { (first second : List Row) → spelled.now ≡ map (spec.is_spelled first second defs.now) defs.now
-        → result ≡ spec.is_wrong first second defs.now id }
+/// Whether it is none of these ids.
+fn is_missing(ids: &[TableId], id: i64) -> bool
+    ensures { result ≡ is_missing ids.now id }
 {
-    for k in 0..defs.len() {
-        if i64::from(defs[k].id) == id && spelled[k] {
+    for own in ids {
+        if i64::from(*own) == id {
             return false;
         }
     }
@@ -134,22 +164,15 @@ fn small_table(version: &Version) -> Option<i64>
     }
 }
 
-fn worst_row(
-    defs: &[TableDef],
-    spelled: &[bool],
-    versions: &[Version],
-    worst: Option<i64>,
-) -> Option<i64>
-    requires few { length spelled.now ≡ length defs.now }
-    requires small { AllByRecursion HasSmallId versions.now }
-    ensures { (first second : List Row) → spelled.now ≡ map (spec.is_spelled first second defs.now) defs.now
-        → result ≡ least_from int_cmp worst
-        (filter (spec.is_wrong first second defs.now) (filter_map spec.table_of (rows_in versions.now))) }
+fn worst_row(spelled: &[TableId], versions: &[Version], worst: Option<i64>) -> Option<i64>
+    requires { AllByRecursion HasSmallId versions.now }
+    ensures { result ≡ least_from int_cmp worst
+        (filter (is_missing spelled.now) (filter_map spec.table_of (rows_in versions.now))) }
 {
     let mut worst = worst;
     for version in versions {
         if let Some(id) = small_table(version) {
-            if is_wrong(defs, spelled, id) {
+            if is_missing(spelled, id) {
                 worst = lesser(worst, id);
             }
         }
@@ -157,21 +180,14 @@ fn worst_row(
     worst
 }
 
-fn worst_def(
-    defs: &[TableDef],
-    spelled: &[bool],
-    some: &[TableDef],
-    worst: Option<i64>,
-) -> Option<i64>
-    requires { length spelled.now ≡ length defs.now }
-    ensures { (first second : List Row) → spelled.now ≡ map (spec.is_spelled first second defs.now) defs.now
-        → result ≡ least_from int_cmp worst
-        (filter (spec.is_wrong first second defs.now) (map (λ d. pos d.id) some.now)) }
+fn worst_def(spelled: &[TableId], defs: &[TableDef], worst: Option<i64>) -> Option<i64>
+    ensures { result ≡ least_from int_cmp worst
+        (filter (is_missing spelled.now) (map (λ d. pos d.id) defs.now)) }
 {
     let mut worst = worst;
-    for def in some {
+    for def in defs {
         let id = i64::from(def.id);
-        if is_wrong(defs, spelled, id) {
+        if is_missing(spelled, id) {
             worst = lesser(worst, id);
         }
     }

@@ -40,7 +40,8 @@ pub fn version_fault(
     Ok(event_place(worst))
 }
 
-fn least_bad(
+/// The start of the least version that its table may not have, if there is one.
+pub fn least_bad(
     alloc: Global,
     positions: &Positions,
     tables: &[Shown],

@@ -1,11 +1,10 @@
 use Rattle.std.proofs.Common.{◌≡◌, ◌+◌, drop}
-use Rattle.std.specs.Prelude.{pos}
 use Rattle.std.specs.List.{list_all}
-use Rattle.lg_spell.specs.Spelled.{about, rows_of_indexes}
-use Rattle.lg_verify.specs.Spelling.{rows_in, has_row}
+use Rattle.lg_spell.specs.Spelled.{rows_of_indexes}
+use Rattle.lg_verify.specs.Spelling.{rows_seen, has_row}
 use Rattle.lg_verify.proofs.items.has_index_rows.Given as goal
 
 abbrev pub invariant-loop-others : goal.invariant-loop-others
 invariant-loop-others l =
-    let has = has_row (about (pos l.def.id) (rows_in l.versions)) in
+    let has = has_row (rows_seen l.rows) in
     list_all has (rows_of_indexes l.def.id (l.others + 1) (drop l.others l.def.indexes)) ≡ list_all has (rows_of_indexes l.def.id 1 l.def.indexes)

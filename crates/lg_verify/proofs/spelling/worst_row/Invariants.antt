@@ -1,16 +1,14 @@
-use Rattle.std.proofs.Common.{◌≡◌, List, map, drop, filter, filter_map}
+use Rattle.std.proofs.Common.{◌≡◌, drop, filter, filter_map}
 use Rattle.std.specs.List.{AllByRecursion}
 use Rattle.std.specs.Ordering.{int_cmp}
-use Rattle.lg_model.specs.Rows.{Row}
-use Rattle.lg_spell.specs.Differs.{is_spelled, is_wrong, table_of}
+use Rattle.lg_spell.specs.Differs.{table_of}
 use Rattle.lg_spell.specs.Least.{least_from}
-use Rattle.lg_verify.specs.Spelling.{HasSmallId, rows_in}
+use Rattle.lg_verify.specs.Spelling.{HasSmallId, is_missing, rows_in}
 use Rattle.lg_verify.proofs.spelling.worst_row.Given as goal
 
 abbrev pub invariant-loop-version : goal.invariant-loop-version
 invariant-loop-version l = record {
   small : AllByRecursion HasSmallId (drop l.version-index l.versions);
-  worst : (first second : List Row) → l.spelled ≡ map (is_spelled first second l.defs) l.defs
-      → least_from int_cmp l.worst (filter (is_wrong first second l.defs) (filter_map table_of (rows_in (drop l.version-index l.versions))))
-      ≡ least_from int_cmp l.fn.worst (filter (is_wrong first second l.defs) (filter_map table_of (rows_in l.versions)));
+  worst : least_from int_cmp l.worst (filter (is_missing l.spelled) (filter_map table_of (rows_in (drop l.version-index l.versions))))
+      ≡ least_from int_cmp l.fn.worst (filter (is_missing l.spelled) (filter_map table_of (rows_in l.versions)));
 }
