@@ -1,5 +1,5 @@
 -- What a seat does alone: a session begins, a statement is taken up, or refused for want of memory.
-use Rattle.std.proofs.Common.{◌≡◌, ℕ, Bool, true, false, List, [], ◌∷◌, ◌++◌, Option, Some, None, length, map, refl, sym, ap, ap₂, ◌∙◌, subst}
+use Rattle.std.proofs.Common.{◌≡◌, ℕ, Bool, true, false, List, [], ◌∷◌, ◌++◌, Option, Some, None, length, map, refl, sym, ap, ap₂, ◌∙◌, subst, arith}
 use Rattle.std.proofs.lemmas.List.{append-nil, append_assoc}
 use Rattle.lg_items.specs.Moment.{is_moment}
 use Rattle.lg_items.specs.SessionName.{is_session_name}
@@ -7,9 +7,8 @@ use Rattle.lg_value.specs.declared.refusal.Refusal.TheVariants.{E30}
 use Rattle.lg_types.specs.declared.reply.Reply.TheVariants as reply
 use Rattle.lg_types.specs.declared.statement.Stmt.{Stmt}
 use Rattle.std.specs.Prelude.{if◌then◌else◌}
-use Rattle.lg_parse.specs.Text.{statement_of}
 use Rattle.lg_model.specs.Journals.{Line}
-use Rattle.lg_history.specs.Acts.{SessionAct, fails}
+use Rattle.lg_history.specs.Acts.{fails}
 use Rattle.lg_history.specs.Inputs.{InputLine}
 use Rattle.lg_history.specs.Lists.{Text, Each}
 use Rattle.lg_history.specs.Meaning.{Meaning}
@@ -22,7 +21,6 @@ use Rattle.lg_standing.specs.Moves.{at_place, sits}
 use Rattle.lg_standing.specs.Seats.{OpenTransaction, Place, inside, answering, KeptImage, Session, Role, idle, session, builder, SeatState}
 use Rattle.lg_standing.specs.Seats as law
 use Rattle.lg_standing.specs.Server.{Server}
-use Rattle.lg_server.specs.Serves.{Serves}
 use Rattle.lg_seat.specs.Points.{IsBetween, IsBetweenAt, IsBegun, IsBegunAt}
 use Rattle.lg_seat.specs.Sits.{Sits, Runs, HasScript, HasRoom, said_at, line_of, IsPoint, IsRead, IsAnswered, place_seen, left_of}
 use Rattle.lg_seat.specs.Steps.{Steps, StepsAlone, Starts, Begins, line_with}
@@ -102,6 +100,7 @@ module _ {H : Type 0} (digest : H → List ℕ → List ℕ) (h : H) (y : Seat H
     formed = w.formed;
     moment = moment;
     images = ap (λ (ks : List KeptImage). length ks) images ∙ w.images;
+    few = w.few;
     place = place;
     reads = reads;
     runs = runs;
@@ -220,6 +219,7 @@ session_begins digest hasher name text formed v s present free = record {
     formed = formed;
     moment = refl;
     images = refl;
+    few = omega arith;
     place = refl;
     reads = tt;
     runs = tt;
@@ -250,11 +250,11 @@ pub starts_then : {H : Type 0} (digest : H → List ℕ → List ℕ) (y z u : S
 starts_then digest y z u text a b v h s serves w = let p = a v h s serves w in
     steps_both digest h v s (line_with y.name text) [] z u p (b v h p.t serves p.sits)
 
-unfixed_of : (o : Option OpenTransaction) → GoesOn o → IsUnfixed o
+pub unfixed_of : (o : Option OpenTransaction) → GoesOn o → IsUnfixed o
 unfixed_of None k = tt
 unfixed_of (Some o) k = k.0
 
-failed_plain : (q : Meaning) (o : Option OpenTransaction) (text : Text) → Each IsPlain (failed_in q o text)
+pub failed_plain : (q : Meaning) (o : Option OpenTransaction) (text : Text) → Each IsPlain (failed_in q o text)
 failed_plain q None text = tt
 failed_plain q (Some o) text = by o.opened (kind_of (q.reads text))
   where

@@ -1,28 +1,24 @@
 -- What a seat does alone at the end of a statement and of its session.
-use Rattle.std.proofs.Common.{◌≡◌, ℕ, Bool, true, false, List, [], ◌∷◌, ◌++◌, Option, Some, None, length, map, reverse, refl, sym, ap, ap₂, ◌∙◌, subst, subst₂, ◌⊎◌, inl, inr}
-use Rattle.std.specs.Prelude.{if◌then◌else◌, slice_get}
+use Rattle.std.proofs.Common.{◌≡◌, ℕ, Bool, true, false, List, [], ◌∷◌, ◌++◌, Option, Some, None, length, map, reverse, refl, sym, ap, ◌∙◌, subst, subst₂, inl, inr, ◌≤◌, arith}
+use Rattle.std.specs.Prelude.{if◌then◌else◌, slice_get, vec_capacity}
 use Rattle.std.specs.Option.{is_some}
 use Rattle.std.proofs.lemmas.List.{append-nil, map-append, reverse-append}
 use Rattle.lg_types.specs.declared.reply.Reply.{Reply}
 use Rattle.lg_types.specs.declared.table.TableDef.{TableDef}
-use Rattle.lg_model.specs.Journals.{Line}
 use Rattle.lg_history.specs.Lists.{Text, Each, In}
 use Rattle.lg_history.specs.Transactions.{End, unfixed, committed, ended}
 use Rattle.lg_history.specs.Transcripts.{Entry, statement, end_of_session}
 use Rattle.lg_history.specs.Transcripts as transcripts
-use Rattle.lg_standing.specs.Alone.{Alone, leaves, stops, answers, answers_end, has_left, none, GoesOn, IsReleased, over}
+use Rattle.lg_standing.specs.Alone.{leaves, stops, answers, answers_end, has_left, none, GoesOn, IsReleased, over}
 use Rattle.lg_standing.specs.Answering.{with_entry, written_of, end_line}
 use Rattle.lg_standing.specs.Moves.{at_place, sits}
 use Rattle.lg_standing.specs.Seats.{OpenTransaction, inside, answering, between, leaving, Session, session, SeatState}
-use Rattle.lg_standing.specs.Server.{Server}
-use Rattle.lg_parse.specs.Text.{statement_of}
-use Rattle.lg_server.specs.Serves.{Serves}
 use Rattle.lg_tx.specs.Represents.{Represents}
 use Rattle.lg_seat.specs.EndSeen.{IsEnd, line_seen}
-use Rattle.lg_seat.specs.Needs.{answer_need, end_need, leaving_need, cell_or_done}
+use Rattle.lg_seat.specs.Needs.{answer_need, end_need, point_need, need_of, cell_or_done}
 use Rattle.lg_seat.specs.Points.{IsBetween, IsBetweenAt, IsLeavingAt}
-use Rattle.lg_seat.specs.Rest.{said_pair, RestOpen, RestBy, IsRest, MayEnd, MayEndAt, FinishesBy}
-use Rattle.lg_seat.specs.Sits.{Sits, IsRunning, Runs, HasScript, HasRoom, IsPoint, IsAnswered, line_of, said_line, said_at, left_of}
+use Rattle.lg_seat.specs.Rest.{said_pair, MayPush, RestOpen, RestBy, IsRest, MayEnd, MayEndAt, FinishesBy}
+use Rattle.lg_seat.specs.Sits.{Sits, IsRunning, Runs, HasScript, HasRoom, IsAnswered, line_of, said_line}
 use Rattle.lg_seat.specs.Steps.{Steps, StepsAlone, Answers, IsAnsweredBy, Ends, EndsSession, entries_at, entries_by, end_of, last_entries}
 use Rattle.lg_seat.specs.Told.{Adds}
 use Rattle.lg_seat.specs.VisitedCells.{VisitedCells}
@@ -298,6 +294,46 @@ answered_by {H} digest y a empty q b done rest v h s serves w = by y.running w.x
               (said (Some r) e ∙ ap (λ (u : Option transcripts.EndLine). statement y.text a.reply u ∷ []) (ap line_seen l ∙ seen_now line));
         }
 
-pub finishing : {H : Type 0} (r : Option (Running H)) (y z : Seat H) → z.point ≡ end_point (is_some r) → FinishesBy r y z
-finishing None y z e = subst IsBetweenAt (sym e) tt
-finishing (Some r) y z e = subst IsLeavingAt (sym e) tt
+-- where it belongs to the script there is room for it
+may_push : {H : Type 0} (digest : H → List ℕ → List ℕ) (h : H) (y : Seat H) (s : SeatState) → Sits digest h y s → (a : Answering) → y.point ≡ Inside (Answered a) → MayPush a.said y.running
+may_push {H} digest h y s w a b = by y.running refl
+  where
+    by : (r : Option (Running H)) → y.running ≡ r → MayPush a.said r
+    by None e = tt
+    by (Some r) e = subst₂ HasRoom b e w.room
+
+pub ends_statement : {H : Type 0} (digest : H → List ℕ → List ℕ) (y : Seat H) (a : Answering) (left : Text) (q : Option (Running H))
+    → y.point ≡ Inside (Answered a) → need_of y ≡ Done → (MayPush a.said y.running → IsRest y.text a y.running q)
+    → IsAnsweredBy digest y (then_seat y y.started left None q Between)
+ends_statement {H} digest y a left q b done rest v h s serves w =
+    answered_by digest y a left q b (ap (λ (p : Point). point_need p y.running) (sym b) ∙ done) (rest (may_push digest h y s w a b)) v h s serves w
+
+pub finishing : {H : Type 0} (r : Option (Running H)) (y z : Seat H) → z.point ≡ end_point (is_some r) → z.running ≡ r → FinishesBy r y z
+finishing None y z e same = (subst IsBetweenAt (sym e) tt, same)
+finishing (Some r) y z e same = subst IsLeavingAt (sym e) tt
+
+-- ---- what stays of a transaction
+
+pub rest_gone : {H : Type 0} (text : Text) (a : Answering) (r : Running H) (line : EndLine) → r.end ≡ Some line → RestBy r.end text a r None
+rest_gone text a r line e = subst (λ (l : Option EndLine). RestBy l text a r None) (sym e) refl
+
+pub rest_open : {H : Type 0} (text : Text) (a : Answering) (r q : Running H) → r.end ≡ None → RestOpen text a r (Some q) → RestBy r.end text a r (Some q)
+rest_open text a r q e k = subst (λ (l : Option EndLine). RestBy l text a r (Some q)) (sym e) k
+
+-- nothing is added
+pub no_more : {H : Type 0} (text : Text) (a : Answering) (r : Running H) → r.end ≡ None → a.said ≡ false → RestOpen text a r (Some r)
+no_more text a r e unsaid = (refl, refl, e, sym (ap (λ (b : Bool). r.script.items ++ said_pair b text a.reply) unsaid ∙ append-nil r.script.items), refl)
+
+-- there was no room
+pub had_room : {H : Type 0} (text : Text) (a : Answering) (r : Running H) → vec_capacity r.script ≤ length r.script.items → a.said ≡ true → MayPush a.said (Some r) → RestOpen text a r (Some r)
+had_room text a r full said may = absurd (omega (arith, full, may said))
+
+pub more_said : {H : Type 0} (text : Text) (a : Answering) (r q : Running H) → r.end ≡ None → a.said ≡ true → q.context ≡ r.context → q.visited ≡ r.visited → q.end ≡ r.end → q.opened ≡ r.opened
+    → q.script.items ≡ r.script.items ++ (text, a.reply) ∷ [] → RestOpen text a r (Some q)
+more_said text a r q e said context visited end opened items = (
+  context,
+  visited,
+  end ∙ e,
+  items ∙ ap (λ (b : Bool). r.script.items ++ said_pair b text a.reply) (sym said),
+  opened,
+)

@@ -1,19 +1,13 @@
--- The transaction that a seat gets with an id. For the contract of drawing one, which no function has yet.
+-- The transaction that a seat gets with an id.
 use Rattle.std.specs.Prelude.{ℕ, ◌≡◌, ◌<◌, Bool, true, List, [], length, vec_capacity, Option, Some, None}
-use Rattle.lg_standing.specs.Cells.{Ledger}
 use Rattle.lg_standing.specs.LedgerVisits.{drawn}
 use Rattle.lg_standing.specs.Moves.{new_transaction}
 use Rattle.lg_book.specs.HashedCell.{HashedCell}
-use Rattle.lg_seat.specs.KeptCell.{KeptCell}
 use Rattle.lg_seat.specs.Sits.{IsRunning}
 use Rattle.lg_seat.specs.declared.running.Running.{Running}
 use Rattle.lg_seat.specs.declared.seat.Seat.{Seat}
 use Rattle.lg_seat.specs.declared.stage.Point.TheVariants.{Inside}
 use Rattle.lg_seat.specs.declared.stage.Stage.{Stage}
-
--- the ledger's cell among cells
-abbrev pub ledger_seen : HashedCell → KeptCell
-ledger_seen c = record { cell = Ledger c.cell; hash = c.hash }
 
 -- inside a statement, so far
 abbrev pub StandsAt : {H : Type 0} → Stage → Seat H → Type 0

@@ -1,7 +1,7 @@
 -- What contracts see of a cell.
 use Rattle.std.specs.Prelude.{ℕ, ◌≡◌, List, []}
-use Rattle.lg_standing.specs.Cells.{Cell, Ledger}
-use Rattle.lg_book.specs.HashedCell.{KeepsHash}
+use Rattle.lg_standing.specs.Cells.{Cell, Catalog, CatalogCell, Ledger, Rows, TableCell}
+use Rattle.lg_book.specs.HashedCell.{HashedCell, KeepsHash}
 use Rattle.lg_seat.specs.declared.cell.Kind.{Kind}
 use Rattle.lg_seat.specs.declared.cell.Kind.TheVariants as kind
 
@@ -10,8 +10,20 @@ pub record KeptCell : Type 0 where
   pub cell : Cell
   pub hash : List ℕ
 
+-- the three kinds of cells among cells
+abbrev pub catalog_seen : CatalogCell → KeptCell
+catalog_seen c = record { cell = Catalog c; hash = [] }
+
+abbrev pub ledger_seen : HashedCell → KeptCell
+ledger_seen c = record { cell = Ledger c.cell; hash = c.hash }
+
+abbrev pub rows_seen : TableCell → KeptCell
+rows_seen c = record { cell = Rows c; hash = [] }
+
 abbrev pub cell_seen : Kind → KeptCell
-cell_seen (kind.Ledger c) = record { cell = Ledger c.cell; hash = c.hash }
+cell_seen (kind.Catalog c) = catalog_seen c
+cell_seen (kind.Ledger c) = ledger_seen c
+cell_seen (kind.Rows c) = rows_seen c
 
 abbrev pub KeepsAt : (List ℕ → List ℕ) → List ℕ → Cell → Type 0
 KeepsAt h hash (Ledger c) = KeepsHash h (record { cell = c; hash = hash })

@@ -1,4 +1,5 @@
 -- Where a seat stands, as callers tell it.
+use Rattle.std.specs.Prelude.{◌≡◌}
 use Rattle.lg_seat.specs.declared.seat.Seat.{Seat}
 use Rattle.lg_seat.specs.declared.stage.Point.{Point}
 use Rattle.lg_seat.specs.declared.stage.Point.TheVariants.{Between, Inside, Leaving, Over}
@@ -33,6 +34,11 @@ abbrev pub IsBegunAt : Point → Type 0
 IsBegunAt (Inside Begun) = Unit {0}
 IsBegunAt _ = ⊥
 
+abbrev pub IsUnderWayAt : Point → Type 0
+IsUnderWayAt (Inside Begun) = ⊥
+IsUnderWayAt (Inside stage) = Unit {0}
+IsUnderWayAt _ = ⊥
+
 -- in no statement
 abbrev pub IsBetween : {H : Type 0} → Seat H → Type 0
 IsBetween y = IsBetweenAt y.point
@@ -56,3 +62,21 @@ IsOver y = IsOverAt y.point
 -- a statement is taken up, and nothing else is done
 abbrev pub IsBegun : {H : Type 0} → Seat H → Type 0
 IsBegun y = IsBegunAt y.point
+
+-- a statement is taken up and read
+abbrev pub IsUnderWay : {H : Type 0} → Seat H → Type 0
+IsUnderWay y = IsUnderWayAt y.point
+
+-- it stays in its statement, or at the session's end
+abbrev pub StaysBy : Point → Point → Type 0
+StaysBy (Inside stage) then_point = IsInsideAt then_point
+StaysBy Leaving then_point = IsLeavingAt then_point
+StaysBy _ then_point = ⊥
+
+-- a visit ends neither statement nor session, and changes neither the session's name nor the moment
+pub record Stays {H : Type 0} (y z : Seat H) : Type 0 where
+  pub point : StaysBy y.point z.point
+  -- nor does it lead back to the beginning of a statement
+  pub begun : IsBegun z → IsBegun y
+  pub started : z.started ≡ y.started
+  pub name : z.name ≡ y.name

@@ -20,7 +20,7 @@ pub record IsSeated {H : Type 0} (digest : H → List ℕ → List ℕ) (y : Sea
   pub s : SeatState
   pub sits : Sits digest h y s
 
--- ---- a transaction behind an answer, for the contract of ending a statement, which no function has yet
+-- ---- a transaction behind an answer
 
 abbrev pub said_pair : Bool → Text → Reply → List (Text × Reply)
 said_pair true text r = (text, r) ∷ []
@@ -48,14 +48,6 @@ IsRest text a (Some r) q = RestBy r.end text a r q
 
 -- ---- the session's end
 
-abbrev pub FinishesBy : {H : Type 0} → Option (Running H) → Seat H → Seat H → Type 0
-FinishesBy None y z = IsBetween z
-FinishesBy (Some r) y z = IsLeaving z
-
--- where a transaction is open, it is still to be ended
-abbrev pub IsFinishing : {H : Type 0} → Seat H → Seat H → Type 0
-IsFinishing y z = FinishesBy y.running y z
-
 abbrev pub MayEndAt : {H : Type 0} → Point → Option (Running H) → Type 0
 MayEndAt Between None = Unit {0}
 MayEndAt Leaving (Some r) = leaving_need (Some r) ≡ Done
@@ -64,3 +56,11 @@ MayEndAt _ _ = ⊥
 -- no transaction is left
 abbrev pub MayEnd : {H : Type 0} → Seat H → Type 0
 MayEnd y = MayEndAt y.point y.running
+
+abbrev pub FinishesBy : {H : Type 0} → Option (Running H) → Seat H → Seat H → Type 0
+FinishesBy None y z = IsBetween z × (z.running ≡ None)
+FinishesBy (Some r) y z = IsLeaving z
+
+-- where a transaction is open, it is still to be ended
+abbrev pub IsFinishing : {H : Type 0} → Seat H → Seat H → Type 0
+IsFinishing y z = FinishesBy y.running y z

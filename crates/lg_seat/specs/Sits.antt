@@ -1,6 +1,6 @@
 -- What the run-time seat of a session has of all that is known of its seat. Of transcripts, images, moments
 -- and leaves it keeps nothing, so these are any.
-use Rattle.std.specs.Prelude.{ℕ, ◌≡◌, ◌≢◌, ◌<◌, ◌++◌, Bool, true, false, List, [], ◌∷◌, drop, length, map, reverse, vec_capacity, Option, Some, None}
+use Rattle.std.specs.Prelude.{ℕ, ◌≡◌, ◌≢◌, ◌<◌, ◌≤◌, ◌++◌, Bool, true, false, List, [], ◌∷◌, drop, length, map, reverse, vec_capacity, Option, Some, None}
 use Rattle.lg_items.specs.Ids.{is_tx_id}
 use Rattle.lg_items.specs.Moment.{is_moment}
 use Rattle.lg_items.specs.SessionName.{is_session_name}
@@ -202,6 +202,8 @@ pub record Sits {H : Type 0} (digest : H → List ℕ → List ℕ) (h : H) (y :
   pub formed : is_session_name y.name ≡ true
   pub moment : is_moment y.started ≡ true
   pub images : length x.images ≡ y.images
+  -- a session keeps two images at most
+  pub few : y.images ≤ 2
   pub place : x.place ≡ place_seen y.point y.text (left_of y.running)
   pub reads : IsRead y.stmt y.text
   pub runs : Runs digest h y.running x.open_one

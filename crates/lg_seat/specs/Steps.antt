@@ -1,7 +1,8 @@
 -- What the calls of a run-time seat make of all that is known of its seat.
-use Rattle.std.specs.Prelude.{ℕ, ◌≡◌, ◌⊎◌, ◌<◌, ◌++◌, true, List, [], ◌∷◌, map, Option, Some, None}
+use Rattle.std.specs.Prelude.{ℕ, ◌≡◌, ◌⊎◌, ◌<◌, ◌++◌, true, List, [], ◌∷◌, length, map, Option, Some, None}
 use mathlib.Core.Option.{some}
 use lib.ListN.{get_elem?}
+use Rattle.lg_types.specs.declared.journal.JournalItem.{JournalItem}
 use Rattle.lg_types.specs.declared.reply.Reply.{Reply}
 use Rattle.lg_parse.specs.Text.{statement_of}
 use Rattle.lg_history.specs.Inputs.{InputLine}
@@ -81,7 +82,7 @@ entries_by _ text end = []
 abbrev pub entries_at : {H : Type 0} → Seat H → List Entry
 entries_at y = entries_by y.point y.text (end_of y.running)
 
--- the statement is answered (no function has this contract yet)
+-- the statement is answered
 pub record Answers {H : Type 0} (digest : H → List ℕ → List ℕ) (h : H) (v : Server) (s : SeatState)
     (y z : Seat H) : Type 0 where
   pub t : SeatState
@@ -122,8 +123,6 @@ EndsSession {H} digest y = (v : Server) (h : H) (s : SeatState)
     → Serves (digest h) statement_of v → Sits digest h y s → Ends v s y
 
 -- ---- visits
-
--- What follows is for the contracts of visits, which no function has yet.
 
 -- The cell is the one that the seat needs, in some cells that stand together with some seats, of which this
 -- is one. The ledger's cell keeps the hash of its last block.
@@ -166,7 +165,10 @@ Visits digest y c d z = (a : Among digest y c) → Visited digest y c a d z
 
 -- ---- images
 
--- (no function has these yet)
+-- the items of the journal in the ledger's cell
+abbrev pub items_of : Cell → List JournalItem
+items_of (Ledger c) = c.items
+items_of _ = []
 
 -- The seat needs all cells, which stand together with some seats, of which this is one.
 pub record AmongAll {H : Type 0} (digest : H → List ℕ → List ℕ) (y : Seat H)
@@ -206,6 +208,20 @@ pub record VisitedAll {H : Type 0} (digest : H → List ℕ → List ℕ) (y : S
   pub sits : Sits digest a.h z t
   pub adds : Adds a.s [] (images_kept kept) [] t
 
+-- (the number of items is that of the journal)
+abbrev pub items_in : List KeptCell → ℕ
+items_in (_ ∷ c ∷ _) = length (items_of c.cell)
+items_in _ = 0
+
+abbrev pub image_in : ℕ → Option Text → Option (ℕ × Text)
+image_in items None = None
+image_in items (Some bytes) = Some (items, bytes)
+
 abbrev pub VisitsAll : {H : Type 0} → (H → List ℕ → List ℕ) → Seat H → List KeptCell
     → Option (ℕ × Text) → Seat H → Type 0
 VisitsAll digest y all kept z = (a : AmongAll digest y all) → VisitedAll digest y all a kept z
+
+-- the image that was kept is of all items in the ledger's cell
+abbrev pub KeepsImage : {H : Type 0} → (H → List ℕ → List ℕ) → Seat H → List KeptCell → Option Text → Seat H
+    → Type 0
+KeepsImage digest y all image z = VisitsAll digest y all (image_in (items_in all) image) z

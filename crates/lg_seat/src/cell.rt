@@ -1,18 +1,22 @@
 //! The cells that seats visit.
 
 ghost use Rattle.std.specs.Prelude.{◌≡◌};
-ghost use Rattle.lg_seat.specs.Drew.{ledger_seen};
+ghost use Rattle.lg_seat.specs.KeptCell.{catalog_seen, ledger_seen, rows_seen};
 
 use lg_book::LedgerCell;
+use lg_catalog::CatalogCell;
+use lg_table::TableCell;
 use std::marker::Model;
 
 #[derive(Drop)]
 pub(crate) enum Kind {
+    Catalog(CatalogCell),
     Ledger(LedgerCell),
+    Rows(TableCell),
 }
 
-/// What a seat visits: so far the ledger. Contracts see the cell of which the laws on visits speak, and the
-/// hash that the ledger keeps of its last block.
+/// What a seat visits: the catalog, the ledger, or a table. Contracts see the cell of which the laws on
+/// visits speak, and the hash that the ledger keeps of its last block.
 #[derive(Drop)]
 pub struct Cell {
     pub(crate) kind: Kind,
@@ -27,6 +31,24 @@ impl Model for Cell {
 }
 
 impl Cell {
+    /// The catalog's cell among cells.
+    pub fn of_catalog(catalog: CatalogCell) -> Cell
+        ensures { result ≡ catalog_seen catalog }
+    {
+        Cell {
+            kind: Kind::Catalog(catalog),
+        }
+    }
+
+    /// A table's cell among cells.
+    pub fn of_rows(rows: TableCell) -> Cell
+        ensures { result ≡ rows_seen rows }
+    {
+        Cell {
+            kind: Kind::Rows(rows),
+        }
+    }
+
     /// The ledger's cell among cells.
     pub fn of_ledger(ledger: LedgerCell) -> Cell
         ensures { result ≡ ledger_seen ledger }

@@ -32,7 +32,8 @@ fn cell_or_done(cell: Option<usize>) -> Need
     }
 }
 
-fn not_catalog(cell: Option<usize>) -> Option<usize>
+/// A cell that is visited on the way back to a savepoint, where there is one.
+pub(crate) fn not_catalog(cell: Option<usize>) -> Option<usize>
     ensures { result ≡ visited.not_catalog cell }
 {
     match cell {

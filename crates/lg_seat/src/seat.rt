@@ -1,27 +1,25 @@
 //! A seat: a session between its statements, or inside one.
 
 ghost use Rattle.std.specs.Prelude.{◌≡◌, ◌∷◌, [], true, if◌then◌else◌};
-ghost use Rattle.lg_items.specs.Moment.{is_moment};
 ghost use Rattle.lg_items.specs.SessionName.{is_session_name};
 ghost use Rattle.lg_history.specs.Transcripts.{statement};
 ghost use Rattle.lg_standing.specs.Seats.{idle, SeatState};
 ghost use Rattle.lg_standing.specs.Server.{Server};
 ghost use Rattle.lg_seat.specs.EndSeen.{line_seen};
 ghost use Rattle.lg_seat.specs.Needs.{need_of};
-ghost use Rattle.lg_seat.specs.Points.{IsAnswering, IsBegun, IsBetween, IsInside, IsOver};
+ghost use Rattle.lg_seat.specs.Points.{IsAnswering, IsBetween, IsOver};
 ghost use Rattle.lg_seat.specs.Rest.{IsFinishing, MayEnd};
-ghost use Rattle.lg_seat.specs.Steps.{entries_at, end_of as end_in, Begins, EndsSession, Starts, StepsAlone};
+ghost use Rattle.lg_seat.specs.Steps.{entries_at, end_of as end_in, Begins, EndsSession, StepsAlone};
 ghost use Rattle.lg_seat.specs.declared.stage.Point.TheVariants.{Between, Leaving};
 
 use crate::end_line::EndLine;
 use crate::need::Need;
 use crate::needing::{leaving_need, stage_need};
 use crate::running::Running;
-use crate::stage::{Answering, Point, Stage};
+use crate::stage::{Point, Stage};
 use lg_items::{Name, Text};
 use lg_merkle::Hash32;
 use lg_types::{Reply, Stmt};
-use lg_value::Refusal;
 use std::alloc::Global;
 
 /// A session as its thread has it: its transaction, and the statement under way.
@@ -68,49 +66,6 @@ impl<H: Hash32> Seat<H> {
         }
     }
 
-    /// Takes up a statement at this moment, and refuses it with E30, as for want of memory: no statement is
-    /// run yet. Takes no memory.
-    pub fn start(&mut self, text: Text, now: u64)
-        requires between { IsBetween self.old }
-        requires moment { is_moment now ≡ true }
-        ensures starts { Starts H.digest self.old text self.new }
-        ensures inside { IsInside self.new }
-        ensures started { self.new.started ≡ now }
-        ensures name { self.new.name ≡ self.old.name }
-    {
-        self.take_up(text, now);
-        self.lack_memory();
-    }
-
-    fn take_up(&mut self, text: Text, now: u64)
-        requires between { IsBetween self.old }
-        requires moment { is_moment now ≡ true }
-        ensures starts { Starts H.digest self.old text self.new }
-        ensures begun { IsBegun self.new }
-        ensures started { self.new.started ≡ now }
-        ensures name { self.new.name ≡ self.old.name }
-    {
-        self.started = now;
-        self.text = text;
-        self.stmt = None;
-        self.point = Point::Inside(Stage::Begun);
-    }
-
-    // Refuses a statement with E30 of which nothing is done.
-    pub(crate) fn lack_memory(&mut self)
-        requires { IsBegun self.old }
-        ensures steps { StepsAlone H.digest self.old [] self.new }
-        ensures inside { IsInside self.new }
-        ensures started { self.new.started ≡ self.old.started }
-        ensures name { self.new.name ≡ self.old.name }
-    {
-        self.point = Point::Inside(Stage::Answering(Answering {
-            reply: Reply::Refused(Refusal::E30),
-            said: false,
-            def: None,
-        }));
-    }
-
     /// What it needs next.
     pub fn need(&self) -> Need
         ensures { result ≡ need_of self.now }
@@ -144,6 +99,7 @@ impl<H: Hash32> Seat<H> {
         requires { IsBetween self.old }
         ensures steps { StepsAlone H.digest self.old [] self.new }
         ensures end { IsFinishing self.old self.new }
+        ensures started { self.new.started ≡ self.old.started }
         ensures name { self.new.name ≡ self.old.name }
     {
         self.point = end_point(self.running.is_some());
@@ -161,6 +117,7 @@ impl<H: Hash32> Seat<H> {
         requires { MayEnd self.old }
         ensures ends { EndsSession H.digest self.old }
         ensures over { IsOver self.new }
+        ensures name { self.new.name ≡ self.old.name }
     {
         self.running = None;
         self.point = Point::Over;

@@ -1,6 +1,6 @@
 //! The cells in which a transaction may have locks.
 
-ghost use Rattle.std.specs.Prelude.{◌≡◌, ◌≢◌, ◌<◌, ◌∷◌, [], List, ℕ, OnOk, slice_get};
+ghost use Rattle.std.specs.Prelude.{◌≡◌, ◌≢◌, ◌<◌, ◌+◌, ◌∷◌, [], List, ℕ, OnOk, length, slice_get};
 ghost use Rattle.lg_standing.specs.Moves.{put_in};
 
 use lg_items::Memory;
@@ -64,6 +64,17 @@ impl Visited {
             Some(self.cells[self.cells.len() - 1 - newer])
         } else {
             None
+        }
+    }
+
+    /// One newer cell more than so many, where there is one more.
+    pub fn one_more(&self, newer: usize) -> usize
+        ensures { newer < length self.now.left → result ≡ newer + 1 }
+    {
+        if newer < self.cells.len() {
+            newer + 1
+        } else {
+            newer
         }
     }
 

@@ -1,4 +1,4 @@
-use Rattle.std.proofs.Common.{[], sym, ap, ◌∙◌, subst}
+use Rattle.std.proofs.Common.{[], refl, sym, ap, ◌∙◌, subst}
 use Rattle.lg_seat.specs.Steps.{StepsAlone}
 use Rattle.lg_seat.specs.declared.stage.Point.{Point}
 use Rattle.lg_seat.proofs.Alone.{then_seat}
@@ -10,4 +10,4 @@ returns-clause-steps g c = subst (λ (p : Point). StepsAlone g.H.Hash32.digest c
     (sym (c.end_point.ensures ∙ ap end_point c.is_some.ensures)) (finishes g.H.Hash32.digest c.args.self.now c.requires)
 
 pub returns-clause-end : goal.returns-clause-end
-returns-clause-end g c = finishing c.args.self.now.running c.args.self.now _ (c.end_point.ensures ∙ ap end_point c.is_some.ensures)
+returns-clause-end g c = finishing c.args.self.now.running c.args.self.now _ (c.end_point.ensures ∙ ap end_point c.is_some.ensures) refl

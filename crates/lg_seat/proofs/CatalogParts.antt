@@ -1,0 +1,89 @@
+-- The parts of a visit of the catalog's cell, from what the calls of the cell say.
+use Rattle.std.proofs.Common.{◌≡◌, ◌≢◌, ◌⊎◌, ℕ, Bool, true, false, List, [], ◌∷◌, Option, Some, None, Ok, Err, IfOk, IfErr, OnErr, refl, sym, ap, ◌∙◌, subst, inl, inr, ⊎_elim}
+use Rattle.std.specs.Prelude.{not, if◌then◌else◌, IsErrAnd}
+use Rattle.std.specs.List.{AllByRecursion}
+use Rattle.lg_value.specs.declared.refusal.Refusal.{Refusal}
+use Rattle.lg_value.specs.declared.refusal.Refusal.TheVariants.{E30}
+use Rattle.lg_types.specs.declared.lock.Mode.{Mode}
+use Rattle.lg_types.specs.declared.lock.Mode.TheVariants.{S, X}
+use Rattle.lg_types.specs.declared.lock.Want.{Want}
+use Rattle.lg_types.specs.declared.reply.Reply.TheVariants as reply
+use Rattle.lg_types.specs.declared.statement.CreateIndex.{CreateIndex}
+use Rattle.lg_types.specs.declared.statement.CreateTable.{CreateTable}
+use Rattle.lg_types.specs.declared.statement.Stmt.{Stmt}
+use Rattle.lg_types.specs.declared.table.TableDef.{TableDef}
+use Rattle.lg_model.specs.Holds.{released}
+use Rattle.lg_model.specs.Locks.{whole}
+use Rattle.lg_model.specs.Refusals.{Checked}
+use Rattle.lg_model.specs.Runs.{MadeBefore}
+use Rattle.lg_standing.specs.CatalogVisits.{with_holds}
+use Rattle.lg_standing.specs.Cells.{CatalogCell, catalog_at}
+use Rattle.lg_standing.specs.Doing.{Stopped, no_memory}
+use Rattle.lg_standing.specs.Moves.{put_in}
+use Rattle.lg_standing.specs.Seats.{OpenTransaction}
+use Rattle.lg_tx.specs.Represents.{Represents}
+use Rattle.lg_tx.specs.declared.context.TxCtx.{TxCtx}
+use Rattle.lg_catalog.specs.Calls.{left, undone, IndexMade, LocksTaken, MayCreate, TableMade}
+use Rattle.lg_seat.specs.InCatalog.{got_stage, is_committed, released_by, released_if, stopped_stage, with_visited, Creates, Gets, GoesAgain, HasMade, HasVisited, IndexFails, IsIndex, IsLookedUp, IsRefused, IsSame, IsStopped, IsTable, KeepsLock, TableFails, Takes}
+use Rattle.lg_seat.specs.VisitedCells.{VisitedCells}
+use Rattle.lg_seat.specs.declared.end_line.EndLine.{EndLine}
+use Rattle.lg_seat.specs.declared.got.Got.{Got}
+use Rattle.lg_seat.specs.declared.running.Running.{Running}
+use Rattle.lg_seat.specs.declared.stage.Stage.{Stage}
+use Rattle.lg_seat.specs.declared.stage.Stage.TheVariants.{Made, Replied}
+
+-- ---- the lock
+
+pub no_room : {H : Type 0} (digest : H → List ℕ → List ℕ) (ctx : TxCtx H) (c : CatalogCell) (mode : Mode) (m : Checked Bool) → IsErrAnd m (λ y. y ≡ E30)
+    → IfErr m (λ e. (h : H) (o : OpenTransaction) → Represents digest h ctx o → Stopped c.holds o.id (whole mode ∷ []) (reply.Refused e))
+no_room digest ctx c mode (Ok x) k = absurd k
+no_room digest ctx c mode (Err y) k = λ h o r. subst (λ (e : Refusal). Stopped c.holds o.id (whole mode ∷ []) (reply.Refused e)) (sym k) no_memory
+
+-- ---- the same transaction
+
+module _ {H : Type 0} (digest : H → List ℕ → List ℕ) where
+  pub same_visited : (r q : Running H) (v : VisitedCells) → q ≡ with_visited v r → IsSame digest r q
+  same_visited r q v e = record {
+    context = λ h o p. subst (λ (x : Running H). Represents digest h x.context o) (sym e) p;
+    script = ap (λ (x : Running H). x.script) e;
+    opened = ap (λ (x : Running H). x.opened) e;
+    end = ap (λ (x : Running H). x.end) e;
+  }
+
+  pub same_both : (r p q : Running H) → IsSame digest r p → IsSame digest p q → IsSame digest r q
+  same_both r p q a b = record {
+    context = λ h o k. b.context h o (a.context h o k);
+    script = b.script ∙ a.script;
+    opened = b.opened ∙ a.opened;
+    end = b.end ∙ a.end;
+  }
+
+  -- ---- creating
+
+  -- with another context of the same transaction
+  abbrev pub with_context : TxCtx H → Running H → Running H
+  with_context ctx r = record { context = ctx; script = r.script; visited = r.visited; opened = r.opened; end = r.end }
+
+  pub same_context : (r q : Running H) (ctx : TxCtx H) → q ≡ with_context ctx r → ((h : H) (o : OpenTransaction) → Represents digest h r.context o → Represents digest h ctx o) → IsSame digest r q
+  same_context r q ctx e k = record {
+    context = λ h o p. subst (λ (x : Running H). Represents digest h x.context o) (sym e) (k h o p);
+    script = ap (λ (x : Running H). x.script) e;
+    opened = ap (λ (x : Running H). x.opened) e;
+    end = ap (λ (x : Running H). x.end) e;
+  }
+
+  -- what comes of a refusal counts from before the lock
+  pub refused_since : (r p q : Running H) (c d : CatalogCell) (e : Refusal) (stage : Stage) → IsSame digest r p → p.visited.left ≡ r.visited.left → IsRefused digest e p c q d stage → IsRefused digest e r c q d stage
+  refused_since r p q c d e stage same left k = record {
+    same = same_both r p q same k.same;
+    how = ⊎_elim
+        (λ (g : GoesAgain digest p c q d stage). inl (record { cell = λ h o w. g.cell h o (same.context h o w); left = g.left ∙ left; stage_is = g.stage_is }))
+        (λ (g : KeepsLock e p c q d stage). inr (record { cell = g.cell; visited = g.visited ∙ ap (put_in catalog_at) left; not_memory = g.not_memory; stage_is = g.stage_is }))
+        k.how;
+  }
+
+  pub refused_then : (r l q : Running H) (ctx : TxCtx H) (c u d : CatalogCell) (e : Refusal) (stage : Stage) → l ≡ with_visited l.visited r → l.visited.left ≡ r.visited.left
+      → ((h : H) (o : OpenTransaction) → Represents digest h l.context o → Represents digest h ctx o) → u ≡ c → IsRefused digest e (with_context ctx l) u q d stage → IsRefused digest e r c q d stage
+  refused_then r l q ctx c u d e stage is left context cell k = refused_since r (with_context ctx l) q c d e stage
+      (same_both r l (with_context ctx l) (same_visited r l l.visited is) (same_context l (with_context ctx l) ctx refl context)) left
+      (subst (λ (x : CatalogCell). IsRefused digest e (with_context ctx l) x q d stage) cell k)

@@ -1,0 +1,60 @@
+//! The ledger's cell among cells: what is asked of it besides the visits of seats.
+
+ghost use Rattle.std.specs.Prelude.{◌≡◌, length, OnOk};
+ghost use Rattle.lg_seat.specs.Full.{ClosesFull, IsLedger};
+ghost use Rattle.lg_seat.specs.KeptCell.{Keeps, ledger_seen};
+ghost use Rattle.lg_seat.specs.Steps.{items_of};
+
+use crate::cell::{Cell, Kind};
+use lg_book::LedgerCell;
+use lg_items::Memory;
+use lg_merkle::Hash32;
+use std::alloc::Global;
+
+impl Cell {
+    /// How many items the journal has; none in a cell that isn't the ledger's.
+    pub fn item_count(&self) -> usize
+        ensures { result ≡ length (items_of self.now.cell) }
+    {
+        match &self.kind {
+            Kind::Ledger(ledger) => ledger.items().len(),
+            Kind::Catalog(_) | Kind::Rows(_) => 0,
+        }
+    }
+
+    /// Closes a block of the ledger's cell, if as many entries are pending as a block takes. For want of
+    /// memory nothing changes.
+    pub fn close_full<H: Hash32>(&mut self, alloc: Global, h: H) -> Result<(), Memory>
+        requires { Keeps (H.digest h) self.old }
+        ensures closes { OnOk result (ClosesFull (H.digest h) self.old.cell self.new.cell) }
+        ensures keeps { Keeps (H.digest h) self.new }
+    {
+        match &mut self.kind {
+            Kind::Ledger(ledger) => close_full_block(alloc, h, ledger),
+            Kind::Catalog(_) | Kind::Rows(_) => Ok(()),
+        }
+    }
+
+    /// The ledger's cell by itself.
+    pub fn into_ledger(self) -> LedgerCell
+        requires { IsLedger self.cell }
+        ensures { ledger_seen result ≡ self }
+    {
+        let Kind::Ledger(ledger) = self.kind else {
+            unreachable!()
+        };
+        ledger
+    }
+}
+
+fn close_full_block<H: Hash32>(alloc: Global, h: H, ledger: &mut LedgerCell) -> Result<(), Memory>
+    requires { Keeps (H.digest h) (ledger_seen ledger.old) }
+    ensures closes { OnOk result (ClosesFull (H.digest h) (ledger_seen ledger.old).cell (ledger_seen ledger.new).cell) }
+    ensures keeps { Keeps (H.digest h) (ledger_seen ledger.new) }
+{
+    let size = ledger.block_size();
+    if ledger.pending() < u64::from(size) {
+        return Ok(());
+    }
+    ledger.close_block(alloc, h, size)
+}

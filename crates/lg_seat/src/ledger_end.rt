@@ -1,0 +1,73 @@
+//! The end of a transaction, fixed in the ledger's cell without a commit.
+
+ghost use Rattle.std.specs.Prelude.{◌≡◌};
+ghost use Rattle.lg_seat.specs.KeptCell.{ledger_seen};
+ghost use Rattle.lg_seat.specs.LedgerMoves.{AreFixed, HasEnded, VisitsOn, ended_after, inside_with};
+ghost use Rattle.lg_seat.specs.LedgerMoves.{work_of as work_at, ended_stage as ended_at};
+ghost use Rattle.lg_seat.specs.Steps.{Among};
+ghost use Rattle.lg_seat.specs.declared.ledger_work.Work.TheVariants.{End};
+
+use crate::end_line::EndLine;
+use crate::ledger_work::{unsaid, without_index};
+use crate::running::Running;
+use crate::seat::Seat;
+use crate::stage::{Point, Stage};
+use lg_book::LedgerCell;
+use lg_merkle::Hash32;
+use lg_types::Reply;
+use std::mem;
+
+impl<H: Hash32> Seat<H> {
+    /// Ends its transaction without a commit: it is rolled back, or its statement was refused, or its session
+    /// ends. Takes no memory.
+    pub(crate) fn end_uncommitted(&mut self, ledger: &LedgerCell)
+        requires among { Among H.digest self.old (ledger_seen ledger.now) }
+        requires work { work_at self.old.point ≡ End }
+        ensures { VisitsOn H.digest self.old (ledger_seen ledger.now) (ledger_seen ledger.now) self.new }
+    {
+        self.fix_end(ledger.point());
+    }
+
+    /// Its transaction has ended, after so many that were committed.
+    pub(crate) fn fix_end(&mut self, after: u64)
+        ensures { HasEnded H.digest after self.old self.new }
+    {
+        end_running(&mut self.running, after);
+        let point = mem::replace(&mut self.point, Point::Over);
+        self.point = ended_point(point);
+    }
+}
+
+fn end_running<H: Hash32>(running: &mut Option<Running<H>>, after: u64)
+    ensures { AreFixed H.digest (ended_after after) running.old running.new }
+{
+    if let Some(running) = running {
+        running.end = Some(EndLine::Ended {
+            id: running.context.id(),
+            after,
+        });
+    }
+}
+
+fn ended_point(point: Point) -> Point
+    ensures { result ≡ inside_with ended_at point }
+{
+    match point {
+        Point::Inside(stage) => Point::Inside(ended_stage(stage)),
+        Point::Between => Point::Between,
+        Point::Leaving => Point::Leaving,
+        Point::Over => Point::Over,
+    }
+}
+
+fn ended_stage(stage: Stage) -> Stage
+    ensures { result ≡ ended_at stage }
+{
+    match stage {
+        Stage::Committing | Stage::RollingBack => unsaid(Reply::Quiet),
+        Stage::Replied(reply) => unsaid(reply),
+        Stage::Made { def, indexed: _ } => without_index(def),
+        Stage::LacksIndex { def } => without_index(def),
+        stage => stage,
+    }
+}
