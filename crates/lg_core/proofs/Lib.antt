@@ -1,0 +1,14 @@
+mod AllCells
+mod Calls
+mod Deeds
+mod Ends
+mod FirstCells
+mod Holding
+mod Midways
+mod OneServer
+mod Pairs
+mod Pending
+mod Servers
+mod Texts
+mod Turns
+mod Within

@@ -1,0 +1,13 @@
+//! The core of one thread: the cells of a database, and the sessions that run over them one statement after
+//! another.
+#![tactic(auto)]
+
+mod cells;
+mod one_thread;
+mod parts;
+mod session;
+mod visits;
+
+pub use one_thread::Core;
+pub use parts::Parts;
+pub use session::Session;
