@@ -19,3 +19,6 @@ none_of bytes text rest false is read not_utf8 = rw (read, is) refl
 pub no_text : (bytes text rest : List ℕ) → wide_at bytes ≡ Some (text, rest) → (IsUtf8 text → ⊥)
     → text_at bytes ≡ None
 no_text bytes text rest read not_utf8 = none_of bytes text rest (is_utf8 text) refl read not_utf8
+
+pub utf8_text : (text : List ℕ) → IsUtf8 text → is_utf8 text ≡ true
+utf8_text text utf8 = is_utf8-from_IsUtf8 text utf8

@@ -17,6 +17,15 @@ pub record IsText (text : List ℕ) : Type 0 where
 abbrev pub IsStatement : Line → Type 0
 IsStatement s = IsText s.0 × IsText s.1
 
+-- as many statements as 8 bytes can tell, each a text with the text of its reply
+abbrev pub AreTexts : List Line → Type 0
+AreTexts statements = (length statements < 2 ^ 64) × AllByRecursion IsStatement statements
+
+-- so it is with those of an item
+abbrev pub HasTexts : JournalItem → Type 0
+HasTexts (Tx id session time opened script) = AreTexts script
+HasTexts (Close k) = Unit {0}
+
 -- a transaction that has a spelling: it keeps the side rules
 pub record IsTx (n : ℕ) (name : List ℕ) (ticks : ℕ)
     (opened : Bool) (statements : List Line) : Type 0 where

@@ -1,5 +1,6 @@
 -- Digests of a run are held where their blocks are closed, and images of its cuts are accepted with them.
-use Rattle.std.proofs.Common.{◌≡◌, ◌<◌, ℕ, List, [], ◌∷◌, map, sym, ap, subst, ◌∙◌, ⊎_elim}
+use Rattle.std.proofs.Common.{◌≡◌, ◌<◌, ℕ, List, [], ◌∷◌, length, map, refl, sym, ap, subst, ◌∙◌, inl, inr, ⊎_elim, arith}
+use Rattle.std.proofs.lemmas.List.{take_all}
 use Rattle.lg_types.specs.declared.digest.Digest.{Digest}
 use Rattle.lg_types.specs.declared.digest.HeldDigest.{HeldDigest}
 use Rattle.lg_types.specs.declared.journal.JournalItem.{JournalItem}
@@ -12,7 +13,7 @@ use Rattle.lg_history.specs.Lists.{Text, Each, In}
 use Rattle.lg_history.specs.Meaning.{Meaning}
 use Rattle.lg_history.specs.Transcripts.{Transcript}
 use Rattle.lg_parse.specs.Text.{statement_of}
-use Rattle.lg_image.specs.Image.{image_of_cut}
+use Rattle.lg_image.specs.Image.{image_of, image_of_cut}
 use Rattle.lg_image.specs.ImageBytes.{image_bytes, IsImage}
 use Rattle.lg_ledger.specs.Ledger.{block_hash}
 use Rattle.lg_verdict.specs.declared.place.Verdict.TheVariants.{Yes}
@@ -21,6 +22,7 @@ use Rattle.lg_honest.specs.Held.{held, IsHeld, AllHeld}
 use Rattle.lg_standing.specs.Seats.{KeptImage}
 use Rattle.lg_course.specs.Told.{IsMeaning, IsImageOf, RunAgrees}
 use Rattle.lg_course.proofs.Told.{some_meaning}
+use Rattle.lg_kept.proofs.Closed.{digests_are_closed}
 use Rattle.lg_kept.specs.Accepted.{IsOfCut, IsAccepted, IsAcceptedIfSpelled}
 
 each_in : {A : Type 0} (P : A → Type 0) (xs : List A) (x : A) → Each P xs → In x xs → P x
@@ -57,3 +59,31 @@ module _ (h : List ℕ → List ℕ) (database : Text) (size : ℕ) (names : Lis
 
   pub accepted : (k : KeptImage) → IsImageOf h statement_of database J k → Verifies h database J k.0 → IsAccepted h database J G k
   accepted k is verify digests e = ap (verdict_of h (map held digests)) is.bytes ∙ verify (map held digests) (all_held k.0 digests e)
+
+-- the image of the whole journal is that of the cut of all its items
+whole_image : (h : List ℕ → List ℕ) (database : Text) (J : List JournalItem) → IsImageOf h statement_of database J (length J, image_bytes (image_of h statement_of database J))
+whole_image h database J = record {
+  within = omega arith;
+  bytes = ap (λ (K : List JournalItem). image_bytes (image_of h statement_of database K)) (sym (take_all (length J) J (omega arith)));
+}
+
+pub whole_accepted : (h : List ℕ → List ℕ) (database : Text) (size : ℕ) (names : List Text) (lines : List InputLine) (X : List Transcript) (images : List (List KeptImage)) (J : List JournalItem) (G : List Digest)
+    → RunAgrees h statement_of database size names lines X images J G → Held h database J → Verifies h database J (length J) → IsAccepted h database J G (length J, image_bytes (image_of h statement_of database J))
+whole_accepted h database size names lines X images J G run holds verify =
+    accepted h database size names lines X images J G run holds (length J, image_bytes (image_of h statement_of database J)) (whole_image h database J) verify
+
+-- with all digests of the run
+module _ (h : List ℕ → List ℕ) (database : Text) (size : ℕ) (names : List Text) (lines : List InputLine) (X : List Transcript) (images : List (List KeptImage)) (J : List JournalItem) (G : List Digest)
+    (run : RunAgrees h statement_of database size names lines X images J G) where
+  closed_in_cut : (d : Digest) → In d G → IsOfCut J (length J) G d
+  closed_in_cut d i =
+      let m = some_meaning h statement_of in
+      let closed = digests_are_closed m.0 database X J G (run.agree m.0 m.1).digests_are_the_journals d i in
+      (i, subst (λ (K : List JournalItem). d.block < blocks K) (sym (take_all (length J) J (omega arith))) closed)
+
+  each_closed : (H : List Digest) → ((d : Digest) → In d H → In d G) → Each (IsOfCut J (length J) G) H
+  each_closed [] within = tt
+  each_closed (d ∷ H) within = (closed_in_cut d (within d (inl refl)), each_closed H (λ e i. within e (inr i)))
+
+  pub all_closed : Each (IsOfCut J (length J) G) G
+  all_closed = each_closed G (λ d i. i)

@@ -1,1 +1,2 @@
 pub mod Accepts
+mod Closed

@@ -1,6 +1,6 @@
 //! Laws of the images that were kept.
 
-ghost use Rattle.std.specs.Prelude.{ℕ, List};
+ghost use Rattle.std.specs.Prelude.{ℕ, ◌≡◌, List, length, map};
 ghost use Rattle.lg_types.specs.declared.digest.Digest.{Digest};
 ghost use Rattle.lg_types.specs.declared.journal.JournalItem.{JournalItem};
 ghost use Rattle.lg_model.specs.LegalJournals.{IsLegalJournal};
@@ -8,7 +8,12 @@ ghost use Rattle.lg_history.specs.Inputs.{InputLine};
 ghost use Rattle.lg_history.specs.Lists.{Text, Each};
 ghost use Rattle.lg_history.specs.Transcripts.{Transcript};
 ghost use Rattle.lg_parse.specs.Text.{statement_of};
+ghost use Rattle.lg_image.specs.Image.{image_of};
+ghost use Rattle.lg_image.specs.ImageBytes.{image_bytes};
 ghost use Rattle.lg_images.specs.Room.{HasRoom};
+ghost use Rattle.lg_verdict.specs.declared.place.Verdict.TheVariants.{Yes};
+ghost use Rattle.lg_verdict.specs.Bytes.{verdict_of};
+ghost use Rattle.lg_honest.specs.Held.{held};
 ghost use Rattle.lg_standing.specs.Seats.{KeptImage};
 ghost use Rattle.lg_course.specs.Told.{RunAgrees};
 ghost use Rattle.lg_kept.specs.Accepted.{IsAccepted, IsAcceptedIfSpelled};
@@ -17,7 +22,7 @@ use lg_honest::{digests_are_held_where_their_blocks_are_closed, images_of_legal_
 
 /// Each image that a session of a run kept is accepted with any digests that were issued in the run, of
 /// blocks that are closed in it, where the image has a spelling in the format; it has one where the whole
-/// journal has room in it.
+/// journal has room in it. So is the image of the whole journal, and with all digests at once.
 pub fn kept_images_are_accepted()
     ensures spelled { (h : List ℕ → List ℕ) (database : Text) (size : ℕ) (names : List Text)
         (lines : List InputLine) (X : List Transcript) (images : List (List KeptImage))
@@ -32,6 +37,20 @@ pub fn kept_images_are_accepted()
         → IsLegalJournal statement_of (record { database = database; items = J })
         → HasRoom h statement_of database J
         → Each (λ kept. Each (IsAccepted h database J G) kept) images }
+    ensures whole { (h : List ℕ → List ℕ) (database : Text) (size : ℕ) (names : List Text)
+        (lines : List InputLine) (X : List Transcript) (images : List (List KeptImage))
+        (J : List JournalItem) (G : List Digest)
+        → RunAgrees h statement_of database size names lines X images J G
+        → IsLegalJournal statement_of (record { database = database; items = J })
+        → HasRoom h statement_of database J
+        → IsAccepted h database J G (length J, image_bytes (image_of h statement_of database J)) }
+    ensures all { (h : List ℕ → List ℕ) (database : Text) (size : ℕ) (names : List Text)
+        (lines : List InputLine) (X : List Transcript) (images : List (List KeptImage))
+        (J : List JournalItem) (G : List Digest)
+        → RunAgrees h statement_of database size names lines X images J G
+        → IsLegalJournal statement_of (record { database = database; items = J })
+        → HasRoom h statement_of database J
+        → verdict_of h (map held G) (image_bytes (image_of h statement_of database J)) ≡ Yes }
 {
     images_of_legal_journals_verify();
     digests_are_held_where_their_blocks_are_closed();

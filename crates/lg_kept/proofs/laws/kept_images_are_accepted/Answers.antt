@@ -2,9 +2,9 @@ use Rattle.lg_course.specs.Told.{IsImageOf}
 use Rattle.lg_history.specs.Lists.{Each}
 use Rattle.lg_parse.specs.Text.{statement_of}
 use Rattle.lg_standing.specs.Seats.{KeptImage}
-use Rattle.std.specs.Prelude.{List}
+use Rattle.std.specs.Prelude.{List, length}
 use Rattle.lg_kept.specs.Accepted.{IsAccepted, IsAcceptedIfSpelled}
-use Rattle.lg_kept.proofs.Accepts.{accepted, each_of}
+use Rattle.lg_kept.proofs.Accepts.{accepted, all_closed, each_of, whole_accepted}
 use Rattle.lg_kept.proofs.laws.kept_images_are_accepted.Goals as goal
 
 pub returns : goal.returns
@@ -22,4 +22,8 @@ returns c =
           (λ ks. each_of (IsImageOf h statement_of database J) (IsAccepted h database J G)
           (λ k is. accepted h database size names lines X images J G run (λ q m d hashes is_digest below. holds.agreed h statement_of q database J m d hashes is_digest below) k is
           (λ digests held. verify.whole h (record { database = database; items = J }) k.0 digests legal room held)) ks) images run.are_images;
+      whole = λ h database size names lines X images J G run legal room. whole_accepted h database size names lines X images J G run (λ q m d hashes is_digest below. holds.agreed h statement_of q database J m d hashes is_digest below)
+          (λ digests held. verify.whole h (record { database = database; items = J }) (length J) digests legal room held);
+      all = λ h database size names lines X images J G run legal room. whole_accepted h database size names lines X images J G run (λ q m d hashes is_digest below. holds.agreed h statement_of q database J m d hashes is_digest below)
+          (λ digests held. verify.whole h (record { database = database; items = J }) (length J) digests legal room held) G (all_closed h database size names lines X images J G run);
     }
