@@ -1,9 +1,10 @@
 //! Files of the stored run that are made of others.
 
-use hex::FromHexError;
-use lg_base::{FixedClock, MemSink, MemSource, MemVault, OpenGate, Vault, VaultErr};
+use crate::setting::bytes_of;
+use lg_base::{FixedClock, FolderVault, MemSink, MemSource, MemVault, OpenGate, Vault, VaultErr};
 use lg_cmd::{Status, ledgerd};
 use std::alloc::{AllocError, Global};
+use std::io;
 
 /// More than a file of the stored run has.
 const MOST: usize = 1 << 20;
@@ -26,15 +27,6 @@ fn with_bytes(
     out.extend_from_slice(new)?;
     out.extend_from_slice(rest)?;
     Ok(Some(out))
-}
-
-/// The bytes that hexadecimal digits are, if they are.
-fn bytes_of(alloc: Global, digits: &str) -> Result<Option<Vec<u8>>, AllocError> {
-    match hex::decode(alloc, digits) {
-        Ok(bytes) => Ok(Some(bytes)),
-        Err(FromHexError::OutOfMemory) => Err(AllocError),
-        Err(_) => Ok(None),
-    }
 }
 
 /// Puts the bytes of a name under another with some of them changed: `<name> <place> <new bytes> <other>`.
@@ -102,4 +94,12 @@ fn is_no_image(alloc: Global, bytes: &[u8]) -> Result<bool, AllocError> {
 fn put_both(vault: &mut MemVault, image: &[u8]) -> Result<(), VaultErr> {
     vault.put("a", image)?;
     vault.put("b", b"[]")
+}
+
+/// Prints the bytes of a name in hexadecimal digits, or that there is none.
+pub fn print_hex(rt: &HostRuntime, name: &str) -> io::Result<()> {
+    match FolderVault::new(*rt).get(name, MOST) {
+        Ok(bytes) => println!(rt; "{}", hex::encode(rt.alloc(), &bytes)?),
+        Err(_) => println!(rt; "missing"),
+    }
 }

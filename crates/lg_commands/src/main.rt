@@ -5,16 +5,28 @@
 //! A line that begins with `#` says what the lines behind it try, and is printed as it is. Two more commands
 //! are for files alone: `patch <name> <place> <bytes> <other>` puts the bytes of a name under another, with
 //! these in the place of those from the place on, and prints whether it could; `cuts <name>` prints of how
-//! many proper prefixes of a name's bytes `verify` writes `No V0`, and how many prefixes there are.
+//! many proper prefixes of a name's bytes `verify` writes `No V0`, and how many prefixes there are; and
+//! `hex <name>` prints the bytes of a name in hexadecimal digits.
+//!
+//! Four say what the next command is run with, and print whether they could: `input <line>` adds a line to
+//! its input, and `bytes <count> <digits>` so many times these bytes; `clock <moment>` sets the moment that it
+//! begins at; `fails <source> <vault> <sink> <piece> <names>` has it run over an outside in memory whose calls
+//! with these numbers fail and whose sink takes so many bytes at a time, and prints behind it what stands under
+//! the names then. The files that are there under
+//! these names are put before, each a call of the vault.
 #![tactic(auto)]
 
+mod faulty;
 mod files;
+mod setting;
 
-use crate::files::{count_cuts, patch};
+use crate::faulty::run_over_memory;
+use crate::files::{count_cuts, patch, print_hex};
+use crate::setting::Setting;
 use lg_base::{FixedClock, FolderVault, MemSource, OpenGate, StdoutSink};
 use lg_cmd::{Status, ledgerd};
 use std::alloc::{AllocError, Global};
-use std::io;
+use std::{io, mem};
 
 /// The words of a line.
 fn words_of(alloc: Global, line: &str) -> Result<Vec<String>, AllocError> {
@@ -25,12 +37,13 @@ fn words_of(alloc: Global, line: &str) -> Result<Vec<String>, AllocError> {
     Ok(words)
 }
 
-fn run(rt: &HostRuntime, words: &[String]) -> Status {
+/// Runs a command over the folder.
+fn run_over_folder(rt: &HostRuntime, setting: Setting, words: &[String]) -> Status {
     let alloc = rt.alloc();
-    let mut source = MemSource::new(Vec::new(alloc), 1, Vec::new(alloc));
+    let mut source = MemSource::new(setting.input, 4096, Vec::new(alloc));
     let mut sink = StdoutSink::new(io::writer(rt));
     let mut vault = FolderVault::new(*rt);
-    let clock = FixedClock { at: 0 };
+    let clock = FixedClock { at: setting.clock };
     ledgerd(
         alloc,
         words,
@@ -51,7 +64,30 @@ fn print_status(rt: &HostRuntime, status: Status) -> io::Result<()> {
     }
 }
 
-fn answer(rt: &HostRuntime, line: &str) -> io::Result<()> {
+fn run(rt: &HostRuntime, mut setting: Setting, words: &[String]) -> io::Result<()> {
+    match setting.faults.take() {
+        Some(faults) => run_over_memory(rt, setting, faults, words),
+        None => print_status(rt, run_over_folder(rt, setting, words)),
+    }
+}
+
+/// Does what a line says that only sets what the next command is run with; answers whether it is such a line,
+/// and where it is, whether it could.
+fn set(alloc: Global, setting: &mut Setting, line: &str) -> Result<Option<bool>, AllocError> {
+    let done = match line.split_once(' ') {
+        Some(("input", rest)) => {
+            setting.add_line(rest)?;
+            true
+        }
+        Some(("bytes", rest)) => setting.add_bytes(alloc, rest)?,
+        Some(("clock", rest)) => setting.set_clock(rest),
+        Some(("fails", rest)) => setting.set_faults(alloc, rest)?,
+        _ => return Ok(None),
+    };
+    Ok(Some(done))
+}
+
+fn answer(rt: &HostRuntime, setting: Setting, line: &str) -> io::Result<()> {
     let alloc = rt.alloc();
     let words = words_of(alloc, line)?;
     match line.split_once(' ') {
@@ -63,18 +99,28 @@ fn answer(rt: &HostRuntime, line: &str) -> io::Result<()> {
             let (refused, all) = count_cuts(alloc, &mut FolderVault::new(*rt), name)?;
             println!(rt; "{refused} of {all}")
         }
-        _ => print_status(rt, run(rt, &words)),
+        Some(("hex", name)) => print_hex(rt, name),
+        _ => run(rt, setting, &words),
     }
 }
 
 fn main(rt: HostRuntime) -> io::Result<()> {
-    for line in rt.lines(rt.alloc()) {
+    let alloc = rt.alloc();
+    let mut setting = Setting::new(alloc);
+    for line in rt.lines(alloc) {
         let line = line?;
         if line.starts_with('#') {
             println!(rt; "{line}")?;
-        } else {
-            println!(rt; "> {line}")?;
-            answer(&rt, line.as_str())?;
+            continue;
+        }
+        println!(rt; "> {line}")?;
+        match set(alloc, &mut setting, line.as_str())? {
+            Some(true) => (),
+            Some(false) => println!(rt; "false")?,
+            None => {
+                let with = mem::replace(&mut setting, Setting::new(alloc));
+                answer(&rt, with, line.as_str())?;
+            }
         }
     }
     Ok(())
