@@ -10,10 +10,20 @@ use Rattle.lg_step.proofs.Ends.{has_run, is_done, still_stands}
 use Rattle.lg_step.proofs.Named.{borrowed_formed, lines_named, sessions_formed}
 use Rattle.lg_step.proofs.running.run_to_the_end.Goals as goal
 
+pub open_sessions-requires-clause-begins : goal.open_sessions-requires-clause-begins
+open_sessions-requires-clause-begins g c κs within = (c.args.hasher, c.in_ok-database.database, c.args.how.block_size, c.in_ok-core.ensures)
+
 pub open_sessions-requires-clause-names : goal.open_sessions-requires-clause-names
 open_sessions-requires-clause-names g c κs within =
     let statements = map seen c.args.lines.now in
     borrowed_formed c.args.sessions.now (sessions_of statements) c.requires.sessions (sessions_formed c.args.lines.now c.requires.names (c.sessions_law.ensures.of_statements statements))
+
+pub run_each-requires-clause-begins : goal.run_each-requires-clause-begins
+run_each-requires-clause-begins g c κs within =
+    let d = c.in_ok-database.database in
+    let size = c.args.how.block_size in
+    let h = c.args.hasher in
+    (h, d, size, c.in_ok-open_sessions.ensures.stands h d size c.in_ok-core.ensures)
 
 pub run_each-requires-clause-named : goal.run_each-requires-clause-named
 run_each-requires-clause-named g c κs within =
