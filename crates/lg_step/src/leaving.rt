@@ -34,6 +34,14 @@ fn transcript_of<H: Hash32>(
     weave(alloc, names, lines, texts)
 }
 
+/// The images that a session kept.
+fn kept_by<H: Hash32>(alloc: Global, session: Session<H>) -> Items<(u64, Blob)>
+    ensures { result ≡ session.images }
+{
+    let mut session = session;
+    std::mem::replace(&mut session.images, Items::new(alloc))
+}
+
 /// The images that the sessions kept, each once.
 fn images_of<H: Hash32>(
     alloc: Global,
@@ -43,7 +51,7 @@ fn images_of<H: Hash32>(
 {
     let mut images = Items::new(alloc);
     for session in sessions {
-        add_images(&mut images, session.images)?;
+        add_images(&mut images, kept_by(alloc, session))?;
     }
     Ok(images)
 }

@@ -14,6 +14,7 @@ loop-session-init g c =
 pub loop-session-preserved : goal.loop-session-preserved
 loop-session-preserved g c =
     ap (λ (b : List (ℕ × Blob)). fold with_images b (map (λ (y : Session g.row.H.Denot). y.images) c.next.new.self.rest.items)) c.in_ok-add_images.ensures
+    ∙ ap (λ (ks : List (ℕ × Blob)). fold with_images (with_images c.loop-session.images ks) (map (λ (y : Session g.row.H.Denot). y.images) c.next.new.self.rest.items)) c.kept_by.ensures
     ∙ ap (λ (ys : List (Session g.row.H.Denot)). fold with_images c.loop-session.images (map (λ y. y.images) ys)) (sym c.in-Some.ensures.steps.0)
     ∙ c.loop-session.invariant
 
