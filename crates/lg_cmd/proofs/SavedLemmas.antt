@@ -1,5 +1,5 @@
 -- The files of a run have different names, so each of them stands once all are put.
-use Rattle.std.proofs.Common.{◌≡◌, ◌≢◌, ◌<◌, ◌+◌, ◌^◌, ℕ, Bool, true, false, cond, List, [], ◌∷◌, ◌++◌, map, length, length-append, append_assoc, get_or, Option, Some, None, refl, sym, ap, ◌∙◌, subst, arith, codes, bytes_eq, ⊎_elim}
+use Rattle.std.proofs.Common.{◌≡◌, ◌≢◌, ◌<◌, ◌+◌, ◌^◌, ℕ, Bool, true, false, cond, List, [], ◌∷◌, ◌++◌, map, length, length-append, append_assoc, get_or, Option, Some, None, Ok, refl, sym, ap, ◌∙◌, subst, arith, codes, bytes_eq, ⊎_elim}
 use Rattle.std.specs.Fmt.{decimal}
 use Rattle.std.proofs.lemmas.Fmt.{decimal_injective}
 use Rattle.std.proofs.lemmas.List.{append_cancel_left, append_cancel_right, take_all}
@@ -9,7 +9,8 @@ use Rattle.lg_types.specs.declared.digest.Digest.{Digest}
 use Rattle.lg_types.specs.declared.journal.Journal.{Journal}
 use Rattle.lg_parse.specs.Text.{statement_of}
 use Rattle.lg_course.specs.Told.{IsImageOf}
-use Rattle.lg_digest.specs.Writing.{IsFile}
+use Rattle.lg_digest.specs.Reading.{IsRead}
+use Rattle.lg_digest.specs.Writing.{IsFile, held_form}
 use Rattle.lg_input.specs.Sessions.{sessions_of}
 use Rattle.lg_step.specs.Written.{rows_text}
 use Rattle.lg_step.specs.declared.running.Ran as code
@@ -19,6 +20,7 @@ use Rattle.lg_cmd.specs.Answer.{HasPut, HasWritten, Ran}
 use Rattle.lg_cmd.proofs.AnswerLemmas.{put_is, written_is}
 use Rattle.lg_history.specs.Lists.{Each, Some_of, In}
 use Rattle.lg_journal.specs.Journal.{journal_bytes}
+use Rattle.lg_journal.specs.Rules.{IsJournal}
 use Rattle.lg_standing.specs.Seats.{KeptImage}
 use Rattle.lg_step.specs.Came.{Run, last_image_bytes}
 use Rattle.lg_step.specs.Images.{ItemsRise}
@@ -178,6 +180,8 @@ module _ (h : List ℕ → List ℕ) (save : List ℕ) (how : Settings) (clock :
           within = is.within;
           came = is.came;
           file = subst (λ (G : List Digest). IsFile G saved.digests) is.is.digests saved.file;
+          journal_is_spelled = subst (λ (J : Journal). IsJournal J) is.is.journal is.is.journal_is_spelled;
+          digests_read_back = subst (λ (G : List Digest). IsRead saved.digests (Ok (map held_form G))) is.is.digests saved.read_back;
           put = all;
           written = written_is ended text (rows_text (sessions_of is.statements) is.run.rows) taken now (said ∙ is.is.transcript) written;
           stand = λ done. saved_stand h save is.run saved.digests old new numbers_small is.came.saved.rise

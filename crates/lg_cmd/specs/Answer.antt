@@ -1,13 +1,15 @@
 -- When the top call gives each status, and what it has read, put and written then.
-use Rattle.std.specs.Prelude.{◌≡◌, ◌<◌, ◌≤◌, ◌+◌, ◌⊎◌, ℕ, List, [], length, drop, Option, Some, IfSome}
+use Rattle.std.specs.Prelude.{◌≡◌, ◌<◌, ◌≤◌, ◌+◌, ◌⊎◌, ℕ, List, [], length, drop, map, Option, Some, IfSome, Ok}
 use Rattle.lg_base.specs.declared.vault.VaultErr.{VaultErr}
 use Rattle.lg_base.specs.declared.vault.VaultErr.TheVariants as refused
 use Rattle.lg_base.specs.Store.{Names}
 use Rattle.lg_base.specs.Outside.{TellsTaken}
-use Rattle.lg_digest.specs.Writing.{IsFile}
+use Rattle.lg_digest.specs.Reading.{IsRead}
+use Rattle.lg_digest.specs.Writing.{IsFile, held_form}
 use Rattle.lg_history.specs.Lists.{Each}
 use Rattle.lg_input.specs.Line.{Statement}
 use Rattle.lg_input.specs.Sessions.{sessions_of}
+use Rattle.lg_journal.specs.Rules.{IsJournal}
 use Rattle.lg_step.specs.Came.{Run, CameTo}
 use Rattle.lg_step.specs.Moments.{said_with}
 use Rattle.lg_step.specs.Written.{rows_text}
@@ -68,6 +70,10 @@ pub record Ran (ended : Status) (h : List ℕ → List ℕ) (save : List ℕ) (h
   pub within : IfSome input (λ bytes. HasStatements bytes statements)
   pub came : CameTo h how.database how.block_size (said_with how.clock clock) statements run
   pub file : IsFile run.G digests
+  -- of the bytes that are put `read_journal` gives just this journal, since it has a spelling, and
+  -- `read_digests` what is held of just these digests
+  pub journal_is_spelled : IsJournal run.J
+  pub digests_read_back : IsRead digests (Ok (map held_form run.G))
   pub put : HasPut ended (saved_files h save run digests) names_old names_new
   pub written : HasWritten ended (rows_text (sessions_of statements) run.rows) taken_old taken_new
   -- where all is done each file stands under its name

@@ -1,9 +1,10 @@
 -- What is put and written of a run of an input.
-use Rattle.std.specs.Prelude.{◌≡◌, ℕ, List, [], ◌∷◌, ◌++◌, codes, map}
+use Rattle.std.specs.Prelude.{◌≡◌, ℕ, List, [], ◌∷◌, ◌++◌, codes, map, Ok}
 use Rattle.std.specs.Fmt.{decimal}
 use Rattle.lg_types.specs.declared.journal.Journal.{Journal}
 use Rattle.lg_journal.specs.Journal.{journal_bytes}
-use Rattle.lg_digest.specs.Writing.{IsFile}
+use Rattle.lg_digest.specs.Reading.{IsRead}
+use Rattle.lg_digest.specs.Writing.{IsFile, held_form}
 use Rattle.lg_input.specs.Line.{Statement}
 use Rattle.lg_input.specs.Sessions.{sessions_of}
 use Rattle.lg_standing.specs.Seats.{KeptImage}
@@ -68,6 +69,7 @@ pub record IsRun (h : List ℕ → List ℕ) (how : Settings) (clock : ℕ → T
 pub record AreSaved (save : List ℕ) (r : Ran) (made : List File) : Type 0 where
   pub digests : List ℕ
   pub file : IsFile r.digests digests
+  pub read_back : IsRead digests (Ok (map held_form r.digests))
   pub files : made ≡ map (cut_file save) r.images
       ++ image_file save r.image
       ∷ digests_file save digests

@@ -1,7 +1,8 @@
 // The files that a run saves, and those that are saved of a journal that was run again.
-ghost use Rattle.std.specs.Prelude.{◌≡◌, ◌++◌, ◌∷◌, [], map, IfOk};
+ghost use Rattle.std.specs.Prelude.{◌≡◌, ◌++◌, ◌∷◌, [], map, IfOk, Ok};
 ghost use Rattle.std.specs.List.{AllByRecursion};
-ghost use Rattle.lg_digest.specs.Writing.{HasMoments, IsFile};
+ghost use Rattle.lg_digest.specs.Reading.{IsRead};
+ghost use Rattle.lg_digest.specs.Writing.{HasMoments, IsFile, held_form};
 ghost use Rattle.lg_image.specs.ImageBytes.{image_bytes, IsImage};
 ghost use Rattle.lg_journal.specs.Rules.{IsJournal};
 ghost use Rattle.lg_cmd.specs.Run.{AreSaved, cut_file, digests_file, image_file, journal_file, journal_name};
@@ -46,6 +47,7 @@ fn image_file(alloc: Global, save: &str, bytes: Blob) -> Result<File, Memory>
 fn digests_file(alloc: Global, save: &str, digests: &[Digest]) -> Result<File, Memory>
     requires { AllByRecursion HasMoments digests.now }
     ensures file { IfOk result (λ file. IsFile digests.now file.bytes) }
+    ensures read_back { IfOk result (λ file. IsRead file.bytes (Ok (map held_form digests.now))) }
     ensures is { IfOk result (λ file. file ≡ digests_file save.now file.bytes) }
 {
     let bytes = Blob::from_vec(write_digests(alloc, digests)?);
