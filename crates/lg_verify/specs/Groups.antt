@@ -16,7 +16,7 @@ use Rattle.lg_image.specs.Tables.{defs_in, tables_in}
 use Rattle.lg_spell.specs.Least.{least, lesser_of}
 use Rattle.lg_verdict.specs.declared.place.Place.{Place}
 use Rattle.lg_verdict.specs.declared.place.Place.TheVariants as at
-use Rattle.lg_verdict.specs.Entries.{TableRoot, are_numbered, least_event, root_at, same_root}
+use Rattle.lg_verdict.specs.Entries.{TableEvent, TableRoot, are_numbered, event_place, least_event, root_at, same_root, table_event_cmp}
 use Rattle.lg_verdict.specs.Indexes.{first_table}
 use Rattle.lg_verdict.specs.Versions.{bad_versions}
 use Rattle.lg_verdict.specs.Groups.{Found, first_found, found_cmp}
@@ -39,6 +39,15 @@ index_in from count i = first_table (take count (drop from (defs_in i))) (take c
 abbrev pub if_none : Option Place → Option Place → Option Place
 if_none None second = second
 if_none (Some first) second = None
+
+-- the event that a place names, if it names one
+abbrev pub event_at : Option Place → Option TableEvent
+event_at (Some (at.Event table tx seq)) = Some (table, (tx, seq))
+event_at _ = None
+
+-- the lesser of what two groups find of their versions
+abbrev pub lesser_version : Option Place → Option Place → Option Place
+lesser_version a b = event_place (lesser_of table_event_cmp (event_at a) (event_at b))
 
 -- one of these tables has this id
 abbrev pub is_table : Tables → ℕ → Bool
