@@ -1,0 +1,10 @@
+mod Counted
+mod Cut
+mod Effects
+mod FourTables
+mod Inserts
+mod Numbers
+mod Rows
+mod Texts
+mod Turning
+mod Updates
