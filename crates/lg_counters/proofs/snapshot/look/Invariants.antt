@@ -1,3 +1,4 @@
+use Rattle.std.specs.Prelude.{◌≡◌}
 use Rattle.lg_board.specs.Boards.{seat_state}
 use Rattle.lg_counters.proofs.snapshot.look.Given as goal
 
