@@ -4,6 +4,6 @@ pub mod ExtractLemmas
 pub mod FilesLemmas
 pub mod GetLemmas
 pub mod ReplayLemmas
-pub mod SavedLemmas
+pub mod RootLemmas
+pub mod RunLemmas
 pub mod TransferLemmas
-pub mod WordsLemmas

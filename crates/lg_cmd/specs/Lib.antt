@@ -1,3 +1,4 @@
+pub mod Agreement
 pub mod Answer
 pub mod Calls
 pub mod Cause
@@ -6,6 +7,7 @@ pub mod Files
 pub mod Input
 pub mod Names
 pub mod Replay
+pub mod Root
 pub mod Run
 pub mod Status
 pub mod Tell

@@ -5,6 +5,7 @@ mod extract;
 mod files;
 mod names;
 mod replay;
+mod root;
 mod run;
 mod saved;
 mod status;

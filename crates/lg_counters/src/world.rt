@@ -96,5 +96,7 @@ impl World for Counting {
 }
 
 impl After<Share> for Brand {
-    ghost after = { λ s. Unit {0} };
+    ghost use Rattle.lg_counters.specs.Shares.{share};
+
+    ghost after = { share 0 0 0 };
 }

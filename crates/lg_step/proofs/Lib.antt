@@ -1,12 +1,8 @@
-mod Comes
-mod Ends
-mod Forms
-mod Joins
-mod Kept
-mod Made
-mod Named
-mod Nexts
-mod OneList
-mod Places
-mod Steps
-mod Whole
+pub mod Ends
+pub mod Items
+pub mod LastEvents
+pub mod LegalRuns
+pub mod Lines
+pub mod Reached
+pub mod Sessions
+pub mod Steps

@@ -1,9 +1,5 @@
-pub mod Came
-pub mod Images
 pub mod Lines
 pub mod Moments
-pub mod Numbers
-pub mod Ran
 pub mod Reached
-pub mod Woven
-pub mod Written
+pub mod Sessions
+pub mod TranscriptText

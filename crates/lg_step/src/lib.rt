@@ -1,16 +1,18 @@
-//! The lines of an input, run one after another on one thread: what is written and saved of it.
+//! One session, run by the plain machine one statement after another.
 #![tactic(auto)]
 
-mod images;
-mod leaving;
-mod lines;
-mod moment;
-mod number;
+mod each;
+mod item;
+mod kind;
+mod laws;
 mod running;
-mod sessions;
-mod settings;
-mod spelled;
-mod weaving;
+mod session;
+mod step_err;
+mod transaction;
+mod transcript;
 
+pub use laws::{journals_of_one_session_are_legal, last_events_have_leaves};
+pub use lg_input::Line;
+pub use lg_types::{Event, Journal};
 pub use running::{Ran, run_lines};
-pub use settings::Settings;
+pub use step_err::StepErr;

@@ -4,4 +4,3 @@ mod End
 mod Meant
 mod Spelled
 mod Says
-mod Ranges

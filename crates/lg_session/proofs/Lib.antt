@@ -1,0 +1,5 @@
+mod Answered
+mod InOrder
+mod OneHistory
+mod Quiet
+pub mod Steady
