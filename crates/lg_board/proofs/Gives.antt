@@ -72,20 +72,20 @@ module _ {C S : Type 0} (stand : List C → List S → Type 0) (nobody : S) (par
 
   pub gives_cell : (may : S → List (ℕ × C) → ℕ → C → S → Type 0)
       → ((cells : List C) (seats : List S) (j : ℕ) (s : S) (out : List (ℕ × C)) (i : ℕ) (c : C) (t : S) → stand cells seats → get_elem? seats j ≡ some s → OutsStand cells out → may s out i c t → stand (set cells i c) (set seats j t))
-      → (n id : ℕ) (me : Carrier C S) (i : ℕ) (c c' : C) (t : S) (xs : List (ℕ × C)) (ys : List (ℕ × Option C)) → i < n → 0 < me.0.parts → me.0.out ≡ (i, c) ∷ xs → me.1 ≡ (i, Some c') ∷ ys → may me.0.state me.0.out i c' t
-      → Allows Law n id me i (λ _. 0) (gave t (step n i 0 0 none) me)
-  gives_cell may visits n id me i c c' t xs ys near some_part held carried allowed s r is at _ = (
+      → (n id : ℕ) (me : Carrier C S) (i : ℕ) (c c' : C) (after : S → Type 0) (t : S) (xs : List (ℕ × C)) (ys : List (ℕ × Option C)) → i < n → 0 < me.0.parts → me.0.out ≡ (i, c) ∷ xs → me.1 ≡ (i, Some c') ∷ ys → may me.0.state me.0.out i c' t → after t
+      → Allows Law n id me i (λ _. 0) (gave after (step n i 0 0 none) me)
+  gives_cell may visits n id me i c c' after t xs ys near some_part held carried allowed such s r is at _ = (
     seat_view t me.0.parts xs,
     gives,
     tt,
     subst (λ (l : List (ℕ × Option C)). Law record { words = set s.words i 0; homes = put_back s.homes l; views = set s.views id (seat_view t me.0.parts xs) }) (sym carried) (given may visits s r id me.0 i c c' t xs (omega arith) at some_part held allowed),
-    (λ q. (seat_view t me.0.parts (sym (ap rest held) q), rest me.1)),
+    (t, such, (λ q. (seat_view t me.0.parts (sym (ap rest held) q), rest me.1))),
   )
 
   pub gives_from : (may : S → List (ℕ × C) → ℕ → C → S → Type 0)
       → ((cells : List C) (seats : List S) (j : ℕ) (s : S) (out : List (ℕ × C)) (i : ℕ) (c : C) (t : S) → stand cells seats → get_elem? seats j ≡ some s → OutsStand cells out → may s out i c t → stand (set cells i c) (set seats j t))
-      → (n id : ℕ) (was me : Carrier C S) (i : ℕ) (c c' : C) (t : S) → me ≡ (was.0, (i, Some c') ∷ rest was.1) → i < n → 0 < was.0.parts → was.0.out ≡ (i, c) ∷ rest was.0.out → may was.0.state was.0.out i c' t
-      → Allows Law n id me i (λ _. 0) (gave t (step n i 0 0 none) me)
-  gives_from may visits n id was me i c c' t is near some_part held allowed =
+      → (n id : ℕ) (was me : Carrier C S) (i : ℕ) (c c' : C) (after : S → Type 0) (t : S) → me ≡ (was.0, (i, Some c') ∷ rest was.1) → i < n → 0 < was.0.parts → was.0.out ≡ (i, c) ∷ rest was.0.out → may was.0.state was.0.out i c' t → after t
+      → Allows Law n id me i (λ _. 0) (gave after (step n i 0 0 none) me)
+  gives_from may visits n id was me i c c' after t is near some_part held allowed such =
       let now : Carrier C S = (was.0, (i, Some c') ∷ rest was.1) in
-      subst (λ (m : Carrier C S). Allows Law n id m i (λ _. 0) (gave t (step n i 0 0 none) m)) (sym is) (gives_cell may visits n id now i c c' t (rest was.0.out) (rest was.1) near some_part held refl allowed)
+      subst (λ (m : Carrier C S). Allows Law n id m i (λ _. 0) (gave after (step n i 0 0 none) m)) (sym is) (gives_cell may visits n id now i c c' after t (rest was.0.out) (rest was.1) near some_part held refl allowed such)

@@ -68,9 +68,9 @@ module _ {C S : Type 0} where
       × StandTogether stand st.slots m'.0.state m'.0.out)
       × (n ≢ 0 → m' ≡ m)
 
-  -- the last cell was given back, and the seat knows t
-  abbrev pub gave : S → Step (Option C) → Carrier C S → ℕ → Carrier C S → Type 0
-  gave t st m n m' = m' ≡ (seat_view t m.0.parts (rest m.0.out), rest m.1)
+  -- the last cell was given back, and this holds of what the seat knows then
+  abbrev pub gave : (S → Type 0) → Step (Option C) → Carrier C S → ℕ → Carrier C S → Type 0
+  gave after st m n m' = (t : S) × after t × (m' ≡ (seat_view t m.0.parts (rest m.0.out), rest m.1))
 
 -- The rule, which holds between any two steps. It has the cells, those out as they were when they were taken,
 -- and for each cell that is out the number of its seat.

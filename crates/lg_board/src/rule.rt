@@ -54,7 +54,7 @@ impl<W: World> Play<Option<W::Cell>, SeatView<W::Cell, W::Seat>> for Take<W> {
     ghost then = { took W.stand };
 }
 
-/// A give, after which the seat knows `P.after`.
+/// A give, after which the seat knows what `P.after` says.
 pub(crate) struct Give<P> {
     after: PhantomData<P>,
 }

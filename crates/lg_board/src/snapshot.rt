@@ -46,12 +46,12 @@ impl<W: World> Board<W> {
         requires out { (seat_out seat.old ≡ all_out 0 cells.old.items [])
             × (vec_len cells.old ≤ board_cells self.now) }
         requires may { (i : ℕ) (c : W.Cell) (out : List (ℕ × W.Cell)) → seat_out seat.old ≡ (i, c) ∷ out
-            → W.may (seat_state seat.old) (seat_out seat.old) i c P.after }
+            → (t : W.Seat) × W.may (seat_state seat.old) (seat_out seat.old) i c t × P.after t }
         ensures seat { IsSameSeat seat.old seat.new × (seat_parts seat.new ≡ seat_parts seat.old) }
         ensures out { (seat_out seat.new ≡ all_out 0 cells.new.items [])
             × (vec_len cells.new ≤ vec_len cells.old) }
         ensures more { MatchBool result
-            ((seat_state seat.new ≡ P.after) × (vec_len cells.new < vec_len cells.old))
+            (P.after (seat_state seat.new) × (vec_len cells.new < vec_len cells.old))
             ((seat_state seat.new ≡ seat_state seat.old) × (vec_len cells.old ≡ 0) × (cells.new.items ≡ [])) }
     {
         match cells.pop() {
@@ -63,8 +63,8 @@ impl<W: World> Board<W> {
         }
     }
 
-    /// Gives all cells back as they were when they were taken, in falling order, and the seat knows
-    /// `P.after` from then on.
+    /// Gives all cells back as they were when they were taken, in falling order, and `P.after` holds of what
+    /// the seat knows from then on.
     ///
     /// The snapshot is one visit, the first of the gives, at which all cells are out (`visit`). The other
     /// gives change neither a cell nor what the seat knows, and the world has to allow that (`nothing`).
@@ -73,11 +73,11 @@ impl<W: World> Board<W> {
         requires out { (seat_out seat.old ≡ all_out 0 cells.items [])
             × (vec_len cells ≡ board_cells self.now) }
         requires visit { (i : ℕ) (c : W.Cell) (out : List (ℕ × W.Cell)) → seat_out seat.old ≡ (i, c) ∷ out
-            → W.may (seat_state seat.old) (seat_out seat.old) i c P.after }
-        requires nothing { (i : ℕ) (c : W.Cell) (out : List (ℕ × W.Cell))
-            → W.may P.after ((i, c) ∷ out) i c P.after }
+            → (t : W.Seat) × W.may (seat_state seat.old) (seat_out seat.old) i c t × P.after t }
+        requires nothing { (i : ℕ) (c : W.Cell) (out : List (ℕ × W.Cell)) (t : W.Seat) → P.after t
+            → W.may t ((i, c) ∷ out) i c t }
         ensures seat { IsSameSeat seat.old seat.new × (seat_parts seat.new ≡ seat_parts seat.old) }
-        ensures state { (seat_state seat.new ≡ P.after) × (seat_out seat.new ≡ []) }
+        ensures state { P.after (seat_state seat.new) × (seat_out seat.new ≡ []) }
     {
         if !self.give_top::<P>(seat, &mut cells) {
             unreachable!()

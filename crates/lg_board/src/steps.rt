@@ -88,9 +88,10 @@ pub(crate) fn give_back<W: World, P: After<W::Seat>>(
     requires last { IsLastOut i token.old.me.0.out }
     requires part { 0 < token.old.me.0.parts }
     requires carried { token.old.me.1 ≡ vacated token.old.me.0.out }
-    requires may { W.may token.old.me.0.state token.old.me.0.out i cell P.after }
+    requires may { (t : W.Seat) × W.may token.old.me.0.state token.old.me.0.out i cell t × P.after t }
     ensures table { token.new.table_id ≡ token.old.table_id }
-    ensures given { token.new.me.0 ≡ seat_view P.after token.old.me.0.parts (rest token.old.me.0.out) }
+    ensures given { (t : W.Seat) × P.after t
+        × (token.new.me.0 ≡ seat_view t token.old.me.0.parts (rest token.old.me.0.out)) }
     ensures carried { token.new.me.1 ≡ vacated token.new.me.0.out }
 {
     let full: Option<W::Cell> = Some(cell);

@@ -54,13 +54,14 @@ impl<W: World> Board<W> {
     ///
     /// This is the moment of the visit. It has to be one that the world allows (`may`): from what the
     /// seat knew and the cells as it took them, to what the cell holds now and what the seat knows from
-    /// now on, `P.after`. It takes no memory, and wakes a thread that waits for the cell.
+    /// now on, of which `P.after` holds. It takes no memory, and wakes a thread that waits for the cell.
     pub fn give<P: After<W::Seat>>(&self, seat: &mut BoardSeat<W>, i: usize, held: Held<W::Cell>)
         requires seat { IsSeatOf self.now seat.old }
         requires cell { i < board_cells self.now }
         requires last { IsLastOut i (seat_out seat.old) }
-        requires may { W.may (seat_state seat.old) (seat_out seat.old) i held.cell P.after }
-        ensures seat { IsSameSeat seat.old seat.new × (seat_state seat.new ≡ P.after)
+        requires may { (t : W.Seat) × W.may (seat_state seat.old) (seat_out seat.old) i held.cell t
+            × P.after t }
+        ensures seat { IsSameSeat seat.old seat.new × P.after (seat_state seat.new)
             × (seat_parts seat.new ≡ seat_parts seat.old) }
         ensures out { seat_out seat.new ≡ rest (seat_out seat.old) }
     {

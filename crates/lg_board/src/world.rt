@@ -72,10 +72,12 @@ pub trait World {
         → stand cells (slice_set (slice_set seats j (joined s t)) k nobody) };
 }
 
-/// What a seat knows after a visit, as a type parameter of `Board::give`.
+/// What is said of what a seat knows after a visit, as a type parameter of `Board::give`.
 ///
 /// The caller of `give` chooses it anew at each call. It writes `Brand` for the parameter, and says in
-/// its proof file what `after` is, from the arguments of that call: `docs/BOARD.md`, "Picks".
+/// its proof file what `after` is, from the arguments of that call: `docs/BOARD.md`, "Picks". Where the
+/// arguments tell all that the seat knows then, it is that the seat knows just this; where they tell less,
+/// it is what they tell.
 pub trait After<S> {
-    ghost after: { S };
+    ghost after: { S → Type 0 };
 }

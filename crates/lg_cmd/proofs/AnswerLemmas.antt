@@ -8,19 +8,10 @@ use Rattle.lg_base.specs.declared.vault.VaultErr.{VaultErr}
 use Rattle.lg_base.specs.declared.vault.VaultErr.TheVariants as refused
 use Rattle.lg_cmd.specs.declared.files.File.{File}
 use Rattle.lg_cmd.specs.declared.status.Status.{Status}
-use Rattle.lg_cmd.specs.declared.status.Status.TheVariants.{Done, No, Words, Limit, SourceFault, SinkFault, VaultFault, Missing, Digests, Journal, Form, Unbuilt, Memory}
-use Rattle.lg_model.specs.LegalJournals.{IsLegalJournal}
-use Rattle.lg_parse.specs.Text.{statement_of}
-use Rattle.lg_journal.specs.Rules.{IsJournal}
-use Rattle.lg_input.specs.Line.{Statement}
-use Rattle.lg_session.specs.OneSession.{journal_of}
-use Rattle.lg_step.specs.Lines.{ran, transcripts_of}
-use Rattle.lg_cmd.specs.Agreement.{RunAgrees}
+use Rattle.lg_cmd.specs.declared.status.Status.TheVariants.{Done, No, Words, Limit, SourceFault, SinkFault, VaultFault, Missing, Digests, Journal, Form, Memory}
 use Rattle.lg_cmd.specs.Files.{StopsBy}
-use Rattle.lg_cmd.specs.Run.{root_file, journal_file}
 use Rattle.lg_cmd.specs.Transfer.{input_limit, Came}
-use Rattle.lg_cmd.specs.Answer.{StepCause, HasRead, HasPut, HasWritten, Ran, OutputAgrees, EndsBy, RanOrIdle, vault_status}
-use Rattle.lg_cmd.proofs.FilesLemmas.{last_stands}
+use Rattle.lg_cmd.specs.Answer.{StepCause, HasRead, HasPut, HasWritten, EndsBy, RanOrIdle, vault_status}
 
 -- what is known of the bytes that came is known of the input
 pub bytes_came : (input rest : Option (List ℕ)) (v : Vec ℕ Global) (bytes : List ℕ) (P : List ℕ → Type 0) → IfSome input (λ i. Came i rest (Ok v)) → bytes ≡ v.items → P bytes → IfSome input P
@@ -41,7 +32,6 @@ cause_came SourceFault source vault sink input rest v bytes came is cause = absu
 cause_came SinkFault source vault sink input rest v bytes came is cause = cause
 cause_came VaultFault source vault sink input rest v bytes came is cause = cause
 cause_came (Form line) source vault sink input rest v bytes came is cause = bytes_came input rest v bytes _ came is cause
-cause_came (Unbuilt line) source vault sink input rest v bytes came is cause = bytes_came input rest v bytes _ came is cause
 cause_came Memory source vault sink input rest v bytes came is cause = tt
 
 -- an input that came whole was read to its end
@@ -58,7 +48,6 @@ read_whole SourceFault bytes vault sink input rest v cause came = absurd cause
 read_whole SinkFault bytes vault sink input rest v cause came = came.2
 read_whole VaultFault bytes vault sink input rest v cause came = came.2
 read_whole (Form line) bytes vault sink input rest v cause came = came.2
-read_whole (Unbuilt line) bytes vault sink input rest v cause came = came.2
 read_whole Memory bytes vault sink input rest v cause came = (length input, omega (arith, came.1), came.2 ∙ ap Some (sym (drop-length input)))
 
 pub read_told : (status : Status) (bytes : Option (List ℕ)) (vault sink : Type 0) (input rest : Option (List ℕ)) (v : Vec ℕ Global)
@@ -80,7 +69,6 @@ ran_by (Journal at) vault sink ran idle ends r = absurd ends
 ran_by Limit vault sink ran idle ends r = absurd ends
 ran_by SourceFault vault sink ran idle ends r = absurd ends
 ran_by (Form line) vault sink ran idle ends r = absurd ends
-ran_by (Unbuilt line) vault sink ran idle ends r = absurd ends
 
 -- what is known of a run is known of the call round it
 pub ran_within : (status : Status) (ran ran' idle : Type 0) → (ran → ran') → RanOrIdle status ran idle → RanOrIdle status ran' idle
@@ -97,7 +85,6 @@ ran_within (Journal at) ran ran' idle f r = r
 ran_within Limit ran ran' idle f r = r
 ran_within SourceFault ran ran' idle f r = r
 ran_within (Form line) ran ran' idle f r = r
-ran_within (Unbuilt line) ran ran' idle f r = r
 
 -- where the vault refused a file
 pub refused_put : (e : VaultErr) (files : List File) (old new : Option Names) → StopsBy e files old new → HasPut (vault_status e) files old new
@@ -118,39 +105,3 @@ put_is status made files old new is put = let P : List File → Type 0 = λ x. H
 
 pub written_is : (status : Status) (made text : List ℕ) (old new : Option (List ℕ)) → made ≡ text → HasWritten status made old new → HasWritten status text old new
 written_is status made text old new is written = let P : List ℕ → Type 0 = λ x. HasWritten status x old new in subst P is written
-
--- where all is done, what was written and what was put agree
-module _ (h : List ℕ → List ℕ) (save : List ℕ) (input : Option (List ℕ)) (says : ℕ → Type 0) where
-  done_agrees : (old new : Option Names) (taken now : Option (List ℕ)) (r : Ran Done h save input says old new taken now)
-      → IsLegalJournal statement_of (journal_of (ran r.times r.statements))
-      → RunAgrees r.statements (transcripts_of r.statements (ran r.times r.statements)) (journal_of (ran r.times r.statements))
-      → IsJournal (journal_of (ran r.times r.statements)) → OutputAgrees save input old new taken now
-  done_agrees old new taken now r legal agree journal = record {
-    statements = r.statements;
-    X = transcripts_of r.statements (ran r.times r.statements);
-    J = journal_of (ran r.times r.statements);
-    within = r.within;
-    legal = legal;
-    agree = agree;
-    written = r.written;
-    put = last_stands (root_file h save (ran r.times r.statements).last) (journal_file save (journal_of (ran r.times r.statements))) old new r.put;
-    journal = journal;
-  }
-
-  pub agrees_when_done : (status : Status) (old new : Option Names) (taken now : Option (List ℕ)) (r : Ran status h save input says old new taken now)
-      → IsLegalJournal statement_of (journal_of (ran r.times r.statements))
-      → RunAgrees r.statements (transcripts_of r.statements (ran r.times r.statements)) (journal_of (ran r.times r.statements))
-      → IsJournal (journal_of (ran r.times r.statements)) → status ≡ Done → OutputAgrees save input old new taken now
-  agrees_when_done Done old new taken now r legal agree journal is = done_agrees old new taken now r legal agree journal
-  agrees_when_done No old new taken now r legal agree journal is = absurd cc
-  agrees_when_done (Missing which) old new taken now r legal agree journal is = absurd cc
-  agrees_when_done (Digests index) old new taken now r legal agree journal is = absurd cc
-  agrees_when_done (Journal at) old new taken now r legal agree journal is = absurd cc
-  agrees_when_done Words old new taken now r legal agree journal is = absurd cc
-  agrees_when_done Limit old new taken now r legal agree journal is = absurd cc
-  agrees_when_done SourceFault old new taken now r legal agree journal is = absurd cc
-  agrees_when_done SinkFault old new taken now r legal agree journal is = absurd cc
-  agrees_when_done VaultFault old new taken now r legal agree journal is = absurd cc
-  agrees_when_done (Form line) old new taken now r legal agree journal is = absurd cc
-  agrees_when_done (Unbuilt line) old new taken now r legal agree journal is = absurd cc
-  agrees_when_done Memory old new taken now r legal agree journal is = absurd cc

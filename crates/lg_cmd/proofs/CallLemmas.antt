@@ -9,7 +9,7 @@ use Rattle.lg_base.specs.declared.vault.VaultErr.{VaultErr}
 use Rattle.lg_base.specs.declared.vault.VaultErr.TheVariants as refused
 use Rattle.lg_base.specs.History.{Adds, Since, EndsAt}
 use Rattle.lg_cmd.specs.declared.status.Status.{Status}
-use Rattle.lg_cmd.specs.declared.status.Status.TheVariants.{Done, No, Words, Limit, SourceFault, SinkFault, VaultFault, Missing, Digests, Journal, Form, Unbuilt, Memory}
+use Rattle.lg_cmd.specs.declared.status.Status.TheVariants.{Done, No, Words, Limit, SourceFault, SinkFault, VaultFault, Missing, Digests, Journal, Form, Memory}
 use Rattle.lg_cmd.specs.Answer.{StepCause, vault_status}
 use Rattle.lg_cmd.specs.Calls.{Moved, KeptFile, ReadsOf, AreReads, ArePuts, AreWrites}
 use Rattle.lg_cmd.specs.Input.{IsRefused}
@@ -62,7 +62,6 @@ read_to_end SourceFault input vault sink cause answers end = absurd cause
 read_to_end SinkFault input vault sink cause answers end = end
 read_to_end VaultFault input vault sink cause answers end = end
 read_to_end (Form line) input vault sink cause answers end = end
-read_to_end (Unbuilt line) input vault sink cause answers end = end
 read_to_end Memory input vault sink cause answers end = inr end
 
 pub reads_whole : (status : Status) (input : Option (List ℕ)) (vault sink : Type 0) (v : Vec ℕ Global) (old now : List (Result ℕ Failed) → Type 0)
@@ -88,7 +87,6 @@ refused_writes refused.TooLong now = since_none now (AreWrites Memory) refl
 pub unput : (status : Status) (bytes : List ℕ) → IsRefused status bytes → ArePuts status []
 unput Limit bytes is = refl
 unput (Form line) bytes is = refl
-unput (Unbuilt line) bytes is = refl
 unput Memory bytes is = inl refl
 unput Done bytes is = absurd is
 unput Words bytes is = absurd is
@@ -103,7 +101,6 @@ unput VaultFault bytes is = absurd is
 pub unwritten : (status : Status) (bytes : List ℕ) → IsRefused status bytes → AreWrites status []
 unwritten Limit bytes is = refl
 unwritten (Form line) bytes is = refl
-unwritten (Unbuilt line) bytes is = refl
 unwritten Memory bytes is = refl
 unwritten Done bytes is = absurd is
 unwritten Words bytes is = absurd is

@@ -1,14 +1,14 @@
 -- What a vault has after one put more.
-use Rattle.std.proofs.Common.{◌≡◌, ◌≢◌, ◌<◌, ◌+◌, get_or, length, suc, ℕ, Bool, true, false, cond, List, [], ◌∷◌, ◌++◌, map, take, drop, Option, Some, None, Result, Ok, Err, refl, sym, ◌∙◌, ap, subst, bytes_eq, arith}
+use Rattle.std.proofs.Common.{◌≡◌, ◌≢◌, ◌<◌, ◌+◌, get_or, length, suc, ℕ, Bool, true, false, cond, List, [], ◌∷◌, ◌++◌, map, take, drop, Option, Some, None, Result, Ok, Err, refl, sym, ◌∙◌, ap, subst, bytes_eq}
 use Rattle.std.proofs.lemmas.Slice.Eq.{bytes_eq-Decides}
 use Rattle.lg_base.specs.declared.vault.VaultErr.{VaultErr}
 use Rattle.lg_base.specs.declared.vault.VaultErr.TheVariants.{Memory, Missing, TooLong, Failed}
-use Rattle.lg_base.specs.Store.{Held, Bytes, Names}
+use Rattle.lg_base.specs.Store.{Held, Names}
 use Rattle.lg_base.specs.Outside.{TellsPut, Leaves}
 use Rattle.std.proofs.Math.Seq.{drop-cons}
-use Rattle.std.proofs.lemmas.List.{take_more, take_all, map_push}
+use Rattle.std.proofs.lemmas.List.{take_more, map_push}
 use Rattle.lg_cmd.specs.declared.files.File.{File}
-use Rattle.lg_cmd.specs.Files.{names_after, TellsLeft, TellsHeld, StandFirst, StopsOpen, StopsBy, stands, is_open}
+use Rattle.lg_cmd.specs.Files.{names_after, TellsLeft, StandFirst, StopsOpen, StopsBy, stands, is_open}
 
 -- the last one left counts, and what was left before it under the other names
 names_last : (before : List (List ℕ × Held)) (name : List ℕ) (held : Held) (old : Names) (other : List ℕ) → names_after (before ++ (name, held) ∷ []) old other ≡ cond (bytes_eq other name) held (names_after before old other)
@@ -71,18 +71,3 @@ stops_at files k file Failed a b c within is sofar put = stop_open files k file 
 stops_at files k file Memory a b c within is sofar put = still files k file Memory a b c within sofar put (λ was now is. is)
 stops_at files k file Missing a b c within is sofar put = still files k file Missing a b c within sofar put (λ was now is. absurd is)
 stops_at files k file TooLong a b c within is sofar put = still files k file TooLong a b c within sofar put (λ was now is. absurd is)
-
--- where all files stand, the last one does
-last_tells : (before : List (List ℕ × Held)) (file : File) (old new : Option Names) → TellsLeft (before ++ stands file ∷ []) old new → TellsHeld old new file.name file.bytes
-last_tells before file None new told = tt
-last_tells before file (Some old) None told = absurd told
-last_tells before file (Some old) (Some new) told =
-    let same : bytes_eq file.name file.name ≡ true = (bytes_eq-Decides file.name file.name).1 refl in
-    told file.name ∙ names_last before file.name (Bytes file.bytes) old file.name ∙ ap (λ b. cond b (Bytes file.bytes) (names_after before old file.name)) same
-
-pub last_stands : (front : List File) (file : File) (old new : Option Names) → StandFirst (front ++ file ∷ []) (length (front ++ file ∷ [])) old new → TellsHeld old new file.name file.bytes
-last_stands front file old new told =
-    let files = front ++ file ∷ [] in
-    let all : map stands (take (length files) files) ≡ map stands front ++ stands file ∷ [] = ap (map stands) (take_all (length files) files (omega arith)) ∙ map_push stands front file in
-    let P : List (List ℕ × Held) → Type 0 = λ left. TellsLeft left old new in
-    last_tells (map stands front) file old new (subst P all told)

@@ -8,7 +8,7 @@ use Rattle.lg_base.specs.declared.vault.VaultErr.TheVariants as refused
 use Rattle.lg_base.specs.History.{Adds, Since, EndsAt}
 use Rattle.lg_base.specs.Store.{Names}
 use Rattle.lg_cmd.specs.declared.status.Status.{Status}
-use Rattle.lg_cmd.specs.declared.status.Status.TheVariants.{Done, No, Words, Limit, SourceFault, SinkFault, VaultFault, Missing, Digests, Journal, Form, Unbuilt, Memory}
+use Rattle.lg_cmd.specs.declared.status.Status.TheVariants.{Done, No, Words, Limit, SourceFault, SinkFault, VaultFault, Missing, Digests, Journal, Form, Memory}
 use Rattle.lg_cmd.specs.Calls.{GaveFile, Gave, AreGets}
 use Rattle.lg_cmd.specs.Names.{LacksName, name_answer}
 use Rattle.lg_cmd.proofs.CallLemmas.{adds_more, since_none, since_weaker}
@@ -58,4 +58,3 @@ lacks_next old mid new n k limit SinkFault names name few lacks so_far one = abs
 lacks_next old mid new n k limit (Digests index) names name few lacks so_far one = absurd lacks
 lacks_next old mid new n k limit (Journal at) names name few lacks so_far one = absurd lacks
 lacks_next old mid new n k limit (Form line) names name few lacks so_far one = absurd lacks
-lacks_next old mid new n k limit (Unbuilt line) names name few lacks so_far one = absurd lacks

@@ -4,6 +4,6 @@ pub mod ExtractLemmas
 pub mod FilesLemmas
 pub mod GetLemmas
 pub mod ReplayLemmas
-pub mod RootLemmas
-pub mod RunLemmas
+pub mod SavedLemmas
 pub mod TransferLemmas
+pub mod WordsLemmas

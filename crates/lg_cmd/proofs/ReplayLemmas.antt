@@ -32,13 +32,14 @@ use Rattle.lg_replay.specs.declared.running.ReplayErr.{ReplayErr}
 use Rattle.lg_replay.specs.declared.running.ReplayErr.TheVariants as errors
 use Rattle.lg_cmd.specs.declared.files.File.{File}
 use Rattle.lg_cmd.specs.declared.status.Status.{Status}
-use Rattle.lg_cmd.specs.declared.status.Status.TheVariants.{Done, No, Words, Limit, SourceFault, SinkFault, VaultFault, Missing, Digests, Journal, Form, Unbuilt, Memory}
+use Rattle.lg_cmd.specs.declared.status.Status.TheVariants.{Done, No, Words, Limit, SourceFault, SinkFault, VaultFault, Missing, Digests, Journal, Form, Memory}
 use Rattle.lg_cmd.specs.Answer.{HasPut, HasWritten, EndsBy, Unfailed}
 use Rattle.lg_cmd.specs.Calls.{Gave, AreGets, ArePuts, Behind, AreGetsAndPuts, AreWrites}
 use Rattle.lg_cmd.specs.Files.{TellsLeft, TellsHeld, StandFirst, stands}
 use Rattle.lg_cmd.specs.Names.{LacksName, image_limit}
-use Rattle.lg_cmd.specs.Replay.{StandsUnder, IsSpelled, AreRefused, IsIllegalAt, IsIllegal, LegalUnder, image_name, image_file, image_bytes_of, replayed_files, IsAccepted, IsImageOf, LacksImage, LacksReplay, ReplayedOrIdle, ReplayCause, HasOutput, Replayed, PutsAccepted, replayed_text, replay_status}
-use Rattle.lg_cmd.specs.Run.{journal_name}
+use Rattle.lg_step.specs.Came.{last_image_bytes}
+use Rattle.lg_cmd.specs.Replay.{StandsUnder, IsSpelled, AreRefused, IsIllegalAt, IsIllegal, LegalUnder, replayed_files, IsAccepted, IsImageOf, LacksImage, LacksReplay, ReplayedOrIdle, ReplayCause, HasOutput, Replayed, PutsAccepted, replayed_text, replay_status}
+use Rattle.lg_cmd.specs.Run.{image_name, image_file, journal_name}
 use Rattle.lg_cmd.proofs.AnswerLemmas.{put_is, written_is}
 use Rattle.lg_cmd.proofs.CallLemmas.{since_none, since_weaker}
 use Rattle.lg_cmd.proofs.GetLemmas.{Answers}
@@ -96,7 +97,7 @@ Verifies = (h : List ℕ → List ℕ) (j : JournalOf) (m : ℕ) (digests : List
 
 -- what is said of each cut is said of the whole
 accepted_whole : (h : List ℕ → List ℕ) (J : JournalOf) → Verifies → IsLegalJournal statement_of J → IsImage (image_of h statement_of J.database J.items)
-    → IsAccepted h J (image_bytes_of h J)
+    → IsAccepted h J (last_image_bytes h J)
 accepted_whole h J verifies legal spelling digests all_held =
     let P : List JournalItem → Type 0 = λ items. AllHeld h statement_of J.database items digests → IsImage (image_of h statement_of J.database items)
     → verdict_of h digests (image_bytes (image_of h statement_of J.database items)) ≡ Yes in
@@ -138,7 +139,6 @@ by_end P vault sink done faulty failed short (Missing which) ends = absurd ends
 by_end P vault sink done faulty failed short (Digests index) ends = absurd ends
 by_end P vault sink done faulty failed short (Journal at) ends = absurd ends
 by_end P vault sink done faulty failed short (Form line) ends = absurd ends
-by_end P vault sink done faulty failed short (Unbuilt line) ends = absurd ends
 
 -- bytes that lead to no image
 by_image : (P : Status → Type 0) (bytes : List ℕ) → ((at : Option (ℕ × ℕ)) → LacksImage (Journal at) bytes → P (Journal at)) → P Memory
@@ -155,7 +155,6 @@ by_image P bytes refused short VaultFault lacks = absurd lacks
 by_image P bytes refused short (Missing which) lacks = absurd lacks
 by_image P bytes refused short (Digests index) lacks = absurd lacks
 by_image P bytes refused short (Form line) lacks = absurd lacks
-by_image P bytes refused short (Unbuilt line) lacks = absurd lacks
 
 -- a name that leads to none
 pub by_name : (P : Status → Type 0) (name : List ℕ) (names : Option Names) (vault : Type 0) → P Limit → ((which : ℕ) → P (Missing which))
@@ -172,7 +171,6 @@ by_name P name names vault long missing refused failed short SourceFault lacks =
 by_name P name names vault long missing refused failed short SinkFault lacks = absurd lacks
 by_name P name names vault long missing refused failed short (Digests index) lacks = absurd lacks
 by_name P name names vault long missing refused failed short (Form line) lacks = absurd lacks
-by_name P name names vault long missing refused failed short (Unbuilt line) lacks = absurd lacks
 
 -- ---- why there is no image
 
@@ -190,7 +188,6 @@ lacks_legal VaultFault J bytes spelled illegal = absurd illegal
 lacks_legal (Missing which) J bytes spelled illegal = absurd illegal
 lacks_legal (Digests index) J bytes spelled illegal = absurd illegal
 lacks_legal (Form line) J bytes spelled illegal = absurd illegal
-lacks_legal (Unbuilt line) J bytes spelled illegal = absurd illegal
 
 pub no_image : (result : Result Image Status) (J : JournalOf) (bytes : List ℕ) → IsSpelled J bytes → IfErr result (λ status. IsIllegal status J)
     → IfErr result (λ status. LacksImage status bytes)
@@ -211,7 +208,6 @@ lacks_journal VaultFault bytes refused = absurd refused
 lacks_journal (Missing which) bytes refused = absurd refused
 lacks_journal (Digests index) bytes refused = absurd refused
 lacks_journal (Form line) bytes refused = absurd refused
-lacks_journal (Unbuilt line) bytes refused = absurd refused
 
 -- ---- why a name leads to none
 
@@ -229,7 +225,6 @@ lacks_name SinkFault name names vault lacks fault = absurd lacks
 lacks_name (Digests index) name names vault lacks fault = absurd lacks
 lacks_name (Journal at) name names vault lacks fault = absurd lacks
 lacks_name (Form line) name names vault lacks fault = absurd lacks
-lacks_name (Unbuilt line) name names vault lacks fault = absurd lacks
 
 image_lacks : (at : Option (ℕ × ℕ)) (name : List ℕ) (names : Option Names) (vault : Type 0) (bytes : List ℕ) → StandsUnder name names bytes
     → LacksImage (Journal at) bytes → LacksReplay (Journal at) name names vault

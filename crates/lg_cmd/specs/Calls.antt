@@ -81,7 +81,7 @@ AreGetsAndPuts k status answers = AreGets k status answers
 -- what the vault answered, by the command
 abbrev pub AreCalls : Option Command → Status → List (Result ⊤ VaultErr) → Type 0
 AreCalls None status answers = answers ≡ []
-AreCalls (Some (Step save)) status answers = ArePuts status answers
+AreCalls (Some (Step save how)) status answers = ArePuts status answers
 AreCalls (Some (Verify image digests)) status answers = AreGets 2 status answers
 AreCalls (Some (Replay journal save)) status answers = AreGetsAndPuts 1 status answers
 AreCalls (Some (Extract honest suspect digests)) status answers = AreGets 3 status answers

@@ -16,7 +16,8 @@ use Rattle.lg_cmd.specs.Words.{Command, Step, Verify, Replay, Extract, Tell}
 abbrev pub HasCause : Status → (List ℕ → List ℕ) → Option Command → Option (List ℕ) → Option Names
     → Type 0 → Type 0 → Type 0 → Type 0
 HasCause status h None input names source vault sink = (status ≡ Words) ⊎ (status ≡ Memory)
-HasCause status h (Some (Step save)) input names source vault sink = StepCause status input source vault sink
+HasCause status h (Some (Step save how)) input names source vault sink =
+    StepCause status input source vault sink
 HasCause status h (Some (Verify image digests)) input names source vault sink =
     VerifyCause status h image digests names vault sink
 HasCause status h (Some (Replay journal save)) input names source vault sink =

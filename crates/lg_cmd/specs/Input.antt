@@ -1,11 +1,10 @@
 -- Which inputs are run.
-use Rattle.std.specs.Prelude.{◌≡◌, ◌<◌, ◌≤◌, ◌⊎◌, ℕ, List, length, None, Some, Ok, Err}
+use Rattle.std.specs.Prelude.{◌≡◌, ◌<◌, ◌≤◌, ◌⊎◌, ℕ, List, length, Ok, Err}
 use Rattle.lg_input.specs.Line.{Statement}
 use Rattle.lg_input.specs.Lines.{read_input}
 use Rattle.lg_input.specs.Sessions.{sessions_of, max_sessions}
-use Rattle.lg_step.specs.Lines.{unbuilt}
 use Rattle.lg_cmd.specs.declared.status.Status.{Status}
-use Rattle.lg_cmd.specs.declared.status.Status.TheVariants.{Limit, Form, Unbuilt, Memory}
+use Rattle.lg_cmd.specs.declared.status.Status.TheVariants.{Limit, Form, Memory}
 use Rattle.lg_cmd.specs.Transfer.{input_limit}
 
 -- the input has these statements, and no more bytes and sessions than it may have
@@ -14,9 +13,9 @@ HasStatements bytes statements =
     (length bytes ≤ input_limit) × (read_input bytes ≡ Ok statements)
     × (length (sessions_of statements) ≤ max_sessions)
 
--- all of its statements are built
-abbrev pub IsBuilt : List ℕ → Type 0
-IsBuilt bytes = (statements : List Statement) × HasStatements bytes statements × (unbuilt statements ≡ None)
+-- it has some, and no more than it may have
+abbrev pub IsInput : List ℕ → Type 0
+IsInput bytes = (statements : List Statement) × HasStatements bytes statements
 
 -- the statements of an input are of more sessions than it may have
 abbrev pub HasManySessions : List ℕ → Type 0
@@ -32,15 +31,9 @@ IsBeyond bytes = (input_limit < length bytes) ⊎ HasManySessions bytes
 abbrev pub LacksForm : List ℕ → ℕ → Type 0
 LacksForm bytes line = (length bytes ≤ input_limit) × (read_input bytes ≡ Err line)
 
--- this is the first line whose statement isn't built
-abbrev pub LacksBuilt : List ℕ → ℕ → Type 0
-LacksBuilt bytes line =
-    (statements : List Statement) × HasStatements bytes statements × (unbuilt statements ≡ Some line)
-
 -- why an input isn't run
 abbrev pub IsRefused : Status → List ℕ → Type 0
 IsRefused Limit bytes = HasManySessions bytes
 IsRefused (Form line) bytes = LacksForm bytes line
-IsRefused (Unbuilt line) bytes = LacksBuilt bytes line
 IsRefused Memory bytes = Unit {0}
 IsRefused _ bytes = ⊥

@@ -1,4 +1,3 @@
-pub mod Agreement
 pub mod Answer
 pub mod Calls
 pub mod Cause
@@ -7,7 +6,6 @@ pub mod Files
 pub mod Input
 pub mod Names
 pub mod Replay
-pub mod Root
 pub mod Run
 pub mod Status
 pub mod Tell

@@ -18,13 +18,14 @@ use Rattle.lg_honest.specs.Held.{AllHeld}
 use Rattle.lg_replay.specs.Reached.{DiffersAt}
 use Rattle.lg_replay.specs.declared.running.ReplayErr.{ReplayErr}
 use Rattle.lg_replay.specs.declared.running.ReplayErr.TheVariants as errors
+use Rattle.lg_step.specs.Came.{last_image_bytes}
 use Rattle.lg_cmd.specs.declared.files.File.{File}
 use Rattle.lg_cmd.specs.declared.status.Status.{Status}
 use Rattle.lg_cmd.specs.declared.status.Status.TheVariants as status
 use Rattle.lg_cmd.specs.Answer.{HasPut, HasWritten}
 use Rattle.lg_cmd.specs.Files.{TellsHeld}
 use Rattle.lg_cmd.specs.Names.{Stands, LacksName, image_limit}
-use Rattle.lg_cmd.specs.Run.{journal_name, journal_file}
+use Rattle.lg_cmd.specs.Run.{image_name, image_file, journal_name, journal_file}
 
 -- ---- what is read
 
@@ -77,20 +78,9 @@ LegalUnder name names = JournalUnder name names (IsLegalJournal statement_of)
 
 -- ---- what is put and written
 
-abbrev pub image_name : List ℕ → List ℕ
-image_name save = save ++ codes ".img"
-
--- the bytes of the image to which a journal leads
-abbrev pub image_bytes_of : (List ℕ → List ℕ) → Journal → List ℕ
-image_bytes_of h J = image_bytes (image_of h statement_of J.database J.items)
-
--- NAME.img has the image
-abbrev pub image_file : List ℕ → List ℕ → File
-image_file save bytes = record { name = image_name save; bytes = bytes }
-
 -- what is saved under a name, in the order in which it is put
 abbrev pub replayed_files : (List ℕ → List ℕ) → List ℕ → Journal → List File
-replayed_files h save J = image_file save (image_bytes_of h J) ∷ journal_file save J ∷ []
+replayed_files h save J = image_file save (last_image_bytes h J) ∷ journal_file save J ∷ []
 
 -- the line of so many transactions
 abbrev pub replayed_text : ℕ → List ℕ

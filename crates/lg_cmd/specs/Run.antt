@@ -1,63 +1,77 @@
--- What a run of an input is, and what is put and written of it.
-use Rattle.std.specs.Prelude.{◌≡◌, ℕ, List, [], ◌∷◌, ◌++◌, length, codes, flat_map, Option, None}
-use Rattle.std.specs.List.{AllByRecursion}
-use Rattle.lg_types.specs.declared.event.Event.{Event}
+-- What is put and written of a run of an input.
+use Rattle.std.specs.Prelude.{◌≡◌, ℕ, List, [], ◌∷◌, ◌++◌, codes, map, Ok}
+use Rattle.std.specs.Fmt.{decimal}
 use Rattle.lg_types.specs.declared.journal.Journal.{Journal}
-use Rattle.lg_model.specs.LegalJournals.{IsLegalJournal}
-use Rattle.lg_history.specs.Transcripts.{Transcript}
 use Rattle.lg_journal.specs.Journal.{journal_bytes}
-use Rattle.lg_parse.specs.Text.{statement_of}
+use Rattle.lg_digest.specs.Reading.{IsRead}
+use Rattle.lg_digest.specs.Writing.{IsFile, held_form}
 use Rattle.lg_input.specs.Line.{Statement}
-use Rattle.lg_session.specs.OneSession.{journal_of}
-use Rattle.lg_session.specs.OneSession as session
+use Rattle.lg_input.specs.Sessions.{sessions_of}
+use Rattle.lg_standing.specs.Seats.{KeptImage}
+use Rattle.lg_step.specs.Came.{Run, CameTo, last_image_bytes}
+use Rattle.lg_step.specs.Moments.{said_with}
+use Rattle.lg_step.specs.Ran.{IsRan}
 use Rattle.lg_step.specs.declared.running.Ran.{Ran}
-use Rattle.lg_step.specs.Lines.{ran, unbuilt, transcripts_of}
-use Rattle.lg_step.specs.Moments.{IsMoment}
-use Rattle.lg_step.specs.TranscriptText.{transcript_text}
+use Rattle.lg_words.specs.Commands.{Settings}
 use Rattle.lg_cmd.specs.declared.files.File.{File}
-use Rattle.lg_cmd.specs.Agreement.{RunAgrees}
 use Rattle.lg_cmd.specs.Input.{HasStatements}
-use Rattle.lg_cmd.specs.Root.{root_of}
 
--- NAME.root has the root over the last events that were committed; there is none where there are none
-abbrev pub root_file : (List ℕ → List ℕ) → List ℕ → List Event → List File
-root_file h save [] = []
-root_file h save (e ∷ es) = record { name = save ++ codes ".root"; bytes = root_of h (e ∷ es) } ∷ []
+-- ---- files
 
+-- NAME-m.img has the image of the first m items
+abbrev pub cut_name : List ℕ → ℕ → List ℕ
+cut_name save items = save ++ codes "-" ++ decimal items ++ codes ".img"
+
+abbrev pub cut_file : List ℕ → KeptImage → File
+cut_file save k = record { name = cut_name save k.0; bytes = k.1 }
+
+-- NAME.img has the image of all
+abbrev pub image_name : List ℕ → List ℕ
+image_name save = save ++ codes ".img"
+
+abbrev pub image_file : List ℕ → List ℕ → File
+image_file save bytes = record { name = image_name save; bytes = bytes }
+
+-- NAME.digests has the digests
+abbrev pub digests_name : List ℕ → List ℕ
+digests_name save = save ++ codes ".digests"
+
+abbrev pub digests_file : List ℕ → List ℕ → File
+digests_file save bytes = record { name = digests_name save; bytes = bytes }
+
+-- NAME.journal has the journal
 abbrev pub journal_name : List ℕ → List ℕ
 journal_name save = save ++ codes ".journal"
 
--- NAME.journal has the journal
 abbrev pub journal_file : List ℕ → Journal → File
 journal_file save journal = record { name = journal_name save; bytes = journal_bytes journal }
 
--- what is saved under a name, in the order in which it is put
-abbrev pub saved_files : (List ℕ → List ℕ) → List ℕ → List Event → Journal → List File
-saved_files h save last journal = root_file h save last ++ journal_file save journal ∷ []
+-- what is saved under a name, in the order in which it is put; the digests have these bytes
+abbrev pub saved_files : (List ℕ → List ℕ) → List ℕ → Run → List ℕ → List File
+saved_files h save run digests = map (cut_file save) run.images
+    ++ image_file save (last_image_bytes h run.J)
+    ∷ digests_file save digests
+    ∷ journal_file save run.J
+    ∷ []
 
--- the files of a run
-abbrev pub files_of : (List ℕ → List ℕ) → List ℕ → session.Run → List File
-files_of h save x = saved_files h save x.last (journal_of x)
+-- ---- the run
 
--- the text of some transcripts
-abbrev pub transcripts_text : List Transcript → List ℕ
-transcripts_text X = flat_map transcript_text X
-
--- the text of a run
-abbrev pub text_of : List Statement → session.Run → List ℕ
-text_of statements x = transcripts_text (transcripts_of statements x)
-
--- this is what the input came to
-pub record IsRun (says : ℕ → Type 0) (bytes : List ℕ) (r : Ran) : Type 0 where
+-- this is what the input came to by these settings, where the clock says such moments
+pub record IsRun (h : List ℕ → List ℕ) (how : Settings) (clock : ℕ → Type 0) (bytes : List ℕ)
+    (r : Ran) : Type 0 where
   pub statements : List Statement
-  pub times : List ℕ
+  pub run : Run
   pub within : HasStatements bytes statements
-  pub built : unbuilt statements ≡ None
-  pub as_many : length times ≡ length statements
-  pub moments : AllByRecursion (IsMoment says) times
-  pub journal : r.journal ≡ journal_of (ran times statements)
-  pub last : r.last ≡ (ran times statements).last
-  pub transcript : r.transcript ≡ text_of statements (ran times statements)
-  pub legal : IsLegalJournal statement_of (journal_of (ran times statements))
-  pub agrees : RunAgrees statements (transcripts_of statements (ran times statements))
-      (journal_of (ran times statements))
+  pub came : CameTo h how.database how.block_size (said_with how.clock clock) statements run
+  pub is : IsRan h (sessions_of statements) run r
+
+-- the files of what the code has of a run
+pub record AreSaved (save : List ℕ) (r : Ran) (made : List File) : Type 0 where
+  pub digests : List ℕ
+  pub file : IsFile r.digests digests
+  pub read_back : IsRead digests (Ok (map held_form r.digests))
+  pub files : made ≡ map (cut_file save) r.images
+      ++ image_file save r.image
+      ∷ digests_file save digests
+      ∷ journal_file save r.journal
+      ∷ []

@@ -2,7 +2,7 @@
 use Rattle.std.specs.Prelude.{ℕ, List, [], ◌++◌, codes, Some}
 use Rattle.std.specs.Fmt.{decimal}
 use Rattle.lg_cmd.specs.declared.status.Status.{Status}
-use Rattle.lg_cmd.specs.declared.status.Status.TheVariants.{Done, No, Words, Limit, SourceFault, SinkFault, VaultFault, Missing, Digests, Journal, Form, Unbuilt, Memory}
+use Rattle.lg_cmd.specs.declared.status.Status.TheVariants.{Done, No, Words, Limit, SourceFault, SinkFault, VaultFault, Missing, Digests, Journal, Form, Memory}
 
 abbrev pub code_of : Status → ℕ
 code_of Done = 0
@@ -17,7 +17,6 @@ code_of (Digests index) = 8
 code_of (Journal at) = 9
 code_of (Form line) = 10
 code_of Memory = 12
-code_of (Unbuilt line) = 13
 
 abbrev pub text_of : Status → List ℕ
 text_of Done = codes ""
@@ -32,7 +31,6 @@ text_of (Digests index) = codes "the digests were refused"
 text_of (Journal at) = codes "the journal was refused"
 text_of (Form line) = codes "a line has no session"
 text_of Memory = codes "out of memory"
-text_of (Unbuilt line) = codes "this input is not built yet"
 
 -- the place that a status has, as it stands behind its text
 abbrev pub place_of : Status → List ℕ
@@ -41,7 +39,6 @@ place_of (Digests (Some index)) = codes " (digest " ++ decimal index ++ codes ")
 place_of (Journal (Some at)) =
     codes " (item " ++ decimal at.0 ++ codes ", statement " ++ decimal at.1 ++ codes ")"
 place_of (Form line) = codes " (line " ++ decimal line ++ codes ")"
-place_of (Unbuilt line) = codes " (line " ++ decimal line ++ codes ")"
 place_of _ = []
 
 -- what is said of a status: its text, and its place where it has one

@@ -1,16 +1,17 @@
 -- The commands that are built, of those that the words can say.
-use Rattle.std.specs.Prelude.{ℕ, Bool, true, false, not, ◌&&◌, ◌==◌, List, codes, Option, Some, None, is_some, if◌then◌else◌, bytes_eq, option_map, option_and_then}
+use Rattle.std.specs.Prelude.{ℕ, Bool, true, false, ◌==◌, List, Option, Some, None, if◌then◌else◌, option_map, option_and_then}
 use Rattle.lg_words.specs.Commands.{Settings, command_of}
 use Rattle.lg_words.specs.Commands as said
 use Rattle.lg_words.specs.Help.{help_of}
+use Rattle.lg_words.specs.Views.{settings_view}
 use Rattle.lg_words.specs.declared.help.TheConstants.{VERSION}
 use Rattle.lg_cmd.specs.declared.words.BuiltCommand.{BuiltCommand}
 use Rattle.lg_cmd.specs.declared.words.BuiltCommand.TheVariants as words
 
 -- a command, and the names that it is given
 pub data Command : Type 0 where
-  -- the name that the files of a run are saved under
-  Step : List ℕ → Command
+  -- the name that the files of a run are saved under, and how its statements are run
+  Step : List ℕ → Settings → Command
   -- the names of an image and of digests
   Verify : List ℕ → List ℕ → Command
   -- the name of a journal, and the name that its image is saved under
@@ -20,15 +21,10 @@ pub data Command : Type 0 where
   -- a text that is printed
   Tell : List ℕ → Command
 
--- what a run has where its words don't say it: no other settings are built
-abbrev pub are_usual : Settings → Bool
-are_usual settings = settings.block_size == 100000
-    && (not (is_some settings.clock) && bytes_eq settings.database (codes "LedgerDB"))
-
 -- the command, where it is built: runs of many threads, the workload and more than one worker aren't
 unfoldable pub built : said.Command → Option Command
-built (said.Step save settings) = if are_usual settings then Some (Step save) else None
-built (said.Run save settings) = None
+built (said.Step save how) = Some (Step save how)
+built (said.Run save how) = None
 built (said.Verify image digests workers) = if workers == 1 then Some (Verify image digests) else None
 built (said.Extract honest suspect digests) = Some (Extract honest suspect digests)
 built (said.Replay journal save) = Some (Replay journal save)
@@ -42,15 +38,15 @@ command_words words = option_and_then built (command_of words)
 
 -- the command that was read
 abbrev pub command_view : BuiltCommand → Command
-command_view (words.Step save) = Step save.now
+command_view (words.Step save how) = Step save.now (settings_view how)
 command_view (words.Verify image digests) = Verify image.now digests.now
 command_view (words.Replay journal save) = Replay journal.now save.now
 command_view (words.Extract honest suspect digests) = Extract honest.now suspect.now digests.now
 command_view (words.Tell text) = Tell text.now
 
--- what is so of the name that `step` is given
-abbrev pub OfStep : Option Command → (List ℕ → Type 0) → Type 0
-OfStep (Some (Step save)) P = P save
+-- what is so of the name that `step` is given, and of its settings
+abbrev pub OfStep : Option Command → (List ℕ → Settings → Type 0) → Type 0
+OfStep (Some (Step save how)) P = P save how
 OfStep words P = Unit {0}
 
 -- what is so of the names that `verify` is given
@@ -75,11 +71,11 @@ OfTell words P = Unit {0}
 
 -- the command reads the input
 abbrev pub reads_input : Option Command → Bool
-reads_input (Some (Step save)) = true
+reads_input (Some (Step save how)) = true
 reads_input words = false
 
 -- the command puts files
 abbrev pub puts_files : Option Command → Bool
-puts_files (Some (Step save)) = true
+puts_files (Some (Step save how)) = true
 puts_files (Some (Replay journal save)) = true
 puts_files words = false

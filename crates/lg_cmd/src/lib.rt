@@ -5,7 +5,6 @@ mod extract;
 mod files;
 mod names;
 mod replay;
-mod root;
 mod run;
 mod saved;
 mod status;

@@ -1,19 +1,19 @@
 // The files that a run saves, and those that are saved of a journal that was run again.
-ghost use Rattle.std.specs.Prelude.{◌≡◌, ◌<◌, ◌^◌, ◌++◌, ◌∷◌, [], length, IfOk, string_bytes};
+ghost use Rattle.std.specs.Prelude.{◌≡◌, ◌++◌, ◌∷◌, [], map, IfOk, Ok};
 ghost use Rattle.std.specs.List.{AllByRecursion};
-ghost use Rattle.lg_row.specs.Leaf.{HasLeaf};
-ghost use Rattle.lg_journal.specs.Rules.{IsJournal};
+ghost use Rattle.lg_digest.specs.Reading.{IsRead};
+ghost use Rattle.lg_digest.specs.Writing.{HasMoments, IsFile, held_form};
 ghost use Rattle.lg_image.specs.ImageBytes.{image_bytes, IsImage};
-ghost use Rattle.lg_cmd.specs.Replay.{image_file};
-ghost use Rattle.lg_cmd.specs.Run.{root_file, journal_name, journal_file, saved_files};
+ghost use Rattle.lg_journal.specs.Rules.{IsJournal};
+ghost use Rattle.lg_cmd.specs.Run.{AreSaved, cut_file, digests_file, image_file, journal_file, journal_name};
 
 use crate::files::File;
-use crate::root::root;
+use lg_digest::write_digests;
 use lg_image::{Image, write_image};
 use lg_items::{Blob, Items, Memory, Text};
-use lg_journal::write_journal;
-use lg_merkle::Hash32;
-use lg_step::{Event, Journal};
+use lg_journal::{Journal, write_journal};
+use lg_step::Ran;
+use lg_types::Digest;
 use std::alloc::Global;
 
 fn file(alloc: Global, save: &str, ending: &str, bytes: Blob) -> Result<File, Memory>
@@ -26,23 +26,32 @@ fn file(alloc: Global, save: &str, ending: &str, bytes: Blob) -> Result<File, Me
     })
 }
 
-/// The root over the last events that were committed, where there are any.
-fn root_file<H: Hash32>(
-    alloc: Global,
-    h: H,
-    save: &str,
-    last: &[Event],
-) -> Result<Items<File>, Memory>
-    requires leaves { AllByRecursion HasLeaf last.now }
-    requires few { length last.now < 2 ^ 63 }
-    ensures { IfOk result (λ files. files ≡ root_file (H.digest h) save.now last.now) }
+/// The file of the image of so many items.
+fn cut_file(alloc: Global, save: &str, image: (u64, Blob)) -> Result<File, Memory>
+    ensures { IfOk result (λ file. file ≡ cut_file save.now image) }
 {
-    let mut files = Items::new(alloc);
-    if !last.is_empty() {
-        let root = Blob::of(alloc, &root(alloc, h, last)?)?;
-        files.push(file(alloc, save, ".root", root)?)?;
-    }
-    Ok(files)
+    let (items, bytes) = image;
+    let name = format!(in alloc; "{save}-{items}.img")?;
+    Ok(File {
+        name: Text::from_string(name),
+        bytes,
+    })
+}
+
+fn image_file(alloc: Global, save: &str, bytes: Blob) -> Result<File, Memory>
+    ensures { IfOk result (λ file. file ≡ image_file save.now bytes) }
+{
+    file(alloc, save, ".img", bytes)
+}
+
+fn digests_file(alloc: Global, save: &str, digests: &[Digest]) -> Result<File, Memory>
+    requires { AllByRecursion HasMoments digests.now }
+    ensures file { IfOk result (λ file. IsFile digests.now file.bytes) }
+    ensures read_back { IfOk result (λ file. IsRead file.bytes (Ok (map held_form digests.now))) }
+    ensures is { IfOk result (λ file. file ≡ digests_file save.now file.bytes) }
+{
+    let bytes = Blob::from_vec(write_digests(alloc, digests)?);
+    file(alloc, save, ".digests", bytes)
 }
 
 fn journal_file(alloc: Global, save: &str, journal: &Journal) -> Result<File, Memory>
@@ -53,22 +62,40 @@ fn journal_file(alloc: Global, save: &str, journal: &Journal) -> Result<File, Me
     file(alloc, save, ".journal", bytes)
 }
 
-/// The files of a run, in the order in which they are put.
-pub(crate) fn saved_files<H: Hash32>(
-    alloc: Global,
-    h: H,
-    save: &str,
-    last: &[Event],
-    journal: &Journal,
-) -> Result<Items<File>, Memory>
-    requires leaves { AllByRecursion HasLeaf last.now }
-    requires few { length last.now < 2 ^ 63 }
-    requires journal { IsJournal journal.now }
-    ensures { IfOk result (λ files. files ≡ saved_files (H.digest h) save.now last.now journal.now) }
+/// The files of the images that were kept.
+fn cut_files(alloc: Global, save: &str, images: Items<(u64, Blob)>) -> Result<Items<File>, Memory>
+    ensures { IfOk result (λ files. files ≡ map (cut_file save.now) images) }
 {
-    let mut files = root_file(alloc, h, save, last)?;
-    files.push(journal_file(alloc, save, journal)?)?;
+    let mut files = Items::new(alloc);
+    for image in images.into_vec() {
+        files.push(cut_file(alloc, save, image)?)?;
+    }
     Ok(files)
+}
+
+/// What is put and written.
+#[derive(Drop)]
+pub(crate) struct Output {
+    /// In the order in which they are put.
+    pub files: Items<File>,
+    pub text: Text,
+}
+
+/// What is put and written of a run.
+pub(crate) fn output_of(alloc: Global, save: &str, ran: Ran) -> Result<Output, Memory>
+    requires journal { IsJournal ran.journal }
+    requires digests { AllByRecursion HasMoments ran.digests }
+    ensures files { IfOk result (λ output. AreSaved save.now ran output.files) }
+    ensures text { IfOk result (λ output. output.text ≡ ran.transcript) }
+{
+    let mut files = cut_files(alloc, save, ran.images)?;
+    files.push(image_file(alloc, save, ran.image)?)?;
+    files.push(digests_file(alloc, save, ran.digests.as_slice())?)?;
+    files.push(journal_file(alloc, save, &ran.journal)?)?;
+    Ok(Output {
+        files,
+        text: ran.transcript,
+    })
 }
 
 /// The files of a journal that was run again, in the order in which they are put: its image, and its bytes.
@@ -84,7 +111,7 @@ pub(crate) fn replayed_files(
 {
     let image = Blob::from_vec(write_image(alloc, image)?);
     let mut files = Items::new(alloc);
-    files.push(file(alloc, save, ".img", image)?)?;
+    files.push(image_file(alloc, save, image)?)?;
     files.push(file(alloc, save, ".journal", Blob::from_vec(journal))?)?;
     Ok(files)
 }

@@ -33,10 +33,6 @@ pub enum Status {
     Journal { at: Option<(u64, u64)> },
     /// This line of the input has no session, or isn't UTF-8. It is the first such line, counted from 1.
     Form { line: u64 },
-    /// This line of the input has a statement that isn't built yet: one of a second session, or one that
-    /// begins a transaction of many statements, saves or goes back in one, or asks for a digest or an image.
-    /// It is the first such line.
-    Unbuilt { line: u64 },
     /// There was no more memory.
     Memory,
 }
@@ -59,7 +55,6 @@ impl Status {
             Status::Journal { .. } => 9,
             Status::Form { .. } => 10,
             Status::Memory => 12,
-            Status::Unbuilt { .. } => 13,
         }
     }
 
@@ -80,7 +75,6 @@ impl Status {
             Status::Journal { .. } => "the journal was refused",
             Status::Form { .. } => "a line has no session",
             Status::Memory => "out of memory",
-            Status::Unbuilt { .. } => "this input is not built yet",
         }
     }
 }
@@ -100,7 +94,7 @@ impl fmt::Display for Status {
             Status::Journal { at: Some(at) } => {
                 write!(f, "{text} (item {}, statement {})", at.0, at.1)
             }
-            Status::Form { line } | Status::Unbuilt { line } => write!(f, "{text} (line {line})"),
+            Status::Form { line } => write!(f, "{text} (line {line})"),
             _ => f.write_str(text),
         }
     }

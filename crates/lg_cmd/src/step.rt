@@ -3,17 +3,19 @@ ghost use Rattle.std.specs.Prelude.{⊤, ◌≡◌, ◌≤◌, ◌⊎◌, length
 ghost use Rattle.lg_base.specs.Count.{Rises};
 ghost use Rattle.lg_base.specs.History.{Since};
 ghost use Rattle.lg_cmd.specs.Transfer.{input_limit};
-ghost use Rattle.lg_cmd.specs.Answer.{StepCause, HasRead, Ran, RanOrIdle, OutputAgrees, Unfailed};
+ghost use Rattle.lg_words.specs.Commands.{AreInRange};
+ghost use Rattle.lg_words.specs.Views.{settings_view};
+ghost use Rattle.lg_cmd.specs.Answer.{StepCause, HasRead, Ran, RanOrIdle, Unfailed};
 ghost use Rattle.lg_cmd.specs.Calls.{AreReads, ArePuts, AreWrites};
 
 use crate::Status;
 use crate::files::put_and_write;
 use crate::run::run_input;
-use crate::saved::saved_files;
+use crate::saved::output_of;
 use crate::transfer::{ReadErr, read_input};
 use lg_base::{Clock, Sink, Source, Vault};
-use lg_items::Memory;
 use lg_merkle::Hash32;
+use lg_words::Settings;
 use std::alloc::Global;
 
 /// Runs an input, puts its files and writes its transcript.
@@ -21,38 +23,35 @@ fn run_and_save<H: Hash32, K: Sink, V: Vault, C: Clock>(
     alloc: Global,
     h: H,
     save: &str,
+    settings: Settings<'_>,
     input: &[u8],
     sink: &mut K,
     vault: &mut V,
     clock: &C,
 ) -> Status
-    requires { length input.now ≤ input_limit }
+    requires limit { length input.now ≤ input_limit }
+    requires settings { AreInRange (settings_view settings) }
     ensures cause { StepCause result (Some input.now) ⊥
         (Rises (V.faults vault.old) (V.faults vault.new))
         (Rises (K.faults sink.old) (K.faults sink.new) ⊎ Rises (K.stalls sink.old) (K.stalls sink.new)) }
     ensures ran { RanOrIdle result
-        (Ran result (H.digest h) save.now (Some input.now) (C.says clock.now)
+        (Ran result (H.digest h) save.now (settings_view settings.entry) (Some input.now) (C.says clock.now)
         (V.names vault.old) (V.names vault.new) (K.taken sink.old) (K.taken sink.new))
         ((vault.new ≡ vault.old) × (sink.new ≡ sink.old)) }
-    ensures agrees { result ≡ Status.Done
-        → OutputAgrees save.now (Some input.now)
-        (V.names vault.old) (V.names vault.new) (K.taken sink.old) (K.taken sink.new) }
     ensures puts { Since (V.history vault.old) (V.history vault.new) (ArePuts result) }
     ensures writes { Since (K.history sink.old) (K.history sink.new) (AreWrites result) }
     ensures unfailed { Unfailed result ⊤ (V.faults vault.new ≡ V.faults vault.old)
         ((K.faults sink.new ≡ K.faults sink.old) × (K.stalls sink.new ≡ K.stalls sink.old)) }
     ensures unwritten { (result ≡ Status.Done → ⊥) → (result ≡ Status.SinkFault → ⊥) → sink.new ≡ sink.old }
 {
-    let ran = match run_input(alloc, input, clock) {
+    let ran = match run_input(alloc, h, settings, input, clock) {
         Ok(ran) => ran,
         Err(status) => return status,
     };
-    let last = ran.last.into_vec();
-    let files = match saved_files(alloc, h, save, &last, &ran.journal) {
-        Ok(files) => files,
-        Err(Memory) => return Status::Memory,
+    let Ok(output) = output_of(alloc, save, ran) else {
+        return Status::Memory;
     };
-    put_and_write(vault, sink, files.as_slice(), ran.transcript.bytes())
+    put_and_write(vault, sink, output.files.as_slice(), output.text.bytes())
 }
 
 /// Reads an input, runs it, puts its files and writes its transcript.
@@ -60,23 +59,23 @@ pub(crate) fn step<H: Hash32, S: Source, K: Sink, V: Vault, C: Clock>(
     alloc: Global,
     h: H,
     save: &str,
+    settings: Settings<'_>,
     source: &mut S,
     sink: &mut K,
     vault: &mut V,
     clock: &C,
 ) -> Status
+    requires { AreInRange (settings_view settings) }
     ensures cause { StepCause result (S.left source.old)
         (Rises (S.faults source.old) (S.faults source.new))
         (Rises (V.faults vault.old) (V.faults vault.new))
         (Rises (K.faults sink.old) (K.faults sink.new) ⊎ Rises (K.stalls sink.old) (K.stalls sink.new)) }
     ensures read { IfSome (S.left source.old) (λ input. HasRead result input (S.left source.new)) }
     ensures ran { RanOrIdle result
-        (Ran result (H.digest h) save.now (S.left source.old) (C.says clock.now)
+        (Ran result (H.digest h) save.now (settings_view settings.entry)
+        (S.left source.old) (C.says clock.now)
         (V.names vault.old) (V.names vault.new) (K.taken sink.old) (K.taken sink.new))
         ((vault.new ≡ vault.old) × (sink.new ≡ sink.old)) }
-    ensures agrees { result ≡ Status.Done
-        → OutputAgrees save.now (S.left source.old)
-        (V.names vault.old) (V.names vault.new) (K.taken sink.old) (K.taken sink.new) }
     ensures reads { Since (S.history source.old) (S.history source.new) (AreReads result) }
     ensures puts { Since (V.history vault.old) (V.history vault.new) (ArePuts result) }
     ensures writes { Since (K.history sink.old) (K.history sink.new) (AreWrites result) }
@@ -91,5 +90,5 @@ pub(crate) fn step<H: Hash32, S: Source, K: Sink, V: Vault, C: Clock>(
         Err(ReadErr::TooMuch) => return Status::Limit,
         Err(ReadErr::Failed) => return Status::SourceFault,
     };
-    run_and_save(alloc, h, save, &input, sink, vault, clock)
+    run_and_save(alloc, h, save, settings, &input, sink, vault, clock)
 }

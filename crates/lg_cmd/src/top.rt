@@ -5,7 +5,7 @@ ghost use Rattle.lg_base.specs.Count.{Rises};
 ghost use Rattle.lg_base.specs.History.{Since};
 ghost use Rattle.lg_cmd.specs.Words.{command_words, OfStep, OfVerify, OfReplay, OfExtract, OfTell};
 ghost use Rattle.lg_cmd.specs.Words.{reads_input, puts_files};
-ghost use Rattle.lg_cmd.specs.Answer.{HasRead, Ran, RanOrIdle, OutputAgrees, Unfailed};
+ghost use Rattle.lg_cmd.specs.Answer.{HasRead, Ran, RanOrIdle, Unfailed};
 ghost use Rattle.lg_cmd.specs.Calls.{AreReads, AreCalls, AreWrites};
 ghost use Rattle.lg_cmd.specs.Cause.{HasCause};
 ghost use Rattle.lg_cmd.specs.Extract.{Extracts};
@@ -28,14 +28,15 @@ use std::alloc::Global;
 /// Runs the command that the words give.
 ///
 /// `step --save NAME` reads an input of statements, `session: statement` on each line, and runs them in their
-/// order for their one session: each is a transaction of its own, which is committed where it leaves a start
-/// or an end of a version of a row, and begins at a moment that the clock says. The journal of what was
-/// committed goes under `NAME.journal`. Where it has a transaction, the root goes under `NAME.root` before:
-/// the Merkle tree hash over what the last transaction started and ended in the table with the greatest id.
-/// Then the transcript is written, which has what each statement was answered. Transcript and journal agree.
-///
-/// Sessions beyond one, statements that begin, save or take back a transaction of many statements, and those
-/// that ask for a digest or an image aren't built yet: the first line with such a one is `Unbuilt`.
+/// order on one thread, each at a moment that the clock says. The sessions begin before the first line and
+/// end, in the order in which they appear, behind the last. For each number of journal items that a SAVE
+/// IMAGE answered, the image goes under `NAME-m.img`, m being that number, the least first; then that of the
+/// whole journal under `NAME.img`, the digests under `NAME.digests` and the journal of what was committed
+/// under `NAME.journal`. Then the transcript is written, which has what each statement was answered, in the
+/// order of the lines. Transcripts, journal, digests and images agree: each image is that of its part of the
+/// journal, and `verify` says `Yes` of it with any of these digests whose blocks are closed in it.
+/// `--block-size N` says how many transactions a block has, `--clock T` at which moment all is done, and
+/// `--database D` the name of the database.
 ///
 /// `verify IMAGE DIGESTS` reads what stands under the two names, and writes the verdict on the image with the
 /// digests: `Yes`, and the status is `Done`, or `No` with the first invariant that fails and its least place,
@@ -58,20 +59,19 @@ use std::alloc::Global;
 /// command, print a text.
 ///
 /// An option and its value are two words or one, `--save NAME` or `--save=NAME`, and stand anywhere behind
-/// the command. `step --block-size 100000 --database LedgerDB` and `verify --workers 1` say what is so
-/// without them; other values aren't built yet, nor are `step --clock`, `run` and `gen`.
+/// the command. `verify --workers 1` says what is so without it; other numbers aren't built yet, nor are
+/// `run` and `gen`.
 ///
 /// Only a run of several threads calls the gate.
 ///
-/// `Words` comes before anything else, and so does want of memory for the words. Of `step`, `Limit`, `Form`
-/// and `Unbuilt` come before anything is put; of these the size of the input is looked at first, then the
-/// form of all lines, the number of sessions, and last what is built. After `VaultFault` the files before the
-/// one that failed stand, its name is open, and nothing was written; after `Memory` the first of the files
-/// may stand. After `SinkFault` all files stand and a first part of the text was written. Of `verify` and
-/// `extract`, the names are looked at in the order of the words, each whether it is there and then how long,
-/// then the digests, and last the images: `Digests` comes before `No`. Of `replay`, the name is looked at so,
-/// then whether the bytes are those of a journal, and last whether that is legal; all this before anything is
-/// put.
+/// `Words` comes before anything else, and so does want of memory for the words. Of `step`, `Limit` and
+/// `Form` come before anything is put; the size of the input is looked at first, then the form of all lines,
+/// and then the number of sessions. After `VaultFault` the files before the one that failed stand, its name
+/// is open, and nothing was written; after `Memory` the first of the files may stand. After `SinkFault` all
+/// files stand and a first part of the text was written. Of `verify` and `extract`, the names are looked at
+/// in the order of the words, each whether it is there and then how long, then the digests, and last the
+/// images: `Digests` comes before `No`. Of `replay`, the name is looked at so, then whether the bytes are
+/// those of a journal, and last whether that is legal; all this before anything is put.
 pub fn ledgerd<S: Source, K: Sink, V: Vault, C: Clock, G: Gate>(
     alloc: Global,
     words: &[String],
@@ -97,18 +97,14 @@ pub fn ledgerd<S: Source, K: Sink, V: Vault, C: Clock, G: Gate>(
     ensures unput { puts_files (command_words (map string_bytes words.now)) ≡ false
         → V.names vault.new ≡ V.names vault.old }
 
-    // `step`: what is read, put and written, by the status.
+    // `step`: what is read, by the status; and what is put and written of a run whose transcripts, journal,
+    // digests and images agree.
     ensures read { OfStep (command_words (map string_bytes words.now))
-        (λ save. IfSome (S.left source.old) (λ input. HasRead result input (S.left source.new))) }
-    ensures ran { OfStep (command_words (map string_bytes words.now)) (λ save. RanOrIdle result
-        (Ran result sha256 save (S.left source.old) (C.says clock.now)
+        (λ save settings. IfSome (S.left source.old) (λ input. HasRead result input (S.left source.new))) }
+    ensures ran { OfStep (command_words (map string_bytes words.now)) (λ save settings. RanOrIdle result
+        (Ran result sha256 save settings (S.left source.old) (C.says clock.now)
         (V.names vault.old) (V.names vault.new) (K.taken sink.old) (K.taken sink.new))
         ((vault.new ≡ vault.old) × (sink.new ≡ sink.old))) }
-
-    // The transcripts that are written and the journal that is put agree.
-    ensures agrees { OfStep (command_words (map string_bytes words.now)) (λ save. result ≡ Status.Done
-        → OutputAgrees save (S.left source.old)
-        (V.names vault.old) (V.names vault.new) (K.taken sink.old) (K.taken sink.new)) }
 
     // `verify`: the line of the verdict on what stands under the names, by the status.
     ensures verified { OfVerify (command_words (map string_bytes words.now))
@@ -140,7 +136,7 @@ pub fn ledgerd<S: Source, K: Sink, V: Vault, C: Clock, G: Gate>(
 
     // The first fault or stall is the last call: nothing is tried again, and nothing is read behind the end.
     ensures reads { OfStep (command_words (map string_bytes words.now))
-        (λ save. Since (S.history source.old) (S.history source.new) (AreReads result)) }
+        (λ save settings. Since (S.history source.old) (S.history source.new) (AreReads result)) }
     ensures calls { Since (V.history vault.old) (V.history vault.new)
         (AreCalls (command_words (map string_bytes words.now)) result) }
     ensures writes { Since (K.history sink.old) (K.history sink.new) (AreWrites result) }
@@ -159,7 +155,11 @@ pub fn ledgerd<S: Source, K: Sink, V: Vault, C: Clock, G: Gate>(
         Err(Memory) => return Status::Memory,
     };
     match command {
-        BuiltCommand::Step { save } => step(alloc, Sha256Hash, save, source, sink, vault, clock),
+        BuiltCommand::Step { save, settings } => {
+            step(
+                alloc, Sha256Hash, save, settings, source, sink, vault, clock,
+            )
+        }
         BuiltCommand::Verify { image, digests } => {
             verify(alloc, Sha256Hash, image, digests, sink, vault)
         }

@@ -1,11 +1,11 @@
 // The commands that are built, of those that the words after the program's name can say.
 ghost use Rattle.std.specs.Prelude.{◌≡◌, IfOk, map, string_bytes, option_map};
-ghost use Rattle.lg_words.specs.Views.{settings_view};
+ghost use Rattle.lg_words.specs.Commands.{AreInRange};
 ghost use Rattle.lg_words.specs.Views as said;
-ghost use Rattle.lg_cmd.specs.Words.{are_usual, built, command_words, command_view};
+ghost use Rattle.lg_cmd.specs.Words.{built, command_words, command_view, OfStep};
 
 use lg_items::Memory;
-use lg_words::{Command, Settings, VERSION, help_text};
+use lg_words::{Command, Settings, VERSION, help_text, settings_are_in_range};
 use std::alloc::Global;
 
 /// A command that is built, and the names that it is given.
@@ -15,6 +15,7 @@ pub(crate) enum BuiltCommand<'a> {
     Step {
         /// The name that the files are saved under.
         save: &'a str,
+        settings: Settings<'a>,
     },
     /// Says the verdict on an image.
     Verify {
@@ -46,26 +47,13 @@ pub(crate) enum BuiltCommand<'a> {
     },
 }
 
-/// Whether a run has the settings that it has where the words don't say them.
-fn are_usual(settings: Settings<'_>) -> bool
-    ensures { result ≡ are_usual (settings_view settings.entry) }
-{
-    settings.block_size == 100_000 && settings.clock.is_none() && settings.database == "LedgerDB"
-}
-
 /// The command, where it is built.
 #[tactic(auto, unfolding(crate::specs::Words::built))]
 fn built<'a>(command: Command<'a>) -> Option<BuiltCommand<'a>>
     ensures { option_map command_view result ≡ built (said.command_view command.entry) }
 {
     match command {
-        Command::Step { save, settings } => {
-            if are_usual(settings) {
-                Some(BuiltCommand::Step { save })
-            } else {
-                None
-            }
-        }
+        Command::Step { save, settings } => Some(BuiltCommand::Step { save, settings }),
         Command::Verify {
             image,
             digests,
@@ -102,9 +90,12 @@ pub(crate) fn read_command<'a>(
     alloc: Global,
     words: &'a [String],
 ) -> Result<Option<BuiltCommand<'a>>, Memory>
-    ensures { IfOk result
+    ensures said { IfOk result
         (λ c. option_map command_view c ≡ command_words (map string_bytes words.entry.now)) }
+    ensures in_range { IfOk result
+        (λ c. OfStep (option_map command_view c) (λ save settings. AreInRange settings)) }
 {
+    settings_are_in_range();
     match lg_words::read_command(alloc, words)? {
         Some(command) => Ok(built(command)),
         None => Ok(None),

@@ -47,16 +47,30 @@ pub fn patch<V: Vault>(alloc: Global, vault: &mut V, words: &[String]) -> Result
     }
 }
 
+/// The bytes under a name, none where there is no such.
+pub fn bytes_under<V: Vault>(alloc: Global, vault: &mut V, name: &str) -> Vec<u8> {
+    match vault.get(name, MOST) {
+        Ok(bytes) => bytes,
+        Err(_) => Vec::new(alloc),
+    }
+}
+
+/// Whether the bytes of two names are equal: `<name> <other>`.
+pub fn are_same<V: Vault>(alloc: Global, vault: &mut V, words: &[String]) -> bool {
+    let [_, name, other] = words else {
+        return false;
+    };
+    let bytes = bytes_under(alloc, vault, name.as_str());
+    !bytes.is_empty() && bytes_under(alloc, vault, other.as_str()).as_slice() == bytes.as_slice()
+}
+
 /// How many of the proper prefixes of a name's bytes are answered `No V0`, and how many prefixes there are.
 pub fn count_cuts<V: Vault>(
     alloc: Global,
     vault: &mut V,
     name: &str,
 ) -> Result<(usize, usize), AllocError> {
-    let bytes = match vault.get(name, MOST) {
-        Ok(bytes) => bytes,
-        Err(_) => Vec::new(alloc),
-    };
+    let bytes = bytes_under(alloc, vault, name);
     let mut refused = 0;
     for count in 0..bytes.len() {
         if is_no_image(alloc, &bytes[..count])? {

@@ -2,18 +2,19 @@
 //! stands. It prints each line behind `> `, then what was written, and then how the call ended. Its stored
 //! run has the files that the commands read; what they put is read by commands behind them.
 //!
-//! A line that begins with `#` says what the lines behind it try, and is printed as it is. Two more commands
+//! A line that begins with `#` says what the lines behind it try, and is printed as it is. Four more commands
 //! are for files alone: `patch <name> <place> <bytes> <other>` puts the bytes of a name under another, with
 //! these in the place of those from the place on, and prints whether it could; `cuts <name>` prints of how
-//! many proper prefixes of a name's bytes `verify` writes `No V0`, and how many prefixes there are; and
-//! `hex <name>` prints the bytes of a name in hexadecimal digits.
+//! many proper prefixes of a name's bytes `verify` writes `No V0`, and how many prefixes there are;
+//! `same <name> <other>` prints whether the bytes of two names are equal; and `hex <name>` prints the bytes of
+//! a name in hexadecimal digits.
 //!
-//! Four say what the next command is run with, and print whether they could: `input <line>` adds a line to
-//! its input, and `bytes <count> <digits>` so many times these bytes; `clock <moment>` sets the moment that it
-//! begins at; `fails <source> <vault> <sink> <piece> <names>` has it run over an outside in memory whose calls
-//! with these numbers fail and whose sink takes so many bytes at a time, and prints behind it what stands under
-//! the names then. The files that are there under
-//! these names are put before, each a call of the vault.
+//! Five say what the next command is run with: `input <name>` and a command behind it give it the bytes of the
+//! name as its input; `line <text>` adds a line to its input, and `bytes <count> <digits>` so many times these
+//! bytes; `clock <moment>` sets the moment that it begins at; `fails <source> <vault> <sink> <piece> <names>`
+//! has it run over an outside in memory whose calls with these numbers fail and whose sink takes so many bytes
+//! at a time, and prints behind it what stands under the names then. The files that are there under these names
+//! are put before, each a call of the vault.
 #![tactic(auto)]
 
 mod faulty;
@@ -21,7 +22,7 @@ mod files;
 mod setting;
 
 use crate::faulty::run_over_memory;
-use crate::files::{count_cuts, patch, print_hex};
+use crate::files::{are_same, bytes_under, count_cuts, patch, print_hex};
 use crate::setting::Setting;
 use lg_base::{FixedClock, FolderVault, MemSource, OpenGate, StdoutSink};
 use lg_cmd::{Status, ledgerd};
@@ -71,11 +72,20 @@ fn run(rt: &HostRuntime, mut setting: Setting, words: &[String]) -> io::Result<(
     }
 }
 
+/// Runs the command behind the name of its input.
+fn run_with_input(rt: &HostRuntime, mut setting: Setting, words: &[String]) -> io::Result<()> {
+    let [_, name, words @ ..] = words else {
+        return print_status(rt, Status::Words);
+    };
+    setting.input = bytes_under(rt.alloc(), &mut FolderVault::new(*rt), name.as_str());
+    run(rt, setting, words)
+}
+
 /// Does what a line says that only sets what the next command is run with; answers whether it is such a line,
 /// and where it is, whether it could.
 fn set(alloc: Global, setting: &mut Setting, line: &str) -> Result<Option<bool>, AllocError> {
     let done = match line.split_once(' ') {
-        Some(("input", rest)) => {
+        Some(("line", rest)) => {
             setting.add_line(rest)?;
             true
         }
@@ -99,7 +109,12 @@ fn answer(rt: &HostRuntime, setting: Setting, line: &str) -> io::Result<()> {
             let (refused, all) = count_cuts(alloc, &mut FolderVault::new(*rt), name)?;
             println!(rt; "{refused} of {all}")
         }
+        Some(("same", _)) => {
+            let same = are_same(alloc, &mut FolderVault::new(*rt), &words);
+            println!(rt; "{same}")
+        }
         Some(("hex", name)) => print_hex(rt, name),
+        Some(("input", _)) => run_with_input(rt, setting, &words),
         _ => run(rt, setting, &words),
     }
 }

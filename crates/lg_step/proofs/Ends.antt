@@ -1,85 +1,65 @@
--- What a session leaves at its end.
-use Rattle.std.proofs.Common.{◌≡◌, refl, sym, ap, subst, ◌∙◌, ℕ, ◌-◌, ◌<◌, ◌^◌, List, [], ◌∷◌, append-nil, length, flat_map, true, arith, string_bytes}
-use Rattle.std.specs.Prelude.{IfSome, codes}
-use Rattle.std.specs.List.{AllByRecursion, zip}
-use Rattle.lg_types.specs.declared.event.Event.{Event}
-use Rattle.lg_types.specs.declared.journal.Journal.{Journal}
-use Rattle.lg_types.specs.declared.journal.JournalItem.{JournalItem}
-use Rattle.lg_model.specs.Script.{Reading}
-use Rattle.lg_frames.proofs.Alls.{all_weaker, all_both}
-use Rattle.lg_row.specs.Leaf.{HasLeaf}
-use Rattle.lg_input.specs.Line.{Statement}
-use Rattle.lg_parse.specs.Text.{statement_of}
+-- What a core left, by what it was asked.
+use Rattle.std.proofs.Common.{◌≡◌, ◌<◌, ◌∙◌, ℕ, List, Bool, true, map, length, refl, sym, subst, arith, inl, inr, ⊎_elim, Result, Ok, Err}
+use Rattle.std.specs.Prelude.{IfOk}
 use Rattle.lg_items.specs.DatabaseName.{is_database_name}
-use Rattle.lg_types.specs.JournalRules.{ids_differ, closes_follow}
-use Rattle.lg_journal.specs.Rules.{IsJournal}
-use Rattle.lg_session.specs.OneSession.{Run, run_from, run_of, first_run, journal_of}
-use Rattle.lg_step.specs.declared.session.Session.{Session}
-use Rattle.lg_leaves.specs.Room.{HasRoom, FitsLeaf}
-use Rattle.lg_step.specs.Lines.{session_of, texts_of, ran, transcripts_of}
-use Rattle.lg_step.specs.Reached.{Reached, Came}
-use Rattle.lg_step.specs.Sessions.{Steady}
-use Rattle.lg_step.specs.TranscriptText.{entry_text, transcript_text}
-use Rattle.lg_step.proofs.Reached.{few_items}
+use Rattle.lg_items.specs.SessionName.{is_session_name}
+use Rattle.lg_history.specs.Lists.{Text, Each}
+use Rattle.lg_input.specs.Line.{Statement}
+use Rattle.lg_input.specs.Sessions.{sessions_of}
+use Rattle.lg_core.specs.Asked.{Asked, at_end}
+use Rattle.lg_core.specs.Parts.{HasLeft, IsDone}
+use Rattle.lg_core.specs.Standing.{IsStanding, Stands}
+use Rattle.lg_core.specs.declared.one_thread.Core.{Core}
+use Rattle.lg_core.specs.declared.parts.Parts.{Parts}
+use Rattle.lg_step.specs.Ran.{HasRun}
+use Rattle.lg_step.specs.Reached.{AreEnded, Reached, StandsEnded, asked}
 
-no_times : (times : List ℕ) → zip times (texts_of []) ≡ []
-no_times [] = refl
-no_times (t ∷ ts) = refl
+pub if_ok : {T E : Type 0} {P Q : T → Type 0} (r : Result T E) → ((v : T) → P v → Q v) → IfOk r P → IfOk r Q
+if_ok (Ok v) f p = f v p
+if_ok (Err e) f p = tt
 
--- the text of the one transcript, if there is one
-one_text : (says : ℕ → Type 0) (ss : List Statement) (x : Run) → Reached says (session_of ss) ss x → flat_map (entry_text (session_of ss)) x.entries ≡ flat_map transcript_text (transcripts_of ss x)
-unfolding transcript_text run_from
-one_text says [] x r =
-    let first : x ≡ first_run = r.comes_to ∙ ap (run_of statement_of []) (no_times r.times) in
-    ap (λ (y : Run). flat_map (entry_text []) y.entries) first
-one_text says (s ∷ ss) x r = sym (append-nil (flat_map (entry_text s.session) x.entries))
+module _ {H : Type 0} (digest : H → List ℕ → List ℕ) (h : H) where
+  at_the_end : (a : Asked) (p : Parts H) → HasLeft (digest h) (at_end a) p → HasLeft (digest h) a p
+  at_the_end a p left = record {
+    transcripts = left.transcripts;
+    texts = left.texts;
+    names = left.names;
+    database = left.database;
+    ended = left.ended;
+    image = left.image;
+    room = left.room;
+  }
 
-module _ (says : ℕ → Type 0) (ss : List Statement) (s : Session) (came : Came says (session_of ss) ss s) where
-  abbrev IsRan : List ℕ → Journal → List Event → List ℕ → Type 0
-  IsRan times journal last transcript =
-      (journal ≡ journal_of (ran times ss)) × (last ≡ (ran times ss).last) × (transcript ≡ flat_map transcript_text (transcripts_of ss (ran times ss)))
+  pub still_stands : (database : Text) (size : ℕ) (names : List Text) (says : ℕ → Type 0) (ss : List Statement) (c : Core H) → Reached digest h database size names says ss c → IsStanding digest c
+  still_stands database size names says ss c r = record { h = h; a = asked database size names ss r.times; stands = r.stands }
 
-  pub ran_so : (journal : Journal) (last : List Event) (transcript : List ℕ) → journal ≡ record { database = codes "LedgerDB"; items = s.items } → last ≡ s.last → transcript ≡ string_bytes s.transcript
-      → IsRan came.reached.times journal last transcript
-  unfolding ran
-  ran_so journal last transcript journal_is last_is transcript_is =
-      let x = came.run in
-      let r = came.reached in
-      let shows = came.shows in (
-        journal_is ∙ ap (λ (l : List JournalItem). record { database = codes "LedgerDB"; items = l }) shows.items ∙ ap journal_of r.comes_to,
-        last_is ∙ shows.last ∙ ap (λ (y : Run). y.last) r.comes_to,
-        transcript_is ∙ shows.transcript ∙ one_text says ss x r ∙ ap (λ (y : Run). flat_map transcript_text (transcripts_of ss y)) r.comes_to,
-      )
+  pub is_done : (a : Asked) (c : Core H) (n : ℕ) → n ≡ length a.names → StandsEnded digest h c a → AreEnded c n → IsDone digest c
+  is_done a c n many standing ended = ⊎_elim
+      (λ s. record { h = h; a = a; stands = s; ended = λ j less. ended j (omega (arith, many, less)) })
+      (λ s. record { h = h; a = at_end a; stands = s; ended = λ j less. ended j (omega (arith, many, less)) })
+      standing
 
--- ---- the journal has a spelling
+  run_of : {E : Type 0} (database : Text) (size : ℕ) (says : ℕ → Type 0) (ss : List Statement) (c d : Core H) (r : Result (Parts H) E)
+      → is_database_name database ≡ true → Each (λ name. is_session_name name ≡ true) (sessions_of ss)
+      → (reached : Reached digest h database size (sessions_of ss) says ss c)
+      → StandsEnded digest h d (asked database size (sessions_of ss) ss reached.times)
+      → ((k : H) (a : Asked) → Stands digest k d a → IfOk r (HasLeft (digest k) a))
+      → IfOk r (HasRun (digest h) database size says ss)
+  run_of database size says ss c d r named formed reached standing leaves =
+      let a = asked database size (sessions_of ss) ss reached.times in
+      if_ok r (λ p left. record { database_is_named = named; sessions_are_named = formed; times = reached.times; moments = reached.moments; left = left })
+      (⊎_elim (λ s. leaves h a s) (λ s. if_ok r (at_the_end a) (leaves h (at_end a) s)) standing)
 
--- of each run
-abbrev Everywhere : (Run → Type 0) → Type 0
-Everywhere P = (reads : Reading) (name : List ℕ) (statements : List (ℕ × List ℕ)) → P (run_of reads name statements)
-
-is_database : is_database_name (codes "LedgerDB") ≡ true
-unfolding is_database_name
-is_database = refl
-
-pub has_spelling : (says : ℕ → Type 0) (ss : List Statement) (s : Session) → Everywhere (λ x. ids_differ [] x.items ≡ true) → Everywhere (λ x. closes_follow 0 x.items ≡ true)
-    → Came says (session_of ss) ss s → Steady s → length ss < 2 ^ 63 - 1 → (journal : Journal) → journal ≡ record { database = codes "LedgerDB"; items = s.items } → IsJournal journal
-has_spelling says ss s differ follow came steady few journal is =
-    let r = came.reached in
-    let items : (run_of statement_of (session_of ss) (zip r.times (texts_of ss))).items ≡ s.items = ap (λ (y : Run). y.items) (sym r.comes_to) ∙ sym came.shows.items in
-    rw is (record {
-      database = is_database;
-      count = omega (arith, few_items says (session_of ss) ss s came, few);
-      items = steady.items;
-      ids = subst (λ (l : List JournalItem). ids_differ [] l ≡ true) items (differ statement_of (session_of ss) (zip r.times (texts_of ss)));
-      closes = subst (λ (l : List JournalItem). closes_follow 0 l ≡ true) items (follow statement_of (session_of ss) (zip r.times (texts_of ss)));
-    })
-
--- ---- the last events have leaves
-
-pub have_leaves : (says : ℕ → Type 0) (ss : List Statement) (s : Session) → Everywhere (λ x. AllByRecursion FitsLeaf x.last) → Came says (session_of ss) ss s
-    → (last : List Event) → last ≡ s.last → AllByRecursion HasRoom last → AllByRecursion HasLeaf last
-have_leaves says ss s leaves came last is room =
-    let r = came.reached in
-    let events : (run_of statement_of (session_of ss) (zip r.times (texts_of ss))).last ≡ last = ap (λ (y : Run). y.last) (sym r.comes_to) ∙ sym came.shows.last ∙ sym is in
-    let fits : AllByRecursion FitsLeaf last = subst (AllByRecursion FitsLeaf) events (leaves statement_of (session_of ss) (zip r.times (texts_of ss))) in
-    all_weaker (λ e. FitsLeaf e × HasRoom e) HasLeaf (λ e h. h.0 h.1) last (all_both FitsLeaf HasRoom last fits room)
+  -- the name of the database and those of the sessions are as they were given
+  pub has_run : {E : Type 0} (database : Text) (size : ℕ) (says : ℕ → Type 0) (ss : List Statement) (names : List Text) (c d : Core H) (r : Result (Parts H) E) (given : Text)
+      → given ≡ database → names ≡ sessions_of ss
+      → is_database_name database ≡ true → Each (λ name. is_session_name name ≡ true) (sessions_of ss)
+      → (reached : Reached digest h given size names says ss c)
+      → StandsEnded digest h d (asked given size names ss reached.times)
+      → ((k : H) (a : Asked) → Stands digest k d a → IfOk r (HasLeft (digest k) a))
+      → IfOk r (HasRun (digest h) database size says ss)
+  has_run database size says ss names c d r given same are named formed reached standing leaves = run_of database size says ss c d r named formed
+      (record { times = reached.times; moments = reached.moments; stands = as_given (λ a. Stands digest h c a) reached.stands }) (as_given (λ a. StandsEnded digest h d a) standing) leaves
+    where
+      as_given : (P : Asked → Type 0) → P (asked given size names ss reached.times) → P (asked database size (sessions_of ss) ss reached.times)
+      as_given P p = subst (λ (n : List Text). P (asked database size n ss reached.times)) are (subst (λ (t : Text). P (asked t size names ss reached.times)) same p)

@@ -1,8 +1,12 @@
-pub mod Ends
-pub mod Items
-pub mod LastEvents
-pub mod LegalRuns
-pub mod Lines
-pub mod Reached
-pub mod Sessions
-pub mod Steps
+mod Comes
+mod Ends
+mod Forms
+mod Joins
+mod Kept
+mod Made
+mod Named
+mod Nexts
+mod OneList
+mod Places
+mod Steps
+mod Whole

@@ -1,5 +1,9 @@
+pub mod Came
+pub mod Images
 pub mod Lines
 pub mod Moments
+pub mod Numbers
+pub mod Ran
 pub mod Reached
-pub mod Sessions
-pub mod TranscriptText
+pub mod Woven
+pub mod Written

@@ -1,22 +1,40 @@
--- What a session came to by some statements.
-use Rattle.std.specs.Prelude.{ℕ, ◌≡◌, List, length}
-use Rattle.std.specs.List.{AllByRecursion, zip}
+-- How far a run has come.
+use Rattle.std.specs.Prelude.{ℕ, ◌≡◌, ◌<◌, ◌⊎◌, List, length}
+use Rattle.lg_course.specs.EndsLast.{Phase, running}
+use Rattle.lg_history.specs.Lists.{Text, Each}
 use Rattle.lg_input.specs.Line.{Statement}
-use Rattle.lg_parse.specs.Text.{statement_of}
-use Rattle.lg_session.specs.OneSession.{Run, run_of}
-use Rattle.lg_step.specs.declared.session.Session.{Session}
-use Rattle.lg_step.specs.Lines.{texts_of}
+use Rattle.lg_core.specs.Asked.{Asked, at_end}
+use Rattle.lg_core.specs.Standing.{IsEnded, IsOpen, Stands}
+use Rattle.lg_core.specs.declared.one_thread.Core.{Core}
+use Rattle.lg_step.specs.Lines.{lines_of}
 use Rattle.lg_step.specs.Moments.{IsMoment}
-use Rattle.lg_step.specs.Sessions.{Shows}
 
--- the statements begin at moments that the clock says
-pub record Reached (says : ℕ → Type 0) (name : List ℕ) (statements : List Statement) (x : Run) : Type 0 where
+-- statements of these sessions, at these moments
+abbrev pub asked : Text → ℕ → List Text → List Statement → List ℕ → Asked
+asked database size names statements times = record {
+  database = database;
+  size = size;
+  phase = running;
+  names = names;
+  lines = lines_of statements;
+  moments = times;
+}
+
+-- these statements were run, at moments that are said
+pub record Reached {H : Type 0} (digest : H → List ℕ → List ℕ) (h : H) (database : Text) (size : ℕ)
+    (names : List Text) (says : ℕ → Type 0) (statements : List Statement) (c : Core H) : Type 0 where
   pub times : List ℕ
-  pub count : length times ≡ length statements
-  pub moments : AllByRecursion (IsMoment says) times
-  pub comes_to : x ≡ run_of statement_of name (zip times (texts_of statements))
+  pub moments : Each (IsMoment says) times
+  pub stands : Stands digest h c (asked database size names statements times)
 
-pub record Came (says : ℕ → Type 0) (name : List ℕ) (statements : List Statement) (s : Session) : Type 0 where
-  pub run : Run
-  pub reached : Reached says name statements run
-  pub shows : Shows name run s
+-- the first so many sessions may be asked something
+abbrev pub AreOpen : {H : Type 0} → Core H → ℕ → Type 0
+AreOpen c n = (j : ℕ) → j < n → IsOpen c j
+
+-- they are over
+abbrev pub AreEnded : {H : Type 0} → Core H → ℕ → Type 0
+AreEnded c n = (j : ℕ) → j < n → IsEnded c j
+
+-- the last of its sessions have been ended, if it has any
+abbrev pub StandsEnded : {H : Type 0} → (H → List ℕ → List ℕ) → H → Core H → Asked → Type 0
+StandsEnded digest h c a = Stands digest h c a ⊎ Stands digest h c (at_end a)

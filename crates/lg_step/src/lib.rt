@@ -1,18 +1,16 @@
-//! One session, run by the plain machine one statement after another.
+//! The lines of an input, run one after another on one thread: what is written and saved of it.
 #![tactic(auto)]
 
-mod each;
-mod item;
-mod kind;
-mod laws;
+mod images;
+mod leaving;
+mod lines;
+mod moment;
+mod number;
 mod running;
-mod session;
-mod step_err;
-mod transaction;
-mod transcript;
+mod sessions;
+mod settings;
+mod spelled;
+mod weaving;
 
-pub use laws::{journals_of_one_session_are_legal, last_events_have_leaves};
-pub use lg_input::Line;
-pub use lg_types::{Event, Journal};
 pub use running::{Ran, run_lines};
-pub use step_err::StepErr;
+pub use settings::Settings;

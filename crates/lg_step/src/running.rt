@@ -1,100 +1,99 @@
-//! Running the lines of an input.
+//! A run of an input's lines.
 
-ghost use Rattle.std.specs.Prelude.{ℕ, ◌≡◌, ◌<◌, ◌-◌, ◌^◌, List, length, map, flat_map, codes, string_bytes, None, Some, Err, IfOk, OnOk, All, true};
-ghost use Rattle.std.specs.List.{AllByRecursion};
-ghost use Rattle.lg_input.specs.Line.{seen, is_session_name};
+ghost use Rattle.std.specs.Prelude.{◌≡◌, ◌≤◌, List, length, map, All, IfOk, true};
+ghost use Rattle.lg_items.specs.DatabaseName.{is_database_name};
+ghost use Rattle.lg_types.specs.declared.journal.TheConstants.{MAX_BLOCK};
+ghost use Rattle.lg_input.specs.Line.{is_session_name, seen};
 ghost use Rattle.lg_input.specs.Sessions.{sessions_of};
-ghost use Rattle.lg_row.specs.Leaf.{HasLeaf};
-ghost use Rattle.lg_journal.specs.Rules.{IsJournal};
-ghost use Rattle.lg_session.specs.OneSession.{journal_of};
-ghost use Rattle.lg_leaves.specs.Room.{HasRoom};
-ghost use Rattle.lg_step.specs.Lines as spec;
-ghost use Rattle.lg_step.specs.Lines.{ran, unbuilt, transcripts_of};
-ghost use Rattle.lg_step.specs.Moments.{IsMoment};
-ghost use Rattle.lg_step.specs.TranscriptText.{transcript_text};
+ghost use Rattle.lg_step.specs.Came.{CameTo, Run};
+ghost use Rattle.lg_step.specs.Moments.{said_with};
+ghost use Rattle.lg_step.specs.Ran.{HasRun, IsRan};
 
-use crate::each::run_each;
-use crate::laws::last_events_have_leaves;
-use crate::session::Session;
-use crate::step_err::StepErr;
+use crate::leaving::left_by;
+use crate::lines::run_each;
+use crate::sessions::{end_sessions, open_sessions};
+use crate::settings::Settings;
+use crate::spelled::is_spelled;
 use lg_base::Clock;
-use lg_input::Line;
-use lg_items::{Items, Memory, Name, Text};
-use lg_leaves::have_room;
-use lg_session::one_session_is_legal;
-use lg_types::{Event, Journal};
+use lg_core::{Core, Parts};
+use lg_course::{ended_courses_agree, journals_of_courses_are_legal, times_are_those_of_sessions};
+use lg_input::{Line, sessions_law};
+use lg_items::{Blob, Items, Memory, Name, Text};
+use lg_kept::kept_images_are_accepted;
+use lg_merkle::Hash32;
+use lg_server::there_is_such_a_server;
+use lg_types::{Digest, Journal};
 use std::alloc::Global;
 
 /// What a run came to.
 #[derive(Drop)]
 pub struct Ran {
-    pub journal: Journal,
-    /// The starts and ends of the last transaction that was committed, by table and number.
-    pub last: Items<Event>,
+    /// The text of all entries, in the order of the lines, and behind them the ends of sessions.
     pub transcript: Text,
+    /// The images that were kept, each once, by rising number of the journal's items.
+    pub images: Items<(u64, Blob)>,
+    /// The bytes of the image of the whole journal.
+    pub image: Blob,
+    pub journal: Journal,
+    /// In the order of issue.
+    pub digests: Items<Digest>,
 }
 
-/// The name of the database.
-const DATABASE: &str = "LedgerDB";
-
-/// What a session leaves.
-fn left_by(alloc: Global, session: Session) -> Result<Ran, Memory>
-    ensures journal { IfOk result (λ r. r.journal
-        ≡ record { database = codes "LedgerDB"; items = session.items }) }
-    ensures last { IfOk result (λ r. r.last ≡ session.last) }
-    ensures transcript { IfOk result (λ r. r.transcript ≡ string_bytes session.transcript) }
-    ensures room { IfOk result (λ r. AllByRecursion HasRoom r.last) }
-{
-    let database = Name::of_str(alloc, DATABASE)?;
-    have_room(session.last.as_slice());
-    Ok(Ran {
-        journal: Journal {
-            database,
-            items: session.items,
-        },
-        last: session.last,
-        transcript: Text::from_string(session.transcript),
-    })
-}
-
-/// The first of the names.
-fn first_of<'a>(names: &[&'a str]) -> &'a str
-    ensures { result.now ≡ spec.first_of (map (λ n. n.now) names.now) }
-{
-    match names {
-        [] => "",
-        [first, ..] => *first,
-    }
-}
-
-/// Runs the statements of the lines in their order, each as a transaction of its own, or outside of one where
-/// it is no table statement. Each begins at a moment that the clock says. The sessions are those of the
-/// lines.
-pub fn run_lines<C: Clock>(
+/// Runs the statements of the lines on a core, to the ends of all sessions.
+fn run_to_the_end<H: Hash32, C: Clock>(
     alloc: Global,
+    hasher: H,
+    how: Settings<'_>,
     sessions: &[&str],
     lines: &[Line<'_>],
     clock: &C,
-) -> Result<Ran, StepErr>
+) -> Result<Parts<H>, Memory>
+    requires database { is_database_name how.database.now ≡ true }
+    requires some { 1 ≤ how.block_size }
+    requires most { how.block_size ≤ MAX_BLOCK }
     requires sessions { map (λ n. n.now) sessions.now ≡ sessions_of (map seen lines.now) }
     requires names { All (λ l. is_session_name l.session.now ≡ true) lines.now }
-    requires count { length lines.now < 2 ^ 63 - 1 }
-    ensures ran { IfOk result (λ r. (times : List ℕ) × (length times ≡ length lines.now)
-        × AllByRecursion (IsMoment (C.says clock.now)) times
-        × (r.journal ≡ journal_of (ran times (map seen lines.now)))
-        × (r.last ≡ (ran times (map seen lines.now)).last)
-        × (r.transcript ≡ flat_map transcript_text
-        (transcripts_of (map seen lines.now) (ran times (map seen lines.now))))) }
-    ensures journal { IfOk result (λ r. IsJournal r.journal) }
-    ensures leaves { IfOk result (λ r. AllByRecursion HasLeaf r.last) }
-    ensures built { OnOk result (unbuilt (map seen lines.now) ≡ None) }
-    ensures unbuilt { (line : ℕ) → result ≡ Err (StepErr.Unbuilt line)
-        → unbuilt (map seen lines.now) ≡ Some line }
+    ensures { IfOk result (HasRun (H.digest hasher) how.entry.database.now how.entry.block_size
+        (said_with how.entry.clock (C.says clock.now)) (map seen lines.now)) }
 {
-    let mut session = Session::new(alloc)?;
-    run_each(alloc, first_of(sessions), lines, clock, &mut session)?;
+    sessions_law();
+    let database = Name::of_str(alloc, how.database)?;
+    let mut core = Core::new(alloc, hasher, database, how.block_size)?;
+    open_sessions(alloc, sessions, &mut core)?;
+    run_each(alloc, sessions, lines, how.clock, clock, &mut core)?;
+    end_sessions(alloc, sessions.len(), &mut core)?;
+    core.into_parts(alloc)
+}
+
+/// Runs the statements of the lines in their order on one thread, each at the moment that is given, or else
+/// at one that the clock says. The sessions of these names begin before the first line and end, in their
+/// order, behind the last. What is written and saved of it agrees with what was answered.
+pub fn run_lines<H: Hash32, C: Clock>(
+    alloc: Global,
+    hasher: H,
+    how: Settings<'_>,
+    sessions: &[&str],
+    lines: &[Line<'_>],
+    clock: &C,
+) -> Result<Ran, Memory>
+    requires database { is_database_name how.database.now ≡ true }
+    requires some { 1 ≤ how.block_size }
+    requires most { how.block_size ≤ MAX_BLOCK }
+    requires sessions { map (λ n. n.now) sessions.now ≡ sessions_of (map seen lines.now) }
+    requires names { All (λ l. is_session_name l.session.now ≡ true) lines.now }
+    ensures { IfOk result (λ r. (run : Run)
+        × CameTo (H.digest hasher) how.entry.database.now how.entry.block_size
+        (said_with how.entry.clock (C.says clock.now)) (map seen lines.now) run
+        × IsRan (H.digest hasher) (sessions_of (map seen lines.now)) run r) }
+{
+    let parts = run_to_the_end(alloc, hasher, how, sessions, lines, clock)?;
     // Laws: they do nothing.
-    one_session_is_legal();
-    last_events_have_leaves();
-    Ok(left_by(alloc, session)?)
+    is_spelled(&parts.journal);
+    ended_courses_agree();
+    journals_of_courses_are_legal();
+    times_are_those_of_sessions();
+    kept_images_are_accepted();
+    there_is_such_a_server();
+    sessions_law();
+    left_by(alloc, sessions, lines, parts)
 }

@@ -4,3 +4,4 @@ mod End
 mod Meant
 mod Spelled
 mod Says
+mod Ranges

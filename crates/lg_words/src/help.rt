@@ -5,7 +5,7 @@ ghost use Rattle.lg_words.specs.Help.{help_of};
 use crate::subcommand::Subcommand;
 
 /// What stands on standard error where the words were refused.
-pub const USAGE: &str = "usage: ledgerd step --save NAME
+pub const USAGE: &str = "usage: ledgerd step --save NAME [--block-size N] [--clock T] [--database D]
        ledgerd verify IMAGE DIGESTS
        ledgerd extract HONEST SUSPECT DIGESTS
        ledgerd replay JOURNAL --save NAME
@@ -20,7 +20,7 @@ pub const VERSION: &str = "ledgerd 0.1.0
 pub const HELP: &str =
     "ledgerd runs statements over ledger tables in memory, and verifies images of them.
 
-  ledgerd step --save NAME                 runs statements and saves the journal
+  ledgerd step --save NAME                 runs statements of sessions and saves what is left
   ledgerd verify IMAGE DIGESTS             says whether an image and digests hold together
   ledgerd extract HONEST SUSPECT DIGESTS   says what two images are to each other
   ledgerd replay JOURNAL --save NAME       runs a journal again and saves its image
@@ -36,14 +36,17 @@ Example, from the top of the repository:
 ";
 
 /// Help on `step`.
-pub const STEP_HELP: &str = "ledgerd step --save NAME
+pub const STEP_HELP: &str = "ledgerd step --save NAME [--block-size N] [--clock T] [--database D]
 
-Runs the statements of standard input, `session: statement` on each line, and prints what each was answered.
-It puts NAME.journal in the current folder: what was committed, with the replies. Where something was
-committed it puts NAME.root before: the Merkle tree hash over the last transaction's events.
+Runs the statements of standard input, `session: statement` on each line, one after another, and prints what
+each was answered. It puts in the current folder NAME-m.img for each number m that a SAVE IMAGE answered, the
+image of the first m items of the journal; NAME.img, the image of the whole; NAME.digests, the digests; and
+NAME.journal, what was committed, with the replies.
+N is the number of a block's transactions, 1 to 100,000. T is the moment of all that is done, in ticks of 100
+nanoseconds since 1970. D is the name of the database.
 
 Example, from the top of the repository:
-  ./ledgerd step --save balance < examples/balance.txt
+  ./ledgerd step --save shop --clock 0 < examples/shop.txt
 ";
 
 /// Help on `verify`.

@@ -10,5 +10,5 @@ mod subcommand;
 
 pub use command::{Command, Settings, read_command};
 pub use help::{HELP, USAGE, VERSION, help_text};
-pub use law::words_law;
+pub use law::{settings_are_in_range, words_law};
 pub use subcommand::Subcommand;

@@ -12,29 +12,17 @@ pub returns-clause-ran : goal.returns-clause-ran
 returns-clause-ran g c =
     ran_within c.run_and_save.result _ _ _ (λ ran. record {
       statements = ran.statements;
-      times = ran.times;
+      run = ran.run;
+      digests = ran.digests;
       within = bytes_came _ _ c.in-Ok.input _ _ c.in-Ok.ensures.came c.deref.ensures.value ran.within;
-      built = ran.built;
-      as_many = ran.as_many;
-      moments = ran.moments;
+      came = ran.came;
+      file = ran.file;
+      journal_is_spelled = ran.journal_is_spelled;
+      digests_read_back = ran.digests_read_back;
       put = ran.put;
       written = ran.written;
+      stand = ran.stand;
     }) c.run_and_save.ensures.ran
-
-pub returns-clause-agrees : goal.returns-clause-agrees
-returns-clause-agrees g c done =
-    let agree = c.run_and_save.ensures.agrees done in
-    record {
-      statements = agree.statements;
-      X = agree.X;
-      J = agree.J;
-      within = bytes_came _ _ c.in-Ok.input _ _ c.in-Ok.ensures.came c.deref.ensures.value agree.within;
-      legal = agree.legal;
-      agree = agree.agree;
-      written = agree.written;
-      put = agree.put;
-      journal = agree.journal;
-    }
 
 pub returns-clause-reads : goal.returns-clause-reads
 returns-clause-reads g c = reads_whole c.run_and_save.result _ _ _ c.in-Ok.input _ _ c.run_and_save.ensures.cause c.in-Ok.ensures.reads

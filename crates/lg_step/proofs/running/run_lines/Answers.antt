@@ -1,41 +1,30 @@
-use Rattle.std.proofs.Common.{◌∙◌, ap, map, arith}
-use Rattle.std.proofs.lemmas.List.{length-map}
+use Rattle.std.proofs.Common.{◌≡◌, List, ℕ, map, Bor}
+use Rattle.std.specs.List.{AllByRecursion}
+use Rattle.lg_parse.specs.Text.{statement_of}
+use Rattle.lg_course.proofs.Told.{some_meaning}
+use Rattle.lg_digest.specs.Writing.{HasMoments}
 use Rattle.lg_input.specs.Line.{seen}
-use Rattle.lg_step.specs.Lines.{first_of, session_of}
-use Rattle.lg_step.proofs.Lines.{first_session}
-use Rattle.lg_step.proofs.Reached.{came_none}
-use Rattle.lg_step.proofs.Ends.{ran_so, has_spelling, have_leaves}
+use Rattle.lg_step.specs.Moments.{said_with}
+use Rattle.lg_step.specs.Ran.{HasKept, run_left}
+use Rattle.lg_step.proofs.Comes.{comes_to}
+use Rattle.lg_step.proofs.Ends.{if_ok}
+use Rattle.lg_step.proofs.Made.{have_moments}
+use Rattle.lg_step.proofs.Whole.{is_ran}
 use Rattle.lg_step.proofs.running.run_lines.Goals as goal
 
-pub run_each-requires-clause-name : goal.run_each-requires-clause-name
-run_each-requires-clause-name g c κs within =
-    c.first_of.ensures ∙ ap first_of c.requires.sessions ∙ first_session (map seen c.args.lines.now)
-
-pub run_each-requires-clause-begins : goal.run_each-requires-clause-begins
-run_each-requires-clause-begins g c κs within =
-    let name = session_of (map seen c.args.lines.now) in
-    came_none (g.C.Clock.says c.args.clock.now) name c.in_ok-session.session (c.in_ok-session.ensures.shows name)
-
-pub returns-clause-ran : goal.returns-clause-ran
-returns-clause-ran g c =
-    let lines = c.args.lines.now in
-    let came = c.in_ok-run_each.ensures.came in
-    let left = c.in_ok-left_by.ensures in
-    let is =
-    ran_so (g.C.Clock.says c.args.clock.now) (map seen lines) c.run_each.new.session came c.in_ok-left_by.field-0.journal c.in_ok-left_by.field-0.last c.in_ok-left_by.field-0.transcript
-    left.journal left.last left.transcript in
-    (came.reached.times, came.reached.count ∙ length-map lines seen, came.reached.moments, is.0, is.1, is.2)
-
-pub returns-clause-journal : goal.returns-clause-journal
-returns-clause-journal g c =
-    let lines = c.args.lines.now in
-    let legal = c.one_session_is_legal.ensures in
-    let run = c.in_ok-run_each.ensures in
-    has_spelling (g.C.Clock.says c.args.clock.now) (map seen lines) c.run_each.new.session legal.ids legal.closes run.came run.steady
-    (omega (arith, length-map lines seen, c.requires.count)) c.in_ok-left_by.field-0.journal c.in_ok-left_by.ensures.journal
-
-pub returns-clause-leaves : goal.returns-clause-leaves
-returns-clause-leaves g c =
-    let left = c.in_ok-left_by.ensures in
-    have_leaves (g.C.Clock.says c.args.clock.now) (map seen c.args.lines.now) c.run_each.new.session c.last_events_have_leaves.ensures c.in_ok-run_each.ensures.came
-    c.in_ok-left_by.field-0.last left.last left.room
+pub returns : goal.returns
+returns g c =
+    let h = g.H.Hash32.digest c.args.hasher in
+    let database = c.args.how.database.now in
+    let size = c.args.how.block_size in
+    let says = said_with c.args.how.clock (g.C.Clock.says c.args.clock.now) in
+    let ss = map seen c.args.lines.now in
+    let names = map (λ (n : Bor (List ℕ)). n.now) c.args.sessions.now in
+    let p = c.in_ok-parts.parts in
+    let x = c.in_ok-parts.ensures in
+    let accepted = c.kept_images_are_accepted.ensures in
+    let came = comes_to c.ended_courses_agree.ensures c.journals_of_courses_are_legal.ensures c.times_are_those_of_sessions.ensures accepted.room accepted.whole accepted.all
+    c.there_is_such_a_server.ensures c.sessions_law.ensures.once c.sessions_law.ensures.named h database size says ss p x in
+    let m = some_meaning h statement_of in
+    let moments : AllByRecursion HasMoments p.digests = have_moments m.0 database p.journal.items says p.digests came.times came.made (came.agrees.agree m.0 m.1).digests_are_the_journals.each in
+    if_ok c.left_by.result (λ r kept. (run_left ss x.left.transcripts p, came, is_ran h database size says ss names p x r c.requires.sessions kept (c.is_spelled.ensures came.legal) moments)) c.left_by.ensures

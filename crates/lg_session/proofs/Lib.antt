@@ -1,5 +1,0 @@
-mod Answered
-mod InOrder
-mod OneHistory
-mod Quiet
-pub mod Steady

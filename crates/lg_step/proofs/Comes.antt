@@ -1,0 +1,206 @@
+-- What a core left is a run of the statements that were asked of it.
+use Rattle.std.proofs.Common.{◌≡◌, ◌≢◌, ◌≤◌, ◌<◌, ℕ, min, Bool, true, false, List, [], ◌∷◌, ◌++◌, map, length, None, refl, sym, ap, ◌∙◌, subst, arith, ⊎_elim, true≢false}
+use Rattle.std.specs.List.{list_any, IsDistinct, AllByRecursion, All}
+use Rattle.std.specs.Str.{bytes_eq}
+use Rattle.std.proofs.lemmas.Bool.Decides.{nat_tests}
+use Rattle.std.proofs.lemmas.Slice.Eq.{bytes_eq-Decides}
+use Rattle.lg_items.specs.DatabaseName.{is_database_name}
+use Rattle.lg_items.specs.Moment.{is_moment}
+use Rattle.lg_items.specs.SessionName.{is_session_name}
+use Rattle.lg_items.specs.declared.moment.TheConstants.{MAX_TICKS}
+use Rattle.lg_types.specs.declared.digest.Digest.{Digest}
+use Rattle.lg_types.specs.declared.journal.Journal.{Journal}
+use Rattle.lg_types.specs.declared.journal.JournalItem.{JournalItem}
+use Rattle.lg_model.specs.LegalJournals.{IsLegalJournal}
+use Rattle.lg_model.specs.Script.{Reading}
+use Rattle.lg_history.specs.Agree.{AreStatements}
+use Rattle.lg_history.specs.Inputs.{InputLine, sessions_in}
+use Rattle.lg_history.specs.Journals as journals
+use Rattle.lg_history.specs.Lists.{Text, Each, In}
+use Rattle.lg_history.specs.Transcripts.{Transcript}
+use Rattle.lg_image.specs.Image.{image_of, image_of_cut}
+use Rattle.lg_image.specs.ImageBytes.{image_bytes}
+use Rattle.lg_images.specs.Room.{HasRoom}
+use Rattle.lg_parse.specs.Text.{statement_of}
+use Rattle.lg_verdict.specs.declared.place.Verdict.TheVariants.{Yes}
+use Rattle.lg_verdict.specs.Bytes.{verdict_of}
+use Rattle.lg_honest.specs.Held.{held}
+use Rattle.lg_input.specs.Line.{Statement}
+use Rattle.lg_input.specs.Sessions.{sessions_of}
+use Rattle.lg_standing.specs.Reordered.{NamesApart}
+use Rattle.lg_standing.specs.Seats.{KeptImage}
+use Rattle.lg_standing.specs.Server.{Server}
+use Rattle.lg_server.specs.Serves.{Serves}
+use Rattle.lg_course.specs.Told.{HasEnded, IsMeaning, IsImageOf, RunAgrees}
+use Rattle.lg_course.proofs.Told.{some_meaning}
+use Rattle.lg_kept.specs.Accepted.{IsAccepted}
+use Rattle.lg_core.specs.declared.parts.Parts.{Parts}
+use Rattle.lg_step.specs.Came.{Run, CameTo, last_image, last_image_bytes}
+use Rattle.lg_step.specs.Images.{AreKept, with_each}
+use Rattle.lg_step.specs.Lines.{lines_of}
+use Rattle.lg_step.specs.Moments.{IsMoment}
+use Rattle.lg_step.specs.Numbers.{number_of, numbers_of}
+use Rattle.lg_step.specs.Ran.{HasRun, run_left}
+use Rattle.lg_step.specs.Woven.{woven}
+use Rattle.lg_step.specs.Written.{AreWritten}
+use Rattle.lg_step.proofs.Kept.{are_kept, each_of_all}
+use Rattle.lg_step.proofs.Named.{each_from_all}
+use Rattle.lg_step.proofs.OneList.{are_written}
+
+-- ---- the laws that are used
+
+abbrev pub CoursesAgree : Type 0
+CoursesAgree = (h : List ℕ → List ℕ) (reads : Reading) (database : Text) (size : ℕ) (names : List Text) (lines : List InputLine) (moments : List ℕ) (X : List Transcript) (images : List (List KeptImage)) (J : List JournalItem) (G : List Digest)
+    → map (λ x. x.session) X ≡ names → NamesApart names → ((v : Server) → Serves h reads v → HasEnded v database size names lines moments X images J G)
+    → RunAgrees h reads database size names lines X images J G
+
+abbrev pub JournalsAreLegal : Type 0
+JournalsAreLegal = (v : Server) (database : Text) (size : ℕ) (names : List Text) (lines : List InputLine) (moments : List ℕ) (X : List Transcript) (images : List (List KeptImage)) (J : List JournalItem) (G : List Digest)
+    → HasEnded v database size names lines moments X images J G → map (λ x. x.session) X ≡ names → is_database_name database ≡ true
+    → Each (λ name. is_session_name name ≡ true) names → Each (λ time. is_moment time ≡ true) moments → IsLegalJournal v.reads (record { database = database; items = J })
+
+abbrev pub TimesAreTheirs : Type 0
+TimesAreTheirs = (v : Server) (database : Text) (size : ℕ) (names : List Text) (lines : List InputLine) (moments : List ℕ) (X : List Transcript) (images : List (List KeptImage)) (J : List JournalItem) (G : List Digest)
+    → HasEnded v database size names lines moments X images J G → Each (λ time. In time moments) (journals.times J) × Each (λ d. In d.made moments) G
+
+abbrev pub KeptAreAccepted : Type 0
+KeptAreAccepted = (h : List ℕ → List ℕ) (database : Text) (size : ℕ) (names : List Text) (lines : List InputLine) (X : List Transcript) (images : List (List KeptImage)) (J : List JournalItem) (G : List Digest)
+    → RunAgrees h statement_of database size names lines X images J G → IsLegalJournal statement_of (record { database = database; items = J }) → HasRoom h statement_of database J
+    → Each (λ kept. Each (IsAccepted h database J G) kept) images
+
+abbrev pub WholeIsAccepted : Type 0
+WholeIsAccepted = (h : List ℕ → List ℕ) (database : Text) (size : ℕ) (names : List Text) (lines : List InputLine) (X : List Transcript) (images : List (List KeptImage)) (J : List JournalItem) (G : List Digest)
+    → RunAgrees h statement_of database size names lines X images J G → IsLegalJournal statement_of (record { database = database; items = J }) → HasRoom h statement_of database J
+    → IsAccepted h database J G (length J, image_bytes (image_of h statement_of database J))
+
+abbrev pub AllAreAccepted : Type 0
+AllAreAccepted = (h : List ℕ → List ℕ) (database : Text) (size : ℕ) (names : List Text) (lines : List InputLine) (X : List Transcript) (images : List (List KeptImage)) (J : List JournalItem) (G : List Digest)
+    → RunAgrees h statement_of database size names lines X images J G → IsLegalJournal statement_of (record { database = database; items = J }) → HasRoom h statement_of database J
+    → verdict_of h (map held G) (image_bytes (image_of h statement_of database J)) ≡ Yes
+
+abbrev pub IsServed : Type 0
+IsServed = (h : List ℕ → List ℕ) (reads : Reading) → (v : Server) × Serves h reads v
+
+abbrev pub SessionsAreNamed : Type 0
+SessionsAreNamed = (ss : List Statement) → All (λ s. list_any (bytes_eq s.session) (sessions_of ss) ≡ true) ss
+
+abbrev pub SessionsDiffer : Type 0
+SessionsDiffer = (ss : List Statement) → IsDistinct bytes_eq (sessions_of ss)
+
+-- ---- names and moments
+
+apart_from : (name : Text) (names : List Text) → AllByRecursion (λ other. bytes_eq name other ≡ false) names → Each (λ other. name ≢ other) names
+apart_from name [] all = tt
+apart_from name (n ∷ names) all = ((λ same. true≢false (sym ((bytes_eq-Decides name n).1 same) ∙ all.0)), apart_from name names all.1)
+
+names_apart : (names : List Text) → IsDistinct bytes_eq names → NamesApart names
+unfolding IsDistinct
+names_apart [] distinct = tt
+names_apart (n ∷ names) distinct = (apart_from n names distinct.0, names_apart names distinct.1)
+
+is_within : (said : ℕ) → is_moment (min said MAX_TICKS) ≡ true
+is_within said = grind (arith, nat_tests)
+
+moment_is : (says : ℕ → Type 0) (at : ℕ) → IsMoment says at → is_moment at ≡ true
+moment_is says at m = subst (λ n. is_moment n ≡ true) (sym m.2) (is_within m.0)
+
+each_in : {A : Type 0} (P : A → Type 0) (xs : List A) (x : A) → Each P xs → In x xs → P x
+each_in P [] x h i = absurd i
+each_in P (y ∷ ys) x h i = ⊎_elim (λ (e : y ≡ x). subst P e h.0) (λ k. each_in P ys x h.1 k) i
+
+weaker : {A : Type 0} (P Q : A → Type 0) → ((a : A) → P a → Q a) → (xs : List A) → Each P xs → Each Q xs
+weaker P Q f [] e = tt
+weaker P Q f (x ∷ xs) e = (f x e.0, weaker P Q f xs e.1)
+
+push : {A : Type 0} (P : A → Type 0) (xs : List A) (x : A) → Each P xs → P x → Each P (xs ++ x ∷ [])
+push P [] x e p = (p, tt)
+push P (y ∷ ys) x e p = (e.0, push P ys x e.1 p)
+
+-- ---- lines
+
+numbers_are : (names : List Text) (ss : List Statement) → map (λ line. number_of names line.session) (lines_of ss) ≡ numbers_of names ss
+numbers_are names [] = refl
+numbers_are names (s ∷ ss) = ap (λ ns. number_of names s.session ∷ ns) (numbers_are names ss)
+
+named_lines : (names : List Text) (ss : List Statement) → AllByRecursion (λ s. list_any (bytes_eq s.session) names ≡ true) ss → Each (λ line. list_any (bytes_eq line.session) names ≡ true) (lines_of ss)
+named_lines names [] e = tt
+named_lines names (s ∷ ss) e = (e.0, named_lines names ss e.1)
+
+abbrev journal_of : Text → List JournalItem → Journal
+journal_of database items = record { database = database; items = items }
+
+-- ---- all
+
+module _ {H : Type 0} (agree : CoursesAgree) (legal : JournalsAreLegal) (theirs : TimesAreTheirs) (kept : KeptAreAccepted) (whole : WholeIsAccepted) (all : AllAreAccepted) (served : IsServed) (differ : SessionsDiffer) (named : SessionsAreNamed) where
+  module _ (h : List ℕ → List ℕ) (database : Text) (size : ℕ) (says : ℕ → Type 0) (statements : List Statement) (p : Parts H) (x : HasRun h database size says statements p) where
+    abbrev names : List Text
+    names = sessions_of statements
+
+    abbrev X : List Transcript
+    X = x.left.transcripts
+
+    abbrev images : List (List KeptImage)
+    images = map (λ y. y.images) p.sessions.items
+
+    abbrev J : List JournalItem
+    J = p.journal.items
+
+    abbrev v : Server
+    v = (served h statement_of).0
+
+    abbrev serves : Serves h statement_of v
+    serves = (served h statement_of).1
+
+    they_agree : RunAgrees h statement_of database size names (lines_of statements) X images J p.digests
+    they_agree = agree h statement_of database size names (lines_of statements) x.times X images J p.digests x.left.names (names_apart names (differ statements)) x.left.ended
+
+    is_legal : IsLegalJournal statement_of (record { database = database; items = J })
+    is_legal = subst (λ (reads : Reading). IsLegalJournal reads (record { database = database; items = J })) serves.reading
+        (legal v database size names (lines_of statements) x.times X images J p.digests (x.left.ended v serves) x.left.names x.database_is_named x.sessions_are_named
+        (weaker (IsMoment says) (λ time. is_moment time ≡ true) (moment_is says) x.times x.moments))
+
+    the_journal : record { database = database; items = J } ≡ p.journal
+    the_journal = ap (λ (d : Text). journal_of d J) (sym x.left.database)
+
+    in_time : Each (λ time. In time x.times) (journals.times J) × Each (λ d. In d.made x.times) p.digests
+    in_time = theirs v database size names (lines_of statements) x.times X images J p.digests (x.left.ended v serves)
+
+    are_written_so : AreWritten X (lines_of statements) (woven (numbers_of names statements) (map (λ y. y.entries) X))
+    are_written_so =
+        let m = some_meaning h statement_of in
+        let are = ((they_agree).agree m.0 m.1).statements_are_answered in
+        let written = are_written X (lines_of statements)
+        (subst NamesApart (sym x.left.names) (names_apart names (differ statements)))
+        (subst (λ (ns : List Text). Each (λ line. list_any (bytes_eq line.session) ns ≡ true) (lines_of statements)) (sym x.left.names) (named_lines names statements (each_from_all (λ s. list_any (bytes_eq s.session) names ≡ true) statements (named statements))))
+        (subst (λ (ns : List Text). AreStatements (sessions_in (lines_of statements) ns) X) (sym x.left.names) are) in
+        subst (λ (is : List ℕ). AreWritten X (lines_of statements) (woven is (map (λ y. y.entries) X)))
+        (ap (λ (ns : List Text). map (λ line. number_of ns line.session) (lines_of statements)) x.left.names ∙ numbers_are names statements) written
+
+    abbrev bytes : ℕ → Text
+    bytes items = image_bytes (image_of_cut h statement_of database J items)
+
+    each_has : Each (λ ks. Each (λ k. k.1 ≡ bytes k.0) ks) images
+    each_has = weaker (λ ks. Each (IsImageOf h statement_of database J) ks) (λ ks. Each (λ k. k.1 ≡ bytes k.0) ks)
+        (λ ks. weaker (IsImageOf h statement_of database J) (λ k. k.1 ≡ bytes k.0) (λ k is. is.bytes) ks) images (they_agree).are_images
+
+    last_accepted : IsAccepted h database J p.digests (last_image h p.journal)
+    last_accepted = subst (λ (j : Journal). IsAccepted h database J p.digests (length J, image_bytes (image_of h statement_of j.database J))) the_journal
+        (whole h database size names (lines_of statements) X images J p.digests they_agree is_legal x.left.room)
+
+    all_so : verdict_of h (map held p.digests) (last_image_bytes h p.journal) ≡ Yes
+    all_so = subst (λ (j : Journal). verdict_of h (map held p.digests) (image_bytes (image_of h statement_of j.database J)) ≡ Yes) the_journal
+        (all h database size names (lines_of statements) X images J p.digests they_agree is_legal x.left.room)
+
+    pub comes_to : CameTo h database size says statements (run_left statements X p)
+    comes_to = record {
+      agrees = they_agree;
+      legal = subst (λ (j : Journal). IsLegalJournal statement_of j) the_journal is_legal;
+      of_database = x.left.database;
+      times = weaker (λ time. In time x.times) (IsMoment says) (λ time i. each_in (IsMoment says) x.times time x.moments i) (journals.times J) (in_time).0;
+      made = weaker (λ (d : Digest). In d.made x.times) (λ d. IsMoment says d.made) (λ d i. each_in (IsMoment says) x.times d.made x.moments i) p.digests (in_time).1;
+      written = are_written_so;
+      saved = are_kept bytes images each_has;
+      accepted = push (IsAccepted h database J p.digests) (with_each images) (last_image h p.journal)
+          (each_of_all (IsAccepted h database J p.digests) images (kept h database size names (lines_of statements) X images J p.digests they_agree is_legal x.left.room)) last_accepted;
+      all_accepted = all_so;
+    }

@@ -1,0 +1,62 @@
+-- What the code has of a run.
+use Rattle.std.specs.Prelude.{ℕ, ◌≡◌, true, List, map}
+use Rattle.std.specs.List.{AllByRecursion}
+use Rattle.lg_items.specs.DatabaseName.{is_database_name}
+use Rattle.lg_items.specs.SessionName.{is_session_name}
+use Rattle.lg_history.specs.Lists.{Text, Each}
+use Rattle.lg_history.specs.Transcripts.{Transcript}
+use Rattle.lg_journal.specs.Rules.{IsJournal}
+use Rattle.lg_digest.specs.Writing.{HasMoments}
+use Rattle.lg_input.specs.Line.{Statement}
+use Rattle.lg_input.specs.Sessions.{sessions_of}
+use Rattle.lg_core.specs.Parts.{HasLeft}
+use Rattle.lg_core.specs.declared.parts.Parts.{Parts}
+use Rattle.lg_step.specs.Came.{Run, last_image_bytes}
+use Rattle.lg_step.specs.Images.{with_each}
+use Rattle.lg_step.specs.Moments.{IsMoment}
+use Rattle.lg_step.specs.Numbers.{numbers_of}
+use Rattle.lg_step.specs.Reached.{asked}
+use Rattle.lg_step.specs.Woven.{woven, woven_text}
+use Rattle.lg_step.specs.Written.{rows_text}
+use Rattle.lg_step.specs.declared.running.Ran.{Ran}
+
+-- it is this run, of sessions of these names, and what it saves has a spelling
+pub record IsRan (h : List ℕ → List ℕ) (names : List Text) (run : Run) (r : Ran) : Type 0 where
+  pub transcript : r.transcript ≡ rows_text names run.rows
+  pub images : r.images ≡ run.images
+  pub image : r.image ≡ last_image_bytes h run.J
+  pub journal : r.journal ≡ run.J
+  pub digests : r.digests ≡ run.G
+  pub journal_is_spelled : IsJournal r.journal
+  pub digests_have_moments : AllByRecursion HasMoments r.digests
+
+-- ---- what a core left
+
+-- a core that these statements were asked of left this
+pub record HasRun {H : Type 0} (h : List ℕ → List ℕ) (database : Text) (size : ℕ) (says : ℕ → Type 0)
+    (statements : List Statement) (p : Parts H) : Type 0 where
+  pub database_is_named : is_database_name database ≡ true
+  pub sessions_are_named : Each (λ name. is_session_name name ≡ true) (sessions_of statements)
+  pub times : List ℕ
+  pub moments : Each (IsMoment says) times
+  pub left : HasLeft h (asked database size (sessions_of statements) statements times) p
+
+-- this is written and saved of what it left
+pub record HasKept {H : Type 0} (names : List Text) (statements : List Statement) (p : Parts H)
+    (r : Ran) : Type 0 where
+  pub transcript : r.transcript ≡ woven_text (numbers_of names statements) (map (λ y. y.entries) p.sessions.items)
+  pub images : r.images ≡ with_each (map (λ y. y.images) p.sessions.items)
+  pub image : r.image ≡ p.image
+  pub journal : r.journal ≡ p.journal
+  pub digests : r.digests ≡ p.digests
+
+-- the run of these transcripts
+abbrev pub run_left : {H : Type 0} → List Statement → List Transcript → Parts H → Run
+run_left statements X p = record {
+  X = X;
+  kept = map (λ y. y.images) p.sessions.items;
+  rows = woven (numbers_of (sessions_of statements) statements) (map (λ x. x.entries) X);
+  images = with_each (map (λ y. y.images) p.sessions.items);
+  J = p.journal;
+  G = p.digests;
+}

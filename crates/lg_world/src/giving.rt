@@ -1,0 +1,33 @@
+//! The give of a visit of which a value of the thread's own tells.
+
+ghost use Rattle.std.specs.Prelude.{◌≡◌, ◌<◌};
+ghost use Rattle.lg_board.specs.Boards.{board_cells, seat_state, seat_parts, seat_out, IsSeatOf, IsSameSeat};
+ghost use Rattle.lg_board.specs.Outs.{IsLastOut, rest};
+ghost use Rattle.lg_standing.specs.Seats.{SeatState};
+ghost use Rattle.lg_world.specs.Served.{MayVisit};
+
+use crate::world::{Known, LedgerWorld, ServedCell, Serving};
+use lg_board::{After, Board, BoardSeat, Held};
+
+/// Gives a cell back, as `Board::give` does. What `P.after` says may also speak of `about`, which is for the
+/// proof alone.
+pub fn give_with<K: Serving, C: ServedCell, P: After<Known>, T>(
+    board: &Board<LedgerWorld<K, C>>,
+    place: &mut BoardSeat<LedgerWorld<K, C>>,
+    i: usize,
+    held: Held<C>,
+    about: &T,
+)
+    requires seat { IsSeatOf board.now place.old }
+    requires cell { i < board_cells board.now }
+    requires last { IsLastOut i (seat_out place.old) }
+    requires may { (t : SeatState)
+        × MayVisit C.cell C.keeps K.database (seat_state place.old) (seat_out place.old) i held.cell t
+        × P.after t }
+    ensures seat { IsSameSeat place.old place.new × P.after (seat_state place.new)
+        × (seat_parts place.new ≡ seat_parts place.old) }
+    ensures out { seat_out place.new ≡ rest (seat_out place.old) }
+{
+    let _ = about;
+    board.give::<P>(place, i, held);
+}
