@@ -38,7 +38,8 @@ impl<T: Drop> From<AllocFailed<T>> for InputErr {
     }
 }
 
-fn is_blank(b: u8) -> bool
+/// Whether a byte is a blank: space or tab.
+pub fn is_blank(b: u8) -> bool
     ensures { result ≡ spec.is_blank b }
 {
     b == b' ' || b == b'\t'
@@ -63,22 +64,24 @@ fn end_of_rest(z: &[u8]) -> usize
     end
 }
 
+/// The text without the blanks before it.
 #[tactic(auto, using(crate::proofs::Blanks::front_boundary))]
-fn behind_blanks(text: &str) -> &str
+pub fn behind_blanks(text: &str) -> &str
     ensures { result.now ≡ spec.behind_blanks text.now }
 {
     &text[blanks_at_front(text.as_bytes())..]
 }
 
+/// The text without the blanks after it.
 #[tactic(auto, using(crate::proofs::Blanks::blank_boundary))]
-fn before_blanks(text: &str) -> &str
+pub fn before_blanks(text: &str) -> &str
     ensures { result.now ≡ spec.before_blanks text.now }
 {
     &text[..end_of_rest(text.as_bytes())]
 }
 
 /// Whether the line is empty or a comment.
-fn is_skipped(text: &str) -> bool
+pub fn is_skipped(text: &str) -> bool
     ensures { result ≡ spec.is_skipped text.now }
 {
     text.is_empty() || text.as_bytes().starts_with(b"--")

@@ -26,9 +26,10 @@ fn without_return(line: &[u8]) -> &[u8]
     }
 }
 
-/// The first line, and the bytes behind it.
+/// The first line of some bytes, without its line feed and the carriage return before that, and the bytes
+/// behind it.
 #[tactic(auto, using(crate::proofs::Cuts::line_ended, crate::proofs::Cuts::line_alone))]
-fn first_line(bytes: &[u8]) -> (&[u8], &[u8])
+pub fn first_line(bytes: &[u8]) -> (&[u8], &[u8])
     requires { 0 < length bytes.now }
     ensures line { lines_of bytes.now ≡ result.0.now ∷ lines_of result.1.now }
     ensures shorter { length result.1.now < length bytes.now }
