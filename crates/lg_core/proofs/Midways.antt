@@ -82,6 +82,7 @@ stays_on x y z s t = record {
   begun = λ b. s.begun (t.begun b);
   started = t.started ∙ s.started;
   name = t.name ∙ s.name;
+  text = t.text ∙ s.text;
 }
 
 pub went_further : {H : Type 0} (x y z : Seat H) → WentOn x y → WentOn y z → WentOn x z

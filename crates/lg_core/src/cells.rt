@@ -18,11 +18,7 @@ const BEHIND_TABLES: u32 = 35;
 
 /// The cells of a database without transactions: the catalog, the ledger, and one for each table that there
 /// may be.
-pub(crate) fn first_cells(
-    alloc: Global,
-    database: Name,
-    block_size: u32,
-) -> Result<Vec<Cell>, Memory>
+pub fn first_cells(alloc: Global, database: Name, block_size: u32) -> Result<Vec<Cell>, Memory>
     requires some { 1 ≤ block_size }
     requires most { block_size ≤ MAX_BLOCK }
     ensures { IfOk result (λ cells. cells.items ≡ first_kept database block_size) }

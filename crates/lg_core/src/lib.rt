@@ -8,6 +8,7 @@ mod parts;
 mod session;
 mod visits;
 
+pub use cells::first_cells;
 pub use one_thread::Core;
 pub use parts::Parts;
-pub use session::Session;
+pub use session::{Session, new_session};

@@ -22,7 +22,7 @@ use std::alloc::Global;
 /// A session with what it has shown.
 #[derive(Drop)]
 pub struct Session<H: Hash32> {
-    pub(crate) seat: Seat<H>,
+    pub seat: Seat<H>,
     /// The texts of the entries of its transcript.
     pub entries: Items<Text>,
     /// The images that it kept, in this order: the number of the journal's items, and the bytes.
@@ -30,7 +30,7 @@ pub struct Session<H: Hash32> {
 }
 
 /// A session of this name that nothing was asked of. Takes no memory.
-pub(crate) fn new_session<H: Hash32>(alloc: Global, hasher: H, name: Name) -> Session<H>
+pub fn new_session<H: Hash32>(alloc: Global, hasher: H, name: Name) -> Session<H>
     requires { is_session_name name ≡ true }
     ensures begins { (v : Server) (s : SeatState) → s.present ≡ true → s.role ≡ idle
         → Begins H.digest hasher v name s result.seat }
@@ -67,7 +67,7 @@ fn lines_of(end: Option<EndLine>) -> Option<lg_transcript::EndLine>
 
 impl<H: Hash32> Session<H> {
     /// The statement is answered.
-    pub(crate) fn answer(&mut self, alloc: Global) -> Result<(), Memory>
+    pub fn answer(&mut self, alloc: Global) -> Result<(), Memory>
         requires answers { IsAnswering self.old.seat }
         requires done { need_of self.old.seat ≡ Done }
         ensures { OnOk result (Answered H.digest self.old self.new) }
@@ -82,7 +82,7 @@ impl<H: Hash32> Session<H> {
     }
 
     /// The session is over.
-    pub(crate) fn leave(&mut self, alloc: Global) -> Result<(), Memory>
+    pub fn leave(&mut self, alloc: Global) -> Result<(), Memory>
         requires { MayEnd self.old.seat }
         ensures { OnOk result (Left H.digest self.old self.new) }
     {
@@ -97,12 +97,7 @@ impl<H: Hash32> Session<H> {
     }
 
     /// Keeps an image of all cells, if there is memory for one, with the number of the journal's items.
-    pub(crate) fn keep_image(
-        &mut self,
-        alloc: Global,
-        items: u64,
-        cells: &[Cell],
-    ) -> Result<(), Memory>
+    pub fn keep_image(&mut self, alloc: Global, items: u64, cells: &[Cell]) -> Result<(), Memory>
         requires among { AmongAll H.digest self.old.seat cells.now }
         requires items { items ≡ items_in cells.now }
         ensures kept { OnOk result (Kept H.digest cells.now self.old self.new) }

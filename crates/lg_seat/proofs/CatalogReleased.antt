@@ -343,4 +343,4 @@ module _ {H : Type 0} (digest : H → List ℕ → List ℕ) (y : Seat H) (c : C
     released_comes = inl (subst (λ (u : Option (Running H)). point_visits y.point (Some q) < point_visits y.point u) (sym has) (point_before y.point at_end))
 
     pub released_stays : Stays y z
-    released_stays = record { point = at_end_by (λ p. StaysBy p p) y.point at_end (λ w. tt) tt; begun = λ b. b; started = refl; name = refl }
+    released_stays = record { point = at_end_by (λ p. StaysBy p p) y.point at_end (λ w. tt) tt; begun = λ b. b; started = refl; name = refl; text = refl }

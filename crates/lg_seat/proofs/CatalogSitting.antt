@@ -79,6 +79,7 @@ module _ {H : Type 0} (y : Seat H) (c d : CatalogCell) (stage : Stage) (here : y
     begun = λ b. absurd (behind b);
     started = refl;
     name = refl;
+    text = refl;
   }
 
 -- ---- inside a statement

@@ -105,12 +105,13 @@ module _ {H : Type 0} (digest : H → List ℕ → List ℕ) (y : Seat H) (all :
   answered_visits z b at same = subst₂ (λ (n m : ℕ). n < m)
       (sym (ap₂ (λ (p : Point) (r : Option (Running H)). point_visits p r) at (same ∙ none_runs))) (sym (ap (λ (p : Point). point_visits p y.running) at_keeping)) (omega arith)
 
-  pub answered_stays : (z : Seat H) (b : Answering) → z.point ≡ Inside (Answered b) → z.started ≡ y.started → z.name ≡ y.name → Stays y z
-  answered_stays z b at started name = record {
+  pub answered_stays : (z : Seat H) (b : Answering) → z.point ≡ Inside (Answered b) → z.started ≡ y.started → z.name ≡ y.name → z.text ≡ y.text → Stays y z
+  answered_stays z b at started name text = record {
     point = subst₂ StaysBy (sym at_keeping) (sym at) tt;
     begun = λ k. absurd (subst (λ (p : Point). IsBegunAt p) at k);
     started = started;
     name = name;
+    text = text;
   }
 
 -- ---- nothing is kept

@@ -391,7 +391,7 @@ module _ {H : Type 0} (digest : H → List ℕ → List ℕ) (y z : Seat H) (c d
   commits n commits_it has a = record {
     visits = λ b. subst (Visited digest y (ledger_seen c) b (ledger_seen d)) (sym (seat_is b)) (commit_visit digest y c b stage (may b) d n (it b) (by b).0 (by b).1);
     comes_on = inl (subst (λ (u : Seat H). visits_left u < visits_left y) (sym (seat_is a)) (commit_fewer digest y c a stage (may a) d n (it a) (by a).0));
-    stays = subst (Stays y) (sym (seat_is a)) (record { point = stays_inside digest y c a stage at (unsaid (may a).reply); begun = λ b. absurd b; started = refl; name = refl });
+    stays = subst (Stays y) (sym (seat_is a)) (record { point = stays_inside digest y c a stage at (unsaid (may a).reply); begun = λ b. absurd b; started = refl; name = refl; text = refl });
   }
     where
       it : (b : Among digest y (ledger_seen c)) → CommitsIt digest y (may b).r c d n
@@ -436,7 +436,7 @@ module _ {H : Type 0} (digest : H → List ℕ → List ℕ) (y z : Seat H) (c d
         comes_on = inl (subst₂ (λ (p : Point) (q : Option (Running H)). answer_visits q < point_visits p q) (sym here) (sym (may a).running)
             (subst₂ (λ (opened : Bool) (l : Option EndLine). end_visits opened l (may a).r.visited.left < length (may a).r.visited.left + 2) (sym e)
             (sym (free_end (may a).o.id (may a).r.end (may a).o.end (may a).run.end (may a).free)) (omega arith)));
-        stays = record { point = subst (λ (p : Point). StaysBy p (Inside (unsaid (reply.Refused E30)))) (sym here) tt; begun = λ b. absurd b; started = refl; name = refl };
+        stays = record { point = subst (λ (p : Point). StaysBy p (Inside (unsaid (reply.Refused E30)))) (sym here) tt; begun = λ b. absurd b; started = refl; name = refl; text = refl };
       })
         where
           committing : stage ≡ Committing

@@ -115,12 +115,12 @@ module _ {H : Type 0} (digest : H → List ℕ → List ℕ) (y : Seat H) (c d :
   draws_at (Some r) z drew has a = subst (VisitsOn digest y (ledger_seen c) (ledger_seen d)) (sym has.2) (record {
     visits = λ b. visit_with r has.0 has.1 drew b;
     comes_on = inl (subst (λ (p : Point). stage_visits (drawn_stage opened has.0) (Some r) < point_visits p y.running) (sym at) (fewer r y.hasher opened has.0 drew.2));
-    stays = record { point = subst (λ (p : Point). StaysBy p (Inside (drawn_stage opened has.0))) (sym at) tt; begun = λ k. absurd (not_begun opened has.0 k); started = refl; name = refl };
+    stays = record { point = subst (λ (p : Point). StaysBy p (Inside (drawn_stage opened has.0))) (sym at) tt; begun = λ k. absurd (not_begun opened has.0 k); started = refl; name = refl; text = refl };
   })
   draws_at None z drew has a = subst₂ (λ (k : HashedCell) (u : Seat H). VisitsOn digest y (ledger_seen c) (ledger_seen k) u) (sym drew) (sym has) (record {
     visits = visits_alone digest y (ledger_seen c) (moved y y.running (Inside (unsaid (reply.Refused E30)))) (lacks_at digest y (Drawing opened) at (λ left. refl) refl free_there);
     comes_on = inl (subst₂ (λ (p : Point) (q : Option (Running H)). answer_visits q < point_visits p y.running) (sym at) (sym nobody) (omega arith));
-    stays = record { point = subst (λ (p : Point). StaysBy p (Inside (unsaid (reply.Refused E30)))) (sym at) tt; begun = λ k. absurd k; started = refl; name = refl };
+    stays = record { point = subst (λ (p : Point). StaysBy p (Inside (unsaid (reply.Refused E30)))) (sym at) tt; begun = λ k. absurd k; started = refl; name = refl; text = refl };
   })
     where
       nobody : y.running ≡ None

@@ -160,7 +160,7 @@ module _ {H : Type 0} (digest : H → List ℕ → List ℕ) (y : Seat H) (c : H
       [] tt (adds_marked a.s a.sits.x (Some then_one) place after a.sits.role) a.keeps
 
   ended_stays : (id : ℕ) → Stays y (moved y (Some (then_running id)) p)
-  ended_stays id = record { point = k.may.stays; begun = λ b. absurd (k.may.begun b); started = refl; name = refl }
+  ended_stays id = record { point = k.may.stays; begun = λ b. absurd (k.may.begun b); started = refl; name = refl; text = refl }
 
   ended_fewer : (id : ℕ) → visits_left (moved y (Some (then_running id)) p) < visits_left y
   ended_fewer id = subst (λ (n : ℕ). n < visits_left y) (sym (k.may.count (then_running id) (Ended id after) refl)) k.may.fewer

@@ -120,7 +120,7 @@ module _ {H : Type 0} (digest : H → List ℕ → List ℕ) (y : Seat H) (c d :
   free_there (Some o) k = let no : Some o ≡ None = k.0 in cc
 
   stays_with : (r : Reply) (q : Option (Running H)) → Stays y (moved y q (Inside (unsaid r)))
-  stays_with r q = record { point = subst (λ (p : Point). StaysBy p (Inside (unsaid r))) (sym at) tt; begun = λ b. absurd b; started = refl; name = refl }
+  stays_with r q = record { point = subst (λ (p : Point). StaysBy p (Inside (unsaid r))) (sym at) tt; begun = λ b. absurd b; started = refl; name = refl; text = refl }
 
   abbrev answered : Reply → Seat H
   answered r = moved y None (Inside (unsaid r))
@@ -226,7 +226,7 @@ module _ {H : Type 0} (digest : H → List ℕ → List ℕ) (y z : Seat H) (c d
   closes_full full closed keeps a = record {
     visits = λ b. close_visit digest y c d at b full closed keeps;
     comes_on = inr (refl, close_fewer digest y c d at a full closed);
-    stays = record { point = subst (λ (p : Point). StaysBy p p) (sym at) tt; begun = λ b. b; started = refl; name = refl };
+    stays = record { point = subst (λ (p : Point). StaysBy p p) (sym at) tt; begun = λ b. b; started = refl; name = refl; text = refl };
   }
 
   -- there is no memory

@@ -257,6 +257,7 @@ module _ {H : Type 0} (digest : H → List ℕ → List ℕ) (y : Seat H) (r : R
     begun = λ b. absurd (not_begun (next_back r.visited.left (passed + 1)) (subst (λ (g : Stage). IsBegunAt (Inside g)) f b));
     started = refl;
     name = refl;
+    text = refl;
   }
     where
       not_begun : (m : Option ℕ) → IsBegunAt (Inside (back_by seq (passed + 1) m)) → ⊥

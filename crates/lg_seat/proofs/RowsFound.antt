@@ -396,6 +396,7 @@ module _ {H : Type 0} (digest : H → List ℕ → List ℕ) (y : Seat H) (r : R
       begun = λ b. absurd (not_begun r.opened fresh run.result (subst (λ (g : Stage). IsBegunAt (Inside g)) run.stage b));
       started = refl;
       name = refl;
+      text = refl;
     }
       where
         not_begun : (b f : Bool) (result : Result Reply Refusal) → IsBegunAt (Inside (stage_by b f result)) → ⊥

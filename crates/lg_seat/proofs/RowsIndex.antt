@@ -170,7 +170,7 @@ module _ {H : Type 0} (digest : H → List ℕ → List ℕ) (y : Seat H) (r : R
     }
 
     pub stays : (added : Bool) → Stays y (z added)
-    stays added = record { point = subst (λ (g : Point). StaysBy g (Inside (made_stage def added))) (sym p) tt; begun = λ b. absurd (not_begun added b); started = refl; name = refl }
+    stays added = record { point = subst (λ (g : Point). StaysBy g (Inside (made_stage def added))) (sym p) tt; begun = λ b. absurd (not_begun added b); started = refl; name = refl; text = refl }
       where
         not_begun : (b : Bool) → IsBegunAt (Inside (made_stage def b)) → ⊥
         not_begun true g = g

@@ -1,7 +1,7 @@
--- The closing of a full block.
+-- The closing of a block: of a full one, or of what is pending.
 use Rattle.std.specs.Prelude.{ℕ, ◌≡◌, ◌≤◌, ◌<◌, ◌⊎◌, List}
 use Rattle.lg_standing.specs.Cells.{Cell, Catalog, Ledger, Rows, LedgerCell, pending_in}
-use Rattle.lg_standing.specs.LedgerVisits.{closed_by}
+use Rattle.lg_standing.specs.LedgerVisits.{closed_by, next_block}
 
 -- this is the ledger's cell
 abbrev pub IsLedger : Cell → Type 0
@@ -17,3 +17,12 @@ ClosesOne h c d = ((c.block_size ≤ pending_in c) × (d ≡ Ledger (closed_by h
 abbrev pub ClosesFull : (List ℕ → List ℕ) → Cell → Cell → Type 0
 ClosesFull h (Ledger c) d = ClosesOne h c d
 ClosesFull h c d = d ≡ c
+
+-- it had some pending and closed the next block of them, or had none and is as it was
+abbrev pub ClosesNext : (List ℕ → List ℕ) → LedgerCell → Cell → Type 0
+ClosesNext h c d = ((1 ≤ pending_in c) × (d ≡ Ledger (closed_by h (next_block c) c)))
+    ⊎ ((pending_in c ≡ 0) × (d ≡ Ledger c))
+
+abbrev pub ClosesPending : (List ℕ → List ℕ) → Cell → Cell → Type 0
+ClosesPending h (Ledger c) d = ClosesNext h c d
+ClosesPending h c d = d ≡ c

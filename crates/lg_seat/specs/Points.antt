@@ -73,10 +73,12 @@ StaysBy (Inside stage) then_point = IsInsideAt then_point
 StaysBy Leaving then_point = IsLeavingAt then_point
 StaysBy _ then_point = ⊥
 
--- a visit ends neither statement nor session, and changes neither the session's name nor the moment
+-- a visit ends neither statement nor session, and changes neither the session's name nor the statement's text
+-- and moment
 pub record Stays {H : Type 0} (y z : Seat H) : Type 0 where
   pub point : StaysBy y.point z.point
   -- nor does it lead back to the beginning of a statement
   pub begun : IsBegun z → IsBegun y
   pub started : z.started ≡ y.started
   pub name : z.name ≡ y.name
+  pub text : z.text ≡ y.text

@@ -1,7 +1,7 @@
 //! The ledger's cell among cells: what is asked of it besides the visits of seats.
 
-ghost use Rattle.std.specs.Prelude.{◌≡◌, length, OnOk};
-ghost use Rattle.lg_seat.specs.Full.{ClosesFull, IsLedger};
+ghost use Rattle.std.specs.Prelude.{◌≡◌, length, OnErr, OnOk};
+ghost use Rattle.lg_seat.specs.Full.{ClosesFull, ClosesPending, IsLedger};
 ghost use Rattle.lg_seat.specs.KeptCell.{Keeps, ledger_seen};
 ghost use Rattle.lg_seat.specs.Steps.{items_of};
 
@@ -35,6 +35,20 @@ impl Cell {
         }
     }
 
+    /// Closes a block of what is pending in the ledger's cell, of as many entries as a block takes or else of
+    /// all, where any is. For want of memory nothing changes.
+    pub fn close_pending<H: Hash32>(&mut self, alloc: Global, h: H) -> Result<(), Memory>
+        requires { Keeps (H.digest h) self.old }
+        ensures closes { OnOk result (ClosesPending (H.digest h) self.old.cell self.new.cell) }
+        ensures keeps { Keeps (H.digest h) self.new }
+        ensures err { OnErr result (self.new ≡ self.old) }
+    {
+        match &mut self.kind {
+            Kind::Ledger(ledger) => close_next_block(alloc, h, ledger),
+            Kind::Catalog(_) | Kind::Rows(_) => Ok(()),
+        }
+    }
+
     /// The ledger's cell by itself.
     pub fn into_ledger(self) -> LedgerCell
         requires { IsLedger self.cell }
@@ -57,4 +71,18 @@ fn close_full_block<H: Hash32>(alloc: Global, h: H, ledger: &mut LedgerCell) -> 
         return Ok(());
     }
     ledger.close_block(alloc, h, size)
+}
+
+fn close_next_block<H: Hash32>(alloc: Global, h: H, ledger: &mut LedgerCell) -> Result<(), Memory>
+    requires { Keeps (H.digest h) (ledger_seen ledger.old) }
+    ensures closes { OnOk result
+        (ClosesPending (H.digest h) (ledger_seen ledger.old).cell (ledger_seen ledger.new).cell) }
+    ensures keeps { Keeps (H.digest h) (ledger_seen ledger.new) }
+    ensures err { OnErr result (ledger.new ≡ ledger.old) }
+{
+    if ledger.pending() == 0 {
+        return Ok(());
+    }
+    let count = ledger.next_count();
+    ledger.close_block(alloc, h, count)
 }

@@ -28,6 +28,7 @@ impl<H: Hash32> Seat<H> {
         ensures inside { IsUnderWay self.new }
         ensures started { self.new.started ≡ now }
         ensures name { self.new.name ≡ self.old.name }
+        ensures text { self.new.text ≡ text }
     {
         self.take_up(text, now);
         self.set_out(alloc);
@@ -40,6 +41,7 @@ impl<H: Hash32> Seat<H> {
         ensures begun { IsBegun self.new }
         ensures started { self.new.started ≡ now }
         ensures name { self.new.name ≡ self.old.name }
+        ensures text { self.new.text ≡ text }
     {
         self.started = now;
         self.text = text;
@@ -53,6 +55,7 @@ impl<H: Hash32> Seat<H> {
         ensures inside { IsUnderWay self.new }
         ensures started { self.new.started ≡ self.old.started }
         ensures name { self.new.name ≡ self.old.name }
+        ensures text { self.new.text ≡ self.old.text }
     {
         match self.make_ready(alloc) {
             Ok(()) => self.go_on(),
@@ -68,6 +71,7 @@ impl<H: Hash32> Seat<H> {
         ensures ready { OnOk result (IsReady self.new) }
         ensures started { self.new.started ≡ self.old.started }
         ensures name { self.new.name ≡ self.old.name }
+        ensures text { self.new.text ≡ self.old.text }
     {
         make_room(&mut self.running)?;
         let stmt = statement_in(alloc, self.text.as_str())?;
@@ -82,6 +86,7 @@ impl<H: Hash32> Seat<H> {
         ensures inside { IsUnderWay self.new }
         ensures started { self.new.started ≡ self.old.started }
         ensures name { self.new.name ≡ self.old.name }
+        ensures text { self.new.text ≡ self.old.text }
     {
         match refusal_of(&self.stmt, self.running.is_some(), self.images) {
             Some(refusal) => self.refuse(refusal),
@@ -98,6 +103,7 @@ impl<H: Hash32> Seat<H> {
         ensures inside { IsUnderWay self.new }
         ensures started { self.new.started ≡ self.old.started }
         ensures name { self.new.name ≡ self.old.name }
+        ensures text { self.new.text ≡ self.old.text }
     {
         self.point = Point::Inside(Stage::Answering(Answering {
             reply: Reply::Refused(refusal),
@@ -114,6 +120,7 @@ impl<H: Hash32> Seat<H> {
         ensures inside { IsUnderWay self.new }
         ensures started { self.new.started ≡ self.old.started }
         ensures name { self.new.name ≡ self.old.name }
+        ensures text { self.new.text ≡ self.old.text }
     {
         let Some(stmt) = &self.stmt else {
             unreachable!()
@@ -128,6 +135,7 @@ impl<H: Hash32> Seat<H> {
         ensures inside { IsUnderWay self.new }
         ensures started { self.new.started ≡ self.old.started }
         ensures name { self.new.name ≡ self.old.name }
+        ensures text { self.new.text ≡ self.old.text }
     {
         self.point = Point::Inside(Stage::Answering(Answering {
             reply: Reply::Refused(Refusal::E30),

@@ -2,7 +2,7 @@ mod Comes
 mod Ends
 mod Forms
 mod Joins
-mod Kept
+pub mod Kept
 mod Made
 mod Named
 mod Nexts

@@ -42,11 +42,9 @@ fn add_image(images: &mut Items<(u64, Blob)>, image: (u64, Blob)) -> Result<(), 
     images.insert(place, image)
 }
 
-/// Adds images one after another.
-pub(crate) fn add_images(
-    images: &mut Items<(u64, Blob)>,
-    more: Items<(u64, Blob)>,
-) -> Result<(), Memory>
+/// Adds images one after another to some that stand by rising number of items: each in its place, unless
+/// there is one of as many items. It takes time in proportion to the number of images for each.
+pub fn add_images(images: &mut Items<(u64, Blob)>, more: Items<(u64, Blob)>) -> Result<(), Memory>
     ensures { OnOk result (images.new ≡ with_images images.old more) }
 {
     for image in more.into_vec() {

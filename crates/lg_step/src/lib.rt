@@ -4,7 +4,7 @@
 mod images;
 mod leaving;
 mod lines;
-mod moment;
+mod moments;
 mod number;
 mod running;
 mod sessions;
@@ -12,5 +12,8 @@ mod settings;
 mod spelled;
 mod weaving;
 
+pub use images::add_images;
+pub use moments::moment;
 pub use running::{Ran, run_lines};
 pub use settings::Settings;
+pub use spelled::is_spelled;

@@ -8,7 +8,7 @@ ghost use Rattle.lg_input.specs.Line.{Statement, seen};
 ghost use Rattle.lg_step.specs.Moments.{said_with};
 ghost use Rattle.lg_step.specs.Reached.{AreOpen, Reached, asked};
 
-use crate::moment::moment;
+use crate::moments::moment;
 use crate::number::number_of;
 use lg_base::Clock;
 use lg_core::Core;

@@ -10,7 +10,7 @@ use lg_frames::legal_journals_keep_the_rules;
 use lg_journal::{Journal, texts_are_spelled};
 
 /// A legal journal has a spelling. Does nothing: it is there for its contract.
-pub(crate) fn is_spelled(journal: &Journal)
+pub fn is_spelled(journal: &Journal)
     ensures { IsLegalJournal statement_of journal.now → IsJournal journal.now }
 {
     legal_journals_keep_the_rules();

@@ -18,7 +18,7 @@ fn said<C: Clock>(given: Option<u64>, clock: &C) -> u64
 }
 
 /// The moment that is given, or else the one that the clock says, at most the greatest one.
-pub(crate) fn moment<C: Clock>(given: Option<u64>, clock: &C) -> u64
+pub fn moment<C: Clock>(given: Option<u64>, clock: &C) -> u64
     ensures said { IsMoment (said_with given (C.says clock.now)) result }
     ensures within { is_moment result ≡ true }
 {
