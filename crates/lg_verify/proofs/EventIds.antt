@@ -1,5 +1,5 @@
 -- The numbers of a transaction's events, told by the ids of all starts and ends in order.
-use Rattle.std.proofs.Common.{◌≡◌, ◌==◌, ℕ, Bool, List, [], ◌∷◌, ◌++◌, map, filter, flat_map, length, refl, sym, ap, ap₂, subst, ◌∙◌, is_lt, false, Option, Some, None}
+use Rattle.std.proofs.Common.{◌≡◌, ◌==◌, ℕ, Bool, List, [], ◌∷◌, ◌++◌, map, filter, flat_map, refl, sym, ap, ap₂, subst, ◌∙◌, is_lt, false, Option, Some, None}
 use Rattle.std.specs.Cmp.{IsTotalOrder, on_total, then_total, nat_cmp_total}
 use Rattle.std.specs.List.Sorted.{IsPermutation, IsSortedBy, IsNonDecreasingBy}
 use Rattle.std.specs.Ordering.{nat_cmp, ordering_then}
@@ -11,7 +11,6 @@ use Rattle.std.proofs.lemmas.List.Elements.{filter-append}
 use Rattle.std.proofs.lemmas.List.Sorted.{IsNonDecreasingBy-from_sort, IsPermutation-refl, IsPermutation-trans, IsPermutation-sym, IsPermutation-append, IsPermutation-map}
 use Rattle.lg_parts.proofs.Sorting.{same_elements}
 use Rattle.lg_types.specs.declared.event.Event.{Event}
-use Rattle.lg_types.specs.declared.version.Table.{Table}
 use Rattle.lg_types.specs.declared.version.Version.{Version}
 use Rattle.lg_model.specs.Catalog.{Tables}
 use Rattle.lg_model.specs.Events.{version_events, end_events, events_of, all_events}
@@ -25,7 +24,6 @@ use Rattle.lg_verify.specs.Shown.{rows_of}
 use Rattle.lg_verify.proofs.EntryRoots.{filter_seen}
 use Rattle.lg_verify.proofs.InRows.{numbered_moved}
 use Rattle.lg_verify.proofs.Sortings.{filter_sorted}
-use Rattle.lg_verify.proofs.Walks.{map_parts}
 
 pub ids_of_parts : (s : Shown) → flat_map version_ids (rows_of s).base ++ flat_map version_ids (rows_of s).history ≡ ids_shown s
 ids_of_parts s = sym (flat_map-append version_ids (rows_of s).base (rows_of s).history)

@@ -1,19 +1,16 @@
 -- What is left of an entry is told by the ids of all events.
-use Rattle.std.proofs.Common.{◌≡◌, ◌==◌, ℕ, Bool, true, false, cond, List, map, filter, refl, sym, ap, ◌∙◌, Option, Some, None}
+use Rattle.std.proofs.Common.{◌≡◌, ◌==◌, ℕ, Bool, true, false, cond, List, map, filter, ap, ◌∙◌, Option, Some}
 use Rattle.std.specs.Prelude.{not, option_map}
 use Rattle.std.specs.Ordering.{nat_cmp}
 use Rattle.lg_types.specs.declared.entry.TxEntry.{TxEntry}
-use Rattle.lg_types.specs.declared.event.Event.{Event}
 use Rattle.lg_model.specs.Catalog.{Tables}
-use Rattle.lg_model.specs.Events.{all_events}
 use Rattle.lg_model.specs.Rows.{EventId}
 use Rattle.lg_spell.specs.Least.{least}
 use Rattle.lg_verdict.specs.Entries.{TableRoot, are_numbered}
-use Rattle.lg_verify.specs.declared.groups.Fault.{Fault}
 use Rattle.lg_verify.specs.declared.groups.Fault.TheVariants.{Numbers, Root}
 use Rattle.lg_verify.specs.declared.shown.Shown.{Shown}
 use Rattle.lg_verify.specs.EventIds.{AreIds, number_in, tx_in}
-use Rattle.lg_verify.specs.Groups.{is_table, left_of, strange}
+use Rattle.lg_verify.specs.Groups.{left_of, strange}
 use Rattle.lg_verify.specs.Shown.{table_of}
 use Rattle.lg_verify.specs.WrongRoots.{is_shown}
 use Rattle.lg_verify.proofs.EventIds.{numbers_are}

@@ -2,11 +2,10 @@
 use Rattle.std.proofs.Common.{◌≡◌, ℕ, List, refl, sym, ap, ◌∙◌, Option, Some, None}
 use Rattle.lg_types.specs.declared.digest.HeldDigest.{HeldDigest}
 use Rattle.lg_types.specs.declared.image.Image.{Image}
-use Rattle.lg_verdict.specs.declared.place.Invariant.{Invariant}
 use Rattle.lg_verdict.specs.declared.place.Invariant.TheVariants.{V1, V2, V3, V4}
 use Rattle.lg_verdict.specs.declared.place.Place.{Place}
 use Rattle.lg_verdict.specs.declared.place.Verdict.{Verdict}
-use Rattle.lg_verdict.specs.declared.place.Verdict.TheVariants.{Yes, No}
+use Rattle.lg_verdict.specs.declared.place.Verdict.TheVariants.{Yes}
 use Rattle.lg_verdict.specs.Blocks.{block_fault, chain_fault, digest_fault}
 use Rattle.lg_verdict.specs.Entries.{id_fault, root_fault}
 use Rattle.lg_verdict.specs.Verdict.{failed_or, image_verdict}

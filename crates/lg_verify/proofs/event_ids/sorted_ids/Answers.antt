@@ -1,4 +1,4 @@
-use Rattle.std.proofs.Common.{List, ◌++◌, ap, sym, ◌∙◌, map, flat_map}
+use Rattle.std.proofs.Common.{List, ◌++◌, ap, sym, ◌∙◌, flat_map}
 use Rattle.lg_model.specs.Lists.{sorted}
 use Rattle.lg_model.specs.Rows.{EventId, event_cmp}
 use Rattle.lg_verify.specs.EventIds.{ids_in, ids_shown}
