@@ -131,3 +131,9 @@ numbered_sorted xs ys moved up =
     (λ n le lt. eq-eqb (count n xs) 1 (sym (same_counts xs ys moved n) ∙ from_range 0 ys is n (omega arith) (omega (arith, lt, long)))))
     (λ are. to_range 0 ys (rises ys up) (all_at 0 ys (λ j lt. zero-le))
     (λ n le lt. same_counts xs ys moved n ∙ eqb-true (count n xs) 1 (all_from (λ m. count m xs == 1) 0 (length xs) are n (omega arith) (omega (arith, lt, long)))))
+
+-- numbers in another order
+pub numbered_moved : (xs ys : List ℕ) → IsPermutation xs ys → are_numbered ys ≡ are_numbered xs
+numbered_moved xs ys moved =
+    let long : length ys ≡ length xs = omega (arith, length_permutation xs ys moved) in
+    ap₂ (λ (f : ℕ → ℕ) (n : ℕ). list_all (λ k. f k == 1) (range_with_len 0 n)) (λ i n. same_counts xs ys moved n i) long

@@ -1,10 +1,13 @@
 pub mod Bad
 pub mod Counts
 pub mod EntryPlaces
+pub mod EventIds
 pub mod FirstValues
 pub mod Fitting
 pub mod GroupParts
 pub mod Grouped
+pub mod GroupsMerge
+pub mod IdsAt
 pub mod InRows
 pub mod LeafOrder
 pub mod EntryPositions
@@ -12,6 +15,7 @@ pub mod EntryRoots
 pub mod Folds
 pub mod InRuns
 pub mod LeastParts
+pub mod LeftParts
 pub mod MergedFaults
 pub mod Leaves
 pub mod Neighbours
@@ -29,6 +33,7 @@ pub mod Strangers
 pub mod TableFaults
 pub mod TableRoots
 pub mod Tables
+pub mod VerdictParts
 pub mod Verdicts
 pub mod Walks
 pub mod WorstParts

@@ -1,5 +1,5 @@
 -- Groups of the tables of an image, which may be gone through apart: what each finds, and what is left.
-use Rattle.std.specs.Prelude.{ℕ, zero, suc, ◌==◌, not, Bool, if◌then◌else◌, List, [], ◌∷◌, map, flat_map, take, drop, Option, Some, None, option_map}
+use Rattle.std.specs.Prelude.{ℕ, zero, suc, ◌≡◌, ◌==◌, not, Bool, if◌then◌else◌, List, [], ◌∷◌, map, flat_map, take, drop, Option, Some, None, option_map}
 use Rattle.std.specs.List.{filter, list_any}
 use Rattle.std.specs.Ordering.{nat_cmp}
 use Rattle.std.specs.declared.cmp.Ordering.{Ordering}
@@ -16,12 +16,13 @@ use Rattle.lg_image.specs.Tables.{defs_in, tables_in}
 use Rattle.lg_spell.specs.Least.{least, lesser_of}
 use Rattle.lg_verdict.specs.declared.place.Place.{Place}
 use Rattle.lg_verdict.specs.declared.place.Place.TheVariants as at
-use Rattle.lg_verdict.specs.Entries.{TableRoot, are_numbered, least_event, root_at, same_root}
+use Rattle.lg_verdict.specs.Entries.{TableEvent, TableRoot, are_numbered, event_place, least_event, root_at, same_root, table_event_cmp}
 use Rattle.lg_verdict.specs.Indexes.{first_table}
 use Rattle.lg_verdict.specs.Versions.{bad_versions}
 use Rattle.lg_verdict.specs.Groups.{Found, first_found, found_cmp}
 use Rattle.lg_verify.specs.declared.groups.Fault.{Fault}
 use Rattle.lg_verify.specs.declared.groups.Fault.TheVariants.{Numbers, Root}
+use Rattle.lg_verify.specs.declared.groups.GroupFaults.{GroupFaults}
 
 -- so many tables of an image, from the one at this place on
 abbrev pub group_of : ℕ → ℕ → Image → Tables
@@ -39,6 +40,15 @@ index_in from count i = first_table (take count (drop from (defs_in i))) (take c
 abbrev pub if_none : Option Place → Option Place → Option Place
 if_none None second = second
 if_none (Some first) second = None
+
+-- the event that a place names, if it names one
+abbrev pub event_at : Option Place → Option TableEvent
+event_at (Some (at.Event table tx seq)) = Some (table, (tx, seq))
+event_at _ = None
+
+-- the lesser of what two groups find of their versions
+abbrev pub lesser_version : Option Place → Option Place → Option Place
+lesser_version a b = event_place (lesser_of table_event_cmp (event_at a) (event_at b))
 
 -- one of these tables has this id
 abbrev pub is_table : Tables → ℕ → Bool
@@ -61,6 +71,12 @@ module _ (h : List ℕ → List ℕ) where
   -- the place of the first entry that is wrong in one of these tables, and the least of them
   unfoldable pub wrong_root : Tables → List TxEntry → Option (Found ℕ)
   wrong_root tables entries = first_found (λ k e. least nat_cmp (wrong_in tables e)) entries
+
+  -- what a group finds in so many tables of an image, from the one at this place on
+  pub record AreFaults (from count : ℕ) (i : Image) (f : GroupFaults) : Type 0 where
+    pub root : f.root ≡ wrong_root (group_of from count i) i.entries
+    pub version : f.version ≡ version_in i.entries (group_of from count i)
+    pub index : f.index ≡ if_none f.version (index_in from count i)
 
 -- ---- what is left
 

@@ -1,4 +1,5 @@
 pub mod Entries
+pub mod EventIds
 pub mod Groups
 pub mod Ids
 pub mod Indexes

@@ -4,6 +4,7 @@
 mod blocks;
 mod columns;
 mod entries;
+mod event_ids;
 mod first_values;
 mod groups;
 mod ids;
@@ -11,7 +12,9 @@ mod indexes;
 mod items;
 mod keys;
 mod least;
+mod leftover;
 mod marks;
+mod merged;
 mod names;
 mod numbers;
 mod order;
@@ -22,8 +25,10 @@ mod shown;
 mod spelling;
 mod verdict;
 mod versions;
+mod workers;
 
 pub use groups::{Fault, GroupFaults, group_faults, root_fault_is_merged, roots_of_groups_merge};
 pub use lg_types::HeldDigest;
 pub use lg_verdict::{Invariant, Place, Verdict};
 pub use verdict::{verify, verify_image};
+pub use workers::{verify_image_with_workers, verify_with_workers};
