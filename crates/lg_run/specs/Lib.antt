@@ -1,0 +1,4 @@
+pub mod CameTo
+pub mod Finished
+pub mod Seated
+pub mod Wrote
