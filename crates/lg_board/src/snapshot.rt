@@ -46,10 +46,13 @@ impl<W: World> Board<W> {
         requires out { (seat_out seat.old ≡ all_out 0 cells.old.items [])
             × (vec_len cells.old ≤ board_cells self.now) }
         requires may { (i : ℕ) (c : W.Cell) (out : List (ℕ × W.Cell)) → seat_out seat.old ≡ (i, c) ∷ out
+            → get_elem? cells.old.items i ≡ some c
             → (t : W.Seat) × W.may (seat_state seat.old) (seat_out seat.old) i c t × P.after t }
         ensures seat { IsSameSeat seat.old seat.new × (seat_parts seat.new ≡ seat_parts seat.old) }
         ensures out { (seat_out seat.new ≡ all_out 0 cells.new.items [])
             × (vec_len cells.new ≤ vec_len cells.old) }
+        ensures left { (i : ℕ) (c : W.Cell) → get_elem? cells.new.items i ≡ some c
+            → get_elem? cells.old.items i ≡ some c }
         ensures more { MatchBool result
             (P.after (seat_state seat.new) × (vec_len cells.new < vec_len cells.old))
             ((seat_state seat.new ≡ seat_state seat.old) × (vec_len cells.old ≡ 0) × (cells.new.items ≡ [])) }
@@ -67,15 +70,17 @@ impl<W: World> Board<W> {
     /// the seat knows from then on.
     ///
     /// The snapshot is one visit, the first of the gives, at which all cells are out (`visit`). The other
-    /// gives change neither a cell nor what the seat knows, and the world has to allow that (`nothing`).
+    /// gives change neither a cell nor what the seat knows, and the world has to allow that (`nothing`). Both
+    /// are asked of these cells alone, each at its place.
     pub fn give_all<P: After<W::Seat>>(&self, seat: &mut BoardSeat<W>, mut cells: Vec<W::Cell>)
         requires seat { IsSeatOf self.now seat.old }
         requires out { (seat_out seat.old ≡ all_out 0 cells.items [])
             × (vec_len cells ≡ board_cells self.now) }
         requires visit { (i : ℕ) (c : W.Cell) (out : List (ℕ × W.Cell)) → seat_out seat.old ≡ (i, c) ∷ out
+            → get_elem? cells.items i ≡ some c
             → (t : W.Seat) × W.may (seat_state seat.old) (seat_out seat.old) i c t × P.after t }
-        requires nothing { (i : ℕ) (c : W.Cell) (out : List (ℕ × W.Cell)) (t : W.Seat) → P.after t
-            → W.may t ((i, c) ∷ out) i c t }
+        requires nothing { (i : ℕ) (c : W.Cell) (out : List (ℕ × W.Cell)) (t : W.Seat)
+            → get_elem? cells.items i ≡ some c → P.after t → W.may t ((i, c) ∷ out) i c t }
         ensures seat { IsSameSeat seat.old seat.new × (seat_parts seat.new ≡ seat_parts seat.old) }
         ensures state { P.after (seat_state seat.new) × (seat_out seat.new ≡ []) }
     {

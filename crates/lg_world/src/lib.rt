@@ -5,5 +5,5 @@
 mod giving;
 mod world;
 
-pub use giving::give_with;
+pub use giving::{give_all_with, give_with};
 pub use world::{Known, LedgerWorld, ServedCell, Serving};
