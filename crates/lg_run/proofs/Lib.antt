@@ -1,0 +1,6 @@
+mod ClosingPending
+mod FirstStand
+mod Ready
+mod Telling
+mod Together
+mod WholeRun
