@@ -1,14 +1,14 @@
-mod AllCells
-mod Calls
-mod Deeds
-mod Ends
-mod FirstCells
-mod Holding
-mod Midways
-mod OneServer
-mod Pairs
-mod Pending
-mod Servers
-mod Texts
-mod Turns
-mod Within
+pub mod AllCells
+pub mod Calls
+pub mod Deeds
+pub mod Ends
+pub mod FirstCells
+pub mod Holding
+pub mod Midways
+pub mod OneServer
+pub mod Pairs
+pub mod Pending
+pub mod Servers
+pub mod Texts
+pub mod Turns
+pub mod Within

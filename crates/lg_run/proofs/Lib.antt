@@ -1,5 +1,6 @@
 mod ClosingPending
 mod FirstStand
+mod Leaves
 mod Ready
 mod Telling
 mod Together

@@ -8,12 +8,11 @@ use Rattle.lg_history.specs.Transcripts.{Transcript}
 use Rattle.lg_journal.specs.Rules.{IsJournal}
 use Rattle.lg_plan.specs.Plan.{Plan, Section}
 use Rattle.lg_standing.specs.Seats.{KeptImage}
-use Rattle.lg_step.specs.Came.{last_image_bytes}
 use Rattle.lg_step.specs.Images.{AreKept}
 use Rattle.lg_step.specs.Moments.{IsMoment}
 use Rattle.lg_step.specs.declared.running.Ran.{Ran}
 use Rattle.lg_together.specs.CameTo as together
-use Rattle.lg_together.specs.CameTo.{Left}
+use Rattle.lg_together.specs.CameTo.{Left, last_image_bytes}
 use Rattle.lg_transcript.specs.TranscriptText.{transcript_text}
 use Rattle.lg_run.specs.Finished.{setup_name}
 

@@ -11,14 +11,31 @@ ghost use Rattle.lg_together.specs.CameTo.{Left};
 ghost use Rattle.lg_types.specs.declared.journal.TheConstants.{MAX_BLOCK};
 ghost use Rattle.lg_run.specs.CameTo.{CameTo, IsOf};
 
+use crate::leaving::left_by;
+use crate::whole::run_over;
 use lg_base::{Clock, Gate};
 use lg_items::Memory;
 use lg_merkle::Hash32;
 use lg_plan::Plan;
-use lg_step::{Ran, Settings};
+use lg_server::there_is_such_a_server;
+use lg_step::{Ran, Settings, is_spelled};
+use lg_together::runs_side_by_side_agree;
 use std::alloc::Global;
+use std::marker::Brand;
 use std::sync::Wait;
 use std::thread::Threads;
+
+/// How many statements the plan has.
+fn statement_count(plan: &Plan<'_>) -> u32
+    requires { size_of (plan_view plan.now) < 2 ^ 31 }
+    ensures { result < 2 ^ 31 }
+{
+    let mut count = plan.setup.len();
+    for session in &plan.sessions {
+        count += session.statements.len();
+    }
+    count as u32
+}
 
 /// Runs the plan on an empty database: the setup to its end, as the session `setup`, and then all sessions
 /// side by side, each in a thread of its own, while a builder closes blocks. What is written and saved of it
@@ -47,6 +64,14 @@ pub fn run_all<H: Hash32, C: Clock, G: Gate, R: Threads + Wait + Sync>(
         (said_with how.entry.clock (C.says clock.now)) (plan_view plan.now) left
         × IsOf (H.digest hasher) left r) }
 {
-    let _ = (rt, alloc, hasher, how, plan, clock, gate);
-    Err(Memory)
+    let visits = statement_count(plan) + 1;
+    let finished = run_over::<Brand, H, C, G, R>(
+        rt, alloc, hasher, how, plan, visits, clock, gate,
+    )?;
+    let ran = left_by(alloc, finished)?;
+    // Laws: they do nothing.
+    is_spelled(&ran.journal);
+    runs_side_by_side_agree();
+    there_is_such_a_server();
+    Ok(ran)
 }

@@ -1,12 +1,12 @@
-mod Comes
-mod Ends
-mod Forms
-mod Joins
+pub mod Comes
+pub mod Ends
+pub mod Forms
+pub mod Joins
 pub mod Kept
-mod Made
-mod Named
-mod Nexts
-mod OneList
-mod Places
-mod Steps
-mod Whole
+pub mod Made
+pub mod Named
+pub mod Nexts
+pub mod OneList
+pub mod Places
+pub mod Steps
+pub mod Whole

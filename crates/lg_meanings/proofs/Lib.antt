@@ -1,0 +1,3 @@
+mod Agrees
+mod Real
+mod Same

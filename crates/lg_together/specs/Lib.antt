@@ -1,0 +1,2 @@
+pub mod CameTo
+pub mod Threads

@@ -1,0 +1,54 @@
+-- What threads leave whose seats were all joined into one.
+use Rattle.std.specs.Prelude.{ℕ, ◌≡◌, ◌≤◌, ◌^◌, true, List, ◌∷◌, map}
+use mathlib.Core.Option.{some}
+use lib.ListN.{get_elem?}
+use Rattle.lg_items.specs.DatabaseName.{is_database_name}
+use Rattle.lg_items.specs.Moment.{is_moment}
+use Rattle.lg_items.specs.SessionName.{is_session_name}
+use Rattle.lg_history.specs.Inputs.{InputSession}
+use Rattle.lg_history.specs.Lists.{Text, Each}
+use Rattle.lg_images.specs.Room.{HasRoom}
+use Rattle.lg_parse.specs.Text.{statement_of}
+use Rattle.lg_standing.specs.Cells.{Cell, Ledger, LedgerCell, ledger_at}
+use Rattle.lg_standing.specs.JournalForms.{journal_in}
+use Rattle.lg_standing.specs.Reordered.{NamesApart}
+use Rattle.lg_standing.specs.Seats.{Written}
+use Rattle.lg_standing.specs.Server.{Server}
+use Rattle.lg_server.specs.Serves.{Serves}
+use Rattle.lg_course.specs.Wrote.{transcripts_in}
+use Rattle.lg_joined.specs.Joined.{IsJoined, KnewThatOver}
+use Rattle.lg_joined.specs.Together.{session_in}
+use Rattle.lg_together.specs.CameTo.{Left}
+
+-- On some server that reads by the grammar and hashes with h, one seat is left, which has all transcripts:
+-- those of this input, `setup` first. What is left of the run is what it wrote and what the ledger's cell has.
+pub record HasJoined (h : List ℕ → List ℕ) (database : Text) (size : ℕ) (IsSaid : ℕ → Type 0)
+    (input : List InputSession) (r : Left) : Type 0 where
+  pub v : Server
+  pub serves : Serves h statement_of v
+  pub cells : List Cell
+  -- of `setup`, and of the sessions that began when it was known to be over
+  pub first : Written
+  pub others : List Written
+  pub joined : IsJoined v cells (first ∷ others)
+  pub knew : KnewThatOver first others
+  pub ledger : LedgerCell
+  pub there : get_elem? cells ledger_at ≡ some (Ledger ledger)
+  pub of_database : ledger.database ≡ database
+  pub of_size : ledger.block_size ≡ size
+  -- they are those of the input, whose sessions have names of their own
+  pub input_is : map session_in (transcripts_in (first ∷ others)) ≡ input
+  pub apart : NamesApart (map (λ s. s.name) input)
+  -- names and moments have their forms, and 8 bytes can tell each id
+  pub database_is_named : is_database_name database ≡ true
+  pub sessions_are_named : Each (λ s. is_session_name s.name ≡ true) input
+  pub moments : Each (λ w. Each IsSaid w.moments) (first ∷ others)
+  pub are_moments : (time : ℕ) → IsSaid time → is_moment time ≡ true
+  pub ids : ledger.next ≤ 2 ^ 63
+  -- the journal's image has room in the format
+  pub room : HasRoom h statement_of database ledger.items
+  -- and this is left of it
+  pub transcripts : r.X ≡ transcripts_in (first ∷ others)
+  pub kept : r.kept ≡ map (λ w. w.images) (first ∷ others)
+  pub journal : r.J ≡ journal_in ledger
+  pub digests : r.G ≡ ledger.issued

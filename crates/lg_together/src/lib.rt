@@ -1,0 +1,6 @@
+//! What a run of sessions side by side comes to.
+#![tactic(auto)]
+
+mod laws;
+
+pub use laws::runs_side_by_side_agree;
