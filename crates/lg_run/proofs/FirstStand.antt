@@ -1,12 +1,12 @@
 -- The cells of a database at its beginning stand together with its first seat.
-use Rattle.std.proofs.Common.{◌≡◌, ◌≤◌, ℕ, zero, suc, List, [], ◌∷◌, map, refl, sym, ap, subst, ◌∙◌}
+use Rattle.std.proofs.Common.{◌≡◌, ◌≤◌, ℕ, zero, suc, List, [], ◌∷◌, length, map, refl, sym, ap, subst, ◌∙◌}
 use mathlib.Core.Option.{some}
 use lib.ListN.{get_elem?}
 use Rattle.lg_core.specs.FirstCells.{all_empty, empty_kept, first_kept}
 use Rattle.lg_history.specs.Lists.{Text, Each}
 use Rattle.lg_model.specs.Limits.{max_block}
 use Rattle.lg_seat.specs.KeptCell.{KeptCell, Keeps}
-use Rattle.lg_standing.specs.Cells.{Cell, Catalog, Ledger, LedgerCell, empty_cells, first_catalog, first_cells, first_ledger, ledger_at}
+use Rattle.lg_standing.specs.Cells.{Cell, Catalog, Ledger, LedgerCell, cell_count, empty_cells, first_catalog, first_cells, first_ledger, ledger_at}
 use Rattle.lg_standing.specs.May.{first_seat}
 use Rattle.lg_standing.specs.Seats.{SeatState}
 use Rattle.lg_standing.specs.StandTogether.{Stands, StandTogether}
@@ -51,3 +51,6 @@ module _ (d : Served) (database : Text) (size : ℕ) (some_size : 1 ≤ size) (m
     together = subst (λ (cs : List Cell). StandTogether d.server cs (first_seat cs ∷ [])) (sym (first_same database size)) together;
     of = subst (λ (cs : List Cell). (l : LedgerCell) → get_elem? cs ledger_at ≡ some (Ledger l) → IsOf d l) (sym (first_same database size)) (is_of same_database same_size);
   }
+
+pub first_count : (database : Text) (size : ℕ) → length (first_kept database size) ≡ cell_count
+first_count database size = refl
