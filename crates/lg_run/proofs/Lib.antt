@@ -1,1 +1,7 @@
+mod ClosingPending
+mod FirstStand
 mod Leaves
+mod Ready
+mod Telling
+mod Together
+mod WholeRun

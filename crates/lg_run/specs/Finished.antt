@@ -1,8 +1,10 @@
 -- What a plan is to be, and what its threads leave when all have ended.
-use Rattle.std.specs.Prelude.{ℕ, ◌≡◌, ◌+◌, ◌<◌, ◌^◌, ◌++◌, true, List, [], ◌∷◌, codes, length}
+use Rattle.std.specs.Prelude.{ℕ, ◌≡◌, ◌+◌, ◌<◌, ◌^◌, ◌++◌, true, List, [], ◌∷◌, codes, length, Result, Ok, Err, Vec}
+use Rattle.std.specs.declared.alloc.Global.{Global}
 use mathlib.Core.Option.{some}
 use lib.ListN.{get_elem?}
 use Rattle.lg_items.specs.SessionName.{is_session_name}
+use Rattle.lg_items.specs.declared.memory.Memory.{Memory}
 use Rattle.lg_board.specs.Boards.{AllElse, IsSeatOf, seat_out, seat_parts, seat_state}
 use Rattle.lg_board.specs.declared.board.Board.{Board}
 use Rattle.lg_board.specs.declared.board.BoardSeat.{BoardSeat}
@@ -26,12 +28,20 @@ AreRunnable sections = Each IsRunnable sections
 
 -- two seats of a board became one, and what both parts left stands one behind the other
 pub record IsUnited {W C : Type 0} {g : Ghosts W C SeatState} (b : Board W C SeatState)
-    (first second united : BoardSeat W C SeatState g × List SessionEnd) : Type 0 where
+    (first second united : BoardSeat W C SeatState g × Vec SessionEnd Global) : Type 0 where
   pub of : IsSeatOf b united.0
   pub parts : seat_parts united.0 ≡ seat_parts first.0 + seat_parts second.0
   pub out : seat_out united.0 ≡ []
   pub state : seat_state united.0 ≡ joined (seat_state first.0) (seat_state second.0)
-  pub ends : united.1 ≡ first.1 ++ second.1
+  pub ends : united.1.items ≡ first.1.items ++ second.1.items
+
+-- then neither part lacked memory
+abbrev pub AreUnited : {W C : Type 0} {g : Ghosts W C SeatState} → Board W C SeatState
+    → Result (BoardSeat W C SeatState g × Vec SessionEnd Global) Memory
+    → Result (BoardSeat W C SeatState g × Vec SessionEnd Global) Memory
+    → BoardSeat W C SeatState g × Vec SessionEnd Global → Type 0
+AreUnited b (Ok first) (Ok second) united = IsUnited b first second united
+AreUnited b _ _ united = ⊥
 
 -- ---- the end
 

@@ -8,7 +8,7 @@ ghost use Rattle.lg_server.specs.Serves.{Serves};
 ghost use Rattle.lg_standing.specs.Cells.{cell_count};
 ghost use Rattle.lg_standing.specs.Seats.{IsAtRest};
 ghost use Rattle.lg_step.specs.Moments.{said_with};
-ghost use Rattle.lg_run.specs.Finished.{AreRunnable, IsUnited};
+ghost use Rattle.lg_run.specs.Finished.{AreRunnable, AreUnited};
 ghost use Rattle.lg_run.specs.Seated.{IsIdle};
 ghost use Rattle.lg_run.specs.Wrote.{HaveWritten};
 
@@ -79,9 +79,9 @@ fn unite<K: Serving>(board: &Cells<K>, first: Part<K>, second: Part<K>) -> Part<
     requires first { IfOk first (λ r. IsSeatOf board.now r.0 × (seat_out r.0 ≡ [])) }
     requires second { IfOk second (λ r. IsSeatOf board.now r.0 × (seat_out r.0 ≡ [])
         × IsAtRest (seat_state r.0).role) }
-    ensures { IfOk result (λ r. IfOk first (λ a. IfOk second (λ b. IsUnited board.now a b r))) }
+    ensures { IfOk result (AreUnited board.now first second) }
 {
-    let (mut place, mut ends) = first?;
+    let (mut place, ends) = first?;
     let (other, more) = second?;
     board.join(&mut place, other);
     Ok((place, both(ends, more)?))

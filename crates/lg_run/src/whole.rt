@@ -7,6 +7,7 @@ ghost use Rattle.lg_core.specs.FirstCells.{first_kept};
 ghost use Rattle.lg_parse.specs.Text.{statement_of};
 ghost use Rattle.lg_server.specs.Serves.{Serves};
 ghost use Rattle.lg_standing.specs.Cells.{cell_count};
+ghost use Rattle.lg_standing.specs.Seats.{split};
 ghost use Rattle.lg_step.specs.Moments.{said_with};
 ghost use Rattle.lg_types.specs.declared.journal.TheConstants.{MAX_BLOCK};
 ghost use Rattle.lg_run.specs.Finished.{AreRunnable, HasFinished, setup_name};
@@ -19,7 +20,6 @@ use crate::session::session_job;
 use crate::shared::{Cells, Place};
 use crate::worker::{Job, SessionEnd};
 use lg_base::{Clock, Gate, OpenGate};
-use lg_board::Board;
 use lg_core::first_cells;
 use lg_items::{Memory, Name};
 use lg_merkle::Hash32;
@@ -40,7 +40,7 @@ pub(crate) struct Finished {
     pub ends: Vec<SessionEnd>,
 }
 
-// Runs the setup to its end, at a seat of its own. The gate isn't passed.
+// Runs the setup to its end, at a seat of its own, which is taken in again. The gate isn't passed.
 fn run_setup<K: Serving, H: Hash32, C: Clock, R: Wait>(
     rt: &R,
     alloc: Global,
@@ -61,7 +61,7 @@ fn run_setup<K: Serving, H: Hash32, C: Clock, R: Wait>(
         × (seat_parts place.new ≡ seat_parts place.old) × (seat_out place.new ≡ [])) }
     ensures idle { IfOk result (λ _. IsIdle (seat_state place.new)) }
     ensures wrote { IfOk result (λ end. HasWritten (said_with moment (C.says clock.now)) setup_name
-        (texts_in statements.now) end (known_by (seat_state place.old))
+        (texts_in statements.now) end (known_by (split (seat_state place.old) 1))
         (seat_state place.old).written (seat_state place.new)) }
 {
     let mut other = board.split(place, 1);
@@ -185,7 +185,7 @@ pub(crate) fn run_over<K: Serving, H: Hash32, C: Clock, G: Gate, R: Threads + Wa
 {
     let database = Name::of_str(alloc, how.database)?;
     let cells = first_cells(alloc, database, how.block_size)?;
-    let (board, mut place) = Board::new(alloc, cells, plan.sessions.len() as u32 + 2)?;
+    let (board, mut place) = Cells::<K>::new(alloc, cells, plan.sessions.len() as u32 + 2)?;
     let setup = run_setup(
         rt,
         alloc,
