@@ -134,7 +134,7 @@ entries_joined name [] = refl
 entries_joined name (e ∷ es) = ap (λ (b : List ℕ). entry_text name e ++ b) (entries_joined name es)
 
 all_text : (ws : List Written) → joined_each (map shown_of ws) ≡ transcripts_text (transcripts_in ws)
-unfolding transcripts_text, transcript_text
+unfolding transcripts_text transcript_text
 all_text [] = refl
 all_text (w ∷ ws) = ap₂ (λ (a b : List ℕ). a ++ b) (entries_joined w.transcript.session w.transcript.entries) (all_text ws)
 

@@ -2,6 +2,7 @@ mod ClosingPending
 mod FirstStand
 mod Going
 mod Leaves
+mod Ledgers
 mod Over
 mod Ready
 mod Seating

@@ -59,8 +59,11 @@ module _ {C : Type 0} where
     all_are_out cells count = record {
       are_out = outs_are_seen cell cells (board.all_out 0 cells [])
           (all_stand cells 0 cells [] (λ k c e. subst (λ (m : ℕ). get_elem? cells m ≡ some c) (let q : k ≡ 0 + k = omega arith in q) e) tt);
-      all = λ i l. let g = got cells i (omega (arith, l, count)) in (cell g.0, seen_in (board.all_out 0 cells []) (i, g.0)
-          (subst (λ (m : ℕ). In (m, g.0) (board.all_out 0 cells [])) (let q : 0 + i ≡ i = omega arith in q) (is_out 0 cells [] i g.0 g.1)));
+      all = λ i l. let g = got cells i (omega (arith, l, count)) in (
+        cell g.0,
+        seen_in (board.all_out 0 cells []) (i, g.0)
+            (subst (λ (m : ℕ). In (m, g.0) (board.all_out 0 cells [])) (let q : 0 + i ≡ i = omega arith in q) (is_out 0 cells [] i g.0 g.1)),
+      );
     }
 
 -- ---- an image
@@ -85,10 +88,14 @@ module _ {H C : Type 0} (digest : H → List ℕ → List ℕ) (says : C → ℕ
   -- the first cell that is given back makes the visit
   pub image_may : length cells ≡ cell_count → (out : List (ℕ × KeptCell)) → out ≡ board.all_out 0 cells [] → (i : ℕ) (c : KeptCell) (rest : List (ℕ × KeptCell)) → out ≡ (i, c) ∷ rest → get_elem? cells i ≡ some c
       → (t : SeatState) × MayVisit (λ (c : KeptCell). c.cell) Keeps d s out i c t × IsSeated digest says (known_by s) s.written (at job (seated y z) n kept) t
-  image_may count out all i c rest first here = (visited.t, record {
-    kept = keeps_there digest says d job serves y n None s ahead cells seats j stands there i c here;
-    may = may_behind d.server s ahead.t visited.t (outs_seen (λ (c : KeptCell). c.cell) out) i c.cell ahead.steps
-        (subst (λ (o : List (ℕ × KeptCell)). May d.server ahead.t (outs_seen (λ (c : KeptCell). c.cell) o) i c.cell visited.t) (sym first)
-        (visited.may i c.cell (outs_seen (λ (c : KeptCell). c.cell) rest) (subst (λ (o : List (ℕ × KeptCell)). AllOut (map (λ (c : KeptCell). c.cell) cells) (outs_seen (λ (c : KeptCell). c.cell) o)) (sym all ∙ first)
-        (all_are_out (λ (c : KeptCell). c.cell) cells count))));
-  }, image_seated)
+  image_may count out all i c rest first here = (
+    visited.t,
+    record {
+      kept = keeps_there digest says d job serves y n None s ahead cells seats j stands there i c here;
+      may = may_behind d.server s ahead.t visited.t (outs_seen (λ (c : KeptCell). c.cell) out) i c.cell ahead.steps
+          (subst (λ (o : List (ℕ × KeptCell)). May d.server ahead.t (outs_seen (λ (c : KeptCell). c.cell) o) i c.cell visited.t) (sym first)
+          (visited.may i c.cell (outs_seen (λ (c : KeptCell). c.cell) rest) (subst (λ (o : List (ℕ × KeptCell)). AllOut (map (λ (c : KeptCell). c.cell) cells) (outs_seen (λ (c : KeptCell). c.cell) o)) (sym all ∙ first)
+          (all_are_out (λ (c : KeptCell). c.cell) cells count))));
+    },
+    image_seated,
+  )

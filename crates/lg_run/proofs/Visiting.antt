@@ -151,7 +151,11 @@ module _ {H C : Type 0} (digest : H → List ℕ → List ℕ) (says : C → ℕ
 module _ {H C : Type 0} (says : C → ℕ → Type 0) (d : Served) (z : Worker H C) (s : SeatState) (left : HasLeft says d.server z s) where
   pub settle_may : (i : ℕ) (c : KeptCell) → Keeps d.server.hash c → (out : List (ℕ × KeptCell)) → out ≡ (i, c) ∷ []
       → (t : SeatState) × MayVisit (λ (c : KeptCell). c.cell) Keeps d s out i c t × HasWritten (says_in says z.job) z.job.name.now (texts_in z.job.statements.now) (left_of z) (known_by s) s.written t
-  settle_may i c keeps out e = (left.t, subst (λ (o : List (ℕ × KeptCell)). MayVisit (λ (c : KeptCell). c.cell) Keeps d s o i c left.t) (sym e) (record {
-    kept = keeps;
-    may = record { visit = nothing; old = c.cell; rest = []; is_out = refl; begun = left.t; before = left.steps; ended = left.t; happens = (refl, refl); after = none };
-  }), left.wrote)
+  settle_may i c keeps out e = (
+    left.t,
+    subst (λ (o : List (ℕ × KeptCell)). MayVisit (λ (c : KeptCell). c.cell) Keeps d s o i c left.t) (sym e) (record {
+      kept = keeps;
+      may = record { visit = nothing; old = c.cell; rest = []; is_out = refl; begun = left.t; before = left.steps; ended = left.t; happens = (refl, refl); after = none };
+    }),
+    left.wrote,
+  )
