@@ -9,7 +9,7 @@ pub loop-preserved : goal.loop-preserved
 loop-preserved g c =
     let inv = c.loop.invariant in
     let visit = c.in_ok-visit_next.ensures in
-    let stays = MatchBool-at_true _ _ c.if-branch.true visit.next in (
+    let stays = MatchBool-at_true _ _ c.if-not-branch.false visit.next in (
       visit.place.0 ∙ inv.0,
       visit.place.1 ∙ inv.1,
       visit.place.2,
