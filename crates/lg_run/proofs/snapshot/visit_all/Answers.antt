@@ -10,8 +10,8 @@ use Rattle.lg_run.proofs.Snapshots.{image_may, kept_is}
 use Rattle.lg_run.proofs.Visiting.{among_all}
 use Rattle.lg_run.proofs.snapshot.visit_all.Goals as goal
 
-pub visit_all-requires-clause-given : goal.visit_all-requires-clause-given
-visit_all-requires-clause-given g c κs within =
+pub visit_all-requires-after_bounds : goal.visit_all-requires-after_bounds
+visit_all-requires-after_bounds g c κs within =
     let r = c.requires in
     let z = c.args.worker.now in
     let s = seat_state c.take_all.new.seat in

@@ -13,8 +13,8 @@ take-held-requires-clause-cell g c =
     (near g.H.Hash32.digest g.C.Clock.says g.K.Serving.database z.job r.serves z.session z.taken z.image
     (seat_state c.args.place.now) r.ahead c.args.cell r.needs)
 
-pub visit-requires-clause-given : goal.visit-requires-clause-given
-visit-requires-clause-given g c κs within =
+pub visit-requires-after_bounds : goal.visit-requires-after_bounds
+visit-requires-after_bounds g c κs within =
     let r = c.requires in
     let z = c.args.worker.now in
     let s = seat_state c.take-held.new.seat in
