@@ -1,5 +1,5 @@
 -- A session is over, and its transcript is written behind those that its seat has.
-use Rattle.std.proofs.Common.{◌≡◌, ℕ, zero, suc, List, [], ◌∷◌, ◌++◌, Option, Some, None, append-nil, length, map, take, refl, sym, ap, subst, ◌∙◌}
+use Rattle.std.proofs.Common.{◌≡◌, ℕ, List, [], ◌∷◌, ◌++◌, Option, Some, None, append-nil, length, map, take, refl, sym, ap, subst, ◌∙◌}
 use Rattle.std.specs.Borrow.{Bor}
 use Rattle.lg_history.specs.Lists.{Text, Each}
 use Rattle.lg_history.specs.Transcripts.{Entry, EndLine, statements}
@@ -18,9 +18,8 @@ use Rattle.lg_seat.specs.declared.stage.Point.TheVariants.{Between, Inside, Leav
 use Rattle.lg_core.specs.Written.{Left}
 use Rattle.lg_core.specs.declared.session.Session as core
 use Rattle.lg_run.specs.Seated.{known_by, says_in, texts_in, under_way, IsAhead, IsSeated}
-use Rattle.lg_run.specs.Wrote.{HasLeft, HasWritten, IsWritten, left_of}
+use Rattle.lg_run.specs.Wrote.{HasLeft, IsWritten, left_of}
 use Rattle.lg_run.specs.declared.worker.Job.{Job}
-use Rattle.lg_run.specs.declared.worker.Worker.{Worker}
 use Rattle.lg_run.proofs.Going.{all_answered}
 use Rattle.lg_run.proofs.Seating.{at, one_session, statements_more, texts_more}
 

@@ -1,5 +1,5 @@
 -- A session goes on, and stands as its thread has it.
-use Rattle.std.proofs.Common.{◌≡◌, ◌⊎◌, ◌<◌, ◌+◌, ℕ, zero, suc, List, [], ◌∷◌, ◌++◌, Option, Some, None, length, map, take, refl, sym, ap, subst, subst₂, ◌∙◌, arith}
+use Rattle.std.proofs.Common.{◌≡◌, ◌<◌, ◌+◌, ℕ, zero, suc, List, [], ◌∷◌, ◌++◌, Option, length, map, take, refl, sym, ap, subst, subst₂, ◌∙◌, arith}
 use Rattle.std.specs.Borrow.{Bor}
 use Rattle.std.specs.Prelude.{slice_index_or}
 use Rattle.lg_history.specs.Lists.{Text, Each}
@@ -8,9 +8,9 @@ use Rattle.lg_history.proofs.Trace.{each_append}
 use Rattle.lg_transcript.specs.TranscriptText.{entry_text}
 use Rattle.lg_standing.specs.Alone.{none}
 use Rattle.lg_standing.specs.Server.{Server}
-use Rattle.lg_standing.specs.Seats.{KeptImage, Role, idle, session, Session, SeatState, Written}
+use Rattle.lg_standing.specs.Seats.{KeptImage, Role, session, Session, SeatState, Written}
 use Rattle.lg_step.specs.Moments.{IsMoment}
-use Rattle.lg_seat.specs.Points.{IsBetween, IsBetweenAt, IsInsideAt, IsLeavingAt, StaysBy}
+use Rattle.lg_seat.specs.Points.{IsBetweenAt, IsInsideAt, IsLeavingAt, StaysBy}
 use Rattle.lg_seat.specs.Sits.{Sits}
 use Rattle.lg_seat.specs.Steps.{images_kept}
 use Rattle.lg_seat.specs.Told.{Adds}

@@ -1,5 +1,5 @@
 -- A visit of all cells at once is one that a seat may make on the board.
-use Rattle.std.proofs.Common.{◌≡◌, ◌<◌, ◌+◌, ℕ, zero, suc, List, [], ◌∷◌, ◌++◌, Option, Some, None, append-nil, length, map, refl, sym, ap, ap₂, subst, subst₂, ◌∙◌, inl, inr, arith}
+use Rattle.std.proofs.Common.{◌≡◌, ◌<◌, ◌+◌, ℕ, zero, suc, List, [], ◌∷◌, ◌++◌, Option, None, append-nil, length, map, refl, sym, ap, ap₂, subst, subst₂, ◌∙◌, inl, inr, arith}
 use mathlib.Core.Option.{some, some-injective, some-ne-none}
 use lib.ListN.{get_elem?}
 use Rattle.lg_board.specs.Outs as board

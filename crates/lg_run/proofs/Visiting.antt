@@ -1,15 +1,15 @@
 -- A visit of a session is one that its seat may make on the board, with the steps that the board doesn't know yet.
-use Rattle.std.proofs.Common.{◌≡◌, ◌⊎◌, ◌<◌, ℕ, List, [], ◌∷◌, ◌++◌, Option, Some, None, append-nil, map, slice_set, take, refl, sym, ap, subst, ◌∙◌, inl, inr, ⊎_elim}
+use Rattle.std.proofs.Common.{◌≡◌, ◌⊎◌, ◌<◌, ℕ, List, [], ◌∷◌, ◌++◌, Option, None, append-nil, map, slice_set, take, refl, sym, ap, subst, ◌∙◌, inr, ⊎_elim}
 use mathlib.Core.Option.{some}
 use lib.ListN.{get_elem?}
 use Rattle.lg_board.specs.Outs as board
-use Rattle.lg_history.specs.Lists.{Text, Each}
+use Rattle.lg_history.specs.Lists.{Text}
 use Rattle.lg_history.specs.Transcripts.{Entry, statements}
 use Rattle.lg_history.proofs.Trace.{each_weaker}
 use Rattle.lg_parse.specs.Text.{statement_of}
 use Rattle.lg_server.specs.Serves.{Serves}
 use Rattle.lg_standing.specs.Alone.{none}
-use Rattle.lg_standing.specs.Cells.{Cell, cell_count, ledger_at}
+use Rattle.lg_standing.specs.Cells.{Cell, cell_count}
 use Rattle.lg_standing.specs.Seats.{KeptImage, SeatState}
 use Rattle.lg_standing.specs.StandTogether.{StandTogether}
 use Rattle.lg_standing.specs.Visits.{nothing}
