@@ -6,6 +6,7 @@ mod Ledgers
 mod Over
 mod Ready
 mod Seating
+mod Sizes
 mod Snapshots
 mod StepsAhead
 mod Telling
