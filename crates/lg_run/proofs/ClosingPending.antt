@@ -1,5 +1,6 @@
 -- The builder's visit is one that a seat may make.
 use Rattle.std.proofs.Common.{◌≡◌, ◌⊎◌, ◌<◌, ◌≤◌, ℕ, zero, suc, List, [], ◌∷◌, Result, Ok, Err, refl, sym, ap, subst, ◌∙◌, inl, inr, ⊎_elim}
+use Rattle.std.specs.Prelude.{OnErr, OnOk}
 use mathlib.Core.Option.{some, some-injective, some-ne-none}
 use lib.ListN.{get_elem?}
 use Rattle.lg_board.specs.Outs as board
@@ -46,6 +47,11 @@ module _ (d : Served) (h : List ℕ → List ℕ) (reads : Reading) (serves : Se
 
   pub may_leave : e ≡ c → Keeps h e → MayVisit (λ (k : KeptCell). k.cell) Keeps d s ((ledger_at, c) ∷ []) ledger_at e s
   may_leave same = alone (leaves_it d.server ((ledger_at, c.cell) ∷ []) c.cell e.cell s (ap (λ (k : KeptCell). k.cell) same))
+
+  -- whether there was memory or not
+  pub may_either : {T E : Type 0} (r : Result T E) → OnOk r (ClosesPending h c.cell e.cell) → OnErr r (e ≡ c) → Keeps h e → MayVisit (λ (k : KeptCell). k.cell) Keeps d s ((ledger_at, c) ∷ []) ledger_at e s
+  may_either (Ok x) closed same keeps = may_close closed keeps
+  may_either (Err x) closed same keeps = may_leave same keeps
 
 -- ---- what the cell keeps
 

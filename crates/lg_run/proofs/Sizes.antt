@@ -1,12 +1,13 @@
 -- How many sessions and statements a plan has.
-use Rattle.std.proofs.Common.{◌≡◌, ◌≤◌, ◌<◌, ◌+◌, ◌∙◌, ℕ, zero, suc, true, List, [], ◌∷◌, get_or, length, map, take, ap, arith}
-use Rattle.std.specs.List.{All, fold, sum_by}
+use Rattle.std.proofs.Common.{◌≡◌, ◌≤◌, ◌<◌, ◌+◌, ◌∙◌, ℕ, zero, suc, true, List, [], ◌∷◌, ◌++◌, get_or, length, map, take, ap, arith}
+use Rattle.std.specs.List.{All, fold}
 use Rattle.std.proofs.lemmas.List.{length-map}
 use Rattle.lg_items.specs.SessionName.{is_session_name}
 use Rattle.lg_plan.specs.Plan as plan
 use Rattle.lg_plan.specs.Plan.{plan_view, section_view, session_names, size_of}
 use Rattle.lg_plan.specs.declared.plan.Plan.{Plan}
 use Rattle.lg_plan.specs.declared.section.Section.{Section}
+use Rattle.lg_step.proofs.Joins.{one_more}
 use Rattle.lg_run.specs.Finished.{AreRunnable}
 
 -- the sessions and their statements together
@@ -27,10 +28,12 @@ size_is p = let e = weighed 0 p.sessions.items in let f = length-map p.setup.ite
 
 -- ---- the first sessions
 
-pub one_more_weighs : (ps : List Section) (k : ℕ) (d : Section) → k < length ps → weight (take (k + 1) ps) ≡ weight (take k ps) + (1 + length (get_or ps k d).statements.items)
-one_more_weighs [] k d less = absurd (omega (arith, less))
-one_more_weighs (p ∷ ps) zero d less = omega arith
-one_more_weighs (p ∷ ps) (suc k) d less = let e = one_more_weighs ps k d (omega (arith, less)) in ap (λ (m : ℕ). (1 + length p.statements.items) + m) e ∙ omega arith
+more_weigh : (ps : List Section) (x : Section) → weight (ps ++ x ∷ []) ≡ weight ps + (1 + length x.statements.items)
+more_weigh [] x = omega arith
+more_weigh (p ∷ ps) x = let e = more_weigh ps x in ap (λ (m : ℕ). (1 + length p.statements.items) + m) e ∙ omega arith
+
+pub one_more_weighs : (ps : List Section) (k : ℕ) (x : Section) → k < length ps → x ≡ get_or ps k x → weight (take (k + 1) ps) ≡ weight (take k ps) + (1 + length x.statements.items)
+one_more_weighs ps k x less is = ap weight (one_more ps k x less is) ∙ more_weigh (take k ps) x
 
 pub first_weigh : (ps : List Section) (k : ℕ) → weight (take k ps) ≤ weight ps
 first_weigh ps zero = omega arith

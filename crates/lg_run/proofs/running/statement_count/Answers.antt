@@ -1,5 +1,4 @@
-use Rattle.std.proofs.Common.{◌≡◌, ◌≤◌, ◌+◌, ◌∙◌, List, ap, arith, length, sym, subst, take}
-use Rattle.lg_plan.specs.declared.section.Section.{Section}
+use Rattle.std.proofs.Common.{◌≡◌, ◌≤◌, ◌+◌, ap, arith, length, take}
 use Rattle.lg_run.proofs.Sizes.{first_weigh, one_more_weighs, size_is, weight}
 use Rattle.lg_run.proofs.running.statement_count.Goals as goal
 
@@ -29,7 +28,6 @@ returns c =
 
 pub loop-session-preserved : goal.loop-session-preserved
 loop-session-preserved c =
-    let one = one_more_weighs c.deref-session-items.result.now c.loop-session.session-index c.session-item.result c.loop-session-test.true in
-    let is = ap (λ (s : Section). length s.statements.items) c.session-item.is in
+    let one = one_more_weighs c.deref-session-items.result.now c.loop-session.session-index c.session-item.result c.loop-session-test.true c.session-item.is in
     let n = c.len-count-in-loop-session.ensures in
-    let i = c.loop-session.invariant in omega (arith, one, is, n, i)
+    let i = c.loop-session.invariant in omega (arith, one, n, i)
