@@ -1,7 +1,7 @@
 -- The builder's visit is one that a seat may make.
-use Rattle.std.proofs.Common.{◌≡◌, ◌⊎◌, ◌<◌, ◌≤◌, ℕ, zero, suc, List, [], ◌∷◌, Result, Ok, Err, refl, sym, ap, subst, ◌∙◌, inl, inr, ⊎_elim}
+use Rattle.std.proofs.Common.{◌≡◌, ◌⊎◌, ◌<◌, ◌≤◌, ℕ, List, [], ◌∷◌, Result, Ok, Err, refl, sym, ap, subst, ◌∙◌, inl, inr, ⊎_elim}
 use Rattle.std.specs.Prelude.{OnErr, OnOk}
-use mathlib.Core.Option.{some, some-injective, some-ne-none}
+use mathlib.Core.Option.{some}
 use lib.ListN.{get_elem?}
 use Rattle.lg_board.specs.Outs as board
 use Rattle.lg_history.specs.Lists.{Each}
@@ -16,6 +16,7 @@ use Rattle.lg_standing.specs.Seats.{SeatState}
 use Rattle.lg_standing.specs.Server.{Server}
 use Rattle.lg_standing.specs.Visits.{Visit, Happens, close, nothing}
 use Rattle.lg_world.specs.Served.{Served, MayVisit, StandsOn}
+use Rattle.lg_world.proofs.Unchanged.{each_there}
 
 -- a visit that leaves the seat as it is, and this in the cell
 record Leaves (v : Server) (out : List (ℕ × Cell)) (c d : Cell) (s : SeatState) : Type 0 where
@@ -54,11 +55,6 @@ module _ (d : Served) (h : List ℕ → List ℕ) (reads : Reading) (serves : Se
   may_either (Err x) closed same keeps = may_leave same keeps
 
 -- ---- what the cell keeps
-
-each_there : {A : Type 0} (P : A → Type 0) (xs : List A) → Each P xs → (i : ℕ) (x : A) → get_elem? xs i ≡ some x → P x
-each_there P [] h i x e = absurd (some-ne-none x (sym e))
-each_there P (y ∷ ys) h zero x e = subst P (some-injective y x e) h.0
-each_there P (y ∷ ys) h (suc i) x e = each_there P ys h.1 i x e
 
 -- a cell that stands with others keeps what was worked out with the server's hash
 pub kept_there : (d : Served) (h : List ℕ → List ℕ) (reads : Reading) → Serves h reads d.server → (cells : List KeptCell) (seats : List SeatState)

@@ -58,6 +58,7 @@ use Rattle.lg_run.specs.Seated.{texts_in}
 use Rattle.lg_run.specs.Wrote.{AreWritten, IsWritten}
 use Rattle.lg_run.specs.declared.whole.Finished.{Finished}
 use Rattle.lg_run.specs.declared.worker.SessionEnd.{SessionEnd}
+use Rattle.lg_run.proofs.Named.{setup_named}
 
 -- ---- names and moments
 
@@ -75,10 +76,6 @@ is_within said = grind (arith, nat_tests)
 
 moment_is : (says : ℕ → Type 0) (at : ℕ) → IsMoment says at → is_moment at ≡ true
 moment_is says at m = subst (λ n. is_moment n ≡ true) (sym m.2) (is_within m.0)
-
-setup_named : is_session_name setup_name ≡ true
-unfolding is_session_name
-setup_named = refl
 
 each_from_all : {A : Type 0} (P : A → Type 0) (xs : List A) → All P xs → Each P xs
 each_from_all P [] all = tt

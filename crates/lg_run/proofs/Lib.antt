@@ -1,8 +1,10 @@
 mod ClosingPending
 mod FirstStand
 mod Going
+mod Halves
 mod Leaves
 mod Ledgers
+mod Named
 mod Over
 mod Ready
 mod Seating
@@ -12,6 +14,4 @@ mod StepsAhead
 mod Telling
 mod Together
 mod Visiting
-mod WentOn
 mod WholeRun
-mod Within

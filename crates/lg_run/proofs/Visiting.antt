@@ -34,7 +34,7 @@ use Rattle.lg_run.specs.declared.worker.Job.{Job}
 use Rattle.lg_run.specs.declared.worker.Worker.{Worker}
 use Rattle.lg_run.proofs.Seating.{at, seated, seated_on, stays_under_way}
 use Rattle.lg_run.proofs.StepsAhead.{may_behind, stand_ahead}
-use Rattle.lg_run.proofs.Within.{need_within}
+use Rattle.lg_core.proofs.Within.{need_within}
 
 -- ---- one cell is out
 

@@ -67,10 +67,8 @@ fn run_one<'a, K: Serving, H: Hash32, C: Clock, G: Gate, R: Wait>(
 fn both(first: Vec<SessionEnd>, second: Vec<SessionEnd>) -> Result<Vec<SessionEnd>, Memory>
     ensures { IfOk result (λ all. all.items ≡ first.items ++ second.items) }
 {
-    let mut all = first;
-    for end in second {
-        all.push(end)?;
-    }
+    let (mut all, mut more) = (first, second);
+    all.append(&mut more)?;
     Ok(all)
 }
 
@@ -92,7 +90,14 @@ fn unite<K: Serving>(board: &Cells<K>, first: Part<K>, second: Part<K>) -> Part<
 ///
 /// The sessions are halved, the seat is split between the halves, and both seats are joined again when both
 /// have ended. After want of memory nothing is known of the seats, and the board is to be dropped.
-pub(crate) fn run_part<'a, K: Serving + Send + Sync, H: Hash32, C: Clock, G: Gate, R: Threads + Wait + Sync>(
+pub(crate) fn run_part<
+    'a,
+    K: Serving + Send + Sync,
+    H: Hash32,
+    C: Clock,
+    G: Gate,
+    R: Threads + Wait + Sync,
+>(
     rt: &R,
     alloc: Global,
     hasher: H,

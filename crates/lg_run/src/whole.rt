@@ -163,7 +163,13 @@ fn run_beside<'a, K: Serving + Send + Sync, H: Hash32, C: Clock, G: Gate, R: Thr
 }
 
 /// Runs the plan over the cells of a database without transactions, as many visits of the builder beside it.
-pub(crate) fn run_over<K: Serving + Send + Sync, H: Hash32, C: Clock, G: Gate, R: Threads + Wait + Sync>(
+pub(crate) fn run_over<
+    K: Serving + Send + Sync,
+    H: Hash32,
+    C: Clock,
+    G: Gate,
+    R: Threads + Wait + Sync,
+>(
     rt: &R,
     alloc: Global,
     hasher: H,

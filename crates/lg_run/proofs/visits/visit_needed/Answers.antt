@@ -2,7 +2,7 @@ use Rattle.std.proofs.Common.{◌∙◌, inr}
 use Rattle.std.proofs.lemmas.Bool.{MatchBool-at_true}
 use Rattle.lg_board.specs.Boards.{seat_state}
 use Rattle.lg_run.proofs.Telling.{knows_on}
-use Rattle.lg_run.proofs.WentOn.{went_further}
+use Rattle.lg_core.proofs.Midways.{went_further}
 use Rattle.lg_run.proofs.visits.visit_needed.Goals as goal
 
 pub loop-preserved : goal.loop-preserved
