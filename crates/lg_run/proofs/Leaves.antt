@@ -1,0 +1,256 @@
+-- What is saved of threads that have ended is that of a run of their plan.
+use Rattle.std.proofs.Common.{◌≡◌, ◌≢◌, ◌≤◌, ◌^◌, ◌∙◌, ℕ, suc, min, true, false, List, [], ◌∷◌, ◌++◌, codes, flat_map, length, map, refl, sym, ap, ap₂, subst, subst₂, arith, ⊎_elim, true≢false}
+use Rattle.std.specs.List.{All, AllByRecursion, IsDistinct}
+use Rattle.std.specs.Str.{bytes_eq}
+use Rattle.std.proofs.lemmas.Bool.Decides.{nat_tests}
+use Rattle.std.proofs.lemmas.Slice.Eq.{bytes_eq-Decides}
+use mathlib.Core.Option.{some}
+use Rattle.lg_items.specs.DatabaseName.{is_database_name}
+use Rattle.lg_items.specs.Moment.{is_moment}
+use Rattle.lg_items.specs.SessionName.{is_session_name}
+use Rattle.lg_items.specs.declared.moment.TheConstants.{MAX_TICKS}
+use Rattle.lg_types.specs.declared.digest.Digest.{Digest}
+use Rattle.lg_types.specs.declared.image.Image.{Image}
+use Rattle.lg_types.specs.declared.journal.Journal.{Journal}
+use Rattle.lg_types.specs.declared.journal.JournalItem.{JournalItem}
+use Rattle.lg_model.specs.Script.{Reading}
+use Rattle.lg_history.specs.Inputs.{InputSession}
+use Rattle.lg_history.specs.Lists.{Text, Each, In}
+use Rattle.lg_history.specs.Transcripts.{Entry, Transcript}
+use Rattle.lg_image.specs.Image.{image_of, image_of_cut}
+use Rattle.lg_image.specs.ImageBytes.{image_bytes}
+use Rattle.lg_images.specs.Room.{HasRoom}
+use Rattle.lg_journal.specs.Rules.{IsJournal}
+use Rattle.lg_digest.specs.Writing.{HasMoments}
+use Rattle.lg_parse.specs.Text.{statement_of}
+use Rattle.lg_plan.specs.Plan.{plan_view, section_view, session_names}
+use Rattle.lg_plan.specs.declared.plan.Plan.{Plan}
+use Rattle.lg_plan.specs.declared.section.Section.{Section}
+use Rattle.lg_transcript.specs.TranscriptText.{entry_text, transcript_text}
+use Rattle.lg_standing.specs.Cells.{Cell, LedgerCell, ledger_at}
+use Rattle.lg_standing.specs.JournalForms.{journal_in}
+use Rattle.lg_standing.specs.Reordered.{NamesApart}
+use Rattle.lg_standing.specs.Seats.{KeptImage, Written}
+use Rattle.lg_standing.specs.Server.{Server}
+use Rattle.lg_standing.specs.StandTogether.{Stands}
+use Rattle.lg_server.specs.Serves.{Serves}
+use Rattle.lg_server.proofs.CellsShow.{same_image}
+use Rattle.lg_course.specs.Told.{IsImageOf}
+use Rattle.lg_course.specs.Wrote.{transcripts_in}
+use Rattle.lg_course.proofs.Told.{some_meaning}
+use Rattle.lg_joined.specs.Together.{session_in}
+use Rattle.lg_seat.specs.Images.{CellsStand}
+use Rattle.lg_world.specs.Laws.{one_ledger}
+use Rattle.lg_world.specs.Served.{IsOf as IsOfDatabase, Served}
+use Rattle.lg_step.specs.Images.{AreKept, with_each}
+use Rattle.lg_step.specs.Moments.{IsMoment}
+use Rattle.lg_step.specs.Woven.{joined, joined_each}
+use Rattle.lg_step.specs.declared.running.Ran.{Ran}
+use Rattle.lg_step.proofs.Kept.{are_kept}
+use Rattle.lg_step.proofs.Made.{have_moments}
+use Rattle.lg_together.specs.CameTo as together
+use Rattle.lg_together.specs.CameTo.{Left, last_image_bytes}
+use Rattle.lg_together.specs.Threads.{HasJoined}
+use Rattle.lg_run.specs.CameTo.{IsOf, input_of, session_of, transcripts_text}
+use Rattle.lg_run.specs.Finished.{HasFinished, setup_name}
+use Rattle.lg_run.specs.Saved.{HasSaved}
+use Rattle.lg_run.specs.Seated.{texts_in}
+use Rattle.lg_run.specs.Wrote.{AreWritten, IsWritten}
+use Rattle.lg_run.specs.declared.whole.Finished.{Finished}
+use Rattle.lg_run.specs.declared.worker.SessionEnd.{SessionEnd}
+use Rattle.lg_run.proofs.Named.{setup_named}
+
+-- ---- names and moments
+
+apart_from : (name : Text) (names : List Text) → AllByRecursion (λ other. bytes_eq name other ≡ false) names → Each (λ other. name ≢ other) names
+apart_from name [] all = tt
+apart_from name (n ∷ names) all = ((λ same. true≢false (sym ((bytes_eq-Decides name n).1 same) ∙ all.0)), apart_from name names all.1)
+
+names_apart : (names : List Text) → IsDistinct bytes_eq names → NamesApart names
+unfolding IsDistinct
+names_apart [] distinct = tt
+names_apart (n ∷ names) distinct = (apart_from n names distinct.0, names_apart names distinct.1)
+
+is_within : (said : ℕ) → is_moment (min said MAX_TICKS) ≡ true
+is_within said = grind (arith, nat_tests)
+
+moment_is : (says : ℕ → Type 0) (at : ℕ) → IsMoment says at → is_moment at ≡ true
+moment_is says at m = subst (λ n. is_moment n ≡ true) (sym m.2) (is_within m.0)
+
+each_from_all : {A : Type 0} (P : A → Type 0) (xs : List A) → All P xs → Each P xs
+each_from_all P [] all = tt
+each_from_all P (x ∷ xs) all = (all 0 x (omega arith), each_from_all P xs (λ k d less. all (suc k) d (omega (arith, less))))
+
+weaker : {A : Type 0} (P Q : A → Type 0) → ((a : A) → P a → Q a) → (xs : List A) → Each P xs → Each Q xs
+weaker P Q f [] e = tt
+weaker P Q f (x ∷ xs) e = (f x e.0, weaker P Q f xs e.1)
+
+-- ---- what sessions wrote
+
+abbrev shown_of : Written → List Text
+shown_of w = map (entry_text w.transcript.session) w.transcript.entries
+
+module _ (says : ℕ → Type 0) where
+  input_is : (name : Text) (texts : List Text) (e : SessionEnd) (w : Written) → IsWritten says name texts e w → session_in w.transcript ≡ record { name = name; texts = texts }
+  input_is name texts e w is = ap₂ (λ (n : Text) (ts : List Text). record { name = n; texts = ts }) is.session is.texts
+
+  shown_is : (name : Text) (texts : List Text) (e : SessionEnd) (w : Written) → IsWritten says name texts e w → e.entries ≡ shown_of w
+  shown_is name texts e w is = is.entries ∙ ap (λ (n : Text). map (entry_text n) w.transcript.entries) (sym is.session)
+
+  inputs_are : (ps : List Section) (es : List SessionEnd) (ws : List Written) → AreWritten says ps es ws → map session_in (transcripts_in ws) ≡ map session_of (map section_view ps)
+  inputs_are [] [] [] a = refl
+  inputs_are [] [] (w ∷ ws) a = absurd a
+  inputs_are [] (e ∷ es) ws a = absurd a
+  inputs_are (p ∷ ps) [] ws a = absurd a
+  inputs_are (p ∷ ps) (e ∷ es) [] a = absurd a
+  inputs_are (p ∷ ps) (e ∷ es) (w ∷ ws) a = ap₂ (λ (x : InputSession) (xs : List InputSession). x ∷ xs) (input_is p.name.now (texts_in p.statements.items) e w a.0) (inputs_are ps es ws a.1)
+
+  all_shown : (ps : List Section) (es : List SessionEnd) (ws : List Written) → AreWritten says ps es ws → map (λ e. e.entries) es ≡ map shown_of ws
+  all_shown [] [] [] a = refl
+  all_shown [] [] (w ∷ ws) a = absurd a
+  all_shown [] (e ∷ es) ws a = absurd a
+  all_shown (p ∷ ps) [] ws a = absurd a
+  all_shown (p ∷ ps) (e ∷ es) [] a = absurd a
+  all_shown (p ∷ ps) (e ∷ es) (w ∷ ws) a = ap₂ (λ (x : List Text) (xs : List (List Text)). x ∷ xs) (shown_is p.name.now (texts_in p.statements.items) e w a.0) (all_shown ps es ws a.1)
+
+  images_are : (ps : List Section) (es : List SessionEnd) (ws : List Written) → AreWritten says ps es ws → map (λ e. e.images) es ≡ map (λ w. w.images) ws
+  images_are [] [] [] a = refl
+  images_are [] [] (w ∷ ws) a = absurd a
+  images_are [] (e ∷ es) ws a = absurd a
+  images_are (p ∷ ps) [] ws a = absurd a
+  images_are (p ∷ ps) (e ∷ es) [] a = absurd a
+  images_are (p ∷ ps) (e ∷ es) (w ∷ ws) a = ap₂ (λ (x : List KeptImage) (xs : List (List KeptImage)). x ∷ xs) a.0.images (images_are ps es ws a.1)
+
+  moments_are : (ps : List Section) (es : List SessionEnd) (ws : List Written) → AreWritten says ps es ws → Each (λ w. Each (IsMoment says) w.moments) ws
+  moments_are [] [] [] a = tt
+  moments_are [] [] (w ∷ ws) a = absurd a
+  moments_are [] (e ∷ es) ws a = absurd a
+  moments_are (p ∷ ps) [] ws a = absurd a
+  moments_are (p ∷ ps) (e ∷ es) [] a = absurd a
+  moments_are (p ∷ ps) (e ∷ es) (w ∷ ws) a = (a.0.moments, moments_are ps es ws a.1)
+
+-- ---- the text of all
+
+entries_joined : (name : Text) (es : List Entry) → joined (map (entry_text name) es) ≡ flat_map (entry_text name) es
+entries_joined name [] = refl
+entries_joined name (e ∷ es) = ap (λ (b : List ℕ). entry_text name e ++ b) (entries_joined name es)
+
+all_text : (ws : List Written) → joined_each (map shown_of ws) ≡ transcripts_text (transcripts_in ws)
+unfolding transcripts_text transcript_text
+all_text [] = refl
+all_text (w ∷ ws) = ap₂ (λ (a b : List ℕ). a ++ b) (entries_joined w.transcript.session w.transcript.entries) (all_text ws)
+
+-- ---- all
+
+module _ (h : List ℕ → List ℕ) (sized : (bytes : List ℕ) → length (h bytes) ≡ 32) (database : Text) (size : ℕ) (says : ℕ → Type 0) (plan : Plan)
+    (d : Served) (serves : Serves h statement_of d.server) (of_database : d.database ≡ database) (of_size : d.size ≡ size)
+    (f : Finished) (fin : HasFinished d says (texts_in plan.setup.items) plan.sessions.items f) where
+  abbrev cells : List Cell
+  cells = map (λ c. c.cell) f.cells.items
+
+  pub cells_stand : CellsStand f.cells.items
+  cells_stand = record { hash = h; sized = sized; v = d.server; serves = serves; seats = fin.seats; together = fin.stands.together }
+
+  abbrev all : List Written
+  all = fin.first ∷ fin.rest
+
+  abbrev pub left_of : Ran → Left
+  left_of r = record { X = transcripts_in all; kept = map (λ w. w.images) all; J = r.journal; G = r.digests }
+
+  module _ (r : Ran) (saved : HasSaved f r) where
+    abbrev st : Stands d.server fin.stands.together.history cells fin.seats
+    st = fin.stands.together.stands
+
+    abbrev l : LedgerCell
+    l = saved.ledger
+
+    same_ledger : st.ledger ≡ l
+    same_ledger = one_ledger cells st.ledger l st.are_cells.has_ledger saved.there
+
+    of : IsOfDatabase d l
+    of = fin.stands.of l saved.there
+
+    the_journal : r.journal ≡ journal_in l
+    the_journal = ap₂ (λ (name : Text) (items : List JournalItem). record { database = name; items = items }) saved.database saved.items
+
+    room : HasRoom h statement_of database l.items
+    unfolding cells_stand
+    room = subst (λ (name : Text). HasRoom h statement_of name l.items) (of.database ∙ of_database)
+        (subst (λ (k : LedgerCell). HasRoom h statement_of k.database k.items) same_ledger (saved.room cells_stand st.catalog st.ledger st.are_cells))
+
+    pub joined_so : is_database_name database ≡ true → All (λ name. is_session_name name ≡ true) (session_names (plan_view plan)) → IsDistinct bytes_eq (codes "setup" ∷ session_names (plan_view plan))
+        → HasJoined h database size (IsMoment says) (input_of (plan_view plan)) (left_of r)
+    joined_so named names apart = record {
+      v = d.server;
+      serves = serves;
+      cells = cells;
+      first = fin.first;
+      others = fin.rest;
+      joined = record { seats = fin.seats; together = fin.stands.together; j = fin.j; s = fin.s; there = fin.there; rests = fin.rests; wrote = fin.wrote; others = fin.others };
+      knew = fin.knew;
+      ledger = l;
+      there = saved.there;
+      of_database = of.database ∙ of_database;
+      of_size = of.block_size ∙ of_size;
+      input_is = ap₂ (λ (x : InputSession) (xs : List InputSession). x ∷ xs) (input_is says setup_name (texts_in plan.setup.items) f.setup fin.first fin.setup_is) (inputs_are says plan.sessions.items f.ends.items fin.rest fin.are);
+      apart = subst NamesApart (sym (names_in plan)) (names_apart (codes "setup" ∷ session_names (plan_view plan)) apart);
+      database_is_named = named;
+      sessions_are_named = (setup_named, each_named plan (each_from_all (λ name. is_session_name name ≡ true) (session_names (plan_view plan)) names));
+      moments = (fin.setup_is.moments, moments_are says plan.sessions.items f.ends.items fin.rest fin.are);
+      are_moments = moment_is says;
+      ids = saved.ids;
+      room = room;
+      transcripts = refl;
+      kept = refl;
+      journal = the_journal;
+      digests = saved.digests;
+    }
+      where
+        names_of : (ps : List Section) → map (λ s. s.name) (map session_of (map section_view ps)) ≡ map (λ s. s.name) (map section_view ps)
+        names_of [] = refl
+        names_of (p ∷ ps) = ap (λ (ns : List Text). p.name.now ∷ ns) (names_of ps)
+
+        names_in : (p : Plan) → map (λ s. s.name) (input_of (plan_view p)) ≡ codes "setup" ∷ session_names (plan_view p)
+        names_in p = ap (λ (ns : List Text). codes "setup" ∷ ns) (names_of p.sessions.items)
+
+        named_by : (ps : List Section) → Each (λ name. is_session_name name ≡ true) (map (λ s. s.name) (map section_view ps)) → Each (λ s. is_session_name s.name ≡ true) (map session_of (map section_view ps))
+        named_by [] e = tt
+        named_by (p ∷ ps) e = (e.0, named_by ps e.1)
+
+        each_named : (p : Plan) → Each (λ name. is_session_name name ≡ true) (session_names (plan_view p)) → Each (λ s. is_session_name s.name ≡ true) (map session_of (plan_view p).sessions)
+        each_named p e = named_by p.sessions.items e
+
+    -- ---- what is saved
+
+    text_is : r.transcript ≡ transcripts_text (transcripts_in all)
+    text_is = saved.transcript
+        ∙ ap₂ (λ (x : List Text) (xs : List (List Text)). joined_each (x ∷ xs)) (shown_is says setup_name (texts_in plan.setup.items) f.setup fin.first fin.setup_is) (all_shown says plan.sessions.items f.ends.items fin.rest fin.are)
+        ∙ all_text all
+
+    images_of_all : r.images ≡ with_each (map (λ w. w.images) all)
+    images_of_all = saved.images ∙ ap₂ (λ (x : List KeptImage) (xs : List (List KeptImage)). with_each (x ∷ xs)) fin.setup_is.images (images_are says plan.sessions.items f.ends.items fin.rest fin.are)
+
+    image_is : r.image ≡ last_image_bytes h r.journal
+    image_is = saved.bytes st.catalog st.ledger st.are_cells
+        ∙ ap (λ (i : Image). image_bytes i) (same_image d.server fin.stands.together.history cells fin.seats st)
+        ∙ ap₂ (λ (g : List ℕ → List ℕ) (reads : Reading). image_bytes (image_of g reads st.ledger.database st.ledger.items)) serves.hash serves.reading
+        ∙ ap (λ (k : LedgerCell). image_bytes (image_of h statement_of k.database k.items)) same_ledger
+        ∙ ap (λ (J : Journal). last_image_bytes h J) (sym the_journal)
+
+    abbrev bytes_at : ℕ → Text
+    bytes_at items = image_bytes (image_of_cut h statement_of database r.journal.items items)
+
+    each_has : (kept : List (List KeptImage)) → Each (λ ks. Each (IsImageOf h statement_of database r.journal.items) ks) kept → Each (λ ks. Each (λ k. k.1 ≡ bytes_at k.0) ks) kept
+    each_has = weaker (λ ks. Each (IsImageOf h statement_of database r.journal.items) ks) (λ ks. Each (λ k. k.1 ≡ bytes_at k.0) ks) (λ ks. weaker (IsImageOf h statement_of database r.journal.items) (λ k. k.1 ≡ bytes_at k.0) (λ k is. is.bytes) ks)
+
+    pub is_of : together.CameTo h database size (IsMoment says) (input_of (plan_view plan)) (left_of r) → IsJournal r.journal → IsOf h (left_of r) r
+    is_of came spelled = record {
+      transcript = text_is;
+      images = subst (AreKept (map (λ w. w.images) all)) (sym images_of_all) (are_kept bytes_at (map (λ w. w.images) all) (each_has (map (λ w. w.images) all) came.are_images));
+      image = image_is;
+      journal = refl;
+      digests = refl;
+      journal_is_spelled = spelled;
+      digests_have_moments = let m = some_meaning h statement_of in
+          have_moments m.0 database r.journal.items says r.digests came.times came.made (came.agree m.0 m.1).digests_are_the_journals.each;
+    }

@@ -1,0 +1,17 @@
+mod ClosingPending
+mod FirstStand
+mod Going
+mod Halves
+mod Leaves
+mod Ledgers
+mod Named
+mod Over
+mod Ready
+mod Seating
+mod Sizes
+mod Snapshots
+mod StepsAhead
+mod Telling
+mod Together
+mod Visiting
+mod WholeRun

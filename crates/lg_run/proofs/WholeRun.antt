@@ -1,0 +1,67 @@
+-- What is left when all threads have ended.
+use Rattle.std.proofs.Common.{◌≡◌, ℕ, List, [], ◌∷◌, ◌++◌, map, refl, sym, ap, subst, ◌∙◌, inl, append_assoc}
+use mathlib.Core.Option.{some}
+use lib.ListN.{get_elem?}
+use Rattle.lg_board.specs.Boards.{AllElse}
+use Rattle.lg_history.specs.Lists.{Text, Each, In}
+use Rattle.lg_history.specs.Transcripts.{Transcript}
+use Rattle.lg_history.proofs.Settles.{in_right}
+use Rattle.lg_history.proofs.Trace.{each_weaker}
+use Rattle.lg_plan.specs.declared.section.Section.{Section}
+use Rattle.lg_seat.specs.KeptCell.{KeptCell, Keeps}
+use Rattle.lg_standing.specs.Seats.{idle, joined, kept, nobody, split, SeatState, Written}
+use Rattle.lg_world.specs.Served.{Served, StandsOn}
+use Rattle.lg_run.specs.Finished.{HasFinished, setup_name}
+use Rattle.lg_run.specs.Seated.{IsIdle, known_by}
+use Rattle.lg_run.specs.Wrote.{HasWritten, HaveWritten, Knew}
+use Rattle.lg_run.specs.declared.whole.Finished.{Finished}
+use Rattle.lg_run.specs.declared.worker.SessionEnd.{SessionEnd}
+use Rattle.lg_run.proofs.Together.{idle_knows}
+
+-- a seat took in the one that a session ran at
+pub wrote_beside : (says : ℕ → Type 0) (name : Text) (texts : List Text) (e : SessionEnd) (s : SeatState) (n : ℕ) (mine theirs u t : SeatState)
+    → s.role ≡ idle → mine ≡ kept s n → theirs ≡ split s n → t ≡ joined mine u
+    → HasWritten says name texts e (known_by theirs) theirs.written u → HasWritten says name texts e (known_by (split s n)) s.written t
+wrote_beside says name texts e s n mine theirs u t role first second state h =
+    subst (λ (x : SeatState). HasWritten says name texts e (known_by (split s n)) s.written x) (sym state)
+    (subst (λ (x : SeatState). HasWritten says name texts e (known_by (split s n)) s.written (joined x u)) (sym first) beside)
+  where
+    g : HasWritten says name texts e (known_by (split s n)) [] u
+    g = subst (λ (x : SeatState). HasWritten says name texts e (known_by x) x.written u) second h
+
+    beside : HasWritten says name texts e (known_by (split s n)) s.written (joined s u)
+    beside = record { w = g.w; role = role; wrote = ap (λ (ws : List Written). s.written ++ ws) g.wrote; is = g.is; earlier = g.earlier }
+
+-- and is as idle as before
+pub idle_beside : (s : SeatState) (n : ℕ) (mine u t : SeatState) → IsIdle s → mine ≡ kept s n → t ≡ joined mine u → IsIdle t
+idle_beside s n mine u t idle_one first state = subst IsIdle (sym state) (record {
+  present = ap (λ (x : SeatState). x.present) first ∙ idle_one.present;
+  role = ap (λ (x : SeatState). x.role) first ∙ idle_one.role;
+})
+
+module _ (d : Served) (says : ℕ → Type 0) (texts : List Text) (sections : List Section) (f : Finished) (seats : List SeatState) (j : ℕ) (first s t : SeatState) where
+  pub has_finished : first.written ≡ [] → IsIdle s → (known : List Transcript) → HasWritten says setup_name texts f.setup known first.written s
+      → HaveWritten says sections f.ends.items s t → StandsOn (λ (k : KeptCell). k.cell) Keeps d f.cells.items seats → get_elem? seats j ≡ some t
+      → AllElse nobody j seats → HasFinished d says texts sections f
+  has_finished new idle_one known setup ends stands there others = record {
+    seats = seats;
+    stands = stands;
+    j = j;
+    s = t;
+    there = there;
+    others = others;
+    rests = ends.rests;
+    first = setup.w;
+    rest = ends.ws;
+    wrote = ends.wrote ∙ ap (λ (ws : List Written). ws ++ ends.ws) wrote;
+    setup_is = setup.is;
+    are = ends.are;
+    knew = each_weaker (Knew (known_by s)) (λ (w : Written). In setup.w.transcript w.earlier) (λ w k. k setup.w.transcript knows) ends.ws ends.knew;
+  }
+    where
+      wrote : s.written ≡ setup.w ∷ []
+      wrote = setup.wrote ∙ ap (λ (ws : List Written). ws ++ setup.w ∷ []) new
+
+      knows : In setup.w.transcript (known_by s)
+      knows = subst (In setup.w.transcript) (sym (idle_knows s idle_one.role)) (in_right setup.w.transcript s.earlier (map (λ (w : Written). w.transcript) s.written)
+          (subst (λ (ws : List Written). In setup.w.transcript (map (λ (w : Written). w.transcript) ws)) (sym wrote) (inl refl)))

@@ -1,0 +1,45 @@
+-- What a run of a plan comes to, and what is written and saved of it.
+use Rattle.std.specs.Prelude.{ℕ, ◌≡◌, List, [], ◌∷◌, flat_map, map}
+use Rattle.std.specs.List.{AllByRecursion}
+use Rattle.lg_digest.specs.Writing.{HasMoments}
+use Rattle.lg_history.specs.Inputs.{InputSession}
+use Rattle.lg_history.specs.Lists.{Text}
+use Rattle.lg_history.specs.Transcripts.{Transcript}
+use Rattle.lg_journal.specs.Rules.{IsJournal}
+use Rattle.lg_plan.specs.Plan.{Plan, Section}
+use Rattle.lg_standing.specs.Seats.{KeptImage}
+use Rattle.lg_step.specs.Images.{AreKept}
+use Rattle.lg_step.specs.Moments.{IsMoment}
+use Rattle.lg_step.specs.declared.running.Ran.{Ran}
+use Rattle.lg_together.specs.CameTo as together
+use Rattle.lg_together.specs.CameTo.{Left, last_image_bytes}
+use Rattle.lg_transcript.specs.TranscriptText.{transcript_text}
+use Rattle.lg_run.specs.Finished.{setup_name}
+
+-- what an input has of a session
+abbrev pub session_of : Section → InputSession
+session_of s = record { name = s.name; texts = s.statements }
+
+-- the setup first, and then the sessions in their order
+abbrev pub input_of : Plan → List InputSession
+input_of plan = record { name = setup_name; texts = plan.setup } ∷ map session_of plan.sessions
+
+-- However the turns of sessions and builder fell, this is left of a run of the plan, on a server of this
+-- database whose blocks have at most so many transactions, each statement at a moment that is said.
+abbrev pub CameTo : (List ℕ → List ℕ) → Text → ℕ → (ℕ → Type 0) → Plan → Left → Type 0
+CameTo h database size says plan left = together.CameTo h database size (IsMoment says) (input_of plan) left
+
+-- one transcript behind the other
+unfoldable pub transcripts_text : List Transcript → List ℕ
+transcripts_text X = flat_map transcript_text X
+
+-- This is written and saved of it, and it has a spelling: the transcripts, the images that were kept, each
+-- once, that of the whole journal, the journal, and the digests.
+pub record IsOf (h : List ℕ → List ℕ) (left : Left) (r : Ran) : Type 0 where
+  pub transcript : r.transcript ≡ transcripts_text left.X
+  pub images : AreKept left.kept r.images
+  pub image : r.image ≡ last_image_bytes h left.J
+  pub journal : r.journal ≡ left.J
+  pub digests : r.digests ≡ left.G
+  pub journal_is_spelled : IsJournal r.journal
+  pub digests_have_moments : AllByRecursion HasMoments r.digests

@@ -1,0 +1,5 @@
+pub mod CameTo
+pub mod Finished
+pub mod Saved
+pub mod Seated
+pub mod Wrote

@@ -1,0 +1,18 @@
+//! Sessions that run side by side, each in a thread of its own, while a builder closes blocks.
+#![tactic(auto)]
+
+mod builder;
+mod leaving;
+mod parts;
+mod running;
+mod session;
+mod settling;
+mod shared;
+mod snapshot;
+mod visits;
+mod whole;
+mod worker;
+
+pub use running::run_all;
+pub use shared::{Cells, Place};
+pub use worker::{Job, SessionEnd, Worker};

@@ -1,0 +1,75 @@
+//! The run of a plan.
+
+ghost use Rattle.std.specs.Prelude.{◌≡◌, ◌∷◌, ◌≤◌, ◌<◌, ◌^◌, All, IfOk, codes, true};
+ghost use Rattle.std.specs.List.{IsDistinct};
+ghost use Rattle.std.specs.Str.{bytes_eq};
+ghost use Rattle.lg_items.specs.DatabaseName.{is_database_name};
+ghost use Rattle.lg_plan.specs.Form.{is_session_name};
+ghost use Rattle.lg_plan.specs.Plan.{plan_view, session_names, size_of};
+ghost use Rattle.lg_step.specs.Moments.{said_with};
+ghost use Rattle.lg_together.specs.CameTo.{Left};
+ghost use Rattle.lg_types.specs.declared.journal.TheConstants.{MAX_BLOCK};
+ghost use Rattle.lg_run.specs.CameTo.{CameTo, IsOf};
+
+use crate::leaving::left_by;
+use crate::whole::run_over;
+use lg_base::{Clock, Gate};
+use lg_items::Memory;
+use lg_merkle::Hash32;
+use lg_plan::Plan;
+use lg_step::{Ran, Settings, is_spelled};
+use lg_together::runs_side_by_side_agree;
+use std::alloc::Global;
+use std::marker::Brand;
+use std::sync::Wait;
+use std::thread::Threads;
+
+/// How many statements the plan has.
+fn statement_count(plan: &Plan<'_>) -> u32
+    requires { size_of (plan_view plan.now) < 2 ^ 31 }
+    ensures { result < 2 ^ 31 }
+{
+    let mut count = plan.setup.len();
+    for session in &plan.sessions {
+        count += session.statements.len();
+    }
+    count as u32
+}
+
+/// Runs the plan on an empty database: the setup to its end, as the session `setup`, and then all sessions
+/// side by side, each in a thread of its own, while a builder closes blocks. What is written and saved of it
+/// agrees with what was answered, however the turns of sessions and builder fall.
+///
+/// The gate is passed by each session behind each of its statements and at its end, and by the builder behind
+/// each of its visits, one for each statement of the plan and one more; and a thread says there which cell it
+/// is inside of. Want of memory in any thread is answered once all threads have ended.
+pub fn run_all<H: Hash32, C: Clock, G: Gate, R: Threads + Wait + Sync>(
+    rt: &R,
+    alloc: Global,
+    hasher: H,
+    how: Settings<'_>,
+    plan: &Plan<'_>,
+    clock: &C,
+    gate: &G,
+) -> Result<Ran, Memory>
+    requires database { is_database_name how.database.now ≡ true }
+    requires some { 1 ≤ how.block_size }
+    requires most { how.block_size ≤ MAX_BLOCK }
+    requires names { All (λ name. is_session_name name ≡ true) (session_names (plan_view plan.now)) }
+    requires apart { IsDistinct bytes_eq (codes "setup" ∷ session_names (plan_view plan.now)) }
+    requires few { size_of (plan_view plan.now) < 2 ^ 31 }
+    ensures { IfOk result (λ r. (left : Left)
+        × CameTo (H.digest hasher) how.entry.database.now how.entry.block_size
+        (said_with how.entry.clock (C.says clock.now)) (plan_view plan.now) left
+        × IsOf (H.digest hasher) left r) }
+{
+    let visits = statement_count(plan) + 1;
+    let finished = run_over::<Brand, H, C, G, R>(
+        rt, alloc, hasher, how, plan, visits, clock, gate,
+    )?;
+    let ran = left_by(alloc, finished)?;
+    // Laws: they do nothing.
+    is_spelled(&ran.journal);
+    runs_side_by_side_agree();
+    Ok(ran)
+}

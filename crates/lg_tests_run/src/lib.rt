@@ -1,0 +1,7 @@
+//! Tests of sessions that run side by side: gates that hold threads at chosen places show that they do.
+#![tactic(auto)]
+
+#[cfg(test)]
+mod gates;
+#[cfg(test)]
+mod runs;
