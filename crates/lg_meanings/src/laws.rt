@@ -13,8 +13,8 @@ ghost use Rattle.lg_history.specs.Transcripts.{Transcript};
 ghost use Rattle.lg_course.specs.Told.{IsMeaning};
 
 /// Any two meanings that statements have by one grammar, where blocks are hashed with one hash, are one: what
-/// agrees by the rules of agreement with the first does with the second, and a transcript shows the same facts
-/// by both.
+/// agrees by the rules of agreement with the first does with the second, and a transcript shows the same
+/// facts by both.
 pub fn statements_have_one_meaning()
     ensures agree { (h : List ℕ → List ℕ) (reads : Reading) (q r : Meaning)
         → IsMeaning h reads q → IsMeaning h reads r → (database : Text) (input : List InputSession)

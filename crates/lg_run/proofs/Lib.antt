@@ -1,7 +1,15 @@
 mod ClosingPending
 mod FirstStand
+mod Going
 mod Leaves
+mod Over
 mod Ready
+mod Seating
+mod Snapshots
+mod StepsAhead
 mod Telling
 mod Together
+mod Visiting
+mod WentOn
 mod WholeRun
+mod Within

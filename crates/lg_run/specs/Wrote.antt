@@ -13,10 +13,10 @@ use Rattle.lg_run.specs.declared.worker.SessionEnd.{SessionEnd}
 use Rattle.lg_run.specs.declared.worker.Worker.{Worker}
 
 -- this was written of the session of this name that ran these statements, and its thread has this of it
-pub record IsWritten (says : ℕ → Type 0) (name : Text) (texts : List Text) (e : SessionEnd)
+pub record IsWritten (says : ℕ → Type 0) (name : Text) (ran : List Text) (e : SessionEnd)
     (w : Written) : Type 0 where
   pub session : w.transcript.session ≡ name
-  pub texts : statements w.transcript.entries ≡ texts
+  pub texts : statements w.transcript.entries ≡ ran
   pub entries : e.entries ≡ map (entry_text name) w.transcript.entries
   pub images : e.images ≡ w.images
   pub moments : Each (IsMoment says) w.moments

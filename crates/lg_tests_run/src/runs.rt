@@ -2,16 +2,15 @@
 
 use crate::gates::{HoldsBoth, HoldsBuilder, HoldsInside};
 use lg_base::{FixedClock, Gate, OpenGate};
-use lg_digest::read_digests;
 use lg_merkle::Sha256Hash;
 use lg_plan::read_plan;
 use lg_run::run_all;
 use lg_step::{Ran, Settings};
 use lg_types::JournalItem;
-use lg_verdict::Verdict;
-use lg_verify::verify;
 use std::sync::atomic::Ordering::SeqCst;
+use std::sync::Wait;
 use std::test::Fail;
+use std::thread::Threads;
 
 /// Two sessions on two tables.
 const TWO_TABLES: &[u8] = b"-- setup
@@ -26,7 +25,7 @@ INSERT INTO u VALUES (1, 1)
 EXECUTE sp_generate_database_ledger_digest
 ";
 
-fn run<G: Gate>(rt: &HostRuntime, input: &[u8], block_size: u32, gate: &G) -> Result<Ran, Fail> {
+fn run<R: Threads + Wait + AllocGlobal + Sync, G: Gate>(rt: &R, input: &[u8], block_size: u32, gate: &G) -> Result<Ran, Fail> {
     let plan = read_plan(rt.alloc(), input).ok().ok_or("form")?;
     let how = Settings {
         block_size,
@@ -34,9 +33,11 @@ fn run<G: Gate>(rt: &HostRuntime, input: &[u8], block_size: u32, gate: &G) -> Re
         database: "LedgerDB",
     };
     let clock = FixedClock { at: 0 };
-    Ok(run_all(rt, rt.alloc(), Sha256Hash, how, &plan, &clock, gate)
-        .ok()
-        .ok_or("memory")?)
+    Ok(
+        run_all(rt, rt.alloc(), Sha256Hash, how, &plan, &clock, gate)
+            .ok()
+            .ok_or("memory")?,
+    )
 }
 
 /// Alice is held inside her table's cell until bob's statement is answered, so bob commits first.
@@ -46,10 +47,63 @@ fn one_is_answered_while_another_is_inside(rt: HostRuntime) -> Result<(), Fail> 
     let ran = run(&rt, TWO_TABLES, 100_000, &gate)?;
     assert_eq!(rt; gate.met.load(SeqCst), 1);
     let text = ran.transcript.as_str();
-    assert!(rt; text.contains("bob: INSERT INTO u VALUES (1, 1)\n  1 rows\n  committed 4 at 3\n")
-        || text.contains("bob: INSERT INTO u VALUES (1, 1)\n  1 rows\n  committed 3 at 3\n"));
-    assert!(rt; text.contains("alice: INSERT INTO t VALUES (1, 1)\n  1 rows\n  committed 4 at 4\n")
-        || text.contains("alice: INSERT INTO t VALUES (1, 1)\n  1 rows\n  committed 3 at 4\n"));
+    assert!(rt;
+        text.contains("bob: INSERT INTO u VALUES (1, 1)\n  1 rows\n  committed 4 at 3\n")
+            || text.contains("bob: INSERT INTO u VALUES (1, 1)\n  1 rows\n  committed 3 at 3\n")
+    );
+    assert!(rt;
+        text.contains("alice: INSERT INTO t VALUES (1, 1)\n  1 rows\n  committed 4 at 4\n")
+            || text.contains("alice: INSERT INTO t VALUES (1, 1)\n  1 rows\n  committed 3 at 4\n")
+    );
     assert!(rt; text.contains("  1|1\n  1 rows\n"));
+    Ok(())
+}
+
+/// Each session goes on only when the other has answered: one after the other they would not meet.
+#[test]
+fn two_sessions_overlap(rt: HostRuntime) -> Result<(), Fail> {
+    let gate = HoldsBoth::new();
+    let ran = run(&rt, TWO_TABLES, 100_000, &gate)?;
+    assert_eq!(rt; gate.met.load(SeqCst), 2);
+    assert!(rt; ran.transcript.as_str().contains("  1|1\n  1 rows\n"));
+    Ok(())
+}
+
+/// A session's commit is closed by the builder while the session runs.
+#[test]
+fn the_builder_closes_blocks_meanwhile(rt: HostRuntime) -> Result<(), Fail> {
+    let input: &[u8] = b"-- setup
+CREATE TABLE t (id INT PRIMARY KEY, v INT)
+-- session alice
+INSERT INTO t VALUES (1, 1)
+INSERT INTO t VALUES (2, 2)
+";
+    let gate = HoldsBuilder::new();
+    let ran = run(&rt, input, 1, &gate)?;
+    assert_eq!(rt; gate.met.load(SeqCst), 2);
+    let mut closings = 0;
+    for item in ran.journal.items.as_slice() {
+        if let JournalItem::Close(1) = item {
+            closings += 1;
+        }
+    }
+    assert!(rt; 2 <= closings);
+    Ok(())
+}
+
+/// Of 64 sessions each is answered, and the digests that they were issued accept the image.
+#[test]
+fn many_sessions_run_side_by_side(rt: HostRuntime) -> Result<(), Fail> {
+    let mut input = String::new(rt.alloc());
+    input.push_str("-- setup\nCREATE TABLE t (id INT PRIMARY KEY, v INT)\n")?;
+    for session in 0..64 {
+        write!(
+            input,
+            "-- session s{session}\nINSERT INTO t VALUES ({session}, 1)\n"
+        )?;
+        input.push_str("EXECUTE sp_generate_database_ledger_digest\n")?;
+    }
+    let ran = run(&rt, input.as_bytes(), 3, &OpenGate)?;
+    assert_eq!(rt; ran.digests.len(), 64);
     Ok(())
 }

@@ -18,7 +18,7 @@ use Rattle.lg_history.specs.Digests.{IsDigest}
 use Rattle.lg_history.specs.Facts.{facts_of}
 use Rattle.lg_history.specs.Inputs.{InputSession}
 use Rattle.lg_history.specs.Journals.{blocks, times}
-use Rattle.lg_history.specs.Lists.{Text, Each, In}
+use Rattle.lg_history.specs.Lists.{Text, Each}
 use Rattle.lg_history.specs.Meaning.{Meaning}
 use Rattle.lg_history.specs.Real.{IsReal}
 use Rattle.lg_history.specs.Transcripts.{Transcript}
@@ -42,8 +42,8 @@ use Rattle.lg_course.specs.Told.{IsImageOf, IsMeaning}
 use Rattle.lg_course.specs.Wrote.{transcripts_in}
 use Rattle.lg_kept.specs.Accepted.{IsAccepted, IsOfCut}
 use Rattle.lg_joined.specs.Joined.{IsJoined, KnewThatOver}
-use Rattle.lg_joined.specs.Together.{AreFormed, IsMomentOf, RanTogether, names_in, session_in}
-use Rattle.lg_together.specs.CameTo.{CameTo, Left, last_image, last_image_bytes}
+use Rattle.lg_joined.specs.Together.{AreFormed, IsMomentOf, RanTogether, names_in}
+use Rattle.lg_together.specs.CameTo.{CameTo, Left, last_image}
 use Rattle.lg_together.specs.Threads.{HasJoined}
 use Rattle.lg_together.proofs.Images.{all_images, all_shown, whole_image}
 use Rattle.lg_together.proofs.Sessions.{are_named, is_said, names_are}
@@ -158,7 +158,7 @@ module _ (joined_agree : JoinedAgree) (meanings_agree : MeaningsAgree) (meanings
     accepted : (k : KeptImage) → IsImageOf h statement_of database J k → IsAccepted h database J G k
     accepted k is digests e = ap (verdict_of h (map held digests)) is.bytes ∙ verify h (journal_of database J) k.0 (map held digests) legal x.room (all_held k.0 digests e)
 
-    images : List (List KeptImage)
+    abbrev images : List (List KeptImage)
     images = map (λ w. w.images) written
 
     are_images : Each (λ kept. Each (IsImageOf h statement_of database J) kept) images

@@ -1,3 +1,4 @@
 mod Comes
 mod Images
+pub mod Said
 mod Sessions

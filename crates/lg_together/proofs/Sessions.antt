@@ -1,7 +1,7 @@
 -- Names and moments of sessions, as the input and what was written have them.
 use Rattle.std.proofs.Common.{◌≡◌, ℕ, true, List, [], ◌∷◌, map, refl, ap, inl, inr}
 use Rattle.lg_items.specs.SessionName.{is_session_name}
-use Rattle.lg_history.specs.Lists.{Text, Each, Some_of, In}
+use Rattle.lg_history.specs.Lists.{Text, Each}
 use Rattle.lg_history.specs.Transcripts.{Transcript}
 use Rattle.lg_standing.specs.Seats.{Written}
 use Rattle.lg_standing.proofs.AfterSet.{each_at}

@@ -22,8 +22,8 @@ use Rattle.lg_standing.specs.Seats.{KeptImage}
 use Rattle.lg_course.specs.Told.{IsImageOf, IsMeaning}
 use Rattle.lg_kept.specs.Accepted.{IsAccepted}
 
--- What is left of a run: of `setup`, and then of each session in the order of the plan, its transcript and the
--- images that it kept; the journal; and the digests.
+-- What is left of a run: of `setup`, and then of each session in the order of the plan, its transcript and
+-- the images that it kept; the journal; and the digests.
 pub record Left : Type 0 where
   pub X : List Transcript
   pub kept : List (List KeptImage)

@@ -21,7 +21,8 @@ use Rattle.lg_joined.specs.Together.{session_in}
 use Rattle.lg_together.specs.CameTo.{Left}
 
 -- On some server that reads by the grammar and hashes with h, one seat is left, which has all transcripts:
--- those of this input, `setup` first. What is left of the run is what it wrote and what the ledger's cell has.
+-- those of this input, `setup` first. What is left of the run is what it wrote and what the ledger's cell
+-- has.
 pub record HasJoined (h : List ℕ → List ℕ) (database : Text) (size : ℕ) (IsSaid : ℕ → Type 0)
     (input : List InputSession) (r : Left) : Type 0 where
   pub v : Server

@@ -2,6 +2,7 @@
 //! cells of a database.
 #![tactic(auto)]
 
+mod cells;
 mod giving;
 mod world;
 

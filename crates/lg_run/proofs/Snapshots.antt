@@ -1,0 +1,94 @@
+-- A visit of all cells at once is one that a seat may make on the board.
+use Rattle.std.proofs.Common.{◌≡◌, ◌<◌, ◌+◌, ℕ, zero, suc, List, [], ◌∷◌, ◌++◌, Option, Some, None, append-nil, length, map, refl, sym, ap, ap₂, subst, ◌∙◌, inl, inr, arith}
+use mathlib.Core.Option.{some, some-injective, some-ne-none}
+use lib.ListN.{get_elem?}
+use Rattle.lg_board.specs.Outs as board
+use Rattle.lg_history.specs.Lists.{In}
+use Rattle.lg_parse.specs.Text.{statement_of}
+use Rattle.lg_server.specs.Serves.{Serves}
+use Rattle.lg_standing.specs.Cells.{Cell, cell_count}
+use Rattle.lg_standing.specs.May.{May}
+use Rattle.lg_standing.specs.Seats.{KeptImage, SeatState}
+use Rattle.lg_step.specs.Moments.{IsMoment}
+use Rattle.lg_world.specs.Laws.{outs_are_seen}
+use Rattle.lg_world.specs.Served.{Served, MayVisit, StandsOn, outs_seen}
+use Rattle.lg_seat.specs.KeptCell.{KeptCell, Keeps}
+use Rattle.lg_seat.specs.Needs.{need_of}
+use Rattle.lg_seat.specs.Points.{Stays}
+use Rattle.lg_seat.specs.Steps.{AllOut, VisitedAll, VisitsAll, images_kept}
+use Rattle.lg_seat.specs.declared.need.Need.TheVariants as need
+use Rattle.lg_seat.specs.declared.seat.Seat.{Seat}
+use Rattle.lg_core.specs.declared.session.Session as core
+use Rattle.lg_run.specs.Seated.{known_by, says_in, IsAhead, IsSeated}
+use Rattle.lg_run.specs.declared.worker.Job.{Job}
+use Rattle.lg_run.proofs.Seating.{at, seated, seated_on}
+use Rattle.lg_run.proofs.StepsAhead.{may_behind}
+use Rattle.lg_run.proofs.Visiting.{all_not_done, among_all, keeps_there, needs_timed, same_texts}
+
+-- ---- all cells are out
+
+module _ {C : Type 0} where
+  all_stand : (whole : List C) (n : ℕ) (cs : List C) (out : List (ℕ × C)) → ((k : ℕ) (c : C) → get_elem? cs k ≡ some c → get_elem? whole (n + k) ≡ some c) → board.OutsStand whole out → board.OutsStand whole (board.all_out n cs out)
+  all_stand whole n [] out f h = h
+  all_stand whole n (c ∷ cs) out f h = all_stand whole (n + 1) cs ((n, c) ∷ out)
+      (λ k d e. subst (λ (m : ℕ). get_elem? whole m ≡ some d) (let q : n + suc k ≡ n + 1 + k = omega arith in q) (f (suc k) d e))
+      (subst (λ (m : ℕ). get_elem? whole m ≡ some c) (let q : n + 0 ≡ n = omega arith in q) (f 0 c refl), h)
+
+  still_out : (n : ℕ) (cs : List C) (out : List (ℕ × C)) (x : ℕ × C) → In x out → In x (board.all_out n cs out)
+  still_out n [] out x i = i
+  still_out n (c ∷ cs) out x i = still_out (n + 1) cs ((n, c) ∷ out) x (inr i)
+
+  is_out : (n : ℕ) (cs : List C) (out : List (ℕ × C)) (k : ℕ) (c : C) → get_elem? cs k ≡ some c → In (n + k, c) (board.all_out n cs out)
+  is_out n [] out k c e = absurd (some-ne-none c (sym e))
+  is_out n (d ∷ cs) out zero c e = still_out (n + 1) cs ((n, d) ∷ out) (n + 0, c)
+      (inl (ap₂ (λ (m : ℕ) (x : C). (m, x)) (let q : n ≡ n + 0 = omega arith in q) (some-injective d c e)))
+  is_out n (d ∷ cs) out (suc k) c e = subst (λ (m : ℕ). In (m, c) (board.all_out (n + 1) cs ((n, d) ∷ out))) (let q : n + 1 + k ≡ n + suc k = omega arith in q) (is_out (n + 1) cs ((n, d) ∷ out) k c e)
+
+  got : (cs : List C) (k : ℕ) → k < length cs → (c : C) × (get_elem? cs k ≡ some c)
+  got [] k l = absurd (omega (arith, l))
+  got (c ∷ cs) zero l = (c, refl)
+  got (c ∷ cs) (suc k) l = got cs k (omega (arith, l))
+
+  module _ (cell : C → Cell) where
+    seen_in : (out : List (ℕ × C)) (x : ℕ × C) → In x out → In (x.0, cell x.1) (outs_seen cell out)
+    seen_in [] x i = absurd i
+    seen_in (y ∷ ys) x (inl e) = inl (ap (λ (u : ℕ × C). (u.0, cell u.1)) e)
+    seen_in (y ∷ ys) x (inr i) = inr (seen_in ys x i)
+
+    pub all_are_out : (cells : List C) → length cells ≡ cell_count → AllOut (map cell cells) (outs_seen cell (board.all_out 0 cells []))
+    all_are_out cells count = record {
+      are_out = outs_are_seen cell cells (board.all_out 0 cells [])
+          (all_stand cells 0 cells [] (λ k c e. subst (λ (m : ℕ). get_elem? cells m ≡ some c) (let q : k ≡ 0 + k = omega arith in q) e) tt);
+      all = λ i l. let g = got cells i (omega (arith, l, count)) in (cell g.0, seen_in (board.all_out 0 cells []) (i, g.0)
+          (subst (λ (m : ℕ). In (m, g.0) (board.all_out 0 cells [])) (let q : 0 + i ≡ i = omega arith in q) (is_out 0 cells [] i g.0 g.1)));
+    }
+
+-- ---- an image
+
+module _ {H C : Type 0} (digest : H → List ℕ → List ℕ) (says : C → ℕ → Type 0) (d : Served) (job : Job H C) (serves : Serves (digest job.hasher) statement_of d.server) (y : core.Session H) (n : ℕ) (s : SeatState)
+    (ahead : IsAhead digest says d.server (at job y n None) s) (cells : List KeptCell) (seats : List SeatState) (j : ℕ) (stands : StandsOn (λ (c : KeptCell). c.cell) Keeps d cells seats) (there : get_elem? seats j ≡ some s)
+    (needs : need_of y.seat ≡ need.All) (z : Seat H) (kept : Option KeptImage) (visits : VisitsAll digest y.seat cells kept z) (stays : Stays y.seat z) where
+  abbrev now : IsSeated digest says (known_by s) s.written (at job y n None) ahead.t
+  now = ahead.seated
+
+  abbrev visited : VisitedAll digest y.seat cells (among_all digest says d job serves y n None s ahead cells seats j stands there needs) kept z
+  visited = visits (among_all digest says d job serves y n None s ahead cells seats j stands there needs)
+
+  time : IsMoment (says_in says job) y.seat.started
+  time = needs_timed (says_in says job) y.seat need.All needs all_not_done now.timed
+
+  image_seated : IsSeated digest says (known_by s) s.written (at job (seated y z) n kept) visited.t
+  image_seated = seated_on digest says (known_by s) s.written job y (seated y z) n n None kept ahead.t visited.t now visited.sits [] (images_kept kept) [] visited.adds stays.name
+      (same_texts digest says d job serves y n None s ahead z stays) (sym (append-nil y.entries)) (ap (λ is. is ++ images_kept kept) (append-nil y.images)) tt
+      (inr (subst (IsMoment (says_in says job)) (sym stays.started) time))
+
+  -- the first cell that is given back makes the visit
+  pub image_may : length cells ≡ cell_count → (out : List (ℕ × KeptCell)) → out ≡ board.all_out 0 cells [] → (i : ℕ) (c : KeptCell) (rest : List (ℕ × KeptCell)) → out ≡ (i, c) ∷ rest → get_elem? cells i ≡ some c
+      → (t : SeatState) × MayVisit (λ (c : KeptCell). c.cell) Keeps d s out i c t × IsSeated digest says (known_by s) s.written (at job (seated y z) n kept) t
+  image_may count out all i c rest first here = (visited.t, record {
+    kept = keeps_there digest says d job serves y n None s ahead cells seats j stands there i c here;
+    may = may_behind d.server s ahead.t visited.t (outs_seen (λ (c : KeptCell). c.cell) out) i c.cell ahead.steps
+        (subst (λ (o : List (ℕ × KeptCell)). May d.server ahead.t (outs_seen (λ (c : KeptCell). c.cell) o) i c.cell visited.t) (sym first)
+        (visited.may i c.cell (outs_seen (λ (c : KeptCell). c.cell) rest) (subst (λ (o : List (ℕ × KeptCell)). AllOut (map (λ (c : KeptCell). c.cell) cells) (outs_seen (λ (c : KeptCell). c.cell) o)) (sym all ∙ first)
+        (all_are_out (λ (c : KeptCell). c.cell) cells count))));
+  }, image_seated)
