@@ -6,7 +6,7 @@ use Rattle.lg_input.specs.Sessions.{sessions_of, max_sessions}
 use Rattle.lg_plan.specs.Plan.{Plan, read_plan}
 use Rattle.lg_cmd.specs.declared.status.Status.{Status}
 use Rattle.lg_cmd.specs.declared.status.Status.TheVariants.{Limit, Form, Memory}
-use Rattle.lg_cmd.specs.Transfer.{input_limit}
+use Rattle.lg_cmd.specs.Transfer.{input_limit, IsTooMuch}
 
 -- a form of inputs: what an input says, or its first line that lacks the form; and how many sessions stand in
 -- what it says
@@ -39,7 +39,7 @@ HasManySessions {A} form bytes =
 
 -- the input has more bytes than it may have, or else more sessions
 abbrev pub IsBeyond : {A : Type 0} → InputForm A → List ℕ → Type 0
-IsBeyond form bytes = (input_limit < length bytes) ⊎ HasManySessions form bytes
+IsBeyond form bytes = IsTooMuch bytes ⊎ HasManySessions form bytes
 
 -- this is the first line that lacks its form
 abbrev pub LacksForm : {A : Type 0} → InputForm A → List ℕ → ℕ → Type 0
