@@ -66,7 +66,7 @@ HasWritten VaultFault text old new = new ≡ old
 HasWritten Memory text old new = new ≡ old
 HasWritten _ text old new = ⊥
 
--- What a run left was saved and written.
+-- This was put and written of what a run left.
 pub record Saves (ended : Status) (save : List ℕ) (o : Output)
     (names_old names_new : Option Names) (taken_old taken_new : Option (List ℕ)) : Type 0 where
   pub digests : List ℕ
@@ -81,7 +81,9 @@ pub record Saves (ended : Status) (save : List ℕ) (o : Output)
   pub stand : ended ≡ Done → Each (λ f. TellsHeld names_old names_new f.name f.bytes)
       (saved_files save o digests)
 
--- The lines were within their limits and were run: this is what was put and written of what they came to.
+-- The lines were within their limits and were run. The output has, of what they came to, the text, the images
+-- by rising number of items, that of the whole journal, the journal and the digests; this was put and written
+-- of it.
 pub record Ran (ended : Status) (h : List ℕ → List ℕ) (save : List ℕ) (how : Settings)
     (input : Option (List ℕ)) (clock : ℕ → Type 0)
     (names_old names_new : Option Names) (taken_old taken_new : Option (List ℕ)) : Type 0 where
@@ -93,7 +95,7 @@ pub record Ran (ended : Status) (h : List ℕ → List ℕ) (save : List ℕ) (h
   pub is : IsRan h (sessions_of statements) run output
   pub saved : Saves ended save output names_old names_new taken_old taken_new
 
--- The sections were within their limits, and their sessions were run side by side: this is what was put and
+-- The sections were within their limits, and their sessions were run side by side; the same was put and
 -- written of what they came to.
 pub record RanAll (ended : Status) (h : List ℕ → List ℕ) (save : List ℕ) (how : Settings)
     (input : Option (List ℕ)) (clock : ℕ → Type 0)
