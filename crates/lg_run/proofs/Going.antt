@@ -2,31 +2,28 @@
 use Rattle.std.proofs.Common.{◌≡◌, ◌⊎◌, ◌+◌, ℕ, List, [], ◌∷◌, ◌++◌, Option, Some, None, append-nil, map, take, refl, sym, ap, ap₂, subst, ◌∙◌, inl, inr, ⊎_elim}
 use Rattle.lg_history.specs.Inputs.{InputLine}
 use Rattle.lg_history.specs.Lists.{Text, Each}
-use Rattle.lg_history.specs.Transcripts.{Entry, EndLine, statements, Transcript}
+use Rattle.lg_history.specs.Transcripts.{Entry, EndLine, statements}
 use Rattle.lg_parse.specs.Text.{statement_of}
 use Rattle.lg_transcript.specs.TranscriptText.{entry_text}
 use Rattle.lg_server.specs.Serves.{Serves}
-use Rattle.lg_standing.specs.Alone.{Alones, none, more, new_session}
+use Rattle.lg_standing.specs.Alone.{none, more, new_session}
 use Rattle.lg_standing.specs.Moves as law
-use Rattle.lg_standing.specs.Seats.{KeptImage, OpenTransaction, Role, idle, Session, SeatState, Written}
+use Rattle.lg_standing.specs.Seats.{KeptImage, OpenTransaction, Role, Session, SeatState}
 use Rattle.lg_standing.specs.Server.{Server}
 use Rattle.lg_step.specs.Moments.{IsMoment}
 use Rattle.lg_seat.specs.Points.{IsAnswering, IsAnsweringAt, IsBetween, IsBetweenAt, IsUnderWay, IsUnderWayAt}
 use Rattle.lg_seat.specs.Rest.{FinishesBy, IsFinishing}
-use Rattle.lg_seat.specs.Sits.{Runs, Sits}
+use Rattle.lg_seat.specs.Sits.{Runs}
 use Rattle.lg_seat.specs.Steps.{Answers, Begins, Starts, Steps, StepsAlone, end_of, entries_at, entries_by, images_kept, line_with}
-use Rattle.lg_seat.specs.Told.{Adds}
 use Rattle.lg_seat.specs.declared.running.Running.{Running}
 use Rattle.lg_seat.specs.declared.seat.Seat.{Seat}
 use Rattle.lg_seat.specs.declared.stage.Point.{Point}
 use Rattle.lg_seat.specs.declared.stage.Point.TheVariants.{Between, Inside, Leaving, Over}
-use Rattle.lg_seat.specs.declared.stage.Stage.{Stage}
 use Rattle.lg_seat.specs.declared.stage.Stage.TheVariants.{Begun, Drawing, Committing, RollingBack, Issuing, Keeping, Looking, Found as FoundIt, Made, LacksIndex, GoingBack, Replied, GivingBack, Answering as Answered_}
 use Rattle.lg_core.specs.Written.{Answered}
 use Rattle.lg_core.specs.declared.session.Session as core
 use Rattle.lg_run.specs.Seated.{known_by, known_in, all_known, says_in, texts_in, under_way, IsAhead, IsIdle, IsSeated, IsTimed}
 use Rattle.lg_run.specs.declared.worker.Job.{Job}
-use Rattle.lg_run.specs.declared.worker.Worker.{Worker}
 use Rattle.lg_run.proofs.Seating.{at, none_between, none_leaving, one_session, seated, seated_on, statements_more}
 use Rattle.lg_run.proofs.StepsAhead.{steps_both}
 

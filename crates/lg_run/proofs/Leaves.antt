@@ -1,5 +1,5 @@
 -- What is saved of threads that have ended is that of a run of their plan.
-use Rattle.std.proofs.Common.{◌≡◌, ◌≢◌, ◌≤◌, ◌^◌, ◌∙◌, ℕ, min, true, false, List, [], ◌∷◌, ◌++◌, codes, flat_map, length, map, refl, sym, ap, ap₂, subst, subst₂, arith, ⊎_elim, true≢false}
+use Rattle.std.proofs.Common.{◌≡◌, ◌≢◌, ◌≤◌, ◌^◌, ◌∙◌, ℕ, suc, min, true, false, List, [], ◌∷◌, ◌++◌, codes, flat_map, length, map, refl, sym, ap, ap₂, subst, subst₂, arith, ⊎_elim, true≢false}
 use Rattle.std.specs.List.{All, AllByRecursion, IsDistinct}
 use Rattle.std.specs.Str.{bytes_eq}
 use Rattle.std.proofs.lemmas.Bool.Decides.{nat_tests}
@@ -32,6 +32,7 @@ use Rattle.lg_standing.specs.JournalForms.{journal_in}
 use Rattle.lg_standing.specs.Reordered.{NamesApart}
 use Rattle.lg_standing.specs.Seats.{KeptImage, Written}
 use Rattle.lg_standing.specs.Server.{Server}
+use Rattle.lg_standing.specs.StandTogether.{Stands}
 use Rattle.lg_server.specs.Serves.{Serves}
 use Rattle.lg_server.proofs.CellsShow.{same_image}
 use Rattle.lg_course.specs.Told.{IsImageOf}
@@ -74,6 +75,10 @@ is_within said = grind (arith, nat_tests)
 
 moment_is : (says : ℕ → Type 0) (at : ℕ) → IsMoment says at → is_moment at ≡ true
 moment_is says at m = subst (λ n. is_moment n ≡ true) (sym m.2) (is_within m.0)
+
+setup_named : is_session_name setup_name ≡ true
+unfolding is_session_name
+setup_named = refl
 
 each_from_all : {A : Type 0} (P : A → Type 0) (xs : List A) → All P xs → Each P xs
 each_from_all P [] all = tt
@@ -134,7 +139,7 @@ entries_joined name [] = refl
 entries_joined name (e ∷ es) = ap (λ (b : List ℕ). entry_text name e ++ b) (entries_joined name es)
 
 all_text : (ws : List Written) → joined_each (map shown_of ws) ≡ transcripts_text (transcripts_in ws)
-unfolding transcripts_text, transcript_text
+unfolding transcripts_text transcript_text
 all_text [] = refl
 all_text (w ∷ ws) = ap₂ (λ (a b : List ℕ). a ++ b) (entries_joined w.transcript.session w.transcript.entries) (all_text ws)
 
@@ -156,7 +161,7 @@ module _ (h : List ℕ → List ℕ) (sized : (bytes : List ℕ) → length (h b
   left_of r = record { X = transcripts_in all; kept = map (λ w. w.images) all; J = r.journal; G = r.digests }
 
   module _ (r : Ran) (saved : HasSaved f r) where
-    abbrev st : _
+    abbrev st : Stands d.server fin.stands.together.history cells fin.seats
     st = fin.stands.together.stands
 
     abbrev l : LedgerCell
@@ -193,7 +198,7 @@ module _ (h : List ℕ → List ℕ) (sized : (bytes : List ℕ) → length (h b
       input_is = ap₂ (λ (x : InputSession) (xs : List InputSession). x ∷ xs) (input_is says setup_name (texts_in plan.setup.items) f.setup fin.first fin.setup_is) (inputs_are says plan.sessions.items f.ends.items fin.rest fin.are);
       apart = subst NamesApart (sym (names_in plan)) (names_apart (codes "setup" ∷ session_names (plan_view plan)) apart);
       database_is_named = named;
-      sessions_are_named = (refl, each_named plan (each_from_all (λ name. is_session_name name ≡ true) (session_names (plan_view plan)) names));
+      sessions_are_named = (setup_named, each_named plan (each_from_all (λ name. is_session_name name ≡ true) (session_names (plan_view plan)) names));
       moments = (fin.setup_is.moments, moments_are says plan.sessions.items f.ends.items fin.rest fin.are);
       are_moments = moment_is says;
       ids = saved.ids;

@@ -2,9 +2,11 @@ mod ClosingPending
 mod FirstStand
 mod Going
 mod Leaves
+mod Ledgers
 mod Over
 mod Ready
 mod Seating
+mod Sizes
 mod Snapshots
 mod StepsAhead
 mod Telling

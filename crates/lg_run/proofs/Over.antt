@@ -1,5 +1,5 @@
 -- A session is over, and its transcript is written behind those that its seat has.
-use Rattle.std.proofs.Common.{◌≡◌, ℕ, zero, suc, List, [], ◌∷◌, ◌++◌, Option, Some, None, append-nil, length, map, take, refl, sym, ap, subst, ◌∙◌}
+use Rattle.std.proofs.Common.{◌≡◌, ℕ, List, [], ◌∷◌, ◌++◌, Option, Some, None, append-nil, length, map, take, refl, sym, ap, subst, ◌∙◌}
 use Rattle.std.specs.Borrow.{Bor}
 use Rattle.lg_history.specs.Lists.{Text, Each}
 use Rattle.lg_history.specs.Transcripts.{Entry, EndLine, statements}
@@ -18,9 +18,8 @@ use Rattle.lg_seat.specs.declared.stage.Point.TheVariants.{Between, Inside, Leav
 use Rattle.lg_core.specs.Written.{Left}
 use Rattle.lg_core.specs.declared.session.Session as core
 use Rattle.lg_run.specs.Seated.{known_by, says_in, texts_in, under_way, IsAhead, IsSeated}
-use Rattle.lg_run.specs.Wrote.{HasLeft, HasWritten, IsWritten, left_of}
+use Rattle.lg_run.specs.Wrote.{HasLeft, IsWritten, left_of}
 use Rattle.lg_run.specs.declared.worker.Job.{Job}
-use Rattle.lg_run.specs.declared.worker.Worker.{Worker}
 use Rattle.lg_run.proofs.Going.{all_answered}
 use Rattle.lg_run.proofs.Seating.{at, one_session, statements_more, texts_more}
 
@@ -42,9 +41,9 @@ taken_all ts n e = ap (λ (k : ℕ). take k (texts_in ts)) e ∙ whole ts
     whole [] = refl
     whole (u ∷ us) = ap (λ (rest : List Text). u.now ∷ rest) (whole us)
 
-module _ {H C : Type 0} (digest : H → List ℕ → List ℕ) (says : C → ℕ → Type 0) (job : Job H C) (v : Server) (serves : Serves (digest job.hasher) statement_of v) (y z : core.Session H) (n : ℕ) (s : SeatState)
-    (ahead : IsAhead digest says v (at job y n None) s) (ends : MayEnd y.seat) (all : n ≡ length job.statements.now) (left : Left digest y z) where
-  abbrev now : IsSeated digest says (known_by s) s.written (at job y n None) ahead.t
+module _ {H C : Type 0} (digest : H → List ℕ → List ℕ) (says : C → ℕ → Type 0) (job : Job H C) (v : Server) (serves : Serves (digest job.hasher) statement_of v) (y z : core.Session H) (n : ℕ) (image : Option KeptImage) (stored : image ≡ None) (s : SeatState)
+    (ahead : IsAhead digest says v (at job y n image) s) (ends : MayEnd y.seat) (all : n ≡ length job.statements.now) (left : Left digest y z) where
+  abbrev now : IsSeated digest says (known_by s) s.written (at job y n image) ahead.t
   now = ahead.seated
 
   abbrev its_end : Ends v ahead.t y.seat
@@ -61,22 +60,22 @@ module _ {H C : Type 0} (digest : H → List ℕ → List ℕ) (says : C → ℕ
 
   texts_are : statements its_end.w.transcript.entries ≡ texts_in job.statements.now
   texts_are = ap statements entries_are ∙ statements_more now.sits.x.transcript.entries last ∙ ap (λ (ts : List Text). statements now.sits.x.transcript.entries ++ ts) (no_statement (end_of y.seat.running))
-      ∙ append-nil (statements now.sits.x.transcript.entries) ∙ all_answered digest says job v serves y n None s ahead (none_at_end y.seat.point y.seat.running y.seat.text ends) ∙ taken_all job.statements.now n all
+      ∙ append-nil (statements now.sits.x.transcript.entries) ∙ all_answered digest says job v serves y n image s ahead (none_at_end y.seat.point y.seat.running y.seat.text ends) ∙ taken_all job.statements.now n all
 
   shown : z.entries ≡ map (entry_text job.name.now) its_end.w.transcript.entries
   shown = left.gained ∙ ap (λ (name : Text). y.entries ++ map (entry_text name) last) now.name ∙ ap (λ (ts : List Text). ts ++ map (entry_text job.name.now) last) now.entries
       ∙ sym (texts_more (entry_text job.name.now) now.sits.x.transcript.entries last) ∙ ap (map (entry_text job.name.now)) (sym entries_are)
 
-  is_written : IsWritten (says_in says job) job.name.now (texts_in job.statements.now) (left_of (at job z n None)) its_end.w
+  is_written : IsWritten (says_in says job) job.name.now (texts_in job.statements.now) (left_of (at job z n image)) its_end.w
   is_written = record {
     session = its_end.session ∙ ap (λ (x : Session). x.transcript.session) was ∙ now.sits.name ∙ now.name;
     texts = texts_are;
     entries = shown;
-    images = left.images ∙ sym (append-nil y.images) ∙ sym now.images ∙ sym (its_end.images ∙ ap (λ (x : Session). x.images) was);
+    images = left.images ∙ sym (append-nil y.images) ∙ ap (λ (i : Option KeptImage). y.images ++ images_kept i) (sym stored) ∙ sym now.images ∙ sym (its_end.images ∙ ap (λ (x : Session). x.images) was);
     moments = subst (Each (IsMoment (says_in says job))) (sym (its_end.moments ∙ ap (λ (x : Session). x.moments) was)) now.moments;
   }
 
-  pub leaves_ahead : HasLeft says v (at job z n None) s
+  pub leaves_ahead : HasLeft says v (at job z n image) s
   leaves_ahead = record {
     t = its_end.t;
     steps = more ahead.steps its_end.step;

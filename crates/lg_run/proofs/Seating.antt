@@ -1,15 +1,16 @@
 -- A session goes on, and stands as its thread has it.
-use Rattle.std.proofs.Common.{◌≡◌, ◌⊎◌, ◌<◌, ◌+◌, ℕ, zero, suc, List, [], ◌∷◌, ◌++◌, Option, Some, None, get_or, length, map, take, refl, sym, ap, subst, subst₂, ◌∙◌, arith}
+use Rattle.std.proofs.Common.{◌≡◌, ◌<◌, ◌+◌, ℕ, zero, suc, List, [], ◌∷◌, ◌++◌, Option, length, map, take, refl, sym, ap, subst, subst₂, ◌∙◌, arith}
 use Rattle.std.specs.Borrow.{Bor}
+use Rattle.std.specs.Prelude.{slice_index_or}
 use Rattle.lg_history.specs.Lists.{Text, Each}
 use Rattle.lg_history.specs.Transcripts.{Entry, statement, end_of_session, statements, Transcript}
 use Rattle.lg_history.proofs.Trace.{each_append}
 use Rattle.lg_transcript.specs.TranscriptText.{entry_text}
 use Rattle.lg_standing.specs.Alone.{none}
 use Rattle.lg_standing.specs.Server.{Server}
-use Rattle.lg_standing.specs.Seats.{KeptImage, Role, idle, session, Session, SeatState, Written}
+use Rattle.lg_standing.specs.Seats.{KeptImage, Role, session, Session, SeatState, Written}
 use Rattle.lg_step.specs.Moments.{IsMoment}
-use Rattle.lg_seat.specs.Points.{IsBetween, IsBetweenAt, IsInsideAt, IsLeavingAt, StaysBy}
+use Rattle.lg_seat.specs.Points.{IsBetweenAt, IsInsideAt, IsLeavingAt, StaysBy}
 use Rattle.lg_seat.specs.Sits.{Sits}
 use Rattle.lg_seat.specs.Steps.{images_kept}
 use Rattle.lg_seat.specs.Told.{Adds}
@@ -32,11 +33,14 @@ statements_more [] more = refl
 statements_more (statement text reply end ∷ es) more = ap (λ (ts : List Text). text ∷ ts) (statements_more es more)
 statements_more (end_of_session end ∷ es) more = statements_more es more
 
+take_next : (ts : List (Bor Text)) (n : ℕ) (d : Bor Text) → n < length ts → take (suc n) (texts_in ts) ≡ take n (texts_in ts) ++ (slice_index_or ts n d).now ∷ []
+take_next [] n d l = absurd (omega (arith, l))
+take_next (x ∷ ts) zero d l = refl
+take_next (x ∷ ts) (suc n) d l = ap (λ (us : List Text). x.now ∷ us) (take_next ts n d (omega (arith, l)))
+
 -- one statement more is taken up
-pub take_more : (ts : List (Bor Text)) (n : ℕ) (b : Bor Text) → n < length ts → b ≡ get_or ts n b → take (n + 1) (texts_in ts) ≡ take n (texts_in ts) ++ b.now ∷ []
-take_more [] n b l e = absurd (omega (arith, l))
-take_more (x ∷ ts) zero b l e = ap (λ (c : Bor Text). c.now ∷ []) (sym e)
-take_more (x ∷ ts) (suc n) b l e = ap (λ (us : List Text). x.now ∷ us) (take_more ts n b (omega (arith, l)) e)
+pub take_more : (ts : List (Bor Text)) (n : ℕ) (d : Bor Text) → n < length ts → take (n + 1) (texts_in ts) ≡ take n (texts_in ts) ++ (slice_index_or ts n d).now ∷ []
+take_more ts n d l = ap (λ (k : ℕ). take k (texts_in ts)) (let q : n + 1 ≡ suc n = omega arith in q) ∙ take_next ts n d l
 
 -- ---- roles
 
@@ -147,3 +151,12 @@ module _ {H C : Type 0} (digest : H → List ℕ → List ℕ) (says : C → ℕ
     steps = none;
     seated = subst₂ (λ (known : List Transcript) (written : List Written). IsSeated digest says known written z t) (sym still_known.known) (sym still_known.written) w;
   }
+
+-- an image is put among those of the session
+pub stored_ahead : {H C : Type 0} (digest : H → List ℕ → List ℕ) (says : C → ℕ → Type 0) (job : Job H C) (v : Server) (y z : core.Session H) (n : ℕ) (before after : Option KeptImage) (s : SeatState) → IsAhead digest says v (at job y n before) s
+    → z.seat ≡ y.seat → z.entries ≡ y.entries → z.images ++ images_kept after ≡ y.images ++ images_kept before → IsAhead digest says v (at job z n after) s
+stored_ahead digest says job v y z n before after s ahead same entries images = record {
+  t = ahead.t;
+  steps = ahead.steps;
+  seated = seated_stored digest says (known_by s) s.written job y z n before after ahead.t ahead.seated same entries images;
+}

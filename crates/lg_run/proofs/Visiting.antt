@@ -1,15 +1,15 @@
 -- A visit of a session is one that its seat may make on the board, with the steps that the board doesn't know yet.
-use Rattle.std.proofs.Common.{◌≡◌, ◌⊎◌, ◌<◌, ℕ, List, [], ◌∷◌, ◌++◌, Option, Some, None, append-nil, map, slice_set, take, refl, sym, ap, subst, ◌∙◌, inl, inr, ⊎_elim}
+use Rattle.std.proofs.Common.{◌≡◌, ◌⊎◌, ◌<◌, ℕ, List, [], ◌∷◌, ◌++◌, Option, None, append-nil, map, slice_set, take, refl, sym, ap, subst, ◌∙◌, inr, ⊎_elim}
 use mathlib.Core.Option.{some}
 use lib.ListN.{get_elem?}
 use Rattle.lg_board.specs.Outs as board
-use Rattle.lg_history.specs.Lists.{Text, Each}
+use Rattle.lg_history.specs.Lists.{Text}
 use Rattle.lg_history.specs.Transcripts.{Entry, statements}
 use Rattle.lg_history.proofs.Trace.{each_weaker}
 use Rattle.lg_parse.specs.Text.{statement_of}
 use Rattle.lg_server.specs.Serves.{Serves}
 use Rattle.lg_standing.specs.Alone.{none}
-use Rattle.lg_standing.specs.Cells.{Cell, cell_count, ledger_at}
+use Rattle.lg_standing.specs.Cells.{Cell, cell_count}
 use Rattle.lg_standing.specs.Seats.{KeptImage, SeatState}
 use Rattle.lg_standing.specs.StandTogether.{StandTogether}
 use Rattle.lg_standing.specs.Visits.{nothing}
@@ -151,7 +151,11 @@ module _ {H C : Type 0} (digest : H → List ℕ → List ℕ) (says : C → ℕ
 module _ {H C : Type 0} (says : C → ℕ → Type 0) (d : Served) (z : Worker H C) (s : SeatState) (left : HasLeft says d.server z s) where
   pub settle_may : (i : ℕ) (c : KeptCell) → Keeps d.server.hash c → (out : List (ℕ × KeptCell)) → out ≡ (i, c) ∷ []
       → (t : SeatState) × MayVisit (λ (c : KeptCell). c.cell) Keeps d s out i c t × HasWritten (says_in says z.job) z.job.name.now (texts_in z.job.statements.now) (left_of z) (known_by s) s.written t
-  settle_may i c keeps out e = (left.t, subst (λ (o : List (ℕ × KeptCell)). MayVisit (λ (c : KeptCell). c.cell) Keeps d s o i c left.t) (sym e) (record {
-    kept = keeps;
-    may = record { visit = nothing; old = c.cell; rest = []; is_out = refl; begun = left.t; before = left.steps; ended = left.t; happens = (refl, refl); after = none };
-  }), left.wrote)
+  settle_may i c keeps out e = (
+    left.t,
+    subst (λ (o : List (ℕ × KeptCell)). MayVisit (λ (c : KeptCell). c.cell) Keeps d s o i c left.t) (sym e) (record {
+      kept = keeps;
+      may = record { visit = nothing; old = c.cell; rest = []; is_out = refl; begun = left.t; before = left.steps; ended = left.t; happens = (refl, refl); after = none };
+    }),
+    left.wrote,
+  )

@@ -65,7 +65,7 @@ IsTimed says y = (IsBetween y × (y.running ≡ None)) ⊎ IsMoment says y.start
 -- taken up, at moments that are said; and when it began, its seat knew of these sessions that they were over,
 -- and had written these.
 pub record IsSeated {H C : Type 0} (digest : H → List ℕ → List ℕ) (says : C → ℕ → Type 0)
-    (known : List Transcript) (written : List Written) (z : Worker H C) (t : SeatState) : Type 0 where
+    (known : List Transcript) (wrote : List Written) (z : Worker H C) (t : SeatState) : Type 0 where
   pub sits : Sits digest z.job.hasher z.session.seat t
   pub name : z.session.seat.name ≡ z.job.name.now
   pub texts : statements sits.x.transcript.entries ++ under_way z.session.seat.point z.session.seat.text
@@ -76,7 +76,7 @@ pub record IsSeated {H C : Type 0} (digest : H → List ℕ → List ℕ) (says 
   pub moments : Each (IsMoment (says_in says z.job)) sits.x.moments
   pub timed : IsTimed (says_in says z.job) z.session.seat
   pub earlier : sits.x.earlier ≡ known
-  pub written : t.written ≡ written
+  pub written : t.written ≡ wrote
 
 -- So it is in a state to which some steps of the seat alone lead from the one that the board knows.
 pub record IsAhead {H C : Type 0} (digest : H → List ℕ → List ℕ) (says : C → ℕ → Type 0) (v : Server)

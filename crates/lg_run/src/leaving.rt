@@ -1,7 +1,8 @@
 //! What is written and saved of a run that is over.
 
 ghost use Rattle.std.specs.Prelude.{◌≡◌, ◌++◌, ◌∷◌, map, string_bytes, IfOk, OnOk};
-ghost use Rattle.lg_step.specs.Images.{with_each};
+ghost use Rattle.std.specs.List.{fold};
+ghost use Rattle.lg_step.specs.Images.{with_each, with_images};
 ghost use Rattle.lg_step.specs.Woven.{joined, joined_each};
 ghost use Rattle.lg_seat.specs.Images.{CellsStand};
 ghost use Rattle.lg_run.specs.Saved.{HasSaved};
@@ -24,16 +25,36 @@ fn push_texts(texts: &[Text], out: &mut String) -> Result<(), Memory>
     Ok(())
 }
 
+/// Appends the entries of sessions, one session behind the other.
+fn push_ends(ends: &[SessionEnd], out: &mut String) -> Result<(), Memory>
+    ensures { OnOk result (string_bytes out.new
+        ≡ string_bytes out.old ++ joined_each (map (λ e. e.entries) ends.now)) }
+{
+    for end in ends {
+        push_texts(end.entries.as_slice(), out)?;
+    }
+    Ok(())
+}
+
 /// The entries of the setup, and then those of each session.
 fn transcript_of(alloc: Global, setup: &SessionEnd, ends: &[SessionEnd]) -> Result<Text, Memory>
-    ensures { IfOk result (λ text. text ≡ joined_each (setup.now.entries ∷ map (λ e. e.entries) ends.now)) }
+    ensures { IfOk result
+        (λ text. text ≡ joined_each (setup.now.entries ∷ map (λ e. e.entries) ends.now)) }
 {
     let mut out = String::new(alloc);
     push_texts(setup.entries.as_slice(), &mut out)?;
-    for end in ends {
-        push_texts(end.entries.as_slice(), &mut out)?;
-    }
+    push_ends(ends, &mut out)?;
     Ok(Text::from_string(out))
+}
+
+/// Adds the images of sessions.
+fn add_ends(images: &mut Items<(u64, Blob)>, ends: Vec<SessionEnd>) -> Result<(), Memory>
+    ensures { OnOk result (images.new ≡ fold with_images images.old (map (λ e. e.images) ends.items)) }
+{
+    for end in ends {
+        add_images(images, end.images)?;
+    }
+    Ok(())
 }
 
 /// The images that setup and sessions kept, each once.
@@ -47,9 +68,7 @@ fn images_of(
 {
     let mut images = Items::new(alloc);
     add_images(&mut images, setup.images)?;
-    for end in ends {
-        add_images(&mut images, end.images)?;
-    }
+    add_ends(&mut images, ends)?;
     Ok(images)
 }
 

@@ -92,7 +92,7 @@ fn unite<K: Serving>(board: &Cells<K>, first: Part<K>, second: Part<K>) -> Part<
 ///
 /// The sessions are halved, the seat is split between the halves, and both seats are joined again when both
 /// have ended. After want of memory nothing is known of the seats, and the board is to be dropped.
-pub(crate) fn run_part<'a, K: Serving, H: Hash32, C: Clock, G: Gate, R: Threads + Wait + Sync>(
+pub(crate) fn run_part<'a, K: Serving + Send + Sync, H: Hash32, C: Clock, G: Gate, R: Threads + Wait + Sync>(
     rt: &R,
     alloc: Global,
     hasher: H,
@@ -131,7 +131,8 @@ pub(crate) fn run_part<'a, K: Serving, H: Hash32, C: Clock, G: Gate, R: Threads 
     let (mine, theirs) = join(
         rt,
         move || -> Part<K>
-            requires sync { IsSync R.row × IsSync H.row × IsSync C.row × IsSync G.row × IsSend H.row }
+            requires sync { IsSync R.row × IsSync H.row × IsSync C.row × IsSync G.row × IsSync K.row
+                × IsSend H.row × IsSend K.row }
             requires board { IsSeatOf board.now place × (board_cells board.now ≡ cell_count) }
             requires out { seat_out place ≡ [] }
             requires idle { IsIdle (seat_state place) }
@@ -149,7 +150,8 @@ pub(crate) fn run_part<'a, K: Serving, H: Hash32, C: Clock, G: Gate, R: Threads 
             )
         },
         move || -> Part<K>
-            requires sync { IsSync R.row × IsSync H.row × IsSync C.row × IsSync G.row × IsSend H.row }
+            requires sync { IsSync R.row × IsSync H.row × IsSync C.row × IsSync G.row × IsSync K.row
+                × IsSend H.row × IsSend K.row }
             requires board { IsSeatOf board.now other × (board_cells board.now ≡ cell_count) }
             requires out { seat_out other ≡ [] }
             requires idle { IsIdle (seat_state other) }

@@ -17,7 +17,6 @@ use lg_base::{Clock, Gate};
 use lg_items::Memory;
 use lg_merkle::Hash32;
 use lg_plan::Plan;
-use lg_server::there_is_such_a_server;
 use lg_step::{Ran, Settings, is_spelled};
 use lg_together::runs_side_by_side_agree;
 use std::alloc::Global;
@@ -72,6 +71,5 @@ pub fn run_all<H: Hash32, C: Clock, G: Gate, R: Threads + Wait + Sync>(
     // Laws: they do nothing.
     is_spelled(&ran.journal);
     runs_side_by_side_agree();
-    there_is_such_a_server();
     Ok(ran)
 }

@@ -150,7 +150,7 @@ fn carry_out<'a, K: Serving, H: Hash32, C: Clock, G: Gate, R: Wait>(
 
 /// What the thread of a session has of it.
 fn end_of<H: Hash32, C: Clock>(worker: Worker<'_, H, C>) -> SessionEnd
-    ensures { result ≡ left_of worker }
+    ensures { result ≡ left_of worker.entry }
 {
     let Session {
         seat: _,

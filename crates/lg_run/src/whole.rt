@@ -100,7 +100,7 @@ fn build<K: Serving, H: Hash32, G: Gate, R: Wait>(
 }
 
 // Runs all sessions side by side, and the builder beside them.
-fn run_beside<'a, K: Serving, H: Hash32, C: Clock, G: Gate, R: Threads + Wait + Sync>(
+fn run_beside<'a, K: Serving + Send + Sync, H: Hash32, C: Clock, G: Gate, R: Threads + Wait + Sync>(
     rt: &R,
     alloc: Global,
     hasher: H,
@@ -129,7 +129,8 @@ fn run_beside<'a, K: Serving, H: Hash32, C: Clock, G: Gate, R: Threads + Wait + 
     let (part, builder) = join(
         rt,
         move || -> Part<K>
-            requires sync { IsSync R.row × IsSync H.row × IsSync C.row × IsSync G.row × IsSend H.row }
+            requires sync { IsSync R.row × IsSync H.row × IsSync C.row × IsSync G.row × IsSync K.row
+                × IsSend H.row × IsSend K.row }
             requires board { IsSeatOf board.now place × (board_cells board.now ≡ cell_count) }
             requires out { seat_out place ≡ [] }
             requires idle { IsIdle (seat_state place) }
@@ -147,7 +148,7 @@ fn run_beside<'a, K: Serving, H: Hash32, C: Clock, G: Gate, R: Threads + Wait + 
             )
         },
         move || -> Place<K>
-            requires sync { IsSync R.row × IsSync H.row × IsSync G.row × IsSend H.row }
+            requires sync { IsSync R.row × IsSync H.row × IsSync G.row × IsSync K.row × IsSend H.row × IsSend K.row }
             requires board { IsSeatOf board.now builder × (board_cells board.now ≡ cell_count) }
             requires out { seat_out builder ≡ [] }
             requires serves { Serves (H.digest hasher) statement_of K.database.server }
@@ -162,7 +163,7 @@ fn run_beside<'a, K: Serving, H: Hash32, C: Clock, G: Gate, R: Threads + Wait + 
 }
 
 /// Runs the plan over the cells of a database without transactions, as many visits of the builder beside it.
-pub(crate) fn run_over<K: Serving, H: Hash32, C: Clock, G: Gate, R: Threads + Wait + Sync>(
+pub(crate) fn run_over<K: Serving + Send + Sync, H: Hash32, C: Clock, G: Gate, R: Threads + Wait + Sync>(
     rt: &R,
     alloc: Global,
     hasher: H,

@@ -1,6 +1,6 @@
 //! A session with what it is to run, as its thread has it.
 
-ghost use Rattle.std.specs.Prelude.{◌≡◌, ◌+◌, true, length, IfOk, None, OnOk};
+ghost use Rattle.std.specs.Prelude.{◌≡◌, ◌+◌, ◌<◌, true, length, IfOk, None, OnOk};
 ghost use mathlib.Core.Option.{some};
 ghost use lib.ListN.{get_elem?};
 ghost use Rattle.lg_items.specs.SessionName.{is_session_name};
@@ -63,7 +63,7 @@ pub(crate) fn begin<'a, H: Hash32, C: Clock>(
     ensures ahead { IfOk result
         (λ z. (v : Server) (s : SeatState) → IsIdle s → IsAhead H.digest C.says v z s) }
     ensures between { IfOk result (λ z. IsBetween z.session.seat) }
-    ensures new { IfOk result (λ z. (z.job ≡ job) × (z.taken ≡ 0) × (z.image ≡ None)) }
+    ensures new { IfOk result (λ z. (z.job ≡ job.entry) × (z.taken ≡ 0) × (z.image ≡ None)) }
 {
     let name = Name::of_str(alloc, job.name)?;
     let session = new_session(alloc, job.hasher, name);

@@ -1,4 +1,4 @@
-//! The cells that seats visit, as cells of the world.
+//! The cells that seats visit are cells of a server.
 
 use crate::world::ServedCell;
 use lg_seat::Cell;

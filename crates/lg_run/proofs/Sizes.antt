@@ -1,0 +1,54 @@
+-- How many sessions and statements a plan has.
+use Rattle.std.proofs.Common.{◌≡◌, ◌≤◌, ◌<◌, ◌+◌, ◌∙◌, ℕ, zero, suc, true, List, [], ◌∷◌, get_or, length, map, take, ap, arith}
+use Rattle.std.specs.List.{All, fold, sum_by}
+use Rattle.std.proofs.lemmas.List.{length-map}
+use Rattle.lg_items.specs.SessionName.{is_session_name}
+use Rattle.lg_plan.specs.Plan as plan
+use Rattle.lg_plan.specs.Plan.{plan_view, section_view, session_names, size_of}
+use Rattle.lg_plan.specs.declared.plan.Plan.{Plan}
+use Rattle.lg_plan.specs.declared.section.Section.{Section}
+use Rattle.lg_run.specs.Finished.{AreRunnable}
+
+-- the sessions and their statements together
+abbrev pub weight : List Section → ℕ
+weight [] = 0
+weight (p ∷ ps) = (1 + length p.statements.items) + weight ps
+
+weighed : (n : ℕ) (ps : List Section) → fold (λ (a : ℕ) (s : plan.Section). a + (1 + length s.statements)) n (map section_view ps) ≡ n + weight ps
+weighed n [] = omega arith
+weighed n (p ∷ ps) =
+    let e = weighed (n + (1 + length (map (λ t. t.now) p.statements.items))) ps in
+    let f = length-map p.statements.items (λ t. t.now) in
+    e ∙ ap (λ (m : ℕ). (n + (1 + m)) + weight ps) f ∙ omega arith
+
+pub size_is : (p : Plan) → size_of (plan_view p) ≡ length p.setup.items + weight p.sessions.items
+size_is p = let e = weighed 0 p.sessions.items in let f = length-map p.setup.items (λ t. t.now) in
+    ap (λ (m : ℕ). length (map (λ t. t.now) p.setup.items) + m) e ∙ ap (λ (m : ℕ). m + (0 + weight p.sessions.items)) f ∙ omega arith
+
+-- ---- the first sessions
+
+pub one_more_weighs : (ps : List Section) (k : ℕ) (d : Section) → k < length ps → weight (take (k + 1) ps) ≡ weight (take k ps) + (1 + length (get_or ps k d).statements.items)
+one_more_weighs [] k d less = absurd (omega (arith, less))
+one_more_weighs (p ∷ ps) zero d less = omega arith
+one_more_weighs (p ∷ ps) (suc k) d less = let e = one_more_weighs ps k d (omega (arith, less)) in ap (λ (m : ℕ). (1 + length p.statements.items) + m) e ∙ omega arith
+
+pub first_weigh : (ps : List Section) (k : ℕ) → weight (take k ps) ≤ weight ps
+first_weigh ps zero = omega arith
+first_weigh [] (suc k) = omega arith
+first_weigh (p ∷ ps) (suc k) = let e = first_weigh ps k in omega (arith, e)
+
+-- ---- all of them
+
+pub few_sessions : (ps : List Section) → length ps ≤ weight ps
+few_sessions [] = omega arith
+few_sessions (p ∷ ps) = let e = few_sessions ps in omega (arith, e)
+
+runnable_by : (ps : List Section) (n : ℕ) → n < 2147483648 → weight ps ≤ n → All (λ name. is_session_name name ≡ true) (map (λ s. s.name) (map section_view ps)) → AreRunnable ps
+runnable_by [] n small within names = tt
+runnable_by (p ∷ ps) n small within names = (
+  record { name = names 0 p.name.now (omega arith); few = omega (arith, small, within) },
+  runnable_by ps n small (omega (arith, within)) (λ k d less. names (suc k) d (omega (arith, less))),
+)
+
+pub are_runnable : (p : Plan) → size_of (plan_view p) < 2147483648 → All (λ name. is_session_name name ≡ true) (session_names (plan_view p)) → AreRunnable p.sessions.items
+are_runnable p few names = let e = size_is p in runnable_by p.sessions.items (size_of (plan_view p)) few (omega (arith, e)) names
