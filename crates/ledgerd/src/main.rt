@@ -24,6 +24,7 @@ fn main(rt: HostRuntime) -> ExitCode {
             let mut vault = FolderVault::new(rt);
             let clock = MachineClock::new(rt);
             ledgerd(
+                &rt,
                 rt.alloc(),
                 &words,
                 &mut source,

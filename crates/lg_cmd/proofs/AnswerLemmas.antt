@@ -10,50 +10,52 @@ use Rattle.lg_cmd.specs.declared.files.File.{File}
 use Rattle.lg_cmd.specs.declared.status.Status.{Status}
 use Rattle.lg_cmd.specs.declared.status.Status.TheVariants.{Done, No, Words, Limit, SourceFault, SinkFault, VaultFault, Missing, Digests, Journal, Form, Memory}
 use Rattle.lg_cmd.specs.Files.{StopsBy}
+use Rattle.lg_cmd.specs.Input.{InputForm}
 use Rattle.lg_cmd.specs.Transfer.{input_limit, Came}
-use Rattle.lg_cmd.specs.Answer.{StepCause, HasRead, HasPut, HasWritten, EndsBy, RanOrIdle, vault_status}
+use Rattle.lg_cmd.specs.Answer.{InputCause, HasRead, HasPut, HasWritten, EndsBy, RanOrIdle, vault_status}
 
 -- what is known of the bytes that came is known of the input
 pub bytes_came : (input rest : Option (List ℕ)) (v : Vec ℕ Global) (bytes : List ℕ) (P : List ℕ → Type 0) → IfSome input (λ i. Came i rest (Ok v)) → bytes ≡ v.items → P bytes → IfSome input P
 bytes_came None rest v bytes P came is p = tt
 bytes_came (Some i) rest v bytes P came is p = subst P (is ∙ came.0) p
 
--- the same of the cause of a status, which no source that fell silent has then
-pub cause_came : (status : Status) (source vault sink : Type 0) (input rest : Option (List ℕ)) (v : Vec ℕ Global) (bytes : List ℕ)
-    → IfSome input (λ i. Came i rest (Ok v)) → bytes ≡ v.items → StepCause status (Some bytes) ⊥ vault sink → StepCause status input source vault sink
-cause_came Done source vault sink input rest v bytes came is cause = bytes_came input rest v bytes _ came is cause
-cause_came Words source vault sink input rest v bytes came is cause = absurd cause
-cause_came No source vault sink input rest v bytes came is cause = absurd cause
-cause_came (Missing which) source vault sink input rest v bytes came is cause = absurd cause
-cause_came (Digests index) source vault sink input rest v bytes came is cause = absurd cause
-cause_came (Journal at) source vault sink input rest v bytes came is cause = absurd cause
-cause_came Limit source vault sink input rest v bytes came is cause = bytes_came input rest v bytes _ came is cause
-cause_came SourceFault source vault sink input rest v bytes came is cause = absurd cause
-cause_came SinkFault source vault sink input rest v bytes came is cause = cause
-cause_came VaultFault source vault sink input rest v bytes came is cause = cause
-cause_came (Form line) source vault sink input rest v bytes came is cause = bytes_came input rest v bytes _ came is cause
-cause_came Memory source vault sink input rest v bytes came is cause = tt
+module _ {A : Type 0} (form : InputForm A) where
+  -- the same of the cause of a status, which no source that fell silent has then
+  pub cause_came : (status : Status) (source vault sink : Type 0) (input rest : Option (List ℕ)) (v : Vec ℕ Global) (bytes : List ℕ)
+      → IfSome input (λ i. Came i rest (Ok v)) → bytes ≡ v.items → InputCause form status (Some bytes) ⊥ vault sink → InputCause form status input source vault sink
+  cause_came Done source vault sink input rest v bytes came is cause = bytes_came input rest v bytes _ came is cause
+  cause_came Words source vault sink input rest v bytes came is cause = absurd cause
+  cause_came No source vault sink input rest v bytes came is cause = absurd cause
+  cause_came (Missing which) source vault sink input rest v bytes came is cause = absurd cause
+  cause_came (Digests index) source vault sink input rest v bytes came is cause = absurd cause
+  cause_came (Journal at) source vault sink input rest v bytes came is cause = absurd cause
+  cause_came Limit source vault sink input rest v bytes came is cause = bytes_came input rest v bytes _ came is cause
+  cause_came SourceFault source vault sink input rest v bytes came is cause = absurd cause
+  cause_came SinkFault source vault sink input rest v bytes came is cause = cause
+  cause_came VaultFault source vault sink input rest v bytes came is cause = cause
+  cause_came (Form line) source vault sink input rest v bytes came is cause = bytes_came input rest v bytes _ came is cause
+  cause_came Memory source vault sink input rest v bytes came is cause = tt
 
--- an input that came whole was read to its end
-read_whole : (status : Status) (bytes : Option (List ℕ)) (vault sink : Type 0) (input : List ℕ) (rest : Option (List ℕ)) (v : Vec ℕ Global)
-    → StepCause status bytes ⊥ vault sink → Came input rest (Ok v) → HasRead status input rest
-read_whole Done bytes vault sink input rest v cause came = came.2
-read_whole Words bytes vault sink input rest v cause came = absurd cause
-read_whole No bytes vault sink input rest v cause came = absurd cause
-read_whole (Missing which) bytes vault sink input rest v cause came = absurd cause
-read_whole (Digests index) bytes vault sink input rest v cause came = absurd cause
-read_whole (Journal at) bytes vault sink input rest v cause came = absurd cause
-read_whole Limit bytes vault sink input rest v cause came = came.2 ∙ ap Some (sym (drop_all (input_limit + 1) input (omega (arith, came.1))))
-read_whole SourceFault bytes vault sink input rest v cause came = absurd cause
-read_whole SinkFault bytes vault sink input rest v cause came = came.2
-read_whole VaultFault bytes vault sink input rest v cause came = came.2
-read_whole (Form line) bytes vault sink input rest v cause came = came.2
-read_whole Memory bytes vault sink input rest v cause came = (length input, omega (arith, came.1), came.2 ∙ ap Some (sym (drop-length input)))
+  -- an input that came whole was read to its end
+  read_whole : (status : Status) (bytes : Option (List ℕ)) (vault sink : Type 0) (input : List ℕ) (rest : Option (List ℕ)) (v : Vec ℕ Global)
+      → InputCause form status bytes ⊥ vault sink → Came input rest (Ok v) → HasRead status input rest
+  read_whole Done bytes vault sink input rest v cause came = came.2
+  read_whole Words bytes vault sink input rest v cause came = absurd cause
+  read_whole No bytes vault sink input rest v cause came = absurd cause
+  read_whole (Missing which) bytes vault sink input rest v cause came = absurd cause
+  read_whole (Digests index) bytes vault sink input rest v cause came = absurd cause
+  read_whole (Journal at) bytes vault sink input rest v cause came = absurd cause
+  read_whole Limit bytes vault sink input rest v cause came = came.2 ∙ ap Some (sym (drop_all (input_limit + 1) input (omega (arith, came.1))))
+  read_whole SourceFault bytes vault sink input rest v cause came = absurd cause
+  read_whole SinkFault bytes vault sink input rest v cause came = came.2
+  read_whole VaultFault bytes vault sink input rest v cause came = came.2
+  read_whole (Form line) bytes vault sink input rest v cause came = came.2
+  read_whole Memory bytes vault sink input rest v cause came = (length input, omega (arith, came.1), came.2 ∙ ap Some (sym (drop-length input)))
 
-pub read_told : (status : Status) (bytes : Option (List ℕ)) (vault sink : Type 0) (input rest : Option (List ℕ)) (v : Vec ℕ Global)
-    → StepCause status bytes ⊥ vault sink → IfSome input (λ i. Came i rest (Ok v)) → IfSome input (λ i. HasRead status i rest)
-read_told status bytes vault sink None rest v cause came = tt
-read_told status bytes vault sink (Some input) rest v cause came = read_whole status bytes vault sink input rest v cause came
+  pub read_told : (status : Status) (bytes : Option (List ℕ)) (vault sink : Type 0) (input rest : Option (List ℕ)) (v : Vec ℕ Global)
+      → InputCause form status bytes ⊥ vault sink → IfSome input (λ i. Came i rest (Ok v)) → IfSome input (λ i. HasRead status i rest)
+  read_told status bytes vault sink None rest v cause came = tt
+  read_told status bytes vault sink (Some input) rest v cause came = read_whole status bytes vault sink input rest v cause came
 
 -- a call that ends by putting and writing has run
 pub ran_by : (status : Status) (vault sink ran idle : Type 0) → EndsBy status vault sink → ran → RanOrIdle status ran idle

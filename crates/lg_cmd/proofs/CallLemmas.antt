@@ -10,9 +10,9 @@ use Rattle.lg_base.specs.declared.vault.VaultErr.TheVariants as refused
 use Rattle.lg_base.specs.History.{Adds, Since, EndsAt}
 use Rattle.lg_cmd.specs.declared.status.Status.{Status}
 use Rattle.lg_cmd.specs.declared.status.Status.TheVariants.{Done, No, Words, Limit, SourceFault, SinkFault, VaultFault, Missing, Digests, Journal, Form, Memory}
-use Rattle.lg_cmd.specs.Answer.{StepCause, vault_status}
+use Rattle.lg_cmd.specs.Answer.{InputCause, vault_status}
 use Rattle.lg_cmd.specs.Calls.{Moved, KeptFile, ReadsOf, AreReads, ArePuts, AreWrites}
-use Rattle.lg_cmd.specs.Input.{IsRefused}
+use Rattle.lg_cmd.specs.Input.{InputForm, IsRefused}
 
 module _ {A : Type 0} (old now new : List A → Type 0) (goes_on : A → Type 0) where
   pub adds_more : (answers : List A) (answer : A) → Adds old now answers → Adds now new (answer ∷ []) → Adds old new (answers ++ answer ∷ [])
@@ -48,26 +48,27 @@ since_none now are none = record { answers = []; adds = λ earlier had. subst no
 pub since_weaker : {A : Type 0} (old now are also : List A → Type 0) → ((answers : List A) → are answers → also answers) → Since old now are → Since old now also
 since_weaker old now are also so s = record { answers = s.answers; adds = s.adds; such = so s.answers s.such }
 
--- an input that was read to its end, by the status of what follows
-read_to_end : (status : Status) (input : Option (List ℕ)) (vault sink : Type 0) → StepCause status input ⊥ vault sink
-    → (answers : List (Result ℕ Failed)) → EndsAt Moved (Ok 0) answers → AreReads status answers
-read_to_end Done input vault sink cause answers end = end
-read_to_end Words input vault sink cause answers end = absurd cause
-read_to_end No input vault sink cause answers end = absurd cause
-read_to_end (Missing which) input vault sink cause answers end = absurd cause
-read_to_end (Digests index) input vault sink cause answers end = absurd cause
-read_to_end (Journal at) input vault sink cause answers end = absurd cause
-read_to_end Limit input vault sink cause answers end = inr end
-read_to_end SourceFault input vault sink cause answers end = absurd cause
-read_to_end SinkFault input vault sink cause answers end = end
-read_to_end VaultFault input vault sink cause answers end = end
-read_to_end (Form line) input vault sink cause answers end = end
-read_to_end Memory input vault sink cause answers end = inr end
+module _ {A : Type 0} (form : InputForm A) where
+  -- an input that was read to its end, by the status of what follows
+  read_to_end : (status : Status) (input : Option (List ℕ)) (vault sink : Type 0) → InputCause form status input ⊥ vault sink
+      → (answers : List (Result ℕ Failed)) → EndsAt Moved (Ok 0) answers → AreReads status answers
+  read_to_end Done input vault sink cause answers end = end
+  read_to_end Words input vault sink cause answers end = absurd cause
+  read_to_end No input vault sink cause answers end = absurd cause
+  read_to_end (Missing which) input vault sink cause answers end = absurd cause
+  read_to_end (Digests index) input vault sink cause answers end = absurd cause
+  read_to_end (Journal at) input vault sink cause answers end = absurd cause
+  read_to_end Limit input vault sink cause answers end = inr end
+  read_to_end SourceFault input vault sink cause answers end = absurd cause
+  read_to_end SinkFault input vault sink cause answers end = end
+  read_to_end VaultFault input vault sink cause answers end = end
+  read_to_end (Form line) input vault sink cause answers end = end
+  read_to_end Memory input vault sink cause answers end = inr end
 
-pub reads_whole : (status : Status) (input : Option (List ℕ)) (vault sink : Type 0) (v : Vec ℕ Global) (old now : List (Result ℕ Failed) → Type 0)
-    → StepCause status input ⊥ vault sink → Since old now (ReadsOf (Ok v)) → Since old now (AreReads status)
-reads_whole status input vault sink v old now cause reads =
-    since_weaker old now (ReadsOf (Ok v)) (AreReads status) (read_to_end status input vault sink cause) reads
+  pub reads_whole : (status : Status) (input : Option (List ℕ)) (vault sink : Type 0) (v : Vec ℕ Global) (old now : List (Result ℕ Failed) → Type 0)
+      → InputCause form status input ⊥ vault sink → Since old now (ReadsOf (Ok v)) → Since old now (AreReads status)
+  reads_whole status input vault sink v old now cause reads =
+      since_weaker old now (ReadsOf (Ok v)) (AreReads status) (read_to_end status input vault sink cause) reads
 
 -- where the vault refused a file
 pub refused_puts : (e : VaultErr) (old now : List (Result (Unit {0}) VaultErr) → Type 0) → (e ≡ refused.Missing → ⊥) × (e ≡ refused.TooLong → ⊥)
@@ -83,31 +84,32 @@ refused_writes refused.Memory now = since_none now (AreWrites Memory) refl
 refused_writes refused.Missing now = since_none now (AreWrites Memory) refl
 refused_writes refused.TooLong now = since_none now (AreWrites Memory) refl
 
--- where the input isn't run, nothing is put and nothing is written
-pub unput : (status : Status) (bytes : List ℕ) → IsRefused status bytes → ArePuts status []
-unput Limit bytes is = refl
-unput (Form line) bytes is = refl
-unput Memory bytes is = inl refl
-unput Done bytes is = absurd is
-unput Words bytes is = absurd is
-unput No bytes is = absurd is
-unput (Missing which) bytes is = absurd is
-unput (Digests index) bytes is = absurd is
-unput (Journal at) bytes is = absurd is
-unput SourceFault bytes is = absurd is
-unput SinkFault bytes is = absurd is
-unput VaultFault bytes is = absurd is
+module _ {A : Type 0} (form : InputForm A) where
+  -- where the input isn't run, nothing is put and nothing is written
+  pub unput : (status : Status) (bytes : List ℕ) → IsRefused form status bytes → ArePuts status []
+  unput Limit bytes is = refl
+  unput (Form line) bytes is = refl
+  unput Memory bytes is = inl refl
+  unput Done bytes is = absurd is
+  unput Words bytes is = absurd is
+  unput No bytes is = absurd is
+  unput (Missing which) bytes is = absurd is
+  unput (Digests index) bytes is = absurd is
+  unput (Journal at) bytes is = absurd is
+  unput SourceFault bytes is = absurd is
+  unput SinkFault bytes is = absurd is
+  unput VaultFault bytes is = absurd is
 
-pub unwritten : (status : Status) (bytes : List ℕ) → IsRefused status bytes → AreWrites status []
-unwritten Limit bytes is = refl
-unwritten (Form line) bytes is = refl
-unwritten Memory bytes is = refl
-unwritten Done bytes is = absurd is
-unwritten Words bytes is = absurd is
-unwritten No bytes is = absurd is
-unwritten (Missing which) bytes is = absurd is
-unwritten (Digests index) bytes is = absurd is
-unwritten (Journal at) bytes is = absurd is
-unwritten SourceFault bytes is = absurd is
-unwritten SinkFault bytes is = absurd is
-unwritten VaultFault bytes is = absurd is
+  pub unwritten : (status : Status) (bytes : List ℕ) → IsRefused form status bytes → AreWrites status []
+  unwritten Limit bytes is = refl
+  unwritten (Form line) bytes is = refl
+  unwritten Memory bytes is = refl
+  unwritten Done bytes is = absurd is
+  unwritten Words bytes is = absurd is
+  unwritten No bytes is = absurd is
+  unwritten (Missing which) bytes is = absurd is
+  unwritten (Digests index) bytes is = absurd is
+  unwritten (Journal at) bytes is = absurd is
+  unwritten SourceFault bytes is = absurd is
+  unwritten SinkFault bytes is = absurd is
+  unwritten VaultFault bytes is = absurd is

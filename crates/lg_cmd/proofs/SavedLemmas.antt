@@ -1,32 +1,25 @@
 -- The files of a run have different names, so each of them stands once all are put.
-use Rattle.std.proofs.Common.{◌≡◌, ◌≢◌, ◌<◌, ◌+◌, ◌^◌, ℕ, Bool, true, false, cond, List, [], ◌∷◌, ◌++◌, map, length, length-append, append_assoc, get_or, Option, Some, None, Ok, refl, sym, ap, ◌∙◌, subst, arith, codes, bytes_eq, ⊎_elim}
+use Rattle.std.proofs.Common.{◌≡◌, ◌≢◌, ◌<◌, ◌+◌, ◌^◌, ℕ, Bool, true, false, cond, List, [], ◌∷◌, ◌++◌, map, length, length-append, append_assoc, get_or, Option, Some, None, refl, sym, ap, ◌∙◌, subst, arith, codes, bytes_eq, ⊎_elim}
 use Rattle.std.specs.Fmt.{decimal}
 use Rattle.std.proofs.lemmas.Fmt.{decimal_injective}
 use Rattle.std.proofs.lemmas.List.{append_cancel_left, append_cancel_right, take_all}
 use Rattle.std.proofs.lemmas.Slice.Eq.{bytes_eq-Decides}
 use Rattle.lg_base.specs.Store.{Bytes, Names}
-use Rattle.lg_types.specs.declared.digest.Digest.{Digest}
 use Rattle.lg_types.specs.declared.journal.Journal.{Journal}
 use Rattle.lg_parse.specs.Text.{statement_of}
 use Rattle.lg_course.specs.Told.{IsImageOf}
-use Rattle.lg_digest.specs.Reading.{IsRead}
-use Rattle.lg_digest.specs.Writing.{IsFile, held_form}
-use Rattle.lg_input.specs.Sessions.{sessions_of}
-use Rattle.lg_step.specs.Written.{rows_text}
-use Rattle.lg_step.specs.declared.running.Ran as code
-use Rattle.lg_words.specs.Commands.{Settings}
-use Rattle.lg_cmd.specs.declared.status.Status.{Status}
-use Rattle.lg_cmd.specs.Answer.{HasPut, HasWritten, Ran}
-use Rattle.lg_cmd.proofs.AnswerLemmas.{put_is, written_is}
 use Rattle.lg_history.specs.Lists.{Each, Some_of, In}
 use Rattle.lg_journal.specs.Journal.{journal_bytes}
-use Rattle.lg_journal.specs.Rules.{IsJournal}
 use Rattle.lg_standing.specs.Seats.{KeptImage}
-use Rattle.lg_step.specs.Came.{Run, last_image_bytes}
-use Rattle.lg_step.specs.Images.{ItemsRise}
+use Rattle.lg_step.specs.Images.{AreKept, ItemsRise}
+use Rattle.lg_step.specs.declared.running.Ran.{Ran as Output}
+use Rattle.lg_words.specs.Commands.{Settings}
 use Rattle.lg_cmd.specs.declared.files.File.{File}
+use Rattle.lg_cmd.specs.declared.status.Status.{Status}
+use Rattle.lg_cmd.specs.Answer.{HasPut, HasWritten, Saves}
 use Rattle.lg_cmd.specs.Files.{names_after, TellsLeft, TellsHeld, StandFirst, stands}
-use Rattle.lg_cmd.specs.Run.{cut_name, cut_file, image_name, image_file, digests_name, digests_file, journal_name, journal_file, saved_files, IsRun, AreSaved}
+use Rattle.lg_cmd.specs.Run.{cut_name, cut_file, image_name, image_file, digests_name, digests_file, journal_name, saved_files, IsRun, IsRunOfAll, IsSavable, AreSaved}
+use Rattle.lg_cmd.proofs.AnswerLemmas.{put_is, written_is}
 
 -- ---- files of different names
 
@@ -127,10 +120,10 @@ module _ (save : List ℕ) (image digests journal : List ℕ) where
   names_differ [] small rise = last_differ
   names_differ (k ∷ ks) small rise = (cut_apart k ks small.0 small.1 rise.0, names_differ ks small.1 rise.1)
 
-pub saved_stand : (h : List ℕ → List ℕ) (save : List ℕ) (run : Run) (digests : List ℕ) (old new : Option Names) → Each (λ k. k.0 < 2 ^ 64) run.images → ItemsRise run.images
-    → StandFirst (saved_files h save run digests) (length (saved_files h save run digests)) old new → Each (λ f. TellsHeld old new f.name f.bytes) (saved_files h save run digests)
-saved_stand h save run digests old new small rise stand =
-    all_stand (saved_files h save run digests) old new (names_differ save (last_image_bytes h run.J) digests (journal_bytes run.J) run.images small rise) stand
+saved_stand : (save : List ℕ) (o : Output) (digests : List ℕ) (old new : Option Names) → Each (λ k. k.0 < 2 ^ 64) o.images → ItemsRise o.images
+    → StandFirst (saved_files save o digests) (length (saved_files save o digests)) old new → Each (λ f. TellsHeld old new f.name f.bytes) (saved_files save o digests)
+saved_stand save o digests old new small rise stand =
+    all_stand (saved_files save o digests) old new (names_differ save o.image digests (journal_bytes o.journal) o.images small rise) stand
 
 -- ---- numbers of items
 
@@ -142,48 +135,59 @@ of_one : {A : Type 0} (P : A → Type 0) (x : A) (lists : List (List A)) → Eac
 of_one P x [] e s = absurd s
 of_one P x (xs ∷ lists) e s = ⊎_elim (λ i. some_in P x xs e.0 i) (λ t. of_one P x lists e.1 t) s
 
-pub each_of_one : {A : Type 0} (P : A → Type 0) (lists : List (List A)) (xs : List A) → Each (λ l. Each P l) lists → Each (λ x. Some_of (λ l. In x l) lists) xs → Each P xs
+each_of_one : {A : Type 0} (P : A → Type 0) (lists : List (List A)) (xs : List A) → Each (λ l. Each P l) lists → Each (λ x. Some_of (λ l. In x l) lists) xs → Each P xs
 each_of_one P lists xs e s = weaker (λ x. Some_of (λ l. In x l) lists) P (λ x t. of_one P x lists e t) xs s
 
--- ---- what is put and written of a run
+abbrev AreSmall : List KeptImage → Type 0
+AreSmall images = Each (λ k. k.0 < 2 ^ 64) images
 
-module _ (h : List ℕ → List ℕ) (save : List ℕ) (how : Settings) (clock : ℕ → Type 0) (bytes : List ℕ) (r : code.Ran) (is : IsRun h how clock bytes r) where
-  few_items : length is.run.J.items < 2 ^ 64
-  few_items = subst (λ (j : Journal). length j.items < 2 ^ 64) is.is.journal is.is.journal_is_spelled.count
+-- those of the images of a journal that has a spelling
+numbers_small : (h : List ℕ → List ℕ) (database : List ℕ) (J : Journal) (kept : List (List KeptImage)) (images : List KeptImage) → length J.items < 2 ^ 64
+    → Each (λ ks. Each (IsImageOf h statement_of database J.items) ks) kept → AreKept kept images → AreSmall images
+numbers_small h database J kept images few are saved =
+    let each : Each AreSmall kept =
+    weaker (λ ks. Each (IsImageOf h statement_of database J.items) ks) AreSmall
+    (λ ks. weaker (IsImageOf h statement_of database J.items) (λ (k : KeptImage). k.0 < 2 ^ 64) (λ k of. omega (arith, of.within, few)) ks) kept are in
+    each_of_one (λ (k : KeptImage). k.0 < 2 ^ 64) kept images each saved.no_others
 
-  numbers_small : Each (λ k. k.0 < 2 ^ 64) is.run.images
-  numbers_small =
-      let few = few_items in
-      let kept : Each (λ ks. Each (λ (k : KeptImage). k.0 < 2 ^ 64) ks) is.run.kept =
-      weaker (λ ks. Each (IsImageOf h statement_of how.database is.run.J.items) ks) (λ ks. Each (λ (k : KeptImage). k.0 < 2 ^ 64) ks)
-      (λ ks. weaker (IsImageOf h statement_of how.database is.run.J.items) (λ (k : KeptImage). k.0 < 2 ^ 64) (λ k of. omega (arith, of.within, few)) ks) is.run.kept is.came.agrees.are_images in
-      each_of_one (λ (k : KeptImage). k.0 < 2 ^ 64) is.run.kept is.run.images kept is.came.saved.no_others
+-- ---- what a run left can be saved
 
-  module _ (files : List File) (saved : AreSaved save r files) where
-    abbrev made_of : List KeptImage → List ℕ → Journal → List File
-    made_of images image J = map (cut_file save) images ++ image_file save image ∷ digests_file save saved.digests ∷ journal_file save J ∷ []
+module _ (h : List ℕ → List ℕ) (how : Settings) (clock : ℕ → Type 0) (bytes : List ℕ) (o : Output) where
+  pub lines_savable : IsRun h how clock bytes o → IsSavable o
+  lines_savable is =
+      let few : length is.run.J.items < 2 ^ 64 = subst (λ (J : Journal). length J.items < 2 ^ 64) is.is.journal is.is.journal_is_spelled.count in
+      let same : is.run.images ≡ o.images = sym is.is.images in
+      record {
+        journal = is.is.journal_is_spelled;
+        digests = is.is.digests_have_moments;
+        numbers = subst AreSmall same (numbers_small h how.database is.run.J is.run.kept is.run.images few is.came.agrees.are_images is.came.saved);
+        rise = subst ItemsRise same is.came.saved.rise;
+      }
 
-    files_are : files ≡ saved_files h save is.run saved.digests
-    files_are = saved.files
-        ∙ ap (λ (images : List KeptImage). made_of images r.image r.journal) is.is.images
-        ∙ ap (λ (i : List ℕ). made_of is.run.images i r.journal) is.is.image
-        ∙ ap (λ (J : Journal). made_of is.run.images (last_image_bytes h is.run.J) J) is.is.journal
+  pub sections_savable : IsRunOfAll h how clock bytes o → IsSavable o
+  sections_savable is =
+      let few : length is.left.J.items < 2 ^ 64 = subst (λ (J : Journal). length J.items < 2 ^ 64) is.is.journal is.is.journal_is_spelled.count in
+      record {
+        journal = is.is.journal_is_spelled;
+        digests = is.is.digests_have_moments;
+        numbers = numbers_small h how.database is.left.J is.left.kept o.images few is.came.are_images is.is.images;
+        rise = is.is.images.rise;
+      }
 
-    pub ran_is : (ended : Status) (made : List File) (text : List ℕ) (old new : Option Names) (taken now : Option (List ℕ)) → made ≡ files → text ≡ r.transcript
-        → HasPut ended made old new → HasWritten ended text taken now → Ran ended h save how (Some bytes) clock old new taken now
-    ran_is ended made text old new taken now are said put written =
-        let all = put_is ended made (saved_files h save is.run saved.digests) old new (are ∙ files_are) put in
-        record {
-          statements = is.statements;
-          run = is.run;
-          digests = saved.digests;
-          within = is.within;
-          came = is.came;
-          file = subst (λ (G : List Digest). IsFile G saved.digests) is.is.digests saved.file;
-          journal_is_spelled = subst (λ (J : Journal). IsJournal J) is.is.journal is.is.journal_is_spelled;
-          digests_read_back = subst (λ (G : List Digest). IsRead saved.digests (Ok (map held_form G))) is.is.digests saved.read_back;
-          put = all;
-          written = written_is ended text (rows_text (sessions_of is.statements) is.run.rows) taken now (said ∙ is.is.transcript) written;
-          stand = λ done. saved_stand h save is.run saved.digests old new numbers_small is.came.saved.rise
-              (subst (λ (s : Status). HasPut s (saved_files h save is.run saved.digests) old new) done all);
-        }
+-- ---- what is put and written of it
+
+module _ (save : List ℕ) (o : Output) (savable : IsSavable o) (files : List File) (saved : AreSaved save o files) where
+  pub saves_is : (ended : Status) (made : List File) (text : List ℕ) (old new : Option Names) (taken now : Option (List ℕ)) → made ≡ files → text ≡ o.transcript
+      → HasPut ended made old new → HasWritten ended text taken now → Saves ended save o old new taken now
+  saves_is ended made text old new taken now are said put written =
+      let all = put_is ended made (saved_files save o saved.digests) old new (are ∙ saved.files) put in
+      record {
+        digests = saved.digests;
+        file = saved.file;
+        journal_is_spelled = savable.journal;
+        digests_read_back = saved.read_back;
+        put = all;
+        written = written_is ended text o.transcript taken now said written;
+        stand = λ done. saved_stand save o saved.digests old new savable.numbers savable.rise
+            (subst (λ (s : Status). HasPut s (saved_files save o saved.digests) old new) done all);
+      }

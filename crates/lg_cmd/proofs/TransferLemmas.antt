@@ -1,12 +1,11 @@
 -- A sink that took one piece and then the next took both.
-use Rattle.std.proofs.Common.{◌≡◌, ◌≤◌, ◌+◌, ◌-◌, ◌∙◌, ap, sym, IfSome, Err, length, ℕ, List, ◌++◌, Option, Some, None, take, drop, append_assoc, refl, arith, subst, inl}
+use Rattle.std.proofs.Common.{◌≡◌, ◌≤◌, ◌+◌, ◌-◌, ◌∙◌, ap, sym, IfSome, Err, length, ℕ, List, ◌++◌, Option, Some, None, take, drop, append_assoc, refl, arith, subst}
 use Rattle.std.proofs.lemmas.Grind.{common_steps}
 use Rattle.std.proofs.Math.Seq.{drop-append_seam}
 use Rattle.std.proofs.lemmas.List.{length-append}
 use Rattle.lg_base.specs.Outside.{TellsTaken, TellsRead}
 use Rattle.lg_cmd.specs.declared.transfer.ReadErr.TheVariants.{Memory, TooMuch}
-use Rattle.lg_cmd.specs.Input.{IsBeyond}
-use Rattle.lg_cmd.specs.Transfer.{input_limit, CameSoFar, Came}
+use Rattle.lg_cmd.specs.Transfer.{input_limit, CameSoFar, Came, IsTooMuch}
 
 pub taken_next : (a b c : Option (List ℕ)) (x y z : List ℕ) → z ≡ x ++ y → TellsTaken a b x → TellsTaken b c y → TellsTaken a c z
 taken_next None b c x y z e p q = tt
@@ -53,6 +52,6 @@ came_past (Some i) (Some rest) (Some more) came buffer n sofar reads len =
     (omega (arith, count, whole), ap Some (sym (ap (λ k. drop k i) (sym count) ∙ ap (drop (length taken)) is ∙ drop-append_seam taken more)))
 
 -- so the input has more than it may have
-pub too_much : (input rest : Option (List ℕ)) → IfSome input (λ i. Came i rest (Err TooMuch)) → IfSome input IsBeyond
+pub too_much : (input rest : Option (List ℕ)) → IfSome input (λ i. Came i rest (Err TooMuch)) → IfSome input IsTooMuch
 too_much None rest came = tt
-too_much (Some i) rest came = inl came.0
+too_much (Some i) rest came = came.0

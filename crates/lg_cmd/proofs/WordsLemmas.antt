@@ -4,27 +4,28 @@ use Rattle.std.specs.Prelude.{if◌then◌else◌, option_map}
 use Rattle.lg_words.specs.Commands.{AreInRange, Settings, command_of}
 use Rattle.lg_words.specs.Commands as said
 use Rattle.lg_words.specs.Help.{help_of}
-use Rattle.lg_cmd.specs.Words.{Command, Verify, Tell, built, OfStep}
+use Rattle.lg_cmd.specs.Words.{Command, Verify, Tell, built, OfStep, OfRun}
 
 abbrev pub InRange : Option Command → Type 0
-InRange c = OfStep c (λ save how. AreInRange how)
+InRange c = OfStep c (λ save how. AreInRange how) × OfRun c (λ save how. AreInRange how)
 
 verified : (b : Bool) (image digests : List ℕ) → InRange (if b then Some (Verify image digests) else None)
-verified true image digests = tt
-verified false image digests = tt
+verified true image digests = (tt, tt)
+verified false image digests = (tt, tt)
 
 told : (text : Option (List ℕ)) → InRange (option_map Tell text)
-told None = tt
-told (Some text) = tt
+told None = (tt, tt)
+told (Some text) = (tt, tt)
 
 pub built_in_range : (words : List (List ℕ)) → ((save : List ℕ) (how : Settings) → command_of words ≡ Some (said.Step save how) → AreInRange how)
+    → ((save : List ℕ) (how : Settings) → command_of words ≡ Some (said.Run save how) → AreInRange how)
     → (command : said.Command) → command_of words ≡ Some command → (c : Option Command) → c ≡ built command → InRange c
 unfolding built
-built_in_range words range (said.Step save how) is c e = subst InRange (sym e) (range save how is)
-built_in_range words range (said.Run save how) is c e = subst InRange (sym e) tt
-built_in_range words range (said.Verify image digests workers) is c e = subst InRange (sym e) (verified (workers == 1) image digests)
-built_in_range words range (said.Extract honest suspect digests) is c e = subst InRange (sym e) tt
-built_in_range words range (said.Replay journal save) is c e = subst InRange (sym e) tt
-built_in_range words range (said.Gen count) is c e = subst InRange (sym e) tt
-built_in_range words range (said.Help which) is c e = subst InRange (sym e) (told (help_of which))
-built_in_range words range said.Version is c e = subst InRange (sym e) tt
+built_in_range words step run (said.Step save how) is c e = subst InRange (sym e) (step save how is, tt)
+built_in_range words step run (said.Run save how) is c e = subst InRange (sym e) (tt, run save how is)
+built_in_range words step run (said.Verify image digests workers) is c e = subst InRange (sym e) (verified (workers == 1) image digests)
+built_in_range words step run (said.Extract honest suspect digests) is c e = subst InRange (sym e) (tt, tt)
+built_in_range words step run (said.Replay journal save) is c e = subst InRange (sym e) (tt, tt)
+built_in_range words step run (said.Gen count) is c e = subst InRange (sym e) (tt, tt)
+built_in_range words step run (said.Help which) is c e = subst InRange (sym e) (told (help_of which))
+built_in_range words step run said.Version is c e = subst InRange (sym e) (tt, tt)

@@ -9,31 +9,37 @@ use Rattle.lg_digest.specs.Writing.{IsFile, held_form}
 use Rattle.lg_history.specs.Lists.{Each}
 use Rattle.lg_input.specs.Line.{Statement}
 use Rattle.lg_input.specs.Sessions.{sessions_of}
+use Rattle.lg_plan.specs.Plan.{Plan}
 use Rattle.lg_journal.specs.Rules.{IsJournal}
 use Rattle.lg_step.specs.Came.{Run, CameTo}
 use Rattle.lg_step.specs.Moments.{said_with}
-use Rattle.lg_step.specs.Written.{rows_text}
+use Rattle.lg_step.specs.Ran.{IsRan}
+use Rattle.lg_step.specs.declared.running.Ran.{Ran as Output}
+use Rattle.lg_together.specs.CameTo.{Left}
+use Rattle.lg_run.specs.CameTo as all
+use Rattle.lg_run.specs.CameTo.{IsOf}
 use Rattle.lg_words.specs.Commands.{Settings}
 use Rattle.lg_cmd.specs.declared.status.Status.{Status}
 use Rattle.lg_cmd.specs.declared.status.Status.TheVariants.{Done, Limit, SourceFault, SinkFault, VaultFault, Form, Memory}
 use Rattle.lg_cmd.specs.declared.files.File.{File}
-use Rattle.lg_cmd.specs.Input.{HasStatements, IsInput, IsBeyond, LacksForm}
+use Rattle.lg_cmd.specs.Input.{InputForm, line_form, section_form, Says, IsInput, IsBeyond, LacksForm}
 use Rattle.lg_cmd.specs.Files.{StandFirst, StopsOpen, TellsHeld}
 use Rattle.lg_cmd.specs.Run.{saved_files}
 use Rattle.lg_cmd.specs.Transfer.{input_limit, TellsPart}
 
--- Why a status comes of `step`, by what the input is, as far as it is told, and by whose faults rose in the
--- call. The causes of Done, Limit and Form exclude one another, so each of these three comes exactly where
--- its cause stands, unless a fault or want of memory comes before it.
-abbrev pub StepCause : Status → Option (List ℕ) → Type 0 → Type 0 → Type 0 → Type 0
-StepCause Done input source vault sink = IfSome input IsInput
-StepCause Limit input source vault sink = IfSome input IsBeyond
-StepCause SourceFault input source vault sink = source
-StepCause SinkFault input source vault sink = sink
-StepCause VaultFault input source vault sink = vault
-StepCause (Form line) input source vault sink = IfSome input (λ bytes. LacksForm bytes line)
-StepCause Memory input source vault sink = Unit {0}
-StepCause _ input source vault sink = ⊥
+-- Why a status comes of a command that runs inputs of a form, by what the input is, as far as it is told, and
+-- by whose faults rose in the call. The causes of Done, Limit and Form exclude one another, so each of these
+-- three comes exactly where its cause stands, unless a fault or want of memory comes before it.
+abbrev pub InputCause : {A : Type 0} → InputForm A → Status → Option (List ℕ)
+    → Type 0 → Type 0 → Type 0 → Type 0
+InputCause form Done input source vault sink = IfSome input (IsInput form)
+InputCause form Limit input source vault sink = IfSome input (IsBeyond form)
+InputCause form SourceFault input source vault sink = source
+InputCause form SinkFault input source vault sink = sink
+InputCause form VaultFault input source vault sink = vault
+InputCause form (Form line) input source vault sink = IfSome input (λ bytes. LacksForm form bytes line)
+InputCause form Memory input source vault sink = Unit {0}
+InputCause form _ input source vault sink = ⊥
 
 -- what is left of an input that is told, where it is read: at most one byte past the limit was taken; so at
 -- Limit all was, or the limit and one byte of more. All of it was taken where it was run, or a line of it
@@ -60,25 +66,47 @@ HasWritten VaultFault text old new = new ≡ old
 HasWritten Memory text old new = new ≡ old
 HasWritten _ text old new = ⊥
 
--- The input was within its limits and was run: this is what was put and written of what it came to.
+-- This was put and written of what a run left.
+pub record Saves (ended : Status) (save : List ℕ) (o : Output)
+    (names_old names_new : Option Names) (taken_old taken_new : Option (List ℕ)) : Type 0 where
+  pub digests : List ℕ
+  pub file : IsFile o.digests digests
+  -- of the bytes that are put `read_journal` gives just this journal, since it has a spelling, and
+  -- `read_digests` what is held of just these digests
+  pub journal_is_spelled : IsJournal o.journal
+  pub digests_read_back : IsRead digests (Ok (map held_form o.digests))
+  pub put : HasPut ended (saved_files save o digests) names_old names_new
+  pub written : HasWritten ended o.transcript taken_old taken_new
+  -- where all is done each file stands under its name
+  pub stand : ended ≡ Done → Each (λ f. TellsHeld names_old names_new f.name f.bytes)
+      (saved_files save o digests)
+
+-- The lines were within their limits and were run. The output has, of what they came to, the text, the images
+-- by rising number of items, that of the whole journal, the journal and the digests; this was put and written
+-- of it.
 pub record Ran (ended : Status) (h : List ℕ → List ℕ) (save : List ℕ) (how : Settings)
     (input : Option (List ℕ)) (clock : ℕ → Type 0)
     (names_old names_new : Option Names) (taken_old taken_new : Option (List ℕ)) : Type 0 where
   pub statements : List Statement
   pub run : Run
-  pub digests : List ℕ
-  pub within : IfSome input (λ bytes. HasStatements bytes statements)
+  pub output : Output
+  pub within : IfSome input (λ bytes. Says line_form bytes statements)
   pub came : CameTo h how.database how.block_size (said_with how.clock clock) statements run
-  pub file : IsFile run.G digests
-  -- of the bytes that are put `read_journal` gives just this journal, since it has a spelling, and
-  -- `read_digests` what is held of just these digests
-  pub journal_is_spelled : IsJournal run.J
-  pub digests_read_back : IsRead digests (Ok (map held_form run.G))
-  pub put : HasPut ended (saved_files h save run digests) names_old names_new
-  pub written : HasWritten ended (rows_text (sessions_of statements) run.rows) taken_old taken_new
-  -- where all is done each file stands under its name
-  pub stand : ended ≡ Done → Each (λ f. TellsHeld names_old names_new f.name f.bytes)
-      (saved_files h save run digests)
+  pub is : IsRan h (sessions_of statements) run output
+  pub saved : Saves ended save output names_old names_new taken_old taken_new
+
+-- The sections were within their limits, and their sessions were run side by side; the same was put and
+-- written of what they came to.
+pub record RanAll (ended : Status) (h : List ℕ → List ℕ) (save : List ℕ) (how : Settings)
+    (input : Option (List ℕ)) (clock : ℕ → Type 0)
+    (names_old names_new : Option Names) (taken_old taken_new : Option (List ℕ)) : Type 0 where
+  pub plan : Plan
+  pub left : Left
+  pub output : Output
+  pub within : IfSome input (λ bytes. Says section_form bytes plan)
+  pub came : all.CameTo h how.database how.block_size (said_with how.clock clock) plan left
+  pub is : IsOf h left output
+  pub saved : Saves ended save output names_old names_new taken_old taken_new
 
 -- by the status, the input was run, or neither vault nor sink was called
 abbrev pub RanOrIdle : Status → Type 0 → Type 0 → Type 0

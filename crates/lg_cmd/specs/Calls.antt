@@ -10,7 +10,7 @@ use Rattle.lg_cmd.specs.declared.status.Status.{Status}
 use Rattle.lg_cmd.specs.declared.status.Status.TheVariants.{Done, No, Words, Limit, SourceFault, SinkFault, VaultFault, Missing, Memory}
 use Rattle.lg_cmd.specs.declared.transfer.ReadErr.{ReadErr}
 use Rattle.lg_cmd.specs.declared.transfer.ReadErr.TheVariants as reading
-use Rattle.lg_cmd.specs.Words.{Command, Step, Verify, Replay, Extract, Tell}
+use Rattle.lg_cmd.specs.Words.{Command, Step, Run, Verify, Replay, Extract, Tell}
 
 -- a read that gave bytes, or a write that took some
 abbrev pub Moved : Result ℕ Failed → Type 0
@@ -82,6 +82,7 @@ AreGetsAndPuts k status answers = AreGets k status answers
 abbrev pub AreCalls : Option Command → Status → List (Result ⊤ VaultErr) → Type 0
 AreCalls None status answers = answers ≡ []
 AreCalls (Some (Step save how)) status answers = ArePuts status answers
+AreCalls (Some (Run save how)) status answers = ArePuts status answers
 AreCalls (Some (Verify image digests)) status answers = AreGets 2 status answers
 AreCalls (Some (Replay journal save)) status answers = AreGetsAndPuts 1 status answers
 AreCalls (Some (Extract honest suspect digests)) status answers = AreGets 3 status answers

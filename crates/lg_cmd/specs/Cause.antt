@@ -3,12 +3,13 @@ use Rattle.std.specs.Prelude.{◌≡◌, ◌⊎◌, ℕ, List, Option, Some, Non
 use Rattle.lg_base.specs.Store.{Names}
 use Rattle.lg_cmd.specs.declared.status.Status.{Status}
 use Rattle.lg_cmd.specs.declared.status.Status.TheVariants.{Words, Memory}
-use Rattle.lg_cmd.specs.Answer.{StepCause}
+use Rattle.lg_cmd.specs.Answer.{InputCause}
 use Rattle.lg_cmd.specs.Extract.{ExtractCause}
+use Rattle.lg_cmd.specs.Input.{line_form, section_form}
 use Rattle.lg_cmd.specs.Replay.{ReplayCause}
 use Rattle.lg_cmd.specs.Tell.{TellCause}
 use Rattle.lg_cmd.specs.Verify.{VerifyCause}
-use Rattle.lg_cmd.specs.Words.{Command, Step, Verify, Replay, Extract, Tell}
+use Rattle.lg_cmd.specs.Words.{Command, Step, Run, Verify, Replay, Extract, Tell}
 
 -- Each command has its causes, by what the input and the vault tell and by whose faults rose in the call.
 -- Words comes exactly where the words say none, unless want of memory comes first: the words are read by
@@ -17,7 +18,9 @@ abbrev pub HasCause : Status → (List ℕ → List ℕ) → Option Command → 
     → Type 0 → Type 0 → Type 0 → Type 0
 HasCause status h None input names source vault sink = (status ≡ Words) ⊎ (status ≡ Memory)
 HasCause status h (Some (Step save how)) input names source vault sink =
-    StepCause status input source vault sink
+    InputCause line_form status input source vault sink
+HasCause status h (Some (Run save how)) input names source vault sink =
+    InputCause section_form status input source vault sink
 HasCause status h (Some (Verify image digests)) input names source vault sink =
     VerifyCause status h image digests names vault sink
 HasCause status h (Some (Replay journal save)) input names source vault sink =

@@ -1,39 +1,53 @@
--- Which inputs are run.
-use Rattle.std.specs.Prelude.{◌≡◌, ◌<◌, ◌≤◌, ◌⊎◌, ℕ, List, length, Ok, Err}
+-- Which inputs are run, by the form that a command reads.
+use Rattle.std.specs.Prelude.{◌≡◌, ◌<◌, ◌≤◌, ◌⊎◌, ℕ, List, length, Result, Ok, Err}
 use Rattle.lg_input.specs.Line.{Statement}
 use Rattle.lg_input.specs.Lines.{read_input}
 use Rattle.lg_input.specs.Sessions.{sessions_of, max_sessions}
+use Rattle.lg_plan.specs.Plan.{Plan, read_plan}
 use Rattle.lg_cmd.specs.declared.status.Status.{Status}
 use Rattle.lg_cmd.specs.declared.status.Status.TheVariants.{Limit, Form, Memory}
-use Rattle.lg_cmd.specs.Transfer.{input_limit}
+use Rattle.lg_cmd.specs.Transfer.{input_limit, IsTooMuch}
 
--- the input has these statements, and no more bytes and sessions than it may have
-abbrev pub HasStatements : List ℕ → List Statement → Type 0
-HasStatements bytes statements =
-    (length bytes ≤ input_limit) × (read_input bytes ≡ Ok statements)
-    × (length (sessions_of statements) ≤ max_sessions)
+-- a form of inputs: what an input says, or its first line that lacks the form; and how many sessions stand in
+-- what it says
+pub record InputForm (A : Type 0) : Type 0 where
+  pub read : List ℕ → Result A ℕ
+  pub sessions : A → ℕ
 
--- it has some, and no more than it may have
-abbrev pub IsInput : List ℕ → Type 0
-IsInput bytes = (statements : List Statement) × HasStatements bytes statements
+-- that of `step`: lines, each a statement of a session
+abbrev pub line_form : InputForm (List Statement)
+line_form = record { read = read_input; sessions = λ statements. length (sessions_of statements) }
 
--- the statements of an input are of more sessions than it may have
-abbrev pub HasManySessions : List ℕ → Type 0
-HasManySessions bytes =
-    (length bytes ≤ input_limit) × (statements : List Statement) × (read_input bytes ≡ Ok statements)
-    × (max_sessions < length (sessions_of statements))
+-- that of `run`: sections, of the setup and of sessions, which alone are counted
+abbrev pub section_form : InputForm Plan
+section_form = record { read = read_plan; sessions = λ plan. length plan.sessions }
 
--- the input has more bytes than it may have, or else statements of more sessions
-abbrev pub IsBeyond : List ℕ → Type 0
-IsBeyond bytes = (input_limit < length bytes) ⊎ HasManySessions bytes
+-- the input says this, and has no more bytes and sessions than it may have
+abbrev pub Says : {A : Type 0} → InputForm A → List ℕ → A → Type 0
+Says form bytes said =
+    (length bytes ≤ input_limit) × (form.read bytes ≡ Ok said) × (form.sessions said ≤ max_sessions)
+
+-- it says something, and has no more than it may have
+abbrev pub IsInput : {A : Type 0} → InputForm A → List ℕ → Type 0
+IsInput {A} form bytes = (said : A) × Says form bytes said
+
+-- more sessions stand in an input than it may have
+abbrev pub HasManySessions : {A : Type 0} → InputForm A → List ℕ → Type 0
+HasManySessions {A} form bytes =
+    (length bytes ≤ input_limit) × (said : A) × (form.read bytes ≡ Ok said)
+    × (max_sessions < form.sessions said)
+
+-- the input has more bytes than it may have, or else more sessions
+abbrev pub IsBeyond : {A : Type 0} → InputForm A → List ℕ → Type 0
+IsBeyond form bytes = IsTooMuch bytes ⊎ HasManySessions form bytes
 
 -- this is the first line that lacks its form
-abbrev pub LacksForm : List ℕ → ℕ → Type 0
-LacksForm bytes line = (length bytes ≤ input_limit) × (read_input bytes ≡ Err line)
+abbrev pub LacksForm : {A : Type 0} → InputForm A → List ℕ → ℕ → Type 0
+LacksForm form bytes line = (length bytes ≤ input_limit) × (form.read bytes ≡ Err line)
 
 -- why an input isn't run
-abbrev pub IsRefused : Status → List ℕ → Type 0
-IsRefused Limit bytes = HasManySessions bytes
-IsRefused (Form line) bytes = LacksForm bytes line
-IsRefused Memory bytes = Unit {0}
-IsRefused _ bytes = ⊥
+abbrev pub IsRefused : {A : Type 0} → InputForm A → Status → List ℕ → Type 0
+IsRefused form Limit bytes = HasManySessions form bytes
+IsRefused form (Form line) bytes = LacksForm form bytes line
+IsRefused form Memory bytes = Unit {0}
+IsRefused form _ bytes = ⊥

@@ -1,20 +1,28 @@
 -- What is put and written of a run of an input.
-use Rattle.std.specs.Prelude.{◌≡◌, ℕ, List, [], ◌∷◌, ◌++◌, codes, map, Ok}
+use Rattle.std.specs.Prelude.{◌≡◌, ◌<◌, ◌^◌, ℕ, List, [], ◌∷◌, ◌++◌, codes, map, Ok}
 use Rattle.std.specs.Fmt.{decimal}
+use Rattle.std.specs.List.{AllByRecursion}
 use Rattle.lg_types.specs.declared.journal.Journal.{Journal}
+use Rattle.lg_history.specs.Lists.{Each}
 use Rattle.lg_journal.specs.Journal.{journal_bytes}
+use Rattle.lg_journal.specs.Rules.{IsJournal}
 use Rattle.lg_digest.specs.Reading.{IsRead}
-use Rattle.lg_digest.specs.Writing.{IsFile, held_form}
+use Rattle.lg_digest.specs.Writing.{HasMoments, IsFile, held_form}
 use Rattle.lg_input.specs.Line.{Statement}
 use Rattle.lg_input.specs.Sessions.{sessions_of}
+use Rattle.lg_plan.specs.Plan.{Plan}
 use Rattle.lg_standing.specs.Seats.{KeptImage}
-use Rattle.lg_step.specs.Came.{Run, CameTo, last_image_bytes}
+use Rattle.lg_step.specs.Came.{Run, CameTo}
+use Rattle.lg_step.specs.Images.{ItemsRise}
 use Rattle.lg_step.specs.Moments.{said_with}
 use Rattle.lg_step.specs.Ran.{IsRan}
-use Rattle.lg_step.specs.declared.running.Ran.{Ran}
+use Rattle.lg_step.specs.declared.running.Ran.{Ran as Output}
+use Rattle.lg_together.specs.CameTo.{Left}
+use Rattle.lg_run.specs.CameTo as all
+use Rattle.lg_run.specs.CameTo.{IsOf}
 use Rattle.lg_words.specs.Commands.{Settings}
 use Rattle.lg_cmd.specs.declared.files.File.{File}
-use Rattle.lg_cmd.specs.Input.{HasStatements}
+use Rattle.lg_cmd.specs.Input.{line_form, section_form, Says}
 
 -- ---- files
 
@@ -46,32 +54,44 @@ journal_name save = save ++ codes ".journal"
 abbrev pub journal_file : List ℕ → Journal → File
 journal_file save journal = record { name = journal_name save; bytes = journal_bytes journal }
 
--- what is saved under a name, in the order in which it is put; the digests have these bytes
-abbrev pub saved_files : (List ℕ → List ℕ) → List ℕ → Run → List ℕ → List File
-saved_files h save run digests = map (cut_file save) run.images
-    ++ image_file save (last_image_bytes h run.J)
+-- what is saved of a run under a name, in the order in which it is put; the digests have these bytes
+abbrev pub saved_files : List ℕ → Output → List ℕ → List File
+saved_files save o digests = map (cut_file save) o.images
+    ++ image_file save o.image
     ∷ digests_file save digests
-    ∷ journal_file save run.J
+    ∷ journal_file save o.journal
     ∷ []
 
 -- ---- the run
 
--- this is what the input came to by these settings, where the clock says such moments
+-- this is written and saved of what the lines came to by these settings, where the clock says such moments
 pub record IsRun (h : List ℕ → List ℕ) (how : Settings) (clock : ℕ → Type 0) (bytes : List ℕ)
-    (r : Ran) : Type 0 where
+    (o : Output) : Type 0 where
   pub statements : List Statement
   pub run : Run
-  pub within : HasStatements bytes statements
+  pub within : Says line_form bytes statements
   pub came : CameTo h how.database how.block_size (said_with how.clock clock) statements run
-  pub is : IsRan h (sessions_of statements) run r
+  pub is : IsRan h (sessions_of statements) run o
+
+-- and of what the sections came to, whose sessions were run side by side
+pub record IsRunOfAll (h : List ℕ → List ℕ) (how : Settings) (clock : ℕ → Type 0) (bytes : List ℕ)
+    (o : Output) : Type 0 where
+  pub plan : Plan
+  pub left : Left
+  pub within : Says section_form bytes plan
+  pub came : all.CameTo h how.database how.block_size (said_with how.clock clock) plan left
+  pub is : IsOf h left o
+
+-- It has a spelling, and no two of its images are of one number of items, which 8 bytes can tell.
+pub record IsSavable (o : Output) : Type 0 where
+  pub journal : IsJournal o.journal
+  pub digests : AllByRecursion HasMoments o.digests
+  pub numbers : Each (λ k. k.0 < 2 ^ 64) o.images
+  pub rise : ItemsRise o.images
 
 -- the files of what the code has of a run
-pub record AreSaved (save : List ℕ) (r : Ran) (made : List File) : Type 0 where
+pub record AreSaved (save : List ℕ) (o : Output) (made : List File) : Type 0 where
   pub digests : List ℕ
-  pub file : IsFile r.digests digests
-  pub read_back : IsRead digests (Ok (map held_form r.digests))
-  pub files : made ≡ map (cut_file save) r.images
-      ++ image_file save r.image
-      ∷ digests_file save digests
-      ∷ journal_file save r.journal
-      ∷ []
+  pub file : IsFile o.digests digests
+  pub read_back : IsRead digests (Ok (map held_form o.digests))
+  pub files : made ≡ saved_files save o digests

@@ -9,6 +9,10 @@ use Rattle.lg_cmd.specs.declared.transfer.ReadErr.TheVariants.{Memory, TooMuch, 
 abbrev pub input_limit : ℕ
 input_limit = 4194304
 
+-- an input has more
+abbrev pub IsTooMuch : List ℕ → Type 0
+IsTooMuch input = input_limit < length input
+
 -- so much of the input came, where the source tells what is left
 abbrev pub CameSoFar : Option (List ℕ) → Option (List ℕ) → List ℕ → Type 0
 CameSoFar None now came = Unit {0}
@@ -19,7 +23,7 @@ CameSoFar (Some input) (Some rest) came = input ≡ came ++ rest
 abbrev pub Came : List ℕ → Option (List ℕ) → Result (Vec ℕ Global) ReadErr → Type 0
 Came input rest (Ok v) = (v.items ≡ input) × (length input ≤ input_limit) × (rest ≡ Some [])
 -- one byte past the limit is the last that is taken
-Came input rest (Err TooMuch) = (input_limit < length input) × (rest ≡ Some (drop (input_limit + 1) input))
+Came input rest (Err TooMuch) = IsTooMuch input × (rest ≡ Some (drop (input_limit + 1) input))
 Came input rest (Err Memory) = (n : ℕ) × (n ≤ input_limit + 1) × (rest ≡ Some (drop n input))
 Came input rest (Err Failed) = (n : ℕ) × (n ≤ input_limit) × (rest ≡ Some (drop n input))
 

@@ -12,6 +12,7 @@ use Rattle.lg_cmd.specs.declared.words.BuiltCommand.TheVariants as words
 pub data Command : Type 0 where
   -- the name that the files of a run are saved under, and how its statements are run
   Step : List ℕ → Settings → Command
+  Run : List ℕ → Settings → Command
   -- the names of an image and of digests
   Verify : List ℕ → List ℕ → Command
   -- the name of a journal, and the name that its image is saved under
@@ -21,10 +22,10 @@ pub data Command : Type 0 where
   -- a text that is printed
   Tell : List ℕ → Command
 
--- the command, where it is built: runs of many threads, the workload and more than one worker aren't
+-- the command, where it is built: the workload and more than one worker aren't
 unfoldable pub built : said.Command → Option Command
 built (said.Step save how) = Some (Step save how)
-built (said.Run save how) = None
+built (said.Run save how) = Some (Run save how)
 built (said.Verify image digests workers) = if workers == 1 then Some (Verify image digests) else None
 built (said.Extract honest suspect digests) = Some (Extract honest suspect digests)
 built (said.Replay journal save) = Some (Replay journal save)
@@ -39,6 +40,7 @@ command_words words = option_and_then built (command_of words)
 -- the command that was read
 abbrev pub command_view : BuiltCommand → Command
 command_view (words.Step save how) = Step save.now (settings_view how)
+command_view (words.Run save how) = Run save.now (settings_view how)
 command_view (words.Verify image digests) = Verify image.now digests.now
 command_view (words.Replay journal save) = Replay journal.now save.now
 command_view (words.Extract honest suspect digests) = Extract honest.now suspect.now digests.now
@@ -48,6 +50,11 @@ command_view (words.Tell text) = Tell text.now
 abbrev pub OfStep : Option Command → (List ℕ → Settings → Type 0) → Type 0
 OfStep (Some (Step save how)) P = P save how
 OfStep words P = Unit {0}
+
+-- what is so of the name that `run` is given, and of its settings
+abbrev pub OfRun : Option Command → (List ℕ → Settings → Type 0) → Type 0
+OfRun (Some (Run save how)) P = P save how
+OfRun words P = Unit {0}
 
 -- what is so of the names that `verify` is given
 abbrev pub OfVerify : Option Command → (List ℕ → List ℕ → Type 0) → Type 0
@@ -72,10 +79,12 @@ OfTell words P = Unit {0}
 -- the command reads the input
 abbrev pub reads_input : Option Command → Bool
 reads_input (Some (Step save how)) = true
+reads_input (Some (Run save how)) = true
 reads_input words = false
 
 -- the command puts files
 abbrev pub puts_files : Option Command → Bool
 puts_files (Some (Step save how)) = true
+puts_files (Some (Run save how)) = true
 puts_files (Some (Replay journal save)) = true
 puts_files words = false

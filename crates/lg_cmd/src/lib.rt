@@ -7,6 +7,8 @@ mod names;
 mod replay;
 mod run;
 mod saved;
+mod sections;
+mod side_by_side;
 mod status;
 mod step;
 mod tell;

@@ -4,8 +4,8 @@ ghost use Rattle.lg_input.specs.Line.{seen, is_session_name};
 ghost use Rattle.lg_input.specs.Sessions.{sessions_of};
 ghost use Rattle.lg_words.specs.Commands.{AreInRange};
 ghost use Rattle.lg_words.specs.Views.{settings_view};
-ghost use Rattle.lg_cmd.specs.Input.{HasStatements, IsRefused};
-ghost use Rattle.lg_cmd.specs.Run.{IsRun};
+ghost use Rattle.lg_cmd.specs.Input.{IsRefused, Says, line_form};
+ghost use Rattle.lg_cmd.specs.Run.{IsRun, IsSavable};
 ghost use Rattle.lg_cmd.specs.Transfer.{input_limit};
 
 use crate::Status;
@@ -27,11 +27,11 @@ struct Input<'a> {
 /// The statements of the input. Where a line lacks its form, that is said before the sessions are counted.
 fn statements<'a>(alloc: Global, input: &'a [u8]) -> Result<Input<'a>, Status>
     requires { length input.now ≤ input_limit }
-    ensures has { IfOk result (λ s. HasStatements input.now (map seen s.lines.items)) }
+    ensures has { IfOk result (λ s. Says line_form input.now (map seen s.lines.items)) }
     ensures names { IfOk result (λ s. All (λ l. is_session_name l.session.now ≡ true) s.lines.items) }
     ensures sessions { IfOk result
         (λ s. map (λ n. n.now) s.sessions.items ≡ sessions_of (map seen s.lines.items)) }
-    ensures refused { IfErr result (λ status. IsRefused status input.now) }
+    ensures refused { IfErr result (λ status. IsRefused line_form status input.now) }
 {
     let lines = match read_lines(alloc, input) {
         Ok(lines) => lines,
@@ -57,7 +57,8 @@ pub(crate) fn run_input<H: Hash32, C: Clock>(
     requires settings { AreInRange (settings_view settings) }
     ensures run { IfOk result
         (IsRun (H.digest h) (settings_view settings.entry) (C.says clock.now) input.now) }
-    ensures refused { IfErr result (λ status. IsRefused status input.now) }
+    ensures savable { IfOk result IsSavable }
+    ensures refused { IfErr result (λ status. IsRefused line_form status input.now) }
 {
     let read = statements(alloc, input)?;
     let how = lg_step::Settings {

@@ -1,13 +1,19 @@
 // The files that a run saves, and those that are saved of a journal that was run again.
-ghost use Rattle.std.specs.Prelude.{◌≡◌, ◌++◌, ◌∷◌, [], map, IfOk, Ok};
+ghost use Rattle.std.specs.Prelude.{⊤, ◌≡◌, ◌⊎◌, ◌++◌, ◌∷◌, [], map, IfOk, Ok};
 ghost use Rattle.std.specs.List.{AllByRecursion};
+ghost use Rattle.lg_base.specs.Count.{Rises};
+ghost use Rattle.lg_base.specs.History.{Since};
 ghost use Rattle.lg_digest.specs.Reading.{IsRead};
 ghost use Rattle.lg_digest.specs.Writing.{HasMoments, IsFile, held_form};
 ghost use Rattle.lg_image.specs.ImageBytes.{image_bytes, IsImage};
 ghost use Rattle.lg_journal.specs.Rules.{IsJournal};
-ghost use Rattle.lg_cmd.specs.Run.{AreSaved, cut_file, digests_file, image_file, journal_file, journal_name};
+ghost use Rattle.lg_cmd.specs.Answer.{EndsBy, RanOrIdle, Saves, Unfailed};
+ghost use Rattle.lg_cmd.specs.Calls.{ArePuts, AreWrites};
+ghost use Rattle.lg_cmd.specs.Run.{AreSaved, IsSavable, cut_file, digests_file, image_file, journal_file, journal_name};
 
-use crate::files::File;
+use crate::Status;
+use crate::files::{File, put_and_write};
+use lg_base::{Sink, Vault};
 use lg_digest::write_digests;
 use lg_image::{Image, write_image};
 use lg_items::{Blob, Items, Memory, Text};
@@ -96,6 +102,33 @@ pub(crate) fn output_of(alloc: Global, save: &str, ran: Ran) -> Result<Output, M
         files,
         text: ran.transcript,
     })
+}
+
+/// Makes the files and the text of a run, puts the files, and then writes the text.
+pub(crate) fn save_and_write<K: Sink, V: Vault>(
+    alloc: Global,
+    save: &str,
+    ran: Ran,
+    sink: &mut K,
+    vault: &mut V,
+) -> Status
+    requires { IsSavable ran }
+    ensures cause { EndsBy result (Rises (V.faults vault.old) (V.faults vault.new))
+        (Rises (K.faults sink.old) (K.faults sink.new) ⊎ Rises (K.stalls sink.old) (K.stalls sink.new)) }
+    ensures saved { RanOrIdle result
+        (Saves result save.now ran
+        (V.names vault.old) (V.names vault.new) (K.taken sink.old) (K.taken sink.new))
+        ((vault.new ≡ vault.old) × (sink.new ≡ sink.old)) }
+    ensures puts { Since (V.history vault.old) (V.history vault.new) (ArePuts result) }
+    ensures writes { Since (K.history sink.old) (K.history sink.new) (AreWrites result) }
+    ensures unfailed { Unfailed result ⊤ (V.faults vault.new ≡ V.faults vault.old)
+        ((K.faults sink.new ≡ K.faults sink.old) × (K.stalls sink.new ≡ K.stalls sink.old)) }
+    ensures unwritten { (result ≡ Status.Done → ⊥) → (result ≡ Status.SinkFault → ⊥) → sink.new ≡ sink.old }
+{
+    let Ok(output) = output_of(alloc, save, ran) else {
+        return Status::Memory;
+    };
+    put_and_write(vault, sink, output.files.as_slice(), output.text.bytes())
 }
 
 /// The files of a journal that was run again, in the order in which they are put: its image, and its bytes.

@@ -5,13 +5,13 @@ ghost use Rattle.lg_base.specs.History.{Since};
 ghost use Rattle.lg_cmd.specs.Transfer.{input_limit};
 ghost use Rattle.lg_words.specs.Commands.{AreInRange};
 ghost use Rattle.lg_words.specs.Views.{settings_view};
-ghost use Rattle.lg_cmd.specs.Answer.{StepCause, HasRead, Ran, RanOrIdle, Unfailed};
+ghost use Rattle.lg_cmd.specs.Answer.{InputCause, HasRead, Ran, RanOrIdle, Unfailed};
 ghost use Rattle.lg_cmd.specs.Calls.{AreReads, ArePuts, AreWrites};
+ghost use Rattle.lg_cmd.specs.Input.{line_form};
 
 use crate::Status;
-use crate::files::put_and_write;
 use crate::run::run_input;
-use crate::saved::output_of;
+use crate::saved::save_and_write;
 use crate::transfer::{ReadErr, read_input};
 use lg_base::{Clock, Sink, Source, Vault};
 use lg_merkle::Hash32;
@@ -31,7 +31,7 @@ fn run_and_save<H: Hash32, K: Sink, V: Vault, C: Clock>(
 ) -> Status
     requires limit { length input.now ≤ input_limit }
     requires settings { AreInRange (settings_view settings) }
-    ensures cause { StepCause result (Some input.now) ⊥
+    ensures cause { InputCause line_form result (Some input.now) ⊥
         (Rises (V.faults vault.old) (V.faults vault.new))
         (Rises (K.faults sink.old) (K.faults sink.new) ⊎ Rises (K.stalls sink.old) (K.stalls sink.new)) }
     ensures ran { RanOrIdle result
@@ -48,10 +48,7 @@ fn run_and_save<H: Hash32, K: Sink, V: Vault, C: Clock>(
         Ok(ran) => ran,
         Err(status) => return status,
     };
-    let Ok(output) = output_of(alloc, save, ran) else {
-        return Status::Memory;
-    };
-    put_and_write(vault, sink, output.files.as_slice(), output.text.bytes())
+    save_and_write(alloc, save, ran, sink, vault)
 }
 
 /// Reads an input, runs it, puts its files and writes its transcript.
@@ -66,7 +63,7 @@ pub(crate) fn step<H: Hash32, S: Source, K: Sink, V: Vault, C: Clock>(
     clock: &C,
 ) -> Status
     requires { AreInRange (settings_view settings) }
-    ensures cause { StepCause result (S.left source.old)
+    ensures cause { InputCause line_form result (S.left source.old)
         (Rises (S.faults source.old) (S.faults source.new))
         (Rises (V.faults vault.old) (V.faults vault.new))
         (Rises (K.faults sink.old) (K.faults sink.new) ⊎ Rises (K.stalls sink.old) (K.stalls sink.new)) }

@@ -3,9 +3,9 @@ ghost use Rattle.std.specs.Prelude.{◌≡◌, ◌⊎◌, map, string_bytes, Non
 ghost use Rattle.sha2.specs.Sha256.{sha256};
 ghost use Rattle.lg_base.specs.Count.{Rises};
 ghost use Rattle.lg_base.specs.History.{Since};
-ghost use Rattle.lg_cmd.specs.Words.{command_words, OfStep, OfVerify, OfReplay, OfExtract, OfTell};
+ghost use Rattle.lg_cmd.specs.Words.{command_words, OfStep, OfRun, OfVerify, OfReplay, OfExtract, OfTell};
 ghost use Rattle.lg_cmd.specs.Words.{reads_input, puts_files};
-ghost use Rattle.lg_cmd.specs.Answer.{HasRead, Ran, RanOrIdle, Unfailed};
+ghost use Rattle.lg_cmd.specs.Answer.{HasRead, Ran, RanAll, RanOrIdle, Unfailed};
 ghost use Rattle.lg_cmd.specs.Calls.{AreReads, AreCalls, AreWrites};
 ghost use Rattle.lg_cmd.specs.Cause.{HasCause};
 ghost use Rattle.lg_cmd.specs.Extract.{Extracts};
@@ -16,6 +16,7 @@ ghost use Rattle.lg_cmd.specs.Verify.{Verified, SaidOrIdle};
 use crate::Status;
 use crate::extract::extract;
 use crate::replay::replay;
+use crate::side_by_side::run_side_by_side;
 use crate::step::step;
 use crate::tell::tell;
 use crate::verify::verify;
@@ -24,6 +25,8 @@ use lg_base::{Clock, Gate, Sink, Source, Vault};
 use lg_items::Memory;
 use lg_merkle::Sha256Hash;
 use std::alloc::Global;
+use std::sync::Wait;
+use std::thread::Threads;
 
 /// Runs the command that the words give.
 ///
@@ -37,6 +40,14 @@ use std::alloc::Global;
 /// journal, and `verify` says `Yes` of it with any of these digests whose blocks are closed in it.
 /// `--block-size N` says how many transactions a block has, `--clock T` at which moment all is done, and
 /// `--database D` the name of the database.
+///
+/// `run --save NAME` reads an input of sections: behind a line `-- setup` the statements of a session
+/// `setup`, and behind each line `-- session S` those of the session S. It runs the setup to its end, and
+/// then all sessions side by side, each in a thread of its own that runs its statements in their order, while
+/// another thread closes blocks. It puts the files of `step`, and then writes the transcripts: that of the
+/// setup, and then each session's in the order of the input. However the turns of the threads fall,
+/// transcripts, journal, digests and images agree as those of `step` do, but that lines have no order there.
+/// Its options are those of `step`.
 ///
 /// `verify IMAGE DIGESTS` reads what stands under the two names, and writes the verdict on the image with the
 /// digests: `Yes`, and the status is `Done`, or `No` with the first invariant that fails and its least place,
@@ -59,27 +70,28 @@ use std::alloc::Global;
 /// command, print a text.
 ///
 /// An option and its value are two words or one, `--save NAME` or `--save=NAME`, and stand anywhere behind
-/// the command. `verify --workers 1` says what is so without it; other numbers aren't built yet, nor are
-/// `run` and `gen`.
+/// the command. `verify --workers 1` says what is so without it; other numbers aren't built yet, nor is
+/// `gen`.
 ///
-/// Only a run of several threads calls the gate.
+/// Only `run` starts threads and waits for them, and only it calls the gate.
 ///
-/// `Words` comes before anything else, and so does want of memory for the words. Of `step`, `Limit` and
-/// `Form` come before anything is put; the size of the input is looked at first, then the form of all lines,
-/// and then the number of sessions. After `VaultFault` the files before the one that failed stand, its name
-/// is open, and nothing was written; after `Memory` the first of the files may stand. After `SinkFault` all
-/// files stand and a first part of the text was written. Of `verify` and `extract`, the names are looked at
-/// in the order of the words, each whether it is there and then how long, then the digests, and last the
+/// `Words` comes before anything else, and so does want of memory for the words. Of `step` and `run`, `Limit`
+/// and `Form` come before anything is put; the size of the input is looked at first, then the form of all
+/// lines, and then the number of sessions. After `VaultFault` the files before the one that failed stand, its
+/// name is open, and nothing was written; after `Memory` the first of the files may stand. After `SinkFault`
+/// all files stand and a first part of the text was written. Of `verify` and `extract`, the names are looked
+/// at in the order of the words, each whether it is there and then how long, then the digests, and last the
 /// images: `Digests` comes before `No`. Of `replay`, the name is looked at so, then whether the bytes are
 /// those of a journal, and last whether that is legal; all this before anything is put.
-pub fn ledgerd<S: Source, K: Sink, V: Vault, C: Clock, G: Gate>(
+pub fn ledgerd<S: Source, K: Sink, V: Vault, C: Clock, G: Gate, R: Threads + Wait + Sync>(
+    rt: &R,
     alloc: Global,
     words: &[String],
     source: &mut S,
     sink: &mut K,
     vault: &mut V,
     clock: &C,
-    _gate: &G,
+    gate: &G,
 ) -> Status
     // Each status has its cause.
     ensures cause { HasCause result sha256 (command_words (map string_bytes words.now))
@@ -88,8 +100,8 @@ pub fn ledgerd<S: Source, K: Sink, V: Vault, C: Clock, G: Gate>(
         (Rises (V.faults vault.old) (V.faults vault.new))
         (Rises (K.faults sink.old) (K.faults sink.new) ⊎ Rises (K.stalls sink.old) (K.stalls sink.new)) }
 
-    // Where the words say no command, nothing is touched. Only a run reads the input; a run, and a journal
-    // that is run again, put files.
+    // Where the words say no command, nothing is touched. Only `step` and `run` read the input; these two
+    // and `replay` put files.
     ensures words { command_words (map string_bytes words.now) ≡ None
         → (source.new ≡ source.old) × (vault.new ≡ vault.old) × (sink.new ≡ sink.old) }
     ensures unread { reads_input (command_words (map string_bytes words.now)) ≡ false
@@ -103,6 +115,14 @@ pub fn ledgerd<S: Source, K: Sink, V: Vault, C: Clock, G: Gate>(
         (λ save settings. IfSome (S.left source.old) (λ input. HasRead result input (S.left source.new))) }
     ensures ran { OfStep (command_words (map string_bytes words.now)) (λ save settings. RanOrIdle result
         (Ran result sha256 save settings (S.left source.old) (C.says clock.now)
+        (V.names vault.old) (V.names vault.new) (K.taken sink.old) (K.taken sink.new))
+        ((vault.new ≡ vault.old) × (sink.new ≡ sink.old))) }
+
+    // `run`: the same of sections whose sessions were run side by side.
+    ensures read_sections { OfRun (command_words (map string_bytes words.now))
+        (λ save settings. IfSome (S.left source.old) (λ input. HasRead result input (S.left source.new))) }
+    ensures ran_all { OfRun (command_words (map string_bytes words.now)) (λ save settings. RanOrIdle result
+        (RanAll result sha256 save settings (S.left source.old) (C.says clock.now)
         (V.names vault.old) (V.names vault.new) (K.taken sink.old) (K.taken sink.new))
         ((vault.new ≡ vault.old) × (sink.new ≡ sink.old))) }
 
@@ -137,6 +157,8 @@ pub fn ledgerd<S: Source, K: Sink, V: Vault, C: Clock, G: Gate>(
     // The first fault or stall is the last call: nothing is tried again, and nothing is read behind the end.
     ensures reads { OfStep (command_words (map string_bytes words.now))
         (λ save settings. Since (S.history source.old) (S.history source.new) (AreReads result)) }
+    ensures reads_sections { OfRun (command_words (map string_bytes words.now))
+        (λ save settings. Since (S.history source.old) (S.history source.new) (AreReads result)) }
     ensures calls { Since (V.history vault.old) (V.history vault.new)
         (AreCalls (command_words (map string_bytes words.now)) result) }
     ensures writes { Since (K.history sink.old) (K.history sink.new) (AreWrites result) }
@@ -158,6 +180,11 @@ pub fn ledgerd<S: Source, K: Sink, V: Vault, C: Clock, G: Gate>(
         BuiltCommand::Step { save, settings } => {
             step(
                 alloc, Sha256Hash, save, settings, source, sink, vault, clock,
+            )
+        }
+        BuiltCommand::Run { save, settings } => {
+            run_side_by_side(
+                rt, alloc, Sha256Hash, save, settings, source, sink, vault, clock, gate,
             )
         }
         BuiltCommand::Verify { image, digests } => {

@@ -4,8 +4,7 @@ ghost use Rattle.lg_base.specs.Count.{Rises};
 ghost use Rattle.lg_base.specs.History.{Since, EndsAt};
 ghost use Rattle.lg_base.specs.Outside.{TellsTaken};
 ghost use Rattle.lg_cmd.specs.Calls.{Moved, ReadsOf, StopsWriting};
-ghost use Rattle.lg_cmd.specs.Input.{IsBeyond};
-ghost use Rattle.lg_cmd.specs.Transfer.{input_limit, Came, TellsPart};
+ghost use Rattle.lg_cmd.specs.Transfer.{input_limit, Came, IsTooMuch, TellsPart};
 
 use lg_base::{Failed, Sink, Source};
 use std::alloc::Global;
@@ -28,7 +27,7 @@ pub(crate) enum ReadErr {
 pub(crate) fn read_input<S: Source>(alloc: Global, source: &mut S) -> Result<Vec<u8>, ReadErr>
     ensures came { IfSome (S.left source.old) (λ input. Came input (S.left source.new) result) }
     ensures within { IfOk result (λ v. length v.items ≤ input_limit) }
-    ensures beyond { IsErrOf result ReadErr.TooMuch → IfSome (S.left source.old) IsBeyond }
+    ensures beyond { IsErrOf result ReadErr.TooMuch → IfSome (S.left source.old) IsTooMuch }
     ensures reads { Since (S.history source.old) (S.history source.new) (ReadsOf result) }
     ensures calm { (IsErrOf result ReadErr.Failed → ⊥) → S.faults source.new ≡ S.faults source.old }
     ensures cause { IsErrOf result ReadErr.Failed → Rises (S.faults source.old) (S.faults source.new) }

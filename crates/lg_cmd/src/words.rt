@@ -2,7 +2,7 @@
 ghost use Rattle.std.specs.Prelude.{◌≡◌, IfOk, map, string_bytes, option_map};
 ghost use Rattle.lg_words.specs.Commands.{AreInRange};
 ghost use Rattle.lg_words.specs.Views as said;
-ghost use Rattle.lg_cmd.specs.Words.{built, command_words, command_view, OfStep};
+ghost use Rattle.lg_cmd.specs.Words.{built, command_words, command_view, OfStep, OfRun};
 
 use lg_items::Memory;
 use lg_words::{Command, Settings, VERSION, help_text, settings_are_in_range};
@@ -13,6 +13,12 @@ use std::alloc::Global;
 pub(crate) enum BuiltCommand<'a> {
     /// Runs an input and saves its files.
     Step {
+        /// The name that the files are saved under.
+        save: &'a str,
+        settings: Settings<'a>,
+    },
+    /// Runs an input with a thread for each session and saves its files.
+    Run {
         /// The name that the files are saved under.
         save: &'a str,
         settings: Settings<'a>,
@@ -54,6 +60,7 @@ fn built<'a>(command: Command<'a>) -> Option<BuiltCommand<'a>>
 {
     match command {
         Command::Step { save, settings } => Some(BuiltCommand::Step { save, settings }),
+        Command::Run { save, settings } => Some(BuiltCommand::Run { save, settings }),
         Command::Verify {
             image,
             digests,
@@ -80,7 +87,7 @@ fn built<'a>(command: Command<'a>) -> Option<BuiltCommand<'a>>
             None => None,
         },
         Command::Version => Some(BuiltCommand::Tell { text: VERSION }),
-        Command::Run { .. } | Command::Gen { .. } => None,
+        Command::Gen { .. } => None,
     }
 }
 
@@ -92,8 +99,10 @@ pub(crate) fn read_command<'a>(
 ) -> Result<Option<BuiltCommand<'a>>, Memory>
     ensures said { IfOk result
         (λ c. option_map command_view c ≡ command_words (map string_bytes words.entry.now)) }
-    ensures in_range { IfOk result
+    ensures step_in_range { IfOk result
         (λ c. OfStep (option_map command_view c) (λ save settings. AreInRange settings)) }
+    ensures run_in_range { IfOk result
+        (λ c. OfRun (option_map command_view c) (λ save settings. AreInRange settings)) }
 {
     settings_are_in_range();
     match lg_words::read_command(alloc, words)? {

@@ -1,5 +1,6 @@
 //! Commands over an outside in memory whose calls fail as they are told to.
 
+use crate::machine::Machine;
 use crate::setting::{Faults, Setting};
 use lg_base::{FixedClock, FolderVault, MemSink, MemSource, MemVault, OpenGate, Vault, VaultErr};
 use lg_cmd::ledgerd;
@@ -9,7 +10,7 @@ use std::io;
 const MOST: usize = 1 << 20;
 
 /// A vault in memory with the files that the folder has under these names.
-fn vault_of(rt: &HostRuntime, fails: Vec<u64>, names: &[String]) -> MemVault {
+fn vault_of(rt: &impl Machine, fails: Vec<u64>, names: &[String]) -> MemVault {
     let mut vault = MemVault::new(rt.alloc(), fails);
     let mut folder = FolderVault::new(*rt);
     for name in names {
@@ -21,7 +22,7 @@ fn vault_of(rt: &HostRuntime, fails: Vec<u64>, names: &[String]) -> MemVault {
 }
 
 /// Prints what stands under a name: how many bytes, or that there is nothing, or that nobody can tell.
-fn print_file(rt: &HostRuntime, vault: &mut MemVault, name: &str) -> io::Result<()> {
+fn print_file(rt: &impl Machine, vault: &mut MemVault, name: &str) -> io::Result<()> {
     match vault.get(name, MOST) {
         Ok(bytes) => println!(rt; "{name}: {} bytes", bytes.len()),
         Err(VaultErr::Missing) => println!(rt; "{name}: missing"),
@@ -32,7 +33,7 @@ fn print_file(rt: &HostRuntime, vault: &mut MemVault, name: &str) -> io::Result<
 /// Runs a command over an outside in memory with these faults. Prints what was written, how the call ended,
 /// and what stands under the names.
 pub fn run_over_memory(
-    rt: &HostRuntime,
+    rt: &impl Machine,
     setting: Setting,
     faults: Faults,
     words: &[String],
@@ -43,6 +44,7 @@ pub fn run_over_memory(
     let mut vault = vault_of(rt, faults.vault, &faults.names);
     let clock = FixedClock { at: setting.clock };
     let status = ledgerd(
+        rt,
         alloc,
         words,
         &mut source,

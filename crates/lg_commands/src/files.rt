@@ -1,5 +1,6 @@
 //! Files of the stored run that are made of others.
 
+use crate::machine::Machine;
 use crate::setting::bytes_of;
 use lg_base::{FixedClock, FolderVault, MemSink, MemSource, MemVault, OpenGate, Vault, VaultErr};
 use lg_cmd::{Status, ledgerd};
@@ -66,6 +67,7 @@ pub fn are_same<V: Vault>(alloc: Global, vault: &mut V, words: &[String]) -> boo
 
 /// How many of the proper prefixes of a name's bytes are answered `No V0`, and how many prefixes there are.
 pub fn count_cuts<V: Vault>(
+    rt: &impl Machine,
     alloc: Global,
     vault: &mut V,
     name: &str,
@@ -73,7 +75,7 @@ pub fn count_cuts<V: Vault>(
     let bytes = bytes_under(alloc, vault, name);
     let mut refused = 0;
     for count in 0..bytes.len() {
-        if is_no_image(alloc, &bytes[..count])? {
+        if is_no_image(rt, alloc, &bytes[..count])? {
             refused += 1;
         }
     }
@@ -81,7 +83,7 @@ pub fn count_cuts<V: Vault>(
 }
 
 /// Whether `verify` answers `No V0` to the bytes, with no digests.
-fn is_no_image(alloc: Global, bytes: &[u8]) -> Result<bool, AllocError> {
+fn is_no_image(rt: &impl Machine, alloc: Global, bytes: &[u8]) -> Result<bool, AllocError> {
     let mut vault = MemVault::new(alloc, Vec::new(alloc));
     if put_both(&mut vault, bytes).is_err() {
         return Ok(false);
@@ -94,6 +96,7 @@ fn is_no_image(alloc: Global, bytes: &[u8]) -> Result<bool, AllocError> {
     let mut sink = MemSink::new(alloc, 64, Vec::new(alloc));
     let clock = FixedClock { at: 0 };
     let status = ledgerd(
+        rt,
         alloc,
         &words,
         &mut source,
@@ -111,7 +114,7 @@ fn put_both(vault: &mut MemVault, image: &[u8]) -> Result<(), VaultErr> {
 }
 
 /// Prints the bytes of a name in hexadecimal digits, or that there is none.
-pub fn print_hex(rt: &HostRuntime, name: &str) -> io::Result<()> {
+pub fn print_hex(rt: &impl Machine, name: &str) -> io::Result<()> {
     match FolderVault::new(*rt).get(name, MOST) {
         Ok(bytes) => println!(rt; "{}", hex::encode(rt.alloc(), &bytes)?),
         Err(_) => println!(rt; "missing"),

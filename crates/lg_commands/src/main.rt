@@ -19,10 +19,12 @@
 
 mod faulty;
 mod files;
+mod machine;
 mod setting;
 
 use crate::faulty::run_over_memory;
 use crate::files::{are_same, bytes_under, count_cuts, patch, print_hex};
+use crate::machine::Machine;
 use crate::setting::Setting;
 use lg_base::{FixedClock, FolderVault, MemSource, OpenGate, StdoutSink};
 use lg_cmd::{Status, ledgerd};
@@ -39,13 +41,14 @@ fn words_of(alloc: Global, line: &str) -> Result<Vec<String>, AllocError> {
 }
 
 /// Runs a command over the folder.
-fn run_over_folder(rt: &HostRuntime, setting: Setting, words: &[String]) -> Status {
+fn run_over_folder(rt: &impl Machine, setting: Setting, words: &[String]) -> Status {
     let alloc = rt.alloc();
     let mut source = MemSource::new(setting.input, 4096, Vec::new(alloc));
     let mut sink = StdoutSink::new(io::writer(rt));
     let mut vault = FolderVault::new(*rt);
     let clock = FixedClock { at: setting.clock };
     ledgerd(
+        rt,
         alloc,
         words,
         &mut source,
@@ -56,7 +59,7 @@ fn run_over_folder(rt: &HostRuntime, setting: Setting, words: &[String]) -> Stat
     )
 }
 
-fn print_status(rt: &HostRuntime, status: Status) -> io::Result<()> {
+fn print_status(rt: &impl Machine, status: Status) -> io::Result<()> {
     let code = status.code();
     if code > 1 {
         println!(rt; "{code} {status}")
@@ -65,7 +68,7 @@ fn print_status(rt: &HostRuntime, status: Status) -> io::Result<()> {
     }
 }
 
-fn run(rt: &HostRuntime, mut setting: Setting, words: &[String]) -> io::Result<()> {
+fn run(rt: &impl Machine, mut setting: Setting, words: &[String]) -> io::Result<()> {
     match setting.faults.take() {
         Some(faults) => run_over_memory(rt, setting, faults, words),
         None => print_status(rt, run_over_folder(rt, setting, words)),
@@ -73,7 +76,7 @@ fn run(rt: &HostRuntime, mut setting: Setting, words: &[String]) -> io::Result<(
 }
 
 /// Runs the command behind the name of its input.
-fn run_with_input(rt: &HostRuntime, mut setting: Setting, words: &[String]) -> io::Result<()> {
+fn run_with_input(rt: &impl Machine, mut setting: Setting, words: &[String]) -> io::Result<()> {
     let [_, name, words @ ..] = words else {
         return print_status(rt, Status::Words);
     };
@@ -97,7 +100,7 @@ fn set(alloc: Global, setting: &mut Setting, line: &str) -> Result<Option<bool>,
     Ok(Some(done))
 }
 
-fn answer(rt: &HostRuntime, setting: Setting, line: &str) -> io::Result<()> {
+fn answer(rt: &impl Machine, setting: Setting, line: &str) -> io::Result<()> {
     let alloc = rt.alloc();
     let words = words_of(alloc, line)?;
     match line.split_once(' ') {
@@ -106,7 +109,7 @@ fn answer(rt: &HostRuntime, setting: Setting, line: &str) -> io::Result<()> {
             println!(rt; "{done}")
         }
         Some(("cuts", name)) => {
-            let (refused, all) = count_cuts(alloc, &mut FolderVault::new(*rt), name)?;
+            let (refused, all) = count_cuts(rt, alloc, &mut FolderVault::new(*rt), name)?;
             println!(rt; "{refused} of {all}")
         }
         Some(("same", _)) => {

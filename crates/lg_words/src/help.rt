@@ -6,6 +6,7 @@ use crate::subcommand::Subcommand;
 
 /// What stands on standard error where the words were refused.
 pub const USAGE: &str = "usage: ledgerd step --save NAME [--block-size N] [--clock T] [--database D]
+       ledgerd run --save NAME [--block-size N] [--clock T] [--database D]
        ledgerd verify IMAGE DIGESTS
        ledgerd extract HONEST SUSPECT DIGESTS
        ledgerd replay JOURNAL --save NAME
@@ -21,6 +22,7 @@ pub const HELP: &str =
     "ledgerd runs statements over ledger tables in memory, and verifies images of them.
 
   ledgerd step --save NAME                 runs statements of sessions and saves what is left
+  ledgerd run --save NAME                  runs sessions side by side and saves what is left
   ledgerd verify IMAGE DIGESTS             says whether an image and digests hold together
   ledgerd extract HONEST SUSPECT DIGESTS   says what two images are to each other
   ledgerd replay JOURNAL --save NAME       runs a journal again and saves its image
@@ -47,6 +49,19 @@ nanoseconds since 1970. D is the name of the database.
 
 Example, from the top of the repository:
   ./ledgerd step --save shop --clock 0 < examples/shop.txt
+";
+
+/// Help on `run`.
+pub const RUN_HELP: &str = "ledgerd run --save NAME [--block-size N] [--clock T] [--database D]
+
+Runs the sections of standard input and prints what their statements were answered. The lines behind
+`-- setup`, the first section, are run first, in their order; then those behind each `-- session S`, each of
+these sessions in a thread of its own beside the others, while another thread closes blocks.
+It puts in the current folder the files that `step` puts: NAME-m.img for each number m that a SAVE IMAGE
+answered, NAME.img, NAME.digests and NAME.journal. N, T and D are those of `step`.
+
+Example, from the top of the repository; it puts seats.img, seats.digests and seats.journal:
+  ./ledgerd run --save seats < examples/seats.txt
 ";
 
 /// Help on `verify`.
@@ -90,9 +105,10 @@ pub fn help_text(which: Option<Subcommand>) -> Option<&'static str>
     match which {
         None => Some(HELP),
         Some(Subcommand::Step) => Some(STEP_HELP),
+        Some(Subcommand::Run) => Some(RUN_HELP),
         Some(Subcommand::Verify) => Some(VERIFY_HELP),
         Some(Subcommand::Extract) => Some(EXTRACT_HELP),
         Some(Subcommand::Replay) => Some(REPLAY_HELP),
-        Some(Subcommand::Run) | Some(Subcommand::Gen) => None,
+        Some(Subcommand::Gen) => None,
     }
 }

@@ -1,5 +1,8 @@
 use Rattle.std.proofs.Common.{map}
 use Rattle.lg_input.specs.Line.{seen}
+use Rattle.lg_words.specs.Views.{settings_view}
+use Rattle.lg_cmd.specs.Run.{IsRun}
+use Rattle.lg_cmd.proofs.SavedLemmas.{lines_savable}
 use Rattle.lg_cmd.proofs.run.run_input.Goals as goal
 
 pub returns-in-Ok-clause-run : goal.returns-in-Ok-clause-run
@@ -12,3 +15,6 @@ returns-in-Ok-clause-run g c =
       came = r.1;
       is = r.2;
     }
+
+pub returns-in-Ok-clause-savable : goal.returns-in-Ok-clause-savable
+returns-in-Ok-clause-savable g c = lines_savable _ _ _ _ _ (returns-in-Ok-clause-run g c)
