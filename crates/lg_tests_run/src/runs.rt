@@ -7,8 +7,8 @@ use lg_plan::read_plan;
 use lg_run::run_all;
 use lg_step::{Ran, Settings};
 use lg_types::JournalItem;
-use std::sync::atomic::Ordering::SeqCst;
 use std::sync::Wait;
+use std::sync::atomic::Ordering::SeqCst;
 use std::test::Fail;
 use std::thread::Threads;
 
@@ -25,7 +25,12 @@ INSERT INTO u VALUES (1, 1)
 EXECUTE sp_generate_database_ledger_digest
 ";
 
-fn run<R: Threads + Wait + AllocGlobal + Sync, G: Gate>(rt: &R, input: &[u8], block_size: u32, gate: &G) -> Result<Ran, Fail> {
+fn run<R: Threads + Wait + AllocGlobal + Sync, G: Gate>(
+    rt: &R,
+    input: &[u8],
+    block_size: u32,
+    gate: &G,
+) -> Result<Ran, Fail> {
     let plan = read_plan(rt.alloc(), input).ok().ok_or("form")?;
     let how = Settings {
         block_size,
