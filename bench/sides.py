@@ -1,0 +1,137 @@
+#!/usr/bin/env python3
+"""Runs `run` many times over, and measures it beside `step`.
+
+    sides.py runs PROGRAM [TIMES [COUNT]]   TIMES runs (1,000) of 8 sessions that change the same rows while blocks are
+                                            closed, COUNT statements (20) each; `verify` has to accept each image that
+                                            a run saved with its digests, and `replay` to lead to the last of them
+    sides.py cost PROGRAM [ROUNDS]          4 sessions on 4 tables, the same statements by `step` and by `run` in
+                                            turns: seconds by the clock, the least of ROUNDS (5)
+
+A run that takes more than 60 seconds counts as one that hangs. Folders are made below the system's for temporary files,
+that of a run that fails stays.
+"""
+import glob
+import json
+import os
+import random
+import re
+import shutil
+import subprocess
+import sys
+import tempfile
+import time
+
+DIGEST = "EXECUTE sp_generate_database_ledger_digest"
+
+
+def call(program, folder, *words, lines=None):
+    """The exit status and the output of a call in a folder."""
+    text = None if lines is None else "".join(line + "\n" for line in lines)
+    ended = subprocess.run([program, *words], cwd=folder, input=text, capture_output=True, text=True, timeout=60)
+    return ended.returncode, ended.stdout
+
+
+def contention(count, seed):
+    """Sessions that change the same four rows of two tables, alone and in transactions."""
+    yield "-- setup"
+    for table in "ab":
+        yield f"CREATE TABLE {table} (id INT PRIMARY KEY, v INT)"
+        yield f"INSERT INTO {table} VALUES (0, 0), (1, 0)"
+    source = random.Random(seed)
+    for session in range(8):
+        yield f"-- session s{session}"
+        for n in range(count):
+            row, table = source.randrange(2), source.choice("ab")
+            yield source.choice([
+                f"UPDATE {table} SET v = v + 1 WHERE id = {row}",
+                f"INSERT INTO {table} VALUES ({100 * session + n + 2}, 0)",
+                f"SELECT * FROM {table} WHERE id = {row}",
+                "BEGIN TRANSACTION", "COMMIT", "ROLLBACK", DIGEST, "SAVE IMAGE"])
+
+
+def verdict(program, folder, image):
+    """What `verify` says of an image: of the last one with all digests, of another with those whose blocks it has."""
+    _, said = call(program, folder, "verify", image, "side.digests")
+    later = re.fullmatch(r"No V1 digest (\d+)\n", said)
+    if later and image != "side.img":
+        with open(f"{folder}/side.digests") as all_digests, open(f"{folder}/before.digests", "w") as before:
+            json.dump(json.load(all_digests)[:int(later[1])], before)
+        _, said = call(program, folder, "verify", image, "before.digests")
+    return said.strip()
+
+
+def fault_of(program, folder, lines):
+    """What is wrong with one run, if anything is."""
+    try:
+        status, _ = call(program, folder, "run", "--save", "side", "--block-size", "3", lines=lines)
+        if status != 0:
+            return f"run ended with {status}"
+        for image in sorted(os.path.basename(p) for p in glob.glob(f"{folder}/side*.img")):
+            said = verdict(program, folder, image)
+            if said != "Yes":
+                return f"verify says {said} of {image}"
+        if call(program, folder, "replay", "side.journal", "--save", "again")[0] != 0:
+            return "replay doesn't accept the journal"
+        for end in ("img", "journal"):
+            with open(f"{folder}/side.{end}", "rb") as first, open(f"{folder}/again.{end}", "rb") as second:
+                if first.read() != second.read():
+                    return f"replay leads to another {end}"
+    except subprocess.TimeoutExpired:
+        return "it hangs"
+    return None
+
+
+def runs(program, times=1000, count=20):
+    failed = 0
+    for n in range(times):
+        folder = tempfile.mkdtemp(prefix="sides-")
+        fault = fault_of(program, folder, list(contention(count, n)))
+        if fault is None:
+            shutil.rmtree(folder)
+        else:
+            failed += 1
+            print(f"run {n}: {fault} ({folder})")
+    print(f"{times} runs, {failed} failed")
+    return failed
+
+
+def one_row(session):
+    return [f"INSERT INTO t{session} VALUES ({n}, {n % 7})" for n in range(4000)]
+
+
+def wide(session):
+    rows = ", ".join(f"({n}, {n % 7})" for n in range(1000))
+    return [f"INSERT INTO t{session} VALUES {rows}"] + [f"UPDATE t{session} SET v = v + 1"] * 50
+
+
+def seconds(program, command, lines):
+    folder = tempfile.mkdtemp(prefix="sides-")
+    began = time.monotonic()
+    status, _ = call(program, folder, command, "--save", "side", lines=lines)
+    took = time.monotonic() - began
+    shutil.rmtree(folder)
+    if status != 0:
+        sys.exit(f"{command} ended with {status}")
+    return took
+
+
+def cost(program, rounds=5):
+    print("| Statements | `step` | `run` | Speed |\n|---|---|---|---|")
+    for name, statements in ("one row each", one_row), ("1,000 rows each", wide):
+        tables = [f"CREATE TABLE t{s} (id INT PRIMARY KEY, v INT)" for s in range(4)]
+        work = [statements(s) for s in range(4)]
+        in_turn = [f"s{s}: {work[s][n]}" for n in range(len(work[0])) for s in range(4)]
+        sections = [line for s in range(4) for line in (f"-- session s{s}", *work[s])]
+        took = {"step": [], "run": []}
+        for _ in range(rounds):
+            took["step"].append(seconds(program, "step", [f"setup: {t}" for t in tables] + in_turn))
+            took["run"].append(seconds(program, "run", ["-- setup", *tables, *sections]))
+        step, run = min(took["step"]), min(took["run"])
+        print(f"| {name} | {step:.3f} | {run:.3f} | {step / run:.2f} |")
+
+
+if __name__ == "__main__":
+    if len(sys.argv) < 3 or sys.argv[1] not in ("runs", "cost"):
+        sys.exit(__doc__)
+    what = {"runs": runs, "cost": cost}[sys.argv[1]]
+    sys.exit(1 if what(os.path.abspath(sys.argv[2]), *map(int, sys.argv[3:])) else 0)
