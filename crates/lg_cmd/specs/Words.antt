@@ -1,5 +1,5 @@
 -- The commands that are built, of those that the words can say.
-use Rattle.std.specs.Prelude.{ℕ, Bool, true, false, ◌==◌, List, Option, Some, None, if◌then◌else◌, option_map, option_and_then}
+use Rattle.std.specs.Prelude.{ℕ, Bool, true, false, List, Option, Some, None, option_map, option_and_then}
 use Rattle.lg_words.specs.Commands.{Settings, command_of}
 use Rattle.lg_words.specs.Commands as said
 use Rattle.lg_words.specs.Help.{help_of}
@@ -22,11 +22,11 @@ pub data Command : Type 0 where
   -- a text that is printed
   Tell : List ℕ → Command
 
--- the command, where it is built: the workload and more than one worker aren't
+-- the command, where it is built: the workload isn't; the number of workers changes nothing that is said
 unfoldable pub built : said.Command → Option Command
 built (said.Step save how) = Some (Step save how)
 built (said.Run save how) = Some (Run save how)
-built (said.Verify image digests workers) = if workers == 1 then Some (Verify image digests) else None
+built (said.Verify image digests workers) = Some (Verify image digests)
 built (said.Extract honest suspect digests) = Some (Extract honest suspect digests)
 built (said.Replay journal save) = Some (Replay journal save)
 built (said.Gen count) = None
@@ -41,7 +41,7 @@ command_words words = option_and_then built (command_of words)
 abbrev pub command_view : BuiltCommand → Command
 command_view (words.Step save how) = Step save.now (settings_view how)
 command_view (words.Run save how) = Run save.now (settings_view how)
-command_view (words.Verify image digests) = Verify image.now digests.now
+command_view (words.Verify image digests workers) = Verify image.now digests.now
 command_view (words.Replay journal save) = Replay journal.now save.now
 command_view (words.Extract honest suspect digests) = Extract honest.now suspect.now digests.now
 command_view (words.Tell text) = Tell text.now

@@ -70,10 +70,10 @@ use std::thread::Threads;
 /// command, print a text.
 ///
 /// An option and its value are two words or one, `--save NAME` or `--save=NAME`, and stand anywhere behind
-/// the command. `verify --workers 1` says what is so without it; other numbers aren't built yet, nor is
-/// `gen`.
+/// the command. `verify --workers N` lets N threads look at an image, and says what is so without it. `gen`
+/// isn't built yet.
 ///
-/// Only `run` starts threads and waits for them, and only it calls the gate.
+/// Only `run` and `verify` with more than one worker start threads, and only `run` calls the gate.
 ///
 /// `Words` comes before anything else, and so does want of memory for the words. Of `step` and `run`, `Limit`
 /// and `Form` come before anything is put; the size of the input is looked at first, then the form of all
@@ -187,8 +187,14 @@ pub fn ledgerd<S: Source, K: Sink, V: Vault, C: Clock, G: Gate, R: Threads + Wai
                 rt, alloc, Sha256Hash, save, settings, source, sink, vault, clock, gate,
             )
         }
-        BuiltCommand::Verify { image, digests } => {
-            verify(alloc, Sha256Hash, image, digests, sink, vault)
+        BuiltCommand::Verify {
+            image,
+            digests,
+            workers,
+        } => {
+            verify(
+                rt, alloc, Sha256Hash, image, digests, workers, sink, vault,
+            )
         }
         BuiltCommand::Replay { journal, save } => {
             replay(alloc, Sha256Hash, journal, save, sink, vault)

@@ -18,6 +18,7 @@ use lg_merkle::Hash32;
 use lg_types::HeldDigest;
 use lg_verdict::Verdict;
 use std::alloc::{AllocError, Global};
+use std::thread::Threads;
 
 /// What stands under the two names.
 #[derive(Drop)]
@@ -60,23 +61,32 @@ pub(crate) fn read_held(alloc: Global, file: &[u8]) -> Result<Items<HeldDigest>,
 }
 
 /// The verdict on these bytes, with the digests of this file.
-fn judge<H: Hash32>(alloc: Global, h: H, image: &[u8], digests: &[u8]) -> Result<Verdict, Status>
+fn judge<H: Hash32, R: Threads + Sync>(
+    rt: &R,
+    alloc: Global,
+    h: H,
+    image: &[u8],
+    digests: &[u8],
+    workers: u32,
+) -> Result<Verdict, Status>
     ensures verdict { IfOk result (IsVerdictOn (H.digest h) image.now digests.now) }
     ensures refused { IfErr result (λ status. AreRefused status digests.now) }
 {
     let held = read_held(alloc, digests)?;
-    match lg_verify::verify(alloc, h, image, held.as_slice(), 1) {
+    match lg_verify::verify_with_workers(rt, alloc, h, image, held.as_slice(), workers) {
         Ok(verdict) => Ok(verdict),
         Err(Memory) => Err(Status::Memory),
     }
 }
 
 /// The verdict on what stands under the two names.
-fn judge_names<H: Hash32, V: Vault>(
+fn judge_names<H: Hash32, V: Vault, R: Threads + Sync>(
+    rt: &R,
     alloc: Global,
     h: H,
     image: &str,
     digests: &str,
+    workers: u32,
     vault: &mut V,
 ) -> Result<Verdict, Status>
     ensures judged { IfOk result (IsJudged (H.digest h) image.now digests.now (V.names vault.old)) }
@@ -91,7 +101,7 @@ fn judge_names<H: Hash32, V: Vault>(
         (λ status. Unfailed status ⊤ (V.faults vault.new ≡ V.faults vault.old) ⊤) }
 {
     let evidence = read_evidence(vault, image, digests)?;
-    judge(alloc, h, &evidence.image, &evidence.digests)
+    judge(rt, alloc, h, &evidence.image, &evidence.digests, workers)
 }
 
 /// The line that is written of a verdict.
@@ -101,12 +111,15 @@ fn text_of(alloc: Global, verdict: &Verdict) -> Result<String, AllocError>
     format!(in alloc; "{verdict}\n")
 }
 
-/// Says the verdict on the image under a name, with the digests under another.
-pub(crate) fn verify<H: Hash32, K: Sink, V: Vault>(
+/// Says the verdict on the image under a name, with the digests under another. At most so many threads as
+/// there are workers look at the image.
+pub(crate) fn verify<H: Hash32, K: Sink, V: Vault, R: Threads + Sync>(
+    rt: &R,
     alloc: Global,
     h: H,
     image: &str,
     digests: &str,
+    workers: u32,
     sink: &mut K,
     vault: &mut V,
 ) -> Status
@@ -122,7 +135,7 @@ pub(crate) fn verify<H: Hash32, K: Sink, V: Vault>(
     ensures unfailed { Unfailed result ⊤ (V.faults vault.new ≡ V.faults vault.old)
         ((K.faults sink.new ≡ K.faults sink.old) × (K.stalls sink.new ≡ K.stalls sink.old)) }
 {
-    let verdict = match judge_names(alloc, h, image, digests, vault) {
+    let verdict = match judge_names(rt, alloc, h, image, digests, workers, vault) {
         Ok(verdict) => verdict,
         Err(status) => return status,
     };

@@ -29,6 +29,8 @@ pub(crate) enum BuiltCommand<'a> {
         image: &'a str,
         /// The name of the digests that it is held against.
         digests: &'a str,
+        /// How many threads look at it, at most.
+        workers: u32,
     },
     /// Runs a journal again and saves its image.
     Replay {
@@ -65,13 +67,12 @@ fn built<'a>(command: Command<'a>) -> Option<BuiltCommand<'a>>
             image,
             digests,
             workers,
-        } => {
-            if workers == 1 {
-                Some(BuiltCommand::Verify { image, digests })
-            } else {
-                None
-            }
-        }
+        } => Some(BuiltCommand::Verify {
+            image,
+            digests,
+            // At most 16 by the words.
+            workers: workers.min(16) as u32,
+        }),
         Command::Replay { journal, save } => Some(BuiltCommand::Replay { journal, save }),
         Command::Extract {
             honest,

@@ -7,7 +7,7 @@ use crate::subcommand::Subcommand;
 /// What stands on standard error where the words were refused.
 pub const USAGE: &str = "usage: ledgerd step --save NAME [--block-size N] [--clock T] [--database D]
        ledgerd run --save NAME [--block-size N] [--clock T] [--database D]
-       ledgerd verify IMAGE DIGESTS
+       ledgerd verify IMAGE DIGESTS [--workers W]
        ledgerd extract HONEST SUSPECT DIGESTS
        ledgerd replay JOURNAL --save NAME
 `./ledgerd --help` says what each does.
@@ -65,11 +65,12 @@ Example, from the top of the repository; it puts seats.img, seats.digests and se
 ";
 
 /// Help on `verify`.
-pub const VERIFY_HELP: &str = "ledgerd verify IMAGE DIGESTS
+pub const VERIFY_HELP: &str = "ledgerd verify IMAGE DIGESTS [--workers W]
 
 Prints `Yes` where the image IMAGE and the digests DIGESTS hold together, and ends with status 0. Where they
 don't it prints `No`, the first invariant that fails and its place, and ends with status 1.
 Both names are those of files in the current folder. It puts no file.
+W is how many threads go through the tables of the image, 1 to 16; 1 where it isn't said.
 
 Example, from the top of the repository:
   (cd examples && ../ledgerd verify honest.img honest.digests)
