@@ -191,11 +191,7 @@ pub fn ledgerd<S: Source, K: Sink, V: Vault, C: Clock, G: Gate, R: Threads + Wai
             image,
             digests,
             workers,
-        } => {
-            verify(
-                rt, alloc, Sha256Hash, image, digests, workers, sink, vault,
-            )
-        }
+        } => { verify(rt, alloc, Sha256Hash, image, digests, workers, sink, vault) }
         BuiltCommand::Replay { journal, save } => {
             replay(alloc, Sha256Hash, journal, save, sink, vault)
         }
