@@ -1,5 +1,7 @@
 //! Runs of plans.
 
+ghost use Rattle.std.specs.Prelude.{◌≤◌};
+
 use crate::gates::{HoldsBoth, HoldsBuilder, HoldsInside};
 use lg_base::{FixedClock, Gate, OpenGate};
 use lg_merkle::Sha256Hash;
@@ -11,6 +13,9 @@ use std::sync::Wait;
 use std::sync::atomic::Ordering::SeqCst;
 use std::test::Fail;
 use std::thread::Threads;
+
+/// The longest input that is run here, in bytes.
+const MOST_INPUT: usize = 1_000_000;
 
 /// Two sessions on two tables.
 const TWO_TABLES: &[u8] = b"-- setup
@@ -30,7 +35,13 @@ fn run<R: Threads + Wait + AllocGlobal + Sync, G: Gate>(
     input: &[u8],
     block_size: u32,
     gate: &G,
-) -> Result<Ran, Fail> {
+) -> Result<Ran, Fail>
+    requires some { 1 ≤ block_size }
+    requires most { block_size ≤ 100000 }
+{
+    if MOST_INPUT < input.len() {
+        return Err("long")?;
+    }
     let plan = read_plan(rt.alloc(), input).ok().ok_or("form")?;
     let how = Settings {
         block_size,
@@ -86,12 +97,11 @@ INSERT INTO t VALUES (2, 2)
     let gate = HoldsBuilder::new();
     let ran = run(&rt, input, 1, &gate)?;
     assert_eq!(rt; gate.met.load(SeqCst), 2);
-    let mut closings = 0;
-    for item in ran.journal.items.as_slice() {
-        if let JournalItem::Close(1) = item {
-            closings += 1;
-        }
-    }
+    let items = ran.journal.items.as_slice();
+    let closings = items
+        .iter()
+        .filter(|item| matches!(item, JournalItem::Close(1)))
+        .count();
     assert!(rt; 2 <= closings);
     Ok(())
 }
