@@ -19,23 +19,29 @@ fn comes_to(count: &AtomicU64, least: u64) -> bool {
     false
 }
 
-/// Holds the thread that is inside one cell until a session has answered a statement.
+/// Holds the thread that is inside one cell until a session has answered a statement, and that session inside
+/// another cell until the thread is there, so that neither can be first by chance.
 #[derive(Drop)]
 pub struct HoldsInside {
     /// The cell inside of which a thread is held.
     pub cell: u32,
     /// The session whose first answer it waits for.
     pub session: u32,
+    /// The cell inside of which that session is held.
+    pub other: u32,
+    entries: AtomicU64,
     answers: AtomicU64,
     /// How often a thread was held and the answer came.
     pub met: AtomicU64,
 }
 
 impl HoldsInside {
-    pub fn new(cell: u32, session: u32) -> HoldsInside {
+    pub fn new(cell: u32, session: u32, other: u32) -> HoldsInside {
         HoldsInside {
             cell,
             session,
+            other,
+            entries: AtomicU64::new(0),
             answers: AtomicU64::new(0),
             met: AtomicU64::new(0),
         }
@@ -50,8 +56,14 @@ impl Gate for HoldsInside {
     }
 
     fn inside(&self, cell: u32) {
-        if cell == self.cell && self.answers.load(SeqCst) == 0 && comes_to(&self.answers, 1) {
-            self.met.store(1, SeqCst);
+        if cell == self.cell {
+            self.entries.store(1, SeqCst);
+            if self.answers.load(SeqCst) == 0 && comes_to(&self.answers, 1) {
+                self.met.store(1, SeqCst);
+            }
+        }
+        if cell == self.other {
+            comes_to(&self.entries, 1);
         }
     }
 }

@@ -56,10 +56,11 @@ fn run<R: Threads + Wait + AllocGlobal + Sync, G: Gate>(
     )
 }
 
-/// Alice is held inside her table's cell until bob's statement is answered, so bob commits first.
+/// Alice is held inside her table's cell until bob's statement is answered, and bob inside his table's until she is
+/// there, so bob commits first.
 #[test]
 fn one_is_answered_while_another_is_inside(rt: HostRuntime) -> Result<(), Fail> {
-    let gate = HoldsInside::new(2, 1);
+    let gate = HoldsInside::new(2, 1, 3);
     let ran = run(&rt, TWO_TABLES, 100_000, &gate)?;
     assert_eq!(rt; gate.met.load(SeqCst), 1);
     let text = ran.transcript.as_str();
