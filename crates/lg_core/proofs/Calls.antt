@@ -102,7 +102,7 @@ leaves_on (Inside stage) q l s = absurd l
 leaves_on Leaving q l s = s
 leaves_on Over q l s = absurd l
 
-still_ending : {H : Type 0} (y z : Seat H) → Finished y y → WentOn y z → MayEnd z ⊎ IsLeaving z
+pub still_ending : {H : Type 0} (y z : Seat H) → Finished y y → WentOn y z → MayEnd z ⊎ IsLeaving z
 still_ending {H} y z f w = ⊎_elim
     (λ (e : z ≡ y). subst (λ (u : Seat H). MayEnd u ⊎ IsLeaving u) (sym e) f)
     (λ (s : Stays y z). ⊎_elim (λ (e : MayEnd y). inr (ends_nowhere y.point z.point y.running e s.point)) (λ l. inr (leaves_on y.point z.point l s.point)) f) w

@@ -97,7 +97,12 @@ impl<H: Hash32> Session<H> {
     }
 
     /// Keeps an image of all cells, if there is memory for one, with the number of the journal's items.
-    pub fn keep_image(&mut self, alloc: Global, items: u64, cells: &[Cell]) -> Result<(), Memory>
+    pub(crate) fn keep_image(
+        &mut self,
+        alloc: Global,
+        items: u64,
+        cells: &[Cell],
+    ) -> Result<(), Memory>
         requires among { AmongAll H.digest self.old.seat cells.now }
         requires items { items ≡ items_in cells.now }
         ensures kept { OnOk result (Kept H.digest cells.now self.old self.new) }

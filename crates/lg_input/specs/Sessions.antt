@@ -12,6 +12,6 @@ with_session names s = if list_any (bytes_eq s.session) names then names else na
 unfoldable pub sessions_of : List Statement → List (List ℕ)
 sessions_of statements = fold with_session [] statements
 
--- as many sessions as an input has at most
+-- as many sessions as an input has at most; the setup of a plan doesn't count
 abbrev pub max_sessions : ℕ
 max_sessions = 64

@@ -9,4 +9,4 @@ mod names;
 pub use law::{sessions_law, utf8_law};
 pub use line::{InputErr, Line, before_blanks, behind_blanks, is_blank, is_skipped};
 pub use lines::{first_line, read_lines};
-pub use names::session_names;
+pub use names::{MAX_SESSIONS, session_names};

@@ -10,8 +10,8 @@ use crate::line::Line;
 use lg_items::Memory;
 use std::alloc::Global;
 
-/// As many sessions as an input has at most.
-const MAX_SESSIONS: usize = 64;
+/// As many sessions as an input has at most; the setup of a plan doesn't count.
+pub const MAX_SESSIONS: usize = 64;
 
 /// Whether two names are one.
 fn is_same(name: &str, other: &str) -> bool

@@ -25,13 +25,9 @@ use Rattle.lg_course.proofs.Told.{some_meaning}
 use Rattle.lg_kept.proofs.Closed.{digests_are_closed}
 use Rattle.lg_kept.specs.Accepted.{IsOfCut, IsAccepted, IsAcceptedIfSpelled}
 
-each_in : {A : Type 0} (P : A → Type 0) (xs : List A) (x : A) → Each P xs → In x xs → P x
+pub each_in : {A : Type 0} (P : A → Type 0) (xs : List A) (x : A) → Each P xs → In x xs → P x
 each_in P [] x h i = absurd i
 each_in P (y ∷ ys) x h i = ⊎_elim (λ (e : y ≡ x). subst P e h.0) (λ k. each_in P ys x h.1 k) i
-
-pub each_of : {A : Type 0} (P Q : A → Type 0) → ((x : A) → P x → Q x) → (xs : List A) → Each P xs → Each Q xs
-each_of P Q f [] h = tt
-each_of P Q f (x ∷ xs) h = (f x h.0, each_of P Q f xs h.1)
 
 -- what is held of a digest of this journal, at a cut in which its block is closed
 abbrev pub Held : (List ℕ → List ℕ) → Text → List JournalItem → Type 0

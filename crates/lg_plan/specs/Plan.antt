@@ -62,10 +62,6 @@ texts_of [] = []
 texts_of (Statement text ∷ more) = text ∷ texts_of more
 texts_of (_ ∷ more) = texts_of more
 
--- as many sessions as an input has at most, the setup aside
-abbrev pub max_sessions : ℕ
-max_sessions = 64
-
 -- how many sessions and statements a plan has
 abbrev pub size_of : Plan → ℕ
 size_of plan = length plan.setup + sum_by (λ s. 1 + length s.statements) plan.sessions

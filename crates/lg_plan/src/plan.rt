@@ -3,15 +3,14 @@
 ghost use Rattle.std.specs.Prelude.{◌≡◌, ◌∷◌, ◌≤◌, ℕ, List, nat_lt, true, length, codes, Ok, Err, All, IfOk};
 ghost use Rattle.std.specs.List.{IsDistinct};
 ghost use Rattle.std.specs.Str.{bytes_eq};
+ghost use Rattle.lg_input.specs.Sessions.{max_sessions};
 ghost use Rattle.lg_plan.specs.Form.{is_session_name};
-ghost use Rattle.lg_plan.specs.Plan.{plan_view, read_plan, session_names, size_of, max_sessions};
+ghost use Rattle.lg_plan.specs.Plan.{plan_view, read_plan, session_names, size_of};
 
 use crate::names::first_names;
 use crate::section::{PlanErr, Section, behind_skipped, read_session, read_setup};
+use lg_input::MAX_SESSIONS;
 use std::alloc::Global;
-
-/// As many sessions as an input has at most, the setup aside.
-const MAX_SESSIONS: usize = 64;
 
 /// What is run: the statements of the setup, none where there is no setup, and the sessions by their order in
 /// the input, of whose names none stands twice and none is `setup`.

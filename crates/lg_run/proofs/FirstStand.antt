@@ -2,7 +2,9 @@
 use Rattle.std.proofs.Common.{◌≡◌, ◌≤◌, ℕ, zero, suc, List, [], ◌∷◌, length, map, refl, sym, ap, subst, ◌∙◌}
 use mathlib.Core.Option.{some}
 use lib.ListN.{get_elem?}
-use Rattle.lg_core.specs.FirstCells.{all_empty, empty_kept, first_kept}
+use Rattle.lg_core.specs.FirstCells.{first_kept}
+use Rattle.lg_core.specs.Standing.{cells_seen}
+use Rattle.lg_core.proofs.FirstCells.{first_keep, first_same}
 use Rattle.lg_history.specs.Lists.{Text, Each}
 use Rattle.lg_model.specs.Limits.{max_block}
 use Rattle.lg_seat.specs.KeptCell.{KeptCell, Keeps}
@@ -13,25 +15,6 @@ use Rattle.lg_standing.specs.StandTogether.{Stands, StandTogether}
 use Rattle.lg_standing.proofs.Beginning.{begins, none_asked, none_wanted}
 use Rattle.lg_world.specs.Laws.{one_ledger}
 use Rattle.lg_world.specs.Served.{IsOf, Served, StandsOn}
-
-abbrev cells_seen : List KeptCell → List Cell
-cells_seen cells = map (λ (k : KeptCell). k.cell) cells
-
-empty_same : (n id : ℕ) → cells_seen (all_empty n id) ≡ empty_cells n id
-empty_same zero id = refl
-empty_same (suc n) id = ap (λ (cs : List Cell). (empty_kept id).cell ∷ cs) (empty_same n (suc id))
-
--- they are those of the laws
-first_same : (database : Text) (size : ℕ) → cells_seen (first_kept database size) ≡ first_cells database size
-first_same database size = ap (λ (cs : List Cell). Catalog first_catalog ∷ Ledger (first_ledger database size) ∷ cs) (empty_same 32 3)
-
-empty_keep : (h : List ℕ → List ℕ) (n id : ℕ) → Each (Keeps h) (all_empty n id)
-empty_keep h zero id = tt
-empty_keep h (suc n) id = (tt, empty_keep h n (suc id))
-
--- the ledger's cell keeps the hash of no block
-first_keep : (h : List ℕ → List ℕ) (database : Text) (size : ℕ) → Each (Keeps h) (first_kept database size)
-first_keep h database size = (tt, (refl, empty_keep h 32 3))
 
 module _ (d : Served) (database : Text) (size : ℕ) (some_size : 1 ≤ size) (most_size : size ≤ max_block) where
   stands : Stands d.server [] (first_cells database size) (first_seat (first_cells database size) ∷ [])

@@ -22,9 +22,10 @@ use Rattle.lg_seat.specs.declared.stage.Point.TheVariants.{Between, Inside, Leav
 use Rattle.lg_seat.specs.declared.stage.Stage.TheVariants.{Begun, Drawing, Committing, RollingBack, Issuing, Keeping, Looking, Found as FoundIt, Made, LacksIndex, GoingBack, Replied, GivingBack, Answering as Answered_}
 use Rattle.lg_core.specs.Written.{Answered}
 use Rattle.lg_core.specs.declared.session.Session as core
+use Rattle.lg_core.proofs.Deeds.{one_session}
 use Rattle.lg_run.specs.Seated.{known_by, known_in, all_known, says_in, texts_in, under_way, IsAhead, IsIdle, IsSeated, IsTimed}
 use Rattle.lg_run.specs.declared.worker.Job.{Job}
-use Rattle.lg_run.proofs.Seating.{at, none_between, none_leaving, one_session, seated, seated_on, statements_more}
+use Rattle.lg_run.proofs.Seating.{at, none_between, none_leaving, seated, seated_on, statements_more}
 use Rattle.lg_run.proofs.StepsAhead.{steps_both}
 
 -- ---- points

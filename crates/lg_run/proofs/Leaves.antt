@@ -17,6 +17,7 @@ use Rattle.lg_model.specs.Script.{Reading}
 use Rattle.lg_history.specs.Inputs.{InputSession}
 use Rattle.lg_history.specs.Lists.{Text, Each, In}
 use Rattle.lg_history.specs.Transcripts.{Entry, Transcript}
+use Rattle.lg_history.proofs.Trace.{each_weaker}
 use Rattle.lg_image.specs.Image.{image_of, image_of_cut}
 use Rattle.lg_image.specs.ImageBytes.{image_bytes}
 use Rattle.lg_images.specs.Room.{HasRoom}
@@ -46,10 +47,13 @@ use Rattle.lg_step.specs.Images.{AreKept, with_each}
 use Rattle.lg_step.specs.Moments.{IsMoment}
 use Rattle.lg_step.specs.Woven.{joined, joined_each}
 use Rattle.lg_step.specs.declared.running.Ran.{Ran}
+use Rattle.lg_step.proofs.Comes.{moment_is, names_apart}
 use Rattle.lg_step.proofs.Kept.{are_kept}
 use Rattle.lg_step.proofs.Made.{have_moments}
+use Rattle.lg_step.proofs.Named.{each_from_all}
+use Rattle.lg_kept.specs.LastImage.{last_image_bytes}
 use Rattle.lg_together.specs.CameTo as together
-use Rattle.lg_together.specs.CameTo.{Left, last_image_bytes}
+use Rattle.lg_together.specs.CameTo.{Left}
 use Rattle.lg_together.specs.Threads.{HasJoined}
 use Rattle.lg_run.specs.CameTo.{IsOf, input_of, session_of, transcripts_text}
 use Rattle.lg_run.specs.Finished.{HasFinished, setup_name}
@@ -59,31 +63,6 @@ use Rattle.lg_run.specs.Wrote.{AreWritten, IsWritten}
 use Rattle.lg_run.specs.declared.whole.Finished.{Finished}
 use Rattle.lg_run.specs.declared.worker.SessionEnd.{SessionEnd}
 use Rattle.lg_run.proofs.Named.{setup_named}
-
--- ---- names and moments
-
-apart_from : (name : Text) (names : List Text) → AllByRecursion (λ other. bytes_eq name other ≡ false) names → Each (λ other. name ≢ other) names
-apart_from name [] all = tt
-apart_from name (n ∷ names) all = ((λ same. true≢false (sym ((bytes_eq-Decides name n).1 same) ∙ all.0)), apart_from name names all.1)
-
-names_apart : (names : List Text) → IsDistinct bytes_eq names → NamesApart names
-unfolding IsDistinct
-names_apart [] distinct = tt
-names_apart (n ∷ names) distinct = (apart_from n names distinct.0, names_apart names distinct.1)
-
-is_within : (said : ℕ) → is_moment (min said MAX_TICKS) ≡ true
-is_within said = grind (arith, nat_tests)
-
-moment_is : (says : ℕ → Type 0) (at : ℕ) → IsMoment says at → is_moment at ≡ true
-moment_is says at m = subst (λ n. is_moment n ≡ true) (sym m.2) (is_within m.0)
-
-each_from_all : {A : Type 0} (P : A → Type 0) (xs : List A) → All P xs → Each P xs
-each_from_all P [] all = tt
-each_from_all P (x ∷ xs) all = (all 0 x (omega arith), each_from_all P xs (λ k d less. all (suc k) d (omega (arith, less))))
-
-weaker : {A : Type 0} (P Q : A → Type 0) → ((a : A) → P a → Q a) → (xs : List A) → Each P xs → Each Q xs
-weaker P Q f [] e = tt
-weaker P Q f (x ∷ xs) e = (f x e.0, weaker P Q f xs e.1)
 
 -- ---- what sessions wrote
 
@@ -241,7 +220,12 @@ module _ (h : List ℕ → List ℕ) (sized : (bytes : List ℕ) → length (h b
     bytes_at items = image_bytes (image_of_cut h statement_of database r.journal.items items)
 
     each_has : (kept : List (List KeptImage)) → Each (λ ks. Each (IsImageOf h statement_of database r.journal.items) ks) kept → Each (λ ks. Each (λ k. k.1 ≡ bytes_at k.0) ks) kept
-    each_has = weaker (λ ks. Each (IsImageOf h statement_of database r.journal.items) ks) (λ ks. Each (λ k. k.1 ≡ bytes_at k.0) ks) (λ ks. weaker (IsImageOf h statement_of database r.journal.items) (λ k. k.1 ≡ bytes_at k.0) (λ k is. is.bytes) ks)
+    each_has = each_weaker (λ ks. Each (IsImageOf h statement_of database r.journal.items) ks) (λ ks. Each (λ k. k.1 ≡ bytes_at k.0) ks) (λ ks. each_weaker (IsImageOf h statement_of database r.journal.items) (λ k. k.1 ≡ bytes_at k.0) (λ k is. is.bytes) ks)
+
+    journal_room : HasRoom h statement_of r.journal.database r.journal.items
+    unfolding cells_stand
+    journal_room = subst (λ (J : Journal). HasRoom h statement_of J.database J.items) (sym the_journal)
+        (subst (λ (k : LedgerCell). HasRoom h statement_of k.database k.items) same_ledger (saved.room cells_stand st.catalog st.ledger st.are_cells))
 
     pub is_of : together.CameTo h database size (IsMoment says) (input_of (plan_view plan)) (left_of r) → IsJournal r.journal → IsOf h (left_of r) r
     is_of came spelled = record {
@@ -251,6 +235,7 @@ module _ (h : List ℕ → List ℕ) (sized : (bytes : List ℕ) → length (h b
       journal = refl;
       digests = refl;
       journal_is_spelled = spelled;
+      has_room = journal_room;
       digests_have_moments = let m = some_meaning h statement_of in
           have_moments m.0 database r.journal.items says r.digests came.times came.made (came.agree m.0 m.1).digests_are_the_journals.each;
     }

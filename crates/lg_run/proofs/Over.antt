@@ -17,11 +17,12 @@ use Rattle.lg_seat.specs.declared.stage.Point.{Point}
 use Rattle.lg_seat.specs.declared.stage.Point.TheVariants.{Between, Inside, Leaving, Over}
 use Rattle.lg_core.specs.Written.{Left}
 use Rattle.lg_core.specs.declared.session.Session as core
+use Rattle.lg_core.proofs.Deeds.{one_session}
 use Rattle.lg_run.specs.Seated.{known_by, says_in, texts_in, under_way, IsAhead, IsSeated}
 use Rattle.lg_run.specs.Wrote.{HasLeft, IsWritten, left_of}
 use Rattle.lg_run.specs.declared.worker.Job.{Job}
 use Rattle.lg_run.proofs.Going.{all_answered}
-use Rattle.lg_run.proofs.Seating.{at, one_session, statements_more, texts_more}
+use Rattle.lg_run.proofs.Seating.{at, statements_more, texts_more}
 
 none_at_end : {H : Type 0} (p : Point) (r : Option (Running H)) (text : Text) → MayEndAt p r → under_way p text ≡ []
 none_at_end Between r text m = refl

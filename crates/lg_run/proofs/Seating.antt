@@ -18,6 +18,7 @@ use Rattle.lg_seat.specs.declared.seat.Seat.{Seat}
 use Rattle.lg_seat.specs.declared.stage.Point.{Point}
 use Rattle.lg_seat.specs.declared.stage.Point.TheVariants.{Between, Inside, Leaving, Over}
 use Rattle.lg_core.specs.declared.session.Session as core
+use Rattle.lg_core.proofs.Deeds.{one_session}
 use Rattle.lg_run.specs.Seated.{all_known, known_by, known_in, says_in, texts_in, under_way, IsTimed, IsSeated, IsAhead, StillKnows}
 use Rattle.lg_run.specs.declared.worker.Job.{Job}
 use Rattle.lg_run.specs.declared.worker.Worker.{Worker}
@@ -41,15 +42,6 @@ take_next (x ∷ ts) (suc n) d l = ap (λ (us : List Text). x.now ∷ us) (take_
 -- one statement more is taken up
 pub take_more : (ts : List (Bor Text)) (n : ℕ) (d : Bor Text) → n < length ts → take (n + 1) (texts_in ts) ≡ take n (texts_in ts) ++ (slice_index_or ts n d).now ∷ []
 take_more ts n d l = ap (λ (k : ℕ). take k (texts_in ts)) (let q : n + 1 ≡ suc n = omega arith in q) ∙ take_next ts n d l
-
--- ---- roles
-
-abbrev role_seen : Role → List Session
-role_seen (session x) = x ∷ []
-role_seen _ = []
-
-pub one_session : (r : Role) (x y : Session) → r ≡ session x → r ≡ session y → x ≡ y
-one_session r x y a b = let e : x ∷ [] ≡ y ∷ [] = ap role_seen (sym a ∙ b) in cc
 
 -- ---- points
 

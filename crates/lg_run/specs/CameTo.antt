@@ -6,13 +6,16 @@ use Rattle.lg_history.specs.Inputs.{InputSession}
 use Rattle.lg_history.specs.Lists.{Text}
 use Rattle.lg_history.specs.Transcripts.{Transcript}
 use Rattle.lg_journal.specs.Rules.{IsJournal}
+use Rattle.lg_images.specs.Room.{HasRoom}
+use Rattle.lg_kept.specs.LastImage.{last_image_bytes}
+use Rattle.lg_parse.specs.Text.{statement_of}
 use Rattle.lg_plan.specs.Plan.{Plan, Section}
 use Rattle.lg_standing.specs.Seats.{KeptImage}
 use Rattle.lg_step.specs.Images.{AreKept}
 use Rattle.lg_step.specs.Moments.{IsMoment}
 use Rattle.lg_step.specs.declared.running.Ran.{Ran}
 use Rattle.lg_together.specs.CameTo as together
-use Rattle.lg_together.specs.CameTo.{Left, last_image_bytes}
+use Rattle.lg_together.specs.CameTo.{Left}
 use Rattle.lg_transcript.specs.TranscriptText.{transcript_text}
 use Rattle.lg_run.specs.Finished.{setup_name}
 
@@ -42,4 +45,6 @@ pub record IsOf (h : List ℕ → List ℕ) (left : Left) (r : Ran) : Type 0 whe
   pub journal : r.journal ≡ left.J
   pub digests : r.digests ≡ left.G
   pub journal_is_spelled : IsJournal r.journal
+  -- the image has room in its format, so that it has a spelling
+  pub has_room : HasRoom h statement_of left.J.database left.J.items
   pub digests_have_moments : AllByRecursion HasMoments r.digests

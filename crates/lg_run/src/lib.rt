@@ -14,5 +14,3 @@ mod whole;
 mod worker;
 
 pub use running::run_all;
-pub use shared::{Cells, Place};
-pub use worker::{Job, SessionEnd, Worker};

@@ -5,10 +5,10 @@ use lg_seat::Cell;
 use lg_world::LedgerWorld;
 
 /// The board of all cells.
-pub type Cells<K> = Board<LedgerWorld<K, Cell>>;
+pub(crate) type Cells<K> = Board<LedgerWorld<K, Cell>>;
 
 /// A thread's seat at this board.
-pub type Place<K> = BoardSeat<LedgerWorld<K, Cell>>;
+pub(crate) type Place<K> = BoardSeat<LedgerWorld<K, Cell>>;
 
 /// The number of the ledger's cell.
 pub(crate) const LEDGER: usize = 1;

@@ -24,7 +24,7 @@ use std::alloc::Global;
 
 /// What a session is to run, and how.
 #[derive(Drop)]
-pub struct Job<'a, H: Hash32, C: Clock> {
+pub(crate) struct Job<'a, H: Hash32, C: Clock> {
     pub hasher: H,
     /// The name of the session.
     pub name: &'a str,
@@ -36,7 +36,7 @@ pub struct Job<'a, H: Hash32, C: Clock> {
 
 /// A session, and how far it is.
 #[derive(Drop)]
-pub struct Worker<'a, H: Hash32, C: Clock> {
+pub(crate) struct Worker<'a, H: Hash32, C: Clock> {
     pub job: Job<'a, H, C>,
     pub session: Session<H>,
     /// So many of its statements were taken up.
@@ -47,7 +47,7 @@ pub struct Worker<'a, H: Hash32, C: Clock> {
 
 /// What the thread of a session has of it at the end.
 #[derive(Drop)]
-pub struct SessionEnd {
+pub(crate) struct SessionEnd {
     /// The texts of the entries of its transcript.
     pub entries: Items<Text>,
     /// The images that it kept, in this order: the number of the journal's items, and the bytes.

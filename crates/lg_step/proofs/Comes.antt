@@ -18,6 +18,7 @@ use Rattle.lg_history.specs.Inputs.{InputLine, sessions_in}
 use Rattle.lg_history.specs.Journals as journals
 use Rattle.lg_history.specs.Lists.{Text, Each, In}
 use Rattle.lg_history.specs.Transcripts.{Transcript}
+use Rattle.lg_history.proofs.Trace.{each_weaker}
 use Rattle.lg_image.specs.Image.{image_of, image_of_cut}
 use Rattle.lg_image.specs.ImageBytes.{image_bytes}
 use Rattle.lg_images.specs.Room.{HasRoom}
@@ -35,7 +36,9 @@ use Rattle.lg_course.specs.Told.{HasEnded, IsMeaning, IsImageOf, RunAgrees}
 use Rattle.lg_course.proofs.Told.{some_meaning}
 use Rattle.lg_kept.specs.Accepted.{IsAccepted}
 use Rattle.lg_core.specs.declared.parts.Parts.{Parts}
-use Rattle.lg_step.specs.Came.{Run, CameTo, last_image, last_image_bytes}
+use Rattle.lg_kept.specs.LastImage.{last_image, last_image_bytes}
+use Rattle.lg_kept.proofs.Accepts.{each_in}
+use Rattle.lg_step.specs.Came.{Run, CameTo}
 use Rattle.lg_step.specs.Images.{AreKept, with_each}
 use Rattle.lg_step.specs.Lines.{lines_of}
 use Rattle.lg_step.specs.Moments.{IsMoment}
@@ -45,6 +48,7 @@ use Rattle.lg_step.specs.Woven.{woven}
 use Rattle.lg_step.specs.Written.{AreWritten}
 use Rattle.lg_step.proofs.Kept.{are_kept, each_of_all}
 use Rattle.lg_step.proofs.Named.{each_from_all}
+use Rattle.lg_step.proofs.Steps.{push}
 use Rattle.lg_step.proofs.OneList.{are_written}
 
 -- ---- the laws that are used
@@ -93,7 +97,7 @@ apart_from : (name : Text) (names : List Text) → AllByRecursion (λ other. byt
 apart_from name [] all = tt
 apart_from name (n ∷ names) all = ((λ same. true≢false (sym ((bytes_eq-Decides name n).1 same) ∙ all.0)), apart_from name names all.1)
 
-names_apart : (names : List Text) → IsDistinct bytes_eq names → NamesApart names
+pub names_apart : (names : List Text) → IsDistinct bytes_eq names → NamesApart names
 unfolding IsDistinct
 names_apart [] distinct = tt
 names_apart (n ∷ names) distinct = (apart_from n names distinct.0, names_apart names distinct.1)
@@ -101,20 +105,8 @@ names_apart (n ∷ names) distinct = (apart_from n names distinct.0, names_apart
 is_within : (said : ℕ) → is_moment (min said MAX_TICKS) ≡ true
 is_within said = grind (arith, nat_tests)
 
-moment_is : (says : ℕ → Type 0) (at : ℕ) → IsMoment says at → is_moment at ≡ true
+pub moment_is : (says : ℕ → Type 0) (at : ℕ) → IsMoment says at → is_moment at ≡ true
 moment_is says at m = subst (λ n. is_moment n ≡ true) (sym m.2) (is_within m.0)
-
-each_in : {A : Type 0} (P : A → Type 0) (xs : List A) (x : A) → Each P xs → In x xs → P x
-each_in P [] x h i = absurd i
-each_in P (y ∷ ys) x h i = ⊎_elim (λ (e : y ≡ x). subst P e h.0) (λ k. each_in P ys x h.1 k) i
-
-weaker : {A : Type 0} (P Q : A → Type 0) → ((a : A) → P a → Q a) → (xs : List A) → Each P xs → Each Q xs
-weaker P Q f [] e = tt
-weaker P Q f (x ∷ xs) e = (f x e.0, weaker P Q f xs e.1)
-
-push : {A : Type 0} (P : A → Type 0) (xs : List A) (x : A) → Each P xs → P x → Each P (xs ++ x ∷ [])
-push P [] x e p = (p, tt)
-push P (y ∷ ys) x e p = (e.0, push P ys x e.1 p)
 
 -- ---- lines
 
@@ -157,7 +149,7 @@ module _ {H : Type 0} (agree : CoursesAgree) (legal : JournalsAreLegal) (theirs 
     is_legal : IsLegalJournal statement_of (record { database = database; items = J })
     is_legal = subst (λ (reads : Reading). IsLegalJournal reads (record { database = database; items = J })) serves.reading
         (legal v database size names (lines_of statements) x.times X images J p.digests (x.left.ended v serves) x.left.names x.database_is_named x.sessions_are_named
-        (weaker (IsMoment says) (λ time. is_moment time ≡ true) (moment_is says) x.times x.moments))
+        (each_weaker (IsMoment says) (λ time. is_moment time ≡ true) (moment_is says) x.times x.moments))
 
     the_journal : record { database = database; items = J } ≡ p.journal
     the_journal = ap (λ (d : Text). journal_of d J) (sym x.left.database)
@@ -180,8 +172,8 @@ module _ {H : Type 0} (agree : CoursesAgree) (legal : JournalsAreLegal) (theirs 
     bytes items = image_bytes (image_of_cut h statement_of database J items)
 
     each_has : Each (λ ks. Each (λ k. k.1 ≡ bytes k.0) ks) images
-    each_has = weaker (λ ks. Each (IsImageOf h statement_of database J) ks) (λ ks. Each (λ k. k.1 ≡ bytes k.0) ks)
-        (λ ks. weaker (IsImageOf h statement_of database J) (λ k. k.1 ≡ bytes k.0) (λ k is. is.bytes) ks) images (they_agree).are_images
+    each_has = each_weaker (λ ks. Each (IsImageOf h statement_of database J) ks) (λ ks. Each (λ k. k.1 ≡ bytes k.0) ks)
+        (λ ks. each_weaker (IsImageOf h statement_of database J) (λ k. k.1 ≡ bytes k.0) (λ k is. is.bytes) ks) images (they_agree).are_images
 
     last_accepted : IsAccepted h database J p.digests (last_image h p.journal)
     last_accepted = subst (λ (j : Journal). IsAccepted h database J p.digests (length J, image_bytes (image_of h statement_of j.database J))) the_journal
@@ -196,8 +188,8 @@ module _ {H : Type 0} (agree : CoursesAgree) (legal : JournalsAreLegal) (theirs 
       agrees = they_agree;
       legal = subst (λ (j : Journal). IsLegalJournal statement_of j) the_journal is_legal;
       of_database = x.left.database;
-      times = weaker (λ time. In time x.times) (IsMoment says) (λ time i. each_in (IsMoment says) x.times time x.moments i) (journals.times J) (in_time).0;
-      made = weaker (λ (d : Digest). In d.made x.times) (λ d. IsMoment says d.made) (λ d i. each_in (IsMoment says) x.times d.made x.moments i) p.digests (in_time).1;
+      times = each_weaker (λ time. In time x.times) (IsMoment says) (λ time i. each_in (IsMoment says) x.times time x.moments i) (journals.times J) (in_time).0;
+      made = each_weaker (λ (d : Digest). In d.made x.times) (λ d. IsMoment says d.made) (λ d i. each_in (IsMoment says) x.times d.made x.moments i) p.digests (in_time).1;
       written = are_written_so;
       saved = are_kept bytes images each_has;
       accepted = push (IsAccepted h database J p.digests) (with_each images) (last_image h p.journal)

@@ -4,6 +4,7 @@ use Rattle.std.specs.Prelude.{◌⊎◌, if◌then◌else◌, nat_lt, slice_get}
 use Rattle.std.specs.List.{fold, insert, prefix_len}
 use Rattle.std.proofs.lemmas.Bool.Decides.{nat_tests}
 use Rattle.lg_history.specs.Lists.{Text, Each, Some_of, In}
+use Rattle.lg_history.proofs.Trace.{each_weaker}
 use Rattle.lg_standing.specs.Seats.{KeptImage}
 use Rattle.lg_step.specs.Images.{ItemsRise, AreKept, has_items, place_for, with_image, with_images, with_each}
 
@@ -88,10 +89,6 @@ stays_all : (x : KeptImage) (images : List KeptImage) (kept : List (List KeptIma
 stays_all x images [] i = i
 stays_all x images (ks ∷ kept) i = stays_all x (with_images images ks) kept (stays_some x images ks i)
 
-weaker : {A : Type 0} (P Q : A → Type 0) → ((a : A) → P a → Q a) → (xs : List A) → Each P xs → Each Q xs
-weaker P Q f [] e = tt
-weaker P Q f (x ∷ xs) e = (f x e.0, weaker P Q f xs e.1)
-
 -- their bytes are those of the image of so many items
 module _ (bytes : ℕ → Text) where
   abbrev Has : KeptImage → Type 0
@@ -115,7 +112,7 @@ module _ (bytes : ℕ → Text) where
   all_come_in : (images : List KeptImage) (kept : List (List KeptImage)) → Each Has images → Each (λ ks. Each Has ks) kept → Each (λ ks. Each (λ k. In k (fold with_images images kept)) ks) kept
   all_come_in images [] e m = tt
   all_come_in images (ks ∷ kept) e m = (
-    weaker (λ k. In k (with_images images ks)) (λ k. In k (fold with_images images (ks ∷ kept))) (λ k i. stays_all k (with_images images ks) kept i) ks (come_in images ks e m.0),
+    each_weaker (λ k. In k (with_images images ks)) (λ k. In k (fold with_images images (ks ∷ kept))) (λ k i. stays_all k (with_images images ks) kept i) ks (come_in images ks e m.0),
     all_come_in (with_images images ks) kept (with_some Has images ks e m.0) m.1,
   )
 
@@ -123,7 +120,7 @@ module _ (bytes : ℕ → Text) where
 
   self : (ks : List KeptImage) → Each (λ k. In k ks) ks
   self [] = tt
-  self (k ∷ ks) = (inl refl, weaker (λ x. In x ks) (λ x. In x (k ∷ ks)) (λ x i. inr i) ks (self ks))
+  self (k ∷ ks) = (inl refl, each_weaker (λ x. In x ks) (λ x. In x (k ∷ ks)) (λ x i. inr i) ks (self ks))
 
   abbrev IsOfOne : List (List KeptImage) → KeptImage → Type 0
   IsOfOne kept k = Some_of (λ ks. In k ks) kept
@@ -131,8 +128,8 @@ module _ (bytes : ℕ → Text) where
   each_of_one : (kept : List (List KeptImage)) → Each (λ ks. Each (IsOfOne kept) ks) kept
   each_of_one [] = tt
   each_of_one (ks ∷ kept) = (
-    weaker (λ k. In k ks) (IsOfOne (ks ∷ kept)) (λ k i. inl i) ks (self ks),
-    weaker (λ l. Each (IsOfOne kept) l) (λ l. Each (IsOfOne (ks ∷ kept)) l) (λ l. weaker (IsOfOne kept) (IsOfOne (ks ∷ kept)) (λ k i. inr i) l) kept (each_of_one kept),
+    each_weaker (λ k. In k ks) (IsOfOne (ks ∷ kept)) (λ k i. inl i) ks (self ks),
+    each_weaker (λ l. Each (IsOfOne kept) l) (λ l. Each (IsOfOne (ks ∷ kept)) l) (λ l. each_weaker (IsOfOne kept) (IsOfOne (ks ∷ kept)) (λ k i. inr i) l) kept (each_of_one kept),
   )
 
   pub are_kept : (kept : List (List KeptImage)) → Each (λ ks. Each Has ks) kept → AreKept kept (with_each kept)

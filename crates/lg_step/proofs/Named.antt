@@ -5,6 +5,7 @@ use Rattle.std.specs.Str.{bytes_eq}
 use Rattle.std.proofs.lemmas.Slice.Eq.{bytes_eq-Decides}
 use Rattle.lg_items.specs.SessionName.{is_session_name}
 use Rattle.lg_history.specs.Lists.{Each}
+use Rattle.lg_history.proofs.Trace.{each_weaker}
 use Rattle.lg_input.specs.Line.{Statement, seen}
 use Rattle.lg_input.specs.Sessions.{sessions_of}
 use Rattle.lg_input.specs.declared.line.Line.{Line}
@@ -30,10 +31,6 @@ each_behind : {A B : Type 0} (f : A → B) (P : B → Type 0) (xs : List A) → 
 each_behind f P [] e = tt
 each_behind f P (x ∷ xs) e = (e.0, each_behind f P xs e.1)
 
-weaker : {A : Type 0} (P Q : A → Type 0) → ((a : A) → P a → Q a) → (xs : List A) → Each P xs → Each Q xs
-weaker P Q f [] e = tt
-weaker P Q f (x ∷ xs) e = (f x e.0, weaker P Q f xs e.1)
-
 -- ---- forms
 
 abbrev IsNamed : List ℕ → Type 0
@@ -56,7 +53,7 @@ pub sessions_formed : (lines : List Line) → All (λ l. is_session_name l.sessi
 sessions_formed lines formed of_lines =
     let ss = map seen lines in
     let each : Each (λ s. IsNamed s.session) ss = each_shown seen (λ s. IsNamed s.session) lines (each_from_all (λ l. is_session_name l.session.now ≡ true) lines formed) in
-    weaker (λ name. list_any (λ s. bytes_eq name s.session) ss ≡ true) IsNamed (formed_by ss each) (sessions_of ss)
+    each_weaker (λ name. list_any (λ s. bytes_eq name s.session) ss ≡ true) IsNamed (formed_by ss each) (sessions_of ss)
     (each_from_all (λ name. list_any (λ s. bytes_eq name s.session) ss ≡ true) (sessions_of ss) of_lines)
 
 pub borrowed_formed : (sessions : List (Bor (List ℕ))) (names : List (List ℕ)) → map (λ n. n.now) sessions ≡ names → Each (λ name. is_session_name name ≡ true) names

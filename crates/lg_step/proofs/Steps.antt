@@ -46,7 +46,7 @@ more_asked : (database : Text) (size : ℕ) (names : List Text) (before : List S
 more_asked database size names before s times time =
     ap (asked_lines database size names (times ++ time ∷ [])) (sym (map_push one_line before s))
 
-push : {A : Type 0} (P : A → Type 0) (xs : List A) (x : A) → Each P xs → P x → Each P (xs ++ x ∷ [])
+pub push : {A : Type 0} (P : A → Type 0) (xs : List A) (x : A) → Each P xs → P x → Each P (xs ++ x ∷ [])
 push P [] x e p = (p, tt)
 push P (y ∷ ys) x e p = (e.0, push P ys x e.1 p)
 

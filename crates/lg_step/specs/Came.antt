@@ -7,8 +7,6 @@ use Rattle.lg_history.specs.Journals.{times}
 use Rattle.lg_history.specs.Lists.{Text, Each}
 use Rattle.lg_history.specs.StepOrder.{Row}
 use Rattle.lg_history.specs.Transcripts.{Transcript}
-use Rattle.lg_image.specs.Image.{image_of}
-use Rattle.lg_image.specs.ImageBytes.{image_bytes}
 use Rattle.lg_parse.specs.Text.{statement_of}
 use Rattle.lg_verdict.specs.declared.place.Verdict.TheVariants.{Yes}
 use Rattle.lg_verdict.specs.Bytes.{verdict_of}
@@ -18,6 +16,7 @@ use Rattle.lg_input.specs.Sessions.{sessions_of}
 use Rattle.lg_standing.specs.Seats.{KeptImage}
 use Rattle.lg_course.specs.Told.{RunAgrees}
 use Rattle.lg_kept.specs.Accepted.{IsAccepted}
+use Rattle.lg_kept.specs.LastImage.{last_image, last_image_bytes}
 use Rattle.lg_step.specs.Images.{AreKept}
 use Rattle.lg_step.specs.Lines.{lines_of}
 use Rattle.lg_step.specs.Moments.{IsMoment}
@@ -32,14 +31,6 @@ pub record Run : Type 0 where
   pub images : List KeptImage
   pub J : Journal
   pub G : List Digest
-
--- the bytes of the image to which a journal leads
-abbrev pub last_image_bytes : (List ℕ → List ℕ) → Journal → List ℕ
-last_image_bytes h J = image_bytes (image_of h statement_of J.database J.items)
-
--- that of all its items
-abbrev pub last_image : (List ℕ → List ℕ) → Journal → KeptImage
-last_image h J = (length J.items, last_image_bytes h J)
 
 -- It is that of a run of these statements in their order, each at a moment that is said, on a server of this
 -- database whose blocks have at most so many transactions.

@@ -11,7 +11,8 @@ use Rattle.lg_input.specs.Line.{Statement}
 use Rattle.lg_input.specs.Sessions.{sessions_of}
 use Rattle.lg_core.specs.Parts.{HasLeft}
 use Rattle.lg_core.specs.declared.parts.Parts.{Parts}
-use Rattle.lg_step.specs.Came.{Run, last_image_bytes}
+use Rattle.lg_kept.specs.LastImage.{last_image_bytes}
+use Rattle.lg_step.specs.Came.{Run}
 use Rattle.lg_step.specs.Images.{with_each}
 use Rattle.lg_step.specs.Moments.{IsMoment}
 use Rattle.lg_step.specs.Numbers.{numbers_of}

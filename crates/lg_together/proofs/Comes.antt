@@ -43,7 +43,8 @@ use Rattle.lg_course.specs.Wrote.{transcripts_in}
 use Rattle.lg_kept.specs.Accepted.{IsAccepted, IsOfCut}
 use Rattle.lg_joined.specs.Joined.{IsJoined, KnewThatOver}
 use Rattle.lg_joined.specs.Together.{AreFormed, IsMomentOf, RanTogether, names_in}
-use Rattle.lg_together.specs.CameTo.{CameTo, Left, last_image}
+use Rattle.lg_kept.specs.LastImage.{last_image}
+use Rattle.lg_together.specs.CameTo.{CameTo, Left}
 use Rattle.lg_together.specs.Threads.{HasJoined}
 use Rattle.lg_together.proofs.Images.{all_images, all_shown, whole_image}
 use Rattle.lg_together.proofs.Sessions.{are_named, is_said, names_are}

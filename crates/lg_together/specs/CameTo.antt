@@ -10,8 +10,6 @@ use Rattle.lg_history.specs.Journals.{times}
 use Rattle.lg_history.specs.Lists.{Text, Each}
 use Rattle.lg_history.specs.Meaning.{Meaning}
 use Rattle.lg_history.specs.Transcripts.{Transcript}
-use Rattle.lg_image.specs.Image.{image_of}
-use Rattle.lg_image.specs.ImageBytes.{image_bytes}
 use Rattle.lg_parse.specs.Text.{statement_of}
 use Rattle.lg_verdict.specs.declared.place.Verdict.TheVariants.{Yes}
 use Rattle.lg_verdict.specs.Bytes.{verdict_of}
@@ -21,6 +19,7 @@ use Rattle.lg_standing.specs.LedgerIsLegal.{FitsBlock}
 use Rattle.lg_standing.specs.Seats.{KeptImage}
 use Rattle.lg_course.specs.Told.{IsImageOf, IsMeaning}
 use Rattle.lg_kept.specs.Accepted.{IsAccepted}
+use Rattle.lg_kept.specs.LastImage.{last_image, last_image_bytes}
 
 -- What is left of a run: of `setup`, and then of each session in the order of the plan, its transcript and
 -- the images that it kept; the journal; and the digests.
@@ -29,14 +28,6 @@ pub record Left : Type 0 where
   pub kept : List (List KeptImage)
   pub J : Journal
   pub G : List Digest
-
--- the bytes of the image to which a journal leads
-abbrev pub last_image_bytes : (List ℕ → List ℕ) → Journal → List ℕ
-last_image_bytes h J = image_bytes (image_of h statement_of J.database J.items)
-
--- that of all its items
-abbrev pub last_image : (List ℕ → List ℕ) → Journal → KeptImage
-last_image h J = (length J.items, last_image_bytes h J)
 
 -- However the turns of sessions and builder fell, it is that of a run of this input, on a server of this
 -- database whose blocks take at most so many transactions, each commit and digest at a moment that is such.

@@ -30,5 +30,5 @@ mod workers;
 pub use groups::{Fault, GroupFaults, group_faults, root_fault_is_merged, roots_of_groups_merge};
 pub use lg_types::HeldDigest;
 pub use lg_verdict::{Invariant, Place, Verdict};
-pub use verdict::{verify, verify_image};
-pub use workers::{verify_image_with_workers, verify_with_workers};
+pub use verdict::verify_image;
+pub use workers::{verify, verify_image_with_workers};

@@ -1,8 +1,7 @@
-//! The verdict on bytes, and on the image that they are.
+//! The verdict on an image.
 
 ghost use Rattle.std.specs.Prelude.{◌≡◌, IfOk};
 ghost use Rattle.lg_image.specs.ImageBytes.{IsImage};
-ghost use Rattle.lg_verdict.specs.Bytes.{verdict_of};
 ghost use Rattle.lg_verdict.specs.Verdict.{image_verdict};
 ghost use Rattle.lg_verify.specs.Verdict.{blocks_tried, tables_tried};
 
@@ -14,30 +13,13 @@ use crate::roots::root_fault;
 use crate::shown::shown_tables;
 use crate::spelling::definition_fault;
 use crate::versions::version_fault;
-use lg_image::{Image, read_image};
+use lg_image::Image;
 use lg_items::Memory;
 use lg_merkle::Hash32;
 use lg_system::first_tables;
 use lg_types::HeldDigest;
 use lg_verdict::{Invariant, Place, Verdict};
 use std::alloc::Global;
-
-/// The verdict on these bytes with these digests: Yes, or the first invariant that fails with its least
-/// place. The only error is want of memory. One thread does the work, for any number of workers.
-pub fn verify<H: Hash32>(
-    alloc: Global,
-    hasher: H,
-    bytes: &[u8],
-    digests: &[HeldDigest],
-    _workers: u32,
-) -> Result<Verdict, Memory>
-    ensures { IfOk result (λ v. v ≡ verdict_of (H.digest hasher) digests.now bytes.now) }
-{
-    match read_image(alloc, bytes)? {
-        Some(image) => verify_image(alloc, hasher, &image, digests),
-        None => Ok(Verdict::No(Invariant::V0, Place::Whole)),
-    }
-}
 
 /// The verdict on an image that has a spelling.
 pub fn verify_image<H: Hash32>(

@@ -1,4 +1,5 @@
-//! The verdict by several threads, which go through groups of the tables.
+//! The verdict on bytes, and on the image that they are, by several threads, which go through groups of the
+//! tables.
 
 ghost use Rattle.std.specs.Prelude.{◌≡◌, ◌<◌, ◌≤◌, ◌+◌, IfOk, length, None};
 ghost use Rattle.std.specs.Thread.{IsSend, IsSync};
@@ -28,13 +29,14 @@ use lg_verdict::{Invariant, Place, Verdict};
 use std::alloc::Global;
 use std::thread::{Threads, join};
 
-/// The verdict on these bytes with these digests, as `verify` gives it, by so many threads. The only error is
-/// want of memory; where no thread can be started the caller's does its work.
+/// The verdict on these bytes with these digests, by so many threads: Yes, or the first invariant that fails
+/// with its least place. The only error is want of memory; where no thread can be started the caller's does
+/// its work.
 ///
 /// The caller's thread reads the image and goes through blocks, entries, ids and the numbers of events. Then
 /// each worker hashes the leaves and tests the versions and indexes of a group of tables. The groups have
 /// about as many versions, but a table isn't cut: no number of workers is faster than the largest table.
-pub fn verify_with_workers<H: Hash32, R: Threads + Sync>(
+pub fn verify<H: Hash32, R: Threads + Sync>(
     rt: &R,
     alloc: Global,
     hasher: H,

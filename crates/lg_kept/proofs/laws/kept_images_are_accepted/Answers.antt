@@ -1,10 +1,11 @@
 use Rattle.lg_course.specs.Told.{IsImageOf}
 use Rattle.lg_history.specs.Lists.{Each}
+use Rattle.lg_history.proofs.Trace.{each_weaker}
 use Rattle.lg_parse.specs.Text.{statement_of}
 use Rattle.lg_standing.specs.Seats.{KeptImage}
 use Rattle.std.specs.Prelude.{List, length}
 use Rattle.lg_kept.specs.Accepted.{IsAccepted, IsAcceptedIfSpelled}
-use Rattle.lg_kept.proofs.Accepts.{accepted, all_closed, each_of, whole_accepted}
+use Rattle.lg_kept.proofs.Accepts.{accepted, all_closed, whole_accepted}
 use Rattle.lg_kept.proofs.laws.kept_images_are_accepted.Goals as goal
 
 pub returns : goal.returns
@@ -13,13 +14,13 @@ returns c =
     let holds = c.digests_are_held_where_their_blocks_are_closed.ensures in
     record {
       spelled = λ h database size names lines X images J G run legal.
-          each_of (λ (ks : List KeptImage). Each (IsImageOf h statement_of database J) ks) (λ ks. Each (IsAcceptedIfSpelled h database J G) ks)
-          (λ ks. each_of (IsImageOf h statement_of database J) (IsAcceptedIfSpelled h database J G)
+          each_weaker (λ (ks : List KeptImage). Each (IsImageOf h statement_of database J) ks) (λ ks. Each (IsAcceptedIfSpelled h database J G) ks)
+          (λ ks. each_weaker (IsImageOf h statement_of database J) (IsAcceptedIfSpelled h database J G)
           (λ k is spelled. accepted h database size names lines X images J G run (λ q m d hashes is_digest below. holds.agreed h statement_of q database J m d hashes is_digest below) k is
           (λ digests held. verify.parsed h (record { database = database; items = J }) k.0 digests legal held spelled)) ks) images run.are_images;
       room = λ h database size names lines X images J G run legal room.
-          each_of (λ (ks : List KeptImage). Each (IsImageOf h statement_of database J) ks) (λ ks. Each (IsAccepted h database J G) ks)
-          (λ ks. each_of (IsImageOf h statement_of database J) (IsAccepted h database J G)
+          each_weaker (λ (ks : List KeptImage). Each (IsImageOf h statement_of database J) ks) (λ ks. Each (IsAccepted h database J G) ks)
+          (λ ks. each_weaker (IsImageOf h statement_of database J) (IsAccepted h database J G)
           (λ k is. accepted h database size names lines X images J G run (λ q m d hashes is_digest below. holds.agreed h statement_of q database J m d hashes is_digest below) k is
           (λ digests held. verify.whole h (record { database = database; items = J }) k.0 digests legal room held)) ks) images run.are_images;
       whole = λ h database size names lines X images J G run legal room. whole_accepted h database size names lines X images J G run (λ q m d hashes is_digest below. holds.agreed h statement_of q database J m d hashes is_digest below)

@@ -2,7 +2,7 @@ use Rattle.std.proofs.Common.{sym, ap, ◌∙◌, arith}
 use Rattle.lg_verdict.specs.Bytes.{verdict_of}
 use Rattle.lg_verdict.proofs.Judged.{of_image, of_none}
 use Rattle.lg_verify.proofs.Verdicts.{same_ok}
-use Rattle.lg_verify.proofs.workers.verify_with_workers.Goals as goal
+use Rattle.lg_verify.proofs.workers.verify.Goals as goal
 
 pub returns-in-Some : goal.returns-in-Some
 returns-in-Some g c =

@@ -1,0 +1,15 @@
+-- The image of a whole journal.
+use Rattle.std.specs.Prelude.{ℕ, List, length}
+use Rattle.lg_types.specs.declared.journal.Journal.{Journal}
+use Rattle.lg_parse.specs.Text.{statement_of}
+use Rattle.lg_image.specs.Image.{image_of}
+use Rattle.lg_image.specs.ImageBytes.{image_bytes}
+use Rattle.lg_standing.specs.Seats.{KeptImage}
+
+-- the bytes of the image to which a journal leads
+abbrev pub last_image_bytes : (List ℕ → List ℕ) → Journal → List ℕ
+last_image_bytes h J = image_bytes (image_of h statement_of J.database J.items)
+
+-- that of all its items
+abbrev pub last_image : (List ℕ → List ℕ) → Journal → KeptImage
+last_image h J = (length J.items, last_image_bytes h J)
