@@ -1,7 +1,8 @@
 -- Which statement of a session has which number.
-use Rattle.std.proofs.Common.{zero, suc, ◌≡◌, ◌∙◌, ◌++◌, ◌+◌, ◌*◌, ◌/◌, ◌%◌, ◌<◌, ◌≤◌, ◌==◌, ℕ, Bool, true, false, List, [], ◌∷◌, length, Option, Some, None, refl, sym, ap, arith, nat_lt, length-append, true≢false}
-use Rattle.std.specs.Prelude.{slice_get}
-use Rattle.std.proofs.lemmas.Option.{slice_get_past}
+use Rattle.std.proofs.Common.{zero, suc, ◌≡◌, ◌∙◌, ◌++◌, ◌+◌, ◌*◌, ◌/◌, ◌%◌, ◌<◌, ◌≤◌, ◌==◌, ℕ, Bool, true, false, List, [], ◌∷◌, length, Some, refl, sym, ap, arith, nat_lt, length-append, true≢false}
+use Rattle.std.specs.Prelude.{slice_get, take}
+use Rattle.std.proofs.lemmas.List.{take_all, take_more}
+use Rattle.std.proofs.lemmas.Option.{get_or_from_slice_get}
 use Rattle.lg_generator.specs.Workload.{insert_text, update_text, row_texts, session_texts, statement_count, nth_text}
 
 get_first : {X : Type 0} (xs ys : List X) (n : ℕ) → n < length xs → slice_get (xs ++ ys) n ≡ slice_get xs n
@@ -88,7 +89,13 @@ nth table (suc k) n h = go (nat_lt n (k + k / 10)) refl (k % 10 == 9) refl (nth 
         let low : k + k / 10 ≤ n = grind arith in
         behind t f low (nat_lt n (k + k / 10 + 1)) refl
 
-pub past : (table rows n : ℕ) → statement_count rows ≤ n → slice_get (session_texts table rows) n ≡ None
-past table rows n h =
-    let s : length (session_texts table rows) ≡ rows + rows / 10 = size table rows in
-    slice_get_past (session_texts table rows) n (omega arith)
+-- so the statements up to there have it as the last
+pub one_more : (table rows n : ℕ) → n < statement_count rows → take (n + 1) (session_texts table rows) ≡ take n (session_texts table rows) ++ nth_text table n ∷ []
+one_more table rows n h =
+    let s = size table rows in
+    let texts = session_texts table rows in
+    take_more texts n [] (omega (arith, s, h))
+    ∙ ap (λ (x : List ℕ). take n texts ++ x ∷ []) (get_or_from_slice_get texts n (nth_text table n) [] (nth table rows n h))
+
+pub all_taken : (table rows n : ℕ) → statement_count rows ≤ n → take n (session_texts table rows) ≡ session_texts table rows
+all_taken table rows n h = let s = size table rows in take_all n (session_texts table rows) (omega (arith, s, h))

@@ -2,6 +2,7 @@
 -- sessions share a table; rows count from 0.
 use Rattle.std.specs.Prelude.{ℕ, zero, suc, ◌+◌, ◌*◌, ◌/◌, ◌%◌, ◌==◌, List, [], ◌∷◌, ◌++◌, map, codes, if◌then◌else◌}
 use Rattle.std.specs.Fmt.{decimal}
+use Rattle.lg_plan.specs.Plan.{Plan, Section}
 
 abbrev pub tables : List ℕ
 tables = 1 ∷ 2 ∷ 3 ∷ 4 ∷ []
@@ -50,3 +51,13 @@ statement_count rows = rows + rows / 10
 unfoldable pub nth_text : ℕ → ℕ → List ℕ
 nth_text table n = if n % 11 == 10 then update_text table (n / 11 * 10 + 9)
     else insert_text table (n / 11 * 10 + n % 11)
+
+-- ---- the plan
+
+-- the session of a table, and its statements on so many rows
+abbrev pub section_of : ℕ → ℕ → Section
+section_of rows table = record { name = session_name table; statements = session_texts table rows }
+
+-- the setup, and a session for each table
+abbrev pub workload_plan : ℕ → Plan
+workload_plan rows = record { setup = setup_texts; sessions = map (section_of rows) tables }

@@ -1,9 +1,10 @@
 //! The statements of the generator's workload: four sessions that insert rows each into its own table and
-//! change every tenth. Each statement's text is made by its number, so that none is kept.
+//! change every tenth. Each statement's text is made by its number.
 #![tactic(auto)]
 
 mod law;
 mod texts;
+mod workload;
 
 pub use law::statements_law;
-pub use texts::{TABLES, create_text, session_name, session_statement, statement_count};
+pub use workload::{SessionTexts, Workload};

@@ -1,22 +1,18 @@
 // The texts of statements, by their number.
-ghost use Rattle.std.specs.Prelude.{◌≡◌, ◌<◌, ◌^◌, ◌+◌, ◌*◌, ◌/◌, ◌%◌, IfOk, slice_get, string_bytes, option_map};
+ghost use Rattle.std.specs.Prelude.{◌≡◌, ◌<◌, ◌^◌, ◌+◌, ◌*◌, ◌/◌, ◌%◌, IfOk, string_bytes};
 ghost use Rattle.lg_generator.specs.Workload as spec;
 
-use lg_items::Memory;
 use std::alloc::{AllocError, Global};
 
-/// How many tables there are, each with a session of its own. They have the numbers from 1 on.
-pub const TABLES: u8 = 4;
-
 /// The statement of the setup that makes a table.
-pub fn create_text(alloc: Global, table: u8) -> Result<String, AllocError>
+pub(crate) fn create_text(alloc: Global, table: u8) -> Result<String, AllocError>
     ensures { IfOk result (λ text. string_bytes text ≡ spec.create_text table) }
 {
     format!(in alloc; "CREATE TABLE t{table} (id INT PRIMARY KEY, v BIGINT)")
 }
 
 /// The name of the session of a table.
-pub fn session_name(alloc: Global, table: u8) -> Result<String, AllocError>
+pub(crate) fn session_name(alloc: Global, table: u8) -> Result<String, AllocError>
     ensures { IfOk result (λ text. string_bytes text ≡ spec.session_name table) }
 {
     format!(in alloc; "s{table}")
@@ -44,15 +40,17 @@ fn update_text(alloc: Global, table: u8, row: u64) -> Result<String, AllocError>
 }
 
 /// How many statements the session of a table has on so many rows.
-pub fn statement_count(rows: u32) -> u64
+pub(crate) fn statement_count(rows: u32) -> u64
     ensures { result ≡ spec.statement_count rows }
 {
     let rows = rows as u64;
     rows + rows / 10
 }
 
+/// The text of the statement with this number, counted from 0, of the session of a table. It takes the same
+/// time for each.
 #[tactic(auto, unfolding(crate::specs::Workload::nth_text))]
-fn nth_text(alloc: Global, table: u8, n: u64) -> Result<String, AllocError>
+pub(crate) fn nth_text(alloc: Global, table: u8, n: u64) -> Result<String, AllocError>
     requires few { n < 2 ^ 36 }
     ensures { IfOk result (λ text. string_bytes text ≡ spec.nth_text table n) }
 {
@@ -62,24 +60,5 @@ fn nth_text(alloc: Global, table: u8, n: u64) -> Result<String, AllocError>
         update_text(alloc, table, before + 9)
     } else {
         insert_text(alloc, table, before + place)
-    }
-}
-
-/// The text of the statement with this number, counted from 0, of the session of a table on so many rows;
-/// none where it has no more. It takes the same time for each.
-#[tactic(auto, using(crate::proofs::Numbers::nth, crate::proofs::Numbers::past))]
-pub fn session_statement(
-    alloc: Global,
-    table: u8,
-    rows: u32,
-    n: u64,
-) -> Result<Option<String>, Memory>
-    ensures { IfOk result
-        (λ text. option_map string_bytes text ≡ slice_get (spec.session_texts table rows) n) }
-{
-    if n < statement_count(rows) {
-        Ok(Some(nth_text(alloc, table, n)?))
-    } else {
-        Ok(None)
     }
 }

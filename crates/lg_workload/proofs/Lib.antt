@@ -1,0 +1,11 @@
+mod Counted
+mod Cut
+mod Effects
+mod FourTables
+mod Inserts
+mod Numbers
+mod Readings
+mod Rows
+mod Tokens
+mod Turning
+mod Updates

@@ -1,0 +1,37 @@
+// What the workload's statements come to in whatever turns they run.
+ghost use Rattle.std.specs.Prelude.{◌≡◌, ◌≤◌, ◌+◌, ◌*◌, ◌/◌, ◌∷◌, ℕ, List, map};
+ghost use Rattle.lg_types.specs.declared.journal.JournalItem.{JournalItem};
+ghost use Rattle.lg_model.specs.Journals.{tx_count, serial, IsLegal};
+ghost use Rattle.lg_model.specs.Script.{Reading};
+ghost use Rattle.lg_generator.specs.Workload.{setup_texts, session_texts, tables};
+ghost use Rattle.lg_workload.specs.Tables.{Shows, id_of};
+ghost use Rattle.lg_workload.specs.Turns.{Turns, ReadsTexts, inserted_total};
+
+use lg_generator::statements_law;
+
+/// In whatever turns the statements run, the tables to which a legal journal of them leads show the same: each
+/// table has its rows and one row of history for each tenth, and `v` adds up to what was inserted and one for
+/// each change. There are no tables but these and the two of the system.
+pub fn turns_come_to_one_end()
+    ensures tables { (reads : Reading) (rows : ℕ) (items : List JournalItem) → ReadsTexts reads
+        → rows ≤ 1000000
+        → Turns setup_texts (session_texts 1 rows) (session_texts 2 rows) (session_texts 3 rows)
+        (session_texts 4 rows) items
+        → IsLegal reads items
+        → (table : ℕ) → 1 ≤ table → table ≤ 4
+        → Shows (serial reads items) table rows (rows / 10) (inserted_total table rows + rows / 10) }
+    ensures order { (reads : Reading) (rows : ℕ) (items : List JournalItem) → ReadsTexts reads
+        → rows ≤ 1000000
+        → Turns setup_texts (session_texts 1 rows) (session_texts 2 rows) (session_texts 3 rows)
+        (session_texts 4 rows) items
+        → IsLegal reads items
+        → map (λ t. t.def.id) (serial reads items) ≡ 1 ∷ 2 ∷ map id_of tables }
+    ensures transactions { (rows : ℕ) (items : List JournalItem)
+        → Turns setup_texts (session_texts 1 rows) (session_texts 2 rows) (session_texts 3 rows)
+        (session_texts 4 rows) items
+        → tx_count items ≡ 4 + 4 * rows + 4 * (rows / 10) }
+    ensures ten { inserted_total 1 10 + inserted_total 2 10 + inserted_total 3 10 + inserted_total 4 10 + 4
+        ≡ 5684 }
+{
+    statements_law();
+}
