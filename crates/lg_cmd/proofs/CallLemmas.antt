@@ -1,5 +1,5 @@
 -- What has been answered after one call more, and by the status of a call of the server.
-use Rattle.std.proofs.Common.{◌≡◌, ◌⊎◌, ℕ, List, [], ◌∷◌, ◌++◌, append_assoc, append-nil, refl, sym, subst, inl, inr, Option, Some, Result, Ok, Err, Vec}
+use Rattle.std.proofs.Common.{◌≡◌, ℕ, List, [], ◌∷◌, ◌++◌, append_assoc, append-nil, refl, sym, subst, inl, inr, Option, Result, Ok, Err, Vec}
 use Rattle.std.specs.List.{All}
 use Rattle.std.specs.Result.{OnErr}
 use Rattle.std.specs.declared.alloc.Global.{Global}

@@ -7,3 +7,4 @@ pub mod ReplayLemmas
 pub mod SavedLemmas
 pub mod TransferLemmas
 pub mod WordsLemmas
+mod ReportLemmas

@@ -1,5 +1,5 @@
 -- The files of a run have different names, so each of them stands once all are put.
-use Rattle.std.proofs.Common.{◌≡◌, ◌≢◌, ◌<◌, ◌+◌, ◌^◌, ℕ, Bool, true, false, cond, List, [], ◌∷◌, ◌++◌, map, length, length-append, append_assoc, get_or, Option, Some, None, refl, sym, ap, ◌∙◌, subst, arith, codes, bytes_eq, ⊎_elim}
+use Rattle.std.proofs.Common.{◌≡◌, ◌≢◌, ◌<◌, ◌^◌, ℕ, Bool, true, false, cond, List, [], ◌∷◌, ◌++◌, map, length, length-append, append_assoc, get_or, Option, Some, None, refl, sym, ap, ◌∙◌, subst, arith, codes, bytes_eq, ⊎_elim}
 use Rattle.std.specs.Fmt.{decimal}
 use Rattle.std.proofs.lemmas.Fmt.{decimal_injective}
 use Rattle.std.proofs.lemmas.List.{append_cancel_left, append_cancel_right, take_all}
@@ -9,6 +9,7 @@ use Rattle.lg_types.specs.declared.journal.Journal.{Journal}
 use Rattle.lg_parse.specs.Text.{statement_of}
 use Rattle.lg_course.specs.Told.{IsImageOf}
 use Rattle.lg_history.specs.Lists.{Each, Some_of, In}
+use Rattle.lg_history.proofs.Trace.{each_weaker}
 use Rattle.lg_journal.specs.Journal.{journal_bytes}
 use Rattle.lg_standing.specs.Seats.{KeptImage}
 use Rattle.lg_step.specs.Images.{AreKept, ItemsRise}
@@ -47,10 +48,6 @@ each_left (f ∷ files) names differ =
     let after : Names = λ n. cond (bytes_eq n f.name) (Bytes f.bytes) (names n) in
     (others_stay files after f.name differ.0 ∙ ap (λ b. cond b (Bytes f.bytes) (names f.name)) ((bytes_eq-Decides f.name f.name).1 refl), each_left files after differ.1)
 
-weaker : {A : Type 0} (P Q : A → Type 0) → ((a : A) → P a → Q a) → (xs : List A) → Each P xs → Each Q xs
-weaker P Q f [] e = tt
-weaker P Q f (x ∷ xs) e = (f x e.0, weaker P Q f xs e.1)
-
 everywhere : {A : Type 0} (P : A → Type 0) → ((a : A) → P a) → (xs : List A) → Each P xs
 everywhere P f [] = tt
 everywhere P f (x ∷ xs) = (f x, everywhere P f xs)
@@ -59,7 +56,7 @@ told_each : (files : List File) (old new : Option Names) → NamesDiffer files �
 told_each files None new differ told = everywhere (λ f. TellsHeld None new f.name f.bytes) (λ f. tt) files
 told_each files (Some old) None differ told = absurd told
 told_each files (Some old) (Some new) differ told =
-    weaker (λ f. names_after (map stands files) old f.name ≡ Bytes f.bytes) (λ f. TellsHeld (Some old) (Some new) f.name f.bytes) (λ f e. told f.name ∙ e) files (each_left files old differ)
+    each_weaker (λ f. names_after (map stands files) old f.name ≡ Bytes f.bytes) (λ f. TellsHeld (Some old) (Some new) f.name f.bytes) (λ f e. told f.name ∙ e) files (each_left files old differ)
 
 all_stand : (files : List File) (old new : Option Names) → NamesDiffer files → StandFirst files (length files) old new → Each (λ f. TellsHeld old new f.name f.bytes) files
 all_stand files old new differ stand =
@@ -136,7 +133,7 @@ of_one P x [] e s = absurd s
 of_one P x (xs ∷ lists) e s = ⊎_elim (λ i. some_in P x xs e.0 i) (λ t. of_one P x lists e.1 t) s
 
 each_of_one : {A : Type 0} (P : A → Type 0) (lists : List (List A)) (xs : List A) → Each (λ l. Each P l) lists → Each (λ x. Some_of (λ l. In x l) lists) xs → Each P xs
-each_of_one P lists xs e s = weaker (λ x. Some_of (λ l. In x l) lists) P (λ x t. of_one P x lists e t) xs s
+each_of_one P lists xs e s = each_weaker (λ x. Some_of (λ l. In x l) lists) P (λ x t. of_one P x lists e t) xs s
 
 abbrev AreSmall : List KeptImage → Type 0
 AreSmall images = Each (λ k. k.0 < 2 ^ 64) images
@@ -146,8 +143,8 @@ numbers_small : (h : List ℕ → List ℕ) (database : List ℕ) (J : Journal) 
     → Each (λ ks. Each (IsImageOf h statement_of database J.items) ks) kept → AreKept kept images → AreSmall images
 numbers_small h database J kept images few are saved =
     let each : Each AreSmall kept =
-    weaker (λ ks. Each (IsImageOf h statement_of database J.items) ks) AreSmall
-    (λ ks. weaker (IsImageOf h statement_of database J.items) (λ (k : KeptImage). k.0 < 2 ^ 64) (λ k of. omega (arith, of.within, few)) ks) kept are in
+    each_weaker (λ ks. Each (IsImageOf h statement_of database J.items) ks) AreSmall
+    (λ ks. each_weaker (IsImageOf h statement_of database J.items) (λ (k : KeptImage). k.0 < 2 ^ 64) (λ k of. omega (arith, of.within, few)) ks) kept are in
     each_of_one (λ (k : KeptImage). k.0 < 2 ^ 64) kept images each saved.no_others
 
 -- ---- what a run left can be saved

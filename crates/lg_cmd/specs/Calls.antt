@@ -10,7 +10,7 @@ use Rattle.lg_cmd.specs.declared.status.Status.{Status}
 use Rattle.lg_cmd.specs.declared.status.Status.TheVariants.{Done, No, Words, Limit, SourceFault, SinkFault, VaultFault, Missing, Memory}
 use Rattle.lg_cmd.specs.declared.transfer.ReadErr.{ReadErr}
 use Rattle.lg_cmd.specs.declared.transfer.ReadErr.TheVariants as reading
-use Rattle.lg_cmd.specs.Words.{Command, Step, Run, Verify, Replay, Extract, Tell}
+use Rattle.lg_cmd.specs.Words.{Command, Step, Run, Verify, Replay, Extract, Gen, Tell}
 
 -- a read that gave bytes, or a write that took some
 abbrev pub Moved : Result ℕ Failed → Type 0
@@ -86,6 +86,7 @@ AreCalls (Some (Run save how)) status answers = ArePuts status answers
 AreCalls (Some (Verify image digests)) status answers = AreGets 2 status answers
 AreCalls (Some (Replay journal save)) status answers = AreGetsAndPuts 1 status answers
 AreCalls (Some (Extract honest suspect digests)) status answers = AreGets 3 status answers
+AreCalls (Some (Gen count)) status answers = answers ≡ []
 AreCalls (Some (Tell text)) status answers = answers ≡ []
 
 -- the writes up to a fault, or to one that took nothing

@@ -9,7 +9,7 @@ use Rattle.lg_cmd.specs.Input.{line_form, section_form}
 use Rattle.lg_cmd.specs.Replay.{ReplayCause}
 use Rattle.lg_cmd.specs.Tell.{TellCause}
 use Rattle.lg_cmd.specs.Verify.{VerifyCause}
-use Rattle.lg_cmd.specs.Words.{Command, Step, Run, Verify, Replay, Extract, Tell}
+use Rattle.lg_cmd.specs.Words.{Command, Step, Run, Verify, Replay, Extract, Gen, Tell}
 
 -- Each command has its causes, by what the input and the vault tell and by whose faults rose in the call.
 -- Words comes exactly where the words say none, unless want of memory comes first: the words are read by
@@ -27,4 +27,5 @@ HasCause status h (Some (Replay journal save)) input names source vault sink =
     ReplayCause status journal names vault sink
 HasCause status h (Some (Extract honest suspect digests)) input names source vault sink =
     ExtractCause status h honest suspect digests names vault sink
+HasCause status h (Some (Gen count)) input names source vault sink = TellCause status sink
 HasCause status h (Some (Tell text)) input names source vault sink = TellCause status sink

@@ -1,5 +1,5 @@
 -- What `extract` reads, says and answers.
-use Rattle.std.specs.Prelude.{◌≡◌, ◌⊎◌, ℕ, List, [], ◌∷◌, ◌++◌, codes, Option, Some, None, IfSome, Result, Ok, Err}
+use Rattle.std.specs.Prelude.{◌≡◌, ◌⊎◌, ℕ, List, [], ◌∷◌, ◌++◌, codes, Option, IfSome, Result, Ok, Err}
 use Rattle.hex.specs.Hex.{encode_lower}
 use Rattle.lg_base.specs.Outside.{TellsTaken}
 use Rattle.lg_base.specs.Store.{Names}

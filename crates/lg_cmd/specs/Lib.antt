@@ -3,6 +3,7 @@ pub mod Calls
 pub mod Cause
 pub mod Extract
 pub mod Files
+pub mod Generated
 pub mod Input
 pub mod Names
 pub mod Replay

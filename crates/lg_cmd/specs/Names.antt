@@ -1,5 +1,5 @@
 -- What stands in a vault under the names that a command is given.
-use Rattle.std.specs.Prelude.{⊤, ◌≡◌, ◌<◌, ◌≤◌, ℕ, List, length, Option, Some, None, IfSome, Result, Ok, Err, Vec}
+use Rattle.std.specs.Prelude.{⊤, ◌≡◌, ◌<◌, ◌≤◌, ℕ, List, length, Option, IfSome, Result, Ok, Err, Vec}
 use Rattle.std.specs.declared.alloc.Global.{Global}
 use Rattle.lg_base.specs.declared.vault.VaultErr.{VaultErr}
 use Rattle.lg_base.specs.declared.vault.VaultErr.TheVariants as refused

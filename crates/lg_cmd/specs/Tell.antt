@@ -5,7 +5,7 @@ use Rattle.lg_cmd.specs.declared.status.Status.{Status}
 use Rattle.lg_cmd.specs.declared.status.Status.TheVariants.{Done, SinkFault, Memory}
 use Rattle.lg_cmd.specs.Transfer.{TellsPart}
 
--- why a status comes: the words are read by means of memory
+-- why a status comes where a text is made and written: it is made by means of memory, and so are the words read
 abbrev pub TellCause : Status → Type 0 → Type 0
 TellCause Done sink = Unit {0}
 TellCause SinkFault sink = sink

@@ -1,12 +1,12 @@
--- The commands that are built, of those that the words can say.
-use Rattle.std.specs.Prelude.{ℕ, Bool, true, false, List, Option, Some, None, option_map, option_and_then}
+-- What the words ask of the server.
+use Rattle.std.specs.Prelude.{ℕ, Bool, true, false, List, Option, Some, option_map}
 use Rattle.lg_words.specs.Commands.{Settings, command_of}
 use Rattle.lg_words.specs.Commands as said
 use Rattle.lg_words.specs.Help.{help_of}
 use Rattle.lg_words.specs.Views.{settings_view}
 use Rattle.lg_words.specs.declared.help.TheConstants.{VERSION}
-use Rattle.lg_cmd.specs.declared.words.BuiltCommand.{BuiltCommand}
-use Rattle.lg_cmd.specs.declared.words.BuiltCommand.TheVariants as words
+use Rattle.lg_cmd.specs.declared.words.Request.{Request}
+use Rattle.lg_cmd.specs.declared.words.Request.TheVariants as words
 
 -- a command, and the names that it is given
 pub data Command : Type 0 where
@@ -19,31 +19,34 @@ pub data Command : Type 0 where
   Replay : List ℕ → List ℕ → Command
   -- the names of an honest image, of one that is suspected, and of digests
   Extract : List ℕ → List ℕ → List ℕ → Command
+  -- how many rows each table of the workload has
+  Gen : ℕ → Command
   -- a text that is printed
   Tell : List ℕ → Command
 
--- the command, where it is built: the workload isn't; the number of workers changes nothing that is said
-unfoldable pub built : said.Command → Option Command
-built (said.Step save how) = Some (Step save how)
-built (said.Run save how) = Some (Run save how)
-built (said.Verify image digests workers) = Some (Verify image digests)
-built (said.Extract honest suspect digests) = Some (Extract honest suspect digests)
-built (said.Replay journal save) = Some (Replay journal save)
-built (said.Gen count) = None
-built (said.Help which) = option_map Tell (help_of which)
-built said.Version = Some (Tell VERSION.now)
+-- what a command asks; the number of workers changes nothing that is said
+unfoldable pub asked_by : said.Command → Command
+asked_by (said.Step save how) = Step save how
+asked_by (said.Run save how) = Run save how
+asked_by (said.Verify image digests workers) = Verify image digests
+asked_by (said.Extract honest suspect digests) = Extract honest suspect digests
+asked_by (said.Replay journal save) = Replay journal save
+asked_by (said.Gen count) = Gen count
+asked_by (said.Help which) = Tell (help_of which)
+asked_by said.Version = Tell VERSION.now
 
--- the command that the words say; none where they have no form of a command that is built
+-- the command that the words say; none where they have no form of a command
 unfoldable pub command_words : List (List ℕ) → Option Command
-command_words words = option_and_then built (command_of words)
+command_words words = option_map asked_by (command_of words)
 
 -- the command that was read
-abbrev pub command_view : BuiltCommand → Command
+abbrev pub command_view : Request → Command
 command_view (words.Step save how) = Step save.now (settings_view how)
 command_view (words.Run save how) = Run save.now (settings_view how)
 command_view (words.Verify image digests workers) = Verify image.now digests.now
 command_view (words.Replay journal save) = Replay journal.now save.now
 command_view (words.Extract honest suspect digests) = Extract honest.now suspect.now digests.now
+command_view (words.Gen count) = Gen count
 command_view (words.Tell text) = Tell text.now
 
 -- what is so of the name that `step` is given, and of its settings
@@ -70,6 +73,11 @@ OfReplay words P = Unit {0}
 abbrev pub OfExtract : Option Command → (List ℕ → List ℕ → List ℕ → Type 0) → Type 0
 OfExtract (Some (Extract honest suspect digests)) P = P honest suspect digests
 OfExtract words P = Unit {0}
+
+-- what is so of the count that `gen` is given
+abbrev pub OfGen : Option Command → (ℕ → Type 0) → Type 0
+OfGen (Some (Gen count)) P = P count
+OfGen words P = Unit {0}
 
 -- what is so of the text that is printed
 abbrev pub OfTell : Option Command → (List ℕ → Type 0) → Type 0

@@ -3,6 +3,7 @@
 
 mod extract;
 mod files;
+mod generate;
 mod names;
 mod replay;
 mod run;

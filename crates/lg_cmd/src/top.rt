@@ -3,24 +3,27 @@ ghost use Rattle.std.specs.Prelude.{◌≡◌, ◌⊎◌, map, string_bytes, Non
 ghost use Rattle.sha2.specs.Sha256.{sha256};
 ghost use Rattle.lg_base.specs.Count.{Rises};
 ghost use Rattle.lg_base.specs.History.{Since};
-ghost use Rattle.lg_cmd.specs.Words.{command_words, OfStep, OfRun, OfVerify, OfReplay, OfExtract, OfTell};
+ghost use Rattle.lg_cmd.specs.Words.{command_words, OfStep, OfRun, OfVerify, OfReplay, OfExtract, OfGen};
+ghost use Rattle.lg_cmd.specs.Words.{OfTell};
 ghost use Rattle.lg_cmd.specs.Words.{reads_input, puts_files};
 ghost use Rattle.lg_cmd.specs.Answer.{HasRead, Ran, RanAll, RanOrIdle, Unfailed};
 ghost use Rattle.lg_cmd.specs.Calls.{AreReads, AreCalls, AreWrites};
 ghost use Rattle.lg_cmd.specs.Cause.{HasCause};
 ghost use Rattle.lg_cmd.specs.Extract.{Extracts};
+ghost use Rattle.lg_cmd.specs.Generated.{HasGenerated};
 ghost use Rattle.lg_cmd.specs.Replay.{Replayed, ReplayedOrIdle, PutsAccepted};
 ghost use Rattle.lg_cmd.specs.Tell.{HasTold};
 ghost use Rattle.lg_cmd.specs.Verify.{Verified, SaidOrIdle};
 
 use crate::Status;
 use crate::extract::extract;
+use crate::generate::generate;
 use crate::replay::replay;
 use crate::side_by_side::run_side_by_side;
 use crate::step::step;
 use crate::tell::tell;
 use crate::verify::verify;
-use crate::words::{BuiltCommand, read_command};
+use crate::words::{Request, read_command};
 use lg_base::{Clock, Gate, Sink, Source, Vault};
 use lg_items::Memory;
 use lg_merkle::Sha256Hash;
@@ -53,11 +56,12 @@ use std::thread::Threads;
 /// digests: `Yes`, and the status is `Done`, or `No` with the first invariant that fails and its least place,
 /// and the status is `No`. It puts nothing and reads no input.
 ///
-/// `replay JOURNAL --save NAME` reads what stands under the name of a journal, as `step` saves one, and runs
-/// its statements again in their order, one transaction after another. Where each is answered with the reply
-/// that the journal keeps, and each transaction leaves a start or an end of a version, the journal is legal:
-/// then its image goes under `NAME.img`, its own bytes under `NAME.journal`, and the number of its
-/// transactions is written. Whoever has digests of blocks that the journal closed gets `Yes` for that image.
+/// `replay JOURNAL --save NAME` reads what stands under the name of a journal, as `step` and `run` save
+/// one, and runs its statements again in their order, one transaction after another. Where each is answered
+/// with the reply that the journal keeps, and each transaction leaves a start or an end of a version, the
+/// journal is legal: then its image goes under `NAME.img`, its own bytes under `NAME.journal`, and the
+/// number of its transactions is written. Whoever has digests of blocks that the journal closed gets `Yes`
+/// for that image.
 ///
 /// `extract HONEST SUSPECT DIGESTS` reads what stands under the three names and verifies both images with the
 /// digests. Where the honest one isn't accepted it writes `honest: ` and the line of the verdict, and else
@@ -66,14 +70,20 @@ use std::thread::Threads;
 /// on two lines, in hexadecimal digits, two different strings of bytes with one SHA-256: the status is `No`.
 /// It puts nothing and reads no input.
 ///
+/// `gen COUNT` runs a workload of four sessions side by side, each of which inserts so many rows into a table
+/// of its own and adds 1 to every tenth, and writes five lines: how many transactions there are, rows, versions
+/// that have ended, the sum of the rows' values, and the verdict on the image. However the turns of the threads
+/// fall, these are 4 and 4.4 times the count, 4 times the count, 0.4 times the count, what was inserted and
+/// added, and `Yes` (of a count that isn't a multiple of ten, the tenths are rounded down for each table). It
+/// reads no input and puts no file.
+///
 /// `--help` (or `-h`) and `--version` (or `-V`) as the only word, and `--help` as the only word behind a
 /// command, print a text.
 ///
 /// An option and its value are two words or one, `--save NAME` or `--save=NAME`, and stand anywhere behind
-/// the command. `verify --workers N` lets N threads look at an image, and says what is so without it. `gen`
-/// isn't built yet.
+/// the command. `verify --workers N` lets N threads look at an image, and says what is so without it.
 ///
-/// Only `run` and `verify` with more than one worker start threads, and only `run` calls the gate.
+/// Only `run`, `gen` and `verify` with more than one worker start threads, and only `run` calls the gate.
 ///
 /// `Words` comes before anything else, and so does want of memory for the words. Of `step` and `run`, `Limit`
 /// and `Form` come before anything is put; the size of the input is looked at first, then the form of all
@@ -138,6 +148,11 @@ pub fn ledgerd<S: Source, K: Sink, V: Vault, C: Clock, G: Gate, R: Threads + Wai
         (Extracts result sha256 honest suspect digests
         (V.names vault.old) (K.taken sink.old) (K.taken sink.new)) (sink.new ≡ sink.old)) }
 
+    // `gen`: the lines of what is counted of a run of the workload, which are those that are expected.
+    ensures generated { OfGen (command_words (map string_bytes words.now))
+        (λ count. SaidOrIdle result
+        (HasGenerated result sha256 count (K.taken sink.old) (K.taken sink.new)) (sink.new ≡ sink.old)) }
+
     // Help and the version: the text, by the status.
     ensures told { OfTell (command_words (map string_bytes words.now))
         (λ text. SaidOrIdle result
@@ -177,29 +192,30 @@ pub fn ledgerd<S: Source, K: Sink, V: Vault, C: Clock, G: Gate, R: Threads + Wai
         Err(Memory) => return Status::Memory,
     };
     match command {
-        BuiltCommand::Step { save, settings } => {
+        Request::Step { save, settings } => {
             step(
                 alloc, Sha256Hash, save, settings, source, sink, vault, clock,
             )
         }
-        BuiltCommand::Run { save, settings } => {
+        Request::Run { save, settings } => {
             run_side_by_side(
                 rt, alloc, Sha256Hash, save, settings, source, sink, vault, clock, gate,
             )
         }
-        BuiltCommand::Verify {
+        Request::Verify {
             image,
             digests,
             workers,
         } => { verify(rt, alloc, Sha256Hash, image, digests, workers, sink, vault) }
-        BuiltCommand::Replay { journal, save } => {
+        Request::Replay { journal, save } => {
             replay(alloc, Sha256Hash, journal, save, sink, vault)
         }
-        BuiltCommand::Extract {
+        Request::Extract {
             honest,
             suspect,
             digests,
         } => extract(alloc, Sha256Hash, honest, suspect, digests, sink, vault),
-        BuiltCommand::Tell { text } => tell(text, sink),
+        Request::Gen { count } => generate(rt, alloc, Sha256Hash, count, sink),
+        Request::Tell { text } => tell(text, sink),
     }
 }

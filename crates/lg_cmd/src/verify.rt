@@ -73,7 +73,7 @@ fn judge<H: Hash32, R: Threads + Sync>(
     ensures refused { IfErr result (λ status. AreRefused status digests.now) }
 {
     let held = read_held(alloc, digests)?;
-    match lg_verify::verify_with_workers(rt, alloc, h, image, held.as_slice(), workers) {
+    match lg_verify::verify(rt, alloc, h, image, held.as_slice(), workers) {
         Ok(verdict) => Ok(verdict),
         Err(Memory) => Err(Status::Memory),
     }

@@ -1,16 +1,16 @@
-// The commands that are built, of those that the words after the program's name can say.
-ghost use Rattle.std.specs.Prelude.{◌≡◌, IfOk, map, string_bytes, option_map};
+// What the words after the program's name ask.
+ghost use Rattle.std.specs.Prelude.{◌≡◌, ◌≤◌, IfOk, map, string_bytes, option_map};
 ghost use Rattle.lg_words.specs.Commands.{AreInRange};
 ghost use Rattle.lg_words.specs.Views as said;
-ghost use Rattle.lg_cmd.specs.Words.{built, command_words, command_view, OfStep, OfRun};
+ghost use Rattle.lg_cmd.specs.Words.{asked_by, command_words, command_view, OfGen, OfStep, OfRun};
 
 use lg_items::Memory;
 use lg_words::{Command, Settings, VERSION, help_text, settings_are_in_range};
 use std::alloc::Global;
 
-/// A command that is built, and the names that it is given.
+/// What is asked of the server, and the names that it is given.
 #[derive(Clone, Copy)]
-pub(crate) enum BuiltCommand<'a> {
+pub(crate) enum Request<'a> {
     /// Runs an input and saves its files.
     Step {
         /// The name that the files are saved under.
@@ -48,6 +48,11 @@ pub(crate) enum BuiltCommand<'a> {
         /// The name of the digests that both are held against.
         digests: &'a str,
     },
+    /// Runs the workload and verifies its image.
+    Gen {
+        /// How many rows each of its tables has.
+        count: u64,
+    },
     /// Prints a text.
     Tell {
         /// Help, or the version.
@@ -55,59 +60,60 @@ pub(crate) enum BuiltCommand<'a> {
     },
 }
 
-/// The command, where it is built.
-#[tactic(auto, unfolding(crate::specs::Words::built))]
-fn built<'a>(command: Command<'a>) -> Option<BuiltCommand<'a>>
-    ensures { option_map command_view result ≡ built (said.command_view command.entry) }
+/// What a command asks.
+#[tactic(auto, unfolding(crate::specs::Words::asked_by))]
+fn asked_by<'a>(command: Command<'a>) -> Request<'a>
+    ensures { command_view result ≡ asked_by (said.command_view command.entry) }
 {
     match command {
-        Command::Step { save, settings } => Some(BuiltCommand::Step { save, settings }),
-        Command::Run { save, settings } => Some(BuiltCommand::Run { save, settings }),
+        Command::Step { save, settings } => Request::Step { save, settings },
+        Command::Run { save, settings } => Request::Run { save, settings },
         Command::Verify {
             image,
             digests,
             workers,
-        } => Some(BuiltCommand::Verify {
+        } => Request::Verify {
             image,
             digests,
             // At most 16 by the words.
             workers: workers.min(16) as u32,
-        }),
-        Command::Replay { journal, save } => Some(BuiltCommand::Replay { journal, save }),
+        },
+        Command::Replay { journal, save } => Request::Replay { journal, save },
         Command::Extract {
             honest,
             suspect,
             digests,
-        } => Some(BuiltCommand::Extract {
+        } => Request::Extract {
             honest,
             suspect,
             digests,
-        }),
-        Command::Help(which) => match help_text(which) {
-            Some(text) => Some(BuiltCommand::Tell { text }),
-            None => None,
         },
-        Command::Version => Some(BuiltCommand::Tell { text: VERSION }),
-        Command::Gen { .. } => None,
+        Command::Gen { count } => Request::Gen { count },
+        Command::Help(which) => Request::Tell {
+            text: help_text(which),
+        },
+        Command::Version => Request::Tell { text: VERSION },
     }
 }
 
-/// The command that the words say; none exactly where they have no form of a command that is built.
+/// What the words ask; none exactly where they have no form of a command.
 #[tactic(auto, unfolding(crate::specs::Words::command_words))]
 pub(crate) fn read_command<'a>(
     alloc: Global,
     words: &'a [String],
-) -> Result<Option<BuiltCommand<'a>>, Memory>
+) -> Result<Option<Request<'a>>, Memory>
     ensures said { IfOk result
         (λ c. option_map command_view c ≡ command_words (map string_bytes words.entry.now)) }
     ensures step_in_range { IfOk result
         (λ c. OfStep (option_map command_view c) (λ save settings. AreInRange settings)) }
     ensures run_in_range { IfOk result
         (λ c. OfRun (option_map command_view c) (λ save settings. AreInRange settings)) }
+    ensures count_in_range { IfOk result
+        (λ c. OfGen (option_map command_view c) (λ count. count ≤ 10000)) }
 {
     settings_are_in_range();
     match lg_words::read_command(alloc, words)? {
-        Some(command) => Ok(built(command)),
+        Some(command) => Ok(Some(asked_by(command))),
         None => Ok(None),
     }
 }

@@ -94,10 +94,11 @@ in_range value how e =
 
 -- ---- commands
 
--- so it is in a command that has settings
+-- so it is in a command that has settings, or a count
 abbrev pub HasRange : Command → Type 0
 HasRange (Step save how) = AreInRange how
 HasRange (Run save how) = AreInRange how
+HasRange (Gen count) = (1 ≤ count) × (count ≤ 10000)
 HasRange _ = Unit {0}
 
 some_range : (c d : Command) → c ≡ d → HasRange c → HasRange d
@@ -135,7 +136,8 @@ has_range which.Replay value =
     (λ save also d. is_some (Replay journal save) d tt))
 has_range which.Gen value =
     every (value (codes "COUNT") >>= number_in 1 10000) (λ count. Some (Gen count)) HasRange
-    (λ count is d. is_some (Gen count) d tt)
+    (λ count is d. let b = bound (value (codes "COUNT")) (number_in 1 10000) count is in
+    let within = number_within 1 10000 b.value count b.rest in is_some (Gen count) d (within.least, within.most))
 
 arguments_range : (w : Subcommand) (words : List Text) (c : Command) → arguments_of w words ≡ Some c → HasRange c
 unfolding arguments_of
@@ -177,3 +179,6 @@ step_in_range words save how e = command_range words (Step save how) e
 
 pub run_in_range : (words : List Text) (save : Text) (how : Settings) → command_of words ≡ Some (Run save how) → AreInRange how
 run_in_range words save how e = command_range words (Run save how) e
+
+pub count_in_range : (words : List Text) (count : ℕ) → command_of words ≡ Some (Gen count) → (1 ≤ count) × (count ≤ 10000)
+count_in_range words count e = command_range words (Gen count) e

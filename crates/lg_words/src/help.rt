@@ -1,5 +1,5 @@
 // The texts of help.
-ghost use Rattle.std.specs.Prelude.{◌≡◌, option_copied};
+ghost use Rattle.std.specs.Prelude.{◌≡◌};
 ghost use Rattle.lg_words.specs.Help.{help_of};
 
 use crate::subcommand::Subcommand;
@@ -10,6 +10,7 @@ pub const USAGE: &str = "usage: ledgerd step --save NAME [--block-size N] [--clo
        ledgerd verify IMAGE DIGESTS [--workers W]
        ledgerd extract HONEST SUSPECT DIGESTS
        ledgerd replay JOURNAL --save NAME
+       ledgerd gen COUNT
 `./ledgerd --help` says what each does.
 ";
 
@@ -26,6 +27,7 @@ pub const HELP: &str =
   ledgerd verify IMAGE DIGESTS             says whether an image and digests hold together
   ledgerd extract HONEST SUSPECT DIGESTS   says what two images are to each other
   ledgerd replay JOURNAL --save NAME       runs a journal again and saves its image
+  ledgerd gen COUNT                        runs and verifies a workload, to measure with
   ledgerd COMMAND --help                   says more of one of these
   ledgerd --help, ledgerd -h               prints this text
   ledgerd --version, ledgerd -V            prints the version
@@ -91,25 +93,37 @@ Example, from the top of the repository:
 /// Help on `replay`.
 pub const REPLAY_HELP: &str = "ledgerd replay JOURNAL --save NAME
 
-Runs the journal in the file JOURNAL again, as `step` saves one, and prints how many transactions it has.
-Where each statement is answered as the journal keeps it, it puts NAME.img, the journal's image, and
+Runs the journal in the file JOURNAL again, as `step` and `run` save one, and prints how many transactions it
+has. Where each statement is answered as the journal keeps it, it puts NAME.img, the journal's image, and
 NAME.journal, its own bytes, in the current folder.
 
 Example, from the top of the repository, behind that of `step`:
   ./ledgerd replay balance.journal --save again
 ";
 
-/// The help on a command, or on all where none is given; none on a command that isn't built yet.
-pub fn help_text(which: Option<Subcommand>) -> Option<&'static str>
-    ensures { option_copied result ≡ help_of which }
+/// Help on `gen`.
+pub const GEN_HELP: &str = "ledgerd gen COUNT
+
+Runs four sessions side by side, each of which inserts COUNT rows into a table of its own and changes every
+tenth, takes the image of what is left and verifies it. It prints how many transactions were committed, how
+many rows and rows of histories there are, the sum of the rows' values, and the verdict. COUNT is 1 to 10,000.
+It reads no input and puts no file.
+
+Example, from the top of the repository:
+  time ./ledgerd gen 1000
+";
+
+/// The help on a command, or on all where none is given.
+pub fn help_text(which: Option<Subcommand>) -> &'static str
+    ensures { result.now ≡ help_of which }
 {
     match which {
-        None => Some(HELP),
-        Some(Subcommand::Step) => Some(STEP_HELP),
-        Some(Subcommand::Run) => Some(RUN_HELP),
-        Some(Subcommand::Verify) => Some(VERIFY_HELP),
-        Some(Subcommand::Extract) => Some(EXTRACT_HELP),
-        Some(Subcommand::Replay) => Some(REPLAY_HELP),
-        Some(Subcommand::Gen) => None,
+        None => HELP,
+        Some(Subcommand::Step) => STEP_HELP,
+        Some(Subcommand::Run) => RUN_HELP,
+        Some(Subcommand::Verify) => VERIFY_HELP,
+        Some(Subcommand::Extract) => EXTRACT_HELP,
+        Some(Subcommand::Replay) => REPLAY_HELP,
+        Some(Subcommand::Gen) => GEN_HELP,
     }
 }

@@ -1,4 +1,4 @@
-use Rattle.std.proofs.Common.{refl, inr}
+use Rattle.std.proofs.Common.{refl}
 use Rattle.lg_cmd.proofs.ReplayLemmas.{calls_lacking, writes_lacking, cause_lacking, not_done, idle_lacking, gave_short, calls_by, cause_by, replayed_by, legal_under, replayed_is, accepted_is}
 use Rattle.lg_cmd.proofs.replay.replay.Goals as goal
 

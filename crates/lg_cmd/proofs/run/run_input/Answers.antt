@@ -1,7 +1,5 @@
 use Rattle.std.proofs.Common.{map}
 use Rattle.lg_input.specs.Line.{seen}
-use Rattle.lg_words.specs.Views.{settings_view}
-use Rattle.lg_cmd.specs.Run.{IsRun}
 use Rattle.lg_cmd.proofs.SavedLemmas.{lines_savable}
 use Rattle.lg_cmd.proofs.run.run_input.Goals as goal
 

@@ -1,21 +1,29 @@
-use Rattle.std.proofs.Common.{map, string_bytes, option_map, sym}
+use Rattle.std.proofs.Common.{map, string_bytes, sym}
 use Rattle.lg_words.specs.Views as said
 use Rattle.lg_cmd.specs.Words.{command_view}
-use Rattle.lg_cmd.proofs.WordsLemmas.{built_in_range}
+use Rattle.lg_cmd.proofs.WordsLemmas.{asked_in_range}
 use Rattle.lg_cmd.proofs.words.read_command.Goals as goal
 
 pub returns-in-Some-clause-step_in_range : goal.returns-in-Some-clause-step_in_range
 returns-in-Some-clause-step_in_range c =
     let said_by = map string_bytes c.args.words.now in
     let law = c.settings_are_in_range.ensures in
-    let in_range = built_in_range said_by (law.step said_by) (law.run said_by) (said.command_view c.in-Some.command)
-    (sym (rw c.in-Some.is at c.in_ok-command.ensures)) (option_map command_view c.built.result) c.built.ensures in
-    in_range.0
+    let in_range = asked_in_range said_by (law.step said_by) (law.run said_by) (law.count said_by) (said.command_view c.in-Some.command)
+    (sym (rw c.in-Some.is at c.in_ok-command.ensures)) (command_view c.asked_by.result) c.asked_by.ensures in
+    in_range.step
 
 pub returns-in-Some-clause-run_in_range : goal.returns-in-Some-clause-run_in_range
 returns-in-Some-clause-run_in_range c =
     let said_by = map string_bytes c.args.words.now in
     let law = c.settings_are_in_range.ensures in
-    let in_range = built_in_range said_by (law.step said_by) (law.run said_by) (said.command_view c.in-Some.command)
-    (sym (rw c.in-Some.is at c.in_ok-command.ensures)) (option_map command_view c.built.result) c.built.ensures in
-    in_range.1
+    let in_range = asked_in_range said_by (law.step said_by) (law.run said_by) (law.count said_by) (said.command_view c.in-Some.command)
+    (sym (rw c.in-Some.is at c.in_ok-command.ensures)) (command_view c.asked_by.result) c.asked_by.ensures in
+    in_range.run
+
+pub returns-in-Some-clause-count_in_range : goal.returns-in-Some-clause-count_in_range
+returns-in-Some-clause-count_in_range c =
+    let said_by = map string_bytes c.args.words.now in
+    let law = c.settings_are_in_range.ensures in
+    let in_range = asked_in_range said_by (law.step said_by) (law.run said_by) (law.count said_by) (said.command_view c.in-Some.command)
+    (sym (rw c.in-Some.is at c.in_ok-command.ensures)) (command_view c.asked_by.result) c.asked_by.ensures in
+    in_range.count

@@ -1,0 +1,28 @@
+use Rattle.std.proofs.Common.{◌≡◌, ◌∙◌, arith}
+use Rattle.lg_parse.specs.Text.{statement_of}
+use Rattle.lg_step.specs.Moments.{IsMoment}
+use Rattle.lg_benchmark.specs.Reports.{expected}
+use Rattle.lg_benchmark.proofs.Telling.{Laws, as_expected, tells_of}
+use Rattle.lg_benchmark.proofs.running.run_workload.Goals as goal
+
+pub returns : goal.returns
+returns g c =
+    let h = g.H.Hash32.digest c.args.hasher in
+    let read = c.texts_are_read.ensures in
+    let end = c.turns_come_to_one_end.ensures in
+    let laws : Laws = record {
+      reads = record { create = read.create; insert = read.insert; update = read.update };
+      turns = c.runs_of_the_workload_take_turns.ensures;
+      tables = end.tables;
+      order = end.order;
+    } in
+    let written = c.readings_of_the_grammar_give_written.ensures.written statement_of c.readings_of_the_grammar_give_written.ensures.parser in
+    let ran = c.in_ok-ran.ensures in
+    let found = rw c.in-Some.is at c.in_ok-image.ensures.found in
+    let all : c.in_ok-report.report.transactions ≡ (expected c.args.rows).transactions = omega (arith, c.if-report-statement_count.false, c.statement_count.ensures) in
+    let is = c.bytes.ensures ∙ ran.2.image in (
+      ran.0,
+      ran.1,
+      tells_of laws written c.legal_images_have_a_spelling.ensures h c.args.rows c.requires (IsMoment (λ at. at ≡ 0)) ran.0 ran.1 ran.2.has_room c.bytes.result.now is c.in-Some.image found.0 found.1 c.in_ok-report.report c.in_ok-report.ensures all,
+      as_expected laws written c.legal_images_have_a_spelling.ensures h c.args.rows c.requires (IsMoment (λ at. at ≡ 0)) ran.0 ran.1 ran.2.has_room c.bytes.result.now is c.in-Some.image found.0 found.1 c.in_ok-report.report c.in_ok-report.ensures all,
+    )
