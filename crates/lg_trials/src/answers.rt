@@ -4,6 +4,7 @@ use crate::digests::{issued, read};
 use crate::expressions::{classes, evaluated};
 use crate::fault::Fault;
 use crate::locks::{asked, compared_modes};
+use crate::page::Page;
 use crate::pieces::Pieces;
 use crate::records::{changed, cut, record, shown};
 use crate::replies::reply;
@@ -14,69 +15,89 @@ use crate::trees::{restored, tree};
 use crate::values::{column, compared, day, literal};
 use std::alloc::Global;
 
-/// What a line is answered: an empty line and one that begins with `#` as they are, and a case by its first
-/// word. A line with the word `let` names a text.
-pub fn answer(alloc: Global, pieces: &mut Pieces, line: &str) -> Result<String, Fault> {
+/// Puts what a line is answered: an empty line and one that begins with `#` as they are, and a case by its
+/// first word. A line with the word `let` names a text.
+pub fn answer(
+    alloc: Global,
+    pieces: &mut Pieces,
+    line: &str,
+    page: &mut Page,
+) -> Result<(), Fault> {
     if line.is_empty() || line.starts_with("#") {
-        return Ok(String::from_str(alloc, line)?);
+        page.put(line);
+        return Ok(());
     }
     let (word, rest) = first_word(line);
     if word == "let" {
-        return named(alloc, pieces, rest);
+        return named(alloc, pieces, rest, page);
     }
-    let bytes = pieces.in_full(alloc, rest)?;
-    of_bytes(alloc, word, &bytes)
+    of_case(alloc, pieces, word, rest, page)
 }
 
-fn named(alloc: Global, pieces: &mut Pieces, text: &str) -> Result<String, Fault> {
+fn named(alloc: Global, pieces: &mut Pieces, text: &str, page: &mut Page) -> Result<(), Fault> {
     let (name, text) = first_word(text);
-    let bytes = pieces.in_full(alloc, text)?;
-    pieces.give_name(alloc, name, bytes)?;
-    Ok(String::from_str(alloc, name)?)
+    let mut full = Page::new(alloc);
+    pieces.put_in_full(alloc, text, &mut full)?;
+    full.bytes()?;
+    pieces.give_name(alloc, name, full)?;
+    page.put(name);
+    Ok(())
+}
+
+fn of_case(
+    alloc: Global,
+    pieces: &Pieces,
+    word: &str,
+    text: &str,
+    page: &mut Page,
+) -> Result<(), Fault> {
+    let mut full = Page::new(alloc);
+    pieces.put_in_full(alloc, text, &mut full)?;
+    of_bytes(alloc, word, full.bytes()?, page)
 }
 
 /// The answer to a case that may be any bytes.
-fn of_bytes(alloc: Global, word: &str, bytes: &[u8]) -> Result<String, Fault> {
+fn of_bytes(alloc: Global, word: &str, bytes: &[u8], page: &mut Page) -> Result<(), Fault> {
     match word {
-        "lines" => lines(alloc, bytes),
-        "sessions" => sessions(alloc, bytes),
-        "digests" => read(alloc, bytes),
-        _ => of_text(alloc, word, text_of(bytes)?),
+        "lines" => lines(alloc, bytes, page),
+        "sessions" => sessions(alloc, bytes, page),
+        "digests" => read(alloc, bytes, page),
+        _ => of_text(alloc, word, text_of(bytes)?, page),
     }
 }
 
 /// The answer to a case of the dialect.
-fn of_text(alloc: Global, word: &str, text: &str) -> Result<String, Fault> {
+fn of_text(alloc: Global, word: &str, text: &str, page: &mut Page) -> Result<(), Fault> {
     match word {
-        "tokens" => cut_up(alloc, text),
-        "parse" => parsed(alloc, text),
-        "form" => form(alloc, text),
-        "same" => compared_texts(alloc, text),
-        "name" => name(alloc, text),
-        "literal" => literal(alloc, text),
-        "column" => column(alloc, text),
-        "day" => day(alloc, text),
-        "compare" => compared(alloc, text),
-        "eval" => evaluated(alloc, text),
-        "classes" => classes(alloc, text),
-        "select" => selected(alloc, text),
-        _ => of_record(alloc, word, text),
+        "tokens" => cut_up(alloc, text, page),
+        "parse" => parsed(alloc, text, page),
+        "form" => form(alloc, text, page),
+        "same" => compared_texts(alloc, text, page),
+        "name" => name(alloc, text, page),
+        "literal" => literal(alloc, text, page),
+        "column" => column(alloc, text, page),
+        "day" => day(alloc, text, page),
+        "compare" => compared(alloc, text, page),
+        "eval" => evaluated(alloc, text, page),
+        "classes" => classes(alloc, text, page),
+        "select" => selected(alloc, text, page),
+        _ => of_record(alloc, word, text, page),
     }
 }
 
 /// The answer to a case of the ledger.
-fn of_record(alloc: Global, word: &str, text: &str) -> Result<String, Fault> {
+fn of_record(alloc: Global, word: &str, text: &str, page: &mut Page) -> Result<(), Fault> {
     match word {
-        "entry" | "image" | "journal" | "leaf" => shown(alloc, word, text),
-        "cut" => cut(alloc, text),
-        "changed" => changed(alloc, text),
-        "record" => record(alloc, text),
-        "issue" => issued(alloc, text),
-        "tree" => tree(alloc, text),
-        "restored" => restored(alloc, text),
-        "locks" => asked(alloc, text),
-        "modes" => compared_modes(alloc, text),
-        "reply" => reply(alloc, text),
+        "entry" | "image" | "journal" | "leaf" => shown(alloc, word, text, page),
+        "cut" => cut(alloc, text, page),
+        "changed" => changed(alloc, text, page),
+        "record" => record(text, page),
+        "issue" => issued(alloc, text, page),
+        "tree" => tree(alloc, text, page),
+        "restored" => restored(alloc, text, page),
+        "locks" => asked(alloc, text, page),
+        "modes" => compared_modes(text, page),
+        "reply" => reply(alloc, text, page),
         _ => Err(Fault::Form("no such word")),
     }
 }

@@ -1,14 +1,14 @@
 //! Cases of expressions over one row.
 
 use crate::fault::Fault;
-use crate::statements::statement;
+use crate::page::Page;
+use crate::statements::joined_statement;
 use crate::tables::{rows_of, table_of};
 use crate::texts::two_sides;
-use crate::values::value_text;
 use lg_expr::{SeenRow, check, eval};
 use lg_parts::Columns;
 use lg_types::{Outcome, Part, Row, RowStmt, Stmt, TableDef};
-use lg_value::{ColumnDef, Expr, Refusal, Value, to_column};
+use lg_value::{ColumnDef, Expr, Refusal, SqlType, Value, to_column};
 use std::alloc::Global;
 
 /// The table over whose columns expressions are evaluated.
@@ -19,20 +19,29 @@ const TABLE: &str =
 const ROW: &str =
     "INSERT t VALUES (1, 7, NULL, 12.5, NULL, 99999999999999999999999999999999999999, '2024-02-29', 0x01ff, '2024-02-29', NULL, NULL)";
 
-/// The value as its column keeps it.
-fn kept(column: &ColumnDef, value: &Value) -> Result<Value, Fault> {
-    match to_column(value.copy()?, &column.ty) {
+fn as_kept(ty: &SqlType, value: Value) -> Result<Value, Fault> {
+    match to_column(value, ty) {
         Ok(value) => Ok(value),
         Err(_) => Err(Fault::Form("a column doesn't take its value")),
     }
 }
 
-/// The values of a row, each as its column keeps it.
-fn kept_row(alloc: Global, columns: &[ColumnDef], row: &[Value]) -> Result<Vec<Value>, Fault> {
-    let mut values = Vec::new(alloc);
+/// The value as its column keeps it.
+fn kept(column: &ColumnDef, value: &Value) -> Result<Value, Fault> {
+    as_kept(&column.ty, value.copy()?)
+}
+
+fn put_kept(columns: &[ColumnDef], row: &[Value], values: &mut Vec<Value>) -> Result<(), Fault> {
     for (column, value) in columns.iter().zip(row) {
         values.push(kept(column, value)?)?;
     }
+    Ok(())
+}
+
+/// The values of a row, each as its column keeps it.
+fn kept_row(alloc: Global, columns: &[ColumnDef], row: &[Value]) -> Result<Vec<Value>, Fault> {
+    let mut values = Vec::new(alloc);
+    put_kept(columns, row, &mut values)?;
     Ok(values)
 }
 
@@ -49,13 +58,15 @@ fn values(alloc: Global, columns: &[ColumnDef]) -> Result<Vec<Value>, Fault> {
     first_kept(alloc, columns, rows.as_slice())
 }
 
-/// The code of a refusal.
-pub fn refusal_text(alloc: Global, refusal: Refusal) -> Result<String, Fault> {
+/// Puts the code of a refusal.
+pub fn put_refusal(refusal: Refusal, page: &mut Page) -> Result<(), Fault> {
     if refusal == Refusal::E30 {
         return Err(Fault::Memory);
     }
     let code = refusal.code();
-    Ok(format!(in alloc; "E{code:02}")?)
+    page.put(if code < 10 { "E0" } else { "E" });
+    page.put_number(code as u64);
+    Ok(())
 }
 
 fn truth_word(truth: Option<bool>) -> &'static str {
@@ -66,67 +77,95 @@ fn truth_word(truth: Option<bool>) -> &'static str {
     }
 }
 
-fn outcome_text(alloc: Global, outcome: &Outcome) -> Result<String, Fault> {
+fn put_outcome(outcome: &Outcome, page: &mut Page) {
     match outcome {
-        Outcome::Value(value) => value_text(alloc, value),
-        Outcome::Truth(truth) => Ok(String::from_str(alloc, truth_word(*truth))?),
+        Outcome::Value(value) => page.put_value(value),
+        Outcome::Truth(truth) => page.put(truth_word(*truth)),
     }
 }
 
-fn answer_text(alloc: Global, e: &Expr, columns: &Columns, row: &[Value]) -> Result<String, Fault> {
-    match eval(e, columns, &SeenRow::of(row)) {
-        Err(refusal) => refusal_text(alloc, refusal),
-        Ok(outcome) => outcome_text(alloc, &outcome),
+fn put_answer(answer: &Result<Outcome, Refusal>, page: &mut Page) -> Result<(), Fault> {
+    match answer {
+        Ok(outcome) => put_outcome(outcome, page),
+        Err(refusal) => put_refusal(*refusal, page)?,
     }
+    Ok(())
 }
 
-fn in_row(alloc: Global, e: &Expr, columns: &Columns, row: &[Value]) -> Result<String, Fault> {
+fn in_row(e: &Expr, columns: &Columns, row: &[Value], page: &mut Page) -> Result<(), Fault> {
     match check(e, columns) {
-        Err(refusal) => refusal_text(alloc, refusal),
+        Err(refusal) => put_refusal(refusal, page),
         Ok(class) => {
-            let answer = answer_text(alloc, e, columns, row)?;
-            Ok(format!(in alloc; "{class:?} {answer}")?)
+            page.put_shown(&class);
+            page.put(" ");
+            put_answer(&eval(e, columns, &SeenRow::of(row)), page)
         }
     }
 }
 
-fn over_columns(alloc: Global, e: &Expr, table: &TableDef) -> Result<String, Fault> {
+fn over_columns(alloc: Global, e: &Expr, table: &TableDef, page: &mut Page) -> Result<(), Fault> {
     let row = values(alloc, table.columns.as_slice())?;
-    in_row(alloc, e, &Columns::of(table, Part::Base), &row)
+    in_row(e, &Columns::of(table, Part::Base), &row, page)
 }
 
-fn over_table(alloc: Global, e: &Expr) -> Result<String, Fault> {
+fn over_table(alloc: Global, e: &Expr, page: &mut Page) -> Result<(), Fault> {
     let table = table_of(alloc, TABLE)?;
-    over_columns(alloc, e, &table)
+    over_columns(alloc, e, &table, page)
 }
 
-fn of_condition(alloc: Global, found: &Option<Stmt>) -> Result<String, Fault> {
+fn of_condition(alloc: Global, found: Option<&Stmt>, page: &mut Page) -> Result<(), Fault> {
     match found {
-        Some(Stmt::Change(RowStmt::Delete { cond: Some(e), .. })) => over_table(alloc, e),
-        _ => Ok(String::from_str(alloc, "no expression")?),
+        Some(Stmt::Change(RowStmt::Delete { cond: Some(e), .. })) => over_table(alloc, e, page),
+        _ => {
+            page.put("no expression");
+            Ok(())
+        }
     }
 }
 
 /// The class of an expression over the columns and its value, truth or refusal in the row, or the refusal by
 /// which it has no class. The expression is the condition of a DELETE with this text behind WHERE.
-pub fn evaluated(alloc: Global, text: &str) -> Result<String, Fault> {
-    let text = format!(in alloc; "DELETE t WHERE {text}")?;
-    let found = statement(alloc, &text)?;
-    of_condition(alloc, &found)
+pub fn evaluated(alloc: Global, text: &str, page: &mut Page) -> Result<(), Fault> {
+    let found = joined_statement(alloc, "DELETE t WHERE ", text, "")?;
+    of_condition(alloc, found.statement(), page)
 }
 
 /// An operand of each class: number without a point and with one, text, bytes, date, NULL and truth.
 const OPERANDS: [&str; 7] = ["i", "d", "t", "x", "day", "NULL", "1 = 1"];
 
+fn put_operation(left: &str, op: &str, right: &str, page: &mut Page) {
+    page.put("(");
+    page.put(left);
+    page.put(") ");
+    page.put(op);
+    page.put(" (");
+    page.put(right);
+    page.put(")");
+}
+
+/// Whether the expression has a class.
+fn has_class(alloc: Global, text: &str) -> Result<bool, Fault> {
+    let mut page = Page::new(alloc);
+    evaluated(alloc, text, &mut page)?;
+    Ok(page.text()? != "E05")
+}
+
+fn is_taken(alloc: Global, left: &str, op: &str, right: &str) -> Result<bool, Fault> {
+    let mut page = Page::new(alloc);
+    put_operation(left, op, right, &mut page);
+    has_class(alloc, page.text()?)
+}
+
 /// An operand and an operator: for each right operand `y` where the operator takes it beside the left one, or
 /// `-`.
-pub fn classes(alloc: Global, text: &str) -> Result<String, Fault> {
+pub fn classes(alloc: Global, text: &str, page: &mut Page) -> Result<(), Fault> {
     let (left, op) = two_sides(text)?;
-    let mut taken = String::new(alloc);
     for right in OPERANDS {
-        let both = format!(in alloc; "({left}) {op} ({right})")?;
-        let answer = evaluated(alloc, &both)?;
-        taken.push(if answer.as_str() == "E05" { '-' } else { 'y' })?;
+        page.put(if is_taken(alloc, left, op, right)? {
+            "y"
+        } else {
+            "-"
+        });
     }
-    Ok(taken)
+    Ok(())
 }

@@ -4,54 +4,67 @@ ghost use Rattle.std.specs.Prelude.{IfSome};
 ghost use Rattle.lg_image.specs.ImageBytes.{IsImage};
 
 use crate::fault::Fault;
+use crate::page::Page;
 use lg_image::{read_image, write_image};
 use lg_types::{BlockRecord, Image, TableDef, TableRows, TxEntry};
 use std::alloc::Global;
 
-/// The number and the size of each block.
-fn put_blocks(alloc: Global, text: &mut String, blocks: &[BlockRecord]) -> Result<(), Fault> {
+/// Puts the number and the size of each block.
+fn put_blocks(blocks: &[BlockRecord], page: &mut Page) {
     for block in blocks {
-        text.push_str(&format!(in alloc; "; block {} of {}", block.id, block.size)?)?;
+        page.put("; block ");
+        page.put_number(block.id);
+        page.put(" of ");
+        page.put_number(block.size);
     }
-    Ok(())
 }
 
-/// The transaction of each entry, and its place.
-fn put_entries(alloc: Global, text: &mut String, entries: &[TxEntry]) -> Result<(), Fault> {
+/// Puts the transaction of each entry, and its place.
+fn put_entries(entries: &[TxEntry], page: &mut Page) {
     for e in entries {
-        text.push_str(&format!(in alloc; "; {} at {}.{}", e.id, e.block, e.ordinal)?)?;
+        page.put("; ");
+        page.put_number(e.id);
+        page.put(" at ");
+        page.put_number(e.block);
+        page.put(".");
+        page.put_number(e.ordinal);
     }
-    Ok(())
 }
 
-/// The id and the name of each table.
-fn put_defs(alloc: Global, text: &mut String, defs: &[TableDef]) -> Result<(), Fault> {
+/// Puts the id and the name of each table.
+fn put_defs(defs: &[TableDef], page: &mut Page) {
     for def in defs {
-        let name = def.name.as_str();
-        text.push_str(&format!(in alloc; "; table {} {name}", def.id)?)?;
+        page.put("; table ");
+        page.put_shown(&def.id);
+        page.put(" ");
+        page.put(def.name.as_str());
     }
-    Ok(())
 }
 
-/// How many rows the base of a table has, its history, and each of its indexes.
-fn put_rows(alloc: Global, text: &mut String, rows: &TableRows) -> Result<(), Fault> {
-    let (base, history) = (rows.base.len(), rows.history.len());
-    text.push_str(&format!(in alloc; "; rows {base} {history}")?)?;
+/// Puts how many rows the base of a table has, its history, and each of its indexes.
+fn put_rows(rows: &TableRows, page: &mut Page) {
+    page.put("; rows ");
+    page.put_number(rows.base.len() as u64);
+    page.put(" ");
+    page.put_number(rows.history.len() as u64);
     for index in rows.indexes.as_slice() {
-        text.push_str(&format!(in alloc; " {}", index.len())?)?;
+        page.put(" ");
+        page.put_number(index.len() as u64);
     }
-    Ok(())
 }
 
-fn image_text(alloc: Global, i: &Image) -> Result<String, Fault> {
-    let mut text = String::from_str(alloc, i.database.as_str())?;
-    put_blocks(alloc, &mut text, i.blocks.as_slice())?;
-    put_entries(alloc, &mut text, i.entries.as_slice())?;
-    put_defs(alloc, &mut text, i.defs.as_slice())?;
-    for rows in i.tables.as_slice() {
-        put_rows(alloc, &mut text, rows)?;
+fn put_tables(tables: &[TableRows], page: &mut Page) {
+    for rows in tables {
+        put_rows(rows, page);
     }
-    Ok(text)
+}
+
+fn put_image(i: &Image, page: &mut Page) {
+    page.put(i.database.as_str());
+    put_blocks(i.blocks.as_slice(), page);
+    put_entries(i.entries.as_slice(), page);
+    put_defs(i.defs.as_slice(), page);
+    put_tables(i.tables.as_slice(), page);
 }
 
 fn is_written_as(alloc: Global, i: &Image, bytes: &[u8]) -> Result<bool, Fault>
@@ -61,20 +74,26 @@ fn is_written_as(alloc: Global, i: &Image, bytes: &[u8]) -> Result<bool, Fault>
     Ok(again.as_slice() == bytes)
 }
 
-fn image_found(alloc: Global, found: &Option<Image>, bytes: &[u8]) -> Result<Option<String>, Fault>
+fn image_found(
+    alloc: Global,
+    found: &Option<Image>,
+    bytes: &[u8],
+    page: &mut Page,
+) -> Result<bool, Fault>
     requires { IfSome found.now (λ i. IsImage i) }
 {
     let Some(i) = found else {
-        return Ok(None);
+        return Ok(false);
     };
     if !is_written_as(alloc, i, bytes)? {
         return Err(Fault::Form("the image isn't written as it is read"));
     }
-    Ok(Some(image_text(alloc, i)?))
+    put_image(i, page);
+    Ok(true)
 }
 
-/// The database of an image, its blocks, entries and tables, or nothing where the bytes are none.
-pub fn image(alloc: Global, bytes: &[u8]) -> Result<Option<String>, Fault> {
+/// Whether bytes are an image, of which it puts the database, blocks, entries and tables.
+pub fn image(alloc: Global, bytes: &[u8], page: &mut Page) -> Result<bool, Fault> {
     let found = read_image(alloc, bytes)?;
-    image_found(alloc, &found, bytes)
+    image_found(alloc, &found, bytes, page)
 }

@@ -2,6 +2,7 @@
 //! a key.
 
 use crate::fault::Fault;
+use crate::page::Page;
 use crate::texts::{first_word, number};
 use crate::values::literal_value;
 use lg_items::Items;
@@ -39,11 +40,16 @@ fn want_of(alloc: Global, word: &str) -> Result<Want, Fault> {
     })
 }
 
-fn wants_of(alloc: Global, words: &str) -> Result<Vec<Want>, Fault> {
-    let mut wants = Vec::new(alloc);
+fn put_wants(alloc: Global, words: &str, wants: &mut Vec<Want>) -> Result<(), Fault> {
     for word in words.split_whitespace() {
         wants.push(want_of(alloc, word)?)?;
     }
+    Ok(())
+}
+
+fn wants_of(alloc: Global, words: &str) -> Result<Vec<Want>, Fault> {
+    let mut wants = Vec::new(alloc);
+    put_wants(alloc, words, &mut wants)?;
     Ok(wants)
 }
 
@@ -55,73 +61,77 @@ fn item_word(item: &Item) -> &'static str {
 }
 
 /// Whether the transaction is new here, or who stands against it, in which mode, on the whole or a key.
-fn answer_text(alloc: Global, answer: &Result<bool, LockErr>) -> Result<String, Fault> {
+fn put_answer(answer: &Result<bool, LockErr>, page: &mut Page) -> Result<(), Fault> {
     match answer {
-        Ok(true) => Ok(String::from_str(alloc, "new")?),
-        Ok(false) => Ok(String::from_str(alloc, "known")?),
-        Err(LockErr::Memory) => Err(Fault::Memory),
+        Ok(first) => page.put(if *first { "new" } else { "known" }),
+        Err(LockErr::Memory) => return Err(Fault::Memory),
         Err(LockErr::Locked { holder, item, mode }) => {
-            Ok(format!(in alloc; "{holder} {mode:?} {}", item_word(item))?)
+            page.put_number(*holder);
+            page.put(" ");
+            page.put_shown(mode);
+            page.put(" ");
+            page.put(item_word(item));
         }
     }
+    Ok(())
 }
 
-fn ask_for(alloc: Global, list: &mut LockList, tx: u64, wants: &[Want]) -> Result<String, Fault> {
-    let answer = list.ask(tx, wants);
-    answer_text(alloc, &answer)
-}
-
-fn ask(alloc: Global, list: &mut LockList, tx: u64, words: &str) -> Result<String, Fault> {
+fn ask(
+    alloc: Global,
+    list: &mut LockList,
+    tx: u64,
+    words: &str,
+    page: &mut Page,
+) -> Result<(), Fault> {
     let wants = wants_of(alloc, words)?;
-    ask_for(alloc, list, tx, &wants)
+    put_answer(&list.ask(tx, &wants), page)
+}
+
+fn go_back(list: &mut LockList, holds: u64) -> Result<(), Fault> {
+    if holds > list.holds() {
+        return Err(Fault::Form("fewer locks are held"));
+    }
+    list.back(holds);
+    Ok(())
 }
 
 /// What one step is answered: `TX LOCK ..` asks, `release TX` releases, and `back N` leaves the first so
 /// many.
-fn step(alloc: Global, list: &mut LockList, text: &str) -> Result<String, Fault> {
+fn step(alloc: Global, list: &mut LockList, text: &str, page: &mut Page) -> Result<(), Fault> {
     let (word, rest) = first_word(text);
     match word {
         "release" => list.release(number(rest)?),
-        "back" => {
-            let holds = number(rest)?;
-            if holds > list.holds() {
-                return Err(Fault::Form("fewer locks are held"));
-            }
-            list.back(holds);
-        }
-        _ => return ask(alloc, list, number(word)?, rest),
+        "back" => go_back(list, number(rest)?)?,
+        _ => return ask(alloc, list, number(word)?, rest, page),
     }
-    Ok(String::from_str(alloc, word)?)
-}
-
-fn put_step(alloc: Global, list: &mut LockList, text: &str, out: &mut String) -> Result<(), Fault> {
-    let answer = step(alloc, list, text)?;
-    out.push_str(&format!(in alloc; "{answer} {}; ", list.holds())?)?;
+    page.put(word);
     Ok(())
 }
 
-fn steps(alloc: Global, list: &mut LockList, text: &str) -> Result<String, Fault> {
-    let mut out = String::new(alloc);
+fn steps(alloc: Global, list: &mut LockList, text: &str, page: &mut Page) -> Result<(), Fault> {
     for text in text.split("; ") {
-        put_step(alloc, list, text, &mut out)?;
+        step(alloc, list, text, page)?;
+        page.put(" ");
+        page.put_number(list.holds());
+        page.put("; ");
     }
-    Ok(out)
+    Ok(())
 }
 
 /// What each step is answered, and how many locks are held then.
-pub fn asked(alloc: Global, text: &str) -> Result<String, Fault> {
+pub fn asked(alloc: Global, text: &str, page: &mut Page) -> Result<(), Fault> {
     let mut list = LockList::new(alloc);
-    steps(alloc, &mut list, text)
+    steps(alloc, &mut list, text, page)
 }
 
 /// Whether two modes conflict.
-pub fn compared_modes(alloc: Global, text: &str) -> Result<String, Fault> {
+pub fn compared_modes(text: &str, page: &mut Page) -> Result<(), Fault> {
     let (one, other) = first_word(text);
     let ((one, _), (other, _)) = (mode_of(one)?, mode_of(other)?);
-    let word = if conflicts(one, other) {
+    page.put(if conflicts(one, other) {
         "conflict"
     } else {
         "agree"
-    };
-    Ok(String::from_str(alloc, word)?)
+    });
+    Ok(())
 }

@@ -9,6 +9,7 @@ mod expressions;
 mod fault;
 mod images;
 mod locks;
+mod page;
 mod pieces;
 mod records;
 mod replies;
@@ -21,17 +22,25 @@ mod values;
 
 use answers::answer;
 use fault::Fault;
+use page::Page;
 use pieces::Pieces;
 use std::io;
 
 fn main(rt: HostRuntime) -> io::Result<()> {
     let mut pieces = Pieces::new(rt.alloc());
     for line in rt.lines(rt.alloc()) {
-        match answer(rt.alloc(), &mut pieces, line?.as_str()) {
-            Ok(text) => println!(rt; "{text}")?,
-            Err(Fault::Form(what)) => println!(rt; "no case: {what}")?,
-            Err(Fault::Memory) => println!(rt; "no memory")?,
-        }
+        let mut page = Page::new(rt.alloc());
+        let given = answer(rt.alloc(), &mut pieces, line?.as_str(), &mut page);
+        print(&rt, given, &page)?;
     }
     Ok(())
+}
+
+/// Prints the answer that was given, or why there is none.
+fn print(rt: &impl Print, given: Result<(), Fault>, page: &Page) -> io::Result<()> {
+    match given.and(page.text()) {
+        Ok(text) => println!(rt; "{text}"),
+        Err(Fault::Form(what)) => println!(rt; "no case: {what}"),
+        Err(Fault::Memory) => println!(rt; "no memory"),
+    }
 }

@@ -2,13 +2,14 @@
 //! `$<#0d0a>` for bytes.
 
 use crate::fault::Fault;
+use crate::page::Page;
 use crate::texts::{hex_bytes, number};
 use std::alloc::Global;
 
 #[derive(Drop)]
 struct Piece {
     name: String,
-    text: Vec<u8>,
+    text: Page,
 }
 
 /// The texts that were named so far.
@@ -25,55 +26,62 @@ impl Pieces {
     }
 
     /// Names a text.
-    pub fn give_name(&mut self, alloc: Global, name: &str, text: Vec<u8>) -> Result<(), Fault> {
+    pub fn give_name(&mut self, alloc: Global, name: &str, text: Page) -> Result<(), Fault> {
         let name = String::from_str(alloc, name)?;
         self.named.push(Piece { name, text })?;
         Ok(())
     }
 
     fn named(&self, name: &str) -> Result<&[u8], Fault> {
-        match self.named.iter().find(|piece| piece.name.as_str() == name) {
-            Some(piece) => Ok(piece.text.as_slice()),
-            None => Err(Fault::Form("nothing has that name")),
-        }
-    }
-
-    /// What a text says in full.
-    pub fn in_full(&self, alloc: Global, text: &str) -> Result<Vec<u8>, Fault> {
-        let mut out = Vec::new(alloc);
-        for (place, part) in text.split('$').enumerate() {
-            if place == 0 {
-                out.extend_from_slice(part.as_bytes())?;
-            } else {
-                self.put_short(alloc, part, &mut out)?;
+        for piece in &self.named {
+            if piece.name.as_str() == name {
+                return piece.text.bytes();
             }
         }
-        Ok(out)
+        Err(Fault::Form("nothing has that name"))
     }
 
-    /// Adds what a `$` stands for that this is behind, and all behind its `>`.
-    fn put_short(&self, alloc: Global, part: &str, out: &mut Vec<u8>) -> Result<(), Fault> {
+    /// Puts what a text says in full.
+    pub fn put_in_full(&self, alloc: Global, text: &str, page: &mut Page) -> Result<(), Fault> {
+        let Some((front, shorts)) = text.split_once('$') else {
+            page.put(text);
+            return Ok(());
+        };
+        page.put(front);
+        for part in shorts.split('$') {
+            self.put_short(alloc, part, page)?;
+        }
+        Ok(())
+    }
+
+    /// Puts what a `$` stands for that this is behind, and all behind its `>`.
+    fn put_short(&self, alloc: Global, part: &str, page: &mut Page) -> Result<(), Fault> {
         let Some((short, rest)) = part.split_once('>') else {
             return Err(Fault::Form("a `$<` isn't closed"));
         };
         let Some(short) = short.strip_prefix("<") else {
             return Err(Fault::Form("a `$` has no `<` behind it"));
         };
+        self.put_meant(alloc, short, page)?;
+        page.put(rest);
+        Ok(())
+    }
+
+    /// Puts what stands between `$<` and `>` in short.
+    fn put_meant(&self, alloc: Global, short: &str, page: &mut Page) -> Result<(), Fault> {
         if let Some(digits) = short.strip_prefix("#") {
-            out.extend_from_slice(&hex_bytes(alloc, digits)?)?;
+            page.put_bytes(&hex_bytes(alloc, digits)?);
         } else if let Some((count, text)) = short.split_once(' ') {
-            put_times(number(count)?, text, out)?;
+            put_times(number(count)?, text, page);
         } else {
-            out.extend_from_slice(self.named(short)?)?;
+            page.put_bytes(self.named(short)?);
         }
-        out.extend_from_slice(rest.as_bytes())?;
         Ok(())
     }
 }
 
-fn put_times(count: u64, text: &str, out: &mut Vec<u8>) -> Result<(), Fault> {
+fn put_times(count: u64, text: &str, page: &mut Page) {
     for _ in 0..count {
-        out.extend_from_slice(text.as_bytes())?;
+        page.put(text);
     }
-    Ok(())
 }

@@ -7,67 +7,72 @@ ghost use Rattle.lg_journal.specs.Rules.{IsJournal};
 
 use crate::fault::Fault;
 use crate::images::image;
-use crate::texts::{digits_of, first_word, hash_of, hex_bytes, in_a_line, number};
-use crate::values::printed_text;
+use crate::page::Page;
+use crate::texts::{first_word, hash_of, hex_bytes, number};
 use lg_entry::{block_hash, read_entry, read_record, record_bytes, write_entry};
 use lg_journal::{read_journal, write_journal};
 use lg_merkle::Sha256Hash;
 use lg_row::{read_event, write_event};
-use lg_types::{BlockRecord, Event, Journal, JournalItem, Script, TxEntry};
-use lg_value::print;
+use lg_types::{BlockRecord, Event, FieldOf, Journal, JournalItem, Script, TxEntry};
 use std::alloc::Global;
 
-/// Transaction, block, place, time and session of an entry, and the tables of its roots.
-fn entry_text(alloc: Global, e: &TxEntry) -> Result<String, Fault> {
-    let mut text = format!(in alloc;
-        "{} {} {} {} {}:",
-        e.id,
-        e.block,
-        e.ordinal,
-        e.time,
-        e.principal.as_str()
-    )?;
-    for (table, _) in e.roots.as_slice() {
-        text.push_str(&format!(in alloc; " {table}")?)?;
+/// Puts transaction, block, place, time and session of an entry, and the tables of its roots.
+fn put_entry(e: &TxEntry, page: &mut Page) {
+    for number in [e.id, e.block, e.ordinal, e.time] {
+        page.put_number(number);
+        page.put(" ");
     }
-    Ok(text)
+    page.put(e.principal.as_str());
+    page.put(":");
+    for (table, _) in e.roots.as_slice() {
+        page.put(" ");
+        page.put_shown(table);
+    }
+}
+
+fn is_entry_of(alloc: Global, e: &TxEntry, bytes: &[u8]) -> Result<bool, Fault>
+    requires { IsEntry e.now }
+{
+    let mut out = Vec::new(alloc);
+    write_entry(e, &mut out)?;
+    Ok(out.as_slice() == bytes)
 }
 
 fn entry_found(
     alloc: Global,
     found: &Option<TxEntry>,
     bytes: &[u8],
-) -> Result<Option<String>, Fault>
+    page: &mut Page,
+) -> Result<bool, Fault>
     requires { IfSome found.now (λ e. IsEntry e) }
 {
     let Some(e) = found else {
-        return Ok(None);
+        return Ok(false);
     };
-    let mut out = Vec::new(alloc);
-    write_entry(e, &mut out)?;
-    if out.as_slice() != bytes {
+    if !is_entry_of(alloc, e, bytes)? {
         return Err(Fault::Form("the entry isn't written as it is read"));
     }
-    Ok(Some(entry_text(alloc, e)?))
+    put_entry(e, page);
+    Ok(true)
 }
 
-fn entry(alloc: Global, bytes: &[u8]) -> Result<Option<String>, Fault> {
+fn entry(alloc: Global, bytes: &[u8], page: &mut Page) -> Result<bool, Fault> {
     let found = read_entry(alloc, bytes)?;
-    entry_found(alloc, &found, bytes)
+    entry_found(alloc, &found, bytes, page)
 }
 
-/// Each statement with its reply.
-fn script_text(alloc: Global, script: &Script) -> Result<String, Fault> {
-    let mut text = String::new(alloc);
+/// Puts each statement with its reply.
+fn put_script(script: &Script, page: &mut Page) {
     for (statement, reply) in script.as_slice() {
-        let statement = in_a_line(alloc, statement.as_str())?;
-        let reply = in_a_line(alloc, reply.as_str())?;
-        text.push_str(&format!(in alloc; " [{statement}|{reply}]")?)?;
+        page.put(" [");
+        page.put_in_a_line(statement.as_str());
+        page.put("|");
+        page.put_in_a_line(reply.as_str());
+        page.put("]");
     }
-    Ok(text)
 }
 
-fn item_text(alloc: Global, item: &JournalItem) -> Result<String, Fault> {
+fn put_item(item: &JournalItem, page: &mut Page) {
     match item {
         JournalItem::Tx {
             id,
@@ -76,23 +81,28 @@ fn item_text(alloc: Global, item: &JournalItem) -> Result<String, Fault> {
             opened,
             script,
         } => {
-            let begun = if *opened { " begun" } else { "" };
-            let script = script_text(alloc, script)?;
-            let session = session.as_str();
-            Ok(format!(in alloc; "{id} {session} {time}{begun}{script}")?)
+            page.put_number(*id);
+            page.put(" ");
+            page.put(session.as_str());
+            page.put(" ");
+            page.put_number(*time);
+            page.put(if *opened { " begun" } else { "" });
+            put_script(script, page);
         }
-        JournalItem::Close(count) => Ok(format!(in alloc; "close {count}")?),
+        JournalItem::Close(count) => {
+            page.put("close ");
+            page.put_number(*count as u64);
+        }
     }
 }
 
-/// The database of a journal, and its items.
-fn journal_text(alloc: Global, j: &Journal) -> Result<String, Fault> {
-    let mut text = String::from_str(alloc, j.database.as_str())?;
+/// Puts the database of a journal, and its items.
+fn put_journal(j: &Journal, page: &mut Page) {
+    page.put(j.database.as_str());
     for item in j.items.as_slice() {
-        text.push_str("; ")?;
-        text.push_str(&item_text(alloc, item)?)?;
+        page.put("; ");
+        put_item(item, page);
     }
-    Ok(text)
 }
 
 fn is_written_as(alloc: Global, j: &Journal, bytes: &[u8]) -> Result<bool, Fault>
@@ -106,127 +116,190 @@ fn journal_found(
     alloc: Global,
     found: &Option<Journal>,
     bytes: &[u8],
-) -> Result<Option<String>, Fault>
+    page: &mut Page,
+) -> Result<bool, Fault>
     requires { IfSome found.now (λ j. IsJournal j) }
 {
     let Some(j) = found else {
-        return Ok(None);
+        return Ok(false);
     };
     if !is_written_as(alloc, j, bytes)? {
         return Err(Fault::Form("the journal isn't written as it is read"));
     }
-    Ok(Some(journal_text(alloc, j)?))
+    put_journal(j, page);
+    Ok(true)
 }
 
-fn journal(alloc: Global, bytes: &[u8]) -> Result<Option<String>, Fault> {
+fn journal(alloc: Global, bytes: &[u8], page: &mut Page) -> Result<bool, Fault> {
     let found = read_journal(alloc, bytes)?;
-    journal_found(alloc, &found, bytes)
+    journal_found(alloc, &found, bytes, page)
 }
 
-/// The table, op, transaction, number and start of an event, and the ordinal, type and value of each column.
-fn event_text(alloc: Global, e: &Event) -> Result<String, Fault> {
-    let mut out = Vec::new(alloc);
-    let head = format!(in alloc; "{} {} {} {} {:?}", e.table, e.op, e.tx, e.seq, e.start)?;
-    out.extend_from_slice(head.as_bytes())?;
-    for column in e.columns.as_slice() {
-        let field = format!(in alloc; ", {} {:?} ", column.ordinal, column.ty)?;
-        out.extend_from_slice(field.as_bytes())?;
-        print(&column.value, &mut out)?;
+/// Puts the ordinal, type and value of a column.
+fn put_field(field: &FieldOf, page: &mut Page) {
+    page.put(", ");
+    page.put_number(field.ordinal as u64);
+    page.put(" ");
+    page.put_shown(&field.ty);
+    page.put(" ");
+    page.put_value(&field.value);
+}
+
+/// Puts the table, op, transaction, number and start of an event, and its columns.
+fn put_event(e: &Event, page: &mut Page) {
+    for number in [e.table as u64, e.op as u64, e.tx, e.seq] {
+        page.put_number(number);
+        page.put(" ");
     }
-    printed_text(out)
+    page.put_shown(&e.start);
+    for field in e.columns.as_slice() {
+        put_field(field, page);
+    }
 }
 
-fn leaf_found(alloc: Global, found: &Option<Event>, bytes: &[u8]) -> Result<Option<String>, Fault>
+fn is_leaf_of(alloc: Global, e: &Event, bytes: &[u8]) -> Result<bool, Fault>
+    requires { HasLeaf e.now }
+{
+    let mut out = Vec::new(alloc);
+    write_event(e, &mut out)?;
+    Ok(out.as_slice() == bytes)
+}
+
+fn leaf_found(
+    alloc: Global,
+    found: &Option<Event>,
+    bytes: &[u8],
+    page: &mut Page,
+) -> Result<bool, Fault>
     requires { IfSome found.now (λ e. HasLeaf e) }
 {
     let Some(e) = found else {
-        return Ok(None);
+        return Ok(false);
     };
-    let mut out = Vec::new(alloc);
-    write_event(e, &mut out)?;
-    if out.as_slice() != bytes {
+    if !is_leaf_of(alloc, e, bytes)? {
         return Err(Fault::Form("the leaf isn't written as it is read"));
     }
-    Ok(Some(event_text(alloc, e)?))
+    put_event(e, page);
+    Ok(true)
 }
 
-fn leaf(alloc: Global, bytes: &[u8]) -> Result<Option<String>, Fault> {
+fn leaf(alloc: Global, bytes: &[u8], page: &mut Page) -> Result<bool, Fault> {
     let found = read_event(alloc, bytes)?;
-    leaf_found(alloc, &found, bytes)
+    leaf_found(alloc, &found, bytes, page)
 }
 
-/// What an entry, an image, a journal or a leaf says, or nothing where the bytes are none.
-fn said(alloc: Global, word: &str, bytes: &[u8]) -> Result<Option<String>, Fault> {
+/// Whether bytes are an entry, an image, a journal or a leaf, and puts what it says.
+fn put_said(alloc: Global, word: &str, bytes: &[u8], page: &mut Page) -> Result<bool, Fault> {
     match word {
-        "entry" => entry(alloc, bytes),
-        "image" => image(alloc, bytes),
-        "journal" => journal(alloc, bytes),
-        "leaf" => leaf(alloc, bytes),
+        "entry" => entry(alloc, bytes, page),
+        "image" => image(alloc, bytes, page),
+        "journal" => journal(alloc, bytes, page),
+        "leaf" => leaf(alloc, bytes, page),
         _ => Err(Fault::Form("an entry, an image, a journal or a leaf is wanted")),
     }
 }
 
-fn said_text(alloc: Global, word: &str, bytes: &[u8]) -> Result<String, Fault> {
-    match said(alloc, word, bytes)? {
-        Some(text) => Ok(text),
-        None => Ok(format!(in alloc; "no {word}")?),
+fn put_all(alloc: Global, word: &str, bytes: &[u8], page: &mut Page) -> Result<(), Fault> {
+    if !put_said(alloc, word, bytes, page)? {
+        page.put("no ");
+        page.put(word);
     }
+    Ok(())
 }
 
 /// What bytes say in digits.
-pub fn shown(alloc: Global, word: &str, digits: &str) -> Result<String, Fault> {
-    said_text(alloc, word, &hex_bytes(alloc, digits)?)
+pub fn shown(alloc: Global, word: &str, digits: &str, page: &mut Page) -> Result<(), Fault> {
+    put_all(alloc, word, &hex_bytes(alloc, digits)?, page)
+}
+
+fn says(alloc: Global, word: &str, bytes: &[u8]) -> Result<bool, Fault> {
+    let mut page = Page::new(alloc);
+    put_said(alloc, word, bytes, &mut page)
+}
+
+/// How many of the bytes say something alone, where fewer than all do.
+fn first_saying(alloc: Global, word: &str, bytes: &[u8]) -> Result<Option<usize>, Fault> {
+    for len in 0..bytes.len() {
+        if says(alloc, word, &bytes[..len])? {
+            return Ok(Some(len));
+        }
+    }
+    Ok(None)
+}
+
+fn put_first(len: usize, whole: usize, page: &mut Page) {
+    page.put("the first ");
+    page.put_number(len as u64);
+    page.put(" of ");
+    page.put_number(whole as u64);
+    page.put(" bytes");
+}
+
+fn put_whole(whole: usize, longer: bool, page: &mut Page) {
+    page.put(if longer { "a byte behind " } else { "" });
+    page.put_number(whole as u64);
+    page.put(if longer { " bytes" } else { " bytes alone" });
 }
 
 /// How many bytes there are, and whether fewer of them or one more say something too.
-pub fn cut(alloc: Global, text: &str) -> Result<String, Fault> {
+pub fn cut(alloc: Global, text: &str, page: &mut Page) -> Result<(), Fault> {
     let (word, digits) = first_word(text);
     let mut bytes = hex_bytes(alloc, digits)?;
     let whole = bytes.len();
-    for len in 0..whole {
-        if said(alloc, word, &bytes[..len])?.is_some() {
-            return Ok(format!(in alloc; "the first {len} of {whole} bytes")?);
-        }
+    if let Some(len) = first_saying(alloc, word, &bytes)? {
+        put_first(len, whole, page);
+        return Ok(());
     }
     bytes.push(0)?;
-    if said(alloc, word, &bytes)?.is_some() {
-        return Ok(format!(in alloc; "a byte behind {whole} bytes")?);
+    put_whole(whole, says(alloc, word, &bytes)?, page);
+    Ok(())
+}
+
+fn byte_of(alloc: Global, digits: &str) -> Result<u8, Fault> {
+    match hex_bytes(alloc, digits)?.first() {
+        Some(byte) => Ok(*byte),
+        None => Err(Fault::Form("a place and a byte are wanted")),
     }
-    Ok(format!(in alloc; "{whole} bytes alone")?)
+}
+
+fn change(bytes: &mut [u8], place: u64, byte: u8) -> Result<(), Fault> {
+    match bytes.get_mut(place as usize) {
+        Some(at) => *at = byte,
+        None => return Err(Fault::Form("a place and a byte are wanted")),
+    }
+    Ok(())
 }
 
 /// A place, a byte in digits, and the word and the digits of a case: what is said where the byte stands at
 /// the place.
-pub fn changed(alloc: Global, text: &str) -> Result<String, Fault> {
+pub fn changed(alloc: Global, text: &str, page: &mut Page) -> Result<(), Fault> {
     let (place, text) = first_word(text);
     let (byte, text) = first_word(text);
     let (word, digits) = first_word(text);
     let place = number(place)?;
-    let byte = hex_bytes(alloc, byte)?;
+    let byte = byte_of(alloc, byte)?;
     let mut bytes = hex_bytes(alloc, digits)?;
-    match (byte.first(), bytes.get_mut(place as usize)) {
-        (Some(byte), Some(at)) => *at = *byte,
-        _ => return Err(Fault::Form("a place and a byte are wanted")),
-    }
-    said_text(alloc, word, &bytes)
+    change(&mut bytes, place, byte)?;
+    put_all(alloc, word, &bytes, page)
 }
 
 /// The number, root, size and previous hash of a block: the bytes of its record, and its hash.
-pub fn record(alloc: Global, text: &str) -> Result<String, Fault> {
+pub fn record(text: &str, page: &mut Page) -> Result<(), Fault> {
     let (id, text) = first_word(text);
     let (root, text) = first_word(text);
     let (size, previous) = first_word(text);
     let b = BlockRecord {
         id: number(id)?,
-        root: hash_of(alloc, root)?,
+        root: hash_of(root)?,
         size: number(size)?,
-        previous: hash_of(alloc, previous)?,
+        previous: hash_of(previous)?,
     };
     let bytes = record_bytes(&b);
     if read_record(&bytes) != b {
         return Err(Fault::Form("the record isn't read as it is written"));
     }
-    let bytes = digits_of(alloc, &bytes)?;
-    let hash = digits_of(alloc, &block_hash(Sha256Hash, &b))?;
-    Ok(format!(in alloc; "{bytes} {hash}")?)
+    page.put_digits(&bytes);
+    page.put(" ");
+    page.put_digits(&block_hash(Sha256Hash, &b));
+    Ok(())
 }

@@ -1,8 +1,9 @@
 //! Cases of replies.
 
 use crate::fault::Fault;
+use crate::page::Page;
 use crate::tables::rows_of;
-use crate::texts::{first_word, hash_of, in_a_line, number};
+use crate::texts::{first_word, hash_of, number};
 use lg_items::Items;
 use lg_reply::reply_text;
 use lg_types::Reply;
@@ -18,12 +19,10 @@ fn refusal(word: &str) -> Result<Reply, Fault> {
     }
 }
 
-fn digest(alloc: Global, text: &str) -> Result<Reply, Fault> {
+fn digest(text: &str) -> Result<Reply, Fault> {
     let (block, hash) = first_word(text);
-    Ok(Reply::Digest {
-        block: number(block)?,
-        hash: hash_of(alloc, hash)?,
-    })
+    let (block, hash) = (number(block)?, hash_of(hash)?);
+    Ok(Reply::Digest { block, hash })
 }
 
 fn reply_of(alloc: Global, text: &str) -> Result<Reply, Fault> {
@@ -36,7 +35,7 @@ fn reply_of(alloc: Global, text: &str) -> Result<Reply, Fault> {
         "back" => Ok(Reply::Back),
         "quiet" => Ok(Reply::Quiet),
         "image" => Ok(Reply::Image(number(rest)?)),
-        "digest" => digest(alloc, rest),
+        "digest" => digest(rest),
         "none" => Ok(Reply::Rows(Items::new(alloc))),
         "rows" => Ok(Reply::Rows(rows_of(alloc, rest)?)),
         "locked" => Ok(Reply::Refused(Refusal::Locked {
@@ -46,13 +45,14 @@ fn reply_of(alloc: Global, text: &str) -> Result<Reply, Fault> {
     }
 }
 
-fn shown(alloc: Global, reply: &Reply) -> Result<String, Fault> {
+fn put_reply(alloc: Global, reply: &Reply, page: &mut Page) -> Result<(), Fault> {
     let text = reply_text(alloc, reply)?;
-    in_a_line(alloc, text.as_str())
+    page.put_in_a_line(text.as_str());
+    Ok(())
 }
 
 /// The text of a reply; rows are those of an INSERT.
-pub fn reply(alloc: Global, text: &str) -> Result<String, Fault> {
+pub fn reply(alloc: Global, text: &str, page: &mut Page) -> Result<(), Fault> {
     let reply = reply_of(alloc, text)?;
-    shown(alloc, &reply)
+    put_reply(alloc, &reply, page)
 }

@@ -1,14 +1,14 @@
 //! Cases of SELECT over a few rows.
 
-use crate::expressions::refusal_text;
+use crate::expressions::put_refusal;
 use crate::fault::Fault;
-use crate::statements::statement;
+use crate::page::Page;
+use crate::statements::joined_statement;
 use crate::tables::{rows_of, table_of};
-use crate::values::printed_text;
 use lg_parts::Columns;
 use lg_query::select;
 use lg_types::{Part, Row, Select, Stmt};
-use lg_value::print;
+use lg_value::Value;
 use std::alloc::Global;
 
 /// The table, of whose columns `*` shows the first three.
@@ -38,48 +38,46 @@ fn rows_in(table: &str) -> Result<&'static str, Fault> {
     }
 }
 
-fn put_row(row: &Row, out: &mut Vec<u8>) -> Result<(), Fault> {
-    for (place, value) in row.as_slice().iter().enumerate() {
-        if place > 0 {
-            out.push(b'|')?;
-        }
-        print(value, out)?;
+fn put_row(row: &[Value], page: &mut Page) {
+    for (place, value) in row.iter().enumerate() {
+        page.put(if place > 0 { "|" } else { "" });
+        page.put_value(value);
     }
-    out.push(b';')?;
+    page.put(";");
+}
+
+fn put_rows(rows: &[Row], page: &mut Page) {
+    for row in rows {
+        put_row(row.as_slice(), page);
+    }
+}
+
+fn over_rows(alloc: Global, q: &Select, columns: &Columns, page: &mut Page) -> Result<(), Fault> {
+    let rows = rows_of(alloc, rows_in(q.table.as_str())?)?;
+    match select(alloc, q, columns, SHOWN, rows.into_vec()) {
+        Err(refusal) => put_refusal(refusal, page)?,
+        Ok(rows) => put_rows(&rows, page),
+    }
     Ok(())
 }
 
-fn rows_text(alloc: Global, rows: &[Row]) -> Result<String, Fault> {
-    let mut out = Vec::new(alloc);
-    for row in rows {
-        put_row(row, &mut out)?;
-    }
-    printed_text(out)
-}
-
-fn over_rows(alloc: Global, q: &Select, columns: &Columns) -> Result<String, Fault> {
-    let rows = rows_of(alloc, rows_in(q.table.as_str())?)?;
-    match select(alloc, q, columns, SHOWN, rows.into_vec()) {
-        Err(refusal) => refusal_text(alloc, refusal),
-        Ok(rows) => rows_text(alloc, &rows),
-    }
-}
-
-fn over_table(alloc: Global, q: &Select) -> Result<String, Fault> {
+fn over_table(alloc: Global, q: &Select, page: &mut Page) -> Result<(), Fault> {
     let table = table_of(alloc, TABLE)?;
-    over_rows(alloc, q, &Columns::of(&table, Part::Base))
+    over_rows(alloc, q, &Columns::of(&table, Part::Base), page)
 }
 
-fn of_select(alloc: Global, found: &Option<Stmt>) -> Result<String, Fault> {
+fn of_select(alloc: Global, found: Option<&Stmt>, page: &mut Page) -> Result<(), Fault> {
     match found {
-        Some(Stmt::Select(q)) => over_table(alloc, q),
-        _ => Ok(String::from_str(alloc, "no statement")?),
+        Some(Stmt::Select(q)) => over_table(alloc, q, page),
+        _ => {
+            page.put("no statement");
+            Ok(())
+        }
     }
 }
 
 /// The rows that a SELECT shows: the values with `|` between them, each row ended by `;`.
-pub fn selected(alloc: Global, text: &str) -> Result<String, Fault> {
-    let text = format!(in alloc; "SELECT {text}")?;
-    let found = statement(alloc, &text)?;
-    of_select(alloc, &found)
+pub fn selected(alloc: Global, text: &str, page: &mut Page) -> Result<(), Fault> {
+    let found = joined_statement(alloc, "SELECT ", text, "")?;
+    of_select(alloc, found.statement(), page)
 }

@@ -1,117 +1,158 @@
 //! Cases of tokens, statements and lines.
 
 use crate::fault::Fault;
-use crate::texts::{in_a_line, two_sides};
-use crate::values::printed_text;
-use lg_input::{InputErr, read_lines, session_names};
+use crate::page::Page;
+use crate::texts::{text_of, two_sides};
+use lg_input::{InputErr, Line, read_lines, session_names};
+use lg_items::Boxed;
 use lg_lex::{Kind, LexErr, Token, tokens};
 use lg_parse::{ParseErr, parse, print};
 use lg_types::{RowStmt, Select, Stmt, What};
 use std::alloc::Global;
 
-fn letter(kind: Kind) -> char {
+fn letter(kind: Kind) -> &'static str {
     match kind {
-        Kind::Word => 'w',
-        Kind::Bracketed => 'b',
-        Kind::Number => 'n',
-        Kind::Text => 't',
-        Kind::Bytes => 'x',
-        Kind::Sign => 's',
+        Kind::Word => "w",
+        Kind::Bracketed => "b",
+        Kind::Number => "n",
+        Kind::Text => "t",
+        Kind::Bytes => "x",
+        Kind::Sign => "s",
     }
 }
 
-/// Adds the letter of a token's kind, with the places of its first byte and behind its last.
-fn put_token(alloc: Global, token: Token, out: &mut String) -> Result<(), Fault> {
-    if !out.is_empty() {
-        out.push(' ')?;
+/// Puts the letter of a token's kind, with the places of its first byte and behind its last.
+fn put_token(token: Token, page: &mut Page) {
+    if !page.is_empty() {
+        page.put(" ");
     }
-    let shown = format!(in alloc; "{}{}-{}", letter(token.kind), token.start, token.end)?;
-    out.push_str(&shown)?;
-    Ok(())
+    page.put(letter(token.kind));
+    page.put_number(token.start as u64);
+    page.put("-");
+    page.put_number(token.end as u64);
 }
 
-/// The tokens of a text that has no others.
-fn tokens_shown(alloc: Global, text: &str) -> Result<String, Fault> {
-    let mut out = String::new(alloc);
-    if let Ok(found) = tokens(alloc, text) {
-        for token in found.as_slice() {
-            put_token(alloc, *token, &mut out)?;
-        }
+fn put_tokens(tokens: &[Token], page: &mut Page) {
+    for token in tokens {
+        put_token(*token, page);
     }
-    Ok(out)
+}
+
+/// Puts the tokens before a place of a text at which none begins, `!` and the place.
+fn put_front(alloc: Global, text: &str, at: usize, page: &mut Page) {
+    if let Ok(found) = tokens(alloc, text.get(..at).unwrap_or("")) {
+        put_tokens(found.as_slice(), page);
+    }
+    page.put(if page.is_empty() { "!" } else { " !" });
+    page.put_number(at as u64);
 }
 
 /// The tokens of a text; behind those that stand before a place where none begins, `!` and the place.
-pub fn cut_up(alloc: Global, text: &str) -> Result<String, Fault> {
+pub fn cut_up(alloc: Global, text: &str, page: &mut Page) -> Result<(), Fault> {
     match tokens(alloc, text) {
-        Ok(_) => tokens_shown(alloc, text),
-        Err(LexErr::Memory) => Err(Fault::Memory),
-        Err(LexErr::Bad { at }) => {
-            let mut out = tokens_shown(alloc, text.get(..at).unwrap_or(""))?;
-            let place = format!(in alloc; "{}!{at}", if out.is_empty() { "" } else { " " })?;
-            out.push_str(&place)?;
-            Ok(out)
+        Ok(found) => put_tokens(found.as_slice(), page),
+        Err(LexErr::Memory) => return Err(Fault::Memory),
+        Err(LexErr::Bad { at }) => put_front(alloc, text, at, page),
+    }
+    Ok(())
+}
+
+/// The statement that a text is, or nothing where it is none.
+#[derive(Drop)]
+pub struct Found {
+    statement: Option<Boxed<Stmt>>,
+}
+
+impl Found {
+    pub fn statement(&self) -> Option<&Stmt> {
+        match &self.statement {
+            Some(statement) => Some(statement.get()),
+            None => None,
         }
     }
 }
 
-/// What a text is as a statement, or nothing where it is none.
-pub fn statement(alloc: Global, text: &str) -> Result<Option<Stmt>, Fault> {
+fn boxed(alloc: Global, statement: Stmt) -> Result<Found, Fault> {
+    let statement = Boxed::new(alloc, statement)?;
+    Ok(Found {
+        statement: Some(statement),
+    })
+}
+
+/// What a text is as a statement.
+pub fn statement(alloc: Global, text: &str) -> Result<Found, Fault> {
     match parse(alloc, text) {
-        Ok(statement) => Ok(Some(statement)),
-        Err(ParseErr::Syntax) => Ok(None),
+        Ok(statement) => boxed(alloc, statement),
+        Err(ParseErr::Syntax) => Ok(Found { statement: None }),
         Err(ParseErr::Memory) => Err(Fault::Memory),
     }
 }
 
-fn text_printed(alloc: Global, statement: &Stmt) -> Result<String, Fault> {
-    printed_text(print(alloc, statement)?)
+/// What three texts are as a statement, one behind the other.
+pub fn joined_statement(
+    alloc: Global,
+    front: &str,
+    middle: &str,
+    back: &str,
+) -> Result<Found, Fault> {
+    let mut page = Page::new(alloc);
+    page.put(front);
+    page.put(middle);
+    page.put(back);
+    statement(alloc, page.text()?)
 }
 
-fn found_printed(alloc: Global, found: &Option<Stmt>) -> Result<Option<String>, Fault> {
+fn found_printed(alloc: Global, found: Option<&Stmt>) -> Result<Option<Vec<u8>>, Fault> {
     match found {
-        Some(statement) => Ok(Some(text_printed(alloc, statement)?)),
+        Some(statement) => Ok(Some(print(alloc, statement)?)),
         None => Ok(None),
     }
 }
 
 /// What is printed of the statement that a text is.
-fn printed(alloc: Global, text: &str) -> Result<Option<String>, Fault> {
+fn printed(alloc: Global, text: &str) -> Result<Option<Vec<u8>>, Fault> {
     let found = statement(alloc, text)?;
-    found_printed(alloc, &found)
+    found_printed(alloc, found.statement())
 }
 
-/// Whether the text is a statement that is printed as the text is.
-fn is_printed_as_itself(alloc: Global, text: &str) -> Result<bool, Fault> {
-    match printed(alloc, text)? {
-        Some(again) => Ok(again.as_bytes() == text.as_bytes()),
-        None => Ok(false),
+fn is_text(found: &Option<Vec<u8>>, text: &[u8]) -> bool {
+    match found {
+        Some(again) => again.as_slice() == text,
+        None => false,
     }
 }
 
-/// What was printed, which is to be read as itself.
-fn read_again(alloc: Global, text: String) -> Result<String, Fault> {
-    let same = is_printed_as_itself(alloc, text.as_str())?;
-    if same {
-        Ok(text)
-    } else {
-        Err(Fault::Form("the statement isn't read as it is printed"))
+/// Puts what was printed, which is to be read as itself.
+fn put_again(alloc: Global, text: &[u8], page: &mut Page) -> Result<(), Fault> {
+    let again = printed(alloc, text_of(text)?)?;
+    if !is_text(&again, text) {
+        return Err(Fault::Form("the statement isn't read as it is printed"));
+    }
+    page.put_bytes(text);
+    Ok(())
+}
+
+fn put_printed(alloc: Global, found: &Option<Vec<u8>>, page: &mut Page) -> Result<(), Fault> {
+    match found {
+        Some(text) => put_again(alloc, text, page),
+        None => {
+            page.put("no statement");
+            Ok(())
+        }
     }
 }
 
 /// The statement as it is printed.
-pub fn parsed(alloc: Global, text: &str) -> Result<String, Fault> {
-    match printed(alloc, text)? {
-        Some(text) => read_again(alloc, text),
-        None => Ok(String::from_str(alloc, "no statement")?),
-    }
+pub fn parsed(alloc: Global, text: &str, page: &mut Page) -> Result<(), Fault> {
+    let found = printed(alloc, text)?;
+    put_printed(alloc, &found, page)
 }
 
 /// What two statements are to each other, as they are printed.
-fn relation(one: &Option<String>, other: &Option<String>) -> &'static str {
+fn relation(one: &Option<Vec<u8>>, other: &Option<Vec<u8>>) -> &'static str {
     match one {
         Some(one) => match other {
-            Some(other) => if one.as_bytes() == other.as_bytes() {
+            Some(other) => if one.as_slice() == other.as_slice() {
                 "same"
             } else {
                 "two statements"
@@ -122,12 +163,17 @@ fn relation(one: &Option<String>, other: &Option<String>) -> &'static str {
     }
 }
 
+fn related(alloc: Global, one: &Option<Vec<u8>>, other: &str) -> Result<&'static str, Fault> {
+    let other = printed(alloc, other)?;
+    Ok(relation(one, &other))
+}
+
 /// Whether two texts are one statement.
-pub fn compared_texts(alloc: Global, text: &str) -> Result<String, Fault> {
+pub fn compared_texts(alloc: Global, text: &str, page: &mut Page) -> Result<(), Fault> {
     let (one, other) = two_sides(text)?;
     let one = printed(alloc, one)?;
-    let other = printed(alloc, other)?;
-    Ok(String::from_str(alloc, relation(&one, &other))?)
+    page.put(related(alloc, &one, other)?);
+    Ok(())
 }
 
 fn form_of(statement: &Stmt) -> &'static str {
@@ -154,58 +200,77 @@ fn form_of(statement: &Stmt) -> &'static str {
     }
 }
 
-fn form_found(found: &Option<Stmt>) -> &'static str {
+fn form_found(found: Option<&Stmt>) -> &'static str {
     match found {
         Some(statement) => form_of(statement),
         None => "no statement",
     }
 }
 
-fn form_shown(alloc: Global, text: &str) -> Result<&'static str, Fault> {
-    let found = statement(alloc, text)?;
-    Ok(form_found(&found))
+/// The form of the statement that three texts are, one behind the other.
+fn form_shown(alloc: Global, front: &str, middle: &str, back: &str) -> Result<&'static str, Fault> {
+    let found = joined_statement(alloc, front, middle, back)?;
+    Ok(form_found(found.statement()))
 }
 
 /// The form of the statement that a text is.
-pub fn form(alloc: Global, text: &str) -> Result<String, Fault> {
-    Ok(String::from_str(alloc, form_shown(alloc, text)?)?)
+pub fn form(alloc: Global, text: &str, page: &mut Page) -> Result<(), Fault> {
+    page.put(form_shown(alloc, "", text, "")?);
+    Ok(())
 }
 
 /// The form of the statement that saves under the name, bare and in brackets.
-pub fn name(alloc: Global, word: &str) -> Result<String, Fault> {
-    let bare = form_shown(alloc, &format!(in alloc; "SAVE TRAN {word}")?)?;
-    let bracketed = form_shown(alloc, &format!(in alloc; "SAVE TRAN [{word}]")?)?;
-    Ok(format!(in alloc; "{bare}, {bracketed}")?)
+pub fn name(alloc: Global, word: &str, page: &mut Page) -> Result<(), Fault> {
+    page.put(form_shown(alloc, "SAVE TRAN ", word, "")?);
+    page.put(", ");
+    page.put(form_shown(alloc, "SAVE TRAN [", word, "]")?);
+    Ok(())
+}
+
+fn put_lines(lines: &[Line<'_>], page: &mut Page) {
+    for line in lines {
+        page.put_number(line.number);
+        page.put(" ");
+        page.put(line.session);
+        page.put(" ");
+        page.put_in_a_line(line.text);
+        page.put(";");
+    }
 }
 
 /// The statements of an input: number of the line, session and text, each ended by `;`; or `!` and the first
 /// line that lacks its form.
-pub fn lines(alloc: Global, input: &[u8]) -> Result<String, Fault> {
-    let lines = match read_lines(alloc, input) {
-        Ok(lines) => lines,
-        Err(InputErr::Form { line }) => return Ok(format!(in alloc; "!{line}")?),
+pub fn lines(alloc: Global, input: &[u8], page: &mut Page) -> Result<(), Fault> {
+    match read_lines(alloc, input) {
+        Ok(lines) => put_lines(&lines, page),
         Err(InputErr::Memory) => return Err(Fault::Memory),
-    };
-    let mut out = String::new(alloc);
-    for line in &lines {
-        let text = in_a_line(alloc, line.text)?;
-        out.push_str(&format!(in alloc; "{} {} {text};", line.number, line.session)?)?;
+        Err(InputErr::Form { line }) => {
+            page.put("!");
+            page.put_number(line);
+        }
     }
-    Ok(out)
+    Ok(())
+}
+
+fn put_names(names: &[&str], page: &mut Page) {
+    for name in names {
+        page.put(name);
+        page.put(" ");
+    }
+}
+
+fn put_sessions(alloc: Global, lines: &[Line<'_>], page: &mut Page) -> Result<(), Fault> {
+    match session_names(alloc, lines)? {
+        Some(names) => put_names(&names, page),
+        None => page.put("many"),
+    }
+    Ok(())
 }
 
 /// The sessions of an input, or `many` where there are too many.
-pub fn sessions(alloc: Global, input: &[u8]) -> Result<String, Fault> {
-    let Ok(lines) = read_lines(alloc, input) else {
-        return Err(Fault::Form("a line lacks its form"));
-    };
-    let Some(names) = session_names(alloc, &lines)? else {
-        return Ok(String::from_str(alloc, "many")?);
-    };
-    let mut out = String::new(alloc);
-    for name in &names {
-        out.push_str(name)?;
-        out.push(' ')?;
+pub fn sessions(alloc: Global, input: &[u8], page: &mut Page) -> Result<(), Fault> {
+    match read_lines(alloc, input) {
+        Ok(lines) => put_sessions(alloc, &lines, page),
+        Err(_) => Err(Fault::Form("a line lacks its form")),
     }
-    Ok(out)
 }

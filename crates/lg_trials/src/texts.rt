@@ -1,4 +1,4 @@
-//! Words, numbers and bytes of a case, and texts that fit a line.
+//! Words, numbers and bytes of a case.
 
 use crate::fault::Fault;
 use hex::FromHexError;
@@ -14,7 +14,10 @@ pub fn first_word(text: &str) -> (&str, &str) {
 
 /// The two texts on both sides of ` | `.
 pub fn two_sides(text: &str) -> Result<(&str, &str), Fault> {
-    text.split_once(" | ").ok_or(Fault::Form("it has no ` | `"))
+    match text.split_once(" | ") {
+        Some(parts) => Ok(parts),
+        None => Err(Fault::Form("it has no ` | `")),
+    }
 }
 
 /// The number that a word is.
@@ -25,31 +28,36 @@ pub fn number(word: &str) -> Result<u64, Fault> {
     }
 }
 
+fn put_word(word: Result<Vec<u8>, FromHexError>, bytes: &mut Vec<u8>) -> Result<(), Fault> {
+    match word {
+        Ok(some) => Ok(bytes.extend_from_slice(&some)?),
+        Err(FromHexError::OutOfMemory) => Err(Fault::Memory),
+        Err(_) => Err(Fault::Form("pairs of hexadecimal digits are wanted")),
+    }
+}
+
+fn put_words(alloc: Global, words: &str, bytes: &mut Vec<u8>) -> Result<(), Fault> {
+    for word in words.split_whitespace() {
+        put_word(hex::decode(alloc, word), bytes)?;
+    }
+    Ok(())
+}
+
 /// The bytes that words of hexadecimal digits are.
 pub fn hex_bytes(alloc: Global, words: &str) -> Result<Vec<u8>, Fault> {
     let mut bytes = Vec::new(alloc);
-    for word in words.split_whitespace() {
-        match hex::decode(alloc, word) {
-            Ok(some) => bytes.extend_from_slice(&some)?,
-            Err(FromHexError::OutOfMemory) => return Err(Fault::Memory),
-            Err(_) => return Err(Fault::Form("pairs of hexadecimal digits are wanted")),
-        }
-    }
+    put_words(alloc, words, &mut bytes)?;
     Ok(bytes)
 }
 
 /// The hash that a word of 64 hexadecimal digits is.
-pub fn hash_of(alloc: Global, word: &str) -> Result<[u8; 32], Fault> {
-    let bytes = hex_bytes(alloc, word)?;
-    match <[u8; 32]>::try_from(bytes.as_slice()) {
-        Ok(hash) => Ok(hash),
-        Err(_) => Err(Fault::Form("32 bytes are wanted")),
+pub fn hash_of(word: &str) -> Result<[u8; 32], Fault> {
+    let mut hash = [0; 32];
+    match hex::decode_to_slice(word, &mut hash) {
+        Ok(()) => Ok(hash),
+        Err(FromHexError::InvalidStringLength) => Err(Fault::Form("32 bytes are wanted")),
+        Err(_) => Err(Fault::Form("pairs of hexadecimal digits are wanted")),
     }
-}
-
-/// The bytes in hexadecimal digits.
-pub fn digits_of(alloc: Global, bytes: &[u8]) -> Result<String, Fault> {
-    Ok(hex::encode(alloc, bytes)?)
 }
 
 /// The text that bytes are.
@@ -58,17 +66,4 @@ pub fn text_of(bytes: &[u8]) -> Result<&str, Fault> {
         Ok(text) => Ok(text),
         Err(_) => Err(Fault::Form("its text isn't UTF-8")),
     }
-}
-
-/// The text, with `\n` and `\r` in the place of the ends of its lines.
-pub fn in_a_line(alloc: Global, text: &str) -> Result<String, Fault> {
-    let mut line = String::new(alloc);
-    for c in text.chars() {
-        match c {
-            '\n' => line.push_str("\\n")?,
-            '\r' => line.push_str("\\r")?,
-            c => line.push(c)?,
-        }
-    }
-    Ok(line)
 }

@@ -4,7 +4,8 @@ ghost use Rattle.std.specs.Prelude.{◌≡◌, ◌<◌, ◌≤◌, ◌+◌, ◌^
 ghost use Rattle.lg_merkle.specs.Holds.{Holds};
 
 use crate::fault::Fault;
-use crate::texts::{digits_of, hex_bytes, two_sides};
+use crate::page::Page;
+use crate::texts::{hex_bytes, two_sides};
 use lg_merkle::{Frontier, Hash32, Sha256Hash};
 use std::alloc::Global;
 
@@ -12,21 +13,24 @@ use std::alloc::Global;
 const MOST_LEAVES: usize = 1000;
 
 fn leaf_of(alloc: Global, word: &str) -> Result<Vec<u8>, Fault> {
-    hex_bytes(alloc, if word == "-" { "" } else { word })
+    match word {
+        "-" => Ok(Vec::new(alloc)),
+        _ => hex_bytes(alloc, word),
+    }
 }
 
-fn all_leaves(alloc: Global, words: &str) -> Result<Vec<Vec<u8>>, Fault> {
-    let mut leaves = Vec::new(alloc);
+fn put_leaves(alloc: Global, words: &str, leaves: &mut Vec<Vec<u8>>) -> Result<(), Fault> {
     for word in words.split_whitespace() {
         leaves.push(leaf_of(alloc, word)?)?;
     }
-    Ok(leaves)
+    Ok(())
 }
 
 fn leaves_of(alloc: Global, words: &str) -> Result<Vec<Vec<u8>>, Fault>
     ensures few { IfOk result (λ leaves. vec_len leaves ≤ 1000) }
 {
-    let leaves = all_leaves(alloc, words)?;
+    let mut leaves = Vec::new(alloc);
+    put_leaves(alloc, words, &mut leaves)?;
     if leaves.len() > MOST_LEAVES {
         return Err(Fault::Form("there are too many leaves"));
     }
@@ -62,34 +66,38 @@ fn roots(first: &[Vec<u8>], second: &[Vec<u8>], third: &[Vec<u8>]) -> ([u8; 32],
     (before, between, tree.root())
 }
 
-fn tree_text(alloc: Global, leaves: &[Vec<u8>]) -> Result<String, Fault>
+fn put_tree(leaves: &[Vec<u8>], page: &mut Page)
     requires few { length leaves.now ≤ 1000 }
 {
     let mut tree = Frontier::new(Sha256Hash);
     push_all(&mut tree, leaves);
-    let root = digits_of(alloc, &tree.root())?;
-    Ok(format!(in alloc; "{} {root}", tree.count())?)
+    page.put_number(tree.count());
+    page.put(" ");
+    page.put_digits(&tree.root());
 }
 
 /// How many leaves there are, and the root of their tree.
-pub fn tree(alloc: Global, words: &str) -> Result<String, Fault> {
+pub fn tree(alloc: Global, words: &str, page: &mut Page) -> Result<(), Fault> {
     let leaves = leaves_of(alloc, words)?;
-    tree_text(alloc, &leaves)
+    put_tree(&leaves, page);
+    Ok(())
 }
 
-fn roots_text(alloc: Global, roots: &([u8; 32], [u8; 32], [u8; 32])) -> Result<String, Fault> {
-    let before = digits_of(alloc, &roots.0)?;
-    let between = digits_of(alloc, &roots.1)?;
-    let after = digits_of(alloc, &roots.2)?;
-    Ok(format!(in alloc; "{before}; {between}; {after}")?)
+fn put_roots(roots: &([u8; 32], [u8; 32], [u8; 32]), page: &mut Page) {
+    page.put_digits(&roots.0);
+    page.put("; ");
+    page.put_digits(&roots.1);
+    page.put("; ");
+    page.put_digits(&roots.2);
 }
 
 /// The roots before a mark, behind it, and from the mark on with other leaves.
-pub fn restored(alloc: Global, text: &str) -> Result<String, Fault> {
+pub fn restored(alloc: Global, text: &str, page: &mut Page) -> Result<(), Fault> {
     let (first, rest) = two_sides(text)?;
     let (second, third) = two_sides(rest)?;
     let first = leaves_of(alloc, first)?;
     let second = leaves_of(alloc, second)?;
     let third = leaves_of(alloc, third)?;
-    roots_text(alloc, &roots(&first, &second, &third))
+    put_roots(&roots(&first, &second, &third), page);
+    Ok(())
 }

@@ -1,11 +1,12 @@
 //! Cases of literals, columns, days and the order of values.
 
 use crate::fault::Fault;
-use crate::statements::statement;
-use crate::texts::{first_word, two_sides};
+use crate::page::Page;
+use crate::statements::joined_statement;
+use crate::texts::{first_word, text_of, two_sides};
 use lg_types::Stmt;
 use lg_value::{
-    LitErr, SqlType, Value, ValueErr, compare, fits, print, print_literal, read_literal, to_column,
+    LitErr, SqlType, Value, ValueErr, compare, fits, print_literal, read_literal, to_column,
 };
 use std::alloc::Global;
 use std::cmp::Ordering;
@@ -21,28 +22,11 @@ fn value_of(alloc: Global, text: &str) -> Result<Option<Value>, Fault> {
 
 /// The value of a text that is to be a literal.
 pub fn literal_value(alloc: Global, text: &str) -> Result<Value, Fault> {
-    value_of(alloc, text)?.ok_or(Fault::Form("a literal is wanted"))
-}
-
-/// The text of bytes that were printed.
-pub fn printed_text(bytes: Vec<u8>) -> Result<String, Fault> {
-    match String::from_utf8(bytes) {
-        Ok(text) => Ok(text),
-        Err(_) => Err(Fault::Form("what was printed isn't UTF-8")),
+    match read_literal(alloc, text) {
+        Ok(value) => Ok(value),
+        Err(LitErr::NotLiteral) => Err(Fault::Form("a literal is wanted")),
+        Err(LitErr::Memory) => Err(Fault::Memory),
     }
-}
-
-/// The value as it is printed.
-pub fn value_text(alloc: Global, value: &Value) -> Result<String, Fault> {
-    let mut out = Vec::new(alloc);
-    print(value, &mut out)?;
-    printed_text(out)
-}
-
-fn literal_text(alloc: Global, value: &Value) -> Result<String, Fault> {
-    let mut out = Vec::new(alloc);
-    print_literal(value, &mut out)?;
-    printed_text(out)
 }
 
 fn is_literal_of(alloc: Global, text: &str, value: &Value) -> Result<bool, Fault> {
@@ -50,30 +34,38 @@ fn is_literal_of(alloc: Global, text: &str, value: &Value) -> Result<bool, Fault
     Ok(read == *value)
 }
 
-fn read_again(alloc: Global, value: &Value) -> Result<String, Fault> {
-    let text = literal_text(alloc, value)?;
-    let same = is_literal_of(alloc, text.as_str(), value)?;
-    if same {
-        Ok(text)
-    } else {
-        Err(Fault::Form("the literal isn't read as it is printed"))
+/// Puts a text that is printed of a value, which is to be read as an equal one.
+fn put_again(alloc: Global, text: &[u8], value: &Value, page: &mut Page) -> Result<(), Fault> {
+    if !is_literal_of(alloc, text_of(text)?, value)? {
+        return Err(Fault::Form("the literal isn't read as it is printed"));
     }
+    page.put_bytes(text);
+    Ok(())
 }
 
-fn literal_found(alloc: Global, found: &Option<Value>) -> Result<String, Fault> {
+fn put_literal(alloc: Global, value: &Value, page: &mut Page) -> Result<(), Fault> {
+    let mut text = Vec::new(alloc);
+    print_literal(value, &mut text)?;
+    put_again(alloc, &text, value, page)
+}
+
+fn put_found(alloc: Global, found: &Option<Value>, page: &mut Page) -> Result<(), Fault> {
     match found {
-        Some(value) => read_again(alloc, value),
-        None => Ok(String::from_str(alloc, "no literal")?),
+        Some(value) => put_literal(alloc, value, page),
+        None => {
+            page.put("no literal");
+            Ok(())
+        }
     }
 }
 
 /// The literal as it is printed, which is to be read as an equal value.
-pub fn literal(alloc: Global, text: &str) -> Result<String, Fault> {
+pub fn literal(alloc: Global, text: &str, page: &mut Page) -> Result<(), Fault> {
     let found = value_of(alloc, text)?;
-    literal_found(alloc, &found)
+    put_found(alloc, &found, page)
 }
 
-fn first_type(found: &Option<Stmt>) -> Result<SqlType, Fault> {
+fn first_type(found: Option<&Stmt>) -> Result<SqlType, Fault> {
     match found {
         Some(Stmt::Create(table)) => match table.columns.get(0) {
             Some(column) => Ok(column.ty),
@@ -85,17 +77,8 @@ fn first_type(found: &Option<Stmt>) -> Result<SqlType, Fault> {
 
 /// The type that a text is in CREATE TABLE.
 fn type_of(alloc: Global, text: &str) -> Result<SqlType, Fault> {
-    let table = format!(in alloc; "CREATE TABLE t (a {text} PRIMARY KEY)")?;
-    let found = statement(alloc, &table)?;
-    first_type(&found)
-}
-
-fn stored_text(alloc: Global, value: &Value, ty: &SqlType) -> Result<String, Fault> {
-    let mut text = value_text(alloc, value)?;
-    if !fits(value, ty) {
-        text.push_str(" but it doesn't fit")?;
-    }
-    Ok(text)
+    let found = joined_statement(alloc, "CREATE TABLE t (a ", text, " PRIMARY KEY)")?;
+    first_type(found.statement())
 }
 
 fn error_word(error: ValueErr) -> &'static str {
@@ -106,30 +89,43 @@ fn error_word(error: ValueErr) -> &'static str {
     }
 }
 
-/// What a column of the type keeps of a literal, or why it keeps nothing.
-fn kept(alloc: Global, ty: &SqlType, value: Value) -> Result<String, Fault> {
-    match to_column(value, ty) {
-        Ok(value) => stored_text(alloc, &value, ty),
-        Err(error) => Ok(String::from_str(alloc, error_word(error))?),
+fn put_kept(kept: &Result<Value, ValueErr>, ty: &SqlType, page: &mut Page) {
+    match kept {
+        Ok(value) => {
+            page.put_value(value);
+            page.put(if fits(value, ty) {
+                ""
+            } else {
+                " but it doesn't fit"
+            });
+        }
+        Err(error) => page.put(error_word(*error)),
     }
 }
 
-/// A type and a literal: what a column of the type keeps of it.
-pub fn column(alloc: Global, text: &str) -> Result<String, Fault> {
+/// A type and a literal: what a column of the type keeps of it, or why it keeps nothing.
+pub fn column(alloc: Global, text: &str, page: &mut Page) -> Result<(), Fault> {
     let (ty, text) = first_word(text);
     let ty = type_of(alloc, ty)?;
     match value_of(alloc, text)? {
-        Some(value) => kept(alloc, &ty, value),
-        None => Ok(String::from_str(alloc, "no literal")?),
+        Some(value) => put_kept(&to_column(value, &ty), &ty, page),
+        None => page.put("no literal"),
+    }
+    Ok(())
+}
+
+fn put_day(kept: &Result<Value, ValueErr>, page: &mut Page) {
+    match kept {
+        Ok(Value::Date(day)) => page.put_number(*day as u64),
+        _ => page.put("no day"),
     }
 }
 
 /// The number of the day that a literal is.
-pub fn day(alloc: Global, text: &str) -> Result<String, Fault> {
-    match to_column(literal_value(alloc, text)?, &SqlType::Date) {
-        Ok(Value::Date(day)) => Ok(format!(in alloc; "{day}")?),
-        _ => Ok(String::from_str(alloc, "no day")?),
-    }
+pub fn day(alloc: Global, text: &str, page: &mut Page) -> Result<(), Fault> {
+    let value = literal_value(alloc, text)?;
+    put_day(&to_column(value, &SqlType::Date), page);
+    Ok(())
 }
 
 fn order_word(one: &Value, other: &Value) -> Result<&'static str, Fault> {
@@ -149,13 +145,10 @@ fn compared_to(alloc: Global, one: &Value, text: &str) -> Result<&'static str, F
     order_word(one, &other)
 }
 
-fn compared_texts(alloc: Global, one: &str, other: &str) -> Result<&'static str, Fault> {
-    let one = literal_value(alloc, one)?;
-    compared_to(alloc, &one, other)
-}
-
 /// Whether the first of two values is less, equal or greater, which the second is to be turned.
-pub fn compared(alloc: Global, text: &str) -> Result<String, Fault> {
+pub fn compared(alloc: Global, text: &str, page: &mut Page) -> Result<(), Fault> {
     let (one, other) = two_sides(text)?;
-    Ok(String::from_str(alloc, compared_texts(alloc, one, other)?)?)
+    let one = literal_value(alloc, one)?;
+    page.put(compared_to(alloc, &one, other)?);
+    Ok(())
 }
