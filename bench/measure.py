@@ -23,11 +23,12 @@ CASES = [
     ("10^5 updates, 1 row", ["updates"], None, None),
     ("10^5 updates, 1000 rows", ["updates", "1000"], None, None),
     ("4 indexes, 500 rows", ["indexes", "500"], None, None),
-    ("4 indexes, 5000 rows", ["indexes", "5000"], "4 indexes, 500 rows", 20),
+    ("4 indexes, 5000 rows", ["indexes", "5000"], "4 indexes, 500 rows", 12),
     ("1 statement of 1000 rows", ["wide", "1"], None, None),
     ("100 statements of 1000 rows", ["wide", "100"], None, None),
     ("1000 rows, all changed 10 times", ["all", "10"], None, None),
     ("1000 rows, all changed 100 times", ["all", "100"], "1000 rows, all changed 10 times", 12),
+    ("1000 rows, all changed 1000 times", ["all", "1000"], "1000 rows, all changed 100 times", 12),
 ]
 MOST_RATIO = 3
 MOST_SECONDS = 20
