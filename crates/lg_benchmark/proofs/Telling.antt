@@ -1,5 +1,5 @@
 -- A run of the workload in which each statement is committed tells what is expected.
-use Rattle.std.proofs.Common.{◌≡◌, ◌∙◌, ◌≤◌, ◌+◌, ◌*◌, ◌/◌, ℕ, List, [], ◌∷◌, codes, map, Some, refl, sym, ap, subst}
+use Rattle.std.proofs.Common.{◌≡◌, ◌∙◌, ◌≤◌, ◌+◌, ◌++◌, ◌*◌, ◌/◌, ℕ, List, [], ◌∷◌, codes, length, map, Some, refl, sym, ap, subst, arith}
 use Rattle.std.specs.List.{AllByRecursion}
 use Rattle.lg_types.specs.declared.digest.Digest.{Digest}
 use Rattle.lg_types.specs.declared.image.Image.{Image}
@@ -25,6 +25,7 @@ use Rattle.lg_verdict.specs.declared.place.Verdict.{Verdict}
 use Rattle.lg_verdict.specs.declared.place.Verdict.TheVariants.{Yes}
 use Rattle.lg_verdict.specs.Bytes.{verdict_of}
 use Rattle.lg_verdict.proofs.Judged.{of_image}
+use Rattle.lg_honest.specs.Held.{held}
 use Rattle.lg_kept.specs.LastImage.{last_image_bytes}
 use Rattle.lg_together.specs.CameTo.{CameTo, Left}
 use Rattle.lg_course.specs.Told.{IsMeaning}
@@ -37,6 +38,10 @@ use Rattle.lg_benchmark.specs.Figures.{amount, history_count, row_count, user_ta
 use Rattle.lg_benchmark.specs.Reports.{expected, image_in, inserted_in_all, TellsOf, TellsOfImage}
 use Rattle.lg_benchmark.specs.declared.report.Report.{Report}
 use Rattle.lg_benchmark.proofs.FourTables.{Are, counted_are}
+
+pub none_left : {A : Type 0} (xs : List A) → length xs ≡ 0 → xs ≡ []
+none_left [] e = refl
+none_left (x ∷ xs) e = absurd (omega (arith, e))
 
 -- the laws on the workload
 pub record Laws : Type 0 where
@@ -104,9 +109,10 @@ module _ (laws : Laws) (written : GivesWritten statement_of)
     (spelled : (h : List ℕ → List ℕ) (reads : Reading) (database : List ℕ) (items : List JournalItem) → GivesWritten reads → IsLegal reads items
     → HasRoom h reads database items → IsImage (image_of h reads database items))
     (h : List ℕ → List ℕ) (rows : ℕ) (few : rows ≤ 1000000) (is_said : ℕ → Type 0) (left : Left) (came : CameTo h (codes "LedgerDB") 100 is_said (workload_input rows) left)
+    (more : List Digest) (yes : verdict_of h (map held (left.G ++ more)) (last_image_bytes h left.J) ≡ Yes)
     (room : HasRoom h statement_of left.J.database left.J.items)
     (bytes : List ℕ) (is : bytes ≡ last_image_bytes h left.J) (image : Image) (is_image : IsImage image) (read : bytes ≡ image_bytes image)
-    (r : Report) (tells : TellsOfImage h image r) (all : r.transactions ≡ (expected rows).transactions) where
+    (r : Report) (tells : TellsOfImage h image (map held (left.G ++ more)) r) (all : r.transactions ≡ (expected rows).transactions) where
   J : Journal
   J = left.J
 
@@ -116,17 +122,17 @@ module _ (laws : Laws) (written : GivesWritten statement_of)
   same : image ≡ image_in h left.J
   same = bytes_of_one image (image_in h left.J) is_image its_image (sym read ∙ is)
 
-  here : TellsOfImage h (image_in h left.J) r
-  here = subst (λ (i : Image). TellsOfImage h i r) same tells
+  here : TellsOfImage h (image_in h left.J) (map held (left.G ++ more)) r
+  here = subst (λ (i : Image). TellsOfImage h i (map held (left.G ++ more)) r) same tells
 
   entries_are : r.transactions ≡ tx_count left.J.items
   unfolding image_of
   entries_are = here.transactions ∙ entries_counted h statement_of left.J.items
 
-  verdict_is : r.verdict ≡ verdict_of h [] (last_image_bytes h left.J)
-  verdict_is = here.verdict ∙ sym (of_image h [] (image_in h left.J) its_image)
+  verdict_is : r.verdict ≡ verdict_of h (map held (left.G ++ more)) (last_image_bytes h left.J)
+  verdict_is = here.verdict ∙ sym (of_image h (map held (left.G ++ more)) (image_in h left.J) its_image)
 
-  pub tells_of : TellsOf h left.J r
+  pub tells_of : TellsOf h left.J (left.G ++ more) r
   tells_of = record { transactions = entries_are; rows = here.rows; history = here.history; sum = here.sum; verdict = verdict_is }
 
   agree_so : (q : Meaning) → IsMeaning h statement_of q → Agree q left.J.database (workload_input rows) (Some 0) left.X left.J.items left.G
@@ -134,9 +140,6 @@ module _ (laws : Laws) (written : GivesWritten statement_of)
 
   committed : tx_count left.J.items ≡ 4 + 4 * rows + 4 * (rows / 10)
   committed = sym entries_are ∙ all
-
-  yes : verdict_of h [] (last_image_bytes h left.J) ≡ Yes
-  yes = came.last_accepted [] tt
 
   pub as_expected : r ≡ expected rows
   as_expected = same_report r (expected rows) all

@@ -1,5 +1,7 @@
 -- What is told of a run of the workload.
-use Rattle.std.specs.Prelude.{ℕ, ◌≡◌, ◌+◌, ◌*◌, ◌/◌, List, [], length}
+use Rattle.std.specs.Prelude.{ℕ, ◌≡◌, ◌+◌, ◌*◌, ◌/◌, List, length, map}
+use Rattle.lg_types.specs.declared.digest.Digest.{Digest}
+use Rattle.lg_types.specs.declared.digest.HeldDigest.{HeldDigest}
 use Rattle.lg_types.specs.declared.image.Image.{Image}
 use Rattle.lg_types.specs.declared.journal.Journal.{Journal}
 use Rattle.lg_model.specs.Journals.{tx_count}
@@ -8,6 +10,7 @@ use Rattle.lg_image.specs.Image.{image_of}
 use Rattle.lg_verdict.specs.declared.place.Verdict.TheVariants.{Yes}
 use Rattle.lg_verdict.specs.Bytes.{verdict_of}
 use Rattle.lg_verdict.specs.Verdict.{image_verdict}
+use Rattle.lg_honest.specs.Held.{held}
 use Rattle.lg_kept.specs.LastImage.{last_image_bytes}
 use Rattle.lg_workload.specs.Turns.{inserted_total}
 use Rattle.lg_benchmark.specs.Figures.{amount, history_count, row_count, user_tables}
@@ -17,21 +20,22 @@ use Rattle.lg_benchmark.specs.declared.report.Report.{Report}
 abbrev pub image_in : (List ℕ → List ℕ) → Journal → Image
 image_in h J = image_of h statement_of J.database J.items
 
--- it tells of the journal, and of its image: what is counted there, and the verdict
-pub record TellsOf (h : List ℕ → List ℕ) (J : Journal) (r : Report) : Type 0 where
+-- it tells of the journal, and of its image: what is counted there, and the verdict with these digests
+pub record TellsOf (h : List ℕ → List ℕ) (J : Journal) (digests : List Digest) (r : Report) : Type 0 where
   pub transactions : r.transactions ≡ tx_count J.items
   pub rows : r.rows ≡ row_count (user_tables (image_in h J))
   pub history : r.history ≡ history_count (user_tables (image_in h J))
   pub sum : r.sum ≡ amount (user_tables (image_in h J))
-  pub verdict : r.verdict ≡ verdict_of h [] (last_image_bytes h J)
+  pub verdict : r.verdict ≡ verdict_of h (map held digests) (last_image_bytes h J)
 
--- it tells of an image
-pub record TellsOfImage (h : List ℕ → List ℕ) (image : Image) (r : Report) : Type 0 where
+-- it tells of an image, and of the verdict with what is held of digests
+pub record TellsOfImage (h : List ℕ → List ℕ) (image : Image) (digests : List HeldDigest) (r : Report)
+    : Type 0 where
   pub transactions : r.transactions ≡ length image.entries
   pub rows : r.rows ≡ row_count (user_tables image)
   pub history : r.history ≡ history_count (user_tables image)
   pub sum : r.sum ≡ amount (user_tables image)
-  pub verdict : r.verdict ≡ image_verdict h image []
+  pub verdict : r.verdict ≡ image_verdict h image digests
 
 -- the sum of what the rows of all four tables were inserted with
 abbrev pub inserted_in_all : ℕ → ℕ

@@ -1,9 +1,11 @@
 //! The run of the workload.
 
-ghost use Rattle.std.specs.Prelude.{◌≡◌, ◌≤◌, IfOk, codes};
+ghost use Rattle.std.specs.Prelude.{◌≡◌, ◌≤◌, ◌++◌, List, IfOk, codes, map};
 ghost use Rattle.lg_generator.specs.Workload.{workload_plan};
 ghost use Rattle.lg_image.specs.ImageBytes.{IsImage};
-ghost use Rattle.lg_run.specs.CameTo.{CameTo, IsOf};
+ghost use Rattle.lg_types.specs.declared.digest.Digest.{Digest as SpecDigest};
+ghost use Rattle.lg_honest.specs.Held.{held};
+ghost use Rattle.lg_run.specs.CameTo.{CameTo, IsClosed, IsOf, and_digests};
 ghost use Rattle.lg_together.specs.CameTo.{Left};
 ghost use Rattle.lg_benchmark.specs.Reports.{expected, TellsOf, TellsOfImage};
 
@@ -13,12 +15,12 @@ use lg_base::{FixedClock, OpenGate};
 use lg_generator::{Workload, statements_law};
 use lg_image::read_image;
 use lg_images::legal_images_have_a_spelling;
-use lg_items::Memory;
+use lg_items::{Items, Memory};
 use lg_merkle::Hash32;
-use lg_run::run_all;
+use lg_run::run_and_close;
 use lg_step::{Ran, Settings};
 use lg_turns::runs_of_the_workload_take_turns;
-use lg_types::Image;
+use lg_types::{Digest, HeldDigest, Image};
 use lg_verify::verify_image;
 use lg_workload::{texts_are_read, turns_come_to_one_end};
 use lg_written::readings_of_the_grammar_give_written;
@@ -36,7 +38,7 @@ const SETTINGS: Settings<'static> = Settings {
     database: "LedgerDB",
 };
 
-/// Runs the statements of the workload, its sessions side by side.
+/// Runs the statements of the workload, its sessions side by side, and closes the ledger behind them.
 fn run<H: Hash32, R: Threads + Wait + Sync>(
     rt: &R,
     alloc: Global,
@@ -44,15 +46,16 @@ fn run<H: Hash32, R: Threads + Wait + Sync>(
     rows: u32,
 ) -> Result<Ran, Memory>
     requires { rows ≤ 1000000 }
-    ensures { IfOk result (λ ran. (left : Left)
+    ensures { IfOk result (λ ran. (left : Left) × (more : List SpecDigest)
         × CameTo (H.digest hasher) (codes "LedgerDB") 100 (λ at. at ≡ 0) (workload_plan rows) left
-        × IsOf (H.digest hasher) left ran) }
+        × IsClosed (H.digest hasher) (λ at. at ≡ 0) left more
+        × IsOf (H.digest hasher) (and_digests left more) ran) }
 {
     let texts = Workload::new(alloc, rows)?;
     let plan = texts.plan(alloc)?;
     // A law: it does nothing.
     statements_law();
-    run_all(
+    run_and_close(
         rt,
         alloc,
         hasher,
@@ -63,10 +66,36 @@ fn run<H: Hash32, R: Threads + Wait + Sync>(
     )
 }
 
-/// What is counted of an image, and the verdict on it.
-fn report_on<H: Hash32>(alloc: Global, hasher: H, image: &Image) -> Result<Report, Memory>
+/// What an auditor holds of these digests.
+fn held_of(alloc: Global, digests: Items<Digest>) -> Result<Vec<HeldDigest>, Memory>
+    ensures { IfOk result (λ all. all.items ≡ map held digests) }
+{
+    let mut all = Vec::new(alloc);
+    for digest in digests.into_vec() {
+        let Digest {
+            database,
+            block,
+            hash,
+            ..
+        } = digest;
+        all.push(HeldDigest {
+            database,
+            block,
+            hash,
+        })?;
+    }
+    Ok(all)
+}
+
+/// What is counted of an image, and the verdict on it with these digests.
+fn report_on<H: Hash32>(
+    alloc: Global,
+    hasher: H,
+    image: &Image,
+    digests: &[HeldDigest],
+) -> Result<Report, Memory>
     requires { IsImage image.now }
-    ensures { IfOk result (TellsOfImage (H.digest hasher) image.now) }
+    ensures { IfOk result (TellsOfImage (H.digest hasher) image.now digests.now) }
 {
     let tables = image.tables.as_slice();
     let counted = count_tables(&tables[SYSTEM_TABLES.min(tables.len())..])?;
@@ -75,7 +104,7 @@ fn report_on<H: Hash32>(alloc: Global, hasher: H, image: &Image) -> Result<Repor
         rows: counted.rows,
         history: counted.history,
         sum: counted.sum,
-        verdict: verify_image(alloc, hasher, image, &[])?,
+        verdict: verify_image(alloc, hasher, image, digests)?,
     })
 }
 
@@ -87,9 +116,10 @@ fn statement_count(rows: u32) -> u64
     4 + 4 * rows + 4 * (rows / 10)
 }
 
-/// Runs the workload on so many rows of each table, its sessions side by side, and tells what is left: what
-/// is counted of the image, and the verdict on it, with no digests. Want of memory is also answered where a
-/// statement lacked memory, so that not all were committed.
+/// Runs the workload on so many rows of each table, its sessions side by side, closes the ledger behind them,
+/// and tells what is left: what is counted of the image, and the verdict on it with all digests, of which the
+/// last is that of the newest block. Want of memory is also answered where a statement lacked memory, so that
+/// not all were committed.
 pub fn run_workload<H: Hash32, R: Threads + Wait + Sync>(
     rt: &R,
     alloc: Global,
@@ -97,15 +127,17 @@ pub fn run_workload<H: Hash32, R: Threads + Wait + Sync>(
     rows: u32,
 ) -> Result<Report, Memory>
     requires { rows ≤ 1000000 }
-    ensures { IfOk result (λ report. (left : Left)
+    ensures { IfOk result (λ report. (left : Left) × (more : List SpecDigest)
         × CameTo (H.digest hasher) (codes "LedgerDB") 100 (λ at. at ≡ 0) (workload_plan rows) left
-        × TellsOf (H.digest hasher) left.J report × (report ≡ expected rows)) }
+        × IsClosed (H.digest hasher) (λ at. at ≡ 0) left more
+        × TellsOf (H.digest hasher) left.J (left.G ++ more) report × (report ≡ expected rows)) }
 {
     let ran = run(rt, alloc, hasher, rows)?;
     let Some(image) = read_image(alloc, ran.image.bytes())? else {
         return Err(Memory);
     };
-    let report = report_on(alloc, hasher, &image)?;
+    let digests = held_of(alloc, ran.digests)?;
+    let report = report_on(alloc, hasher, &image, &digests)?;
     if report.transactions != statement_count(rows) {
         return Err(Memory);
     }

@@ -1,6 +1,6 @@
 //! Fields taken one after another off the front of a byte string.
 
-ghost use Rattle.std.specs.Prelude.{◌≡◌, ◌↔◌, [], IsTrue};
+ghost use Rattle.std.specs.Prelude.{◌≡◌};
 ghost use Rattle.std.specs.Option.{option_copied};
 ghost use Rattle.lg_bytes.specs.Readers.{u8_at, u16_at, u32_at, u64_at, i128_at, hash_at, short_at, long_at, wide_at};
 ghost use Rattle.lg_bytes.specs.Reading.{Takes};
@@ -29,13 +29,6 @@ impl<'a> Fields<'a> {
         ensures { result ≡ bytes.now }
     {
         Fields { rest: bytes }
-    }
-
-    /// Whether no byte is left.
-    pub fn is_done(&self) -> bool
-        ensures { IsTrue result ↔ (self.now ≡ []) }
-    {
-        self.rest.is_empty()
     }
 
     /// A byte.

@@ -2,7 +2,7 @@
 //! want of memory.
 
 ghost use Rattle.std.specs.Prelude.{◌≡◌, ◌<◌, ◌≤◌, ◌^◌, take, ◌∷◌, [], ◌++◌, length, OnOk, OnErr};
-ghost use Rattle.lg_bytes.specs.Fields.{u8_field, u16_field, u32_field, u64_field, i128_field, hash_field, short_field, long_field, wide_field};
+ghost use Rattle.lg_bytes.specs.Fields.{u8_field, u16_field, u32_field, u64_field, hash_field, short_field, long_field, wide_field};
 
 use lg_items::Memory;
 
@@ -39,22 +39,6 @@ pub fn put_u64(out: &mut Vec<u8>, value: u64) -> Result<(), Memory>
     ensures err { OnErr result (out.new.items ≡ out.old.items) }
 {
     put_bytes(out, &value.to_be_bytes())
-}
-
-/// Appends a signed number in 16 bytes of two's complement, the high byte first.
-pub fn put_i128(out: &mut Vec<u8>, value: i128) -> Result<(), Memory>
-    ensures ok { OnOk result (out.new.items ≡ out.old.items ++ i128_field value) }
-    ensures err { OnErr result (out.new.items ≡ out.old.items) }
-{
-    put_bytes(out, &i128_bytes(value))
-}
-
-// A function of its own, so that no caller sees the sixteen divisions.
-#[tactic(auto, unfolding(crate::specs::Fields::i128_field))]
-fn i128_bytes(value: i128) -> [u8; 16]
-    ensures { result ≡ i128_field value }
-{
-    value.to_be_bytes()
 }
 
 /// Appends the 32 bytes of a hash.

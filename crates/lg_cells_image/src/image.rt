@@ -20,22 +20,6 @@ use lg_types::{Image, Table};
 use lg_written::readings_of_the_grammar_give_written;
 use std::alloc::Global;
 
-/// The image of what lies in cells, without what isn't committed: the database, blocks and entries of the
-/// ledger's cell, and the definitions and rows of the tables. Copies all of it, and makes the rows of indexes
-/// anew by sorting.
-#[tactic(auto, unfolding(lg_server::specs::CellsImage::cells_image))]
-pub fn image_of_cells<C: ShownCells>(
-    alloc: Global,
-    ledger: &LedgerCell,
-    cells: &C,
-) -> Result<Image, Memory>
-    ensures { IfOk result (λ image. image
-        ≡ cells_image (C.cells cells.now) (C.catalog cells.now) ledger.now.cell) }
-{
-    let tables = tables_in_cells(alloc, ledger, cells)?;
-    image_with(alloc, ledger, tables)
-}
-
 /// The image with these tables.
 fn image_with(alloc: Global, ledger: &LedgerCell, tables: Vec<Table>) -> Result<Image, Memory>
     ensures { IfOk result (λ image. image ≡ image_with ledger.now.cell tables.items) }
@@ -50,9 +34,10 @@ fn image_with(alloc: Global, ledger: &LedgerCell, tables: Vec<Table>) -> Result<
     })
 }
 
-/// The bytes of this image; the journal that leads there has room in the format then. It also answers want
-/// of memory where a name, a moment or an id in the ledger's cell hasn't its form: then the image has no
-/// spelling.
+/// The bytes of the image of what lies in cells, without what isn't committed: the database, blocks and entries
+/// of the ledger's cell, and the definitions and rows of the tables. Copies all of it, and makes the rows of
+/// indexes anew by sorting. The journal that leads there has room in the format then. It also answers want of
+/// memory where a name, a moment or an id in the ledger's cell hasn't its form: then the image has no spelling.
 #[tactic(auto, unfolding(lg_server::specs::CellsImage::cells_image))]
 pub fn image_bytes_of_cells<C: ShownCells>(
     alloc: Global,

@@ -1,4 +1,4 @@
-//! The image of what lies in cells, and its bytes.
+//! The bytes of the image of what lies in cells.
 #![tactic(auto)]
 
 mod entries;
@@ -7,5 +7,5 @@ mod image;
 mod shown;
 mod tables;
 
-pub use image::{image_bytes_of_cells, image_of_cells};
+pub use image::image_bytes_of_cells;
 pub use shown::ShownCells;

@@ -3,7 +3,8 @@ use Rattle.std.specs.Prelude.{ℕ, ◌≡◌, List, [], ◌∷◌, ◌++◌, cod
 use Rattle.std.specs.Fmt.{decimal}
 use Rattle.lg_base.specs.Outside.{TellsTaken}
 use Rattle.lg_generator.specs.Workload.{workload_plan}
-use Rattle.lg_run.specs.CameTo.{CameTo}
+use Rattle.lg_types.specs.declared.digest.Digest.{Digest}
+use Rattle.lg_run.specs.CameTo.{CameTo, IsClosed}
 use Rattle.lg_together.specs.CameTo.{Left}
 use Rattle.lg_benchmark.specs.Reports.{expected, TellsOf}
 use Rattle.lg_benchmark.specs.declared.report.Report.{Report}
@@ -26,13 +27,15 @@ abbrev pub report_text : Report → List ℕ
 report_text r = counts_text r ++ figure (codes "sum ") r.sum ++ codes "verify " ++ verdict_text r.verdict
 
 -- The workload on so many rows of each table was run, its sessions side by side, on a database `LedgerDB` whose
--- blocks have at most 100 transactions, at moment 0; the text tells of what is left of it, and it is what is
--- expected, however the turns of the threads fell.
+-- blocks have at most 100 transactions, at moment 0, and the ledger was closed behind it; the text tells of what
+-- is left of it, with all digests, and it is what is expected, however the turns of the threads fell.
 pub record WasRun (h : List ℕ → List ℕ) (rows : ℕ) (text : List ℕ) : Type 0 where
   pub left : Left
   pub came : CameTo h (codes "LedgerDB") 100 (λ at. at ≡ 0) (workload_plan rows) left
+  pub more : List Digest
+  pub closed : IsClosed h (λ at. at ≡ 0) left more
   pub report : Report
-  pub tells : TellsOf h left.J report
+  pub tells : TellsOf h left.J (left.G ++ more) report
   pub so : report ≡ expected rows
   pub is : text ≡ report_text report
 

@@ -20,8 +20,8 @@ pub fn effects_are_plans_carried_out()
         → effect T tx seq stmt ≡ carried_out T tx seq (plan T stmt) }
 {}
 
-/// Over two states that agree on all that a statement wants, it has one plan: the same starts and
-/// ends, the same definition and the same reply. With `effects_are_plans_carried_out` the counter
+/// Over two states that agree on all that a statement wants, the first with its tables' ids in order, it has
+/// one plan: the same starts and ends, the same definition and the same reply. With `effects_are_plans_carried_out` the counter
 /// after it is the same too.
 pub fn agreeing_states_give_one_plan()
     ensures plan { (T U : Tables) (stmt : Stmt) → IdsFrom 1 (defs_of T)
@@ -34,8 +34,8 @@ pub fn agreeing_states_give_one_plan()
         → (effect T tx seq stmt).seq ≡ (effect U tx seq stmt).seq }
 {}
 
-/// Where a statement wants no X on the rows of a key, their versions are those from before; and where it
-/// wants none on anything of a table, all versions of the table are.
+/// Where a statement wants no X on the rows of a key of sound tables, their versions are those from before; and
+/// where it wants none on anything of a table, all versions of the table are.
 pub fn statements_leave_what_they_dont_want()
     ensures keys { (T : Tables) (tx seq id : ℕ) (key : Key) (stmt : Stmt) → Sound tx seq T
         → reaches id key (wants_of (defs_of T) false stmt) ≡ false

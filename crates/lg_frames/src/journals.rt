@@ -9,7 +9,7 @@ ghost use Rattle.lg_model.specs.LegalJournals.{IsLegalJournal};
 ghost use Rattle.lg_model.specs.Script.{Reading};
 
 /// Where the items are legal, their ids differ, and each closing takes no more than is pending there; so a
-/// legal journal keeps all side rules.
+/// legal journal keeps all side rules (that its texts are UTF-8 isn't one of them).
 pub fn legal_journals_keep_the_rules()
     ensures ids { (reads : Reading) (items : List JournalItem) → IsLegal reads items
         → ids_differ [] items ≡ true }

@@ -24,7 +24,7 @@ pub fn opened_scripts_are_their_changes()
         → length (script_changes reads true T tx texts) ≡ (script reads true T tx texts).state.seq }
 {}
 
-/// Over two states that agree on all that its statements want, and on some wants more, a script of a
+/// Over two sound states that agree on all that its statements want, and on some wants more, a script of a
 /// transaction that BEGIN opened, its savepoints and the ways back to them included, has the same replies,
 /// the same counter and the same starts and ends; and the states after it agree on all of these wants.
 pub fn opened_scripts_over_agreeing_states_are_one()
@@ -88,8 +88,8 @@ pub fn statements_alone_over_agreeing_states_are_one()
         (script reads false U tx (text ∷ [])).state.tables }
 {}
 
-/// What doesn't clash with a statement leaves all that the statement wants: a script of a transaction that
-/// BEGIN opened, and a statement that is a transaction of its own.
+/// Over sound tables, what doesn't clash with a statement leaves all that the statement wants: a script of a
+/// transaction that BEGIN opened, and a statement that is a transaction of its own.
 pub fn what_doesnt_clash_leaves_what_is_wanted()
     ensures script { (reads : Reading) (T : Tables) (tx : ℕ) (texts : List (List ℕ)) (stmt : Stmt)
         (opened : Bool) → Sound tx 0 T

@@ -1,4 +1,4 @@
--- In step order, E20 comes exactly where a lock is in the way.
+-- In step order, E20 comes exactly where a lock is in the way, unless it is E30.
 use Rattle.std.specs.Prelude.{ℕ, zero, suc, ◌≡◌, ◌⊎◌, ◌+◌, ◌==◌, if◌then◌else◌, Bool, List, [], ◌∷◌, ◌++◌, map, flat_map, length, Option, Some, None}
 use Rattle.lg_value.specs.declared.refusal.Refusal.TheVariants.{Locked, E30}
 use Rattle.lg_types.specs.declared.lock.Hold.{Hold}

@@ -56,8 +56,8 @@ pub fn histories_keep_step_order()
 {}
 
 /// Where besides a statement is said only where no lock of the others is in its way, and meets a lock only
-/// where it is the one in its way, E20 comes exactly where a lock is in the way. So such a history keeps step
-/// order whole.
+/// where it is the one in its way, E20 comes exactly where a lock is in the way, unless it is E30. So such a
+/// history keeps step order whole.
 pub fn where_locks_decide_step_order_is_whole()
     ensures { (q : Meaning) (database : Text) (N : ℕ) (history : List Act) (input : List InputSession)
         (setup : Option ℕ) (transcripts : List Transcript)

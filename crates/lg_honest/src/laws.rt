@@ -104,7 +104,8 @@ pub fn honest_indexes_hold()
 
 // ---- all of them
 
-/// So nothing is at fault in the image of a legal journal with digests of its closed blocks.
+/// So nothing is at fault in the image of a legal journal with digests of its closed blocks, where each statement
+/// that is read is one that the grammar may have written.
 pub fn images_of_legal_journals_hold()
     ensures { (h : List ℕ → List ℕ) (reads : Reading) (database : List ℕ) (items : List JournalItem)
         (digests : List HeldDigest)
@@ -120,8 +121,8 @@ pub fn cuts_have_room_where_journals_have()
 
 /// For every legal journal and each of its cuts, the verdict on the bytes of the image, with any digests of
 /// blocks that are closed there, is Yes. The image has to have a spelling, which the journal alone doesn't
-/// give; it has one where the cut, or the whole journal, has room in the format. The statements are those
-/// that the parser reads, or those of another reading, where the grammar may have written each of them.
+/// give; of the statements that the parser reads it has one where the cut, or the whole journal, has room in the
+/// format. The statements are those, or those of another reading, where the grammar may have written each.
 pub fn images_of_legal_journals_verify()
     ensures parsed { (h : List ℕ → List ℕ) (j : Journal) (m : ℕ) (digests : List HeldDigest)
         → IsLegalJournal statement_of j

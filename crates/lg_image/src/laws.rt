@@ -13,7 +13,7 @@ pub fn equal_bytes_are_of_equal_images()
         → image_bytes i ≡ image_bytes j ++ rest → rest ≡ [] }
 {}
 
-/// The image of an empty journal has 67 bytes: the head, and 0 of everything.
+/// The image of an empty journal of the database `LedgerDB` has 67 bytes: the head, and 0 of everything.
 pub fn the_first_image_is_empty()
     ensures { (h : List ℕ → List ℕ) (reads : Reading) → image_bytes (image_of h reads (codes "LedgerDB") [])
         ≡ codes "LGIM" ++ 1 ∷ 0 ∷ 8 ∷ codes "LedgerDB" ++ replicate 52 0 }

@@ -5,7 +5,6 @@ use Rattle.lg_types.specs.declared.digest.Digest.{Digest}
 use Rattle.lg_types.specs.declared.digest.HeldDigest.{HeldDigest}
 use Rattle.lg_types.specs.declared.journal.JournalItem.{JournalItem}
 use Rattle.lg_model.specs.Journals.{cut}
-use Rattle.lg_model.specs.Script.{Reading}
 use Rattle.lg_history.specs.Digests.{IsDigest}
 use Rattle.lg_history.specs.Inputs.{InputLine}
 use Rattle.lg_history.specs.Journals.{blocks}
@@ -14,7 +13,7 @@ use Rattle.lg_history.specs.Meaning.{Meaning}
 use Rattle.lg_history.specs.Transcripts.{Transcript}
 use Rattle.lg_parse.specs.Text.{statement_of}
 use Rattle.lg_image.specs.Image.{image_of, image_of_cut}
-use Rattle.lg_image.specs.ImageBytes.{image_bytes, IsImage}
+use Rattle.lg_image.specs.ImageBytes.{image_bytes}
 use Rattle.lg_ledger.specs.Ledger.{block_hash}
 use Rattle.lg_verdict.specs.declared.place.Verdict.TheVariants.{Yes}
 use Rattle.lg_verdict.specs.Bytes.{verdict_of}
@@ -23,7 +22,7 @@ use Rattle.lg_standing.specs.Seats.{KeptImage}
 use Rattle.lg_course.specs.Told.{IsMeaning, IsImageOf, RunAgrees}
 use Rattle.lg_course.proofs.Told.{some_meaning}
 use Rattle.lg_kept.proofs.Closed.{digests_are_closed}
-use Rattle.lg_kept.specs.Accepted.{IsOfCut, IsAccepted, IsAcceptedIfSpelled}
+use Rattle.lg_kept.specs.Accepted.{IsOfCut, IsAccepted}
 
 pub each_in : {A : Type 0} (P : A → Type 0) (xs : List A) (x : A) → Each P xs → In x xs → P x
 each_in P [] x h i = absurd i

@@ -1,10 +1,16 @@
 -- The image of a whole journal.
 use Rattle.std.specs.Prelude.{ℕ, List, length}
 use Rattle.lg_types.specs.declared.journal.Journal.{Journal}
+use Rattle.lg_types.specs.declared.journal.JournalItem.{JournalItem}
+use Rattle.lg_history.specs.Lists.{Text}
 use Rattle.lg_parse.specs.Text.{statement_of}
 use Rattle.lg_image.specs.Image.{image_of}
 use Rattle.lg_image.specs.ImageBytes.{image_bytes}
 use Rattle.lg_standing.specs.Seats.{KeptImage}
+
+-- the journal of a database with these items
+abbrev pub journal_of : Text → List JournalItem → Journal
+journal_of database items = record { database = database; items = items }
 
 -- the bytes of the image to which a journal leads
 abbrev pub last_image_bytes : (List ℕ → List ℕ) → Journal → List ℕ

@@ -287,9 +287,9 @@ fn put_stmt(page: &mut Page, s: &Stmt) -> Result<(), Memory>
 }
 
 /// The text of a statement: names in brackets, other words in capitals, one blank between two tokens but none
-/// behind `(` and none before `)` and `,`, and parentheses round each operator's whole expression. What may
-/// be left out is written, save NONCLUSTERED and CLUSTERED. It takes time linear in the text. Its calls nest
-/// no deeper than the expressions.
+/// behind `(` and none before `)` and `,`, and parentheses round each operator's whole expression. Words that
+/// change nothing are written, save `;`, `sys.`, NONCLUSTERED and CLUSTERED. It takes time linear in the text.
+/// Its calls nest no deeper than the expressions.
 #[tactic(auto, unfolding(crate::specs::PrintedStmt::printed, crate::specs::Page::spelled))]
 pub fn print(alloc: Global, s: &Stmt) -> Result<Vec<u8>, Memory>
     ensures { IfOk result (λ text. text.items ≡ printed s.now) }

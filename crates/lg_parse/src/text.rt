@@ -61,8 +61,8 @@ fn read_text(alloc: Global, text: &str) -> Result<Stmt, ParseErr>
     }
 }
 
-/// The statement that a text is by the grammar, and `Syntax` exactly for a text that is none. It takes time
-/// linear in the text, but for the names of a CREATE TABLE, each of which is compared with those of its key.
+/// The statement that a text is by the grammar, and `Syntax` exactly for a text that is none, but for want of
+/// memory. It takes time linear in the text, but for the names of a CREATE TABLE, each of which is compared with those of its key.
 /// Its calls nest no deeper than the parentheses, of which 256 may.
 pub fn parse(alloc: Global, text: &str) -> Result<Stmt, ParseErr>
     ensures read { Gives (statement_of text.now) result }

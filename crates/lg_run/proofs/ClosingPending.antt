@@ -1,17 +1,15 @@
 -- The builder's visit is one that a seat may make.
-use Rattle.std.proofs.Common.{◌≡◌, ◌⊎◌, ◌<◌, ◌≤◌, ℕ, List, [], ◌∷◌, Result, Ok, Err, refl, sym, ap, subst, ◌∙◌, inl, inr, ⊎_elim}
+use Rattle.std.proofs.Common.{◌≡◌, ℕ, List, [], ◌∷◌, Result, Ok, Err, refl, sym, ap, subst, ⊎_elim}
 use Rattle.std.specs.Prelude.{OnErr, OnOk}
 use mathlib.Core.Option.{some}
 use lib.ListN.{get_elem?}
-use Rattle.lg_board.specs.Outs as board
-use Rattle.lg_history.specs.Lists.{Each}
 use Rattle.lg_model.specs.Script.{Reading}
 use Rattle.lg_seat.specs.Full.{ClosesPending}
 use Rattle.lg_seat.specs.KeptCell.{KeptCell, Keeps}
 use Rattle.lg_server.specs.Serves.{Serves}
 use Rattle.lg_standing.specs.Alone.{none}
 use Rattle.lg_standing.specs.Cells.{Cell, Catalog, Ledger, Rows, ledger_at}
-use Rattle.lg_standing.specs.LedgerVisits.{closed_by, next_block}
+use Rattle.lg_standing.specs.LedgerVisits.{next_block}
 use Rattle.lg_standing.specs.Seats.{SeatState}
 use Rattle.lg_standing.specs.Server.{Server}
 use Rattle.lg_standing.specs.Visits.{Visit, Happens, close, nothing}

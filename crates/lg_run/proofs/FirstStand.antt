@@ -1,16 +1,15 @@
 -- The cells of a database at its beginning stand together with its first seat.
-use Rattle.std.proofs.Common.{◌≡◌, ◌≤◌, ℕ, zero, suc, List, [], ◌∷◌, length, map, refl, sym, ap, subst, ◌∙◌}
+use Rattle.std.proofs.Common.{◌≡◌, ◌≤◌, ℕ, List, [], ◌∷◌, length, refl, sym, subst}
 use mathlib.Core.Option.{some}
 use lib.ListN.{get_elem?}
 use Rattle.lg_core.specs.FirstCells.{first_kept}
 use Rattle.lg_core.specs.Standing.{cells_seen}
 use Rattle.lg_core.proofs.FirstCells.{first_keep, first_same}
-use Rattle.lg_history.specs.Lists.{Text, Each}
+use Rattle.lg_history.specs.Lists.{Text}
 use Rattle.lg_model.specs.Limits.{max_block}
 use Rattle.lg_seat.specs.KeptCell.{KeptCell, Keeps}
-use Rattle.lg_standing.specs.Cells.{Cell, Catalog, Ledger, LedgerCell, cell_count, empty_cells, first_catalog, first_cells, first_ledger, ledger_at}
+use Rattle.lg_standing.specs.Cells.{Cell, Ledger, LedgerCell, cell_count, first_cells, first_ledger, ledger_at}
 use Rattle.lg_standing.specs.May.{first_seat}
-use Rattle.lg_standing.specs.Seats.{SeatState}
 use Rattle.lg_standing.specs.StandTogether.{Stands, StandTogether}
 use Rattle.lg_standing.proofs.Beginning.{begins, none_asked, none_wanted}
 use Rattle.lg_world.specs.Laws.{one_ledger}

@@ -1,5 +1,5 @@
 -- What a thread does with its session between two visits leaves it ahead of what the board knows.
-use Rattle.std.proofs.Common.{◌≡◌, ◌⊎◌, ◌+◌, ℕ, List, [], ◌∷◌, ◌++◌, Option, Some, None, append-nil, map, take, refl, sym, ap, ap₂, subst, ◌∙◌, inl, inr, ⊎_elim}
+use Rattle.std.proofs.Common.{◌≡◌, ◌+◌, ℕ, List, [], ◌∷◌, ◌++◌, Option, Some, None, append-nil, map, take, refl, sym, ap, ap₂, subst, ◌∙◌, inl, inr, ⊎_elim}
 use Rattle.lg_history.specs.Inputs.{InputLine}
 use Rattle.lg_history.specs.Lists.{Text, Each}
 use Rattle.lg_history.specs.Transcripts.{Entry, EndLine, statements}
@@ -25,7 +25,8 @@ use Rattle.lg_core.specs.declared.session.Session as core
 use Rattle.lg_core.proofs.Deeds.{one_session}
 use Rattle.lg_run.specs.Seated.{known_by, known_in, all_known, says_in, texts_in, under_way, IsAhead, IsIdle, IsSeated, IsTimed}
 use Rattle.lg_run.specs.declared.worker.Job.{Job}
-use Rattle.lg_run.proofs.Seating.{at, none_between, none_leaving, seated, seated_on, statements_more}
+use Rattle.lg_core.proofs.Holding.{seated}
+use Rattle.lg_run.proofs.Seating.{at, none_between, none_leaving, seated_on, statements_more}
 use Rattle.lg_run.proofs.StepsAhead.{steps_both}
 
 -- ---- points

@@ -1,22 +1,20 @@
 -- What is saved of threads that have ended is that of a run of their plan.
-use Rattle.std.proofs.Common.{◌≡◌, ◌≢◌, ◌≤◌, ◌^◌, ◌∙◌, ℕ, suc, min, true, false, List, [], ◌∷◌, ◌++◌, codes, flat_map, length, map, refl, sym, ap, ap₂, subst, subst₂, arith, ⊎_elim, true≢false}
+use Rattle.std.proofs.Common.{◌≡◌, ◌∙◌, ℕ, true, List, [], ◌∷◌, ◌++◌, codes, flat_map, length, map, refl, sym, ap, ap₂, subst, subst₂}
 use Rattle.std.specs.List.{All, AllByRecursion, IsDistinct}
 use Rattle.std.specs.Str.{bytes_eq}
-use Rattle.std.proofs.lemmas.Bool.Decides.{nat_tests}
-use Rattle.std.proofs.lemmas.Slice.Eq.{bytes_eq-Decides}
-use mathlib.Core.Option.{some}
 use Rattle.lg_items.specs.DatabaseName.{is_database_name}
-use Rattle.lg_items.specs.Moment.{is_moment}
 use Rattle.lg_items.specs.SessionName.{is_session_name}
-use Rattle.lg_items.specs.declared.moment.TheConstants.{MAX_TICKS}
 use Rattle.lg_types.specs.declared.digest.Digest.{Digest}
 use Rattle.lg_types.specs.declared.image.Image.{Image}
 use Rattle.lg_types.specs.declared.journal.Journal.{Journal}
 use Rattle.lg_types.specs.declared.journal.JournalItem.{JournalItem}
+use Rattle.lg_model.specs.Journals.{closed, tx_count}
+use Rattle.lg_model.specs.LegalJournals.{IsLegalJournal}
 use Rattle.lg_model.specs.Script.{Reading}
 use Rattle.lg_history.specs.Inputs.{InputSession}
-use Rattle.lg_history.specs.Lists.{Text, Each, In}
-use Rattle.lg_history.specs.Transcripts.{Entry, Transcript}
+use Rattle.lg_history.specs.Journals.{times}
+use Rattle.lg_history.specs.Lists.{Text, Each}
+use Rattle.lg_history.specs.Transcripts.{Entry}
 use Rattle.lg_history.proofs.Trace.{each_weaker}
 use Rattle.lg_image.specs.Image.{image_of, image_of_cut}
 use Rattle.lg_image.specs.ImageBytes.{image_bytes}
@@ -28,11 +26,11 @@ use Rattle.lg_plan.specs.Plan.{plan_view, section_view, session_names}
 use Rattle.lg_plan.specs.declared.plan.Plan.{Plan}
 use Rattle.lg_plan.specs.declared.section.Section.{Section}
 use Rattle.lg_transcript.specs.TranscriptText.{entry_text, transcript_text}
-use Rattle.lg_standing.specs.Cells.{Cell, LedgerCell, ledger_at}
+use Rattle.lg_standing.specs.Cells.{Cell, LedgerCell, pending_in}
+use Rattle.lg_standing.specs.LedgerIsLegal.{LedgerIsLegal}
 use Rattle.lg_standing.specs.JournalForms.{journal_in}
 use Rattle.lg_standing.specs.Reordered.{NamesApart}
 use Rattle.lg_standing.specs.Seats.{KeptImage, Written}
-use Rattle.lg_standing.specs.Server.{Server}
 use Rattle.lg_standing.specs.StandTogether.{Stands}
 use Rattle.lg_server.specs.Serves.{Serves}
 use Rattle.lg_server.proofs.CellsShow.{same_image}
@@ -55,13 +53,19 @@ use Rattle.lg_kept.specs.LastImage.{last_image_bytes}
 use Rattle.lg_together.specs.CameTo as together
 use Rattle.lg_together.specs.CameTo.{Left}
 use Rattle.lg_together.specs.Threads.{HasJoined}
-use Rattle.lg_run.specs.CameTo.{IsOf, input_of, session_of, transcripts_text}
+use Rattle.lg_verdict.specs.declared.place.Verdict.TheVariants.{Yes}
+use Rattle.lg_verdict.specs.Bytes.{verdict_of}
+use Rattle.lg_honest.specs.Held.{held}
+use Rattle.lg_core.specs.Standing.{pending_found}
+use Rattle.lg_run.specs.CameTo.{AreLast, IsClosed, IsOf, and_digests, input_of, session_of, transcripts_text}
+use Rattle.lg_run.specs.Closing.{IssuesLast, pending_there}
 use Rattle.lg_run.specs.Finished.{HasFinished, setup_name}
-use Rattle.lg_run.specs.Saved.{HasSaved}
+use Rattle.lg_run.specs.Saved.{HasSaved, with_digests}
 use Rattle.lg_run.specs.Seated.{texts_in}
 use Rattle.lg_run.specs.Wrote.{AreWritten, IsWritten}
 use Rattle.lg_run.specs.declared.whole.Finished.{Finished}
 use Rattle.lg_run.specs.declared.worker.SessionEnd.{SessionEnd}
+use Rattle.lg_run.proofs.Issued.{Laws, accepted_with, all_have_moments, all_in_blocks, are_last}
 use Rattle.lg_run.proofs.Named.{setup_named}
 
 -- ---- what sessions wrote
@@ -239,3 +243,43 @@ module _ (h : List ℕ → List ℕ) (sized : (bytes : List ℕ) → length (h b
       digests_have_moments = let m = some_meaning h statement_of in
           have_moments m.0 database r.journal.items says r.digests came.times came.made (came.agree m.0 m.1).digests_are_the_journals.each;
     }
+
+    -- ---- behind which the ledger is closed
+
+    legal_cell : LedgerIsLegal d.server l
+    legal_cell = subst (LedgerIsLegal d.server) same_ledger st.ledger_is_legal
+
+    module _ (laws : Laws) (none : pending_there f.cells.items ≡ 0) (made : ℕ) (said : IsMoment says made) (more : List Digest) (after : LedgerCell) (issued : IssuesLast h made l more after)
+        (came : together.CameTo h database size (IsMoment says) (input_of (plan_view plan)) (left_of r)) where
+      none_there : pending_in l ≡ 0
+      none_there = sym (ap pending_found saved.there) ∙ none
+
+      cell_room : HasRoom h statement_of l.database l.items
+      cell_room = subst (λ (J : Journal). HasRoom h statement_of J.database J.items) the_journal journal_room
+
+      pub is_closed : IsClosed h says (left_of r) more
+      is_closed = record {
+        all = subst (λ (J : Journal). closed J.items ≡ tx_count J.items) (sym the_journal) (all_in_blocks laws h d.server serves l legal_cell none_there);
+        last = subst (λ (J : Journal). AreLast h says J more) (sym the_journal) (are_last laws h d.server serves l legal_cell none_there made more after issued says said);
+        accepted = subst₂ (λ (G : List Digest) (J : Journal). verdict_of h (map held (G ++ more)) (last_image_bytes h J) ≡ Yes) (sym saved.digests) (sym the_journal)
+            (accepted_with laws h d.server serves l legal_cell none_there made more after issued (subst (IsLegalJournal statement_of) the_journal came.legal) cell_room);
+      }
+
+      pub is_with_digests : (t : Ran) → t ≡ with_digests r (r.digests ++ more) → IsJournal t.journal → IsOf h (and_digests (left_of r) more) t
+      is_with_digests t is spelled = subst (IsOf h (and_digests (left_of r) more)) (sym is)
+          (record {
+            transcript = base.transcript;
+            images = base.images;
+            image = base.image;
+            journal = refl;
+            digests = refl;
+            journal_is_spelled = base.journal_is_spelled;
+            has_room = base.has_room;
+            digests_have_moments = subst (λ (G : List Digest). AllByRecursion HasMoments (G ++ more)) (sym saved.digests)
+                (all_have_moments laws h d.server serves l legal_cell none_there made more after issued says said
+                (subst (λ (J : Journal). Each (IsMoment says) (times J.items)) the_journal came.times)
+                (subst (Each (λ g. IsMoment says g.made)) saved.digests came.made));
+          })
+        where
+          base : IsOf h (left_of r) r
+          base = is_of came (subst (λ (u : Ran). IsJournal u.journal) is spelled)

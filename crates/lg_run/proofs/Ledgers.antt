@@ -1,9 +1,9 @@
 -- The ledger's cell among cells that stand together.
-use Rattle.std.proofs.Common.{◌≡◌, ◌<◌, ◌∙◌, ℕ, List, map, length, sym, subst, arith}
+use Rattle.std.proofs.Common.{◌≡◌, ◌<◌, ◌∙◌, List, length, sym, subst, arith}
 use Rattle.std.proofs.lemmas.List.{length-map}
 use mathlib.Core.Option.{some, some-injective}
 use lib.ListN.{get_elem?}
-use Rattle.lg_standing.specs.Cells.{Cell, Ledger, ledger_at}
+use Rattle.lg_standing.specs.Cells.{Ledger, ledger_at}
 use Rattle.lg_seat.specs.Full.{IsLedger}
 use Rattle.lg_seat.specs.Images.{CellsStand}
 use Rattle.lg_seat.specs.KeptCell.{KeptCell}

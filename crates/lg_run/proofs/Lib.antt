@@ -1,8 +1,11 @@
+mod Closings
 mod ClosingPending
 mod FirstStand
 mod Going
 mod Halves
+mod Issued
 mod Leaves
+mod Leavings
 mod Ledgers
 mod Named
 mod Over

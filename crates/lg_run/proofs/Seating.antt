@@ -8,13 +8,12 @@ use Rattle.lg_history.proofs.Trace.{each_append}
 use Rattle.lg_transcript.specs.TranscriptText.{entry_text}
 use Rattle.lg_standing.specs.Alone.{none}
 use Rattle.lg_standing.specs.Server.{Server}
-use Rattle.lg_standing.specs.Seats.{KeptImage, Role, session, Session, SeatState, Written}
+use Rattle.lg_standing.specs.Seats.{KeptImage, Role, Session, SeatState, Written}
 use Rattle.lg_step.specs.Moments.{IsMoment}
 use Rattle.lg_seat.specs.Points.{IsBetweenAt, IsInsideAt, IsLeavingAt, StaysBy}
 use Rattle.lg_seat.specs.Sits.{Sits}
 use Rattle.lg_seat.specs.Steps.{images_kept}
 use Rattle.lg_seat.specs.Told.{Adds}
-use Rattle.lg_seat.specs.declared.seat.Seat.{Seat}
 use Rattle.lg_seat.specs.declared.stage.Point.{Point}
 use Rattle.lg_seat.specs.declared.stage.Point.TheVariants.{Between, Inside, Leaving, Over}
 use Rattle.lg_core.specs.declared.session.Session as core
@@ -80,10 +79,6 @@ one_inside Over text i = absurd i
 module _ {H C : Type 0} (job : Job H C) where
   abbrev pub at : core.Session H → ℕ → Option KeptImage → Worker H C
   at y n image = record { job = job; session = y; taken = n; image = image }
-
--- the session with another seat
-abbrev pub seated : {H : Type 0} → core.Session H → Seat H → core.Session H
-seated y z = record { seat = z; entries = y.entries; images = y.images }
 
 module _ {H C : Type 0} (digest : H → List ℕ → List ℕ) (says : C → ℕ → Type 0) (known : List Transcript) (written : List Written) (job : Job H C) where
   -- it went on from one state to another, and its transcript, its images and its moments gained this

@@ -22,7 +22,8 @@ use Rattle.lg_seat.specs.declared.seat.Seat.{Seat}
 use Rattle.lg_core.specs.declared.session.Session as core
 use Rattle.lg_run.specs.Seated.{known_by, says_in, IsAhead, IsSeated}
 use Rattle.lg_run.specs.declared.worker.Job.{Job}
-use Rattle.lg_run.proofs.Seating.{at, seated, seated_on}
+use Rattle.lg_core.proofs.Holding.{seated}
+use Rattle.lg_run.proofs.Seating.{at, seated_on}
 use Rattle.lg_run.proofs.StepsAhead.{may_behind}
 use Rattle.lg_run.proofs.Visiting.{all_not_done, among_all, keeps_there, needs_timed, same_texts}
 

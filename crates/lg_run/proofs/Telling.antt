@@ -1,5 +1,5 @@
 -- What is still known, and of what was written.
-use Rattle.std.proofs.Common.{◌≡◌, ℕ, List, refl, sym, ap, subst, ◌∙◌}
+use Rattle.std.proofs.Common.{◌≡◌, ℕ, List, refl, subst, ◌∙◌}
 use Rattle.lg_history.specs.Transcripts.{Transcript}
 use Rattle.lg_standing.specs.Seats.{SeatState, Written}
 use Rattle.lg_run.specs.Seated.{known_by, says_in, texts_in, StillKnows}

@@ -1,6 +1,6 @@
 -- What the sessions of a part of a plan wrote, and those of two parts.
-use Rattle.std.proofs.Common.{◌≡◌, ℕ, List, [], ◌∷◌, ◌++◌, map, refl, sym, ap, ap₂, subst, ◌∙◌, append_assoc, append-nil, ⊎_elim}
-use Rattle.lg_history.specs.Lists.{Text, Each, In}
+use Rattle.std.proofs.Common.{◌≡◌, ℕ, List, [], ◌∷◌, ◌++◌, map, sym, ap, ap₂, subst, ◌∙◌, append_assoc, append-nil, ⊎_elim}
+use Rattle.lg_history.specs.Lists.{Text, In}
 use Rattle.lg_history.specs.Transcripts.{Transcript}
 use Rattle.lg_history.proofs.Settles.{in_append, in_left, in_right}
 use Rattle.lg_history.proofs.Trace.{each_append, each_weaker}

@@ -1,5 +1,5 @@
 -- A visit of a session is one that its seat may make on the board, with the steps that the board doesn't know yet.
-use Rattle.std.proofs.Common.{◌≡◌, ◌⊎◌, ◌<◌, ℕ, List, [], ◌∷◌, ◌++◌, Option, None, append-nil, map, slice_set, take, refl, sym, ap, subst, ◌∙◌, inr, ⊎_elim}
+use Rattle.std.proofs.Common.{◌≡◌, ◌<◌, ℕ, List, [], ◌∷◌, ◌++◌, Option, None, append-nil, map, slice_set, take, refl, sym, ap, subst, ◌∙◌, inr, ⊎_elim}
 use mathlib.Core.Option.{some}
 use lib.ListN.{get_elem?}
 use Rattle.lg_board.specs.Outs as board
@@ -9,7 +9,7 @@ use Rattle.lg_history.proofs.Trace.{each_weaker}
 use Rattle.lg_parse.specs.Text.{statement_of}
 use Rattle.lg_server.specs.Serves.{Serves}
 use Rattle.lg_standing.specs.Alone.{none}
-use Rattle.lg_standing.specs.Cells.{Cell, cell_count}
+use Rattle.lg_standing.specs.Cells.{cell_count}
 use Rattle.lg_standing.specs.Seats.{KeptImage, SeatState}
 use Rattle.lg_standing.specs.StandTogether.{StandTogether}
 use Rattle.lg_standing.specs.Visits.{nothing}
@@ -32,7 +32,8 @@ use Rattle.lg_run.specs.Seated.{known_by, says_in, texts_in, under_way, IsAhead,
 use Rattle.lg_run.specs.Wrote.{HasLeft, HasWritten, left_of}
 use Rattle.lg_run.specs.declared.worker.Job.{Job}
 use Rattle.lg_run.specs.declared.worker.Worker.{Worker}
-use Rattle.lg_run.proofs.Seating.{at, seated, seated_on, stays_under_way}
+use Rattle.lg_core.proofs.Holding.{seated}
+use Rattle.lg_run.proofs.Seating.{at, seated_on, stays_under_way}
 use Rattle.lg_run.proofs.StepsAhead.{may_behind, stand_ahead}
 use Rattle.lg_core.proofs.Within.{need_within}
 

@@ -1,9 +1,10 @@
 -- What is left when all threads have ended.
-use Rattle.std.proofs.Common.{◌≡◌, ℕ, List, [], ◌∷◌, ◌++◌, map, refl, sym, ap, subst, ◌∙◌, inl, append_assoc}
+use Rattle.std.proofs.Common.{◌≡◌, ℕ, List, [], ◌∷◌, ◌++◌, Vec, map, refl, sym, ap, subst, ◌∙◌, inl}
+use Rattle.std.specs.declared.alloc.Global.{Global}
 use mathlib.Core.Option.{some}
 use lib.ListN.{get_elem?}
 use Rattle.lg_board.specs.Boards.{AllElse}
-use Rattle.lg_history.specs.Lists.{Text, Each, In}
+use Rattle.lg_history.specs.Lists.{Text, In}
 use Rattle.lg_history.specs.Transcripts.{Transcript}
 use Rattle.lg_history.proofs.Settles.{in_right}
 use Rattle.lg_history.proofs.Trace.{each_weaker}
@@ -13,7 +14,7 @@ use Rattle.lg_standing.specs.Seats.{idle, joined, kept, nobody, split, SeatState
 use Rattle.lg_world.specs.Served.{Served, StandsOn}
 use Rattle.lg_run.specs.Finished.{HasFinished, setup_name}
 use Rattle.lg_run.specs.Seated.{IsIdle, known_by}
-use Rattle.lg_run.specs.Wrote.{HasWritten, HaveWritten, Knew}
+use Rattle.lg_run.specs.Wrote.{AreWritten, HasWritten, HaveWritten, IsWritten, Knew}
 use Rattle.lg_run.specs.declared.whole.Finished.{Finished}
 use Rattle.lg_run.specs.declared.worker.SessionEnd.{SessionEnd}
 use Rattle.lg_run.proofs.Together.{idle_knows}
@@ -65,3 +66,22 @@ module _ (d : Served) (says : ℕ → Type 0) (texts : List Text) (sections : Li
       knows : In setup.w.transcript (known_by s)
       knows = subst (In setup.w.transcript) (sym (idle_knows s idle_one.role)) (in_right setup.w.transcript s.earlier (map (λ (w : Written). w.transcript) s.written)
           (subst (λ (ws : List Written). In setup.w.transcript (map (λ (w : Written). w.transcript) ws)) (sym wrote) (inl refl)))
+
+-- the cells may be others that stand together with the same seats
+pub finished_with : (d : Served) (says : ℕ → Type 0) (texts : List Text) (sections : List Section) (f g : Finished) (fin : HasFinished d says texts sections f)
+    → g.setup ≡ f.setup → g.ends ≡ f.ends → StandsOn (λ (k : KeptCell). k.cell) Keeps d g.cells.items fin.seats → HasFinished d says texts sections g
+finished_with d says texts sections f g fin setup ends stands = record {
+  seats = fin.seats;
+  stands = stands;
+  j = fin.j;
+  s = fin.s;
+  there = fin.there;
+  others = fin.others;
+  rests = fin.rests;
+  first = fin.first;
+  rest = fin.rest;
+  wrote = fin.wrote;
+  setup_is = subst (λ (e : SessionEnd). IsWritten says setup_name texts e fin.first) (sym setup) fin.setup_is;
+  are = subst (λ (es : Vec SessionEnd Global). AreWritten says sections es.items fin.rest) (sym ends) fin.are;
+  knew = fin.knew;
+}

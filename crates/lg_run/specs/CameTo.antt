@@ -1,16 +1,23 @@
 -- What a run of a plan comes to, and what is written and saved of it.
-use Rattle.std.specs.Prelude.{ℕ, ◌≡◌, List, [], ◌∷◌, flat_map, map}
+use Rattle.std.specs.Prelude.{ℕ, ◌≡◌, ◌+◌, ◌++◌, List, [], ◌∷◌, flat_map, map}
 use Rattle.std.specs.List.{AllByRecursion}
+use Rattle.lg_types.specs.declared.digest.Digest.{Digest}
+use Rattle.lg_types.specs.declared.journal.Journal.{Journal}
+use Rattle.lg_model.specs.Journals.{closed, tx_count}
 use Rattle.lg_digest.specs.Writing.{HasMoments}
 use Rattle.lg_history.specs.Inputs.{InputSession}
+use Rattle.lg_history.specs.Journals.{blocks}
 use Rattle.lg_history.specs.Lists.{Text}
 use Rattle.lg_history.specs.Transcripts.{Transcript}
 use Rattle.lg_journal.specs.Rules.{IsJournal}
 use Rattle.lg_images.specs.Room.{HasRoom}
+use Rattle.lg_ledger.specs.Digests.{digest_of}
+use Rattle.lg_verdict.specs.declared.place.Verdict.TheVariants.{Yes}
+use Rattle.lg_verdict.specs.Bytes.{verdict_of}
+use Rattle.lg_honest.specs.Held.{held}
 use Rattle.lg_kept.specs.LastImage.{last_image_bytes}
 use Rattle.lg_parse.specs.Text.{statement_of}
 use Rattle.lg_plan.specs.Plan.{Plan, Section}
-use Rattle.lg_standing.specs.Seats.{KeptImage}
 use Rattle.lg_step.specs.Images.{AreKept}
 use Rattle.lg_step.specs.Moments.{IsMoment}
 use Rattle.lg_step.specs.declared.running.Ran.{Ran}
@@ -48,3 +55,29 @@ pub record IsOf (h : List ℕ → List ℕ) (left : Left) (r : Ran) : Type 0 whe
   -- the image has room in its format, so that it has a spelling
   pub has_room : HasRoom h statement_of left.J.database left.J.items
   pub digests_have_moments : AllByRecursion HasMoments r.digests
+
+-- ---- a run behind which the ledger is closed
+
+-- with some digests behind its own
+abbrev pub and_digests : Left → List Digest → Left
+and_digests left more = record { X = left.X; kept = left.kept; J = left.J; G = left.G ++ more }
+
+-- it is the digest of the journal's newest block, made at a moment that is said
+pub record IsLast (h : List ℕ → List ℕ) (says : ℕ → Type 0) (J : Journal) (d : Digest) : Type 0 where
+  pub newest : blocks J.items ≡ d.block + 1
+  pub is : d ≡ digest_of h statement_of J.database J.items d.block d.made
+  pub made : IsMoment says d.made
+
+-- one such digest, or none where the journal has no transaction
+abbrev pub AreLast : (List ℕ → List ℕ) → (ℕ → Type 0) → Journal → List Digest → Type 0
+AreLast h says J [] = tx_count J.items ≡ 0
+AreLast h says J (d ∷ []) = IsLast h says J d
+AreLast h says J _ = ⊥
+
+-- All transactions are in blocks. Behind the digests of the run that of the newest block was issued, and
+-- `verify` says Yes of the image of the whole journal with all of them at once.
+pub record IsClosed (h : List ℕ → List ℕ) (says : ℕ → Type 0) (left : Left) (more : List Digest)
+    : Type 0 where
+  pub all : closed left.J.items ≡ tx_count left.J.items
+  pub last : AreLast h says left.J more
+  pub accepted : verdict_of h (map held (left.G ++ more)) (last_image_bytes h left.J) ≡ Yes

@@ -1,5 +1,5 @@
 -- What a plan is to be, and what its threads leave when all have ended.
-use Rattle.std.specs.Prelude.{ℕ, ◌≡◌, ◌+◌, ◌<◌, ◌^◌, ◌++◌, true, List, [], ◌∷◌, codes, length, Result, Ok, Err, Vec}
+use Rattle.std.specs.Prelude.{ℕ, ◌≡◌, ◌+◌, ◌<◌, ◌^◌, ◌++◌, true, List, [], ◌∷◌, codes, length, Result, Ok, Vec}
 use Rattle.std.specs.declared.alloc.Global.{Global}
 use mathlib.Core.Option.{some}
 use lib.ListN.{get_elem?}
@@ -14,7 +14,7 @@ use Rattle.lg_plan.specs.declared.section.Section.{Section}
 use Rattle.lg_seat.specs.KeptCell.{KeptCell, Keeps}
 use Rattle.lg_standing.specs.Seats.{IsAtRest, joined, nobody, SeatState, Written}
 use Rattle.lg_world.specs.Served.{Served, StandsOn}
-use Rattle.lg_run.specs.Wrote.{AreWritten, IsWritten, Knew}
+use Rattle.lg_run.specs.Wrote.{AreWritten, IsWritten}
 use Rattle.lg_run.specs.declared.whole.Finished.{Finished}
 use Rattle.lg_run.specs.declared.worker.SessionEnd.{SessionEnd}
 

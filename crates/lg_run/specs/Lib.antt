@@ -1,4 +1,5 @@
 pub mod CameTo
+pub mod Closing
 pub mod Finished
 pub mod Saved
 pub mod Seated

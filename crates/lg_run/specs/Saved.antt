@@ -1,12 +1,16 @@
 -- What the code saves of cells and sessions when all threads have ended.
-use Rattle.std.specs.Prelude.{ℕ, ◌≡◌, ◌≤◌, ◌^◌, ◌∷◌, map}
+use Rattle.std.specs.Prelude.{ℕ, ◌≡◌, ◌≤◌, ◌^◌, ◌++◌, List, ◌∷◌, map}
 use mathlib.Core.Option.{some}
 use lib.ListN.{get_elem?}
+use Rattle.lg_types.specs.declared.digest.Digest.{Digest}
 use Rattle.lg_seat.specs.Images.{AreImageBytes, CellsStand, JournalHasRoom}
+use Rattle.lg_seat.specs.KeptCell.{ledger_seen}
 use Rattle.lg_standing.specs.Cells.{Ledger, LedgerCell, ledger_at}
 use Rattle.lg_step.specs.Images.{with_each}
 use Rattle.lg_step.specs.Woven.{joined_each}
 use Rattle.lg_step.specs.declared.running.Ran.{Ran}
+use Rattle.lg_run.specs.Closing.{IssuesLast}
+use Rattle.lg_run.specs.declared.leaving.Leaving.{Leaving}
 use Rattle.lg_run.specs.declared.whole.Finished.{Finished}
 
 -- this is saved of it: all entries, all images that were kept, and what the ledger's cell has, whose next id has
@@ -22,3 +26,41 @@ pub record HasSaved (f : Finished) (r : Ran) : Type 0 where
   pub database : r.journal.database ≡ ledger.database
   pub items : r.journal.items ≡ ledger.items
   pub digests : r.digests ≡ ledger.issued
+
+-- ---- the ledger's cell by itself
+
+abbrev pub ran_of : Leaving → Ran
+ran_of l = record {
+  transcript = l.transcript;
+  images = l.images;
+  image = l.image;
+  journal = record { database = l.ledger.cell.database; items = l.ledger.cell.items };
+  digests = l.ledger.cell.issued;
+}
+
+-- this is left of it, with the ledger's cell as it stood among the cells
+pub record IsLeaving (f : Finished) (l : Leaving) : Type 0 where
+  pub transcript : l.transcript ≡ joined_each (f.setup.entries ∷ map (λ e. e.entries) f.ends.items)
+  pub images : l.images ≡ with_each (f.setup.images ∷ map (λ e. e.images) f.ends.items)
+  pub bytes : AreImageBytes f.cells.items l.image
+  pub room : (stand : CellsStand f.cells.items) → JournalHasRoom stand.hash f.cells.items
+  pub there : get_elem? f.cells.items ledger_at ≡ some (ledger_seen l.ledger)
+
+-- with these digests in the place of its own
+abbrev pub with_digests : Ran → List Digest → Ran
+with_digests r digests = record {
+  transcript = r.transcript;
+  images = r.images;
+  image = r.image;
+  journal = r.journal;
+  digests = digests;
+}
+
+-- this is saved of it, and behind its digests that of the newest block, or none where there is no transaction
+pub record HasIssued (h : List ℕ → List ℕ) (made : ℕ) (f : Finished) (r : Ran) : Type 0 where
+  pub before : Ran
+  pub saved : HasSaved f before
+  pub more : List Digest
+  pub after : LedgerCell
+  pub issued : IssuesLast h made saved.ledger more after
+  pub is : r ≡ with_digests before (before.digests ++ more)

@@ -1,16 +1,20 @@
 //! What is written and saved of a run that is over.
 
-ghost use Rattle.std.specs.Prelude.{◌≡◌, ◌++◌, ◌∷◌, map, string_bytes, IfOk, OnOk};
+ghost use Rattle.std.specs.Prelude.{◌≡◌, ◌≤◌, ◌++◌, ◌∷◌, ◌^◌, map, string_bytes, IfOk, OnOk};
 ghost use Rattle.std.specs.List.{fold};
 ghost use Rattle.lg_step.specs.Images.{with_each, with_images};
 ghost use Rattle.lg_step.specs.Woven.{joined, joined_each};
 ghost use Rattle.lg_seat.specs.Images.{CellsStand};
-ghost use Rattle.lg_run.specs.Saved.{HasSaved};
+ghost use Rattle.lg_run.specs.Closing.{HasLedger, pending_there};
+ghost use Rattle.lg_run.specs.Saved.{HasIssued, HasSaved, IsLeaving, ran_of};
 
+use crate::closing::issue_last;
 use crate::shared::LEDGER;
 use crate::whole::Finished;
 use crate::worker::SessionEnd;
+use lg_book::LedgerCell;
 use lg_items::{Blob, Items, Memory, Text};
+use lg_merkle::Hash32;
 use lg_seat::image_bytes_of;
 use lg_step::{Ran, add_images};
 use std::alloc::Global;
@@ -72,10 +76,42 @@ fn images_of(
     Ok(images)
 }
 
-/// What is written and saved of a run that has finished.
-pub(crate) fn left_by(alloc: Global, finished: Finished) -> Result<Ran, Memory>
+/// What is left of a run, with the ledger's cell by itself.
+#[derive(Drop)]
+pub(crate) struct Leaving {
+    pub transcript: Text,
+    pub images: Items<(u64, Blob)>,
+    pub image: Blob,
+    pub ledger: LedgerCell,
+}
+
+impl Leaving {
+    // What the ledger's cell has comes apart. Takes no memory.
+    fn into_ran(self) -> Ran
+        ensures ran { result ≡ ran_of self }
+        ensures next { self.ledger.cell.next ≤ 2 ^ 63 }
+    {
+        let Leaving {
+            transcript,
+            images,
+            image,
+            ledger,
+        } = self;
+        let (journal, digests) = ledger.into_parts();
+        Ran {
+            transcript,
+            images,
+            image,
+            journal,
+            digests,
+        }
+    }
+}
+
+/// What is left of a run that has finished.
+fn leave(alloc: Global, finished: Finished) -> Result<Leaving, Memory>
     requires { CellsStand finished.cells.items }
-    ensures { IfOk result (HasSaved finished) }
+    ensures { IfOk result (IsLeaving finished) }
 {
     let transcript = transcript_of(alloc, &finished.setup, &finished.ends)?;
     let Finished {
@@ -86,14 +122,36 @@ pub(crate) fn left_by(alloc: Global, finished: Finished) -> Result<Ran, Memory>
     let image = image_bytes_of(alloc, &cells)?;
     let images = images_of(alloc, setup, ends)?;
     let ledger = cells.swap_remove(LEDGER).into_ledger();
-    // Its ids have room in 8 bytes.
-    ledger.next_id();
-    let (journal, digests) = ledger.into_parts();
-    Ok(Ran {
+    Ok(Leaving {
         transcript,
         images,
         image,
-        journal,
-        digests,
+        ledger,
     })
+}
+
+/// What is written and saved of a run that has finished.
+pub(crate) fn left_by(alloc: Global, finished: Finished) -> Result<Ran, Memory>
+    requires { CellsStand finished.cells.items }
+    ensures { IfOk result (HasSaved finished) }
+{
+    Ok(leave(alloc, finished)?.into_ran())
+}
+
+/// What is written and saved of a run that has finished and whose ledger is closed, with the digest of the
+/// newest block as made at this moment, where there is one.
+pub(crate) fn left_closed<H: Hash32>(
+    alloc: Global,
+    hasher: H,
+    finished: Finished,
+    made: u64,
+) -> Result<Ran, Memory>
+    requires stand { CellsStand finished.cells.items }
+    requires keeps { HasLedger (H.digest hasher) finished.cells.items }
+    requires none { pending_there finished.cells.items ≡ 0 }
+    ensures { IfOk result (HasIssued (H.digest hasher) made finished) }
+{
+    let mut leaving = leave(alloc, finished)?;
+    issue_last(alloc, hasher, &mut leaving.ledger, made)?;
+    Ok(leaving.into_ran())
 }

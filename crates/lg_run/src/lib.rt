@@ -2,6 +2,7 @@
 #![tactic(auto)]
 
 mod builder;
+mod closing;
 mod leaving;
 mod parts;
 mod running;
@@ -13,4 +14,4 @@ mod visits;
 mod whole;
 mod worker;
 
-pub use running::run_all;
+pub use running::{run_all, run_and_close};

@@ -1,6 +1,6 @@
 //! The run of a plan.
 
-ghost use Rattle.std.specs.Prelude.{◌≡◌, ◌∷◌, ◌≤◌, ◌<◌, ◌^◌, All, IfOk, codes, true};
+ghost use Rattle.std.specs.Prelude.{◌≡◌, ◌∷◌, ◌≤◌, ◌<◌, ◌^◌, List, All, IfOk, codes, true};
 ghost use Rattle.std.specs.List.{IsDistinct};
 ghost use Rattle.std.specs.Str.{bytes_eq};
 ghost use Rattle.lg_items.specs.DatabaseName.{is_database_name};
@@ -8,16 +8,20 @@ ghost use Rattle.lg_plan.specs.Form.{is_session_name};
 ghost use Rattle.lg_plan.specs.Plan.{plan_view, session_names, size_of};
 ghost use Rattle.lg_step.specs.Moments.{said_with};
 ghost use Rattle.lg_together.specs.CameTo.{Left};
+ghost use Rattle.lg_types.specs.declared.digest.Digest.{Digest};
 ghost use Rattle.lg_types.specs.declared.journal.TheConstants.{MAX_BLOCK};
-ghost use Rattle.lg_run.specs.CameTo.{CameTo, IsOf};
+ghost use Rattle.lg_run.specs.CameTo.{CameTo, IsClosed, IsOf, and_digests};
 
-use crate::leaving::left_by;
+use crate::closing::close_all;
+use crate::leaving::{left_by, left_closed};
 use crate::whole::run_over;
 use lg_base::{Clock, Gate};
+use lg_book::issued_digests_are_of_the_journal;
+use lg_honest::{digests_are_held_where_their_blocks_are_closed, images_of_legal_journals_verify};
 use lg_items::Memory;
 use lg_merkle::Hash32;
 use lg_plan::Plan;
-use lg_step::{Ran, Settings, is_spelled};
+use lg_step::{Ran, Settings, is_spelled, moment};
 use lg_together::runs_side_by_side_agree;
 use std::alloc::Global;
 use std::marker::Brand;
@@ -71,5 +75,45 @@ pub fn run_all<H: Hash32, C: Clock, G: Gate, R: Threads + Wait + Sync>(
     // Laws: they do nothing.
     is_spelled(&ran.journal);
     runs_side_by_side_agree();
+    Ok(ran)
+}
+
+/// Runs the plan as `run_all` does, and closes the ledger behind the run: all that is pending gets into
+/// blocks, and where there is a transaction the digest of the newest block is issued, as the last of the
+/// digests. It is in no transcript.
+pub fn run_and_close<H: Hash32, C: Clock, G: Gate, R: Threads + Wait + Sync>(
+    rt: &R,
+    alloc: Global,
+    hasher: H,
+    how: Settings<'_>,
+    plan: &Plan<'_>,
+    clock: &C,
+    gate: &G,
+) -> Result<Ran, Memory>
+    requires database { is_database_name how.database.now ≡ true }
+    requires some { 1 ≤ how.block_size }
+    requires most { how.block_size ≤ MAX_BLOCK }
+    requires names { All (λ name. is_session_name name ≡ true) (session_names (plan_view plan.now)) }
+    requires apart { IsDistinct bytes_eq (codes "setup" ∷ session_names (plan_view plan.now)) }
+    requires few { size_of (plan_view plan.now) < 2 ^ 31 }
+    ensures { IfOk result (λ r. (left : Left) × (more : List Digest)
+        × CameTo (H.digest hasher) how.entry.database.now how.entry.block_size
+        (said_with how.entry.clock (C.says clock.now)) (plan_view plan.now) left
+        × IsClosed (H.digest hasher) (said_with how.entry.clock (C.says clock.now)) left more
+        × IsOf (H.digest hasher) (and_digests left more) r) }
+{
+    let visits = statement_count(plan) + 1;
+    let mut finished = run_over::<Brand, H, C, G, R>(
+        rt, alloc, hasher, how, plan, visits, clock, gate,
+    )?;
+    close_all(alloc, hasher, &mut finished.cells)?;
+    let made = moment(how.clock, clock);
+    let ran = left_closed(alloc, hasher, finished, made)?;
+    // Laws: they do nothing.
+    is_spelled(&ran.journal);
+    runs_side_by_side_agree();
+    issued_digests_are_of_the_journal();
+    digests_are_held_where_their_blocks_are_closed();
+    images_of_legal_journals_verify();
     Ok(ran)
 }

@@ -28,6 +28,7 @@ impl Cell {
         requires { Keeps (H.digest h) self.old }
         ensures closes { OnOk result (ClosesFull (H.digest h) self.old.cell self.new.cell) }
         ensures keeps { Keeps (H.digest h) self.new }
+        ensures err { OnErr result (self.new ≡ self.old) }
     {
         match &mut self.kind {
             Kind::Ledger(ledger) => close_full_block(alloc, h, ledger),
@@ -63,8 +64,10 @@ impl Cell {
 
 fn close_full_block<H: Hash32>(alloc: Global, h: H, ledger: &mut LedgerCell) -> Result<(), Memory>
     requires { Keeps (H.digest h) (ledger_seen ledger.old) }
-    ensures closes { OnOk result (ClosesFull (H.digest h) (ledger_seen ledger.old).cell (ledger_seen ledger.new).cell) }
+    ensures closes { OnOk result
+        (ClosesFull (H.digest h) (ledger_seen ledger.old).cell (ledger_seen ledger.new).cell) }
     ensures keeps { Keeps (H.digest h) (ledger_seen ledger.new) }
+    ensures err { OnErr result (ledger.new ≡ ledger.old) }
 {
     let size = ledger.block_size();
     if ledger.pending() < u64::from(size) {

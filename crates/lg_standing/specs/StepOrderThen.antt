@@ -13,7 +13,7 @@ use Rattle.lg_standing.specs.StandTogether.{History}
 
 -- where the history takes one statement after another, ends its sessions behind the last, and closes a block
 -- as soon as N entries are pending and what is pending for a digest, the transcripts that the seats wrote are
--- one list, and in it E20 comes exactly where a lock is in the way
+-- one list, and in it E20 comes exactly where a lock is in the way, unless it is E30
 abbrev pub KeepsStepOrder : Server → History → List SeatState → List JournalItem → Type 0
 KeepsStepOrder v history seats items = (N : ℕ) (input : List InputSession) (X : List Transcript)
     → AreWritten history seats input X → SessionsDiffer X → OneAtATime first history

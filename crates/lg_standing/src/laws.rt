@@ -79,8 +79,8 @@ pub fn the_journal_keeps_its_forms()
         → IsLegalJournal v.reads (journal_in s.ledger) }
 {}
 
-/// There the images that a seat kept are those that its transcripts show, with the bytes of the image of so
-/// many items.
+/// There the images that a seat kept for sessions that are over are those that their transcripts show, with the
+/// bytes of the image of so many items.
 pub fn kept_images_are_those_that_transcripts_show()
     ensures { (v : Server) (history : History) (cells : List Cell) (seats : List SeatState)
         → (st : Stands v history cells seats) → (j : ℕ) (s : SeatState) → get_elem? seats j ≡ some s
@@ -205,7 +205,7 @@ pub fn whatever_happens_agrees()
 /// each by one seat while all others are between statements, it takes one statement after another. Where it
 /// does, and ends its sessions behind the last and closes blocks in step, the transcripts that the seats
 /// wrote are one list in the order of these lines, and in it E20 comes exactly where a lock is in the way,
-/// with the least holder.
+/// with the least holder, unless it is E30.
 pub fn one_statement_after_another_keeps_step_order()
     ensures { (v : Server) (database : Text) (size : ℕ) → 1 ≤ size → size ≤ max_block
         → (cells : List Cell) (seats : List SeatState)
@@ -226,7 +226,8 @@ pub fn transcripts_are_in_the_order_of_their_beginnings()
 {}
 
 /// Locks decide in two parts of a history if they do in each; and where they decide in all of it, what the
-/// seats wrote keeps step order.
+/// seats wrote keeps step order, if the history takes one statement after another, ends its sessions last and
+/// closes blocks in step.
 pub fn locks_that_decide_keep_step_order()
     ensures parts { (v : Server) (history events more : History)
         → LocksDecideIn v history events → LocksDecideIn v (history ++ events) more

@@ -36,7 +36,7 @@ use Rattle.lg_course.specs.Told.{HasEnded, IsMeaning, IsImageOf, RunAgrees}
 use Rattle.lg_course.proofs.Told.{some_meaning}
 use Rattle.lg_kept.specs.Accepted.{IsAccepted}
 use Rattle.lg_core.specs.declared.parts.Parts.{Parts}
-use Rattle.lg_kept.specs.LastImage.{last_image, last_image_bytes}
+use Rattle.lg_kept.specs.LastImage.{journal_of, last_image, last_image_bytes}
 use Rattle.lg_kept.proofs.Accepts.{each_in}
 use Rattle.lg_step.specs.Came.{Run, CameTo}
 use Rattle.lg_step.specs.Images.{AreKept, with_each}
@@ -117,9 +117,6 @@ numbers_are names (s ∷ ss) = ap (λ ns. number_of names s.session ∷ ns) (num
 named_lines : (names : List Text) (ss : List Statement) → AllByRecursion (λ s. list_any (bytes_eq s.session) names ≡ true) ss → Each (λ line. list_any (bytes_eq line.session) names ≡ true) (lines_of ss)
 named_lines names [] e = tt
 named_lines names (s ∷ ss) e = (e.0, named_lines names ss e.1)
-
-abbrev journal_of : Text → List JournalItem → Journal
-journal_of database items = record { database = database; items = items }
 
 -- ---- all
 

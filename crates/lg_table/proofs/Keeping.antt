@@ -99,7 +99,7 @@ seen_each columns key vs (i ∷ is) (j ∷ js) key_is r h same =
 -- a table's versions with the orders that follow them
 pub seen_with : (columns : List ColumnDef) (key : List ℕ) (vs : List Version) (o p : Orders) (was : List Version) (order : List EventId) → key ≡ key_places columns → Rising vs → StandIn key vs o
     → ordinals_of o.indexes.items ≡ ordinals_of p.indexes.items
-    → (let s : Stored = record { columns = columns; versions = vs; order = o.key_order.order.items; indexes = map index_seen o.indexes.items } in
+    → (let s : Stored = record { columns = columns; versions = vs; order = o.key_order.order.list; indexes = map index_seen o.indexes.items } in
     let t : Stored = record { columns = columns; versions = was; order = order; indexes = map index_seen p.indexes.items } in s ≡ with_versions columns vs t)
 seen_with columns key vs o p was order key_is r are same =
     ap₂ (λ (l : List EventId) (is : List stored.Index). record { columns = columns; versions = vs; order = l; indexes = is })

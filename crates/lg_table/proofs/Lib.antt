@@ -1,4 +1,5 @@
 pub mod Asking
+pub mod Between
 pub mod ByKey
 pub mod Carrying
 pub mod Done
@@ -18,6 +19,7 @@ pub mod Rooms
 pub mod RowsMade
 pub mod Splits
 pub mod Steps
+pub mod Stretches
 pub mod UndoSteps
 pub mod Undone
 pub mod Whole

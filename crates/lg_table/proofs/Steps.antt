@@ -77,16 +77,16 @@ module _ (columns : List ColumnDef) (key : List ℕ) (vs : List Version) (n : �
 
 -- what contracts see of a store
 abbrev pub stored_of : List ColumnDef → List Version → Orders → Stored
-stored_of columns vs o = record { columns = columns; versions = vs; order = o.key_order.order.items; indexes = map index_seen o.indexes.items }
+stored_of columns vs o = record { columns = columns; versions = vs; order = o.key_order.order.list; indexes = map index_seen o.indexes.items }
 
 -- key order and indexes follow the versions
 pub follows : (columns : List ColumnDef) (key : List ℕ) (vs : List Version) (o : Orders) → IsKept columns key vs o → stored_of columns vs o ≡ with_versions columns vs (stored_of columns vs o)
-follows columns key vs o kept = seen_with columns key vs o o vs o.key_order.order.items kept.key_is kept.rising kept.are.stand refl
+follows columns key vs o kept = seen_with columns key vs o o vs o.key_order.order.list kept.key_is kept.rising kept.are.stand refl
 
 -- they follow other versions too
 pub follow : (columns : List ColumnDef) (key : List ℕ) (vs ws : List Version) (o p : Orders) → IsKept columns key ws p → ordinals_of p.indexes.items ≡ ordinals_of o.indexes.items
     → stored_of columns ws p ≡ with_versions columns ws (stored_of columns vs o)
-follow columns key vs ws o p kept same = seen_with columns key ws p o vs o.key_order.order.items kept.key_is kept.rising kept.are.stand same
+follow columns key vs ws o p kept same = seen_with columns key ws p o vs o.key_order.order.list kept.key_is kept.rising kept.are.stand same
 
 -- ---- without versions
 
@@ -171,7 +171,7 @@ pub one_index : (columns : List ColumnDef) (key : List ℕ) (vs : List Version) 
     → IsOf key vs i → i.ordinals ≡ ordinals
     → stored_of columns vs (record { key_order = o.key_order; ends = o.ends; indexes = is }) ≡ with_index ordinals (stored_of columns vs o)
 one_index columns key vs o is i ordinals more kept of same =
-    ap (λ (l : List stored.Index). record { columns = columns; versions = vs; order = o.key_order.order.items; indexes = l })
+    ap (λ (l : List stored.Index). record { columns = columns; versions = vs; order = o.key_order.order.list; indexes = l })
     (ap (map index_seen) more
     ∙ map-append index_seen o.indexes.items (i ∷ [])
     ∙ ap (λ (x : stored.Index). map index_seen o.indexes.items ++ x ∷ [])
@@ -200,7 +200,7 @@ pub last_off : (columns : List ColumnDef) (key : List ℕ) (vs : List Version) (
 last_off columns key vs o is n less kept room = (
   kept_with columns key vs o is kept (subst (AllByRecursion (IsOf key vs)) (sym less) (all_take (IsOf key vs) (length o.indexes.items - 1) o.indexes.items kept.are.stand.indexed)),
   room_with n o is room (subst (AllByRecursion (HasRoom n)) (sym less) (all_take (HasRoom n) (length o.indexes.items - 1) o.indexes.items room.for_indexes)),
-  ap (λ (l : List stored.Index). record { columns = columns; versions = vs; order = o.key_order.order.items; indexes = l }) (ap (map index_seen) less ∙ last_of o.indexes.items),
+  ap (λ (l : List stored.Index). record { columns = columns; versions = vs; order = o.key_order.order.list; indexes = l }) (ap (map index_seen) less ∙ last_of o.indexes.items),
 )
 
 -- ---- orders that contracts see alike
@@ -237,7 +237,7 @@ none_placed : key_places [] ≡ []
 unfolding key_places
 none_placed = refl
 
-pub nothing_kept : (columns : List ColumnDef) (key : List ℕ) (vs : List Version) (o : Orders) → columns ≡ [] → key ≡ [] → vs ≡ [] → o.key_order.ordinals ≡ [] → o.key_order.order.items ≡ []
+pub nothing_kept : (columns : List ColumnDef) (key : List ℕ) (vs : List Version) (o : Orders) → columns ≡ [] → key ≡ [] → vs ≡ [] → o.key_order.ordinals ≡ [] → o.key_order.order.list ≡ []
     → o.ends.items ≡ [] → o.indexes.items ≡ [] → IsKept columns key vs o
 nothing_kept columns key vs o no_columns no_key no_versions no_ordinals no_order no_ends no_indexes = record {
   key_is = no_key ∙ sym none_placed ∙ ap key_places (sym no_columns);

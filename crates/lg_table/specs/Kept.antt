@@ -14,21 +14,21 @@ use Rattle.lg_table.specs.declared.orders.Orders.{Orders}
 
 -- the order of an index is that of these versions
 abbrev pub IsOf : List ℕ → List Version → Index → Type 0
-IsOf key versions index = index.order.items ≡ starts_of (in_order index.ordinals key versions)
+IsOf key versions index = index.order.list ≡ starts_of (in_order index.ordinals key versions)
 
 -- it is that of these versions and one more
 abbrev pub IsWith : List ℕ → Version → List Version → Index → Type 0
 IsWith key v versions index =
-    index.order.items
+    index.order.list
     ≡ starts_of (inserted (order_cmp index.ordinals key) v (in_order index.ordinals key versions))
 
 -- an index with room for so many starts
 abbrev pub HasRoom : ℕ → Index → Type 0
-HasRoom count index = count ≤ vec_capacity index.order
+HasRoom count index = count ≤ index.order.room
 
 -- an index as contracts see it
 abbrev pub index_seen : Index → stored.Index
-index_seen index = record { ordinals = index.ordinals; order = index.order.items }
+index_seen index = record { ordinals = index.ordinals; order = index.order.list }
 
 abbrev pub ordinals_of : List Index → List (List ℕ)
 ordinals_of indexes = map (λ i. i.ordinals) indexes

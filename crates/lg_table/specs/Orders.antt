@@ -40,6 +40,11 @@ started_by start v = same_event v.start start
 abbrev pub version_at : EventId → List Version → Option Version
 version_at start versions = find (started_by start) versions
 
+-- the version of this start, where there is a start
+abbrev pub version_of : Option EventId → List Version → Option Version
+version_of (Some start) versions = version_at start versions
+version_of None versions = None
+
 abbrev pub passes : (Version → Bool) → Option Version → Bool
 passes test (Some v) = test v
 passes test None = false

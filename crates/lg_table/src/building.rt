@@ -1,6 +1,6 @@
 //! A new index, which is the only work that sorts.
 
-ghost use Rattle.std.specs.Prelude.{◌≡◌, IfOk, OnOk, map, vec_capacity, ◌≤◌};
+ghost use Rattle.std.specs.Prelude.{◌≡◌, ◌≤◌, IfOk, OnOk, map};
 ghost use Rattle.lg_model.specs.Lists.{sorted};
 ghost use Rattle.lg_model.specs.Rows.{live};
 ghost use Rattle.lg_model.specs.Runs.{Rising};
@@ -10,7 +10,8 @@ ghost use Rattle.lg_table.specs.Orders.{row_cmp, starts_of};
 use crate::comparing::compare_rows;
 use crate::index::Index;
 use lg_items::{Items, Memory};
-use lg_types::{EventId, Version};
+use lg_starts::Starts;
+use lg_types::Version;
 use std::alloc::Global;
 
 /// The index of these versions by the columns with these ordinals, with room for so many starts.
@@ -54,13 +55,15 @@ fn sort_rows(ordinals: &[u16], key: &[usize], versions: &mut Vec<&Version>) -> R
     Ok(())
 }
 
-fn starts_of(alloc: Global, versions: &[&Version], room: usize) -> Result<Vec<EventId>, Memory>
-    ensures starts { IfOk result (λ starts. starts.items ≡ starts_of (map (λ v. v.now) versions.now)) }
-    ensures room { IfOk result (λ starts. room ≤ vec_capacity starts) }
+fn starts_of(alloc: Global, versions: &[&Version], room: usize) -> Result<Starts, Memory>
+    ensures starts { IfOk result (λ starts. starts.list ≡ starts_of (map (λ v. v.now) versions.now)) }
+    ensures room { IfOk result (λ starts. room ≤ starts.room) }
 {
-    let mut starts = Vec::with_capacity(alloc, room)?;
+    let mut starts = Starts::new(alloc);
+    starts.reserve(alloc, room.max(versions.len()))?;
     for version in versions {
-        starts.push(version.start)?;
+        let end = starts.len();
+        starts.insert(end, version.start);
     }
     Ok(starts)
 }

@@ -1,14 +1,16 @@
 //! Searches by halving for the versions of a key, among those that stand in key order.
 
-ghost use Rattle.std.specs.Prelude.{◌≡◌, ◌≤◌, [], length};
+ghost use Rattle.std.specs.Prelude.{◌≡◌, ◌≤◌, [], length, slice_range};
 ghost use Rattle.std.specs.List.{filter, list_any, prefix_len};
 ghost use Rattle.lg_model.specs.Runs.{Rising};
 ghost use Rattle.lg_parts.specs.Places.{key_at};
 ghost use Rattle.lg_table.specs.Orders as spec;
 ghost use Rattle.lg_table.specs.Orders.{in_order, passes, starts_of};
 
+use crate::reading::Stretch;
 use crate::searching::version_at;
 use lg_parts::{compare_at, compare_to_key};
+use lg_starts::Starts;
 use lg_types::{EventId, Row, Version};
 use lg_value::Value;
 
@@ -37,42 +39,42 @@ fn is_up_to(places: &[usize], versions: &[Version], start: EventId, key: &[Value
 }
 
 // How many versions come before this key in key order, which is that of these versions.
-fn count_below(places: &[usize], versions: &[Version], order: &[EventId], key: &[Value]) -> usize
+fn count_below(places: &[usize], versions: &[Version], order: &Starts, key: &[Value]) -> usize
     requires rising { Rising versions.now }
-    requires order { order.now ≡ starts_of (in_order [] places.now versions.now) }
+    requires order { order.now.list ≡ starts_of (in_order [] places.now versions.now) }
     ensures place { result
         ≡ prefix_len (spec.is_below places.now key.now) (in_order [] places.now versions.now) }
-    ensures bound { result ≤ length order.now }
+    ensures bound { result ≤ length order.now.list }
 {
     order.partition_point(|start| is_below(places, versions, *start, key))
 }
 
 // How many don't come behind it.
-fn count_up_to(places: &[usize], versions: &[Version], order: &[EventId], key: &[Value]) -> usize
+fn count_up_to(places: &[usize], versions: &[Version], order: &Starts, key: &[Value]) -> usize
     requires rising { Rising versions.now }
-    requires order { order.now ≡ starts_of (in_order [] places.now versions.now) }
+    requires order { order.now.list ≡ starts_of (in_order [] places.now versions.now) }
     ensures place { result
         ≡ prefix_len (spec.is_up_to places.now key.now) (in_order [] places.now versions.now) }
-    ensures bound { result ≤ length order.now }
+    ensures bound { result ≤ length order.now.list }
 {
     order.partition_point(|start| is_up_to(places, versions, *start, key))
 }
 
-/// The starts of the versions of a key, in the key order of these versions.
-pub fn starts_of_key<'a>(
+/// Where the versions of a key stand in the key order of these versions.
+pub fn stretch_of_key(
     places: &[usize],
     versions: &[Version],
-    order: &'a [EventId],
+    order: &Starts,
     key: &[Value],
-) -> &'a [EventId]
+) -> Stretch
     requires rising { Rising versions.now }
-    requires order { order.now ≡ starts_of (in_order [] places.now versions.now) }
-    ensures { result.now ≡ starts_of (filter (spec.is_of_key places.now key.now)
-        (in_order [] places.now versions.now)) }
+    requires order { order.now.list ≡ starts_of (in_order [] places.now versions.now) }
+    ensures { slice_range order.now.list result.first result.behind ≡ starts_of
+        (filter (spec.is_of_key places.now key.now) (in_order [] places.now versions.now)) }
 {
     let first = count_below(places, versions, order, key);
     let behind = count_up_to(places, versions, order, key);
-    &order[first..behind]
+    Stretch { first, behind }
 }
 
 // Whether the key of the version of this start comes before that of the row.
@@ -102,27 +104,26 @@ fn has_key_of(places: &[usize], versions: &[Version], start: EventId, row: &Row)
 }
 
 // How many versions come before the key of the row in key order.
-fn count_below_row(places: &[usize], versions: &[Version], order: &[EventId], row: &Row) -> usize
+fn count_below_row(places: &[usize], versions: &[Version], order: &Starts, row: &Row) -> usize
     requires rising { Rising versions.now }
-    requires order { order.now ≡ starts_of (in_order [] places.now versions.now) }
+    requires order { order.now.list ≡ starts_of (in_order [] places.now versions.now) }
     ensures place { result ≡ prefix_len (spec.is_below places.now (key_at places.now row.now))
         (in_order [] places.now versions.now) }
-    ensures bound { result ≤ length order.now }
+    ensures bound { result ≤ length order.now.list }
 {
     order.partition_point(|start| is_below_row(places, versions, *start, row))
 }
 
 /// Whether some version in key order has the key of the row.
-pub fn some_has_key(places: &[usize], versions: &[Version], order: &[EventId], row: &Row) -> bool
+pub fn some_has_key(places: &[usize], versions: &[Version], order: &Starts, row: &Row) -> bool
     requires rising { Rising versions.now }
-    requires order { order.now ≡ starts_of (in_order [] places.now versions.now) }
+    requires order { order.now.list ≡ starts_of (in_order [] places.now versions.now) }
     ensures { result ≡ list_any (spec.is_of_key places.now (key_at places.now row.now))
         (in_order [] places.now versions.now) }
 {
     let place = count_below_row(places, versions, order, row);
-    if place >= order.len() {
-        return false;
+    match order.get(place) {
+        Some(start) => has_key_of(places, versions, start, row),
+        None => false,
     }
-    let start = order[place];
-    has_key_of(places, versions, start, row)
 }

@@ -87,7 +87,8 @@ impl TableCell {
     /// the cell is as it was. The context is then of the same transaction as before.
     ///
     /// INSERT looks each row's key up by halving; UPDATE and DELETE look at the row of the key that the
-    /// condition fixes, or at all that stand. Each change finds its places by halving.
+    /// condition fixes, or at all that stand. Each change finds its version by a guess and halving, and its
+    /// place in each order by halving.
     #[tactic(auto, using(crate::proofs::Whole::changed_under, crate::proofs::Asking::left, crate::proofs::Asking::stopped_so, crate::proofs::Asking::fewer))]
     pub fn change<H: Hash32>(
         &mut self,

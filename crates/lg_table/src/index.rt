@@ -9,14 +9,16 @@ ghost use Rattle.lg_table.specs.Orders.{has_row_below, in_order};
 
 use crate::searching::{place_in_order, start_has_row_below};
 use lg_items::{Items, Memory};
-use lg_types::{EventId, Version};
+use lg_starts::Starts;
+use lg_types::Version;
+use std::alloc::Global;
 
 /// The ordinals of the columns of an index, and the starts of the versions that stand, sorted by these
 /// columns, then by key, and then by start. An index without columns is the key order.
 #[derive(Debug, Drop)]
 pub struct Index {
     pub ordinals: Items<u16>,
-    pub order: Vec<EventId>,
+    pub order: Starts,
 }
 
 /// Puts the start of a version in its place. Takes no memory.
@@ -35,7 +37,7 @@ pub fn add_start(index: &mut Index, key: &[usize], versions: &[Version], version
         &index.order,
         version,
     );
-    index.order.insert(place, version.start).unwrap();
+    index.order.insert(place, version.start);
 }
 
 /// Takes out the start of the version at this place, which stands.
@@ -101,26 +103,23 @@ pub fn take_start_from_all(
 }
 
 /// Makes room for so many starts.
-pub fn reserve_index(index: &mut Index, count: usize) -> Result<(), Memory>
+pub fn reserve_index(alloc: Global, index: &mut Index, count: usize) -> Result<(), Memory>
     ensures same { index_seen index.new ≡ index_seen index.old }
     ensures room { (n : ℕ) → HasRoom n index.old → HasRoom n index.new }
     ensures ok { OnOk result (HasRoom count index.new) }
 {
-    index
-        .order
-        .reserve(count.saturating_sub(index.order.len()))?;
-    Ok(())
+    index.order.reserve(alloc, count)
 }
 
 /// Makes room for so many starts in each index. For want of memory some of them may have got room.
-pub fn reserve_indexes(indexes: &mut Vec<Index>, count: usize) -> Result<(), Memory>
+pub fn reserve_indexes(alloc: Global, indexes: &mut Vec<Index>, count: usize) -> Result<(), Memory>
     ensures same { map index_seen indexes.new.items ≡ map index_seen indexes.old.items }
     ensures room { (n : ℕ) → AllByRecursion (HasRoom n) indexes.old.items
         → AllByRecursion (HasRoom n) indexes.new.items }
     ensures ok { OnOk result (AllByRecursion (HasRoom count) indexes.new.items) }
 {
     for index in indexes.iter_mut() {
-        reserve_index(index, count)?;
+        reserve_index(alloc, index, count)?;
     }
     Ok(())
 }

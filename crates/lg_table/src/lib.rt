@@ -7,6 +7,7 @@ mod cell;
 mod columns;
 mod comparing;
 mod ending;
+mod guessing;
 mod index;
 mod laws;
 mod leaves;

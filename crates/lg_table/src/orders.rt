@@ -13,6 +13,7 @@ use crate::index::{
 };
 use lg_items::Memory;
 use lg_types::{EventId, Version};
+use std::alloc::Global;
 
 /// The key order, the ends in the order of their events, by which those of a transaction are found, and the
 /// indexes.
@@ -80,12 +81,12 @@ fn take_ended(orders: &mut Orders, key: &[usize], versions: &[Version], place: u
 }
 
 /// Makes room for so many starts. For want of memory some of the orders may have got room.
-pub fn reserve_orders(orders: &mut Orders, count: usize) -> Result<(), Memory>
+pub fn reserve_orders(alloc: Global, orders: &mut Orders, count: usize) -> Result<(), Memory>
     ensures same { SeenAlike orders.old orders.new }
     ensures room { (n : ℕ) → HaveRoom n orders.old → HaveRoom n orders.new }
     ensures ok { OnOk result (HaveRoom count orders.new) }
 {
-    reserve_index(&mut orders.key_order, count)?;
+    reserve_index(alloc, &mut orders.key_order, count)?;
     reserve_ends(&mut orders.ends, count)?;
-    reserve_indexes(&mut orders.indexes, count)
+    reserve_indexes(alloc, &mut orders.indexes, count)
 }

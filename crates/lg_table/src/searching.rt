@@ -1,31 +1,44 @@
-//! Searches by halving: for a version by its start, and for places in the order of an index.
+//! Searches: for a version by its start, and for places in the order of an index.
 
 ghost use Rattle.std.specs.Prelude.{◌≡◌, ◌≤◌, ◌<◌, true, false, nat_le, IfNone, IfSome, length};
 ghost use Rattle.std.specs.List.{AllByRecursion, HoldsAt};
 ghost use Rattle.std.specs.Option.{option_copied};
 ghost use Rattle.lg_model.specs.Runs.{Rising};
 ghost use Rattle.lg_model.specs.Undo as undo;
-ghost use Rattle.lg_versions.specs.Places.{place, starts_before};
+ghost use Rattle.lg_model.specs.Rows.{event_cmp};
+ghost use Rattle.lg_versions.specs.Places.{place};
 ghost use Rattle.lg_table.specs.Orders as spec;
 ghost use Rattle.lg_table.specs.Orders.{in_order, passes, starts_of};
 
 use crate::comparing::{comes_before, has_row_below};
+use crate::guessing::{guess_place, place_above, place_below};
 use lg_items::TxId;
+use lg_starts::Starts;
 use lg_types::{EventId, Version};
+use std::cmp::Ordering;
 
-/// Where the version stands that the event started, or would stand, among versions by rising start.
+/// Where the version stands that the event started, or would stand, among versions by rising start. By a
+/// guess and halving.
 pub fn place_of_start(versions: &[Version], at: EventId) -> usize
     requires { Rising versions.now }
     ensures value { result ≡ place at versions.now }
     ensures bound { result ≤ length versions.now }
 {
-    versions.partition_point(|version| starts_before(version, at))
+    if versions.is_empty() {
+        return 0;
+    }
+    let guess = guess_place(versions, at);
+    match compare_start(&versions[guess], at) {
+        Ordering::Less => place_above(versions, at, guess + 1),
+        Ordering::Equal => guess,
+        Ordering::Greater => place_below(versions, at, guess),
+    }
 }
 
-fn starts_before(version: &Version, at: EventId) -> bool
-    ensures { result ≡ starts_before at version.now }
+fn compare_start(version: &Version, at: EventId) -> Ordering
+    ensures { result ≡ event_cmp version.now.start at }
 {
-    version.start < at
+    version.start.cmp(&at)
 }
 
 /// The version that the event started.
@@ -82,13 +95,13 @@ pub fn place_in_order(
     ordinals: &[u16],
     key: &[usize],
     versions: &[Version],
-    order: &[EventId],
+    order: &Starts,
     version: &Version,
 ) -> usize
     requires rising { Rising versions.now }
-    requires order { order.now ≡ starts_of (in_order ordinals.now key.now versions.now) }
+    requires order { order.now.list ≡ starts_of (in_order ordinals.now key.now versions.now) }
     ensures place { result ≡ spec.place_of ordinals.now key.now version.now versions.now }
-    ensures bound { result ≤ length order.now }
+    ensures bound { result ≤ length order.now.list }
 {
     order.partition_point(|start| start_comes_before(ordinals, key, versions, *start, version))
 }

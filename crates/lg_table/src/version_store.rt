@@ -1,7 +1,7 @@
 //! The versions of a table, with their key order and their indexes.
 
 ghost use Rattle.std.specs.Prelude.{◌≡◌, ◌≤◌, ◌<◌, ◌+◌, ◌^◌, ◌⊎◌, [], List, None, Some, IfOk, OnOk, OnErr, IfSome, IfNone, length, map};
-ghost use Rattle.std.specs.Prelude.{get_or, slice_get, slice_set};
+ghost use Rattle.std.specs.Prelude.{get_or, slice_get, slice_range, slice_set};
 ghost use Rattle.std.specs.List.{AllByRecursion, HoldsAt, remove};
 ghost use Rattle.std.specs.Option.{option_copied};
 ghost use Rattle.lg_types.specs.declared.version.Version.{Version as SpecVersion};
@@ -19,16 +19,17 @@ ghost use Rattle.lg_table.specs.Stored.{Index as SpecIndex, rows_below, with_ind
 ghost use Rattle.lg_table.specs.Undoing.{EndsUndone, NoEndUndone, NoStartUndone, StartsUndone, without_end};
 
 use crate::building::new_index;
-use crate::by_key::{some_has_key, starts_of_key};
+use crate::by_key::{some_has_key, stretch_of_key};
 use crate::columns::copy_columns;
 use crate::ending::{Ending, add_ending, last_ending};
 use crate::index::{Index, rows_below};
 use crate::leaves::leaves_of;
 use crate::orders::{Orders, add_standing, reserve_orders, take_version};
-use crate::reading::versions_of;
+use crate::reading::{Stretch, versions_of};
 use crate::searching::{last_start, place_of_start, version_at};
 use lg_items::{Blob, Items, Memory, TableId, TxId};
 use lg_parts::key_places;
+use lg_starts::Starts;
 use lg_types::{Change, EventId, Key, Row, Typed, Version};
 use lg_value::ColumnDef;
 use std::alloc::Global;
@@ -45,6 +46,7 @@ pub struct VersionStore {
     orders: Orders,
     // So many more versions may start.
     room: usize,
+    alloc: Global,
 }
 
 impl Model for VersionStore {
@@ -59,7 +61,7 @@ impl Model for VersionStore {
       stored = record {
         columns = s.columns;
         versions = s.versions.items;
-        order = s.orders.key_order.order.items;
+        order = s.orders.key_order.order.list;
         indexes = map index_seen s.orders.indexes.items;
       };
       room = s.room;
@@ -85,12 +87,13 @@ impl VersionStore {
             orders: Orders {
                 key_order: Index {
                     ordinals: Items::new(alloc),
-                    order: Vec::new(alloc),
+                    order: Starts::new(alloc),
                 },
                 ends: Vec::new(alloc),
                 indexes: Vec::new(alloc),
             },
             room: 0,
+            alloc,
         }
     }
 
@@ -139,13 +142,14 @@ impl VersionStore {
         ensures err { OnErr result (self.new ≡ self.old) }
     {
         self.versions.reserve(count)?;
-        reserve_orders(&mut self.orders, self.versions.len() + count)?;
+        reserve_orders(self.alloc, &mut self.orders, self.versions.len() + count)?;
         self.room = count;
         Ok(())
     }
 
-    /// Starts a version in the room that is reserved. It finds the place of the version, by halving, among
-    /// the versions, in the key order and in each index, and moves what stands behind. Takes no memory.
+    /// Starts a version in the room that is reserved. It finds the place of the version among the versions by
+    /// a guess and halving, and in the key order and in each index by halving. It moves the versions that
+    /// stand behind, and in an order not all that do. Takes no memory.
     pub fn start(&mut self, at: EventId, values: Items<Option<Typed>>)
         requires room { 1 ≤ self.old.room }
         requires before { AllByRecursion (MadeBefore at.0 at.1) self.old.stored.versions }
@@ -166,8 +170,8 @@ impl VersionStore {
     }
 
     /// Ends the version that the event `start` started; where there is none nothing changes. It finds the
-    /// version, its places in the key order and in each index, and that of its end, by halving. Takes no
-    /// memory.
+    /// version by a guess and halving, and its places in the key order and in each index, and that of its end,
+    /// by halving. Takes no memory.
     pub fn end(&mut self, at: EventId, start: EventId)
         ensures stored { self.new.stored
             ≡ with_versions self.old.stored.columns (ended at start self.old.stored.versions)
@@ -324,7 +328,7 @@ impl VersionStore {
         self.orders.indexes.len()
     }
 
-    /// The version that the event started, by halving.
+    /// The version that the event started, by a guess and halving.
     pub fn version_at(&self, start: EventId) -> Option<&Version>
         ensures { option_copied result ≡ orders.version_at start self.now.stored.versions }
     {
@@ -389,26 +393,30 @@ impl VersionStore {
         some_has_key(&self.key, &self.versions, &self.orders.key_order.order, row)
     }
 
-    /// The versions that stand, in key order: those of one key, or all. The place of the key and each version
-    /// are found by halving, and none is copied.
+    /// The versions that stand, in key order: those of one key, or all. The place of the key is found by
+    /// halving, each version by a guess and halving, and none is copied.
     pub fn standing(&self, alloc: Global, key: &Option<Key>) -> Result<Vec<&Version>, Memory>
         ensures { IfOk result (λ found. map (λ v. v.now) found.items
             ≡ keys.standing self.now.stored.columns key.now self.now.stored.versions) }
     {
-        let starts = self.starts_standing(key);
-        let found = versions_of(alloc, &self.versions, starts)?;
+        let stretch = self.stretch_standing(key);
+        let order = &self.orders.key_order.order;
+        let found = versions_of(alloc, &self.versions, order, stretch)?;
         Ok(found)
     }
 
-    // The starts of those versions.
-    fn starts_standing(&self, key: &Option<Key>) -> &[EventId]
-        ensures { result.now ≡ orders.starts_of
+    // Where their starts stand in the key order.
+    fn stretch_standing(&self, key: &Option<Key>) -> Stretch
+        ensures { slice_range self.now.stored.order result.first result.behind ≡ orders.starts_of
             (keys.standing self.now.stored.columns key.now self.now.stored.versions) }
     {
         let order = &self.orders.key_order.order;
         match key {
-            None => order,
-            Some(key) => starts_of_key(&self.key, &self.versions, order, key.as_slice()),
+            None => Stretch {
+                first: 0,
+                behind: order.len(),
+            },
+            Some(key) => stretch_of_key(&self.key, &self.versions, order, key.as_slice()),
         }
     }
 

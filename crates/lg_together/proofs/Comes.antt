@@ -43,7 +43,7 @@ use Rattle.lg_course.specs.Wrote.{transcripts_in}
 use Rattle.lg_kept.specs.Accepted.{IsAccepted, IsOfCut}
 use Rattle.lg_joined.specs.Joined.{IsJoined, KnewThatOver}
 use Rattle.lg_joined.specs.Together.{AreFormed, IsMomentOf, RanTogether, names_in}
-use Rattle.lg_kept.specs.LastImage.{last_image}
+use Rattle.lg_kept.specs.LastImage.{journal_of, last_image}
 use Rattle.lg_together.specs.CameTo.{CameTo, Left}
 use Rattle.lg_together.specs.Threads.{HasJoined}
 use Rattle.lg_together.proofs.Images.{all_images, all_shown, whole_image}
@@ -74,9 +74,6 @@ DigestsAreHeld = (h : List ℕ → List ℕ) (reads : Reading) (q : Meaning) (da
 
 abbrev left_of : List Transcript → List (List KeptImage) → Journal → List Digest → Left
 left_of X kept J G = record { X = X; kept = kept; J = J; G = G }
-
-abbrev journal_of : Text → List JournalItem → Journal
-journal_of database items = record { database = database; items = items }
 
 same_ledger : (k l : LedgerCell) → Ledger k ≡ Ledger l → k ≡ l
 same_ledger k l e = cc

@@ -1,5 +1,5 @@
 -- What a run of sessions side by side comes to.
-use Rattle.std.specs.Prelude.{ℕ, ◌≡◌, List, length, map, flat_map, Some}
+use Rattle.std.specs.Prelude.{ℕ, ◌≡◌, List, map, flat_map, Some}
 use Rattle.lg_types.specs.declared.digest.Digest.{Digest}
 use Rattle.lg_types.specs.declared.journal.Journal.{Journal}
 use Rattle.lg_model.specs.LegalJournals.{IsLegalJournal}

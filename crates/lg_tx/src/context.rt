@@ -66,13 +66,6 @@ impl<H: Hash32> TxCtx<H> {
         self.seq
     }
 
-    /// Whether BEGIN opened it.
-    pub fn is_opened(&self) -> bool
-        ensures { (h : H) (o : OpenTransaction) → Represents H.digest h self.now o → result ≡ o.opened }
-    {
-        self.opened
-    }
-
     /// Opens a tree for a table, so that its events may be noted. The tree has no leaf before the first one
     /// is, so the context is of the same transaction as before, also after want of memory.
     pub fn open_tree(&mut self, table: TableId) -> Result<(), Memory>

@@ -17,8 +17,8 @@ const MOST_DIGITS: usize = 38;
 
 /// The value that a text writes as a literal: NULL in any case; a number, with or without a sign and a
 /// point, of at most 38 digits; a text in single quotes, each quote in it doubled, with or without an N
-/// before it; or bytes as `0x` and an even number of hexadecimal digits. No blank stands anywhere, and each
-/// other text is `NotLiteral`.
+/// before it; or bytes as `0x` and an even number of hexadecimal digits. No blank stands anywhere but between
+/// the quotes of a text, and each other text is `NotLiteral`.
 #[tactic(auto, unfolding(crate::specs::Literal::literal_of))]
 pub fn read_literal(alloc: Global, text: &str) -> Result<Value, LitErr>
     ensures { spec.Reads (spec.literal_of text.now) result }

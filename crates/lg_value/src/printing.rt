@@ -10,7 +10,8 @@ use itoa::Buffer;
 
 /// Appends a value as it is shown: NULL; a number with exactly as many digits behind the point as its scale
 /// has, and one or more before it; a text as `N'..'`, each quote in it doubled; bytes as `0x` and upper-case
-/// digits; a day as `'YYYY-MM-DD'`. After want of memory `out` is as before.
+/// digits; a day as `'YYYY-MM-DD'`, and a number behind the last day as that number in quotes. After want of
+/// memory `out` is as before.
 #[tactic(auto, unfolding(crate::specs::Printed::printed))]
 pub fn print(v: &Value, out: &mut Vec<u8>) -> Result<(), Memory>
     ensures ok { OnOk result (out.new.items ≡ out.old.items ++ spec.printed v.now) }
@@ -25,7 +26,8 @@ pub fn print(v: &Value, out: &mut Vec<u8>) -> Result<(), Memory>
 }
 
 /// Appends a value as it is written in a statement: as `print` does, save that a number with 38 digits behind
-/// the point has none before it, so that `read_literal` takes it. After want of memory `out` is as before.
+/// the point has none before it, so that `read_literal` takes it if it has no more than 38 digits. After want
+/// of memory `out` is as before.
 #[tactic(auto, unfolding(crate::specs::Printed::literal_text))]
 pub fn print_literal(v: &Value, out: &mut Vec<u8>) -> Result<(), Memory>
     ensures ok { OnOk result (out.new.items ≡ out.old.items ++ spec.literal_text v.now) }

@@ -9,7 +9,7 @@ pub enum SqlType {
     Int,
     /// A whole number of 64 bits.
     BigInt,
-    /// Numbers of `p` digits, `s` of them after the point. `p` is 1 to 38, and `s` is 0 to `p`.
+    /// Numbers of at most `p` digits, `s` of them after the point. `p` is 1 to 38, and `s` is 0 to `p`.
     Decimal { p: u32, s: u32 },
     /// Texts of at most `n` UTF-16 units, where `n` is 1 to 4,000.
     NVarChar { n: u32 },

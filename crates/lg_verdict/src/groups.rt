@@ -6,7 +6,7 @@ ghost use Rattle.std.specs.declared.cmp.Ordering.{Ordering};
 ghost use Rattle.lg_spell.specs.Least.{least, lesser_of};
 ghost use Rattle.lg_verdict.specs.Groups.{first_found, found_cmp};
 
-/// The least of two groups is the lesser of their leasts.
+/// By a total order, the least of two groups is the lesser of their leasts.
 pub fn leasts_of_groups_merge<T>()
     ensures { (cmp : T → T → Ordering) (xs ys : List T) → IsTotalOrder cmp
         → least cmp (xs ++ ys) ≡ lesser_of cmp (least cmp xs) (least cmp ys) }

@@ -1,7 +1,8 @@
-use Rattle.std.proofs.Common.{◌≡◌, ◌∙◌, arith}
+use Rattle.std.proofs.Common.{◌≡◌, ◌∙◌, ap, arith, map, subst}
 use Rattle.lg_parse.specs.Text.{statement_of}
 use Rattle.lg_step.specs.Moments.{IsMoment}
-use Rattle.lg_benchmark.specs.Reports.{expected}
+use Rattle.lg_honest.specs.Held.{held}
+use Rattle.lg_benchmark.specs.Reports.{expected, TellsOfImage}
 use Rattle.lg_benchmark.proofs.Telling.{Laws, as_expected, tells_of}
 use Rattle.lg_benchmark.proofs.running.run_workload.Goals as goal
 
@@ -20,9 +21,12 @@ returns g c =
     let ran = c.in_ok-ran.ensures in
     let found = rw c.in-Some.is at c.in_ok-image.ensures.found in
     let all : c.in_ok-report.report.transactions ≡ (expected c.args.rows).transactions = omega (arith, c.if-report-statement_count.false, c.statement_count.ensures) in
-    let is = c.bytes.ensures ∙ ran.2.image in (
+    let is = c.bytes.ensures ∙ ran.4.image in
+    let told = subst (λ ds. TellsOfImage h c.in-Some.image ds c.in_ok-report.report) (c.deref.ensures.value ∙ c.in_ok-digests.ensures ∙ ap (map held) ran.4.digests) c.in_ok-report.ensures in (
       ran.0,
       ran.1,
-      tells_of laws written c.legal_images_have_a_spelling.ensures h c.args.rows c.requires (IsMoment (λ at. at ≡ 0)) ran.0 ran.1 ran.2.has_room c.bytes.result.now is c.in-Some.image found.0 found.1 c.in_ok-report.report c.in_ok-report.ensures all,
-      as_expected laws written c.legal_images_have_a_spelling.ensures h c.args.rows c.requires (IsMoment (λ at. at ≡ 0)) ran.0 ran.1 ran.2.has_room c.bytes.result.now is c.in-Some.image found.0 found.1 c.in_ok-report.report c.in_ok-report.ensures all,
+      ran.2,
+      ran.3,
+      tells_of laws written c.legal_images_have_a_spelling.ensures h c.args.rows c.requires (IsMoment (λ at. at ≡ 0)) ran.0 ran.2 ran.1 ran.3.accepted ran.4.has_room c.bytes.result.now is c.in-Some.image found.0 found.1 c.in_ok-report.report told all,
+      as_expected laws written c.legal_images_have_a_spelling.ensures h c.args.rows c.requires (IsMoment (λ at. at ≡ 0)) ran.0 ran.2 ran.1 ran.3.accepted ran.4.has_room c.bytes.result.now is c.in-Some.image found.0 found.1 c.in_ok-report.report told all,
     )

@@ -1,4 +1,4 @@
-use Rattle.std.proofs.Common.{◌≡◌, ◌∷◌, ◌∙◌, ℕ, List, [], refl, sym, ap, subst}
+use Rattle.std.proofs.Common.{◌∷◌, ◌∙◌, ℕ, List, refl, sym, ap, subst}
 use Rattle.lg_board.specs.Boards.{seat_state}
 use Rattle.lg_board.specs.Outs.{OutsStand}
 use Rattle.lg_parse.specs.Text.{statement_of}

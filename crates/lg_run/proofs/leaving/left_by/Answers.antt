@@ -1,39 +1,7 @@
-use Rattle.std.proofs.Common.{◌≡◌, ◌≤◌, ◌∷◌, ◌^◌, ◌∙◌, List, map, refl, sym, ap, subst, arith}
-use mathlib.Core.Option.{some}
-use Rattle.lg_standing.specs.Cells.{Ledger, ledger_at}
-use Rattle.lg_seat.specs.Images.{AreImageBytes, CellsStand, JournalHasRoom}
-use Rattle.lg_seat.specs.KeptCell.{KeptCell, ledger_seen}
-use Rattle.lg_core.proofs.Pairs.{index_there, seen_at}
-use Rattle.lg_step.specs.Woven.{joined_each}
-use Rattle.lg_run.specs.declared.worker.SessionEnd.{SessionEnd}
-use Rattle.lg_run.proofs.Ledgers.{ledger_within, second_is_ledger}
+use Rattle.std.proofs.Common.{sym, subst}
+use Rattle.lg_run.specs.Saved.{HasSaved}
+use Rattle.lg_run.proofs.Leavings.{saved_of}
 use Rattle.lg_run.proofs.leaving.left_by.Goals as goal
 
-pub swap_remove-requires : goal.swap_remove-requires
-swap_remove-requires c =
-    let l = ledger_within c.args.finished.cells.items c.requires in
-    let ok = c.args.finished.cells.ok in omega (arith, l, ok)
-
-pub into_ledger-ledger-requires : goal.into_ledger-ledger-requires
-into_ledger-ledger-requires c =
-    let cells = c.args.finished.cells.items in
-    let x = c.swap_remove.result in
-    second_is_ledger cells c.requires x (index_there cells ledger_at x (ledger_within cells c.requires) c.swap_remove.ensures.value)
-
 pub returns : goal.returns
-returns c =
-    let cells = c.args.finished.cells.items in
-    let l = c.into_ledger-ledger.result in
-    let here = index_there cells ledger_at c.swap_remove.result (ledger_within cells c.requires) c.swap_remove.ensures.value in
-    record {
-      transcript = c.in_ok-transcript.ensures ∙ ap (λ (es : List SessionEnd). joined_each (c.args.finished.setup.entries ∷ map (λ e. e.entries) es)) c.deref.ensures.value;
-      images = c.in_ok-images.ensures;
-      bytes = subst (λ (cs : List KeptCell). AreImageBytes cs c.in_ok-image.image) c.deref-2.ensures.value c.in_ok-image.ensures.bytes;
-      room = subst (λ (cs : List KeptCell). (stand : CellsStand cs) → JournalHasRoom stand.hash cs) c.deref-2.ensures.value c.in_ok-image.ensures.room;
-      ledger = l.cell;
-      there = seen_at (λ (k : KeptCell). k.cell) cells ledger_at (ledger_seen l) (here ∙ ap (λ (k : KeptCell). some k) (sym c.into_ledger-ledger.ensures));
-      ids = subst (λ n. n ≤ 2 ^ 63) c.next_id.ensures.id c.next_id.ensures.most;
-      database = c.into_parts-journal.ensures.database;
-      items = c.into_parts-journal.ensures.items;
-      digests = c.into_parts-journal.ensures.digests;
-    }
+returns c = subst (HasSaved c.args.finished) (sym c.into_ran.ensures.ran) (saved_of c.args.finished c.in_ok-leave.field-0 c.in_ok-leave.ensures c.into_ran.ensures.next)

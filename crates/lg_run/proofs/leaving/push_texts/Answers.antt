@@ -1,4 +1,4 @@
-use Rattle.std.proofs.Common.{◌≡◌, ◌++◌, ◌∙◌, List, ℕ, [], take, append-nil, append_assoc, sym, ap, string_bytes}
+use Rattle.std.proofs.Common.{◌++◌, ◌∙◌, List, ℕ, take, append-nil, append_assoc, sym, ap, string_bytes}
 use Rattle.std.proofs.lemmas.List.{take_all}
 use Rattle.lg_step.specs.Woven.{joined}
 use Rattle.lg_step.proofs.Joins.{joined_more, one_more}

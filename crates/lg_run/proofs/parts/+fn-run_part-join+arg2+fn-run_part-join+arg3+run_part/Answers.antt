@@ -1,4 +1,4 @@
-use Rattle.std.proofs.Common.{◌≡◌, ◌/◌, length}
+use Rattle.std.proofs.Common.{length}
 use Rattle.lg_board.specs.Boards.{seat_state}
 use Rattle.lg_step.specs.Moments.{said_with}
 use Rattle.lg_run.proofs.Halves.{halves, whole_again}

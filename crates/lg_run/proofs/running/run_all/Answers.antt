@@ -1,4 +1,4 @@
-use Rattle.std.proofs.Common.{◌<◌, arith, refl}
+use Rattle.std.proofs.Common.{arith, refl}
 use Rattle.lg_parse.specs.Text.{statement_of}
 use Rattle.lg_plan.specs.Plan.{plan_view}
 use Rattle.lg_core.proofs.Servers.{some_server}

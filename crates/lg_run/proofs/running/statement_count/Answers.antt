@@ -1,4 +1,4 @@
-use Rattle.std.proofs.Common.{◌≡◌, ◌≤◌, ◌+◌, ap, arith, length, take}
+use Rattle.std.proofs.Common.{ap, arith}
 use Rattle.lg_run.proofs.Sizes.{first_weigh, one_more_weighs, size_is, weight}
 use Rattle.lg_run.proofs.running.statement_count.Goals as goal
 

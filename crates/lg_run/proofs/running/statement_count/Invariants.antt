@@ -1,5 +1,4 @@
 use Rattle.std.proofs.Common.{◌≤◌, ◌+◌, take, length}
-use Rattle.lg_plan.specs.declared.plan.Plan.{Plan}
 use Rattle.lg_run.proofs.Sizes.{weight}
 use Rattle.lg_run.proofs.running.statement_count.Given as goal
 

@@ -1,6 +1,4 @@
-use Rattle.lg_board.specs.Boards.{seat_state}
 use Rattle.lg_run.proofs.Ready.{may_leave}
-use Rattle.lg_run.proofs.Telling.{written_since}
 use Rattle.lg_run.proofs.session.end_session.Goals as goal
 
 pub leave-requires-clause-ends : goal.leave-requires-clause-ends

@@ -5,7 +5,8 @@ use Rattle.lg_seat.specs.KeptCell.{Keeps}
 use Rattle.lg_seat.specs.Steps.{AmongAll}
 use Rattle.lg_world.proofs.Unchanged.{gives_each_back}
 use Rattle.lg_run.specs.Seated.{IsAhead}
-use Rattle.lg_run.proofs.Seating.{ahead_there, at, seated}
+use Rattle.lg_core.proofs.Holding.{seated}
+use Rattle.lg_run.proofs.Seating.{ahead_there, at}
 use Rattle.lg_run.proofs.Snapshots.{image_may, kept_is}
 use Rattle.lg_run.proofs.Visiting.{among_all}
 use Rattle.lg_run.proofs.snapshot.visit_all.Goals as goal

@@ -1,7 +1,8 @@
 use Rattle.std.proofs.Common.{◌<◌, sym, subst, arith}
 use Rattle.lg_board.specs.Boards.{seat_out, seat_state}
 use Rattle.lg_run.specs.Seated.{IsAhead}
-use Rattle.lg_run.proofs.Seating.{ahead_there, at, seated}
+use Rattle.lg_core.proofs.Holding.{seated}
+use Rattle.lg_run.proofs.Seating.{ahead_there, at}
 use Rattle.lg_run.proofs.Visiting.{among, near, one_out, out_lies, visit_may}
 use Rattle.lg_run.proofs.visits.visit_cell.Goals as goal
 

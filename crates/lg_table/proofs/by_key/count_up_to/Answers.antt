@@ -12,6 +12,6 @@ returns-clause-place c =
     let wanted = c.args.key.now in
     let test = is_up_to key wanted in
     let down = up_down key wanted in
-    order_place [] key test down vs c.requires.rising c.args.order.now c.requires.order c.partition_point.result c.partition_point.ensures.bound
-    (IsPartitionPoint-from_clause (λ e. passes test (version_at e vs)) c.args.order.now c.partition_point.result c.partition_point.ensures.partitioned
-    (order_parted [] key test down vs c.requires.rising c.args.order.now c.requires.order) (λ a r f called. search rules))
+    order_place [] key test down vs c.requires.rising c.args.order.now.list c.requires.order c.partition_point.result c.partition_point.ensures.bound
+    (IsPartitionPoint-from_clause (λ e. passes test (version_at e vs)) c.args.order.now.list c.partition_point.result c.partition_point.ensures.partitioned
+    (order_parted [] key test down vs c.requires.rising c.args.order.now.list c.requires.order) (λ a r f called. search rules))

@@ -11,6 +11,6 @@ returns-clause-place c =
     let vs = c.args.versions.now in
     let test = comes_before ordinals key c.args.version.now in
     let down = comes_before_is_downward ordinals key c.args.version.now in
-    order_place ordinals key test down vs c.requires.rising c.args.order.now c.requires.order c.partition_point.result c.partition_point.ensures.bound
-    (IsPartitionPoint-from_clause (λ e. passes test (version_at e vs)) c.args.order.now c.partition_point.result c.partition_point.ensures.partitioned
-    (order_parted ordinals key test down vs c.requires.rising c.args.order.now c.requires.order) (λ a r f called. search rules))
+    order_place ordinals key test down vs c.requires.rising c.args.order.now.list c.requires.order c.partition_point.result c.partition_point.ensures.bound
+    (IsPartitionPoint-from_clause (λ e. passes test (version_at e vs)) c.args.order.now.list c.partition_point.result c.partition_point.ensures.partitioned
+    (order_parted ordinals key test down vs c.requires.rising c.args.order.now.list c.requires.order) (λ a r f called. search rules))

@@ -1,11 +1,31 @@
-use Rattle.std.proofs.Common.{rules}
-use Rattle.std.proofs.lemmas.List.Sorted.{IsPartitionPoint-from_clause}
-use Rattle.lg_versions.specs.Places.{starts_before}
-use Rattle.lg_versions.proofs.Places.{partitioned, place_is}
+use Rattle.std.proofs.Common.{arith, ap, sym, ◌∙◌}
+use Rattle.std.specs.Ordering.{is_lt}
+use Rattle.lg_types.specs.declared.version.Version.{Version}
+use Rattle.lg_model.specs.Rows.{event_cmp}
+use Rattle.lg_table.proofs.Between.{fails_above, own_place, passes_below, place_within}
 use Rattle.lg_table.proofs.searching.place_of_start.Goals as goal
 
-pub returns-clause-value : goal.returns-clause-value
-returns-clause-value c =
-    place_is c.args.at c.args.versions.now c.partition_point.result c.partition_point.ensures.bound
-    (IsPartitionPoint-from_clause (starts_before c.args.at) c.args.versions.now c.partition_point.result c.partition_point.ensures.partitioned
-    (partitioned c.args.at c.args.versions.now c.requires) (λ a r f called. search rules))
+pub place_above-requires-clause-from : goal.place_above-requires-clause-from
+place_above-requires-clause-from c =
+    let at = c.args.at in
+    let first = passes_below at c.args.versions.now c.requires c.guess_place-guess.result c.index-versions-guess.result c.guess_place-guess.ensures
+    (ap (λ (v : Version). is_lt (event_cmp v.start at)) (sym c.index-versions-guess.is) ∙ ap is_lt (sym c.in-Less.ensures)) in
+    omega (arith, first)
+
+pub place_below-requires-clause-from : goal.place_below-requires-clause-from
+place_below-requires-clause-from c =
+    let at = c.args.at in
+    fails_above at c.args.versions.now c.guess_place-guess.result c.index-versions-guess.result
+    (ap (λ (v : Version). is_lt (event_cmp v.start at)) (sym c.index-versions-guess.is) ∙ ap is_lt (sym c.in-Greater.ensures))
+
+pub returns-in-Less-clause-bound : goal.returns-in-Less-clause-bound
+returns-in-Less-clause-bound c = let within = place_within c.args.at c.args.versions.now in omega (arith, within, c.place_above.ensures)
+
+pub returns-in-Equal-clause-value : goal.returns-in-Equal-clause-value
+returns-in-Equal-clause-value c =
+    let at = c.args.at in
+    own_place at c.args.versions.now c.requires c.guess_place-guess.result c.index-versions-guess.result c.guess_place-guess.ensures
+    (ap (λ (v : Version). event_cmp v.start at) (sym c.index-versions-guess.is) ∙ sym c.in-Equal.ensures)
+
+pub returns-in-Greater-clause-bound : goal.returns-in-Greater-clause-bound
+returns-in-Greater-clause-bound c = let within = place_within c.args.at c.args.versions.now in omega (arith, within, c.place_below.ensures)

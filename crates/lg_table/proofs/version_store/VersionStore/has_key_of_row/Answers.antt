@@ -12,7 +12,7 @@ pub some_has_key-requires-clause-order : goal.some_has_key-requires-clause-order
 some_has_key-requires-clause-order c =
     let s = c.self.inside in
     let kept = c.self.invariant.0 in
-    c.deref-3.ensures.value ∙ kept.are.stand.in_key_order
+    kept.are.stand.in_key_order
     ∙ ap (λ (ns : List ℕ). starts_of (in_order ns s.key.items s.versions.items)) kept.are.stand.no_ordinals
     ∙ ap₂ (λ (k : List ℕ) (l : List Version). starts_of (in_order [] k l)) (sym c.deref.ensures.value) (sym c.deref-2.ensures.value)
 

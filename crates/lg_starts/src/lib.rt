@@ -1,0 +1,8 @@
+//! Starts of versions in an order, kept in pieces, so that one can be put in and taken out at any place
+//! without moving all that stand behind it.
+#![tactic(auto)]
+
+mod pieces;
+mod starts;
+
+pub use starts::Starts;

@@ -1,0 +1,138 @@
+//! Starts in pieces.
+
+ghost use Rattle.std.specs.Prelude.{◌≡◌, ◌≤◌, ◌<◌, ◌+◌, [], true, false, Bool, OnOk, length, slice_get, slice_index_or};
+ghost use Rattle.std.specs.Fn.{ComputesKey};
+ghost use Rattle.std.specs.List.{insert, remove};
+ghost use Rattle.std.specs.List.Sorted.{IsPartitionedBy, IsPartitionPoint};
+ghost use Rattle.lg_model.specs.Rows.{EventId as SpecEventId};
+
+use crate::pieces::{PIECE, Piece, add_pieces, put, take_out};
+use lg_items::Memory;
+use lg_types::EventId;
+use std::alloc::Global;
+use std::marker::Model;
+
+// The most that room is made for. More fit into no memory.
+const MOST: usize = usize::MAX - PIECE;
+
+/// Starts in an order, in pieces that are packed. Contracts see them as a list, and how many there is room
+/// for.
+#[derive(Debug, Drop)]
+pub struct Starts {
+    pieces: Vec<Piece>,
+    len: usize,
+}
+
+impl Model for Starts {
+    ghost use Rattle.std.specs.Prelude.{◌≡◌, ◌*◌, ◌^◌, ◌<◌, length};
+    ghost use Rattle.lg_starts.specs.Packed.{IsPacked, flat};
+    ghost use Rattle.lg_starts.specs.declared.pieces.TheConstants.{PIECE};
+    ghost use Rattle.lg_starts.specs.Roomy.{Roomy};
+
+    ghost Value = { Roomy };
+
+    ghost view = { λ s. record { list = flat s.pieces.items; room = PIECE * length s.pieces.items } };
+
+    ghost invariant = { λ s. record {
+      packed : IsPacked PIECE s.pieces.items;
+      len : s.len ≡ length (flat s.pieces.items);
+      fits : PIECE * length s.pieces.items < 2 ^ 64;
+    } };
+}
+
+impl Starts {
+    /// None, with room for none. Takes no memory.
+    pub fn new(alloc: Global) -> Starts
+        ensures { result.list ≡ [] }
+    {
+        Starts {
+            pieces: Vec::new(alloc),
+            len: 0,
+        }
+    }
+
+    /// How many there are.
+    pub fn len(&self) -> usize
+        ensures { result ≡ length self.now.list }
+    {
+        self.len
+    }
+
+    /// The start at this place.
+    pub fn get(&self, place: usize) -> Option<EventId>
+        ensures { result ≡ slice_get self.now.list place }
+    {
+        match self.pieces.get(place / PIECE) {
+            Some(piece) => piece.get(place % PIECE).copied(),
+            None => None,
+        }
+    }
+
+    /// Makes room for so many in all, a piece at a time. Moves none. For want of memory there may be more
+    /// room than before.
+    pub fn reserve(&mut self, alloc: Global, count: usize) -> Result<(), Memory>
+        ensures list { self.new.list ≡ self.old.list }
+        ensures more { self.old.room ≤ self.new.room }
+        ensures ok { OnOk result (count ≤ self.new.room) }
+    {
+        if count > MOST {
+            return Err(Memory);
+        }
+        add_pieces(&mut self.pieces, alloc, count.div_ceil(PIECE))
+    }
+
+    /// Puts a start at this place, before those that stand there and behind. Moves at most one piece, and
+    /// one start of each piece behind it. Takes no memory.
+    pub fn insert(&mut self, place: usize, start: EventId)
+        requires within { place ≤ length self.old.list }
+        requires room { length self.old.list + 1 ≤ self.old.room }
+        ensures list { self.new.list ≡ insert self.old.list place start }
+        ensures room { self.new.room ≡ self.old.room }
+    {
+        put(&mut self.pieces, place, start);
+        self.len += 1;
+    }
+
+    /// Takes out the start at this place. Moves at most one piece, and one start of each piece behind it.
+    pub fn remove(&mut self, place: usize)
+        requires within { place < length self.old.list }
+        ensures list { self.new.list ≡ remove self.old.list place }
+        ensures room { self.new.room ≡ self.old.room }
+    {
+        take_out(&mut self.pieces, place);
+        self.len -= 1;
+    }
+
+    /// How many pass a test that all of the first so many pass, and none behind them. It asks about each
+    /// halving once.
+    pub fn partition_point<P: FnMut(&EventId) -> bool>(&self, mut pred: P) -> usize
+        requires { P.IsAlwaysCallable pred }
+        ensures bound { result ≤ length self.now.list }
+        ensures partitioned { (p : SpecEventId → Bool) → ComputesKey P.FnMut p pred
+            → IsPartitionedBy p self.now.list
+            → IsPartitionPoint (λ y. p y ≡ true) (λ y. p y ≡ false) self.now.list result }
+    {
+        let mut low = 0;
+        let mut high = self.len();
+        while low < high {
+            let middle = low + (high - low) / 2;
+            if pred(&self.at(middle)) {
+                low = middle + 1;
+            } else {
+                high = middle;
+            }
+        }
+        low
+    }
+
+    // The start at this place, where there is one.
+    fn at(&self, place: usize) -> EventId
+        requires { place < length self.now.list }
+        ensures { result ≡ slice_index_or self.now.list place result }
+    {
+        match self.get(place) {
+            Some(start) => start,
+            None => unreachable!(),
+        }
+    }
+}
