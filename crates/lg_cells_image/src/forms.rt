@@ -1,6 +1,6 @@
 //! The forms of a journal's names, moments and ids.
 
-ghost use Rattle.std.specs.Prelude.{◌≡◌, true};
+ghost use Rattle.std.specs.Prelude.{◌≡◌, true, false};
 ghost use Rattle.std.specs.List.{AllByRecursion};
 ghost use Rattle.lg_items.specs.DatabaseName.{is_database_name};
 ghost use Rattle.lg_types.specs.JournalRules.{ItemRules, is_alone, is_block_size};
@@ -14,12 +14,15 @@ use lg_types::{JournalItem, MAX_BLOCK, Script};
 pub(crate) fn has_forms(ledger: &LedgerCell) -> bool
     ensures database { result ≡ true → is_database_name ledger.now.cell.database ≡ true }
     ensures items { result ≡ true → AllByRecursion ItemRules ledger.now.cell.items }
+    ensures broken { result ≡ false → is_database_name ledger.now.cell.database ≡ true
+        → ¬ AllByRecursion ItemRules ledger.now.cell.items }
 {
     is_database_name(ledger.database().bytes()) && keep_rules(ledger.items())
 }
 
 fn keep_rules(items: &[JournalItem]) -> bool
-    ensures { result ≡ true → AllByRecursion ItemRules items.now }
+    ensures kept { result ≡ true → AllByRecursion ItemRules items.now }
+    ensures broken { result ≡ false → ¬ AllByRecursion ItemRules items.now }
 {
     for item in items {
         if !keeps_rules(item) {
@@ -30,7 +33,8 @@ fn keep_rules(items: &[JournalItem]) -> bool
 }
 
 fn keeps_rules(item: &JournalItem) -> bool
-    ensures { result ≡ true → ItemRules item.now }
+    ensures kept { result ≡ true → ItemRules item.now }
+    ensures broken { result ≡ false → ¬ ItemRules item.now }
 {
     match item {
         JournalItem::Tx {

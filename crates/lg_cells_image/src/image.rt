@@ -37,7 +37,7 @@ fn image_with(alloc: Global, ledger: &LedgerCell, tables: Vec<Table>) -> Result<
 /// The bytes of the image of what lies in cells, without what isn't committed: the database, blocks and entries
 /// of the ledger's cell, and the definitions and rows of the tables. Copies all of it, and makes the rows of
 /// indexes anew by sorting. The journal that leads there has room in the format then. It also answers want of
-/// memory where a name, a moment or an id in the ledger's cell hasn't its form: then the image has no spelling.
+/// memory where the database's name or an item breaks a side rule of journals: then the image has no spelling.
 #[tactic(auto, unfolding(lg_server::specs::CellsImage::cells_image))]
 pub fn image_bytes_of_cells<C: ShownCells>(
     alloc: Global,

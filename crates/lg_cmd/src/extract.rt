@@ -1,4 +1,5 @@
-// Two images that are held against the same digests.
+//! Two images that are held against the same digests.
+
 ghost use Rattle.std.specs.Prelude.{⊤, ◌≡◌, ◌⊎◌, string_bytes, true, false, IfOk, IfErr, IfSome};
 ghost use Rattle.lg_base.specs.Count.{Rises};
 ghost use Rattle.lg_base.specs.History.{Since};

@@ -1,4 +1,5 @@
-// Files that are put one after another, and the text that is written behind them.
+//! Files that are put one after another, and the text that is written behind them.
+
 ghost use Rattle.std.specs.Prelude.{⊤, ◌≡◌, ◌≤◌, ◌⊎◌, ℕ, All, Err, length, IfErr, OnOk};
 ghost use Rattle.lg_base.specs.Count.{Rises};
 ghost use Rattle.lg_base.specs.History.{Since, EndsAt};

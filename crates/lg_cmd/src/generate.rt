@@ -1,4 +1,5 @@
-// Running and verifying the generator's workload.
+//! Running and verifying the generator's workload.
+
 ghost use Rattle.std.specs.Prelude.{⊤, ◌≡◌, ◌≤◌, ◌⊎◌, IfOk, string_bytes};
 ghost use Rattle.lg_base.specs.Count.{Rises};
 ghost use Rattle.lg_base.specs.History.{Since};

@@ -1,4 +1,5 @@
-// What stands in the vault under the names that a command is given.
+//! What stands in the vault under the names that a command is given.
+
 ghost use Rattle.std.specs.Prelude.{⊤, ◌≡◌, ◌∷◌, [], IfOk, IfErr, IfSome};
 ghost use Rattle.lg_base.specs.Count.{Rises};
 ghost use Rattle.lg_base.specs.History.{Adds};

@@ -1,4 +1,5 @@
-// A journal that is run again, and the image to which it leads.
+//! A journal that is run again, and the image to which it leads.
+
 ghost use Rattle.std.specs.Prelude.{⊤, ◌≡◌, ◌⊎◌, length, string_bytes, IfOk, IfErr, IfSome, OnOk};
 ghost use Rattle.lg_base.specs.Count.{Rises};
 ghost use Rattle.lg_base.specs.History.{Since};

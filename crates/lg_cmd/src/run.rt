@@ -1,4 +1,5 @@
-// Running the statements of an input.
+//! Running the statements of an input.
+
 ghost use Rattle.std.specs.Prelude.{◌≡◌, ◌≤◌, length, map, IfOk, IfErr, All, true};
 ghost use Rattle.lg_input.specs.Line.{seen, is_session_name};
 ghost use Rattle.lg_input.specs.Sessions.{sessions_of};

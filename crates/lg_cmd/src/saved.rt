@@ -1,4 +1,5 @@
-// The files that a run saves, and those that are saved of a journal that was run again.
+//! The files that a run saves, and those that are saved of a journal that was run again.
+
 ghost use Rattle.std.specs.Prelude.{⊤, ◌≡◌, ◌⊎◌, ◌++◌, ◌∷◌, [], map, IfOk, Ok};
 ghost use Rattle.std.specs.List.{AllByRecursion};
 ghost use Rattle.lg_base.specs.Count.{Rises};

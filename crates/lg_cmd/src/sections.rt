@@ -1,4 +1,5 @@
-// Running the sections of an input.
+//! Running the sections of an input.
+
 ghost use Rattle.std.specs.Prelude.{◌≡◌, ◌∷◌, ◌≤◌, codes, length, IfOk, IfErr, All, true};
 ghost use Rattle.std.specs.List.{IsDistinct};
 ghost use Rattle.std.specs.Str.{bytes_eq};

@@ -1,4 +1,5 @@
-// How a call of the server ends.
+//! How a call of the server ends.
+
 ghost use Rattle.std.specs.Prelude.{◌≡◌};
 ghost use Rattle.lg_cmd.specs.Status.{code_of, text_of};
 

@@ -1,4 +1,5 @@
-// Running an input of statements and saving what it leaves.
+//! Running an input of statements and saving what it leaves.
+
 ghost use Rattle.std.specs.Prelude.{⊤, ◌≡◌, ◌≤◌, ◌⊎◌, length, Some, IfSome};
 ghost use Rattle.lg_base.specs.Count.{Rises};
 ghost use Rattle.lg_base.specs.History.{Since};

@@ -1,4 +1,5 @@
-// A text that is printed: help, or the version.
+//! A text that is printed: help, or the version.
+
 ghost use Rattle.std.specs.Prelude.{⊤, ◌≡◌, ◌⊎◌};
 ghost use Rattle.lg_base.specs.Count.{Rises};
 ghost use Rattle.lg_base.specs.History.{Since};

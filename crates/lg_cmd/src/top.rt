@@ -1,4 +1,5 @@
-// The top call.
+//! The top call.
+
 ghost use Rattle.std.specs.Prelude.{◌≡◌, ◌⊎◌, map, string_bytes, None, IfSome, false};
 ghost use Rattle.sha2.specs.Sha256.{sha256};
 ghost use Rattle.lg_base.specs.Count.{Rises};

@@ -1,4 +1,5 @@
-// Reading a whole input and writing a whole text, in pieces.
+//! Reading a whole input and writing a whole text, in pieces.
+
 ghost use Rattle.std.specs.Prelude.{ℕ, ◌≡◌, ◌≤◌, ◌⊎◌, All, Ok, length, OnOk, OnErr, IfOk, IfSome, IsErrOf};
 ghost use Rattle.lg_base.specs.Count.{Rises};
 ghost use Rattle.lg_base.specs.History.{Since, EndsAt};

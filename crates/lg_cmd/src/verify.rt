@@ -1,4 +1,5 @@
-// The verdict on an image, with the digests that an auditor holds.
+//! The verdict on an image, with the digests that an auditor holds.
+
 ghost use Rattle.std.specs.Prelude.{⊤, ◌≡◌, ◌⊎◌, string_bytes, Ok, IfOk, IfErr, IfSome};
 ghost use Rattle.lg_base.specs.Count.{Rises};
 ghost use Rattle.lg_base.specs.History.{Since};

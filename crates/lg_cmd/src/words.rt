@@ -1,4 +1,5 @@
-// What the words after the program's name ask.
+//! What the words after the program's name ask.
+
 ghost use Rattle.std.specs.Prelude.{◌≡◌, ◌≤◌, IfOk, map, string_bytes, option_map};
 ghost use Rattle.lg_words.specs.Commands.{AreInRange};
 ghost use Rattle.lg_words.specs.Views as said;

@@ -1,5 +1,5 @@
-//! The smallest world for a board, to read and to test: two counters, and sessions that count in them,
-//! each in a thread of its own.
+//! The smallest world for a board, to read and to test: two counters, and sessions that count in them side
+//! by side.
 #![tactic(auto)]
 
 mod gate;

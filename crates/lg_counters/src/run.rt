@@ -1,4 +1,4 @@
-//! Sessions that count, each in a thread of its own.
+//! Sessions that count side by side; all but the last may run in threads of their own.
 ghost use Rattle.std.specs.Prelude.{◌≡◌, ℕ, ◌+◌, ◌*◌, ◌<◌, ◌≤◌, [], ◌∷◌, length, IfOk, sum_by};
 ghost use Rattle.std.specs.Thread.{IsSync};
 ghost use Rattle.lg_board.specs.Boards.{board_cells, seat_state, seat_parts, seat_out, IsSeatOf, IsSameSeat};
@@ -62,8 +62,8 @@ fn run_one<G: Gate, R: Wait>(
     seat
 }
 
-// Runs each session of the plan in a thread of its own, and returns when all have ended. The number of
-// the plan's first session is `from`.
+// Runs the sessions of the plan side by side, and returns when all have ended: the last runs in this thread,
+// and each other one may run in another. The number of the plan's first session is `from`.
 //
 // The plan is halved, the seat is split between the halves, and joined again when both have ended.
 fn run_part<G: Gate + Sync, R: Threads + Wait + Sync>(

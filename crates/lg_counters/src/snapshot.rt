@@ -1,4 +1,4 @@
-//! A look at both counters at one moment.
+//! A look at both counters.
 ghost use Rattle.std.specs.Prelude.{◌≡◌, ℕ, ◌+◌, ◌<◌, ◌≤◌, [], length, IfOk};
 ghost use Rattle.lg_board.specs.Boards.{board_cells, seat_state, seat_parts, seat_out, IsSeatOf, IsSameSeat};
 ghost use Rattle.lg_counters.specs.Shares.{most_counts};
@@ -9,8 +9,8 @@ use std::alloc::Global;
 use std::marker::Brand;
 use std::sync::Wait;
 
-/// Both counters as they were at one moment of this call, at which nobody counted. What this seat counted
-/// is in them.
+/// What both counters hold: each at least what this seat counted in it, and both together no more than all
+/// seats may count. The seat stays as it was.
 pub fn look<R: Wait>(
     rt: &R,
     alloc: Global,

@@ -30,7 +30,7 @@ pub record Course (v : Server) (database : Text) (size : ℕ) (phase : Phase) (n
   pub one_by_one : OneByOne steps
   pub begun : names_begun (steps_deeds steps) ≡ names
   pub taken_up : steps_lines steps ≡ lines
-  -- sessions end behind the last statement
+  -- entries (end) are written behind the last statement
   pub came_so : CameSo phase (steps_deeds steps)
   -- blocks are closed in step
   pub ledger : LedgerCell

@@ -1,11 +1,11 @@
--- Sessions that end behind the last statement.
+-- Entries (end) that are written behind the last statement.
 use Rattle.std.specs.Prelude.{◌≡◌, ◌++◌, List}
 use Rattle.lg_history.specs.Acts.{takes, answers}
 use Rattle.lg_history.specs.Lists.{Each}
 use Rattle.lg_history.specs.Transcripts.{end_of_session}
 use Rattle.lg_standing.specs.Deeds.{Deed, did}
 
--- statements are taken up, and then sessions end
+-- statements are taken up, and then entries (end) are written
 pub data Phase : Type 0 where
   running : Phase
   ending : Phase
@@ -25,7 +25,8 @@ abbrev pub InPhase : Phase → Deed → Type 0
 InPhase running d = IsNoEnd d
 InPhase ending d = IsNoStatement d
 
--- the deeds so far: up to some place no session has ended, and behind it no statement is taken up
+-- the deeds so far: up to some place no entry (end) is written, and behind it no statement is taken up; a
+-- session without a transaction writes none, and may stop before
 pub record EndsLast (deeds : List Deed) : Type 0 where
   pub before : List Deed
   pub after : List Deed

@@ -24,7 +24,7 @@ names_told told = map (λ k. k.transcript.session) told
 abbrev pub told_nothing : Text → Told
 told_nothing name = record { transcript = record { session = name; entries = [] }; images = [] }
 
--- a session has shown this that runs at this seat, and was issued its commits and digests at some of these
+-- a session has shown this that runs at this seat, and committed and was issued digests at some of these
 -- moments
 pub record Runs (moments : List ℕ) (k : Told) (s : SeatState) : Type 0 where
   pub x : Session

@@ -47,8 +47,8 @@ pub(crate) fn statement_count(rows: u32) -> u64
     rows + rows / 10
 }
 
-/// The text of the statement with this number, counted from 0, of the session of a table. It takes the same
-/// time for each.
+/// The text of the statement with this number, counted from 0, of the session of a table. It takes the time
+/// of the text's length, whatever the number.
 #[tactic(auto, unfolding(crate::specs::Workload::nth_text))]
 pub(crate) fn nth_text(alloc: Global, table: u8, n: u64) -> Result<String, AllocError>
     requires few { n < 2 ^ 36 }

@@ -2,7 +2,7 @@
 use Rattle.std.proofs.Common.{◌≡◌, ◌≤◌, ◌<◌, ◌-◌, ◌+◌, ◌∙◌, ℕ, suc, Bool, true, false, not, List, [], ◌∷◌, length, get_or, refl, arith, ◌==◌, ◌||◌, cond, ap, nat_lt, take, drop, length-drop, sym, subst, Some, None}
 use Rattle.std.specs.List.{position_or_len, list_any, slice_split, position, before_first, after_first, All}
 use Rattle.std.proofs.lemmas.Bool.Decides.{nat_tests}
-use Rattle.std.proofs.lemmas.List.{take_all}
+use Rattle.std.proofs.lemmas.List.{drop_all, take_all}
 use Rattle.std.proofs.lemmas.List.Sums.{prefix_len_passes, prefix_len_stops}
 use Rattle.std.proofs.lemmas.List.Splits.{slice_split_first, slice_split_none, length-slice_split}
 use Rattle.lg_input.specs.Lines.{ended, lines_of, without_return, is_line_feed}
@@ -55,6 +55,11 @@ alone z true e l = absurd (not_zero (length z) e l)
     not_zero n e l = grind (arith, nat_tests)
 alone z false e l = refl
 
+all_taken : (z : List ℕ) (at : ℕ) → drop (at + 1) z ≡ take (length z - (at + 1)) (drop (at + 1) z)
+all_taken z at =
+    let within : length (drop (at + 1) z) ≤ length (drop (at + 1) z) = omega arith in
+    sym (ap (λ k. take k (drop (at + 1) z)) (sym (length-drop (at + 1) z)) ∙ take_all (length (drop (at + 1) z)) (drop (at + 1) z) within)
+
 -- the first line ends at the first line feed
 pub line_ended : (z : List ℕ) (at : ℕ) → position is_line_feed z ≡ Some at → lines_of z ≡ without_return (take at z) ∷ lines_of (take (length z - (at + 1)) (drop (at + 1) z))
 line_ended z at e =
@@ -63,10 +68,15 @@ line_ended z at e =
     let cut = slice_split_first is_line_feed z 0 found.0 in
     let behind = slice_split is_line_feed (after_first is_line_feed z) in
     let some : 0 < length behind = omega (arith, length-slice_split is_line_feed (after_first is_line_feed z)) in
-    let within : length (drop (at + 1) z) ≤ length (drop (at + 1) z) = omega arith in
-    let all : drop (at + 1) z ≡ take (length z - (at + 1)) (drop (at + 1) z) = sym (ap (λ k. take k (drop (at + 1) z)) (sym (length-drop (at + 1) z)) ∙ take_all (length (drop (at + 1) z)) (drop (at + 1) z) within) in
     ap ended cut ∙ (ended_more (before_first is_line_feed z) behind some ∙ (ap (λ k. without_return (take k z) ∷ lines_of (drop (k + 1) z)) found.1
-    ∙ ap (λ x. without_return (take at z) ∷ lines_of x) all))
+    ∙ ap (λ x. without_return (take at z) ∷ lines_of x) (all_taken z at)))
+
+-- the rest stands behind the first line feed
+pub rest_behind : (z : List ℕ) (at : ℕ) → position is_line_feed z ≡ Some at → take (length z - (at + 1)) (drop (at + 1) z) ≡ after_first is_line_feed z
+rest_behind z at e =
+    let n = position_or_len is_line_feed z in
+    let found = found_below n (length z) at (nat_lt n (length z)) refl e in
+    sym (all_taken z at) ∙ ap (λ k. drop (k + 1) z) (sym found.1)
 
 is_it : (t : Bool) (b : ℕ) → (b == 10) ≡ t → not t ≡ false → b ≡ 10
 is_it true b e f = grind (arith, nat_tests)
@@ -88,3 +98,10 @@ line_alone z e l =
     let past = found_not n (length z) (nat_lt n (length z)) refl e in
     let none : All (λ b. is_line_feed b ≡ false) z = λ k d h. not_false (is_line_feed (get_or z k d)) (prefix_len_passes (λ b. not (is_line_feed b)) z k d (omega (arith, past))) in
     ap ended (slice_split_none is_line_feed z none) ∙ alone z (length z == 0) refl l
+
+-- where there is no line feed, nothing stands behind one
+pub none_behind : (z : List ℕ) → position is_line_feed z ≡ None → [] ≡ after_first is_line_feed z
+none_behind z e =
+    let n = position_or_len is_line_feed z in
+    let past = found_not n (length z) (nat_lt n (length z)) refl e in
+    sym (drop_all (n + 1) z (omega (arith, past)))

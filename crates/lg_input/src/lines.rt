@@ -1,7 +1,7 @@
 //! The lines of the input.
 
 ghost use Rattle.std.specs.Prelude.{◌≡◌, ◌∷◌, ◌<◌, ◌≤◌, ℕ, true, length, map, Ok, Err, All, IfOk};
-ghost use Rattle.std.specs.List.{position};
+ghost use Rattle.std.specs.List.{after_first, position};
 ghost use Rattle.lg_input.specs.Line.{seen, is_session_name};
 ghost use Rattle.lg_input.specs.Lines as spec;
 ghost use Rattle.lg_input.specs.Lines.{lines_of, read_input};
@@ -27,11 +27,12 @@ fn without_return(line: &[u8]) -> &[u8]
 }
 
 /// The first line of some bytes, without its line feed and the carriage return before that, and the bytes
-/// behind it.
-#[tactic(auto, using(crate::proofs::Cuts::line_ended, crate::proofs::Cuts::line_alone))]
+/// behind the line feed; nothing where there is none.
+#[tactic(auto, using(crate::proofs::Cuts::line_ended, crate::proofs::Cuts::line_alone, crate::proofs::Cuts::rest_behind, crate::proofs::Cuts::none_behind))]
 pub fn first_line(bytes: &[u8]) -> (&[u8], &[u8])
     requires { 0 < length bytes.now }
     ensures line { lines_of bytes.now ≡ result.0.now ∷ lines_of result.1.now }
+    ensures rest { result.1.now ≡ after_first spec.is_line_feed bytes.now }
     ensures shorter { length result.1.now < length bytes.now }
 {
     match line_feed(bytes) {

@@ -20,9 +20,10 @@ ghost use Rattle.lg_kept.specs.Accepted.{IsAccepted, IsAcceptedIfSpelled};
 
 use lg_honest::{digests_are_held_where_their_blocks_are_closed, images_of_legal_journals_verify};
 
-/// Each image that a session of a run kept is accepted with any digests that were issued in the run, of
-/// blocks that are closed in it, where the image has a spelling in the format; it has one where the whole
-/// journal has room in it. So is the image of the whole journal, and with all digests at once.
+/// Where texts are read as the parser reads them and the journal of a run is legal: each image that a session
+/// of the run kept is accepted with any digests that were issued in the run, of blocks that are closed in it,
+/// where the image has a spelling in the format; it has one where the whole journal has room in it. Where it
+/// has, the image of the whole journal is accepted so too, and with all digests at once.
 pub fn kept_images_are_accepted()
     ensures spelled { (h : List ℕ → List ℕ) (database : Text) (size : ℕ) (names : List Text)
         (lines : List InputLine) (X : List Transcript) (images : List (List KeptImage))

@@ -31,6 +31,7 @@ use Rattle.lg_standing.specs.Server.{Server}
 use Rattle.lg_standing.proofs.LedgerNumbers.{blocks_are, pending_are}
 use Rattle.lg_book.specs.Issues.{IsIssued}
 use Rattle.lg_book.specs.declared.cell.Issued.{Issued}
+use Rattle.lg_book.proofs.Closings.{none_closed}
 use Rattle.lg_server.specs.Serves.{Serves}
 use Rattle.lg_digest.specs.Writing.{HasMoments}
 use Rattle.lg_step.specs.Moments.{IsMoment}
@@ -55,7 +56,7 @@ module _ (laws : Laws) (h : List ℕ → List ℕ) (v : Server) (serves : Serves
   all_in_blocks = let e = pending_are v l legal in omega (arith, e, none)
 
   as_it_is : all_closed v.hash (pending_in l) l ≡ l
-  as_it_is = subst (λ (n : ℕ). all_closed v.hash n l ≡ l) (sym none) refl
+  as_it_is = none_closed v.hash (pending_in l) l none
 
   -- all items are a cut
   whole : cut l.items (length l.items) ≡ l.items

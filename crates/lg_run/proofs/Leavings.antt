@@ -2,8 +2,9 @@
 use Rattle.std.proofs.Common.{◌≡◌, ◌≤◌, ◌^◌, ◌++◌, ◌∙◌, ℕ, List, append-nil, refl, sym, ap, subst, ⊎_elim}
 use Rattle.lg_types.specs.declared.digest.Digest.{Digest}
 use Rattle.lg_standing.specs.Cells.{LedgerCell, ledger_at, pending_in}
-use Rattle.lg_standing.specs.LedgerVisits.{all_closed, with_digest}
+use Rattle.lg_standing.specs.LedgerVisits.{with_digest}
 use Rattle.lg_book.specs.HashedCell.{HashedCell}
+use Rattle.lg_book.proofs.Closings.{none_closed}
 use Rattle.lg_seat.specs.KeptCell.{KeptCell, ledger_seen}
 use Rattle.lg_core.specs.Standing.{pending_found}
 use Rattle.lg_core.proofs.Pairs.{seen_at}
@@ -18,15 +19,12 @@ and_issued c more = record { database = c.database; block_size = c.block_size; i
 
 -- where nothing is pending, nothing else changes
 module _ (h : List ℕ → List ℕ) (made : ℕ) (c : LedgerCell) (none : pending_in c ≡ 0) where
-  as_it_is : all_closed h (pending_in c) c ≡ c
-  as_it_is = subst (λ (n : ℕ). all_closed h n c ≡ c) (sym none) refl
-
   after_is : (more : List Digest) (d : LedgerCell) → IssuesLast h made c more d → d ≡ and_issued c more
   after_is more d issued = ⊎_elim
       (λ n. n.2
       ∙ ap (λ (gs : List Digest). record { database = c.database; block_size = c.block_size; items = c.items; next = c.next; chain = c.chain; issued = gs }) (sym (append-nil c.issued))
       ∙ ap (and_issued c) (sym n.1))
-      (λ p. p.1.cell ∙ ap (with_digest p.1.digest) as_it_is ∙ ap (and_issued c) (sym p.2))
+      (λ p. p.1.cell ∙ ap (with_digest p.1.digest) (none_closed h (pending_in c) c none) ∙ ap (and_issued c) (sym p.2))
       issued
 
 module _ (f : Finished) (l : Leaving) (is : IsLeaving f l) where

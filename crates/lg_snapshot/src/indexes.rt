@@ -9,10 +9,10 @@ use lg_parts::Keyed;
 use lg_types::{IndexDef, IndexRow, Typed, Version};
 use std::alloc::Global;
 
-/// The rows of an index over the standing versions of its table, sorted: of each version the values of the
-/// index's columns, and then those of the key's. It copies these values.
+/// The rows of an index over these versions of its table, sorted: of each version the values of the index's
+/// columns, and then those of the key's. It copies these values.
 #[tactic(auto, unfolding(lg_image::specs::Rows::index_rows))]
-pub fn index_rows(
+pub(crate) fn index_rows(
     alloc: Global,
     table: &Keyed,
     base: &[Version],

@@ -7,8 +7,5 @@ mod room;
 mod stored;
 mod tables;
 
-pub use indexes::index_rows;
 pub use parts::split;
 pub use room::tables_have_room;
-pub use stored::compare_stored;
-pub use tables::{Stored, table_rows};

@@ -12,8 +12,8 @@ use std::alloc::Global;
 /// How many tables the system has.
 const SYSTEM_TABLES: usize = 2;
 
-/// The definitions of the tables of users, and the rows of all tables. The versions are moved, and the values
-/// of the rows of indexes copied.
+/// The definitions of all tables but the first two, and the rows of all tables. The versions are moved, and
+/// the values of the rows of indexes copied.
 #[tactic(auto, using(crate::proofs::UserDefs::few_defs, crate::proofs::UserDefs::more_defs))]
 pub fn split(
     alloc: Global,

@@ -60,7 +60,7 @@ fn compare_values(a: &Option<Typed>, b: &Option<Typed>) -> Ordering
 
 /// The order of two stored rows: by the first value, then by the second, and so on.
 #[tactic(auto, unfolding(lg_image::specs::Rows::stored_cmp, lg_model::specs::Keys::key_cmp))]
-pub fn compare_stored(a: &[Option<Typed>], b: &[Option<Typed>]) -> Ordering
+pub(crate) fn compare_stored(a: &[Option<Typed>], b: &[Option<Typed>]) -> Ordering
     ensures { result ≡ stored_cmp a.now b.now }
 {
     match a {

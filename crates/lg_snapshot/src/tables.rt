@@ -12,14 +12,14 @@ use std::alloc::Global;
 
 /// A table of an image.
 #[derive(Drop)]
-pub struct Stored {
+pub(crate) struct Stored {
     pub def: TableDef,
     pub rows: TableRows,
 }
 
 /// The rows of a table, for its image. The versions are moved, and the values of the rows of indexes copied.
 #[tactic(auto, unfolding(lg_image::specs::Rows::table_rows))]
-pub fn table_rows(alloc: Global, table: Table) -> Result<Stored, Memory>
+pub(crate) fn table_rows(alloc: Global, table: Table) -> Result<Stored, Memory>
     ensures def { IfOk result (λ stored. stored.def ≡ table.def) }
     ensures rows { IfOk result (λ stored. stored.rows ≡ spec.table_rows table) }
 {

@@ -2,9 +2,8 @@
 use Rattle.std.proofs.Common.{◌≡◌, ◌<◌, ◌≤◌, ◌+◌, ◌-◌, ◌*◌, min, ℕ, zero, suc, refl, sym, ap, subst, ◌∙◌, List, [], ◌∷◌, ◌++◌, length, take, drop, get_or, slice_get, None, arith, drop-drop, inl, inr, mul-le-mul_left, take_all, length-append, length-drop, length-take, take-append-drop}
 use Rattle.std.proofs.lemmas.List.{nil_from_length}
 use Rattle.std.proofs.lemmas.Option.{slice_get_past}
-use Rattle.circular_buffer.specs.Buffer.{Buffer, buffer}
-use Rattle.circular_buffer.proofs.Places.{below_or_not, slice_get-take, slice_get-drop}
 use Rattle.lg_starts.specs.Packed.{IsPacked, flat, pieces_of}
+use Rattle.lg_starts.proofs.Edits.{below_or_not, slice_get-drop, slice_get-take}
 
 module _ (X : Type 0) (size : ℕ) where
   pub none_packed : IsPacked {X = X} size []
@@ -31,14 +30,14 @@ module _ {X : Type 0} (size : ℕ) where
 
   -- ---- packed pieces
 
-  pub packed_is : (ps : List (Buffer X)) → IsPacked size ps → ps ≡ pieces_of size (length ps) (flat ps)
+  pub packed_is : (ps : List (List X)) → IsPacked size ps → ps ≡ pieces_of size (length ps) (flat ps)
   unfolding IsPacked
   packed_is ps packed = packed
 
-  pub packed_bound : (ps : List (Buffer X)) → IsPacked size ps → length (flat ps) ≤ size * length ps
-  packed_bound ps packed = subst (λ (l : List (Buffer X)). length (flat l) ≤ size * length ps) (sym (packed_is ps packed)) (pieces_bound (length ps) (flat ps))
+  pub packed_bound : (ps : List (List X)) → IsPacked size ps → length (flat ps) ≤ size * length ps
+  packed_bound ps packed = subst (λ (l : List (List X)). length (flat l) ≤ size * length ps) (sym (packed_is ps packed)) (pieces_bound (length ps) (flat ps))
 
-  pub packed_of : (n : ℕ) (xs : List X) (ps : List (Buffer X)) → ps ≡ pieces_of size n xs → length xs ≤ size * n → IsPacked size ps × (flat ps ≡ xs) × (length ps ≡ n)
+  pub packed_of : (n : ℕ) (xs : List X) (ps : List (List X)) → ps ≡ pieces_of size n xs → length xs ≤ size * n → IsPacked size ps × (flat ps ≡ xs) × (length ps ≡ n)
   unfolding IsPacked
   packed_of n xs ps is fits =
       let list : flat ps ≡ xs = ap flat is ∙ flat_pieces n xs fits in
@@ -47,30 +46,30 @@ module _ {X : Type 0} (size : ℕ) where
 
   -- ---- one more
 
-  pub more_pieces : (n : ℕ) (xs : List X) → length xs ≤ size * n → pieces_of size n xs ++ buffer [] size ∷ [] ≡ pieces_of size (suc n) xs
+  pub more_pieces : (n : ℕ) (xs : List X) → length xs ≤ size * n → pieces_of size n xs ++ [] ∷ [] ≡ pieces_of size (suc n) xs
   unfolding pieces_of
-  more_pieces zero xs fits = let none : xs ≡ [] = nil_from_length xs (omega arith) in ap (λ l. buffer l size ∷ []) (sym (ap (take size) none ∙ take_all size [] (omega arith)))
-  more_pieces (suc n) xs fits = ap (λ l. buffer (take size xs) size ∷ l) (more_pieces n (drop size xs) (omega (arith, length-drop size xs)))
+  more_pieces zero xs fits = let none : xs ≡ [] = nil_from_length xs (omega arith) in ap (λ l. l ∷ []) (sym (ap (take size) none ∙ take_all size [] (omega arith)))
+  more_pieces (suc n) xs fits = ap (λ l. take size xs ∷ l) (more_pieces n (drop size xs) (omega (arith, length-drop size xs)))
 
-  pub more_packed : (ps : List (Buffer X)) → IsPacked size ps → IsPacked size (ps ++ buffer [] size ∷ []) × (flat (ps ++ buffer [] size ∷ []) ≡ flat ps) × (length (ps ++ buffer [] size ∷ []) ≡ suc (length ps))
+  pub more_packed : (ps : List (List X)) → IsPacked size ps → IsPacked size (ps ++ [] ∷ []) × (flat (ps ++ [] ∷ []) ≡ flat ps) × (length (ps ++ [] ∷ []) ≡ suc (length ps))
   more_packed ps packed =
       let fits = packed_bound ps packed in
-      packed_of (suc (length ps)) (flat ps) (ps ++ buffer [] size ∷ [])
-      (ap (λ l. l ++ buffer [] size ∷ []) (packed_is ps packed) ∙ more_pieces (length ps) (flat ps) fits) (omega arith)
+      packed_of (suc (length ps)) (flat ps) (ps ++ [] ∷ [])
+      (ap (λ l. l ++ [] ∷ []) (packed_is ps packed) ∙ more_pieces (length ps) (flat ps) fits) (omega arith)
 
   -- ---- the piece at a place
 
-  piece_at : (n at : ℕ) (xs : List X) (d : Buffer X) → at < n → get_or (pieces_of size n xs) at d ≡ buffer (take size (drop (size * at) xs)) size
+  piece_at : (n at : ℕ) (xs : List X) (d : List X) → at < n → get_or (pieces_of size n xs) at d ≡ take size (drop (size * at) xs)
   unfolding pieces_of
   piece_at zero at xs d within = absurd (omega arith)
-  piece_at (suc n) zero xs d within = let none : 0 ≡ size * 0 = omega arith in ap (λ m. buffer (take size (drop m xs)) size) none
+  piece_at (suc n) zero xs d within = let none : 0 ≡ size * 0 = omega arith in ap (λ m. take size (drop m xs)) none
   piece_at (suc n) (suc at) xs d within =
       let more : size + size * at ≡ size * suc at = omega arith in
-      piece_at n at (drop size xs) d (omega arith) ∙ ap (λ l. buffer (take size l) size) (drop-drop (size * at) size xs ∙ ap (λ m. drop m xs) more)
+      piece_at n at (drop size xs) d (omega arith) ∙ ap (take size) (drop-drop (size * at) size xs ∙ ap (λ m. drop m xs) more)
 
-  module _ (ps : List (Buffer X)) (packed : IsPacked size ps) (at : ℕ) where
-    piece_packed : (d : Buffer X) → at < length ps → get_or ps at d ≡ buffer (take size (drop (size * at) (flat ps))) size
-    piece_packed d within = ap (λ (l : List (Buffer X)). get_or l at d) (packed_is ps packed) ∙ piece_at (length ps) at (flat ps) d within
+  module _ (ps : List (List X)) (packed : IsPacked size ps) (at : ℕ) where
+    piece_packed : (d : List X) → at < length ps → get_or ps at d ≡ take size (drop (size * at) (flat ps))
+    piece_packed d within = ap (λ (l : List (List X)). get_or l at d) (packed_is ps packed) ∙ piece_at (length ps) at (flat ps) d within
 
     pub there_packed : (off place : ℕ) → place ≡ size * at + off → place < length (flat ps) → at < length ps
     there_packed off place is within = elim (below_or_not at (length ps)) [
@@ -78,27 +77,24 @@ module _ {X : Type 0} (size : ℕ) where
       | inr past ↦ absurd (omega (arith, packed_bound ps packed, mul-le-mul_left size past))
     ]
 
-    module _ (d : Buffer X) (there : at < length ps) where
-      pub capacity_packed : (get_or ps at d).capacity ≡ size
-      capacity_packed = ap (λ (q : Buffer X). q.capacity) (piece_packed d there)
+    module _ (d : List X) (there : at < length ps) where
+      long : length (get_or ps at d) ≡ min size (length (flat ps) - size * at)
+      long = ap length (piece_packed d there) ∙ length-take size (drop (size * at) (flat ps)) ∙ ap (min size) (length-drop (size * at) (flat ps))
 
-      long : length (get_or ps at d).items ≡ min size (length (flat ps) - size * at)
-      long = ap (λ (q : Buffer X). length q.items) (piece_packed d there) ∙ length-take size (drop (size * at) (flat ps)) ∙ ap (min size) (length-drop (size * at) (flat ps))
-
-      pub room_packed : (off place : ℕ) → place ≡ size * at + off → off < size → place ≤ length (flat ps) → off ≤ length (get_or ps at d).items
+      pub room_packed : (off place : ℕ) → place ≡ size * at + off → off < size → place ≤ length (flat ps) → off ≤ length (get_or ps at d)
       room_packed off place is small within = omega (arith, long)
 
-      pub within_packed : (off place : ℕ) → place ≡ size * at + off → off < size → place < length (flat ps) → off < length (get_or ps at d).items
+      pub within_packed : (off place : ℕ) → place ≡ size * at + off → off < size → place < length (flat ps) → off < length (get_or ps at d)
       within_packed off place is small within = omega (arith, long)
 
-      get_there : (off place : ℕ) → place ≡ size * at + off → off < size → slice_get (flat ps) place ≡ slice_get (get_or ps at d).items off
+      get_there : (off place : ℕ) → place ≡ size * at + off → off < size → slice_get (flat ps) place ≡ slice_get (get_or ps at d) off
       get_there off place is small =
           sym (slice_get-drop (size * at) (flat ps) off place is) ∙ sym (slice_get-take size (drop (size * at) (flat ps)) off small)
-          ∙ ap (λ (q : Buffer X). slice_get q.items off) (sym (piece_packed d there))
+          ∙ ap (λ (q : List X). slice_get q off) (sym (piece_packed d there))
 
     module _ (off place : ℕ) (is : place ≡ size * at + off) where
-      pub get_packed : (p : Buffer X) → off < size → at < length ps → p ≡ get_or ps at p → slice_get p.items off ≡ slice_get (flat ps) place
-      get_packed p small there found = ap (λ (q : Buffer X). slice_get q.items off) found ∙ sym (get_there p there off place is small)
+      pub get_packed : (p : List X) → off < size → at < length ps → p ≡ get_or ps at p → slice_get p off ≡ slice_get (flat ps) place
+      get_packed p small there found = ap (λ (q : List X). slice_get q off) found ∙ sym (get_there p there off place is small)
 
       pub past_packed : length ps ≤ at → None ≡ slice_get (flat ps) place
       past_packed past = sym (slice_get_past (flat ps) place (omega (arith, packed_bound ps packed, mul-le-mul_left size past)))

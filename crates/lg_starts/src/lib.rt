@@ -2,6 +2,8 @@
 //! without moving all that stand behind it.
 #![tactic(auto)]
 
+mod entry;
+mod piece;
 mod pieces;
 mod starts;
 

@@ -3,10 +3,13 @@
 ghost use Rattle.std.specs.Prelude.{◌≡◌, ◌≤◌, ◌<◌, ◌+◌, [], true, false, Bool, OnOk, length, slice_get, slice_index_or};
 ghost use Rattle.std.specs.Fn.{ComputesKey};
 ghost use Rattle.std.specs.List.{insert, remove};
+ghost use Rattle.std.specs.Option.{option_copied};
 ghost use Rattle.std.specs.List.Sorted.{IsPartitionedBy, IsPartitionPoint};
 ghost use Rattle.lg_model.specs.Rows.{EventId as SpecEventId};
 
-use crate::pieces::{PIECE, Piece, add_pieces, put, take_out};
+use crate::entry::Entry;
+use crate::piece::{PIECE, Piece};
+use crate::pieces::{add_pieces, put, take_out};
 use lg_items::Memory;
 use lg_types::EventId;
 use std::alloc::Global;
@@ -16,7 +19,8 @@ use std::marker::Model;
 const MOST: usize = usize::MAX - PIECE;
 
 /// Starts in an order, in pieces that are packed. Contracts see them as a list, and how many there is room
-/// for.
+/// for. Each has a lead, a number that should not fall from one start to the next: a search asks first about
+/// the starts where the leads change to its own. Where leads fall it asks more often and finds the same.
 #[derive(Debug, Drop)]
 pub struct Starts {
     pieces: Vec<Piece>,
@@ -26,7 +30,7 @@ pub struct Starts {
 impl Model for Starts {
     ghost use Rattle.std.specs.Prelude.{◌≡◌, ◌*◌, ◌^◌, ◌<◌, length};
     ghost use Rattle.lg_starts.specs.Packed.{IsPacked, flat};
-    ghost use Rattle.lg_starts.specs.declared.pieces.TheConstants.{PIECE};
+    ghost use Rattle.lg_starts.specs.declared.piece.TheConstants.{PIECE};
     ghost use Rattle.lg_starts.specs.Roomy.{Roomy};
 
     ghost Value = { Roomy };
@@ -41,7 +45,7 @@ impl Model for Starts {
 }
 
 impl Starts {
-    /// None, with room for none. Takes no memory.
+    /// None. Takes no memory.
     pub fn new(alloc: Global) -> Starts
         ensures { result.list ≡ [] }
     {
@@ -62,8 +66,17 @@ impl Starts {
     pub fn get(&self, place: usize) -> Option<EventId>
         ensures { result ≡ slice_get self.now.list place }
     {
+        match self.entry(place) {
+            Some(entry) => Some(entry.start()),
+            None => None,
+        }
+    }
+
+    fn entry(&self, place: usize) -> Option<&Entry>
+        ensures { option_copied result ≡ slice_get self.now.list place }
+    {
         match self.pieces.get(place / PIECE) {
-            Some(piece) => piece.get(place % PIECE).copied(),
+            Some(piece) => piece.get(place % PIECE),
             None => None,
         }
     }
@@ -81,19 +94,19 @@ impl Starts {
         add_pieces(&mut self.pieces, alloc, count.div_ceil(PIECE))
     }
 
-    /// Puts a start at this place, before those that stand there and behind. Moves at most one piece, and
-    /// one start of each piece behind it. Takes no memory.
-    pub fn insert(&mut self, place: usize, start: EventId)
+    /// Puts a start and its lead at this place, before those that stand there and behind. Moves at most half a
+    /// piece, and one start of each piece behind it. Takes no memory.
+    pub fn insert(&mut self, place: usize, start: EventId, lead: i64)
         requires within { place ≤ length self.old.list }
         requires room { length self.old.list + 1 ≤ self.old.room }
         ensures list { self.new.list ≡ insert self.old.list place start }
         ensures room { self.new.room ≡ self.old.room }
     {
-        put(&mut self.pieces, place, start);
+        put(&mut self.pieces, place, Entry::new(start, lead));
         self.len += 1;
     }
 
-    /// Takes out the start at this place. Moves at most one piece, and one start of each piece behind it.
+    /// Takes out the start at this place. Moves at most half a piece, and one start of each piece behind it.
     pub fn remove(&mut self, place: usize)
         requires within { place < length self.old.list }
         ensures list { self.new.list ≡ remove self.old.list place }
@@ -103,19 +116,21 @@ impl Starts {
         self.len -= 1;
     }
 
-    /// How many pass a test that all of the first so many pass, and none behind them. It asks about each
-    /// halving once.
-    pub fn partition_point<P: FnMut(&EventId) -> bool>(&self, mut pred: P) -> usize
+    /// How many pass a test that all of the first so many pass, and none behind them. It asks about the starts at
+    /// the ends of those with this lead, and goes on by halving between them; where the leads led astray, by
+    /// halving between all that are left.
+    pub fn partition_point<P: FnMut(&EventId) -> bool>(&self, lead: i64, mut pred: P) -> usize
         requires { P.IsAlwaysCallable pred }
         ensures bound { result ≤ length self.now.list }
         ensures partitioned { (p : SpecEventId → Bool) → ComputesKey P.FnMut p pred
             → IsPartitionedBy p self.now.list
             → IsPartitionPoint (λ y. p y ≡ true) (λ y. p y ≡ false) self.now.list result }
     {
+        let guess = self.guess(lead);
         let mut low = 0;
         let mut high = self.len();
         while low < high {
-            let middle = low + (high - low) / 2;
+            let middle = guess.probe(low, high);
             if pred(&self.at(middle)) {
                 low = middle + 1;
             } else {
@@ -123,6 +138,38 @@ impl Starts {
             }
         }
         low
+    }
+
+    // The places between which the leads are this one, if leads rise.
+    fn guess(&self, lead: i64) -> Guess {
+        let first = self.leads_below(lead);
+        let behind = match lead.checked_add(1) {
+            Some(next) => self.leads_below(next),
+            None => self.len(),
+        };
+        Guess { first, behind }
+    }
+
+    // How many leads are below this one, if leads rise.
+    fn leads_below(&self, lead: i64) -> usize {
+        let mut low = 0;
+        let mut high = self.len();
+        while low < high {
+            let middle = low + (high - low) / 2;
+            if self.lead_at(middle) < lead {
+                low = middle + 1;
+            } else {
+                high = middle;
+            }
+        }
+        low
+    }
+
+    fn lead_at(&self, place: usize) -> i64 {
+        match self.entry(place) {
+            Some(entry) => entry.lead(),
+            None => i64::MAX,
+        }
     }
 
     // The start at this place, where there is one.
@@ -133,6 +180,30 @@ impl Starts {
         match self.get(place) {
             Some(start) => start,
             None => unreachable!(),
+        }
+    }
+}
+
+// Where the starts of one lead seem to stand: from the first place up to the one behind.
+#[derive(Drop)]
+struct Guess {
+    first: usize,
+    behind: usize,
+}
+
+impl Guess {
+    // The place between these to ask about: the one behind the guess, the one before it, or halfway.
+    fn probe(&self, low: usize, high: usize) -> usize
+        requires { low < high }
+        ensures from { low ≤ result }
+        ensures up_to { result < high }
+    {
+        if low <= self.behind && self.behind < high {
+            self.behind
+        } else if low < self.first && self.first <= high {
+            self.first - 1
+        } else {
+            low + (high - low) / 2
         }
     }
 }

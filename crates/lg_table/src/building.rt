@@ -9,6 +9,7 @@ ghost use Rattle.lg_table.specs.Orders.{row_cmp, starts_of};
 
 use crate::comparing::compare_rows;
 use crate::index::Index;
+use crate::leading::lead_of;
 use lg_items::{Items, Memory};
 use lg_starts::Starts;
 use lg_types::Version;
@@ -31,7 +32,7 @@ pub fn new_index(
     sort_rows(ordinals, key, &mut standing)?;
     Ok(Index {
         ordinals: Items::from_vec(Vec::from_slice(alloc, ordinals)?),
-        order: starts_of(alloc, &standing, room)?,
+        order: starts_of(alloc, ordinals, key, &standing, room)?,
     })
 }
 
@@ -55,7 +56,13 @@ fn sort_rows(ordinals: &[u16], key: &[usize], versions: &mut Vec<&Version>) -> R
     Ok(())
 }
 
-fn starts_of(alloc: Global, versions: &[&Version], room: usize) -> Result<Starts, Memory>
+fn starts_of(
+    alloc: Global,
+    ordinals: &[u16],
+    key: &[usize],
+    versions: &[&Version],
+    room: usize,
+) -> Result<Starts, Memory>
     ensures starts { IfOk result (λ starts. starts.list ≡ starts_of (map (λ v. v.now) versions.now)) }
     ensures room { IfOk result (λ starts. room ≤ starts.room) }
 {
@@ -63,7 +70,7 @@ fn starts_of(alloc: Global, versions: &[&Version], room: usize) -> Result<Starts
     starts.reserve(alloc, room.max(versions.len()))?;
     for version in versions {
         let end = starts.len();
-        starts.insert(end, version.start);
+        starts.insert(end, version.start, lead_of(ordinals, key, *version));
     }
     Ok(starts)
 }

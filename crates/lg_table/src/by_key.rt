@@ -7,6 +7,7 @@ ghost use Rattle.lg_parts.specs.Places.{key_at};
 ghost use Rattle.lg_table.specs.Orders as spec;
 ghost use Rattle.lg_table.specs.Orders.{in_order, passes, starts_of};
 
+use crate::leading::{lead_of, lead_of_value};
 use crate::reading::Stretch;
 use crate::searching::version_at;
 use lg_parts::{compare_at, compare_to_key};
@@ -46,7 +47,8 @@ fn count_below(places: &[usize], versions: &[Version], order: &Starts, key: &[Va
         ≡ prefix_len (spec.is_below places.now key.now) (in_order [] places.now versions.now) }
     ensures bound { result ≤ length order.now.list }
 {
-    order.partition_point(|start| is_below(places, versions, *start, key))
+    let lead = lead_of_value(key.first());
+    order.partition_point(lead, |start| is_below(places, versions, *start, key))
 }
 
 // How many don't come behind it.
@@ -57,7 +59,8 @@ fn count_up_to(places: &[usize], versions: &[Version], order: &Starts, key: &[Va
         ≡ prefix_len (spec.is_up_to places.now key.now) (in_order [] places.now versions.now) }
     ensures bound { result ≤ length order.now.list }
 {
-    order.partition_point(|start| is_up_to(places, versions, *start, key))
+    let lead = lead_of_value(key.first());
+    order.partition_point(lead, |start| is_up_to(places, versions, *start, key))
 }
 
 /// Where the versions of a key stand in the key order of these versions.
@@ -111,7 +114,8 @@ fn count_below_row(places: &[usize], versions: &[Version], order: &Starts, row: 
         (in_order [] places.now versions.now) }
     ensures bound { result ≤ length order.now.list }
 {
-    order.partition_point(|start| is_below_row(places, versions, *start, row))
+    let lead = lead_of(&[], places, row);
+    order.partition_point(lead, |start| is_below_row(places, versions, *start, row))
 }
 
 /// Whether some version in key order has the key of the row.

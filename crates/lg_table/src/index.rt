@@ -7,6 +7,7 @@ ghost use Rattle.lg_model.specs.Runs.{Rising};
 ghost use Rattle.lg_table.specs.Kept.{HasRoom, IsOf, IsWith, index_seen};
 ghost use Rattle.lg_table.specs.Orders.{has_row_below, in_order};
 
+use crate::leading::lead_of;
 use crate::searching::{place_in_order, start_has_row_below};
 use lg_items::{Items, Memory};
 use lg_starts::Starts;
@@ -37,7 +38,8 @@ pub fn add_start(index: &mut Index, key: &[usize], versions: &[Version], version
         &index.order,
         version,
     );
-    index.order.insert(place, version.start);
+    let lead = lead_of(index.ordinals.as_slice(), key, version);
+    index.order.insert(place, version.start, lead);
 }
 
 /// Takes out the start of the version at this place, which stands.
@@ -132,7 +134,9 @@ pub fn rows_below(index: &Index, key: &[usize], versions: &[Version], version: &
         (in_order index.now.ordinals key.now versions.now) }
 {
     let ordinals = index.ordinals.as_slice();
-    index.order.partition_point(|start| start_has_row_below(
-        ordinals, key, versions, *start, version,
-    ))
+    let lead = lead_of(ordinals, key, version);
+    index.order.partition_point(
+        lead,
+        |start| start_has_row_below(ordinals, key, versions, *start, version),
+    )
 }

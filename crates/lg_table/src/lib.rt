@@ -10,6 +10,7 @@ mod ending;
 mod guessing;
 mod index;
 mod laws;
+mod leading;
 mod leaves;
 mod noting;
 mod orders;

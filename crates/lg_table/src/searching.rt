@@ -12,6 +12,7 @@ ghost use Rattle.lg_table.specs.Orders.{in_order, passes, starts_of};
 
 use crate::comparing::{comes_before, has_row_below};
 use crate::guessing::{guess_place, place_above, place_below};
+use crate::leading::lead_of;
 use lg_items::TxId;
 use lg_starts::Starts;
 use lg_types::{EventId, Version};
@@ -103,7 +104,11 @@ pub fn place_in_order(
     ensures place { result ≡ spec.place_of ordinals.now key.now version.now versions.now }
     ensures bound { result ≤ length order.now.list }
 {
-    order.partition_point(|start| start_comes_before(ordinals, key, versions, *start, version))
+    let lead = lead_of(ordinals, key, version);
+    order.partition_point(
+        lead,
+        |start| start_comes_before(ordinals, key, versions, *start, version),
+    )
 }
 
 /// Whether an event is one of the transaction, with this number or above.

@@ -1,4 +1,5 @@
-// Calls of a ledger's cell that look at run time at what they require.
+//! Calls of a ledger's cell that look at run time at what they require.
+
 ghost use Rattle.std.specs.Prelude.{◌≤◌, ℕ, List, IfOk};
 ghost use Rattle.lg_types.specs.declared.journal.TheConstants.{MAX_BLOCK};
 ghost use Rattle.lg_book.specs.HashedCell.{KeepsHash};

@@ -1,4 +1,5 @@
-// Calls of a table's cell that look at run time at what they require.
+//! Calls of a table's cell that look at run time at what they require.
+
 ghost use Rattle.std.specs.Prelude.{◌≡◌, ◌<◌, IfOk, length};
 ghost use Rattle.lg_types.specs.declared.table.TableDef.{TableDef as SpecTableDef};
 ghost use Rattle.lg_standing.specs.Seats.{OpenTransaction};

@@ -1,4 +1,5 @@
-// Calls of a transaction's context that look at run time at what they require.
+//! Calls of a transaction's context that look at run time at what they require.
+
 ghost use Rattle.lg_standing.specs.Seats.{OpenTransaction};
 ghost use Rattle.lg_tx.specs.Represents.{Represents};
 ghost use Rattle.lg_tests_cells.specs.Running.{IsRunning};

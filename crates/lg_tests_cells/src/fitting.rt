@@ -1,4 +1,5 @@
-// What a change of rows requires of the statement, of the versions and of the context, looked at by code.
+//! What a change of rows requires of the statement, of the versions and of the context, looked at by code.
+
 ghost use Rattle.std.specs.Prelude.{◌≡◌, ◌≤◌, ◌∷◌, [], Ok, Some, IsTrue};
 ghost use Rattle.lg_types.specs.declared.version.Version.{Version as SpecVersion};
 ghost use Rattle.lg_model.specs.Checks.{row_statement_check};

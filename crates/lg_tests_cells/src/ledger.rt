@@ -1,4 +1,5 @@
-// Closings of the ledger's cell.
+//! Closings of the ledger's cell.
+
 use crate::books::{close, counts, filled_book};
 use lg_merkle::Sha256Hash;
 use lg_types::JournalItem;

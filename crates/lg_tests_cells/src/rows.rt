@@ -1,4 +1,5 @@
-// Locks, undo and index places in a table's cell.
+//! Locks, undo and index places in a table's cell.
+
 use crate::changing::{Outcome, cell_of, change, indexed_cell, places, read, release, undo_to};
 use crate::contexts::new_context;
 use crate::statements::{indexed_of, table_of};

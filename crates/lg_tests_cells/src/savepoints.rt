@@ -1,4 +1,5 @@
-// Savepoints of a transaction's context.
+//! Savepoints of a transaction's context.
+
 ghost use Rattle.std.specs.Prelude.{IfOk};
 ghost use Rattle.lg_tests_cells.specs.Running.{IsRunning};
 

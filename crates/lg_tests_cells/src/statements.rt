@@ -1,4 +1,5 @@
-// Statements and definitions of tables, made of texts.
+//! Statements and definitions of tables, made of texts.
+
 use lg_check::{new_index, new_table};
 use lg_parse::parse;
 use lg_system::first_tables;

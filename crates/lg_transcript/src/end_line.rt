@@ -42,7 +42,7 @@ fn push_ended(alloc: Global, id: TxId, after: u64, transcript: &mut String) -> R
     Ok(())
 }
 
-/// Appends the line of the end of a transaction.
+/// Appends the line of the end of a transaction. After an error nothing is said of the text.
 pub(crate) fn push_line(alloc: Global, end: EndLine, transcript: &mut String) -> Result<(), Memory>
     ensures { OnOk result (string_bytes transcript.new
         ≡ string_bytes transcript.old ++ indented (end_line (end_seen end))) }

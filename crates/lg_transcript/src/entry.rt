@@ -41,7 +41,7 @@ fn push_answer(
 }
 
 /// Appends the entry of a statement: the session and the statement, then the lines of the reply, then the end
-/// line, if there is one. After an error a part of the entry may stand. Costs what `indented_reply` does.
+/// line, if there is one. After an error nothing is said of the text. Costs what `indented_reply` does.
 #[tactic(auto, using(crate::proofs::Entries::with_end))]
 pub fn push_statement(
     alloc: Global,
@@ -58,7 +58,8 @@ pub fn push_statement(
     push_lines(alloc, end, transcript)
 }
 
-/// Appends the entry of a session's end, where it ends a transaction. After an error a part of it may stand.
+/// Appends the entry of a session's end, where it ends a transaction. After an error nothing is said of the
+/// text.
 #[tactic(auto, using(crate::proofs::Entries::at_end))]
 pub fn push_end(
     alloc: Global,

@@ -18,8 +18,8 @@ use lg_generator::statements_law;
 
 /// Where transcripts of the workload agree with a journal that has as many transactions as the workload has
 /// statements, these are the statements, each alone: those of the setup, and then those of the four sessions
-/// in turns, each session's in its order. The texts are read as what they look like, and the journal's items
-/// keep their rules.
+/// in turns, each session's in its order. The texts are read as what they look like, each table has up to
+/// 1,000,000 rows, and the journal's items keep their rules.
 pub fn runs_of_the_workload_take_turns()
     ensures { (q : Meaning) (database : Text) (rows : ℕ) (X : List Transcript) (items : List JournalItem)
         (G : List Digest) → ReadsTexts q.reads → rows ≤ 1000000

@@ -66,7 +66,7 @@ fn keys_of(
     Ok(Some(keys))
 }
 
-/// The key of a row of VALUES, where its values convert and none of them is NULL.
+/// The key of a row of VALUES, where its values for the key convert and none of them is NULL.
 #[tactic(auto, using(crate::proofs::KeyPlaces::key_is))]
 fn key_of(
     alloc: Global,

@@ -46,8 +46,8 @@ pub(crate) fn by_key_or_whole(
 
 /// What an INSERT, UPDATE or DELETE wants in the table's cell: X on each key that it may change and an intent
 /// on the table, where these keys are known before any row is read, and else X on the table. UPDATE and DELETE
-/// know the key that their condition fixes; INSERT those of its rows, where all their values convert and none
-/// is NULL.
+/// know the key that their condition fixes; INSERT those of its rows, where all their values for the key convert
+/// and none of these is NULL.
 #[tactic(auto, unfolding(lg_model::specs::Locks::row_wants))]
 pub fn row_wants(alloc: Global, table: &Keyed, stmt: &RowStmt) -> Result<Vec<Want>, Memory>
     ensures { IfOk result (λ wants. wants.items ≡ spec.row_wants table.now stmt.now) }

@@ -98,16 +98,16 @@ has. Where each statement is answered as the journal keeps it, it puts NAME.img,
 NAME.journal, its own bytes, in the current folder.
 
 Example, from the top of the repository, behind that of `step`:
-  ./ledgerd replay balance.journal --save again
+  ./ledgerd replay shop.journal --save again
 ";
 
 /// Help on `gen`.
 pub const GEN_HELP: &str = "ledgerd gen COUNT
 
 Runs four sessions side by side, each of which inserts COUNT rows into a table of its own and changes every
-tenth, takes the image of what is left and verifies it. It prints how many transactions were committed, how
-many rows and rows of histories there are, the sum of the rows' values, and the verdict. COUNT is 1 to 10,000.
-It reads no input and puts no file.
+tenth; then closes the ledger, issues a digest and verifies the image with it. It prints how many transactions
+were committed, how many rows and rows of histories there are, the sum of the rows' values, and the verdict.
+COUNT is 1 to 10,000. It reads no input and puts no file.
 
 Example, from the top of the repository:
   time ./ledgerd gen 1000

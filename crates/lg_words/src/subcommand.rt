@@ -1,6 +1,6 @@
 // The words that name a command.
 ghost use Rattle.std.specs.Prelude.{◌≡◌};
-ghost use Rattle.lg_words.specs.Subcommands.{name_of, named};
+ghost use Rattle.lg_words.specs.Subcommands.{named};
 
 /// A word that names a command.
 #[derive(Clone, Copy, Debug, PartialEq, Eq)]
@@ -20,20 +20,6 @@ pub enum Subcommand {
 }
 
 impl Subcommand {
-    /// The word.
-    pub fn name(self) -> &'static str
-        ensures { result.now ≡ name_of self }
-    {
-        match self {
-            Subcommand::Step => "step",
-            Subcommand::Run => "run",
-            Subcommand::Verify => "verify",
-            Subcommand::Extract => "extract",
-            Subcommand::Replay => "replay",
-            Subcommand::Gen => "gen",
-        }
-    }
-
     /// The one that the word names.
     #[tactic(auto, unfolding(crate::specs::Subcommands::named))]
     pub(crate) fn named(word: &str) -> Option<Subcommand>

@@ -7,7 +7,7 @@ use Rattle.lg_generator.specs.Workload.{value_of, create_text, insert_text, upda
 use Rattle.lg_workload.specs.Statements.{create_statement, insert_statement, update_statement}
 
 -- The transactions are these statements, each alone: those of the setup, and then those of the four sessions,
--- each session's in its order. Blocks may be closed between any two.
+-- each session's in its order. Blocks may be closed before the first, between any two and behind the last.
 pub data Turns : List (List ℕ) → List (List ℕ) → List (List ℕ) → List (List ℕ) → List (List ℕ)
     → List JournalItem → Type 0 where
   over : Turns [] [] [] [] [] []

@@ -9,9 +9,10 @@ ghost use Rattle.lg_workload.specs.Turns.{Turns, ReadsTexts, inserted_total};
 
 use lg_generator::statements_law;
 
-/// In whatever turns the statements run, the tables to which a legal journal of them leads show the same: each
-/// table has its rows and one row of history for each tenth, and `v` adds up to what was inserted and one for
-/// each change. There are no tables but these and the two of the system.
+/// In whatever turns the statements run, where their texts are read as what they look like and each table has
+/// up to 1,000,000 rows, the tables to which a legal journal of them leads show the same: each table has its
+/// rows and one row of history for each tenth, and `v` adds up to what was inserted and one for each change.
+/// There are no tables but these and the two of the system.
 pub fn turns_come_to_one_end()
     ensures tables { (reads : Reading) (rows : ℕ) (items : List JournalItem) → ReadsTexts reads
         → rows ≤ 1000000

@@ -6,18 +6,18 @@ use Rattle.lg_starts.proofs.pieces.carry_on.Goals as goal
 pub returns-in_default : goal.returns-in_default
 returns-in_default c =
     let ps = c.loop-place.pieces in let at = c.loop-place.place in
-    sym (take-append-drop at ps) ∙ ap (λ l. take at ps ++ l) (sym (carried_none (drop at ps)))
-    ∙ ap (λ o. take at ps ++ carried o (drop at ps)) (sym c.in_default.is) ∙ c.loop-place.invariant.same
+    sym (take-append-drop at ps) ∙ ap (λ l. take at ps ++ l) (sym (carried_none 512 (drop at ps)))
+    ∙ ap (λ o. take at ps ++ carried 512 o (drop at ps)) (sym c.in_default.is) ∙ c.loop-place.invariant.same
 
 pub loop-place-preserved : goal.loop-place-preserved
 loop-place-preserved c =
-    let ps = c.loop-place.pieces in let at = c.loop-place.place in let q = c.push_front-carry.new.self in
+    let ps = c.loop-place.pieces in let at = c.loop-place.place in let q = c.insert-carry.new.self in
     let count = length-set ps at q in record {
       within = omega arith;
       count = omega arith;
-      same = carried_more c.in-Some.start ps at c.index-pieces-place.result q c.push_front-carry.result (omega arith) c.push_front-carry.ensures.items c.push_front-carry.ensures.value
-          ∙ ap (λ o. take at ps ++ carried o (drop at ps)) (sym c.in-Some.is) ∙ c.loop-place.invariant.same;
+      same = carried_more 512 c.in-Some.start ps at c.index-pieces-place.result q c.insert-carry.result (omega arith) c.insert-carry.ensures.list c.insert-carry.ensures.left
+          ∙ ap (λ o. take at ps ++ carried 512 o (drop at ps)) (sym c.in-Some.is) ∙ c.loop-place.invariant.same;
     }
 
 pub returns : goal.returns
-returns c = carried_end c.loop-place.carry c.loop-place.pieces c.loop-place.place (omega arith) ∙ c.loop-place.invariant.same
+returns c = carried_end 512 c.loop-place.carry c.loop-place.pieces c.loop-place.place (omega arith) ∙ c.loop-place.invariant.same

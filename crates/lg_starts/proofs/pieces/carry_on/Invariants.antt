@@ -6,7 +6,7 @@ abbrev pub invariant-loop-place : goal.invariant-loop-place
 invariant-loop-place l = record {
   within : l.place ≤ length l.pieces;
   count : length l.pieces ≡ length l.initial.pieces;
-  same : take l.place l.pieces ++ carried l.carry (drop l.place l.pieces) ≡ take l.initial.from l.initial.pieces ++ carried l.initial.carry (drop l.initial.from l.initial.pieces);
+  same : take l.place l.pieces ++ carried 512 l.carry (drop l.place l.pieces) ≡ take l.initial.from l.initial.pieces ++ carried 512 l.initial.carry (drop l.initial.from l.initial.pieces);
 }
 
 abbrev pub decreases-loop-place : goal.decreases-loop-place

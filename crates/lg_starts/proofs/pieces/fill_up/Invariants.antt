@@ -6,7 +6,7 @@ abbrev pub invariant-loop-place : goal.invariant-loop-place
 invariant-loop-place l = record {
   within : l.place < length l.pieces;
   count : length l.pieces ≡ length l.initial.pieces;
-  same : take l.place l.pieces ++ filled (drop l.place l.pieces) ≡ take l.initial.from l.initial.pieces ++ filled (drop l.initial.from l.initial.pieces);
+  same : take l.place l.pieces ++ filled 512 (drop l.place l.pieces) ≡ take l.initial.from l.initial.pieces ++ filled 512 (drop l.initial.from l.initial.pieces);
 }
 
 abbrev pub decreases-loop-place : goal.decreases-loop-place

@@ -1,10 +1,10 @@
-use Rattle.std.proofs.Common.{◌+◌, ◌-◌, ◌/◌, arith, sym, of_calls}
+use Rattle.std.proofs.Common.{arith, sym, of_calls}
 use Rattle.lg_starts.proofs.Halving.{computed, failed, passed}
 use Rattle.lg_starts.proofs.starts.Starts.partition_point.Goals as goal
 
 pub loop-low-preserved-then-pred : goal.loop-low-preserved-then-pred
 loop-low-preserved-then-pred g c =
-    let low = c.loop-low.low in let middle = low + (c.loop-low.high - low) / 2 in
+    let middle = c.probe-middle.result in
     let inv = c.loop-low.invariant in (
       omega arith,
       omega arith,
@@ -16,7 +16,7 @@ loop-low-preserved-then-pred g c =
 
 pub loop-low-preserved : goal.loop-low-preserved
 loop-low-preserved g c =
-    let low = c.loop-low.low in let middle = low + (c.loop-low.high - low) / 2 in
+    let middle = c.probe-middle.result in
     let inv = c.loop-low.invariant in (
       omega arith,
       omega arith,

@@ -1,14 +1,14 @@
 use Rattle.std.proofs.Common.{◌∙◌, ◌/◌, ◌%◌, arith, ap, get_or, length, slice_get}
 use Rattle.lg_starts.specs.Roomy.{Roomy}
 use Rattle.lg_starts.proofs.Packed.{get_packed, past_packed}
-use Rattle.lg_starts.proofs.starts.Starts.get.Goals as goal
+use Rattle.lg_starts.proofs.starts.Starts.entry.Goals as goal
 
 pub returns-in-Some : goal.returns-in-Some
 returns-in-Some c =
     let ps = c.self.inside.pieces.items in let place = c.args.place in let p = c.in-Some.piece.now in
     let seen = c.deref.ensures.value in
     let there = c.in-Some.ensures.lookup.3 in
-    c.copied.ensures ∙ c.get-in-Some.ensures
+    c.get-in-Some.ensures
     ∙ get_packed 512 ps c.self.invariant.packed (place / 512) (place % 512) place (omega arith) p (omega arith)
     (omega (arith, ap length seen)) (there.1 p ∙ ap (λ l. get_or l (place / 512) p) seen)
     ∙ ap (λ (r : Roomy). slice_get r.list place) c.self.view_is

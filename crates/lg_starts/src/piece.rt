@@ -1,0 +1,102 @@
+//! One piece of a list of starts.
+
+ghost use Rattle.std.specs.Prelude.{◌≡◌, ◌≤◌, ◌<◌, ◌++◌, ◌∷◌, [], IfOk, length, slice_get, take};
+ghost use Rattle.std.specs.List.{insert, remove};
+ghost use Rattle.std.specs.Option.{option_copied};
+
+use crate::entry::Entry;
+use lg_items::Memory;
+use std::alloc::Global;
+use std::collections::VecDeque;
+use std::marker::Model;
+
+/// How many starts a piece holds.
+pub const PIECE: usize = 512;
+
+/// At most as many starts as a piece holds, in a ring with room for all of them. Contracts see them as a list.
+#[derive(Debug, Drop)]
+pub struct Piece {
+    starts: VecDeque<Entry>,
+}
+
+impl Model for Piece {
+    ghost use Rattle.std.specs.Prelude.{◌≤◌, List, length};
+    ghost use Rattle.std.specs.VecDeque.{deque_capacity};
+    ghost use Rattle.lg_model.specs.Rows.{EventId};
+    ghost use Rattle.lg_starts.specs.declared.piece.TheConstants.{PIECE};
+
+    ghost Value = { List EventId };
+
+    ghost view = { λ p. p.starts.items };
+
+    ghost invariant = { λ p. (length p.starts.items ≤ PIECE) × (PIECE ≤ deque_capacity p.starts) };
+}
+
+impl Piece {
+    /// None. All the memory that the piece ever takes is taken here.
+    pub fn new(alloc: Global) -> Result<Piece, Memory>
+        ensures { IfOk result (λ piece. piece ≡ []) }
+    {
+        let starts = VecDeque::with_capacity(alloc, PIECE)?;
+        Ok(Piece { starts })
+    }
+
+    /// How many there are.
+    pub fn len(&self) -> usize
+        ensures { result ≡ length self.now }
+    {
+        self.starts.len()
+    }
+
+    /// The start at this place.
+    pub fn get(&self, place: usize) -> Option<&Entry>
+        ensures { option_copied result ≡ slice_get self.now place }
+    {
+        self.starts.get(place)
+    }
+
+    /// Puts a start at this place. Where the piece was full, the answer is what no longer fits at its end.
+    /// Moves the starts before the place or those behind it, whichever are fewer.
+    pub fn insert(&mut self, place: usize, start: Entry) -> Option<Entry>
+        requires { place ≤ length self.old }
+        ensures list { self.new ≡ take PIECE (insert self.old place start) }
+        ensures left { result ≡ slice_get (insert self.old place start) PIECE }
+    {
+        if self.starts.len() < PIECE {
+            self.put(place, start);
+            return None;
+        }
+        if place == PIECE {
+            return Some(start);
+        }
+        let last = self.starts.pop_back();
+        self.put(place, start);
+        last
+    }
+
+    // Puts a start at this place of a piece that isn't full.
+    fn put(&mut self, place: usize, start: Entry)
+        requires within { place ≤ length self.old }
+        requires room { length self.old < PIECE }
+        ensures { self.new ≡ insert self.old place start }
+    {
+        self.starts.insert(place, start).unwrap();
+    }
+
+    /// Puts a start behind the others, where the piece isn't full.
+    pub fn push(&mut self, start: Entry)
+        ensures { self.new ≡ take PIECE (self.old ++ start ∷ []) }
+    {
+        let end = self.len();
+        self.insert(end, start);
+    }
+
+    /// Takes out the start at this place, which is the answer. Moves those before it or those behind it,
+    /// whichever are fewer.
+    pub fn remove(&mut self, place: usize) -> Option<Entry>
+        ensures list { self.new ≡ remove self.old place }
+        ensures taken { result ≡ slice_get self.old place }
+    {
+        self.starts.remove(place)
+    }
+}
