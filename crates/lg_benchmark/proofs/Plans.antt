@@ -7,7 +7,7 @@ use Rattle.lg_items.specs.DatabaseName.{is_database_name}
 use Rattle.lg_items.specs.SessionName.{is_session_name}
 use Rattle.lg_history.specs.Lists.{Each}
 use Rattle.lg_plan.specs.Plan.{Plan, session_names, size_of}
-use Rattle.lg_step.proofs.Named.{all_from_each}
+use Rattle.lg_output.proofs.Each.{all_from_each}
 use Rattle.lg_generator.specs.Workload.{session_texts, statement_count, workload_plan}
 
 pub database_is_named : is_database_name (codes "LedgerDB") ≡ true

@@ -16,7 +16,7 @@ use Rattle.lg_history.specs.Meaning.{Meaning}
 use Rattle.lg_history.specs.Transcripts.{Transcript}
 use Rattle.lg_parse.specs.Text.{statement_of}
 use Rattle.lg_spell.specs.Written.{GivesWritten}
-use Rattle.lg_ledger.proofs.Counting.{entries_counted}
+use Rattle.lg_closings.proofs.Counting.{entries_counted}
 use Rattle.lg_image.specs.Image.{image_of}
 use Rattle.lg_image.specs.ImageBytes.{image_bytes, IsImage}
 use Rattle.lg_image.proofs.ImageExact.{only_of}
@@ -26,8 +26,7 @@ use Rattle.lg_verdict.specs.declared.place.Verdict.TheVariants.{Yes}
 use Rattle.lg_verdict.specs.Bytes.{verdict_of}
 use Rattle.lg_verdict.proofs.Judged.{of_image}
 use Rattle.lg_honest.specs.Held.{held}
-use Rattle.lg_kept.specs.LastImage.{last_image_bytes}
-use Rattle.lg_together.specs.CameTo.{CameTo, Left}
+use Rattle.lg_run.specs.Agreed.{CameTo, Left, last_image_bytes}
 use Rattle.lg_course.specs.Told.{IsMeaning}
 use Rattle.lg_course.proofs.Told.{some_meaning}
 use Rattle.lg_generator.specs.Workload.{create_text, insert_text, update_text, session_texts, setup_texts}

@@ -6,7 +6,7 @@ ghost use Rattle.lg_image.specs.ImageBytes.{IsImage};
 ghost use Rattle.lg_types.specs.declared.digest.Digest.{Digest as SpecDigest};
 ghost use Rattle.lg_honest.specs.Held.{held};
 ghost use Rattle.lg_run.specs.CameTo.{CameTo, IsClosed, IsOf, and_digests};
-ghost use Rattle.lg_together.specs.CameTo.{Left};
+ghost use Rattle.lg_run.specs.Agreed.{Left};
 ghost use Rattle.lg_benchmark.specs.Reports.{expected, TellsOf, TellsOfImage};
 
 use crate::counting::count_tables;
@@ -17,8 +17,8 @@ use lg_image::read_image;
 use lg_images::legal_images_have_a_spelling;
 use lg_items::{Items, Memory};
 use lg_merkle::Hash32;
+use lg_output::{Ran, Settings};
 use lg_run::run_and_close;
-use lg_step::{Ran, Settings};
 use lg_turns::runs_of_the_workload_take_turns;
 use lg_types::{Digest, HeldDigest, Image};
 use lg_verify::verify_image;

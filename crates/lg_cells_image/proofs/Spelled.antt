@@ -10,8 +10,8 @@ use Rattle.lg_model.specs.Catalog.{Tables}
 use Rattle.lg_model.specs.Journals.{serial}
 use Rattle.lg_parse.specs.Text.{statement_of}
 use Rattle.lg_ledger.specs.Ledger.{Ledger}
-use Rattle.lg_ledger.proofs.Adding.{blocks_counted}
-use Rattle.lg_ledger.proofs.Counting.{entries_counted}
+use Rattle.lg_closings.proofs.Staying.{blocks_counted}
+use Rattle.lg_closings.proofs.Counting.{entries_counted}
 use Rattle.lg_image.specs.Image.{image_of}
 use Rattle.lg_image.specs.ImageBytes.{IsImage}
 use Rattle.lg_images.specs.Room.{HasRoom, TableHasRoom}

@@ -10,8 +10,9 @@ ghost use Rattle.lg_model.specs.Changes as spec;
 
 use lg_items::{Items, Memory, Name};
 use lg_parts::copy_or_null;
+use lg_scalar::to_column;
 use lg_types::Row;
-use lg_value::{ColumnDef, Refusal, Value, to_column};
+use lg_value::{ColumnDef, Refusal, Value};
 use std::alloc::Global;
 
 /// What a column keeps of a value. NULL is E06 where the column is NOT NULL; for any other value the

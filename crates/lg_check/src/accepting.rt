@@ -6,7 +6,8 @@ ghost use Rattle.lg_model.specs.Checks as spec;
 
 use lg_expr::{class, class_of_literal, names_columns, written_day};
 use lg_parts::Columns;
-use lg_value::{Class, ColumnDef, Expr, SqlType, Value, day_of};
+use lg_scalar::day_of;
+use lg_value::{Class, ColumnDef, Expr, SqlType, Value};
 
 /// Whether a column of the type takes values of the class; `is_date` says that they are a text literal that
 /// is a date.

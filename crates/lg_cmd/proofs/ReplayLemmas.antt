@@ -19,7 +19,7 @@ use Rattle.lg_model.specs.LegalJournals.{IsLegalJournal}
 use Rattle.lg_model.specs.Script.{Reading, script}
 use Rattle.lg_model.specs.SystemTables.{first_tables}
 use Rattle.lg_parse.specs.Text.{statement_of}
-use Rattle.lg_ledger.proofs.Counting.{entries_counted}
+use Rattle.lg_closings.proofs.Counting.{entries_counted}
 use Rattle.lg_image.specs.Image.{image_of, image_of_cut}
 use Rattle.lg_image.specs.ImageBytes.{image_bytes, IsImage}
 use Rattle.lg_serial.specs.RunEnd.{run_end}
@@ -37,7 +37,7 @@ use Rattle.lg_cmd.specs.Answer.{HasPut, HasWritten, EndsBy, Unfailed}
 use Rattle.lg_cmd.specs.Calls.{Gave, AreGets, ArePuts, Behind, AreGetsAndPuts, AreWrites}
 use Rattle.lg_cmd.specs.Files.{TellsLeft, TellsHeld, StandFirst, stands}
 use Rattle.lg_cmd.specs.Names.{LacksName, image_limit}
-use Rattle.lg_kept.specs.LastImage.{last_image_bytes}
+use Rattle.lg_run.specs.Agreed.{last_image_bytes}
 use Rattle.lg_cmd.specs.Replay.{StandsUnder, IsSpelled, AreRefused, IsIllegalAt, IsIllegal, LegalUnder, replayed_files, IsAccepted, IsImageOf, LacksImage, LacksReplay, ReplayedOrIdle, ReplayCause, HasOutput, Replayed, PutsAccepted, replayed_text, replay_status}
 use Rattle.lg_cmd.specs.Run.{image_name, image_file, journal_name}
 use Rattle.lg_cmd.proofs.AnswerLemmas.{put_is, written_is}

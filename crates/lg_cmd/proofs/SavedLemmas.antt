@@ -12,8 +12,8 @@ use Rattle.lg_history.specs.Lists.{Each, Some_of, In}
 use Rattle.lg_history.proofs.Trace.{each_weaker}
 use Rattle.lg_journal.specs.Journal.{journal_bytes}
 use Rattle.lg_standing.specs.Seats.{KeptImage}
-use Rattle.lg_step.specs.Images.{AreKept, ItemsRise}
-use Rattle.lg_step.specs.declared.running.Ran.{Ran as Output}
+use Rattle.lg_output.specs.Images.{AreKept, ItemsRise}
+use Rattle.lg_output.specs.declared.ran.Ran.{Ran as Output}
 use Rattle.lg_words.specs.Commands.{Settings}
 use Rattle.lg_cmd.specs.declared.files.File.{File}
 use Rattle.lg_cmd.specs.declared.status.Status.{Status}

@@ -13,11 +13,11 @@ use Rattle.lg_input.specs.Sessions.{sessions_of}
 use Rattle.lg_plan.specs.Plan.{Plan}
 use Rattle.lg_standing.specs.Seats.{KeptImage}
 use Rattle.lg_step.specs.Came.{Run, CameTo}
-use Rattle.lg_step.specs.Images.{ItemsRise}
-use Rattle.lg_step.specs.Moments.{said_with}
+use Rattle.lg_output.specs.Images.{ItemsRise}
+use Rattle.lg_output.specs.Moments.{said_with}
 use Rattle.lg_step.specs.Ran.{IsRan}
-use Rattle.lg_step.specs.declared.running.Ran.{Ran as Output}
-use Rattle.lg_together.specs.CameTo.{Left}
+use Rattle.lg_output.specs.declared.ran.Ran.{Ran as Output}
+use Rattle.lg_run.specs.Agreed.{Left}
 use Rattle.lg_run.specs.CameTo as all
 use Rattle.lg_run.specs.CameTo.{IsOf}
 use Rattle.lg_words.specs.Commands.{Settings}

@@ -14,7 +14,8 @@ use lg_base::Clock;
 use lg_input::{InputErr, Line, read_lines, session_names};
 use lg_items::Memory;
 use lg_merkle::Hash32;
-use lg_step::{Ran, run_lines};
+use lg_output::Ran;
+use lg_step::run_lines;
 use lg_words::Settings;
 use std::alloc::Global;
 
@@ -62,7 +63,7 @@ pub(crate) fn run_input<H: Hash32, C: Clock>(
     ensures refused { IfErr result (λ status. IsRefused line_form status input.now) }
 {
     let read = statements(alloc, input)?;
-    let how = lg_step::Settings {
+    let how = lg_output::Settings {
         block_size: settings.block_size as u32,
         clock: settings.clock,
         database: settings.database,

@@ -19,7 +19,7 @@ use lg_digest::write_digests;
 use lg_image::{Image, write_image};
 use lg_items::{Blob, Items, Memory, Text};
 use lg_journal::{Journal, write_journal};
-use lg_step::Ran;
+use lg_output::Ran;
 use lg_types::Digest;
 use std::alloc::Global;
 

@@ -15,9 +15,9 @@ use crate::Status;
 use lg_base::{Clock, Gate};
 use lg_items::Memory;
 use lg_merkle::Hash32;
+use lg_output::Ran;
 use lg_plan::{Plan, PlanErr, has_many_sessions, read_plan};
 use lg_run::run_all;
-use lg_step::Ran;
 use lg_words::Settings;
 use std::alloc::Global;
 use std::sync::Wait;
@@ -63,7 +63,7 @@ pub(crate) fn run_sections<H: Hash32, C: Clock, G: Gate, R: Threads + Wait + Syn
     ensures refused { IfErr result (λ status. IsRefused section_form status input.now) }
 {
     let plan = plan_of(alloc, input)?;
-    let how = lg_step::Settings {
+    let how = lg_output::Settings {
         block_size: settings.block_size as u32,
         clock: settings.clock,
         database: settings.database,

@@ -9,7 +9,7 @@ use Rattle.lg_standing.specs.Cells.{Cell, cell_count}
 use Rattle.lg_standing.specs.May.{OutsStand}
 use Rattle.lg_standing.specs.Seats.{KeptImage}
 use Rattle.lg_standing.specs.Server.{Server}
-use Rattle.lg_server.specs.Serves.{Serves}
+use Rattle.lg_standing.specs.Serves.{Serves}
 use Rattle.lg_course.specs.Sessions.{Told, told_with, SessionsStand}
 use Rattle.lg_course.proofs.SeatOn.{visit_on}
 use Rattle.lg_seat.specs.KeptCell.{KeptCell}

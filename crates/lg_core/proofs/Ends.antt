@@ -5,9 +5,7 @@ use mathlib.Core.Option.{some, some-injective}
 use lib.ListN.{get_elem?}
 use Rattle.lg_types.specs.declared.digest.Digest.{Digest}
 use Rattle.lg_types.specs.declared.journal.JournalItem.{JournalItem}
-use Rattle.lg_types.specs.declared.image.Image.{Image}
 use Rattle.lg_model.specs.Limits.{max_block}
-use Rattle.lg_model.specs.Script.{Reading}
 use Rattle.lg_history.specs.Lists.{Text, Each}
 use Rattle.lg_history.specs.Transcripts.{Transcript}
 use Rattle.lg_image.specs.Image.{image_of}
@@ -21,8 +19,7 @@ use Rattle.lg_standing.specs.QuietElse as law
 use Rattle.lg_standing.specs.Seats.{KeptImage, OpenTransaction, Session as LawSession, idle, session, SeatState, IsAtRest, split}
 use Rattle.lg_standing.specs.Server.{Server}
 use Rattle.lg_standing.specs.StandTogether.{StandTogether}
-use Rattle.lg_server.specs.Serves.{Serves}
-use Rattle.lg_server.proofs.CellsShow.{same_image}
+use Rattle.lg_standing.specs.Serves.{Serves}
 use Rattle.lg_course.specs.EndsLast.{running}
 use Rattle.lg_course.specs.Sessions.{Told, told_nothing, SessionsStand}
 use Rattle.lg_course.specs.Told.{HasEnded}
@@ -36,6 +33,7 @@ use Rattle.lg_seat.specs.Sits.{Sits, Runs}
 use Rattle.lg_seat.specs.Steps.{Begins}
 use Rattle.lg_seat.specs.declared.running.Running.{Running}
 use Rattle.lg_seat.specs.declared.seat.Seat.{Seat}
+use Rattle.lg_seat.proofs.AllCells.{bytes_are_the_journals}
 use Rattle.lg_core.specs.Asked.{Asked, nothing_asked, with_session}
 use Rattle.lg_core.specs.FirstCells.{first_kept}
 use Rattle.lg_core.specs.Parts.{HasLeft}
@@ -50,7 +48,7 @@ use Rattle.lg_core.proofs.Midways.{found_is}
 use Rattle.lg_core.proofs.OneServer as one
 use Rattle.lg_core.proofs.OneServer.{not_over, quiet_state}
 use Rattle.lg_core.proofs.Pairs.{Behind, all_there, as_long, behind, both_last, each_last, each_there, near, same_seen, seen_at, seen_last, seen_of}
-use Rattle.lg_core.proofs.Servers.{some_server}
+use Rattle.lg_server.proofs.Servers.{some_server}
 use Rattle.lg_core.proofs.Turns.{stand_at_end}
 
 -- ---- the beginning
@@ -244,9 +242,7 @@ module _ {H : Type 0} (digest : H → List ℕ → List ℕ) (h : H) (a : Asked)
 
   -- the bytes of the image of its cells are those of the image of its journal
   pub image_is : (bytes : Text) → AreImageBytes c.cells.items bytes → bytes ≡ image_bytes (image_of (digest h) statement_of a.database l.items)
-  image_is bytes are = are together_here.stands.catalog together_here.stands.ledger together_here.stands.are_cells
-      ∙ ap (λ (i : Image). image_bytes i) (same_image v together_here.history (cells_seen c.cells.items) _ together_here.stands)
-      ∙ ap₂ (λ (g : List ℕ → List ℕ) (r : Reading). image_bytes (image_of g r together_here.stands.ledger.database together_here.stands.ledger.items)) serves.hash serves.reading
+  image_is bytes are = bytes_are_the_journals (digest h) v serves together_here.history _ c.cells.items together_here.stands bytes are
       ∙ ap₂ (λ (d : Text) (x : LedgerCell). image_bytes (image_of (digest h) statement_of d x.items)) its_database its_ledger
 
   -- and its journal has room in the format

@@ -11,7 +11,7 @@ use Rattle.lg_standing.specs.Deeds.{did, alones_acts}
 use Rattle.lg_standing.specs.Seats.{KeptImage, SeatState}
 use Rattle.lg_standing.specs.Server.{Server}
 use Rattle.lg_standing.proofs.Places.{set_same}
-use Rattle.lg_server.specs.Serves.{Serves}
+use Rattle.lg_standing.specs.Serves.{Serves}
 use Rattle.lg_course.specs.EndsLast.{Phase, running, ending, InPhase}
 use Rattle.lg_course.specs.Sessions.{Told, names_told, told_with}
 use Rattle.lg_transcript.specs.TranscriptText.{entry_text}
@@ -35,7 +35,7 @@ use Rattle.lg_core.proofs.OneServer as one
 use Rattle.lg_core.proofs.OneServer.{it_sits}
 use Rattle.lg_core.proofs.Pairs.{Beside, beside, Seen, seen_at, seen_of, seen_set, both_set, each_set, each_there}
 use Rattle.lg_core.proofs.Pending.{one_more_at, fewer_at}
-use Rattle.lg_core.proofs.Servers.{some_server}
+use Rattle.lg_server.proofs.Servers.{some_server}
 use Rattle.lg_core.proofs.Texts.{text_more}
 
 -- the session with another seat

@@ -8,7 +8,6 @@ pub mod Midways
 pub mod OneServer
 pub mod Pairs
 pub mod Pending
-pub mod Servers
 pub mod Texts
 pub mod Turns
 pub mod Within

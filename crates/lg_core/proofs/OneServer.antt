@@ -18,7 +18,7 @@ use Rattle.lg_standing.specs.Seats.{idle, SeatState}
 use Rattle.lg_standing.specs.Server.{Server}
 use Rattle.lg_standing.specs.StandTogether.{StandTogether}
 use Rattle.lg_standing.proofs.Places.{set_same}
-use Rattle.lg_server.specs.Serves.{Serves}
+use Rattle.lg_standing.specs.Serves.{Serves}
 use Rattle.lg_course.specs.EndsLast.{Phase, ending, InPhase}
 use Rattle.lg_course.specs.Sessions.{Told, told_with, Runs, IsOver as HasEnded, IsShown, EachShown, SessionsStand, OthersQuiet}
 use Rattle.lg_course.proofs.Goes.{since, ledger_is, sized, all_silent}

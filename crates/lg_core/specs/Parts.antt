@@ -6,7 +6,7 @@ use Rattle.lg_image.specs.ImageBytes.{image_bytes}
 use Rattle.lg_images.specs.Room.{HasRoom}
 use Rattle.lg_parse.specs.Text.{statement_of}
 use Rattle.lg_standing.specs.Server.{Server}
-use Rattle.lg_server.specs.Serves.{Serves}
+use Rattle.lg_standing.specs.Serves.{Serves}
 use Rattle.lg_course.specs.Told.{HasEnded}
 use Rattle.lg_core.specs.Asked.{Asked}
 use Rattle.lg_core.specs.Standing.{entry_texts, Stands, IsEnded}

@@ -9,12 +9,12 @@ use Rattle.lg_parse.specs.Text.{statement_of}
 use Rattle.lg_standing.specs.Cells.{Cell, ledger_at}
 use Rattle.lg_standing.specs.Seats.{idle, SeatState}
 use Rattle.lg_standing.specs.Server.{Server}
-use Rattle.lg_server.specs.Serves.{Serves}
+use Rattle.lg_standing.specs.Serves.{Serves}
 use Rattle.lg_course.specs.EndsLast.{running}
 use Rattle.lg_course.specs.Sessions.{Told, names_told, SessionsStand}
 use Rattle.lg_transcript.specs.TranscriptText.{entry_text}
 use Rattle.lg_seat.specs.KeptCell.{KeptCell, Keeps}
-use Rattle.lg_seat.specs.Points.{IsBetween, IsOver}
+pub use Rattle.lg_seat.specs.Points.{IsBetween, IsOver}
 use Rattle.lg_seat.specs.Sits.{Sits}
 use Rattle.lg_seat.specs.Told.{pending_of}
 use Rattle.lg_seat.specs.declared.seat.Seat.{Seat}

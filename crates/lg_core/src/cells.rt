@@ -4,11 +4,8 @@ ghost use Rattle.std.specs.Prelude.{◌≡◌, ◌≤◌, IfOk};
 ghost use Rattle.lg_types.specs.declared.journal.TheConstants.{MAX_BLOCK};
 ghost use Rattle.lg_core.specs.FirstCells.{first_kept};
 
-use lg_book::LedgerCell;
-use lg_catalog::CatalogCell;
 use lg_items::{Memory, Name};
-use lg_seat::Cell;
-use lg_table::TableCell;
+use lg_seat::{CatalogCell, Cell, LedgerCell, TableCell};
 use std::alloc::Global;
 
 /// The first id of a user's table, and the one behind the last.

@@ -1,7 +1,11 @@
 -- Lists whose elements have different names: who has the same names is the same list.
-use Rattle.std.proofs.Common.{◌≡◌, ◌≢◌, ℕ, zero, suc, List, [], ◌∷◌, map, refl, sym, ap, ap₂, subst, ◌∙◌, inl, inr, ⊎_elim, arith}
+use Rattle.std.proofs.Common.{◌≡◌, ◌≢◌, true, false, true≢false, ℕ, zero, suc, List, [], ◌∷◌, map, refl, sym, ap, ap₂, subst, ◌∙◌, inl, inr, ⊎_elim, arith}
+use Rattle.std.specs.List.{IsDistinct, AllByRecursion}
+use Rattle.std.specs.Str.{bytes_eq}
+use Rattle.std.proofs.lemmas.Slice.Eq.{bytes_eq-Decides}
 use Rattle.lg_history.specs.Lists.{Text, Each, At, In}
 use Rattle.lg_history.specs.Transcripts.{Transcript}
+use Rattle.lg_standing.specs.Reordered.{NamesApart}
 
 -- each of these names once
 abbrev pub Apart : List Text → Type 0
@@ -58,3 +62,14 @@ name_at (y ∷ X) (suc i) x a = name_at X i x a
 
 pub differ : (X : List Transcript) (names : List Text) → names_in X ≡ names → Apart names → (i j : ℕ) (x y : Transcript) → At X i x → At X j y → i ≢ j → x.session ≢ y.session
 differ X names e apart i j x y a b ne = differ_at names apart i j x.session y.session (subst (λ (ns : List Text). At ns i x.session) e (name_at X i x a)) (subst (λ (ns : List Text). At ns j y.session) e (name_at X j y b)) ne
+
+-- ---- names that differ as bytes
+
+apart_from : (name : Text) (names : List Text) → AllByRecursion (λ other. bytes_eq name other ≡ false) names → Each (λ other. name ≢ other) names
+apart_from name [] all = tt
+apart_from name (n ∷ names) all = ((λ same. true≢false (sym ((bytes_eq-Decides name n).1 same) ∙ all.0)), apart_from name names all.1)
+
+pub names_apart : (names : List Text) → IsDistinct bytes_eq names → NamesApart names
+unfolding IsDistinct
+names_apart [] distinct = tt
+names_apart (n ∷ names) distinct = (apart_from n names distinct.0, names_apart names distinct.1)

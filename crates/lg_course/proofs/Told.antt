@@ -23,7 +23,7 @@ use Rattle.lg_history.proofs.Real.{real, is_real}
 use Rattle.lg_history.proofs.Trace.{each_append, each_weaker}
 use Rattle.lg_image.specs.Image.{image_of}
 use Rattle.lg_image.specs.ImageBytes.{image_bytes}
-use Rattle.lg_ledger.proofs.Adding.{hashing}
+use Rattle.lg_closings.proofs.Staying.{hashing}
 use Rattle.lg_standing.specs.AtTheEnd.{HasItsImages, image_items}
 use Rattle.lg_standing.specs.Cells.{Cell, LedgerCell}
 use Rattle.lg_standing.specs.JournalForms as forms
@@ -36,7 +36,7 @@ use Rattle.lg_standing.specs.StandTogether.{Stands}
 use Rattle.lg_standing.specs.TranscriptsAgree.{IsImage, IsMoment, moments_of, session_moments}
 use Rattle.lg_standing.proofs.JournalKept.{legal_journal}
 use Rattle.lg_standing.proofs.SinceFirst.{SinceFirst}
-use Rattle.lg_server.specs.Serves.{Serves}
+use Rattle.lg_standing.specs.Serves.{Serves}
 use Rattle.lg_course.specs.Outcome.{Outcome}
 use Rattle.lg_course.specs.Told.{HasEnded, IsMeaning, IsImageOf, RunAgrees}
 use Rattle.lg_course.specs.Wrote.{WroteOne, WroteEach, Wrote, transcripts_in}

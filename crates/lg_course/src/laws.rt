@@ -32,7 +32,7 @@ ghost use Rattle.lg_standing.specs.Reordered.{NamesApart};
 ghost use Rattle.lg_standing.specs.Seats.{KeptImage, SeatState, Written, split};
 ghost use Rattle.lg_standing.specs.Server.{Server};
 ghost use Rattle.lg_standing.specs.Steps.{Step};
-ghost use Rattle.lg_server.specs.Serves.{Serves};
+ghost use Rattle.lg_standing.specs.Serves.{Serves};
 ghost use Rattle.lg_course.specs.Course.{Course, StaysInside};
 ghost use Rattle.lg_course.specs.EndsLast.{Phase, running, ending, InPhase, IsNoStatement};
 ghost use Rattle.lg_course.specs.InStep.{InStep, due_in, Waits};

@@ -47,7 +47,8 @@ fn put_head(entry: &TxEntry, out: &mut Vec<u8>) -> Result<(), Memory>
     put_short(out, entry.principal.bytes())
 }
 
-/// Appends how many roots there are, and these. After want of memory what stood first still does.
+/// Appends the number of the format, how many roots there are, and these. There are to be at most 255. After
+/// want of memory what stood first still does.
 pub fn put_roots(roots: &[(TableId, [u8; 32])], out: &mut Vec<u8>) -> Result<(), Memory>
     requires { length roots.now < 256 }
     ensures ok { OnOk result (out.new.items ≡ out.old.items ++ roots_bytes roots.now) }

@@ -4,7 +4,8 @@ ghost use Rattle.std.specs.Prelude.{◌≡◌};
 ghost use Rattle.lg_value.specs.Tree.{tree};
 ghost use Rattle.lg_model.specs.Days as spec;
 
-use lg_value::{Expr, Value, day_of};
+use lg_scalar::day_of;
+use lg_value::{Expr, Value};
 
 /// The day that an expression writes, where it is a text literal and a date in the form `YYYY-MM-DD`.
 pub fn written_day(e: &Expr) -> Option<u32>

@@ -12,8 +12,7 @@ use lg_merkle::{Frontier, Hash32};
 use std::alloc::Global;
 
 /// Of two different lists of leaves that have one tree hash, two different byte strings with one hash.
-/// Halves the lists until the bytes that were hashed differ, and hashes no more than the halves on its way:
-/// about two hashes for each leaf.
+/// Parts the lists as the tree does until the bytes that were hashed differ.
 pub(crate) fn find_in_trees<H: Hash32>(
     alloc: Global,
     h: H,

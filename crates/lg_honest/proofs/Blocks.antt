@@ -11,7 +11,7 @@ use Rattle.lg_frames.proofs.Alls.{all_weaker}
 use Rattle.lg_ledger.specs.Blocks.{no_hash, block_of, record_hash, first_or_no_hash}
 use Rattle.lg_ledger.specs.Parts.{AreBlocksOf}
 use Rattle.lg_ledger.specs.Ledger.{ledger_of, blocks_of, block_hash}
-use Rattle.lg_ledger.proofs.Adding.{blocks_counted}
+use Rattle.lg_closings.proofs.Staying.{blocks_counted}
 use Rattle.lg_ledger.proofs.Parting.{parted}
 use Rattle.lg_image.specs.Image.{image_of}
 use Rattle.lg_verdict.specs.declared.place.Place.TheVariants as at

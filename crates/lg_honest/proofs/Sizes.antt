@@ -21,7 +21,7 @@ use Rattle.lg_ledger.specs.Blocks.{no_hash, block_of, record_hash, last_hash}
 use Rattle.lg_ledger.specs.Parts.{AreBlocksOf}
 use Rattle.lg_ledger.specs.Ledger.{Ledger, recorded, ledger_from, ledger_of, blocks_of}
 use Rattle.lg_ledger.proofs.Adding.{one_more}
-use Rattle.lg_ledger.proofs.Counting.{entries_counted, closed_counted}
+use Rattle.lg_closings.proofs.Counting.{entries_counted, closed_counted}
 use Rattle.lg_ledger.proofs.Parting.{parted}
 use Rattle.lg_image.specs.Image.{image_of}
 use Rattle.lg_verdict.specs.declared.place.Place.TheVariants as at

@@ -13,9 +13,9 @@ use Rattle.lg_history.specs.Journals.{blocks}
 use Rattle.lg_history.specs.Meaning.{Meaning}
 use Rattle.lg_invariants.proofs.Serials.{cut_legal}
 use Rattle.lg_spell.specs.Written.{GivesWritten}
-use Rattle.lg_ledger.specs.Digests.{digest_of}
+use Rattle.lg_closings.specs.Digests.{digest_of}
 use Rattle.lg_ledger.specs.Ledger.{block_hash}
-use Rattle.lg_ledger.proofs.Adding.{hash_stays}
+use Rattle.lg_closings.proofs.Staying.{hash_stays}
 use Rattle.lg_image.specs.Image.{image_of, image_of_cut}
 use Rattle.lg_image.specs.ImageBytes.{image_bytes, IsImage}
 use Rattle.lg_verdict.specs.declared.place.Verdict.TheVariants.{Yes}

@@ -12,7 +12,7 @@ ghost use Rattle.lg_history.specs.Journals.{blocks};
 ghost use Rattle.lg_history.specs.Meaning.{Meaning};
 ghost use Rattle.lg_parse.specs.Text.{statement_of};
 ghost use Rattle.lg_spell.specs.Written.{GivesWritten};
-ghost use Rattle.lg_ledger.specs.Digests.{digest_of};
+ghost use Rattle.lg_closings.specs.Digests.{digest_of};
 ghost use Rattle.lg_ledger.specs.Ledger.{block_hash};
 ghost use Rattle.lg_image.specs.Image.{image_of, image_of_cut};
 ghost use Rattle.lg_image.specs.ImageBytes.{image_bytes, IsImage};

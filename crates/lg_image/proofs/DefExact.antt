@@ -22,7 +22,7 @@ use Rattle.lg_row.proofs.TypeLaws.{FitsFields, type_exact, in_range_fits}
 use Rattle.lg_model.specs.Catalog.{Defs}
 use Rattle.lg_model.specs.Create.{is_long}
 use Rattle.lg_model.specs.SystemTables.{kind_code}
-use Rattle.lg_spell.specs.MayBeSpelled.{is_name_byte, is_proper_name, has_its_history}
+use Rattle.lg_model.specs.ProperNames.{is_name_byte, is_proper_name, has_its_history}
 use Rattle.lg_image.specs.DefBytes.{flag, column_bytes, IsColumn, index_bytes, IsIndex, columns_bytes, indexes_bytes, def_bytes, IsDef, defs_bytes}
 use Rattle.lg_image.specs.ImageReading.{flag_of, flag_at, name_at, column_type_at, column_of, column_at, index_of, index_at, kind_of, kind_at, Named, is_named, named_at, def_of, def_at, ids_are_users, defs_at}
 

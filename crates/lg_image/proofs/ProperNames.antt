@@ -11,7 +11,7 @@ use Rattle.std.proofs.lemmas.Str.Ascii.{IsAscii-nil, IsAscii-cons}
 use Rattle.lg_value.specs.declared.column.TableKind.{TableKind}
 use Rattle.lg_value.specs.declared.column.TableKind.TheVariants.{AppendOnly, Updatable}
 use Rattle.lg_model.specs.Create.{is_long}
-use Rattle.lg_spell.specs.MayBeSpelled.{is_name_byte, is_proper_name, has_its_history}
+use Rattle.lg_model.specs.ProperNames.{is_name_byte, is_proper_name, has_its_history}
 
 ascii : (bytes : List ℕ) → list_all is_name_byte bytes ≡ true → IsAscii bytes
 ascii [] e = IsAscii-nil

@@ -10,7 +10,7 @@ use Rattle.lg_types.specs.declared.table.TableDef.{TableDef}
 use Rattle.lg_row.specs.Leaf.{type_bytes}
 use Rattle.lg_model.specs.Catalog.{Defs}
 use Rattle.lg_model.specs.SystemTables.{kind_code}
-use Rattle.lg_spell.specs.MayBeSpelled.{is_proper_name, has_its_history}
+use Rattle.lg_model.specs.ProperNames.{is_proper_name, has_its_history}
 
 abbrev pub flag : Bool → ℕ
 flag b = if b then 1 else 0

@@ -24,7 +24,7 @@ use Rattle.lg_types.specs.declared.version.Version.{Version}
 use Rattle.lg_model.specs.Catalog.{Defs}
 use Rattle.lg_model.specs.Rows.{EventId}
 use Rattle.lg_model.specs.SystemTables.{tables_def, columns_def}
-use Rattle.lg_spell.specs.MayBeSpelled.{is_proper_name, has_its_history}
+use Rattle.lg_model.specs.ProperNames.{is_proper_name, has_its_history}
 use Rattle.lg_ledger.specs.Parts.{by_sizes}
 use Rattle.lg_image.specs.DefBytes.{ids_rise}
 use Rattle.lg_image.specs.ImageBytes.{sizes_of}

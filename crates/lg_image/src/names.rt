@@ -2,7 +2,7 @@
 
 ghost use Rattle.std.specs.Prelude.{◌≡◌};
 ghost use Rattle.std.specs.List.{list_all};
-ghost use Rattle.lg_spell.specs.MayBeSpelled.{is_name_byte, is_proper_name, has_its_history};
+ghost use Rattle.lg_model.specs.ProperNames.{is_name_byte, is_proper_name, has_its_history};
 
 use lg_value::TableKind;
 

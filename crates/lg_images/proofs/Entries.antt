@@ -25,7 +25,7 @@ use Rattle.lg_ledger.specs.Entries.{has_events, root_in, roots_of, entry_of, at_
 use Rattle.lg_ledger.specs.Ledger.{Ledger, commits, closes, recorded, ledger_from, empty_ledger}
 use Rattle.lg_ledger.specs.Parts.{AreBlocksOf}
 use Rattle.lg_ledger.proofs.Adding.{serial_more}
-use Rattle.lg_ledger.proofs.Roots.{legal_ids, roots_rise}
+use Rattle.lg_closings.proofs.Roots.{legal_ids, roots_rise}
 use Rattle.lg_image.specs.ImageBytes.{IsPlaceless}
 
 -- ---- parts of lists

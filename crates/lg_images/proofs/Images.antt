@@ -29,8 +29,8 @@ use Rattle.lg_spell.proofs.Journals.{legal_described as legal_formed, legal_ids,
 use Rattle.lg_spell.proofs.KeptByJournals.{legal_keeps}
 use Rattle.lg_ledger.specs.Blocks.{no_hash}
 use Rattle.lg_ledger.specs.Ledger.{Ledger, ledger_of, blocks_of, entries_of}
-use Rattle.lg_ledger.proofs.Adding.{blocks_counted}
-use Rattle.lg_ledger.proofs.Counting.{entries_counted}
+use Rattle.lg_closings.proofs.Staying.{blocks_counted}
+use Rattle.lg_closings.proofs.Counting.{entries_counted}
 use Rattle.lg_ledger.proofs.Parting.{parted, entries_by_size}
 use Rattle.lg_image.specs.DefBytes.{IsIndex, IsDef, ids_rise}
 use Rattle.lg_image.specs.Image.{user_defs, image_of}

@@ -14,7 +14,7 @@ use Rattle.lg_value.specs.declared.expr.Expr.{Expr}
 use Rattle.lg_value.specs.Conversion.{Converted, only_if, whole_to, number_to, day_or_mismatch, text_to, bytes_to, day_to, converted, conversion_of}
 use Rattle.lg_value.specs.Day.{day_of}
 use Rattle.lg_value.specs.Stored.{is_in_range, is_stored}
-use Rattle.lg_value.proofs.Conversions.{made_stored}
+use Rattle.lg_value.proofs.Storing.{made_stored}
 use Rattle.lg_types.specs.declared.version.Typed.{Typed}
 use Rattle.lg_types.specs.declared.version.Version.{Version}
 use Rattle.lg_model.specs.Refusals.{Checked, and_then}

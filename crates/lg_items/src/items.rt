@@ -1,6 +1,6 @@
 //! A `Vec` and a `Box` that contracts see as what they hold.
 
-ghost use Rattle.std.specs.Prelude.{◌≡◌, ◌↔◌, [], ◌∷◌, ◌++◌, ◌<◌, ◌≤◌, length, slice_get, slice_set, IsTrue, IfOk, OnOk, OnErr, OnSome, MatchOption};
+ghost use Rattle.std.specs.Prelude.{◌≡◌, ◌↔◌, [], ◌∷◌, ◌++◌, ◌<◌, ◌≤◌, length, slice_get, IsTrue, IfOk, OnOk, OnErr, OnSome, MatchOption};
 ghost use Rattle.std.specs.Option.{option_copied};
 ghost use Rattle.std.specs.List.{insert, remove};
 
@@ -121,14 +121,6 @@ impl<T: Drop> Items<T> {
         ensures rest { self.new ≡ remove self.old at }
     {
         self.items.remove(at)
-    }
-
-    /// Puts an item in the place of the one at `at`.
-    pub fn set(&mut self, at: usize, item: T)
-        requires { at < length self.old }
-        ensures { self.new ≡ slice_set self.old at item }
-    {
-        self.items[at] = item;
     }
 }
 

@@ -9,13 +9,10 @@ use Rattle.lg_model.specs.Catalog.{Tables}
 use Rattle.lg_model.specs.Journals.{after_item, serial_from, serial}
 use Rattle.lg_model.specs.Script.{Reading}
 use Rattle.lg_model.specs.SystemTables.{first_tables}
-use Rattle.lg_history.specs.Journals.{blocks}
-use Rattle.lg_history.specs.Real.{Hashing}
-use Rattle.lg_history.proofs.Grows.{blocks_append}
 use Rattle.lg_ledger.specs.Blocks.{hash_at}
-use Rattle.lg_ledger.specs.Ledger.{Ledger, empty_ledger, recorded, ledger_from, ledger_of, blocks_of, block_hash}
+use Rattle.lg_ledger.specs.Ledger.{Ledger, empty_ledger, recorded, ledger_from, ledger_of, blocks_of}
 
-hash_in_front : (h : List ℕ → List ℕ) (b : ℕ) (rs more : List BlockRecord) → b < length rs → hash_at h (rs ++ more) b ≡ hash_at h rs b
+pub hash_in_front : (h : List ℕ → List ℕ) (b : ℕ) (rs more : List BlockRecord) → b < length rs → hash_at h (rs ++ more) b ≡ hash_at h rs b
 hash_in_front h b [] more lt = absurd (omega arith)
 hash_in_front h zero (r ∷ rs) more lt = refl
 hash_in_front h (suc b) (r ∷ rs) more lt = hash_in_front h b rs more (omega arith)
@@ -50,10 +47,6 @@ module _ (h : List ℕ → List ℕ) where
       record { more_blocks = []; blocks = sym (append-nil l.blocks); more_closed = []; closed = sym (append-nil l.closed) }
   recorded_extends T (Close k) l = record { more_blocks = _; blocks = refl; more_closed = _; closed = refl }
 
-  recorded_blocks : (T : Tables) (i : JournalItem) (l : Ledger) → length (recorded h T i l).blocks ≡ length l.blocks + blocks (i ∷ [])
-  recorded_blocks T (Tx id session time opened lines) l = omega arith
-  recorded_blocks T (Close k) l = length-append l.blocks _
-
   module _ (reads : Reading) where
     pub from_append : (T : Tables) (l : Ledger) (J K : List JournalItem)
         → ledger_from h reads T l (J ++ K) ≡ ledger_from h reads (serial_from reads T J) (ledger_from h reads T l J) K
@@ -77,24 +70,3 @@ module _ (h : List ℕ → List ℕ) where
     more_extends J K =
         subst (λ (m : Ledger). Extends (ledger_of h reads J) m) (sym (from_append first_tables empty_ledger J K))
         (from_extends (serial_from reads first_tables J) (ledger_of h reads J) K)
-
-    from_blocks : (T : Tables) (l : Ledger) (J : List JournalItem) → length (ledger_from h reads T l J).blocks ≡ length l.blocks + blocks J
-    unfolding ledger_from
-    from_blocks T l [] = omega arith
-    from_blocks T l (i ∷ is) =
-        let after = after_item reads T i in
-        let one = recorded_blocks after i l in
-        let more = from_blocks after (recorded h after i l) is in
-        omega (arith, blocks_append (i ∷ []) is)
-
-    pub blocks_counted : (J : List JournalItem) → length (blocks_of h reads J) ≡ blocks J
-    blocks_counted J = from_blocks first_tables empty_ledger J ∙ omega arith
-
-    pub hash_stays : (J K : List JournalItem) (b : ℕ) → b < blocks J → block_hash h reads (J ++ K) b ≡ block_hash h reads J b
-    hash_stays J K b lt =
-        let e = more_extends J K in
-        ap (λ (rs : List BlockRecord). hash_at h rs b) e.blocks
-        ∙ hash_in_front h b (blocks_of h reads J) e.more_blocks (omega (arith, lt, blocks_counted J))
-
-    unfoldable pub hashing : Hashing
-    hashing = record { hash = block_hash h reads; stays = hash_stays }

@@ -1,5 +1,2 @@
 pub mod Adding
-pub mod Counting
-pub mod Digests
 pub mod Parting
-pub mod Roots

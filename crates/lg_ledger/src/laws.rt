@@ -1,22 +1,14 @@
 //! Laws of the entries and blocks of a journal.
 
-ghost use Rattle.std.specs.Prelude.{ℕ, ◌≡◌, ◌<◌, ◌+◌, Bool, true, List, [], ◌∷◌, ◌++◌, length, map};
-ghost use Rattle.lg_types.specs.declared.entry.BlockRecord.{BlockRecord};
-ghost use Rattle.lg_types.specs.declared.entry.TxEntry.{TxEntry};
+ghost use Rattle.std.specs.Prelude.{ℕ, ◌≡◌, Bool, List, [], ◌∷◌, ◌++◌, map};
 ghost use Rattle.lg_types.specs.declared.journal.JournalItem.{JournalItem};
 ghost use Rattle.lg_types.specs.declared.journal.JournalItem.TheVariants.{Tx, Close};
-ghost use Rattle.lg_model.specs.Journals.{Line, tx_count, closed, serial, IsLegal};
+ghost use Rattle.lg_model.specs.Journals.{Line, serial};
 ghost use Rattle.lg_model.specs.Script.{Reading};
-ghost use Rattle.lg_history.specs.Journals.{blocks};
-ghost use Rattle.lg_history.specs.Digests.{IsDigest};
-ghost use Rattle.lg_history.specs.Meaning.{Meaning};
-ghost use Rattle.lg_history.specs.Real.{Hashing};
-ghost use Rattle.lg_ledger.specs.Digests.{digest_of};
-ghost use Rattle.lg_entry.specs.Entry.{tables_rise};
-ghost use Rattle.lg_ledger.specs.Entries.{entry_of, placed};
-ghost use Rattle.lg_ledger.specs.Blocks.{no_hash, block_of, last_hash};
+ghost use Rattle.lg_ledger.specs.Entries.{entry_of};
+ghost use Rattle.lg_ledger.specs.Blocks.{no_hash};
 ghost use Rattle.lg_ledger.specs.Parts.{by_sizes, AreBlocksOf};
-ghost use Rattle.lg_ledger.specs.Ledger.{Ledger, commits, closes, ledger_of, blocks_of, entries_of, block_hash};
+ghost use Rattle.lg_ledger.specs.Ledger.{commits, closes, ledger_of, blocks_of, entries_of};
 
 /// A commit adds its entry, with the roots over the tables that it led to, to those that are pending; a
 /// closing makes a block of the first k that are pending, and the others are pending still, as the next
@@ -31,24 +23,6 @@ pub fn items_add_to_the_ledger()
         → ledger_of h reads (J ++ Close k ∷ []) ≡ closes h k (ledger_of h reads J) }
 {}
 
-/// A block that is closed stays, with its record, its hash and its entries, whatever comes behind it in the
-/// journal.
-pub fn closed_blocks_stay()
-    ensures blocks { (h : List ℕ → List ℕ) (reads : Reading) (J K : List JournalItem)
-        → (more : List BlockRecord) × (blocks_of h reads (J ++ K) ≡ blocks_of h reads J ++ more) }
-    ensures entries { (h : List ℕ → List ℕ) (reads : Reading) (J K : List JournalItem)
-        → (more : List TxEntry)
-        × ((ledger_of h reads (J ++ K)).closed ≡ (ledger_of h reads J).closed ++ more) }
-    ensures hash { (h : List ℕ → List ℕ) (reads : Reading) (J K : List JournalItem) (b : ℕ)
-        → b < blocks J → block_hash h reads (J ++ K) b ≡ block_hash h reads J b }
-{}
-
-/// So a history may hash blocks in this way, whatever the grammar and the hash.
-pub fn histories_may_hash_so()
-    ensures { (h : List ℕ → List ℕ) (reads : Reading)
-        → (hashing : Hashing) × ((J : List JournalItem) (b : ℕ) → hashing.hash J b ≡ block_hash h reads J b) }
-{}
-
 /// The entries that are in blocks fall into parts, one for each block: each record has its place as number,
 /// the tree hash and the count of its part, and the hash of the record before. Each entry stands at the place
 /// that the sizes of the blocks give it.
@@ -57,34 +31,4 @@ pub fn entries_fall_into_blocks()
         → AreBlocksOf h 0 no_hash (blocks_of h reads J) (ledger_of h reads J).closed }
     ensures places { (h : List ℕ → List ℕ) (reads : Reading) (J : List JournalItem)
         → entries_of h reads J ≡ by_sizes 0 (map (λ r. r.size) (blocks_of h reads J)) (entries_of h reads J) }
-{}
-
-/// There is a block for each closing and an entry for each transaction; of a legal journal so many are in
-/// blocks as its closings take.
-pub fn entries_and_blocks_are_counted()
-    ensures blocks { (h : List ℕ → List ℕ) (reads : Reading) (J : List JournalItem)
-        → length (blocks_of h reads J) ≡ blocks J }
-    ensures entries { (h : List ℕ → List ℕ) (reads : Reading) (J : List JournalItem)
-        → length (entries_of h reads J) ≡ tx_count J }
-    ensures closed { (h : List ℕ → List ℕ) (reads : Reading) (J : List JournalItem)
-        → IsLegal reads J → length (ledger_of h reads J).closed ≡ closed J }
-{}
-
-/// The entry of a legal journal's last transaction has a root, and the tables of its roots rise.
-pub fn roots_of_a_commit_rise()
-    ensures { (h : List ℕ → List ℕ) (reads : Reading) (J : List JournalItem) (id time : ℕ) (session : List ℕ)
-        (opened : Bool) (lines : List Line)
-        → IsLegal reads (J ++ Tx id session time opened lines ∷ [])
-        → tables_rise
-        (entry_of h (serial reads (J ++ Tx id session time opened lines ∷ [])) id session time).roots ≡ true }
-{}
-
-/// The digest of a closed block of a legal journal is one by the rules of histories: it has the database, the
-/// block's hash and the time of its last entry.
-pub fn digests_are_of_closed_blocks()
-    ensures { (h : List ℕ → List ℕ) (reads : Reading) (q : Meaning) (database : List ℕ) (J : List JournalItem)
-        (b made : ℕ)
-        → ((K : List JournalItem) (a : ℕ) → q.block_hash K a ≡ block_hash h reads K a)
-        → IsLegal reads J → b < blocks J
-        → IsDigest q database J (digest_of h reads database J b made) }
 {}

@@ -1,10 +1,6 @@
-//! The entries, blocks and digests to which a journal leads: definitions, and laws about them.
+//! The entries and blocks to which a journal leads: definitions, and laws about them.
 #![tactic(auto)]
 
 mod laws;
 
-pub use laws::{
-    closed_blocks_stay, digests_are_of_closed_blocks, entries_and_blocks_are_counted,
-    entries_fall_into_blocks, histories_may_hash_so, items_add_to_the_ledger,
-    roots_of_a_commit_rise,
-};
+pub use laws::{entries_fall_into_blocks, items_add_to_the_ledger};

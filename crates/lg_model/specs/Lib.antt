@@ -23,6 +23,7 @@ pub mod Operators
 pub mod Outcomes
 pub mod Parts
 pub mod Plans
+pub mod ProperNames
 pub mod Query
 pub mod Reach
 pub mod Refusals

@@ -29,7 +29,7 @@ use Rattle.lg_parse.specs.Row as r
 use Rattle.lg_parse.specs.Ledger as g
 use Rattle.lg_parse.specs.Table as b
 use Rattle.lg_parse.specs.Parsed.{IsName, IsSize, IsType, IsColumn, IsHistory, IsTable, Each, OneOrMore, Maybe}
-use Rattle.lg_value.proofs.Digits.{one_digit, small_digit}
+use Rattle.lg_scalar.proofs.Digits.{one_digit, small_digit}
 use Rattle.lg_parse.proofs.Kept.{AreSyms, Holds, Always, then_keeps, map_keeps, required_keeps, next_ok, after_ok, expect_keeps, if_keeps, name_keeps}
 use Rattle.lg_parse.proofs.KeptStmts.{name_list_keeps, always}
 

@@ -3,7 +3,7 @@ use Rattle.std.proofs.Common.{◌≡◌, ◌≤◌, ◌<◌, ◌^◌, ℕ, lengt
 use Rattle.std.specs.Fmt.{decimal}
 use Rattle.std.proofs.lemmas.Fmt.{length-decimal-le_wide}
 use Rattle.std.proofs.lemmas.Bool.{le-leb}
-use Rattle.lg_value.proofs.DigitTexts.{decimal_read}
+use Rattle.lg_scalar.proofs.DigitTexts.{decimal_read}
 use Rattle.lg_parse.specs.Table.{digits_of}
 use Rattle.lg_parse.specs.Parsed.{IsSize}
 

@@ -6,7 +6,8 @@ ghost use Rattle.lg_parse.specs.Parsed.{IsParsed};
 ghost use Rattle.lg_parse.specs.PrintedStmt.{printed};
 ghost use Rattle.lg_parse.specs.Text.{statement_of};
 
-use lg_value::{expressions_are_trees, literals_are_read_back};
+use lg_scalar::literals_are_read_back;
+use lg_value::expressions_are_trees;
 
 /// What is printed of a statement that parsing can give is parsed as that statement. Parsing gives statements
 /// that keep to `IsParsed` alone, and of each of these the same holds.

@@ -11,7 +11,8 @@ use crate::ParseErr;
 use crate::cursor::Cursor;
 use crate::tag::Tag;
 use lg_items::Name;
-use lg_value::{Expr, LitErr, Value, literals_are_read_back, read_literal};
+use lg_scalar::{literals_are_read_back, read_literal};
+use lg_value::{Expr, LitErr, Value};
 use std::alloc::Global;
 
 fn after_open(text: &str) -> Option<&str>

@@ -8,7 +8,8 @@ ghost use Rattle.lg_parse.specs.Printed as printed;
 use crate::tag::Tag;
 use itoa::Buffer;
 use lg_items::{Memory, Name};
-use lg_value::{Value, print_literal};
+use lg_scalar::print_literal;
+use lg_value::Value;
 use std::alloc::Global;
 use std::marker::Model;
 

@@ -10,8 +10,9 @@ ghost use Rattle.lg_parts.specs.Fixed.{fixed_in};
 use crate::keyed::Keyed;
 use crate::keys::key_columns;
 use lg_items::{Items, Memory, Name};
+use lg_scalar::to_column;
 use lg_types::Key;
-use lg_value::{ColumnDef, Expr, Op, Value, ValueErr, compare, to_column};
+use lg_value::{ColumnDef, Expr, Op, Value, ValueErr, compare};
 use std::alloc::Global;
 
 /// Whether conversion left a value as it was; a text that is a date is its day.

@@ -16,9 +16,9 @@ use lg_types::{EventId, Key, Part, Row, Version};
 use lg_value::Value;
 use std::alloc::Global;
 
-/// The rows of a part of a table, in its order: the versions that stand by key, those that ended by their
-/// start, and for the view one row for each start and each end by its event. Where a base table's key is
-/// fixed, the one row with that key. Each version is copied at most twice, and the rows are sorted once.
+/// The rows of a part of a table: the versions that stand by key, those that ended as they are listed, and
+/// for the view one row for each start and each end by its event. Where a base table's key is fixed, the
+/// rows with that key alone.
 #[tactic(auto, unfolding(lg_model::specs::Parts::rows_of))]
 pub fn part_rows(
     alloc: Global,
@@ -37,7 +37,7 @@ pub fn part_rows(
     }
 }
 
-/// A version that stands, with its start.
+/// The values of a version, with its start.
 pub fn base_row(alloc: Global, version: &Version) -> Result<Row, Memory>
     ensures { IfOk result (λ row. row ≡ spec.base_row version.now) }
 {
@@ -48,7 +48,7 @@ pub fn base_row(alloc: Global, version: &Version) -> Result<Row, Memory>
     Ok(Items::from_vec(row))
 }
 
-/// A version that ended, with its start and its end.
+/// The values of a version, with its start and this end.
 pub fn history_row(alloc: Global, version: &Version, end: EventId) -> Result<Row, Memory>
     ensures { IfOk result (λ row. row ≡ spec.history_row version.now end) }
 {

@@ -17,8 +17,8 @@ use lg_value::{Expr, Refusal};
 use std::alloc::Global;
 
 /// What a SELECT shows of a part of a table, where its versions that stand are found as `versions` finds
-/// them: of a base table those of the key that the condition fixes are read, or else all, and only what the
-/// condition takes is copied. Refused as `select` refuses.
+/// them: of a base table those of the key that the condition fixes, or else all. Refused as `query_rows`
+/// of `lg_model` refuses, or for want of memory.
 #[tactic(auto, unfolding(lg_model::specs::Effect::query_rows, lg_model::specs::Query::selected))]
 pub fn query_rows<R: StandingRows>(
     alloc: Global,

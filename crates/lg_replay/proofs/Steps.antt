@@ -29,8 +29,8 @@ use Rattle.lg_ledger.specs.Entries.{entry_of}
 use Rattle.lg_ledger.specs.Blocks.{no_hash, last_hash}
 use Rattle.lg_ledger.specs.Ledger.{Ledger, empty_ledger, ledger_from, ledger_of, commits, closes}
 use Rattle.lg_ledger.proofs.Adding.{serial_more, one_more}
-use Rattle.lg_ledger.proofs.Counting.{entries_counted, closed_counted}
-use Rattle.lg_ledger.proofs.Roots.{legal_ids, roots_rise}
+use Rattle.lg_closings.proofs.Counting.{entries_counted, closed_counted}
+use Rattle.lg_closings.proofs.Roots.{legal_ids, roots_rise}
 use Rattle.lg_blocks.specs.Books.{HashedLedger, KeepsHash}
 use Rattle.lg_image.specs.Image.{image_of}
 use Rattle.lg_images.proofs.Entries.{roots_are, few_roots}

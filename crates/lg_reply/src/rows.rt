@@ -7,8 +7,9 @@ ghost use Rattle.lg_reply.specs.Lines.{behind_bars, line_of, lines_of};
 
 use crate::utf8::shows_utf8;
 use lg_items::Memory;
+use lg_scalar::print;
 use lg_types::Row;
-use lg_value::{Value, print};
+use lg_value::Value;
 use std::alloc::Global;
 
 /// Appends a value as it is shown. What `scratch` holds is lost.

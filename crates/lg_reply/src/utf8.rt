@@ -4,7 +4,8 @@ ghost use Rattle.std.specs.Prelude.{IsUtf8};
 ghost use Rattle.lg_value.specs.declared.value.Value.TheVariants.{Date, Num};
 ghost use Rattle.lg_value.specs.Printed.{printed};
 
-use lg_value::{Value, days_are_read_back};
+use lg_scalar::days_are_read_back;
+use lg_value::Value;
 
 /// What a number shows is UTF-8. Does nothing.
 fn number_shows_utf8(v: i128, s: u8)

@@ -2,7 +2,7 @@
 
 ghost use Rattle.std.specs.Prelude.{◌≡◌, ◌<◌, Some, IfOk, IfSome};
 ghost use Rattle.lg_bytes.specs.Readers.{times};
-ghost use Rattle.lg_bytes.specs.Reading.{ReadsAs};
+ghost use Rattle.lg_bytes.specs.Reading.{Finds, ReadsAs};
 ghost use Rattle.lg_types.specs.declared.event.Event.{Event};
 ghost use Rattle.lg_row.specs.Leaf.{IsEvent, event_bytes, ordinals_rise, second_parameter};
 ghost use Rattle.lg_row.specs.LeafReading.{event_at, start_at, columns_at, column_at, type_at, coded};
@@ -10,8 +10,9 @@ ghost use Rattle.lg_row.specs.LeafReading.{event_at, start_at, columns_at, colum
 use crate::value_reading::value_of;
 use lg_bytes::{ReadError, literal, long_at, u8_at, u16_at, u32_at, u64_at, whole};
 use lg_items::{Items, Memory};
+use lg_scalar::fits;
 use lg_types::{Event, FieldOf};
-use lg_value::{SqlType, fits, type_parts};
+use lg_value::{SqlType, type_parts};
 use std::alloc::Global;
 
 /// The event whose leaf these bytes are, all of them, or None exactly where they are no leaf.
@@ -118,10 +119,11 @@ fn column_at(alloc: Global, bytes: &[u8]) -> Result<(FieldOf, &[u8]), ReadError>
     Ok((FieldOf { ordinal, ty, value }, rest))
 }
 
-/// The type at the front of the bytes, and what follows it. Its parameters may be out of its ranges.
+/// The type at the front of the bytes, and what follows it, or `Malformed` exactly where none is there. Its
+/// parameters may be out of its ranges. Takes no memory.
 #[tactic(auto, unfolding(crate::specs::LeafReading::type_at))]
 pub fn type_at(bytes: &[u8]) -> Result<(SqlType, &[u8]), ReadError>
-    ensures reads { ReadsAs (λ x. (x.0, x.1.now)) result (type_at bytes.now) }
+    ensures reads { Finds (λ x. (x.0, x.1.now)) result (type_at bytes.now) }
     ensures small { IfOk result (λ x. second_parameter x.0 < 256) }
 {
     let (code, rest) = u8_at(bytes)?;

@@ -9,8 +9,8 @@ use crate::reading::type_at;
 use crate::value_reading::value_of;
 use lg_bytes::{ReadError, long_at};
 use lg_items::Memory;
+use lg_scalar::fits;
 use lg_types::Typed;
-use lg_value::fits;
 use std::alloc::Global;
 
 /// Appends a value with its type. After want of memory what stood first still does.

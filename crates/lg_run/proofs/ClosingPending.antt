@@ -6,7 +6,7 @@ use lib.ListN.{get_elem?}
 use Rattle.lg_model.specs.Script.{Reading}
 use Rattle.lg_seat.specs.Full.{ClosesPending}
 use Rattle.lg_seat.specs.KeptCell.{KeptCell, Keeps}
-use Rattle.lg_server.specs.Serves.{Serves}
+use Rattle.lg_standing.specs.Serves.{Serves}
 use Rattle.lg_standing.specs.Alone.{none}
 use Rattle.lg_standing.specs.Cells.{Cell, Catalog, Ledger, Rows, ledger_at}
 use Rattle.lg_standing.specs.LedgerVisits.{next_block}

@@ -20,7 +20,7 @@ use Rattle.lg_world.specs.Laws.{visits_keep}
 use Rattle.lg_world.specs.Served.{Served, StandsOn}
 use Rattle.lg_core.specs.Standing.{pending_found}
 use Rattle.lg_core.proofs.Pairs.{seen_at}
-use Rattle.lg_core.proofs.Servers.{some_server}
+use Rattle.lg_server.proofs.Servers.{some_server}
 use Rattle.lg_run.specs.Closing.{pending_there, ClosesThere, HasLedger, StandBeside, StillStand}
 use Rattle.lg_run.proofs.ClosingPending.{kept_there, may_close}
 

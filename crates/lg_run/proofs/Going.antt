@@ -5,12 +5,12 @@ use Rattle.lg_history.specs.Lists.{Text, Each}
 use Rattle.lg_history.specs.Transcripts.{Entry, EndLine, statements}
 use Rattle.lg_parse.specs.Text.{statement_of}
 use Rattle.lg_transcript.specs.TranscriptText.{entry_text}
-use Rattle.lg_server.specs.Serves.{Serves}
+use Rattle.lg_standing.specs.Serves.{Serves}
 use Rattle.lg_standing.specs.Alone.{none, more, new_session}
 use Rattle.lg_standing.specs.Moves as law
 use Rattle.lg_standing.specs.Seats.{KeptImage, OpenTransaction, Role, Session, SeatState}
 use Rattle.lg_standing.specs.Server.{Server}
-use Rattle.lg_step.specs.Moments.{IsMoment}
+use Rattle.lg_output.specs.Moments.{IsMoment}
 use Rattle.lg_seat.specs.Points.{IsAnswering, IsAnsweringAt, IsBetween, IsBetweenAt, IsUnderWay, IsUnderWayAt}
 use Rattle.lg_seat.specs.Rest.{FinishesBy, IsFinishing}
 use Rattle.lg_seat.specs.Sits.{Runs}

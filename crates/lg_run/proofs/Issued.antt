@@ -17,7 +17,7 @@ use Rattle.lg_history.proofs.Trace.{each_append, each_weaker}
 use Rattle.lg_image.specs.Image.{image_of, image_of_cut}
 use Rattle.lg_image.specs.ImageBytes.{image_bytes}
 use Rattle.lg_images.specs.Room.{HasRoom}
-use Rattle.lg_ledger.specs.Digests.{digest_of}
+use Rattle.lg_closings.specs.Digests.{digest_of}
 use Rattle.lg_ledger.specs.Ledger.{block_hash}
 use Rattle.lg_parse.specs.Text.{statement_of}
 use Rattle.lg_verdict.specs.declared.place.Verdict.TheVariants.{Yes}
@@ -32,11 +32,11 @@ use Rattle.lg_standing.proofs.LedgerNumbers.{blocks_are, pending_are}
 use Rattle.lg_book.specs.Issues.{IsIssued}
 use Rattle.lg_book.specs.declared.cell.Issued.{Issued}
 use Rattle.lg_book.proofs.Closings.{none_closed}
-use Rattle.lg_server.specs.Serves.{Serves}
+use Rattle.lg_standing.specs.Serves.{Serves}
 use Rattle.lg_digest.specs.Writing.{HasMoments}
-use Rattle.lg_step.specs.Moments.{IsMoment}
-use Rattle.lg_step.proofs.Made.{have_moments}
-use Rattle.lg_kept.specs.LastImage.{last_image_bytes}
+use Rattle.lg_output.specs.Moments.{IsMoment}
+use Rattle.lg_output.proofs.Made.{have_moments}
+use Rattle.lg_together.specs.CameTo.{last_image_bytes}
 use Rattle.lg_run.specs.CameTo.{AreLast, IsLast}
 use Rattle.lg_run.specs.Closing.{IssuesLast}
 

@@ -5,12 +5,10 @@ use Rattle.std.specs.Str.{bytes_eq}
 use Rattle.lg_items.specs.DatabaseName.{is_database_name}
 use Rattle.lg_items.specs.SessionName.{is_session_name}
 use Rattle.lg_types.specs.declared.digest.Digest.{Digest}
-use Rattle.lg_types.specs.declared.image.Image.{Image}
 use Rattle.lg_types.specs.declared.journal.Journal.{Journal}
 use Rattle.lg_types.specs.declared.journal.JournalItem.{JournalItem}
 use Rattle.lg_model.specs.Journals.{closed, tx_count}
 use Rattle.lg_model.specs.LegalJournals.{IsLegalJournal}
-use Rattle.lg_model.specs.Script.{Reading}
 use Rattle.lg_history.specs.Inputs.{InputSession}
 use Rattle.lg_history.specs.Journals.{times}
 use Rattle.lg_history.specs.Lists.{Text, Each}
@@ -32,27 +30,25 @@ use Rattle.lg_standing.specs.JournalForms.{journal_in}
 use Rattle.lg_standing.specs.Reordered.{NamesApart}
 use Rattle.lg_standing.specs.Seats.{KeptImage, Written}
 use Rattle.lg_standing.specs.StandTogether.{Stands}
-use Rattle.lg_server.specs.Serves.{Serves}
-use Rattle.lg_server.proofs.CellsShow.{same_image}
+use Rattle.lg_standing.specs.Serves.{Serves}
+use Rattle.lg_course.proofs.SameNames.{names_apart}
 use Rattle.lg_course.specs.Told.{IsImageOf}
 use Rattle.lg_course.specs.Wrote.{transcripts_in}
 use Rattle.lg_course.proofs.Told.{some_meaning}
-use Rattle.lg_joined.specs.Together.{session_in}
 use Rattle.lg_seat.specs.Images.{CellsStand}
+use Rattle.lg_seat.proofs.AllCells.{bytes_are_the_journals}
 use Rattle.lg_world.specs.Laws.{one_ledger}
 use Rattle.lg_world.specs.Served.{IsOf as IsOfDatabase, Served}
-use Rattle.lg_step.specs.Images.{AreKept, with_each}
-use Rattle.lg_step.specs.Moments.{IsMoment}
-use Rattle.lg_step.specs.Woven.{joined, joined_each}
-use Rattle.lg_step.specs.declared.running.Ran.{Ran}
-use Rattle.lg_step.proofs.Comes.{moment_is, names_apart}
-use Rattle.lg_step.proofs.Kept.{are_kept}
-use Rattle.lg_step.proofs.Made.{have_moments}
-use Rattle.lg_step.proofs.Named.{each_from_all}
-use Rattle.lg_kept.specs.LastImage.{last_image_bytes}
+use Rattle.lg_output.specs.Images.{AreKept, with_each}
+use Rattle.lg_output.specs.Moments.{IsMoment}
+use Rattle.lg_output.specs.Joined.{joined, joined_each}
+use Rattle.lg_output.specs.declared.ran.Ran.{Ran}
+use Rattle.lg_output.proofs.Kept.{are_kept}
+use Rattle.lg_output.proofs.Made.{have_moments, moment_is}
+use Rattle.lg_output.proofs.Each.{each_from_all}
 use Rattle.lg_together.specs.CameTo as together
-use Rattle.lg_together.specs.CameTo.{Left}
-use Rattle.lg_together.specs.Threads.{HasJoined}
+use Rattle.lg_together.specs.CameTo.{Left, last_image_bytes}
+use Rattle.lg_together.specs.Threads.{HasJoined, session_in}
 use Rattle.lg_verdict.specs.declared.place.Verdict.TheVariants.{Yes}
 use Rattle.lg_verdict.specs.Bytes.{verdict_of}
 use Rattle.lg_honest.specs.Held.{held}
@@ -214,9 +210,7 @@ module _ (h : List ℕ → List ℕ) (sized : (bytes : List ℕ) → length (h b
     images_of_all = saved.images ∙ ap₂ (λ (x : List KeptImage) (xs : List (List KeptImage)). with_each (x ∷ xs)) fin.setup_is.images (images_are says plan.sessions.items f.ends.items fin.rest fin.are)
 
     image_is : r.image ≡ last_image_bytes h r.journal
-    image_is = saved.bytes st.catalog st.ledger st.are_cells
-        ∙ ap (λ (i : Image). image_bytes i) (same_image d.server fin.stands.together.history cells fin.seats st)
-        ∙ ap₂ (λ (g : List ℕ → List ℕ) (reads : Reading). image_bytes (image_of g reads st.ledger.database st.ledger.items)) serves.hash serves.reading
+    image_is = bytes_are_the_journals h d.server serves fin.stands.together.history fin.seats f.cells.items st r.image saved.bytes
         ∙ ap (λ (k : LedgerCell). image_bytes (image_of h statement_of k.database k.items)) same_ledger
         ∙ ap (λ (J : Journal). last_image_bytes h J) (sym the_journal)
 

@@ -5,11 +5,11 @@ use Rattle.lg_history.specs.Lists.{Text, Each}
 use Rattle.lg_history.specs.Transcripts.{Entry, EndLine, statements}
 use Rattle.lg_parse.specs.Text.{statement_of}
 use Rattle.lg_transcript.specs.TranscriptText.{entry_text}
-use Rattle.lg_server.specs.Serves.{Serves}
+use Rattle.lg_standing.specs.Serves.{Serves}
 use Rattle.lg_standing.specs.Alone.{more}
 use Rattle.lg_standing.specs.Seats.{KeptImage, Session, SeatState, Written}
 use Rattle.lg_standing.specs.Server.{Server}
-use Rattle.lg_step.specs.Moments.{IsMoment}
+use Rattle.lg_output.specs.Moments.{IsMoment}
 use Rattle.lg_seat.specs.Rest.{MayEnd, MayEndAt}
 use Rattle.lg_seat.specs.Steps.{Ends, end_of, images_kept, last_entries}
 use Rattle.lg_seat.specs.declared.running.Running.{Running}

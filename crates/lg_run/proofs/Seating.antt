@@ -9,7 +9,7 @@ use Rattle.lg_transcript.specs.TranscriptText.{entry_text}
 use Rattle.lg_standing.specs.Alone.{none}
 use Rattle.lg_standing.specs.Server.{Server}
 use Rattle.lg_standing.specs.Seats.{KeptImage, Role, Session, SeatState, Written}
-use Rattle.lg_step.specs.Moments.{IsMoment}
+use Rattle.lg_output.specs.Moments.{IsMoment}
 use Rattle.lg_seat.specs.Points.{IsBetweenAt, IsInsideAt, IsLeavingAt, StaysBy}
 use Rattle.lg_seat.specs.Sits.{Sits}
 use Rattle.lg_seat.specs.Steps.{images_kept}

@@ -7,7 +7,7 @@ use Rattle.lg_plan.specs.Plan as plan
 use Rattle.lg_plan.specs.Plan.{plan_view, section_view, session_names, size_of}
 use Rattle.lg_plan.specs.declared.plan.Plan.{Plan}
 use Rattle.lg_plan.specs.declared.section.Section.{Section}
-use Rattle.lg_step.proofs.Joins.{one_more}
+use Rattle.lg_output.proofs.Joins.{one_more}
 use Rattle.lg_run.specs.Finished.{AreRunnable}
 
 -- the sessions and their statements together

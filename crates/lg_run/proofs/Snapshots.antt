@@ -6,11 +6,11 @@ use Rattle.lg_board.specs.Outs as board
 use Rattle.std.specs.Prelude.{slice_index_or}
 use Rattle.lg_history.specs.Lists.{Text, In}
 use Rattle.lg_parse.specs.Text.{statement_of}
-use Rattle.lg_server.specs.Serves.{Serves}
+use Rattle.lg_standing.specs.Serves.{Serves}
 use Rattle.lg_standing.specs.Cells.{Cell, cell_count}
 use Rattle.lg_standing.specs.May.{May}
 use Rattle.lg_standing.specs.Seats.{KeptImage, SeatState}
-use Rattle.lg_step.specs.Moments.{IsMoment}
+use Rattle.lg_output.specs.Moments.{IsMoment}
 use Rattle.lg_world.specs.Laws.{outs_are_seen}
 use Rattle.lg_world.specs.Served.{Served, MayVisit, StandsOn, outs_seen}
 use Rattle.lg_seat.specs.KeptCell.{KeptCell, Keeps}

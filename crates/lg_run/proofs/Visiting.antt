@@ -7,14 +7,14 @@ use Rattle.lg_history.specs.Lists.{Text}
 use Rattle.lg_history.specs.Transcripts.{Entry, statements}
 use Rattle.lg_history.proofs.Trace.{each_weaker}
 use Rattle.lg_parse.specs.Text.{statement_of}
-use Rattle.lg_server.specs.Serves.{Serves}
+use Rattle.lg_standing.specs.Serves.{Serves}
 use Rattle.lg_standing.specs.Alone.{none}
 use Rattle.lg_standing.specs.Cells.{cell_count}
 use Rattle.lg_standing.specs.Seats.{KeptImage, SeatState}
 use Rattle.lg_standing.specs.StandTogether.{StandTogether}
 use Rattle.lg_standing.specs.Visits.{nothing}
 use Rattle.lg_standing.proofs.Places.{set_here}
-use Rattle.lg_step.specs.Moments.{IsMoment}
+use Rattle.lg_output.specs.Moments.{IsMoment}
 use Rattle.lg_world.specs.Laws.{seen_at}
 use Rattle.lg_world.specs.Served.{Served, MayVisit, StandsOn}
 use Rattle.lg_world.proofs.Unchanged.{each_there}

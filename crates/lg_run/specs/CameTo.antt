@@ -11,18 +11,17 @@ use Rattle.lg_history.specs.Lists.{Text}
 use Rattle.lg_history.specs.Transcripts.{Transcript}
 use Rattle.lg_journal.specs.Rules.{IsJournal}
 use Rattle.lg_images.specs.Room.{HasRoom}
-use Rattle.lg_ledger.specs.Digests.{digest_of}
+use Rattle.lg_closings.specs.Digests.{digest_of}
 use Rattle.lg_verdict.specs.declared.place.Verdict.TheVariants.{Yes}
 use Rattle.lg_verdict.specs.Bytes.{verdict_of}
 use Rattle.lg_honest.specs.Held.{held}
-use Rattle.lg_kept.specs.LastImage.{last_image_bytes}
 use Rattle.lg_parse.specs.Text.{statement_of}
 use Rattle.lg_plan.specs.Plan.{Plan, Section}
-use Rattle.lg_step.specs.Images.{AreKept}
-use Rattle.lg_step.specs.Moments.{IsMoment}
-use Rattle.lg_step.specs.declared.running.Ran.{Ran}
+use Rattle.lg_output.specs.Images.{AreKept}
+use Rattle.lg_output.specs.Moments.{IsMoment}
+use Rattle.lg_output.specs.declared.ran.Ran.{Ran}
 use Rattle.lg_together.specs.CameTo as together
-use Rattle.lg_together.specs.CameTo.{Left}
+use Rattle.lg_together.specs.CameTo.{Left, last_image_bytes}
 use Rattle.lg_transcript.specs.TranscriptText.{transcript_text}
 use Rattle.lg_run.specs.Finished.{setup_name}
 

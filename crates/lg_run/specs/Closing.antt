@@ -9,7 +9,7 @@ use Rattle.lg_standing.specs.Cells.{LedgerCell, ledger_at}
 use Rattle.lg_standing.specs.Seats.{SeatState}
 use Rattle.lg_book.specs.Issues.{IsIssued}
 use Rattle.lg_book.specs.declared.cell.Issued.{Issued}
-use Rattle.lg_server.specs.Serves.{Serves}
+use Rattle.lg_standing.specs.Serves.{Serves}
 use Rattle.lg_seat.specs.Full.{ClosesPending, IsLedger}
 use Rattle.lg_seat.specs.KeptCell.{KeptCell, Keeps}
 use Rattle.lg_seat.specs.Told.{pending_of, size_of}

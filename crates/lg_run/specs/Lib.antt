@@ -1,3 +1,4 @@
+pub mod Agreed
 pub mod CameTo
 pub mod Closing
 pub mod Finished

@@ -6,9 +6,9 @@ use Rattle.lg_types.specs.declared.digest.Digest.{Digest}
 use Rattle.lg_seat.specs.Images.{AreImageBytes, CellsStand, JournalHasRoom}
 use Rattle.lg_seat.specs.KeptCell.{ledger_seen}
 use Rattle.lg_standing.specs.Cells.{Ledger, LedgerCell, ledger_at}
-use Rattle.lg_step.specs.Images.{with_each}
-use Rattle.lg_step.specs.Woven.{joined_each}
-use Rattle.lg_step.specs.declared.running.Ran.{Ran}
+use Rattle.lg_output.specs.Images.{with_each}
+use Rattle.lg_output.specs.Joined.{joined_each}
+use Rattle.lg_output.specs.declared.ran.Ran.{Ran}
 use Rattle.lg_run.specs.Closing.{IssuesLast}
 use Rattle.lg_run.specs.declared.leaving.Leaving.{Leaving}
 use Rattle.lg_run.specs.declared.whole.Finished.{Finished}

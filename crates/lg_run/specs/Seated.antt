@@ -13,7 +13,7 @@ use Rattle.lg_seat.specs.Steps.{images_kept}
 use Rattle.lg_seat.specs.declared.seat.Seat.{Seat}
 use Rattle.lg_seat.specs.declared.stage.Point.{Point}
 use Rattle.lg_seat.specs.declared.stage.Point.TheVariants.{Inside}
-use Rattle.lg_step.specs.Moments.{IsMoment, said_with}
+use Rattle.lg_output.specs.Moments.{IsMoment, said_with}
 use Rattle.lg_run.specs.declared.worker.Job.{Job}
 use Rattle.lg_run.specs.declared.worker.Worker.{Worker}
 

@@ -7,7 +7,7 @@ use Rattle.lg_standing.specs.Alone.{Alones}
 use Rattle.lg_standing.specs.Seats.{idle, IsAtRest, SeatState, Written}
 use Rattle.lg_standing.specs.Server.{Server}
 use Rattle.lg_plan.specs.declared.section.Section.{Section}
-use Rattle.lg_step.specs.Moments.{IsMoment}
+use Rattle.lg_output.specs.Moments.{IsMoment}
 use Rattle.lg_run.specs.Seated.{known_by, says_in, texts_in}
 use Rattle.lg_run.specs.declared.worker.SessionEnd.{SessionEnd}
 use Rattle.lg_run.specs.declared.worker.Worker.{Worker}

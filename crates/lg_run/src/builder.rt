@@ -3,7 +3,7 @@
 ghost use Rattle.std.specs.Prelude.{◌≡◌, ◌≤◌, ◌^◌, []};
 ghost use Rattle.lg_board.specs.Boards.{board_cells, seat_state, seat_parts, seat_out, IsSeatOf, IsSameSeat};
 ghost use Rattle.lg_parse.specs.Text.{statement_of};
-ghost use Rattle.lg_server.specs.Serves.{Serves};
+ghost use Rattle.lg_standing.specs.Serves.{Serves};
 ghost use Rattle.lg_standing.specs.Cells.{cell_count};
 
 use crate::shared::{Cells, LEDGER, Place};

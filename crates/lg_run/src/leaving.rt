@@ -2,8 +2,8 @@
 
 ghost use Rattle.std.specs.Prelude.{◌≡◌, ◌≤◌, ◌++◌, ◌∷◌, ◌^◌, map, string_bytes, IfOk, OnOk};
 ghost use Rattle.std.specs.List.{fold};
-ghost use Rattle.lg_step.specs.Images.{with_each, with_images};
-ghost use Rattle.lg_step.specs.Woven.{joined, joined_each};
+ghost use Rattle.lg_output.specs.Images.{with_each, with_images};
+ghost use Rattle.lg_output.specs.Joined.{joined_each};
 ghost use Rattle.lg_seat.specs.Images.{CellsStand};
 ghost use Rattle.lg_run.specs.Closing.{HasLedger, pending_there};
 ghost use Rattle.lg_run.specs.Saved.{HasIssued, HasSaved, IsLeaving, ran_of};
@@ -15,19 +15,9 @@ use crate::worker::SessionEnd;
 use lg_book::LedgerCell;
 use lg_items::{Blob, Items, Memory, Text};
 use lg_merkle::Hash32;
+use lg_output::{Ran, add_images, push_texts};
 use lg_seat::image_bytes_of;
-use lg_step::{Ran, add_images};
 use std::alloc::Global;
-
-/// Appends texts one behind the other.
-fn push_texts(texts: &[Text], out: &mut String) -> Result<(), Memory>
-    ensures { OnOk result (string_bytes out.new ≡ string_bytes out.old ++ joined texts.now) }
-{
-    for text in texts {
-        out.push_str(text.as_str())?;
-    }
-    Ok(())
-}
 
 /// Appends the entries of sessions, one session behind the other.
 fn push_ends(ends: &[SessionEnd], out: &mut String) -> Result<(), Memory>

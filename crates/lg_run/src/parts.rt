@@ -4,10 +4,10 @@ ghost use Rattle.std.specs.Prelude.{◌≡◌, ◌+◌, ◌++◌, ◌∷◌, ◌
 ghost use Rattle.std.specs.Thread.{IsSend, IsSync};
 ghost use Rattle.lg_board.specs.Boards.{board_cells, seat_state, seat_parts, seat_out, IsSeatOf, IsSameSeat};
 ghost use Rattle.lg_parse.specs.Text.{statement_of};
-ghost use Rattle.lg_server.specs.Serves.{Serves};
+ghost use Rattle.lg_standing.specs.Serves.{Serves};
 ghost use Rattle.lg_standing.specs.Cells.{cell_count};
 ghost use Rattle.lg_standing.specs.Seats.{IsAtRest};
-ghost use Rattle.lg_step.specs.Moments.{said_with};
+ghost use Rattle.lg_output.specs.Moments.{said_with};
 ghost use Rattle.lg_run.specs.Finished.{AreRunnable, AreUnited};
 ghost use Rattle.lg_run.specs.Seated.{IsIdle};
 ghost use Rattle.lg_run.specs.Wrote.{HaveWritten};

@@ -5,7 +5,7 @@ ghost use Rattle.lg_board.specs.Boards.{board_cells, seat_state, seat_parts, sea
 ghost use Rattle.lg_items.specs.SessionName.{is_session_name};
 ghost use Rattle.lg_parse.specs.Text.{statement_of};
 ghost use Rattle.lg_seat.specs.Points.{IsBetween};
-ghost use Rattle.lg_server.specs.Serves.{Serves};
+ghost use Rattle.lg_standing.specs.Serves.{Serves};
 ghost use Rattle.lg_standing.specs.Cells.{cell_count};
 ghost use Rattle.lg_run.specs.Seated.{known_by, says_in, texts_in, IsAhead, IsIdle, StillKnows};
 ghost use Rattle.lg_run.specs.Wrote.{HasWritten, left_of};

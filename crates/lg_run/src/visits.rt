@@ -7,7 +7,7 @@ ghost use Rattle.lg_parse.specs.Text.{statement_of};
 ghost use Rattle.lg_seat.specs.Needs.{need_of};
 ghost use Rattle.lg_seat.specs.Points.{Stays};
 ghost use Rattle.lg_seat.specs.declared.need.Need.TheVariants as need;
-ghost use Rattle.lg_server.specs.Serves.{Serves};
+ghost use Rattle.lg_standing.specs.Serves.{Serves};
 ghost use Rattle.lg_standing.specs.Cells.{cell_count};
 ghost use Rattle.lg_run.specs.Seated.{IsAhead, StillKnows};
 

@@ -9,7 +9,7 @@ ghost use Rattle.lg_seat.specs.Needs.{need_of};
 ghost use Rattle.lg_seat.specs.Points.{IsAnswering, IsBetween, IsUnderWay};
 ghost use Rattle.lg_seat.specs.Rest.{IsFinishing, MayEnd};
 ghost use Rattle.lg_seat.specs.declared.need.Need.TheVariants.{Done};
-ghost use Rattle.lg_server.specs.Serves.{Serves};
+ghost use Rattle.lg_standing.specs.Serves.{Serves};
 ghost use Rattle.lg_standing.specs.Seats.{SeatState};
 ghost use Rattle.lg_standing.specs.Server.{Server};
 ghost use Rattle.lg_run.specs.Seated.{IsAhead, IsIdle, texts_in};
@@ -19,7 +19,7 @@ use lg_base::Clock;
 use lg_core::{Session, new_session};
 use lg_items::{Blob, Items, Memory, Name, Text};
 use lg_merkle::Hash32;
-use lg_step::moment;
+use lg_output::moment;
 use std::alloc::Global;
 
 /// What a session is to run, and how.

@@ -5,16 +5,21 @@ use Rattle.std.proofs.lemmas.Bool.{lt-leb, ne_eqb}
 use Rattle.std.proofs.lemmas.List.{length-map}
 use mathlib.Core.Option.{none, some}
 use lib.ListN.{get_elem?}
+use Rattle.lg_types.specs.declared.image.Image.{Image}
 use Rattle.lg_types.specs.declared.version.Version.{Version}
 use Rattle.lg_model.specs.Journals.{serial, IsLegal}
 use Rattle.lg_model.specs.Script.{Reading}
 use Rattle.lg_parse.specs.Text.{statement_of}
 use Rattle.lg_ledger.specs.Ledger.{ledger_of}
+use Rattle.lg_image.specs.Image.{image_of}
 use Rattle.lg_image.specs.ImageBytes.{image_bytes}
 use Rattle.lg_images.specs.Room.{HasRoom}
 use Rattle.lg_standing.specs.Cells.{AreCells, Catalog, CatalogCell, Cell, Ledger, LedgerCell, cell_count, cell_of, versions_at, versions_found, versions_in}
-use Rattle.lg_standing.specs.StandTogether.{Stands}
-use Rattle.lg_server.proofs.CellsShow.{same_tables}
+use Rattle.lg_standing.specs.Seats.{SeatState}
+use Rattle.lg_standing.specs.Server.{Server}
+use Rattle.lg_standing.specs.Serves.{Serves}
+use Rattle.lg_standing.specs.StandTogether.{History, Stands}
+use Rattle.lg_server.proofs.CellsShow.{same_image, same_tables}
 use Rattle.lg_server.specs.CellsImage.{cells_image}
 use Rattle.lg_cells_image.specs.Leads.{LeadsThere}
 use Rattle.lg_seat.specs.Images.{AreImageBytes, CellsStand, JournalHasRoom}
@@ -108,3 +113,17 @@ module _ (all : List KeptCell) (stand : CellsStand all) where
   journal_has_room ledger second room c l are =
       subst (λ (x : LedgerCell). HasRoom stand.hash statement_of x.database x.items)
       (is_ledger all c l are ledger second) room
+
+-- ---- the image of their journal
+
+-- the bytes of the image of cells that stand together are those of the image of their journal
+pub bytes_are_the_journals : (h : List ℕ → List ℕ) (v : Server) → Serves h statement_of v → (history : History)
+    (seats : List SeatState) (all : List KeptCell) (stands : Stands v history (cells_of all) seats) (bytes : List ℕ)
+    → AreImageBytes all bytes
+    → bytes ≡ image_bytes (image_of h statement_of stands.ledger.database stands.ledger.items)
+bytes_are_the_journals h v serves history seats all stands bytes are =
+    are stands.catalog stands.ledger stands.are_cells
+    ∙ ap (λ (i : Image). image_bytes i) (same_image v history (cells_of all) seats stands)
+    ∙ ap₂ (λ (g : List ℕ → List ℕ) (reads : Reading).
+    image_bytes (image_of g reads stands.ledger.database stands.ledger.items))
+    serves.hash serves.reading

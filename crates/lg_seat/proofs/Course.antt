@@ -23,7 +23,7 @@ use Rattle.lg_standing.specs.Moves.{at_place, sits, framed, StandsOpen}
 use Rattle.lg_standing.specs.Seats.{Frame, Tree, OpenTransaction, going_back, inside, answering, Session, SeatState}
 use Rattle.lg_standing.specs.Seats as law
 use Rattle.lg_standing.specs.Server.{Server}
-use Rattle.lg_server.specs.Serves.{Serves}
+use Rattle.lg_standing.specs.Serves.{Serves}
 use Rattle.lg_tx.specs.Represents.{Represents}
 use Rattle.lg_seat.specs.Course.{IsReady, refusal_of, said, refused, SameBeside, SameScript, SameBy, Saved, GoneBack, back_by, stage_inside, stage_outside, IsCourseIn, IsCourse}
 use Rattle.lg_seat.specs.Course as course

@@ -23,7 +23,7 @@ use Rattle.lg_standing.specs.Seats.{OpenTransaction, Place, inside, answering, S
 use Rattle.lg_standing.specs.Seats as law
 use Rattle.lg_standing.specs.Server.{Server}
 use Rattle.lg_standing.specs.Visits.{Visit, nothing, Happens}
-use Rattle.lg_server.specs.Serves.{Serves}
+use Rattle.lg_standing.specs.Serves.{Serves}
 use Rattle.lg_tx.specs.Represents.{Represents}
 use Rattle.lg_tx.specs.declared.context.TxCtx.{TxCtx}
 use Rattle.lg_seat.specs.KeptCell.{KeptCell, Keeps}

@@ -5,7 +5,7 @@ use Rattle.lg_image.specs.ImageBytes.{image_bytes}
 use Rattle.lg_images.specs.Room.{HasRoom}
 use Rattle.lg_parse.specs.Text.{statement_of}
 use Rattle.lg_server.specs.CellsImage.{cells_image}
-use Rattle.lg_server.specs.Serves.{Serves}
+use Rattle.lg_standing.specs.Serves.{Serves}
 use Rattle.lg_standing.specs.Cells.{CatalogCell, LedgerCell, AreCells}
 use Rattle.lg_standing.specs.Seats.{SeatState}
 use Rattle.lg_standing.specs.Server.{Server}

@@ -18,7 +18,7 @@ use Rattle.lg_standing.specs.Moves.{sits}
 use Rattle.lg_standing.specs.Seats.{Session, Written, idle, session, SeatState}
 use Rattle.lg_standing.specs.Server.{Server, journal_image}
 use Rattle.lg_standing.specs.StandTogether.{StandTogether}
-use Rattle.lg_server.specs.Serves.{Serves}
+use Rattle.lg_standing.specs.Serves.{Serves}
 use Rattle.lg_seat.specs.EndSeen.{line_seen}
 use Rattle.lg_seat.specs.KeptCell.{KeptCell, Keeps}
 use Rattle.lg_seat.specs.Needs.{need_of, visits_left}

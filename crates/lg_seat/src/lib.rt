@@ -37,5 +37,8 @@ mod visited;
 pub use all_cells::image_bytes_of;
 pub use cell::Cell;
 pub use end_line::EndLine;
+pub use lg_book::LedgerCell;
+pub use lg_catalog::CatalogCell;
+pub use lg_table::TableCell;
 pub use need::Need;
 pub use seat::{Answer, Seat};

@@ -11,7 +11,7 @@ use Rattle.lg_model.specs.Catalog.{Defs, Tables, defs_of, versions_of}
 use Rattle.lg_model.specs.Journals.{serial}
 use Rattle.lg_standing.specs.StandTogether.{History}
 use Rattle.lg_ledger.specs.Ledger.{Ledger}
-use Rattle.lg_ledger.proofs.Roots.{legal_ids}
+use Rattle.lg_closings.proofs.Roots.{legal_ids}
 use Rattle.lg_image.specs.Image.{user_defs, image_of}
 use Rattle.lg_image.specs.ImageBytes.{image_bytes}
 use Rattle.lg_image.specs.Rows.{table_rows}

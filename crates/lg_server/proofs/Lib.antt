@@ -1,1 +1,2 @@
 pub mod CellsShow
+pub mod Servers

@@ -1,2 +1,1 @@
 pub mod CellsImage
-pub mod Serves

@@ -13,7 +13,7 @@ ghost use Rattle.lg_standing.specs.Seats.{SeatState};
 ghost use Rattle.lg_standing.specs.Server.{Server, journal_image};
 ghost use Rattle.lg_standing.specs.StandTogether.{Stands};
 ghost use Rattle.lg_server.specs.CellsImage.{cells_image, tables_in_cells};
-ghost use Rattle.lg_server.specs.Serves.{Serves};
+ghost use Rattle.lg_standing.specs.Serves.{Serves};
 
 /// For every grammar and every hash there is a server that reads and hashes so.
 pub fn there_is_such_a_server()

@@ -5,22 +5,14 @@ use Rattle.std.specs.Ordering.{int_cmp, is_lt}
 use Rattle.lg_value.specs.declared.value.Value.{Value}
 use Rattle.lg_value.specs.declared.value.Value.TheVariants.{Num, Text}
 use Rattle.lg_value.specs.declared.column.ColumnDef.{ColumnDef}
-use Rattle.lg_value.specs.declared.column.TableKind.{TableKind}
-use Rattle.lg_value.specs.declared.column.TableKind.TheVariants.{AppendOnly, Updatable}
 use Rattle.lg_value.specs.Stored.{is_in_range}
 use Rattle.lg_types.specs.declared.table.TableDef.{TableDef}
 use Rattle.lg_types.specs.declared.table.IndexDef.{IndexDef}
 use Rattle.lg_model.specs.Lists.{has_name, repeats}
 use Rattle.lg_model.specs.Rows.{Row}
 use Rattle.lg_model.specs.SystemTables.{tables_def, columns_def}
-use Rattle.lg_model.specs.Create.{names_of, table_names, all_names, is_ledger_name, is_long, has_null_key}
-
--- a byte that may stand in a name, from a blank to `~`, without the brackets
-abbrev pub is_name_byte : ℕ → Bool
-is_name_byte b = nat_le 32 b && nat_le b 126 && not (b == 91) && not (b == 93)
-
-abbrev pub is_proper_name : List ℕ → Bool
-is_proper_name name = nat_le 1 (length name) && not (is_long name) && list_all is_name_byte name
+use Rattle.lg_model.specs.Create.{names_of, table_names, all_names, is_ledger_name, has_null_key}
+pub use Rattle.lg_model.specs.ProperNames.{is_name_byte, is_proper_name, has_its_history}
 
 abbrev pub is_among : List ℕ → ℕ → Bool
 is_among ns n = list_any (λ m. m == n) ns
@@ -54,11 +46,6 @@ abbrev pub is_spelled_index : ℕ → IndexDef → Bool
 is_spelled_index columns i =
     is_proper_name i.name && is_between 1 4 (length i.ordinals) && list_all (is_between 1 columns) i.ordinals
     && not (number_repeats i.ordinals)
-
--- an append-only table alone has no history
-abbrev pub has_its_history : TableKind → List ℕ → Bool
-has_its_history AppendOnly history = length history == 0
-has_its_history Updatable history = is_proper_name history
 
 -- by itself
 abbrev pub may_be_spelled : TableDef → Bool

@@ -18,7 +18,7 @@ use Rattle.lg_row.specs.Leaf.{event_bytes}
 use Rattle.lg_merkle.specs.TreeHash.{tree_hash}
 use Rattle.lg_entry.specs.Entry.{rise_above, tables_rise}
 use Rattle.lg_ledger.specs.Entries.{has_events, root_in, roots_of}
-use Rattle.lg_ledger.proofs.Roots.{roots_rise}
+use Rattle.lg_closings.proofs.Roots.{roots_rise}
 use Rattle.lg_history.specs.Lists.{Text, Each, In}
 use Rattle.lg_history.specs.Serial.{Differ}
 use Rattle.lg_history.proofs.Trace.{each_weaker}

@@ -6,8 +6,8 @@ use Rattle.lg_model.specs.Journals.{tx_count, closed}
 use Rattle.lg_history.specs.Journals.{blocks}
 use Rattle.lg_ledger.specs.Entries.{placed}
 use Rattle.lg_ledger.specs.Ledger.{Ledger, ledger_of}
-use Rattle.lg_ledger.proofs.Adding.{blocks_counted}
-use Rattle.lg_ledger.proofs.Counting.{entries_counted, closed_counted}
+use Rattle.lg_closings.proofs.Staying.{blocks_counted}
+use Rattle.lg_closings.proofs.Counting.{entries_counted, closed_counted}
 use Rattle.lg_standing.specs.Cells.{LedgerCell, pending_in, blocks_in}
 use Rattle.lg_standing.specs.LedgerIsLegal.{LedgerIsLegal}
 use Rattle.lg_standing.specs.LedgerVisits.{closed_by}

@@ -31,6 +31,7 @@ pub mod RowsAgree
 pub mod SeatNames
 pub mod Seats
 pub mod Server
+pub mod Serves
 pub mod StandTogether
 pub mod StepOrderThen
 pub mod Steps

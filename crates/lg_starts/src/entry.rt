@@ -2,6 +2,7 @@
 
 ghost use Rattle.std.specs.Prelude.{◌≡◌};
 
+use crate::lead::Lead;
 use lg_types::EventId;
 use std::marker::Model;
 
@@ -9,7 +10,7 @@ use std::marker::Model;
 #[derive(Debug, Drop)]
 pub struct Entry {
     start: EventId,
-    lead: i64,
+    lead: Lead,
 }
 
 impl Model for Entry {
@@ -21,7 +22,7 @@ impl Model for Entry {
 }
 
 impl Entry {
-    pub fn new(start: EventId, lead: i64) -> Entry
+    pub fn new(start: EventId, lead: Lead) -> Entry
         ensures { result ≡ start }
     {
         Entry { start, lead }
@@ -34,7 +35,7 @@ impl Entry {
     }
 
     /// The lead. No clause says which: the place that it leads to is a guess.
-    pub fn lead(&self) -> i64 {
+    pub fn lead(&self) -> Lead {
         self.lead
     }
 }

@@ -3,8 +3,10 @@
 #![tactic(auto)]
 
 mod entry;
+mod lead;
 mod piece;
 mod pieces;
 mod starts;
 
+pub use lead::Lead;
 pub use starts::Starts;

@@ -5,6 +5,7 @@ ghost use Rattle.std.specs.List.{insert, remove};
 ghost use Rattle.std.specs.Option.{option_copied};
 
 use crate::entry::Entry;
+use crate::lead::Lead;
 use lg_items::Memory;
 use std::alloc::Global;
 use std::collections::VecDeque;
@@ -53,6 +54,21 @@ impl Piece {
         ensures { option_copied result ≡ slice_get self.now place }
     {
         self.starts.get(place)
+    }
+
+    /// Whether the first start has a lead below this one.
+    pub fn begins_below(&self, lead: Lead) -> bool {
+        match self.starts.front() {
+            Some(entry) => entry.lead() < lead,
+            None => false,
+        }
+    }
+
+    /// How many leads are below this one, if leads rise.
+    pub fn leads_below(&self, lead: Lead) -> usize
+        ensures { result ≤ PIECE }
+    {
+        self.starts.partition_point(|entry| entry.lead() < lead)
     }
 
     /// Puts a start at this place. Where the piece was full, the answer is what no longer fits at its end.

@@ -8,6 +8,7 @@ ghost use Rattle.std.specs.List.Sorted.{IsPartitionedBy, IsPartitionPoint};
 ghost use Rattle.lg_model.specs.Rows.{EventId as SpecEventId};
 
 use crate::entry::Entry;
+use crate::lead::Lead;
 use crate::piece::{PIECE, Piece};
 use crate::pieces::{add_pieces, put, take_out};
 use lg_items::Memory;
@@ -19,8 +20,8 @@ use std::marker::Model;
 const MOST: usize = usize::MAX - PIECE;
 
 /// Starts in an order, in pieces that are packed. Contracts see them as a list, and how many there is room
-/// for. Each has a lead, a number that should not fall from one start to the next: a search asks first about
-/// the starts where the leads change to its own. Where leads fall it asks more often and finds the same.
+/// for. Each has a lead, which should not fall from one start to the next: a search asks first about the
+/// starts with its own lead and those next to them. Where leads fall it asks more often and finds the same.
 #[derive(Debug, Drop)]
 pub struct Starts {
     pieces: Vec<Piece>,
@@ -96,7 +97,7 @@ impl Starts {
 
     /// Puts a start and its lead at this place, before those that stand there and behind. Moves at most half a
     /// piece, and one start of each piece behind it. Takes no memory.
-    pub fn insert(&mut self, place: usize, start: EventId, lead: i64)
+    pub fn insert(&mut self, place: usize, start: EventId, lead: Lead)
         requires within { place ≤ length self.old.list }
         requires room { length self.old.list + 1 ≤ self.old.room }
         ensures list { self.new.list ≡ insert self.old.list place start }
@@ -116,10 +117,10 @@ impl Starts {
         self.len -= 1;
     }
 
-    /// How many pass a test that all of the first so many pass, and none behind them. It asks about the starts at
-    /// the ends of those with this lead, and goes on by halving between them; where the leads led astray, by
-    /// halving between all that are left.
-    pub fn partition_point<P: FnMut(&EventId) -> bool>(&self, lead: i64, mut pred: P) -> usize
+    /// How many pass a test that all of the first so many pass, and none behind them. It asks about the starts
+    /// with this lead, by halving between them, then about the one right behind them or right before them, and
+    /// where the leads led astray, goes on by halving between all that are left.
+    pub fn partition_point<P: FnMut(&EventId) -> bool>(&self, lead: Lead, mut pred: P) -> usize
         requires { P.IsAlwaysCallable pred }
         ensures bound { result ≤ length self.now.list }
         ensures partitioned { (p : SpecEventId → Bool) → ComputesKey P.FnMut p pred
@@ -141,22 +142,46 @@ impl Starts {
     }
 
     // The places between which the leads are this one, if leads rise.
-    fn guess(&self, lead: i64) -> Guess {
+    fn guess(&self, lead: Lead) -> Guess {
         let first = self.leads_below(lead);
-        let behind = match lead.checked_add(1) {
-            Some(next) => self.leads_below(next),
-            None => self.len(),
-        };
+        let behind = self.leads_up_to(lead, first);
         Guess { first, behind }
     }
 
-    // How many leads are below this one, if leads rise.
-    fn leads_below(&self, lead: i64) -> usize {
-        let mut low = 0;
-        let mut high = self.len();
+    // How many leads are below this one, if leads rise: all of the pieces before the last one that begins with
+    // such a lead, and some of this one.
+    fn leads_below(&self, lead: Lead) -> usize {
+        let begun = self
+            .pieces
+            .partition_point(|piece| piece.begins_below(lead));
+        match begun.checked_sub(1) {
+            Some(last) => last * PIECE + self.pieces[last].leads_below(lead),
+            None => 0,
+        }
+    }
+
+    // How many leads are this one or below, if leads rise and so many are below: by steps that double, since
+    // few are alike, and then by halving.
+    fn leads_up_to(&self, lead: Lead, below: usize) -> usize {
+        let len = self.len();
+        let mut low = below;
+        let mut high = below;
+        let mut step: usize = 1;
+        while high < len && self.is_up_to(high, lead) {
+            low = high + 1;
+            high = low + step.min(len - low);
+            step = step.saturating_mul(2);
+        }
+        self.up_to_between(lead, low, high)
+    }
+
+    // The same where it lies between these, by halving.
+    fn up_to_between(&self, lead: Lead, low: usize, high: usize) -> usize {
+        let mut low = low;
+        let mut high = high;
         while low < high {
             let middle = low + (high - low) / 2;
-            if self.lead_at(middle) < lead {
+            if self.is_up_to(middle, lead) {
                 low = middle + 1;
             } else {
                 high = middle;
@@ -165,10 +190,11 @@ impl Starts {
         low
     }
 
-    fn lead_at(&self, place: usize) -> i64 {
+    // Whether the lead at this place is at most this one.
+    fn is_up_to(&self, place: usize, lead: Lead) -> bool {
         match self.entry(place) {
-            Some(entry) => entry.lead(),
-            None => i64::MAX,
+            Some(entry) => entry.lead() <= lead,
+            None => false,
         }
     }
 
@@ -192,13 +218,18 @@ struct Guess {
 }
 
 impl Guess {
-    // The place between these to ask about: the one behind the guess, the one before it, or halfway.
+    // The place between these to ask about: halfway in what they have of the guess, right behind it, right
+    // before it, or halfway in all.
     fn probe(&self, low: usize, high: usize) -> usize
         requires { low < high }
         ensures from { low ≤ result }
         ensures up_to { result < high }
     {
-        if low <= self.behind && self.behind < high {
+        let first = low.max(self.first);
+        let behind = high.min(self.behind);
+        if first < behind {
+            first + (behind - first) / 2
+        } else if low <= self.behind && self.behind < high {
             self.behind
         } else if low < self.first && self.first <= high {
             self.first - 1

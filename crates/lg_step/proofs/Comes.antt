@@ -1,13 +1,10 @@
 -- What a core left is a run of the statements that were asked of it.
-use Rattle.std.proofs.Common.{◌≡◌, ◌≢◌, ◌≤◌, ◌<◌, ℕ, min, Bool, true, false, List, [], ◌∷◌, ◌++◌, map, length, None, refl, sym, ap, ◌∙◌, subst, arith, ⊎_elim, true≢false}
+use Rattle.std.proofs.Common.{◌≡◌, ℕ, true, List, [], ◌∷◌, ◌++◌, map, length, refl, sym, ap, ◌∙◌, subst}
 use Rattle.std.specs.List.{list_any, IsDistinct, AllByRecursion, All}
 use Rattle.std.specs.Str.{bytes_eq}
-use Rattle.std.proofs.lemmas.Bool.Decides.{nat_tests}
-use Rattle.std.proofs.lemmas.Slice.Eq.{bytes_eq-Decides}
 use Rattle.lg_items.specs.DatabaseName.{is_database_name}
 use Rattle.lg_items.specs.Moment.{is_moment}
 use Rattle.lg_items.specs.SessionName.{is_session_name}
-use Rattle.lg_items.specs.declared.moment.TheConstants.{MAX_TICKS}
 use Rattle.lg_types.specs.declared.digest.Digest.{Digest}
 use Rattle.lg_types.specs.declared.journal.Journal.{Journal}
 use Rattle.lg_types.specs.declared.journal.JournalItem.{JournalItem}
@@ -31,23 +28,25 @@ use Rattle.lg_input.specs.Sessions.{sessions_of}
 use Rattle.lg_standing.specs.Reordered.{NamesApart}
 use Rattle.lg_standing.specs.Seats.{KeptImage}
 use Rattle.lg_standing.specs.Server.{Server}
-use Rattle.lg_server.specs.Serves.{Serves}
+use Rattle.lg_standing.specs.Serves.{Serves}
+use Rattle.lg_course.proofs.SameNames.{names_apart}
 use Rattle.lg_course.specs.Told.{HasEnded, IsMeaning, IsImageOf, RunAgrees}
 use Rattle.lg_course.proofs.Told.{some_meaning}
 use Rattle.lg_kept.specs.Accepted.{IsAccepted}
 use Rattle.lg_core.specs.declared.parts.Parts.{Parts}
 use Rattle.lg_kept.specs.LastImage.{journal_of, last_image, last_image_bytes}
 use Rattle.lg_kept.proofs.Accepts.{each_in}
-use Rattle.lg_step.specs.Came.{Run, CameTo}
-use Rattle.lg_step.specs.Images.{AreKept, with_each}
+use Rattle.lg_output.specs.Images.{with_each}
+use Rattle.lg_output.specs.Moments.{IsMoment}
+use Rattle.lg_output.proofs.Kept.{are_kept, each_of_all}
+use Rattle.lg_output.proofs.Made.{moment_is}
+use Rattle.lg_output.proofs.Each.{each_from_all}
+use Rattle.lg_step.specs.Came.{CameTo}
 use Rattle.lg_step.specs.Lines.{lines_of}
-use Rattle.lg_step.specs.Moments.{IsMoment}
 use Rattle.lg_step.specs.Numbers.{number_of, numbers_of}
 use Rattle.lg_step.specs.Ran.{HasRun, run_left}
 use Rattle.lg_step.specs.Woven.{woven}
 use Rattle.lg_step.specs.Written.{AreWritten}
-use Rattle.lg_step.proofs.Kept.{are_kept, each_of_all}
-use Rattle.lg_step.proofs.Named.{each_from_all}
 use Rattle.lg_step.proofs.Steps.{push}
 use Rattle.lg_step.proofs.OneList.{are_written}
 
@@ -90,23 +89,6 @@ SessionsAreNamed = (ss : List Statement) → All (λ s. list_any (bytes_eq s.ses
 
 abbrev pub SessionsDiffer : Type 0
 SessionsDiffer = (ss : List Statement) → IsDistinct bytes_eq (sessions_of ss)
-
--- ---- names and moments
-
-apart_from : (name : Text) (names : List Text) → AllByRecursion (λ other. bytes_eq name other ≡ false) names → Each (λ other. name ≢ other) names
-apart_from name [] all = tt
-apart_from name (n ∷ names) all = ((λ same. true≢false (sym ((bytes_eq-Decides name n).1 same) ∙ all.0)), apart_from name names all.1)
-
-pub names_apart : (names : List Text) → IsDistinct bytes_eq names → NamesApart names
-unfolding IsDistinct
-names_apart [] distinct = tt
-names_apart (n ∷ names) distinct = (apart_from n names distinct.0, names_apart names distinct.1)
-
-is_within : (said : ℕ) → is_moment (min said MAX_TICKS) ≡ true
-is_within said = grind (arith, nat_tests)
-
-pub moment_is : (says : ℕ → Type 0) (at : ℕ) → IsMoment says at → is_moment at ≡ true
-moment_is says at m = subst (λ n. is_moment n ≡ true) (sym m.2) (is_within m.0)
 
 -- ---- lines
 

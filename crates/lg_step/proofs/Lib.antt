@@ -1,9 +1,6 @@
 pub mod Comes
 pub mod Ends
-pub mod Forms
 pub mod Joins
-pub mod Kept
-pub mod Made
 pub mod Named
 pub mod Nexts
 pub mod OneList

@@ -1,6 +1,6 @@
 -- The names of sessions have their form, and each line's session is among them.
-use Rattle.std.proofs.Common.{◌≡◌, ◌<◌, ◌∙◌, ℕ, zero, suc, Bool, true, false, List, [], ◌∷◌, map, length, refl, sym, ap, subst, arith, Bor, true≢false}
-use Rattle.std.specs.List.{list_any, All, slice_index_or}
+use Rattle.std.proofs.Common.{◌≡◌, ℕ, Bool, true, false, List, [], ◌∷◌, map, refl, sym, subst, Bor, true≢false}
+use Rattle.std.specs.List.{list_any, All}
 use Rattle.std.specs.Str.{bytes_eq}
 use Rattle.std.proofs.lemmas.Slice.Eq.{bytes_eq-Decides}
 use Rattle.lg_items.specs.SessionName.{is_session_name}
@@ -9,18 +9,7 @@ use Rattle.lg_history.proofs.Trace.{each_weaker}
 use Rattle.lg_input.specs.Line.{Statement, seen}
 use Rattle.lg_input.specs.Sessions.{sessions_of}
 use Rattle.lg_input.specs.declared.line.Line.{Line}
-
-pub each_from_all : {A : Type 0} (P : A → Type 0) (xs : List A) → All P xs → Each P xs
-each_from_all P [] all = tt
-each_from_all P (x ∷ xs) all = (all 0 x (omega arith), each_from_all P xs (λ k d less. all (suc k) d (omega (arith, less))))
-
-each_at : {A : Type 0} (P : A → Type 0) (xs : List A) (k : ℕ) (d : A) → Each P xs → k < length xs → P (slice_index_or xs k d)
-each_at P [] k d e less = absurd (omega (arith, less))
-each_at P (x ∷ xs) zero d e less = e.0
-each_at P (x ∷ xs) (suc k) d e less = each_at P xs k d e.1 (omega (arith, less))
-
-pub all_from_each : {A : Type 0} (P : A → Type 0) (xs : List A) → Each P xs → All P xs
-all_from_each P xs e k d less = each_at P xs k d e less
+use Rattle.lg_output.proofs.Each.{each_from_all, all_from_each}
 
 -- what is so of what each shows is so of the shown
 each_shown : {A B : Type 0} (f : A → B) (P : B → Type 0) (xs : List A) → Each (λ x. P (f x)) xs → Each P (map f xs)

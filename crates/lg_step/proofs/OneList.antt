@@ -14,9 +14,10 @@ use Rattle.lg_history.specs.Transcripts.{EndLine, Entry, statement, end_of_sessi
 use Rattle.lg_standing.specs.Reordered.{NamesApart}
 use Rattle.lg_transcript.specs.TranscriptText.{entry_text}
 use Rattle.lg_input.specs.Line.{Statement}
+use Rattle.lg_output.specs.Joined.{joined, joined_each}
 use Rattle.lg_step.specs.Lines.{lines_of}
 use Rattle.lg_step.specs.Numbers.{number_of, numbers_of}
-use Rattle.lg_step.specs.Woven.{first_at, rest_of, without_first, in_turn, woven, joined, joined_each, woven_text}
+use Rattle.lg_step.specs.Woven.{first_at, rest_of, without_first, in_turn, woven, woven_text}
 use Rattle.lg_step.specs.Written.{SessionsRise, AreWritten, name_at, rows_text}
 use Rattle.lg_step.proofs.Places.{number_here, number_behind, any_behind, Named, named_at}
 

@@ -9,13 +9,12 @@ use Rattle.lg_course.specs.EndsLast.{running}
 use Rattle.lg_history.specs.Inputs.{InputLine}
 use Rattle.lg_history.specs.Lists.{Text, Each}
 use Rattle.lg_input.specs.Line.{Statement}
-use Rattle.lg_seat.specs.Points.{IsBetween, IsOver}
 use Rattle.lg_core.specs.Asked.{Asked, with_line, at_end}
-use Rattle.lg_core.specs.Standing.{Found, IsEnded, IsOpen, OthersStay, Stands}
+use Rattle.lg_core.specs.Standing.{Found, IsBetween, IsEnded, IsOpen, IsOver, OthersStay, Stands}
 use Rattle.lg_core.specs.declared.one_thread.Core.{Core}
 use Rattle.lg_core.specs.declared.session.Session.{Session}
+use Rattle.lg_output.specs.Moments.{IsMoment}
 use Rattle.lg_step.specs.Lines.{lines_of}
-use Rattle.lg_step.specs.Moments.{IsMoment}
 use Rattle.lg_step.specs.Reached.{AreEnded, AreOpen, Reached, StandsEnded, asked}
 
 pub on_ok : {T E P Q : Type 0} (r : Result T E) → (P → Q) → OnOk r P → OnOk r Q

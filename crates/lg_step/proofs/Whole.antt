@@ -10,8 +10,8 @@ use Rattle.lg_journal.specs.Rules.{IsJournal}
 use Rattle.lg_digest.specs.Writing.{HasMoments}
 use Rattle.lg_input.specs.Sessions.{sessions_of}
 use Rattle.lg_core.specs.declared.parts.Parts.{Parts}
+use Rattle.lg_output.specs.declared.ran.Ran.{Ran}
 use Rattle.lg_step.specs.Ran.{HasKept, HasRun, IsRan, run_left}
-use Rattle.lg_step.specs.declared.running.Ran.{Ran}
 use Rattle.lg_history.specs.Lists.{Text}
 use Rattle.lg_history.specs.Transcripts.{Transcript}
 use Rattle.lg_input.specs.Line.{Statement}

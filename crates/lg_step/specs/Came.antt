@@ -17,9 +17,9 @@ use Rattle.lg_standing.specs.Seats.{KeptImage}
 use Rattle.lg_course.specs.Told.{RunAgrees}
 use Rattle.lg_kept.specs.Accepted.{IsAccepted}
 use Rattle.lg_kept.specs.LastImage.{last_image, last_image_bytes}
-use Rattle.lg_step.specs.Images.{AreKept}
+use Rattle.lg_output.specs.Images.{AreKept}
+use Rattle.lg_output.specs.Moments.{IsMoment}
 use Rattle.lg_step.specs.Lines.{lines_of}
-use Rattle.lg_step.specs.Moments.{IsMoment}
 use Rattle.lg_step.specs.Written.{AreWritten}
 
 -- what is left of a run: of each session its transcript and the images that it kept; the entries of all

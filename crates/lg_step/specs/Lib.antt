@@ -1,7 +1,5 @@
 pub mod Came
-pub mod Images
 pub mod Lines
-pub mod Moments
 pub mod Numbers
 pub mod Ran
 pub mod Reached

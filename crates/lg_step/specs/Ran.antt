@@ -12,14 +12,14 @@ use Rattle.lg_input.specs.Sessions.{sessions_of}
 use Rattle.lg_core.specs.Parts.{HasLeft}
 use Rattle.lg_core.specs.declared.parts.Parts.{Parts}
 use Rattle.lg_kept.specs.LastImage.{last_image_bytes}
+use Rattle.lg_output.specs.Images.{with_each}
+use Rattle.lg_output.specs.Moments.{IsMoment}
+use Rattle.lg_output.specs.declared.ran.Ran.{Ran}
 use Rattle.lg_step.specs.Came.{Run}
-use Rattle.lg_step.specs.Images.{with_each}
-use Rattle.lg_step.specs.Moments.{IsMoment}
 use Rattle.lg_step.specs.Numbers.{numbers_of}
 use Rattle.lg_step.specs.Reached.{asked}
 use Rattle.lg_step.specs.Woven.{woven, woven_text}
 use Rattle.lg_step.specs.Written.{rows_text}
-use Rattle.lg_step.specs.declared.running.Ran.{Ran}
 
 -- it is this run, of sessions of these names, and what it saves has a spelling
 pub record IsRan (h : List ℕ → List ℕ) (names : List Text) (run : Run) (r : Ran) : Type 0 where

@@ -6,8 +6,8 @@ use Rattle.lg_input.specs.Line.{Statement}
 use Rattle.lg_core.specs.Asked.{Asked, at_end}
 use Rattle.lg_core.specs.Standing.{IsEnded, IsOpen, Stands}
 use Rattle.lg_core.specs.declared.one_thread.Core.{Core}
+use Rattle.lg_output.specs.Moments.{IsMoment}
 use Rattle.lg_step.specs.Lines.{lines_of}
-use Rattle.lg_step.specs.Moments.{IsMoment}
 
 -- statements of these sessions, at these moments
 abbrev pub asked : Text → ℕ → List Text → List Statement → List ℕ → Asked

@@ -1,5 +1,6 @@
 -- Some lists, of which one after another gives its next element.
 use Rattle.std.specs.Prelude.{ℕ, zero, suc, List, [], ◌∷◌, ◌++◌, map}
+use Rattle.lg_output.specs.Joined.{joined, joined_each}
 
 -- the first element of the list at this place, if there is one
 abbrev pub first_at : {A : Type 0} → ℕ → List (List A) → List A
@@ -29,14 +30,6 @@ woven [] lists = in_turn 0 lists
 woven (i ∷ is) lists = map (λ x. (i, x)) (first_at i lists) ++ woven is (without_first i lists)
 
 -- the same of texts, one behind the other
-abbrev pub joined : List (List ℕ) → List ℕ
-joined [] = []
-joined (text ∷ texts) = text ++ joined texts
-
-abbrev pub joined_each : List (List (List ℕ)) → List ℕ
-joined_each [] = []
-joined_each (texts ∷ lists) = joined texts ++ joined_each lists
-
 abbrev pub woven_text : List ℕ → List (List (List ℕ)) → List ℕ
 woven_text [] lists = joined_each lists
 woven_text (i ∷ is) lists = joined (first_at i lists) ++ woven_text is (without_first i lists)

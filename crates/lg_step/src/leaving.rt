@@ -2,18 +2,17 @@
 
 ghost use Rattle.std.specs.Prelude.{◌≡◌, map, IfOk};
 ghost use Rattle.lg_input.specs.Line.{seen};
-ghost use Rattle.lg_step.specs.Images.{with_each};
+ghost use Rattle.lg_output.specs.Images.{with_each};
 ghost use Rattle.lg_step.specs.Numbers.{numbers_of};
 ghost use Rattle.lg_step.specs.Ran.{HasKept};
 ghost use Rattle.lg_step.specs.Woven.{woven_text};
 
-use crate::images::add_images;
-use crate::running::Ran;
 use crate::weaving::weave;
 use lg_core::{Parts, Session};
 use lg_input::Line;
 use lg_items::{Blob, Items, Memory, Text};
 use lg_merkle::Hash32;
+use lg_output::{Ran, add_images};
 use std::alloc::Global;
 
 /// The texts of the entries of all sessions, in the order of the lines.

@@ -5,16 +5,16 @@ ghost use Rattle.std.specs.List.{list_any};
 ghost use Rattle.std.specs.Str.{bytes_eq};
 ghost use Rattle.lg_core.specs.Standing.{MayStep, Stands};
 ghost use Rattle.lg_input.specs.Line.{Statement, seen};
-ghost use Rattle.lg_step.specs.Moments.{said_with};
+ghost use Rattle.lg_output.specs.Moments.{said_with};
 ghost use Rattle.lg_step.specs.Reached.{AreOpen, Reached, asked};
 
-use crate::moments::moment;
 use crate::number::number_of;
 use lg_base::Clock;
 use lg_core::Core;
 use lg_input::Line;
 use lg_items::{Memory, Text};
 use lg_merkle::Hash32;
+use lg_output::moment;
 use std::alloc::Global;
 
 /// Runs the statement of a line.

@@ -5,39 +5,22 @@ ghost use Rattle.lg_items.specs.DatabaseName.{is_database_name};
 ghost use Rattle.lg_types.specs.declared.journal.TheConstants.{MAX_BLOCK};
 ghost use Rattle.lg_input.specs.Line.{is_session_name, seen};
 ghost use Rattle.lg_input.specs.Sessions.{sessions_of};
+ghost use Rattle.lg_output.specs.Moments.{said_with};
 ghost use Rattle.lg_step.specs.Came.{CameTo, Run};
-ghost use Rattle.lg_step.specs.Moments.{said_with};
 ghost use Rattle.lg_step.specs.Ran.{HasRun, IsRan};
 
 use crate::leaving::left_by;
 use crate::lines::run_each;
 use crate::sessions::{end_sessions, open_sessions};
-use crate::settings::Settings;
-use crate::spelled::is_spelled;
 use lg_base::Clock;
 use lg_core::{Core, Parts};
 use lg_course::{ended_courses_agree, journals_of_courses_are_legal, times_are_those_of_sessions};
 use lg_input::{Line, sessions_law};
-use lg_items::{Blob, Items, Memory, Name, Text};
+use lg_items::{Memory, Name};
 use lg_kept::kept_images_are_accepted;
 use lg_merkle::Hash32;
-use lg_server::there_is_such_a_server;
-use lg_types::{Digest, Journal};
+use lg_output::{Ran, Settings, is_spelled};
 use std::alloc::Global;
-
-/// What a run came to.
-#[derive(Drop)]
-pub struct Ran {
-    /// The text of all entries, in the order of the lines, and behind them the ends of sessions.
-    pub transcript: Text,
-    /// The images that were kept, each once, by rising number of the journal's items.
-    pub images: Items<(u64, Blob)>,
-    /// The bytes of the image of the whole journal.
-    pub image: Blob,
-    pub journal: Journal,
-    /// In the order of issue.
-    pub digests: Items<Digest>,
-}
 
 /// Runs the statements of the lines on a core, to the ends of all sessions.
 fn run_to_the_end<H: Hash32, C: Clock>(
@@ -93,7 +76,6 @@ pub fn run_lines<H: Hash32, C: Clock>(
     journals_of_courses_are_legal();
     times_are_those_of_sessions();
     kept_images_are_accepted();
-    there_is_such_a_server();
     sessions_law();
     left_by(alloc, sessions, lines, parts)
 }

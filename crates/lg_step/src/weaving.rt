@@ -2,23 +2,15 @@
 
 ghost use Rattle.std.specs.Prelude.{ℕ, ◌≡◌, ◌++◌, ◌<◌, List, length, map, string_bytes, IfOk, OnOk};
 ghost use Rattle.lg_input.specs.Line.{seen};
+ghost use Rattle.lg_output.specs.Joined.{joined, joined_each};
 ghost use Rattle.lg_step.specs.Numbers.{numbers_of};
-ghost use Rattle.lg_step.specs.Woven.{first_at, joined, joined_each, without_first, woven_text};
+ghost use Rattle.lg_step.specs.Woven.{first_at, without_first, woven_text};
 
 use crate::number::number_of;
 use lg_input::Line;
 use lg_items::{Memory, Text, first_of};
+use lg_output::push_texts;
 use std::alloc::Global;
-
-/// Appends texts one behind the other.
-fn push_all(texts: &[Text], out: &mut String) -> Result<(), Memory>
-    ensures { OnOk result (string_bytes out.new ≡ string_bytes out.old ++ joined texts.now) }
-{
-    for text in texts {
-        out.push_str(text.as_str())?;
-    }
-    Ok(())
-}
 
 /// Appends what is left.
 fn push_rest(left: &[&[Text]], out: &mut String) -> Result<(), Memory>
@@ -26,7 +18,7 @@ fn push_rest(left: &[&[Text]], out: &mut String) -> Result<(), Memory>
         ≡ string_bytes out.old ++ joined_each (map (λ texts. texts.now) left.now)) }
 {
     for texts in left {
-        push_all(*texts, out)?;
+        push_texts(*texts, out)?;
     }
     Ok(())
 }

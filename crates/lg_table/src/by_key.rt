@@ -7,7 +7,7 @@ ghost use Rattle.lg_parts.specs.Places.{key_at};
 ghost use Rattle.lg_table.specs.Orders as spec;
 ghost use Rattle.lg_table.specs.Orders.{in_order, passes, starts_of};
 
-use crate::leading::{lead_of, lead_of_value};
+use crate::leading::{lead_of, lead_of_key};
 use crate::reading::Stretch;
 use crate::searching::version_at;
 use lg_parts::{compare_at, compare_to_key};
@@ -47,7 +47,7 @@ fn count_below(places: &[usize], versions: &[Version], order: &Starts, key: &[Va
         ≡ prefix_len (spec.is_below places.now key.now) (in_order [] places.now versions.now) }
     ensures bound { result ≤ length order.now.list }
 {
-    let lead = lead_of_value(key.first());
+    let lead = lead_of_key(key);
     order.partition_point(lead, |start| is_below(places, versions, *start, key))
 }
 
@@ -59,7 +59,7 @@ fn count_up_to(places: &[usize], versions: &[Version], order: &Starts, key: &[Va
         ≡ prefix_len (spec.is_up_to places.now key.now) (in_order [] places.now versions.now) }
     ensures bound { result ≤ length order.now.list }
 {
-    let lead = lead_of_value(key.first());
+    let lead = lead_of_key(key);
     order.partition_point(lead, |start| is_up_to(places, versions, *start, key))
 }
 

@@ -3,7 +3,6 @@
 ghost use Rattle.std.specs.Prelude.{◌≡◌, ◌≤◌, ◌<◌, ◌+◌, ◌^◌, ◌⊎◌, [], List, None, Some, IfOk, OnOk, OnErr, IfSome, IfNone, length, map};
 ghost use Rattle.std.specs.Prelude.{get_or, slice_get, slice_range, slice_set};
 ghost use Rattle.std.specs.List.{AllByRecursion, HoldsAt, remove};
-ghost use Rattle.std.specs.Option.{option_copied};
 ghost use Rattle.lg_types.specs.declared.version.Version.{Version as SpecVersion};
 ghost use Rattle.lg_value.specs.declared.column.ColumnDef.{ColumnDef as SpecColumn};
 ghost use Rattle.lg_model.specs.Changes.{changed, changed_all};
@@ -95,13 +94,6 @@ impl VersionStore {
             room: 0,
             alloc,
         }
-    }
-
-    /// The columns of the table, where it has had versions.
-    pub fn columns(&self) -> &[ColumnDef]
-        ensures { result.now ≡ self.now.stored.columns }
-    {
-        self.columns.as_slice()
     }
 
     /// The places of the key's columns among the columns.
@@ -326,13 +318,6 @@ impl VersionStore {
         ensures { result ≡ length self.now.stored.indexes }
     {
         self.orders.indexes.len()
-    }
-
-    /// The version that the event started, by a guess and halving.
-    pub fn version_at(&self, start: EventId) -> Option<&Version>
-        ensures { option_copied result ≡ orders.version_at start self.now.stored.versions }
-    {
-        version_at(&self.versions, start)
     }
 
     /// Carries out the changes, one after another, as the events of the transaction that have the numbers from

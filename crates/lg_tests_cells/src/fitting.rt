@@ -11,8 +11,9 @@ ghost use Rattle.lg_table.specs.Orders.{version_at};
 
 use lg_check::{check_stmt, part_named, table_of};
 use lg_items::TxId;
+use lg_scalar::fits;
 use lg_types::{EventId, Part, RowStmt, TableDef, Typed, Version};
-use lg_value::{ColumnDef, Value, fits};
+use lg_value::{ColumnDef, Value};
 use std::alloc::Global;
 
 /// Whether the statement is on the table and passes what is checked before any row.

@@ -16,7 +16,7 @@ use Rattle.lg_standing.specs.Cells.{LedgerCell}
 use Rattle.lg_standing.specs.Seats.{KeptImage, Written}
 use Rattle.lg_standing.specs.Server.{Server, journal_image}
 use Rattle.lg_standing.specs.TranscriptsAgree.{IsImage}
-use Rattle.lg_server.specs.Serves.{Serves}
+use Rattle.lg_standing.specs.Serves.{Serves}
 use Rattle.lg_course.specs.Told.{IsImageOf}
 use Rattle.lg_course.specs.Wrote.{transcripts_in}
 

@@ -19,7 +19,7 @@ use Rattle.lg_standing.specs.LedgerIsLegal.{FitsBlock}
 use Rattle.lg_standing.specs.Seats.{KeptImage}
 use Rattle.lg_course.specs.Told.{IsImageOf, IsMeaning}
 use Rattle.lg_kept.specs.Accepted.{IsAccepted}
-use Rattle.lg_kept.specs.LastImage.{last_image, last_image_bytes}
+pub use Rattle.lg_kept.specs.LastImage.{last_image, last_image_bytes}
 
 -- What is left of a run: of `setup`, and then of each session in the order of the plan, its transcript and
 -- the images that it kept; the journal; and the digests.

@@ -7,8 +7,9 @@ use crate::tables::{rows_of, table_of};
 use crate::texts::two_sides;
 use lg_expr::{SeenRow, check, eval};
 use lg_parts::Columns;
+use lg_scalar::to_column;
 use lg_types::{Outcome, Part, Row, RowStmt, Stmt, TableDef};
-use lg_value::{ColumnDef, Expr, Refusal, SqlType, Value, to_column};
+use lg_value::{ColumnDef, Expr, Refusal, SqlType, Value};
 use std::alloc::Global;
 
 /// The table over whose columns expressions are evaluated.

@@ -2,7 +2,8 @@
 
 use crate::fault::Fault;
 use crate::texts::text_of;
-use lg_value::{Value, print};
+use lg_scalar::print;
+use lg_value::Value;
 use std::alloc::{AllocError, Global};
 use std::fmt::Debug;
 

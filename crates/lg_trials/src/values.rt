@@ -4,10 +4,9 @@ use crate::fault::Fault;
 use crate::page::Page;
 use crate::statements::joined_statement;
 use crate::texts::{first_word, text_of, two_sides};
+use lg_scalar::{fits, print_literal, read_literal, to_column};
 use lg_types::Stmt;
-use lg_value::{
-    LitErr, SqlType, Value, ValueErr, compare, fits, print_literal, read_literal, to_column,
-};
+use lg_value::{LitErr, SqlType, Value, ValueErr, compare};
 use std::alloc::Global;
 use std::cmp::Ordering;
 

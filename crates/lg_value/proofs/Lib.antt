@@ -1,16 +1,4 @@
-pub mod Conversions
-pub mod DayTexts
-pub mod Days
-pub mod DigitTexts
-pub mod Digits
-mod Doubling
-mod Hexes
+pub mod Dates
 pub mod Numbers
-pub mod OrderLaws
-mod Ranges
-mod ReadValues
-mod Reading
-mod RoundTrip
-mod Rounding
-mod Texts
+pub mod Storing
 pub mod Trees

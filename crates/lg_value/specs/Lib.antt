@@ -4,7 +4,6 @@ pub mod Literal
 pub mod Literals
 pub mod Number
 pub mod Order
-pub mod Pieces
 pub mod Printed
 pub mod Refusal
 pub mod Stored

@@ -4,7 +4,7 @@ ghost use Rattle.std.specs.Prelude.{◌≡◌, IfOk};
 
 use lg_items::{Blob, Memory, Text};
 
-/// A value of a column or of a literal. `==` and the order are those of `compare`, so 1 and 1.0 are equal.
+/// A value of a column or of a literal. It has no `==`: 1 and 1.0 are one value, but not of one scale.
 #[derive(Debug, Drop)]
 pub enum Value {
     Null,

@@ -17,7 +17,7 @@ use Rattle.lg_value.specs.Order.{value_cmp, value_total, IsSameValue, HasScale}
 use Rattle.lg_value.specs.Stored.{is_in_range, is_bit, in_bits, number_stored, is_stored}
 use Rattle.lg_value.specs.TypeCodes.{type_code, first_parameter, second_parameter}
 use Rattle.lg_value.proofs.Numbers.{cmp_raised}
-use Rattle.lg_value.proofs.OrderLaws.{equal}
+use Rattle.lg_scalar.proofs.OrderLaws.{equal}
 use Rattle.lg_row.specs.TypedBytes.{IsTyped}
 use Rattle.lg_types.specs.declared.image.TableRows.{TableRows}
 use Rattle.lg_types.specs.declared.table.IndexDef.{IndexDef}

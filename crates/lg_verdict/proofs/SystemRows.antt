@@ -14,7 +14,7 @@ use Rattle.lg_value.specs.declared.column.TableKind.TheVariants.{AppendOnly, Upd
 use Rattle.lg_value.specs.declared.value.Value.TheVariants.{Num}
 use Rattle.lg_value.specs.Order.{value_cmp, HasScale}
 use Rattle.lg_value.specs.Stored.{is_stored}
-use Rattle.lg_value.proofs.OrderLaws.{equal}
+use Rattle.lg_scalar.proofs.OrderLaws.{equal}
 use Rattle.lg_types.specs.declared.table.IndexDef.{IndexDef}
 use Rattle.lg_types.specs.declared.table.TableDef.{TableDef}
 use Rattle.lg_model.specs.Keys.{key_cmp, same_key}

@@ -4,8 +4,9 @@ ghost use Rattle.std.specs.Prelude.{◌≡◌};
 ghost use Rattle.lg_verdict.specs.Versions as spec;
 
 use lg_items::first_of;
+use lg_scalar::fits;
 use lg_types::Typed;
-use lg_value::{ColumnDef, SqlType, fits, type_parts};
+use lg_value::{ColumnDef, SqlType, type_parts};
 
 /// Whether two types have one code and one set of parameters.
 pub fn same_type(a: SqlType, b: SqlType) -> bool

@@ -49,15 +49,14 @@ pub struct GroupFaults {
     pub root: Option<(u64, TableId)>,
     /// The start of the least version that its table may not have.
     pub version: Option<Place>,
-    /// The first index whose rows aren't those of the base, where each version is one that its table may
-    /// have.
+    /// The first index whose rows aren't those of the base, where each version of these tables is one that
+    /// its table may have.
     pub index: Option<Place>,
 }
 
-/// What fails in so many tables of the image, from the one at place `from` on, where each start and end has
-/// its entry. Groups may be gone through in any order and by several threads; what they find merges by the
-/// laws below. Sorts the starts and ends of these tables, and hashes each of their leaves once. The only error
-/// is want of memory.
+/// What fails in so many tables of the image, from the one at place `from` on, where no id of an entry
+/// repeats and each start and end has its entry. What groups find of roots merges by the laws below. The only
+/// error is want of memory.
 pub fn group_faults<H: Hash32>(
     alloc: Global,
     hasher: H,
@@ -142,7 +141,8 @@ fn index_in_group(
     }
 }
 
-/// The same, by the starts and ends of these tables in order.
+/// The place of the first entry whose roots, but for those of other tables, differ from the roots over its own
+/// marks; and the least table in which they do.
 pub fn wrong_root<H: Hash32>(
     alloc: Global,
     hasher: H,
@@ -181,8 +181,8 @@ fn wrong_table<H: Hash32>(
     Ok(least_wrong(tables, entry.roots.as_slice(), &work.roots))
 }
 
-/// The least of these tables in which two lists have another root, or of which only one has one. The second
-/// has roots for these tables alone.
+/// The least table in which two lists have another root, or of which only one has one. Of the first the roots
+/// for these tables count.
 fn least_wrong(tables: &[Shown], a: &[TableRoot], b: &[TableRoot]) -> Option<TableId>
     ensures { result ≡ least nat_cmp (told.wrong_roots (map table_of tables.now) a.now b.now) }
 {
@@ -211,7 +211,8 @@ pub fn is_shown(tables: &[Shown], id: TableId) -> bool
     tables.iter().any(|table| table.def.id == id)
 }
 
-/// What two groups find is the lesser of what each finds: by the place of the entry, and then by the table.
+/// What two groups find of roots is the lesser of what each finds: by the place of the entry, and then by the
+/// table.
 pub fn roots_of_groups_merge()
     ensures { (h : List ℕ → List ℕ) (first second : Tables) (entries : List LedgerEntry)
         → spec.wrong_root h (first ++ second) entries

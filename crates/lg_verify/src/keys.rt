@@ -21,7 +21,7 @@ pub fn compare_keys(table: &Keyed, a: &Version, b: &Version) -> Ordering
     compare_at(table.key(), a, b)
 }
 
-/// Their order by the values at these places.
+/// Their order by the values at these places, one after another.
 #[tactic(auto, unfolding(lg_parts::specs::Places::key_at, lg_model::specs::Keys::key_cmp))]
 fn compare_at(places: &[usize], a: &Version, b: &Version) -> Ordering
     ensures { result ≡ key_cmp (key_at places.now (values_of a.now)) (key_at places.now (values_of b.now)) }
@@ -35,7 +35,7 @@ fn compare_at(places: &[usize], a: &Version, b: &Version) -> Ordering
     Ordering::Equal
 }
 
-/// The order of two values, where none is NULL.
+/// The order of two values. One that is missing counts as NULL.
 #[tactic(auto, unfolding(lg_value::specs::Order::value_cmp))]
 fn compare_values(a: Option<&Value>, b: Option<&Value>) -> Ordering
     ensures { result ≡ value_cmp (unwrap_or (option_copied a.entry) Null)

@@ -15,8 +15,9 @@ use crate::rows::{of_key, whole};
 use lg_changes::value_named;
 use lg_items::{Items, Memory, Name};
 use lg_parts::{Keyed, copy_or_null};
+use lg_scalar::to_column;
 use lg_types::{Key, Mode, Row, Want};
-use lg_value::{ColumnDef, Value, ValueErr, to_column};
+use lg_value::{ColumnDef, Value, ValueErr};
 use std::alloc::Global;
 
 /// X on the key of each row and an intent on the table, where each row has one, and else X on the table.

@@ -10,7 +10,7 @@ use Rattle.std.proofs.lemmas.Bool.Decides.{nat_tests}
 use Rattle.std.proofs.lemmas.Int.{ints}
 use Rattle.lg_value.specs.Order.{value_cmp}
 use Rattle.lg_value.proofs.Numbers.{raised_none}
-use Rattle.lg_value.proofs.OrderLaws as order
+use Rattle.lg_scalar.proofs.OrderLaws as order
 use Rattle.lg_types.specs.declared.version.Version.{Version}
 use Rattle.lg_model.specs.Keys.{same_key, key_cmp, version_key, of_key, stands}
 use Rattle.lg_model.specs.Lists.{inserted}

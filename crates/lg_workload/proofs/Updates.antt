@@ -8,7 +8,7 @@ use Rattle.lg_value.specs.declared.expr.Op.TheVariants as op
 use Rattle.lg_value.specs.Order.{value_cmp}
 use Rattle.lg_value.specs.Tree.{literal, column, binary, tree}
 use Rattle.lg_value.proofs.Numbers.{raised_none}
-use Rattle.lg_value.proofs.OrderLaws as order
+use Rattle.lg_scalar.proofs.OrderLaws as order
 use Rattle.lg_value.proofs.Trees.{of_literal, of_column, of_binary}
 use Rattle.lg_types.specs.declared.table.TableDef.{TableDef}
 use Rattle.lg_types.specs.declared.version.Version.{Version}

@@ -5,7 +5,7 @@ ghost use Rattle.lg_parse.specs.Text.{statement_of};
 ghost use Rattle.lg_workload.specs.Statements.{create_statement, insert_statement, update_statement};
 
 use lg_parse::parsing_keeps_to_the_grammar;
-use lg_value::literals_are_read_back;
+use lg_scalar::literals_are_read_back;
 
 /// Each text of the workload is the statement that it looks like: one that makes a table, one that inserts a
 /// row, and one that adds 1 to what stands in a row.

@@ -3,7 +3,7 @@ use Rattle.std.proofs.Common.{refl, ℕ, List, []}
 use Rattle.std.specs.Prelude.{None}
 use Rattle.lg_model.specs.Script.{Reading}
 use Rattle.lg_history.proofs.Real.{real, is_real}
-use Rattle.lg_ledger.proofs.Adding.{hashing}
+use Rattle.lg_closings.proofs.Staying.{hashing}
 use Rattle.lg_standing.specs.Server.{Server}
 use Rattle.lg_world.specs.Served.{Served}
 

@@ -2,7 +2,7 @@ use Rattle.std.proofs.Common.{◌≡◌, ◌∙◌, List, IfOk, codes, subst}
 use Rattle.lg_types.specs.declared.digest.Digest.{Digest}
 use Rattle.lg_plan.specs.Plan.{Plan, plan_view}
 use Rattle.lg_run.specs.CameTo.{CameTo, IsClosed, IsOf, and_digests}
-use Rattle.lg_together.specs.CameTo.{Left}
+use Rattle.lg_run.specs.Agreed.{Left}
 use Rattle.lg_benchmark.proofs.Plans.{apart, database_is_named, few, named}
 use Rattle.lg_benchmark.proofs.running.run.Goals as goal
 

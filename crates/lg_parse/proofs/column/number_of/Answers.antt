@@ -3,7 +3,7 @@ use Rattle.std.proofs.Math.Nat.{pow-le-pow_right}
 use Rattle.std.specs.Char.{is_ascii_digit}
 use Rattle.std.proofs.lemmas.List.{drop_more}
 use Rattle.lg_value.specs.Literal.{digits_after}
-use Rattle.lg_value.proofs.Digits.{one_digit, digit_read, no_digit, small_digit, some_room}
+use Rattle.lg_scalar.proofs.Digits.{one_digit, digit_read, no_digit, small_digit, some_room}
 use Rattle.lg_parse.proofs.column.number_of.Goals as goal
 
 pub overflow_mul-number : goal.overflow_mul-number

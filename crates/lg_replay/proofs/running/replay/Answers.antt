@@ -9,8 +9,8 @@ use Rattle.std.specs.List.{AllByRecursion}
 use Rattle.lg_history.specs.Journals.{blocks}
 use Rattle.lg_model.specs.Journals.{serial, tx_count}
 use Rattle.lg_ledger.specs.Ledger.{Ledger}
-use Rattle.lg_ledger.proofs.Adding.{blocks_counted}
-use Rattle.lg_ledger.proofs.Counting.{entries_counted}
+use Rattle.lg_closings.proofs.Staying.{blocks_counted}
+use Rattle.lg_closings.proofs.Counting.{entries_counted}
 use Rattle.lg_image.specs.ImageBytes.{IsImage}
 use Rattle.lg_images.specs.Room.{TableHasRoom}
 use Rattle.lg_serial.specs.Machine.{Machine}

@@ -2,8 +2,8 @@ use Rattle.std.proofs.Common.{◌≡◌, ◌∙◌, ℕ, List, map, length, ap, 
 use Rattle.std.specs.List.{fold}
 use Rattle.std.proofs.lemmas.List.{length-map}
 use Rattle.lg_items.specs.declared.blob.Blob.{Blob}
-use Rattle.lg_step.specs.Images.{with_images}
-use Rattle.lg_step.proofs.Joins.{nothing_left}
+use Rattle.lg_output.specs.Images.{with_images}
+use Rattle.lg_output.proofs.Joins.{nothing_left}
 use Rattle.lg_run.specs.declared.worker.SessionEnd.{SessionEnd}
 use Rattle.lg_run.proofs.leaving.add_ends.Goals as goal
 

@@ -4,7 +4,7 @@ use Rattle.lg_standing.specs.Cells.{ledger_at}
 use Rattle.lg_seat.specs.Images.{AreImageBytes, CellsStand, JournalHasRoom}
 use Rattle.lg_seat.specs.KeptCell.{KeptCell}
 use Rattle.lg_core.proofs.Pairs.{index_there}
-use Rattle.lg_step.specs.Woven.{joined_each}
+use Rattle.lg_output.specs.Joined.{joined_each}
 use Rattle.lg_run.specs.declared.worker.SessionEnd.{SessionEnd}
 use Rattle.lg_run.proofs.Ledgers.{ledger_within, second_is_ledger}
 use Rattle.lg_run.proofs.leaving.leave.Goals as goal

@@ -1,7 +1,7 @@
 use Rattle.std.proofs.Common.{◌++◌, ◌∙◌, List, ℕ, map, take, append-nil, append_assoc, sym, ap, string_bytes}
 use Rattle.std.proofs.lemmas.List.{take_all}
-use Rattle.lg_step.specs.Woven.{joined, joined_each}
-use Rattle.lg_step.proofs.Joins.{each_more, mapped_more}
+use Rattle.lg_output.specs.Joined.{joined, joined_each}
+use Rattle.lg_output.proofs.Joins.{each_more, mapped_more}
 use Rattle.lg_run.specs.declared.worker.SessionEnd.{SessionEnd}
 use Rattle.lg_run.proofs.leaving.push_ends.Goals as goal
 

@@ -1,5 +1,5 @@
 use Rattle.std.proofs.Common.{◌≡◌, ◌++◌, map, take, string_bytes}
-use Rattle.lg_step.specs.Woven.{joined_each}
+use Rattle.lg_output.specs.Joined.{joined_each}
 use Rattle.lg_run.proofs.leaving.push_ends.Given as goal
 
 -- those so far are there

@@ -1,6 +1,6 @@
 use Rattle.std.proofs.Common.{length}
 use Rattle.lg_board.specs.Boards.{seat_state}
-use Rattle.lg_step.specs.Moments.{said_with}
+use Rattle.lg_output.specs.Moments.{said_with}
 use Rattle.lg_run.proofs.Halves.{halves, whole_again}
 use Rattle.lg_run.proofs.parts.+fn-run_part-join+arg2+fn-run_part-join+arg3+run_part.Goals as goal
 

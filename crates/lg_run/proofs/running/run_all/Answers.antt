@@ -1,8 +1,8 @@
 use Rattle.std.proofs.Common.{arith, refl}
 use Rattle.lg_parse.specs.Text.{statement_of}
 use Rattle.lg_plan.specs.Plan.{plan_view}
-use Rattle.lg_core.proofs.Servers.{some_server}
-use Rattle.lg_step.specs.Moments.{IsMoment, said_with}
+use Rattle.lg_server.proofs.Servers.{some_server}
+use Rattle.lg_output.specs.Moments.{IsMoment, said_with}
 use Rattle.lg_together.proofs.Said.{came_so}
 use Rattle.lg_run.specs.CameTo.{input_of}
 use Rattle.lg_run.proofs.Leaves.{cells_stand, is_of, joined_so, left_of}
@@ -42,4 +42,4 @@ returns g c =
     let joined = joined_so h sized database size says plan (record { server = v.0; database = database; size = size }) v.1 refl refl f fin r saved c.requires.database c.requires.names c.requires.apart in
     let left = left_of h sized database size says plan (record { server = v.0; database = database; size = size }) v.1 refl refl f fin r in
     let came = came_so c.runs_side_by_side_agree.ensures h database size (IsMoment says) (input_of (plan_view plan)) left joined in
-    (left, came, is_of h sized database size says plan (record { server = v.0; database = database; size = size }) v.1 refl refl f fin r saved came (c.is_spelled.ensures came.legal))
+    (left, came, is_of h sized database size says plan (record { server = v.0; database = database; size = size }) v.1 refl refl f fin r saved came (c.is_spelled.ensures statement_of came.legal))

@@ -3,12 +3,12 @@ use Rattle.lg_model.specs.LegalJournals.{IsLegalJournal}
 use Rattle.lg_parse.specs.Text.{statement_of}
 use Rattle.lg_plan.specs.Plan.{plan_view}
 use Rattle.lg_plan.specs.declared.plan.Plan.{Plan}
-use Rattle.lg_core.proofs.Servers.{some_server}
-use Rattle.lg_step.specs.Moments.{IsMoment, said_with}
+use Rattle.lg_server.proofs.Servers.{some_server}
+use Rattle.lg_output.specs.Moments.{IsMoment, said_with}
 use Rattle.lg_together.proofs.Said.{came_so}
 use Rattle.lg_world.specs.Served.{Served}
 use Rattle.lg_run.specs.CameTo.{input_of}
-use Rattle.lg_step.specs.declared.running.Ran.{Ran}
+use Rattle.lg_output.specs.declared.ran.Ran.{Ran}
 use Rattle.lg_run.specs.Closing.{HasLedger, StandBeside, StillStand}
 use Rattle.lg_run.specs.Finished.{HasFinished}
 use Rattle.lg_run.specs.Seated.{texts_in}
@@ -118,5 +118,5 @@ returns g c =
       came,
       is_closed h sized database size says plan d serves refl refl closed fin i.before i.saved laws none made said i.more i.after i.issued came,
       is_with_digests h sized database size says plan d serves refl refl closed fin i.before i.saved laws none made said i.more i.after i.issued came c.in_ok-ran.ran i.is
-          (c.is_spelled.ensures (subst (λ (r : Ran). IsLegalJournal statement_of r.journal) (sym i.is) came.legal)),
+          (c.is_spelled.ensures statement_of (subst (λ (r : Ran). IsLegalJournal statement_of r.journal) (sym i.is) came.legal)),
     )

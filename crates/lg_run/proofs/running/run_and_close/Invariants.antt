@@ -1,5 +1,5 @@
 use Rattle.lg_parse.specs.Text.{statement_of}
-use Rattle.lg_core.proofs.Servers.{some_server}
+use Rattle.lg_server.proofs.Servers.{some_server}
 use Rattle.lg_run.proofs.running.run_and_close.Given as goal
 
 -- the database that is asked for, of a server that reads by the grammar and hashes with the hasher

@@ -4,7 +4,7 @@ use Rattle.lg_plan.specs.declared.section.Section.{Section}
 use Rattle.lg_seat.specs.KeptCell.{KeptCell, Keeps}
 use Rattle.lg_standing.specs.May.{first_seat}
 use Rattle.lg_standing.specs.Seats.{split, SeatState}
-use Rattle.lg_step.specs.Moments.{said_with}
+use Rattle.lg_output.specs.Moments.{said_with}
 use Rattle.lg_world.specs.Served.{StandsOn}
 use Rattle.lg_run.specs.Finished.{setup_name}
 use Rattle.lg_run.specs.Seated.{known_by, texts_in}

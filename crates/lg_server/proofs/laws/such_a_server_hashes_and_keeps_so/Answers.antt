@@ -5,7 +5,7 @@ use Rattle.lg_ledger.specs.Ledger.{block_hash}
 use Rattle.lg_image.specs.Image.{image_of}
 use Rattle.lg_image.specs.ImageBytes.{image_bytes}
 use Rattle.lg_standing.specs.Server.{Server, journal_image}
-use Rattle.lg_server.specs.Serves.{Serves}
+use Rattle.lg_standing.specs.Serves.{Serves}
 use Rattle.lg_server.proofs.laws.such_a_server_hashes_and_keeps_so.Goals as goal
 
 images : (h : List ℕ → List ℕ) (reads : Reading) (v : Server) → Serves h reads v → (database : List ℕ) (J : List JournalItem) → journal_image v database J ≡ image_bytes (image_of h reads database J)

@@ -3,8 +3,8 @@ use Rattle.std.specs.List.{fold}
 use Rattle.std.proofs.lemmas.List.{length-map}
 use Rattle.lg_items.specs.declared.blob.Blob.{Blob}
 use Rattle.lg_core.specs.declared.session.Session.{Session}
-use Rattle.lg_step.specs.Images.{with_images}
-use Rattle.lg_step.proofs.Joins.{nothing_left}
+use Rattle.lg_output.specs.Images.{with_images}
+use Rattle.lg_output.proofs.Joins.{nothing_left}
 use Rattle.lg_step.proofs.leaving.images_of.Goals as goal
 
 pub loop-session-init : goal.loop-session-init

@@ -1,6 +1,6 @@
 use Rattle.std.proofs.Common.{◌≡◌, map}
 use Rattle.std.specs.List.{fold}
-use Rattle.lg_step.specs.Images.{with_each, with_images}
+use Rattle.lg_output.specs.Images.{with_each, with_images}
 use Rattle.lg_step.proofs.leaving.images_of.Given as goal
 
 -- with those of the sessions that are left it comes to all

@@ -2,9 +2,9 @@ use Rattle.std.proofs.Common.{◌≡◌, ◌∷◌, [], ◌++◌, ◌∙◌, ℕ
 use Rattle.std.proofs.lemmas.List.{map_push, take_all}
 use Rattle.lg_input.specs.Line.{seen}
 use Rattle.lg_core.specs.declared.session.Session.{Session}
+use Rattle.lg_output.proofs.Joins.{mapped_more}
 use Rattle.lg_step.specs.Numbers.{numbers_of}
 use Rattle.lg_step.specs.Woven.{woven_text}
-use Rattle.lg_step.proofs.Joins.{mapped_more}
 use Rattle.lg_step.proofs.leaving.transcript_of.Goals as goal
 
 pub loop-session-init : goal.loop-session-init

@@ -2,7 +2,7 @@ use Rattle.std.proofs.Common.{◌≡◌, List, ℕ, [], ◌∷◌, ◌++◌, map
 use Rattle.std.proofs.lemmas.List.{take_all}
 use Rattle.lg_input.specs.Line.{Statement, seen}
 use Rattle.lg_input.specs.declared.line.Line.{Line}
-use Rattle.lg_step.specs.Moments.{said_with}
+use Rattle.lg_output.specs.Moments.{said_with}
 use Rattle.lg_step.specs.Reached.{Reached, asked}
 use Rattle.lg_step.proofs.Joins.{seen_more}
 use Rattle.lg_step.proofs.Steps.{reached_none}

@@ -1,7 +1,7 @@
 use Rattle.std.proofs.Common.{List, ℕ, [], length, map, take}
 use Rattle.lg_core.specs.Standing.{Stands}
 use Rattle.lg_input.specs.Line.{seen}
-use Rattle.lg_step.specs.Moments.{said_with}
+use Rattle.lg_output.specs.Moments.{said_with}
 use Rattle.lg_step.specs.Reached.{AreOpen, Reached, asked}
 use Rattle.lg_step.proofs.lines.run_each.Given as goal
 

@@ -7,7 +7,7 @@ use Rattle.lg_items.specs.declared.text.Text.{Text}
 use Rattle.lg_core.specs.Asked.{Asked, with_line}
 use Rattle.lg_core.specs.Standing.{Stands}
 use Rattle.lg_input.specs.Line.{Statement, seen}
-use Rattle.lg_step.specs.Moments.{said_with}
+use Rattle.lg_output.specs.Moments.{said_with}
 use Rattle.lg_step.proofs.Places.{found, within}
 use Rattle.lg_step.proofs.Steps.{reached_more, still_open}
 use Rattle.lg_step.proofs.lines.run_line.Goals as goal

@@ -2,13 +2,14 @@ use Rattle.std.proofs.Common.{◌≡◌, List, ℕ, map, Bor}
 use Rattle.std.specs.List.{AllByRecursion}
 use Rattle.lg_parse.specs.Text.{statement_of}
 use Rattle.lg_course.proofs.Told.{some_meaning}
+use Rattle.lg_server.proofs.Servers.{some_server}
 use Rattle.lg_digest.specs.Writing.{HasMoments}
 use Rattle.lg_input.specs.Line.{seen}
-use Rattle.lg_step.specs.Moments.{said_with}
+use Rattle.lg_output.specs.Moments.{said_with}
+use Rattle.lg_output.proofs.Made.{have_moments}
 use Rattle.lg_step.specs.Ran.{HasKept, run_left}
 use Rattle.lg_step.proofs.Comes.{comes_to}
 use Rattle.lg_step.proofs.Ends.{if_ok}
-use Rattle.lg_step.proofs.Made.{have_moments}
 use Rattle.lg_step.proofs.Whole.{is_ran}
 use Rattle.lg_step.proofs.running.run_lines.Goals as goal
 
@@ -24,7 +25,7 @@ returns g c =
     let x = c.in_ok-parts.ensures in
     let accepted = c.kept_images_are_accepted.ensures in
     let came = comes_to c.ended_courses_agree.ensures c.journals_of_courses_are_legal.ensures c.times_are_those_of_sessions.ensures accepted.room accepted.whole accepted.all
-    c.there_is_such_a_server.ensures c.sessions_law.ensures.once c.sessions_law.ensures.named h database size says ss p x in
+    some_server c.sessions_law.ensures.once c.sessions_law.ensures.named h database size says ss p x in
     let m = some_meaning h statement_of in
     let moments : AllByRecursion HasMoments p.digests = have_moments m.0 database p.journal.items says p.digests came.times came.made (came.agrees.agree m.0 m.1).digests_are_the_journals.each in
-    if_ok c.left_by.result (λ r kept. (run_left ss x.left.transcripts p, came, is_ran h database size says ss names p x r c.requires.sessions kept (c.is_spelled.ensures came.legal) moments)) c.left_by.ensures
+    if_ok c.left_by.result (λ r kept. (run_left ss x.left.transcripts p, came, is_ran h database size says ss names p x r c.requires.sessions kept (c.is_spelled.ensures statement_of came.legal) moments)) c.left_by.ensures

@@ -1,7 +1,7 @@
 use Rattle.std.proofs.Common.{◌≡◌, ◌++◌, ◌∙◌, List, ℕ, [], map, take, append-nil, append_assoc, sym, ap, string_bytes, Bor}
 use Rattle.std.proofs.lemmas.List.{take_all}
-use Rattle.lg_step.specs.Woven.{joined, joined_each}
-use Rattle.lg_step.proofs.Joins.{each_more, mapped_more}
+use Rattle.lg_output.specs.Joined.{joined, joined_each}
+use Rattle.lg_output.proofs.Joins.{each_more, mapped_more}
 use Rattle.lg_step.proofs.weaving.push_rest.Goals as goal
 
 pub loop-texts-init : goal.loop-texts-init
@@ -11,7 +11,7 @@ pub loop-texts-preserved : goal.loop-texts-preserved
 loop-texts-preserved c =
     let left = c.args.left.now in
     let so_far = map (λ (l : Bor (List (List ℕ))). l.now) (take c.loop-texts.texts-index left) in
-    c.in_ok-push_all.ensures
+    c.in_ok-push_texts.ensures
     ∙ ap (λ (b : List ℕ). b ++ joined c.texts-item.result.now) c.loop-texts.invariant
     ∙ append_assoc (string_bytes c.args.out.now) (joined_each so_far) (joined c.texts-item.result.now)
     ∙ ap (λ (b : List ℕ). string_bytes c.args.out.now ++ b)

@@ -1,5 +1,5 @@
 use Rattle.std.proofs.Common.{◌≡◌, ◌++◌, map, take, string_bytes}
-use Rattle.lg_step.specs.Woven.{joined_each}
+use Rattle.lg_output.specs.Joined.{joined_each}
 use Rattle.lg_step.proofs.weaving.push_rest.Given as goal
 
 -- those so far are there

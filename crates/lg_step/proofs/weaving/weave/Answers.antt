@@ -3,8 +3,9 @@ use Rattle.std.specs.Vec.{with_items}
 use Rattle.std.proofs.lemmas.List.{drop_all, with_items_is}
 use Rattle.lg_input.specs.Line.{seen}
 use Rattle.lg_input.specs.declared.line.Line.{Line}
+use Rattle.lg_output.specs.Joined.{joined, joined_each}
 use Rattle.lg_step.specs.Numbers.{numbers_of}
-use Rattle.lg_step.specs.Woven.{first_at, joined, joined_each, without_first, woven_text}
+use Rattle.lg_step.specs.Woven.{first_at, without_first, woven_text}
 use Rattle.lg_step.proofs.Joins.{woven_more}
 use Rattle.lg_step.proofs.weaving.weave.Goals as goal
 

@@ -1,0 +1,4 @@
+pub mod Counting
+pub mod Digests
+pub mod Roots
+pub mod Staying

@@ -1,6 +1,0 @@
-use Rattle.lg_ledger.proofs.Adding.{blocks_counted}
-use Rattle.lg_ledger.proofs.Counting.{entries_counted, closed_counted}
-use Rattle.lg_ledger.proofs.laws.entries_and_blocks_are_counted.Goals as goal
-
-pub returns : goal.returns
-returns c = record { blocks = blocks_counted; entries = entries_counted; closed = closed_counted }

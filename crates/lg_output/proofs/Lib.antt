@@ -1,0 +1,5 @@
+pub mod Each
+mod Forms
+pub mod Joins
+pub mod Kept
+pub mod Made

@@ -1,0 +1,3 @@
+pub mod Images
+pub mod Joined
+pub mod Moments
