@@ -1,5 +1,5 @@
 -- What closing a block does to books.
-use Rattle.std.proofs.Common.{◌≡◌, ◌≤◌, ◌<◌, ◌+◌, ◌-◌, ◌^◌, ℕ, zero, suc, refl, sym, ap, subst, ◌∙◌, List, [], ◌∷◌, ◌++◌, take, drop, length, map, true, arith}
+use Rattle.std.proofs.Common.{◌≡◌, ◌≤◌, ◌<◌, ◌+◌, ◌-◌, ◌^◌, ℕ, zero, suc, refl, sym, ap, ◌∙◌, List, [], ◌∷◌, ◌++◌, take, drop, length, map, arith}
 use Rattle.std.proofs.Math.Seq.{take-append_seam, drop-append_seam}
 use Rattle.std.proofs.lemmas.List.{length-append, length-drop, length-take}
 use Rattle.std.specs.List.{AllByRecursion}
@@ -8,7 +8,7 @@ use Rattle.lg_types.specs.declared.entry.TxEntry.{TxEntry}
 use Rattle.lg_entry.specs.Entry.{IsEntry, entry_bytes}
 use Rattle.lg_entry.specs.Record.{record_bytes}
 use Rattle.lg_merkle.specs.TreeHash.{tree_hash}
-use Rattle.lg_ledger.specs.Entries.{at_place, placed}
+use Rattle.lg_ledger.specs.Entries.{placed}
 use Rattle.lg_ledger.specs.Blocks.{no_hash, block_of, record_hash, last_hash}
 use Rattle.lg_ledger.specs.Ledger.{Ledger, closes}
 use Rattle.lg_blocks.specs.Books.{AreBooks}

@@ -2,7 +2,7 @@
 -- Word i is 0 where cell i is at home. It is 1 where the cell is out, and 2 where it is out and a thread may
 -- wait for it.
 use Rattle.std.specs.Prelude.{◌≡◌, ◌≢◌, ℕ, ◌<◌, ◌⊎◌, List, [], ◌∷◌, map, length, sum_by, Option, Some, None, slice_index_or}
-use mathlib.Core.Option.{some, none}
+use mathlib.Core.Option.{some}
 use mathlib.Core.Option as maybe
 use lib.ListN.{get_elem?}
 use Rattle.atomic_table.specs.Table.{State, Me, Step, rest}

@@ -147,6 +147,9 @@ module _ (h : List ℕ → List ℕ) where
     pub smaller : 1 ≤ k → pending_in d < pending_in c
     smaller least = omega (arith, fewer, least, some)
 
+    pub some_stay : k < pending_in c → 1 ≤ pending_in d
+    some_stay more = omega (arith, fewer, more)
+
     pub count_stays : tx_count d.items ≡ tx_count c.items
     count_stays =
         ap (λ (e : LedgerCell). tx_count e.items) is

@@ -241,8 +241,8 @@ impl LedgerCell {
 
     /// Closes all that is pending, in blocks of the block size with the rest last, and issues the digest
     /// of the newest block, as made at this moment. `NoBlock` exactly where the journal has no
-    /// transaction. After want of memory no digest was issued and full blocks may have been closed; nothing
-    /// changed where one block takes all that is pending.
+    /// transaction. After want of memory no digest was issued and full blocks may have been closed, but never
+    /// all that was pending; nothing changed where one block takes all of it.
     #[tactic(auto, using(crate::proofs::Issuing::issued_of_all))]
     pub fn digest<H: Hash32>(&mut self, alloc: Global, h: H, made: u64) -> Result<Issued, DigestErr>
         requires { KeepsHash (H.digest h) self.old }
@@ -253,6 +253,7 @@ impl LedgerCell {
         ensures kept { pending_in self.old.cell ≤ self.old.cell.block_size
             → OnErr result (self.new ≡ self.old) }
         ensures memory { OnErr result ((n : ℕ) × (self.new.cell ≡ all_closed (H.digest h) n self.old.cell)) }
+        ensures left { OnErr result (1 ≤ pending_in self.old.cell → 1 ≤ pending_in self.new.cell) }
         ensures hash { KeepsHash (H.digest h) self.new }
     {
         if self.point() == 0 {
@@ -269,6 +270,7 @@ impl LedgerCell {
         ensures rest { all_closed (H.digest h) (pending_in self.new.cell) self.new.cell
             ≡ all_closed (H.digest h) (pending_in self.old.cell) self.old.cell }
         ensures closed { (n : ℕ) × (self.new.cell ≡ all_closed (H.digest h) n self.old.cell) }
+        ensures left { 1 ≤ pending_in self.old.cell → 1 ≤ pending_in self.new.cell }
         ensures kept { pending_in self.old.cell ≤ self.old.cell.block_size → self.new ≡ self.old }
         ensures count { tx_count self.new.cell.items ≡ tx_count self.old.cell.items }
         ensures hash { KeepsHash (H.digest h) self.new }

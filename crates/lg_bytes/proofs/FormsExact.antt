@@ -1,5 +1,5 @@
 -- The fields that have a form of their own are read exactly as they are written.
-use Rattle.std.proofs.Common.{◌≡◌, ◌<◌, ◌^◌, ℕ, Bool, true, List}
+use Rattle.std.proofs.Common.{◌≡◌, ◌^◌, ℕ, Bool, true, List}
 use Rattle.lg_items.specs.DatabaseName.{is_database_name}
 use Rattle.lg_items.specs.Ids.{is_tx_id}
 use Rattle.lg_items.specs.Moment.{is_moment}

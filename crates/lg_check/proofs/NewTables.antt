@@ -1,7 +1,7 @@
 -- The checks of a new table's definition are those of what is written of it.
-use Rattle.std.proofs.Common.{◌≡◌, ◌∙◌, ℕ, zero, suc, refl, sym, ap, arith, Bool, true, false, List, [], ◌∷◌, ◌++◌, map, length, Option, Some, None, Ok, Err, Bor}
+use Rattle.std.proofs.Common.{◌≡◌, ◌∙◌, ℕ, suc, refl, sym, ap, arith, Bool, true, false, List, [], ◌∷◌, ◌++◌, map, length, Some, None, Ok, Err, Bor}
 use Rattle.std.proofs.lemmas.Grind.{common_steps}
-use Rattle.std.specs.Prelude.{cond, ◌≤◌, ◌+◌, ◌==◌, ◌&&◌, ◌||◌, not, nat_lt, nat_le, if◌then◌else◌, is_some, position, flat_map}
+use Rattle.std.specs.Prelude.{cond, ◌≤◌, ◌+◌, ◌==◌, ◌&&◌, ◌||◌, not, nat_lt, nat_le, if◌then◌else◌, is_some}
 use Rattle.std.specs.List.{list_all, list_any, filter, position_or_len}
 use Rattle.std.specs.Str.{bytes_eq}
 use Rattle.lg_value.specs.declared.column.ColumnDef.{ColumnDef}
@@ -12,12 +12,11 @@ use Rattle.lg_types.specs.declared.table.Part.TheVariants.{History, View}
 use Rattle.lg_types.specs.declared.statement.CreateTable.{CreateTable}
 use Rattle.lg_model.specs.Lists.{has_name, repeats}
 use Rattle.lg_model.specs.Limits.{max_columns, max_key_columns, max_tables}
-use Rattle.lg_model.specs.Catalog.{is_named, own_part, part_named}
+use Rattle.lg_model.specs.Catalog.{is_named, own_part}
 use Rattle.lg_value.specs.declared.refusal.Refusal.{Refusal}
 use Rattle.lg_value.specs.declared.refusal.Refusal.TheVariants.{E03, E04, E06, E16}
 use Rattle.lg_model.specs.Refusals.{Checked, Gives, and_then}
 use Rattle.lg_model.specs.Checks.{refused_if, is_declared}
-use Rattle.lg_model.specs.Create as create
 use Rattle.lg_model.specs.Create.{names_of, is_name, table_names, all_names, keyed, key_position_of, ordinal_at, table_def, is_long, is_ledger_name, system_tables, has_bad_name, exceeds_limit, has_null_key, history_of, view_of, next_id, create_check}
 use Rattle.lg_check.specs.NewTable as new
 use Rattle.lg_check.proofs.Lists.{any_map}

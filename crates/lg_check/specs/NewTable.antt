@@ -1,5 +1,5 @@
 -- The checks of a new table, over what is written of it and its three names.
-use Rattle.std.specs.Prelude.{ℕ, ◌+◌, ◌==◌, ◌&&◌, ◌||◌, not, nat_lt, nat_le, Bool, is_some, List, map, length, Ok}
+use Rattle.std.specs.Prelude.{ℕ, ◌+◌, ◌&&◌, ◌||◌, not, nat_lt, nat_le, Bool, is_some, List, length, Ok}
 use Rattle.std.specs.List.{list_all, list_any}
 use Rattle.lg_value.specs.declared.column.ColumnDef.{ColumnDef}
 use Rattle.lg_value.specs.Stored.{is_in_range}

@@ -1,5 +1,5 @@
 -- The blocks of a journal are counted, and stay.
-use Rattle.std.proofs.Common.{◌≡◌, ◌<◌, ℕ, ◌+◌, refl, ap, ◌∙◌, List, [], ◌∷◌, ◌++◌, length, arith}
+use Rattle.std.proofs.Common.{◌≡◌, ◌<◌, ℕ, ◌+◌, ap, ◌∙◌, List, [], ◌∷◌, ◌++◌, length, arith}
 use Rattle.std.proofs.lemmas.List.{length-append}
 use Rattle.lg_types.specs.declared.entry.BlockRecord.{BlockRecord}
 use Rattle.lg_types.specs.declared.journal.JournalItem.{JournalItem}

@@ -1,7 +1,7 @@
 -- A core inside a statement of one session, with each thing that is done.
 use Rattle.std.proofs.Common.{◌≡◌, ◌⊎◌, ◌<◌, ◌≤◌, ◌+◌, ◌-◌, ◌*◌, ℕ, List, ◌++◌, Option, length, slice_set, refl, sym, ap, subst, subst₂, ◌∙◌, inl, inr, ⊎_elim, arith}
 use mathlib.Core.Option as maybe
-use mathlib.Core.Option.{some, none, some-injective, some-ne-none}
+use mathlib.Core.Option.{some, none, some-injective}
 use lib.ListN.{get_elem?}
 use Rattle.lg_history.specs.Lists.{Each, In}
 use Rattle.lg_standing.specs.Cells.{Cell, LedgerCell, Ledger, ledger_at, pending_in}
@@ -26,7 +26,7 @@ use Rattle.lg_core.specs.Standing.{cells_seen, seats_seen, pending_at, pending_f
 use Rattle.lg_core.specs.declared.one_thread.Core.{Core}
 use Rattle.lg_core.specs.declared.session.Session.{Session}
 use Rattle.lg_core.proofs.Holding as holding
-use Rattle.lg_core.proofs.Holding.{seated, in_last}
+use Rattle.lg_core.proofs.Holding.{seated}
 use Rattle.lg_core.proofs.OneServer as one
 use Rattle.lg_core.proofs.Pairs.{all_there, each_there, seen_at, seen_set}
 use Rattle.lg_core.proofs.Pending.{less_work}

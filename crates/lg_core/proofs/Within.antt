@@ -8,7 +8,7 @@ use Rattle.lg_standing.specs.Seats.{OpenTransaction, SeatState}
 use Rattle.lg_seat.specs.Needs.{need_of, point_need, cell_or_done, end_need, answer_need, leaving_need, back_need}
 use Rattle.lg_seat.specs.Sits.{Sits, Runs, IsRunning, IsPoint}
 use Rattle.lg_seat.specs.VisitedCells.{AreVisited, not_catalog}
-use Rattle.lg_seat.specs.declared.end_line.EndLine.{EndLine}
+use Rattle.lg_types.specs.declared.end_line.EndLine.{EndLine}
 use Rattle.lg_seat.specs.declared.need.Need.{Need}
 use Rattle.lg_seat.specs.declared.need.Need.TheVariants as need
 use Rattle.lg_seat.specs.declared.running.Running.{Running}

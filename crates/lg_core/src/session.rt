@@ -1,11 +1,9 @@
 //! A session of a core.
 
-ghost use Rattle.std.specs.Prelude.{◌≡◌, ◌<◌, OnOk, true, Some, []};
+ghost use Rattle.std.specs.Prelude.{◌≡◌, ◌<◌, OnOk, true, []};
 ghost use Rattle.lg_items.specs.SessionName.{is_session_name};
 ghost use Rattle.lg_standing.specs.Seats.{idle, SeatState};
 ghost use Rattle.lg_standing.specs.Server.{Server};
-ghost use Rattle.lg_transcript.specs.EndSeen as transcript;
-ghost use Rattle.lg_seat.specs.EndSeen.{line_seen};
 ghost use Rattle.lg_seat.specs.Needs.{need_of, visits_left};
 ghost use Rattle.lg_seat.specs.Points.{IsAnswering, IsBetween};
 ghost use Rattle.lg_seat.specs.Rest.{MayEnd};
@@ -15,7 +13,7 @@ ghost use Rattle.lg_core.specs.Written.{Answered, Kept, Left};
 
 use lg_items::{Blob, Items, Memory, Name, Text};
 use lg_merkle::Hash32;
-use lg_seat::{Answer, Cell, EndLine, Seat};
+use lg_seat::{Answer, Cell, Seat};
 use lg_transcript::{push_end, push_statement};
 use std::alloc::Global;
 
@@ -46,25 +44,6 @@ pub fn new_session<H: Hash32>(alloc: Global, hasher: H, name: Name) -> Session<H
     }
 }
 
-// The line of a transaction's end as transcripts have it.
-fn line_of(end: EndLine) -> lg_transcript::EndLine
-    ensures { Some (transcript.end_seen result) ≡ line_seen (Some end) }
-{
-    match end {
-        EndLine::Committed { id, place } => lg_transcript::EndLine::Committed { id, place },
-        EndLine::Ended { id, after } => lg_transcript::EndLine::Ended { id, after },
-    }
-}
-
-fn lines_of(end: Option<EndLine>) -> Option<lg_transcript::EndLine>
-    ensures { transcript.line_seen result ≡ line_seen end }
-{
-    match end {
-        Some(end) => Some(line_of(end)),
-        None => None,
-    }
-}
-
 impl<H: Hash32> Session<H> {
     /// The statement is answered.
     pub fn answer(&mut self, alloc: Global) -> Result<(), Memory>
@@ -75,7 +54,7 @@ impl<H: Hash32> Session<H> {
         let Answer { text, reply, end } = self.seat.answer();
         let name = self.seat.name().as_str();
         let mut entry = String::new(alloc);
-        push_statement(alloc, name, text.as_str(), reply, lines_of(end), &mut entry)?;
+        push_statement(alloc, name, text.as_str(), reply, end, &mut entry)?;
         self.entries.push(Text::from_string(entry))?;
         self.seat.end_statement();
         Ok(())
@@ -89,7 +68,7 @@ impl<H: Hash32> Session<H> {
         if let Some(end) = self.seat.last_line() {
             let name = self.seat.name().as_str();
             let mut entry = String::new(alloc);
-            push_end(alloc, name, line_of(end), &mut entry)?;
+            push_end(alloc, name, end, &mut entry)?;
             self.entries.push(Text::from_string(entry))?;
         }
         self.seat.end_session();

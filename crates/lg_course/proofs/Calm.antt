@@ -1,22 +1,19 @@
 -- What steps don't do: which of their deeds concern no closing.
-use Rattle.std.proofs.Common.{◌≡◌, ℕ, zero, suc, ◌<◌, ◌≤◌, ◌+◌, ◌-◌, Bool, true, false, List, [], ◌∷◌, ◌++◌, map, length, Option, Some, None, refl, sym, ap, subst, subst₂, ◌∙◌, arith, length-append}
-use Rattle.std.specs.Prelude.{◌==◌, if◌then◌else◌, nat_le}
-use Rattle.std.proofs.lemmas.Bool.{lt-leb, le-leb, ne_eqb, eq-eqb, leb-true, leb-false}
-use mathlib.Core.Option.{some}
-use lib.ListN.{get_elem?}
+use Rattle.std.proofs.Common.{ℕ, ◌+◌, Bool, true, false, List, [], ◌∷◌, ◌++◌, map, Option, Some, None, refl}
+use Rattle.std.specs.Prelude.{if◌then◌else◌}
 use Rattle.lg_types.specs.declared.lock.Hold.{Hold}
 use Rattle.lg_types.specs.declared.lock.Want.{Want}
 use Rattle.lg_types.specs.declared.reply.Reply.{Reply}
-use Rattle.lg_model.specs.Journals.{Line, tx_count}
-use Rattle.lg_history.specs.Acts.{SessionAct, starts, takes, says, fails, commits, issues, keeps, answers, stops, Act, by, closes}
-use Rattle.lg_history.specs.Histories.{Due, pending, full, digest_next, full_or, WaitsForNone}
+use Rattle.lg_model.specs.Journals.{Line}
+use Rattle.lg_history.specs.Acts.{SessionAct, starts, takes, fails, commits, issues, answers, stops, by}
+use Rattle.lg_history.specs.Histories.{Due, pending, full_or, WaitsForNone}
 use Rattle.lg_history.specs.Lists.{Text, Each}
 use Rattle.lg_history.specs.Meaning.{Meaning}
 use Rattle.lg_history.specs.Transcripts.{Kind, unread, begin, commit, roll_back, to_savepoint, create, rows, issue, keep, kind_of}
-use Rattle.lg_standing.specs.ActsOf.{closings, done_acts, checked_acts, end_acts, failed_acts, failed_in, alone_acts}
+use Rattle.lg_standing.specs.ActsOf.{done_acts, checked_acts, end_acts, failed_acts, failed_in, alone_acts}
 use Rattle.lg_standing.specs.Alone.{Alone, Alones, none, more}
 use Rattle.lg_standing.specs.Alone as alone
-use Rattle.lg_standing.specs.Deeds.{Deed, did, closed, deed, stopped_acts, alones_acts}
+use Rattle.lg_standing.specs.Deeds.{Deed, did, closed, stopped_acts, alones_acts}
 use Rattle.lg_standing.specs.Doing.{Stopped, barred, no_memory}
 use Rattle.lg_standing.specs.LedgerVisits.{Ends, commits_nothing, rolls_back, leaves, did_nothing, was_refused, lacks_memory, lacks_index}
 use Rattle.lg_standing.specs.Seats.{OpenTransaction, Place, Session, SeatState}

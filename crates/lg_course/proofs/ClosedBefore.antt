@@ -1,15 +1,15 @@
 -- In step order, the blocks of digests that come before an image are closed in it.
-use Rattle.std.proofs.Common.{◌≡◌, ◌<◌, ◌≤◌, ◌+◌, ◌-◌, ℕ, zero, suc, Bool, true, false, List, [], ◌∷◌, ◌++◌, length, take, None, refl, sym, ap, subst, ◌∙◌, append_assoc, length-append, inl, inr, ⊎_elim, arith}
+use Rattle.std.proofs.Common.{◌≡◌, ◌<◌, ◌≤◌, ◌+◌, ◌-◌, ℕ, zero, suc, Bool, true, false, List, [], ◌∷◌, ◌++◌, length, take, refl, sym, ap, subst, ◌∙◌, append_assoc, length-append, ⊎_elim, arith}
 use Rattle.std.specs.Prelude.{◌==◌}
 use Rattle.std.proofs.lemmas.Bool.{cases_lt, eqb-true}
 use Rattle.lg_types.specs.declared.journal.JournalItem.{JournalItem}
 use Rattle.lg_types.specs.declared.journal.JournalItem.TheVariants.{Tx, Close}
-use Rattle.lg_model.specs.Journals.{tx_count, closed}
+use Rattle.lg_model.specs.Journals.{closed}
 use Rattle.lg_history.specs.Facts.{Fact, began, said, failed, met, placed, passed, over, digest, image, no_digest}
 use Rattle.lg_history.specs.Journals.{blocks, in_blocks}
 use Rattle.lg_history.specs.Lists.{Each}
 use Rattle.lg_history.specs.Serial.{ClosesPending}
-use Rattle.lg_history.specs.StepOrder.{Counted, When, TakesTx, TakesClose, ItemsInOrder}
+use Rattle.lg_history.specs.StepOrder.{Counted, When, TakesClose, ItemsInOrder}
 use Rattle.lg_course.specs.Outcome.{IsClosedThere}
 
 -- ---- blocks of parts of a journal

@@ -1,9 +1,8 @@
 -- Deeds that close blocks in step, put together; and what they tell of a history.
-use Rattle.std.proofs.Common.{◌≡◌, ◌≤◌, ℕ, suc, List, [], ◌∷◌, ◌++◌, map, refl, sym, ap, subst, ◌∙◌}
+use Rattle.std.proofs.Common.{◌≡◌, ℕ, suc, List, [], ◌∷◌, ◌++◌, map, sym, subst}
 use Rattle.std.specs.Prelude.{◌==◌}
 use Rattle.lg_history.specs.Acts.{SessionAct, commits, issues, Act, by, closes}
-use Rattle.lg_history.specs.Histories.{ClosesInStep, Due, pending, full, digest_next, full_or, WaitsForNone}
-use Rattle.lg_history.specs.Lists.{Each}
+use Rattle.lg_history.specs.Histories.{ClosesInStep, Due, pending, full, digest_next, full_or}
 use Rattle.lg_standing.specs.Deeds.{Deed, did, closed, deed}
 use Rattle.lg_course.specs.InStep.{InStep}
 

@@ -1,5 +1,5 @@
 -- What the deeds of a history tell of the ends of its sessions.
-use Rattle.std.proofs.Common.{◌≡◌, ℕ, List, [], ◌∷◌, ◌++◌, map, refl, sym, ap, ap₂, subst, ◌∙◌}
+use Rattle.std.proofs.Common.{◌≡◌, ℕ, List, [], ◌∷◌, ◌++◌, map, refl, sym, ap₂, subst}
 use Rattle.lg_history.specs.Acts.{SessionAct, takes, answers, Act, by, closes}
 use Rattle.lg_history.specs.Histories.{EndsComeLast, line_by, lines_of}
 use Rattle.lg_history.specs.Inputs.{InputLine}
@@ -7,8 +7,8 @@ use Rattle.lg_history.specs.Lists.{Each}
 use Rattle.lg_history.specs.Sessions.{SessionState}
 use Rattle.lg_history.specs.Transcripts.{end_of_session}
 use Rattle.lg_history.specs.Worlds.{World, step}
-use Rattle.lg_standing.specs.Deeds.{Deed, did, closed, deed}
-use Rattle.lg_course.specs.EndsLast.{IsNoEnd, IsNoStatement, EndsLast}
+use Rattle.lg_standing.specs.Deeds.{Deed, did, deed}
+use Rattle.lg_course.specs.EndsLast.{IsNoEnd, IsNoStatement}
 
 -- ---- where no statement is taken up
 

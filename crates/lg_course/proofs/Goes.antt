@@ -1,12 +1,12 @@
 -- How a course goes on: with each step, with what it adds.
-use Rattle.std.proofs.Common.{◌≡◌, ◌≢◌, ℕ, zero, suc, ◌<◌, ◌≤◌, ◌+◌, Bool, length, true, List, [], ◌∷◌, ◌++◌, map, slice_set, refl, sym, ap, ap₂, subst, subst₂, ◌∙◌, append-nil, append_assoc, arith}
+use Rattle.std.proofs.Common.{◌≡◌, ◌≢◌, ℕ, zero, suc, ◌≤◌, ◌+◌, Bool, length, true, List, [], ◌∷◌, ◌++◌, map, slice_set, refl, sym, ap, ap₂, subst, subst₂, ◌∙◌, append-nil, append_assoc, arith}
 use Rattle.std.specs.Prelude.{◌==◌}
 use Rattle.std.proofs.lemmas.Bool.{ne_eqb}
 use mathlib.Core.Option.{some, none, some-injective}
 use lib.ListN.{get_elem?}
 use Rattle.lg_model.specs.Limits.{max_block}
 use Rattle.lg_history.specs.Acts.{SessionAct, starts, takes, answers, stops}
-use Rattle.lg_history.specs.Histories.{Due, pending, full_or}
+use Rattle.lg_history.specs.Histories.{pending, full_or}
 use Rattle.lg_history.specs.Inputs.{InputLine}
 use Rattle.lg_history.specs.Lists.{Text, Each}
 use Rattle.lg_history.proofs.Trace.{each_append, each_weaker}
@@ -16,23 +16,23 @@ use Rattle.lg_standing.specs.ActsOf.{alone_acts}
 use Rattle.lg_standing.specs.Cells.{Cell, Ledger, LedgerCell, AreCells, first_cells, first_ledger, ledger_at, pending_in}
 use Rattle.lg_standing.specs.LedgerVisits.{Closes}
 use Rattle.lg_standing.specs.Deeds.{Deed, did, alones_acts, visit_deeds, may_deeds, step_deeds, steps_deeds}
-use Rattle.lg_standing.specs.Follows.{names_begun, alone_lines, alones_lines, may_lines, step_lines, steps_lines}
+use Rattle.lg_standing.specs.Follows.{names_begun, alone_lines, alones_lines, may_lines, step_lines}
 use Rattle.lg_standing.specs.May.{May, OutsStand, first_seat}
-use Rattle.lg_standing.specs.OneByOne.{IsOneAlone, OneByOne}
+use Rattle.lg_standing.specs.OneByOne.{IsOneAlone}
 use Rattle.lg_standing.specs.QuietElse.{IsQuiet, QuietElse}
 use Rattle.lg_standing.specs.Moves.{sits}
-use Rattle.lg_standing.specs.Seats.{SeatState, idle, kept, split}
+use Rattle.lg_standing.specs.Seats.{SeatState, kept, split}
 use Rattle.lg_standing.specs.Visits as visit
 use Rattle.lg_standing.specs.Server.{Server}
 use Rattle.lg_standing.specs.Steps as step
-use Rattle.lg_standing.specs.Steps.{Step, Steps}
+use Rattle.lg_standing.specs.Steps.{Step}
 use Rattle.lg_standing.proofs.LedgerVisit.{the_ledger}
 use Rattle.lg_standing.proofs.OneAtATime.{IsPlain}
 use Rattle.lg_standing.proofs.Places.{set_same, set_here, set_else, set_again}
 use Rattle.lg_standing.proofs.StepsAlone.{checked_plain, failed_in_plain}
 use Rattle.lg_standing.proofs.SinceFirst.{SinceFirst, since_first}
 use Rattle.lg_course.specs.Course.{Course, IsInside, StaysInside}
-use Rattle.lg_course.specs.EndsLast.{Phase, running, ending, CameSo, EndsLast, InPhase, IsNoEnd, IsNoStatement}
+use Rattle.lg_course.specs.EndsLast.{Phase, running, ending, CameSo, InPhase, IsNoEnd, IsNoStatement}
 use Rattle.lg_course.specs.InStep.{InStep, due_in, Waits}
 use Rattle.lg_course.proofs.Calm.{Still, alone_still, alones_still, still_in_step}
 use Rattle.lg_course.proofs.Closes.{in_step_append}

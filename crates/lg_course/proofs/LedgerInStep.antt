@@ -1,16 +1,16 @@
 -- Visits of the ledger's cell close blocks in step.
-use Rattle.std.proofs.Common.{◌≡◌, ◌≢◌, ℕ, zero, suc, ◌<◌, ◌≤◌, ◌+◌, ◌-◌, Bool, true, false, List, [], ◌∷◌, ◌++◌, map, length, refl, sym, ap, subst, subst₂, ◌∙◌, arith, length-append}
-use Rattle.std.specs.Prelude.{◌==◌, if◌then◌else◌, nat_le}
-use Rattle.std.proofs.lemmas.Bool.{le-leb, ne_eqb, eq-eqb, leb-true, leb-false, cases_lt}
+use Rattle.std.proofs.Common.{◌≡◌, ℕ, zero, suc, ◌<◌, ◌≤◌, ◌+◌, ◌-◌, Bool, true, false, List, [], ◌∷◌, ◌++◌, map, refl, sym, ap, subst, subst₂, ◌∙◌, arith, length-append}
+use Rattle.std.specs.Prelude.{◌==◌, nat_le}
+use Rattle.std.proofs.lemmas.Bool.{le-leb, ne_eqb, eq-eqb, leb-true}
 use Rattle.lg_types.specs.declared.entry.TxEntry.{TxEntry}
 use Rattle.lg_types.specs.declared.journal.JournalItem.{JournalItem}
-use Rattle.lg_model.specs.Journals.{Line, tx_count}
+use Rattle.lg_model.specs.Journals.{Line}
 use Rattle.lg_history.specs.Acts.{SessionAct, says, commits, issues, Act, closes}
 use Rattle.lg_history.specs.Digests.{Digest}
-use Rattle.lg_history.specs.Histories.{Due, pending, full, digest_next, full_or}
+use Rattle.lg_history.specs.Histories.{Due, pending, full, full_or}
 use Rattle.lg_standing.specs.ActsOf.{closings}
 use Rattle.lg_standing.specs.Cells.{LedgerCell, pending_in}
-use Rattle.lg_standing.specs.Deeds.{Deed, did, closed, deed}
+use Rattle.lg_standing.specs.Deeds.{did, closed, deed}
 use Rattle.lg_standing.specs.LedgerVisits.{with_item, closed_by, next_block, all_closed, with_digest}
 use Rattle.lg_standing.specs.Server.{Server}
 use Rattle.lg_standing.proofs.LedgerNumbers.{pending_after}

@@ -1,21 +1,18 @@
 -- What a course comes to once all its sessions are over.
-use Rattle.std.proofs.Common.{◌≡◌, ◌≢◌, ℕ, zero, suc, ◌<◌, List, [], ◌∷◌, ◌++◌, map, Option, None, refl, sym, ap, subst, subst₂, ◌∙◌, append-nil, inl, inr, ⊎_elim, arith}
-use mathlib.Core.Option as maybe
+use Rattle.std.proofs.Common.{◌≡◌, ◌≢◌, ℕ, zero, suc, ◌<◌, List, [], ◌∷◌, Option, None, refl, sym, ap, subst, subst₂, ◌∙◌, append-nil, inl, inr, ⊎_elim}
 use mathlib.Core.Option.{some, none, some-injective}
 use lib.ListN.{get_elem?}
-use Rattle.lg_types.specs.declared.digest.Digest.{Digest}
-use Rattle.lg_types.specs.declared.journal.JournalItem.{JournalItem}
 use Rattle.lg_history.specs.Agree.{Agree}
 use Rattle.lg_history.specs.ExactRefusals.{StepOrder}
-use Rattle.lg_history.specs.Histories.{ClosesInStep, EndsComeLast, SetupRan, lines_of, pending}
+use Rattle.lg_history.specs.Histories.{ClosesInStep, EndsComeLast, SetupRan, pending}
 use Rattle.lg_history.specs.Inputs.{InputLine, InputSession, sessions_in}
 use Rattle.lg_history.specs.Lists.{Text, Each, Some_of, At, In}
 use Rattle.lg_history.specs.Transcripts.{Transcript, statements}
 use Rattle.lg_history.specs.Worlds.{first}
-use Rattle.lg_standing.specs.AtTheEnd.{AllRest, AreWritten, HasItsImages, NamesDiffer, SessionsDiffer, WroteAt, IsWritten}
+use Rattle.lg_standing.specs.AtTheEnd.{AllRest, AreWritten, HasItsImages, NamesDiffer, SessionsDiffer}
 use Rattle.lg_standing.specs.Cells.{Cell, LedgerCell, pending_in}
-use Rattle.lg_standing.specs.Deeds.{Deed, deed, steps_deeds}
-use Rattle.lg_standing.specs.Follows.{names_begun, steps_lines}
+use Rattle.lg_standing.specs.Deeds.{Deed, steps_deeds}
+use Rattle.lg_standing.specs.Follows.{names_begun}
 use Rattle.lg_standing.specs.Reordered.{NamesApart}
 use Rattle.lg_standing.specs.Seats.{SeatState, Written, IsAtRest}
 use Rattle.lg_standing.specs.Server.{Server}
@@ -26,15 +23,15 @@ use Rattle.lg_standing.proofs.SinceFirst.{SinceFirst}
 use Rattle.lg_standing.proofs.StepOrderKept.{keeps_order}
 use Rattle.lg_standing.proofs.TheEnd as the_end
 use Rattle.lg_course.specs.Course.{Course}
-use Rattle.lg_course.specs.EndsLast.{Phase, running, ending, CameSo, EndsLast, IsNoEnd, IsNoStatement}
-use Rattle.lg_course.specs.InStep.{InStep, due_in}
+use Rattle.lg_course.specs.EndsLast.{Phase, running, ending, CameSo, EndsLast}
+use Rattle.lg_course.specs.InStep.{InStep}
 use Rattle.lg_course.specs.Outcome.{Outcome}
 use Rattle.lg_course.specs.Wrote.{WroteOne, WroteEach, Wrote, transcripts_in}
 use Rattle.lg_course.proofs.Closes.{closes_in_step}
 use Rattle.lg_course.proofs.Ends.{ends_last}
 use Rattle.lg_course.proofs.Goes.{since, ledger_is}
 use Rattle.lg_course.proofs.LedgerInStep.{due_below}
-use Rattle.lg_course.proofs.SameNames.{names_in, same_list, differ, differ_at}
+use Rattle.lg_course.proofs.SameNames.{names_in, same_list, differ}
 use Rattle.lg_course.proofs.Texts.{rows_texts, input_is}
 
 -- ---- lists by place

@@ -1,16 +1,13 @@
 -- How a course by its sessions goes on, and that it ends.
-use Rattle.std.proofs.Common.{◌≡◌, ◌≢◌, ◌⊎◌, ◌<◌, ◌≤◌, ◌^◌, ℕ, zero, suc, true, List, [], ◌∷◌, ◌++◌, map, length, slice_set, refl, sym, ap, ap₂, subst, subst₂, ◌∙◌, inl, inr, ⊎_elim, arith}
+use Rattle.std.proofs.Common.{◌≡◌, ◌⊎◌, ◌<◌, ◌≤◌, ◌^◌, ℕ, zero, suc, List, [], ◌∷◌, ◌++◌, map, slice_set, refl, sym, ap, ap₂, subst, ◌∙◌, inl, inr, ⊎_elim}
 use mathlib.Core.Option.{some, none, some-injective}
 use lib.ListN.{get_elem?}
-use Rattle.lg_types.specs.declared.digest.Digest.{Digest}
-use Rattle.lg_types.specs.declared.journal.JournalItem.{JournalItem}
 use Rattle.lg_model.specs.Limits.{max_block}
 use Rattle.lg_history.specs.Inputs.{InputLine}
 use Rattle.lg_history.specs.Lists.{Text, Each, In}
 use Rattle.lg_history.specs.Transcripts.{Transcript}
 use Rattle.lg_standing.specs.Alone.{new_session}
 use Rattle.lg_standing.specs.Cells.{Cell, Ledger, LedgerCell, first_cells, ledger_at, pending_in}
-use Rattle.lg_standing.specs.May.{first_seat}
 use Rattle.lg_standing.specs.Moves.{sits}
 use Rattle.lg_standing.specs.QuietElse.{IsQuiet, QuietElse}
 use Rattle.lg_standing.specs.Seats.{KeptImage, Session, Role, idle, session, SeatState, Written, IsAtRest, idle_seat, split}
@@ -19,7 +16,7 @@ use Rattle.lg_course.specs.Course.{Course}
 use Rattle.lg_course.specs.EndsLast.{Phase, running, ending}
 use Rattle.lg_course.specs.Sessions.{Told, names_told, told_nothing, Runs, IsOver, IsShown, EachShown, SessionsStand, OthersQuiet}
 use Rattle.lg_course.specs.Told.{HasEnded}
-use Rattle.lg_course.specs.Wrote.{WroteOne, WroteEach, Wrote, transcripts_in}
+use Rattle.lg_course.specs.Wrote.{WroteEach, transcripts_in}
 use Rattle.lg_course.proofs.Goes.{course_begins, session_more, ends_now, cell_same}
 
 -- ---- lists side by side

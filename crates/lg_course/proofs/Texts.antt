@@ -7,7 +7,7 @@ use Rattle.std.proofs.lemmas.Slice.Eq.{bytes_eq-Decides}
 use Rattle.lg_history.specs.Agree.{AreStatements}
 use Rattle.lg_history.specs.Inputs.{InputLine, InputSession, texts_of_session, sessions_in}
 use Rattle.lg_history.specs.Lists.{Text, Each, At}
-use Rattle.lg_history.specs.StepOrder.{Row, entries_of, IsStatementOf, AnswersLine, IsEnd, EndsOne, RowsInOrder}
+use Rattle.lg_history.specs.StepOrder.{Row, entries_of, IsStatementOf, IsEnd, EndsOne, RowsInOrder}
 use Rattle.lg_history.specs.Transcripts.{Entry, statement, end_of_session, Transcript, statements}
 
 -- of two of these transcripts, the names of their sessions differ

@@ -1,5 +1,5 @@
 -- What a course comes to, by every meaning that statements have; and the forms of its journal.
-use Rattle.std.proofs.Common.{◌≡◌, ◌≤◌, ◌≢◌, ◌^◌, ℕ, zero, suc, true, List, [], ◌∷◌, ◌++◌, map, flat_map, length, None, refl, sym, ap, ap₂, subst, subst₂, ◌∙◌, append-nil, inl, inr, ⊎_elim}
+use Rattle.std.proofs.Common.{◌≡◌, ◌≤◌, ◌^◌, ℕ, zero, suc, true, List, [], ◌∷◌, ◌++◌, map, flat_map, None, refl, sym, ap, ap₂, subst, subst₂, ◌∙◌, append-nil, ⊎_elim}
 use mathlib.Core.Option.{some, none, some-injective}
 use lib.ListN.{get_elem?}
 use Rattle.lg_items.specs.DatabaseName.{is_database_name}
@@ -25,8 +25,7 @@ use Rattle.lg_image.specs.Image.{image_of}
 use Rattle.lg_image.specs.ImageBytes.{image_bytes}
 use Rattle.lg_closings.proofs.Staying.{hashing}
 use Rattle.lg_standing.specs.AtTheEnd.{HasItsImages, image_items}
-use Rattle.lg_standing.specs.Cells.{Cell, LedgerCell}
-use Rattle.lg_standing.specs.JournalForms as forms
+use Rattle.lg_standing.specs.Cells.{LedgerCell}
 use Rattle.lg_standing.specs.JournalForms.{journal_in}
 use Rattle.lg_standing.specs.Reordered.{NamesApart}
 use Rattle.lg_standing.specs.SeatNames.{names_of, session_names}
@@ -35,11 +34,10 @@ use Rattle.lg_standing.specs.Server.{Server, journal_image}
 use Rattle.lg_standing.specs.StandTogether.{Stands}
 use Rattle.lg_standing.specs.TranscriptsAgree.{IsImage, IsMoment, moments_of, session_moments}
 use Rattle.lg_standing.proofs.JournalKept.{legal_journal}
-use Rattle.lg_standing.proofs.SinceFirst.{SinceFirst}
 use Rattle.lg_standing.specs.Serves.{Serves}
 use Rattle.lg_course.specs.Outcome.{Outcome}
 use Rattle.lg_course.specs.Told.{HasEnded, IsMeaning, IsImageOf, RunAgrees}
-use Rattle.lg_course.specs.Wrote.{WroteOne, WroteEach, Wrote, transcripts_in}
+use Rattle.lg_course.specs.Wrote.{Wrote, transcripts_in}
 use Rattle.lg_course.proofs.Goes.{since, ledger_is}
 use Rattle.lg_course.proofs.Over.{outcome_is, wrote_there}
 use Rattle.lg_course.proofs.SameNames.{names_in}

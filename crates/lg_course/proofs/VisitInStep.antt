@@ -1,11 +1,11 @@
 -- Each visit closes blocks in step, where it waits for a full block to be closed; and none begins a session.
-use Rattle.std.proofs.Common.{◌≡◌, ◌≢◌, ℕ, zero, suc, ◌<◌, ◌≤◌, ◌+◌, Bool, true, false, List, [], ◌∷◌, ◌++◌, map, length, Some, slice_set, refl, sym, ap, subst, subst₂, ◌∙◌, arith}
+use Rattle.std.proofs.Common.{◌≡◌, ◌≢◌, ℕ, ◌<◌, ◌≤◌, ◌+◌, true, List, [], ◌∷◌, length, Some, slice_set, sym, ap, subst, ◌∙◌}
 use Rattle.std.specs.Prelude.{◌==◌}
 use mathlib.Core.Option.{some, some-injective}
 use lib.ListN.{get_elem?}
 use Rattle.lg_types.specs.declared.journal.JournalItem.TheVariants.{Tx}
 use Rattle.lg_model.specs.Journals.{tx_count}
-use Rattle.lg_history.specs.Acts.{SessionAct, commits, issues, keeps, fails}
+use Rattle.lg_history.specs.Acts.{commits, issues, keeps}
 use Rattle.lg_history.specs.Histories.{Due, full_or}
 use Rattle.lg_history.specs.Lists.{Each}
 use Rattle.lg_standing.specs.Cells.{CatalogCell, LedgerCell, TableCell, Cell, Catalog, Ledger, Rows, AreCells, ledger_at, pending_in}

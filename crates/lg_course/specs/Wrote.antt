@@ -1,5 +1,5 @@
 -- What seats wrote whose sessions are all over: the first one nothing, and each other one transcript.
-use Rattle.std.specs.Prelude.{ℕ, ◌≡◌, List, [], ◌∷◌, map}
+use Rattle.std.specs.Prelude.{◌≡◌, List, [], ◌∷◌, map}
 use Rattle.lg_history.specs.Transcripts.{Transcript}
 use Rattle.lg_standing.specs.Seats.{SeatState, Written, IsAtRest}
 

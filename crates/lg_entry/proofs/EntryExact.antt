@@ -1,5 +1,5 @@
 -- Entries are read exactly as they are written.
-use Rattle.std.proofs.Common.{◌≡◌, ◌<◌, ◌^◌, ℕ, true, List, [], ◌++◌, length, Some, None, Option, refl, sym, ap, ◌∙◌, arith}
+use Rattle.std.proofs.Common.{◌≡◌, ◌<◌, ◌^◌, ℕ, true, List, [], ◌++◌, length, Some, None, Option, refl, sym, ap, ◌∙◌}
 use Rattle.std.specs.Prelude.{IfSome, flat_map}
 use Rattle.std.specs.List.{AllByRecursion}
 use Rattle.std.proofs.lemmas.List.{append-nil}

@@ -1,5 +1,5 @@
 -- What holds of all digests with which two images are accepted.
-use Rattle.std.proofs.Common.{◌≡◌, ◌≢◌, ◌≤◌, ◌<◌, ◌+◌, ◌-◌, ◌⊎◌, ℕ, zero, suc, Bool, true, false, cond, nat_lt, List, [], ◌∷◌, length, map, take, drop, take-take, Option, Some, None, refl, arith, sym, ◌∙◌, ap, subst, inl, inr}
+use Rattle.std.proofs.Common.{◌≡◌, ◌≤◌, ◌+◌, ◌-◌, ◌⊎◌, ℕ, zero, suc, Bool, true, false, cond, nat_lt, List, [], ◌∷◌, length, map, take, drop, take-take, Option, Some, None, refl, arith, sym, ◌∙◌, ap, subst, inl}
 use Rattle.std.specs.Prelude.{IfOk, Result, Ok, Err}
 use Rattle.std.specs.List.{AllByRecursion, sum_by}
 use Rattle.std.proofs.lemmas.Bool.{ltb-true, ltb-false}
@@ -9,7 +9,6 @@ use Rattle.lg_bytes.specs.Readers.{whole}
 use Rattle.lg_items.specs.declared.memory.Memory.{Memory}
 use Rattle.lg_types.specs.declared.digest.HeldDigest.{HeldDigest}
 use Rattle.lg_types.specs.declared.entry.BlockRecord.{BlockRecord}
-use Rattle.lg_types.specs.declared.entry.TxEntry.{TxEntry}
 use Rattle.lg_types.specs.declared.image.Image.{Image}
 use Rattle.lg_image.specs.ImageBytes.{image_bytes, IsImage}
 use Rattle.lg_image.specs.ImageReading.{image_at}
@@ -18,7 +17,7 @@ use Rattle.lg_image.proofs.ImageExact.{found_of}
 use Rattle.lg_verdict.specs.declared.place.Verdict.TheVariants.{Yes}
 use Rattle.lg_verdict.specs.Blocks.{entries_before}
 use Rattle.lg_verdict.specs.Bytes.{verdict_read, verdict_of}
-use Rattle.lg_verdict.specs.Covered.{CoveredEntry, covered_entry, covered_of}
+use Rattle.lg_verdict.specs.Covered.{covered_entry, covered_of}
 use Rattle.lg_verdict.specs.Verdict.{image_verdict}
 use Rattle.lg_extract.specs.declared.found.Extracted.{Extracted}
 use Rattle.lg_extract.specs.declared.found.Extracted.TheVariants as found
@@ -29,8 +28,8 @@ use Rattle.lg_extract.specs.Parts.{blocks_to}
 use Rattle.lg_extract.proofs.Accepted.{accepted}
 use Rattle.lg_extract.proofs.Agreeing.{Injective}
 use Rattle.lg_extract.proofs.Covering.{blocks_same}
-use Rattle.lg_extract.proofs.Heads.{sizes, sizes_are, take_parts}
-use Rattle.lg_extract.proofs.Unbroken.{both_so, one_history, so_far}
+use Rattle.lg_extract.proofs.Heads.{sizes, sizes_are}
+use Rattle.lg_extract.proofs.Unbroken.{both_so, one_history}
 
 -- ---- earlier blocks
 

@@ -1,5 +1,5 @@
 -- A transaction makes no event of another one.
-use Rattle.std.proofs.Common.{◌≢◌, ℕ, ◌+◌, sym, subst, Bool, true, false, List, [], ◌∷◌, Option, Some, None}
+use Rattle.std.proofs.Common.{◌≢◌, ℕ, ◌+◌, sym, subst, Bool, true, false, List, [], ◌∷◌}
 use Rattle.std.specs.Prelude.{◌==◌, if◌then◌else◌}
 use Rattle.std.specs.List.{AllByRecursion}
 use Rattle.lg_types.specs.declared.statement.Stmt.{Stmt}

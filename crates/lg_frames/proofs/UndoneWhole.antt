@@ -1,18 +1,15 @@
 -- A whole script undone leaves the tables before it.
-use Rattle.std.proofs.Common.{◌≡◌, ℕ, refl, sym, ap, ◌∙◌, subst, Bool, true, false, List, [], ◌∷◌, Option, Some, None, arith}
+use Rattle.std.proofs.Common.{◌≡◌, ℕ, refl, ◌∙◌, subst, Bool, true, false, List, [], ◌∷◌, Option, Some, None, arith}
 use Rattle.std.specs.Prelude.{if◌then◌else◌, ◌==◌}
 use Rattle.std.specs.List.{AllByRecursion}
 use Rattle.std.specs.Str.{bytes_eq}
 use Rattle.lg_types.specs.declared.statement.Stmt.{Stmt}
 use Rattle.lg_types.specs.declared.statement.Stmt.TheVariants as s
-use Rattle.lg_types.specs.declared.version.Version.{Version}
 use Rattle.lg_model.specs.Catalog.{Tables, versions_of}
-use Rattle.lg_model.specs.Effect.{effect}
 use Rattle.lg_model.specs.Reach.{creates}
 use Rattle.lg_model.specs.Runs.{Sound}
 use Rattle.lg_model.specs.Script.{Reading, Saved, State, back_to, alone, by_statement, start, text_step, script_from, script}
 use Rattle.lg_model.specs.Undo.{versions_undone, undone}
-use Rattle.lg_frames.proofs.Alls.{all_weaker}
 use Rattle.lg_frames.proofs.SoundStatements.{kept_sound}
 use Rattle.lg_frames.proofs.StepByStep.{at_copy, Keeps, script_keeps}
 use Rattle.lg_frames.proofs.UndoneTables.{none_undone, statement_undone, whole_undone}

@@ -1,5 +1,5 @@
 -- The statements that read and change rows, production by production.
-use Rattle.std.specs.Prelude.{ℕ, neg_ℤ, Bool, true, false, List, [], ◌++◌, codes, Option, Some, None}
+use Rattle.std.specs.Prelude.{ℕ, neg_ℤ, Bool, true, false, List, [], ◌++◌, codes, Option}
 use Rattle.lg_value.specs.declared.value.Value.{Value}
 use Rattle.lg_value.specs.declared.value.Value.TheVariants.{Num}
 use Rattle.lg_value.specs.declared.expr.Expr.{Expr}

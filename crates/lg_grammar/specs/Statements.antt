@@ -1,5 +1,5 @@
 -- Statements, production by production, and the texts that are statements.
-use Rattle.std.specs.Prelude.{◌≡◌, ℕ, List, ◌++◌, map, slice_range, codes, Option, Some, None, Ok}
+use Rattle.std.specs.Prelude.{◌≡◌, ℕ, List, ◌++◌, map, slice_range, codes, Some, None, Ok}
 use Rattle.lg_lex.specs.declared.token.Token.{Token}
 use Rattle.lg_lex.specs.Cut.{tokens_of}
 use Rattle.lg_types.specs.declared.statement.CreateTable.{CreateTable}

@@ -17,11 +17,11 @@ use Rattle.lg_value.proofs.Trees.{of_column, of_not, of_is_null, of_binary}
 use Rattle.lg_grammar_samples.specs.Samples.{delete_all, any_of, no_rest, delete_where, insert_row, create_ledger, back_to_s}
 use Rattle.lg_grammar.specs.Tokens.{Lexemes, word, sign, IsName, bare, bracketed, number, null, named, left_out, written as given, absent, present, last, more, enclosed}
 use Rattle.lg_grammar.specs.Expressions as e
-use Rattle.lg_grammar.specs.Expressions.{IsExpr, Derives, Expr', And', Not', Cmp', Sum', Prod', parts}
+use Rattle.lg_grammar.specs.Expressions.{Derives, Cmp', Prod', parts}
 use Rattle.lg_grammar.specs.Rows as r
 use Rattle.lg_grammar.specs.Tables as b
 use Rattle.lg_grammar.specs.Statements as s
-use Rattle.lg_grammar.specs.Statements.{IsStatement, IsTran}
+use Rattle.lg_grammar.specs.Statements.{IsStatement}
 
 -- a token at its place
 abbrev at : ℕ → ℕ → Kind → Token

@@ -2,28 +2,26 @@
 use Rattle.std.proofs.Common.{◌≡◌, ◌≢◌, ℕ, zero, suc, ◌+◌, ◌-◌, ◌<◌, ◌≤◌, List, [], ◌∷◌, ◌++◌, map, length, Option, Some, None, refl, sym, ap, ◌∙◌, subst, ⊎_elim, inl, inr, arith, append-nil}
 use Rattle.std.specs.Str.{bytes_eq}
 use Rattle.lg_types.specs.declared.journal.JournalItem.{JournalItem}
-use Rattle.lg_model.specs.Journals.{tx_count}
 use Rattle.lg_history.specs.Lists.{Text, Each, Some_of, In, At}
 use Rattle.lg_history.specs.Inputs.{InputSession}
 use Rattle.lg_history.specs.Meaning.{Meaning}
 use Rattle.lg_history.specs.Transcripts.{Entry, Transcript, statements}
-use Rattle.lg_history.specs.Facts.{Fact, met, no_digest, mark_of, id_of, Shows, open_after, facts, facts_of}
+use Rattle.lg_history.specs.Facts.{Fact, met, no_digest, id_of, Shows, open_after, facts, facts_of}
 use Rattle.lg_history.specs.InPlace.{Throughout, images_after, InPlace, EndsOpen, EndsWhereItMay, IsControlled, IsElseE30}
 use Rattle.lg_history.specs.Transactions.{End, unfixed, committed, ended, Transaction, Book, listed, transactions}
 use Rattle.lg_history.specs.Marks.{MarksRise, IdsRise, NoneBelow, ImagesHave, ImagesOfOthersHave, NoneCounted}
 use Rattle.lg_history.specs.Refusals.{NamesRightly}
 use Rattle.lg_history.specs.Agree.{StatementsInOrder, AreStatements, IdsDrawnOnce, JournalIsTheirs, of_session, committed_ones, IsEndedOver, EndedHaveTheirReplies, MarksNeverFall, ShowsHash, DigestsAreOf, LockRefusals, Agree}
-use Rattle.lg_history.specs.Acts.{SessionAct, meets, lacks, Act, by, of, shown, all_shown, marked}
+use Rattle.lg_history.specs.Acts.{SessionAct, meets, Act, by, of, shown, all_shown}
 use Rattle.lg_history.specs.Sessions.{SessionTransaction, SessionState, runs, gone, view, viewed, transcript_of}
 use Rattle.lg_history.specs.Worlds.{World, first, run}
 use Rattle.lg_history.specs.Guards.{Good, AtRest}
 use Rattle.lg_history.specs.Standing.{SettledAt}
 use Rattle.lg_history.specs.Histories.{IsInputOf, AreOf, RanBefore, SetupRan, IsWhole}
-use Rattle.lg_history.proofs.Trace.{marks_to, next_run}
+use Rattle.lg_history.proofs.Trace.{next_run}
 use Rattle.lg_history.proofs.Cuts.{good_append, Cut, cut}
 use Rattle.lg_history.proofs.TranscriptsSoFar.{Told, told}
 use Rattle.lg_history.proofs.Books.{has_book}
-use Rattle.lg_history.proofs.Signs.{marks_same, shows_facts}
 use Rattle.lg_history.proofs.Rising.{rising, ids_rise, images}
 use Rattle.lg_history.proofs.Owners.{own_of, all_owned, owned_facts, drawn_by, within_ids}
 use Rattle.lg_history.proofs.Placed.{placed_run}
@@ -33,8 +31,8 @@ use Rattle.lg_history.proofs.Legal.{legal}
 use Rattle.lg_history.proofs.Issued.{hashes, issued, blocks_rise, digests_counted, FactsFrom, sum_of_transcripts}
 use Rattle.lg_history.proofs.Finding.{find, is_meets}
 use Rattle.lg_history.proofs.Lacks.{none_before}
-use Rattle.lg_history.proofs.Setup.{alive_run, setup_marks, setup_images, setup_lacks, not_refused, cut_after, shows_weaker}
-use Rattle.lg_history.proofs.Refused.{each_left, below_or_nil, all_settled, Known, names_rightly}
+use Rattle.lg_history.proofs.Setup.{alive_run, setup_marks, setup_images, setup_lacks, not_refused, cut_after}
+use Rattle.lg_history.proofs.Refused.{below_or_nil, all_settled, Known, names_rightly}
 
 -- ---- transcripts and sessions
 

@@ -1,5 +1,5 @@
 -- In a history of one statement after another in which locks decide, E20 comes exactly where a lock is in the way.
-use Rattle.std.proofs.Common.{◌≡◌, ◌≢◌, ◌⊎◌, ℕ, zero, suc, ◌+◌, ◌<◌, ◌≤◌, Bool, true, false, List, [], ◌∷◌, ◌++◌, Option, Some, None, refl, sym, ap, ◌∙◌, subst, ⊎_elim, inl, inr, arith, append-nil, add-zero}
+use Rattle.std.proofs.Common.{◌≡◌, ◌≢◌, ◌⊎◌, ℕ, zero, suc, ◌+◌, Bool, true, false, List, [], ◌∷◌, ◌++◌, Option, Some, None, refl, sym, ap, ◌∙◌, subst, ⊎_elim, inl, inr, arith, append-nil, add-zero}
 use Rattle.std.specs.Prelude.{◌==◌, if◌then◌else◌}
 use Rattle.std.proofs.lemmas.Bool.{eq-eqb, ne_eqb, cases_eq}
 use Rattle.lg_value.specs.declared.refusal.Refusal.TheVariants.{Locked, E01, E13, E19, E30}
@@ -21,8 +21,8 @@ use Rattle.lg_history.specs.Transcripts.{EndLine, committed_at, ended_after, Ent
 use Rattle.lg_history.specs.Facts.{Fact, began, said, failed, met, placed, passed, over, digest, image, no_digest, end_facts, maybe_end, other_facts, answer_facts, own_facts, facts_inside, facts_outside, entry_facts, begun_by, open_after}
 use Rattle.lg_history.specs.InPlace.{is_open, EndsInside, HasItsForm, QuietEnd, ControlledBy, InPlace}
 use Rattle.lg_history.specs.Transactions.{Transaction, Book, new, open_by, noted, read_facts, blank}
-use Rattle.lg_history.specs.Acts.{SessionAct, starts, takes, draws, looks, says, fails, meets, commits, ends, frees, issues, keeps, lacks, answers, stops, Act, by, closes, shown}
-use Rattle.lg_history.specs.Sessions.{SessionTransaction, SessionState, view, viewed, acted}
+use Rattle.lg_history.specs.Acts.{SessionAct, takes, draws, says, fails, meets, commits, ends, frees, issues, keeps, lacks, answers, Act, by, closes, shown}
+use Rattle.lg_history.specs.Sessions.{SessionTransaction, SessionState, viewed, acted}
 use Rattle.lg_history.specs.Worlds.{World, first, tables, item_of, items_by, put, step, run}
 use Rattle.lg_history.specs.Guards.{MayHappen, Good, images_of}
 use Rattle.lg_history.specs.Histories.{OneAtATime, IsIdle, rows_of}

@@ -1,5 +1,5 @@
 -- Where one session is alone, no lock is in the way, so each reply but E20 is exact.
-use Rattle.std.proofs.Common.{◌≡◌, ◌≢◌, ℕ, ◌+◌, List, [], ◌∷◌, length, Option, Some, None, refl, sym, ap, ◌∙◌, subst}
+use Rattle.std.proofs.Common.{◌≡◌, ◌≢◌, ℕ, ◌+◌, List, [], ◌∷◌, Option, Some, None, refl, sym, ap, ◌∙◌, subst}
 use Rattle.lg_value.specs.declared.refusal.Refusal.TheVariants.{Locked}
 use Rattle.lg_types.specs.declared.lock.Want.{Want}
 use Rattle.lg_types.specs.declared.reply.Reply.TheVariants as reply

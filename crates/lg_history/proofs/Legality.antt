@@ -1,11 +1,10 @@
 -- A journal is legal by a meaning exactly where it is by the meaning of statements.
-use Rattle.std.proofs.Common.{◌≡◌, ◌≢◌, ◌↔◌, ℕ, suc, ◌+◌, ◌-◌, ◌<◌, ◌≤◌, Bool, List, [], ◌∷◌, ◌++◌, map, length, refl, sym, ap, ◌∙◌, subst, arith}
+use Rattle.std.proofs.Common.{◌≡◌, ◌≢◌, ◌↔◌, ℕ, suc, ◌+◌, ◌-◌, ◌<◌, ◌≤◌, Bool, List, [], ◌∷◌, ◌++◌, length, refl, sym, ◌∙◌, subst, arith}
 use Rattle.std.specs.List.{AllByRecursion}
 use Rattle.lg_types.specs.declared.event.Event.{Event}
 use Rattle.lg_types.specs.declared.journal.JournalItem.{JournalItem}
 use Rattle.lg_types.specs.declared.journal.JournalItem.TheVariants.{Tx, Close}
 use Rattle.lg_model.specs.Catalog.{Tables}
-use Rattle.lg_model.specs.Events.{all_events}
 use Rattle.lg_model.specs.Journals as model
 use Rattle.lg_model.specs.Journals.{Line, tx_count, closed, IsOther}
 use Rattle.lg_model.specs.Script.{Reading, script}
@@ -13,7 +12,7 @@ use Rattle.lg_model.specs.SystemTables.{first_tables}
 use Rattle.lg_frames.proofs.Alls.{all_append}
 use Rattle.lg_frames.proofs.LegalRules.{count_append, closed_append}
 use Rattle.lg_frames.proofs.LegalSound.{first_part, last_one}
-use Rattle.lg_history.specs.Lists.{Text, Each}
+use Rattle.lg_history.specs.Lists.{Each}
 use Rattle.lg_history.specs.Journals.{ids_of}
 use Rattle.lg_history.specs.Meaning.{Meaning}
 use Rattle.lg_history.specs.Real.{Hashing, IsReal}

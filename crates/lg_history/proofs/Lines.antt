@@ -1,13 +1,13 @@
 -- In a history of one statement after another, the entries answer the lines in their order.
 use Rattle.std.proofs.Common.{◌≡◌, ◌≢◌, ℕ, ◌<◌, List, [], ◌∷◌, ◌++◌, length, Option, Some, None, refl, sym, ap, ◌∙◌, subst, ⊎_elim}
 use Rattle.std.proofs.lemmas.Bool.{eq-eqb, ne_eqb, cases_eq}
-use Rattle.lg_history.specs.Lists.{Text, Each, At}
+use Rattle.lg_history.specs.Lists.{Text, At}
 use Rattle.lg_history.specs.Inputs.{InputLine}
 use Rattle.lg_history.specs.Meaning.{Meaning}
-use Rattle.lg_history.specs.Transcripts.{EndLine, Entry, statement, end_of_session, Transcript}
-use Rattle.lg_history.specs.StepOrder.{Row, EndsOne, RowsInOrder}
+use Rattle.lg_history.specs.Transcripts.{Entry, statement, end_of_session, Transcript}
+use Rattle.lg_history.specs.StepOrder.{RowsInOrder}
 use Rattle.lg_history.specs.Acts.{SessionAct, takes, answers, Act, by, closes}
-use Rattle.lg_history.specs.Sessions.{SessionState, runs, acted, transcript_of}
+use Rattle.lg_history.specs.Sessions.{runs, acted, transcript_of}
 use Rattle.lg_history.specs.Worlds.{World, put, step, run}
 use Rattle.lg_history.specs.Guards.{Good}
 use Rattle.lg_history.specs.Histories.{SessionsBelow, IsIdle, OneAtATime, lines_of, EndsComeLast, rows_of}

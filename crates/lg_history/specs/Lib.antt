@@ -2,6 +2,7 @@ pub mod Acts
 pub mod Agree
 pub mod ByLocks
 pub mod Digests
+pub mod EndSeen
 pub mod ExactRefusals
 pub mod Facts
 pub mod Guards

@@ -1,12 +1,12 @@
 -- Definitions are read exactly as they are written.
-use Rattle.std.proofs.Common.{◌≡◌, ◌<◌, ◌^◌, ◌≤◌, ℕ, Bool, true, false, cond, eqb, leb, ltb, List, [], ◌∷◌, ◌++◌, length, Option, Some, None, refl, sym, ap, subst, ◌∙◌, arith}
+use Rattle.std.proofs.Common.{◌≡◌, ◌<◌, ◌^◌, ℕ, Bool, true, false, cond, leb, List, ◌++◌, length, Some, None, refl, ap, arith}
 use Rattle.std.specs.Prelude.{◌&&◌, ◌==◌, not, flat_map}
 use Rattle.std.specs.List.{AllByRecursion, list_all}
-use Rattle.std.proofs.lemmas.Bool.{eqb-true, leb-true}
+use Rattle.std.proofs.lemmas.Bool.{eqb-true}
 use Rattle.std.proofs.lemmas.Bool.Decides.{nat_tests}
 use Rattle.lg_bytes.specs.Fields.{u8_field, u16_field, u32_field, short_field}
 use Rattle.lg_bytes.specs.Readers.{u8_at, u16_at, u32_at, short_at, both, listed}
-use Rattle.lg_bytes.specs.Exact.{IsBytes, Exact}
+use Rattle.lg_bytes.specs.Exact.{Exact}
 use Rattle.lg_bytes.proofs.Written.{u8_exact, u16_exact, u32_exact, short_exact}
 use Rattle.lg_bytes.proofs.Parts.{both_exact, mapped_exact, decoded_exact, where_exact, listed_exact}
 use Rattle.lg_value.specs.declared.column.ColumnDef.{ColumnDef}

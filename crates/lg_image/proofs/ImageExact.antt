@@ -1,5 +1,5 @@
 -- Images are read exactly as they are written.
-use Rattle.std.proofs.Common.{◌≡◌, ◌<◌, ◌^◌, ℕ, true, List, [], ◌∷◌, ◌++◌, length, map, Option, Some, None, refl, sym, ap, subst, ◌∙◌, arith, codes}
+use Rattle.std.proofs.Common.{◌≡◌, ◌<◌, ◌^◌, ℕ, true, List, [], ◌∷◌, ◌++◌, length, map, Option, Some, None, refl, sym, ap, subst, ◌∙◌, codes}
 use Rattle.std.specs.Prelude.{IfSome, flat_map}
 use Rattle.std.specs.List.{AllByRecursion}
 use Rattle.std.proofs.lemmas.List.{append-nil, length-map}
@@ -9,12 +9,12 @@ use Rattle.lg_items.specs.Moment.{is_moment}
 use Rattle.lg_items.specs.SessionName.{is_session_name}
 use Rattle.lg_bytes.specs.Fields.{u8_field, u64_field, short_field}
 use Rattle.lg_bytes.specs.Forms.{tx_id_at, moment_at, session_at, database_at}
-use Rattle.lg_bytes.specs.Readers.{Reader, ◌>>=◌, u64_at, after, both, decoded, depends, listed, for_each, whole}
+use Rattle.lg_bytes.specs.Readers.{Reader, ◌>>=◌, u64_at, after, both, decoded, depends, listed, whole}
 use Rattle.lg_bytes.specs.Exact.{IsBytes, Exact}
 use Rattle.lg_bytes.proofs.FormsExact.{tx_id_exact, moment_exact, session_exact, database_exact}
 use Rattle.lg_bytes.proofs.Written.{u64_exact, some_is}
 use Rattle.lg_bytes.proofs.Parts.{after_exact, both_exact, depends_exact, mapped_exact, decoded_exact, listed_exact, each_exact, spell_each, FitEach, one_value, whole_sound, whole_complete}
-use Rattle.lg_entry.specs.Entry.{TableRoot, roots_bytes}
+use Rattle.lg_entry.specs.Entry.{TableRoot}
 use Rattle.lg_entry.specs.EntryReading.{roots_at}
 use Rattle.lg_entry.specs.Record.{record_bytes, IsRecord, record_at}
 use Rattle.lg_entry.proofs.EntryExact.{FitRoots, spell_roots, roots_exact}

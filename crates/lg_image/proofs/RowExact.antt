@@ -1,6 +1,6 @@
 -- Rows are read exactly as they are written.
-use Rattle.std.proofs.Common.{◌≡◌, ◌<◌, ◌^◌, ℕ, Bool, true, false, cond, List, [], ◌∷◌, ◌++◌, length, Option, Some, None, refl, sym, ap, subst, ◌∙◌, arith}
-use Rattle.std.specs.Prelude.{◌==◌, flat_map}
+use Rattle.std.proofs.Common.{◌≡◌, ◌<◌, ◌^◌, ℕ, Bool, true, false, cond, List, [], ◌∷◌, ◌++◌, length, Option, Some, None, refl, sym, ap, subst, ◌∙◌}
+use Rattle.std.specs.Prelude.{◌==◌}
 use Rattle.std.specs.List.{AllByRecursion}
 use Rattle.std.proofs.lemmas.Bool.{eqb-true}
 use Rattle.lg_bytes.specs.Fields.{u8_field, u16_field, u64_field}
@@ -8,7 +8,7 @@ use Rattle.lg_bytes.specs.Readers.{◌>>=◌, u8_at, u16_at, u64_at, both, mappe
 use Rattle.lg_bytes.specs.Exact.{IsBytes, Exact, Taken}
 use Rattle.lg_bytes.proofs.Written.{bind_some, some_is, u8_exact, u16_exact, u64_exact}
 use Rattle.lg_bytes.proofs.Parts.{both_exact, mapped_exact, decoded_exact, where_exact, listed_exact, each_exact, spell_each, FitEach}
-use Rattle.lg_row.specs.TypedBytes.{typed_bytes, IsTyped, typed_at}
+use Rattle.lg_row.specs.TypedBytes.{typed_bytes, typed_at}
 use Rattle.lg_row.proofs.TypedExact.{typed_exact}
 use Rattle.lg_types.specs.declared.image.TableRows.{TableRows}
 use Rattle.lg_types.specs.declared.table.IndexDef.{IndexDef}

@@ -1,11 +1,8 @@
 -- Entries that are placed one after another stand at the places that the sizes of blocks give them.
-use Rattle.std.proofs.Common.{◌≡◌, ◌≤◌, ◌<◌, ℕ, zero, suc, ◌+◌, ◌-◌, Bool, true, false, refl, ap, sym, subst, ◌∙◌, List, [], ◌∷◌, ◌++◌, take, drop, Option, Some, None, arith, append_assoc}
-use Rattle.std.specs.Prelude.{nat_lt, if◌then◌else◌}
+use Rattle.std.proofs.Common.{◌≡◌, ◌<◌, ℕ, zero, suc, ◌+◌, ◌-◌, true, false, refl, ap, sym, subst, ◌∙◌, List, [], ◌∷◌, ◌++◌, take, drop, Option, Some, None, arith, append_assoc}
+use Rattle.std.specs.Prelude.{nat_lt}
 use Rattle.std.proofs.lemmas.Bool.{lt-ltb, le-ltb}
-use Rattle.lg_bytes.specs.declared.read_error.ReadError.{ReadError}
-use Rattle.lg_bytes.specs.declared.read_error.ReadError.TheVariants.{Memory, Malformed}
 use Rattle.lg_bytes.specs.Readers.{Reader, ◌>>=◌, mapped, times}
-use Rattle.lg_bytes.specs.Reading.{Fails}
 use Rattle.lg_types.specs.declared.entry.TxEntry.{TxEntry}
 use Rattle.lg_ledger.specs.Entries.{at_place, placed}
 use Rattle.lg_ledger.specs.Parts.{by_sizes}

@@ -1,10 +1,9 @@
 -- The definition of a table: its one spelling in bytes.
-use Rattle.std.specs.Prelude.{ℕ, ◌≡◌, ◌<◌, ◌^◌, ◌&&◌, nat_lt, Bool, true, false, List, [], ◌∷◌, ◌++◌, length, flat_map, if◌then◌else◌}
+use Rattle.std.specs.Prelude.{ℕ, ◌≡◌, ◌<◌, ◌^◌, ◌&&◌, nat_lt, Bool, true, List, [], ◌∷◌, ◌++◌, length, flat_map, if◌then◌else◌}
 use Rattle.std.specs.List.{AllByRecursion}
 use Rattle.lg_bytes.specs.Fields.{u8_field, u16_field, u32_field, short_field}
 use Rattle.lg_value.specs.Stored.{is_in_range}
 use Rattle.lg_value.specs.declared.column.ColumnDef.{ColumnDef}
-use Rattle.lg_value.specs.declared.column.TableKind.{TableKind}
 use Rattle.lg_types.specs.declared.table.IndexDef.{IndexDef}
 use Rattle.lg_types.specs.declared.table.TableDef.{TableDef}
 use Rattle.lg_row.specs.Leaf.{type_bytes}

@@ -1,5 +1,5 @@
 -- Reading an image from left to right.
-use Rattle.std.specs.Prelude.{ℕ, zero, suc, ◌+◌, ◌==◌, nat_lt, Bool, true, false, List, [], ◌∷◌, ◌++◌, map, Option, Some, None, codes, if◌then◌else◌}
+use Rattle.std.specs.Prelude.{ℕ, ◌+◌, ◌==◌, Bool, true, false, List, ◌∷◌, ◌++◌, Option, Some, None, codes, if◌then◌else◌}
 use Rattle.lg_bytes.specs.Fields.{u8_field}
 use Rattle.lg_bytes.specs.Forms.{tx_id_at, moment_at, session_at, database_at}
 use Rattle.lg_bytes.specs.Readers.{Reader, ◌>>=◌, u8_at, u16_at, u32_at, u64_at, short_at, after, both, depends, mapped, decoded, where_, listed, times, for_each}

@@ -1,5 +1,5 @@
 -- The rows of a table in an image: its base, its history, and its indexes.
-use Rattle.std.specs.Prelude.{ℕ, zero, suc, List, ◌++◌, map, get_or, Option, Some, None, is_some}
+use Rattle.std.specs.Prelude.{ℕ, zero, suc, List, ◌++◌, map, get_or, Option, None, is_some}
 use Rattle.std.specs.List.{filter}
 use Rattle.std.specs.declared.cmp.Ordering.{Ordering}
 use Rattle.lg_types.specs.declared.table.TableDef.{TableDef}

@@ -1,5 +1,5 @@
 -- The entries and the records of a legal journal have a spelling.
-use Rattle.std.proofs.Common.{◌≡◌, ◌≢◌, ◌<◌, ◌≤◌, ◌+◌, ◌^◌, ◌∙◌, ℕ, zero, suc, refl, sym, ap, subst, Bool, true, false, List, [], ◌∷◌, ◌++◌, length, map, take, drop, arith, append-nil, append_assoc}
+use Rattle.std.proofs.Common.{◌≡◌, ◌<◌, ◌≤◌, ◌+◌, ◌^◌, ◌∙◌, ℕ, zero, suc, refl, sym, ap, subst, Bool, true, false, List, [], ◌∷◌, ◌++◌, length, map, take, drop, arith, append-nil, append_assoc}
 use Rattle.std.proofs.lemmas.List.{length-append}
 use Rattle.std.specs.Prelude.{if◌then◌else◌}
 use Rattle.std.specs.List.{AllByRecursion, filter}
@@ -11,18 +11,17 @@ use Rattle.lg_types.specs.declared.entry.BlockRecord.{BlockRecord}
 use Rattle.lg_types.specs.declared.entry.TxEntry.{TxEntry}
 use Rattle.lg_types.specs.declared.journal.JournalItem.{JournalItem}
 use Rattle.lg_types.specs.declared.journal.JournalItem.TheVariants.{Tx, Close}
-use Rattle.lg_types.specs.declared.table.TableDef.{TableDef}
 use Rattle.lg_types.specs.declared.version.Table.{Table}
 use Rattle.lg_model.specs.Agreement.{IdsFrom}
-use Rattle.lg_model.specs.Catalog.{Defs, Tables, defs_of}
+use Rattle.lg_model.specs.Catalog.{Tables, defs_of}
 use Rattle.lg_model.specs.Journals.{IsNext, IsLegalFrom, IsLegal, after_item, serial_from, serial}
 use Rattle.lg_model.specs.Script.{Reading}
 use Rattle.lg_model.specs.SystemTables.{first_tables}
 use Rattle.lg_frames.proofs.Alls.{all_append}
 use Rattle.lg_invariants.proofs.Serials.{legal_described}
-use Rattle.lg_ledger.specs.Blocks.{no_hash, block_of, record_hash}
+use Rattle.lg_ledger.specs.Blocks.{block_of, record_hash}
 use Rattle.lg_ledger.specs.Entries.{has_events, root_in, roots_of, entry_of, at_place, placed}
-use Rattle.lg_ledger.specs.Ledger.{Ledger, commits, closes, recorded, ledger_from, empty_ledger}
+use Rattle.lg_ledger.specs.Ledger.{Ledger, recorded, ledger_from, empty_ledger}
 use Rattle.lg_ledger.specs.Parts.{AreBlocksOf}
 use Rattle.lg_ledger.proofs.Adding.{serial_more}
 use Rattle.lg_closings.proofs.Roots.{legal_ids, roots_rise}

@@ -1,34 +1,31 @@
 -- The image of a legal journal has a spelling, where it has room.
-use Rattle.std.proofs.Common.{◌≡◌, ◌<◌, ◌≤◌, ◌+◌, ◌^◌, ◌∙◌, ℕ, refl, sym, ap, subst, true, List, [], ◌∷◌, ◌++◌, length, map, drop, arith}
+use Rattle.std.proofs.Common.{◌≡◌, ◌<◌, ◌≤◌, ◌+◌, ◌^◌, ◌∙◌, ℕ, refl, sym, ap, subst, true, List, [], ◌∷◌, ◌++◌, length, map, arith}
 use Rattle.std.proofs.lemmas.List.{length-append}
 use Rattle.std.specs.List.{AllByRecursion}
 use Rattle.lg_types.specs.JournalRules.{ItemRules}
 use Rattle.lg_types.specs.declared.image.TableRows.{TableRows}
 use Rattle.lg_types.specs.declared.journal.JournalItem.{JournalItem}
-use Rattle.lg_types.specs.declared.statement.Stmt.{Stmt}
 use Rattle.lg_types.specs.declared.table.IndexDef.{IndexDef}
 use Rattle.lg_types.specs.declared.table.TableDef.{TableDef}
 use Rattle.lg_types.specs.declared.version.Table.{Table}
 use Rattle.lg_model.specs.Agreement.{IdsFrom}
 use Rattle.lg_model.specs.Catalog.{Defs, Tables, defs_of}
-use Rattle.lg_model.specs.Effect.{effect}
 use Rattle.lg_model.specs.Journals.{serial, tx_count, IsLegal}
 use Rattle.lg_model.specs.Runs.{Sound, SoundTable}
 use Rattle.lg_model.specs.Script.{Reading}
-use Rattle.lg_model.specs.SystemTables.{first_tables, tables_def, columns_def}
+use Rattle.lg_model.specs.SystemTables.{tables_def, columns_def}
 use Rattle.lg_history.specs.Journals.{blocks}
 use Rattle.lg_frames.proofs.Alls.{all_append}
 use Rattle.lg_frames.proofs.StepByStep.{Any}
-use Rattle.lg_invariants.specs.Serial.{TablesOf, TableOf}
+use Rattle.lg_invariants.specs.Serial.{TableOf}
 use Rattle.lg_invariants.proofs.Serials.{legal_tables, legal_described}
 use Rattle.lg_spell.specs.Formed.{AreInFront}
-use Rattle.lg_spell.specs.MayBeSpelled.{may_be_spelled}
 use Rattle.lg_spell.specs.Spelled.{AreSpelled}
 use Rattle.lg_spell.specs.Written.{GivesWritten}
 use Rattle.lg_spell.proofs.Journals.{legal_described as legal_formed, legal_ids, legal_spelled}
 use Rattle.lg_spell.proofs.KeptByJournals.{legal_keeps}
 use Rattle.lg_ledger.specs.Blocks.{no_hash}
-use Rattle.lg_ledger.specs.Ledger.{Ledger, ledger_of, blocks_of, entries_of}
+use Rattle.lg_ledger.specs.Ledger.{Ledger, ledger_of}
 use Rattle.lg_closings.proofs.Staying.{blocks_counted}
 use Rattle.lg_closings.proofs.Counting.{entries_counted}
 use Rattle.lg_ledger.proofs.Parting.{parted, entries_by_size}

@@ -1,5 +1,5 @@
 -- The events of versions that fit their tables have leaves, where their numbers have room and their texts are UTF-8.
-use Rattle.std.proofs.Common.{◌≡◌, ◌≢◌, ◌≤◌, ◌<◌, ℕ, ◌+◌, ◌^◌, refl, sym, ap, subst, true, false, nat_lt, List, [], ◌∷◌, length, flat_map, Option, Some, None, arith}
+use Rattle.std.proofs.Common.{◌≡◌, ◌≢◌, ◌≤◌, ◌<◌, ℕ, ◌+◌, refl, sym, ap, subst, true, nat_lt, List, [], ◌∷◌, length, flat_map, Option, Some, None, arith}
 use Rattle.std.proofs.lemmas.Bool.Decides.{nat_tests}
 use Rattle.std.specs.Prelude.{◌==◌, IfSome}
 use Rattle.std.specs.List.{AllByRecursion, filter}
@@ -9,7 +9,6 @@ use Rattle.lg_value.specs.declared.sql_type.SqlType.{SqlType}
 use Rattle.lg_value.specs.declared.value.Value.{Value}
 use Rattle.lg_value.specs.declared.value.Value.TheVariants.{Null, Num, Text, Bytes, Date}
 use Rattle.lg_value.specs.Stored.{is_stored}
-use Rattle.lg_types.specs.declared.event.Event.{Event}
 use Rattle.lg_types.specs.declared.event.FieldOf.{FieldOf}
 use Rattle.lg_types.specs.declared.version.Table.{Table}
 use Rattle.lg_types.specs.declared.version.Typed.{Typed}
@@ -25,8 +24,8 @@ use Rattle.lg_invariants.specs.Serial.{TableOf, TablesOf}
 use Rattle.lg_invariants.specs.Described.{Described}
 use Rattle.lg_invariants.proofs.DefLists.{all_defs}
 use Rattle.lg_types.specs.declared.journal.JournalItem.{JournalItem}
-use Rattle.lg_row.specs.Leaf.{is_told, has_value, IsStart, is_text, IsField, rise_from, HasLeaf}
-use Rattle.lg_leaves.specs.Room.{IsSmall, HasRoom, FitsLeaf}
+use Rattle.lg_row.specs.Leaf.{is_told, has_value, IsStart, is_text, IsField, rise_from}
+use Rattle.lg_leaves.specs.Room.{IsSmall, FitsLeaf}
 
 abbrev IsUtf8 : FieldOf → Type 0
 IsUtf8 f = is_text f.value ≡ true

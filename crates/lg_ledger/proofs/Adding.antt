@@ -1,6 +1,5 @@
 -- What one more item adds to the ledger of a journal.
 use Rattle.std.proofs.Common.{◌≡◌, ◌<◌, ℕ, zero, suc, ◌+◌, refl, ap, sym, subst, ◌∙◌, List, [], ◌∷◌, ◌++◌, length, arith, append_assoc, append-nil}
-use Rattle.std.proofs.lemmas.List.{length-append}
 use Rattle.lg_types.specs.declared.entry.BlockRecord.{BlockRecord}
 use Rattle.lg_types.specs.declared.entry.TxEntry.{TxEntry}
 use Rattle.lg_types.specs.declared.journal.JournalItem.{JournalItem}
@@ -10,7 +9,7 @@ use Rattle.lg_model.specs.Journals.{after_item, serial_from, serial}
 use Rattle.lg_model.specs.Script.{Reading}
 use Rattle.lg_model.specs.SystemTables.{first_tables}
 use Rattle.lg_ledger.specs.Blocks.{hash_at}
-use Rattle.lg_ledger.specs.Ledger.{Ledger, empty_ledger, recorded, ledger_from, ledger_of, blocks_of}
+use Rattle.lg_ledger.specs.Ledger.{Ledger, empty_ledger, recorded, ledger_from, ledger_of}
 
 pub hash_in_front : (h : List ℕ → List ℕ) (b : ℕ) (rs more : List BlockRecord) → b < length rs → hash_at h (rs ++ more) b ≡ hash_at h rs b
 hash_in_front h b [] more lt = absurd (omega arith)

@@ -1,5 +1,5 @@
 -- The meaning of an expression in a row. It is total: each use that its classes forbid is E05.
-use Rattle.std.specs.Prelude.{ℕ, ℤ, Bool, true, false, ◌||◌, ◌==◌, if◌then◌else◌, List, Option, Some, None, Ok, Err, option_map}
+use Rattle.std.specs.Prelude.{ℕ, ℤ, Bool, true, false, ◌==◌, if◌then◌else◌, List, Option, Some, None, Ok, Err}
 use Rattle.std.specs.Prelude as bool
 use Rattle.std.specs.declared.cmp.Ordering.{Ordering}
 use Rattle.std.specs.Ordering.{is_eq, is_lt, is_gt, is_le, is_ge}

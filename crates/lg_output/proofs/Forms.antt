@@ -1,5 +1,5 @@
 -- A legal journal that a program has in memory has a spelling.
-use Rattle.std.proofs.Common.{◌≡◌, ◌<◌, ◌^◌, List, [], ◌∷◌, length}
+use Rattle.std.proofs.Common.{◌<◌, ◌^◌, List, [], ◌∷◌, length}
 use Rattle.std.specs.List.{AllByRecursion}
 use Rattle.lg_types.specs.declared.journal.Journal.{Journal}
 use Rattle.lg_types.specs.declared.journal.JournalItem.{JournalItem}

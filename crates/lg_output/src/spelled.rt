@@ -1,4 +1,4 @@
-//! Journals and digests that a program has in memory have a spelling.
+//! Journals that a program has in memory have a spelling.
 
 ghost use Rattle.lg_model.specs.LegalJournals.{IsLegalJournal};
 ghost use Rattle.lg_model.specs.Script.{Reading};

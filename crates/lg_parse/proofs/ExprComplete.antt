@@ -25,7 +25,7 @@ use Rattle.lg_parse.proofs.Names.{closed}
 use Rattle.lg_parse.proofs.Levels.{starts}
 use Rattle.lg_value.proofs.Trees.{of_literal, of_column, of_minus, of_not, of_is_null, of_binary}
 use Rattle.lg_parse.proofs.Terminals as w
-use Rattle.lg_parse.proofs.Terminals.{Terminal, tagged, from, word_tag}
+use Rattle.lg_parse.proofs.Terminals.{Terminal, tagged, word_tag}
 use Rattle.lg_parse.proofs.Leaves.{free_word, null_value}
 use Rattle.lg_parse.proofs.NotEqual.{not_equal_tag, not_equal_too_tag}
 use Rattle.lg_parse.proofs.Steps.{the_same, same_tag_true}

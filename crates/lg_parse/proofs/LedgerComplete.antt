@@ -9,7 +9,7 @@ use Rattle.lg_types.specs.declared.statement.CreateIndex.{CreateIndex}
 use Rattle.lg_grammar.specs.Tokens.{Lexemes, Sign, IsName, Known, Optional, absent, present, Listed, last, Enclosed, enclosed}
 use Rattle.lg_grammar.specs.Rows.{AreNames}
 use Rattle.lg_grammar.specs.Tables as g
-use Rattle.lg_grammar.specs.Tables.{IsDigits, digits, IsPrecision, IsType, IsNullability, IsPrimary, IsKeyMark, IsItem, keys_in, keys_of, columns_in, columns_of, is_nullable, IsHistory, IsView, IsOn, IsVersions, IsUpdatable, IsChoice, listed, appends, views, one_or_none, kind_of, IsLedger, IsLedgerPart, IsCreateTable, IsCreateIndex}
+use Rattle.lg_grammar.specs.Tables.{IsItem, keys_of, columns_of, IsHistory, IsView, IsOn, IsVersions, IsUpdatable, IsChoice, listed, appends, views, one_or_none, kind_of, IsLedger, IsLedgerPart}
 use Rattle.lg_parse.specs.declared.tag.Tag.{Tag}
 use Rattle.lg_parse.specs.declared.tag.Tag.TheVariants as t
 use Rattle.lg_parse.specs.declared.word.OptionName.{OptionName}
@@ -29,7 +29,6 @@ use Rattle.lg_parse.specs.Table as b
 use Rattle.lg_parse.specs.Ledger as p
 use Rattle.lg_parse.proofs.Repeats.{at_}
 use Rattle.lg_parse.proofs.Terminals as w
-use Rattle.lg_parse.proofs.Terminals.{lower_same}
 use Rattle.lg_parse.proofs.ExprComplete.{syms, One, one}
 use Rattle.lg_parse.proofs.Gives.{Gives, then_gives, flow, give_at, go, pure_gives, expects_gives, either_one, either_none, name_gives, one_other, one_tag, closes}
 use Rattle.lg_parse.proofs.RowComplete.{name_list_gives}

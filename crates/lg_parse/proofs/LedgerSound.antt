@@ -9,7 +9,7 @@ use Rattle.lg_types.specs.declared.statement.CreateTable.{CreateTable}
 use Rattle.lg_types.specs.declared.statement.CreateIndex.{CreateIndex}
 use Rattle.lg_grammar.specs.Tokens.{Lexemes, Word, Sign, IsName, Known, May, Optional, absent, present, Listed, last, more as more_listed, Enclosed, enclosed}
 use Rattle.lg_grammar.specs.Tables as g
-use Rattle.lg_grammar.specs.Tables.{IsDigits, digits, IsPrecision, IsType, IsNullability, IsPrimary, IsKeyMark, IsItem, keys_in, keys_of, columns_in, columns_of, is_nullable, IsHistory, IsView, IsOn, IsVersions, IsUpdatable, IsChoice, listed, appends, views, one_or_none, kind_of, IsLedger, IsLedgerPart, IsCreateTable, IsCreateIndex}
+use Rattle.lg_grammar.specs.Tables.{IsItem, keys_of, columns_of, IsHistory, IsView, IsOn, IsVersions, IsUpdatable, IsChoice, listed, appends, views, one_or_none, kind_of, IsLedger, IsLedgerPart, IsCreateTable, IsCreateIndex}
 use Rattle.lg_parse.specs.declared.tag.Tag.TheVariants as t
 use Rattle.lg_parse.specs.declared.word.OptionName.{OptionName}
 use Rattle.lg_parse.specs.declared.word.OptionName.TheVariants as option
@@ -26,7 +26,7 @@ use Rattle.lg_parse.specs.Row as r
 use Rattle.lg_parse.specs.Table as b
 use Rattle.lg_parse.specs.Ledger as p
 use Rattle.lg_parse.proofs.Terminals as w
-use Rattle.lg_parse.proofs.Terminals.{from, same_turned}
+use Rattle.lg_parse.proofs.Terminals.{from}
 use Rattle.lg_parse.proofs.Steps.{the_same, Follows, Part, moved, step, joins, built, expects, name_follows}
 use Rattle.lg_parse.proofs.ExprSound.{Behind, eaten_or}
 use Rattle.lg_parse.proofs.RowSound.{After, shuts, name_list_follows}

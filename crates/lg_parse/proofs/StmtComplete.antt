@@ -11,7 +11,7 @@ use Rattle.lg_types.specs.declared.statement.Stmt.TheVariants as stmt
 use Rattle.lg_grammar.specs.Tokens.{Lexemes, Word, Sign, IsName, May, left_out, written as given}
 use Rattle.lg_grammar.specs.Tables as table
 use Rattle.lg_grammar.specs.Statements as g
-use Rattle.lg_grammar.specs.Statements.{IsTran, IsBody, IsStmt, IsStatement, IsSys, IsExec, written}
+use Rattle.lg_grammar.specs.Statements.{IsTran, IsBody, IsStmt, IsStatement, IsSys, written}
 use Rattle.lg_parse.specs.declared.tag.Tag.{Tag}
 use Rattle.lg_parse.specs.declared.tag.Tag.TheVariants as t
 use Rattle.lg_parse.specs.declared.word.Call.TheVariants as call
@@ -19,7 +19,7 @@ use Rattle.lg_parse.specs.declared.parse_err.ParseErr.{ParseErr}
 use Rattle.lg_parse.specs.declared.parse_err.ParseErr.TheVariants.{Syntax, Memory}
 use Rattle.lg_parse.specs.Tags.{same_tag}
 use Rattle.lg_parse.specs.Input as input
-use Rattle.lg_parse.specs.Input.{Sym, Input, Outcome, Parser, and_then, ◌>>=◌, ◌>>◌, ◌<$>◌, pure, refuse, peek, take_text, tag, tag_at, text, next, sees, after, eat, expect, required, start, tokens_left}
+use Rattle.lg_parse.specs.Input.{Sym, Input, Parser, and_then, ◌>>=◌, ◌>>◌, ◌<$>◌, pure, refuse, peek, tag, tag_at, next, sees, after, eat, expect, required, tokens_left}
 use Rattle.lg_parse.specs.Words.{call_word}
 use Rattle.lg_parse.specs.Expr.{name}
 use Rattle.lg_parse.specs.Row as r

@@ -11,7 +11,7 @@ use Rattle.lg_types.specs.declared.statement.Stmt.{Stmt}
 use Rattle.lg_types.specs.declared.statement.Stmt.TheVariants as stmt
 use Rattle.lg_grammar.specs.Tokens.{Lexemes, Word, Sign, May, left_out, written as given}
 use Rattle.lg_grammar.specs.Statements as g
-use Rattle.lg_grammar.specs.Statements.{IsTran, IsBody, IsStmt, IsStatement, IsSys, IsExec, written}
+use Rattle.lg_grammar.specs.Statements.{IsTran, IsBody, IsStmt, IsStatement, IsExec, written}
 use Rattle.lg_parse.specs.declared.tag.Tag.{Tag}
 use Rattle.lg_parse.specs.declared.tag.Tag.TheVariants as t
 use Rattle.lg_parse.specs.declared.word.Call.{Call}

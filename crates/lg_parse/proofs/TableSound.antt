@@ -11,7 +11,7 @@ use Rattle.lg_value.specs.declared.sql_type.SqlType.TheVariants as sql
 use Rattle.lg_value.specs.declared.column.ColumnDef.{ColumnDef}
 use Rattle.lg_grammar.specs.Tokens.{Lexemes, Word, Sign, Known, named, same_word, Listed, last, more as more_listed, Enclosed, enclosed}
 use Rattle.lg_grammar.specs.Tables as g
-use Rattle.lg_grammar.specs.Tables.{IsDigits, digits, IsPrecision, IsType, IsNullability, IsPrimary, IsKeyMark, IsItem, keys_in, keys_of, columns_in, columns_of, is_nullable, IsHistory, IsView, IsOn, IsVersions, IsUpdatable, IsChoice, listed, appends, views, one_or_none, kind_of, IsLedger, IsLedgerPart, IsCreateTable, IsCreateIndex}
+use Rattle.lg_grammar.specs.Tables.{IsDigits, digits, IsPrecision, IsType, IsNullability, IsKeyMark, IsItem, keys_in, keys_of, columns_in, columns_of, is_nullable, one_or_none}
 use Rattle.lg_parse.specs.declared.tag.Tag.{Tag}
 use Rattle.lg_parse.specs.declared.tag.Tag.TheVariants as t
 use Rattle.lg_parse.specs.declared.word.TypeName.{TypeName}

@@ -1,13 +1,13 @@
 -- The roots of a transaction, table by table.
-use Rattle.std.proofs.Common.{◌≡◌, ◌≢◌, ◌<◌, ◌≤◌, ◌+◌, ℕ, suc, Bool, true, false, refl, sym, ap, subst, ◌∙◌, List, [], ◌∷◌, ◌++◌, map, drop, length, append-nil, arith}
-use Rattle.std.specs.Prelude.{◌==◌, not}
-use Rattle.std.specs.List.{AllByRecursion, filter}
+use Rattle.std.proofs.Common.{◌≡◌, ◌+◌, ℕ, true, false, refl, sym, List, [], ◌∷◌, ◌++◌, map, length, append-nil}
+use Rattle.std.specs.Prelude.{◌==◌}
+use Rattle.std.specs.List.{AllByRecursion}
 use Rattle.lg_row.specs.Leaf.{HasLeaf, event_bytes}
 use Rattle.lg_merkle.specs.TreeHash.{tree_hash}
 use Rattle.lg_types.specs.declared.event.Event.{Event}
 use Rattle.lg_types.specs.declared.version.Table.{Table}
 use Rattle.lg_model.specs.Events.{events_of}
-use Rattle.lg_ledger.specs.Entries.{has_events, root_in, roots_of}
+use Rattle.lg_ledger.specs.Entries.{roots_of}
 use Rattle.lg_leaves.specs.Room.{HasRoom, FitsLeaf}
 
 pub all_fit : (es : List Event) → AllByRecursion FitsLeaf es → AllByRecursion HasRoom es → AllByRecursion HasLeaf es

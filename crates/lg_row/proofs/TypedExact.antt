@@ -1,7 +1,7 @@
 -- A value with its type is read exactly as it is written.
-use Rattle.std.proofs.Common.{◌≡◌, ◌<◌, ◌^◌, ℕ, cond, List, ◌++◌, length, Option, Some, None, refl, sym, ap, subst}
+use Rattle.std.proofs.Common.{◌≡◌, ◌<◌, ◌^◌, ℕ, cond, List, ◌++◌, length, Some, None, refl, sym, ap, subst}
 use Rattle.lg_bytes.specs.Fields.{u32_field, long_field}
-use Rattle.lg_bytes.specs.Readers.{◌>>=◌, long_at, both}
+use Rattle.lg_bytes.specs.Readers.{long_at, both}
 use Rattle.lg_bytes.specs.Exact.{IsBytes, Exact}
 use Rattle.lg_bytes.proofs.Written.{IsBytes-back, bind_some, long_exact}
 use Rattle.lg_bytes.proofs.Parts.{both_exact, decoded_exact, test_some}

@@ -1,6 +1,6 @@
 -- Worked examples: which keys conditions fix, and what statements want in a table's cell.
 use Rattle.std.proofs.Common.{◌≡◌, ◌∙◌, refl, ap}
-use Rattle.std.specs.Prelude.{pos, negsuc, false, [], ◌∷◌, ◌++◌, codes, Some, None, Ok}
+use Rattle.std.specs.Prelude.{negsuc, [], ◌∷◌, ◌++◌, codes, Some, None, Ok}
 use Rattle.lg_value.specs.declared.value.Value.TheVariants as val
 use Rattle.lg_value.specs.declared.sql_type.SqlType.TheVariants.{Int, Date}
 use Rattle.lg_value.specs.declared.expr.Expr.TheVariants.{Bin}

@@ -1,5 +1,5 @@
 -- A visit of the catalog's cell doesn't lead back to the beginning of a statement.
-use Rattle.std.proofs.Common.{◌≡◌, ◌≢◌, ◌⊎◌, ℕ, Bool, true, false, List, Ok, Err, sym, subst, ⊎_elim}
+use Rattle.std.proofs.Common.{◌≢◌, ◌⊎◌, ℕ, Bool, true, false, List, Ok, Err, sym, subst, ⊎_elim}
 use Rattle.lg_value.specs.declared.refusal.Refusal.{Refusal}
 use Rattle.lg_value.specs.declared.refusal.Refusal.TheVariants.{E30}
 use Rattle.lg_types.specs.declared.lock.Mode.{Mode}

@@ -1,5 +1,5 @@
 -- CREATE TABLE and CREATE INDEX that have their X in the catalog.
-use Rattle.std.proofs.Common.{◌≡◌, ◌≢◌, ◌⊎◌, ℕ, ◌+◌, ◌<◌, ◌≤◌, Bool, true, false, List, [], ◌∷◌, ◌++◌, Option, Some, None, Ok, Err, length, map, refl, sym, ap, ◌∙◌, subst, inl, inr, ⊎_elim, arith}
+use Rattle.std.proofs.Common.{◌≡◌, ◌≢◌, ◌⊎◌, ℕ, ◌+◌, ◌<◌, ◌≤◌, Bool, true, false, List, [], ◌∷◌, Option, Some, None, Ok, Err, length, map, refl, sym, ap, ◌∙◌, subst, ⊎_elim, arith}
 use Rattle.std.specs.Prelude.{not, vec_capacity, ◌||◌, nat_lt, nat_le}
 use Rattle.std.specs.List.{AllByRecursion, list_all}
 use Rattle.std.proofs.lemmas.List.{append-nil}
@@ -22,12 +22,11 @@ use Rattle.lg_model.specs.Checks.{is_base, is_declared, refused_if}
 use Rattle.lg_model.specs.Create.{create_check, index_check, index_check_in, index_def, is_long, with_index}
 use Rattle.lg_model.specs.Limits.{max_index_columns, max_indexes}
 use Rattle.lg_model.specs.Lists.{has_name, repeats}
-use Rattle.lg_model.specs.Locks.{catalog_want, whole}
+use Rattle.lg_model.specs.Locks.{whole}
 use Rattle.lg_model.specs.Refusals.{Checked, and_then, or_refused}
 use Rattle.lg_model.specs.Runs.{MadeBefore}
 use Rattle.lg_model.specs.ScriptWants.{runs}
 use Rattle.lg_model.specs.SystemTables.{columns_id}
-use Rattle.lg_history.specs.Lists.{Text}
 use Rattle.lg_standing.specs.CatalogVisits.{with_new_index, with_system_leaves, with_table, CreateRefused, CreatesIndex, CreatesTable, RefusesCreate}
 use Rattle.lg_standing.specs.Cells.{CatalogCell, Catalog, catalog_at, versions_at}
 use Rattle.lg_standing.specs.Doing.{done, events_from, grown, no_memory, stage_after, with_reply}
@@ -37,13 +36,11 @@ use Rattle.lg_standing.specs.Seats.{OpenTransaction, Place, Tree, begun, inside,
 use Rattle.lg_standing.specs.TablesAreSerial.{HasActed}
 use Rattle.lg_standing.specs.Visits.{create_index, create_table, refuse_create}
 use Rattle.lg_standing.proofs.CellsAfter.{were_here}
-use Rattle.lg_tx.specs.Represents.{Represents}
 use Rattle.lg_catalog.specs.Calls.{HasIndex, HasTable, IndexMade, LocksTaken, MayCreate, TableMade}
-use Rattle.lg_seat.specs.InCatalog.{stopped_stage, Creates, GoesAgain, HasMade, HasVisited, IndexFails, IsIndex, IsRefused, IsSame, IsTable, KeepsLock, Looked, LooksUp, MakesIndex, MakesTable, MayLookFor, TableFails}
-use Rattle.lg_seat.specs.InCatalog as spec
+use Rattle.lg_seat.specs.InCatalog.{stopped_stage, Creates, GoesAgain, HasMade, HasVisited, IndexFails, IsIndex, IsRefused, IsSame, IsTable, KeepsLock, MayLookFor, TableFails}
 use Rattle.lg_seat.specs.KeptCell.{catalog_seen}
 use Rattle.lg_seat.specs.Needs.{stage_visits}
-use Rattle.lg_seat.specs.Sits.{IsOwn, IsRunning, MayLook, OfStmt, Sits, line_of}
+use Rattle.lg_seat.specs.Sits.{IsRunning, OfStmt, Sits, line_of}
 use Rattle.lg_seat.specs.Sits as sit
 use Rattle.lg_seat.specs.Stages.{done_stage}
 use Rattle.lg_seat.specs.Steps.{Among, Visited}

@@ -1,6 +1,6 @@
 -- The definitions that a statement gets in the catalog.
-use Rattle.std.proofs.Common.{◌≡◌, ◌≢◌, ◌⊎◌, ℕ, ◌+◌, ◌≤◌, ◌<◌, Bool, true, false, List, [], ◌∷◌, Option, Some, None, Ok, Err, refl, sym, ap, ◌∙◌, inl, inr, subst, ⊎_elim, arith}
-use Rattle.std.specs.Prelude.{◌==◌, ◌-◌, nat_le, if◌then◌else◌}
+use Rattle.std.proofs.Common.{◌≡◌, ◌≢◌, ◌⊎◌, ℕ, ◌+◌, ◌≤◌, ◌<◌, Bool, true, false, List, [], ◌∷◌, Option, Some, None, refl, sym, ap, ◌∙◌, subst, ⊎_elim, arith}
+use Rattle.std.specs.Prelude.{◌-◌, nat_le, if◌then◌else◌}
 use Rattle.std.specs.List.{AllByRecursion}
 use Rattle.std.proofs.lemmas.Bool.{cases_eq}
 use Rattle.std.proofs.lemmas.Grind.{common_steps}
@@ -11,7 +11,7 @@ use Rattle.lg_types.specs.declared.lock.Mode.{Mode}
 use Rattle.lg_types.specs.declared.lock.Mode.TheVariants as mode
 use Rattle.lg_types.specs.declared.statement.Stmt.{Stmt}
 use Rattle.lg_types.specs.declared.table.Part.{Part}
-use Rattle.lg_types.specs.declared.table.Part.TheVariants.{Base, History, View, System}
+use Rattle.lg_types.specs.declared.table.Part.TheVariants.{History, System}
 use Rattle.lg_types.specs.declared.table.TableDef.{TableDef}
 use Rattle.lg_model.specs.Agreement.{IdsFrom}
 use Rattle.lg_model.specs.Catalog.{Defs, Named, defs_of, find_part, is_named, or_in, own_part, part_named}
@@ -20,12 +20,11 @@ use Rattle.lg_model.specs.Locks.{whole, wants_conflict, same_item, conflict}
 use Rattle.lg_model.specs.SystemTables.{tables_def, columns_def}
 use Rattle.lg_history.specs.Lists.{In}
 use Rattle.lg_frames.proofs.Named.{named_part}
-use Rattle.lg_spell.specs.Formed.{AllFormed, AreInFront, Formed}
+use Rattle.lg_spell.specs.Formed.{AllFormed, Formed}
 use Rattle.lg_spell.proofs.Journals.{legal_described, legal_ids}
 use Rattle.lg_standing.specs.Cells.{Cell, Catalog, CatalogCell, catalog_at}
-use Rattle.lg_standing.specs.Moves.{StandsOpen}
 use Rattle.lg_standing.specs.OpenOnes.{HasOpen}
-use Rattle.lg_standing.specs.Seats.{OpenTransaction, Place, begun, inside, Session, SeatState}
+use Rattle.lg_standing.specs.Seats.{OpenTransaction, Session, SeatState}
 use Rattle.lg_standing.specs.Server.{Server}
 use Rattle.lg_standing.specs.StandTogether.{Stands}
 use Rattle.lg_standing.specs.StandTogether as standing

@@ -1,5 +1,5 @@
 -- What a statement of rows gets in the catalog, by its name and by its checks.
-use Rattle.std.proofs.Common.{◌≡◌, ◌≢◌, ◌⊎◌, ℕ, Bool, true, false, List, [], ◌∷◌, Option, Some, None, Ok, Err, refl, sym, ap, ◌∙◌, subst, inl, inr}
+use Rattle.std.proofs.Common.{◌≡◌, ◌≢◌, ◌⊎◌, ℕ, true, false, List, [], ◌∷◌, Option, Some, None, Ok, Err, refl, sym, ap, ◌∙◌, subst, inl, inr}
 use Rattle.std.specs.Prelude.{not, IsErrAnd}
 use Rattle.lg_value.specs.declared.column.ColumnDef.{ColumnDef}
 use Rattle.lg_value.specs.declared.refusal.Refusal.{Refusal}
@@ -7,7 +7,6 @@ use Rattle.lg_value.specs.declared.refusal.Refusal.TheVariants.{E02, E03, E11, E
 use Rattle.lg_types.specs.declared.statement.RowStmt.{RowStmt}
 use Rattle.lg_types.specs.declared.statement.RowStmt.TheVariants.{Insert, Update, Delete}
 use Rattle.lg_types.specs.declared.statement.Select.{Select}
-use Rattle.lg_types.specs.declared.statement.Stmt.{Stmt}
 use Rattle.lg_types.specs.declared.statement.Stmt.TheVariants as st
 use Rattle.lg_types.specs.declared.table.Part.{Part}
 use Rattle.lg_types.specs.declared.table.Part.TheVariants.{Base, History, View, System}
@@ -19,14 +18,11 @@ use Rattle.lg_model.specs.Parts.{columns_of}
 use Rattle.lg_model.specs.Query.{query_check, select_check}
 use Rattle.lg_model.specs.Refusals.{Checked, Gives, and_then, or_refused}
 use Rattle.lg_model.specs.Rows.{Row}
-use Rattle.lg_history.specs.Lists.{Text}
 use Rattle.lg_frames.proofs.Checked.{not_refused, was_passed}
-use Rattle.lg_standing.specs.Answering.{defs_got, error_of, refused_by_check}
+use Rattle.lg_standing.specs.Answering.{error_of, refused_by_check}
 use Rattle.lg_standing.specs.Cells.{Catalog, CatalogCell, versions_in}
 use Rattle.lg_standing.specs.LocksCover.{name_of}
-use Rattle.lg_standing.specs.LocksCover as cover
 use Rattle.lg_seat.specs.InCatalog.{is_system, Gets, IsBarred, IsFound, IsShown}
-use Rattle.lg_seat.specs.Sits.{IsOfRows}
 use Rattle.lg_seat.specs.declared.got.Got.{Got}
 
 -- ---- the check over the found definition alone

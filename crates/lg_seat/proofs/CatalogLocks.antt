@@ -7,10 +7,10 @@ use mathlib.Core.Option.{some}
 use lib.ListN.{get_elem?}
 use Rattle.lg_types.specs.declared.lock.Hold.{Hold}
 use Rattle.lg_types.specs.declared.lock.Want.{Want}
-use Rattle.lg_model.specs.Holds.{hold, holds_after, holds_any, holds_want, is_foreign, is_of, released, with_want}
+use Rattle.lg_model.specs.Holds.{hold, holds_after, holds_any, holds_want, is_foreign, is_of, released}
 use Rattle.lg_history.specs.Lists.{In}
 use Rattle.lg_standing.specs.CatalogVisits.{with_holds}
-use Rattle.lg_standing.specs.Cells.{Cell, Catalog, CatalogCell, catalog_at, holds_at}
+use Rattle.lg_standing.specs.Cells.{Cell, Catalog, CatalogCell, catalog_at}
 use Rattle.lg_standing.specs.OpenOnes.{HasOpen}
 use Rattle.lg_standing.specs.Seats.{OpenTransaction, Session, SeatState}
 use Rattle.lg_standing.specs.Server.{Server}

@@ -1,15 +1,12 @@
 -- A statement of rows that has its S in the catalog, and what it comes to there.
-use Rattle.std.proofs.Common.{◌≡◌, ◌≢◌, ◌⊎◌, ℕ, ◌+◌, ◌<◌, ◌≤◌, Bool, true, false, List, [], ◌∷◌, ◌++◌, Option, Some, None, Ok, Err, length, map, refl, sym, ap, ◌∙◌, subst, inl, inr, ⊎_elim, arith}
-use Rattle.std.specs.Prelude.{not, vec_capacity}
+use Rattle.std.proofs.Common.{◌≡◌, ◌≢◌, ◌⊎◌, ℕ, ◌+◌, ◌<◌, ◌≤◌, Bool, true, false, List, [], ◌∷◌, Option, Some, None, Ok, Err, length, map, refl, sym, ap, ◌∙◌, subst, inl, inr, ⊎_elim, arith}
+use Rattle.std.specs.Prelude.{vec_capacity}
 use Rattle.std.proofs.lemmas.List.{append-nil}
-use mathlib.Core.Option.{some}
 use Rattle.lg_value.specs.declared.refusal.Refusal.{Refusal}
 use Rattle.lg_value.specs.declared.refusal.Refusal.TheVariants.{E30}
 use Rattle.lg_types.specs.declared.lock.Mode.TheVariants as mode
 use Rattle.lg_types.specs.declared.reply.Reply.{Reply}
 use Rattle.lg_types.specs.declared.reply.Reply.TheVariants as reply
-use Rattle.lg_types.specs.declared.statement.RowStmt.{RowStmt}
-use Rattle.lg_types.specs.declared.statement.RowStmt.TheVariants.{Insert, Update, Delete}
 use Rattle.lg_types.specs.declared.statement.Select.{Select}
 use Rattle.lg_types.specs.declared.statement.Stmt.{Stmt}
 use Rattle.lg_types.specs.declared.statement.Stmt.TheVariants as st
@@ -18,21 +15,20 @@ use Rattle.lg_types.specs.declared.table.Part.TheVariants.{System}
 use Rattle.lg_types.specs.declared.table.TableDef.{TableDef}
 use Rattle.lg_model.specs.Catalog.{Defs, Named, find_part}
 use Rattle.lg_model.specs.Effect.{query_rows}
-use Rattle.lg_model.specs.Holds.{holds_any}
 use Rattle.lg_model.specs.Locks.{catalog_want, whole}
 use Rattle.lg_model.specs.Query.{query_check}
 use Rattle.lg_model.specs.Refusals.{Checked}
 use Rattle.lg_model.specs.Rows.{Row}
 use Rattle.lg_history.specs.Lists.{Text, Each}
 use Rattle.lg_standing.specs.ActsOf.{checked_acts, done_acts}
-use Rattle.lg_standing.specs.Alone.{Alones, none, more, no_memory_then, refused_checked}
+use Rattle.lg_standing.specs.Alone.{none, more, no_memory_then, refused_checked}
 use Rattle.lg_standing.specs.Answering.{refused_by_check}
 use Rattle.lg_standing.specs.CatalogVisits.{Looks, ReadsSystem}
 use Rattle.lg_standing.specs.Cells.{Catalog, CatalogCell, catalog_at, versions_in}
 use Rattle.lg_standing.specs.Doing.{done, rows_reply, stage_after, stage_refused, with_reply}
 use Rattle.lg_standing.specs.LocksCover.{name_of, table_of}
 use Rattle.lg_standing.specs.Moves.{at_place, sits, then_at, visiting, StandsOpen}
-use Rattle.lg_standing.specs.Seats.{OpenTransaction, found, inside, Session, SeatState}
+use Rattle.lg_standing.specs.Seats.{OpenTransaction, found, inside, SeatState}
 use Rattle.lg_standing.specs.TablesAreSerial.{HasActed}
 use Rattle.lg_standing.specs.Visits.{look, read_system}
 use Rattle.lg_catalog.specs.Calls.{LocksTaken}

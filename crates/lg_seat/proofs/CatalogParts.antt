@@ -1,36 +1,23 @@
 -- The parts of a visit of the catalog's cell, from what the calls of the cell say.
-use Rattle.std.proofs.Common.{◌≡◌, ◌≢◌, ◌⊎◌, ℕ, Bool, true, false, List, [], ◌∷◌, Option, Some, None, Ok, Err, IfOk, IfErr, OnErr, refl, sym, ap, ◌∙◌, subst, inl, inr, ⊎_elim}
-use Rattle.std.specs.Prelude.{not, if◌then◌else◌, IsErrAnd}
-use Rattle.std.specs.List.{AllByRecursion}
+use Rattle.std.proofs.Common.{◌≡◌, ◌⊎◌, ℕ, Bool, List, [], ◌∷◌, Ok, Err, IfErr, refl, sym, ap, ◌∙◌, subst, inl, inr, ⊎_elim}
+use Rattle.std.specs.Prelude.{IsErrAnd}
 use Rattle.lg_value.specs.declared.refusal.Refusal.{Refusal}
 use Rattle.lg_value.specs.declared.refusal.Refusal.TheVariants.{E30}
 use Rattle.lg_types.specs.declared.lock.Mode.{Mode}
-use Rattle.lg_types.specs.declared.lock.Mode.TheVariants.{S, X}
-use Rattle.lg_types.specs.declared.lock.Want.{Want}
 use Rattle.lg_types.specs.declared.reply.Reply.TheVariants as reply
-use Rattle.lg_types.specs.declared.statement.CreateIndex.{CreateIndex}
-use Rattle.lg_types.specs.declared.statement.CreateTable.{CreateTable}
-use Rattle.lg_types.specs.declared.statement.Stmt.{Stmt}
-use Rattle.lg_types.specs.declared.table.TableDef.{TableDef}
-use Rattle.lg_model.specs.Holds.{released}
 use Rattle.lg_model.specs.Locks.{whole}
 use Rattle.lg_model.specs.Refusals.{Checked}
-use Rattle.lg_model.specs.Runs.{MadeBefore}
-use Rattle.lg_standing.specs.CatalogVisits.{with_holds}
 use Rattle.lg_standing.specs.Cells.{CatalogCell, catalog_at}
 use Rattle.lg_standing.specs.Doing.{Stopped, no_memory}
 use Rattle.lg_standing.specs.Moves.{put_in}
 use Rattle.lg_standing.specs.Seats.{OpenTransaction}
 use Rattle.lg_tx.specs.Represents.{Represents}
 use Rattle.lg_tx.specs.declared.context.TxCtx.{TxCtx}
-use Rattle.lg_catalog.specs.Calls.{left, undone, IndexMade, LocksTaken, MayCreate, TableMade}
-use Rattle.lg_seat.specs.InCatalog.{got_stage, is_committed, released_by, released_if, stopped_stage, with_visited, Creates, Gets, GoesAgain, HasMade, HasVisited, IndexFails, IsIndex, IsLookedUp, IsRefused, IsSame, IsStopped, IsTable, KeepsLock, TableFails, Takes}
+use Rattle.lg_catalog.specs.Calls.{left}
+use Rattle.lg_seat.specs.InCatalog.{with_visited, GoesAgain, IsRefused, IsSame, KeepsLock}
 use Rattle.lg_seat.specs.VisitedCells.{VisitedCells}
-use Rattle.lg_seat.specs.declared.end_line.EndLine.{EndLine}
-use Rattle.lg_seat.specs.declared.got.Got.{Got}
 use Rattle.lg_seat.specs.declared.running.Running.{Running}
 use Rattle.lg_seat.specs.declared.stage.Stage.{Stage}
-use Rattle.lg_seat.specs.declared.stage.Stage.TheVariants.{Made, Replied}
 
 -- ---- the lock
 

@@ -1,29 +1,27 @@
 -- The release of the catalog, which comes last of the cells that a transaction visited.
-use Rattle.std.proofs.Common.{◌≡◌, ◌≢◌, ◌⊎◌, ℕ, ◌+◌, ◌<◌, ◌≤◌, Bool, true, false, List, [], ◌∷◌, ◌++◌, Option, Some, None, length, map, reverse, refl, sym, ap, ◌∙◌, subst, subst₂, inl, inr, ⊎_elim, arith}
-use Rattle.std.specs.Prelude.{◌==◌, slice_get, if◌then◌else◌, zero, suc}
+use Rattle.std.proofs.Common.{◌≡◌, ◌≢◌, ◌⊎◌, ℕ, ◌+◌, ◌<◌, ◌≤◌, Bool, true, false, List, [], ◌∷◌, ◌++◌, Option, Some, None, reverse, refl, sym, ap, ◌∙◌, subst, subst₂, inl, inr, ⊎_elim, arith}
+use Rattle.std.specs.Prelude.{◌==◌, slice_get, if◌then◌else◌}
 use Rattle.std.proofs.lemmas.List.{append-nil, append_assoc, reverse-append}
-use Rattle.lg_types.specs.declared.table.TableDef.{TableDef}
-use Rattle.lg_history.specs.Lists.{Text, Each, In}
+use Rattle.lg_history.specs.Lists.{Each, In}
 use Rattle.lg_history.specs.Transactions.{End, unfixed, committed, ended}
-use Rattle.lg_standing.specs.Alone.{IsReleased}
-use Rattle.lg_standing.specs.Cells.{Catalog, CatalogCell, Creator, catalog_at, ledger_at}
+use Rattle.lg_standing.specs.Cells.{CatalogCell, Creator, catalog_at, ledger_at}
 use Rattle.lg_standing.specs.Moves.{at_place, releasing, sits}
-use Rattle.lg_standing.specs.Seats.{OpenTransaction, Place, SeatState, Session, session}
+use Rattle.lg_standing.specs.Seats.{OpenTransaction, Session}
 use Rattle.lg_standing.specs.UndoVisits.{catalog_left, creator_left, ReleasesCatalog}
 use Rattle.lg_standing.specs.Visits.{release_catalog}
 use Rattle.lg_catalog.specs.Calls.{left, undone}
 use Rattle.lg_tx.specs.Represents.{Represents}
-use Rattle.lg_seat.specs.EndSeen.{IsEnd}
-use Rattle.lg_seat.specs.InCatalog.{is_committed, released_by, with_visited, Passes, ReleasesNext}
+use Rattle.lg_seat.specs.IsEnd.{IsEnd}
+use Rattle.lg_seat.specs.InCatalog.{released_by, with_visited, Passes, ReleasesNext}
 use Rattle.lg_seat.specs.KeptCell.{catalog_seen}
-use Rattle.lg_seat.specs.Needs.{answer_need, back_need, cell_or_done, end_need, end_visits, leaving_need, need_of, point_need, point_visits}
+use Rattle.lg_seat.specs.Needs.{answer_need, back_need, cell_or_done, end_need, end_visits, leaving_need, point_need, point_visits}
 use Rattle.lg_seat.specs.Points.{Stays, StaysBy}
-use Rattle.lg_seat.specs.Sits.{HasRoom, HasScript, IsPoint, IsRunning, IsStage, MayGoBack, OfOpen, Runs, Sits, left_of, place_seen}
+use Rattle.lg_seat.specs.Sits.{HasRoom, IsPoint, IsRunning, Runs, Sits, left_of, place_seen}
 use Rattle.lg_seat.specs.Steps.{Among, ComesOn, Visited}
 use Rattle.lg_seat.specs.Told.{plainly}
-use Rattle.lg_seat.specs.VisitedCells.{AreVisited, IsTableCell, VisitedCells, next_back, not_catalog, table_cell}
-use Rattle.lg_seat.specs.declared.end_line.EndLine.{EndLine}
-use Rattle.lg_seat.specs.declared.end_line.EndLine.TheVariants.{Committed, Ended}
+use Rattle.lg_seat.specs.VisitedCells.{AreVisited, IsTableCell, not_catalog, table_cell}
+use Rattle.lg_types.specs.declared.end_line.EndLine.{EndLine}
+use Rattle.lg_types.specs.declared.end_line.EndLine.TheVariants.{Committed, Ended}
 use Rattle.lg_seat.specs.declared.need.Need.{Need}
 use Rattle.lg_seat.specs.declared.need.Need.TheVariants as need
 use Rattle.lg_seat.specs.declared.running.Running.{Running}

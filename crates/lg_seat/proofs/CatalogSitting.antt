@@ -1,5 +1,5 @@
 -- A seat that visits the catalog's cell inside a statement, and its transaction there.
-use Rattle.std.proofs.Common.{◌≡◌, ◌≢◌, ℕ, ◌+◌, ◌<◌, ◌≤◌, Bool, true, false, List, [], ◌∷◌, ◌++◌, Option, Some, None, length, map, reverse, refl, sym, ap, ◌∙◌, subst, subst₂, inl, inr, ⊎_elim, arith}
+use Rattle.std.proofs.Common.{◌≡◌, ℕ, ◌+◌, ◌<◌, ◌≤◌, Bool, true, false, List, [], ◌∷◌, ◌++◌, Option, Some, None, length, map, reverse, refl, sym, ap, ◌∙◌, subst, subst₂, inl, arith}
 use Rattle.std.specs.Prelude.{◌==◌, ◌||◌, if◌then◌else◌, vec_capacity}
 use Rattle.std.specs.List.{list_any}
 use mathlib.Core.Option.{some}
@@ -7,25 +7,22 @@ use lib.ListN.{get_elem?}
 use Rattle.lg_value.specs.declared.refusal.Refusal.{Refusal}
 use Rattle.lg_types.specs.declared.statement.Stmt.{Stmt}
 use Rattle.lg_model.specs.ScriptWants.{runs}
-use Rattle.lg_history.specs.Lists.{In}
 use Rattle.lg_history.specs.Transactions.{unfixed}
-use Rattle.lg_standing.specs.Cells.{Cell, Catalog, CatalogCell, catalog_at}
+use Rattle.lg_standing.specs.Cells.{Catalog, CatalogCell, catalog_at}
 use Rattle.lg_standing.specs.Moves.{noting, put_in, visiting, StandsOpen}
 use Rattle.lg_standing.specs.OpenOnes.{HasOpen}
-use Rattle.lg_standing.specs.Seats.{OpenTransaction, Session, Tree}
-use Rattle.lg_standing.specs.StandTogether.{Stands}
+use Rattle.lg_standing.specs.Seats.{OpenTransaction, Tree}
 use Rattle.lg_standing.proofs.CatalogThere.{catalog_there}
 use Rattle.lg_tx.specs.Represents.{Represents}
-use Rattle.lg_tx.specs.declared.context.TxCtx.{TxCtx}
-use Rattle.lg_seat.specs.EndSeen.{IsEnd}
+use Rattle.lg_seat.specs.IsEnd.{IsEnd}
 use Rattle.lg_seat.specs.InCatalog.{HasVisited}
 use Rattle.lg_seat.specs.KeptCell.{catalog_seen}
 use Rattle.lg_seat.specs.Needs.{end_visits, point_visits, stage_visits}
-use Rattle.lg_seat.specs.Points.{IsBegunAt, IsInsideAt, Stays, StaysBy}
-use Rattle.lg_seat.specs.Sits.{IsRunning, IsSome, MayLook, MaySay, OfOpen, OfStmt, IsUnfixed, Runs, line_of, said_at}
+use Rattle.lg_seat.specs.Points.{IsBegunAt, Stays, StaysBy}
+use Rattle.lg_seat.specs.Sits.{IsRunning, IsSome, MayLook, MaySay, OfStmt, IsUnfixed, line_of, said_at}
 use Rattle.lg_seat.specs.Steps.{Among, ComesOn}
 use Rattle.lg_seat.specs.VisitedCells.{AreVisited}
-use Rattle.lg_seat.specs.declared.end_line.EndLine.{EndLine}
+use Rattle.lg_types.specs.declared.end_line.EndLine.{EndLine}
 use Rattle.lg_seat.specs.declared.running.Running.{Running}
 use Rattle.lg_seat.specs.declared.seat.Seat.{Seat}
 use Rattle.lg_seat.specs.declared.stage.Point.{Point}

@@ -1,31 +1,30 @@
 -- A statement that doesn't get its lock in the catalog, and one that gives it back.
-use Rattle.std.proofs.Common.{◌≡◌, ℕ, ◌+◌, ◌<◌, ◌≤◌, Bool, true, false, List, [], ◌∷◌, Option, Some, None, length, map, refl, sym, ap, ◌∙◌, subst, arith}
+use Rattle.std.proofs.Common.{◌≡◌, ℕ, ◌+◌, ◌≤◌, true, false, List, [], Some, None, length, map, refl, sym, ap, ◌∙◌, subst}
 use Rattle.std.proofs.lemmas.List.{append-nil}
 use Rattle.lg_value.specs.declared.refusal.Refusal.{Refusal}
 use Rattle.lg_types.specs.declared.lock.Hold.{Hold}
-use Rattle.lg_types.specs.declared.lock.Mode.{Mode}
 use Rattle.lg_types.specs.declared.lock.Want.{Want}
 use Rattle.lg_types.specs.declared.reply.Reply.{Reply}
 use Rattle.lg_types.specs.declared.reply.Reply.TheVariants as reply
 use Rattle.lg_model.specs.Holds.{released}
-use Rattle.lg_model.specs.Locks.{catalog_want, whole}
+use Rattle.lg_model.specs.Locks.{catalog_want}
 use Rattle.lg_history.specs.Acts.{SessionAct}
 use Rattle.lg_history.specs.Lists.{Text, Each}
 use Rattle.lg_standing.specs.ActsOf.{failed_in}
-use Rattle.lg_standing.specs.CatalogVisits.{with_holds, GivesBack, StopsInCatalog}
-use Rattle.lg_standing.specs.Cells.{Catalog, CatalogCell}
+use Rattle.lg_standing.specs.CatalogVisits.{with_holds}
+use Rattle.lg_standing.specs.Cells.{CatalogCell}
 use Rattle.lg_standing.specs.Deeds.{stopped_acts}
 use Rattle.lg_standing.specs.Doing.{Stopped, barred, no_memory}
-use Rattle.lg_standing.specs.Moves.{at_place, sits, then_at}
-use Rattle.lg_standing.specs.Seats.{OpenTransaction, answering, inside, SeatState}
+use Rattle.lg_standing.specs.Moves.{sits, then_at}
+use Rattle.lg_standing.specs.Seats.{answering, inside, SeatState}
 use Rattle.lg_standing.specs.Visits.{give_back, stop_in_catalog}
 use Rattle.lg_standing.specs.WantsIn.{of_catalog}
 use Rattle.lg_tx.specs.Represents.{Represents}
-use Rattle.lg_seat.specs.InCatalog.{stopped_stage, IsSame, IsStopped}
+use Rattle.lg_seat.specs.InCatalog.{stopped_stage}
 use Rattle.lg_seat.specs.KeptCell.{catalog_seen}
 use Rattle.lg_seat.specs.Needs.{stage_visits}
 use Rattle.lg_seat.specs.Sits.{Sits, left_of, line_of, said_at, stage_seen}
-use Rattle.lg_seat.specs.Steps.{Among, ComesOn, Visited}
+use Rattle.lg_seat.specs.Steps.{Among, Visited}
 use Rattle.lg_seat.specs.Told.{IsPlain, plainly}
 use Rattle.lg_seat.specs.declared.running.Running.{Running}
 use Rattle.lg_seat.specs.declared.seat.Seat.{Seat}
@@ -34,7 +33,7 @@ use Rattle.lg_seat.specs.declared.stage.Stage.{Stage}
 use Rattle.lg_seat.specs.declared.stage.Stage.TheVariants.{GivingBack, Looking}
 use Rattle.lg_seat.proofs.Alone.{then_seat, adds_at, failed_plain}
 use Rattle.lg_seat.proofs.Sitting.{plain_deeds, sits_at, visits_once}
-use Rattle.lg_seat.proofs.CatalogSitting.{IsIn, stands_at, some_stmt, running_still, script_now, comes_on, end_few}
+use Rattle.lg_seat.proofs.CatalogSitting.{IsIn, stands_at, running_still, script_now, end_few}
 
 stopped_plain : {holds : List Hold} {id : ℕ} {wants : List Want} {r : Reply} (k : Stopped holds id wants r) (text : Text) (fail : List SessionAct) → Each IsPlain fail → Each IsPlain (stopped_acts k text fail)
 stopped_plain (barred c first) text fail p = (tt, tt)

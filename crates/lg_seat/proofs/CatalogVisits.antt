@@ -1,5 +1,5 @@
 -- Each visit of the catalog's cell, in the form of the contracts.
-use Rattle.std.proofs.Common.{◌≡◌, ◌≢◌, ◌⊎◌, ℕ, ◌+◌, ◌<◌, ◌≤◌, Bool, true, false, List, [], ◌∷◌, Option, Some, None, length, refl, sym, ap, ◌∙◌, subst, subst₂, ⊎_elim, arith}
+use Rattle.std.proofs.Common.{◌≡◌, ◌≢◌, ◌⊎◌, ℕ, ◌+◌, ◌<◌, Bool, false, List, Option, Some, length, refl, sym, ap, ◌∙◌, subst, subst₂, ⊎_elim, arith}
 use Rattle.lg_value.specs.declared.refusal.Refusal.{Refusal}
 use Rattle.lg_value.specs.declared.refusal.Refusal.TheVariants.{E30}
 use Rattle.lg_types.specs.declared.lock.Mode.{Mode}
@@ -8,14 +8,14 @@ use Rattle.lg_types.specs.declared.reply.Reply.TheVariants as reply
 use Rattle.lg_types.specs.declared.statement.Stmt.{Stmt}
 use Rattle.lg_types.specs.declared.statement.Stmt.TheVariants as st
 use Rattle.lg_model.specs.Holds.{released}
-use Rattle.lg_model.specs.Locks.{catalog_want, whole}
+use Rattle.lg_model.specs.Locks.{catalog_want}
 use Rattle.lg_standing.specs.CatalogVisits.{with_holds}
 use Rattle.lg_standing.specs.Cells.{CatalogCell}
 use Rattle.lg_standing.specs.Doing.{Stopped}
 use Rattle.lg_standing.specs.Seats.{OpenTransaction}
 use Rattle.lg_standing.specs.WantsIn.{of_catalog}
 use Rattle.lg_tx.specs.Represents.{Represents}
-use Rattle.lg_seat.specs.InCatalog.{stopped_stage, Creates, IndexFails, IsIndex, IsLookedUp, IsRefused, IsStopped, IsTable, Looked, LooksUp, MakesIndex, MakesTable, MayLookFor, TableFails}
+use Rattle.lg_seat.specs.InCatalog.{stopped_stage, Creates, IndexFails, IsIndex, IsLookedUp, IsRefused, IsStopped, IsTable, Looked, LooksUp, MayLookFor, TableFails}
 use Rattle.lg_seat.specs.KeptCell.{catalog_seen}
 use Rattle.lg_seat.specs.Needs.{stage_visits}
 use Rattle.lg_seat.specs.Points.{Stays}

@@ -25,9 +25,9 @@ use Rattle.lg_standing.specs.Seats as law
 use Rattle.lg_standing.specs.Server.{Server}
 use Rattle.lg_standing.specs.Serves.{Serves}
 use Rattle.lg_tx.specs.Represents.{Represents}
-use Rattle.lg_seat.specs.Course.{IsReady, refusal_of, said, refused, SameBeside, SameScript, SameBy, Saved, GoneBack, back_by, stage_inside, stage_outside, IsCourseIn, IsCourse}
+use Rattle.lg_seat.specs.Course.{IsReady, refusal_of, said, SameBeside, SameBy, Saved, GoneBack, back_by, stage_inside, stage_outside, IsCourseIn, IsCourse}
 use Rattle.lg_seat.specs.Course as course
-use Rattle.lg_seat.specs.EndSeen.{IsEnd}
+use Rattle.lg_seat.specs.IsEnd.{IsEnd}
 use Rattle.lg_seat.specs.Points.{IsBegun}
 use Rattle.lg_seat.specs.Rest.{MayPush}
 use Rattle.lg_seat.specs.Sits.{Sits, IsRunning, Runs, HasScript, HasRoom, IsRead, IsStage, IsSome, MayLook, OfStmt, line_of, left_of, said_at, stage_seen}

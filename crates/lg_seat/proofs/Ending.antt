@@ -14,7 +14,8 @@ use Rattle.lg_standing.specs.Answering.{with_entry, written_of, end_line}
 use Rattle.lg_standing.specs.Moves.{at_place, sits}
 use Rattle.lg_standing.specs.Seats.{OpenTransaction, inside, answering, between, leaving, Session, session, SeatState}
 use Rattle.lg_tx.specs.Represents.{Represents}
-use Rattle.lg_seat.specs.EndSeen.{IsEnd, line_seen}
+use Rattle.lg_history.specs.EndSeen.{end_seen, line_seen}
+use Rattle.lg_seat.specs.IsEnd.{IsEnd}
 use Rattle.lg_seat.specs.Needs.{answer_need, end_need, point_need, need_of, cell_or_done}
 use Rattle.lg_seat.specs.Points.{IsBetween, IsBetweenAt, IsLeavingAt}
 use Rattle.lg_seat.specs.Rest.{said_pair, MayPush, RestOpen, RestBy, IsRest, MayEnd, MayEndAt, FinishesBy}
@@ -22,8 +23,8 @@ use Rattle.lg_seat.specs.Sits.{Sits, IsRunning, Runs, HasScript, HasRoom, IsAnsw
 use Rattle.lg_seat.specs.Steps.{Steps, StepsAlone, Answers, IsAnsweredBy, Ends, EndsSession, entries_at, entries_by, end_of, last_entries}
 use Rattle.lg_seat.specs.Told.{Adds}
 use Rattle.lg_seat.specs.VisitedCells.{VisitedCells}
-use Rattle.lg_seat.specs.declared.end_line.EndLine.{EndLine}
-use Rattle.lg_seat.specs.declared.end_line.EndLine.TheVariants.{Committed, Ended}
+use Rattle.lg_types.specs.declared.end_line.EndLine.{EndLine}
+use Rattle.lg_types.specs.declared.end_line.EndLine.TheVariants.{Committed, Ended}
 use Rattle.lg_seat.specs.declared.need.Need.TheVariants.{Done}
 use Rattle.lg_seat.specs.declared.running.Running.{Running}
 use Rattle.lg_seat.specs.declared.seat.Seat.{Seat}
@@ -74,14 +75,6 @@ line_is o (Committed id place) (ended n back) k = absurd k
 line_is o (Ended id after) unfixed k = absurd k
 line_is o (Ended id after) (committed n) k = absurd k
 line_is o (Ended id after) (ended n back) k = λ i. Some (transcripts.ended_after (sym k.0 i) (sym k.1 i))
-
-abbrev pub line_now : EndLine → transcripts.EndLine
-line_now (Committed id place) = transcripts.committed_at id place
-line_now (Ended id after) = transcripts.ended_after id after
-
-seen_now : (line : EndLine) → line_seen (Some line) ≡ Some (line_now line)
-seen_now (Committed id place) = refl
-seen_now (Ended id after) = refl
 
 -- ---- the session's end begins
 
@@ -159,19 +152,19 @@ ends_session {H} digest y may v h s serves w = by y.point y.running w.x.open_one
 
         ends : (l : Option EndLine) → r.end ≡ l → end_need false l r.visited.left ≡ Done → Ends v s y
         ends None k n = absurd cc
-        ends (Some line) k n = let at_end : end_line o o.end ≡ Some (line_now line) = line_is o line o.end (subst (λ (z : Option EndLine). IsEnd o.id z o.end) k q.end) ∙ seen_now line in record {
-          t = over (with_entry (end_of_session (line_now line)) None between w.x) s;
-          step = has_left w.x o (line_now line) (record { role = w.role; here = placed digest h y s w Leaving b }) f at_end
+        ends (Some line) k n = let at_end : end_line o o.end ≡ Some (end_seen line) = line_is o line o.end (subst (λ (z : Option EndLine). IsEnd o.id z o.end) k q.end) in record {
+          t = over (with_entry (end_of_session (end_seen line)) None between w.x) s;
+          step = has_left w.x o (end_seen line) (record { role = w.role; here = placed digest h y s w Leaving b }) f at_end
               (all_released o r.visited.left q.visited (done_left false line r.visited.left n));
           lines = refl;
           x = w.x;
           before = w.role;
           role = refl;
-          w = written_of (with_entry (end_of_session (line_now line)) None between w.x);
+          w = written_of (with_entry (end_of_session (end_seen line)) None between w.x);
           written = refl;
           session = refl;
           entries = ap (λ (z : Option transcripts.EndLine). w.x.transcript.entries ++ last_entries z)
-              (sym (ap (λ (z : Option (Running H)). end_of z) e ∙ ap line_seen k ∙ seen_now line));
+              (sym (ap (λ (z : Option (Running H)). end_of z) e ∙ ap line_seen k));
           images = refl;
           moments = refl;
           earlier = refl;
@@ -281,17 +274,17 @@ answered_by {H} digest y a empty q b done rest v h s serves w = by y.running w.x
             which : (u : Bool) → r.opened ≡ u → Answers digest h v s y z
             which true u = goes u l k
             which false u = own u n
-        ends (Some line) l n k = let x : Session = with_entry (statement y.text a.reply (Some (line_now line))) None between w.x in record {
+        ends (Some line) l n k = let x : Session = with_entry (statement y.text a.reply (Some (end_seen line))) None between w.x in record {
           t = sits s x;
-          step = answers_end w.x o y.text a.reply a.def (line_now line) (record { role = w.role; here = here a.def refl }) f
-              (line_is o line o.end (subst (λ (u : Option EndLine). IsEnd o.id u o.end) l run.end) ∙ seen_now line)
+          step = answers_end w.x o y.text a.reply a.def (end_seen line) (record { role = w.role; here = here a.def refl }) f
+              (line_is o line o.end (subst (λ (u : Option EndLine). IsEnd o.id u o.end) l run.end))
               (all_released o r.visited.left run.visited (done_left r.opened line r.visited.left n));
           lines = refl;
           plain = (tt, (tt, tt));
           sits = sits_then digest h y s w (sits s x) x y.started empty None q Between refl refl refl w.moment refl tt
               (subst (λ (u : Option (Running H)). Runs digest h u None) (sym k) tt) (subst (λ (u : Option (Running H)). HasScript Between empty u None) (sym k) tt) (rest_room q) tt;
-          adds = adds_said s w.x (statement y.text a.reply (Some (line_now line))) None (entries_at y) w.role
-              (said (Some r) e ∙ ap (λ (u : Option transcripts.EndLine). statement y.text a.reply u ∷ []) (ap line_seen l ∙ seen_now line));
+          adds = adds_said s w.x (statement y.text a.reply (Some (end_seen line))) None (entries_at y) w.role
+              (said (Some r) e ∙ ap (λ (u : Option transcripts.EndLine). statement y.text a.reply u ∷ []) (ap line_seen l));
         }
 
 -- where it belongs to the script there is room for it

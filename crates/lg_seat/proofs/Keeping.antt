@@ -29,7 +29,7 @@ use Rattle.lg_seat.specs.Points.{IsBegunAt, Stays, StaysBy}
 use Rattle.lg_seat.specs.Sits.{Sits, Runs, HasScript, HasRoom, OfStmt}
 use Rattle.lg_seat.specs.Steps.{Steps, StepsAlone, AmongAll, AllOut, VisitedAll, VisitsAll, items_of, items_in, image_in}
 use Rattle.lg_seat.specs.Told.{IsPlainDeed, plainly}
-use Rattle.lg_seat.specs.declared.end_line.EndLine.{EndLine}
+use Rattle.lg_types.specs.declared.end_line.EndLine.{EndLine}
 use Rattle.lg_seat.specs.declared.need.Need.TheVariants as need
 use Rattle.lg_seat.specs.declared.running.Running.{Running}
 use Rattle.lg_seat.specs.declared.seat.Seat.{Seat}

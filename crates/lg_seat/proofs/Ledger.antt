@@ -13,15 +13,15 @@ use Rattle.lg_standing.specs.Moves.{at_place, sits}
 use Rattle.lg_standing.specs.Seats.{OpenTransaction, inside, begun, answering, Session}
 use Rattle.lg_standing.proofs.LedgerVisit.{lies_there}
 use Rattle.lg_book.specs.HashedCell.{HashedCell, KeepsHash}
-use Rattle.lg_seat.specs.EndSeen.{IsEnd}
+use Rattle.lg_seat.specs.IsEnd.{IsEnd}
 use Rattle.lg_seat.specs.KeptCell.{ledger_seen}
 use Rattle.lg_seat.specs.LedgerMoves.{moved, unsaid}
 use Rattle.lg_seat.specs.Needs.{point_need, cell_or_done, end_visits}
 use Rattle.lg_seat.specs.Sits.{IsRunning, Runs, IsPoint, IsStage, said_at, left_of, stage_seen}
 use Rattle.lg_seat.specs.Steps.{StepsAlone, Among}
 use Rattle.lg_seat.specs.VisitedCells.{AreVisited, not_catalog, next_back}
-use Rattle.lg_seat.specs.declared.end_line.EndLine.{EndLine}
-use Rattle.lg_seat.specs.declared.end_line.EndLine.TheVariants.{Committed, Ended}
+use Rattle.lg_types.specs.declared.end_line.EndLine.{EndLine}
+use Rattle.lg_types.specs.declared.end_line.EndLine.TheVariants.{Committed, Ended}
 use Rattle.lg_seat.specs.declared.need.Need.TheVariants as need
 use Rattle.lg_seat.specs.declared.running.Running.{Running}
 use Rattle.lg_seat.specs.declared.seat.Seat.{Seat}

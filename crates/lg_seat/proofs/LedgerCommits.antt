@@ -10,7 +10,7 @@ use Rattle.lg_types.specs.declared.statement.Stmt.{Stmt}
 use Rattle.lg_types.specs.declared.statement.Stmt.TheVariants as stmt
 use Rattle.lg_types.specs.declared.table.TableDef.{TableDef}
 use Rattle.lg_model.specs.Journals.{Line, tx_count}
-use Rattle.lg_history.specs.Acts.{SessionAct, says}
+use Rattle.lg_history.specs.Acts.{says}
 use Rattle.lg_history.specs.Acts as act
 use Rattle.lg_history.specs.Lists.{Each}
 use Rattle.lg_history.specs.Serial.{Differ}
@@ -31,17 +31,17 @@ use Rattle.lg_tx.specs.Roots.{Root, roots_of_trees}
 use Rattle.lg_book.specs.Commits.{new_entry}
 use Rattle.lg_book.specs.HashedCell.{HashedCell}
 use Rattle.lg_seat.specs.KeptCell.{ledger_seen}
-use Rattle.lg_seat.specs.LedgerMoves.{stage_work, work_of, moved, unsaid, without_index, committed_stage, ended_stage, lacking_stage, inside_with, IsIdOf, with_end, AreFixed, AreOwnFixed, IsOwnFixed, ended_after, committed_at, HasEnded, HasCommitted, HasLacked, VisitsOn, last_in, last_at, CommitsIt, LeftNothing, IsLeftNothing}
+use Rattle.lg_seat.specs.LedgerMoves.{stage_work, work_of, moved, unsaid, without_index, committed_stage, ended_stage, lacking_stage, inside_with, IsIdOf, with_end, AreFixed, AreOwnFixed, IsOwnFixed, ended_after, committed_at, HasEnded, HasCommitted, HasLacked, VisitsOn, last_in, last_at, CommitsIt, IsLeftNothing}
 use Rattle.lg_seat.specs.LedgerMoves as moves
 use Rattle.lg_seat.specs.Needs.{visits_left, point_visits, end_visits, answer_visits}
 use Rattle.lg_seat.specs.Points.{Stays, StaysBy}
 use Rattle.lg_seat.specs.Sits.{Sits, IsRunning, Runs, OfStmt, OfOpen, IsOpened, IsOwn, IsIndex, IsSome, IsStage, left_of, line_of, said_at, stage_seen}
 use Rattle.lg_seat.specs.Steps.{Among, Visited}
-use Rattle.lg_seat.specs.Told.{IsPlain, IsPlainDeed, Did, Adds}
+use Rattle.lg_seat.specs.Told.{IsPlainDeed, Adds}
 use Rattle.lg_seat.specs.Told as told
 use Rattle.lg_seat.specs.VisitedCells.{table_cell}
-use Rattle.lg_seat.specs.declared.end_line.EndLine.{EndLine}
-use Rattle.lg_seat.specs.declared.end_line.EndLine.TheVariants.{Committed}
+use Rattle.lg_types.specs.declared.end_line.EndLine.{EndLine}
+use Rattle.lg_types.specs.declared.end_line.EndLine.TheVariants.{Committed}
 use Rattle.lg_seat.specs.declared.ledger_work.Work.TheVariants as work
 use Rattle.lg_seat.specs.declared.running.Running.{Running}
 use Rattle.lg_seat.specs.declared.seat.Seat.{Seat}

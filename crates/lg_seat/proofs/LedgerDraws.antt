@@ -23,7 +23,7 @@ use Rattle.lg_seat.specs.Points.{StaysBy, IsBegunAt}
 use Rattle.lg_seat.specs.Sits.{Sits, Runs, OfStmt, IsStage, line_of}
 use Rattle.lg_seat.specs.Steps.{Among, Visited}
 use Rattle.lg_seat.specs.Told.{plainly}
-use Rattle.lg_seat.specs.declared.end_line.EndLine.{EndLine}
+use Rattle.lg_types.specs.declared.end_line.EndLine.{EndLine}
 use Rattle.lg_seat.specs.declared.ledger_work.Work.TheVariants as work
 use Rattle.lg_seat.specs.declared.running.Running.{Running}
 use Rattle.lg_seat.specs.declared.seat.Seat.{Seat}

@@ -17,7 +17,7 @@ use Rattle.lg_standing.specs.Seats.{OpenTransaction, Place, inside, made, answer
 use Rattle.lg_standing.specs.Server.{Server}
 use Rattle.lg_standing.specs.Visits.{read_point}
 use Rattle.lg_book.specs.HashedCell.{HashedCell}
-use Rattle.lg_seat.specs.EndSeen.{IsEnd}
+use Rattle.lg_seat.specs.IsEnd.{IsEnd}
 use Rattle.lg_seat.specs.KeptCell.{ledger_seen}
 use Rattle.lg_seat.specs.LedgerMoves.{stage_work, work_of, moved, unsaid, without_index, ended_stage, inside_with, IsIdOf, with_end, AreFixed, ended_after, HasEnded, VisitsOn}
 use Rattle.lg_seat.specs.Needs.{visits_left, point_visits, end_visits, end_need, point_need}
@@ -26,8 +26,8 @@ use Rattle.lg_seat.specs.Sits.{Sits, IsRunning, Runs, HasRoom, OfStmt, OfOpen, I
 use Rattle.lg_seat.specs.Steps.{Among, Visited}
 use Rattle.lg_seat.specs.Told.{IsPlain, plainly, Adds}
 use Rattle.lg_seat.specs.VisitedCells.{IsTableCell, table_cell}
-use Rattle.lg_seat.specs.declared.end_line.EndLine.{EndLine}
-use Rattle.lg_seat.specs.declared.end_line.EndLine.TheVariants.{Ended}
+use Rattle.lg_types.specs.declared.end_line.EndLine.{EndLine}
+use Rattle.lg_types.specs.declared.end_line.EndLine.TheVariants.{Ended}
 use Rattle.lg_seat.specs.declared.ledger_work.Work.TheVariants as work
 use Rattle.lg_seat.specs.declared.need.Need.TheVariants as need
 use Rattle.lg_seat.specs.declared.running.Running.{Running}

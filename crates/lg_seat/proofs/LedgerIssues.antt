@@ -35,7 +35,7 @@ use Rattle.lg_seat.specs.Needs.{visits_left, point_visits, answer_visits}
 use Rattle.lg_seat.specs.Points.{Stays, StaysBy}
 use Rattle.lg_seat.specs.Sits.{Runs, IsStage}
 use Rattle.lg_seat.specs.Steps.{Among, Visited}
-use Rattle.lg_seat.specs.Told.{closed_first, plainly, Adds}
+use Rattle.lg_seat.specs.Told.{closed_first, plainly}
 use Rattle.lg_seat.specs.Told as told
 use Rattle.lg_seat.specs.declared.ledger_work.Work.TheVariants as work
 use Rattle.lg_seat.specs.declared.running.Running.{Running}

@@ -26,7 +26,7 @@ use Rattle.lg_seat.specs.Steps.{Among, ComesOn, Visited}
 use Rattle.lg_seat.specs.TableStages.{back_by, back_stage}
 use Rattle.lg_seat.specs.Told.{plainly}
 use Rattle.lg_seat.specs.VisitedCells.{AreVisited, next_back, not_catalog, tables_in}
-use Rattle.lg_seat.specs.declared.end_line.EndLine.{EndLine}
+use Rattle.lg_types.specs.declared.end_line.EndLine.{EndLine}
 use Rattle.lg_seat.specs.declared.need.Need.TheVariants as need
 use Rattle.lg_seat.specs.declared.running.Running.{Running}
 use Rattle.lg_seat.specs.declared.seat.Seat.{Seat}

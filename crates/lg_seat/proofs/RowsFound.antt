@@ -44,7 +44,7 @@ use Rattle.lg_standing.specs.TableVisits.{wants_here, with_holds, with_versions,
 use Rattle.lg_standing.specs.Visits.{change, read, refuse_change, stop_in_table}
 use Rattle.lg_tx.specs.Represents.{Represents}
 use Rattle.lg_table.specs.Calls.{IsTable, LocksTaken}
-use Rattle.lg_seat.specs.EndSeen.{IsEnd}
+use Rattle.lg_seat.specs.IsEnd.{IsEnd}
 use Rattle.lg_seat.specs.InTable.{KeepsRest, MayRun, Ran, RanFor, changes, reads, refuses, refuses_to_read, stops}
 use Rattle.lg_seat.specs.KeptCell.{rows_seen}
 use Rattle.lg_seat.specs.Needs.{point_need}
@@ -55,7 +55,7 @@ use Rattle.lg_seat.specs.Steps.{Among, Visited}
 use Rattle.lg_seat.specs.TableStages.{RanTo, left_by, stage_by, stopped_stage}
 use Rattle.lg_seat.specs.Told.{Adds, IsPlainDeed, plainly}
 use Rattle.lg_seat.specs.VisitedCells.{IsTableCell, table_cell}
-use Rattle.lg_seat.specs.declared.end_line.EndLine.{EndLine}
+use Rattle.lg_types.specs.declared.end_line.EndLine.{EndLine}
 use Rattle.lg_seat.specs.declared.need.Need.TheVariants as need
 use Rattle.lg_seat.specs.declared.running.Running.{Running}
 use Rattle.lg_seat.specs.declared.seat.Seat.{Seat}

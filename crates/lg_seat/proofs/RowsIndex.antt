@@ -15,7 +15,7 @@ use Rattle.lg_standing.specs.Visits.{add_index, nothing}
 use Rattle.lg_table.specs.Calls.{IsTable, LacksLast}
 use Rattle.lg_tx.specs.Represents.{Represents}
 use Rattle.lg_tx.specs.declared.context.TxCtx.{TxCtx}
-use Rattle.lg_seat.specs.EndSeen.{IsEnd}
+use Rattle.lg_seat.specs.IsEnd.{IsEnd}
 use Rattle.lg_seat.specs.InTable.{KeepsRest}
 use Rattle.lg_seat.specs.KeptCell.{rows_seen}
 use Rattle.lg_seat.specs.Needs.{point_need}
@@ -25,7 +25,7 @@ use Rattle.lg_seat.specs.Steps.{Among, Visited}
 use Rattle.lg_seat.specs.TableStages.{IndexMade, made_stage}
 use Rattle.lg_seat.specs.Told.{plainly}
 use Rattle.lg_seat.specs.VisitedCells.{IsTableCell, table_cell}
-use Rattle.lg_seat.specs.declared.end_line.EndLine.{EndLine}
+use Rattle.lg_types.specs.declared.end_line.EndLine.{EndLine}
 use Rattle.lg_seat.specs.declared.need.Need.TheVariants as need
 use Rattle.lg_seat.specs.declared.running.Running.{Running}
 use Rattle.lg_seat.specs.declared.seat.Seat.{Seat}

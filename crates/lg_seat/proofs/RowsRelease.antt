@@ -15,7 +15,7 @@ use Rattle.lg_standing.specs.UndoVisits.{index_dropped, refused_def, undone_unle
 use Rattle.lg_standing.specs.Visits.{release}
 use Rattle.lg_tx.specs.Represents.{Represents}
 use Rattle.lg_tx.specs.declared.context.TxCtx.{TxCtx}
-use Rattle.lg_seat.specs.EndSeen.{IsEnd}
+use Rattle.lg_seat.specs.IsEnd.{IsEnd}
 use Rattle.lg_seat.specs.InTable.{IsElsewhere, KeepsRest, def_to_drop, undone_by}
 use Rattle.lg_seat.specs.KeptCell.{rows_seen}
 use Rattle.lg_seat.specs.Needs.{cell_or_done, end_need, end_visits, point_need, point_visits, visits_left}
@@ -23,8 +23,8 @@ use Rattle.lg_seat.specs.Sits.{IsRunning, HasRoom, IsPoint, left_of, place_seen}
 use Rattle.lg_seat.specs.Steps.{Among, ComesOn, Visited}
 use Rattle.lg_seat.specs.Told.{plainly}
 use Rattle.lg_seat.specs.VisitedCells.{AreVisited}
-use Rattle.lg_seat.specs.declared.end_line.EndLine.{EndLine}
-use Rattle.lg_seat.specs.declared.end_line.EndLine.TheVariants.{Committed, Ended}
+use Rattle.lg_types.specs.declared.end_line.EndLine.{EndLine}
+use Rattle.lg_types.specs.declared.end_line.EndLine.TheVariants.{Committed, Ended}
 use Rattle.lg_seat.specs.declared.need.Need.TheVariants as need
 use Rattle.lg_seat.specs.declared.running.Running.{Running}
 use Rattle.lg_seat.specs.declared.seat.Seat.{Seat}

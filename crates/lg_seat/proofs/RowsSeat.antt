@@ -10,7 +10,7 @@ use Rattle.lg_history.specs.Transactions.{End, unfixed}
 use Rattle.lg_standing.specs.Cells.{TableCell, cell_of}
 use Rattle.lg_standing.specs.Moves.{put_in, StandsOpen}
 use Rattle.lg_standing.specs.OpenOnes.{HasOpen}
-use Rattle.lg_standing.specs.Seats.{OpenTransaction, inside, Session, SeatState}
+use Rattle.lg_standing.specs.Seats.{OpenTransaction, inside, Session}
 use Rattle.lg_standing.specs.Seats as law
 use Rattle.lg_standing.proofs.TakesInTable.{IsAtPlace, table_place, cell_at}
 use Rattle.lg_model.specs.Limits.{max_savepoints}
@@ -18,14 +18,14 @@ use Rattle.lg_tx.specs.Leaves.{leaves_in}
 use Rattle.lg_tx.specs.Represents.{KeepFrames, Represents}
 use Rattle.lg_tx.specs.Trees.{TreesHold, tables_of}
 use Rattle.lg_tx.specs.declared.context.TxCtx.{TxCtx}
-use Rattle.lg_seat.specs.EndSeen.{IsEnd}
+use Rattle.lg_seat.specs.IsEnd.{IsEnd}
 use Rattle.lg_seat.specs.KeptCell.{KeptCell, rows_seen}
 use Rattle.lg_seat.specs.Needs.{end_visits}
 use Rattle.lg_seat.specs.Sits.{IsRunning, Runs, IsStage, IsRead, place_seen, stage_seen, left_of}
 use Rattle.lg_seat.specs.Steps.{Among}
 use Rattle.lg_seat.specs.VisitedCells.{AreVisited, IsTableCell, table_cell}
-use Rattle.lg_seat.specs.declared.end_line.EndLine.{EndLine}
-use Rattle.lg_seat.specs.declared.end_line.EndLine.TheVariants.{Committed, Ended}
+use Rattle.lg_types.specs.declared.end_line.EndLine.{EndLine}
+use Rattle.lg_types.specs.declared.end_line.EndLine.TheVariants.{Committed, Ended}
 use Rattle.lg_seat.specs.declared.running.Running.{Running}
 use Rattle.lg_seat.specs.declared.seat.Seat.{Seat}
 use Rattle.lg_seat.specs.declared.stage.Point.TheVariants.{Inside}

@@ -19,7 +19,7 @@ use Rattle.lg_standing.specs.Deeds.{did, alones_acts, visit_deeds}
 use Rattle.lg_standing.specs.Doing.{with_line, with_reply, stage_after}
 use Rattle.lg_standing.specs.Follows.{alones_lines}
 use Rattle.lg_standing.specs.Moves.{at_place, sits, StandsIn, StandsOpen}
-use Rattle.lg_standing.specs.Seats.{OpenTransaction, Place, inside, answering, Session, SeatState}
+use Rattle.lg_standing.specs.Seats.{OpenTransaction, inside, answering, Session, SeatState}
 use Rattle.lg_standing.specs.Seats as law
 use Rattle.lg_standing.specs.Server.{Server}
 use Rattle.lg_standing.specs.Visits.{Visit, nothing, Happens}

@@ -1,6 +1,6 @@
 -- The closing of a block: of a full one, or of what is pending.
 use Rattle.std.specs.Prelude.{ℕ, ◌≡◌, ◌≤◌, ◌<◌, ◌⊎◌, List}
-use Rattle.lg_standing.specs.Cells.{Cell, Catalog, Ledger, Rows, LedgerCell, pending_in}
+use Rattle.lg_standing.specs.Cells.{Cell, Ledger, LedgerCell, pending_in}
 use Rattle.lg_standing.specs.LedgerVisits.{closed_by, next_block}
 
 -- this is the ledger's cell

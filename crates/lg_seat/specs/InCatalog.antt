@@ -1,5 +1,5 @@
 -- What the parts of a visit of the catalog's cell make of a transaction, of the cell and of the stage.
-use Rattle.std.specs.Prelude.{ℕ, ◌≡◌, ◌≢◌, ◌⊎◌, Bool, true, false, List, [], ◌∷◌, Option, Some, None, Result, Ok, Err}
+use Rattle.std.specs.Prelude.{ℕ, ◌≡◌, ◌≢◌, ◌⊎◌, Bool, true, false, List, [], ◌∷◌, Option, Some, None, Ok, Err}
 use Rattle.lg_value.specs.declared.refusal.Refusal.{Refusal}
 use Rattle.lg_value.specs.declared.refusal.Refusal.TheVariants.{E30}
 use Rattle.lg_types.specs.declared.lock.Mode.{Mode}
@@ -35,14 +35,14 @@ use Rattle.lg_catalog.specs.Calls.{left, undone, IndexMade, LocksTaken, MayCreat
 use Rattle.lg_seat.specs.Sits.{IsOfRows}
 use Rattle.lg_seat.specs.Stages.{done_stage}
 use Rattle.lg_seat.specs.VisitedCells.{VisitedCells}
-use Rattle.lg_seat.specs.declared.end_line.EndLine.{EndLine}
-use Rattle.lg_seat.specs.declared.end_line.EndLine.TheVariants.{Committed, Ended}
+use Rattle.lg_types.specs.declared.end_line.EndLine.{EndLine}
+use Rattle.lg_types.specs.declared.end_line.EndLine.TheVariants.{Committed, Ended}
 use Rattle.lg_seat.specs.declared.got.Got.{Got}
 use Rattle.lg_seat.specs.declared.got.Got.TheVariants as got
 use Rattle.lg_seat.specs.declared.running.Running.{Running}
 use Rattle.lg_seat.specs.declared.seat.Seat.{Seat}
 use Rattle.lg_seat.specs.declared.stage.Point.{Point}
-use Rattle.lg_seat.specs.declared.stage.Point.TheVariants.{Between, Inside, Leaving, Over}
+use Rattle.lg_seat.specs.declared.stage.Point.TheVariants.{Inside}
 use Rattle.lg_seat.specs.declared.stage.Stage.{Stage}
 use Rattle.lg_seat.specs.declared.stage.Stage.TheVariants.{Looking, Found, Made, Replied, GivingBack, Answering as Answered}
 

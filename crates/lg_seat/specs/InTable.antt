@@ -25,8 +25,8 @@ use Rattle.lg_model.specs.Checks.{row_statement_check}
 use Rattle.lg_table.specs.Calls.{HasFit, IsTable, LocksTaken, MayChange, RowsRead}
 use Rattle.lg_tx.specs.Represents.{Represents}
 use Rattle.lg_tx.specs.declared.context.TxCtx.{TxCtx}
-use Rattle.lg_seat.specs.declared.end_line.EndLine.{EndLine}
-use Rattle.lg_seat.specs.declared.end_line.EndLine.TheVariants.{Committed}
+use Rattle.lg_types.specs.declared.end_line.EndLine.{EndLine}
+use Rattle.lg_types.specs.declared.end_line.EndLine.TheVariants.{Committed}
 use Rattle.lg_seat.specs.declared.running.Running.{Running}
 use Rattle.lg_seat.specs.declared.stage.Point.{Point}
 use Rattle.lg_seat.specs.declared.stage.Point.TheVariants.{Inside}

@@ -1,5 +1,5 @@
 -- What contracts see of a cell.
-use Rattle.std.specs.Prelude.{ℕ, ◌≡◌, List, []}
+use Rattle.std.specs.Prelude.{ℕ, List, []}
 use Rattle.lg_standing.specs.Cells.{Cell, Catalog, CatalogCell, Ledger, Rows, TableCell}
 use Rattle.lg_book.specs.HashedCell.{HashedCell, KeepsHash}
 use Rattle.lg_seat.specs.declared.cell.Kind.{Kind}

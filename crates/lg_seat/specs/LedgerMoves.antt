@@ -23,8 +23,8 @@ use Rattle.lg_seat.specs.KeptCell.{KeptCell}
 use Rattle.lg_seat.specs.Points.{Stays}
 use Rattle.lg_seat.specs.Sits.{line_of}
 use Rattle.lg_seat.specs.Steps.{ComesOn, Visits}
-use Rattle.lg_seat.specs.declared.end_line.EndLine.{EndLine}
-use Rattle.lg_seat.specs.declared.end_line.EndLine.TheVariants.{Committed, Ended}
+use Rattle.lg_types.specs.declared.end_line.EndLine.{EndLine}
+use Rattle.lg_types.specs.declared.end_line.EndLine.TheVariants.{Committed, Ended}
 use Rattle.lg_seat.specs.declared.ledger_work.Work.{Work}
 use Rattle.lg_seat.specs.declared.ledger_work.Work.TheVariants as work
 use Rattle.lg_seat.specs.declared.running.Running.{Running}

@@ -1,11 +1,11 @@
 pub mod Course
 pub mod Drawing
 pub mod Drew
-pub mod EndSeen
 pub mod Full
 pub mod Images
 pub mod InCatalog
 pub mod InTable
+pub mod IsEnd
 pub mod KeptCell
 pub mod LedgerMoves
 pub mod Needs

@@ -1,7 +1,7 @@
 -- What a seat visits next, and how many visits it needs at most.
 use Rattle.std.specs.Prelude.{ℕ, ◌+◌, Bool, true, false, List, drop, length, slice_get, Option, Some, None}
 use Rattle.lg_standing.specs.Cells.{catalog_at, ledger_at}
-use Rattle.lg_seat.specs.declared.end_line.EndLine.{EndLine}
+use Rattle.lg_types.specs.declared.end_line.EndLine.{EndLine}
 use Rattle.lg_seat.specs.declared.need.Need.{Need}
 use Rattle.lg_seat.specs.declared.need.Need.TheVariants as need
 use Rattle.lg_seat.specs.declared.running.Running.{Running}

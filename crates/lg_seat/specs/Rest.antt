@@ -6,7 +6,7 @@ use Rattle.lg_standing.specs.Seats.{SeatState}
 use Rattle.lg_seat.specs.Needs.{leaving_need}
 use Rattle.lg_seat.specs.Points.{IsBetween, IsLeaving}
 use Rattle.lg_seat.specs.Sits.{Sits}
-use Rattle.lg_seat.specs.declared.end_line.EndLine.{EndLine}
+use Rattle.lg_types.specs.declared.end_line.EndLine.{EndLine}
 use Rattle.lg_seat.specs.declared.need.Need.TheVariants.{Done}
 use Rattle.lg_seat.specs.declared.running.Running.{Running}
 use Rattle.lg_seat.specs.declared.seat.Seat.{Seat}

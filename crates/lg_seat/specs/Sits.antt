@@ -20,7 +20,7 @@ use Rattle.lg_standing.specs.LedgerVisits.{DrawsFor}
 use Rattle.lg_standing.specs.Seats.{OpenTransaction, Place, between, inside, leaving, Session, session, SeatState}
 use Rattle.lg_standing.specs.Seats as law
 use Rattle.lg_tx.specs.Represents.{Represents}
-use Rattle.lg_seat.specs.EndSeen.{IsEnd}
+use Rattle.lg_seat.specs.IsEnd.{IsEnd}
 use Rattle.lg_seat.specs.VisitedCells.{AreVisited, IsTableCell, table_cell, tables_in, next_back}
 use Rattle.lg_seat.specs.declared.running.Running.{Running}
 use Rattle.lg_seat.specs.declared.seat.Seat.{Seat}

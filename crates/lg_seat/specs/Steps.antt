@@ -1,30 +1,28 @@
 -- What the calls of a run-time seat make of all that is known of its seat.
-use Rattle.std.specs.Prelude.{ℕ, ◌≡◌, ◌⊎◌, ◌<◌, ◌++◌, true, List, [], ◌∷◌, length, map, Option, Some, None}
+use Rattle.std.specs.Prelude.{ℕ, ◌≡◌, ◌⊎◌, ◌<◌, ◌++◌, List, [], ◌∷◌, length, map, Option, Some, None}
 use mathlib.Core.Option.{some}
 use lib.ListN.{get_elem?}
 use Rattle.lg_types.specs.declared.journal.JournalItem.{JournalItem}
-use Rattle.lg_types.specs.declared.reply.Reply.{Reply}
 use Rattle.lg_parse.specs.Text.{statement_of}
 use Rattle.lg_history.specs.Inputs.{InputLine}
 use Rattle.lg_history.specs.Lists.{Text, Each, In}
 use Rattle.lg_history.specs.Transcripts.{Entry, EndLine, statement, end_of_session}
 use Rattle.lg_standing.specs.ActsOf.{alone_acts}
 use Rattle.lg_standing.specs.Alone.{Alone, Alones, new_session}
-use Rattle.lg_standing.specs.Cells.{Cell, cell_count, Ledger, LedgerCell, ledger_at}
+use Rattle.lg_standing.specs.Cells.{Cell, cell_count, Ledger}
 use Rattle.lg_standing.specs.Deeds.{alones_acts, may_deeds}
 use Rattle.lg_standing.specs.Follows.{alone_lines, alones_lines, may_lines}
 use Rattle.lg_standing.specs.May.{May, OutsStand}
 use Rattle.lg_standing.specs.Moves.{sits}
 use Rattle.lg_standing.specs.Seats.{Session, Written, idle, session, SeatState}
-use Rattle.lg_standing.specs.Server.{Server, journal_image}
+use Rattle.lg_standing.specs.Server.{Server}
 use Rattle.lg_standing.specs.StandTogether.{StandTogether}
 use Rattle.lg_standing.specs.Serves.{Serves}
-use Rattle.lg_seat.specs.EndSeen.{line_seen}
+use Rattle.lg_history.specs.EndSeen.{line_seen}
 use Rattle.lg_seat.specs.KeptCell.{KeptCell, Keeps}
 use Rattle.lg_seat.specs.Needs.{need_of, visits_left}
 use Rattle.lg_seat.specs.Sits.{Sits}
 use Rattle.lg_seat.specs.Told.{IsPlain, Did, pending_of, size_of, Adds}
-use Rattle.lg_seat.specs.declared.need.Need.{Need}
 use Rattle.lg_seat.specs.declared.need.Need.TheVariants as need
 use Rattle.lg_seat.specs.declared.running.Running.{Running}
 use Rattle.lg_seat.specs.declared.seat.Seat.{Seat}

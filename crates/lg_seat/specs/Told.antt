@@ -4,7 +4,7 @@ use Rattle.lg_history.specs.Acts.{SessionAct, starts, commits, issues, answers}
 use Rattle.lg_history.specs.Digests.{Digest}
 use Rattle.lg_history.specs.Lists.{Each}
 use Rattle.lg_history.specs.Transcripts.{Entry, end_of_session}
-use Rattle.lg_standing.specs.Cells.{Cell, Catalog, Ledger, Rows, pending_in}
+use Rattle.lg_standing.specs.Cells.{Cell, Ledger, pending_in}
 use Rattle.lg_standing.specs.Deeds.{Deed, did, closed}
 use Rattle.lg_standing.specs.Seats.{KeptImage, Session, session, SeatState}
 

@@ -5,10 +5,10 @@ ghost use Rattle.lg_standing.specs.Seats.{OpenTransaction};
 ghost use Rattle.lg_tx.specs.Represents.{Represents};
 ghost use Rattle.lg_seat.specs.InCatalog.{is_committed, released_by, with_visited, Passes};
 
-use crate::end_line::EndLine;
 use crate::running::Running;
 use lg_catalog::CatalogCell;
 use lg_merkle::Hash32;
+use lg_types::EndLine;
 
 fn is_committed(end: &Option<EndLine>) -> bool
     ensures { result ≡ is_committed end.now }

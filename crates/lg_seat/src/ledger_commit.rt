@@ -11,7 +11,6 @@ ghost use Rattle.lg_seat.specs.Sits.{line_of as line_at};
 ghost use Rattle.lg_seat.specs.Steps.{Among};
 ghost use Rattle.lg_seat.specs.declared.ledger_work.Work.TheVariants.{Commit};
 
-use crate::end_line::EndLine;
 use crate::ledger_work::{unsaid, without_index};
 use crate::running::Running;
 use crate::seat::Seat;
@@ -20,7 +19,7 @@ use lg_book::LedgerCell;
 use lg_items::{Items, Memory, Text};
 use lg_merkle::Hash32;
 use lg_reply::reply_text;
-use lg_types::{Reply, Script};
+use lg_types::{EndLine, Reply, Script};
 use lg_value::Refusal;
 use std::alloc::Global;
 use std::mem;

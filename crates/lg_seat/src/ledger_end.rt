@@ -7,14 +7,13 @@ ghost use Rattle.lg_seat.specs.LedgerMoves.{work_of as work_at, ended_stage as e
 ghost use Rattle.lg_seat.specs.Steps.{Among};
 ghost use Rattle.lg_seat.specs.declared.ledger_work.Work.TheVariants.{End};
 
-use crate::end_line::EndLine;
 use crate::ledger_work::{unsaid, without_index};
 use crate::running::Running;
 use crate::seat::Seat;
 use crate::stage::{Point, Stage};
 use lg_book::LedgerCell;
 use lg_merkle::Hash32;
-use lg_types::Reply;
+use lg_types::{EndLine, Reply};
 use std::mem;
 
 impl<H: Hash32> Seat<H> {

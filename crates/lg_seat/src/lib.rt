@@ -7,7 +7,6 @@ mod catalog_look;
 mod catalog_release;
 mod cell;
 mod cell_ledger;
-mod end_line;
 mod going_on;
 mod got;
 mod ledger_commit;
@@ -36,9 +35,9 @@ mod visited;
 
 pub use all_cells::image_bytes_of;
 pub use cell::Cell;
-pub use end_line::EndLine;
 pub use lg_book::LedgerCell;
 pub use lg_catalog::CatalogCell;
 pub use lg_table::TableCell;
+pub use lg_types::EndLine;
 pub use need::Need;
 pub use seat::{Answer, Seat};

@@ -9,13 +9,13 @@ ghost use Rattle.lg_seat.specs.KeptCell.{rows_seen};
 ghost use Rattle.lg_seat.specs.Points.{Stays};
 ghost use Rattle.lg_seat.specs.Steps.{Among, ComesOn, Visits};
 
-use crate::end_line::EndLine;
 use crate::running::Running;
 use crate::seat::Seat;
 use crate::stage::{Answering, Point, Stage};
 use lg_items::TxId;
 use lg_merkle::Hash32;
 use lg_table::TableCell;
+use lg_types::EndLine;
 
 impl<H: Hash32> Seat<H> {
     /// Releases a table's cell, once the end is fixed.

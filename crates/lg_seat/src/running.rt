@@ -1,11 +1,10 @@
 //! The transaction of a session.
 
-use crate::end_line::EndLine;
 use crate::visited::Visited;
 use lg_items::Text;
 use lg_merkle::Hash32;
 use lg_tx::TxCtx;
-use lg_types::Reply;
+use lg_types::{EndLine, Reply};
 
 /// The transaction of a session, until it has released all its locks.
 #[derive(Drop)]

@@ -5,21 +5,20 @@ ghost use Rattle.lg_items.specs.SessionName.{is_session_name};
 ghost use Rattle.lg_history.specs.Transcripts.{statement};
 ghost use Rattle.lg_standing.specs.Seats.{idle, SeatState};
 ghost use Rattle.lg_standing.specs.Server.{Server};
-ghost use Rattle.lg_seat.specs.EndSeen.{line_seen};
+ghost use Rattle.lg_history.specs.EndSeen.{line_seen};
 ghost use Rattle.lg_seat.specs.Needs.{need_of};
 ghost use Rattle.lg_seat.specs.Points.{IsAnswering, IsBetween, IsOver};
 ghost use Rattle.lg_seat.specs.Rest.{IsFinishing, MayEnd};
 ghost use Rattle.lg_seat.specs.Steps.{entries_at, end_of as end_in, Begins, EndsSession, StepsAlone};
 ghost use Rattle.lg_seat.specs.declared.stage.Point.TheVariants.{Between, Leaving};
 
-use crate::end_line::EndLine;
 use crate::need::Need;
 use crate::needing::{leaving_need, stage_need};
 use crate::running::Running;
 use crate::stage::{Point, Stage};
 use lg_items::{Name, Text};
 use lg_merkle::Hash32;
-use lg_types::{Reply, Stmt};
+use lg_types::{EndLine, Reply, Stmt};
 use std::alloc::Global;
 
 /// A session as its thread has it: its transaction, and the statement under way.

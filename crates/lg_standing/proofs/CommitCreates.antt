@@ -31,7 +31,7 @@ use Rattle.lg_history.specs.Lists.{Text, Each, In}
 use Rattle.lg_history.specs.Journals.{ids_of}
 use Rattle.lg_history.specs.Refusals.{EndsAt}
 use Rattle.lg_history.specs.Transactions.{unfixed, committed}
-use Rattle.lg_history.specs.Acts.{Act, SessionAct, by}
+use Rattle.lg_history.specs.Acts.{SessionAct, by}
 use Rattle.lg_history.proofs.Trace.{each_weaker}
 use Rattle.lg_standing.specs.Server.{Server}
 use Rattle.lg_standing.specs.Cells.{LedgerCell, Cell, Ledger, ledger_at, catalog_at, cell_of, Index, TableCell}

@@ -21,7 +21,7 @@ use Rattle.lg_frames.proofs.LegalSound.{legal_sound}
 use Rattle.lg_history.specs.Lists.{Text, Each, In}
 use Rattle.lg_history.specs.Refusals.{EndsAt}
 use Rattle.lg_history.specs.Transactions.{unfixed, ended}
-use Rattle.lg_history.specs.Acts.{Act, SessionAct, by}
+use Rattle.lg_history.specs.Acts.{SessionAct, by}
 use Rattle.lg_standing.specs.Server.{Server}
 use Rattle.lg_standing.specs.Cells.{LedgerCell, Cell, Ledger, ledger_at, catalog_at}
 use Rattle.lg_standing.specs.Contents.{Contents, Known, contents, known, HasAlone}

@@ -22,7 +22,7 @@ use Rattle.lg_model.specs.Journals.{Line}
 use Rattle.lg_model.specs.Locks.{cell_wants}
 use Rattle.lg_model.specs.Query.{query_check}
 use Rattle.lg_model.specs.Replies.{reply_text}
-use Rattle.lg_model.specs.Script.{State, Step, by_statement, start, script}
+use Rattle.lg_model.specs.Script.{State, by_statement, script}
 use Rattle.lg_model.specs.ScriptWants.{text_wants}
 use Rattle.lg_frames.proofs.Definitions.{opened_keep_defs, nothing_done}
 use Rattle.lg_history.specs.Lists.{Text, Each, In}
@@ -38,7 +38,7 @@ use Rattle.lg_standing.specs.Server.{Server}
 use Rattle.lg_standing.specs.Cells.{Cell, catalog_at}
 use Rattle.lg_standing.specs.Contents.{Contents, Known, contents, known, HasAlone}
 use Rattle.lg_standing.specs.Answering.{error_of, defs_got, refused_by_check}
-use Rattle.lg_standing.specs.TranscriptsSoFar.{end_shown, shown_with, FitsWith, Fits, EndsOwn}
+use Rattle.lg_standing.specs.TranscriptsSoFar.{end_shown, shown_with}
 use Rattle.lg_standing.specs.Doing.{stage_after, done, with_line}
 use Rattle.lg_standing.specs.LocksCover.{HoldsCatalog, table_of, IsNamed, IsGotAt, LookedAt}
 use Rattle.lg_standing.specs.Moves.{saying, at_place, sits, StandsOpen, then_at}

@@ -19,7 +19,7 @@ use Rattle.lg_history.specs.Worlds.{first, run}
 use Rattle.lg_standing.specs.Server.{Server}
 use Rattle.lg_standing.specs.Cells.{Cell}
 use Rattle.lg_standing.specs.Contents.{Contents, Known, contents, known, HasAlone}
-use Rattle.lg_standing.specs.TranscriptsSoFar.{EndsOwn, EndsLeaving, end_shown, is_begin, image_in, shown_inside, shown_alone, shown_with, FitsOwn, FitsWith, StageOpened, Fits}
+use Rattle.lg_standing.specs.TranscriptsSoFar.{EndsLeaving, end_shown, is_begin, image_in, shown_inside, shown_alone, shown_with, FitsOwn, StageOpened, Fits}
 use Rattle.lg_standing.specs.Doing.{stage_refused}
 use Rattle.lg_standing.specs.LocksCover.{LookedAt, IsGotAt, LookedFirst}
 use Rattle.lg_standing.specs.Moves.{at_place, sits}

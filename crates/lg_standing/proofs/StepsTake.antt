@@ -12,7 +12,7 @@ use Rattle.lg_history.specs.Transactions.{End, unfixed}
 use Rattle.lg_history.specs.Acts.{takes, answers}
 use Rattle.lg_history.specs.Sessions.{SessionTransaction, TranscriptSoFar, SessionState, runs, acted}
 use Rattle.lg_history.specs.Worlds.{first, run}
-use Rattle.lg_history.specs.Guards.{Fixed, IsAnswered, IsStatement, images_of, Answers, AtRest, Frees}
+use Rattle.lg_history.specs.Guards.{IsStatement, images_of, Answers}
 use Rattle.lg_history.proofs.Trace.{each_append}
 use Rattle.lg_standing.specs.Server.{Server}
 use Rattle.lg_standing.specs.Cells.{Cell}

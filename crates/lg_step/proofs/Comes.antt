@@ -1,5 +1,5 @@
 -- What a core left is a run of the statements that were asked of it.
-use Rattle.std.proofs.Common.{◌≡◌, ℕ, true, List, [], ◌∷◌, ◌++◌, map, length, refl, sym, ap, ◌∙◌, subst}
+use Rattle.std.proofs.Common.{◌≡◌, ℕ, true, List, [], ◌∷◌, map, length, refl, sym, ap, ◌∙◌, subst}
 use Rattle.std.specs.List.{list_any, IsDistinct, AllByRecursion, All}
 use Rattle.std.specs.Str.{bytes_eq}
 use Rattle.lg_items.specs.DatabaseName.{is_database_name}
@@ -30,7 +30,7 @@ use Rattle.lg_standing.specs.Seats.{KeptImage}
 use Rattle.lg_standing.specs.Server.{Server}
 use Rattle.lg_standing.specs.Serves.{Serves}
 use Rattle.lg_course.proofs.SameNames.{names_apart}
-use Rattle.lg_course.specs.Told.{HasEnded, IsMeaning, IsImageOf, RunAgrees}
+use Rattle.lg_course.specs.Told.{HasEnded, IsImageOf, RunAgrees}
 use Rattle.lg_course.proofs.Told.{some_meaning}
 use Rattle.lg_kept.specs.Accepted.{IsAccepted}
 use Rattle.lg_core.specs.declared.parts.Parts.{Parts}

@@ -1,5 +1,5 @@
 -- What a core left, by what it was asked.
-use Rattle.std.proofs.Common.{◌≡◌, ◌<◌, ◌∙◌, ℕ, List, Bool, true, map, length, refl, sym, subst, arith, inl, inr, ⊎_elim, Result, Ok, Err}
+use Rattle.std.proofs.Common.{◌≡◌, ℕ, List, true, length, subst, arith, ⊎_elim, Result, Ok, Err}
 use Rattle.std.specs.Prelude.{IfOk}
 use Rattle.lg_items.specs.DatabaseName.{is_database_name}
 use Rattle.lg_items.specs.SessionName.{is_session_name}

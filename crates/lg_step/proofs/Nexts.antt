@@ -1,5 +1,5 @@
 -- The next of some lists.
-use Rattle.std.proofs.Common.{◌≡◌, ◌<◌, ◌≤◌, ◌∙◌, ℕ, zero, suc, List, [], ◌∷◌, ◌++◌, map, length, get_or, refl, sym, ap, subst, arith, Bor}
+use Rattle.std.proofs.Common.{◌≡◌, ◌<◌, ◌≤◌, ◌∙◌, ℕ, zero, suc, List, [], ◌∷◌, map, length, get_or, refl, sym, ap, arith, Bor}
 use Rattle.std.specs.Prelude.{slice_set}
 use Rattle.lg_step.specs.Woven.{first_at, rest_of, without_first}
 

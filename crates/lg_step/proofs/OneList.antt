@@ -1,25 +1,23 @@
 -- What is woven of the entries of all transcripts is one list in the order of the lines.
-use Rattle.std.proofs.Common.{◌≡◌, ◌≢◌, ◌<◌, ◌≤◌, ◌+◌, ◌==◌, ◌⊎◌, ℕ, zero, suc, Bool, true, false, cond, not, List, [], ◌∷◌, ◌++◌, map, drop, length, refl, sym, ap, ap₂, ◌∙◌, subst, arith, append-nil, append_assoc, inl, inr, ⊎_elim}
+use Rattle.std.proofs.Common.{◌≡◌, ◌≢◌, ◌<◌, ◌+◌, ◌==◌, ◌⊎◌, ℕ, zero, suc, Bool, true, false, List, [], ◌∷◌, ◌++◌, map, drop, length, refl, sym, ap, ap₂, ◌∙◌, subst, arith, append-nil, append_assoc, inl, inr, ⊎_elim}
 use Rattle.std.specs.Prelude.{flat_map, if◌then◌else◌}
 use Rattle.std.specs.List.{list_any}
 use Rattle.std.specs.Str.{bytes_eq}
 use Rattle.std.proofs.lemmas.Slice.Eq.{bytes_eq-Decides}
 use Rattle.std.proofs.lemmas.Bool.Decides.{nat_tests}
-use Rattle.lg_history.specs.Agree.{StatementsInOrder, AreStatements}
+use Rattle.lg_history.specs.Agree.{AreStatements}
 use Rattle.lg_history.specs.InPlace.{EndIsLast}
 use Rattle.lg_history.specs.Inputs.{InputLine, texts_of_session, sessions_in}
 use Rattle.lg_history.specs.Lists.{Text, Each, At}
-use Rattle.lg_history.specs.StepOrder.{Row, entries_of, IsStatementOf, AnswersLine, IsEnd, EndsOne, RowsInOrder}
+use Rattle.lg_history.specs.StepOrder.{Row, entries_of, IsStatementOf, EndsOne, RowsInOrder}
 use Rattle.lg_history.specs.Transcripts.{EndLine, Entry, statement, end_of_session, Transcript, statements}
 use Rattle.lg_standing.specs.Reordered.{NamesApart}
 use Rattle.lg_transcript.specs.TranscriptText.{entry_text}
-use Rattle.lg_input.specs.Line.{Statement}
 use Rattle.lg_output.specs.Joined.{joined, joined_each}
-use Rattle.lg_step.specs.Lines.{lines_of}
-use Rattle.lg_step.specs.Numbers.{number_of, numbers_of}
+use Rattle.lg_step.specs.Numbers.{number_of}
 use Rattle.lg_step.specs.Woven.{first_at, rest_of, without_first, in_turn, woven, woven_text}
 use Rattle.lg_step.specs.Written.{SessionsRise, AreWritten, name_at, rows_text}
-use Rattle.lg_step.proofs.Places.{number_here, number_behind, any_behind, Named, named_at}
+use Rattle.lg_step.proofs.Places.{number_here, number_behind, any_behind, named_at}
 
 -- ---- each list is what its rows are
 

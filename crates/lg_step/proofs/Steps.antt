@@ -1,7 +1,7 @@
 -- What a core was asked, and which of its sessions are open, after one thing more.
-use Rattle.std.proofs.Common.{◌≡◌, ◌≢◌, ◌<◌, ◌≤◌, ◌+◌, ◌==◌, ℕ, suc, Bool, true, false, List, [], ◌∷◌, ◌++◌, map, length, refl, sym, ap, ◌∙◌, subst, arith, inl, inr, ⊎_elim, Result, Ok, Err}
+use Rattle.std.proofs.Common.{◌≡◌, ◌≢◌, ◌<◌, ◌≤◌, ◌+◌, ◌==◌, ℕ, Bool, true, false, List, [], ◌∷◌, ◌++◌, refl, sym, ap, subst, arith, inr, ⊎_elim, Result, Ok, Err}
 use Rattle.std.specs.Prelude.{◌⊎◌, OnOk}
-use mathlib.Core.Option.{Option, some, none}
+use mathlib.Core.Option.{Option, some}
 use lib.ListN.{get_elem?}
 use Rattle.std.proofs.lemmas.Bool.Decides.{nat_tests}
 use Rattle.std.proofs.lemmas.List.{map_push}
@@ -14,7 +14,6 @@ use Rattle.lg_core.specs.Standing.{Found, IsBetween, IsEnded, IsOpen, IsOver, Ot
 use Rattle.lg_core.specs.declared.one_thread.Core.{Core}
 use Rattle.lg_core.specs.declared.session.Session.{Session}
 use Rattle.lg_output.specs.Moments.{IsMoment}
-use Rattle.lg_step.specs.Lines.{lines_of}
 use Rattle.lg_step.specs.Reached.{AreEnded, AreOpen, Reached, StandsEnded, asked}
 
 pub on_ok : {T E P Q : Type 0} (r : Result T E) → (P → Q) → OnOk r P → OnOk r Q

@@ -1,5 +1,5 @@
 -- What a run of an input's lines comes to.
-use Rattle.std.specs.Prelude.{ℕ, ◌≡◌, List, [], ◌∷◌, ◌++◌, length, map}
+use Rattle.std.specs.Prelude.{ℕ, ◌≡◌, List, [], ◌∷◌, ◌++◌, map}
 use Rattle.lg_types.specs.declared.digest.Digest.{Digest}
 use Rattle.lg_types.specs.declared.journal.Journal.{Journal}
 use Rattle.lg_model.specs.LegalJournals.{IsLegalJournal}

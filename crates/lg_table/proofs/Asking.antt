@@ -1,5 +1,5 @@
 -- What a transaction that asks for locks gets of a table's cell, and what it keeps.
-use Rattle.std.proofs.Common.{◌≡◌, ◌≢◌, ◌≤◌, ◌⊎◌, ℕ, zero, suc, inl, inr, refl, sym, ap, subst, ◌∙◌, Bool, List, [], ◌∷◌, Option, Some, None, Ok, Err, length, take, arith}
+use Rattle.std.proofs.Common.{◌≡◌, ◌≢◌, ◌≤◌, ℕ, zero, suc, inl, inr, refl, sym, ap, subst, ◌∙◌, Bool, List, [], ◌∷◌, Option, Some, None, Ok, Err, length, take, arith}
 use Rattle.std.specs.Prelude.{Result, IfErr, OnErr, OnOk, not}
 use Rattle.lg_value.specs.declared.refusal.Refusal.{Refusal}
 use Rattle.lg_value.specs.declared.refusal.Refusal.TheVariants as refusal
@@ -15,7 +15,7 @@ use Rattle.lg_locks.specs.declared.lock_err.LockErr.{LockErr}
 use Rattle.lg_locks.specs.declared.lock_err.LockErr.TheVariants as lock
 use Rattle.lg_locks.proofs.Steps.{back_restores}
 use Rattle.lg_standing.specs.Cells.{TableCell}
-use Rattle.lg_standing.specs.Doing.{Stopped, barred, no_memory}
+use Rattle.lg_standing.specs.Doing.{Stopped, barred}
 use Rattle.lg_standing.specs.TableVisits.{with_holds}
 use Rattle.lg_table.specs.Calls.{IsLeft, IsStopped, LocksTaken}
 use Rattle.lg_table.specs.Stopping.{or_stop, stop_of}

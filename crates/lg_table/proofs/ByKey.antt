@@ -1,20 +1,18 @@
 -- The versions of one key, among those in key order.
-use Rattle.std.proofs.Common.{◌≡◌, ◌<◌, ◌≤◌, ◌+◌, ◌-◌, ℕ, zero, suc, refl, sym, ap, subst, ◌∙◌, Bool, true, false, cond, List, [], ◌∷◌, map, length, take, drop, Option, Some, None, arith}
+use Rattle.std.proofs.Common.{◌≡◌, ◌+◌, ℕ, suc, refl, sym, ap, subst, ◌∙◌, Bool, true, false, cond, List, [], ◌∷◌, take, drop, Option, Some, None, arith}
 use Rattle.std.specs.Prelude.{is_none, not, ◌&&◌, if◌then◌else◌}
 use Rattle.std.specs.List.{AllByRecursion, filter, filter_map, prefix_len}
-use Rattle.std.specs.Cmp.{IsTotalOrder, on_total}
-use Rattle.std.specs.Ordering.{is_eq, is_gt, is_lt, ordering_reverse, ordering_then}
+use Rattle.std.specs.Cmp.{on_total}
 use Rattle.std.specs.declared.cmp.Ordering.{Ordering}
-use Rattle.std.specs.declared.cmp.Ordering.TheVariants.{Less, Equal, Greater}
 use Rattle.lg_value.specs.declared.column.ColumnDef.{ColumnDef}
 use Rattle.lg_types.specs.declared.version.Version.{Version}
 use Rattle.lg_model.specs.Lists.{sorted}
 use Rattle.lg_model.specs.Rows.{live}
-use Rattle.lg_model.specs.Keys.{Key, key_cmp, key_places, same_key, version_key, of_key, part_read, standing}
+use Rattle.lg_model.specs.Keys.{Key, key_cmp, key_places, same_key, version_key, part_read, standing}
 use Rattle.lg_model.specs.Runs.{Rising}
 use Rattle.lg_parts.proofs.Orders.{key_total}
 use Rattle.lg_frames.proofs.Alls.{all_filter, all_sorted}
-use Rattle.lg_table.specs.Orders.{row_cmp, order_cmp, in_order, starts_of, version_at}
+use Rattle.lg_table.specs.Orders.{order_cmp, in_order, starts_of, version_at}
 use Rattle.lg_table.proofs.OneMore.{sorted_passing}
 use Rattle.lg_table.proofs.InOrder.{find_own}
 use Rattle.lg_table.proofs.Keeping.{row_is, rows_in_order}

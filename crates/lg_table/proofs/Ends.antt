@@ -1,7 +1,7 @@
 -- The ends of versions, with one version more or less.
-use Rattle.std.proofs.Common.{◌≡◌, ◌<◌, ◌≤◌, ◌+◌, ℕ, zero, suc, refl, sym, ap, subst, ◌∙◌, Bool, true, false, List, [], ◌∷◌, ◌++◌, length, get_or, flat_map, Option, Some, None, arith}
-use Rattle.std.specs.List.{AllByRecursion, insert, remove, prefix_len}
-use Rattle.std.specs.List.Sorted.{IsPartitionedBy, IsPartitionPoint}
+use Rattle.std.proofs.Common.{◌≡◌, ◌<◌, ◌≤◌, ◌+◌, ℕ, refl, sym, ap, subst, ◌∙◌, false, List, [], ◌∷◌, ◌++◌, length, get_or, Option, Some, None, arith}
+use Rattle.std.specs.List.{AllByRecursion, insert, remove}
+use Rattle.std.specs.List.Sorted.{IsPartitionedBy}
 use Rattle.std.specs.Cmp.{IsTotalOrder, on_total, then_total}
 use Rattle.std.specs.Ordering.{is_lt, ordering_then}
 use Rattle.std.specs.declared.cmp.Ordering.{Ordering}
@@ -10,13 +10,13 @@ use Rattle.std.proofs.lemmas.List.Concat.{flat_map-append}
 use Rattle.std.proofs.lemmas.List.Sorted.{ranks_by, sorted_far}
 use Rattle.lg_types.specs.declared.version.Version.{Version}
 use Rattle.lg_model.specs.Lists.{inserted, sorted}
-use Rattle.lg_model.specs.Rows.{EventId, event_cmp, start_cmp}
+use Rattle.lg_model.specs.Rows.{EventId, event_cmp}
 use Rattle.lg_model.specs.Runs.{Rising}
 use Rattle.lg_frames.proofs.Sounds.{event_total}
 use Rattle.lg_parts.proofs.Sorting.{is_sorted}
 use Rattle.lg_table.specs.declared.ending.Ending.{Ending}
 use Rattle.lg_table.specs.Ends.{ending, ending_cmp, own_ending, endings_of, endings_in, ending_place}
-use Rattle.lg_table.proofs.OneMore.{before, place_in, inserted_at, removed_at, place_there, place_within, sorted_more, parted, point_is, before_is_downward}
+use Rattle.lg_table.proofs.OneMore.{inserted_at, removed_at, place_there, place_within, sorted_more, parted, before_is_downward}
 use Rattle.lg_table.proofs.Splits.{rising_left}
 
 pub ending_total : IsTotalOrder ending_cmp

@@ -1,5 +1,5 @@
 -- The events of changes, one after another, come behind those of the transaction before.
-use Rattle.std.proofs.Common.{◌≡◌, ◌<◌, ◌≤◌, ◌+◌, ◌⊎◌, ℕ, inl, inr, refl, sym, ap, ap₂, subst, ◌∙◌, Bool, true, false, cond, List, [], ◌∷◌, ◌++◌, length, map, Option, Some, None, arith, length-append}
+use Rattle.std.proofs.Common.{◌≡◌, ◌<◌, ◌≤◌, ◌+◌, ℕ, refl, sym, ap, ap₂, subst, ◌∙◌, Bool, true, false, cond, List, [], ◌∷◌, ◌++◌, length, Option, Some, None, arith, length-append}
 use Rattle.std.proofs.lemmas.Grind.{common_steps}
 use Rattle.std.proofs.lemmas.Bool.{eq-eqb, eqb-true}
 use Rattle.std.proofs.lemmas.List.Elements.{filter-append}
@@ -12,7 +12,6 @@ use Rattle.std.specs.declared.cmp.Ordering.{Ordering}
 use Rattle.std.specs.declared.cmp.Ordering.TheVariants.{Less}
 use Rattle.lg_value.specs.declared.column.ColumnDef.{ColumnDef}
 use Rattle.lg_types.specs.declared.event.Event.{Event}
-use Rattle.lg_types.specs.declared.version.Typed.{Typed}
 use Rattle.lg_types.specs.declared.version.Version.{Version}
 use Rattle.lg_model.specs.Changes.{Change, Starts, Ends, changed, changed_all}
 use Rattle.lg_model.specs.Events.{start_event, end_event, end_events, version_events}
@@ -24,7 +23,6 @@ use Rattle.lg_frames.proofs.Alls.{all_weaker}
 use Rattle.lg_frames.proofs.SameKeys.{IsAlone, each_alone, not_less, one_start}
 use Rattle.lg_frames.proofs.Sounds.{before_changed, rising_changed}
 use Rattle.lg_frames.proofs.UndoneVersions.{Undoes}
-use Rattle.lg_invariants.proofs.Counts.{own_same}
 use Rattle.lg_standing.specs.Doing.{events_from}
 use Rattle.lg_standing.specs.EventsIn.{events_in}
 use Rattle.lg_standing.proofs.NewEvents.{come_last}

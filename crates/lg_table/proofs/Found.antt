@@ -1,6 +1,5 @@
 -- The version at the place of a start.
-use Rattle.std.proofs.Common.{◌≡◌, ◌<◌, ◌≤◌, ◌+◌, ℕ, zero, suc, refl, sym, ap, subst, ◌∙◌, Bool, true, false, cond, List, [], ◌∷◌, length, get_or, Option, Some, None, arith}
-use Rattle.std.specs.Prelude.{if◌then◌else◌}
+use Rattle.std.proofs.Common.{◌≡◌, ◌<◌, ◌≤◌, ◌+◌, ℕ, suc, refl, sym, ap, subst, ◌∙◌, Bool, true, false, cond, List, [], ◌∷◌, length, get_or, Some, None, arith}
 use Rattle.std.specs.List.{AllByRecursion}
 use Rattle.std.specs.Ordering.{is_lt}
 use Rattle.std.specs.declared.cmp.Ordering.TheVariants.{Less}
@@ -14,7 +13,7 @@ use Rattle.lg_frames.proofs.Alls.{all_weaker}
 use Rattle.lg_frames.proofs.Sounds.{event_total}
 use Rattle.lg_invariants.proofs.Counts.{same_parts}
 use Rattle.lg_versions.specs.Places.{place, starts_before}
-use Rattle.lg_table.specs.Orders.{started_by, version_at}
+use Rattle.lg_table.specs.Orders.{version_at}
 
 same_is : (a b : EventId) → same_event a b ≡ true → a ≡ b
 same_is a b same = let p = same_parts a b same in λ i. (p.0 i, p.1 i)

@@ -1,10 +1,10 @@
 -- The order of an index with one version more or less.
-use Rattle.std.proofs.Common.{◌≡◌, ◌<◌, ◌≤◌, ◌+◌, ℕ, zero, suc, refl, sym, ap, ap₂, subst, ◌∙◌, Bool, true, false, List, [], ◌∷◌, ◌++◌, map, length, get_or, take, drop, Option, Some, None, arith}
+use Rattle.std.proofs.Common.{◌≡◌, ◌<◌, ◌≤◌, ◌+◌, ℕ, zero, suc, refl, sym, ap, ap₂, subst, ◌∙◌, Bool, true, false, List, [], ◌∷◌, ◌++◌, length, Option, Some, None, arith}
 use Rattle.std.specs.Prelude.{is_none, if◌then◌else◌}
-use Rattle.std.specs.List.{AllByRecursion, filter, find, insert, remove, prefix_len}
+use Rattle.std.specs.List.{AllByRecursion, insert, remove, prefix_len}
 use Rattle.std.specs.List.Sorted.{IsPartitionedBy, IsPartitionPoint}
 use Rattle.std.specs.Cmp.{IsTotalOrder, on_total, then_total, tied_itself}
-use Rattle.std.specs.Ordering.{is_lt, is_gt, ordering_then}
+use Rattle.std.specs.Ordering.{is_gt, ordering_then}
 use Rattle.std.specs.declared.cmp.Ordering.{Ordering}
 use Rattle.std.specs.declared.cmp.Ordering.TheVariants.{Less, Equal, Greater}
 use Rattle.std.proofs.lemmas.List.Elements.{filter-append}
@@ -13,13 +13,12 @@ use Rattle.lg_types.specs.declared.version.Typed.{Typed}
 use Rattle.lg_types.specs.declared.version.Version.{Version}
 use Rattle.lg_model.specs.Lists.{inserted, sorted}
 use Rattle.lg_model.specs.Rows.{EventId, event_cmp, same_event, start_cmp, live}
-use Rattle.lg_model.specs.Keys.{key_cmp}
 use Rattle.lg_model.specs.Runs.{Rising}
-use Rattle.lg_frames.proofs.Alls.{all_weaker, all_both, all_filter, all_inserted, all_sorted}
+use Rattle.lg_frames.proofs.Alls.{all_weaker, all_both, all_filter, all_sorted}
 use Rattle.lg_frames.proofs.Sounds.{event_total, start_total}
 use Rattle.lg_invariants.proofs.Counts.{own_same, same_parts}
 use Rattle.lg_parts.proofs.Orders.{key_total}
-use Rattle.lg_table.specs.Orders.{column_values, key_values, row_cmp, order_cmp, in_order, starts_of, started_by, version_at, passes, comes_before, place_of}
+use Rattle.lg_table.specs.Orders.{column_values, key_values, row_cmp, order_cmp, in_order, starts_of, version_at, passes, comes_before, place_of}
 use Rattle.lg_table.proofs.OneMore.{inserted_at, removed_at, place_there, place_within, sorted_more, parted, parted_map, prefix_map, point_is, before_is_downward, IsDownward}
 use Rattle.lg_table.proofs.Splits.{rising_left}
 

@@ -1,8 +1,7 @@
 -- The orders that are kept follow the versions.
-use Rattle.std.proofs.Common.{◌≡◌, ◌<◌, ◌≤◌, ◌+◌, ◌-◌, ℕ, zero, suc, refl, sym, ap, ap₂, subst, ◌∙◌, Bool, true, false, List, [], ◌∷◌, ◌++◌, map, length, get_or, take, drop, Option, Some, None, arith}
-use Rattle.std.specs.Prelude.{slice_set, if◌then◌else◌, is_none}
-use Rattle.std.specs.List.{AllByRecursion, filter, insert, remove, HoldsAt}
-use Rattle.std.specs.Cmp.{IsTotalOrder}
+use Rattle.std.proofs.Common.{◌≡◌, ◌+◌, ◌-◌, ℕ, refl, sym, ap, ap₂, ◌∙◌, Bool, true, false, List, [], ◌∷◌, ◌++◌, map, None}
+use Rattle.std.specs.Prelude.{if◌then◌else◌, is_none}
+use Rattle.std.specs.List.{AllByRecursion}
 use Rattle.std.specs.Ordering.{is_gt, ordering_then}
 use Rattle.std.specs.declared.cmp.Ordering.{Ordering}
 use Rattle.std.specs.declared.cmp.Ordering.TheVariants.{Less, Equal, Greater}
@@ -11,13 +10,13 @@ use Rattle.lg_value.specs.Order.{value_cmp}
 use Rattle.lg_types.specs.declared.version.Version.{Version}
 use Rattle.lg_model.specs.Lists.{inserted, sorted}
 use Rattle.lg_model.specs.Rows.{Row, EventId, start_cmp, values_of, live}
-use Rattle.lg_model.specs.Keys.{key_cmp, key_of, key_places, value_at, version_key, standing}
+use Rattle.lg_model.specs.Keys.{key_cmp, key_of, key_places, value_at, standing}
 use Rattle.lg_model.specs.Runs.{Rising}
 use Rattle.lg_frames.proofs.Alls.{all_filter, all_sorted}
-use Rattle.lg_table.specs.Orders.{column_values, key_values, row_cmp, order_cmp, in_order, starts_of}
+use Rattle.lg_table.specs.Orders.{column_values, key_values, row_cmp, in_order, starts_of}
 use Rattle.lg_table.specs.Stored as stored
 use Rattle.lg_table.specs.Stored.{Stored, projected, index_order, reordered, with_versions}
-use Rattle.lg_table.specs.Kept.{IsOf, IsWith, StandIn, index_seen, ordinals_of}
+use Rattle.lg_table.specs.Kept.{IsOf, StandIn, index_seen, ordinals_of}
 use Rattle.lg_table.specs.declared.index.Index.{Index}
 use Rattle.lg_table.specs.declared.orders.Orders.{Orders}
 

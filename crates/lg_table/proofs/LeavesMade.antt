@@ -15,7 +15,7 @@ use Rattle.lg_invariants.specs.Fits.{Fits}
 use Rattle.lg_leaves.specs.Room.{FitsLeaf}
 use Rattle.lg_leaves.proofs.Leaves.{leaf_of}
 use Rattle.lg_row.specs.Leaf.{event_bytes}
-use Rattle.lg_table.specs.Made.{event_of, events_made, IsMade, new_version}
+use Rattle.lg_table.specs.Made.{event_of, events_made, new_version}
 
 fits_long : (columns : List ColumnDef) (values : List (Option Typed)) → Fits columns values → length values ≡ length columns
 fits_long [] [] h = refl

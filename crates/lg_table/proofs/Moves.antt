@@ -1,11 +1,11 @@
 -- What is kept beside the versions, as one of them starts or ends, or that is taken back.
-use Rattle.std.proofs.Common.{◌≡◌, ◌<◌, ◌≤◌, ◌+◌, ℕ, zero, suc, refl, sym, ap, subst, ◌∙◌, List, [], ◌∷◌, ◌++◌, map, length, get_or, take, drop, Option, Some, None, arith}
+use Rattle.std.proofs.Common.{◌≡◌, ◌<◌, ◌+◌, ℕ, suc, sym, ap, subst, ◌∙◌, List, [], ◌∷◌, ◌++◌, length, get_or, take, drop, Some, None, arith}
 use Rattle.std.specs.Prelude.{slice_set}
-use Rattle.std.specs.List.{AllByRecursion, insert, remove, HoldsAt}
+use Rattle.std.specs.List.{remove, HoldsAt}
 use Rattle.std.proofs.lemmas.List.{get_or_default}
 use Rattle.lg_types.specs.declared.version.Version.{Version}
 use Rattle.lg_model.specs.Lists.{inserted, sorted}
-use Rattle.lg_model.specs.Rows.{EventId, with_end}
+use Rattle.lg_model.specs.Rows.{EventId}
 use Rattle.lg_model.specs.Runs.{Rising}
 use Rattle.lg_frames.proofs.Alls.{all_weaker}
 use Rattle.lg_table.specs.declared.ending.Ending.{Ending}
@@ -14,7 +14,6 @@ use Rattle.lg_table.specs.declared.orders.Orders.{Orders}
 use Rattle.lg_table.specs.Ends.{ending, ending_cmp, endings_in}
 use Rattle.lg_table.specs.Kept.{IsOf, IsWith, StandIn, StandWith, AreOf}
 use Rattle.lg_table.specs.Orders.{order_cmp, in_order, starts_of, place_of}
-use Rattle.lg_table.specs.Undoing.{without_end}
 use Rattle.lg_table.proofs.Ends.{none_ended, one_ended}
 use Rattle.lg_table.proofs.InOrder.{one_more, none_more, inserted_alike, taken_from_order, place_inside}
 use Rattle.lg_table.proofs.Splits.{split_at, set_at, rising_instead, rising_without}

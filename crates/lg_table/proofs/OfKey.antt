@@ -1,7 +1,7 @@
 -- The versions of a key stand together in key order.
 use Rattle.std.proofs.Common.{◌≡◌, ◌<◌, ◌≤◌, ◌+◌, ◌⊎◌, inl, inr, ℕ, zero, suc, refl, sym, ap, subst, ◌∙◌, Bool, true, false, cond, List, [], ◌∷◌, map, length, get_or, take, drop, Option, Some, None, ◌-◌, arith}
 use Rattle.std.specs.Prelude.{is_none, not, ◌&&◌, ◌||◌, if◌then◌else◌}
-use Rattle.std.specs.List.{AllByRecursion, drop-map, filter, filter_map, list_any, prefix_len, take-map}
+use Rattle.std.specs.List.{AllByRecursion, drop-map, filter, list_any, prefix_len, take-map}
 use Rattle.std.specs.List.Sorted.{IsPartitionedBy}
 use Rattle.std.specs.Cmp.{IsTotalOrder}
 use Rattle.std.specs.Ordering.{is_eq, is_gt, is_le, is_lt, ordering_reverse, ordering_then}
@@ -26,7 +26,7 @@ use Rattle.lg_table.specs.Stored.{rows_below}
 use Rattle.lg_table.specs.Kept.{index_seen}
 use Rattle.lg_table.specs.declared.index.Index.{Index}
 use Rattle.std.specs.Prelude.{slice_get}
-use Rattle.lg_table.proofs.ByKey.{Front, between, one_in_order, all_in_order}
+use Rattle.lg_table.proofs.ByKey.{Front, between, one_in_order}
 use Rattle.lg_frames.proofs.Alls.{all_filter, all_sorted}
 
 -- ---- what is below a key, and what is up to it

@@ -1,14 +1,12 @@
 -- Room for starts and ends.
-use Rattle.std.proofs.Common.{◌≡◌, ◌<◌, ◌≤◌, ◌+◌, ℕ, zero, suc, refl, sym, ap, subst, ◌∙◌, Bool, true, false, List, [], ◌∷◌, ◌++◌, length, take, drop, get_or, Option, Some, None, arith}
+use Rattle.std.proofs.Common.{◌≡◌, ◌<◌, ◌≤◌, ◌+◌, ℕ, zero, suc, ap, ◌∙◌, Bool, true, false, List, [], ◌∷◌, ◌++◌, length, Option, Some, None, arith}
 use Rattle.std.specs.Prelude.{is_none, if◌then◌else◌}
-use Rattle.std.specs.List.{AllByRecursion, HoldsAt, remove, filter}
-use Rattle.std.proofs.lemmas.List.{length-append}
+use Rattle.std.specs.List.{HoldsAt, remove}
 use Rattle.std.proofs.lemmas.List.Edits.{length-remove}
 use Rattle.lg_types.specs.declared.version.Version.{Version}
 use Rattle.lg_model.specs.Rows.{EventId, live}
 use Rattle.lg_frames.proofs.Alls.{all_weaker}
 use Rattle.lg_table.specs.declared.ending.Ending.{Ending}
-use Rattle.lg_table.specs.declared.index.Index.{Index}
 use Rattle.lg_table.specs.declared.orders.Orders.{Orders}
 use Rattle.lg_table.specs.Ends.{ending_cmp, own_ending, endings_of, endings_in}
 use Rattle.lg_table.specs.Kept.{HasRoom, HaveRoom}

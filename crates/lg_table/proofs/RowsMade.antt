@@ -1,5 +1,5 @@
 -- Each change of a row statement is the start of a row that fits, or the end of a version that stands, each once.
-use Rattle.std.proofs.Common.{◌≡◌, ◌⊎◌, ℕ, inl, inr, refl, sym, ap, subst, ◌∙◌, Bool, true, false, List, [], ◌∷◌, ◌++◌, map, flat_map, Option, Some, None, Ok, Err}
+use Rattle.std.proofs.Common.{◌≡◌, ℕ, inl, inr, subst, false, List, [], ◌∷◌, map, flat_map, Option, Some, None, Ok}
 use Rattle.std.specs.List.{AllByRecursion, zip}
 use Rattle.lg_value.specs.declared.column.ColumnDef.{ColumnDef}
 use Rattle.lg_value.specs.declared.expr.Expr.{Expr}
@@ -10,14 +10,13 @@ use Rattle.lg_types.specs.declared.table.TableDef.{TableDef}
 use Rattle.lg_types.specs.declared.table.Part.{Part}
 use Rattle.lg_types.specs.declared.version.Typed.{Typed}
 use Rattle.lg_types.specs.declared.version.Version.{Version}
-use Rattle.lg_model.specs.Catalog.{Named, find_part}
+use Rattle.lg_model.specs.Catalog.{find_part}
 use Rattle.lg_model.specs.Changes.{Change, Changes, Starts, Ends, inserted_rows, versions_matched, row_set, replaced, insertion, replacement, deletion, row_changes}
 use Rattle.lg_model.specs.Checks.{row_check, row_statement_check, table_of}
 use Rattle.lg_model.specs.Lists.{checked_map}
-use Rattle.lg_model.specs.Refusals.{Checked, and_then, or_refused}
+use Rattle.lg_model.specs.Refusals.{and_then, or_refused}
 use Rattle.lg_model.specs.Rows.{Row, same_event, stored_row}
 use Rattle.lg_model.specs.Runs.{Rising}
-use Rattle.lg_frames.proofs.Alls.{all_map, all_weaker}
 use Rattle.lg_frames.proofs.Checked.{Led, led}
 use Rattle.lg_frames.proofs.LeftRows.{all_flat_map, zipped}
 use Rattle.lg_invariants.specs.Fits.{Fits}

@@ -7,26 +7,25 @@ use Rattle.std.proofs.lemmas.List.{map-append}
 use Rattle.lg_value.specs.declared.column.ColumnDef.{ColumnDef}
 use Rattle.lg_types.specs.declared.version.Typed.{Typed}
 use Rattle.lg_types.specs.declared.version.Version.{Version}
-use Rattle.lg_model.specs.Changes.{Change, Starts}
+use Rattle.lg_model.specs.Changes.{Starts}
 use Rattle.lg_model.specs.Lists.{inserted}
-use Rattle.lg_model.specs.Rows.{EventId, started, with_end}
+use Rattle.lg_model.specs.Rows.{EventId, with_end}
 use Rattle.lg_model.specs.Runs.{MadeBefore, Rising}
 use Rattle.lg_frames.proofs.Alls.{all_append}
 use Rattle.lg_frames.proofs.Sounds.{rising_changed}
 use Rattle.lg_versions.specs.Places.{place}
 use Rattle.lg_versions.proofs.Places.{started_at}
-use Rattle.lg_table.specs.declared.ending.Ending.{Ending}
 use Rattle.lg_table.specs.declared.index.Index.{Index}
 use Rattle.lg_table.specs.declared.orders.Orders.{Orders}
 use Rattle.lg_table.specs.Ends.{ending, ending_cmp, endings_in}
 use Rattle.lg_model.specs.Keys.{key_places, standing}
-use Rattle.lg_table.specs.Kept.{HasRoom, HaveRoom, IsOf, StandIn, StandWith, AreOf, IsKept, SeenAlike, index_seen, ordinals_of}
+use Rattle.lg_table.specs.Kept.{HasRoom, HaveRoom, IsOf, StandWith, AreOf, IsKept, SeenAlike, index_seen, ordinals_of}
 use Rattle.lg_table.specs.Stored as stored
 use Rattle.lg_table.specs.Stored.{Stored, reordered, with_versions, with_index, without_last, without_last_index}
 use Rattle.lg_table.specs.Orders.{in_order, starts_of}
 use Rattle.lg_table.proofs.Keeping.{index_order_is, seen_with}
 use Rattle.lg_table.specs.Undoing.{without_end}
-use Rattle.lg_table.proofs.Moves.{are_started, rising_removed, rising_set, stand_ended, ends_ended, stand_reopened, ends_reopened, stand_back}
+use Rattle.lg_table.proofs.Moves.{are_started, rising_removed, rising_set, stand_ended, ends_ended, stand_reopened, ends_reopened}
 use Rattle.lg_table.proofs.Splits.{cut_at}
 
 abbrev pub new_version : EventId → List (Option Typed) → Version

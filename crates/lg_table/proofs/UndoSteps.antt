@@ -1,12 +1,12 @@
 -- Undo, event after event.
-use Rattle.std.proofs.Common.{◌≡◌, ◌<◌, ◌≤◌, ◌+◌, ℕ, zero, suc, refl, sym, ap, subst, ◌∙◌, List, [], ◌∷◌, ◌++◌, length, get_or, Option, Some, None, arith}
+use Rattle.std.proofs.Common.{◌≡◌, ◌<◌, ◌+◌, ℕ, zero, suc, refl, sym, ap, subst, ◌∙◌, List, [], ◌∷◌, ◌++◌, length, get_or, Option, Some, None, arith}
 use Rattle.std.specs.Prelude.{slice_set}
-use Rattle.std.specs.List.{AllByRecursion, HoldsAt, remove}
+use Rattle.std.specs.List.{HoldsAt, remove}
 use Rattle.std.proofs.lemmas.List.Edits.{length-remove}
 use Rattle.lg_value.specs.declared.column.ColumnDef.{ColumnDef}
 use Rattle.lg_types.specs.declared.version.Version.{Version}
 use Rattle.lg_model.specs.Rows.{EventId}
-use Rattle.lg_model.specs.Undo.{end_left, versions_undone}
+use Rattle.lg_model.specs.Undo.{versions_undone}
 use Rattle.lg_table.specs.declared.ending.Ending.{Ending}
 use Rattle.lg_table.specs.Ends.{own_ending, endings_of}
 use Rattle.lg_table.specs.Stored.{Stored, Roomy, with_versions}

@@ -1,5 +1,5 @@
 -- A cell, its versions with their orders, and its locks.
-use Rattle.std.proofs.Common.{◌≡◌, ◌≢◌, ◌⊎◌, ◌+◌, ◌-◌, ℕ, zero, suc, inl, inr, refl, sym, ap, ap₂, subst, ◌∙◌, List, [], ◌∷◌, ◌++◌, length, map, slice_get, None, Some, Ok, arith}
+use Rattle.std.proofs.Common.{◌≡◌, ◌⊎◌, ◌+◌, ◌-◌, ℕ, zero, suc, inl, inr, refl, sym, ap, ap₂, subst, ◌∙◌, List, [], ◌∷◌, ◌++◌, length, map, slice_get, None, Some, arith}
 use Rattle.lg_value.specs.declared.column.ColumnDef.{ColumnDef}
 use Rattle.lg_types.specs.declared.lock.Hold.{Hold}
 use Rattle.lg_types.specs.declared.lock.Want.{Want}
@@ -7,10 +7,9 @@ use Rattle.lg_types.specs.declared.statement.RowStmt.{RowStmt}
 use Rattle.lg_types.specs.declared.table.TableDef.{TableDef}
 use Rattle.lg_types.specs.declared.table.IndexDef.{IndexDef}
 use Rattle.lg_types.specs.declared.version.Version.{Version}
-use Rattle.lg_model.specs.Changes.{Change, changed_all, row_changes}
+use Rattle.lg_model.specs.Changes.{changed_all}
 use Rattle.lg_model.specs.Holds.{holds_after}
 use Rattle.lg_model.specs.InTheWay.{first_conflict}
-use Rattle.lg_model.specs.Rows.{live}
 use Rattle.lg_standing.specs.Cells.{TableCell, Index}
 use Rattle.lg_standing.specs.Doing.{grown, events_from}
 use Rattle.lg_standing.specs.Moves.{noting}
@@ -19,7 +18,7 @@ use Rattle.lg_standing.specs.TablesAreSerial.{index_order, ordinals_of}
 use Rattle.lg_standing.specs.TableVisits.{new_index, with_holds, with_indexes, with_versions}
 use Rattle.lg_tx.specs.Represents.{Represents}
 use Rattle.lg_tx.specs.declared.context.TxCtx.{TxCtx}
-use Rattle.lg_table.specs.Calls.{HasChanges, LacksLast, LocksTaken, RowsChanged, RowsWritten}
+use Rattle.lg_table.specs.Calls.{LocksTaken, RowsChanged, RowsWritten}
 use Rattle.lg_table.specs.Stored as stored
 use Rattle.lg_table.specs.Stored.{Stored, reordered}
 

@@ -1,8 +1,7 @@
 -- What a statement that changes rows writes.
-use Rattle.std.proofs.Common.{◌≡◌, ◌<◌, ◌≤◌, ◌+◌, ◌^◌, ℕ, refl, sym, ap, ap₂, subst, ◌∙◌, List, [], ◌∷◌, length, map, Ok, arith}
+use Rattle.std.proofs.Common.{◌≡◌, ◌<◌, ◌+◌, ◌^◌, ℕ, sym, ap, ap₂, subst, ◌∙◌, List, [], ◌∷◌, length, map, Ok, arith}
 use Rattle.std.proofs.lemmas.List.{length-map}
 use Rattle.std.specs.List.{AllByRecursion}
-use Rattle.lg_value.specs.declared.column.ColumnDef.{ColumnDef}
 use Rattle.lg_types.specs.declared.event.Event.{Event}
 use Rattle.lg_types.specs.declared.statement.RowStmt.{RowStmt}
 use Rattle.lg_types.specs.declared.table.TableDef.{TableDef}
@@ -14,7 +13,7 @@ use Rattle.lg_invariants.specs.Fits.{Fits}
 use Rattle.lg_row.specs.Leaf.{event_bytes}
 use Rattle.lg_standing.specs.Doing.{events_from, grown}
 use Rattle.lg_standing.specs.Moves.{noting}
-use Rattle.lg_standing.specs.Seats.{OpenTransaction, Tree}
+use Rattle.lg_standing.specs.Seats.{OpenTransaction}
 use Rattle.lg_tx.specs.Represents.{IsOpen, Represents}
 use Rattle.lg_tx.specs.declared.context.TxCtx.{TxCtx}
 use Rattle.lg_table.specs.Calls.{HasWritten, MayChange, RowsWritten}

@@ -1,5 +1,5 @@
 -- Entries, put together of their parts.
-use Rattle.std.proofs.Common.{◌≡◌, ◌∙◌, refl, sym, ap, ℕ, List, [], ◌∷◌, ◌++◌, flat_map, append_assoc, append-nil, Option, Some, None}
+use Rattle.std.proofs.Common.{◌≡◌, ◌∙◌, refl, sym, ap, ℕ, List, [], ◌∷◌, ◌++◌, flat_map, append_assoc, append-nil, Option, None}
 use Rattle.std.specs.Prelude.{codes}
 use Rattle.lg_types.specs.declared.reply.Reply.{Reply}
 use Rattle.lg_model.specs.Replies.{reply_lines}

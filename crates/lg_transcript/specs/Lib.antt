@@ -1,2 +1,1 @@
-pub mod EndSeen
 pub mod TranscriptText

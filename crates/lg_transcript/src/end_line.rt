@@ -1,21 +1,13 @@
 //! The line with which a transaction ends.
 
 ghost use Rattle.std.specs.Prelude.{◌≡◌, ◌++◌, OnOk, string_bytes};
+ghost use Rattle.lg_history.specs.EndSeen.{end_seen};
 ghost use Rattle.lg_history.specs.Transcripts.{committed_at, ended_after};
-ghost use Rattle.lg_transcript.specs.EndSeen.{end_seen};
 ghost use Rattle.lg_transcript.specs.TranscriptText.{end_line, indented};
 
 use lg_items::{Memory, TxId};
+use lg_types::EndLine;
 use std::alloc::Global;
-
-/// The line with which a transaction ends.
-#[derive(Clone, Copy, Debug, PartialEq, Eq)]
-pub enum EndLine {
-    /// It was committed, at this place in ledger order, counted from 1.
-    Committed { id: TxId, place: u64 },
-    /// It ended otherwise, after so many were committed.
-    Ended { id: TxId, after: u64 },
-}
 
 /// Appends the line of a transaction that was committed.
 fn push_committed(

@@ -1,14 +1,14 @@
 //! The entries of a transcript.
 
 ghost use Rattle.std.specs.Prelude.{◌≡◌, ◌++◌, OnOk, None, string_bytes};
+ghost use Rattle.lg_history.specs.EndSeen.{end_seen, line_seen};
 ghost use Rattle.lg_history.specs.Transcripts.{statement, end_of_session};
-ghost use Rattle.lg_transcript.specs.EndSeen.{end_seen, line_seen};
 ghost use Rattle.lg_transcript.specs.TranscriptText.{entry_text, end_text};
 
-use crate::end_line::{EndLine, push_line};
+use crate::end_line::push_line;
 use lg_items::Memory;
 use lg_reply::indented_reply;
-use lg_types::Reply;
+use lg_types::{EndLine, Reply};
 use std::alloc::Global;
 
 /// Appends the end line, if there is one.

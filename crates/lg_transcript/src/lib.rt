@@ -4,5 +4,4 @@
 mod end_line;
 mod entry;
 
-pub use end_line::EndLine;
 pub use entry::{push_end, push_statement};

@@ -3,6 +3,7 @@
 
 mod change;
 mod digest;
+mod end_line;
 mod entry;
 mod event;
 mod image;
@@ -16,6 +17,7 @@ mod version;
 
 pub use change::Change;
 pub use digest::{Digest, HeldDigest};
+pub use end_line::EndLine;
 pub use entry::{BlockRecord, TxEntry};
 pub use event::{Event, FieldOf};
 pub use image::{Image, IndexRow, TableRows};

@@ -1,12 +1,11 @@
 -- What fails of an entry is told by the marks of its transaction.
-use Rattle.std.proofs.Common.{◌≡◌, ◌<◌, ◌+◌, ◌==◌, ℕ, Bool, true, false, cond, List, [], ◌∷◌, ◌++◌, map, filter, flat_map, refl, sym, ap, ap₂, ◌∙◌, arith, nat_lt, Option, Some}
+use Rattle.std.proofs.Common.{◌≡◌, ◌+◌, ◌==◌, ℕ, Bool, true, false, cond, List, [], ◌∷◌, map, filter, flat_map, refl, sym, ap, ap₂, ◌∙◌, arith, nat_lt, Option, Some}
 use Rattle.std.specs.Ordering.{nat_cmp}
 use Rattle.std.proofs.lemmas.Bool.{and_parts, ltb-true}
 use Rattle.lg_types.specs.declared.entry.TxEntry.{TxEntry}
 use Rattle.lg_types.specs.declared.event.Event.{Event}
 use Rattle.lg_types.specs.declared.image.Image.{Image}
 use Rattle.lg_types.specs.declared.image.TableRows.{TableRows}
-use Rattle.lg_ledger.specs.Entries.{roots_of}
 use Rattle.lg_model.specs.Catalog.{Defs, Tables}
 use Rattle.lg_model.specs.Events.{events_of, all_events}
 use Rattle.lg_model.specs.Lists.{or_else, sorted}

@@ -1,5 +1,5 @@
 -- The entries of a block whose size is right have a spelling, at the places that the sizes give them.
-use Rattle.std.proofs.Common.{◌≡◌, ◌<◌, ◌≤◌, ◌+◌, ◌^◌, ℕ, zero, suc, arith, refl, sym, ap, ap₂, subst, ◌∙◌, List, [], ◌∷◌, ◌++◌, length, map, take, drop, get_or, length-drop}
+use Rattle.std.proofs.Common.{◌≡◌, ◌<◌, ◌≤◌, ◌+◌, ◌^◌, ℕ, zero, suc, arith, refl, sym, ap, subst, ◌∙◌, List, [], ◌∷◌, ◌++◌, length, take, drop, get_or, length-drop}
 use Rattle.std.proofs.lemmas.List.{length-take-le}
 use Rattle.std.proofs.lemmas.List.Sums.{sum_by-cons, sum_by_more}
 use Rattle.std.proofs.Math.Seq.{drop-nil}
@@ -9,7 +9,7 @@ use Rattle.lg_types.specs.declared.entry.TxEntry.{TxEntry}
 use Rattle.lg_types.specs.declared.image.Image.{Image}
 use Rattle.lg_entry.specs.Entry.{IsEntry}
 use Rattle.lg_image.specs.ImageBytes.{IsImage, IsPlaceless, sizes_of}
-use Rattle.lg_ledger.specs.Entries.{placed, at_place}
+use Rattle.lg_ledger.specs.Entries.{placed}
 use Rattle.lg_ledger.specs.Parts.{by_sizes}
 use Rattle.lg_model.specs.Limits.{max_block}
 use Rattle.lg_verdict.specs.Blocks.{entries_before}

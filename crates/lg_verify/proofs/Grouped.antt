@@ -1,6 +1,6 @@
 -- Events that are sorted by transaction, table and number: those of a transaction are, table by table, its
 -- events there by number.
-use Rattle.std.proofs.Common.{◌≡◌, ◌<◌, ◌==◌, ℕ, Bool, true, false, cond, List, [], ◌∷◌, ◌++◌, map, filter, flat_map, refl, sym, ap, ap₂, ◌∙◌, arith, Option, Some, None}
+use Rattle.std.proofs.Common.{◌≡◌, ◌<◌, ◌==◌, ℕ, Bool, false, cond, List, [], ◌∷◌, ◌++◌, filter, flat_map, refl, ap, ap₂, ◌∙◌, arith, Option, Some, None}
 use Rattle.std.specs.List.{AllByRecursion}
 use Rattle.std.specs.Ordering.{nat_cmp, ordering_then, is_gt}
 use Rattle.std.specs.declared.cmp.Ordering.{Ordering}
@@ -10,7 +10,7 @@ use Rattle.lg_types.specs.declared.event.Event.{Event}
 use Rattle.lg_types.specs.declared.version.Table.{Table}
 use Rattle.lg_types.specs.declared.version.Version.{Version}
 use Rattle.lg_model.specs.Catalog.{Tables}
-use Rattle.lg_model.specs.Events.{start_event, end_event, end_events, version_events, events_of, all_events}
+use Rattle.lg_model.specs.Events.{end_events, version_events, events_of}
 use Rattle.lg_model.specs.Lists.{sorted}
 use Rattle.lg_model.specs.Rows.{EventId}
 use Rattle.lg_verify.specs.Marks.{leaf_cmp, events_in}

@@ -12,17 +12,16 @@ use Rattle.std.specs.Ordering.{is_eq, nat_cmp, ordering_then}
 use Rattle.lg_value.specs.declared.column.ColumnDef.{ColumnDef}
 use Rattle.lg_types.specs.declared.entry.TxEntry.{TxEntry}
 use Rattle.lg_types.specs.declared.version.Version.{Version}
-use Rattle.lg_model.specs.Keys.{key_cmp, same_key, version_key, of_key}
+use Rattle.lg_model.specs.Keys.{same_key, version_key}
 use Rattle.lg_model.specs.Lists.{sorted}
-use Rattle.lg_model.specs.Rows.{EventId, event_cmp, same_event}
+use Rattle.lg_model.specs.Rows.{EventId, event_cmp}
 use Rattle.lg_parts.proofs.Orders.{event_total, key_total}
 use Rattle.lg_parts.proofs.Sorting.{is_sorted}
-use Rattle.lg_parts.specs.Places.{by_key}
 use Rattle.lg_verdict.specs.Entries.{has_id}
 use Rattle.lg_verdict.specs.Order as spec
 use Rattle.lg_verify.specs.declared.order.Earlier.{Earlier}
 use Rattle.lg_verify.specs.declared.order.Ranked.{Ranked}
-use Rattle.lg_verify.specs.Order.{IsStarted, IsRanked, InRuns, Knows, KnowsBefore, version_of, start_cmp, key_order, ranked_cmp, openness, rank_before, is_open, earlier_of, latest_end, any_open, ends_well, follows, stands_well, stands_among}
+use Rattle.lg_verify.specs.Order.{IsRanked, InRuns, Knows, KnowsBefore, version_of, start_cmp, key_order, ranked_cmp, openness, rank_before, is_open, earlier_of, any_open, ends_well, follows, stands_well, stands_among}
 use Rattle.lg_verify.specs.Positions.{Rank, rank_of}
 use Rattle.lg_verify.specs.Runs as runs
 use Rattle.lg_verify.specs.Runs.{Neighbours}

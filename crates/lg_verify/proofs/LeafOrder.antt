@@ -1,8 +1,8 @@
 -- The order of leaves.
-use Rattle.std.proofs.Common.{◌≡◌, ℕ, Bool, false, List, get_or, is_lt, refl}
+use Rattle.std.proofs.Common.{◌≡◌, false, List, is_lt, refl}
 use Rattle.std.specs.Cmp.{IsTotalOrder, on_total, then_total, nat_cmp_total}
 use Rattle.std.specs.List.Sorted.{IsSortedBy, IsNonDecreasingBy}
-use Rattle.std.specs.Ordering.{nat_cmp, ordering_then}
+use Rattle.std.specs.Ordering.{ordering_then}
 use Rattle.std.specs.declared.cmp.Ordering.{Ordering}
 use Rattle.std.specs.declared.cmp.Ordering.TheVariants.{Less, Equal, Greater}
 use Rattle.std.proofs.lemmas.List.Sorted.{IsNonDecreasingBy-from_sort}

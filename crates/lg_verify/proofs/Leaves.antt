@@ -1,7 +1,6 @@
 -- The fields of values that have a spelling are all told.
 use Rattle.std.proofs.Common.{◌≡◌, ◌+◌, ℕ, refl, sym, ap, ◌∙◌, append_assoc, List, [], ◌∷◌, ◌++◌, filter, flat_map, Option, Some, None}
 use Rattle.std.specs.List.{AllByRecursion}
-use Rattle.lg_types.specs.declared.event.FieldOf.{FieldOf}
 use Rattle.lg_types.specs.declared.version.Typed.{Typed}
 use Rattle.lg_model.specs.Lists.{numbered}
 use Rattle.lg_model.specs.Events.{fields_at, fields_of}

@@ -1,5 +1,5 @@
 -- What stands side by side in a list that rises.
-use Rattle.std.proofs.Common.{◌≡◌, ◌<◌, ◌≤◌, ◌+◌, ℕ, zero, suc, arith, refl, sym, ap, ◌∙◌, false, List, [], ◌∷◌, ◌++◌, length, take, drop, get_or, is_lt, IsSorted, zero-le, suc-le-suc}
+use Rattle.std.proofs.Common.{◌≡◌, ◌<◌, ◌≤◌, ◌+◌, ℕ, zero, suc, arith, sym, ap, ◌∙◌, false, List, [], ◌∷◌, ◌++◌, length, take, drop, get_or, is_lt, IsSorted, zero-le, suc-le-suc}
 use Rattle.std.proofs.Math.Seq.{drop-cons}
 use Rattle.std.proofs.lemmas.List.{take-append-drop}
 use Rattle.std.proofs.lemmas.List.Sorted.{ranks_by, sorted_far}

@@ -1,5 +1,5 @@
 -- Where each version fits its table, the rows of the system's tables are about tables whose numbers are small.
-use Rattle.std.proofs.Common.{◌≡◌, ◌^◌, eqb, arith, refl, sym, ap, subst, ◌∙◌, ℕ, ℤ, Bool, true, false, List, [], ◌∷◌, ◌++◌, map, flat_map, Option, Some, None}
+use Rattle.std.proofs.Common.{◌≡◌, ◌^◌, arith, refl, subst, ℤ, true, List, [], ◌∷◌, ◌++◌, map, flat_map, Option, Some, None}
 use Rattle.std.specs.Prelude.{FitsSigned, IfSome, MatchOption, pos, negsuc, ◌<◌}
 use Rattle.std.proofs.lemmas.Bool.{ltb-true}
 use Rattle.std.proofs.lemmas.List.{map-append}
@@ -13,11 +13,9 @@ use Rattle.lg_value.specs.declared.value.Value.TheVariants.{Null, Num, Text, Byt
 use Rattle.lg_value.specs.Stored.{is_stored, in_bits}
 use Rattle.lg_types.specs.declared.image.Image.{Image}
 use Rattle.lg_types.specs.declared.image.TableRows.{TableRows}
-use Rattle.lg_types.specs.declared.table.TableDef.{TableDef}
 use Rattle.lg_types.specs.declared.version.Table.{Table}
 use Rattle.lg_types.specs.declared.version.Typed.{Typed}
 use Rattle.lg_types.specs.declared.version.Version.{Version}
-use Rattle.lg_model.specs.Catalog.{Defs}
 use Rattle.lg_model.specs.Rows.{Row, value_or_null}
 use Rattle.lg_model.specs.SystemTables.{tables_def, columns_def}
 use Rattle.lg_image.specs.ImageBytes.{IsImage, AreTables}

@@ -1,6 +1,5 @@
 -- Where no start or end is a stranger's, each version was started by a transaction that has an entry.
-use Rattle.std.proofs.Common.{◌≡◌, refl, sym, ap, subst, ◌∙◌, ℕ, Bool, true, false, cond, List, [], ◌∷◌, ◌++◌, map, flat_map, filter, Option, Some, None}
-use Rattle.std.proofs.lemmas.Bool.{true≢false}
+use Rattle.std.proofs.Common.{◌≡◌, refl, sym, subst, ℕ, Bool, true, false, cond, List, [], ◌∷◌, ◌++◌, map, flat_map, filter, Option, Some, None}
 use Rattle.std.proofs.lemmas.List.Elements.{All-from_recursion}
 use Rattle.std.specs.Prelude.{not, MatchOption}
 use Rattle.std.specs.List.{All, AllByRecursion}
@@ -16,7 +15,6 @@ use Rattle.lg_verdict.proofs.Leasts.{least_is, IsLeast}
 use Rattle.lg_verdict.proofs.ToldEntries.{table_event_total}
 use Rattle.lg_verdict.specs.Entries.{TableEvent, table_event_cmp, event_place, has_id, events_in, strangers, repeated_id, least_event, id_fault}
 use Rattle.lg_spell.specs.Least.{least}
-use Rattle.lg_verdict.specs.declared.place.Place.{Place}
 use Rattle.lg_verify.specs.declared.shown.Shown.{Shown}
 use Rattle.lg_verify.specs.Order.{IsStarted, AreStarted}
 use Rattle.lg_verify.specs.Shown.{rows_of, table_of, Show}

@@ -1,5 +1,5 @@
 -- Strangers among the events of an image are those of each version.
-use Rattle.std.proofs.Common.{◌≡◌, refl, sym, ap, ◌∙◌, ℕ, Bool, cond, List, [], ◌∷◌, ◌++◌, map, flat_map, filter, Option, Some}
+use Rattle.std.proofs.Common.{◌≡◌, sym, ap, ◌∙◌, ℕ, Bool, cond, List, [], ◌∷◌, ◌++◌, map, flat_map, filter, Option, Some}
 use Rattle.std.proofs.lemmas.List.Concat.{flat_map-append}
 use Rattle.lg_types.specs.declared.entry.TxEntry.{TxEntry}
 use Rattle.lg_types.specs.declared.event.Event.{Event}
@@ -9,7 +9,7 @@ use Rattle.lg_types.specs.declared.version.Version.{Version}
 use Rattle.lg_model.specs.Events.{start_event, end_events, version_events}
 use Rattle.lg_model.specs.Rows.{EventId}
 use Rattle.lg_spell.specs.Least.{lesser, least_from}
-use Rattle.lg_image.specs.Tables.{tables_in, table_in}
+use Rattle.lg_image.specs.Tables.{tables_in}
 use Rattle.lg_verdict.specs.Entries.{TableEvent, table_event_cmp, has_id, events_in, strangers}
 use Rattle.lg_verify.specs.declared.shown.Shown.{Shown}
 use Rattle.lg_verify.specs.Ids.{is_stranger, strangers_of, strangers_in}

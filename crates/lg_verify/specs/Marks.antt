@@ -1,5 +1,5 @@
 -- The starts and ends of versions, without copies of their values.
-use Rattle.std.specs.Prelude.{All, ℕ, ◌≡◌, ◌==◌, false, if◌then◌else◌, List, [], ◌∷◌, map, flat_map, Option, Some, None}
+use Rattle.std.specs.Prelude.{All, ℕ, ◌≡◌, ◌==◌, false, if◌then◌else◌, List, [], ◌∷◌, map, flat_map, Some, None}
 use Rattle.std.specs.List.Sorted.{IsNonDecreasingBy}
 use Rattle.std.specs.declared.cmp.Ordering.{Ordering}
 use Rattle.std.specs.Ordering.{nat_cmp, ordering_then}

@@ -1,5 +1,5 @@
 -- The versions of a table by their ranks: by key, and those of a key by start.
-use Rattle.std.specs.Prelude.{ℕ, ◌==◌, ◌&&◌, ◌||◌, ◌≡◌, ◌<◌, ◌-◌, nat_lt, not, Bool, true, false, List, [], ◌∷◌, ◌++◌, map, get_or, Option, Some, None, is_none, option_map}
+use Rattle.std.specs.Prelude.{ℕ, ◌==◌, ◌&&◌, ◌||◌, ◌≡◌, ◌<◌, ◌-◌, nat_lt, not, Bool, true, false, List, map, get_or, Option, Some, None, is_none, option_map}
 use Rattle.std.specs.List.{AllByRecursion, All, filter, list_any}
 use Rattle.std.specs.Ordering.{nat_cmp, ordering_then}
 use Rattle.std.specs.declared.cmp.Ordering.{Ordering}

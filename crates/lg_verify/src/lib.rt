@@ -10,7 +10,6 @@ mod groups;
 mod ids;
 mod indexes;
 mod items;
-mod keys;
 mod least;
 mod leftover;
 mod marks;

@@ -18,11 +18,10 @@ ghost use Rattle.lg_verify.specs.Runs.{Neighbours};
 ghost use Rattle.lg_verify.specs.declared.order.Ranked.{Ranked as RankedVersion};
 
 use crate::columns::has_columns;
-use crate::keys::compare_keys;
 use crate::least::{TableEvent, lesser};
 use crate::positions::{Positions, Rank};
 use lg_items::Memory;
-use lg_parts::{Keyed, same_key};
+use lg_parts::{Keyed, compare_by_key, same_key};
 use lg_types::{EventId, TableRows, Version};
 use lg_value::ColumnDef;
 use std::alloc::Global;
@@ -145,7 +144,7 @@ fn sort_in_runs(table: &Keyed, ranked: &mut Vec<Ranked>) -> Result<(), Memory>
 fn compare_ranked(table: &Keyed, a: &Ranked, b: &Ranked) -> Ordering
     ensures { result ≡ spec.ranked_cmp table.now.columns a.now b.now }
 {
-    match compare_keys(table, a.version, b.version) {
+    match compare_by_key(table, a.version, b.version) {
         Ordering::Equal => compare_starts(a, b),
         order => order,
     }

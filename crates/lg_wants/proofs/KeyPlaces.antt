@@ -1,5 +1,5 @@
 -- The key of a row of VALUES is what its places give, one by one.
-use Rattle.std.proofs.Common.{◌≡◌, refl, sym, ap, ◌∙◌, subst, ℕ, zero, suc, ◌+◌, ◌==◌, not, List, [], ◌∷◌, map, Option, Some, None, slice_get, arith}
+use Rattle.std.proofs.Common.{◌≡◌, refl, sym, ap, ◌∙◌, ℕ, suc, ◌+◌, ◌==◌, not, List, [], ◌∷◌, map, Option, Some, slice_get, arith}
 use Rattle.std.specs.List.{AllByRecursion, filter, filter_map, zip}
 use Rattle.lg_value.specs.declared.column.ColumnDef.{ColumnDef}
 use Rattle.lg_value.specs.Conversion.{conversion_of}

@@ -1,4 +1,4 @@
-use Rattle.std.proofs.Common.{◌≡◌, ◌∙◌, ◌++◌, ◌+◌, ◌<◌, ap, ap₂, ◌&&◌, ◌||◌, ℕ, Bool, true, false, not, List, [], ◌∷◌, map, length, is_some, Option, Some, None, refl, sym, subst, arith, codes}
+use Rattle.std.proofs.Common.{◌≡◌, ◌∙◌, ◌++◌, ◌+◌, ◌<◌, ap, ap₂, ◌&&◌, ◌||◌, ℕ, Bool, true, false, not, List, [], ◌∷◌, map, length, is_some, Option, Some, None, refl, sym, subst, arith}
 use Rattle.std.specs.List.{list_any, fold}
 use Rattle.std.specs.Prelude.{if◌then◌else◌, drop}
 use Rattle.clap.specs.Walk.{Row, has_row, with_default, finished, rows_after, nothing_held, walk, walk_from, settled}

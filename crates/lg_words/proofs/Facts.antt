@@ -1,4 +1,4 @@
-use Rattle.std.proofs.Common.{zero, suc, ◌≡◌, ◌++◌, ◌+◌, ◌==◌, ap, ℕ, Bool, true, false, List, [], ◌∷◌, map, is_some, Some, None, refl, sym, subst, arith, codes, true≢false}
+use Rattle.std.proofs.Common.{zero, suc, ◌≡◌, ◌++◌, ◌+◌, ◌==◌, ap, ℕ, Bool, true, false, List, [], ◌∷◌, map, is_some, Some, None, refl, sym, subst, arith, true≢false}
 use Rattle.std.specs.Str.{bytes_eq}
 use Rattle.std.specs.Prelude.{option_map, unwrap_or, slice_get, if◌then◌else◌}
 use Rattle.std.proofs.lemmas.Slice.Eq.{bytes_eq-Decides}

@@ -7,7 +7,7 @@ use Rattle.clap.specs.Words.{fault_of, matches_of, rows_of, found_of, first_valu
 use Rattle.clap.specs.declared.parser.matches.ArgMatches.{ArgMatches}
 use Rattle.clap.proofs.WalkLemmas.{first_value-rows, list_any-map}
 use Rattle.lg_words.specs.Line.{Text, Use, uses_of, ◌>>=◌}
-use Rattle.lg_words.specs.Commands.{Command, given, has_dashes, settings, meaning_of, arguments_of}
+use Rattle.lg_words.specs.Commands.{given, has_dashes, settings, meaning_of, arguments_of}
 use Rattle.lg_words.specs.Shapes.{Matched, Finds, app_for}
 use Rattle.lg_words.specs.Subcommands.{operands_of, options_of}
 use Rattle.lg_words.specs.declared.subcommand.Subcommand.{Subcommand}

@@ -1,15 +1,14 @@
 -- The settings that words say have their ranges and their form.
-use Rattle.std.proofs.Common.{ℕ, ◌≡◌, ◌≤◌, arith, Bool, true, false, List, [], ◌∷◌, Option, Some, None, refl, sym, ◌∙◌, ap, subst, codes}
+use Rattle.std.proofs.Common.{ℕ, ◌≡◌, ◌≤◌, arith, Bool, true, false, List, [], ◌∷◌, Option, Some, None, refl, subst, codes}
 use Rattle.std.specs.Prelude.{◌&&◌, ◌||◌, IfSome, if◌then◌else◌, nat_le, option_map}
 use Rattle.std.specs.Str.{bytes_eq}
 use Rattle.std.proofs.lemmas.Bool.Decides.{nat_tests}
-use Rattle.std.proofs.lemmas.Grind.{common_steps}
 use Rattle.lg_items.specs.DatabaseName.{is_database_name}
 use Rattle.lg_items.specs.declared.moment.TheConstants.{MAX_TICKS}
 use Rattle.lg_words.specs.Commands.{Settings, AreInRange, Command, Step, Run, Verify, Extract, Replay, Gen, given, settings, meaning_of, has_dashes, arguments_of, asks_help, alone, behind, command_of}
 use Rattle.lg_words.specs.Commands as said
 use Rattle.lg_words.specs.Forms.{is_number, number_from, number_in, database_name, file_name, or_default, if_given}
-use Rattle.lg_words.specs.Line.{Text, Use, uses_of, ◌>>=◌}
+use Rattle.lg_words.specs.Line.{Text, uses_of, ◌>>=◌}
 use Rattle.lg_words.specs.Subcommands.{named, operands_of, options_of}
 use Rattle.lg_words.specs.declared.subcommand.Subcommand.{Subcommand}
 use Rattle.lg_words.specs.declared.subcommand.Subcommand.TheVariants as which

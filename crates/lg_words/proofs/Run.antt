@@ -2,7 +2,7 @@ use Rattle.std.proofs.Common.{suc, ◌≡◌, ◌∙◌, ◌++◌, ◌+◌, ◌<
 use Rattle.std.specs.List.{fold}
 use Rattle.std.specs.Str.{bytes_eq, chars}
 use Rattle.std.specs.Prelude.{slice_get, if◌then◌else◌, min}
-use Rattle.clap.specs.Walk.{Row, Rule, Held, Waiting, Walk, idle, option, arg_by_id, arg_by_long, arg_by_index, arg_by_short, has_row, without, with_values, at_row, settled, settled_rows, used, walked, nothing_held, walk_from}
+use Rattle.clap.specs.Walk.{Row, Rule, Held, Waiting, Walk, idle, option, arg_by_long, arg_by_index, has_row, without, with_values, settled, settled_rows, used, walked}
 use Rattle.clap.specs.Simple.{Shape}
 use Rattle.clap.specs.Kinds.{Kinds, or_else}
 use Rattle.clap.specs.Faults.{use_fault, settle_fault, walk_fault, turn_fault}
@@ -16,7 +16,7 @@ use Rattle.clap.proofs.WalkLemmas.{list_any-map}
 use Rattle.lg_words.specs.Line.{Text, Use, Last, nothing, whole, begun, is_among, is_used, with_use, closed}
 use Rattle.std.specs.Option.{option_map_or}
 use Rattle.clap.specs.Lexer.{long_of, short_of, usize_max}
-use Rattle.clap.specs.Walk.{Step, Outcome, plain, bundle, bundle_met, flag_met, long_or_other, plain_word, subcommand_met, walk}
+use Rattle.clap.specs.Walk.{plain, bundle, bundle_met, long_or_other, plain_word, subcommand_met}
 use Rattle.clap.specs.Faults.{flag_word_fault, flags_fault, bundle_fault, word_fault}
 use Rattle.lg_words.specs.Line.{is_short, read_from, ◌>>=◌, word_read, long_read, plain_read, operand_read}
 use Rattle.lg_words.specs.Shapes.{line_rules, line_shape, full_option, full_operand}

@@ -1,4 +1,4 @@
-use Rattle.std.proofs.Common.{◌≡◌, ◌∙◌, ◌<◌, Bool, true, false, List, [], ◌∷◌, Option, Some, None, is_some, refl, sym, ap, subst, arith, true≢false}
+use Rattle.std.proofs.Common.{◌≡◌, Bool, true, false, List, [], Option, Some, None, is_some, refl, sym, ap, subst, arith, true≢false}
 use Rattle.std.specs.Prelude.{if◌then◌else◌}
 use Rattle.lg_words.specs.Arguments.{Says, spelled_out}
 use Rattle.lg_words.specs.Commands.{Command, given, has_dashes, meaning_of, arguments_of}

@@ -1,7 +1,7 @@
 -- The commands, as clap sees them.
-use Rattle.std.specs.Prelude.{◌≢◌, ◌≡◌, ◌+◌, ℕ, List, [], ◌∷◌, ◌++◌, map, Option, Some, None, true, false, codes}
+use Rattle.std.specs.Prelude.{◌≢◌, ◌≡◌, ◌+◌, ℕ, List, [], ◌∷◌, ◌++◌, map, Option, Some, None, true}
 use Rattle.std.specs.List.{fold}
-use Rattle.lg_words.specs.Line.{Text, Use, uses_of}
+use Rattle.lg_words.specs.Line.{Text, Use}
 use Rattle.lg_words.specs.Commands.{given}
 use Rattle.lg_words.specs.Subcommands.{name_of, operands_of, options_of}
 use Rattle.lg_words.specs.declared.subcommand.Subcommand.{Subcommand}

@@ -1,4 +1,4 @@
-use Rattle.std.proofs.Common.{◌≡◌, take, map}
+use Rattle.std.proofs.Common.{◌≡◌, take}
 use Rattle.lg_model.specs.Create as spec
 use Rattle.lg_check.proofs.indexing.ordinals_of.Given as goal
 

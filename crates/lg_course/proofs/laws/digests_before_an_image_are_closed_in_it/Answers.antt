@@ -1,4 +1,4 @@
-use Rattle.std.specs.Prelude.{List, None}
+use Rattle.std.specs.Prelude.{List}
 use Rattle.std.proofs.Common.{subst}
 use Rattle.lg_history.specs.Facts.{Fact}
 use Rattle.lg_history.specs.StepOrder.{Counted, ItemsInOrder}

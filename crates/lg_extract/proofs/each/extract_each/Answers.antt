@@ -1,5 +1,5 @@
 use Rattle.std.proofs.Common.{sym}
-use Rattle.lg_extract.proofs.EachDigest.{meets_of, finds_of, none_of}
+use Rattle.lg_extract.proofs.EachDigest.{meets_of, finds_of}
 use Rattle.lg_extract.proofs.each.extract_each.Goals as goal
 
 pub extract-requires-clause-honest : goal.extract-requires-clause-honest

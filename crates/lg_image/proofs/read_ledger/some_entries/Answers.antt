@@ -1,8 +1,6 @@
-use Rattle.std.proofs.Common.{◌≡◌, ◌-◌, ◌∙◌, ap, ℕ, arith}
-use Rattle.lg_bytes.specs.Readers.{times}
+use Rattle.std.proofs.Common.{◌≡◌, ◌-◌, arith}
 use Rattle.lg_image.specs.ImageBytes.{sizes_of}
 use Rattle.lg_image.specs.ImageReading.{placeless_at}
-use Rattle.lg_image.specs.Walk.{walked_behind}
 use Rattle.lg_image.proofs.Walking.{goes_on, starts}
 use Rattle.lg_image.proofs.read_ledger.some_entries.Goals as goal
 

@@ -1,4 +1,4 @@
-use Rattle.std.proofs.Common.{◌≡◌, ◌∙◌, ℕ, List, ap, sym, arith}
+use Rattle.std.proofs.Common.{◌∙◌, ℕ, List, ap, sym, arith}
 use Rattle.lg_items.specs.declared.blob.Blob.{Blob}
 use Rattle.lg_output.specs.Images.{with_image, with_images}
 use Rattle.lg_output.proofs.Joins.{nothing_left}

@@ -1,7 +1,7 @@
 use Rattle.std.proofs.Common.{ap, ◌∙◌, ◌++◌, sym, subst, length}
 use Rattle.std.specs.Prelude.{◌==◌}
 use Rattle.std.specs.List.{AllByRecursion}
-use Rattle.lg_leaves.specs.Room.{HasRoom, FitsLeaf}
+use Rattle.lg_leaves.specs.Room.{FitsLeaf}
 use Rattle.lg_replay.proofs.Roots.{all_fit, no_root, one_root}
 use Rattle.lg_replay.proofs.entry.add_root.Goals as goal
 

@@ -1,4 +1,4 @@
-use Rattle.std.proofs.Common.{◌≡◌, take, map}
+use Rattle.std.proofs.Common.{◌≡◌, take}
 use Rattle.lg_ledger.specs.Entries as spec
 use Rattle.lg_replay.proofs.entry.roots_of.Given as goal
 

@@ -1,5 +1,4 @@
-use Rattle.std.proofs.Common.{ap, ◌∙◌, sym, subst, ◌++◌, ◌∷◌, []}
-use Rattle.lg_entry.specs.Entry.{IsEntry}
+use Rattle.std.proofs.Common.{sym, subst, ◌++◌, ◌∷◌, []}
 use Rattle.lg_model.specs.Journals.{serial}
 use Rattle.lg_parse.specs.Text.{statement_of}
 use Rattle.lg_versions.specs.Short.{AreShort}

@@ -1,4 +1,4 @@
-use Rattle.std.proofs.Common.{◌≡◌, ◌∙◌, ap, sym, subst, inl, Some}
+use Rattle.std.proofs.Common.{◌∙◌, ap, sym, subst, inl}
 use Rattle.lg_types.specs.declared.statement.Stmt.TheVariants as st
 use Rattle.lg_types.specs.declared.table.TableDef.{TableDef}
 use Rattle.lg_model.specs.Catalog.{find_part}

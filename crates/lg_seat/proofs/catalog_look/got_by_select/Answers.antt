@@ -1,4 +1,4 @@
-use Rattle.std.proofs.Common.{◌≡◌, ◌∙◌, ap, sym, subst, inl, Some, Ok, refl, List}
+use Rattle.std.proofs.Common.{◌∙◌, ap, sym, subst, inl, Some, Ok, refl, List}
 use Rattle.lg_value.specs.declared.column.ColumnDef.{ColumnDef}
 use Rattle.lg_types.specs.declared.statement.Stmt.TheVariants as st
 use Rattle.lg_types.specs.declared.table.Part.{Part}

@@ -1,4 +1,4 @@
-use Rattle.std.proofs.Common.{ap, ◌∙◌, ◌++◌, map, suc, sym}
+use Rattle.std.proofs.Common.{◌∙◌}
 use Rattle.lg_image.specs.Rows.{stored_at, index_ordinals}
 use Rattle.lg_snapshot.proofs.Joined.{joined}
 use Rattle.lg_snapshot.proofs.indexes.index_row.Goals as goal

@@ -1,4 +1,4 @@
-use Rattle.std.proofs.Common.{ap, ◌∙◌, ◌++◌, ◌∷◌, [], map, sym}
+use Rattle.std.proofs.Common.{◌∙◌, sym}
 use Rattle.std.proofs.lemmas.List.{map_more}
 use Rattle.lg_image.specs.Rows.{index_row}
 use Rattle.lg_snapshot.proofs.indexes.index_rows.Goals as goal

@@ -1,4 +1,4 @@
-use Rattle.std.proofs.Common.{ap, ◌∙◌, sym, ◌++◌, ◌∷◌, [], length, map, arith}
+use Rattle.std.proofs.Common.{ap, ◌∙◌, sym, ◌∷◌, [], length, arith}
 use Rattle.std.proofs.lemmas.List.{length-map, map-append}
 use Rattle.lg_image.specs.Rows.{table_rows}
 use Rattle.lg_snapshot.proofs.UserDefs.{few_defs, more_defs}

@@ -1,4 +1,4 @@
-use Rattle.std.proofs.Common.{◌≡◌, ◌∷◌, [], ◌++◌, ◌∙◌, ℕ, List, map, take, IfOk, ap, ap₂, sym, subst, Bor}
+use Rattle.std.proofs.Common.{◌≡◌, ◌∷◌, [], ◌++◌, ◌∙◌, ℕ, List, map, IfOk, ap, ap₂, sym, subst, Bor}
 use Rattle.std.proofs.lemmas.List.{map_push, take_all}
 use Rattle.lg_input.specs.Line.{seen}
 use Rattle.lg_core.specs.declared.session.Session.{Session}

@@ -1,4 +1,4 @@
-use Rattle.std.proofs.Common.{◌≡◌, List, ℕ, [], ◌∷◌, ◌++◌, map, take, refl, sym, ap, subst, Bor}
+use Rattle.std.proofs.Common.{List, ℕ, map, take, refl, sym, subst, Bor}
 use Rattle.std.proofs.lemmas.List.{take_all}
 use Rattle.lg_input.specs.Line.{Statement, seen}
 use Rattle.lg_input.specs.declared.line.Line.{Line}

@@ -1,15 +1,14 @@
-use Rattle.std.proofs.Common.{◌≡◌, ◌<◌, ◌∙◌, List, ℕ, OnOk, map, length, sym, ap, subst, arith, Bor}
+use Rattle.std.proofs.Common.{◌≡◌, ◌∙◌, List, ℕ, OnOk, map, ap, subst, arith, Bor}
 use Rattle.std.proofs.lemmas.List.{length-map}
 use mathlib.Core.Option.{some}
 use lib.ListN.{get_elem?}
-use Rattle.lg_course.specs.EndsLast.{running}
 use Rattle.lg_items.specs.declared.text.Text.{Text}
-use Rattle.lg_core.specs.Asked.{Asked, with_line}
+use Rattle.lg_core.specs.Asked.{with_line}
 use Rattle.lg_core.specs.Standing.{Stands}
-use Rattle.lg_input.specs.Line.{Statement, seen}
+use Rattle.lg_input.specs.Line.{seen}
 use Rattle.lg_output.specs.Moments.{said_with}
 use Rattle.lg_step.proofs.Places.{found, within}
-use Rattle.lg_step.proofs.Steps.{reached_more, still_open}
+use Rattle.lg_step.proofs.Steps.{reached_more}
 use Rattle.lg_step.proofs.lines.run_line.Goals as goal
 
 pub step-requires-clause-open : goal.step-requires-clause-open

@@ -1,4 +1,4 @@
-use Rattle.std.proofs.Common.{◌≡◌, List, ℕ, map, Bor}
+use Rattle.std.proofs.Common.{List, ℕ, map, Bor}
 use Rattle.std.specs.List.{AllByRecursion}
 use Rattle.lg_parse.specs.Text.{statement_of}
 use Rattle.lg_course.proofs.Told.{some_meaning}
@@ -7,7 +7,7 @@ use Rattle.lg_digest.specs.Writing.{HasMoments}
 use Rattle.lg_input.specs.Line.{seen}
 use Rattle.lg_output.specs.Moments.{said_with}
 use Rattle.lg_output.proofs.Made.{have_moments}
-use Rattle.lg_step.specs.Ran.{HasKept, run_left}
+use Rattle.lg_step.specs.Ran.{run_left}
 use Rattle.lg_step.proofs.Comes.{comes_to}
 use Rattle.lg_step.proofs.Ends.{if_ok}
 use Rattle.lg_step.proofs.Whole.{is_ran}

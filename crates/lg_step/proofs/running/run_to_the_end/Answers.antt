@@ -1,11 +1,9 @@
-use Rattle.std.proofs.Common.{◌≡◌, ◌∙◌, List, ℕ, map, length, sym, ap, subst, Bor}
-use Rattle.std.specs.Prelude.{IfOk}
+use Rattle.std.proofs.Common.{List, ℕ, map, length, sym, Bor}
 use Rattle.std.proofs.lemmas.List.{length-map}
 use Rattle.lg_input.specs.Line.{seen}
 use Rattle.lg_input.specs.Sessions.{sessions_of}
-use Rattle.lg_core.specs.Parts.{HasLeft}
 use Rattle.lg_output.specs.Moments.{said_with}
-use Rattle.lg_step.specs.Reached.{Reached, asked}
+use Rattle.lg_step.specs.Reached.{asked}
 use Rattle.lg_step.proofs.Ends.{has_run, is_done, still_stands}
 use Rattle.lg_step.proofs.Named.{borrowed_formed, lines_named, sessions_formed}
 use Rattle.lg_step.proofs.running.run_to_the_end.Goals as goal

@@ -1,6 +1,5 @@
-use Rattle.std.proofs.Common.{◌<◌, ◌≤◌, ℕ, arith, inl, inr, ⊎_elim}
+use Rattle.std.proofs.Common.{arith, inl, inr, ⊎_elim}
 use Rattle.lg_core.specs.Asked.{at_end}
-use Rattle.lg_core.specs.Standing.{IsStanding}
 use Rattle.lg_step.proofs.Steps.{open_behind, over_more}
 use Rattle.lg_step.proofs.sessions.end_sessions.Goals as goal
 

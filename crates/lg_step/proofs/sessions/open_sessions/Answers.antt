@@ -1,7 +1,7 @@
-use Rattle.std.proofs.Common.{◌≡◌, ◌<◌, ◌+◌, ◌∙◌, List, ℕ, [], ◌∷◌, ◌++◌, map, take, length, sym, ap, subst, arith, Bor}
-use Rattle.std.proofs.lemmas.List.{take_all, length-map}
+use Rattle.std.proofs.Common.{◌≡◌, ◌+◌, ◌∙◌, List, ℕ, [], ◌∷◌, ◌++◌, map, take, sym, ap, subst, arith, Bor}
+use Rattle.std.proofs.lemmas.List.{take_all}
 use Rattle.lg_core.specs.Standing.{Stands}
-use Rattle.lg_step.specs.Reached.{AreOpen, asked}
+use Rattle.lg_step.specs.Reached.{asked}
 use Rattle.lg_step.proofs.Joins.{as_many, name_more}
 use Rattle.lg_step.proofs.Steps.{open_more}
 use Rattle.lg_step.proofs.sessions.open_sessions.Goals as goal

@@ -1,4 +1,4 @@
-use Rattle.std.proofs.Common.{◌≡◌, ◌++◌, ◌∷◌, ◌∙◌, List, ℕ, [], append-nil, refl, sym, ap, string_bytes, Bor}
+use Rattle.std.proofs.Common.{◌++◌, ◌∷◌, ◌∙◌, List, ℕ, [], append-nil, refl, sym, ap, string_bytes, Bor}
 use Rattle.lg_output.specs.Joined.{joined}
 use Rattle.lg_step.proofs.Nexts.{first_beyond, first_there, none_there, rest_beyond, rest_there}
 use Rattle.lg_step.proofs.weaving.push_next.Goals as goal

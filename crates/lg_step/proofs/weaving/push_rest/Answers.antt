@@ -1,4 +1,4 @@
-use Rattle.std.proofs.Common.{◌≡◌, ◌++◌, ◌∙◌, List, ℕ, [], map, take, append-nil, append_assoc, sym, ap, string_bytes, Bor}
+use Rattle.std.proofs.Common.{◌++◌, ◌∙◌, List, ℕ, map, take, append-nil, append_assoc, sym, ap, string_bytes, Bor}
 use Rattle.std.proofs.lemmas.List.{take_all}
 use Rattle.lg_output.specs.Joined.{joined, joined_each}
 use Rattle.lg_output.proofs.Joins.{each_more, mapped_more}

@@ -1,4 +1,4 @@
-use Rattle.std.proofs.Common.{◌≡◌, ◌++◌, ◌∙◌, List, ℕ, [], map, drop, length, arith, refl, sym, ap, string_bytes, Bor}
+use Rattle.std.proofs.Common.{◌≡◌, ◌++◌, ◌∙◌, List, ℕ, map, length, arith, sym, ap, string_bytes, Bor}
 use Rattle.std.specs.Vec.{with_items}
 use Rattle.std.proofs.lemmas.List.{drop_all, with_items_is}
 use Rattle.lg_input.specs.Line.{seen}

@@ -1,4 +1,4 @@
-use Rattle.std.proofs.Common.{rules, is_lt, Bor, ℕ, List}
+use Rattle.std.proofs.Common.{rules, is_lt, Bor}
 use Rattle.std.proofs.lemmas.List.Sorted.{ranks_by}
 use Rattle.std.proofs.lemmas.Fn.{always_returns_same}
 use Rattle.lg_types.specs.declared.version.Version.{Version}

@@ -1,4 +1,4 @@
-use Rattle.std.proofs.Common.{arith, ap, sym, ◌∙◌, refl, length}
+use Rattle.std.proofs.Common.{arith, ap, ◌∙◌, refl, length}
 use Rattle.std.specs.List.{insert}
 use Rattle.lg_table.specs.Ends.{ending_place}
 use Rattle.lg_table.proofs.Done.{if_ok}

@@ -1,4 +1,4 @@
-use Rattle.std.proofs.Common.{arith, ap, sym, ◌∙◌, length}
+use Rattle.std.proofs.Common.{arith, ap, ◌∙◌, length}
 use Rattle.std.specs.List.{remove}
 use Rattle.lg_table.specs.Ends.{ending_place}
 use Rattle.lg_table.proofs.Ends.{ending_inside, taken_from}

@@ -1,4 +1,4 @@
-use Rattle.std.proofs.Common.{◌+◌, ℕ, length}
+use Rattle.std.proofs.Common.{◌+◌, length}
 use Rattle.lg_model.specs.Rows.{live}
 use Rattle.lg_table.specs.Kept.{HasRoom, IsOf, IsWith}
 use Rattle.lg_table.proofs.Passing.{Passing}

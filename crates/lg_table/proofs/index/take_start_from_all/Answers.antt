@@ -1,4 +1,4 @@
-use Rattle.std.proofs.Common.{rules, ◌+◌, ◌<◌, ◌∙◌, sym, drop, length, get_or}
+use Rattle.std.proofs.Common.{rules, ◌<◌, ◌∙◌, sym, drop, length, get_or}
 use Rattle.std.proofs.lemmas.List.{get_or_default}
 use Rattle.std.specs.List.{AllByRecursion, remove}
 use Rattle.lg_table.specs.Kept.{HasRoom, IsOf}

@@ -1,6 +1,4 @@
-use Rattle.std.proofs.Common.{ap, ◌∙◌, get_or}
-use Rattle.std.proofs.lemmas.List.{get_or_default}
-use Rattle.std.specs.List.{remove}
+use Rattle.std.proofs.Common.{◌∙◌}
 use Rattle.lg_table.proofs.Moves.{ends_left}
 use Rattle.lg_table.proofs.orders.take_standing.Goals as goal
 

@@ -1,8 +1,8 @@
-use Rattle.std.proofs.Common.{◌≡◌, ◌<◌, ◌+◌, ◌^◌, ap, arith, subst, sym, ◌∙◌, length, List, ℕ}
+use Rattle.std.proofs.Common.{◌+◌, ap, arith, subst, length, List, ℕ}
 use Rattle.lg_standing.specs.Moves.{noting}
 use Rattle.lg_standing.specs.Seats.{OpenTransaction}
 use Rattle.lg_tx.specs.Represents.{Represents}
-use Rattle.lg_table.specs.Made.{MayNoteAll, with_leaves}
+use Rattle.lg_table.specs.Made.{with_leaves}
 use Rattle.lg_table.proofs.Written.{rows_written, may_note_all, leaves_count}
 use Rattle.lg_table.proofs.writing.change_rows.Goals as goal
 

@@ -1,4 +1,4 @@
-use Rattle.std.proofs.Common.{ap, sym, ◌∙◌, ◌+◌, ℕ, drop, ◌∷◌, arith}
+use Rattle.std.proofs.Common.{ap, sym, ◌∙◌, ◌+◌, ℕ, drop, ◌∷◌}
 use Rattle.lg_types.specs.declared.entry.BlockRecord.{BlockRecord}
 use Rattle.lg_verdict.specs.declared.place.Place.TheVariants as at
 use Rattle.lg_verdict.specs.Blocks.{block_holds}

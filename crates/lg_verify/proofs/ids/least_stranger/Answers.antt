@@ -1,4 +1,3 @@
-use Rattle.std.proofs.Common.{arith}
 use Rattle.lg_verdict.specs.Entries.{table_event_cmp}
 use Rattle.lg_verify.specs.declared.shown.Shown.{Shown}
 use Rattle.lg_verify.specs.Ids.{strangers_in}

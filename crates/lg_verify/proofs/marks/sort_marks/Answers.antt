@@ -1,8 +1,7 @@
-use Rattle.std.proofs.Common.{rules, is_lt, ℕ, List}
-use Rattle.std.proofs.lemmas.List.Sorted.{All-permutation, answers_always, ranks_by, IsNonDecreasingBy-from_sort}
+use Rattle.std.proofs.Common.{rules, is_lt}
+use Rattle.std.proofs.lemmas.List.Sorted.{All-permutation, answers_always, ranks_by}
 use Rattle.lg_parts.proofs.Sorting.{sorted_by}
-use Rattle.lg_verify.specs.Marks.{event_of, leaf_cmp, tx_of, HasValues}
-use Rattle.lg_verify.specs.declared.marks.Mark.{Mark}
+use Rattle.lg_verify.specs.Marks.{event_of, leaf_cmp, HasValues}
 use Rattle.lg_verify.proofs.LeafOrder.{leaf_total, tx_rises}
 use Rattle.lg_verify.proofs.marks.sort_marks.Goals as goal
 

@@ -1,4 +1,4 @@
-use Rattle.std.proofs.Common.{◌==◌, List, Option, ℕ, sym, ap, subst, ◌∙◌}
+use Rattle.std.proofs.Common.{◌==◌, List, sym, ap, subst, ◌∙◌}
 use Rattle.std.specs.List.{All}
 use Rattle.std.specs.Ordering.{nat_cmp}
 use Rattle.std.proofs.lemmas.List.Elements.{All-filter}

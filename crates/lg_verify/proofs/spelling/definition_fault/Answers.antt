@@ -1,7 +1,7 @@
 use Rattle.std.proofs.Common.{ap, ap₂, ◌∙◌}
 use Rattle.lg_verdict.specs.Definitions.{table_place}
 use Rattle.lg_spell.specs.Differs.{spelling_fault}
-use Rattle.lg_verify.specs.Spelling.{base_in, rows_in}
+use Rattle.lg_verify.specs.Spelling.{rows_in}
 use Rattle.lg_verify.proofs.Spelled.{definitions_are}
 use Rattle.lg_verify.proofs.Verdicts.{same_ok}
 use Rattle.lg_verify.proofs.spelling.definition_fault.Goals as goal

@@ -1,4 +1,4 @@
-use Rattle.std.proofs.Common.{◌∙◌, sym, subst, map, drop, string_bytes, Option, Some, None}
+use Rattle.std.proofs.Common.{◌∙◌, sym, subst, map, drop, string_bytes, Option}
 use Rattle.clap.specs.declared.parser.matches.ArgMatches.{ArgMatches}
 use Rattle.lg_words.specs.Line.{uses_of}
 use Rattle.lg_words.specs.Shapes.{Finds}

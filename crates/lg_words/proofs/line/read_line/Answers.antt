@@ -1,7 +1,6 @@
-use Rattle.std.proofs.Common.{map, string_bytes, subst, Option}
+use Rattle.std.proofs.Common.{map, string_bytes, subst}
 use Rattle.std.proofs.lemmas.Result.{IfOk-weaker}
-use Rattle.clap.specs.Words.{App, app_of}
-use Rattle.clap.specs.declared.parser.matches.ArgMatches.{ArgMatches}
+use Rattle.clap.specs.Words.{App}
 use Rattle.lg_words.specs.Shapes.{Matched}
 use Rattle.lg_words.proofs.Meant.{found}
 use Rattle.lg_words.proofs.line.read_line.Goals as goal

@@ -1,4 +1,4 @@
-use Rattle.std.proofs.Common.{rules, ℕ, arith, ◌≤◌, ◌≡◌, sym, subst, length, ap, ◌∙◌}
+use Rattle.std.proofs.Common.{rules, arith, ◌≤◌, sym, subst, length, ap, ◌∙◌}
 use Rattle.lg_ledger.specs.Ledger.{closes}
 use Rattle.lg_blocks.specs.Books.{HashedLedger, KeepsHash}
 use Rattle.lg_blocks.proofs.Closing.{still_books, is_closing, keeps_hash}

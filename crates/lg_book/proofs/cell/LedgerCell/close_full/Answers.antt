@@ -1,7 +1,7 @@
-use Rattle.std.proofs.Common.{◌∙◌, ◌≡◌, ◌≤◌, ◌<◌, ◌+◌, suc, arith, ap, sym}
+use Rattle.std.proofs.Common.{◌∙◌, ◌≤◌, suc, arith, ap}
 use Rattle.lg_standing.specs.Cells.{pending_in}
 use Rattle.lg_book.specs.HashedCell.{HashedCell}
-use Rattle.lg_book.proofs.Closings.{smaller, count_stays, one_further, rest_stays}
+use Rattle.lg_book.proofs.Closings.{smaller, some_stay, count_stays, one_further, rest_stays}
 use Rattle.lg_book.proofs.cell.LedgerCell.close_full.Goals as goal
 
 pub loop-alloc-smaller : goal.loop-alloc-smaller
@@ -30,8 +30,17 @@ loop-alloc-preserved g c =
         one_further digest k before after is some next c.loop-alloc.invariant.3.0 c.args.self.now.cell
             c.loop-alloc.invariant.3.1,
       ),
+      λ _.
+          some_stay digest k before after is some
+          (omega (
+            arith,
+            c.next_count-count.ensures.fits,
+            c.pending.ensures.count,
+            c.block_size.ensures.size,
+            c.loop-alloc-test.true,
+          )),
       λ few.
-          let same = c.loop-alloc.invariant.4 few in
+          let same = c.loop-alloc.invariant.5 few in
           absurd (omega (
             arith,
             few,

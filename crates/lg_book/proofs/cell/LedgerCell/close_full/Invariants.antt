@@ -13,6 +13,7 @@ invariant-loop-alloc g l =
     ≡ all_closed digest (pending_in l.fn.self.cell) l.fn.self.cell)
     × (tx_count l.self.cell.items ≡ tx_count l.fn.self.cell.items)
     × ((n : ℕ) × (l.self.cell ≡ all_closed digest n l.fn.self.cell))
+    × (1 ≤ pending_in l.fn.self.cell → 1 ≤ pending_in l.self.cell)
     × (pending_in l.fn.self.cell ≤ l.fn.self.cell.block_size → l.self ≡ l.fn.self)
 
 abbrev pub decreases-loop-alloc : goal.decreases-loop-alloc

@@ -3,7 +3,7 @@ use Rattle.lg_blocks.specs.Books.{HashedLedger}
 use Rattle.lg_types.specs.declared.digest.Digest.{Digest}
 use Rattle.lg_model.specs.Journals.{tx_count}
 use Rattle.lg_standing.specs.Cells.{LedgerCell, pending_in}
-use Rattle.lg_book.specs.HashedCell.{HashedCell, IsCounted}
+use Rattle.lg_book.specs.HashedCell.{HashedCell}
 use Rattle.lg_book.specs.Issues.{IsIssued, IsOfNewest}
 use Rattle.lg_book.proofs.Issuing.{count_is_kept, issued_then, now_with, rest_is_counted, with_issued}
 use Rattle.lg_book.proofs.cell.LedgerCell.issue.Goals as goal

@@ -1,4 +1,4 @@
-use Rattle.std.proofs.Common.{◌≡◌, sym, ap, subst, Bool, List}
+use Rattle.std.proofs.Common.{◌≡◌, sym, ap, subst, List}
 use Rattle.std.specs.Prelude.{Result, IfErr, OnErr, OnOk}
 use Rattle.lg_types.specs.declared.lock.Hold.{Hold}
 use Rattle.lg_model.specs.Holds.{holds_after}

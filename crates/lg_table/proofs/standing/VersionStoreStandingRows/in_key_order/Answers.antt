@@ -1,4 +1,4 @@
-use Rattle.std.proofs.Common.{◌≡◌, ◌∙◌, Bor, map}
+use Rattle.std.proofs.Common.{◌∙◌, Bor}
 use Rattle.std.proofs.lemmas.Result.{IfOk-weaker}
 use Rattle.lg_types.specs.declared.version.Version.{Version}
 use Rattle.lg_table.proofs.OfKey.{same_standing}

@@ -1,7 +1,5 @@
-use Rattle.std.proofs.Common.{arith, ◌≡◌, ◌+◌, ◌++◌, ap, ap₂, sym, subst, ◌∙◌, length, List, map, [], ◌∷◌, ℕ}
+use Rattle.std.proofs.Common.{◌≡◌, ◌+◌, ap, subst, length, List, ℕ}
 use Rattle.lg_types.specs.declared.version.Version.{Version}
-use Rattle.lg_table.specs.declared.index.Index.{Index}
-use Rattle.lg_table.specs.declared.orders.Orders.{Orders}
 use Rattle.lg_table.specs.Kept.{IsOf}
 use Rattle.lg_table.specs.Stored.{Roomy, Stored, with_index}
 use Rattle.lg_table.proofs.Steps.{other_indexes, one_index, stored_of}

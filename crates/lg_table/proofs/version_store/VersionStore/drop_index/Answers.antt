@@ -1,4 +1,4 @@
-use Rattle.std.proofs.Common.{arith, ◌≡◌, ◌+◌, ◌-◌, take, ap, sym, subst, ◌∙◌, length, List}
+use Rattle.std.proofs.Common.{◌≡◌, ◌+◌, ◌-◌, take, ap, subst, ◌∙◌, length}
 use Rattle.lg_table.specs.Stored.{Roomy, Stored, without_last_index}
 use Rattle.lg_table.proofs.Steps.{last_off, stored_of}
 use Rattle.lg_table.proofs.version_store.VersionStore.drop_index.Goals as goal

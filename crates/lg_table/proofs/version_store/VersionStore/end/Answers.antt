@@ -5,7 +5,7 @@ use Rattle.lg_types.specs.declared.version.Version.{Version}
 use Rattle.lg_model.specs.Rows.{ended, with_end}
 use Rattle.lg_versions.specs.Places.{place}
 use Rattle.lg_versions.proofs.Places.{all_before, none_ends, one_ends}
-use Rattle.lg_table.specs.Stored.{Roomy, Stored, with_versions}
+use Rattle.lg_table.specs.Stored.{Roomy, with_versions}
 use Rattle.lg_table.proofs.Steps.{followed}
 use Rattle.lg_table.proofs.version_store.VersionStore.end.Goals.{else-place-len-via-then-place-len+else-eq, else-place-len-via-else-place-len}
 use Rattle.lg_table.proofs.version_store.VersionStore.end.Goals as goal

@@ -1,4 +1,4 @@
-use Rattle.std.proofs.Common.{ap, ap₂, sym, subst, ◌≡◌, ◌∙◌, List, [], ℕ}
+use Rattle.std.proofs.Common.{ap, ap₂, sym, ◌∙◌, List, [], ℕ}
 use Rattle.std.specs.List.{list_any}
 use Rattle.lg_types.specs.declared.version.Version.{Version}
 use Rattle.lg_model.specs.Keys.{key_of, stands}

@@ -1,9 +1,7 @@
-use Rattle.std.proofs.Common.{◌≡◌, ap, sym, subst, ◌∙◌, List, ℕ}
+use Rattle.std.proofs.Common.{ap, sym, subst, ◌∙◌, List, ℕ}
 use Rattle.std.specs.List.{Contains}
-use Rattle.lg_types.specs.declared.version.Version.{Version}
 use Rattle.lg_versions.specs.Places.{place}
 use Rattle.lg_table.specs.declared.ending.Ending.{Ending}
-use Rattle.lg_table.specs.Ends.{endings_in}
 use Rattle.lg_table.specs.Stored.{Roomy}
 use Rattle.lg_table.specs.Undoing.{EndsUndone, NoEndUndone}
 use Rattle.lg_table.proofs.Undone.{ends_there, no_end}

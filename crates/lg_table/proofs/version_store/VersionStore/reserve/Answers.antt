@@ -1,4 +1,4 @@
-use Rattle.std.proofs.Common.{arith, ◌≡◌, ◌+◌, ap, sym, subst, ◌∙◌, length, List}
+use Rattle.std.proofs.Common.{arith, ◌+◌, ap, sym, subst, length, List}
 use Rattle.lg_types.specs.declared.version.Version.{Version}
 use Rattle.lg_table.specs.Kept.{IsKept}
 use Rattle.lg_table.proofs.Rooms.{less_room}

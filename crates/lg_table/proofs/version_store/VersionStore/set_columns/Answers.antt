@@ -1,6 +1,5 @@
-use Rattle.std.proofs.Common.{arith, ◌≡◌, ap, sym, subst, ◌∙◌, length, List, inl, inr, []}
+use Rattle.std.proofs.Common.{arith, ◌≡◌, ap, sym, subst, ◌∙◌, length, List, inl, inr}
 use Rattle.lg_value.specs.declared.column.ColumnDef.{ColumnDef}
-use Rattle.lg_types.specs.declared.version.Version.{Version}
 use Rattle.lg_model.specs.Keys.{key_places}
 use Rattle.lg_table.specs.Stored.{Roomy, Stored, with_versions}
 use Rattle.lg_table.proofs.Steps.{empty_is, followed, other_columns, stored_of}

@@ -1,7 +1,7 @@
-use Rattle.std.proofs.Common.{arith, ◌≡◌, ◌+◌, ◌≤◌, ap, sym, subst, ◌∙◌, length, List, ℕ}
+use Rattle.std.proofs.Common.{arith, ◌+◌, ap, sym, subst, ◌∙◌, length, List, ℕ}
 use Rattle.std.specs.List.{AllByRecursion, insert}
 use Rattle.lg_types.specs.declared.version.Version.{Version}
-use Rattle.lg_model.specs.Rows.{live, started}
+use Rattle.lg_model.specs.Rows.{started}
 use Rattle.lg_model.specs.Runs.{MadeBefore}
 use Rattle.lg_versions.specs.Places.{place}
 use Rattle.lg_versions.proofs.Places.{started_at}

@@ -1,4 +1,4 @@
-use Rattle.std.proofs.Common.{arith, ◌≡◌, ◌+◌, ◌<◌, ap, sym, subst, ◌∙◌, length, List, ℕ}
+use Rattle.std.proofs.Common.{arith, ◌+◌, ◌<◌, ap, sym, subst, length, List, ℕ}
 use Rattle.std.specs.List.{remove}
 use Rattle.lg_types.specs.declared.version.Version.{Version}
 use Rattle.lg_table.specs.Kept.{AreOf, IsKept}

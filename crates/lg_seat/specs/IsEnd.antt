@@ -1,15 +1,9 @@
--- The end of a transaction, as the laws on visits and as transcripts have it.
+-- The end of a transaction, as the laws on visits have it.
 use Rattle.std.specs.Prelude.{ℕ, ◌≡◌, Option, Some, None}
+use Rattle.lg_types.specs.declared.end_line.EndLine.{EndLine}
+use Rattle.lg_types.specs.declared.end_line.EndLine.TheVariants.{Committed, Ended}
 use Rattle.lg_history.specs.Transactions as fixed
 use Rattle.lg_history.specs.Transactions.{unfixed, committed, ended}
-use Rattle.lg_history.specs.Transcripts as transcripts
-use Rattle.lg_seat.specs.declared.end_line.EndLine.{EndLine}
-use Rattle.lg_seat.specs.declared.end_line.EndLine.TheVariants.{Committed, Ended}
-
-abbrev pub line_seen : Option EndLine → Option transcripts.EndLine
-line_seen None = None
-line_seen (Some (Committed id place)) = Some (transcripts.committed_at id place)
-line_seen (Some (Ended id after)) = Some (transcripts.ended_after id after)
 
 -- the line is that of this end of the transaction with this id
 abbrev pub IsEnd : ℕ → Option EndLine → fixed.End → Type 0
