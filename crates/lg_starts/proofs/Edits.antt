@@ -1,5 +1,5 @@
 -- Lists after an item was put in or taken out.
-use Rattle.std.proofs.Common.{◌≡◌, ◌<◌, ◌≤◌, ◌+◌, ◌-◌, ◌⊎◌, ℕ, zero, suc, refl, sym, ap, ◌∙◌, List, [], ◌∷◌, ◌++◌, Some, length, take, drop, slice_get, inl, inr, arith, length-take-le, take-append-drop}
+use Rattle.std.proofs.Common.{◌≡◌, ◌<◌, ◌≤◌, ◌+◌, ◌-◌, ◌⊎◌, ℕ, zero, suc, refl, sym, ap, ◌∙◌, List, [], ◌∷◌, ◌++◌, Option, Some, None, MatchOption, option_to_list, length, take, drop, slice_get, inl, inr, arith, length-append, length-take-le, take-append-drop}
 use Rattle.std.specs.List.{insert, remove}
 use Rattle.std.proofs.lemmas.List.Edits.{insert-append_right, remove-append_right}
 
@@ -27,6 +27,13 @@ module _ {X : Type 0} where
   pub slice_get-end : (xs : List X) (x : X) → slice_get (xs ++ x ∷ []) (length xs) ≡ Some x
   slice_get-end [] x = refl
   slice_get-end (y ∷ xs) x = slice_get-end xs x
+
+  -- what is taken from the end
+  pub last_get : (k n m : ℕ) (xs ys : List X) (o : Option X) → xs ≡ ys ++ option_to_list o → MatchOption o ((n ≡ 0) × (m ≡ 0)) (λ _. m + 1 ≡ n) → n ≡ suc k → length xs ≡ suc k → o ≡ slice_get xs k
+  last_get k n m xs ys None cut some is long = absurd (omega (arith, some.0, is))
+  last_get k n m xs ys (Some x) cut some is long =
+      let here : length ys ≡ k = omega (arith, long, ap length cut, length-append ys (x ∷ [])) in
+      sym (ap (λ l. slice_get l k) cut ∙ ap (slice_get (ys ++ x ∷ [])) (sym here) ∙ slice_get-end ys x)
 
   -- ---- edits
   pub at_place : (xs : List X) (place : ℕ) → place < length xs → (y : X) × (drop place xs ≡ y ∷ drop (suc place) xs) × (slice_get xs place ≡ slice_get (y ∷ []) 0)

@@ -1,6 +1,6 @@
 //! One piece of a list of starts.
 
-ghost use Rattle.std.specs.Prelude.{◌≡◌, ◌≤◌, ◌<◌, ◌++◌, ◌∷◌, [], IfOk, length, slice_get, take};
+ghost use Rattle.std.specs.Prelude.{◌≡◌, ◌≤◌, ◌<◌, ◌-◌, ◌++◌, ◌∷◌, [], IfOk, length, slice_get, take};
 ghost use Rattle.std.specs.List.{insert, remove};
 ghost use Rattle.std.specs.Option.{option_copied};
 
@@ -18,6 +18,8 @@ pub const PIECE: usize = 512;
 #[derive(Debug, Drop)]
 pub struct Piece {
     starts: VecDeque<Entry>,
+    // The lead of the first start, where a search over pieces looks into none of them.
+    first: Option<Lead>,
 }
 
 impl Model for Piece {
@@ -39,7 +41,10 @@ impl Piece {
         ensures { IfOk result (λ piece. piece ≡ []) }
     {
         let starts = VecDeque::with_capacity(alloc, PIECE)?;
-        Ok(Piece { starts })
+        Ok(Piece {
+            starts,
+            first: None,
+        })
     }
 
     /// How many there are.
@@ -58,8 +63,8 @@ impl Piece {
 
     /// Whether the first start has a lead below this one.
     pub fn begins_below(&self, lead: Lead) -> bool {
-        match self.starts.front() {
-            Some(entry) => entry.lead() < lead,
+        match self.first {
+            Some(first) => first < lead,
             None => false,
         }
     }
@@ -78,16 +83,24 @@ impl Piece {
         ensures list { self.new ≡ take PIECE (insert self.old place start) }
         ensures left { result ≡ slice_get (insert self.old place start) PIECE }
     {
-        if self.starts.len() < PIECE {
-            self.put(place, start);
-            return None;
-        }
+        let _ = &self.starts;
         if place == PIECE {
             return Some(start);
         }
-        let last = self.starts.pop_back();
+        let last = self.make_way();
         self.put(place, start);
         last
+    }
+
+    // Takes the last start out of a full piece.
+    fn make_way(&mut self) -> Option<Entry>
+        ensures list { self.new ≡ take (PIECE - 1) self.old }
+        ensures taken { result ≡ slice_get self.old (PIECE - 1) }
+    {
+        if self.starts.len() < PIECE {
+            return None;
+        }
+        self.starts.pop_back()
     }
 
     // Puts a start at this place of a piece that isn't full.
@@ -96,7 +109,12 @@ impl Piece {
         requires room { length self.old < PIECE }
         ensures { self.new ≡ insert self.old place start }
     {
-        self.starts.insert(place, start).unwrap();
+        if place > 0 {
+            self.starts.insert(place, start).unwrap();
+        } else {
+            self.first = Some(start.lead());
+            self.starts.push_front(start).unwrap();
+        }
     }
 
     /// Puts a start behind the others, where the piece isn't full.
@@ -113,6 +131,18 @@ impl Piece {
         ensures list { self.new ≡ remove self.old place }
         ensures taken { result ≡ slice_get self.old place }
     {
-        self.starts.remove(place)
+        if place > 0 {
+            return self.starts.remove(place);
+        }
+        let taken = self.starts.pop_front();
+        self.first = self.front_lead();
+        taken
+    }
+
+    fn front_lead(&self) -> Option<Lead> {
+        match self.starts.front() {
+            Some(entry) => Some(entry.lead()),
+            None => None,
+        }
     }
 }

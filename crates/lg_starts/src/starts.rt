@@ -1,6 +1,6 @@
 //! Starts in pieces.
 
-ghost use Rattle.std.specs.Prelude.{◌≡◌, ◌≤◌, ◌<◌, ◌+◌, [], true, false, Bool, OnOk, length, slice_get, slice_index_or};
+ghost use Rattle.std.specs.Prelude.{◌≡◌, ◌≤◌, ◌<◌, ◌+◌, [], true, false, Bool, IfSome, OnOk, Some, length, slice_get, slice_index_or};
 ghost use Rattle.std.specs.Fn.{ComputesKey};
 ghost use Rattle.std.specs.List.{insert, remove};
 ghost use Rattle.std.specs.Option.{option_copied};
@@ -18,6 +18,9 @@ use std::marker::Model;
 
 // The most that room is made for. More fit into no memory.
 const MOST: usize = usize::MAX - PIECE;
+
+// How many starts with one lead are looked at for one of them.
+const NEAR: usize = 8;
 
 /// Starts in an order, in pieces that are packed. Contracts see them as a list, and how many there is room
 /// for. Each has a lead, which should not fall from one start to the next: a search asks first about the
@@ -139,6 +142,30 @@ impl Starts {
             }
         }
         low
+    }
+
+    /// Where the start of this lead stands, if it is one of the first few that have this lead. Asks about none.
+    /// None says nothing: it may stand elsewhere.
+    pub fn find_near(&self, lead: Lead, start: EventId) -> Option<usize>
+        ensures { IfSome result (λ place. slice_get self.now.list place ≡ Some start) }
+    {
+        let first = self.leads_below(lead);
+        for place in first..first.saturating_add(NEAR) {
+            if self.is_at(place, start) {
+                return Some(place);
+            }
+        }
+        None
+    }
+
+    // Whether this start is at this place.
+    fn is_at(&self, place: usize, start: EventId) -> bool
+        ensures { result ≡ true → slice_get self.now.list place ≡ Some start }
+    {
+        match self.get(place) {
+            Some(other) => other == start,
+            None => false,
+        }
     }
 
     // The places between which the leads are this one, if leads rise.

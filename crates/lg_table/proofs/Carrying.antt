@@ -14,19 +14,20 @@ pub record Carrying (tx seq number : ℕ) (changes rest : List Change) (was now 
   pub left : changed_all tx number rest now.stored.versions ≡ changed_all tx seq changes was.stored.versions
   pub before : AllByRecursion (MadeBefore tx number) now.stored.versions
   pub numbers : number + length rest < 2 ^ 64
-  pub room : length rest ≤ now.room
+  pub few : length changes ≤ was.room
+  pub room : was.room + length rest ≤ now.room + length changes
 
 pub carrying_first : (tx seq : ℕ) (changes : List Change) (was : Roomy) → was.stored ≡ with_versions was.stored.columns was.stored.versions was.stored
     → AllByRecursion (MadeBefore tx seq) was.stored.versions → seq + length changes < 2 ^ 64 → length changes ≤ was.room
     → Carrying tx seq seq changes changes was was
-carrying_first tx seq changes was follows before numbers room = record { stored = follows; left = refl; before = before; numbers = numbers; room = room }
+carrying_first tx seq changes was follows before numbers room = record { stored = follows; left = refl; before = before; numbers = numbers; few = room; room = omega arith }
 
 module _ (tx seq number : ℕ) (changes left rest : List Change) (c : Change) (was now : Roomy) (next : left ≡ c ∷ rest) (h : Carrying tx seq number changes left was now) where
   longer : length left ≡ length rest + 1
   longer = ap length next ∙ omega arith
 
   pub some_room : 1 ≤ now.room
-  some_room = let r = h.room in omega (arith, longer, r)
+  some_room = let f = h.few in let r = h.room in omega (arith, longer, f, r)
 
   pub some_number : number + 1 < 2 ^ 64
   some_number = let r = h.numbers in omega (arith, longer, r)
@@ -43,6 +44,7 @@ module _ (tx seq number : ℕ) (changes left rest : List Change) (c : Change) (w
         left = ap (changed_all tx (number + 1) rest) versions ∙ ap (λ (l : List Change). changed_all tx number l now.stored.versions) (sym next) ∙ h.left;
         before = subst (AllByRecursion (MadeBefore tx (number + 1))) (sym versions) (before_changed tx number c now.stored.versions h.before);
         numbers = omega (arith, longer, few);
+        few = h.few;
         room = omega (arith, longer, there, room);
       }
 
@@ -55,3 +57,7 @@ pub carried : (tx seq number : ℕ) (changes rest : List Change) (was now : Room
     → now.stored ≡ with_versions was.stored.columns (changed_all tx seq changes was.stored.versions) was.stored
 carried tx seq number changes rest was now none h =
     h.stored ∙ ap (λ (l : List Version). with_versions was.stored.columns l was.stored) (none_left tx number rest now.stored.versions none ∙ h.left)
+
+pub room_left : (tx seq number : ℕ) (changes rest : List Change) (was now : Roomy) → length rest ≡ 0 → Carrying tx seq number changes rest was now
+    → was.room ≤ now.room + length changes
+room_left tx seq number changes rest was now none h = let r = h.room in omega (arith, none, r)

@@ -1,5 +1,5 @@
 -- The order of an index with one version more or less.
-use Rattle.std.proofs.Common.{◌≡◌, ◌<◌, ◌≤◌, ◌+◌, ℕ, zero, suc, refl, sym, ap, ap₂, subst, ◌∙◌, Bool, true, false, List, [], ◌∷◌, ◌++◌, length, Option, Some, None, arith}
+use Rattle.std.proofs.Common.{◌≡◌, ◌<◌, ◌≤◌, ◌+◌, ℕ, zero, suc, refl, sym, ap, ap₂, subst, ◌∙◌, Bool, true, false, List, [], ◌∷◌, ◌++◌, length, slice_get, Option, Some, None, arith}
 use Rattle.std.specs.Prelude.{is_none, if◌then◌else◌}
 use Rattle.std.specs.List.{AllByRecursion, insert, remove, prefix_len}
 use Rattle.std.specs.List.Sorted.{IsPartitionedBy, IsPartitionPoint}
@@ -9,12 +9,13 @@ use Rattle.std.specs.declared.cmp.Ordering.{Ordering}
 use Rattle.std.specs.declared.cmp.Ordering.TheVariants.{Less, Equal, Greater}
 use Rattle.std.proofs.lemmas.List.Elements.{filter-append}
 use Rattle.std.proofs.lemmas.List.{length-map}
+use Rattle.std.proofs.lemmas.List.Sums.{prefix_len-le-length}
 use Rattle.lg_types.specs.declared.version.Typed.{Typed}
 use Rattle.lg_types.specs.declared.version.Version.{Version}
 use Rattle.lg_model.specs.Lists.{inserted, sorted}
 use Rattle.lg_model.specs.Rows.{EventId, event_cmp, same_event, start_cmp, live}
 use Rattle.lg_model.specs.Runs.{Rising}
-use Rattle.lg_frames.proofs.Alls.{all_weaker, all_both, all_filter, all_sorted}
+use Rattle.lg_frames.proofs.Alls.{all_weaker, all_both, all_filter, all_map, all_sorted}
 use Rattle.lg_frames.proofs.Sounds.{event_total, start_total}
 use Rattle.lg_invariants.proofs.Counts.{own_same, same_parts}
 use Rattle.lg_parts.proofs.Orders.{key_total}
@@ -142,6 +143,20 @@ starts_remove [] (suc n) = refl
 starts_remove (u ∷ us) zero = refl
 starts_remove (u ∷ us) (suc n) = ap (λ l. u.start ∷ l) (starts_remove us n)
 
+-- ---- an item that is put into a list of others
+
+not_there : {A : Type 0} (zs : List A) (p : ℕ) (x : A) → AllByRecursion (λ z. z ≡ x → ⊥) zs → slice_get zs p ≡ Some x → ⊥
+not_there [] p x apart at = cc
+not_there (z ∷ zs) zero x apart at = apart.0 cc
+not_there (z ∷ zs) (suc p) x apart at = not_there zs p x apart.1 at
+
+only_place : {A : Type 0} (zs : List A) (n p : ℕ) (x : A) → n ≤ length zs → AllByRecursion (λ z. z ≡ x → ⊥) zs → slice_get (insert zs n x) p ≡ Some x → p ≡ n
+only_place zs zero zero x within apart at = refl
+only_place zs zero (suc p) x within apart at = absurd (not_there zs p x apart at)
+only_place [] (suc n) p x within apart at = absurd (omega (arith, within))
+only_place (z ∷ zs) (suc n) zero x within apart at = absurd (apart.0 cc)
+only_place (z ∷ zs) (suc n) (suc p) x within apart at = ap suc (only_place zs n p x (omega (arith, within)) apart.1 at)
+
 module _ (ordinals key : List ℕ) where
   -- a start that is put at the place of its version
   pub put_in_order : (v : Version) (vs : List Version) (order : List EventId) → order ≡ starts_of (in_order ordinals key vs)
@@ -200,3 +215,29 @@ starts_count ordinals key vs = length-map (in_order ordinals key vs) (λ (v : Ve
 pub not_full : (ordinals key : List ℕ) (vs : List Version) (order : List EventId) (capacity : ℕ) → order ≡ starts_of (in_order ordinals key vs) → length (live vs) + 1 ≤ capacity → length order < capacity
 not_full ordinals key vs order capacity is room =
     let n = ap length is ∙ starts_count ordinals key vs in omega (arith, n, room)
+
+-- ---- the place of a start
+
+module _ (ordinals key : List ℕ) where
+  not_itself : (a b : EventId) → event_cmp a b ≡ Less → a ≡ b → ⊥
+  not_itself a b less same = let equal : event_cmp a b ≡ Equal = ap (λ x. event_cmp x b) same ∙ tied_itself event_total b in cc
+
+  others_apart : (xs : List Version) (v : Version) (ys : List Version) → Rising (xs ++ v ∷ ys) → AllByRecursion (λ w. w.start ≡ v.start → ⊥) (xs ++ ys)
+  others_apart [] v ys r = all_weaker (λ w. start_cmp v w ≡ Less) (λ w. w.start ≡ v.start → ⊥) (λ w less same. not_itself v.start w.start less (sym same)) ys r.0
+  others_apart (x ∷ xs) v ys r = (not_itself x.start v.start (rising_left (x ∷ xs) v ys r).0, others_apart xs v ys r.1)
+
+  -- what stands at the start of a version that stands between these is at its place
+  pub place_by_start : (xs : List Version) (v : Version) (ys : List Version) (order : List EventId) (at : ℕ) → Rising (xs ++ v ∷ ys) → v.end ≡ None
+      → order ≡ starts_of (in_order ordinals key (xs ++ v ∷ ys)) → slice_get order at ≡ Some v.start → at ≡ place_of ordinals key v (xs ++ v ∷ ys)
+  place_by_start xs v ys order at r stands is found =
+      let rest = in_order ordinals key (xs ++ ys) in
+      let with = one_more ordinals key xs v ys r stands in
+      let here : place_of ordinals key v (xs ++ v ∷ ys) ≡ prefix_len (comes_before ordinals key v) rest =
+      ap (prefix_len (comes_before ordinals key v)) with ∙ place_there (order_cmp ordinals key) (order_total ordinals key) v rest in
+      let put : order ≡ insert (starts_of rest) (place_of ordinals key v (xs ++ ys)) v.start = is ∙ ap starts_of with ∙ sym (put_in_order ordinals key v (xs ++ ys) (starts_of rest) refl) in
+      let apart : AllByRecursion (λ e. e ≡ v.start → ⊥) (starts_of rest) =
+      all_map (λ w. w.start ≡ v.start → ⊥) (λ e. e ≡ v.start → ⊥) (λ w. w.start) (λ w h. h) rest
+      (all_sorted (λ w. w.start ≡ v.start → ⊥) (order_cmp ordinals key) (live (xs ++ ys)) (all_filter (λ w. w.start ≡ v.start → ⊥) (λ w. is_none w.end) (xs ++ ys) (others_apart xs v ys r))) in
+      only_place (starts_of rest) (place_of ordinals key v (xs ++ ys)) at v.start
+      (omega (arith, prefix_len-le-length (comes_before ordinals key v) rest, length-map rest (λ (w : Version). w.start))) apart (ap (λ l. slice_get l at) (sym put) ∙ found)
+      ∙ sym here

@@ -1,5 +1,5 @@
 -- What is kept beside the versions, as one of them starts or ends, or that is taken back.
-use Rattle.std.proofs.Common.{◌≡◌, ◌<◌, ◌+◌, ℕ, suc, sym, ap, subst, ◌∙◌, List, [], ◌∷◌, ◌++◌, length, get_or, take, drop, Some, None, arith}
+use Rattle.std.proofs.Common.{◌≡◌, ◌<◌, ◌+◌, ℕ, suc, sym, ap, subst, ◌∙◌, List, [], ◌∷◌, ◌++◌, length, get_or, slice_get, take, drop, Some, None, arith}
 use Rattle.std.specs.Prelude.{slice_set}
 use Rattle.std.specs.List.{remove, HoldsAt}
 use Rattle.std.proofs.lemmas.List.{get_or_default}
@@ -15,7 +15,7 @@ use Rattle.lg_table.specs.Ends.{ending, ending_cmp, endings_in}
 use Rattle.lg_table.specs.Kept.{IsOf, IsWith, StandIn, StandWith, AreOf}
 use Rattle.lg_table.specs.Orders.{order_cmp, in_order, starts_of, place_of}
 use Rattle.lg_table.proofs.Ends.{none_ended, one_ended}
-use Rattle.lg_table.proofs.InOrder.{one_more, none_more, inserted_alike, taken_from_order, place_inside}
+use Rattle.lg_table.proofs.InOrder.{one_more, none_more, inserted_alike, taken_from_order, place_by_start, place_inside}
 use Rattle.lg_table.proofs.Splits.{split_at, set_at, rising_instead, rising_without}
 
 -- ---- the version at a place
@@ -43,13 +43,19 @@ module _ (vs : List Version) (p : ℕ) (v : Version) (inside : p < length vs) (i
     has_around : order ≡ starts_of (in_order ordinals key (xs ++ v ∷ ys))
     has_around = has ∙ ap (λ l. starts_of (in_order ordinals key l)) around
 
-    pub taken_at : remove order (place_of ordinals key v vs) ≡ starts_of (in_order ordinals key (remove vs p))
+    taken_at : remove order (place_of ordinals key v vs) ≡ starts_of (in_order ordinals key (remove vs p))
     taken_at =
         ap (λ l. remove order (place_of ordinals key v l)) around
         ∙ taken_from_order ordinals key xs v ys order (rising_around r) stands has_around
 
-    pub inside_order : place_of ordinals key v vs < length order
+    inside_order : place_of ordinals key v vs < length order
     inside_order = subst (λ l. place_of ordinals key v l < length order) (sym around) (place_inside ordinals key xs v ys order (rising_around r) stands has_around)
+
+    -- what is found by the version's start
+    pub found_at_place : (at : ℕ) → slice_get order at ≡ Some v.start → at ≡ place_of ordinals key v vs
+    found_at_place at found =
+        place_by_start ordinals key xs v ys order at (rising_around r) stands has_around found
+        ∙ ap (place_of ordinals key v) (sym around)
 
   -- what an index has where the version ended
   pub index_past : (key : List ℕ) (end : EventId) (i : Index) → v.end ≡ Some end → IsOf key vs i → IsOf key (remove vs p) i
@@ -123,6 +129,18 @@ ends_left (v ∷ vs) p inside stands ends has =
     let w = get_or (v ∷ vs) p v in
     ends_past (v ∷ vs) p w inside (get_or_default (v ∷ vs) p v w inside) ends (stands v) has
 ends_left [] p inside stands ends has = absurd (omega (arith, inside))
+
+-- a start that is taken out at the place of its version
+pub taken_there : (ordinals key : List ℕ) (vs : List Version) (p n : ℕ) (order : List EventId) → Rising vs → p < length vs → HoldsAt (λ v. v.end ≡ None) vs p
+    → order ≡ starts_of (in_order ordinals key vs) → HoldsAt (λ v. n ≡ place_of ordinals key v vs) vs p
+    → (n < length order) × (remove order n ≡ starts_of (in_order ordinals key (remove vs p)))
+taken_there ordinals key [] p n order r inside stands has here = absurd (omega (arith, inside))
+taken_there ordinals key (v ∷ vs) p n order r inside stands has here =
+    let w = get_or (v ∷ vs) p v in
+    let is = get_or_default (v ∷ vs) p v w inside in (
+      omega (arith, here v, inside_order (v ∷ vs) p w inside is ordinals key order r (stands v) has),
+      ap (remove order) (here v) ∙ taken_at (v ∷ vs) p w inside is ordinals key order r (stands v) has,
+    )
 
 -- ---- a start
 

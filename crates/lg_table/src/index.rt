@@ -5,7 +5,7 @@ ghost use Rattle.std.specs.List.{AllByRecursion, HoldsAt, prefix_len, remove};
 ghost use Rattle.lg_model.specs.Rows.{live};
 ghost use Rattle.lg_model.specs.Runs.{Rising};
 ghost use Rattle.lg_table.specs.Kept.{HasRoom, IsOf, IsWith, index_seen};
-ghost use Rattle.lg_table.specs.Orders.{has_row_below, in_order};
+ghost use Rattle.lg_table.specs.Orders.{has_row_below, in_order, place_of};
 
 use crate::leading::lead_of;
 use crate::searching::{place_in_order, start_has_row_below};
@@ -42,6 +42,24 @@ pub fn add_start(index: &mut Index, key: &[usize], versions: &[Version], version
     index.order.insert(place, version.start, lead);
 }
 
+// Where the version at this place of the versions, which stands, is in the order of an index. Mostly it is found
+// by its lead and its start, else by comparing rows.
+fn place_of_standing(index: &Index, key: &[usize], versions: &[Version], place: usize) -> usize
+    requires rising { Rising versions.now }
+    requires order { IsOf key.now versions.now index.now }
+    requires within { place < length versions.now }
+    requires stands { HoldsAt (λ v. v.end ≡ None) versions.now place }
+    ensures { HoldsAt (λ v. result ≡ place_of index.now.ordinals key.now v versions.now) versions.now place }
+{
+    let version = &versions[place];
+    let ordinals = index.ordinals.as_slice();
+    let lead = lead_of(ordinals, key, version);
+    match index.order.find_near(lead, version.start) {
+        Some(found) => found,
+        None => place_in_order(ordinals, key, versions, &index.order, version),
+    }
+}
+
 /// Takes out the start of the version at this place, which stands.
 pub fn take_start(index: &mut Index, key: &[usize], versions: &[Version], place: usize)
     requires rising { Rising versions.now }
@@ -52,15 +70,8 @@ pub fn take_start(index: &mut Index, key: &[usize], versions: &[Version], place:
     ensures ordinals { index.new.ordinals ≡ index.old.ordinals }
     ensures room { (n : ℕ) → HasRoom n index.old → HasRoom n index.new }
 {
-    let version = &versions[place];
-    let place = place_in_order(
-        index.ordinals.as_slice(),
-        key,
-        versions,
-        &index.order,
-        version,
-    );
-    index.order.remove(place);
+    let found = place_of_standing(index, key, versions, place);
+    index.order.remove(found);
 }
 
 /// Puts the start of a version in its place in each index. Takes no memory.

@@ -322,13 +322,14 @@ impl VersionStore {
 
     /// Carries out the changes, one after another, as the events of the transaction that have the numbers from
     /// `seq` on, in the room that is reserved. Takes no memory.
-    #[tactic(auto, using(crate::proofs::Carrying::carrying_first, crate::proofs::Carrying::carrying_one, crate::proofs::Carrying::carried, crate::proofs::Carrying::some_room, crate::proofs::Carrying::some_number))]
+    #[tactic(auto, using(crate::proofs::Carrying::carrying_first, crate::proofs::Carrying::carrying_one, crate::proofs::Carrying::carried, crate::proofs::Carrying::room_left, crate::proofs::Carrying::some_room, crate::proofs::Carrying::some_number))]
     pub fn carry_out(&mut self, tx: TxId, seq: u64, changes: Items<Change>)
         requires room { length changes ≤ self.old.room }
         requires numbers { seq + length changes < 2 ^ 64 }
         requires before { AllByRecursion (MadeBefore tx seq) self.old.stored.versions }
-        ensures { self.new.stored ≡ with_versions self.old.stored.columns
+        ensures stored { self.new.stored ≡ with_versions self.old.stored.columns
             (changed_all tx seq changes self.old.stored.versions) self.old.stored }
+        ensures room { self.old.room ≤ self.new.room + length changes }
     {
         self.orders_follow();
         let mut number = seq;
