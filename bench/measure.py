@@ -6,8 +6,10 @@ slash is the least real time. `same` says that both wrote the same transcript, i
 
 Where a case is the tenth of another, a round of it is ten runs in a row and their mean, so that it lasts as long
 as one of the whole and meets as much of what else the machine does: the least of single short runs would make
-the growth look greater than it is."""
+the growth look greater than it is. Growth is measured in turns: each round of the whole follows a round of its
+tenth, and the growth is the median of what the rounds show, so that both meet the same moods of the machine."""
 import os
+import statistics
 import subprocess
 import sys
 import time
@@ -35,8 +37,11 @@ CASES = [
     ("1000 rows, all changed 1000 times", ["all", "1000"], "1000 rows, all changed 100 times", 12),
 ]
 TENTHS = {tenth for _, _, tenth, _ in CASES if tenth}
+WORDS = {name: words for name, words, _, _ in CASES}
 MOST_RATIO = 3
 MOST_SECONDS = 20
+# What lasts less is shown and not judged.
+LEAST_SECONDS = 0.02
 
 
 def input_of(name, words):
@@ -100,15 +105,30 @@ def mean_of_runs(count, *words):
     return max(statuses), sum(processor) / count, sum(real) / count
 
 
-def measure(programs, words, source, rounds, limit, runs):
-    best = [None, None]
+def folder_of(n, name):
+    return os.path.join(OUT, f"{n}_{name.replace(' ', '_').replace('^', '').replace(',', '')}")
+
+
+def round_of(program, n, call, name, limit):
+    """One round of a case: a run, or where it is the tenth of another ten in a row and their mean."""
+    words = ["step", *SETTINGS] if call == "step" else ["verify", "x.img", "x.digests"]
+    source = input_of(name, WORDS[name]) if call == "step" else None
+    return mean_of_runs(10 if name in TENTHS else 1, program, words, folder_of(n, name), source, limit)
+
+
+def measure(programs, call, name, tenth, rounds, limit):
+    """Of each program the least times, and the growth from the tenth, if there is one, in turns with it."""
+    best, growths = [None, None], [[], []]
     for _ in range(rounds):
         for n, program in enumerate(programs):
-            one = mean_of_runs(runs, program, words, os.path.join(OUT, str(n)), source, limit)
+            before = round_of(program, n, call, tenth, limit) if tenth else None
+            one = round_of(program, n, call, name, limit)
             if one is None:
-                return best[0], None
+                return best[0], None, None
             best[n] = least(best[n], one)
-    return best
+            if before is not None:
+                growths[n].append(one[1] / max(before[1], 0.0001))
+    return *best, statistics.median(growths[1]) if growths[1] else None
 
 
 def shown(one):
@@ -117,7 +137,7 @@ def shown(one):
 
 def compressions(program, words, source):
     with open(source or os.devnull, "rb") as stdin:
-        err = subprocess.run([program, *words], cwd=os.path.join(OUT, "0"), stdin=stdin, capture_output=True,
+        err = subprocess.run([program, *words], cwd=OUT, stdin=stdin, capture_output=True,
                              env={"PLAIN_COUNT": "1"}).stderr
     return int(err.split()[-1])
 
@@ -140,35 +160,27 @@ def main(words):
     plain = os.path.join(HERE, "plain")
     os.makedirs(OUT, exist_ok=True)
     programs = [plain, ledgerd]
-    times = {}
     failed = 0
     form = "{:34} {:7} {:>19} {:>19} {:>6} {:>6}  {}"
     print(form.format("case", "call", "plain cpu / real", "ledgerd cpu / real", "ratio", "growth", "bars"))
-    for name, make, tenth, growth in CASES:
+    for name, _, tenth, growth in CASES:
         if only and not any(o in name for o in only):
             continue
-        source = input_of(name, make)
         for call in ["step", "verify"]:
-            call_words = ["step", *SETTINGS] if call == "step" else ["verify", "x.img", "x.digests"]
-            runs = 10 if name in TENTHS else 1
-            one, two = measure(programs, call_words, source if call == "step" else None, rounds, limit, runs)
-            ratio, faults = verdict_on(two, one, one[1] >= 0.02)
+            one, two, grown = measure(programs, call, name, tenth, rounds, limit)
+            ratio, faults = verdict_on(two, one, one[1] >= LEAST_SECONDS)
             if two is not None and call == "step":
-                if not same(os.path.join(OUT, "0"), os.path.join(OUT, "1")):
+                if not same(folder_of(0, name), folder_of(1, name)):
                     faults.append("not the same bytes")
                 if name.endswith("4 MiB") and two[1] > MOST_SECONDS:
                     faults.append(f"more than {MOST_SECONDS} s")
-            if two is not None and call == "verify" and bytes_of(os.path.join(OUT, "1"), "out") != b"Yes\n":
+            if two is not None and call == "verify" and bytes_of(folder_of(1, name), "out") != b"Yes\n":
                 faults.append("not Yes")
-            times[name, call] = two
-            grown = "-"
-            if tenth and two is not None and times.get((tenth, call)) is not None:
-                before = times[tenth, call][1]
-                grown = f"{two[1] / max(before, 0.001):.1f}"
-                if before >= 0.02 and two[1] > growth * before:
-                    faults.append(f"more than {growth} times the tenth")
+            if grown is not None and two[1] >= 10 * LEAST_SECONDS and grown > growth:
+                faults.append(f"more than {growth} times the tenth")
             failed += len(faults)
-            print(form.format(name, call, shown(one), shown(two), ratio, grown, ", ".join(faults) or "ok"), flush=True)
+            shown_growth = "-" if grown is None else f"{grown:.1f}"
+            print(form.format(name, call, shown(one), shown(two), ratio, shown_growth, ", ".join(faults) or "ok"), flush=True)
             if two is None:
                 break
     print()
