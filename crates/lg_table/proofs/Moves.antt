@@ -1,5 +1,5 @@
 -- What is kept beside the versions, as one of them starts or ends, or that is taken back.
-use Rattle.std.proofs.Common.{◌≡◌, ◌<◌, ◌+◌, ℕ, suc, sym, ap, subst, ◌∙◌, List, [], ◌∷◌, ◌++◌, length, get_or, slice_get, take, drop, Some, None, arith}
+use Rattle.std.proofs.Common.{◌≡◌, ◌<◌, ℕ, suc, sym, ap, subst, ◌∙◌, List, [], ◌∷◌, ◌++◌, length, get_or, slice_get, take, drop, Some, None, arith}
 use Rattle.std.specs.Prelude.{slice_set}
 use Rattle.std.specs.List.{remove, HoldsAt}
 use Rattle.std.proofs.lemmas.List.{get_or_default}

@@ -1,5 +1,5 @@
 -- Events of a transaction taken back, one after another.
-use Rattle.std.proofs.Common.{◌≡◌, ◌<◌, ◌≤◌, ◌+◌, ℕ, zero, suc, refl, sym, ap, ap₂, subst, ◌∙◌, Bool, true, false, List, [], ◌∷◌, ◌++◌, map, length, get_or, Option, Some, None, arith}
+use Rattle.std.proofs.Common.{◌≡◌, ◌<◌, ◌≤◌, ℕ, zero, suc, refl, sym, ap, ap₂, subst, ◌∙◌, Bool, true, false, List, [], ◌∷◌, ◌++◌, map, length, get_or, Option, Some, None, arith}
 use Rattle.std.specs.Prelude.{slice_set, not, if◌then◌else◌}
 use Rattle.std.specs.List.{AllByRecursion, HoldsAt, Contains, filter, remove}
 use Rattle.std.specs.Ordering.{is_gt}

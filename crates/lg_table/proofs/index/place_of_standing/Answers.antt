@@ -13,9 +13,9 @@ returns-in-Some c =
     let is = c.index-versions-place.is in
     let stands = ap (λ (w : Version). w.end) is ∙ c.requires.stands v in
     λ d.
-      found_at_place vs c.args.place v c.requires.within is c.args.index.now.ordinals key c.args.index.now.order.list c.requires.rising stands c.requires.order
-      c.in-Some.found c.in-Some.ensures
-      ∙ ap (λ (w : Version). place_of c.args.index.now.ordinals key w vs) (sym (get_or_default vs c.args.place d v c.requires.within ∙ sym is))
+    found_at_place vs c.args.place v c.requires.within is c.args.index.now.ordinals key c.args.index.now.order.list c.requires.rising stands c.requires.order
+    c.in-Some.found c.in-Some.ensures
+    ∙ ap (λ (w : Version). place_of c.args.index.now.ordinals key w vs) (sym (get_or_default vs c.args.place d v c.requires.within ∙ sym is))
 
 pub returns-in-None : goal.returns-in-None
 returns-in-None c =
@@ -24,5 +24,5 @@ returns-in-None c =
     let v = c.index-versions-place.result in
     let is = c.index-versions-place.is in
     λ d.
-      c.place_in_order.ensures.place ∙ ap (λ o. place_of o key v vs) c.as_slice-ordinals.ensures
-      ∙ ap (λ (w : Version). place_of c.args.index.now.ordinals key w vs) (sym (get_or_default vs c.args.place d v c.requires.within ∙ sym is))
+    c.place_in_order.ensures.place ∙ ap (λ o. place_of o key v vs) c.as_slice-ordinals.ensures
+    ∙ ap (λ (w : Version). place_of c.args.index.now.ordinals key w vs) (sym (get_or_default vs c.args.place d v c.requires.within ∙ sym is))

@@ -1,7 +1,7 @@
-use Rattle.std.proofs.Common.{◌≡◌, ◌≤◌, ◌<◌, ◌∙◌, ◌∷◌, [], arith, ap, sym, length, length-take, take, take_at}
+use Rattle.std.proofs.Common.{◌≡◌, ◌≤◌, ◌∙◌, ◌∷◌, [], arith, ap, sym, length, length-take, take, take_at}
 use Rattle.std.specs.List.{insert}
 use Rattle.std.proofs.lemmas.List.Edits.{insert_end}
-use Rattle.lg_starts.proofs.Edits.{cut_insert, get_insert, slice_get-end}
+use Rattle.lg_starts.proofs.Edits.{cut_insert, get_insert}
 use Rattle.lg_starts.proofs.piece.Piece.insert.Goals as goal
 
 pub returns-then-place-eq-PIECE-clause-list : goal.returns-then-place-eq-PIECE-clause-list

@@ -1,4 +1,4 @@
-use Rattle.std.proofs.Common.{arith, ap, sym, ◌∙◌, length, take, take_all, slice_get, deque_len}
+use Rattle.std.proofs.Common.{arith, ap, sym, ◌∙◌, length, take_all, slice_get, deque_len}
 use Rattle.std.proofs.lemmas.Option.{slice_get_past}
 use Rattle.lg_starts.proofs.Edits.{last_get}
 use Rattle.lg_starts.proofs.piece.Piece.make_way.Goals as goal
