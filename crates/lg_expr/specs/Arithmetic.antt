@@ -13,5 +13,5 @@ AreInSize v s w z = IsTrue (has_digits (raised v (z - s)) 38) × IsTrue (has_dig
 
 -- the number that is meant, or its refusal
 abbrev pub IsNumber : Checked Value → Result Number Refusal → Type 0
-IsNumber meant (Ok n) = meant ≡ Ok (Num n.v n.s)
+IsNumber meant (Ok n) = meant ≡ Ok (Num n.s n.v)
 IsNumber meant (Err e) = meant ≡ Err e

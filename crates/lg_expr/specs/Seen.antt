@@ -11,7 +11,7 @@ use Rattle.lg_expr.specs.declared.seen.Seen.TheVariants.{Null, Number, Text, Byt
 -- the outcome that is seen
 abbrev pub outcome_of : Seen → Outcome
 outcome_of Null = out.Value val.Null
-outcome_of (Number v s) = out.Value (val.Num v s)
+outcome_of (Number v s) = out.Value (val.Num s v)
 outcome_of (Text t) = out.Value (val.Text t.now)
 outcome_of (Bytes b) = out.Value (val.Bytes b.now)
 outcome_of (Day d) = out.Value (val.Date d)

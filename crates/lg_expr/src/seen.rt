@@ -36,7 +36,7 @@ pub fn seen_value(value: &Value) -> Seen<'_>
 
 /// A number, seen.
 pub fn seen_number<'a>(number: Number) -> Seen<'a>
-    ensures { outcome_of result ≡ out.Value (Num number.v number.s) }
+    ensures { outcome_of result ≡ out.Value (Num number.s number.v) }
 {
     Seen::Number {
         v: number.v,

@@ -19,7 +19,7 @@ use Rattle.lg_frames.proofs.Checked.{Led, led, Parts, parts}
 -- ---- a value
 
 converted_alone : (m : Converted) (x w : Value) → key_value m ≡ Some x → or_its_refusal m ≡ Ok w → w ≡ x
-converted_alone (Ok (val.Num v s)) x w h k = cc
+converted_alone (Ok (val.Num s v)) x w h k = cc
 converted_alone (Ok (val.Text y)) x w h k = cc
 converted_alone (Ok (val.Bytes y)) x w h k = cc
 converted_alone (Ok (val.Date d)) x w h k = cc
@@ -33,7 +33,7 @@ null_is_none ty x h = cc
 same_value : (c : ColumnDef) (v x w : Value) → key_value (conversion_of v c.ty) ≡ Some x → kept c v ≡ Ok w → w ≡ x
 unfolding kept
 same_value c val.Null x w h k = absurd (null_is_none c.ty x h)
-same_value c (val.Num v s) x w h k = converted_alone (conversion_of (val.Num v s) c.ty) x w h k
+same_value c (val.Num s v) x w h k = converted_alone (conversion_of (val.Num s v) c.ty) x w h k
 same_value c (val.Text y) x w h k = converted_alone (conversion_of (val.Text y) c.ty) x w h k
 same_value c (val.Bytes y) x w h k = converted_alone (conversion_of (val.Bytes y) c.ty) x w h k
 same_value c (val.Date d) x w h k = converted_alone (conversion_of (val.Date d) c.ty) x w h k

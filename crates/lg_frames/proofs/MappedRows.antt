@@ -18,7 +18,7 @@ module _ (f : ColumnDef → Value → Checked Value) where
 
   stored_plain : (c : ColumnDef) (v : Value) → value_or_null (stored_value c v) ≡ v
   stored_plain c val.Null = refl
-  stored_plain c (val.Num v s) = refl
+  stored_plain c (val.Num s v) = refl
   stored_plain c (val.Text x) = refl
   stored_plain c (val.Bytes x) = refl
   stored_plain c (val.Date d) = refl

@@ -107,7 +107,7 @@ folded f h b (x ∷ xs) = goes_on (f b x) (λ c. checked_fold f c xs) (h b x) (�
 -- ---- numbers
 
 size : (v : ℤ) (n : ℕ) → IsPlainly (in_38_digits v n)
-size v n = either (has_digits v 38) (Ok (val.Num v n)) (Err E08) tt tt
+size v n = either (has_digits v 38) (Ok (val.Num n v)) (Err E08) tt tt
 
 combination : (f : ℤ → ℤ → ℤ) (v w : ℤ) (n : ℕ) → IsPlainly (combined f v w n)
 combination f v w n = either (has_digits v 38 && has_digits w 38) (in_38_digits (f v w) n) (Err E08) (size (f v w) n) tt
@@ -144,12 +144,12 @@ number_op op.And v n w z = tt
 number_op op.Or v n w z = tt
 
 arithmetic : (o : Op) (x y : Value) → IsPlainly (me.arithmetic o x y)
-arithmetic o (val.Num v n) (val.Num w z) = goes_on (me.number_op o v n w z) me.a_value (number_op o v n w z) (λ x. tt)
-arithmetic o (val.Num v n) val.Null = tt
-arithmetic o (val.Num v n) (val.Text x) = tt
-arithmetic o (val.Num v n) (val.Bytes x) = tt
-arithmetic o (val.Num v n) (val.Date d) = tt
-arithmetic o val.Null (val.Num w z) = tt
+arithmetic o (val.Num n v) (val.Num z w) = goes_on (me.number_op o v n w z) me.a_value (number_op o v n w z) (λ x. tt)
+arithmetic o (val.Num n v) val.Null = tt
+arithmetic o (val.Num n v) (val.Text x) = tt
+arithmetic o (val.Num n v) (val.Bytes x) = tt
+arithmetic o (val.Num n v) (val.Date d) = tt
+arithmetic o val.Null (val.Num z w) = tt
 arithmetic o val.Null val.Null = tt
 arithmetic o val.Null (val.Text x) = tt
 arithmetic o val.Null (val.Bytes x) = tt
@@ -159,7 +159,7 @@ arithmetic o (val.Bytes x) y = tt
 arithmetic o (val.Date d) y = tt
 
 negated : (o : Outcome) → IsPlainly (me.negated o)
-negated (out.Value (val.Num v n)) = goes_on (negative_of v n) me.a_value (negative v n) (λ x. tt)
+negated (out.Value (val.Num n v)) = goes_on (negative_of v n) me.a_value (negative v n) (λ x. tt)
 negated (out.Value val.Null) = tt
 negated (out.Value (val.Text x)) = tt
 negated (out.Value (val.Bytes x)) = tt
@@ -168,23 +168,23 @@ negated (out.Truth t) = tt
 
 compared : (o : Op) (x y : Value) → IsPlainly (me.compared o x y)
 compared o val.Null y = tt
-compared o (val.Num v n) val.Null = tt
-compared o (val.Num v n) (val.Num w z) = tt
-compared o (val.Num v n) (val.Text y) = tt
-compared o (val.Num v n) (val.Bytes y) = tt
-compared o (val.Num v n) (val.Date e) = tt
+compared o (val.Num n v) val.Null = tt
+compared o (val.Num n v) (val.Num z w) = tt
+compared o (val.Num n v) (val.Text y) = tt
+compared o (val.Num n v) (val.Bytes y) = tt
+compared o (val.Num n v) (val.Date e) = tt
 compared o (val.Text x) val.Null = tt
-compared o (val.Text x) (val.Num w z) = tt
+compared o (val.Text x) (val.Num z w) = tt
 compared o (val.Text x) (val.Text y) = tt
 compared o (val.Text x) (val.Bytes y) = tt
 compared o (val.Text x) (val.Date e) = tt
 compared o (val.Bytes x) val.Null = tt
-compared o (val.Bytes x) (val.Num w z) = tt
+compared o (val.Bytes x) (val.Num z w) = tt
 compared o (val.Bytes x) (val.Text y) = tt
 compared o (val.Bytes x) (val.Bytes y) = tt
 compared o (val.Bytes x) (val.Date e) = tt
 compared o (val.Date d) val.Null = tt
-compared o (val.Date d) (val.Num w z) = tt
+compared o (val.Date d) (val.Num z w) = tt
 compared o (val.Date d) (val.Text y) = tt
 compared o (val.Date d) (val.Bytes y) = tt
 compared o (val.Date d) (val.Date e) = tt
@@ -240,12 +240,12 @@ applied : (o : Op) (a b : Outcome) → IsPlainly (me.applied o a b)
 applied o (out.Value x) (out.Value y) = on_values o x y
 applied o (out.Truth x) (out.Truth y) = on_truths o x y
 applied o (out.Value val.Null) (out.Truth y) = with_null o
-applied o (out.Value (val.Num v n)) (out.Truth y) = tt
+applied o (out.Value (val.Num n v)) (out.Truth y) = tt
 applied o (out.Value (val.Text x)) (out.Truth y) = tt
 applied o (out.Value (val.Bytes x)) (out.Truth y) = tt
 applied o (out.Value (val.Date d)) (out.Truth y) = tt
 applied o (out.Truth x) (out.Value val.Null) = with_null o
-applied o (out.Truth x) (out.Value (val.Num w z)) = tt
+applied o (out.Truth x) (out.Value (val.Num z w)) = tt
 applied o (out.Truth x) (out.Value (val.Text y)) = tt
 applied o (out.Truth x) (out.Value (val.Bytes y)) = tt
 applied o (out.Truth x) (out.Value (val.Date e)) = tt
@@ -285,7 +285,7 @@ conversion (Err TooLong) = tt
 kept_value : (c : ColumnDef) (v : Value) → IsPlainly (kept c v)
 unfolding kept
 kept_value c val.Null = either c.nullable (Ok val.Null) (Err E06) tt tt
-kept_value c (val.Num v n) = conversion (conversion_of (val.Num v n) c.ty)
+kept_value c (val.Num n v) = conversion (conversion_of (val.Num n v) c.ty)
 kept_value c (val.Text x) = conversion (conversion_of (val.Text x) c.ty)
 kept_value c (val.Bytes x) = conversion (conversion_of (val.Bytes x) c.ty)
 kept_value c (val.Date d) = conversion (conversion_of (val.Date d) c.ty)
@@ -378,23 +378,23 @@ query defs q = goes_on _ _ (or_plain E02 (find_part defs q.table) tt) (λ n. goe
 
 added : (a b : Value) → IsPlainly (added_up a b)
 added a val.Null = tt
-added val.Null (val.Num v n) = size v n
-added (val.Num w z) (val.Num v n) = sum w z v n
-added (val.Text x) (val.Num v n) = tt
-added (val.Bytes x) (val.Num v n) = tt
-added (val.Date d) (val.Num v n) = tt
+added val.Null (val.Num n v) = size v n
+added (val.Num z w) (val.Num n v) = sum w z v n
+added (val.Text x) (val.Num n v) = tt
+added (val.Bytes x) (val.Num n v) = tt
+added (val.Date d) (val.Num n v) = tt
 added val.Null (val.Text y) = tt
-added (val.Num w z) (val.Text y) = tt
+added (val.Num z w) (val.Text y) = tt
 added (val.Text x) (val.Text y) = tt
 added (val.Bytes x) (val.Text y) = tt
 added (val.Date d) (val.Text y) = tt
 added val.Null (val.Bytes y) = tt
-added (val.Num w z) (val.Bytes y) = tt
+added (val.Num z w) (val.Bytes y) = tt
 added (val.Text x) (val.Bytes y) = tt
 added (val.Bytes x) (val.Bytes y) = tt
 added (val.Date d) (val.Bytes y) = tt
 added val.Null (val.Date e) = tt
-added (val.Num w z) (val.Date e) = tt
+added (val.Num z w) (val.Date e) = tt
 added (val.Text x) (val.Date e) = tt
 added (val.Bytes x) (val.Date e) = tt
 added (val.Date d) (val.Date e) = tt

@@ -23,7 +23,7 @@ pub data IsCondition : Lexemes → Expr → Type 0 where
 
 -- the number with the other sign
 abbrev pub negated : Value → Value
-negated (Num v s) = Num (neg_ℤ v) s
+negated (Num s v) = Num s (neg_ℤ v)
 negated v = v
 
 -- value := ('+' | '-') number | literal

@@ -127,7 +127,7 @@ grouping =
 
 -- ---- others
 
-five : literal_of (codes "5") ≡ Some (value.Num (pos 5) 0)
+five : literal_of (codes "5") ≡ Some (value.Num 0 (pos 5))
 unfolding literal_of signed unsigned sized
 five = refl
 

@@ -29,7 +29,7 @@ delete_where x = stmt.Change (Delete (codes "t") (Some x))
 
 -- one row of -5 and NULL
 abbrev pub insert_row : Stmt
-insert_row = stmt.Change (Insert (codes "t") None ((value.Num (neg_ℤ (pos 5)) 0 ∷ value.Null ∷ []) ∷ []))
+insert_row = stmt.Change (Insert (codes "t") None ((value.Num 0 (neg_ℤ (pos 5)) ∷ value.Null ∷ []) ∷ []))
 
 -- an append-only table of one column, which is the key and so may not be NULL
 abbrev pub ledger_table : CreateTable

@@ -38,7 +38,7 @@ use Rattle.lg_images.proofs.Entries.{few_filtered, length_mapped}
 
 told : (v : Value) → v ≢ Null → is_told v ≡ true
 told Null n = absurd (n refl)
-told (Num v s) n = refl
+told (Num s v) n = refl
 told (Text t) n = refl
 told (Bytes b) n = refl
 told (Date d) n = refl

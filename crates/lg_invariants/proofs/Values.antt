@@ -91,7 +91,7 @@ date_made t.Date x e = let k = only _ _ _ e in cc
 null_made : (v : Value) (ty : SqlType) → conversion_of v ty ≡ Ok Null → v ≡ Null
 unfolding conversion_of
 null_made val.Null ty e = refl
-null_made (val.Num v s) ty e = absurd (number_made ty v s (if_made (is_in_range ty) (converted ty (val.Num v s)) e))
+null_made (val.Num s v) ty e = absurd (number_made ty v s (if_made (is_in_range ty) (converted ty (val.Num s v)) e))
 null_made (val.Text x) ty e = absurd (text_made ty x (if_made (is_in_range ty) (converted ty (val.Text x)) e))
 null_made (val.Bytes x) ty e = absurd (bytes_made ty x (if_made (is_in_range ty) (converted ty (val.Bytes x)) e))
 null_made (val.Date d) ty e = absurd (date_made ty d (if_made (is_in_range ty) (converted ty (val.Date d)) e))
@@ -101,7 +101,7 @@ null_made (val.Date d) ty e = absurd (date_made ty d (if_made (is_in_range ty) (
 -- what isn't NULL and is stored by the type fits
 pub fits_stored : (c : ColumnDef) (w : Value) → w ≢ Null → is_stored w c.ty ≡ true → FitsColumn c (stored_value c w)
 fits_stored c val.Null ne s = absurd (ne refl)
-fits_stored c (val.Num v z) ne s = (refl, ne, s)
+fits_stored c (val.Num z v) ne s = (refl, ne, s)
 fits_stored c (val.Text x) ne s = (refl, ne, s)
 fits_stored c (val.Bytes x) ne s = (refl, ne, s)
 fits_stored c (val.Date d) ne s = (refl, ne, s)
@@ -120,7 +120,7 @@ null_fits c w false is e = cc
 pub kept_fits : (c : ColumnDef) (v w : Value) → kept c v ≡ Ok w → FitsColumn c (stored_value c w)
 unfolding kept
 kept_fits c val.Null w e = null_fits c w c.nullable refl e
-kept_fits c (val.Num v s) w e = converted_fits c (val.Num v s) w (λ k. cc) (was_made (conversion_of (val.Num v s) c.ty) w e)
+kept_fits c (val.Num s v) w e = converted_fits c (val.Num s v) w (λ k. cc) (was_made (conversion_of (val.Num s v) c.ty) w e)
 kept_fits c (val.Text x) w e = converted_fits c (val.Text x) w (λ k. cc) (was_made (conversion_of (val.Text x) c.ty) w e)
 kept_fits c (val.Bytes x) w e = converted_fits c (val.Bytes x) w (λ k. cc) (was_made (conversion_of (val.Bytes x) c.ty) w e)
 kept_fits c (val.Date d) w e = converted_fits c (val.Date d) w (λ k. cc) (was_made (conversion_of (val.Date d) c.ty) w e)

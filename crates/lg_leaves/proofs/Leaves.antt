@@ -40,7 +40,7 @@ pub record IsToldBelow (n : ℕ) (f : FieldOf) : Type 0 where
 
 is_not_null : (v : Value) → v ≢ Null → is_told v ≡ true
 is_not_null Null h = absurd (h refl)
-is_not_null (Num v s) h = refl
+is_not_null (Num s v) h = refl
 is_not_null (Text x) h = refl
 is_not_null (Bytes x) h = refl
 is_not_null (Date d) h = refl

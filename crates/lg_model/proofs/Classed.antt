@@ -104,7 +104,7 @@ column_in columns row (Some i) c fit ok = column_at columns row i (slice_get col
 -- only a text literal writes a day
 text_of : (columns : List ColumnDef) (t : Tree) (x : Class) (d : ℕ) → cl.class columns t ≡ Ok x → written_day t ≡ Some d → x ≡ Text
 text_of columns (literal val.Null) x d ok day = absurd (search rules)
-text_of columns (literal (val.Num v s)) x d ok day = absurd (search rules)
+text_of columns (literal (val.Num s v)) x d ok day = absurd (search rules)
 text_of columns (literal (val.Text y)) x d ok day = search rules
 text_of columns (literal (val.Bytes y)) x d ok day = absurd (search rules)
 text_of columns (literal (val.Date e)) x d ok day = absurd (search rules)

@@ -16,7 +16,7 @@ use Rattle.lg_model.specs.Operators.{IsComparison}
 -- what is NULL writes no day
 no_day : (columns : List ColumnDef) (row : List Value) (t : Tree) → me.meaning columns row t ≡ Ok (out.Value val.Null) → written_day t ≡ None
 no_day columns row (literal val.Null) h = refl
-no_day columns row (literal (val.Num v s)) h = refl
+no_day columns row (literal (val.Num s v)) h = refl
 no_day columns row (literal (val.Text y)) h = absurd (search rules)
 no_day columns row (literal (val.Bytes y)) h = refl
 no_day columns row (literal (val.Date e)) h = refl

@@ -35,7 +35,7 @@ class_of_type ty = if is_in_range ty then Ok (class_of_kind ty) else Err E05
 -- a literal without a point is whole
 abbrev pub class_of_literal : Value → Class
 class_of_literal val.Null = Null
-class_of_literal (val.Num n s) = if s == 0 then Whole else Dec s
+class_of_literal (val.Num s n) = if s == 0 then Whole else Dec s
 class_of_literal (val.Text x) = Text
 class_of_literal (val.Bytes x) = Bytes
 class_of_literal (val.Date d) = Date

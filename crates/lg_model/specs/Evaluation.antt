@@ -38,14 +38,14 @@ number_op op.Mul v s w z = product_of v s w z
 number_op _ v s w z = Err E05
 
 abbrev pub arithmetic : Op → Value → Value → Answer
-arithmetic o (val.Num v s) (val.Num w z) = and_then (number_op o v s w z) a_value
-arithmetic o (val.Num v s) val.Null = a_value val.Null
-arithmetic o val.Null (val.Num w z) = a_value val.Null
+arithmetic o (val.Num s v) (val.Num z w) = and_then (number_op o v s w z) a_value
+arithmetic o (val.Num s v) val.Null = a_value val.Null
+arithmetic o val.Null (val.Num z w) = a_value val.Null
 arithmetic o val.Null val.Null = a_value val.Null
 arithmetic o _ _ = Err E05
 
 abbrev pub negated : Outcome → Answer
-negated (out.Value (val.Num v s)) = and_then (negative_of v s) a_value
+negated (out.Value (val.Num s v)) = and_then (negative_of v s) a_value
 negated (out.Value val.Null) = a_value val.Null
 negated _ = Err E05
 

@@ -8,7 +8,7 @@ use Rattle.lg_model.specs.Refusals.{Checked}
 
 -- a result
 abbrev pub in_38_digits : ℤ → ℕ → Checked Value
-in_38_digits v s = if has_digits v 38 then Ok (Num v s) else Err E08
+in_38_digits v s = if has_digits v 38 then Ok (Num s v) else Err E08
 
 -- what is made of two operands of one scale
 abbrev pub combined : (ℤ → ℤ → ℤ) → ℤ → ℤ → ℕ → Checked Value

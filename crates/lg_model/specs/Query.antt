@@ -96,8 +96,8 @@ order_cmp columns (o ∷ os) a b = ordering_then (column_cmp columns o a b) (ord
 -- one value more; NULL is left out
 abbrev pub added_up : Value → Value → Checked Value
 added_up sum Null = Ok sum
-added_up Null (Num v s) = in_38_digits v s
-added_up (Num v s) (Num w z) = sum_of v s w z
+added_up Null (Num s v) = in_38_digits v s
+added_up (Num s v) (Num z w) = sum_of v s w z
 added_up _ _ = Err E05
 
 -- the sum in the order of the rows, NULL over no values

@@ -36,7 +36,7 @@ values_of v = map value_or_null v.values
 
 -- a whole number as a value
 abbrev pub number : ℕ → Value
-number n = Num (pos n) 0
+number n = Num 0 (pos n)
 
 -- ---- events: the transaction that made one, and its number there
 

@@ -49,7 +49,7 @@ neg_abs (negsuc n) = refl
 
 negated_literal : (v : Value) → IsRead v → IsLiteral (r.negated v)
 negated_literal value.Null k = tt
-negated_literal (value.Num v z) k = (rw (neg_abs v) k.0.0, k.0.1)
+negated_literal (value.Num z v) k = (rw (neg_abs v) k.0.0, k.0.1)
 negated_literal (value.Text x) k = tt
 negated_literal (value.Bytes x) k = k.0
 negated_literal (value.Date d) k = k.0

@@ -175,8 +175,8 @@ lex_index c is = then_ k.create_ (then_ k.index_ (then_ (one_name c.name is.0) (
 
 lex_value : (v : Value) → IsLiteral v → Lexed (s.literal v) (value_syms v)
 lex_value value.Null is = lone (one_literal value.Null is tt)
-lex_value (value.Num (pos n) z) is = lone (one_literal (value.Num (pos n) z) is tt)
-lex_value (value.Num (negsuc n) z) is = more (one_negative n z is) none
+lex_value (value.Num z (pos n)) is = lone (one_literal (value.Num z (pos n)) is tt)
+lex_value (value.Num z (negsuc n)) is = more (one_negative n z is) none
 lex_value (value.Text x) is = lone (one_literal (value.Text x) is tt)
 lex_value (value.Bytes b) is = lone (one_literal (value.Bytes b) is tt)
 lex_value (value.Date d) is = absurd is

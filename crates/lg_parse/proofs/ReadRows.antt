@@ -25,7 +25,7 @@ use Rattle.lg_parse.proofs.ReadParts.{Untreed, AnyEnds, Any, expr_gets, some_of,
 
 -- the tokens of a value, of which a sign is one
 abbrev pub value_syms : Value → List Sym
-value_syms (value.Num (negsuc n) s) = key t.Minus ∷ p.literal_sym (value.Num (pos (suc n)) s) ∷ []
+value_syms (value.Num s (negsuc n)) = key t.Minus ∷ p.literal_sym (value.Num s (pos (suc n))) ∷ []
 value_syms v = p.literal_sym v ∷ []
 
 abbrev pub row_syms : List Value → List Sym
@@ -41,13 +41,13 @@ null_value : Written → (rest : List Sym) (n : ℕ) → r.value (at_ (p.literal
 unfolding r.value e.literal tag text next
 null_value written rest n = rw (written value.Null tt) refl
 
-number_value : Written → (m z : ℕ) → IsLiteral (value.Num (pos m) z) → (rest : List Sym) (n : ℕ) → r.value (at_ (p.literal_sym (value.Num (pos m) z) ∷ rest) n) ≡ Some (value.Num (pos m) z, at_ rest n)
+number_value : Written → (m z : ℕ) → IsLiteral (value.Num z (pos m)) → (rest : List Sym) (n : ℕ) → r.value (at_ (p.literal_sym (value.Num z (pos m)) ∷ rest) n) ≡ Some (value.Num z (pos m), at_ rest n)
 unfolding r.value e.literal tag text next
-number_value written m z is rest n = rw (written (value.Num (pos m) z) is) refl
+number_value written m z is rest n = rw (written (value.Num z (pos m)) is) refl
 
-minus_value : Written → (m z : ℕ) → IsLiteral (value.Num (pos (suc m)) z) → (rest : List Sym) (n : ℕ) → r.value (at_ (key t.Minus ∷ p.literal_sym (value.Num (pos (suc m)) z) ∷ rest) n) ≡ Some (value.Num (negsuc m) z, at_ rest n)
+minus_value : Written → (m z : ℕ) → IsLiteral (value.Num z (pos (suc m))) → (rest : List Sym) (n : ℕ) → r.value (at_ (key t.Minus ∷ p.literal_sym (value.Num z (pos (suc m))) ∷ rest) n) ≡ Some (value.Num z (negsuc m), at_ rest n)
 unfolding r.value r.number e.literal tag text next
-minus_value written m z is rest n = rw (written (value.Num (pos (suc m)) z) is) refl
+minus_value written m z is rest n = rw (written (value.Num z (pos (suc m))) is) refl
 
 text_value : Written → (x : List ℕ) (rest : List Sym) (n : ℕ) → r.value (at_ (p.literal_sym (value.Text x) ∷ rest) n) ≡ Some (value.Text x, at_ rest n)
 unfolding r.value e.literal tag text next
@@ -59,16 +59,16 @@ bytes_value written b is rest n = rw (written (value.Bytes b) is) refl
 
 value_gets : Written → (v : Value) → IsLiteral v → (rest : List Sym) (n : ℕ) → Gets (r.value (at_ (value_syms v ++ rest) n)) v rest
 value_gets written value.Null is rest n = gets (r.value (at_ (value_syms value.Null ++ rest) n)) value.Null rest n (null_value written rest n)
-value_gets written (value.Num (pos m) z) is rest n = gets (r.value (at_ (value_syms (value.Num (pos m) z) ++ rest) n)) (value.Num (pos m) z) rest n (number_value written m z is rest n)
-value_gets written (value.Num (negsuc m) z) is rest n = gets (r.value (at_ (value_syms (value.Num (negsuc m) z) ++ rest) n)) (value.Num (negsuc m) z) rest n (minus_value written m z is rest n)
+value_gets written (value.Num z (pos m)) is rest n = gets (r.value (at_ (value_syms (value.Num z (pos m)) ++ rest) n)) (value.Num z (pos m)) rest n (number_value written m z is rest n)
+value_gets written (value.Num z (negsuc m)) is rest n = gets (r.value (at_ (value_syms (value.Num z (negsuc m)) ++ rest) n)) (value.Num z (negsuc m)) rest n (minus_value written m z is rest n)
 value_gets written (value.Text x) is rest n = gets (r.value (at_ (value_syms (value.Text x) ++ rest) n)) (value.Text x) rest n (text_value written x rest n)
 value_gets written (value.Bytes b) is rest n = gets (r.value (at_ (value_syms (value.Bytes b) ++ rest) n)) (value.Bytes b) rest n (bytes_value written b is rest n)
 value_gets written (value.Date d) is rest n = absurd is
 
 value_some : (v : Value) → 0 < length (value_syms v)
 value_some value.Null = omega arith
-value_some (value.Num (pos m) z) = omega arith
-value_some (value.Num (negsuc m) z) = omega arith
+value_some (value.Num z (pos m)) = omega arith
+value_some (value.Num z (negsuc m)) = omega arith
 value_some (value.Text x) = omega arith
 value_some (value.Bytes b) = omega arith
 value_some (value.Date d) = omega arith

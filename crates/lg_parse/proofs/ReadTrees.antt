@@ -38,7 +38,7 @@ count_some (binary o a b) = omega arith
 pub no_tag : (a : Tree) (rest : List Sym) (n : ℕ) → (repeated t.Minus (at_ (p.expr a ++ rest) n) ≡ Some (0, at_ (p.expr a ++ rest) n)) × (repeated t.Not (at_ (p.expr a ++ rest) n) ≡ Some (0, at_ (p.expr a ++ rest) n))
 unfolding repeated same_tag
 no_tag (literal value.Null) rest n = (refl, refl)
-no_tag (literal (value.Num v s)) rest n = (refl, refl)
+no_tag (literal (value.Num s v)) rest n = (refl, refl)
 no_tag (literal (value.Text x)) rest n = (refl, refl)
 no_tag (literal (value.Bytes b)) rest n = (refl, refl)
 no_tag (literal (value.Date d)) rest n = (refl, refl)
@@ -61,9 +61,9 @@ module _ (inner : Parser Expr) where
   unfolding prim leaf e.literal sees after tag text next same_tag
   null_literal_read written rest n some = rw (spent (p.literal_sym value.Null ∷ rest) n some) (rw (written value.Null tt) refl)
 
-  number_read : Written → (v : ℤ) (s : ℕ) → IsLiteral (value.Num v s) → (rest : List Sym) (n : ℕ) → 0 < n → prim inner (at_ (p.literal_sym (value.Num v s) ∷ rest) n) ≡ Some (Lit (value.Num v s), at_ rest (n - 1))
+  number_read : Written → (v : ℤ) (s : ℕ) → IsLiteral (value.Num s v) → (rest : List Sym) (n : ℕ) → 0 < n → prim inner (at_ (p.literal_sym (value.Num s v) ∷ rest) n) ≡ Some (Lit (value.Num s v), at_ rest (n - 1))
   unfolding prim leaf e.literal sees after tag text next same_tag
-  number_read written v s is rest n some = rw (spent (p.literal_sym (value.Num v s) ∷ rest) n some) (rw (written (value.Num v s) is) refl)
+  number_read written v s is rest n some = rw (spent (p.literal_sym (value.Num s v) ∷ rest) n some) (rw (written (value.Num s v) is) refl)
 
   text_read : Written → (x : List ℕ) (rest : List Sym) (n : ℕ) → 0 < n → prim inner (at_ (p.literal_sym (value.Text x) ∷ rest) n) ≡ Some (Lit (value.Text x), at_ rest (n - 1))
   unfolding prim leaf e.literal sees after tag text next same_tag
@@ -75,7 +75,7 @@ module _ (inner : Parser Expr) where
 
   pub literal_read : Written → (v : Value) → IsLiteral v → (rest : List Sym) (n : ℕ) → 0 < n → prim inner (at_ (p.literal_sym v ∷ rest) n) ≡ Some (Lit v, at_ rest (n - 1))
   literal_read written value.Null is rest n some = null_literal_read written rest n some
-  literal_read written (value.Num v s) is rest n some = number_read written v s is rest n some
+  literal_read written (value.Num s v) is rest n some = number_read written v s is rest n some
   literal_read written (value.Text x) is rest n some = text_read written x rest n some
   literal_read written (value.Bytes b) is rest n some = bytes_read written b is rest n some
   literal_read written (value.Date d) is rest n some = absurd is

@@ -169,7 +169,7 @@ minus_value v rest n = refl
 
 negated_same : (v : Value) → r.negated v ≡ g.negated v
 negated_same value.Null = refl
-negated_same (value.Num v z) = refl
+negated_same (value.Num z v) = refl
 negated_same (value.Text x) = refl
 negated_same (value.Bytes x) = refl
 negated_same (value.Date d) = refl

@@ -84,7 +84,7 @@ filter_follows a n x j h = filter_by a n x j (eaten_or t.Where a n (Some <$> who
 
 same_negated : (v : Value) → g.negated v ≡ r.negated v
 same_negated value.Null = refl
-same_negated (value.Num v z) = refl
+same_negated (value.Num z v) = refl
 same_negated (value.Text x) = refl
 same_negated (value.Bytes x) = refl
 same_negated (value.Date d) = refl

@@ -136,8 +136,8 @@ null_is = null_
 pub one_literal : (v : Value) → IsLiteral v → IsUnsigned v → One (literal_sym v) (literal_sym v ∷ [])
 unfolding literal_text
 one_literal Null is positive = null_is
-one_literal (Num (pos n) s) is positive = size_is n s is.0 is.1
-one_literal (Num (negsuc n) s) is positive = absurd positive
+one_literal (Num s (pos n)) is positive = size_is n s is.0 is.1
+one_literal (Num s (negsuc n)) is positive = absurd positive
 one_literal (Text x) is positive = one_text x
 one_literal (Bytes b) is positive = one_bytes b is
 one_literal (Date d) is positive = absurd is
@@ -173,12 +173,12 @@ unfolding front tag_of spelling
 minus_then w b rest other read =
     cut_token kind.Sign 45 [] (w ++ rest) refl (rw other refl) (sym (front_is (45 ∷ (w ++ rest)))) ∙ ap (prepend (key t.Minus ∷ [])) read ∙ prepend_two (key t.Minus) b (cut 0 rest)
 
-pub one_negative : (n s : ℕ) → IsLiteral (Num (negsuc n) s) → One (literal_sym (Num (negsuc n) s)) (key t.Minus ∷ literal_sym (Num (pos (suc n)) s) ∷ [])
+pub one_negative : (n s : ℕ) → IsLiteral (Num s (negsuc n)) → One (literal_sym (Num s (negsuc n))) (key t.Minus ∷ literal_sym (Num s (pos (suc n))) ∷ [])
 unfolding literal_text
 one_negative n s is =
     let d = decimal_is (suc n) (omega (arith, is.0)) in
     let k = size_is (suc n) s is.0 is.1 in
     record {
-      lexes = λ rest after. minus_then (pointed (first_of s) (decimal (suc n)) s) (literal_sym (Num (pos (suc n)) s)) rest (no_minus_first (first_of s) (decimal (suc n)) s rest (first_digits (s == 38)) d.0 d.1) (k.lexes rest after);
+      lexes = λ rest after. minus_then (pointed (first_of s) (decimal (suc n)) s) (literal_sym (Num s (pos (suc n)))) rest (no_minus_first (first_of s) (decimal (suc n)) s rest (first_digits (s == 38)) d.0 d.1) (k.lexes rest after);
       touching = λ h. cc;
     }

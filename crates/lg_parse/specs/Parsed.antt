@@ -46,7 +46,7 @@ Maybe P (Some x) = P x
 
 -- no number below zero
 abbrev pub IsUnsigned : Value → Type 0
-IsUnsigned (Num (negsuc n) s) = ⊥
+IsUnsigned (Num s (negsuc n)) = ⊥
 IsUnsigned _ = ⊤
 
 abbrev pub IsTree : Tree → Type 0

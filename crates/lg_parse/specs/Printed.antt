@@ -75,7 +75,7 @@ name n = (t.Bracketed, 91 ∷ (n ++ 93 ∷ []))
 
 abbrev pub literal_tag : Value → Tag
 literal_tag value.Null = t.Null
-literal_tag (value.Num v s) = t.Number
+literal_tag (value.Num s v) = t.Number
 literal_tag (value.Text x) = t.Text
 literal_tag (value.Bytes b) = t.Bytes
 literal_tag (value.Date d) = t.Text

@@ -29,7 +29,7 @@ unfoldable pub number : Parser Value
 number = peek >>= number_by
 
 abbrev pub negated : Value → Value
-negated (Num v s) = Num (neg_ℤ v) s
+negated (Num s v) = Num s (neg_ℤ v)
 negated v = v
 
 abbrev pub value_by : Tag → Parser Value

@@ -16,7 +16,7 @@ use lg_value::{Refusal, Value};
 use std::alloc::Global;
 
 fn number(of: Number) -> Value
-    ensures { result ≡ Num of.v of.s }
+    ensures { result ≡ Num of.s of.v }
 {
     Value::Num { v: of.v, s: of.s }
 }

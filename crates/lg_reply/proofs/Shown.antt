@@ -100,7 +100,7 @@ pointed_ascii ds s h =
           rw past (IsAscii-cons 48 (46 ∷ (zeros ++ ds)) zero (IsAscii-cons 46 (zeros ++ ds) point (IsAscii-append zeros ds (zeros_ascii (s - length ds)) h)))
     ]
 
-pub number_utf8 : (v : ℤ) (s : ℕ) → unsigned_abs v < 10 ^ 64 → IsUtf8 (printed (Num v s))
+pub number_utf8 : (v : ℤ) (s : ℕ) → unsigned_abs v < 10 ^ 64 → IsUtf8 (printed (Num s v))
 unfolding printed
 number_utf8 v s small =
     let digits = pointed (48 ∷ []) (decimal (unsigned_abs v)) s in

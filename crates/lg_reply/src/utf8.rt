@@ -9,7 +9,7 @@ use lg_value::Value;
 
 /// What a number shows is UTF-8. Does nothing.
 fn number_shows_utf8(v: i128, s: u8)
-    ensures { IsUtf8 (printed (Num v s)) }
+    ensures { IsUtf8 (printed (Num s v)) }
 {}
 
 /// What a day shows is UTF-8. Does nothing.

@@ -81,7 +81,7 @@ bytes_of_type types.Date x r e = absurd cc
 pub value_small : (ty : SqlType) (v : Value) → is_stored v ty ≡ true → is_text v ≡ true → length (value_bytes ty v) < 2 ^ 32
 unfolding is_stored u32_field
 value_small ty values.Null e u = omega arith
-value_small ty (values.Num v s) e u = omega (arith, number_small ty v)
+value_small ty (values.Num s v) e u = omega (arith, number_small ty v)
 value_small ty (values.Text x) e u =
     let p = and_parts (is_in_range ty) (text_stored ty x) e in
     omega (arith, text_of_type ty x p.0 p.1 u)

@@ -54,7 +54,7 @@ number_fits types.Date v s e = tt
 pub stored_fits : (ty : SqlType) (v : Value) → is_stored v ty ≡ true → FitsBytes ty v
 unfolding is_stored
 stored_fits ty values.Null e = tt
-stored_fits ty (values.Num v s) e = number_fits ty v s (and_parts (is_in_range ty) (number_stored ty v s) e).1
+stored_fits ty (values.Num s v) e = number_fits ty v s (and_parts (is_in_range ty) (number_stored ty v s) e).1
 stored_fits ty (values.Text x) e = tt
 stored_fits ty (values.Bytes x) e = tt
 stored_fits ty (values.Date d) e = tt
@@ -68,12 +68,12 @@ pub record IsStored (ty : SqlType) (v : Value) : Type 0 where
   pub text : is_text v ≡ true
 
 abbrev num : ℕ → ℤ → Value
-num s v = values.Num v s
+num s v = values.Num s v
 
-read_number : (at : Reader ℤ) (s : ℕ) (bytes : List ℕ) (v : ℤ) (z : ℕ) → whole at bytes ≡ Some v → s ≡ z → number_of at z bytes ≡ Some (values.Num v s)
+read_number : (at : Reader ℤ) (s : ℕ) (bytes : List ℕ) (v : ℤ) (z : ℕ) → whole at bytes ≡ Some v → s ≡ z → number_of at z bytes ≡ Some (values.Num s v)
 read_number at s bytes v z e same = rw (e, same) refl
 
-number_there : (ty : SqlType) (v : ℤ) (s : ℕ) → is_in_range ty ≡ true → number_stored ty v s ≡ true → value_of ty (number_bytes ty v) ≡ Some (values.Num v s)
+number_there : (ty : SqlType) (v : ℤ) (s : ℕ) → is_in_range ty ≡ true → number_stored ty v s ≡ true → value_of ty (number_bytes ty v) ≡ Some (values.Num s v)
 unfolding value_of is_in_range
 number_there types.Bit v s r e =
     let p = and_parts (eqb s 0) (is_bit v) e in
@@ -129,7 +129,7 @@ day_there types.Date d e =
 pub value_there : (ty : SqlType) (v : Value) → IsStored ty v → value_of ty (value_bytes ty v) ≡ Some v
 unfolding is_stored
 value_there ty values.Null is = absurd (let e = is.told in cc)
-value_there ty (values.Num v s) is = let p = and_parts (is_in_range ty) (number_stored ty v s) is.stored in number_there ty v s p.0 p.1
+value_there ty (values.Num s v) is = let p = and_parts (is_in_range ty) (number_stored ty v s) is.stored in number_there ty v s p.0 p.1
 value_there ty (values.Text x) is = let p = and_parts (is_in_range ty) (text_stored ty x) is.stored in text_there ty x p.1 is.text
 value_there ty (values.Bytes x) is = let p = and_parts (is_in_range ty) (bytes_stored ty x) is.stored in bytes_there ty x p.1
 value_there ty (values.Date d) is = let p = and_parts (is_in_range ty) (day_stored ty d) is.stored in day_there ty d p.1
@@ -138,7 +138,7 @@ value_there ty (values.Date d) is = let p = and_parts (is_in_range ty) (day_stor
 pub stored_in_range : (ty : SqlType) (v : Value) → is_told v ≡ true → is_stored v ty ≡ true → is_in_range ty ≡ true
 unfolding is_stored
 stored_in_range ty values.Null told e = absurd cc
-stored_in_range ty (values.Num v s) told e = (and_parts (is_in_range ty) (number_stored ty v s) e).0
+stored_in_range ty (values.Num s v) told e = (and_parts (is_in_range ty) (number_stored ty v s) e).0
 stored_in_range ty (values.Text x) told e = (and_parts (is_in_range ty) (text_stored ty x) e).0
 stored_in_range ty (values.Bytes x) told e = (and_parts (is_in_range ty) (bytes_stored ty x) e).0
 stored_in_range ty (values.Date d) told e = (and_parts (is_in_range ty) (day_stored ty d) e).0
@@ -154,11 +154,11 @@ pub record IsSpelled (ty : SqlType) (bytes : List ℕ) (v : Value) : Type 0 wher
 number_back : (ty : SqlType) (F : ℤ → Type 0) (s : ℤ → List ℕ) (at : Reader ℤ) → Exact F s at → ((v : ℤ) → number_bytes ty v ≡ s v)
     → (z : ℕ) (bytes : List ℕ) (v : Value) → IsBytes bytes → number_of at z bytes ≡ Some v → IsSpelled ty bytes v
 number_back ty F s at exact written z bytes v fits e =
-    let x = bind_some (whole at bytes) (λ n. Some (values.Num n z)) v e in
+    let x = bind_some (whole at bytes) (λ n. Some (values.Num z n)) v e in
     let t = whole_sound F s at exact bytes x.0 fits x.1 in
-    let made : IsSpelled ty bytes (values.Num x.0 z) = record { told = refl; text = refl; spelled = written x.0 ∙ sym t.1 } in
+    let made : IsSpelled ty bytes (values.Num z x.0) = record { told = refl; text = refl; spelled = written x.0 ∙ sym t.1 } in
     let P : Value → Type 0 = IsSpelled ty bytes in
-    subst P (some_is (values.Num x.0 z) v x.2) made
+    subst P (some_is (values.Num z x.0) v x.2) made
 
 pub value_back : (ty : SqlType) (bytes : List ℕ) (v : Value) → IsBytes bytes → value_of ty bytes ≡ Some v → IsSpelled ty bytes v
 unfolding value_of

@@ -31,7 +31,7 @@ number_bytes _ v = i128_field v
 -- numbers by their type, texts in UTF-8, bytes as they are, days in 4 bytes
 abbrev pub value_bytes : SqlType → Value → List ℕ
 value_bytes ty values.Null = []
-value_bytes ty (values.Num v s) = number_bytes ty v
+value_bytes ty (values.Num s v) = number_bytes ty v
 value_bytes ty (values.Text text) = text
 value_bytes ty (values.Bytes bytes) = bytes
 value_bytes ty (values.Date day) = u32_field day
@@ -135,5 +135,5 @@ FitsNumber types.BigInt v = FitsSigned w64 v
 FitsNumber _ v = Unit {0}
 
 abbrev pub FitsBytes : SqlType → Value → Type 0
-FitsBytes ty (values.Num v s) = FitsNumber ty v
+FitsBytes ty (values.Num s v) = FitsNumber ty v
 FitsBytes ty _ = Unit {0}

@@ -42,7 +42,7 @@ type_at = decoded type_of (both (both u8_at u16_at) u8_at)
 
 -- a number, if the bytes are one of the type
 abbrev pub number_of : Reader ℤ → ℕ → List ℕ → Option Value
-number_of a s bytes = whole a bytes >>= λ v. Some (values.Num v s)
+number_of a s bytes = whole a bytes >>= λ v. Some (values.Num s v)
 
 -- a text, if the bytes are UTF-8
 abbrev pub text_of : List ℕ → Option Value

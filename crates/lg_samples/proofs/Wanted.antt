@@ -28,9 +28,9 @@ use Rattle.lg_samples.proofs.Worked.{is_literal_beside, is_plus_one, of_binary, 
 
 -- ---- keys
 
-pub negative_fixed : key_fixed (key_column (codes "id") Int ∷ []) (Some (id_is (val.Num (negsuc 4) 0))) ≡ Some (val.Num (negsuc 4) 0 ∷ [])
+pub negative_fixed : key_fixed (key_column (codes "id") Int ∷ []) (Some (id_is (val.Num 0 (negsuc 4)))) ≡ Some (val.Num 0 (negsuc 4) ∷ [])
 unfolding key_fixed key_places conversion_of is_in_range value_cmp raised
-negative_fixed = rw (is_literal_beside (codes "id") (val.Num (negsuc 4) 0)) refl
+negative_fixed = rw (is_literal_beside (codes "id") (val.Num 0 (negsuc 4))) refl
 
 pub date_fixed : key_fixed (key_column (codes "id") Date ∷ []) (Some (id_is (val.Text (codes "2020-02-29")))) ≡ Some (val.Date (number_of (civil 2020 2 29)) ∷ [])
 unfolding key_fixed key_places conversion_of is_in_range value_cmp raised day_of written_date

@@ -113,18 +113,18 @@ pub int_fixed : key_fixed (key_column (codes "id") Int ∷ []) (Some (id_is (num
 unfolding key_fixed key_places conversion_of is_in_range value_cmp raised
 int_fixed = rw (is_literal_beside (codes "id") (num 5)) refl
 
-pub int_not_fixed : key_fixed (key_column (codes "id") Int ∷ []) (Some (id_is (Num (pos 10) 1))) ≡ None
+pub int_not_fixed : key_fixed (key_column (codes "id") Int ∷ []) (Some (id_is (Num 1 (pos 10)))) ≡ None
 unfolding key_fixed key_places conversion_of is_in_range value_cmp raised
-int_not_fixed = rw (is_literal_beside (codes "id") (Num (pos 10) 1)) refl
+int_not_fixed = rw (is_literal_beside (codes "id") (Num 1 (pos 10))) refl
 
 -- id = 1.50 fixes a DECIMAL(5,1) key, as 1.5; id = 1.55 doesn't
-pub decimal_fixed : key_fixed (key_column (codes "id") (Decimal 5 1) ∷ []) (Some (id_is (Num (pos 150) 2))) ≡ Some (Num (pos 15) 1 ∷ [])
+pub decimal_fixed : key_fixed (key_column (codes "id") (Decimal 5 1) ∷ []) (Some (id_is (Num 2 (pos 150)))) ≡ Some (Num 1 (pos 15) ∷ [])
 unfolding key_fixed key_places conversion_of is_in_range value_cmp raised rounded_size
-decimal_fixed = rw (is_literal_beside (codes "id") (Num (pos 150) 2)) refl
+decimal_fixed = rw (is_literal_beside (codes "id") (Num 2 (pos 150))) refl
 
-pub decimal_not_fixed : key_fixed (key_column (codes "id") (Decimal 5 1) ∷ []) (Some (id_is (Num (pos 155) 2))) ≡ None
+pub decimal_not_fixed : key_fixed (key_column (codes "id") (Decimal 5 1) ∷ []) (Some (id_is (Num 2 (pos 155)))) ≡ None
 unfolding key_fixed key_places conversion_of is_in_range value_cmp raised rounded_size
-decimal_not_fixed = rw (is_literal_beside (codes "id") (Num (pos 155) 2)) refl
+decimal_not_fixed = rw (is_literal_beside (codes "id") (Num 2 (pos 155))) refl
 
 -- id = 2 changes in a BIT key
 pub bit_not_fixed : key_fixed (key_column (codes "id") Bit ∷ []) (Some (id_is (num 2))) ≡ None
@@ -321,7 +321,7 @@ unfolding clash conflict same_item same_key key_cmp value_cmp raised
 read_and_inserted = rw (select_5_wants, insert_5_wants) refl
 
 pub ends_of_bigint : answers first_tables 1 (create (codes "b") (column (codes "id") BigInt false ∷ []) Updatable None
-    ∷ insert (codes "b") ((Num (negsuc 9223372036854775807) 0 ∷ []) ∷ (num 9223372036854775807 ∷ []) ∷ [])
+    ∷ insert (codes "b") ((Num 0 (negsuc 9223372036854775807) ∷ []) ∷ (num 9223372036854775807 ∷ []) ∷ [])
     ∷ insert (codes "b") ((num 9223372036854775808 ∷ []) ∷ []) ∷ [])
     ≡ (codes "made" ∷ []) ∷ (codes "2 rows" ∷ []) ∷ (codes "E08" ∷ []) ∷ []
 unfolding chars meaning_of sum_of digits value_cmp raised utf16_units pointed printed is_in_range conversion_of find_part started ended key_places key_of key_cmp same_key stands standing rows_of holds key_fixed changed_all kept kept_row arranged is_duplicate inserted_rows versions_matched row_set row_changes insert_check values_check listed_check update_check sets_check delete_check row_statement_check select_check query_check total agg_value selected first_tables table_row column_rows index_rows table_def create_check index_check query_rows effect reply_lines reply_text

@@ -59,7 +59,7 @@ abbrev pub all_of : List ℕ → Stmt
 all_of name = s.Select (record { table = name; what = All; cond = None; order = [] })
 
 abbrev pub num : ℕ → Value
-num n = Num (pos n) 0
+num n = Num 0 (pos n)
 
 abbrev pub answers : Tables → ℕ → List Stmt → List (List (List ℕ))
 answers tables tx [] = []
@@ -175,7 +175,7 @@ of_nick units =
       value = Text (codes "Jones");
     })
     ∷ Some (record { ty = NVarChar 50; value = Text (codes "Nick") })
-    ∷ Some (record { ty = Decimal 10 2; value = Num (pos units) 2 }) ∷ []
+    ∷ Some (record { ty = Decimal 10 2; value = Num 2 (pos units) }) ∷ []
 
 abbrev pub balance : List Version → List Table
 balance versions = first_tables ++ record { def = def_balance; versions = versions } ∷ []
@@ -240,7 +240,7 @@ nines = 99999999999999999999999999999999999999
 abbrev pub wide : ℕ → ℤ → ℕ → Version
 wide id d n =
     record {
-      values = typed id ∷ Some (record { ty = Decimal 38 0; value = Num d 0 }) ∷ [];
+      values = typed id ∷ Some (record { ty = Decimal 38 0; value = Num 0 d }) ∷ [];
       start = (2, n);
       end = None;
     }

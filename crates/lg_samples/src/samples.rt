@@ -45,7 +45,7 @@ pub fn statements_are_answered()
         ∷ (codes "3|1|0|N'id'|2|0|0|0|1" ∷ codes "3|2|0|N'v'|2|0|0|1|0" ∷ codes "2 rows" ∷ []) ∷ [] }
     ensures ends_of_bigint { answers first_tables 1
         (create (codes "b") (column (codes "id") BigInt false ∷ []) Updatable None
-        ∷ insert (codes "b") ((Num (negsuc 9223372036854775807) 0 ∷ []) ∷ (num 9223372036854775807 ∷ []) ∷ [])
+        ∷ insert (codes "b") ((Num 0 (negsuc 9223372036854775807) ∷ []) ∷ (num 9223372036854775807 ∷ []) ∷ [])
         ∷ insert (codes "b") ((num 9223372036854775808 ∷ []) ∷ []) ∷ [])
         ≡ (codes "made" ∷ []) ∷ (codes "2 rows" ∷ []) ∷ (codes "E08" ∷ []) ∷ [] }
     ensures units_of_text { answers first_tables 1
@@ -130,16 +130,16 @@ pub fn events_are_numbered()
 pub fn keys_are_fixed()
     ensures int_fixed { key_fixed (key_column (codes "id") Int ∷ []) (Some (id_is (num 5)))
         ≡ Some (num 5 ∷ []) }
-    ensures int_not_fixed { key_fixed (key_column (codes "id") Int ∷ []) (Some (id_is (Num (pos 10) 1)))
+    ensures int_not_fixed { key_fixed (key_column (codes "id") Int ∷ []) (Some (id_is (Num 1 (pos 10))))
         ≡ None }
     ensures decimal_fixed { key_fixed (key_column (codes "id") (Decimal 5 1) ∷ [])
-        (Some (id_is (Num (pos 150) 2))) ≡ Some (Num (pos 15) 1 ∷ []) }
+        (Some (id_is (Num 2 (pos 150)))) ≡ Some (Num 1 (pos 15) ∷ []) }
     ensures decimal_not_fixed { key_fixed (key_column (codes "id") (Decimal 5 1) ∷ [])
-        (Some (id_is (Num (pos 155) 2))) ≡ None }
+        (Some (id_is (Num 2 (pos 155)))) ≡ None }
     ensures bit_not_fixed { key_fixed (key_column (codes "id") Bit ∷ []) (Some (id_is (num 2))) ≡ None }
     ensures null_not_fixed { key_fixed (key_column (codes "id") Int ∷ []) (Some (id_is Null)) ≡ None }
-    ensures negative { key_fixed (key_column (codes "id") Int ∷ []) (Some (id_is (Num (negsuc 4) 0)))
-        ≡ Some (Num (negsuc 4) 0 ∷ []) }
+    ensures negative { key_fixed (key_column (codes "id") Int ∷ []) (Some (id_is (Num 0 (negsuc 4))))
+        ≡ Some (Num 0 (negsuc 4) ∷ []) }
     ensures date { key_fixed (key_column (codes "id") Date ∷ []) (Some (id_is (Text (codes "2020-02-29"))))
         ≡ Some (val.Date (number_of (civil 2020 2 29)) ∷ []) }
     ensures nested { key_fixed (key_column (codes "id") Int ∷ []) (Some nested) ≡ Some (num 5 ∷ []) }

@@ -56,18 +56,18 @@ scale_same v z =
     let none : z - z ≡ 0 = omega arith in
     rw (none, raised_none v) (sym (rounded_none v))
 
-whole_stays : (ty : SqlType) (v : ℤ) (s : ℕ) → (s == 0) ≡ true → whole_to ty v ≡ Ok (Num v 0) → (if s == 0 then whole_to ty v else Err Mismatch) ≡ Ok (Num v s)
-whole_stays ty v s h is = let none = eqb-true s 0 h in rw h (is ∙ ap (λ k. Ok (Num v k)) (sym none))
+whole_stays : (ty : SqlType) (v : ℤ) (s : ℕ) → (s == 0) ≡ true → whole_to ty v ≡ Ok (Num 0 v) → (if s == 0 then whole_to ty v else Err Mismatch) ≡ Ok (Num s v)
+whole_stays ty v s h is = let none = eqb-true s 0 h in rw h (is ∙ ap (λ k. Ok (Num k v)) (sym none))
 
-number_stays : (ty : SqlType) (v : ℤ) (s : ℕ) → number_stored ty v s ≡ true → number_to ty v s ≡ Ok (Num v s)
-number_stays t.Bit v s h = let p = and_parts (s == 0) (is_bit v) h in whole_stays t.Bit v s p.0 (ap (λ x. Ok (Num x 0)) (bit_same v p.1))
+number_stays : (ty : SqlType) (v : ℤ) (s : ℕ) → number_stored ty v s ≡ true → number_to ty v s ≡ Ok (Num s v)
+number_stays t.Bit v s h = let p = and_parts (s == 0) (is_bit v) h in whole_stays t.Bit v s p.0 (ap (λ x. Ok (Num 0 x)) (bit_same v p.1))
 number_stays t.Int v s h = let p = and_parts (s == 0) (in_bits 31 v) h in whole_stays t.Int v s p.0 (rw p.1 refl)
 number_stays t.BigInt v s h = let p = and_parts (s == 0) (in_bits 63 v) h in whole_stays t.BigInt v s p.0 (rw p.1 refl)
 number_stays (t.Decimal p z) v s h =
     let parts = and_parts (s == z) (has_digits v p) h in
     let same = eqb-true s z parts.0 in
     let kept : rescaled v s z ≡ v = ap (λ k. rescaled v k z) same ∙ scale_same v z in
-    rw (kept, parts.1) (ap (λ k. Ok (Num v k)) (sym same))
+    rw (kept, parts.1) (ap (λ k. Ok (Num k v)) (sym same))
 number_stays (t.NVarChar n) v s h = absurd (search rules)
 number_stays (t.VarBinary n) v s h = absurd (search rules)
 number_stays t.Date v s h = absurd (search rules)
@@ -103,7 +103,7 @@ day_stays (t.VarBinary n) d h = absurd (search rules)
 pub stored_stays : (v : Value) (ty : SqlType) → is_stored v ty ≡ true → conversion_of v ty ≡ Ok v
 unfolding conversion_of is_stored
 stored_stays Null ty h = refl
-stored_stays (Num v s) ty h = let p = and_parts (is_in_range ty) (number_stored ty v s) h in rw p.0 (number_stays ty v s p.1)
+stored_stays (Num s v) ty h = let p = and_parts (is_in_range ty) (number_stored ty v s) h in rw p.0 (number_stays ty v s p.1)
 stored_stays (Text x) ty h = let p = and_parts (is_in_range ty) (text_stored ty x) h in rw p.0 (text_stays ty x p.1)
 stored_stays (Bytes x) ty h = let p = and_parts (is_in_range ty) (bytes_stored ty x) h in rw p.0 (bytes_stay ty x p.1)
 stored_stays (Date d) ty h = let p = and_parts (is_in_range ty) (day_stored ty d) h in rw p.0 (day_stays ty d p.1)

@@ -27,7 +27,7 @@ same_units v w s z most also =
     sym (cmp_raised (raised v (255 - s)) (raised w (255 - z)) (s + z))
     ∙ rw (raised_twice v (255 - s) (s + z), raised_twice w (255 - z) (s + z), left, right, ← raised_twice v z 255, ← raised_twice w s 255) (cmp_raised (raised v z) (raised w s) 255)
 
-pub numbers : (v w : ℤ) (s z : ℕ) → s < 2 ^ 8 → z < 2 ^ 8 → value_cmp (Num v s) (Num w z) ≡ int_cmp (raised v z) (raised w s)
+pub numbers : (v w : ℤ) (s z : ℕ) → s < 2 ^ 8 → z < 2 ^ 8 → value_cmp (Num s v) (Num z w) ≡ int_cmp (raised v z) (raised w s)
 unfolding value_cmp
 numbers v w s z small also = then_equal (int_cmp (raised v (255 - s)) (raised w (255 - z))) ∙ same_units v w s z (omega arith) (omega arith)
 
@@ -42,7 +42,7 @@ bytes a b = refl
 pub null : (b : Value) → b ≢ Null → value_cmp Null b ≡ Less
 unfolding value_cmp
 null Null apart = absurd (apart refl)
-null (Num v s) apart = refl
+null (Num s v) apart = refl
 null (Text t) apart = refl
 null (Bytes t) apart = refl
 null (Date d) apart = refl
@@ -84,30 +84,30 @@ self_equal o x y same = rw same (turns _ (o.antisymm y y))
 of_kinds : (a b : Value) → HasScale a → HasScale b → (value_cmp a b ≡ Equal) ↔ IsSameValue a b
 unfolding value_cmp
 of_kinds Null Null g h = (λ e. tt, λ e. refl)
-of_kinds Null (Num w z) g h = (λ e. absurd (search rules), λ e. absurd e)
+of_kinds Null (Num z w) g h = (λ e. absurd (search rules), λ e. absurd e)
 of_kinds Null (Text b) g h = (λ e. absurd (search rules), λ e. absurd e)
 of_kinds Null (Bytes b) g h = (λ e. absurd (search rules), λ e. absurd e)
 of_kinds Null (Date d) g h = (λ e. absurd (search rules), λ e. absurd e)
-of_kinds (Num v s) Null g h = (λ e. absurd (search rules), λ e. absurd e)
-of_kinds (Num v s) (Num w z) g h = (
+of_kinds (Num s v) Null g h = (λ e. absurd (search rules), λ e. absurd e)
+of_kinds (Num s v) (Num z w) g h = (
   λ e. exact_signed (raised v z) (raised w s) (sym (numbers v w s z g h) ∙ e),
   λ e. numbers v w s z g h ∙ self_equal int_cmp_total (raised v z) (raised w s) e,
 )
-of_kinds (Num v s) (Text b) g h = (λ e. absurd (search rules), λ e. absurd e)
-of_kinds (Num v s) (Bytes b) g h = (λ e. absurd (search rules), λ e. absurd e)
-of_kinds (Num v s) (Date d) g h = (λ e. absurd (search rules), λ e. absurd e)
+of_kinds (Num s v) (Text b) g h = (λ e. absurd (search rules), λ e. absurd e)
+of_kinds (Num s v) (Bytes b) g h = (λ e. absurd (search rules), λ e. absurd e)
+of_kinds (Num s v) (Date d) g h = (λ e. absurd (search rules), λ e. absurd e)
 of_kinds (Text a) Null g h = (λ e. absurd (search rules), λ e. absurd e)
-of_kinds (Text a) (Num w z) g h = (λ e. absurd (search rules), λ e. absurd e)
+of_kinds (Text a) (Num z w) g h = (λ e. absurd (search rules), λ e. absurd e)
 of_kinds (Text a) (Text b) g h = (λ e. exact_bytes a b e, λ e. self_equal nat_list_cmp_total a b e)
 of_kinds (Text a) (Bytes b) g h = (λ e. absurd (search rules), λ e. absurd e)
 of_kinds (Text a) (Date d) g h = (λ e. absurd (search rules), λ e. absurd e)
 of_kinds (Bytes a) Null g h = (λ e. absurd (search rules), λ e. absurd e)
-of_kinds (Bytes a) (Num w z) g h = (λ e. absurd (search rules), λ e. absurd e)
+of_kinds (Bytes a) (Num z w) g h = (λ e. absurd (search rules), λ e. absurd e)
 of_kinds (Bytes a) (Text b) g h = (λ e. absurd (search rules), λ e. absurd e)
 of_kinds (Bytes a) (Bytes b) g h = (λ e. exact_bytes a b e, λ e. self_equal nat_list_cmp_total a b e)
 of_kinds (Bytes a) (Date d) g h = (λ e. absurd (search rules), λ e. absurd e)
 of_kinds (Date d) Null g h = (λ e. absurd (search rules), λ e. absurd e)
-of_kinds (Date d) (Num w z) g h = (λ e. absurd (search rules), λ e. absurd e)
+of_kinds (Date d) (Num z w) g h = (λ e. absurd (search rules), λ e. absurd e)
 of_kinds (Date d) (Text b) g h = (λ e. absurd (search rules), λ e. absurd e)
 of_kinds (Date d) (Bytes b) g h = (λ e. absurd (search rules), λ e. absurd e)
 of_kinds (Date d) (Date f) g h = (λ e. exact_unsigned d f (sym (days d f) ∙ e), λ e. days d f ∙ self_equal nat_cmp_total d f e)

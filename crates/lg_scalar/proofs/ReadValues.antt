@@ -76,7 +76,7 @@ minus_keeps (suc n) = refl
 number_is : (sign : ℕ → ℤ) (o : Option (ℕ × ℕ)) (v : Value) → KeepsSize sign → ((p : ℕ × ℕ) → o ≡ Some p → IsSize p) → number sign o ≡ Some v → IsLiteral v
 number_is sign None v keeps size is = absurd (search rules)
 number_is sign (Some p) v keeps size is =
-    let same : Num (sign p.0) p.1 ≡ v = search rules in
+    let same : Num p.1 (sign p.0) ≡ v = search rules in
     let bound = size p refl in
     subst IsLiteral same (rw (keeps p.0) bound.0, bound.1)
 

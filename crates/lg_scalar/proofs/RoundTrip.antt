@@ -126,7 +126,7 @@ size_read first n s small none few =
     let some : 0 < length (decimal n) = decimal_some n (omega (arith, small)) in
     pointed_read first (decimal n) s n none (decimal_read n (omega (arith, small))) some (length-decimal-le_wide 38 n (omega arith) small (omega (arith, small))) few
 
-number_read : (first : List ℕ) (v : ℤ) (s : ℕ) → unsigned_abs v < 10 ^ 38 → digits_after 0 first ≡ Some 0 → length first + s ≤ 38 → literal_of (number_text first v s) ≡ Some (Num v s)
+number_read : (first : List ℕ) (v : ℤ) (s : ℕ) → unsigned_abs v < 10 ^ 38 → digits_after 0 first ≡ Some 0 → length first + s ≤ 38 → literal_of (number_text first v s) ≡ Some (Num s v)
 number_read first (pos n) s small none few =
     let read = size_read first n s small none few in
     let bytes = pointed_sized first (decimal n) s (digits_sized first (all_digits first 0 0 none)) (digits_sized (decimal n) (all_digits (decimal n) 0 n (decimal_read n (omega (arith, small))))) in
@@ -161,13 +161,13 @@ null_read = refl
 
 -- a number's digits leave room for those before its point
 abbrev Leaves : List ℕ → Value → Type 0
-Leaves first (Num v s) = length first + s ≤ 38
+Leaves first (Num s v) = length first + s ≤ 38
 Leaves first _ = ⊤
 
 read_with : (v : Value) (first : List ℕ) → IsLiteral v → digits_after 0 first ≡ Some 0 → Leaves first v → literal_of (printed_with first v) ≡ Some v
 unfolding literal_of
 read_with Null first is none few = null_read
-read_with (Num v s) first is none few = number_read first v s is.0 none few
+read_with (Num s v) first is none few = number_read first v s is.0 none few
 read_with (Text t) first is none few = ap (option_map Text) (text_read t)
 read_with (Bytes b) first is none few = rw (decode_of-encode_upper b is) refl
 read_with (Date d) first is none few = absurd is
@@ -177,7 +177,7 @@ not_38 s h = grind (arith, nat_tests)
 
 room : (v : Value) → IsLiteral v → Leaves (leading_zero v) v
 room Null is = tt
-room (Num v s) is = elim (cases_eq s 38) [
+room (Num s v) is = elim (cases_eq s 38) [
   | inl most ↦ rw most (omega arith)
   | inr less ↦ rw (not_38 s less) (omega (arith, is, less))
 ]
@@ -187,7 +187,7 @@ room (Date d) is = tt
 
 first_read : (v : Value) → digits_after 0 (leading_zero v) ≡ Some 0
 first_read Null = refl
-first_read (Num v s) = elim (cases_eq s 38) [
+first_read (Num s v) = elim (cases_eq s 38) [
   | inl most ↦ rw most refl
   | inr less ↦ rw (not_38 s less) refl
 ]
@@ -202,7 +202,7 @@ literal_read v is = read_with v (leading_zero v) is (first_read v) (room v is)
 
 whole_room : (v : Value) → IsLiteral v → HasWholePart v → Leaves (48 ∷ []) v
 whole_room Null is whole = tt
-whole_room (Num v s) is whole = omega (arith, is, whole)
+whole_room (Num s v) is whole = omega (arith, is, whole)
 whole_room (Text t) is whole = tt
 whole_room (Bytes b) is whole = tt
 whole_room (Date d) is whole = tt

@@ -49,7 +49,7 @@ fn decimal_to(p: u32, z: u8, v: i128, s: u8) -> Result<Value, ValueErr>
     requires { p ≤ 38 }
     ensures { result
         ≡ spec.only_if (number.has_digits (number.rescaled v s z) p) OutOfRange
-        (Num (number.rescaled v s z) z) }
+        (Num z (number.rescaled v s z)) }
 {
     match rescaled(v, s, z) {
         Some(v) if has_digits(v, p) => Ok(Value::Num { v, s: z }),

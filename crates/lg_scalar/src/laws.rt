@@ -30,7 +30,7 @@ pub fn order_is_total()
 pub fn order_of_kinds()
     ensures null { (b : Value) → b ≢ Null → value_cmp Null b ≡ Less }
     ensures numbers { (v w : ℤ) (s z : ℕ) → s < 2 ^ 8 → z < 2 ^ 8
-        → value_cmp (Num v s) (Num w z) ≡ int_cmp (raised v z) (raised w s) }
+        → value_cmp (Num s v) (Num z w) ≡ int_cmp (raised v z) (raised w s) }
     ensures texts { (a b : List ℕ) → value_cmp (Text a) (Text b) ≡ slice_cmp nat_cmp a b }
     ensures bytes { (a b : List ℕ) → value_cmp (Bytes a) (Bytes b) ≡ slice_cmp nat_cmp a b }
     ensures days { (d e : ℕ) → value_cmp (Date d) (Date e) ≡ nat_cmp d e }

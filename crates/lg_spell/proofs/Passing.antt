@@ -110,7 +110,7 @@ module _ (first second : List Row) (defs : Defs) (all : AllByRecursion (λ d. is
       → AllByRecursion (λ id. is_wrong first second defs id ≡ false) (filter_map table_of (r ∷ rs))
   one_right [] rs h rest = rest
   one_right (Null ∷ vs) rs h rest = rest
-  one_right (Num n s ∷ vs) rs h rest = (known n (Num n s ∷ vs) (itself n) h (has_def defs n) refl, rest)
+  one_right (Num s n ∷ vs) rs h rest = (known n (Num s n ∷ vs) (itself n) h (has_def defs n) refl, rest)
   one_right (Text t ∷ vs) rs h rest = rest
   one_right (Bytes b ∷ vs) rs h rest = rest
   one_right (Date d ∷ vs) rs h rest = rest

@@ -18,7 +18,7 @@ abbrev pub are_rows : List Row → List Row → Bool
 are_rows rows wanted = length rows == length wanted && list_all (λ w. list_any (same_key w) rows) wanted
 
 abbrev pub table_of : Row → Option ℤ
-table_of (Num n s ∷ values) = Some n
+table_of (Num s n ∷ values) = Some n
 table_of _ = None
 
 -- Rows whose first value is no number are about no table and are passed over, and values are compared up to

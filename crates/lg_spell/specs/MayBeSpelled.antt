@@ -71,7 +71,7 @@ names_in row = filter_map text_of row
 
 -- the row is about a table with a lower id
 abbrev pub is_before : ℕ → Row → Bool
-is_before id (Num n s ∷ values) = is_lt (int_cmp n (pos id))
+is_before id (Num s n ∷ values) = is_lt (int_cmp n (pos id))
 is_before id _ = false
 
 -- one of these names is a name of the table

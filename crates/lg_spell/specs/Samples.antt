@@ -45,4 +45,4 @@ odd_def id columns = table_def id (create (codes "t") (codes "h") columns)
 
 -- a row that has no more than the id of a table
 abbrev pub stray : ℤ → Row
-stray id = Num id 0 ∷ []
+stray id = Num 0 id ∷ []

@@ -36,7 +36,7 @@ pub record AreRowsOf (first second : List Row) (defs : Defs) : Type 0 where
 
 -- the row is about the table with this id; one whose first value is no number is about none
 abbrev pub is_about : ℤ → Row → Bool
-is_about id (Num n s ∷ values) = int_eq n id
+is_about id (Num s n ∷ values) = int_eq n id
 is_about id _ = false
 
 abbrev pub about : ℤ → List Row → List Row

@@ -44,8 +44,8 @@ AreOf ty w = is_value_of ty w ≡ true
 
 whole_fits : (ty : SqlType) (v : ℤ) (w : Value) → whole_to ty v ≡ Ok w → AreOf ty w
 whole_fits t.Bit v w is = subst (AreOf t.Bit) (same_value _ w is) (bit_small v)
-whole_fits t.Int v w is = let p = only (in_bits 31 v) OutOfRange (Num v 0) w is in subst (AreOf t.Int) p.1 p.0
-whole_fits t.BigInt v w is = let p = only (in_bits 63 v) OutOfRange (Num v 0) w is in subst (AreOf t.BigInt) p.1 p.0
+whole_fits t.Int v w is = let p = only (in_bits 31 v) OutOfRange (Num 0 v) w is in subst (AreOf t.Int) p.1 p.0
+whole_fits t.BigInt v w is = let p = only (in_bits 63 v) OutOfRange (Num 0 v) w is in subst (AreOf t.BigInt) p.1 p.0
 whole_fits _ v w is = absurd (search rules)
 
 self_equal : (n : ℕ) → (n == n) ≡ true
@@ -53,7 +53,7 @@ self_equal n = grind (arith, nat_tests)
 
 number_fits : (ty : SqlType) (v : ℤ) (s : ℕ) (w : Value) → number_to ty v s ≡ Ok w → AreOf ty w
 number_fits (t.Decimal p z) v s w is =
-    let parts = only (has_digits (rescaled v s z) p) OutOfRange (Num (rescaled v s z) z) w is in
+    let parts = only (has_digits (rescaled v s z) p) OutOfRange (Num z (rescaled v s z)) w is in
     subst (AreOf (t.Decimal p z)) parts.1 (rw (self_equal z) parts.0)
 number_fits ty v s w is = whole_fits ty v w (guarded (s == 0) _ w is).1
 
@@ -77,7 +77,7 @@ days_fit _ d w is = absurd (search rules)
 stored_if : (w : Value) (ty : SqlType) → is_in_range ty ≡ true → AreOf ty w → is_stored w ty ≡ true
 unfolding is_stored
 stored_if Null ty h is = refl
-stored_if (Num v s) ty h is = rw (h, is) refl
+stored_if (Num s v) ty h is = rw (h, is) refl
 stored_if (Text x) ty h is = rw (h, is) refl
 stored_if (Bytes x) ty h is = rw (h, is) refl
 stored_if (Date d) ty h is = rw (h, is) refl
@@ -89,7 +89,7 @@ made_if ty x w fits is = let p = guarded (is_in_range ty) x w is in stored_if w 
 pub made_stored : (v w : Value) (ty : SqlType) → conversion_of v ty ≡ Ok w → is_stored w ty ≡ true
 unfolding conversion_of is_stored
 made_stored Null w ty is = subst (λ x. is_stored x ty ≡ true) (same_value Null w is) refl
-made_stored (Num v s) w ty is = made_if ty _ w (number_fits ty v s w) is
+made_stored (Num s v) w ty is = made_if ty _ w (number_fits ty v s w) is
 made_stored (Text x) w ty is = made_if ty _ w (text_fits ty x w) is
 made_stored (Bytes x) w ty is = made_if ty _ w (bytes_fit ty x w) is
 made_stored (Date d) w ty is = made_if ty _ w (days_fit ty d w) is

@@ -24,14 +24,14 @@ bit_of v = if unsigned_abs v == 0 then pos 0 else pos 1
 
 -- a whole number becomes a bit or stays itself
 abbrev pub whole_to : SqlType → ℤ → Converted
-whole_to t.Bit v = Ok (Num (bit_of v) 0)
-whole_to t.Int v = only_if (in_bits 31 v) OutOfRange (Num v 0)
-whole_to t.BigInt v = only_if (in_bits 63 v) OutOfRange (Num v 0)
+whole_to t.Bit v = Ok (Num 0 (bit_of v))
+whole_to t.Int v = only_if (in_bits 31 v) OutOfRange (Num 0 v)
+whole_to t.BigInt v = only_if (in_bits 63 v) OutOfRange (Num 0 v)
 whole_to _ v = Err Mismatch
 
 -- a number is rounded to the places of a DECIMAL; to the other types go whole numbers alone
 abbrev pub number_to : SqlType → ℤ → ℕ → Converted
-number_to (t.Decimal p z) v s = only_if (has_digits (rescaled v s z) p) OutOfRange (Num (rescaled v s z) z)
+number_to (t.Decimal p z) v s = only_if (has_digits (rescaled v s z) p) OutOfRange (Num z (rescaled v s z))
 number_to ty v s = if s == 0 then whole_to ty v else Err Mismatch
 
 abbrev pub day_or_mismatch : Option ℕ → Converted
@@ -54,7 +54,7 @@ day_to _ d = Err Mismatch
 
 abbrev pub converted : SqlType → Value → Converted
 converted ty Null = Ok Null
-converted ty (Num v s) = number_to ty v s
+converted ty (Num s v) = number_to ty v s
 converted ty (Text x) = text_to ty x
 converted ty (Bytes x) = bytes_to ty x
 converted ty (Date d) = day_to ty d

@@ -84,7 +84,7 @@ unfoldable pub unsigned : List ℕ → Option (ℕ × ℕ)
 unsigned text = unsigned_at (position is_point text) text
 
 abbrev pub number : (ℕ → ℤ) → Option (ℕ × ℕ) → Option Value
-number sign n = option_map (λ p. Num (sign p.0) p.1) n
+number sign n = option_map (λ p. Num p.1 (sign p.0)) n
 
 abbrev pub minus : ℕ → ℤ
 minus n = neg_ℤ (pos n)

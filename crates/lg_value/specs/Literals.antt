@@ -7,12 +7,12 @@ use Rattle.lg_value.specs.declared.value.Value.TheVariants.{Null, Num, Text, Byt
 -- a literal writes the value: all but days, and numbers of more than 38 digits
 abbrev pub IsLiteral : Value → Type 0
 IsLiteral Null = ⊤
-IsLiteral (Num v s) = (unsigned_abs v < 10 ^ 38) × (s ≤ 38)
+IsLiteral (Num s v) = (unsigned_abs v < 10 ^ 38) × (s ≤ 38)
 IsLiteral (Text t) = ⊤
 IsLiteral (Bytes b) = IsBytes b
 IsLiteral (Date d) = ⊥
 
 -- the number, if v is one, has a digit before its point
 abbrev pub HasWholePart : Value → Type 0
-HasWholePart (Num v s) = s ≢ 38
+HasWholePart (Num s v) = s ≢ 38
 HasWholePart _ = ⊤

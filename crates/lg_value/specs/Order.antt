@@ -11,7 +11,7 @@ use Rattle.lg_value.specs.Number.{raised}
 -- NULL, then numbers, texts, bytes and days
 abbrev pub kind : Value → ℕ
 kind Null = 0
-kind (Num v s) = 1
+kind (Num s v) = 1
 kind (Text t) = 2
 kind (Bytes b) = 3
 kind (Date d) = 4
@@ -19,7 +19,7 @@ kind (Date d) = 4
 -- a number in units of 10^-255, the smallest that a value may have; a day as its number
 abbrev pub exact : Value → ℤ
 exact Null = pos 0
-exact (Num v s) = raised v (255 - s)
+exact (Num s v) = raised v (255 - s)
 exact (Text t) = pos 0
 exact (Bytes b) = pos 0
 exact (Date d) = pos d
@@ -27,7 +27,7 @@ exact (Date d) = pos d
 -- the bytes of a text, and bytes
 abbrev pub bytes : Value → List ℕ
 bytes Null = []
-bytes (Num v s) = []
+bytes (Num s v) = []
 bytes (Text t) = t
 bytes (Bytes b) = b
 bytes (Date d) = []
@@ -46,7 +46,7 @@ value_total =
 -- two values are one: numbers by what they are worth, whatever their scales
 abbrev pub IsSameValue : Value → Value → Type 0
 IsSameValue Null Null = ⊤
-IsSameValue (Num v s) (Num w z) = raised v z ≡ raised w s
+IsSameValue (Num s v) (Num z w) = raised v z ≡ raised w s
 IsSameValue (Text a) (Text b) = a ≡ b
 IsSameValue (Bytes a) (Bytes b) = a ≡ b
 IsSameValue (Date d) (Date e) = d ≡ e
@@ -54,5 +54,5 @@ IsSameValue _ _ = ⊥
 
 -- the scale, if v is a number, is one that a value may have
 abbrev pub HasScale : Value → Type 0
-HasScale (Num v s) = s < 2 ^ 8
+HasScale (Num s v) = s < 2 ^ 8
 HasScale _ = ⊤

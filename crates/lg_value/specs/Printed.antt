@@ -43,7 +43,7 @@ day_text d = if nat_le d last_day then date_text (date_of d) else decimal d
 
 abbrev pub printed_with : List ℕ → Value → List ℕ
 printed_with zero Null = codes "NULL"
-printed_with zero (Num v s) = number_text zero v s
+printed_with zero (Num s v) = number_text zero v s
 printed_with zero (Text x) = 78 ∷ quoted (doubled x)
 printed_with zero (Bytes b) = 48 ∷ 120 ∷ encode_upper b
 printed_with zero (Date d) = quoted (day_text d)
@@ -56,7 +56,7 @@ printed v = printed_with (48 ∷ []) v
 -- since a
 -- literal has no more than 38
 abbrev pub leading_zero : Value → List ℕ
-leading_zero (Num v s) = if s == 38 then [] else 48 ∷ []
+leading_zero (Num s v) = if s == 38 then [] else 48 ∷ []
 leading_zero _ = 48 ∷ []
 
 -- a value as statements write it

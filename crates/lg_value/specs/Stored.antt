@@ -50,7 +50,7 @@ day_stored _ d = false
 
 abbrev pub is_value_of : SqlType → Value → Bool
 is_value_of ty Null = true
-is_value_of ty (Num v s) = number_stored ty v s
+is_value_of ty (Num s v) = number_stored ty v s
 is_value_of ty (Text x) = text_stored ty x
 is_value_of ty (Bytes x) = bytes_stored ty x
 is_value_of ty (Date d) = day_stored ty d

@@ -9,7 +9,7 @@ use lg_items::{Blob, Memory, Text};
 pub enum Value {
     Null,
     /// The number `v` in units of 10^-s.
-    Num { v: i128, s: u8 },
+    Num { s: u8, v: i128 },
     Text(Text),
     Bytes(Blob),
     /// The number of a day, where 0 is 0001-01-01.

@@ -112,7 +112,7 @@ small_scale t.Date e = omega arith
 pub stored_scale : (ty : SqlType) (v : Value) → is_stored v ty ≡ true → HasScale v
 unfolding is_stored
 stored_scale ty Null e = tt
-stored_scale ty (Num v s) e =
+stored_scale ty (Num s v) e =
     let small : scale_of ty < 2 ^ 8 = small_scale ty (front (is_in_range ty) (number_stored ty v s) e) in
     let is : s ≡ scale_of ty = has_scale ty v s (rest (is_in_range ty) (number_stored ty v s) e) in
     omega (arith, small, is)
@@ -122,13 +122,13 @@ stored_scale ty (Date d) e = tt
 
 -- a number has the scale of its type
 abbrev pub AtScale : SqlType → Value → Type 0
-AtScale ty (Num v s) = s ≡ scale_of ty
+AtScale ty (Num s v) = s ≡ scale_of ty
 AtScale ty _ = Unit {0}
 
 pub at_scale : (ty : SqlType) (v : Value) → is_stored v ty ≡ true → AtScale ty v
 unfolding is_stored
 at_scale ty Null e = tt
-at_scale ty (Num v s) e = has_scale ty v s (rest (is_in_range ty) (number_stored ty v s) e)
+at_scale ty (Num s v) e = has_scale ty v s (rest (is_in_range ty) (number_stored ty v s) e)
 at_scale ty (Text x) e = tt
 at_scale ty (Bytes x) e = tt
 at_scale ty (Date d) e = tt
@@ -148,30 +148,30 @@ one_number v w k e =
 
 pub one_value : (ty : SqlType) (a b : Value) → AtScale ty a → AtScale ty b → IsSameValue a b → a ≡ b
 one_value ty Null Null p q s = refl
-one_value ty Null (Num w z) p q s = absurd s
+one_value ty Null (Num z w) p q s = absurd s
 one_value ty Null (Text y) p q s = absurd s
 one_value ty Null (Bytes y) p q s = absurd s
 one_value ty Null (Date y) p q s = absurd s
-one_value ty (Num v x) Null p q s = absurd s
-one_value ty (Num v x) (Num w z) p q s =
+one_value ty (Num x v) Null p q s = absurd s
+one_value ty (Num x v) (Num z w) p q s =
     let scale : x ≡ z = p ∙ sym q in
     let same : raised v z ≡ raised w z = s ∙ ap (raised w) scale in
-    ap (Num v) scale ∙ ap (λ n. Num n z) (one_number v w z same)
-one_value ty (Num v x) (Text y) p q s = absurd s
-one_value ty (Num v x) (Bytes y) p q s = absurd s
-one_value ty (Num v x) (Date y) p q s = absurd s
+    ap (λ n. Num n v) scale ∙ ap (Num z) (one_number v w z same)
+one_value ty (Num x v) (Text y) p q s = absurd s
+one_value ty (Num x v) (Bytes y) p q s = absurd s
+one_value ty (Num x v) (Date y) p q s = absurd s
 one_value ty (Text x) Null p q s = absurd s
-one_value ty (Text x) (Num w z) p q s = absurd s
+one_value ty (Text x) (Num z w) p q s = absurd s
 one_value ty (Text x) (Text y) p q s = ap Text s
 one_value ty (Text x) (Bytes y) p q s = absurd s
 one_value ty (Text x) (Date y) p q s = absurd s
 one_value ty (Bytes x) Null p q s = absurd s
-one_value ty (Bytes x) (Num w z) p q s = absurd s
+one_value ty (Bytes x) (Num z w) p q s = absurd s
 one_value ty (Bytes x) (Text y) p q s = absurd s
 one_value ty (Bytes x) (Bytes y) p q s = ap Bytes s
 one_value ty (Bytes x) (Date y) p q s = absurd s
 one_value ty (Date x) Null p q s = absurd s
-one_value ty (Date x) (Num w z) p q s = absurd s
+one_value ty (Date x) (Num z w) p q s = absurd s
 one_value ty (Date x) (Text y) p q s = absurd s
 one_value ty (Date x) (Bytes y) p q s = absurd s
 one_value ty (Date x) (Date y) p q s = ap Date s

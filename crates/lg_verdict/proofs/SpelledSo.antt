@@ -217,9 +217,9 @@ none_about : (Q : ℤ → Type 0) (id : ℤ) (rows : List Row) → (Q id → ⊥
 none_about Q id [] never h = refl
 none_about Q id ([] ∷ rs) never h = none_about Q id rs never h
 none_about Q id ((Null ∷ vs) ∷ rs) never h = none_about Q id rs never h
-none_about Q id ((Num n s ∷ vs) ∷ rs) never h = here (int_eq n id) (Decides-int_eq n id) (none_about Q id rs never h.1)
+none_about Q id ((Num s n ∷ vs) ∷ rs) never h = here (int_eq n id) (Decides-int_eq n id) (none_about Q id rs never h.1)
   where
-    here : (b : Bool) → Decides b (n ≡ id) → about id rs ≡ [] → (if b then (Num n s ∷ vs) ∷ about id rs else about id rs) ≡ []
+    here : (b : Bool) → Decides b (n ≡ id) → about id rs ≡ [] → (if b then (Num s n ∷ vs) ∷ about id rs else about id rs) ≡ []
     here true d e = absurd (never (subst Q (d.0 refl) h.0))
     here false d e = e
 none_about Q id ((Text t ∷ vs) ∷ rs) never h = none_about Q id rs never h

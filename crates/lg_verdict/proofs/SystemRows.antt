@@ -96,7 +96,7 @@ items_scaled def = all_append (Scaled columns_columns) (column_rows def) (rows_o
 -- ---- their items rise
 
 abbrev item_of : Row → ℕ
-item_of (a ∷ Num (pos n) s ∷ vs) = n
+item_of (a ∷ Num s (pos n) ∷ vs) = n
 item_of _ = 0
 
 abbrev RiseFrom : ℕ → List Row → Type 0

@@ -108,7 +108,7 @@ tables_of_third (a ∷ b ∷ c ∷ more) = flat_map (λ t. t.1) c.tables
 tables_of_third _ = []
 
 abbrev number : Value → ℕ
-number (Num (pos n) s) = n
+number (Num s (pos n)) = n
 number _ = 0
 
 abbrev second_number : List FieldOf → ℕ

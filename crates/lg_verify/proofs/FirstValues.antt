@@ -10,7 +10,7 @@ use Rattle.lg_verify.specs.Numbers.{about_number, before_number}
 pub about_of : (id : ℤ) (row : Row) → is_about id row ≡ about_number id (table_of row)
 about_of id [] = refl
 about_of id (Null ∷ more) = refl
-about_of id (Num n s ∷ more) = refl
+about_of id (Num s n ∷ more) = refl
 about_of id (Text t ∷ more) = refl
 about_of id (Bytes b ∷ more) = refl
 about_of id (Date d ∷ more) = refl
@@ -18,7 +18,7 @@ about_of id (Date d ∷ more) = refl
 pub before_of : (id : ℕ) (row : Row) → is_before id row ≡ before_number id (table_of row)
 before_of id [] = refl
 before_of id (Null ∷ more) = refl
-before_of id (Num n s ∷ more) = refl
+before_of id (Num s n ∷ more) = refl
 before_of id (Text t ∷ more) = refl
 before_of id (Bytes b ∷ more) = refl
 before_of id (Date d ∷ more) = refl

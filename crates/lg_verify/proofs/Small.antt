@@ -37,7 +37,7 @@ int_small (negsuc n) e = let lt : n < 2 ^ 31 = ltb-true _ _ e in record { sfits 
 small_value : (x : Value) (rest : Row) → is_stored x Int ≡ true → IfSome (table_of (x ∷ rest)) IsSmall
 unfolding is_stored
 small_value Null rest e = tt
-small_value (Num n s) rest e = int_small n (and_parts _ _ (and_parts _ _ e).1).1
+small_value (Num s n) rest e = int_small n (and_parts _ _ (and_parts _ _ e).1).1
 small_value (Text t) rest e = tt
 small_value (Bytes b) rest e = tt
 small_value (Date d) rest e = tt

@@ -20,7 +20,7 @@ use Rattle.lg_verify.specs.declared.items.Wanted.TheVariants as wants
 
 abbrev pub value_of : Wanted → Value
 value_of wants.Null = values.Null
-value_of (wants.Number n) = values.Num n 0
+value_of (wants.Number n) = values.Num 0 n
 value_of (wants.Name name) = values.Text name.now
 
 abbrev pub rows_in : List Version → List Row

@@ -24,7 +24,7 @@ abbrev pub history : List Version → List Version
 history versions = filter (λ v. is_some v.end) versions
 
 abbrev pub number_in : Value → ℕ
-number_in (Num (pos n) scale) = n
+number_in (Num scale (pos n)) = n
 number_in _ = 0
 
 -- what a row has in `v`, which is the second column
