@@ -40,8 +40,9 @@ TENTHS = {tenth for _, _, tenth, _ in CASES if tenth}
 WORDS = {name: words for name, words, _, _ in CASES}
 MOST_RATIO = 3
 MOST_SECONDS = 20
-# What lasts less is shown and not judged.
+# What lasts less is shown and not judged: a case beside plain Rust, and a round of which growth is told.
 LEAST_SECONDS = 0.02
+LEAST_ROUND = 0.1
 
 
 def input_of(name, words):
@@ -176,7 +177,7 @@ def main(words):
                     faults.append(f"more than {MOST_SECONDS} s")
             if two is not None and call == "verify" and bytes_of(folder_of(1, name), "out") != b"Yes\n":
                 faults.append("not Yes")
-            if grown is not None and two[1] >= 10 * LEAST_SECONDS and grown > growth:
+            if grown is not None and two[1] >= LEAST_ROUND and grown > growth:
                 faults.append(f"more than {growth} times the tenth")
             failed += len(faults)
             shown_growth = "-" if grown is None else f"{grown:.1f}"
