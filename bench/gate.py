@@ -5,8 +5,7 @@
 
 Runs the command, or ./test, and looks twice a second at the processes below it. At the end it writes a table to FILE,
 or out/gate.md: the processor minutes of each crate's proofs, tests and edits, the most memory that one of its processes
-held, and the minutes at which the crate was begun and ended. What a process does after the last look at it counts for
-no crate."""
+held, and the minutes at which the crate was begun and ended. What follows the last look at a process counts for no crate."""
 import os
 import re
 import resource
@@ -17,9 +16,7 @@ import time
 from types import SimpleNamespace
 
 TOP = os.path.dirname(os.path.dirname(os.path.realpath(__file__)))
-PAUSE = 0.5
 TICKS = os.sysconf("SC_CLK_TCK")
-KINDS = ("proofs", "tests", "edits")
 
 
 def read(pid, name):
@@ -33,7 +30,8 @@ def process_of(pid):
         # (its name, before the last bracket, may hold blanks and brackets)
         words = read(pid, "stat").rpartition(b")")[2].split()
         seconds = (int(words[11]) + int(words[12])) / TICKS
-        return SimpleNamespace(pid=pid, parent=int(words[1]), started=int(words[19]), seconds=seconds, memory=0, crate="", first=None)
+        of_stat = {"pid": pid, "parent": int(words[1]), "started": int(words[19]), "seconds": seconds}
+        return SimpleNamespace(**of_stat, memory=0, crate="", first=None)
     except (OSError, IndexError):
         return None
 
@@ -63,8 +61,7 @@ class Family:
         here = {int(it) for it in os.listdir("/proc") if it.isdigit()}
         self.strangers &= here
         found = {it.pid: it for it in map(process_of, here - self.strangers) if it}
-        is_here = lambda it: it.pid in found and found[it.pid].started == it.started
-        self.living = {pid: it for pid, it in self.living.items() if is_here(it)}
+        self.living = {pid: it for pid, it in self.living.items() if pid in found and found[pid].started == it.started}
         for pid in found:
             above = pid
             # (those above it may be as new)
@@ -108,7 +105,7 @@ def longest_chain(crates):
 
 
 def row(name, processes):
-    seconds = [sum(it.seconds for it in processes if it.kind == kind) for kind in KINDS]
+    seconds = [sum(it.seconds for it in processes if it.kind == kind) for kind in ("proofs", "tests", "edits")]
     begun, ended = min(it.first for it in processes), max(it.last for it in processes)
     shown = [f"{it / 60:.2f}" for it in (*seconds, sum(seconds), begun, ended)]
     return f"| {' | '.join([name, *shown[:4], f'{max(it.memory for it in processes) / 1e9:.2f}', *shown[4:]])} |"
@@ -117,14 +114,16 @@ def row(name, processes):
 def table(crates, words, status, wall):
     seconds_of = lambda name: sum(it.seconds for it in crates[name])
     used, chain = resource.getrusage(resource.RUSAGE_CHILDREN), longest_chain(crates)
-    total = used.ru_utime + used.ru_stime
+    rest = used.ru_utime + used.ru_stime - sum(map(seconds_of, crates))
     yield f"`{' '.join(words)}` ended with status {status}. Times are minutes, memory is GB of one process.\n"
     yield "| crate | proofs | tests | edits | all | memory | begun | ended |\n|:--|--:|--:|--:|--:|--:|--:|--:|"
     yield from (row(name, crates[name]) for name in sorted(crates, key=seconds_of, reverse=True))
-    if crates:
-        yield row("all", [it for processes in crates.values() for it in processes])
-    yield f"\nProcessor time: {total / 60:.2f} (user {used.ru_utime / 60:.2f}, system {used.ru_stime / 60:.2f}), of which {(total - sum(map(seconds_of, crates))) / 60:.2f} for no crate. By the clock: {wall / 60:.2f}."
-    yield f"The longest chain of proofs, by the clock: {sum(own for _, own in chain) / 60:.2f} ({', '.join(f'{name} {own / 60:.2f}' for name, own in chain)})."
+    everything = [it for processes in crates.values() for it in processes]
+    yield from [row("all", everything)] if everything else []
+    yield f"\nProcessor time: user {used.ru_utime / 60:.2f}, system {used.ru_stime / 60:.2f}, of both {rest / 60:.2f} for no crate."
+    yield f"By the clock: {wall / 60:.2f}."
+    yield f"The longest chain of proofs, by the clock: {sum(own for _, own in chain) / 60:.2f}"
+    yield f"({', '.join(f'{name} {own / 60:.2f}' for name, own in chain)})."
 
 
 def main(words):
@@ -139,7 +138,7 @@ def main(words):
     family = Family(ran.pid)
     while ran.poll() is None:
         family.look(time.monotonic() - began)
-        time.sleep(PAUSE)
+        time.sleep(0.5)
     lines = table(family.crates, words, ran.returncode, time.monotonic() - began)
     os.makedirs(os.path.dirname(os.path.abspath(file)), exist_ok=True)
     with open(file, "w", encoding="utf-8") as it:
