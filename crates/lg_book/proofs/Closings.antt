@@ -6,7 +6,7 @@ use Rattle.lg_standing.specs.Cells.{LedgerCell, pending_in}
 use Rattle.lg_standing.specs.LedgerIsLegal.{LedgerIsLegal}
 use Rattle.lg_standing.specs.LedgerVisits.{closed_by, all_closed, next_block}
 use Rattle.lg_standing.specs.Server.{Server}
-use Rattle.lg_standing.proofs.Closes.{closing_is_legal, next_within}
+use Rattle.law_protocol_steps.proofs.Closes.{closing_is_legal, next_within}
 use Rattle.std.proofs.lemmas.List.{length-drop}
 use Rattle.std.specs.Prelude.{length, drop}
 use Rattle.lg_types.specs.declared.journal.JournalItem.TheVariants.{Close}

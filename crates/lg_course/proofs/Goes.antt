@@ -26,11 +26,11 @@ use Rattle.lg_standing.specs.Visits as visit
 use Rattle.lg_standing.specs.Server.{Server}
 use Rattle.lg_standing.specs.Steps as step
 use Rattle.lg_standing.specs.Steps.{Step}
-use Rattle.lg_standing.proofs.LedgerVisit.{the_ledger}
-use Rattle.lg_standing.proofs.OneAtATime.{IsPlain}
+use Rattle.law_protocol_steps.proofs.LedgerVisit.{the_ledger}
+use Rattle.law_protocol.proofs.OneAtATime.{IsPlain}
 use Rattle.lg_standing.proofs.Places.{set_same, set_here, set_else, set_again}
-use Rattle.lg_standing.proofs.StepsAlone.{checked_plain, failed_in_plain}
-use Rattle.lg_standing.proofs.SinceFirst.{SinceFirst, since_first}
+use Rattle.law_protocol.proofs.StepsAlone.{checked_plain, failed_in_plain}
+use Rattle.law_protocol.proofs.SinceFirst.{SinceFirst, since_first}
 use Rattle.lg_course.specs.Course.{Course, IsInside, StaysInside}
 use Rattle.lg_course.specs.EndsLast.{Phase, running, ending, CameSo, InPhase, IsNoEnd, IsNoStatement}
 use Rattle.lg_course.specs.InStep.{InStep, due_in, Waits}

@@ -17,11 +17,11 @@ use Rattle.lg_standing.specs.Reordered.{NamesApart}
 use Rattle.lg_standing.specs.Seats.{SeatState, Written, IsAtRest}
 use Rattle.lg_standing.specs.Server.{Server}
 use Rattle.lg_standing.specs.StandTogether.{History, Stands}
-use Rattle.lg_standing.proofs.BegunNames.{in_order}
-use Rattle.lg_standing.proofs.KeptImages.{have_images}
-use Rattle.lg_standing.proofs.SinceFirst.{SinceFirst}
-use Rattle.lg_standing.proofs.StepOrderKept.{keeps_order}
-use Rattle.lg_standing.proofs.TheEnd as the_end
+use Rattle.law_protocol.proofs.BegunNames.{in_order}
+use Rattle.law_protocol.proofs.KeptImages.{have_images}
+use Rattle.law_protocol.proofs.SinceFirst.{SinceFirst}
+use Rattle.law_protocol.proofs.StepOrderKept.{keeps_order}
+use Rattle.law_protocol.proofs.TheEnd as the_end
 use Rattle.lg_course.specs.Course.{Course}
 use Rattle.lg_course.specs.EndsLast.{Phase, running, ending, CameSo, EndsLast}
 use Rattle.lg_course.specs.InStep.{InStep}

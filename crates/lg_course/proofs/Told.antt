@@ -33,7 +33,7 @@ use Rattle.lg_standing.specs.Seats.{KeptImage, Written, Role, session, SeatState
 use Rattle.lg_standing.specs.Server.{Server, journal_image}
 use Rattle.lg_standing.specs.StandTogether.{Stands}
 use Rattle.lg_standing.specs.TranscriptsAgree.{IsImage, IsMoment, moments_of, session_moments}
-use Rattle.lg_standing.proofs.JournalKept.{legal_journal}
+use Rattle.law_protocol.proofs.JournalKept.{legal_journal}
 use Rattle.lg_standing.specs.Serves.{Serves}
 use Rattle.lg_course.specs.Outcome.{Outcome}
 use Rattle.lg_course.specs.Told.{HasEnded, IsMeaning, IsImageOf, RunAgrees}

@@ -16,10 +16,10 @@ use Rattle.lg_standing.specs.Seats.{SeatState}
 use Rattle.lg_standing.specs.Server.{Server}
 use Rattle.lg_standing.specs.Visits as visit
 use Rattle.lg_standing.specs.Visits.{Visit, Happens}
-use Rattle.lg_standing.proofs.LedgerVisit.{the_ledger, lies_there}
-use Rattle.lg_standing.proofs.OneAtATime.{IsPlain}
+use Rattle.law_protocol_steps.proofs.LedgerVisit.{the_ledger, lies_there}
+use Rattle.law_protocol.proofs.OneAtATime.{IsPlain}
 use Rattle.lg_standing.proofs.Places.{set_here, set_else, set_same}
-use Rattle.lg_standing.proofs.StepsAlone.{closings_plain, done_plain, end_plain, failed_in_plain, says_plain, stopped_plain}
+use Rattle.law_protocol.proofs.StepsAlone.{closings_plain, done_plain, end_plain, failed_in_plain, says_plain, stopped_plain}
 use Rattle.lg_course.specs.InStep.{InStep, due_in, Waits}
 use Rattle.lg_course.proofs.Calm.{Calm, Still, calm_still, done_calm, failed_in_calm, stopped_calm, end_calm, still_in_step}
 use Rattle.lg_course.proofs.LedgerInStep.{commit_in_step, close_in_step, issue_in_step, due_below}

@@ -35,7 +35,7 @@ use Rattle.lg_standing.specs.OpenScripts.{counted}
 use Rattle.lg_standing.specs.Seats.{OpenTransaction, Place, Tree, begun, inside, made, SeatState}
 use Rattle.lg_standing.specs.TablesAreSerial.{HasActed}
 use Rattle.lg_standing.specs.Visits.{create_index, create_table, refuse_create}
-use Rattle.lg_standing.proofs.CellsAfter.{were_here}
+use Rattle.law_protocol_steps.proofs.CellsAfter.{were_here}
 use Rattle.lg_catalog.specs.Calls.{HasIndex, HasTable, IndexMade, LocksTaken, MayCreate, TableMade}
 use Rattle.lg_seat.specs.InCatalog.{stopped_stage, Creates, GoesAgain, HasMade, HasVisited, IndexFails, IsIndex, IsRefused, IsSame, IsTable, KeepsLock, MayLookFor, TableFails}
 use Rattle.lg_seat.specs.KeptCell.{catalog_seen}

@@ -29,13 +29,13 @@ use Rattle.lg_standing.specs.Server.{Server}
 use Rattle.lg_standing.specs.StandTogether.{Stands}
 use Rattle.lg_standing.specs.StandTogether as standing
 use Rattle.lg_standing.specs.TablesAreSerial.{HasActed}
-use Rattle.lg_standing.proofs.AfterSet.{each_at}
-use Rattle.lg_standing.proofs.CellsAfter.{held_here}
-use Rattle.lg_standing.proofs.OfCells.{Creates, IsUnderWay}
-use Rattle.lg_standing.proofs.SeatIds.{one_seat}
-use Rattle.lg_standing.proofs.SeatsAfter.{one_session}
-use Rattle.lg_standing.proofs.TakenLocks.{all_free}
-use Rattle.lg_standing.proofs.Takes.{tables_now}
+use Rattle.law_protocol_steps.proofs.AfterSet.{each_at}
+use Rattle.law_protocol_steps.proofs.CellsAfter.{held_here}
+use Rattle.law_protocol_steps.proofs.OfCells.{Creates, IsUnderWay}
+use Rattle.law_protocol_steps.proofs.SeatIds.{one_seat}
+use Rattle.law_protocol_steps.proofs.SeatsAfter.{one_session}
+use Rattle.law_protocol_steps.proofs.TakenLocks.{all_free}
+use Rattle.law_protocol_steps.proofs.Takes.{tables_now}
 use Rattle.lg_seat.specs.VisitedCells.{IsTableCell, table_cell}
 
 -- ---- the definitions are those of the journal

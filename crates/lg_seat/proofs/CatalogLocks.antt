@@ -15,9 +15,9 @@ use Rattle.lg_standing.specs.OpenOnes.{HasOpen}
 use Rattle.lg_standing.specs.Seats.{OpenTransaction, Session, SeatState}
 use Rattle.lg_standing.specs.Server.{Server}
 use Rattle.lg_standing.specs.StandTogether.{History, Stands}
-use Rattle.lg_standing.proofs.CellsAfter.{held_here}
-use Rattle.lg_standing.proofs.SeatIds.{one_seat}
-use Rattle.lg_standing.proofs.SeatsAfter.{one_session}
+use Rattle.law_protocol_steps.proofs.CellsAfter.{held_here}
+use Rattle.law_protocol_steps.proofs.SeatIds.{one_seat}
+use Rattle.law_protocol_steps.proofs.SeatsAfter.{one_session}
 
 -- ---- what was taken goes again
 

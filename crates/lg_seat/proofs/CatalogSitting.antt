@@ -12,7 +12,7 @@ use Rattle.lg_standing.specs.Cells.{Catalog, CatalogCell, catalog_at}
 use Rattle.lg_standing.specs.Moves.{noting, put_in, visiting, StandsOpen}
 use Rattle.lg_standing.specs.OpenOnes.{HasOpen}
 use Rattle.lg_standing.specs.Seats.{OpenTransaction, Tree}
-use Rattle.lg_standing.proofs.CatalogThere.{catalog_there}
+use Rattle.law_protocol_steps.proofs.CatalogThere.{catalog_there}
 use Rattle.lg_tx.specs.Represents.{Represents}
 use Rattle.lg_seat.specs.IsEnd.{IsEnd}
 use Rattle.lg_seat.specs.InCatalog.{HasVisited}

@@ -20,7 +20,7 @@ use Rattle.lg_standing.specs.Moves.{at_place, keeping, marking, sits}
 use Rattle.lg_standing.specs.Seats.{OpenTransaction, inside, answering, KeptImage, Session, SeatState}
 use Rattle.lg_standing.specs.Server.{journal_image}
 use Rattle.lg_standing.specs.Visits.{keep, nothing}
-use Rattle.lg_standing.proofs.StepsKeep.{out_lies}
+use Rattle.law_protocol_steps.proofs.CellsOut.{out_lies}
 use Rattle.lg_server.proofs.CellsShow.{same_bytes}
 use Rattle.lg_seat.specs.Images.{AreImageBytes, CellsStand}
 use Rattle.lg_seat.specs.KeptCell.{KeptCell}

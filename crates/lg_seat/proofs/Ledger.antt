@@ -11,7 +11,7 @@ use Rattle.lg_standing.specs.Alone.{no_memory, IsUnfixed}
 use Rattle.lg_standing.specs.Cells.{Ledger, LedgerCell, catalog_at, ledger_at}
 use Rattle.lg_standing.specs.Moves.{at_place, sits}
 use Rattle.lg_standing.specs.Seats.{OpenTransaction, inside, begun, answering, Session}
-use Rattle.lg_standing.proofs.LedgerVisit.{lies_there}
+use Rattle.law_protocol_steps.proofs.LedgerVisit.{lies_there}
 use Rattle.lg_book.specs.HashedCell.{HashedCell, KeepsHash}
 use Rattle.lg_seat.specs.IsEnd.{IsEnd}
 use Rattle.lg_seat.specs.KeptCell.{ledger_seen}

@@ -31,10 +31,10 @@ use Rattle.lg_standing.specs.OpenScripts.{events_counted}
 use Rattle.lg_standing.specs.Seats.{OpenTransaction, SeatState}
 use Rattle.lg_standing.specs.Server.{Server}
 use Rattle.lg_standing.specs.StandTogether.{History, Stands}
-use Rattle.lg_standing.proofs.CommitsLedger as commits
-use Rattle.lg_standing.proofs.EntryRoots.{same_roots}
-use Rattle.lg_standing.proofs.JournalMore.{legal_more}
-use Rattle.lg_standing.proofs.SaidMore.{trees_over}
+use Rattle.law_protocol_steps.proofs.CommitsLedger as commits
+use Rattle.law_protocol_steps.proofs.EntryRoots.{same_roots}
+use Rattle.law_protocol_steps.proofs.JournalMore.{legal_more}
+use Rattle.law_protocol_steps.proofs.SaidMore.{trees_over}
 use Rattle.lg_tx.specs.Roots.{Root}
 use Rattle.lg_book.specs.Commits.{new_entry}
 

@@ -12,7 +12,7 @@ use Rattle.lg_standing.specs.Moves.{put_in, StandsOpen}
 use Rattle.lg_standing.specs.OpenOnes.{HasOpen}
 use Rattle.lg_standing.specs.Seats.{OpenTransaction, inside, Session}
 use Rattle.lg_standing.specs.Seats as law
-use Rattle.lg_standing.proofs.TakesInTable.{IsAtPlace, table_place, cell_at}
+use Rattle.law_protocol_steps.proofs.TakesInTable.{IsAtPlace, table_place, cell_at}
 use Rattle.lg_model.specs.Limits.{max_savepoints}
 use Rattle.lg_tx.specs.Leaves.{leaves_in}
 use Rattle.lg_tx.specs.Represents.{KeepFrames, Represents}

@@ -42,14 +42,14 @@ use Rattle.lg_standing.specs.Seats.{OpenTransaction, inside, made, Place, Sessio
 use Rattle.lg_standing.specs.Server.{Server}
 use Rattle.lg_standing.specs.StandTogether.{History, Stands}
 use Rattle.lg_standing.specs.TablesAreSerial.{HasAdded, IsAdding, def_at, ordinals_of}
-use Rattle.lg_standing.proofs.CatalogAlone.{alone}
-use Rattle.lg_standing.proofs.DefsAfter.{IndexMade, index_made}
-use Rattle.lg_standing.proofs.Defined.{IsDefined, is_defined}
-use Rattle.lg_standing.proofs.NewLine.{found_alone, has_found}
-use Rattle.lg_standing.proofs.OfCells.{Creates, HasLock, HasLooked, HoldsInCatalog, IsGotAt, StandsAs, TableStands, in_journal, looked_now}
-use Rattle.lg_standing.proofs.RowsFor.{sound}
-use Rattle.lg_standing.proofs.SeatIds.{one_seat}
-use Rattle.lg_standing.proofs.Takes.{tables_now}
+use Rattle.law_protocol_steps.proofs.CatalogAlone.{alone}
+use Rattle.law_protocol_steps.proofs.DefsAfter.{IndexMade, index_made}
+use Rattle.law_protocol_steps.proofs.Defined.{IsDefined, is_defined}
+use Rattle.law_protocol_steps.proofs.NewLine.{found_alone, has_found}
+use Rattle.law_protocol_steps.proofs.OfCells.{Creates, HasLock, HasLooked, HoldsInCatalog, IsGotAt, StandsAs, TableStands, in_journal, looked_now}
+use Rattle.law_protocol_steps.proofs.RowsFor.{sound}
+use Rattle.law_protocol_steps.proofs.SeatIds.{one_seat}
+use Rattle.law_protocol_steps.proofs.Takes.{tables_now}
 use Rattle.lg_table.specs.Calls.{HasFit, IsTable, LacksLast}
 
 -- ---- what is checked before any row

@@ -37,7 +37,7 @@ use Rattle.lg_standing.specs.Reordered.{NamesApart}
 use Rattle.lg_standing.specs.Seats.{KeptImage, Written}
 use Rattle.lg_standing.specs.Server.{Server}
 use Rattle.lg_standing.specs.StandTogether.{Stands}
-use Rattle.lg_standing.proofs.AfterSet.{all_at, each_at}
+use Rattle.law_protocol_steps.proofs.AfterSet.{all_at, each_at}
 use Rattle.lg_course.specs.Told.{IsImageOf, IsMeaning}
 use Rattle.lg_course.specs.Wrote.{transcripts_in}
 use Rattle.lg_kept.specs.Accepted.{IsAccepted, IsOfCut}

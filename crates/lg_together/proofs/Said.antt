@@ -7,7 +7,7 @@ use Rattle.lg_history.specs.Lists.{Text, Each, In}
 use Rattle.lg_history.proofs.Settles.{in_left, in_right}
 use Rattle.lg_history.proofs.Trace.{each_append, each_weaker}
 use Rattle.lg_standing.specs.Seats.{Written}
-use Rattle.lg_standing.proofs.AfterSet.{all_at, each_at}
+use Rattle.law_protocol_steps.proofs.AfterSet.{all_at, each_at}
 use Rattle.lg_together.specs.CameTo.{CameTo, Left}
 use Rattle.lg_together.specs.Threads.{HasJoined}
 

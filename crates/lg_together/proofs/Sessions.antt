@@ -4,7 +4,7 @@ use Rattle.lg_items.specs.SessionName.{is_session_name}
 use Rattle.lg_history.specs.Lists.{Text, Each}
 use Rattle.lg_history.specs.Transcripts.{Transcript}
 use Rattle.lg_standing.specs.Seats.{Written}
-use Rattle.lg_standing.proofs.AfterSet.{each_at}
+use Rattle.law_protocol_steps.proofs.AfterSet.{each_at}
 use Rattle.lg_course.specs.Wrote.{transcripts_in}
 use Rattle.lg_joined.specs.Together.{IsMomentOf, names_in, session_in}
 

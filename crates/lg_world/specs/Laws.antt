@@ -11,11 +11,11 @@ use Rattle.lg_standing.specs.May.{OutsStand}
 use Rattle.lg_standing.specs.Seats.{SeatState, kept, split, joined, nobody, may_end}
 use Rattle.lg_standing.specs.Server.{Server}
 use Rattle.lg_standing.specs.StandTogether.{StandTogether}
-use Rattle.lg_standing.proofs.JoinsStand.{back, join_stands}
-use Rattle.lg_standing.proofs.KeepsAsked.{still_asked_for}
-use Rattle.lg_standing.proofs.KeepsWanted.{same_wanted, split_wanted}
-use Rattle.lg_standing.proofs.Splits.{splits_stand}
-use Rattle.lg_standing.proofs.StepsKeep.{may_keeps}
+use Rattle.law_protocol_ledger.proofs.JoinsStand.{back, join_stands}
+use Rattle.law_protocol_tables.proofs.KeepsAsked.{still_asked_for}
+use Rattle.law_protocol.proofs.KeepsWanted.{same_wanted, split_wanted}
+use Rattle.law_protocol_ledger.proofs.Splits.{splits_stand}
+use Rattle.law_protocol.proofs.StepsKeep.{may_keeps}
 use Rattle.lg_world.specs.Served.{Served, outs_seen, IsOf, StandsOn, MayVisit}
 
 each_set : {A : Type 0} (P : A → Type 0) (xs : List A) → Each P xs → (i : ℕ) (x : A) → P x → Each P (slice_set xs i x)

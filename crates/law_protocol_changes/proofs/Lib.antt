@@ -1,0 +1,16 @@
+pub mod Apart
+pub mod CatalogTakes
+pub mod ChangeKeeps
+pub mod ChangedRows
+pub mod ChangesAt
+pub mod CommittedRows
+pub mod CreateVisits
+pub mod Creating
+pub mod DigestsStand
+pub mod Grown
+pub mod OutsideRefusals
+pub mod PlainReplies
+pub mod SaidThere
+pub mod SaysHistory
+pub mod StepsQuiet
+pub mod StepsSaid

@@ -1,0 +1,15 @@
+use Rattle.std.proofs.Common.{◌≡◌, ℕ, sym, subst}
+use Rattle.std.specs.Prelude.{slice_set}
+use mathlib.Core.Option.{some}
+use lib.ListN.{get_elem?}
+use Rattle.lg_standing.specs.Cells.{Ledger}
+use Rattle.lg_model.specs.Journals.{tx_count}
+use Rattle.lg_standing.specs.ActsOf.{end_acts}
+use Rattle.lg_standing.specs.StandTogether.{StandsAfter}
+use Rattle.law_protocol_steps.proofs.LedgerVisit.{lies_there}
+use Rattle.law_protocol_ledger.proofs.ReadsStand.{reads_stand}
+use Rattle.law_protocol_ledger.proofs.ledger_visits.reading_the_point_keeps_standing.Goals as goal
+
+pub returns : goal.returns
+returns g = λ v history cells seats st i j s there c d t here w same. let e = lies_there cells st.catalog st.ledger c st.are_cells i here in
+    subst (λ (n : ℕ). StandsAfter v j history (end_acts w.ends (tx_count c.items)) (slice_set cells n (Ledger d)) (slice_set seats j t)) (sym e) (reads_stand v cells seats st j s there c d t (subst (λ (n : ℕ). get_elem? cells n ≡ some (Ledger c)) e here) w same)

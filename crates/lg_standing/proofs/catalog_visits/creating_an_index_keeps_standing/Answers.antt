@@ -1,6 +1,0 @@
-use Rattle.lg_standing.proofs.ActedFor.{by_any}
-use Rattle.lg_standing.proofs.CreateVisits.{creates_index}
-use Rattle.lg_standing.proofs.catalog_visits.creating_an_index_keeps_standing.Goals as goal
-
-pub returns : goal.returns
-returns g = λ v history cells seats st j s there c d t out w. by_any (creates_index v cells seats st j s there c d t out w)

@@ -1,5 +1,0 @@
-use Rattle.lg_standing.proofs.GivesBackStand.{gives_back}
-use Rattle.lg_standing.proofs.catalog_visits.giving_back_keeps_standing.Goals as goal
-
-pub returns : goal.returns
-returns g = λ v history cells seats st j s there c d t out w. gives_back v cells seats st j s there c d t out w

@@ -1,5 +1,0 @@
-use Rattle.lg_standing.proofs.StopsForMemory.{stops_in_catalog}
-use Rattle.lg_standing.proofs.catalog_visits.lacking_memory_in_the_catalog_keeps_standing.Goals as goal
-
-pub returns : goal.returns
-returns g = λ v history cells seats st j s there c d t out w short same. stops_in_catalog v cells seats st j s there c d t out w short same

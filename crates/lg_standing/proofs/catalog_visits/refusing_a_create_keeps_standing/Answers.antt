@@ -1,6 +1,0 @@
-use Rattle.lg_standing.proofs.ActedFor.{by_any}
-use Rattle.lg_standing.proofs.CreateVisits.{refuses_create}
-use Rattle.lg_standing.proofs.catalog_visits.refusing_a_create_keeps_standing.Goals as goal
-
-pub returns : goal.returns
-returns g = λ v history cells seats st j s there c d t out w. by_any (refuses_create v cells seats st j s there c d t out w)

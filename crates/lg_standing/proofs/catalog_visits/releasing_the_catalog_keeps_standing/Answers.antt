@@ -1,5 +1,0 @@
-use Rattle.lg_standing.proofs.ReleasesCatalogStand.{releases_catalog}
-use Rattle.lg_standing.proofs.catalog_visits.releasing_the_catalog_keeps_standing.Goals as goal
-
-pub returns : goal.returns
-returns g = λ v history cells seats st j s there c d t out w. releases_catalog v cells seats st j s there c d t out w

@@ -1,9 +1,0 @@
-use Rattle.lg_standing.proofs.PlanOrder.{in_order_of}
-use Rattle.lg_standing.proofs.Reorders.{reordered_agrees}
-use Rattle.lg_standing.proofs.laws.agreement_is_of_any_order.Goals as goal
-
-pub returns : goal.returns
-returns c = record {
-  any = λ q database input setup X J G agree then_input then_X to r. reordered_agrees q database input setup X J G agree then_input then_X to r;
-  plan = λ input X names long plan. in_order_of input X names long plan;
-}

@@ -1,5 +1,0 @@
-use Rattle.lg_standing.proofs.StepsKeep.{all_keep}
-use Rattle.lg_standing.proofs.laws.all_steps_keep_standing.Goals as goal
-
-pub returns : goal.returns
-returns g = λ v history cells seats st asked wanted. all_keep v cells seats st asked wanted

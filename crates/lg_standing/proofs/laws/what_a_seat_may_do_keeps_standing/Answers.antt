@@ -1,5 +1,0 @@
-use Rattle.lg_standing.proofs.StepsKeep.{may_keeps}
-use Rattle.lg_standing.proofs.laws.what_a_seat_may_do_keeps_standing.Goals as goal
-
-pub returns : goal.returns
-returns c = λ v history cells seats st asked wanted. may_keeps v cells seats st asked wanted

@@ -1,5 +1,0 @@
-use Rattle.lg_standing.proofs.GoingBack.{releases_table}
-use Rattle.lg_standing.proofs.table_visits.releasing_a_table_keeps_standing.Goals as goal
-
-pub returns : goal.returns
-returns g = λ v history cells seats st i j s there c d t out w. releases_table v cells seats st j s there i c d t out w

@@ -1,5 +1,0 @@
-use Rattle.lg_standing.proofs.GoingBack.{undoes_to}
-use Rattle.lg_standing.proofs.table_visits.undoing_keeps_standing.Goals as goal
-
-pub returns : goal.returns
-returns g = λ v history cells seats st i j s there c d t out w. undoes_to v cells seats st j s there i c d t out w
