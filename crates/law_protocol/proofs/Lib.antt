@@ -29,3 +29,7 @@ pub mod StepOrderKept
 pub mod StepsAlone
 pub mod StepsKeep
 pub mod TheEnd
+pub use Rattle.law_protocol_ledger.proofs.JoinsStand
+pub use Rattle.law_protocol_ledger.proofs.Splits
+pub use Rattle.law_protocol_steps.proofs.LedgerVisit
+pub use Rattle.law_protocol_tables.proofs.KeepsAsked

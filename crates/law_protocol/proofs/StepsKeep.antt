@@ -73,8 +73,8 @@ use Rattle.law_protocol_steps.proofs.Closes.{closes_stand}
 use Rattle.law_protocol.proofs.CommitAsked.{over_all}
 use Rattle.law_protocol_ledger.proofs.CommitCreates.{every_commit_stands, its, texts_are}
 use Rattle.law_protocol_ledger.proofs.CommitsStand.{both}
-use Rattle.law_protocol_changes.proofs.CreateVisits.{creates_table, creates_index, refuses_create}
-use Rattle.law_protocol_changes.proofs.DigestsStand.{issues_stand, lacks_stand}
+use Rattle.law_protocol_ledger.proofs.CreateVisits.{creates_table, creates_index, refuses_create}
+use Rattle.law_protocol_ledger.proofs.DigestsStand.{issues_stand, lacks_stand}
 use Rattle.law_protocol.proofs.DrawNone.{done_none, done_kept, failed_in_none, commit_none, end_none}
 use Rattle.law_protocol_steps.proofs.Draws.{draws_stands}
 use Rattle.law_protocol_tables.proofs.Formed.{dropped_as, left_unless}

@@ -26,3 +26,5 @@ pub mod StepsEnd
 pub mod StepsRole
 pub mod StepsTake
 pub mod Visited
+pub use Rattle.law_protocol_changes.proofs.CreateVisits
+pub use Rattle.law_protocol_changes.proofs.DigestsStand

@@ -40,8 +40,8 @@ use Rattle.law_protocol_steps.proofs.LedgerVisit.{the_ledger}
 use Rattle.law_protocol_steps.proofs.OneMore.{good_snoc, images_stay, times_append}
 use Rattle.lg_standing.proofs.Places.{set_same}
 use Rattle.lg_standing.specs.RowsAgree.{RowsAgree}
-use Rattle.lg_ledger.specs.Ledger as of_journal
-use Rattle.lg_ledger.proofs.Adding.{one_more}
+use Rattle.lg_standing.specs.Ledger as of_journal
+use Rattle.lg_standing.proofs.Adding.{one_more}
 use Rattle.lg_standing.proofs.LedgerNumbers.{pending_are}
 
 -- ---- the journal says the same

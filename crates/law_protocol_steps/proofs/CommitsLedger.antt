@@ -34,16 +34,16 @@ use Rattle.lg_standing.specs.LedgerVisits.{Commits, is_empty, is_quiet, with_ite
 use Rattle.law_protocol_steps.proofs.FreshIds.{events_of_touched}
 use Rattle.law_protocol_steps.proofs.Ids.{each_in, outside, others}
 use Rattle.law_protocol_steps.proofs.JournalMore.{legal_more, none_in_one}
-use Rattle.lg_row.specs.Leaf.{event_bytes}
+use Rattle.lg_standing.specs.Leaf.{event_bytes}
 use Rattle.lg_types.specs.declared.entry.TxEntry.{TxEntry}
 use Rattle.lg_model.specs.SystemTables.{first_tables}
 use Rattle.lg_model.specs.Agreement.{IdsFrom}
-use Rattle.lg_ledger.specs.Entries.{entry_of, roots_of}
-use Rattle.lg_ledger.proofs.Adding.{one_more, serial_more}
-use Rattle.lg_closings.proofs.Roots.{legal_ids}
+use Rattle.lg_standing.specs.Entries.{entry_of, roots_of}
+use Rattle.lg_standing.proofs.Adding.{one_more, serial_more}
+use Rattle.lg_standing.proofs.Roots.{legal_ids}
 use Rattle.law_protocol_steps.proofs.EntryRoots.{same_roots}
 use Rattle.law_protocol_steps.proofs.SaidMore.{trees_over}
-use Rattle.lg_ledger.specs.Ledger as of_journal
+use Rattle.lg_standing.specs.Ledger as of_journal
 
 -- ---- one item more
 

@@ -15,8 +15,8 @@ use Rattle.lg_model.specs.Agreement.{IdsFrom, columns_at}
 use Rattle.lg_model.specs.Plans.{Definition, as_before, new, in_place, defined, table_plan, index_plan, plan}
 use Rattle.lg_model.specs.Reach.{creates}
 use Rattle.lg_frames.proofs.Definitions.{plan_keeps}
-use Rattle.lg_invariants.proofs.Created.{indexed}
-use Rattle.lg_invariants.proofs.DefLists.{redef, defs_redefined}
+use Rattle.lg_standing.proofs.Created.{indexed}
+use Rattle.lg_standing.proofs.DefLists.{redef, defs_redefined}
 use Rattle.lg_standing.specs.TablesAreSerial.{def_at}
 
 -- ---- by id

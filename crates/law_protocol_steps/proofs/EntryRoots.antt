@@ -14,11 +14,11 @@ use Rattle.lg_model.specs.Catalog.{Tables, defs_of, versions_of}
 use Rattle.lg_model.specs.Events.{events_of, all_events}
 use Rattle.lg_model.specs.Lists.{inserted, sorted}
 use Rattle.lg_frames.proofs.UndoneTables.{own_versions}
-use Rattle.lg_row.specs.Leaf.{event_bytes}
+use Rattle.lg_standing.specs.Leaf.{event_bytes}
 use Rattle.lg_merkle.specs.TreeHash.{tree_hash}
-use Rattle.lg_entry.specs.Entry.{rise_above, tables_rise}
-use Rattle.lg_ledger.specs.Entries.{has_events, root_in, roots_of}
-use Rattle.lg_closings.proofs.Roots.{roots_rise}
+use Rattle.lg_standing.specs.Entry.{rise_above, tables_rise}
+use Rattle.lg_standing.specs.Entries.{has_events, root_in, roots_of}
+use Rattle.lg_standing.proofs.Roots.{roots_rise}
 use Rattle.lg_history.specs.Lists.{Text, Each, In}
 use Rattle.lg_history.specs.Serial.{Differ}
 use Rattle.lg_history.proofs.Trace.{each_weaker}

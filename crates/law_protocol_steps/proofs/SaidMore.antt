@@ -44,7 +44,7 @@ use Rattle.law_protocol_steps.proofs.PlainPlaces.{AddsNone, none_added, IsBare, 
 use Rattle.lg_standing.specs.TablesAreSerial.{IsAdding, HasActed}
 use Rattle.law_protocol_steps.proofs.Turns.{Owes}
 use Rattle.law_protocol_steps.proofs.GoesOn.{still, one_number}
-use Rattle.lg_row.specs.Leaf.{event_bytes}
+use Rattle.lg_standing.specs.Leaf.{event_bytes}
 
 pub plain_say : (line : Line) → IsPlain (says line)
 plain_say line = record { items = λ x. refl; ids = refl; issued = refl; marks = refl; images = refl }

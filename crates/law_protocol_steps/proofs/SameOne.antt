@@ -16,7 +16,7 @@ use Rattle.lg_standing.specs.EventsIn.{events_in}
 use Rattle.lg_standing.specs.TreesAreOfEvents.{AreTrees, AreFrames}
 use Rattle.law_protocol_steps.proofs.OfCells.{HasItsTrees, IsOfItsScript, events_counted}
 use Rattle.lg_model.specs.Touched.{touched}
-use Rattle.lg_row.specs.Leaf.{event_bytes}
+use Rattle.lg_standing.specs.Leaf.{event_bytes}
 
 pub record IsSame (x : Session) (o : OpenTransaction) (y : Session) (p : OpenTransaction) : Type 0 where
   pub id : p.id ≡ o.id

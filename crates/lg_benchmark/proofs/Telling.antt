@@ -25,10 +25,10 @@ use Rattle.lg_verdict.specs.declared.place.Verdict.{Verdict}
 use Rattle.lg_verdict.specs.declared.place.Verdict.TheVariants.{Yes}
 use Rattle.lg_verdict.specs.Bytes.{verdict_of}
 use Rattle.lg_verdict.proofs.Judged.{of_image}
-use Rattle.lg_honest.specs.Held.{held}
+use Rattle.lg_run.specs.Held.{held}
 use Rattle.lg_run.specs.Agreed.{CameTo, Left, last_image_bytes}
-use Rattle.lg_course.specs.Told.{IsMeaning}
-use Rattle.lg_course.proofs.Told.{some_meaning}
+use Rattle.lg_run.specs.Told.{IsMeaning}
+use Rattle.lg_run.proofs.Told.{some_meaning}
 use Rattle.lg_generator.specs.Workload.{create_text, insert_text, update_text, session_texts, setup_texts}
 use Rattle.lg_workload.specs.Tables.{Shows}
 use Rattle.lg_workload.specs.Turns.{inserted_total, ReadsTexts, Turns}

@@ -10,7 +10,7 @@ use Rattle.lg_image.specs.Image.{image_of}
 use Rattle.lg_verdict.specs.declared.place.Verdict.TheVariants.{Yes}
 use Rattle.lg_verdict.specs.Bytes.{verdict_of}
 use Rattle.lg_verdict.specs.Verdict.{image_verdict}
-use Rattle.lg_honest.specs.Held.{held}
+use Rattle.lg_run.specs.Held.{held}
 use Rattle.lg_run.specs.Agreed.{last_image_bytes}
 use Rattle.lg_workload.specs.Turns.{inserted_total}
 use Rattle.lg_benchmark.specs.Figures.{amount, history_count, row_count, user_tables}

@@ -5,5 +5,6 @@ mod counting;
 mod report;
 mod running;
 
+pub use lg_run::run_all;
 pub use report::Report;
 pub use running::run_workload;

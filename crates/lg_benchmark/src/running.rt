@@ -4,7 +4,7 @@ ghost use Rattle.std.specs.Prelude.{◌≡◌, ◌≤◌, ◌++◌, List, IfOk, 
 ghost use Rattle.lg_generator.specs.Workload.{workload_plan};
 ghost use Rattle.lg_image.specs.ImageBytes.{IsImage};
 ghost use Rattle.lg_types.specs.declared.digest.Digest.{Digest as SpecDigest};
-ghost use Rattle.lg_honest.specs.Held.{held};
+ghost use Rattle.lg_run.specs.Held.{held};
 ghost use Rattle.lg_run.specs.CameTo.{CameTo, IsClosed, IsOf, and_digests};
 ghost use Rattle.lg_run.specs.Agreed.{Left};
 ghost use Rattle.lg_benchmark.specs.Reports.{expected, TellsOf, TellsOfImage};

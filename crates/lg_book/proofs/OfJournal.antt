@@ -16,10 +16,10 @@ use Rattle.lg_history.specs.Journals.{blocks, in_blocks, times}
 use Rattle.lg_history.specs.Lists.{Text}
 use Rattle.lg_history.proofs.Grows.{blocks_all}
 use Rattle.lg_ledger.specs.Blocks.{no_hash, record_hash, last_hash, hash_at}
-use Rattle.lg_closings.specs.Digests.{or_zero, digest_of}
+use Rattle.lg_standing.specs.Digests.{or_zero, digest_of}
 use Rattle.lg_ledger.specs.Entries.{entry_of, at_place, placed}
 use Rattle.lg_ledger.specs.Ledger.{Ledger, empty_ledger, recorded, ledger_from, entries_of, block_hash}
-use Rattle.lg_closings.proofs.Counting.{closed_counted}
+use Rattle.lg_standing.proofs.Counting.{closed_counted}
 use Rattle.lg_standing.specs.Cells.{LedgerCell, pending_in}
 use Rattle.lg_standing.specs.LedgerIsLegal.{LedgerIsLegal}
 use Rattle.lg_standing.specs.LedgerVisits.{all_closed}

@@ -5,7 +5,7 @@ ghost use Rattle.lg_types.specs.declared.reply.Reply.TheVariants as reply;
 ghost use Rattle.lg_types.specs.declared.statement.Stmt.TheVariants as stmt;
 ghost use Rattle.lg_model.specs.Journals.{tx_count};
 ghost use Rattle.lg_history.specs.Digests.{IsDigest};
-ghost use Rattle.lg_closings.specs.Digests.{digest_of};
+ghost use Rattle.lg_standing.specs.Digests.{digest_of};
 ghost use Rattle.lg_standing.specs.Cells.{LedgerCell as Plain, pending_in};
 ghost use Rattle.lg_standing.specs.LedgerIsLegal.{LedgerIsLegal};
 ghost use Rattle.lg_standing.specs.LedgerVisits.{closed_by, all_closed, next_block, Closes, Issues};

@@ -37,7 +37,7 @@ use Rattle.lg_cmd.specs.Answer.{HasPut, HasWritten, EndsBy, Unfailed}
 use Rattle.lg_cmd.specs.Calls.{Gave, AreGets, ArePuts, Behind, AreGetsAndPuts, AreWrites}
 use Rattle.lg_cmd.specs.Files.{TellsLeft, TellsHeld, StandFirst, stands}
 use Rattle.lg_cmd.specs.Names.{LacksName, image_limit}
-use Rattle.lg_run.specs.Agreed.{last_image_bytes}
+use Rattle.lg_benchmark.specs.Agreed.{last_image_bytes}
 use Rattle.lg_cmd.specs.Replay.{StandsUnder, IsSpelled, AreRefused, IsIllegalAt, IsIllegal, LegalUnder, replayed_files, IsAccepted, IsImageOf, LacksImage, LacksReplay, ReplayedOrIdle, ReplayCause, HasOutput, Replayed, PutsAccepted, replayed_text, replay_status}
 use Rattle.lg_cmd.specs.Run.{image_name, image_file, journal_name}
 use Rattle.lg_cmd.proofs.AnswerLemmas.{put_is, written_is}

@@ -7,7 +7,7 @@ use Rattle.std.proofs.lemmas.Slice.Eq.{bytes_eq-Decides}
 use Rattle.lg_base.specs.Store.{Bytes, Names}
 use Rattle.lg_types.specs.declared.journal.Journal.{Journal}
 use Rattle.lg_parse.specs.Text.{statement_of}
-use Rattle.lg_course.specs.Told.{IsImageOf}
+use Rattle.lg_step.specs.Told.{IsImageOf}
 use Rattle.lg_history.specs.Lists.{Each, Some_of, In}
 use Rattle.lg_history.proofs.Trace.{each_weaker}
 use Rattle.lg_journal.specs.Journal.{journal_bytes}

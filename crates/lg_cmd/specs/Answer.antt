@@ -15,9 +15,9 @@ use Rattle.lg_step.specs.Came.{Run, CameTo}
 use Rattle.lg_output.specs.Moments.{said_with}
 use Rattle.lg_step.specs.Ran.{IsRan}
 use Rattle.lg_output.specs.declared.ran.Ran.{Ran as Output}
-use Rattle.lg_run.specs.Agreed.{Left}
-use Rattle.lg_run.specs.CameTo as all
-use Rattle.lg_run.specs.CameTo.{IsOf}
+use Rattle.lg_benchmark.specs.Agreed.{Left}
+use Rattle.lg_benchmark.specs.CameTo as all
+use Rattle.lg_benchmark.specs.CameTo.{IsOf}
 use Rattle.lg_words.specs.Commands.{Settings}
 use Rattle.lg_cmd.specs.declared.status.Status.{Status}
 use Rattle.lg_cmd.specs.declared.status.Status.TheVariants.{Done, Limit, SourceFault, SinkFault, VaultFault, Form, Memory}

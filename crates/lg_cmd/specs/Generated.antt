@@ -4,8 +4,8 @@ use Rattle.std.specs.Fmt.{decimal}
 use Rattle.lg_base.specs.Outside.{TellsTaken}
 use Rattle.lg_generator.specs.Workload.{workload_plan}
 use Rattle.lg_types.specs.declared.digest.Digest.{Digest}
-use Rattle.lg_run.specs.CameTo.{CameTo, IsClosed}
-use Rattle.lg_run.specs.Agreed.{Left}
+use Rattle.lg_benchmark.specs.CameTo.{CameTo, IsClosed}
+use Rattle.lg_benchmark.specs.Agreed.{Left}
 use Rattle.lg_benchmark.specs.Reports.{expected, TellsOf}
 use Rattle.lg_benchmark.specs.declared.report.Report.{Report}
 use Rattle.lg_cmd.specs.declared.status.Status.{Status}

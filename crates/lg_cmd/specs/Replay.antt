@@ -18,7 +18,7 @@ use Rattle.lg_honest.specs.Held.{AllHeld}
 use Rattle.lg_replay.specs.Reached.{DiffersAt}
 use Rattle.lg_replay.specs.declared.running.ReplayErr.{ReplayErr}
 use Rattle.lg_replay.specs.declared.running.ReplayErr.TheVariants as errors
-use Rattle.lg_run.specs.Agreed.{last_image_bytes}
+use Rattle.lg_benchmark.specs.Agreed.{last_image_bytes}
 use Rattle.lg_cmd.specs.declared.files.File.{File}
 use Rattle.lg_cmd.specs.declared.status.Status.{Status}
 use Rattle.lg_cmd.specs.declared.status.Status.TheVariants as status

@@ -17,9 +17,9 @@ use Rattle.lg_output.specs.Images.{ItemsRise}
 use Rattle.lg_output.specs.Moments.{said_with}
 use Rattle.lg_step.specs.Ran.{IsRan}
 use Rattle.lg_output.specs.declared.ran.Ran.{Ran as Output}
-use Rattle.lg_run.specs.Agreed.{Left}
-use Rattle.lg_run.specs.CameTo as all
-use Rattle.lg_run.specs.CameTo.{IsOf}
+use Rattle.lg_benchmark.specs.Agreed.{Left}
+use Rattle.lg_benchmark.specs.CameTo as all
+use Rattle.lg_benchmark.specs.CameTo.{IsOf}
 use Rattle.lg_words.specs.Commands.{Settings}
 use Rattle.lg_cmd.specs.declared.files.File.{File}
 use Rattle.lg_cmd.specs.Input.{line_form, section_form, Says}

@@ -13,11 +13,11 @@ ghost use Rattle.lg_cmd.specs.Transfer.{input_limit};
 
 use crate::Status;
 use lg_base::{Clock, Gate};
+use lg_benchmark::run_all;
 use lg_items::Memory;
 use lg_merkle::Hash32;
 use lg_output::Ran;
 use lg_plan::{Plan, PlanErr, has_many_sessions, read_plan};
-use lg_run::run_all;
 use lg_words::Settings;
 use std::alloc::Global;
 use std::sync::Wait;

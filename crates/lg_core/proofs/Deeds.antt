@@ -16,7 +16,7 @@ use Rattle.lg_standing.specs.Server.{Server}
 use Rattle.lg_course.specs.EndsLast.{Phase, running, ending, InPhase, IsNoEnd}
 use Rattle.lg_course.specs.InStep.{IsClosing, IsIssue, ClosesForDigest}
 use Rattle.lg_course.specs.Sessions.{Gains}
-use Rattle.law_protocol.proofs.StepsAlone.{checked_plain, failed_in_plain}
+use Rattle.lg_course.proofs.StepsAlone.{checked_plain, failed_in_plain}
 use Rattle.lg_course.proofs.Goes.{more_names, plain_names, all_silent, may_silent}
 use Rattle.lg_seat.specs.Told.{IsPlain, IsPlainDeed, closed_first, Did, plainly, committed, closed_full, issued, Adds}
 

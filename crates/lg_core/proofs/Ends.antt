@@ -48,7 +48,7 @@ use Rattle.lg_core.proofs.Midways.{found_is}
 use Rattle.lg_core.proofs.OneServer as one
 use Rattle.lg_core.proofs.OneServer.{not_over, quiet_state}
 use Rattle.lg_core.proofs.Pairs.{Behind, all_there, as_long, behind, both_last, each_last, each_there, near, same_seen, seen_at, seen_last, seen_of}
-use Rattle.lg_server.proofs.Servers.{some_server}
+use Rattle.lg_seat.proofs.Servers.{some_server}
 use Rattle.lg_core.proofs.Turns.{stand_at_end}
 
 -- ---- the beginning

@@ -35,7 +35,7 @@ use Rattle.lg_core.proofs.OneServer as one
 use Rattle.lg_core.proofs.OneServer.{it_sits}
 use Rattle.lg_core.proofs.Pairs.{Beside, beside, Seen, seen_at, seen_of, seen_set, both_set, each_set, each_there}
 use Rattle.lg_core.proofs.Pending.{one_more_at, fewer_at}
-use Rattle.lg_server.proofs.Servers.{some_server}
+use Rattle.lg_seat.proofs.Servers.{some_server}
 use Rattle.lg_core.proofs.Texts.{text_more}
 
 -- the session with another seat

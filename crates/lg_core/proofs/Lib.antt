@@ -11,3 +11,5 @@ pub mod Pending
 pub mod Texts
 pub mod Turns
 pub mod Within
+pub use Rattle.lg_course.proofs.SameNames
+pub use Rattle.lg_course.proofs.Told

@@ -26,7 +26,7 @@ use Rattle.lg_standing.specs.Visits as visit
 use Rattle.lg_standing.specs.Server.{Server}
 use Rattle.lg_standing.specs.Steps as step
 use Rattle.lg_standing.specs.Steps.{Step}
-use Rattle.law_protocol_steps.proofs.LedgerVisit.{the_ledger}
+use Rattle.law_protocol.proofs.LedgerVisit.{the_ledger}
 use Rattle.law_protocol.proofs.OneAtATime.{IsPlain}
 use Rattle.lg_standing.proofs.Places.{set_same, set_here, set_else, set_again}
 use Rattle.law_protocol.proofs.StepsAlone.{checked_plain, failed_in_plain}

@@ -11,3 +11,10 @@ pub mod SessionsStand
 pub mod Texts
 pub mod Told
 pub mod VisitInStep
+pub use Rattle.law_protocol.proofs.JournalKept
+pub use Rattle.law_protocol.proofs.KeptImages
+pub use Rattle.law_protocol.proofs.PlanOrder
+pub use Rattle.law_protocol.proofs.RanFirst
+pub use Rattle.law_protocol.proofs.Reorders
+pub use Rattle.law_protocol.proofs.StepsAlone
+pub use Rattle.law_protocol.proofs.TheEnd

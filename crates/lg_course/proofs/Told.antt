@@ -23,7 +23,7 @@ use Rattle.lg_history.proofs.Real.{real, is_real}
 use Rattle.lg_history.proofs.Trace.{each_append, each_weaker}
 use Rattle.lg_image.specs.Image.{image_of}
 use Rattle.lg_image.specs.ImageBytes.{image_bytes}
-use Rattle.lg_closings.proofs.Staying.{hashing}
+use Rattle.lg_standing.proofs.Staying.{hashing}
 use Rattle.lg_standing.specs.AtTheEnd.{HasItsImages, image_items}
 use Rattle.lg_standing.specs.Cells.{LedgerCell}
 use Rattle.lg_standing.specs.JournalForms.{journal_in}

@@ -16,7 +16,7 @@ use Rattle.lg_standing.specs.Seats.{SeatState}
 use Rattle.lg_standing.specs.Server.{Server}
 use Rattle.lg_standing.specs.Visits as visit
 use Rattle.lg_standing.specs.Visits.{Visit, Happens}
-use Rattle.law_protocol_steps.proofs.LedgerVisit.{the_ledger, lies_there}
+use Rattle.law_protocol.proofs.LedgerVisit.{the_ledger, lies_there}
 use Rattle.law_protocol.proofs.OneAtATime.{IsPlain}
 use Rattle.lg_standing.proofs.Places.{set_here, set_else, set_same}
 use Rattle.law_protocol.proofs.StepsAlone.{closings_plain, done_plain, end_plain, failed_in_plain, says_plain, stopped_plain}

@@ -21,12 +21,12 @@ use Rattle.lg_standing.specs.Seats.{IsAtRest, Role, session, SeatState, Written,
 use Rattle.lg_standing.specs.Server.{Server}
 use Rattle.lg_standing.specs.StandTogether.{History, Stands}
 use Rattle.lg_standing.specs.TranscriptsAgree.{IsMoment, moments_of, session_moments}
-use Rattle.law_protocol.proofs.JournalKept.{legal_journal}
-use Rattle.law_protocol.proofs.KeptImages.{have_images}
-use Rattle.law_protocol.proofs.PlanOrder.{in_order_of}
-use Rattle.law_protocol.proofs.RanFirst.{ran_first}
-use Rattle.law_protocol.proofs.Reorders.{reordered_agrees, sessions_long}
-use Rattle.law_protocol.proofs.TheEnd as the_end
+use Rattle.lg_course.proofs.JournalKept.{legal_journal}
+use Rattle.lg_course.proofs.KeptImages.{have_images}
+use Rattle.lg_course.proofs.PlanOrder.{in_order_of}
+use Rattle.lg_course.proofs.RanFirst.{ran_first}
+use Rattle.lg_course.proofs.Reorders.{reordered_agrees, sessions_long}
+use Rattle.lg_course.proofs.TheEnd as the_end
 use Rattle.lg_course.specs.Wrote.{transcripts_in}
 use Rattle.lg_course.proofs.SameNames.{differ, same_list}
 use Rattle.lg_joined.specs.Joined.{IsJoined, KnewThatOver}

@@ -2,3 +2,4 @@ pub mod Blocks
 pub mod Entries
 pub mod Ledger
 pub mod Parts
+pub use Rattle.lg_row.specs.Leaf

@@ -11,7 +11,7 @@ use Rattle.lg_seat.specs.KeptCell.{KeptCell, Keeps}
 use Rattle.lg_standing.specs.Cells.{Cell, Ledger, LedgerCell, cell_count, first_cells, first_ledger, ledger_at}
 use Rattle.lg_standing.specs.May.{first_seat}
 use Rattle.lg_standing.specs.StandTogether.{Stands, StandTogether}
-use Rattle.law_protocol.proofs.Beginning.{begins, none_asked, none_wanted}
+use Rattle.lg_world.proofs.Beginning.{begins, none_asked, none_wanted}
 use Rattle.lg_world.specs.Laws.{one_ledger}
 use Rattle.lg_world.specs.Served.{IsOf, Served, StandsOn}
 

@@ -31,10 +31,10 @@ use Rattle.lg_standing.specs.Reordered.{NamesApart}
 use Rattle.lg_standing.specs.Seats.{KeptImage, Written}
 use Rattle.lg_standing.specs.StandTogether.{Stands}
 use Rattle.lg_standing.specs.Serves.{Serves}
-use Rattle.lg_course.proofs.SameNames.{names_apart}
-use Rattle.lg_course.specs.Told.{IsImageOf}
-use Rattle.lg_course.specs.Wrote.{transcripts_in}
-use Rattle.lg_course.proofs.Told.{some_meaning}
+use Rattle.lg_core.proofs.SameNames.{names_apart}
+use Rattle.lg_core.specs.Told.{IsImageOf}
+use Rattle.lg_core.specs.Wrote.{transcripts_in}
+use Rattle.lg_core.proofs.Told.{some_meaning}
 use Rattle.lg_seat.specs.Images.{CellsStand}
 use Rattle.lg_seat.proofs.AllCells.{bytes_are_the_journals}
 use Rattle.lg_world.specs.Laws.{one_ledger}

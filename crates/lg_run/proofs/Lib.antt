@@ -18,3 +18,4 @@ mod Telling
 mod Together
 mod Visiting
 mod WholeRun
+pub use Rattle.lg_core.proofs.Told

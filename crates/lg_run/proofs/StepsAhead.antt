@@ -8,7 +8,7 @@ use Rattle.lg_standing.specs.May.{May}
 use Rattle.lg_standing.specs.Seats.{SeatState}
 use Rattle.lg_standing.specs.Server.{Server}
 use Rattle.lg_standing.specs.StandTogether.{StandTogether}
-use Rattle.law_protocol.proofs.AlonesKeep.{alones_one}
+use Rattle.lg_world.proofs.AlonesKeep.{alones_one}
 
 module _ (v : Server) where
   pub steps_both : (s t u : SeatState) → Alones v s t → Alones v t u → Alones v s u

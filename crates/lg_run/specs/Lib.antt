@@ -5,3 +5,5 @@ pub mod Finished
 pub mod Saved
 pub mod Seated
 pub mod Wrote
+pub use Rattle.lg_core.specs.Told
+pub use Rattle.lg_honest.specs.Held

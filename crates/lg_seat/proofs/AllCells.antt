@@ -13,14 +13,14 @@ use Rattle.lg_parse.specs.Text.{statement_of}
 use Rattle.lg_ledger.specs.Ledger.{ledger_of}
 use Rattle.lg_image.specs.Image.{image_of}
 use Rattle.lg_image.specs.ImageBytes.{image_bytes}
-use Rattle.lg_images.specs.Room.{HasRoom}
+use Rattle.lg_cells_image.specs.Room.{HasRoom}
 use Rattle.lg_standing.specs.Cells.{AreCells, Catalog, CatalogCell, Cell, Ledger, LedgerCell, cell_count, cell_of, versions_at, versions_found, versions_in}
 use Rattle.lg_standing.specs.Seats.{SeatState}
 use Rattle.lg_standing.specs.Server.{Server}
 use Rattle.lg_standing.specs.Serves.{Serves}
 use Rattle.lg_standing.specs.StandTogether.{History, Stands}
-use Rattle.lg_server.proofs.CellsShow.{same_image, same_tables}
-use Rattle.lg_server.specs.CellsImage.{cells_image}
+use Rattle.lg_cells_image.proofs.CellsShow.{same_image, same_tables}
+use Rattle.lg_cells_image.specs.CellsImage.{cells_image}
 use Rattle.lg_cells_image.specs.Leads.{LeadsThere}
 use Rattle.lg_seat.specs.Images.{AreImageBytes, CellsStand, JournalHasRoom}
 use Rattle.lg_seat.specs.KeptCell.{KeptCell}

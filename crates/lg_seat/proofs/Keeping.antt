@@ -21,7 +21,7 @@ use Rattle.lg_standing.specs.Seats.{OpenTransaction, inside, answering, KeptImag
 use Rattle.lg_standing.specs.Server.{journal_image}
 use Rattle.lg_standing.specs.Visits.{keep, nothing}
 use Rattle.law_protocol_steps.proofs.CellsOut.{out_lies}
-use Rattle.lg_server.proofs.CellsShow.{same_bytes}
+use Rattle.lg_cells_image.proofs.CellsShow.{same_bytes}
 use Rattle.lg_seat.specs.Images.{AreImageBytes, CellsStand}
 use Rattle.lg_seat.specs.KeptCell.{KeptCell}
 use Rattle.lg_seat.specs.Needs.{point_need, stage_need, end_need, answer_need, back_need, cell_or_done, visits_left, point_visits}

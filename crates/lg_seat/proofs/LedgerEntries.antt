@@ -20,7 +20,7 @@ use Rattle.lg_entry.specs.Entry.{IsEntry, IsRoot, tables_rise}
 use Rattle.lg_ledger.specs.Entries.{roots_of}
 use Rattle.lg_ledger.proofs.Adding.{serial_more}
 use Rattle.lg_closings.proofs.Roots.{legal_ids, roots_rise}
-use Rattle.lg_images.proofs.Entries.{roots_are, few_roots}
+use Rattle.lg_cells_image.proofs.Entries.{roots_are, few_roots}
 use Rattle.lg_standing.specs.Cells.{Cell}
 use Rattle.lg_standing.specs.Contents.{contents, known}
 use Rattle.lg_standing.specs.EventsIn.{events_in}

@@ -30,3 +30,4 @@ pub mod RowsSeat
 pub mod RowsThere
 pub mod Savepoints
 pub mod Sitting
+pub use Rattle.lg_cells_image.proofs.Servers

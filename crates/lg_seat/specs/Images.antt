@@ -2,9 +2,9 @@
 use Rattle.std.specs.Prelude.{ℕ, ◌≡◌, List, length, map}
 use Rattle.lg_history.specs.Lists.{Text}
 use Rattle.lg_image.specs.ImageBytes.{image_bytes}
-use Rattle.lg_images.specs.Room.{HasRoom}
+use Rattle.lg_cells_image.specs.Room.{HasRoom}
 use Rattle.lg_parse.specs.Text.{statement_of}
-use Rattle.lg_server.specs.CellsImage.{cells_image}
+use Rattle.lg_cells_image.specs.CellsImage.{cells_image}
 use Rattle.lg_standing.specs.Serves.{Serves}
 use Rattle.lg_standing.specs.Cells.{CatalogCell, LedgerCell, AreCells}
 use Rattle.lg_standing.specs.Seats.{SeatState}

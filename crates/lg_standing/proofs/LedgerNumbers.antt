@@ -4,8 +4,8 @@ use Rattle.std.proofs.lemmas.List.{length-drop}
 use Rattle.lg_types.specs.declared.entry.TxEntry.{TxEntry}
 use Rattle.lg_model.specs.Journals.{tx_count, closed}
 use Rattle.lg_history.specs.Journals.{blocks}
-use Rattle.lg_ledger.specs.Entries.{placed}
-use Rattle.lg_ledger.specs.Ledger.{Ledger, ledger_of}
+use Rattle.lg_closings.specs.Entries.{placed}
+use Rattle.lg_closings.specs.Ledger.{Ledger, ledger_of}
 use Rattle.lg_closings.proofs.Staying.{blocks_counted}
 use Rattle.lg_closings.proofs.Counting.{entries_counted, closed_counted}
 use Rattle.lg_standing.specs.Cells.{LedgerCell, pending_in, blocks_in}

@@ -15,10 +15,10 @@ use Rattle.lg_model.specs.Events.{start_event, end_event, end_events, version_ev
 use Rattle.lg_model.specs.Lists.{inserted, sorted}
 use Rattle.lg_model.specs.Runs.{IsBefore, EndsBefore, MadeBefore}
 use Rattle.lg_model.specs.Undo.{is_undone, end_left}
-use Rattle.lg_frames.proofs.Alls.{all_weaker}
-use Rattle.lg_frames.proofs.LeftRows.{all_flat_map}
-use Rattle.lg_frames.proofs.SameKeys.{and_true}
-use Rattle.lg_frames.proofs.UndoneVersions.{Undoes, still_undoes}
+use Rattle.lg_closings.proofs.Alls.{all_weaker}
+use Rattle.lg_closings.proofs.LeftRows.{all_flat_map}
+use Rattle.lg_closings.proofs.SameKeys.{and_true}
+use Rattle.lg_closings.proofs.UndoneVersions.{Undoes, still_undoes}
 use Rattle.lg_standing.specs.EventsIn.{events_in}
 
 abbrev by_seq : Event → Event → Ordering

@@ -43,3 +43,8 @@ pub mod TreesAreOfEvents
 pub mod UndoVisits
 pub mod Visits
 pub mod WantsIn
+pub use Rattle.lg_closings.specs.Digests
+pub use Rattle.lg_closings.specs.Entries
+pub use Rattle.lg_closings.specs.Ledger
+pub use Rattle.lg_entry.specs.Entry
+pub use Rattle.lg_closings.specs.Leaf

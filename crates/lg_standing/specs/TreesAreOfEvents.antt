@@ -12,7 +12,7 @@ use Rattle.lg_standing.specs.Seats.{Tree, Frame, OpenTransaction, Session, SeatS
 use Rattle.lg_standing.specs.OpenOnes.{HasOpen, script_end}
 use Rattle.lg_standing.specs.EventsIn.{events_in}
 use Rattle.lg_standing.specs.OpenScripts.{events_counted}
-use Rattle.lg_row.specs.Leaf.{event_bytes}
+use Rattle.lg_closings.specs.Leaf.{event_bytes}
 
 -- each tree is that of the leaves of the events in its table, and a table without a tree has no event
 pub record AreTrees (events : ℕ → List Event) (trees : List Tree) : Type 0 where

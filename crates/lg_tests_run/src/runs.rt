@@ -4,10 +4,10 @@ ghost use Rattle.std.specs.Prelude.{◌≤◌};
 
 use crate::gates::{HoldsBoth, HoldsBuilder, HoldsInside};
 use lg_base::{FixedClock, Gate, OpenGate};
+use lg_benchmark::run_all;
 use lg_merkle::Sha256Hash;
 use lg_output::{Ran, Settings};
 use lg_plan::read_plan;
-use lg_run::run_all;
 use lg_types::JournalItem;
 use std::sync::Wait;
 use std::sync::atomic::Ordering::SeqCst;

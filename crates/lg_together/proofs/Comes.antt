@@ -38,8 +38,8 @@ use Rattle.lg_standing.specs.Seats.{KeptImage, Written}
 use Rattle.lg_standing.specs.Server.{Server}
 use Rattle.lg_standing.specs.StandTogether.{Stands}
 use Rattle.law_protocol_steps.proofs.AfterSet.{all_at, each_at}
-use Rattle.lg_course.specs.Told.{IsImageOf, IsMeaning}
-use Rattle.lg_course.specs.Wrote.{transcripts_in}
+use Rattle.lg_kept.specs.Told.{IsImageOf, IsMeaning}
+use Rattle.lg_kept.specs.Wrote.{transcripts_in}
 use Rattle.lg_kept.specs.Accepted.{IsAccepted, IsOfCut}
 use Rattle.lg_joined.specs.Joined.{IsJoined, KnewThatOver}
 use Rattle.lg_joined.specs.Together.{AreFormed, IsMomentOf, RanTogether, names_in}

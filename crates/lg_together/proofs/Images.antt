@@ -17,8 +17,8 @@ use Rattle.lg_standing.specs.Seats.{KeptImage, Written}
 use Rattle.lg_standing.specs.Server.{Server, journal_image}
 use Rattle.lg_standing.specs.TranscriptsAgree.{IsImage}
 use Rattle.lg_standing.specs.Serves.{Serves}
-use Rattle.lg_course.specs.Told.{IsImageOf}
-use Rattle.lg_course.specs.Wrote.{transcripts_in}
+use Rattle.lg_kept.specs.Told.{IsImageOf}
+use Rattle.lg_kept.specs.Wrote.{transcripts_in}
 
 module _ (h : List ℕ → List ℕ) (reads : Reading) (database : Text) (v : Server) (s : Serves h reads v) (l : LedgerCell) (of_database : l.database ≡ database) where
   bytes_of : (J : List JournalItem) → journal_image v l.database J ≡ image_bytes (image_of h reads database J)

@@ -17,7 +17,7 @@ use Rattle.lg_honest.specs.Held.{held}
 use Rattle.lg_standing.specs.AtTheEnd.{image_items}
 use Rattle.lg_standing.specs.LedgerIsLegal.{FitsBlock}
 use Rattle.lg_standing.specs.Seats.{KeptImage}
-use Rattle.lg_course.specs.Told.{IsImageOf, IsMeaning}
+use Rattle.lg_kept.specs.Told.{IsImageOf, IsMeaning}
 use Rattle.lg_kept.specs.Accepted.{IsAccepted}
 pub use Rattle.lg_kept.specs.LastImage.{last_image, last_image_bytes}
 

@@ -15,7 +15,7 @@ use Rattle.lg_standing.specs.Reordered.{NamesApart}
 use Rattle.lg_standing.specs.Seats.{Written}
 use Rattle.lg_standing.specs.Server.{Server}
 use Rattle.lg_standing.specs.Serves.{Serves}
-use Rattle.lg_course.specs.Wrote.{transcripts_in}
+use Rattle.lg_kept.specs.Wrote.{transcripts_in}
 use Rattle.lg_joined.specs.Joined.{IsJoined, KnewThatOver}
 pub use Rattle.lg_joined.specs.Together.{session_in}
 use Rattle.lg_together.specs.CameTo.{Left}

@@ -11,10 +11,10 @@ use Rattle.lg_standing.specs.May.{OutsStand}
 use Rattle.lg_standing.specs.Seats.{SeatState, kept, split, joined, nobody, may_end}
 use Rattle.lg_standing.specs.Server.{Server}
 use Rattle.lg_standing.specs.StandTogether.{StandTogether}
-use Rattle.law_protocol_ledger.proofs.JoinsStand.{back, join_stands}
-use Rattle.law_protocol_tables.proofs.KeepsAsked.{still_asked_for}
+use Rattle.law_protocol.proofs.JoinsStand.{back, join_stands}
+use Rattle.law_protocol.proofs.KeepsAsked.{still_asked_for}
 use Rattle.law_protocol.proofs.KeepsWanted.{same_wanted, split_wanted}
-use Rattle.law_protocol_ledger.proofs.Splits.{splits_stand}
+use Rattle.law_protocol.proofs.Splits.{splits_stand}
 use Rattle.law_protocol.proofs.StepsKeep.{may_keeps}
 use Rattle.lg_world.specs.Served.{Served, outs_seen, IsOf, StandsOn, MayVisit}
 

@@ -1,7 +1,7 @@
 use Rattle.std.proofs.Common.{◌++◌, ◌∙◌, List, [], ◌∷◌, append-nil, append_assoc, map, ap, sym, arith}
 use Rattle.lg_types.specs.declared.digest.Digest.{Digest}
 use Rattle.lg_types.specs.declared.digest.HeldDigest.{HeldDigest}
-use Rattle.lg_honest.specs.Held.{held}
+use Rattle.lg_run.specs.Held.{held}
 use Rattle.lg_benchmark.proofs.Telling.{none_left}
 use Rattle.lg_benchmark.proofs.running.held_of.Goals as goal
 

@@ -1,5 +1,5 @@
 use Rattle.std.proofs.Common.{◌≡◌, ◌++◌, map}
-use Rattle.lg_honest.specs.Held.{held}
+use Rattle.lg_run.specs.Held.{held}
 use Rattle.lg_benchmark.proofs.running.held_of.Given as goal
 
 -- with those that are left they are all

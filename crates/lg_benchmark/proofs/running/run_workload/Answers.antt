@@ -1,7 +1,7 @@
 use Rattle.std.proofs.Common.{◌≡◌, ◌∙◌, ap, arith, map, subst}
 use Rattle.lg_parse.specs.Text.{statement_of}
 use Rattle.lg_output.specs.Moments.{IsMoment}
-use Rattle.lg_honest.specs.Held.{held}
+use Rattle.lg_run.specs.Held.{held}
 use Rattle.lg_benchmark.specs.Reports.{expected, TellsOfImage}
 use Rattle.lg_benchmark.proofs.Telling.{Laws, as_expected, tells_of}
 use Rattle.lg_benchmark.proofs.running.run_workload.Goals as goal

@@ -5,7 +5,7 @@ use Rattle.lg_standing.specs.Cells.{ledger_at}
 use Rattle.lg_seat.specs.Images.{AreImageBytes, CellsStand}
 use Rattle.lg_core.proofs.Ends.{all_ended, cells_stand, has_left, image_is, ledger_within, room_is, room_over, second_is_ledger}
 use Rattle.lg_core.proofs.Pairs.{index_there}
-use Rattle.lg_server.proofs.Servers.{some_server}
+use Rattle.lg_seat.proofs.Servers.{some_server}
 use Rattle.lg_core.proofs.one_thread.Core.into_parts.Goals as goal
 
 pub swap_remove-requires : goal.swap_remove-requires

@@ -3,7 +3,7 @@ use Rattle.lg_parse.specs.Text.{statement_of}
 use Rattle.lg_seat.specs.Steps.{Begins}
 use Rattle.lg_core.proofs.Calls.{last_open, last_others}
 use Rattle.lg_core.proofs.Ends.{session_count, session_stands}
-use Rattle.lg_server.proofs.Servers.{some_server}
+use Rattle.lg_seat.proofs.Servers.{some_server}
 use Rattle.lg_core.proofs.one_thread.Core.open_session.Goals as goal
 
 pub returns-clause-stands : goal.returns-clause-stands
