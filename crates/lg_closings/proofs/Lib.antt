@@ -2,8 +2,8 @@ pub mod Counting
 pub mod Digests
 pub mod Roots
 pub mod Staying
-pub use Rattle.lg_frames.proofs.Alls
-pub use Rattle.lg_frames.proofs.LeftRows
-pub use Rattle.lg_frames.proofs.SameKeys
-pub use Rattle.lg_frames.proofs.UndoneVersions
+pub use Rattle.lg_history.proofs.Alls
+pub use Rattle.lg_history.proofs.LeftRows
+pub use Rattle.lg_history.proofs.SameKeys
+pub use Rattle.lg_history.proofs.UndoneVersions
 pub use Rattle.lg_ledger.proofs.Adding

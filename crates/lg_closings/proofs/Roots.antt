@@ -3,7 +3,7 @@ use Rattle.std.proofs.Common.{◌≡◌, ◌≢◌, ◌≤◌, ◌<◌, ℕ, suc
 use Rattle.std.specs.Prelude.{◌==◌, not, if◌then◌else◌}
 use Rattle.std.specs.List.{AllByRecursion, filter}
 use Rattle.std.proofs.lemmas.Bool.{lt-ltb, ne_eqb}
-use Rattle.lg_entry.specs.Entry.{rise_above, tables_rise}
+use Rattle.lg_ledger.specs.Entry.{rise_above, tables_rise}
 use Rattle.lg_types.specs.declared.event.Event.{Event}
 use Rattle.lg_types.specs.declared.journal.JournalItem.{JournalItem}
 use Rattle.lg_types.specs.declared.journal.JournalItem.TheVariants.{Tx, Close}
@@ -14,7 +14,7 @@ use Rattle.lg_model.specs.Events.{events_of, all_events}
 use Rattle.lg_model.specs.Journals.{Line, IsOther, IsNext, IsLegalFrom, IsLegal, after_item, serial_from, serial}
 use Rattle.lg_model.specs.Script.{Reading}
 use Rattle.lg_model.specs.SystemTables.{first_tables}
-use Rattle.lg_frames.proofs.LegalSound.{legal_sound}
+use Rattle.lg_history.proofs.LegalSound.{legal_sound}
 use Rattle.lg_ledger.proofs.Adding.{serial_more}
 use Rattle.lg_ledger.specs.Entries.{has_events, root_in, roots_of}
 

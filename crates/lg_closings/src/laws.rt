@@ -12,7 +12,7 @@ ghost use Rattle.lg_history.specs.Digests.{IsDigest};
 ghost use Rattle.lg_history.specs.Meaning.{Meaning};
 ghost use Rattle.lg_history.specs.Real.{Hashing};
 ghost use Rattle.lg_closings.specs.Digests.{digest_of};
-ghost use Rattle.lg_entry.specs.Entry.{tables_rise};
+ghost use Rattle.lg_ledger.specs.Entry.{tables_rise};
 ghost use Rattle.lg_ledger.specs.Entries.{entry_of};
 ghost use Rattle.lg_ledger.specs.Ledger.{ledger_of, blocks_of, entries_of, block_hash};
 

@@ -34,3 +34,8 @@ pub mod SoFar
 pub mod Stable
 pub mod Theirs
 pub mod Trace
+pub use Rattle.lg_frames.proofs.Alls
+pub use Rattle.lg_frames.proofs.LeftRows
+pub use Rattle.lg_frames.proofs.LegalSound
+pub use Rattle.lg_frames.proofs.SameKeys
+pub use Rattle.lg_frames.proofs.UndoneVersions

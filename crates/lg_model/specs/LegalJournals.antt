@@ -1,7 +1,7 @@
 -- A legal journal: one that a server could have made.
 use Rattle.std.specs.Prelude.{◌≡◌, true}
 use Rattle.std.specs.List.{AllByRecursion}
-use Rattle.lg_items.specs.DatabaseName.{is_database_name}
+use Rattle.lg_value.specs.DatabaseName.{is_database_name}
 use Rattle.lg_types.specs.declared.journal.Journal.{Journal}
 use Rattle.lg_types.specs.JournalRules.{ItemRules}
 use Rattle.lg_model.specs.Journals.{IsLegal}

@@ -2,10 +2,10 @@
 -- each other.
 use Rattle.std.specs.Prelude.{ℕ, ◌≡◌, ◌+◌, ◌-◌, ◌==◌, ◌&&◌, ◌||◌, not, nat_le, Bool, true, List, [], ◌∷◌, length}
 use Rattle.std.specs.List.{AllByRecursion, list_any}
-use Rattle.lg_items.specs.DatabaseName.{is_database_name}
-use Rattle.lg_items.specs.Ids.{is_tx_id}
-use Rattle.lg_items.specs.Moment.{is_moment}
-use Rattle.lg_items.specs.SessionName.{is_session_name}
+use Rattle.lg_value.specs.DatabaseName.{is_database_name}
+use Rattle.lg_value.specs.Ids.{is_tx_id}
+use Rattle.lg_value.specs.Moment.{is_moment}
+use Rattle.lg_value.specs.SessionName.{is_session_name}
 use Rattle.lg_types.specs.declared.journal.TheConstants.{MAX_BLOCK}
 use Rattle.lg_types.specs.declared.journal.Journal.{Journal}
 use Rattle.lg_types.specs.declared.journal.JournalItem.{JournalItem}

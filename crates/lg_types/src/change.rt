@@ -1,7 +1,7 @@
 //! What a statement does to the versions of a table.
 
 use crate::version::{EventId, Typed};
-use lg_items::Items;
+use lg_value::Items;
 
 /// The start or the end of a version, without the event that it will be.
 #[derive(Debug, Drop)]

@@ -1,6 +1,6 @@
 //! Digests, and what an auditor holds of one.
 
-use lg_items::Name;
+use lg_value::Name;
 
 /// What the ledger says of its newest block.
 #[derive(Debug, Drop)]

@@ -1,6 +1,6 @@
 //! The line with which a transaction ends.
 
-use lg_items::TxId;
+use lg_value::TxId;
 
 /// The line with which a transaction ends.
 #[derive(Clone, Copy, Debug, PartialEq, Eq)]

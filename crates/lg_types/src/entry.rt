@@ -1,6 +1,6 @@
 //! Transaction entries and the records of blocks, which are what the ledger's digests are made of.
 
-use lg_items::{Items, Name, TableId, TxId};
+use lg_value::{Items, Name, TableId, TxId};
 
 /// What the ledger says of a transaction that was committed.
 #[derive(Debug, Drop)]

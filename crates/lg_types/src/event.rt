@@ -1,7 +1,6 @@
 //! Row events: the starts and ends of the versions of rows, which are the leaves of the ledger's trees.
 
-use lg_items::{Items, TableId, TxId};
-use lg_value::{SqlType, Value};
+use lg_value::{Items, SqlType, TableId, TxId, Value};
 
 /// The start or the end of a version of a row.
 #[derive(Debug, Drop)]

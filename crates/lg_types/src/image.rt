@@ -3,7 +3,7 @@
 use crate::entry::{BlockRecord, TxEntry};
 use crate::table::TableDef;
 use crate::version::{Typed, Version};
-use lg_items::{Items, Name};
+use lg_value::{Items, Name};
 
 /// A row of an index: the values of the index's columns, and then those of the primary key's,
 /// NULL being none.

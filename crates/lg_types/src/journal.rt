@@ -1,6 +1,6 @@
 //! The journal: what was committed and closed, in order.
 
-use lg_items::{Items, Name, Text, TxId};
+use lg_value::{Items, Name, Text, TxId};
 
 /// The statements of a transaction in order, each with the text of its reply.
 pub type Script = Items<(Text, Text)>;

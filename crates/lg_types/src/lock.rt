@@ -1,7 +1,6 @@
 //! Locks: what a transaction holds of a cell so that others leave it alone.
 
-use lg_items::{Items, TxId};
-use lg_value::Value;
+use lg_value::{Items, TxId, Value};
 
 /// How an item is locked.
 #[derive(Clone, Copy, Debug, PartialEq, Eq)]

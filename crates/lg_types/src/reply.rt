@@ -1,8 +1,7 @@
 //! What a statement is answered.
 
 use crate::version::Row;
-use lg_items::{Items, TxId};
-use lg_value::Refusal;
+use lg_value::{Items, Refusal, TxId};
 
 /// The reply to a statement.
 #[derive(Debug, Drop)]

@@ -1,7 +1,6 @@
 //! Statements, as the parser reads them and the printer writes them.
 
-use lg_items::{Items, Name};
-use lg_value::{ColumnDef, Expr, TableKind, Value};
+use lg_value::{ColumnDef, Expr, Items, Name, TableKind, Value};
 
 /// A statement.
 #[derive(Debug, Drop)]

@@ -1,7 +1,6 @@
 //! Definitions of tables.
 
-use lg_items::{Items, Name, TableId};
-use lg_value::{ColumnDef, TableKind};
+use lg_value::{ColumnDef, Items, Name, TableId, TableKind};
 
 /// The definition of a table.
 #[derive(Debug, Drop)]

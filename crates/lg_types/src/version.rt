@@ -1,8 +1,7 @@
 //! Versions of rows, what a row was from its start to its end, and the tables that have them.
 
 use crate::table::TableDef;
-use lg_items::{Items, TxId};
-use lg_value::{SqlType, Value};
+use lg_value::{Items, SqlType, TxId, Value};
 
 /// The values of a row, one for each column.
 pub type Row = Items<Value>;

@@ -10,3 +10,7 @@ pub mod Stored
 pub mod Text
 pub mod Tree
 pub mod TypeCodes
+pub use Rattle.lg_items.specs.DatabaseName
+pub use Rattle.lg_items.specs.Ids
+pub use Rattle.lg_items.specs.Moment
+pub use Rattle.lg_items.specs.SessionName
