@@ -46,5 +46,5 @@ pub mod WantsIn
 pub use Rattle.lg_closings.specs.Digests
 pub use Rattle.lg_closings.specs.Entries
 pub use Rattle.lg_closings.specs.Ledger
-pub use Rattle.lg_entry.specs.Entry
+pub use Rattle.lg_closings.specs.Entry
 pub use Rattle.lg_closings.specs.Leaf
