@@ -14,7 +14,7 @@ use Rattle.lg_closings.proofs.Staying.{blocks_counted}
 use Rattle.lg_closings.proofs.Counting.{entries_counted}
 use Rattle.lg_image.specs.Image.{image_of}
 use Rattle.lg_image.specs.ImageBytes.{IsImage}
-use Rattle.lg_images.specs.Room.{HasRoom, TableHasRoom}
+use Rattle.lg_snapshot.specs.Room.{HasRoom, TableHasRoom}
 use Rattle.lg_standing.specs.Cells.{Cell, CatalogCell, LedgerCell}
 use Rattle.lg_server.specs.CellsImage.{tables_in_cells}
 use Rattle.lg_cells_image.specs.Leads.{LeadsThere, image_with}

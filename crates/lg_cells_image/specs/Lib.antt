@@ -1,3 +1,3 @@
 pub mod Leads
-pub use Rattle.lg_images.specs.Room
+pub use Rattle.lg_snapshot.specs.Room
 pub use Rattle.lg_server.specs.CellsImage

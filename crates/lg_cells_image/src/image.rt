@@ -2,7 +2,7 @@
 
 ghost use Rattle.std.specs.Prelude.{◌≡◌, ℕ, List, IfOk, OnOk};
 ghost use Rattle.lg_image.specs.ImageBytes.{image_bytes};
-ghost use Rattle.lg_images.specs.Room.{HasRoom};
+ghost use Rattle.lg_snapshot.specs.Room.{HasRoom};
 ghost use Rattle.lg_parse.specs.Text.{statement_of};
 ghost use Rattle.lg_server.specs.CellsImage.{cells_image};
 ghost use Rattle.lg_cells_image.specs.Leads.{image_with, LeadsThere};
@@ -13,9 +13,8 @@ use crate::shown::ShownCells;
 use crate::tables::tables_in_cells;
 use lg_book::LedgerCell;
 use lg_image::write_image;
-use lg_images::legal_images_have_a_spelling;
 use lg_items::{Blob, Items, Memory};
-use lg_snapshot::split;
+use lg_snapshot::{legal_images_have_a_spelling, split};
 use lg_types::{Image, Table};
 use lg_written::readings_of_the_grammar_give_written;
 use std::alloc::Global;

@@ -2,7 +2,7 @@
 
 ghost use Rattle.std.specs.Prelude.{◌≡◌, IfOk};
 ghost use Rattle.std.specs.List.{AllByRecursion};
-ghost use Rattle.lg_images.specs.Room.{TableHasRoom};
+ghost use Rattle.lg_snapshot.specs.Room.{TableHasRoom};
 ghost use Rattle.lg_committed.specs.Known.{has_in};
 ghost use Rattle.lg_cells_image.specs.Leads.{is_uncommitted};
 ghost use Rattle.lg_server.specs.CellsImage.{committed_tables, defs_before, tables_in_cells};

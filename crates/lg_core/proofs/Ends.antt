@@ -10,7 +10,7 @@ use Rattle.lg_history.specs.Lists.{Text, Each}
 use Rattle.lg_history.specs.Transcripts.{Transcript}
 use Rattle.lg_image.specs.Image.{image_of}
 use Rattle.lg_image.specs.ImageBytes.{image_bytes}
-use Rattle.lg_images.specs.Room.{HasRoom}
+use Rattle.lg_seat.specs.Room.{HasRoom}
 use Rattle.lg_parse.specs.Text.{statement_of}
 use Rattle.lg_standing.specs.Alone.{new_session}
 use Rattle.lg_standing.specs.Cells.{Cell, Ledger, LedgerCell, ledger_at, pending_in}

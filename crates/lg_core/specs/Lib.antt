@@ -6,3 +6,4 @@ pub mod Standing
 pub mod Written
 pub use Rattle.lg_course.specs.Told
 pub use Rattle.lg_course.specs.Wrote
+pub use Rattle.lg_course.specs.EndsLast

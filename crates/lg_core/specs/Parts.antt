@@ -3,7 +3,7 @@ use Rattle.std.specs.Prelude.{ℕ, ◌≡◌, ◌<◌, List, length, map}
 use Rattle.lg_history.specs.Transcripts.{Transcript}
 use Rattle.lg_image.specs.Image.{image_of}
 use Rattle.lg_image.specs.ImageBytes.{image_bytes}
-use Rattle.lg_images.specs.Room.{HasRoom}
+use Rattle.lg_seat.specs.Room.{HasRoom}
 use Rattle.lg_parse.specs.Text.{statement_of}
 use Rattle.lg_standing.specs.Server.{Server}
 use Rattle.lg_standing.specs.Serves.{Serves}

@@ -9,6 +9,9 @@ mod session;
 mod visits;
 
 pub use cells::first_cells;
+pub use lg_course::{
+    ended_courses_agree, journals_of_courses_are_legal, times_are_those_of_sessions,
+};
 pub use one_thread::Core;
 pub use parts::Parts;
 pub use session::{Session, new_session};

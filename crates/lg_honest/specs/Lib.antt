@@ -1,1 +1,2 @@
 pub mod Held
+pub use Rattle.lg_images.specs.Room

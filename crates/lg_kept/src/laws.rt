@@ -10,7 +10,7 @@ ghost use Rattle.lg_history.specs.Transcripts.{Transcript};
 ghost use Rattle.lg_parse.specs.Text.{statement_of};
 ghost use Rattle.lg_image.specs.Image.{image_of};
 ghost use Rattle.lg_image.specs.ImageBytes.{image_bytes};
-ghost use Rattle.lg_images.specs.Room.{HasRoom};
+ghost use Rattle.lg_honest.specs.Room.{HasRoom};
 ghost use Rattle.lg_verdict.specs.declared.place.Verdict.TheVariants.{Yes};
 ghost use Rattle.lg_verdict.specs.Bytes.{verdict_of};
 ghost use Rattle.lg_honest.specs.Held.{held};

@@ -4,3 +4,6 @@
 mod laws;
 
 pub use laws::kept_images_are_accepted;
+pub use lg_honest::{
+    digests_are_held_where_their_blocks_are_closed, images_of_legal_journals_verify,
+};

@@ -22,7 +22,7 @@ use Rattle.lg_ledger.specs.Ledger.{block_hash}
 use Rattle.lg_parse.specs.Text.{statement_of}
 use Rattle.lg_verdict.specs.declared.place.Verdict.TheVariants.{Yes}
 use Rattle.lg_verdict.specs.Bytes.{verdict_of}
-use Rattle.lg_honest.specs.Held.{AllHeld, IsHeld, held}
+use Rattle.lg_together.specs.Held.{AllHeld, IsHeld, held}
 use Rattle.lg_standing.specs.Cells.{LedgerCell, blocks_in, pending_in}
 use Rattle.lg_standing.specs.JournalForms.{journal_in}
 use Rattle.lg_standing.specs.LedgerIsLegal.{IsOfCell, LedgerIsLegal}

@@ -51,7 +51,7 @@ use Rattle.lg_together.specs.CameTo.{Left, last_image_bytes}
 use Rattle.lg_together.specs.Threads.{HasJoined, session_in}
 use Rattle.lg_verdict.specs.declared.place.Verdict.TheVariants.{Yes}
 use Rattle.lg_verdict.specs.Bytes.{verdict_of}
-use Rattle.lg_honest.specs.Held.{held}
+use Rattle.lg_together.specs.Held.{held}
 use Rattle.lg_core.specs.Standing.{pending_found}
 use Rattle.lg_run.specs.CameTo.{AreLast, IsClosed, IsOf, and_digests, input_of, session_of, transcripts_text}
 use Rattle.lg_run.specs.Closing.{IssuesLast, pending_there}

@@ -14,7 +14,7 @@ use Rattle.lg_images.specs.Room.{HasRoom}
 use Rattle.lg_closings.specs.Digests.{digest_of}
 use Rattle.lg_verdict.specs.declared.place.Verdict.TheVariants.{Yes}
 use Rattle.lg_verdict.specs.Bytes.{verdict_of}
-use Rattle.lg_honest.specs.Held.{held}
+use Rattle.lg_together.specs.Held.{held}
 use Rattle.lg_parse.specs.Text.{statement_of}
 use Rattle.lg_plan.specs.Plan.{Plan, Section}
 use Rattle.lg_output.specs.Images.{AreKept}

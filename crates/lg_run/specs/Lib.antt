@@ -6,4 +6,4 @@ pub mod Saved
 pub mod Seated
 pub mod Wrote
 pub use Rattle.lg_core.specs.Told
-pub use Rattle.lg_honest.specs.Held
+pub use Rattle.lg_together.specs.Held

@@ -17,12 +17,14 @@ use crate::leaving::{left_by, left_closed};
 use crate::whole::run_over;
 use lg_base::{Clock, Gate};
 use lg_book::issued_digests_are_of_the_journal;
-use lg_honest::{digests_are_held_where_their_blocks_are_closed, images_of_legal_journals_verify};
 use lg_items::Memory;
 use lg_merkle::Hash32;
 use lg_output::{Ran, Settings, is_spelled, moment};
 use lg_plan::Plan;
-use lg_together::runs_side_by_side_agree;
+use lg_together::{
+    digests_are_held_where_their_blocks_are_closed, images_of_legal_journals_verify,
+    runs_side_by_side_agree,
+};
 use std::alloc::Global;
 use std::marker::Brand;
 use std::sync::Wait;

@@ -17,3 +17,4 @@ pub mod Steps
 pub mod TableStages
 pub mod Told
 pub mod VisitedCells
+pub use Rattle.lg_cells_image.specs.Room

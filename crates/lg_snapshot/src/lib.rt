@@ -7,5 +7,6 @@ mod room;
 mod stored;
 mod tables;
 
+pub use lg_images::legal_images_have_a_spelling;
 pub use parts::split;
 pub use room::tables_have_room;

@@ -22,16 +22,16 @@ use Rattle.lg_images.specs.Room.{HasRoom}
 use Rattle.lg_parse.specs.Text.{statement_of}
 use Rattle.lg_verdict.specs.declared.place.Verdict.TheVariants.{Yes}
 use Rattle.lg_verdict.specs.Bytes.{verdict_of}
-use Rattle.lg_honest.specs.Held.{held}
+use Rattle.lg_kept.specs.Held.{held}
 use Rattle.lg_input.specs.Line.{Statement}
 use Rattle.lg_input.specs.Sessions.{sessions_of}
 use Rattle.lg_standing.specs.Reordered.{NamesApart}
 use Rattle.lg_standing.specs.Seats.{KeptImage}
 use Rattle.lg_standing.specs.Server.{Server}
 use Rattle.lg_standing.specs.Serves.{Serves}
-use Rattle.lg_course.proofs.SameNames.{names_apart}
-use Rattle.lg_course.specs.Told.{HasEnded, IsImageOf, RunAgrees}
-use Rattle.lg_course.proofs.Told.{some_meaning}
+use Rattle.lg_core.proofs.SameNames.{names_apart}
+use Rattle.lg_core.specs.Told.{HasEnded, IsImageOf, RunAgrees}
+use Rattle.lg_core.proofs.Told.{some_meaning}
 use Rattle.lg_kept.specs.Accepted.{IsAccepted}
 use Rattle.lg_core.specs.declared.parts.Parts.{Parts}
 use Rattle.lg_kept.specs.LastImage.{journal_of, last_image, last_image_bytes}

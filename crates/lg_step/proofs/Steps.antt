@@ -5,7 +5,7 @@ use mathlib.Core.Option.{Option, some}
 use lib.ListN.{get_elem?}
 use Rattle.std.proofs.lemmas.Bool.Decides.{nat_tests}
 use Rattle.std.proofs.lemmas.List.{map_push}
-use Rattle.lg_course.specs.EndsLast.{running}
+use Rattle.lg_core.specs.EndsLast.{running}
 use Rattle.lg_history.specs.Inputs.{InputLine}
 use Rattle.lg_history.specs.Lists.{Text, Each}
 use Rattle.lg_input.specs.Line.{Statement}

@@ -10,11 +10,11 @@ use Rattle.lg_history.specs.Transcripts.{Transcript}
 use Rattle.lg_parse.specs.Text.{statement_of}
 use Rattle.lg_verdict.specs.declared.place.Verdict.TheVariants.{Yes}
 use Rattle.lg_verdict.specs.Bytes.{verdict_of}
-use Rattle.lg_honest.specs.Held.{held}
+use Rattle.lg_kept.specs.Held.{held}
 use Rattle.lg_input.specs.Line.{Statement}
 use Rattle.lg_input.specs.Sessions.{sessions_of}
 use Rattle.lg_standing.specs.Seats.{KeptImage}
-use Rattle.lg_course.specs.Told.{RunAgrees}
+use Rattle.lg_core.specs.Told.{RunAgrees}
 use Rattle.lg_kept.specs.Accepted.{IsAccepted}
 use Rattle.lg_kept.specs.LastImage.{last_image, last_image_bytes}
 use Rattle.lg_output.specs.Images.{AreKept}

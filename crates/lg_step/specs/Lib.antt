@@ -5,4 +5,4 @@ pub mod Ran
 pub mod Reached
 pub mod Woven
 pub mod Written
-pub use Rattle.lg_course.specs.Told
+pub use Rattle.lg_core.specs.Told

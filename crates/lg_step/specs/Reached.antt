@@ -1,6 +1,6 @@
 -- How far a run has come.
 use Rattle.std.specs.Prelude.{ℕ, ◌<◌, ◌⊎◌, List}
-use Rattle.lg_course.specs.EndsLast.{running}
+use Rattle.lg_core.specs.EndsLast.{running}
 use Rattle.lg_history.specs.Lists.{Text, Each}
 use Rattle.lg_input.specs.Line.{Statement}
 use Rattle.lg_core.specs.Asked.{Asked, at_end}

@@ -13,8 +13,9 @@ use crate::leaving::left_by;
 use crate::lines::run_each;
 use crate::sessions::{end_sessions, open_sessions};
 use lg_base::Clock;
-use lg_core::{Core, Parts};
-use lg_course::{ended_courses_agree, journals_of_courses_are_legal, times_are_those_of_sessions};
+use lg_core::{
+    Core, Parts, ended_courses_agree, journals_of_courses_are_legal, times_are_those_of_sessions,
+};
 use lg_input::{Line, sessions_law};
 use lg_items::{Memory, Name};
 use lg_kept::kept_images_are_accepted;

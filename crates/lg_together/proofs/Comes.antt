@@ -30,7 +30,7 @@ use Rattle.lg_ledger.specs.Ledger.{block_hash}
 use Rattle.lg_parse.specs.Text.{statement_of}
 use Rattle.lg_verdict.specs.declared.place.Verdict.TheVariants.{Yes}
 use Rattle.lg_verdict.specs.Bytes.{verdict_of}
-use Rattle.lg_honest.specs.Held.{AllHeld, IsHeld, held}
+use Rattle.lg_kept.specs.Held.{AllHeld, IsHeld, held}
 use Rattle.lg_standing.specs.Cells.{Cell, Ledger, LedgerCell, ledger_at}
 use Rattle.lg_standing.specs.LedgerIsLegal.{FitsBlock, IsOfCell}
 use Rattle.lg_standing.specs.Reordered.{NamesApart}

@@ -13,7 +13,7 @@ use Rattle.lg_history.specs.Transcripts.{Transcript}
 use Rattle.lg_parse.specs.Text.{statement_of}
 use Rattle.lg_verdict.specs.declared.place.Verdict.TheVariants.{Yes}
 use Rattle.lg_verdict.specs.Bytes.{verdict_of}
-use Rattle.lg_honest.specs.Held.{held}
+use Rattle.lg_kept.specs.Held.{held}
 use Rattle.lg_standing.specs.AtTheEnd.{image_items}
 use Rattle.lg_standing.specs.LedgerIsLegal.{FitsBlock}
 use Rattle.lg_standing.specs.Seats.{KeptImage}

@@ -6,8 +6,8 @@ ghost use Rattle.lg_history.specs.Lists.{In, Text};
 ghost use Rattle.lg_together.specs.CameTo.{CameTo, Left};
 ghost use Rattle.lg_together.specs.Threads.{HasJoined};
 
-use lg_honest::{digests_are_held_where_their_blocks_are_closed, images_of_legal_journals_verify};
 use lg_joined::runs_of_joined_seats_agree;
+use lg_kept::{digests_are_held_where_their_blocks_are_closed, images_of_legal_journals_verify};
 use lg_meanings::statements_have_one_meaning;
 
 /// What is left where all seats of a server were joined into one is that of a run of the input in which

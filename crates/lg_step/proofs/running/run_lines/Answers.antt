@@ -1,7 +1,7 @@
 use Rattle.std.proofs.Common.{List, ℕ, map, Bor}
 use Rattle.std.specs.List.{AllByRecursion}
 use Rattle.lg_parse.specs.Text.{statement_of}
-use Rattle.lg_course.proofs.Told.{some_meaning}
+use Rattle.lg_core.proofs.Told.{some_meaning}
 use Rattle.lg_server.proofs.Servers.{some_server}
 use Rattle.lg_digest.specs.Writing.{HasMoments}
 use Rattle.lg_input.specs.Line.{seen}

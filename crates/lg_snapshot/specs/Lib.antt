@@ -1,0 +1,1 @@
+pub use Rattle.lg_images.specs.Room
