@@ -114,12 +114,12 @@ def row(name, processes):
 def table(crates, words, status, wall):
     seconds_of = lambda name: sum(it.seconds for it in crates[name])
     used, chain = resource.getrusage(resource.RUSAGE_CHILDREN), longest_chain(crates)
-    rest = used.ru_utime + used.ru_stime - sum(map(seconds_of, crates))
+    # (what a command that was stopped leaves running is in no total of it)
+    rest = max(used.ru_utime + used.ru_stime - sum(map(seconds_of, crates)), 0)
     yield f"`{' '.join(words)}` ended with status {status}. Times are minutes, memory is GB of one process.\n"
     yield "| crate | proofs | tests | edits | all | memory | begun | ended |\n|:--|--:|--:|--:|--:|--:|--:|--:|"
     yield from (row(name, crates[name]) for name in sorted(crates, key=seconds_of, reverse=True))
-    everything = [it for processes in crates.values() for it in processes]
-    yield from [row("all", everything)] if everything else []
+    yield from [row("all", [it for processes in crates.values() for it in processes])] if crates else []
     yield f"\nProcessor time: user {used.ru_utime / 60:.2f}, system {used.ru_stime / 60:.2f}, of both {rest / 60:.2f} for no crate."
     yield f"By the clock: {wall / 60:.2f}."
     yield f"The longest chain of proofs, by the clock: {sum(own for _, own in chain) / 60:.2f}"
