@@ -129,6 +129,8 @@ def table(crates, words, status, wall):
 def main(words):
     if words[:1] in (["-h"], ["--help"]):
         return print(__doc__)
+    if words == ["--table"]:
+        sys.exit("gate.py: --table wants a file")
     file, words = (words[1], words[2:]) if words[:1] == ["--table"] else (f"{TOP}/out/gate.md", words)
     words, began = words or [f"{TOP}/test"], time.monotonic()
     ran = subprocess.Popen(words)
