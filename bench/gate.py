@@ -37,9 +37,9 @@ def process_of(pid):
 
 
 def work_of(pid):
-    """Returns the crate that a process of rattle works on and the kind of its work, or nothing."""
+    """Returns the crate that a process of rattle works on and the kind of its work, or nothing. A trial program is no proof."""
     words = read(pid, "cmdline").decode(errors="replace").split("\0")
-    if "--crate-name" not in words[:-1]:
+    if os.path.basename(words[0]) != "rattle" or "--crate-name" not in words[:-1]:
         return "", ""
     is_edit = os.path.basename(os.readlink(f"/proc/{pid}/cwd")).startswith("rt-edit-")
     return words[words.index("--crate-name") + 1], "edits" if is_edit else "tests" if "--test" in words else "proofs"
