@@ -32,7 +32,7 @@ use Rattle.lg_run.proofs.Told.{some_meaning}
 use Rattle.lg_generator.specs.Workload.{create_text, insert_text, update_text, session_texts, setup_texts}
 use Rattle.lg_workload.specs.Tables.{Shows}
 use Rattle.lg_workload.specs.Turns.{inserted_total, ReadsTexts, Turns}
-use Rattle.lg_turns.specs.Input.{workload_input}
+use Rattle.lg_workload.specs.Input.{workload_input}
 use Rattle.lg_benchmark.specs.Figures.{amount, history_count, row_count, user_tables}
 use Rattle.lg_benchmark.specs.Reports.{expected, image_in, inserted_in_all, TellsOf, TellsOfImage}
 use Rattle.lg_benchmark.specs.declared.report.Report.{Report}

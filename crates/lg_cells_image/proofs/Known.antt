@@ -7,7 +7,7 @@ use Rattle.lg_types.specs.declared.table.TableDef.{TableDef}
 use Rattle.lg_types.specs.declared.version.Table.{Table}
 use Rattle.lg_types.specs.declared.version.Version.{Version}
 use Rattle.lg_model.specs.Catalog.{Defs}
-use Rattle.lg_committed.specs.Known.{has_in}
+use Rattle.lg_cells_image.specs.Known.{has_in}
 use Rattle.lg_server.specs.CellsImage.{committed_tables, defs_before, tables_in_cells}
 use Rattle.lg_standing.specs.Cells.{Cell, CatalogCell, Creator, LedgerCell, versions_at}
 use Rattle.lg_standing.specs.Committed.{committed}

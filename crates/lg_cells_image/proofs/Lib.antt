@@ -1,3 +1,5 @@
+pub mod Found
+pub mod Kept
 pub mod Known
 pub mod Spelled
 pub use Rattle.lg_snapshot.proofs.Entries

@@ -3,13 +3,14 @@
 ghost use Rattle.std.specs.Prelude.{◌≡◌, IfOk};
 ghost use Rattle.std.specs.List.{AllByRecursion};
 ghost use Rattle.lg_snapshot.specs.Room.{TableHasRoom};
-ghost use Rattle.lg_committed.specs.Known.{has_in};
+ghost use Rattle.lg_cells_image.specs.Known.{has_in};
 ghost use Rattle.lg_cells_image.specs.Leads.{is_uncommitted};
 ghost use Rattle.lg_server.specs.CellsImage.{committed_tables, defs_before, tables_in_cells};
 
+use crate::ids::Committed;
 use crate::shown::ShownCells;
+use crate::versions::committed_versions;
 use lg_book::LedgerCell;
-use lg_committed::{Committed, committed_versions};
 use lg_items::{Memory, TxId};
 use lg_snapshot::tables_have_room;
 use lg_types::{Table, TableDef};

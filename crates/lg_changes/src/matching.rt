@@ -8,8 +8,7 @@ ghost use Rattle.lg_model.specs.Parts.{base_row};
 ghost use Rattle.lg_model.specs.Where as conditions;
 
 use lg_expr::{SeenRow, holds};
-use lg_lookup::StandingRows;
-use lg_parts::{Columns, Keyed, key_fixed};
+use lg_parts::{Columns, Keyed, StandingRows, key_fixed};
 use lg_types::{Part, Version};
 use lg_value::{Expr, Refusal};
 use std::alloc::Global;

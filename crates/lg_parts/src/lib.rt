@@ -1,8 +1,10 @@
-//! The columns of a table's parts, the keys of its rows, and the rows as each part shows them.
+//! The columns of a table's parts, the keys of its rows, the rows as each part shows them, and how the versions
+//! that stand are found.
 #![tactic(auto)]
 
 mod columns;
 mod fixing;
+mod found;
 mod keyed;
 mod keys;
 mod laws;
@@ -13,6 +15,7 @@ mod values;
 
 pub use columns::{Columns, column_of, place_of, shown};
 pub use fixing::key_fixed;
+pub use found::StandingRows;
 pub use keyed::Keyed;
 pub use keys::{
     compare_at, compare_by_key, compare_to_key, compare_values, has_key, key_of, key_places,

@@ -10,8 +10,7 @@ ghost use Rattle.lg_query.specs.Answers.{GivesItems};
 
 use crate::filtering::{rows_of_taken, taken};
 use crate::selecting::show_taken;
-use lg_lookup::StandingRows;
-use lg_parts::{Columns, Keyed, key_fixed, part_rows, shown};
+use lg_parts::{Columns, Keyed, StandingRows, key_fixed, part_rows, shown};
 use lg_types::{Key, Part, Row, Select, Version};
 use lg_value::{Expr, Refusal};
 use std::alloc::Global;

@@ -4,8 +4,7 @@ ghost use Rattle.std.specs.Prelude.{◌≡◌, ◌⊎◌, []};
 
 use crate::version_store::VersionStore;
 use lg_items::Memory;
-use lg_lookup::StandingRows;
-use lg_parts::Keyed;
+use lg_parts::{Keyed, StandingRows};
 use lg_types::{Key, Row, Version};
 use std::alloc::Global;
 

@@ -41,8 +41,8 @@ use Rattle.law_protocol_steps.proofs.AfterSet.{all_at, each_at}
 use Rattle.lg_kept.specs.Told.{IsImageOf, IsMeaning}
 use Rattle.lg_kept.specs.Wrote.{transcripts_in}
 use Rattle.lg_kept.specs.Accepted.{IsAccepted, IsOfCut}
-use Rattle.lg_joined.specs.Joined.{IsJoined, KnewThatOver}
-use Rattle.lg_joined.specs.Together.{AreFormed, IsMomentOf, RanTogether, names_in}
+use Rattle.lg_together.specs.Joined.{IsJoined, KnewThatOver}
+use Rattle.lg_together.specs.Together.{AreFormed, IsMomentOf, RanTogether, names_in}
 use Rattle.lg_kept.specs.LastImage.{journal_of, last_image}
 use Rattle.lg_together.specs.CameTo.{CameTo, Left}
 use Rattle.lg_together.specs.Threads.{HasJoined}

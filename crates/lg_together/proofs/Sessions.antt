@@ -6,7 +6,7 @@ use Rattle.lg_history.specs.Transcripts.{Transcript}
 use Rattle.lg_standing.specs.Seats.{Written}
 use Rattle.law_protocol_steps.proofs.AfterSet.{each_at}
 use Rattle.lg_kept.specs.Wrote.{transcripts_in}
-use Rattle.lg_joined.specs.Together.{IsMomentOf, names_in, session_in}
+use Rattle.lg_together.specs.Together.{IsMomentOf, names_in, session_in}
 
 pub names_are : (X : List Transcript) → map (λ s. s.name) (map session_in X) ≡ names_in X
 names_are [] = refl

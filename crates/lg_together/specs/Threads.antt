@@ -16,8 +16,8 @@ use Rattle.lg_standing.specs.Seats.{Written}
 use Rattle.lg_standing.specs.Server.{Server}
 use Rattle.lg_standing.specs.Serves.{Serves}
 use Rattle.lg_kept.specs.Wrote.{transcripts_in}
-use Rattle.lg_joined.specs.Joined.{IsJoined, KnewThatOver}
-pub use Rattle.lg_joined.specs.Together.{session_in}
+use Rattle.lg_together.specs.Joined.{IsJoined, KnewThatOver}
+pub use Rattle.lg_together.specs.Together.{session_in}
 use Rattle.lg_together.specs.CameTo.{Left}
 
 -- On some server that reads by the grammar and hashes with h, one seat is left, which has all transcripts:

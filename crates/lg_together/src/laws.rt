@@ -1,14 +1,51 @@
 //! What is left of a run of sessions side by side.
 
-ghost use Rattle.std.specs.Prelude.{ℕ, List};
+ghost use Rattle.std.specs.Prelude.{ℕ, ◌≡◌, ◌∷◌, List, Option};
+ghost use mathlib.Core.Option.{some};
+ghost use lib.ListN.{get_elem?};
+ghost use Rattle.lg_types.specs.declared.digest.Digest.{Digest};
+ghost use Rattle.lg_types.specs.declared.journal.JournalItem.{JournalItem};
+ghost use Rattle.lg_model.specs.Script.{Reading};
+ghost use Rattle.lg_history.specs.Agree.{Agree};
+ghost use Rattle.lg_history.specs.Facts.{facts_of};
 ghost use Rattle.lg_history.specs.Inputs.{InputSession};
 ghost use Rattle.lg_history.specs.Lists.{In, Text};
+ghost use Rattle.lg_history.specs.Meaning.{Meaning};
+ghost use Rattle.lg_history.specs.Transcripts.{Transcript};
+ghost use Rattle.lg_standing.specs.Cells.{Cell, Ledger, LedgerCell, ledger_at};
+ghost use Rattle.lg_standing.specs.Reordered.{NamesApart};
+ghost use Rattle.lg_standing.specs.Seats.{Written};
+ghost use Rattle.lg_standing.specs.Server.{Server};
+ghost use Rattle.lg_course.specs.Told.{IsMeaning};
+ghost use Rattle.lg_course.specs.Wrote.{transcripts_in};
 ghost use Rattle.lg_together.specs.CameTo.{CameTo, Left};
+ghost use Rattle.lg_together.specs.Joined.{IsJoined, KnewThatOver};
 ghost use Rattle.lg_together.specs.Threads.{HasJoined};
+ghost use Rattle.lg_together.specs.Together.{RanTogether, names_in};
 
-use lg_joined::runs_of_joined_seats_agree;
 use lg_kept::{digests_are_held_where_their_blocks_are_closed, images_of_legal_journals_verify};
-use lg_meanings::statements_have_one_meaning;
+
+/// Once all seats were joined into one, what it wrote is that of a run of all sessions together: in whatever
+/// order their visits came, the transcripts agree with the ledger's cell in the order in which the seat has
+/// them, where all other sessions began when the first was known to be over, and no two have one name.
+pub fn runs_of_joined_seats_agree()
+    ensures { (v : Server) (cells : List Cell) (w : Written) (ws : List Written) → IsJoined v cells (w ∷ ws)
+        → KnewThatOver w ws → NamesApart (names_in (transcripts_in (w ∷ ws)))
+        → (ledger : LedgerCell) → get_elem? cells ledger_at ≡ some (Ledger ledger)
+        → RanTogether v (w ∷ ws) ledger }
+{}
+
+/// Any two meanings that statements have by one grammar, where blocks are hashed with one hash, are one: what
+/// agrees by the rules of agreement with the first does with the second, and a transcript shows the same
+/// facts by both.
+pub fn statements_have_one_meaning()
+    ensures agree { (h : List ℕ → List ℕ) (reads : Reading) (q r : Meaning)
+        → IsMeaning h reads q → IsMeaning h reads r → (database : Text) (input : List InputSession)
+        (setup : Option ℕ) (X : List Transcript) (J : List JournalItem) (G : List Digest)
+        → Agree q database input setup X J G → Agree r database input setup X J G }
+    ensures facts { (h : List ℕ → List ℕ) (reads : Reading) (q r : Meaning)
+        → IsMeaning h reads q → IsMeaning h reads r → (x : Transcript) → facts_of q x ≡ facts_of r x }
+{}
 
 /// What is left where all seats of a server were joined into one is that of a run of the input in which
 /// `setup` came first and all other sessions ran side by side: transcripts, images, journal and digests agree

@@ -1,5 +1,5 @@
 use Rattle.std.proofs.Common.{◌≡◌}
-use Rattle.lg_committed.specs.Known.{has_in}
+use Rattle.lg_cells_image.specs.Known.{has_in}
 use Rattle.lg_server.specs.CellsImage.{committed_tables}
 use Rattle.lg_cells_image.proofs.tables.with_versions.Given as goal
 
