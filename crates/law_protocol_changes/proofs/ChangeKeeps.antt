@@ -81,9 +81,6 @@ use Rattle.lg_standing.specs.ActsOf.{done_acts}
 
 -- ---- equal keys
 
-key_turn : (a b : Key) → same_key a b ≡ true → same_key b a ≡ true
-key_turn a b e = sym (same_key_as a b a e) ∙ same_itself a
-
 reach_same : (a b : Key) (x : Item) → same_key a b ≡ true → has_key a x ≡ true → has_key b x ≡ true
 reach_same a b item.Whole e h = refl
 reach_same a b (item.Key k) e h = same_key_as k a b h ∙ e

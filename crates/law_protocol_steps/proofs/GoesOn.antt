@@ -41,11 +41,6 @@ pub each_so : {A P : Type 0} (xs : List A) → P → Each (λ x. P) xs
 each_so [] p = tt
 each_so (x ∷ xs) p = (p, each_so xs p)
 
--- the session that runs at a seat is one of the seat's
-pub owned_now : (v : Server) (h : History) (ledger : LedgerCell) (seats : List SeatState) (agree : TranscriptsAgree v h ledger seats) (j : ℕ) (s : SeatState) → get_elem? seats j ≡ some s → (n : ℕ) → (agree.of_seat j).now ≡ Some n → agree.owner n ≡ j
-owned_now v h ledger seats agree j s there n now = each_in (λ m. agree.owner m ≡ j) (all_of (agree.of_seat j)) n (agree.own j s there)
-    (subst (λ (o : Option ℕ). In n ((agree.of_seat j).past ++ listed o)) (sym now) (in_right n (agree.of_seat j).past (n ∷ []) (inl refl)))
-
 some_is : (m n : ℕ) → Some m ≡ Some n → m ≡ n
 some_is m n e = cc
 

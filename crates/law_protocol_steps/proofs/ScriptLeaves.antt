@@ -34,9 +34,6 @@ use Rattle.lg_frames.proofs.Definitions.{alone_keeps}
 
 -- ---- what it wants reaches no key without an X
 
-exclusive_reaches : (key : Key) → lets_change key (whole mode.X) ≡ true
-exclusive_reaches key = refl
-
 module _ (holds : List Hold) (tx id : ℕ) (key : Key) (free : HasNoX holds tx key) where
   system_not : (m : Option Mode) (b : Bool) → catalog_reaches id m ≡ b → (b ≡ true → Each (Holds holds tx) (of_catalog m)) → catalog_reaches id m ≡ false
   system_not m false e h = e

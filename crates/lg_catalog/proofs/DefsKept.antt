@@ -141,6 +141,3 @@ found_all P [] name x e h = cc
 found_all P (def ∷ defs) name x e h = all_by_part P def (part_named def name) (find_part defs name) x e h.0 (λ k. found_all P defs name x k h.1)
 
 -- ---- the definitions of the tables of the system
-
-pub formed_first : AreFormed (tables_def ∷ columns_def ∷ [])
-formed_first = record { ids = (refl, (refl, tt)); count = omega arith; few = (omega arith, (omega arith, tt)) }

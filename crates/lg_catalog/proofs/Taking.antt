@@ -5,14 +5,6 @@ use Rattle.lg_standing.specs.UndoVisits.{defs_before, creator_left}
 use Rattle.lg_catalog.specs.declared.definitions.Creator.{Creator}
 use Rattle.lg_catalog.specs.Definitions.{before, creator_seen, is_creator}
 
-pub others_defs : (tx : ℕ) (defs : Defs) (k : Option Creator) → is_creator tx k ≡ false → defs_before tx (creator_seen defs k) defs ≡ defs
-others_defs tx defs None e = refl
-others_defs tx defs (Some k) e = rw e refl
-
-pub others_left : (tx : ℕ) (defs : Defs) (k : Option Creator) → is_creator tx k ≡ false → creator_left tx (creator_seen defs k) ≡ creator_seen defs k
-others_left tx defs None e = refl
-others_left tx defs (Some k) e = rw e refl
-
 pub own_defs : (tx : ℕ) (defs : Defs) (k : Creator) → is_creator tx (Some k) ≡ true → defs_before tx (creator_seen defs (Some k)) defs ≡ before defs k.replaced
 own_defs tx defs k e = rw e refl
 

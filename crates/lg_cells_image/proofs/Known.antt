@@ -54,12 +54,3 @@ kept_defs has defs copies (Some c) tx is e same =
     same ∙ same_by (has c.tx) defs c.before (sym (ap (is_uncommitted has) is) ∙ e)
 
 -- ---- tables
-
-pub one_table_more : (has : ℕ → Bool) (cells : List Cell) (defs : Defs) (def : TableDef)
-    (versions : List Version) (tables : List Table)
-    → tables ≡ committed_tables has cells defs → versions ≡ committed has (versions_at cells def.id)
-    → tables ++ record { def = def; versions = versions } ∷ [] ≡ committed_tables has cells (defs ++ def ∷ [])
-one_table_more has cells defs def versions tables so is =
-    ap₂ (λ (ts : List Table) (vs : List Version). ts ++ record { def = def; versions = vs } ∷ []) so is
-    ∙ sym (map-append (λ (d : TableDef). record { def = d; versions = committed has (versions_at cells d.id) })
-    defs (def ∷ []))

@@ -88,19 +88,6 @@ ran_within Limit ran ran' idle f r = r
 ran_within SourceFault ran ran' idle f r = r
 ran_within (Form line) ran ran' idle f r = r
 
--- where the vault refused a file
-pub refused_put : (e : VaultErr) (files : List File) (old new : Option Names) → StopsBy e files old new → HasPut (vault_status e) files old new
-refused_put refused.Failed files old new stops = stops
-refused_put refused.Memory files old new stops = stops
-refused_put refused.Missing files old new stops = stops
-refused_put refused.TooLong files old new stops = stops
-
-pub refused_write : (e : VaultErr) (text : List ℕ) (old new : Option (List ℕ)) → new ≡ old → HasWritten (vault_status e) text old new
-refused_write refused.Failed text old new same = same
-refused_write refused.Memory text old new same = same
-refused_write refused.Missing text old new same = same
-refused_write refused.TooLong text old new same = same
-
 -- what was put is what the run puts
 pub put_is : (status : Status) (made files : List File) (old new : Option Names) → made ≡ files → HasPut status made old new → HasPut status files old new
 put_is status made files old new is put = let P : List File → Type 0 = λ x. HasPut status x old new in subst P is put

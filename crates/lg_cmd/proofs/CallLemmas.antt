@@ -70,20 +70,6 @@ module _ {A : Type 0} (form : InputForm A) where
   reads_whole status input vault sink v old now cause reads =
       since_weaker old now (ReadsOf (Ok v)) (AreReads status) (read_to_end status input vault sink cause) reads
 
--- where the vault refused a file
-pub refused_puts : (e : VaultErr) (old now : List (Result (Unit {0}) VaultErr) → Type 0) → (e ≡ refused.Missing → ⊥) × (e ≡ refused.TooLong → ⊥)
-    → Since old now (EndsAt KeptFile (Err e)) → Since old now (ArePuts (vault_status e))
-refused_puts refused.Failed old now known puts = puts
-refused_puts refused.Memory old now known puts = since_weaker old now (EndsAt KeptFile (Err refused.Memory)) (ArePuts Memory) (λ answers end. inr end) puts
-refused_puts refused.Missing old now known puts = absurd (known.0 refl)
-refused_puts refused.TooLong old now known puts = absurd (known.1 refl)
-
-pub refused_writes : (e : VaultErr) (now : List (Result ℕ Failed) → Type 0) → Since now now (AreWrites (vault_status e))
-refused_writes refused.Failed now = since_none now (AreWrites VaultFault) refl
-refused_writes refused.Memory now = since_none now (AreWrites Memory) refl
-refused_writes refused.Missing now = since_none now (AreWrites Memory) refl
-refused_writes refused.TooLong now = since_none now (AreWrites Memory) refl
-
 module _ {A : Type 0} (form : InputForm A) where
   -- where the input isn't run, nothing is put and nothing is written
   pub unput : (status : Status) (bytes : List ℕ) → IsRefused form status bytes → ArePuts status []

@@ -74,12 +74,6 @@ stays_there (Inside stage) q i s = s
 stays_there Leaving q i s = absurd i
 stays_there Over q i s = absurd i
 
-stays_leaving : (p q : Point) → IsLeavingAt p → StaysBy p q → IsLeavingAt q
-stays_leaving Between q i s = absurd i
-stays_leaving (Inside stage) q i s = absurd i
-stays_leaving Leaving q i s = s
-stays_leaving Over q i s = absurd i
-
 -- who went on is still in the statement, and past its beginning
 pub still_inside : {H : Type 0} (y z : Seat H) → IsUnderWay y → WentOn y z → IsInside z × (IsBegun z → ⊥)
 still_inside {H} y z u w = ⊎_elim

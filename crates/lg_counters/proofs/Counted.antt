@@ -51,15 +51,6 @@ alone f [] j s zero_of at else = absurd (some-ne-none s (sym at))
 alone f (x ∷ xs) zero s zero_of at else = omega (arith, sum_by-cons f x xs, ap f (some-injective x s at), none_else f xs zero_of (λ k t e. else (suc k) t (λ q. absurd (omega arith)) e))
 alone f (x ∷ xs) (suc j) s zero_of at else = omega (arith, sum_by-cons f x xs, ap f (else 0 x (λ q. absurd (omega arith)) refl), zero_of, alone f xs j s zero_of at (λ k t ne e. else (suc k) t (λ q. ne (omega arith)) e))
 
--- counting once more, and not at all
-pub counted_more : (w : Which) (n : ℕ) (s : Share) → counted (number_of w) (counted_times w n s) ≡ counted_times w (n + 1) s
-counted_more First n s = let p : s.first + n + 1 ≡ s.first + (n + 1) = omega arith in let r : s.left - n - 1 ≡ s.left - (n + 1) = omega arith in λ k. share (p k) (s.second + 0) (r k)
-counted_more Second n s = let p : s.second + n + 1 ≡ s.second + (n + 1) = omega arith in let r : s.left - n - 1 ≡ s.left - (n + 1) = omega arith in λ k. share (s.first + 0) (p k) (r k)
-
-pub counted_none : (w : Which) (s : Share) → counted_times w 0 s ≡ s
-counted_none First s = let p : s.first + 0 ≡ s.first = omega arith in let q : s.second + 0 ≡ s.second = omega arith in let r : s.left - 0 ≡ s.left = omega arith in λ k. share (p k) (q k) (r k)
-counted_none Second s = let p : s.first + 0 ≡ s.first = omega arith in let q : s.second + 0 ≡ s.second = omega arith in let r : s.left - 0 ≡ s.left = omega arith in λ k. share (p k) (q k) (r k)
-
 -- two counters are the first and the second
 pub two_counts : (cells : List Counter) (d e : Counter) → length cells ≡ 2 → map count_of cells ≡ (get_or cells 0 d).count ∷ (get_or cells 1 e).count ∷ []
 two_counts [] d e n = absurd (omega arith)

@@ -66,11 +66,6 @@ each_from_at : {A : Type 0} (P : A → Type 0) (xs : List A) → ((k : ℕ) (x :
 each_from_at P [] h = tt
 each_from_at P (x ∷ xs) h = (h 0 x refl, each_from_at P xs (λ k y a. h (suc k) y a))
 
-at_name : (X : List Transcript) (i : ℕ) (x : Transcript) → At X i x → At (names_in X) i x.session
-at_name [] i x a = absurd a
-at_name (y ∷ X) zero x a = ap (λ (z : Transcript). z.session) a
-at_name (y ∷ X) (suc i) x a = at_name X i x a
-
 single : (w u : Written) (m : ℕ) → At (w ∷ []) m u → (m ≡ 0) × (w ≡ u)
 single w u zero a = (refl, a)
 single w u (suc m) a = absurd a

@@ -63,9 +63,6 @@ agreed_at h i j d blocks k m n is count =
     let same : d.block + 1 ≡ k = sym (count ∙ ap length is ∙ l ∙ omega arith) in
     subst (Agreed h i j d.block) same (agreed_start h i j d m n)
 
-pub agreed_all : (h : List ℕ → List ℕ) (i j : Image) (b : ℕ) → Agreed h i j b 0 → blocks_to i b ≡ blocks_to j b
-agreed_all h i j b a = a.after
-
 drop_taken : (k m : ℕ) (xs : List BlockRecord) (x : BlockRecord) (more : List BlockRecord) → k < m → drop k xs ≡ x ∷ more → drop k (take m xs) ≡ x ∷ drop (k + 1) (take m xs)
 drop_taken k m xs x more lt e =
     let n : m ≡ k + suc (m - k - 1) = omega (arith, lt) in

@@ -43,9 +43,6 @@ same_bytes (x ∷ xs) (y ∷ ys) fx fy e =
 pub same_entries : (xs ys : List TxEntry) (u v : List (List ℕ)) → AllByRecursion IsEntry xs → AllByRecursion IsEntry ys → u ≡ map entry_bytes xs → v ≡ map entry_bytes ys → u ≡ v → xs ≡ ys
 same_entries xs ys u v fx fy u_is v_is e = same_bytes xs ys fx fy (sym u_is ∙ e ∙ v_is)
 
-pub other_entries : (xs ys : List TxEntry) (u v : List (List ℕ)) → u ≡ map entry_bytes xs → v ≡ map entry_bytes ys → u ≢ v → xs ≢ ys
-other_entries xs ys u v u_is v_is ne = λ e. ne (u_is ∙ ap (map entry_bytes) e ∙ sym v_is)
-
 -- ---- the walk
 
 module _ (h : List ℕ → List ℕ) (Whole : Type 0) where

@@ -6,10 +6,6 @@ use Rattle.lg_bytes.specs.Readers.{Reader, ◌>>=◌, for_each}
 use Rattle.lg_bytes.specs.Reading.{Fails}
 use Rattle.lg_image.specs.ImageReading.{behind}
 
-pub behind_nothing : {A : Type 0} (read : Option (List A × List ℕ)) → behind [] read ≡ read
-behind_nothing (Some x) = refl
-behind_nothing None = refl
-
 module _ {D A : Type 0} (r : D → Reader A) where
   regroup : (before : List A) (x : A) (read : Option (List A × List ℕ)) → behind before (read >>= λ xs. Some (x ∷ xs.0, xs.1)) ≡ behind (before ++ x ∷ []) read
   regroup before x (Some xs) = ap (λ (l : List A). let o : Option (List A × List ℕ) = Some (l, xs.1) in o) (sym (append_assoc before (x ∷ []) xs.0))

@@ -55,9 +55,6 @@ described_by ds T e h =
     let k : DescribedBy (defs_of T) T = subst (λ (xs : Defs). DescribedBy xs T) (sym e) h in
     record { of_tables = k.of_tables; of_columns = k.of_columns; few = k.few; count = k.count }
 
-apart_ids : (m n : ℕ) → m < n → m ≢ n
-apart_ids m n lt e = absurd (omega (arith, lt, e))
-
 -- ---- rows of a table
 
 columns_fit : (id n : ℕ) (cs : List ColumnDef) → id < 2147483648 → n + length cs < 2147483648 → AllByRecursion IsSmall cs → AllByRecursion (λ r. Fits columns_columns (stored_row columns_columns r)) (map (column_row id) (numbered n cs))

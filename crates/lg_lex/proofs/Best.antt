@@ -36,10 +36,6 @@ abbrev pub Small : ℕ → Option ℕ → Type 0
 Small n None = Unit {0}
 Small n (Some m) = m ≤ n
 
-pub at_most_or : (n : ℕ) (k : Kind) (r : Option ℕ) (p : Option (Kind × ℕ)) → Small n r → AtMost n p → AtMost n (or_else (with_kind k r) p)
-at_most_or n k None p small rest = rest
-at_most_or n k (Some m) p small rest = small
-
 none_past : (of : List ℕ → Option Kind) (z : List ℕ) (p : Option (Kind × ℕ)) (n m : ℕ) → AtMost n p → Found of z p → n < m → m ≤ length z → of (take m z) ≡ None
 none_past of z None n m small found lt le = found m le
 none_past of z (Some t) n m small found lt le = found.3 m (omega (arith, small)) le

@@ -86,10 +86,6 @@ inside_last (b ∷ []) s some h = inside_one s b (b == 39) refl h
 inside_last (b ∷ c ∷ z) true some h = inside_last (c ∷ z) false (omega arith) (and_parts (b == 39) (is_inside false (c ∷ z)) h).1
 inside_last (b ∷ c ∷ z) false some h = inside_more b (c ∷ z) (b == 39) (λ s k. inside_last (c ∷ z) s (omega arith) k) h
 
-rest_of_text : (z : List ℕ) → is_inside false z ≡ true → 1 ≤ length z
-rest_of_text [] h = cc
-rest_of_text (b ∷ z) h = omega arith
-
 text_at : (b : ℕ) (z : List ℕ) (c : Bool) → (b == 39) ≡ c → cond c (is_inside false z) ((b == 78 || b == 110) && is_quoted z) ≡ true → Ends (b ∷ z)
 text_at b [] true e h = cc
 text_at b (d ∷ z) true e h = (low_is b 39 e (omega arith), inside_last (d ∷ z) false (omega arith) h)

@@ -28,18 +28,6 @@ pub token_goes : (at : ℕ) (z : List ℕ) (k : Kind) (n : ℕ) → 1 ≤ length
 token_goes at [] k n some blank comment found moves = absurd (omega arith)
 token_goes at (b ∷ z) k n some blank comment found moves = rw (blank, comment, found, past_token n at b z moves) refl
 
-pub blank_goes : (at : ℕ) (z : List ℕ) → 1 ≤ length z → is_blank (get_or z 0 0) ≡ true → scan 0 at z ≡ scan 0 (at + 1) (drop 1 z)
-blank_goes at [] some blank = absurd (omega arith)
-blank_goes at (b ∷ z) some blank = rw blank refl
-
-pub nothing_goes : (at : ℕ) (z : List ℕ) → 1 ≤ length z → is_blank (get_or z 0 0) ≡ false → begins_comment z ≡ false → longest z ≡ None → scan 0 at z ≡ Err at
-nothing_goes at [] some blank comment none = absurd (omega arith)
-nothing_goes at (b ∷ z) some blank comment none = rw (blank, comment, none) refl
-
-pub comment_goes : (at : ℕ) (z : List ℕ) → 1 ≤ length z → is_blank (get_or z 0 0) ≡ false → begins_comment z ≡ true → scan 0 at z ≡ Ok []
-comment_goes at [] some blank comment = absurd (omega arith)
-comment_goes at (b ∷ z) some blank comment = rw (blank, comment) refl
-
 pub loop_turn : (whole : Scan) (at : ℕ) (z : List ℕ) (k : Kind) (n : ℕ) (front after : List Token) → 1 ≤ length z → is_blank (get_or z 0 0) ≡ false → begins_comment z ≡ false → longest z ≡ Some (k, n) → 1 ≤ n
     → whole ≡ with_front front (scan 0 at z) → after ≡ front ++ (record { start = at; end = at + n; kind = k } ∷ []) → whole ≡ with_front after (scan 0 (at + n) (drop n z))
 loop_turn whole at z k n front after some blank comment found moves so_far pushed =

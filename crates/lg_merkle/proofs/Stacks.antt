@@ -170,7 +170,3 @@ pub few_at : (n m : ℕ) → 2 ^ n ≤ m → m < 2 ^ 63 → n < 63
 few_at n m le lt =
     let high : 63 ≤ n → ⊥ = λ l. let p : 2 ^ 63 ≤ 2 ^ n = pow-le-pow_right {n = 2} (lit< tt) l in omega arith in
     omega (arith, high)
-
-pub leaf_node : (h : List ℕ → List ℕ) (bytes hash : List ℕ) → hash ≡ h (0 ∷ bytes)
-    → IsNode h (record { hash = hash; size = 1 }) (bytes ∷ [])
-leaf_node h bytes hash is = record { height = 0; power = refl; size = refl; hash = is }

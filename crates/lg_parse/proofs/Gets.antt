@@ -26,10 +26,6 @@ pub map_gets : {A B : Type 0} (f : A → B) (a : A) (rest : List Sym) (o : Outco
 map_gets f a rest None k = k
 map_gets f a rest (Some p) k = (ap f k.0, k.1)
 
--- no token of this tag comes next
-pub eats_none : (tag : Tag) (rest : List Sym) (n : ℕ) → sees tag (at_ rest n) ≡ false → ◌≡◌ {A = Bool × Input} (sees tag (at_ rest n), after tag (at_ rest n)) (false, at_ rest n)
-eats_none tag rest n no_ = ap (λ b. (b, after tag (at_ rest n))) no_ ∙ ap (λ i. (false, i)) (left_ tag (at_ rest n) no_)
-
 abbrev pub NoComma : List Sym → Type 0
 NoComma rest = (n : ℕ) → sees t.Comma (at_ rest n) ≡ false
 

@@ -19,27 +19,6 @@ use Rattle.lg_run.specs.declared.whole.Finished.{Finished}
 use Rattle.lg_run.specs.declared.worker.SessionEnd.{SessionEnd}
 use Rattle.lg_run.proofs.Together.{idle_knows}
 
--- a seat took in the one that a session ran at
-pub wrote_beside : (says : ℕ → Type 0) (name : Text) (texts : List Text) (e : SessionEnd) (s : SeatState) (n : ℕ) (mine theirs u t : SeatState)
-    → s.role ≡ idle → mine ≡ kept s n → theirs ≡ split s n → t ≡ joined mine u
-    → HasWritten says name texts e (known_by theirs) theirs.written u → HasWritten says name texts e (known_by (split s n)) s.written t
-wrote_beside says name texts e s n mine theirs u t role first second state h =
-    subst (λ (x : SeatState). HasWritten says name texts e (known_by (split s n)) s.written x) (sym state)
-    (subst (λ (x : SeatState). HasWritten says name texts e (known_by (split s n)) s.written (joined x u)) (sym first) beside)
-  where
-    g : HasWritten says name texts e (known_by (split s n)) [] u
-    g = subst (λ (x : SeatState). HasWritten says name texts e (known_by x) x.written u) second h
-
-    beside : HasWritten says name texts e (known_by (split s n)) s.written (joined s u)
-    beside = record { w = g.w; role = role; wrote = ap (λ (ws : List Written). s.written ++ ws) g.wrote; is = g.is; earlier = g.earlier }
-
--- and is as idle as before
-pub idle_beside : (s : SeatState) (n : ℕ) (mine u t : SeatState) → IsIdle s → mine ≡ kept s n → t ≡ joined mine u → IsIdle t
-idle_beside s n mine u t idle_one first state = subst IsIdle (sym state) (record {
-  present = ap (λ (x : SeatState). x.present) first ∙ idle_one.present;
-  role = ap (λ (x : SeatState). x.role) first ∙ idle_one.role;
-})
-
 module _ (d : Served) (says : ℕ → Type 0) (texts : List Text) (sections : List Section) (f : Finished) (seats : List SeatState) (j : ℕ) (first s t : SeatState) where
   pub has_finished : first.written ≡ [] → IsIdle s → (known : List Transcript) → HasWritten says setup_name texts f.setup known first.written s
       → HaveWritten says sections f.ends.items s t → StandsOn (λ (k : KeptCell). k.cell) Keeps d f.cells.items seats → get_elem? seats j ≡ some t

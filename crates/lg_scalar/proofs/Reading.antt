@@ -26,10 +26,6 @@ pub either : (bs : List ℕ) → behind 78 bs ≡ None → behind 110 bs ≡ aft
 either [] h = refl
 either (d ∷ ds) h = grind (arith, nat_tests)
 
-pub first_n : (bs rest : List ℕ) → behind 78 bs ≡ Some rest → Some rest ≡ after_n bs
-first_n [] rest h = absurd (search rules)
-first_n (d ∷ ds) rest h = grind (arith, nat_tests)
-
 -- no byte is a quote
 abbrev pub NoQuote : List ℕ → Type 0
 NoQuote bs = (i : ℕ) → i < length bs → get_or bs i 0 ≢ 39

@@ -35,15 +35,6 @@ use Rattle.lg_seat.proofs.CatalogStopped.{gives_back, stopped_few, stops}
 
 -- ---- what is there
 
-pub looking_stmt : {H : Type 0} (digest : H → List ℕ → List ℕ) (y : Seat H) (c : CatalogCell) → Among digest y (catalog_seen c) → y.point ≡ Inside Looking → (s : Stmt) × (y.stmt ≡ Some s)
-looking_stmt digest y c a here = let i = looking_is digest y c a here in (i.stmt, i.has_stmt)
-
-pub looking_running : {H : Type 0} (digest : H → List ℕ → List ℕ) (y : Seat H) (c : CatalogCell) → Among digest y (catalog_seen c) → y.point ≡ Inside Looking → (r : Running H) × (y.running ≡ Some r)
-looking_running digest y c a here = let i = looking_is digest y c a here in (i.r, i.has_running)
-
-pub giving_running : {H : Type 0} (digest : H → List ℕ → List ℕ) (y : Seat H) (c : CatalogCell) (e : Refusal) → Among digest y (catalog_seen c) → y.point ≡ Inside (GivingBack e) → (r : Running H) × (y.running ≡ Some r)
-giving_running digest y c e a here = let i = giving_is digest y c a e here in (i.r, i.has_running)
-
 one_of : {A : Type 0} (x y : A) (o : Option A) → o ≡ Some x → o ≡ Some y → x ≡ y
 one_of x y o e f = let g : Some x ≡ Some y = sym e ∙ f in cc
 

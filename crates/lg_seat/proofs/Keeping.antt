@@ -278,9 +278,3 @@ cells_stand digest y all sized a = record {
   seats = a.seats;
   together = a.together;
 }
-
--- the second of them, if there is one
-pub count_at : (all : List KeptCell) → (n : ℕ) → MatchOption (slice_get all 1) (n ≡ 0) (λ c. n ≡ length (items_of c.cell)) → n ≡ items_in all
-count_at [] n e = e
-count_at (b ∷ []) n e = e
-count_at (b ∷ c ∷ cs) n e = e

@@ -20,10 +20,6 @@ pub on_ok : {T E P Q : Type 0} (r : Result T E) → (P → Q) → OnOk r P → O
 on_ok (Ok v) f p = f p
 on_ok (Err e) f p = tt
 
-pub both_ok : {T E P Q R : Type 0} (r : Result T E) → (P → Q → R) → OnOk r P → OnOk r Q → OnOk r R
-both_ok (Ok v) f p q = f p q
-both_ok (Err e) f p q = tt
-
 -- ---- what was asked
 
 abbrev one_line : Statement → InputLine

@@ -51,12 +51,6 @@ pub starts_found : (vs us : List Version) → AllByRecursion (λ w. version_at w
 starts_found vs [] h = refl
 starts_found vs (u ∷ us) h = rw h.0 (ap (λ l. u ∷ l) (starts_found vs us h.1))
 
-pub found_in_order : (ordinals key : List ℕ) (vs : List Version) → Rising vs → filter_map (λ s. version_at s vs) (starts_of (in_order ordinals key vs)) ≡ in_order ordinals key vs
-found_in_order ordinals key vs r =
-    starts_found vs (in_order ordinals key vs)
-    (all_sorted (λ w. version_at w.start vs ≡ Some w) (order_cmp ordinals key) (live vs)
-    (all_filter (λ w. version_at w.start vs ≡ Some w) (λ w. is_none w.end) vs (find_own vs r)))
-
 -- the versions that stand, of a key or all, are found by their starts
 pub standing_found : (columns : List ColumnDef) (key : Option Key) (vs : List Version) → Rising vs
     → filter_map (λ s. version_at s vs) (starts_of (standing columns key vs)) ≡ standing columns key vs

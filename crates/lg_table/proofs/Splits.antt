@@ -59,13 +59,3 @@ less_is : (o : Ordering) → is_lt o ≡ true → o ≡ Less
 less_is Less is = refl
 less_is Equal is = absurd cc
 less_is Greater is = absurd cc
-
--- those in front of the place of an event start before it
-pub before_place : (at : EventId) (vs : List Version) → AllByRecursion (λ w. event_cmp w.start at ≡ Less) (take (place at vs) vs)
-before_place at [] = tt
-before_place at (v ∷ vs) = by (starts_before at v) refl (before_place at vs)
-  where
-    by : (b : Bool) → starts_before at v ≡ b → AllByRecursion (λ w. event_cmp w.start at ≡ Less) (take (place at vs) vs)
-        → AllByRecursion (λ w. event_cmp w.start at ≡ Less) (take (if b then 1 + place at vs else 0) (v ∷ vs))
-    by true e rest = subst (λ (n : ℕ). AllByRecursion (λ w. event_cmp w.start at ≡ Less) (take n (v ∷ vs))) {x = suc (place at vs)} (omega arith) (less_is (event_cmp v.start at) e, rest)
-    by false e rest = tt

@@ -158,14 +158,6 @@ other_indexes columns key vs o is n same kept room = (
   room_with n o is room (subst (AllByRecursion (HasRoom n)) (sym same) room.for_indexes),
 )
 
-pub more_indexes : (columns : List ColumnDef) (key : List ℕ) (vs : List Version) (o : Orders) (is : Vec Index Global) (n : ℕ) (i : Index) → is.items ≡ o.indexes.items ++ i ∷ [] → IsKept columns key vs o → HaveRoom n o
-    → IsOf key vs i → HasRoom n i
-    → IsKept columns key vs (record { key_order = o.key_order; ends = o.ends; indexes = is }) × HaveRoom n (record { key_order = o.key_order; ends = o.ends; indexes = is })
-more_indexes columns key vs o is n i more kept room of has = (
-  kept_with columns key vs o is kept (subst (AllByRecursion (IsOf key vs)) (sym more) (all_append (IsOf key vs) o.indexes.items (i ∷ []) kept.are.stand.indexed (of, tt))),
-  room_with n o is room (subst (AllByRecursion (HasRoom n)) (sym more) (all_append (HasRoom n) o.indexes.items (i ∷ []) room.for_indexes (has, tt))),
-)
-
 pub one_index : (columns : List ColumnDef) (key : List ℕ) (vs : List Version) (o : Orders) (is : Vec Index Global) (i : Index) (ordinals : List ℕ) → is.items ≡ o.indexes.items ++ i ∷ [] → IsKept columns key vs o
     → IsOf key vs i → i.ordinals ≡ ordinals
     → stored_of columns vs (record { key_order = o.key_order; ends = o.ends; indexes = is }) ≡ with_index ordinals (stored_of columns vs o)

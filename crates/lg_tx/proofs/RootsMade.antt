@@ -261,8 +261,3 @@ all_made digest ts i roots le so h trees d e k = are_meant digest h ts trees d e
 pub no_root : (h : List ℕ → List ℕ) (table count : ℕ) (leaves : List (List ℕ)) (roots : List Root) → count ≡ length leaves → count ≡ 0 → roots ≡ with_root h table leaves roots
 no_root h table count [] roots e z = refl
 no_root h table count (x ∷ xs) roots e z = absurd (omega (arith, e, z))
-
-pub some_root : (h : List ℕ → List ℕ) (table count : ℕ) (leaves : List (List ℕ)) (hash : List ℕ) (roots new : List Root) → count ≡ length leaves → count ≢ 0
-    → hash ≡ tree_hash h leaves → new ≡ inserted by_root (table, hash) roots → new ≡ with_root h table leaves roots
-some_root h table count [] hash roots new e some is there = absurd (some e)
-some_root h table count (x ∷ xs) hash roots new e some is there = there ∙ ap (λ y. inserted by_root (table, y) roots) is

@@ -92,13 +92,6 @@ all_at P xs k x a here is = by_place P xs k x (recursion_from_All P xs a) here i
     by_place P (y ∷ ys) zero x a here is = subst P (sym is) a.0
     by_place P (y ∷ ys) (suc k) x a here is = by_place P ys k x a.1 (omega (arith, here)) is
 
--- one value more
-pub map_here : {A B : Type 0} (f : A → B) (xs : List A) (k : ℕ) (x : A) (v : B) (old new : List B) → k < length xs → x ≡ get_or xs k x
-    → old ≡ map f (take k xs) → v ≡ f x → new ≡ old ++ v ∷ [] → new ≡ map f (take (k + 1) xs)
-map_here f xs k x v old new here is old_is v_is new_is =
-    new_is ∙ ap₂ (λ l y. l ++ y ∷ []) old_is (v_is ∙ ap f is)
-    ∙ sym (ap (map f) (take_here xs k x here) ∙ map-append f (take k xs) (get_or xs k x ∷ []))
-
 module _ {A R : Type 0} (has : R → Bool) (f : ℕ × A → R) (n : ℕ) (xs : List A) (k : ℕ) (x : A) (here : k < length xs) (is : x ≡ get_or xs k x) where
   all_here : list_all has (map f (numbered n (drop k xs))) ≡ (has (f (n, x)) && list_all has (map f (numbered (n + 1) (drop (k + 1) xs))))
   all_here =

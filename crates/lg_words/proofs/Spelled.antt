@@ -14,9 +14,6 @@ nv_cons x xs e =
     let one_more : 1 + k ≡ suc k = omega arith in
     rw (e, more, one_more) refl
 
-nv_here : (xs : Text) → name_and_value (61 ∷ xs) ≡ ([], Some xs)
-nv_here xs = refl
-
 -- a name without `=` is read as it stands
 pub nv_name : (name : Text) → has_byte 61 name ≡ false → name_and_value name ≡ (name, None)
 nv_name [] none = refl
