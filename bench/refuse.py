@@ -3,14 +3,14 @@
 
     refuse.py PROGRAM [--jobs N] [--most BYTES] [--part WORD] [--at K] [NAME ..]
 
-The inputs are those of the stored runs: each `step` of crates/lg_commands/stdin with what it reads, and that of
+The inputs are those of the stored runs: each `step` of crates/test_commands/stdin with what it reads, and that of
 crates/ledgerd, if it has at most BYTES (32,768). One is called by the line of its command there, or by its file, and
 by the comment above. With NAMEs those are taken that have one of them in what they are called.
 
 For each input the calls of malloc and realloc that `step` makes are counted, N of them, and then it is run N times in
 an empty folder, the k-th call being refused. The same is done with `verify` of each image that `step` leaves, with
 `replay` of the journal, and with `extract` of the first and the last image. The lines of `verify`, `replay` and
-`extract` of crates/lg_commands/stdin whose files lie in data/ come behind. A run may end in these ways:
+`extract` of crates/test_commands/stdin whose files lie in data/ come behind. A run may end in these ways:
 
     12      out of memory is said and nothing else, and no file was put
     files   the same, but the first of the files were put, each with the bytes of the full run
@@ -88,10 +88,10 @@ def with_moment(words, moment):
 
 
 def commands(most):
-    """Each command of the stored run of lg_commands: its line, the comment above it, its words, and its input; None
+    """Each command of the stored run of test_commands: its line, the comment above it, its words, and its input; None
     where that is longer than `most` or calls of the outside fail."""
     comment, text, moment, fails = "", b"", 0, False
-    for number, line in enumerate(bytes_of("lg_commands", "stdin").rstrip(b"\n").split(b"\n"), 1):
+    for number, line in enumerate(bytes_of("test_commands", "stdin").rstrip(b"\n").split(b"\n"), 1):
         first, _, rest = line.partition(b" ")
         if line.startswith(b"#"):
             comment = rest.decode()
@@ -108,8 +108,8 @@ def commands(most):
             words, name = line.decode().split(" "), None
             if words[0] == "input":
                 name, words = words[1], words[2:]
-                path = os.path.join(CRATES, "lg_commands", "data", name)
-                text = bytes_of("lg_commands", "data", name) if short(path, most) else (most + 1) * b" "
+                path = os.path.join(CRATES, "test_commands", "data", name)
+                text = bytes_of("test_commands", "data", name) if short(path, most) else (most + 1) * b" "
             if words[0] == "step":
                 words = with_moment(words, moment)
             name = os.path.splitext(name)[0] if name else str(number)
@@ -139,9 +139,9 @@ def lines_on_files(most):
             continue
         seen.add(tuple(words))
         count = {"verify": 3, "replay": 2, "extract": 4}[words[0]]
-        paths = [os.path.join(CRATES, "lg_commands", "data", w) for w in words[1:count]]
+        paths = [os.path.join(CRATES, "test_commands", "data", w) for w in words[1:count]]
         if len(words) >= count and all(short(p, most) for p in paths):
-            files = {w: bytes_of("lg_commands", "data", w) for w in words[1:count]}
+            files = {w: bytes_of("test_commands", "data", w) for w in words[1:count]}
             yield f"{name} {' '.join(words)}", Call(words, b"", files)
 
 

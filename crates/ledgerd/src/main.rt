@@ -1,8 +1,8 @@
 //! The server's program: the real outside, and the top call over it.
 #![tactic(auto)]
 
-use lg_base::{FolderVault, MachineClock, OpenGate, StdinSource, StdoutSink};
-use lg_cmd::{Status, USAGE, ledgerd};
+use base_io::{FolderVault, MachineClock, OpenGate, StdinSource, StdoutSink};
+use cli_commands::{Status, USAGE, ledgerd};
 use std::env::Env;
 use std::process::ExitCode;
 use std::{env, io};

@@ -1,0 +1,44 @@
+//! A reader of the machine as a source, as standard input.
+
+ghost use Rattle.std.specs.Prelude.{⊤, ◌≡◌, None};
+
+use crate::{Failed, Source};
+use std::io::Read;
+
+/// Reads from a reader. It tells nothing of what is left.
+#[derive(Drop)]
+pub struct StdinSource<R: Read + Drop> {
+    reader: R,
+    failed: u64,
+}
+
+impl<R: Read + Drop> StdinSource<R> {
+    ghost use Rattle.base_io.specs.Adapters.{reader_faults};
+
+    /// A source over this reader that has not failed so far.
+    pub fn new(reader: R) -> StdinSource<R>
+        ensures { reader_faults result ≡ 0 }
+    {
+        StdinSource { reader, failed: 0 }
+    }
+}
+
+impl<R: Read + Drop> Source for StdinSource<R> {
+    ghost use Rattle.base_io.specs.Adapters.{reader_faults};
+
+    ghost left = { λ s. None };
+
+    ghost history = { λ s answers. ⊤ };
+
+    ghost faults = { λ s. reader_faults s };
+
+    fn read(&mut self, buf: &mut [u8]) -> Result<usize, Failed> {
+        match self.reader.read(buf) {
+            Ok(n) => Ok(n),
+            Err(_) => {
+                self.failed = self.failed.saturating_add(1);
+                Err(Failed)
+            }
+        }
+    }
+}

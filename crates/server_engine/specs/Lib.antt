@@ -1,0 +1,9 @@
+pub mod CoreInput
+pub mod FirstCells
+pub mod IsMidway
+pub mod Parts
+pub mod Standing
+pub mod Written
+pub use Rattle.law_sequential.specs.SessionOutput
+pub use Rattle.law_sequential.specs.Wrote
+pub use Rattle.law_sequential.specs.EndsLast

@@ -1,0 +1,39 @@
+//! What names stand for among the tables.
+
+ghost use Rattle.std.specs.Prelude.{ℕ, ◌≡◌, ◌≤◌, IfOk, IfSome, map, option_map};
+ghost use Rattle.spec_model.specs.Agreement.{IdsFrom};
+ghost use Rattle.spec_model.specs.Catalog as spec;
+
+use base_types::{Memory, Name};
+use sql_check::part_named;
+use sql_types::{Part, Table, TableDef};
+use std::alloc::Global;
+
+/// The table, and the part of it, that a name stands for.
+#[tactic(auto, unfolding(spec_model::specs::Catalog::find_part))]
+pub(crate) fn find<'a>(tables: &'a [Table], name: &Name) -> Option<(&'a Table, Part)>
+    ensures part { option_map (λ p. (p.0.now.def, p.1)) result
+        ≡ spec.find_part (spec.defs_of tables.now) name.now }
+    ensures versions { (n : ℕ) → IdsFrom n (spec.defs_of tables.now)
+        → IfSome result (λ p. (n ≤ p.0.now.def.id)
+        × (p.0.now.versions ≡ spec.versions_of tables.now p.0.now.def.id)) }
+{
+    match tables {
+        [] => None,
+        [table, rest @ ..] => match part_named(&table.def, name) {
+            Some(part) => Some((table, part)),
+            None => find(rest, name),
+        },
+    }
+}
+
+/// The definitions of the tables.
+pub(crate) fn defs_of<'a>(alloc: Global, tables: &'a [Table]) -> Result<Vec<&'a TableDef>, Memory>
+    ensures { IfOk result (λ defs. map (λ d. d.now) defs.items ≡ spec.defs_of tables.now) }
+{
+    let mut defs = Vec::with_capacity(alloc, tables.len())?;
+    for table in tables {
+        defs.push(&table.def)?;
+    }
+    Ok(defs)
+}
