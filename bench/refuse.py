@@ -15,8 +15,8 @@ an empty folder, the k-th call being refused. The same is done with `verify` of 
     12      out of memory is said and nothing else, and no file was put
     files   the same, but the first of the files were put, each with the bytes of the full run
     E30     `step` answered a statement E30. All else, files and transcript, is as where that statement isn't in the
-            input (where it drew an id: as where it is a SELECT on a table of the system), `verify` says Yes of the
-            images, and `replay` of the journal leads to the image and the journal
+            input (where it was assigned an id: as where it is a SELECT on a table of the system), `verify` says Yes
+            of the images, and `replay` of the journal leads to the image and the journal
     full    all is as without a refusal
 
 Any other is unstated; it is told, its folder stays, and the status is 1. A run that takes more than 60 seconds hangs.
@@ -261,13 +261,13 @@ def entries(transcript):
     return found
 
 
-# A SELECT that is always answered where no transaction is open: it draws an id and leaves nothing.
+# A SELECT that is always answered where no transaction is open: it is assigned an id and leaves nothing.
 DRAWS_AN_ID = b"SELECT COUNT(*) FROM sys_ledger_tables"
 
 
 def without(place, call, at, drew):
     """The entries and the files that a `step` leaves without the statement with this number, counted from 0: where it
-    drew an id, with one in its place that draws one and changes nothing."""
+    was assigned an id, with one in its place that is assigned one too and changes nothing."""
     key = (tuple(call.words), call.text, at, drew)
     if key not in place.oracles:
         said = statements(call.text)
