@@ -8,6 +8,9 @@ use Rattle.clap.specs.declared.builder.action.ArgAction.TheVariants.{Set}
 use Rattle.cli_words.specs.Line.{Text, is_among}
 use Rattle.cli_words.specs.Shapes.{operand_rules, full_option, full_operand}
 
+some≢none : {X : Type 0} (x : X) → Some x ≡ None → ⊥
+some≢none x e = true≢false (ap (λ o. is_some o) e)
+
 -- ---- look-ups
 
 long_option : (options : List Text) (name : Text) → arg_by_long (map full_option options) name ≡ (if is_among options name then Some (full_option name) else None)
