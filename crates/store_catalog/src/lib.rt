@@ -5,7 +5,6 @@
 mod cell;
 mod creating;
 mod definitions;
-mod events;
 mod finding;
 mod laws;
 mod locks;
