@@ -134,15 +134,6 @@ fn has_row(rows: &[&Version], wanted: &[ExpectedValue]) -> bool
     false
 }
 
-fn kind_code(kind: TableKind) -> i128
-    ensures { result ≡ pos (system.kind_code kind) }
-{
-    match kind {
-        TableKind::AppendOnly => 1,
-        TableKind::Updatable => 2,
-    }
-}
-
 fn history_of(def: &TableDef) -> ExpectedValue<'_>
     ensures { value_of result ≡ system.history_value def.now.kind def.now.history }
 {
@@ -160,7 +151,7 @@ fn table_row(def: &TableDef) -> [ExpectedValue<'_>; 6]
         ExpectedValue::Number(def.id.into()),
         ExpectedValue::Number(0),
         ExpectedValue::Name(&def.name),
-        ExpectedValue::Number(kind_code(def.kind)),
+        ExpectedValue::Number(def.kind.code().into()),
         history_of(def),
         ExpectedValue::Name(&def.view),
     ]

@@ -2,14 +2,13 @@
 
 ghost use Rattle.std.specs.Prelude.{All, ◌≡◌, ◌<◌, ◌^◌, ◌++◌, OnOk, flat_map, length};
 ghost use Rattle.base_fields.specs.Fields.{u16_field};
-ghost use Rattle.spec_model.specs.SystemTables.{kind_code};
 ghost use Rattle.format_image.specs.DefBytes.{flag, column_bytes, IsColumn, index_bytes, IsIndex, columns_bytes, indexes_bytes, names_bytes, def_bytes, IsDef, defs_bytes};
 
 use base_fields::{put_short, put_u8, put_u16, put_u32};
 use base_types::Memory;
 use format_event::put_type;
 use sql_types::{IndexDef, TableDef};
-use sql_value::{ColumnDef, TableKind};
+use sql_value::ColumnDef;
 
 /// Appends how many definitions there are, and these.
 pub fn put_defs(defs: &[TableDef], out: &mut Vec<u8>) -> Result<(), Memory>
@@ -46,19 +45,10 @@ fn put_names(def: &TableDef, out: &mut Vec<u8>) -> Result<(), Memory>
     requires { IsDef def.now }
     ensures { OnOk result (out.new.items ≡ out.old.items ++ names_bytes def.now) }
 {
-    put_u8(out, kind_code(def.kind))?;
+    put_u8(out, def.kind.code())?;
     put_short(out, def.name.bytes())?;
     put_short(out, def.history.bytes())?;
     put_short(out, def.view.bytes())
-}
-
-fn kind_code(kind: TableKind) -> u8
-    ensures { result ≡ kind_code kind }
-{
-    match kind {
-        TableKind::AppendOnly => 1,
-        TableKind::Updatable => 2,
-    }
 }
 
 fn put_columns(columns: &[ColumnDef], out: &mut Vec<u8>) -> Result<(), Memory>

@@ -10,6 +10,7 @@ use Rattle.sql_value.specs.declared.sql_type.SqlType.TheVariants.{Bit, Int, NVar
 use Rattle.sql_types.specs.declared.table.TableDef.{TableDef}
 use Rattle.sql_types.specs.declared.table.IndexDef.{IndexDef}
 use Rattle.sql_types.specs.declared.version.Table.{Table}
+pub use Rattle.sql_value.specs.KindCodes.{kind_code}
 use Rattle.sql_value.specs.TypeCodes.{type_code, first_parameter, second_parameter}
 use Rattle.spec_model.specs.Lists.{numbered}
 use Rattle.spec_model.specs.Rows.{Row, number}
@@ -78,10 +79,6 @@ unfoldable pub first_tables : List Table
 first_tables = empty_table tables_def ∷ empty_table columns_def ∷ []
 
 -- ---- rows
-
-abbrev pub kind_code : TableKind → ℕ
-kind_code AppendOnly = 1
-kind_code Updatable = 2
 
 -- an append-only table has no history
 abbrev pub history_value : TableKind → List ℕ → Value

@@ -21,15 +21,6 @@ fn name_value(alloc: Global, name: &Name) -> Result<Value, Memory>
     Ok(Value::Text(Text::of_str(alloc, name.as_str())?))
 }
 
-fn kind_code(kind: TableKind) -> u64
-    ensures { result ≡ spec.kind_code kind }
-{
-    match kind {
-        TableKind::AppendOnly => 1,
-        TableKind::Updatable => 2,
-    }
-}
-
 /// The name of the history, which an append-only table lacks.
 fn history_value(alloc: Global, kind: TableKind, name: &Name) -> Result<Value, Memory>
     ensures { IfOk result (λ value. value ≡ spec.history_value kind name.now) }
@@ -47,7 +38,7 @@ pub fn table_row(alloc: Global, def: &TableDef) -> Result<Row, Memory>
 {
     let id = number(def.id.into());
     let name = name_value(alloc, &def.name)?;
-    let kind = number(kind_code(def.kind));
+    let kind = number(def.kind.code().into());
     let history = history_value(alloc, def.kind, &def.history)?;
     let view = name_value(alloc, &def.view)?;
     let row = Vec::from_array(alloc, [id, number(0), name, kind, history, view])?;

@@ -1,5 +1,6 @@
 pub mod Conversion
 pub mod Day
+pub mod KindCodes
 pub mod Literal
 pub mod Literals
 pub mod Number

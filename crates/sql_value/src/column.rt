@@ -1,6 +1,7 @@
 //! Columns, and the kinds of tables.
 
 ghost use Rattle.std.specs.Prelude.{◌≡◌, IfOk};
+ghost use Rattle.sql_value.specs.KindCodes.{kind_code};
 
 use crate::SqlType;
 use base_types::{Memory, Name};
@@ -12,6 +13,18 @@ pub enum TableKind {
     AppendOnly,
     /// Rows are added, changed and deleted.
     Updatable,
+}
+
+impl TableKind {
+    /// Its code, as formats and system tables write it.
+    pub fn code(self) -> u8
+        ensures { result ≡ kind_code self }
+    {
+        match self {
+            TableKind::AppendOnly => 1,
+            TableKind::Updatable => 2,
+        }
+    }
 }
 
 /// The definition of a column.
