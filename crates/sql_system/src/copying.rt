@@ -4,7 +4,7 @@ ghost use Rattle.std.specs.Prelude.{◌≡◌, IfOk};
 
 use base_types::{Items, Memory};
 use sql_types::{IndexDef, TableDef};
-use sql_value::ColumnDef;
+use sql_value::copy_columns;
 use std::alloc::Global;
 
 /// A copy of a table's definition.
@@ -20,16 +20,6 @@ pub fn copy_def(alloc: Global, def: &TableDef) -> Result<TableDef, Memory>
         columns: copy_columns(alloc, def.columns.as_slice())?,
         indexes: copy_indexes(alloc, def.indexes.as_slice())?,
     })
-}
-
-fn copy_columns(alloc: Global, columns: &[ColumnDef]) -> Result<Items<ColumnDef>, Memory>
-    ensures { IfOk result (λ copy. copy ≡ columns.now) }
-{
-    let mut copy = Vec::with_capacity(alloc, columns.len())?;
-    for column in columns {
-        copy.push(column.copy()?)?;
-    }
-    Ok(Items::from_vec(copy))
 }
 
 fn copy_indexes(alloc: Global, indexes: &[IndexDef]) -> Result<Items<IndexDef>, Memory>

@@ -4,7 +4,8 @@ ghost use Rattle.std.specs.Prelude.{◌≡◌, IfOk};
 ghost use Rattle.sql_value.specs.KindCodes.{kind_code};
 
 use crate::SqlType;
-use base_types::{Memory, Name};
+use base_types::{Items, Memory, Name};
+use std::alloc::Global;
 
 /// Whether the rows of a table may change.
 #[derive(Clone, Copy, Debug, PartialEq, Eq)]
@@ -50,4 +51,15 @@ impl ColumnDef {
             key_position: self.key_position,
         })
     }
+}
+
+/// Equal columns.
+pub fn copy_columns(alloc: Global, columns: &[ColumnDef]) -> Result<Items<ColumnDef>, Memory>
+    ensures { IfOk result (λ copy. copy ≡ columns.now) }
+{
+    let mut copy = Vec::with_capacity(alloc, columns.len())?;
+    for column in columns {
+        copy.push(column.copy()?)?;
+    }
+    Ok(Items::from_vec(copy))
 }

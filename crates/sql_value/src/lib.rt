@@ -14,7 +14,7 @@ mod type_codes;
 mod value;
 
 pub use base_types::{Blob, Boxed, Items, Memory, Name, TableId, Text, TxId};
-pub use column::{ColumnDef, TableKind};
+pub use column::{ColumnDef, TableKind, copy_columns};
 pub use day::CivilDate;
 pub use expr::{Class, Expr, Op};
 pub use laws::expressions_are_trees;

@@ -19,7 +19,6 @@ ghost use Rattle.store_table.specs.Undoing.{EndsUndone, NoEndUndone, NoStartUndo
 
 use crate::building::new_index;
 use crate::by_key::{key_exists, key_range};
-use crate::columns::copy_columns;
 use crate::ending::{Ending, add_ending, last_ending};
 use crate::index::{Index, rows_below};
 use crate::leaves::leaves_of;
@@ -29,7 +28,7 @@ use crate::searching::{last_start, place_of_start, version_at};
 use base_types::{Blob, Items, Memory, TableId, TxId};
 use sql_parts::key_places;
 use sql_types::{Change, EventId, Key, Row, TypedValue, Version};
-use sql_value::ColumnDef;
+use sql_value::{ColumnDef, copy_columns};
 use std::alloc::Global;
 use std::marker::Model;
 use store_order::Starts;
