@@ -8,7 +8,7 @@ ghost use Rattle.spec_model.specs.Rows.{value_or_null};
 ghost use Rattle.format_image.specs.Rows.{stored_at, stored_cmp};
 
 use base_types::Memory;
-use sql_types::{IndexRow, TypedValue};
+use sql_types::{IndexRow, TypedValue, copy_stored};
 use sql_value::{Value, compare};
 use std::cmp::Ordering;
 
@@ -34,19 +34,7 @@ pub(crate) fn copy_in(
     ensures { IfOk result (λ value. value ≡ stored_at row.now (suc place)) }
 {
     match row.get(place) {
-        Some(value) => copy_of(value),
-        None => Ok(None),
-    }
-}
-
-fn copy_of(value: &Option<TypedValue>) -> Result<Option<TypedValue>, Memory>
-    ensures { IfOk result (λ copy. copy ≡ value.now) }
-{
-    match value {
-        Some(typed) => Ok(Some(TypedValue {
-            ty: typed.ty,
-            value: typed.value.copy()?,
-        })),
+        Some(value) => copy_stored(value),
         None => Ok(None),
     }
 }

@@ -1,4 +1,4 @@
-//! The types that definitions, formats and cells share. No function stands here.
+//! The types that definitions, formats and cells share.
 #![tactic(auto)]
 
 mod change;
@@ -27,4 +27,4 @@ pub use outcome::Outcome;
 pub use reply::Reply;
 pub use statement::{Agg, CreateIndex, CreateTable, RowStmt, Select, SelectList, Stmt};
 pub use table::{IndexDef, Part, TableDef};
-pub use version::{EventId, Row, Table, TypedValue, Version};
+pub use version::{EventId, Row, Table, TypedValue, Version, copy_stored};

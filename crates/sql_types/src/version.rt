@@ -1,7 +1,9 @@
 //! Versions of rows, what a row was from its start to its end, and the tables that have them.
 
+ghost use Rattle.std.specs.Prelude.{◌≡◌, IfOk};
+
 use crate::table::TableDef;
-use sql_value::{Items, SqlType, TxId, Value};
+use sql_value::{Items, Memory, SqlType, TxId, Value};
 
 /// The values of a row, one for each column.
 pub type Row = Items<Value>;
@@ -15,6 +17,19 @@ pub type EventId = (TxId, u64);
 pub struct TypedValue {
     pub ty: SqlType,
     pub value: Value,
+}
+
+/// A copy of what a version has of a column; NULL is none.
+pub fn copy_stored(stored: &Option<TypedValue>) -> Result<Option<TypedValue>, Memory>
+    ensures { IfOk result (λ copy. copy ≡ stored.now) }
+{
+    match stored {
+        Some(typed) => Ok(Some(TypedValue {
+            ty: typed.ty,
+            value: typed.value.copy()?,
+        })),
+        None => Ok(None),
+    }
 }
 
 /// One state of one row.

@@ -6,7 +6,7 @@ ghost use Rattle.store_image.specs.Known.{has_in, kept_by};
 
 use crate::ids::CommittedTxs;
 use base_types::{Items, Memory};
-use sql_types::{EventId, TypedValue, Version};
+use sql_types::{EventId, TypedValue, Version, copy_stored};
 use std::alloc::Global;
 
 /// Copies of the versions whose start is committed, without ends that aren't. Takes an ordered search for
@@ -78,19 +78,7 @@ fn copy_values(
 {
     let mut copies = Vec::with_capacity(alloc, values.len())?;
     for value in values {
-        copies.push(copy_value(value)?)?;
+        copies.push(copy_stored(value)?)?;
     }
     Ok(Items::from_vec(copies))
-}
-
-fn copy_value(value: &Option<TypedValue>) -> Result<Option<TypedValue>, Memory>
-    ensures { IfOk result (λ copy. copy ≡ value.now) }
-{
-    match value {
-        Some(typed) => Ok(Some(TypedValue {
-            ty: typed.ty,
-            value: typed.value.copy()?,
-        })),
-        None => Ok(None),
-    }
 }
