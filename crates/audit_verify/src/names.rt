@@ -1,7 +1,7 @@
 //! Which names a definition may have.
 
 ghost use Rattle.std.specs.Prelude.{◌≡◌, ◌&&◌, ◌∷◌, [], map, filter_map};
-ghost use Rattle.std.specs.List.{list_all, list_any};
+ghost use Rattle.std.specs.List.{list_any};
 ghost use Rattle.audit_verify.specs.Numbers.{before_number};
 ghost use Rattle.spec_model.specs.Create as create;
 ghost use Rattle.spec_model.specs.Lists.{repeats, has_name};
@@ -12,36 +12,7 @@ ghost use Rattle.law_catalog_rows.specs.IsEncodableDef as spec;
 use crate::first_values::table_of;
 use base_types::Name;
 use sql_types::{IndexDef, TableDef, TypedValue, Version};
-use sql_value::{ColumnDef, TableKind, Value};
-
-/// Whether the bytes are a name: 1 to 128 of them, from a blank to `~` without the brackets.
-pub fn is_proper_name(name: &[u8]) -> bool
-    ensures { result ≡ spec.is_proper_name name.now }
-{
-    !name.is_empty() && name.len() <= 128 && are_name_bytes(name)
-}
-
-fn are_name_bytes(bytes: &[u8]) -> bool
-    ensures { result ≡ list_all spec.is_name_byte bytes.now }
-{
-    bytes.iter().all(|b| is_name_byte(*b))
-}
-
-fn is_name_byte(b: u8) -> bool
-    ensures { result ≡ spec.is_name_byte b }
-{
-    b >= b' ' && b <= b'~' && b != b'[' && b != b']'
-}
-
-/// Whether a table of this kind may have a history of this name: an append-only one has none.
-pub fn has_its_history(kind: TableKind, history: &[u8]) -> bool
-    ensures { result ≡ spec.has_its_history kind history.now }
-{
-    match kind {
-        TableKind::AppendOnly => history.is_empty(),
-        TableKind::Updatable => is_proper_name(history),
-    }
-}
+use sql_value::{ColumnDef, Value};
 
 /// What the names of the columns that the ledger adds begin with.
 const ADDED: &str = "ledger_";

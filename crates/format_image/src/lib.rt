@@ -12,6 +12,7 @@ mod write_rows;
 mod writing;
 
 pub use laws::{equal_bytes_are_of_equal_images, the_first_image_is_empty};
+pub use names::{has_its_history, is_proper_name};
 pub use reading::read_image;
 pub use sql_types::{Image, IndexRow, TableRows};
 pub use writing::write_image;
