@@ -14,18 +14,6 @@ use base_types::Name;
 use sql_types::{IndexDef, TableDef, TypedValue, Version};
 use sql_value::{ColumnDef, Value};
 
-/// What the names of the columns that the ledger adds begin with.
-const ADDED: &str = "ledger_";
-
-/// Whether the name begins as those of the columns that the ledger adds.
-pub fn is_ledger_name(name: &Name) -> bool
-    ensures { result ≡ create.is_ledger_name name.now }
-{
-    let bytes = name.bytes();
-    let head = &bytes[..bytes.len().min(ADDED.len())];
-    head.eq_ignore_ascii_case(ADDED.as_bytes())
-}
-
 /// Whether the table has this name at all.
 fn is_given(name: &Name) -> bool
     ensures { result ≡ create.is_name name.now }

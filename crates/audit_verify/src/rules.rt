@@ -5,9 +5,10 @@ ghost use Rattle.std.specs.List.{list_all, list_any, range_with_len};
 ghost use Rattle.law_catalog_rows.specs.IsEncodableDef as spec;
 ghost use Rattle.audit_verify.specs.Rules.{names_are_right, columns_are_right, indexes_are_right};
 
-use crate::names::{column_names_repeat, index_names_repeat, is_ledger_name, table_names_repeat};
+use crate::names::{column_names_repeat, index_names_repeat, table_names_repeat};
 use base_types::Memory;
 use format_image::{has_its_history, is_proper_name};
+use sql_parts::is_ledger_name;
 use sql_types::{IndexDef, TableDef};
 use sql_value::ColumnDef;
 use std::alloc::Global;

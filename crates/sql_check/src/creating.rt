@@ -12,6 +12,7 @@ ghost use Rattle.sql_check.specs.NewTable as new;
 use crate::names::{has_name, is_named, part_named, repeats};
 use crate::rows::{are_declared, refuse_if};
 use base_types::{Items, Memory, Name, TableId};
+use sql_parts::is_ledger_name;
 use sql_types::{CreateTable, TableDef};
 use sql_value::{ColumnDef, Refusal, TableKind};
 use std::alloc::Global;
@@ -27,9 +28,6 @@ const MOST_TABLES: usize = 34;
 
 /// The most bytes of a new name.
 const MOST_NAME_BYTES: usize = 128;
-
-/// With what the names of columns that are added begin.
-const ADDED: &str = "ledger_";
 
 /// The name of a table's history, which an append-only table doesn't have.
 fn history_name(
@@ -69,15 +67,6 @@ fn is_used(defs: &[&TableDef], name: &Name) -> bool
     ensures { result ≡ list_any (λ def. new.has_part def.now name.now) defs.now }
 {
     defs.iter().any(|def| part_named(def, name).is_some())
-}
-
-/// Whether the name begins as those of added columns do, in any case.
-fn is_ledger_name(name: &Name) -> bool
-    ensures { result ≡ spec.is_ledger_name name.now }
-{
-    let bytes = name.bytes();
-    let head = &bytes[..bytes.len().min(ADDED.len())];
-    head.eq_ignore_ascii_case(ADDED.as_bytes())
 }
 
 /// Whether a new name is too long.

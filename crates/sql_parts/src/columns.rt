@@ -4,6 +4,7 @@ ghost use Rattle.std.specs.Prelude.{◌≡◌, ◌<◌, IfSome, length, map, opt
 ghost use Rattle.std.specs.Str.{bytes_eq};
 ghost use Rattle.std.specs.Option.{option_copied};
 ghost use Rattle.spec_model.specs.Columns as spec;
+ghost use Rattle.spec_model.specs.Create as create;
 ghost use Rattle.spec_model.specs.Parts.{added, added_column, columns_of, shown_of};
 
 use base_types::Name;
@@ -32,6 +33,18 @@ const VIEW_COLUMNS: [(&str, SqlType); 4] = [
     ("ledger_operation_type", SqlType::Int),
     ("ledger_operation_type_desc", SqlType::NVarChar { n: 6 }),
 ];
+
+/// What the names of the columns that parts add begin with.
+const LEDGER_PREFIX: &str = "ledger_";
+
+/// Whether the name begins as those of added columns do, in any case.
+pub fn is_ledger_name(name: &Name) -> bool
+    ensures { result ≡ create.is_ledger_name name.now }
+{
+    let bytes = name.bytes();
+    let head = &bytes[..bytes.len().min(LEDGER_PREFIX.len())];
+    head.eq_ignore_ascii_case(LEDGER_PREFIX.as_bytes())
+}
 
 /// The place of the column of this name, counted from 0.
 pub fn place_of(columns: &[ColumnDef], name: &Name) -> Option<usize>

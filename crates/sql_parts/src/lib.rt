@@ -13,7 +13,7 @@ mod order;
 mod rows;
 mod values;
 
-pub use columns::{Columns, column_of, place_of, shown};
+pub use columns::{Columns, column_of, is_ledger_name, place_of, shown};
 pub use fixing::key_fixed;
 pub use found::LiveVersions;
 pub use keyed::KeyedTable;
