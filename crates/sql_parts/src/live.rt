@@ -44,7 +44,8 @@ fn live_versions<'a>(
     }
 }
 
-fn all_live<'a>(alloc: Global, versions: &'a [Version]) -> Result<Vec<&'a Version>, Memory>
+/// The versions without an end.
+pub fn all_live<'a>(alloc: Global, versions: &'a [Version]) -> Result<Vec<&'a Version>, Memory>
     ensures { IfOk result (λ found. map (λ v. v.now) found.items ≡ live versions.now) }
 {
     let mut found = Vec::new(alloc);

@@ -2,7 +2,6 @@
 
 ghost use Rattle.std.specs.Prelude.{◌≡◌, ◌≤◌, IfOk, OnOk, map};
 ghost use Rattle.spec_model.specs.Lists.{sorted};
-ghost use Rattle.spec_model.specs.Rows.{live};
 ghost use Rattle.spec_model.specs.Runs.{Rising};
 ghost use Rattle.store_table.specs.Kept.{HasCapacity, IsOf};
 ghost use Rattle.store_table.specs.Orders.{row_cmp, starts_of};
@@ -11,6 +10,7 @@ use crate::comparing::compare_rows;
 use crate::index::Index;
 use crate::leading::lead_of;
 use base_types::{Items, Memory};
+use sql_parts::all_live;
 use sql_types::Version;
 use std::alloc::Global;
 use store_order::Starts;
@@ -28,24 +28,12 @@ pub fn new_index(
     ensures ordinals { IfOk result (λ index. index.ordinals ≡ ordinals.now) }
     ensures room { IfOk result (λ index. HasCapacity room index) }
 {
-    let mut live_by_key = live_versions(alloc, versions)?;
+    let mut live_by_key = all_live(alloc, versions)?;
     sort_rows(ordinals, key, &mut live_by_key)?;
     Ok(Index {
         ordinals: Items::from_vec(Vec::from_slice(alloc, ordinals)?),
         order: starts_of(alloc, ordinals, key, &live_by_key, room)?,
     })
-}
-
-fn live_versions(alloc: Global, versions: &[Version]) -> Result<Vec<&Version>, Memory>
-    ensures { IfOk result (λ found. map (λ v. v.now) found.items ≡ live versions.now) }
-{
-    let mut found = Vec::new(alloc);
-    for version in versions {
-        if version.end.is_none() {
-            found.push(version)?;
-        }
-    }
-    Ok(found)
 }
 
 fn sort_rows(ordinals: &[u16], key: &[usize], versions: &mut Vec<&Version>) -> Result<(), Memory>
