@@ -50,7 +50,8 @@ fn end_left(end: Option<EventId>, tx: TxId, seq: u64) -> Option<EventId>
     }
 }
 
-fn is_undone(event: EventId, tx: TxId, seq: u64) -> bool
+/// Whether an event is one of the transaction, with this number or above.
+pub fn is_undone(event: EventId, tx: TxId, seq: u64) -> bool
     ensures { result ≡ is_undone tx seq event }
 {
     event.0 == tx && seq <= event.1

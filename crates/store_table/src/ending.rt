@@ -8,8 +8,8 @@ ghost use Rattle.spec_model.specs.Undo as undo;
 ghost use Rattle.store_table.specs.Ends.{ending_cmp, ending_place};
 ghost use Rattle.store_table.specs.declared.ending.Ending.{Ending as SpecEnding};
 
-use crate::searching::is_undone;
 use base_types::{Memory, TxId};
+use sql_apply::is_undone;
 use sql_types::EventId;
 
 /// The end of a version.

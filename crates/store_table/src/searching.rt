@@ -14,6 +14,7 @@ use crate::comparing::{comes_before, has_row_below};
 use crate::guessing::{guess_place, place_above, place_below};
 use crate::leading::lead_of;
 use base_types::TxId;
+use sql_apply::is_undone;
 use sql_types::{EventId, Version};
 use std::cmp::Ordering;
 use store_order::Starts;
@@ -109,13 +110,6 @@ pub fn place_in_order(
         lead,
         |start| start_comes_before(ordinals, key, versions, *start, version),
     )
-}
-
-/// Whether an event is one of the transaction, with this number or above.
-pub fn is_undone(event: EventId, tx: TxId, seq: u64) -> bool
-    ensures { result ≡ undo.is_undone tx seq event }
-{
-    event.0 == tx && seq <= event.1
 }
 
 fn is_up_to(version: &Version, tx: TxId) -> bool
