@@ -2,7 +2,7 @@
 //! want of memory.
 
 ghost use Rattle.std.specs.Prelude.{◌≡◌, ◌<◌, ◌≤◌, ◌^◌, take, ◌∷◌, [], ◌++◌, length, OnOk, OnErr};
-ghost use Rattle.base_fields.specs.Fields.{u8_field, u16_field, u32_field, u64_field, hash_field, short_field, long_field, wide_field};
+ghost use Rattle.base_fields.specs.Fields.{u8_field, flag, flag_field, u16_field, u32_field, u64_field, hash_field, short_field, long_field, wide_field};
 
 use base_types::Memory;
 
@@ -12,6 +12,20 @@ pub fn put_u8(out: &mut Vec<u8>, value: u8) -> Result<(), Memory>
     ensures err { OnErr result (out.new.items ≡ out.old.items) }
 {
     put_bytes(out, &[value])
+}
+
+/// Appends a byte that is 1 where the flag is set, and else 0.
+pub fn put_flag(out: &mut Vec<u8>, set: bool) -> Result<(), Memory>
+    ensures ok { OnOk result (out.new.items ≡ out.old.items ++ flag_field set) }
+    ensures err { OnErr result (out.new.items ≡ out.old.items) }
+{
+    put_u8(out, flag(set))
+}
+
+fn flag(set: bool) -> u8
+    ensures { result ≡ flag set }
+{
+    if set { 1 } else { 0 }
 }
 
 /// Appends a number in 2 bytes, the high byte first.

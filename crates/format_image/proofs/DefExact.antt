@@ -4,9 +4,11 @@ use Rattle.std.specs.Prelude.{◌&&◌, ◌==◌, not, flat_map}
 use Rattle.std.specs.List.{AllByRecursion, list_all}
 use Rattle.std.proofs.lemmas.Bool.{eqb-true}
 use Rattle.std.proofs.lemmas.Bool.Decides.{nat_tests}
-use Rattle.base_fields.specs.Fields.{u8_field, u16_field, u32_field, short_field}
+use Rattle.base_fields.specs.Fields.{u8_field, flag_field, u16_field, u32_field, short_field}
 use Rattle.base_fields.specs.Readers.{u8_at, u16_at, u32_at, short_at, both, listed}
 use Rattle.base_fields.specs.Exact.{Exact}
+use Rattle.base_fields.specs.Forms.{flag_at}
+use Rattle.base_fields.proofs.FormsExact.{flag_exact}
 use Rattle.base_fields.proofs.Written.{u8_exact, u16_exact, u32_exact, short_exact}
 use Rattle.base_fields.proofs.Parts.{both_exact, mapped_exact, decoded_exact, where_exact, listed_exact}
 use Rattle.sql_value.specs.declared.column.ColumnDef.{ColumnDef}
@@ -23,39 +25,13 @@ use Rattle.spec_model.specs.Catalog.{Defs}
 use Rattle.spec_model.specs.Create.{is_long}
 use Rattle.spec_model.specs.SystemTables.{kind_code}
 use Rattle.spec_model.specs.ProperNames.{is_name_byte, is_proper_name, has_its_history}
-use Rattle.format_image.specs.DefBytes.{flag, column_bytes, IsColumn, index_bytes, IsIndex, columns_bytes, indexes_bytes, def_bytes, IsDef, defs_bytes}
-use Rattle.format_image.specs.ImageReading.{flag_of, flag_at, name_at, column_type_at, column_of, column_at, index_of, index_at, kind_of, kind_at, TableHeading, is_named, named_at, def_of, def_at, ids_are_users, defs_at}
+use Rattle.format_image.specs.DefBytes.{column_bytes, IsColumn, index_bytes, IsIndex, columns_bytes, indexes_bytes, def_bytes, IsDef, defs_bytes}
+use Rattle.format_image.specs.ImageReading.{name_at, column_type_at, column_of, column_at, index_of, index_at, kind_of, kind_at, TableHeading, is_named, named_at, def_of, def_at, ids_are_users, defs_at}
 
 abbrev Any : {A : Type 0} → A → Type 0
 Any x = Unit {0}
 
--- ---- flags and kinds
-
-flag_there : (b : Bool) → flag_of (flag b) ≡ Some b
-flag_there true = refl
-flag_there false = refl
-
-flag_small : (b : Bool) → flag b < 256
-flag_small true = omega arith
-flag_small false = omega arith
-
-flag_back_by : (n : ℕ) (a b flag_is : Bool) → (n == 0) ≡ a → (n == 1) ≡ b → cond a (Some false) (cond b (Some true) None) ≡ Some flag_is → n ≡ flag flag_is
-flag_back_by n true b true zero one e = cc
-flag_back_by n true b false zero one e = eqb-true _ _ zero
-flag_back_by n false true true zero one e = eqb-true _ _ one
-flag_back_by n false true false zero one e = cc
-flag_back_by n false false x zero one e = absurd cc
-
-flag_exact : Exact Any (λ b. u8_field (flag b)) flag_at
-unfolding flag_at
-flag_exact = decoded_exact (λ (n : ℕ). n < 256) Any u8_field (λ b. u8_field (flag b)) flag_of flag u8_at
-    (record {
-      there = λ b fits. flag_there b;
-      encoded = λ b fits. refl;
-      fit_back = λ b fits. flag_small b;
-      back = λ n b bytes fits e. (tt, ap u8_field (flag_back_by n (n == 0) (n == 1) b refl refl e));
-    })
-    u8_exact
+-- ---- kinds
 
 kind_there : (k : TableKind) → kind_of (kind_code k) ≡ Some k
 kind_there AppendOnly = refl
@@ -133,7 +109,7 @@ abbrev FitColumn : ColumnParts → Type 0
 FitColumn x = FitName x.0 × (FitType x.1.0 × (Any x.1.1.0 × (x.1.1.1 < 256)))
 
 abbrev encode_column : ColumnParts → List ℕ
-encode_column x = short_field x.0 ++ (type_bytes x.1.0 ++ (u8_field (flag x.1.1.0) ++ u8_field x.1.1.1))
+encode_column x = short_field x.0 ++ (type_bytes x.1.0 ++ (flag_field x.1.1.0 ++ u8_field x.1.1.1))
 
 column_exact : Exact IsColumn column_bytes column_at
 unfolding column_at
@@ -144,10 +120,10 @@ column_exact = mapped_exact FitColumn IsColumn encode_column column_bytes column
       fit = λ x f. record { name = f.0.1; ty = f.1.0.1; key_position = f.1.1.1 };
       fit_back = λ c f. (fit_name c.name f.name, ((in_range_fits c.ty f.ty, f.ty), (tt, f.key_position)));
     })
-    (both_exact FitName (λ (x : SqlType × (Bool × ℕ)). FitType x.0 × (Any x.1.0 × (x.1.1 < 256))) short_field (λ (x : SqlType × (Bool × ℕ)). type_bytes x.0 ++ (u8_field (flag x.1.0) ++ u8_field x.1.1))
+    (both_exact FitName (λ (x : SqlType × (Bool × ℕ)). FitType x.0 × (Any x.1.0 × (x.1.1 < 256))) short_field (λ (x : SqlType × (Bool × ℕ)). type_bytes x.0 ++ (flag_field x.1.0 ++ u8_field x.1.1))
     name_at (both column_type_at (both flag_at u8_at)) name_exact
-    (both_exact FitType (λ (x : Bool × ℕ). Any x.0 × (x.1 < 256)) type_bytes (λ (x : Bool × ℕ). u8_field (flag x.0) ++ u8_field x.1) column_type_at (both flag_at u8_at) column_type_exact
-    (both_exact Any (λ (n : ℕ). n < 256) (λ b. u8_field (flag b)) u8_field flag_at u8_at flag_exact u8_exact)))
+    (both_exact FitType (λ (x : Bool × ℕ). Any x.0 × (x.1 < 256)) type_bytes (λ (x : Bool × ℕ). flag_field x.0 ++ u8_field x.1) column_type_at (both flag_at u8_at) column_type_exact
+    (both_exact Any (λ (n : ℕ). n < 256) flag_field u8_field flag_at u8_at flag_exact u8_exact)))
 
 -- ---- indexes
 

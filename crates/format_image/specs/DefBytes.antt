@@ -1,7 +1,7 @@
 -- The definition of a table: its one spelling in bytes.
-use Rattle.std.specs.Prelude.{ℕ, ◌≡◌, ◌<◌, ◌^◌, ◌&&◌, nat_lt, Bool, true, List, [], ◌∷◌, ◌++◌, length, flat_map, if◌then◌else◌}
+use Rattle.std.specs.Prelude.{ℕ, ◌≡◌, ◌<◌, ◌^◌, ◌&&◌, nat_lt, Bool, true, List, [], ◌∷◌, ◌++◌, length, flat_map}
 use Rattle.std.specs.List.{AllByRecursion}
-use Rattle.base_fields.specs.Fields.{u8_field, u16_field, u32_field, short_field}
+use Rattle.base_fields.specs.Fields.{u8_field, flag_field, u16_field, u32_field, short_field}
 use Rattle.sql_value.specs.Stored.{is_in_range}
 use Rattle.sql_value.specs.declared.column.ColumnDef.{ColumnDef}
 use Rattle.sql_types.specs.declared.table.IndexDef.{IndexDef}
@@ -11,13 +11,10 @@ use Rattle.spec_model.specs.Catalog.{Defs}
 use Rattle.spec_model.specs.SystemTables.{kind_code}
 use Rattle.spec_model.specs.ProperNames.{is_proper_name, has_its_history}
 
-abbrev pub flag : Bool → ℕ
-flag b = if b then 1 else 0
-
 -- the name, the type, 1 where the column may be NULL, and its key position
 abbrev pub column_bytes : ColumnDef → List ℕ
 column_bytes c =
-    short_field c.name ++ (type_bytes c.ty ++ (u8_field (flag c.nullable) ++ u8_field c.key_position))
+    short_field c.name ++ (type_bytes c.ty ++ (flag_field c.nullable ++ u8_field c.key_position))
 
 pub record IsColumn (c : ColumnDef) : Type 0 where
   pub name : is_proper_name c.name ≡ true

@@ -1,5 +1,5 @@
 -- Reading an image from left to right.
-use Rattle.std.specs.Prelude.{ℕ, ◌+◌, ◌==◌, Bool, true, false, List, ◌∷◌, ◌++◌, Option, Some, None, codes, if◌then◌else◌}
+use Rattle.std.specs.Prelude.{ℕ, ◌+◌, ◌==◌, Bool, List, ◌∷◌, ◌++◌, Option, Some, None, codes, if◌then◌else◌}
 use Rattle.base_fields.specs.Fields.{u8_field}
 use Rattle.base_fields.specs.Forms.{tx_id_at, moment_at, session_at, database_at}
 use Rattle.base_fields.specs.Readers.{Reader, ◌>>=◌, u8_at, u16_at, u32_at, u64_at, short_at, after, both, depends, mapped, decoded, where_, listed, times, for_each}
@@ -30,13 +30,6 @@ use Rattle.format_image.specs.DefBytes.{ids_rise}
 use Rattle.format_image.specs.ImageBytes.{sizes_of}
 use Rattle.format_image.specs.RowBytes.{starts_rise}
 use Rattle.format_image.specs.Rows.{Stored}
-
--- what a flag says, if it is one
-abbrev pub flag_of : ℕ → Option Bool
-flag_of n = if n == 0 then Some false else (if n == 1 then Some true else None)
-
-unfoldable pub flag_at : Reader Bool
-flag_at = decoded flag_of u8_at
 
 -- ---- definitions
 

@@ -4,11 +4,11 @@ ghost use Rattle.std.specs.Prelude.{◌≡◌};
 ghost use Rattle.base_fields.specs.Readers.{times};
 ghost use Rattle.base_fields.specs.Reading.{Finds, ReadsAs};
 ghost use Rattle.format_image.specs.DefBytes.{ids_rise};
-ghost use Rattle.format_image.specs.ImageReading.{flag_at, kind_at, name_at, named_at, column_type_at, column_at, index_at, def_at, defs_at};
+ghost use Rattle.format_image.specs.ImageReading.{kind_at, name_at, named_at, column_type_at, column_at, index_at, def_at, defs_at};
 ghost use Rattle.base_fields.specs.Readers.{u16_at};
 
 use crate::names::{has_its_history, is_proper_name};
-use base_fields::{ReadError, short_at, u8_at, u16_at, u32_at};
+use base_fields::{ReadError, flag_at, short_at, u8_at, u16_at, u32_at};
 use base_types::{Items, Name};
 use format_event::type_at;
 use sql_types::{IndexDef, TableDef};
@@ -163,18 +163,6 @@ fn column_type_at(bytes: &[u8]) -> Result<(SqlType, &[u8]), ReadError>
         return Err(ReadError::Malformed);
     }
     Ok((ty, rest))
-}
-
-#[tactic(auto, unfolding(crate::specs::ImageReading::flag_at))]
-fn flag_at(bytes: &[u8]) -> Result<(bool, &[u8]), ReadError>
-    ensures { Finds (λ x. (x.0, x.1.now)) result (flag_at bytes.now) }
-{
-    let (flag, rest) = u8_at(bytes)?;
-    match flag {
-        0 => Ok((false, rest)),
-        1 => Ok((true, rest)),
-        _ => Err(ReadError::Malformed),
-    }
 }
 
 fn some_indexes(

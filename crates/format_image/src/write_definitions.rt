@@ -2,9 +2,9 @@
 
 ghost use Rattle.std.specs.Prelude.{All, ◌≡◌, ◌<◌, ◌^◌, ◌++◌, OnOk, flat_map, length};
 ghost use Rattle.base_fields.specs.Fields.{u16_field};
-ghost use Rattle.format_image.specs.DefBytes.{flag, column_bytes, IsColumn, index_bytes, IsIndex, columns_bytes, indexes_bytes, names_bytes, def_bytes, IsDef, defs_bytes};
+ghost use Rattle.format_image.specs.DefBytes.{column_bytes, IsColumn, index_bytes, IsIndex, columns_bytes, indexes_bytes, names_bytes, def_bytes, IsDef, defs_bytes};
 
-use base_fields::{put_short, put_u8, put_u16, put_u32};
+use base_fields::{put_flag, put_short, put_u8, put_u16, put_u32};
 use base_types::Memory;
 use format_event::put_type;
 use sql_types::{IndexDef, TableDef};
@@ -76,14 +76,8 @@ fn put_column(column: &ColumnDef, out: &mut Vec<u8>) -> Result<(), Memory>
 {
     put_short(out, column.name.bytes())?;
     put_type(column.ty, out)?;
-    put_u8(out, flag(column.nullable))?;
+    put_flag(out, column.nullable)?;
     put_u8(out, column.key_position)
-}
-
-fn flag(set: bool) -> u8
-    ensures { result ≡ flag set }
-{
-    if set { 1 } else { 0 }
 }
 
 fn put_indexes(indexes: &[IndexDef], out: &mut Vec<u8>) -> Result<(), Memory>

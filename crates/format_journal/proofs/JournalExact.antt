@@ -10,20 +10,20 @@ use Rattle.base_types.specs.DatabaseName.{is_database_name}
 use Rattle.base_types.specs.Ids.{is_tx_id}
 use Rattle.base_types.specs.Moment.{is_moment}
 use Rattle.base_types.specs.SessionName.{is_session_name}
-use Rattle.base_fields.specs.Fields.{u8_field, u32_field, u64_field, short_field, wide_field}
-use Rattle.base_fields.specs.Forms.{tx_id_at, moment_at, session_at, database_at}
+use Rattle.base_fields.specs.Fields.{u8_field, flag_field, u32_field, u64_field, short_field, wide_field}
+use Rattle.base_fields.specs.Forms.{flag_at, tx_id_at, moment_at, session_at, database_at}
 use Rattle.base_fields.specs.Readers.{Reader, ◌>>=◌, u8_at, u32_at, u64_at, wide_at, after, both, mapped, where_, listed, whole}
 use Rattle.base_fields.specs.Exact.{IsBytes, Exact, Taken}
-use Rattle.base_fields.proofs.FormsExact.{tx_id_exact, moment_exact, session_exact, database_exact}
+use Rattle.base_fields.proofs.FormsExact.{flag_exact, tx_id_exact, moment_exact, session_exact, database_exact}
 use Rattle.base_fields.proofs.Written.{bind_some, some_is, u8_exact, u32_exact, u64_exact, wide_exact}
-use Rattle.base_fields.proofs.Parts.{after_exact, both_exact, mapped_exact, decoded_exact, where_exact, listed_exact, one_value, whole_sound, whole_complete}
+use Rattle.base_fields.proofs.Parts.{after_exact, both_exact, mapped_exact, where_exact, listed_exact, one_value, whole_sound, whole_complete}
 use Rattle.sql_types.specs.declared.journal.Journal.{Journal}
 use Rattle.sql_types.specs.declared.journal.JournalItem.{JournalItem}
 use Rattle.sql_types.specs.declared.journal.JournalItem.TheVariants.{Tx, Close}
-use Rattle.format_journal.specs.Journal.{statement_bytes, script_bytes, explicit_bytes, item_bytes, items_bytes, journal_bytes}
+use Rattle.format_journal.specs.Journal.{statement_bytes, script_bytes, item_bytes, items_bytes, journal_bytes}
 use Rattle.sql_types.specs.JournalRules.{Line, is_block_size, ids_differ, closes_follow}
 use Rattle.format_journal.specs.Rules.{IsStatement, IsItem, IsJournal}
-use Rattle.format_journal.specs.JournalReading.{text_at, statement_at, script_at, explicit_of, opened_at, Run, is_run, run_at, TxParts, tx_from, tx_at, close_from, close_at, item_behind, item_at, are_consistent, items_at, journal_from, journal_at}
+use Rattle.format_journal.specs.JournalReading.{text_at, statement_at, script_at, Run, is_run, run_at, TxParts, tx_from, tx_at, close_from, close_at, item_behind, item_at, are_consistent, items_at, journal_from, journal_at}
 
 -- ---- statements
 
@@ -62,42 +62,16 @@ FitSession name = is_session_name name ≡ true
 abbrev Any : Bool → Type 0
 Any explicit = Unit {0}
 
-abbrev flag : Bool → ℕ
-flag explicit = cond explicit 1 0
-
-opened_there : (b : Bool) → explicit_of (flag b) ≡ Some b
-opened_there true = refl
-opened_there false = refl
-
-flag_small : (b : Bool) → flag b < 256
-flag_small true = omega arith
-flag_small false = omega arith
-
-opened_back_by : (n : ℕ) (a b : Bool) (explicit : Bool) → (n == 0) ≡ a → (n == 1) ≡ b
-    → cond a (Some false) (cond b (Some true) None) ≡ Some explicit → n ≡ flag explicit
-opened_back_by n true b explicit zero one e = let is : false ≡ explicit = cc in rw (← is) (eqb-true _ _ zero)
-opened_back_by n false true explicit zero one e = let is : true ≡ explicit = cc in rw (← is) (eqb-true _ _ one)
-opened_back_by n false false explicit zero one e = absurd cc
-
-opened_back : (n : ℕ) (explicit : Bool) → explicit_of n ≡ Some explicit → u8_field n ≡ explicit_bytes explicit
-opened_back n explicit e = ap u8_field (opened_back_by n (n == 0) (n == 1) explicit refl refl e)
-
-opened_exact : Exact Any explicit_bytes opened_at
-unfolding opened_at
-opened_exact = decoded_exact (λ (n : ℕ). n < 256) Any u8_field explicit_bytes explicit_of flag u8_at
-    (record { there = λ b fits. opened_there b; encoded = λ b fits. refl; fit_back = λ b fits. flag_small b; back = λ n b bytes fits e. (tt, opened_back n b e) })
-    u8_exact
-
 abbrev FitRun : Run → Type 0
 FitRun x = (Any x.0 × FitScript x.1) × (is_run x ≡ true)
 
 abbrev run_bytes : Run → List ℕ
-run_bytes x = explicit_bytes x.0 ++ script_bytes x.1
+run_bytes x = flag_field x.0 ++ script_bytes x.1
 
 run_exact : Exact FitRun run_bytes run_at
 unfolding run_at
-run_exact = where_exact (λ (x : Run). Any x.0 × FitScript x.1) run_bytes is_run (both opened_at script_at)
-    (both_exact Any FitScript explicit_bytes script_bytes opened_at script_at opened_exact script_exact)
+run_exact = where_exact (λ (x : Run). Any x.0 × FitScript x.1) run_bytes is_run (both flag_at script_at)
+    (both_exact Any FitScript flag_field script_bytes flag_at script_at flag_exact script_exact)
 
 abbrev FitTx : TxParts → Type 0
 FitTx x = FitId x.0 × (FitSession x.1.0 × (FitTime x.1.1.0 × FitRun x.1.1.1))

@@ -1,9 +1,9 @@
 -- Reading a journal from left to right.
-use Rattle.std.specs.Prelude.{ℕ, Bool, true, false, ◌&&◌, ◌==◌, List, [], Option, Some, None, codes, if◌then◌else◌}
+use Rattle.std.specs.Prelude.{ℕ, Bool, ◌&&◌, ◌==◌, List, [], None, codes, if◌then◌else◌}
 use Rattle.std.specs.Str.{is_utf8}
 use Rattle.base_fields.specs.Fields.{u8_field}
-use Rattle.base_fields.specs.Forms.{tx_id_at, moment_at, session_at, database_at}
-use Rattle.base_fields.specs.Readers.{Reader, ◌>>=◌, u8_at, u32_at, u64_at, wide_at, after, both, mapped, decoded, where_, listed}
+use Rattle.base_fields.specs.Forms.{flag_at, tx_id_at, moment_at, session_at, database_at}
+use Rattle.base_fields.specs.Readers.{Reader, ◌>>=◌, u8_at, u32_at, u64_at, wide_at, after, both, mapped, where_, listed}
 use Rattle.sql_types.specs.declared.journal.Journal.{Journal}
 use Rattle.sql_types.specs.declared.journal.JournalItem.{JournalItem}
 use Rattle.sql_types.specs.declared.journal.JournalItem.TheVariants.{Tx, Close}
@@ -23,14 +23,6 @@ script_at = listed u64_at statement_at
 
 -- ---- a transaction
 
--- what the flag says, if it is one
-abbrev pub explicit_of : ℕ → Option Bool
-explicit_of n = if n == 0 then Some false else (if n == 1 then Some true else None)
-
--- whether BEGIN opened the transaction
-unfoldable pub opened_at : Reader Bool
-opened_at = decoded explicit_of u8_at
-
 -- whether BEGIN opened the transaction, and its statements
 abbrev pub Run : Type 0
 Run = Bool × List Line
@@ -41,7 +33,7 @@ is_run x = is_alone x.0 x.1
 
 -- both, if they stand together
 unfoldable pub run_at : Reader Run
-run_at = where_ is_run (both opened_at script_at)
+run_at = where_ is_run (both flag_at script_at)
 
 -- id, session, time and run
 abbrev pub TxParts : Type 0

@@ -6,12 +6,12 @@ ghost use Rattle.base_fields.specs.Reading.{Finds, ReadsAs};
 ghost use Rattle.sql_types.specs.declared.journal.Journal.{Journal};
 ghost use Rattle.format_journal.specs.Journal.{journal_bytes};
 ghost use Rattle.format_journal.specs.Rules.{IsJournal};
-ghost use Rattle.format_journal.specs.JournalReading.{journal_at, items_at, item_at, item_behind, tx_at, close_at, run_at, opened_at, script_at, statement_at, text_at};
+ghost use Rattle.format_journal.specs.JournalReading.{journal_at, items_at, item_at, item_behind, tx_at, close_at, run_at, script_at, statement_at, text_at};
 
 use crate::rules::{closes_follow, ids_differ};
 use base_fields::{
-    ReadError, database_at, literal, moment_at, session_at, tx_id_at, u8_at, u32_at, u64_at, whole,
-    wide_at,
+    ReadError, database_at, flag_at, literal, moment_at, session_at, tx_id_at, u8_at, u32_at,
+    u64_at, whole, wide_at,
 };
 use base_types::{Items, Memory, Text};
 use sql_types::{Journal, JournalItem, MAX_BLOCK, Script};
@@ -125,24 +125,12 @@ fn close_at(bytes: &[u8]) -> Result<(JournalItem, &[u8]), ReadError>
 fn run_at(alloc: Global, bytes: &[u8]) -> Result<((bool, Script), &[u8]), ReadError>
     ensures { ReadsAs (λ x. (x.0, x.1.now)) result (run_at bytes.now) }
 {
-    let (explicit, rest) = opened_at(bytes)?;
+    let (explicit, rest) = flag_at(bytes)?;
     let (script, rest) = script_at(alloc, rest)?;
     if !explicit && script.len() != 1 {
         return Err(ReadError::Malformed);
     }
     Ok(((explicit, script), rest))
-}
-
-#[tactic(auto, unfolding(crate::specs::JournalReading::opened_at))]
-fn opened_at(bytes: &[u8]) -> Result<(bool, &[u8]), ReadError>
-    ensures { Finds (λ x. (x.0, x.1.now)) result (opened_at bytes.now) }
-{
-    let (flag, rest) = u8_at(bytes)?;
-    match flag {
-        0 => Ok((false, rest)),
-        1 => Ok((true, rest)),
-        _ => Err(ReadError::Malformed),
-    }
 }
 
 #[tactic(auto, unfolding(crate::specs::JournalReading::script_at))]

@@ -1,10 +1,10 @@
 //! Writing the bytes of a journal.
 
-ghost use Rattle.std.specs.Prelude.{All, ◌≡◌, ◌<◌, ◌^◌, ◌++◌, IfOk, OnOk, length, flat_map, if◌then◌else◌};
+ghost use Rattle.std.specs.Prelude.{All, ◌≡◌, ◌<◌, ◌^◌, ◌++◌, IfOk, OnOk, length, flat_map};
 ghost use Rattle.format_journal.specs.Journal.{statement_bytes, script_bytes, item_bytes, items_bytes, journal_bytes};
 ghost use Rattle.format_journal.specs.Rules.{IsItem, IsJournal};
 
-use base_fields::{put_short, put_u8, put_u32, put_u64, put_wide};
+use base_fields::{put_flag, put_short, put_u8, put_u32, put_u64, put_wide};
 use base_types::{Memory, Text};
 use sql_types::{Journal, JournalItem};
 use std::alloc::Global;
@@ -59,7 +59,7 @@ fn put_item(item: &JournalItem, out: &mut Vec<u8>) -> Result<(), Memory>
             put_u64(out, *id)?;
             put_short(out, session.bytes())?;
             put_u64(out, *time)?;
-            put_u8(out, flag_of(*explicit))?;
+            put_flag(out, *explicit)?;
             put_script(script.as_slice(), out)
         }
         JournalItem::Close(count) => {
@@ -67,12 +67,6 @@ fn put_item(item: &JournalItem, out: &mut Vec<u8>) -> Result<(), Memory>
             put_u32(out, *count)
         }
     }
-}
-
-fn flag_of(explicit: bool) -> u8
-    ensures { result ≡ (if explicit then 1 else 0) }
-{
-    if explicit { 1 } else { 0 }
 }
 
 // How many statements there are, and these.
