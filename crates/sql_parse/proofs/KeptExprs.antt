@@ -14,15 +14,16 @@ use Rattle.sql_parse.specs.Tags.{same_tag}
 use Rattle.sql_parse.specs.Input.{Input, Sym, Outcome, Parser, and_then, required, tag, text, next, sees, after, expect, spend, repeated, repeated_at, one_more, begin, max_parts}
 use Rattle.sql_parse.specs.Expr as e
 use Rattle.sql_parse.specs.Expr.{operator, comparison, name, times, more, more_by, grouped, leaf, leaf_by, prim, unary, product, sum, cmp, cmp_by, and, or, whole, max_nesting}
-use Rattle.sql_parse.specs.Parsed.{IsName, IsTree, IsExpr, count}
+use Rattle.sql_parse.specs.Parsed.{IsName, IsTree, IsExpr}
 use Rattle.sql_parse.proofs.Repeats.{at_}
 use Rattle.sql_value.proofs.Trees.{of_literal, of_column, of_minus, of_not, of_is_null, of_binary}
+use Rattle.spec_grammar.specs.Expressions.{parts}
 use Rattle.sql_parse.proofs.Kept.{AreSyms, Holds, Literal, IsRead, name_keeps, literal_keeps, next_ok, after_ok}
 
 -- the expression is well-formed, and it was counted
 abbrev pub Spent : ℕ → Outcome Expr → Type 0
 Spent n None = ⊤
-Spent n (Some q) = IsTree (tree q.0) × AreSyms q.1.rest × (q.1.left + count (tree q.0) ≡ n)
+Spent n (Some q) = IsTree (tree q.0) × AreSyms q.1.rest × (q.1.left + parts (tree q.0) ≡ n)
 
 abbrev pub Spends : Parser Expr → Type 0
 Spends p = (i : Input) → AreSyms i.rest → Spent i.left (p i)
@@ -72,13 +73,13 @@ literal_left i = literal_left_by (tag i) i
 column_spent : (o : Outcome (List ℕ)) (n : ℕ) → Holds IsName o → LeftIs n o → Spent (n + 1) (and_then o (λ x i. Some (Col x, i)))
 column_spent None n k left = tt
 column_spent (Some q) n k left =
-    let one : count (tree (Col q.0)) ≡ 1 = ap count (of_column q.0) in
+    let one : parts (tree (Col q.0)) ≡ 1 = ap parts (of_column q.0) in
     (is_of (Col q.0) (column q.0) (of_column q.0) k.0, k.1, omega (arith, one, left))
 
 value_spent : (o : Outcome Value) (n : ℕ) → Holds IsRead o → LeftIs n o → Spent (n + 1) (and_then o (λ x i. Some (Lit x, i)))
 value_spent None n k left = tt
 value_spent (Some q) n k left =
-    let one : count (tree (Lit q.0)) ≡ 1 = ap count (of_literal q.0) in
+    let one : parts (tree (Lit q.0)) ≡ 1 = ap parts (of_literal q.0) in
     (is_of (Lit q.0) (literal q.0) (of_literal q.0) k.0, k.1, omega (arith, one, left))
 
 leaf_spent_by : Literal → (g : Tag) (i : Input) → AreSyms i.rest → Spent (i.left + 1) (leaf_by g i)
@@ -165,15 +166,15 @@ repeats_at g (s ∷ ts) n ok =
 
 -- each use of it is one part more
 abbrev Wraps : (Expr → Expr) → Type 0
-Wraps f = (x : Expr) → IsTree (tree x) → IsTree (tree (f x)) × (count (tree (f x)) ≡ count (tree x) + 1)
+Wraps f = (x : Expr) → IsTree (tree x) → IsTree (tree (f x)) × (parts (tree (f x)) ≡ parts (tree x) + 1)
 
 neg_wraps : Wraps Neg
-neg_wraps x is = (is_of (Neg x) (minus (tree x)) (of_minus x) is, ap count (of_minus x))
+neg_wraps x is = (is_of (Neg x) (minus (tree x)) (of_minus x) is, ap parts (of_minus x))
 
 not_wraps : Wraps Not
-not_wraps x is = (is_of (Not x) (not (tree x)) (of_not x) is, ap count (of_not x))
+not_wraps x is = (is_of (Not x) (not (tree x)) (of_not x) is, ap parts (of_not x))
 
-times_wraps : (m : ℕ) (f : Expr → Expr) → Wraps f → (x : Expr) → IsTree (tree x) → IsTree (tree (times m f x)) × (count (tree (times m f x)) ≡ count (tree x) + m)
+times_wraps : (m : ℕ) (f : Expr → Expr) → Wraps f → (x : Expr) → IsTree (tree x) → IsTree (tree (times m f x)) × (parts (tree (times m f x)) ≡ parts (tree x) + m)
 times_wraps zero f wraps x is = (is, omega arith)
 times_wraps (suc m) f wraps x is =
     let rest = times_wraps m f wraps x is in
@@ -190,16 +191,16 @@ led n f wraps p spends (Some q) k = spent_same (q.1.left + q.0) n _ k.1 (wrapped
 
 -- ---- operators
 
-both : (o : Op) (x y : Expr) → IsTree (tree x) → IsTree (tree y) → IsTree (tree (Bin o x y)) × (count (tree (Bin o x y)) ≡ count (tree x) + count (tree y) + 1)
-both o x y a b = (is_of (Bin o x y) (binary o (tree x) (tree y)) (of_binary o x y) (a, b), ap count (of_binary o x y))
+both : (o : Op) (x y : Expr) → IsTree (tree x) → IsTree (tree y) → IsTree (tree (Bin o x y)) × (parts (tree (Bin o x y)) ≡ parts (tree x) + parts (tree y) + 1)
+both o x y a b = (is_of (Bin o x y) (binary o (tree x) (tree y)) (of_binary o x y) (a, b), ap parts (of_binary o x y))
 
 module _ (operators : Tag → Option Op) (operand : Parser Expr) (spends : Spends operand) where
-  after_right : (n fuel : ℕ) (o : Op) (x : Expr) → IsTree (tree x) → ((y : Expr) → IsTree (tree y) → (i : Input) → AreSyms i.rest → Spent (i.left + count (tree y)) (more operators operand fuel y i))
-      → (r : Outcome Expr) → Spent n r → Spent (n + 1 + count (tree x)) (and_then r (λ y. more operators operand fuel (Bin o x y)))
+  after_right : (n fuel : ℕ) (o : Op) (x : Expr) → IsTree (tree x) → ((y : Expr) → IsTree (tree y) → (i : Input) → AreSyms i.rest → Spent (i.left + parts (tree y)) (more operators operand fuel y i))
+      → (r : Outcome Expr) → Spent n r → Spent (n + 1 + parts (tree x)) (and_then r (λ y. more operators operand fuel (Bin o x y)))
   after_right n fuel o x is again None k = tt
   after_right n fuel o x is again (Some q) k =
       let all = both o x q.0 is k.0 in
-      spent_same (q.1.left + count (tree (Bin o x q.0))) (n + 1 + count (tree x)) _ (omega (arith, all.1, k.2)) (again (Bin o x q.0) all.0 q.1 k.1)
+      spent_same (q.1.left + parts (tree (Bin o x q.0))) (n + 1 + parts (tree x)) _ (omega (arith, all.1, k.2)) (again (Bin o x q.0) all.0 q.1 k.1)
 
   paid_more_by : (c : Bool) (i : Input) (m : ℕ) (f : Parser Expr) → (i.left == 0) ≡ c → AreSyms i.rest → ((j : Input) → AreSyms j.rest → j.left + 1 ≡ i.left → Spent (j.left + 1 + m) (f j))
       → Spent (i.left + m) (and_then (cond {A = Outcome (Unit {0})} c None (Some (tt, record { rest = i.rest; left = i.left - 1 }))) (λ x. f))
@@ -217,23 +218,23 @@ module _ (operators : Tag → Option Op) (operand : Parser Expr) (spends : Spend
   unfolding next
   next_left i = refl
 
-  turn_spent : (fuel : ℕ) (x : Expr) → IsTree (tree x) → (i : Input) → AreSyms i.rest → ((y : Expr) → IsTree (tree y) → (j : Input) → AreSyms j.rest → Spent (j.left + count (tree y)) (more operators operand fuel y j))
-      → (q : Option Op) → Spent (i.left + count (tree x)) (more_by operators operand q (λ o i. and_then (and_then (spend (next i)) (λ z. operand)) (λ y. more operators operand fuel (Bin o x y))) x i)
+  turn_spent : (fuel : ℕ) (x : Expr) → IsTree (tree x) → (i : Input) → AreSyms i.rest → ((y : Expr) → IsTree (tree y) → (j : Input) → AreSyms j.rest → Spent (j.left + parts (tree y)) (more operators operand fuel y j))
+      → (q : Option Op) → Spent (i.left + parts (tree x)) (more_by operators operand q (λ o i. and_then (and_then (spend (next i)) (λ z. operand)) (λ y. more operators operand fuel (Bin o x y))) x i)
   turn_spent fuel x is i ok again None = (is, ok, refl)
   turn_spent fuel x is i ok again (Some o) =
-      let P : Outcome Expr → Type 0 = λ z. Spent (i.left + count (tree x)) z in
-      subst P (flat (spend (next i)) (λ z. operand) (λ y. more operators operand fuel (Bin o x y))) (spent_same ((next i).left + count (tree x)) (i.left + count (tree x)) _ (ap (λ z. z + count (tree x)) (next_left i))
-      (paid_more (next i) (count (tree x)) (λ j. and_then (operand j) (λ y. more operators operand fuel (Bin o x y))) (next_ok i ok)
+      let P : Outcome Expr → Type 0 = λ z. Spent (i.left + parts (tree x)) z in
+      subst P (flat (spend (next i)) (λ z. operand) (λ y. more operators operand fuel (Bin o x y))) (spent_same ((next i).left + parts (tree x)) (i.left + parts (tree x)) _ (ap (λ z. z + parts (tree x)) (next_left i))
+      (paid_more (next i) (parts (tree x)) (λ j. and_then (operand j) (λ y. more operators operand fuel (Bin o x y))) (next_ok i ok)
       (λ j kept one. after_right j.left fuel o x is again (operand j) (spends j kept))))
 
-  more_spent : (fuel : ℕ) (x : Expr) → IsTree (tree x) → (i : Input) → AreSyms i.rest → Spent (i.left + count (tree x)) (more operators operand fuel x i)
+  more_spent : (fuel : ℕ) (x : Expr) → IsTree (tree x) → (i : Input) → AreSyms i.rest → Spent (i.left + parts (tree x)) (more operators operand fuel x i)
   unfolding more
   more_spent zero x is i ok = tt
   more_spent (suc fuel) x is i ok = turn_spent fuel x is i ok (more_spent fuel) (operators (tag i))
 
   first_spent : (n : ℕ) (o : Outcome Expr) → Spent n o → Spent n (and_then o (λ x i. more operators operand (i.left + 1) x i))
   first_spent n None k = tt
-  first_spent n (Some q) k = spent_same (q.1.left + count (tree q.0)) n _ k.2 (more_spent (q.1.left + 1) q.0 k.0 q.1 k.1)
+  first_spent n (Some q) k = spent_same (q.1.left + parts (tree q.0)) n _ k.2 (more_spent (q.1.left + 1) q.0 k.0 q.1 k.1)
 
   grouped_spent : Spends (grouped operators operand)
   grouped_spent i ok = first_spent i.left (operand i) (spends i ok)
@@ -254,43 +255,43 @@ module _ (read : Literal) (inner : Parser Expr) (spends : Spends inner) where
   sum_spent = grouped_spent (operator l.Sum) (product inner) product_spent
 
   -- one more part, and then something that keeps what is left
-  null_part : (x : Expr) → IsTree (tree x) → (negated : Bool) → IsTree (tree (IsNull x negated)) × (count (tree (IsNull x negated)) ≡ count (tree x) + 1)
-  null_part x is negated = (is_of (IsNull x negated) (is_null (tree x) negated) (of_is_null x negated) is, ap count (of_is_null x negated))
+  null_part : (x : Expr) → IsTree (tree x) → (negated : Bool) → IsTree (tree (IsNull x negated)) × (parts (tree (IsNull x negated)) ≡ parts (tree x) + 1)
+  null_part x is negated = (is_of (IsNull x negated) (is_null (tree x) negated) (of_is_null x negated) is, ap parts (of_is_null x negated))
 
-  null_by : (c : Bool) (x : Expr) (negated : Bool) (j : Input) (n : ℕ) → AreSyms j.rest → IsTree (tree x) → j.left + 1 + count (tree x) ≡ n
+  null_by : (c : Bool) (x : Expr) (negated : Bool) (j : Input) (n : ℕ) → AreSyms j.rest → IsTree (tree x) → j.left + 1 + parts (tree x) ≡ n
       → Spent n (and_then (cond {A = Outcome (Unit {0})} c (Some (tt, next j)) None) (λ y k. Some (IsNull x negated, k)))
   unfolding next
   null_by true x negated j n ok is same = let all = null_part x is negated in (all.0, next_ok j ok, omega (arith, all.1, same))
   null_by false x negated j n ok is same = tt
 
-  null_spent : (x : Expr) (negated : Bool) (j : Input) (n : ℕ) → AreSyms j.rest → IsTree (tree x) → j.left + 1 + count (tree x) ≡ n → Spent n (and_then (expect t.Null j) (λ y k. Some (IsNull x negated, k)))
+  null_spent : (x : Expr) (negated : Bool) (j : Input) (n : ℕ) → AreSyms j.rest → IsTree (tree x) → j.left + 1 + parts (tree x) ≡ n → Spent n (and_then (expect t.Null j) (λ y k. Some (IsNull x negated, k)))
   unfolding expect
   null_spent x negated j n ok is same = null_by (sees t.Null j) x negated j n ok is same
 
-  right_spent : (o : Op) (x : Expr) (n : ℕ) → IsTree (tree x) → (r : Outcome Expr) → Spent n r → Spent (n + 1 + count (tree x)) (and_then r (λ y i. Some (Bin o x y, i)))
+  right_spent : (o : Op) (x : Expr) (n : ℕ) → IsTree (tree x) → (r : Outcome Expr) → Spent n r → Spent (n + 1 + parts (tree x)) (and_then r (λ y i. Some (Bin o x y, i)))
   right_spent o x n is None k = tt
   right_spent o x n is (Some q) k = let all = both o x q.0 is k.0 in (all.0, k.1, omega (arith, all.1, k.2))
 
   tested : (x : Expr) → IsTree (tree x) → (i : Input) → AreSyms i.rest
-      → Spent (i.left + count (tree x)) (and_then (spend i) (λ z j. and_then (expect t.Null (after t.Not j)) (λ y k. Some (IsNull x (sees t.Not j), k))))
+      → Spent (i.left + parts (tree x)) (and_then (spend i) (λ z j. and_then (expect t.Null (after t.Not j)) (λ y k. Some (IsNull x (sees t.Not j), k))))
   tested x is i ok =
-      paid_more (operator l.Sum) (product inner) product_spent i (count (tree x)) (λ j. and_then (expect t.Null (after t.Not j)) (λ y k. Some (IsNull x (sees t.Not j), k))) ok
-      (λ j kept one. null_spent x (sees t.Not j) (after t.Not j) (j.left + 1 + count (tree x)) (after_ok t.Not j kept) is (ap (λ z. z + 1 + count (tree x)) (after_left t.Not j)))
+      paid_more (operator l.Sum) (product inner) product_spent i (parts (tree x)) (λ j. and_then (expect t.Null (after t.Not j)) (λ y k. Some (IsNull x (sees t.Not j), k))) ok
+      (λ j kept one. null_spent x (sees t.Not j) (after t.Not j) (j.left + 1 + parts (tree x)) (after_ok t.Not j kept) is (ap (λ z. z + 1 + parts (tree x)) (after_left t.Not j)))
 
-  cmp_spent_by : (x : Expr) → IsTree (tree x) → (i : Input) → AreSyms i.rest → (q : Option Op) → Spent (i.left + count (tree x)) (cmp_by inner x q i)
+  cmp_spent_by : (x : Expr) → IsTree (tree x) → (i : Input) → AreSyms i.rest → (q : Option Op) → Spent (i.left + parts (tree x)) (cmp_by inner x q i)
   unfolding next
   cmp_spent_by x is i ok (Some o) =
-      paid_more (operator l.Sum) (product inner) product_spent (next i) (count (tree x)) (λ j. and_then (sum inner j) (λ y k. Some (Bin o x y, k))) (next_ok i ok)
+      paid_more (operator l.Sum) (product inner) product_spent (next i) (parts (tree x)) (λ j. and_then (sum inner j) (λ y k. Some (Bin o x y, k))) (next_ok i ok)
       (λ j kept one. right_spent o x j.left is (sum inner j) (sum_spent j kept))
   cmp_spent_by x is i ok None =
       let j = after t.Is i in
       let kept = after_ok t.Is i ok in
-      spent_same (j.left + count (tree x)) (i.left + count (tree x)) _ (ap (λ z. z + count (tree x)) (after_left t.Is i))
-      (if_spent (j.left + count (tree x)) (sees t.Is i) (λ k. and_then (spend k) (λ z m. and_then (expect t.Null (after t.Not m)) (λ y v. Some (IsNull x (sees t.Not m), v)))) (λ k. Some (x, k)) j (tested x is j kept) (is, kept, refl))
+      spent_same (j.left + parts (tree x)) (i.left + parts (tree x)) _ (ap (λ z. z + parts (tree x)) (after_left t.Is i))
+      (if_spent (j.left + parts (tree x)) (sees t.Is i) (λ k. and_then (spend k) (λ z m. and_then (expect t.Null (after t.Not m)) (λ y v. Some (IsNull x (sees t.Not m), v)))) (λ k. Some (x, k)) j (tested x is j kept) (is, kept, refl))
 
   cmp_left : (n : ℕ) (o : Outcome Expr) → Spent n o → Spent n (and_then o (λ x i. cmp_by inner x (comparison (tag i)) i))
   cmp_left n None k = tt
-  cmp_left n (Some q) k = spent_same (q.1.left + count (tree q.0)) n _ k.2 (cmp_spent_by q.0 k.0 q.1 k.1 (comparison (tag q.1)))
+  cmp_left n (Some q) k = spent_same (q.1.left + parts (tree q.0)) n _ k.2 (cmp_spent_by q.0 k.0 q.1 k.1 (comparison (tag q.1)))
 
   cmp_spent : Spends (cmp inner)
   unfolding cmp

@@ -9,6 +9,7 @@ use Rattle.sql_value.specs.Tree.{Tree, literal, column, minus, not, is_null, bin
 use Rattle.sql_value.specs.Literal.{literal_of}
 use Rattle.sql_value.specs.Literals.{IsLiteral}
 use Rattle.sql_value.specs.Printed.{literal_text}
+use Rattle.spec_grammar.specs.Expressions.{parts}
 use Rattle.sql_parse.specs.declared.tag.Tag.TheVariants as t
 use Rattle.sql_parse.specs.declared.expr.Level.TheVariants as l
 use Rattle.sql_parse.specs.Tags.{same_tag}
@@ -17,7 +18,6 @@ use Rattle.sql_parse.specs.Expr as e
 use Rattle.sql_parse.specs.Expr.{operator, prim, unary, product, sum, cmp, and, or, leaf, name, inside}
 use Rattle.sql_parse.specs.Printed as p
 use Rattle.sql_parse.specs.Printed.{key, enclosed}
-use Rattle.sql_parse.specs.Parsed.{count}
 use Rattle.sql_parse.proofs.Names.{closed}
 use Rattle.sql_parse.proofs.Repeats.{at_}
 use Rattle.sql_parse.proofs.ReadExpr.{spent, grouped_ends, not_none, cmp_ends, as_sum, as_and, as_or}
@@ -26,7 +26,7 @@ use Rattle.sql_parse.proofs.ReadExpr.{spent, grouped_ends, not_none, cmp_ends, a
 abbrev pub Written : Type 0
 Written = (v : Value) → IsLiteral v → literal_of (literal_text v) ≡ Some v
 
-pub count_some : (a : Tree) → 0 < count a
+pub count_some : (a : Tree) → 0 < parts a
 count_some (literal v) = omega arith
 count_some (column n) = omega arith
 count_some (minus a) = omega arith

@@ -6,6 +6,7 @@ use Rattle.sql_value.specs.declared.expr.Op.TheVariants as op
 use Rattle.sql_value.specs.declared.expr.Expr.{Expr}
 use Rattle.sql_value.specs.declared.expr.Expr.TheVariants.{Neg, Not, IsNull, Bin}
 use Rattle.sql_value.specs.Tree.{Tree, literal, column, minus, not, is_null, binary}
+use Rattle.spec_grammar.specs.Expressions.{parts}
 use Rattle.sql_parse.specs.declared.tag.Tag.TheVariants as t
 use Rattle.sql_parse.specs.declared.expr.Level.TheVariants as l
 use Rattle.sql_parse.specs.Tags.{same_tag}
@@ -14,7 +15,7 @@ use Rattle.sql_parse.specs.Expr as e
 use Rattle.sql_parse.specs.Expr.{operator, comparison, prim, unary, product, sum, cmp, and, or, whole, max_nesting}
 use Rattle.sql_parse.specs.Printed as p
 use Rattle.sql_parse.specs.Printed.{key, enclosed, op_tag}
-use Rattle.sql_parse.specs.Parsed.{IsTree, count}
+use Rattle.sql_parse.specs.Parsed.{IsTree}
 use Rattle.sql_parse.proofs.Repeats.{at_}
 use Rattle.sql_parse.proofs.ReadExpr.{untree, spent, grouped_binary, unary_minus, not_none, not_not, cmp_ends, cmp_binary, Operand, as_unary, as_product, as_sum, as_and, as_or}
 use Rattle.sql_parse.proofs.ReadTrees.{Written, count_some, no_tag, literal_read, column_read, enclosed_read, Shut, up_cmp, up_or, up_and, up_not, up_sum, up_product, up_unary}
@@ -139,7 +140,7 @@ module _ (inner : Parser Expr) where
 -- ---- all of it
 
 abbrev Reads : ℕ → Tree → Type 0
-Reads d a = (rest : List Sym) (n : ℕ) → count a ≤ n → prim (e.expr d) (at_ (p.expr a ++ rest) n) ≡ Some (untree a, at_ rest (n - count a))
+Reads d a = (rest : List Sym) (n : ℕ) → parts a ≤ n → prim (e.expr d) (at_ (p.expr a ++ rest) n) ≡ Some (untree a, at_ rest (n - parts a))
 
 enclosed_at : (d : ℕ) (ts rest : List Sym) (n m k : ℕ) (x : Expr) → m ≡ k → or (e.expr d) (at_ (ts ++ key t.Close ∷ rest) n) ≡ Some (x, at_ (key t.Close ∷ rest) m) → prim (e.expr (suc d)) (at_ (enclosed ts ++ rest) n) ≡ Some (x, at_ rest k)
 unfolding e.expr
@@ -148,31 +149,31 @@ enclosed_at d ts rest n m k x same read = enclosed_read (e.expr (suc d)) ts rest
 minus_at : (d : ℕ) (a : Tree) → Reads d a → Reads (suc d) (minus a)
 minus_at d a read rest n fits =
     let some = count_some a in
-    enclosed_at d (key t.Minus ∷ p.expr a) rest n (n - 1 - count a) (n - count (minus a)) (Neg (untree a)) (omega arith)
-    (minus_read (e.expr d) a rest n (n - 1 - count a) (untree a) (omega (arith, fits)) (read (key t.Close ∷ rest) (n - 1) (omega (arith, fits))))
+    enclosed_at d (key t.Minus ∷ p.expr a) rest n (n - 1 - parts a) (n - parts (minus a)) (Neg (untree a)) (omega arith)
+    (minus_read (e.expr d) a rest n (n - 1 - parts a) (untree a) (omega (arith, fits)) (read (key t.Close ∷ rest) (n - 1) (omega (arith, fits))))
 
 not_at : (d : ℕ) (a : Tree) → Reads d a → Reads (suc d) (not a)
 not_at d a read rest n fits =
-    enclosed_at d (key t.Not ∷ p.expr a) rest n (n - 1 - count a) (n - count (not a)) (Not (untree a)) (omega arith)
-    (not_read (e.expr d) a rest n (n - 1 - count a) (untree a) (omega (arith, fits)) (read (key t.Close ∷ rest) (n - 1) (omega (arith, fits))))
+    enclosed_at d (key t.Not ∷ p.expr a) rest n (n - 1 - parts a) (n - parts (not a)) (Not (untree a)) (omega arith)
+    (not_read (e.expr d) a rest n (n - 1 - parts a) (untree a) (omega (arith, fits)) (read (key t.Close ∷ rest) (n - 1) (omega (arith, fits))))
 
 null_at : (d : ℕ) (a : Tree) (negated : Bool) → Reads d a → Reads (suc d) (is_null a negated)
 null_at d a negated read rest n fits =
     let flat = append_assoc (p.expr a) (p.null negated) (key t.Close ∷ rest) in
-    enclosed_at d (p.expr a ++ p.null negated) rest n (n - count a - 1) (n - count (is_null a negated)) (IsNull (untree a) negated) (omega arith)
+    enclosed_at d (p.expr a ++ p.null negated) rest n (n - parts a - 1) (n - parts (is_null a negated)) (IsNull (untree a) negated) (omega arith)
     (ap (λ z. or (e.expr d) (at_ z n)) flat
-    ∙ null_read (e.expr d) a rest n (n - count a) (untree a) negated (omega (arith, fits)) (read (p.null negated ++ key t.Close ∷ rest) n (omega (arith, fits))))
+    ∙ null_read (e.expr d) a rest n (n - parts a) (untree a) negated (omega (arith, fits)) (read (p.null negated ++ key t.Close ∷ rest) n (omega (arith, fits))))
 
 binary_at : (d : ℕ) (o : Op) (a b : Tree) → Reads d a → Reads d b → Reads (suc d) (binary o a b)
 binary_at d o a b first second rest n fits =
     let flat = append_assoc (p.expr a) (key (op_tag o) ∷ p.expr b) (key t.Close ∷ rest) in
     let some = count_some b in
-    enclosed_at d (p.expr a ++ key (op_tag o) ∷ p.expr b) rest n (n - count a - 1 - count b) (n - count (binary o a b)) (Bin o (untree a) (untree b)) (omega arith)
+    enclosed_at d (p.expr a ++ key (op_tag o) ∷ p.expr b) rest n (n - parts a - 1 - parts b) (n - parts (binary o a b)) (Bin o (untree a) (untree b)) (omega arith)
     (ap (λ z. or (e.expr d) (at_ z n)) flat
-    ∙ binary_read (e.expr d) o a b rest n (n - count a) (n - count a - 1 - count b) (untree a) (untree b) (omega (arith, fits))
-    (first (key (op_tag o) ∷ (p.expr b ++ key t.Close ∷ rest)) n (omega (arith, fits))) (second (key t.Close ∷ rest) (n - count a - 1) (omega (arith, fits))))
+    ∙ binary_read (e.expr d) o a b rest n (n - parts a) (n - parts a - 1 - parts b) (untree a) (untree b) (omega (arith, fits))
+    (first (key (op_tag o) ∷ (p.expr b ++ key t.Close ∷ rest)) n (omega (arith, fits))) (second (key t.Close ∷ rest) (n - parts a - 1) (omega (arith, fits))))
 
-pub tree_read : Written → (a : Tree) → IsTree a → (d : ℕ) → count a ≤ suc d → Reads d a
+pub tree_read : Written → (a : Tree) → IsTree a → (d : ℕ) → parts a ≤ suc d → Reads d a
 tree_read written (literal v) is d few = λ rest n fits. literal_read (e.expr d) written v is.0 rest n (omega (arith, fits))
 tree_read written (column c) is d few = λ rest n fits. column_read (e.expr d) c rest n (omega (arith, fits))
 tree_read written (minus a) is zero few = absurd (omega (arith, few, count_some a))
@@ -191,8 +192,8 @@ Ends j = (operator l.Product (tag j) ≡ None) × (operator l.Sum (tag j) ≡ No
 or_of : (inner : Parser Expr) (i j : Input) (x : Expr) → Operand inner i j x → Ends j → or inner i ≡ Some (x, j)
 or_of inner i j x k end = as_or inner i j x (as_and inner i j x (not_of inner i j x k end.0 end.1 end.2 end.3) end.4) end.5
 
-pub whole_read : Written → (a : Tree) → IsTree a → count a ≤ max_parts → (rest : List Sym) (n : ℕ) → Ends (at_ rest (max_parts - count a)) → whole (at_ (p.expr a ++ rest) n) ≡ Some (untree a, at_ rest (max_parts - count a))
+pub whole_read : Written → (a : Tree) → IsTree a → parts a ≤ max_parts → (rest : List Sym) (n : ℕ) → Ends (at_ rest (max_parts - parts a)) → whole (at_ (p.expr a ++ rest) n) ≡ Some (untree a, at_ rest (max_parts - parts a))
 unfolding whole begin
 whole_read written a is few rest n end =
-    or_of (e.expr max_nesting) (at_ (p.expr a ++ rest) max_parts) (at_ rest (max_parts - count a)) (untree a)
-    (of (e.expr max_nesting) a rest max_parts (max_parts - count a) (untree a) (tree_read written a is max_nesting (omega (arith, few)) rest max_parts few)) end
+    or_of (e.expr max_nesting) (at_ (p.expr a ++ rest) max_parts) (at_ rest (max_parts - parts a)) (untree a)
+    (of (e.expr max_nesting) a rest max_parts (max_parts - parts a) (untree a) (tree_read written a is max_nesting (omega (arith, few)) rest max_parts few)) end

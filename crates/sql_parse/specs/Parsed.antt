@@ -1,5 +1,5 @@
 -- What holds of each statement that parsing gives.
-use Rattle.std.specs.Prelude.{◌≡◌, ◌≤◌, ◌<◌, ◌^◌, ℕ, ◌+◌, negsuc, Bool, true, List, [], ◌∷◌, length, Option, Some, None, ⊤}
+use Rattle.std.specs.Prelude.{◌≡◌, ◌≤◌, ◌<◌, ◌^◌, ℕ, negsuc, Bool, true, List, [], ◌∷◌, length, Option, Some, None, ⊤}
 use Rattle.std.specs.List.{list_all}
 use Rattle.sql_value.specs.declared.value.Value.{Value}
 use Rattle.sql_value.specs.declared.value.Value.TheVariants.{Num}
@@ -23,6 +23,7 @@ use Rattle.sql_types.specs.declared.statement.SelectList.TheVariants as shown
 use Rattle.sql_types.specs.declared.statement.Agg.{Agg}
 use Rattle.sql_types.specs.declared.statement.Agg.TheVariants as aggregate
 use Rattle.sql_lex.specs.IsToken.{is_name_byte}
+use Rattle.spec_grammar.specs.Expressions.{parts}
 use Rattle.sql_parse.specs.Input.{max_parts}
 
 -- one or more bytes that may stand between brackets
@@ -57,17 +58,8 @@ IsTree (not a) = IsTree a
 IsTree (is_null a negated) = IsTree a
 IsTree (binary o a b) = IsTree a × IsTree b
 
--- how many operators and operands there are
-abbrev pub count : Tree → ℕ
-count (literal v) = 1
-count (column n) = 1
-count (minus a) = count a + 1
-count (not a) = count a + 1
-count (is_null a negated) = count a + 1
-count (binary o a b) = count a + count b + 1
-
 abbrev pub IsExpr : Expr → Type 0
-IsExpr e = IsTree (tree e) × (count (tree e) ≤ max_parts)
+IsExpr e = IsTree (tree e) × (parts (tree e) ≤ max_parts)
 
 -- ---- statements
 
