@@ -3,7 +3,6 @@ use Rattle.std.proofs.Common.{◌≡◌, ◌∙◌, ◌<◌, ℕ, ◌-◌, Bool,
 use Rattle.std.proofs.lemmas.List.{append-nil}
 use Rattle.sql_lex.specs.declared.token.Kind.TheVariants as kind
 use Rattle.sql_value.specs.declared.value.Value.{Value}
-use Rattle.sql_value.specs.declared.value.Value.TheVariants as value
 use Rattle.sql_value.specs.declared.expr.Expr.{Expr}
 use Rattle.sql_types.specs.declared.statement.RowStmt.{RowStmt}
 use Rattle.sql_types.specs.declared.statement.RowStmt.TheVariants.{Insert, Update, Delete}
@@ -167,13 +166,6 @@ minus_value : (v : List ℕ) (rest : List Sym) (n : ℕ) → r.value (at_ ((t.Mi
 unfolding r.value tag next
 minus_value v rest n = refl
 
-negated_same : (v : Value) → r.negated v ≡ g.negated v
-negated_same value.Null = refl
-negated_same (value.Num z v) = refl
-negated_same (value.Text x) = refl
-negated_same (value.Bytes x) = refl
-negated_same (value.Date d) = refl
-
 signed : {gt : Tag} (a b : Lexemes) (k : One gt a) (rest : List Sym) → syms (a ++ b) ++ rest ≡ (gt, k.word_) ∷ (syms b ++ rest)
 signed a b k rest = flow a b rest ∙ ap (λ z. z ++ (syms b ++ rest)) k.is
 
@@ -184,7 +176,7 @@ value_reads (g.positive {a = a} {b = b} sign_ is) rest n =
     ap (λ z. r.value (at_ z n)) (signed a b k rest) ∙ plus_value k.word_ (syms b ++ rest) n ∙ number_parses is rest n
 value_reads (g.negative {a = a} {b = b} {v = v} sign_ is) rest n =
     let k = one w.minus_ a sign_ in
-    ap (λ z. r.value (at_ z n)) (signed a b k rest) ∙ minus_value k.word_ (syms b ++ rest) n ∙ ap (λ q. and_then q (λ x. pure (r.negated x))) (number_parses is rest n) ∙ ap (λ z. Some (z, at_ rest n)) (negated_same v)
+    ap (λ z. r.value (at_ z n)) (signed a b k rest) ∙ minus_value k.word_ (syms b ++ rest) n ∙ ap (λ q. and_then q (λ x. pure (r.negated x))) (number_parses is rest n)
 
 value_if : ReadsIf any r.value IsValue
 value_if a x is rest n fits = (n, value_reads is rest n)

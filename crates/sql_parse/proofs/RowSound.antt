@@ -3,7 +3,6 @@ use Rattle.std.proofs.Common.{◌≡◌, ◌∙◌, ℕ, Bool, true, false, cond
 use Rattle.std.proofs.lemmas.List.{append-nil}
 use Rattle.sql_lex.specs.declared.token.Kind.{Kind}
 use Rattle.sql_value.specs.declared.value.Value.{Value}
-use Rattle.sql_value.specs.declared.value.Value.TheVariants as value
 use Rattle.sql_value.specs.declared.expr.Expr.{Expr}
 use Rattle.sql_types.specs.declared.statement.RowStmt.TheVariants.{Insert, Delete}
 use Rattle.sql_types.specs.declared.statement.SelectList.{SelectList}
@@ -82,13 +81,6 @@ filter_follows a n x j h = filter_by a n x j (eaten_or t.Where a n (Some <$> who
 
 -- ---- INSERT
 
-same_negated : (v : Value) → g.negated v ≡ r.negated v
-same_negated value.Null = refl
-same_negated (value.Num z v) = refl
-same_negated (value.Text x) = refl
-same_negated (value.Bytes x) = refl
-same_negated (value.Date d) = refl
-
 no_literal : {A : Type 0} (n : ℕ) (x : Value) (j : Input) → literal (from [] n) ≡ Some (x, j) → A
 unfolding literal tag
 no_literal n x j h = absurd (cc)
@@ -100,7 +92,7 @@ value_by_tag k v a n x j t.Plus is h =
     record { tokens = (k, v) ∷ m.tokens; rest = m.rest; left = m.left; cut = ap (λ z. (k, v) ∷ z) m.cut; met = m.met; is = g.positive (w.plus_.gives k v is) m.is }
 value_by_tag k v a n x j t.Minus is h =
     let s0 = step r.number number_follows _ a n x j h in
-    built IsValue ((k, v) ∷ s0.tokens) s0.rest s0.left (ap (λ z. (k, v) ∷ z) s0.cut) (g.negative (w.minus_.gives k v is) s0.is) (ap (λ z. Some (z, from s0.rest s0.left)) (same_negated s0.value) ∙ s0.then_)
+    built IsValue ((k, v) ∷ s0.tokens) s0.rest s0.left (ap (λ z. (k, v) ∷ z) s0.cut) (g.negative (w.minus_.gives k v is) s0.is) s0.then_
 value_by_tag k v a n x j _ is h =
     let m = part_of (literal_leaf ((k, v) ∷ a) n x j h) in
     record { tokens = m.tokens; rest = m.rest; left = m.left; cut = m.cut; met = m.met; is = g.literal m.is }

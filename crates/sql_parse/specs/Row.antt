@@ -1,10 +1,10 @@
 -- INSERT, UPDATE and DELETE: a rule of the grammar for each definition.
-use Rattle.std.specs.Prelude.{ℕ, neg_ℤ, if◌then◌else◌, List, Option, Some, None}
+use Rattle.std.specs.Prelude.{ℕ, if◌then◌else◌, List, Option, Some, None}
 use Rattle.sql_value.specs.declared.value.Value.{Value}
-use Rattle.sql_value.specs.declared.value.Value.TheVariants.{Num}
 use Rattle.sql_value.specs.declared.expr.Expr.{Expr}
 use Rattle.sql_types.specs.declared.statement.RowStmt.{RowStmt}
 use Rattle.sql_types.specs.declared.statement.RowStmt.TheVariants.{Insert, Update, Delete}
+pub use Rattle.spec_grammar.specs.Rows.{negated}
 use Rattle.sql_parse.specs.declared.tag.Tag.{Tag}
 use Rattle.sql_parse.specs.declared.tag.Tag.TheVariants as t
 use Rattle.sql_parse.specs.Input.{Parser, ◌>>=◌, ◌>>◌, ◌<$>◌, pure, refuse, peek, take_text, eat, expect, list}
@@ -27,10 +27,6 @@ number_by _ = refuse
 
 unfoldable pub number : Parser Value
 number = peek >>= number_by
-
-abbrev pub negated : Value → Value
-negated (Num s v) = Num s (neg_ℤ v)
-negated v = v
 
 abbrev pub value_by : Tag → Parser Value
 value_by t.Plus = take_text >> number
