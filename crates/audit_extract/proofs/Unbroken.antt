@@ -25,7 +25,7 @@ use Rattle.spec_verify.specs.Covered.{TableEvents, told_in, CoveredEntry, covere
 use Rattle.audit_extract.specs.Each.{HasCollision}
 use Rattle.audit_extract.specs.Hashed.{hashed}
 use Rattle.audit_extract.specs.Meets.{Meets}
-use Rattle.audit_extract.specs.Parts.{blocks_to, entries_to}
+use Rattle.audit_extract.specs.Parts.{blocks_to, entries_upto}
 use Rattle.audit_extract.proofs.Agreeing.{Injective, RootsOf, events_from_leaves}
 use Rattle.audit_extract.proofs.Covering.{entries_rooted}
 use Rattle.audit_extract.proofs.Halves.{Halves, back_length, front_length, halves, hash_of_hashed, joined}
@@ -168,18 +168,18 @@ module _ (h : List ℕ → List ℕ) where
 
     -- ---- two images that meet a digest
 
-    covered_by_entries : Injective → (i j : Image) (d : HeldDigest) → Meets h i d → Meets h j d → entries_to i d.block ≡ entries_to j d.block → (covered_of i d.block ≡ covered_of j d.block) ⊎ HasCollision h
+    covered_by_entries : Injective → (i j : Image) (d : HeldDigest) → Meets h i d → Meets h j d → entries_upto i d.block ≡ entries_upto j d.block → (covered_of i d.block ≡ covered_of j d.block) ⊎ HasCollision h
     unfolding covered_of
     covered_by_entries one i j d m n same =
-        so_far (λ (s : map (covered_entry (tables_in i)) (entries_to i d.block) ≡ map (covered_entry (tables_in j)) (entries_to i d.block)). inl (s ∙ ap (map (covered_entry (tables_in j))) same))
-        (same_covered one (tables_in i) (tables_in j) (λ tx. image_fits tx i m.image) (λ tx. image_fits tx j n.image) (entries_to i d.block)
+        so_far (λ (s : map (covered_entry (tables_in i)) (entries_upto i d.block) ≡ map (covered_entry (tables_in j)) (entries_upto i d.block)). inl (s ∙ ap (map (covered_entry (tables_in j))) same))
+        (same_covered one (tables_in i) (tables_in j) (λ tx. image_fits tx i m.image) (λ tx. image_fits tx j n.image) (entries_upto i d.block)
         (entries_rooted_in i d m j) (subst (AllByRecursion (RootsOf h (tables_in i) (tables_in j) (tables_in j))) (sym same) (entries_rooted_in j d n i)))
       where
-        entries_rooted_in : (i : Image) (d : HeldDigest) → Meets h i d → (j : Image) → AllByRecursion (RootsOf h (tables_in i) (tables_in j) (tables_in i)) (entries_to i d.block)
+        entries_rooted_in : (i : Image) (d : HeldDigest) → Meets h i d → (j : Image) → AllByRecursion (RootsOf h (tables_in i) (tables_in j) (tables_in i)) (entries_upto i d.block)
         entries_rooted_in i d m j = entries_rooted h i d m
 
     pub one_history : Injective → (i j : Image) (d : HeldDigest) → Meets h i d → Meets h j d → (covered_of i d.block ≡ covered_of j d.block) ⊎ HasCollision h
     one_history one i j d m n =
         so_far (λ (blocks : blocks_to i d.block ≡ blocks_to j d.block).
-        so_far (covered_by_entries one i j d m n) (same_blocks (entries_to i d.block ≡ entries_to j d.block) (blocks_to i d.block) i.entries j.entries (all_left_first h i j d m n blocks)))
+        so_far (covered_by_entries one i j d m n) (same_blocks (entries_upto i d.block ≡ entries_upto j d.block) (blocks_to i d.block) i.entries j.entries (all_left_first h i j d m n blocks)))
         (same_chain i j d (d.block + 1) m n (agreed_start h i j d m n))

@@ -7,7 +7,7 @@ ghost use Rattle.base_merkle.specs.TreeHash.{tree_hash};
 ghost use Rattle.format_entry.specs.Entry.{IsEntry, entry_bytes};
 ghost use Rattle.audit_extract.specs.Finds.{Finds};
 ghost use Rattle.audit_extract.specs.Meets.{Meets};
-ghost use Rattle.audit_extract.specs.Parts.{blocks_to, entries_to};
+ghost use Rattle.audit_extract.specs.Parts.{blocks_to, entries_upto};
 
 use crate::found::ImageComparison;
 use crate::trees::{are_same, find_in_trees};
@@ -29,7 +29,7 @@ pub(crate) fn in_blocks<H: Hash32>(
     requires suspect { Meets (H.digest h) suspect.now digest.now }
     requires same { blocks_to honest.now digest.now.block ≡ blocks_to suspect.now digest.now.block }
     ensures { IfOk result (Finds (H.digest h)
-        (entries_to honest.now digest.now.block ≡ entries_to suspect.now digest.now.block)) }
+        (entries_upto honest.now digest.now.block ≡ entries_upto suspect.now digest.now.block)) }
 {
     let mut rest = covered_blocks(honest, digest.block);
     let mut a = honest.entries.as_slice();

@@ -9,7 +9,7 @@ ghost use Rattle.spec_verify.specs.Covered.{covered_of};
 ghost use Rattle.audit_extract.specs.Finds.{Finds};
 ghost use Rattle.audit_extract.specs.Leaves.{HasRoots, IsRooted, SameTree, SameTrees, leaf_cmp, tree_of};
 ghost use Rattle.audit_extract.specs.Meets.{Meets};
-ghost use Rattle.audit_extract.specs.Parts.{entries_to};
+ghost use Rattle.audit_extract.specs.Parts.{entries_upto};
 
 use crate::blocks::covered_blocks;
 use crate::found::ImageComparison;
@@ -31,7 +31,7 @@ pub(crate) fn in_entries<H: Hash32>(
 ) -> Result<ImageComparison, Memory>
     requires honest { Meets (H.digest h) honest.now digest.now }
     requires suspect { Meets (H.digest h) suspect.now digest.now }
-    requires same { entries_to honest.now digest.now.block ≡ entries_to suspect.now digest.now.block }
+    requires same { entries_upto honest.now digest.now.block ≡ entries_upto suspect.now digest.now.block }
     ensures { IfOk result (Finds (H.digest h)
         (covered_of honest.now digest.now.block ≡ covered_of suspect.now digest.now.block)) }
 {
@@ -47,7 +47,7 @@ pub(crate) fn in_entries<H: Hash32>(
 fn covered_entries(image: &Image, block: u64) -> &[TxEntry]
     requires block { block < length image.now.blocks }
     requires entries { entries_before image.now (block + 1) ≤ length image.now.entries }
-    ensures { result.now ≡ entries_to image.now block }
+    ensures { result.now ≡ entries_upto image.now block }
 {
     let count = entry_count(covered_blocks(image, block), image.entries.len());
     let (covered, _) = image.entries.as_slice().split_at(count);
