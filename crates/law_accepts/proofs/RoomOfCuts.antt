@@ -16,7 +16,7 @@ use Rattle.spec_model.specs.Effect.{Effect, effect, with_def}
 use Rattle.spec_model.specs.Journals.{cut, tx_count, after_item, serial_from, serial, IsNext, IsLegalFrom, IsLegal}
 use Rattle.spec_model.specs.Lists.{inserted}
 use Rattle.spec_model.specs.ChangeSets.{TableChange, changed_in, changed_from, Definition, as_before, new, in_place, defined, ChangeSet, change_set}
-use Rattle.spec_model.specs.Rows.{EventId, same_event, start_cmp, started, with_end, ended}
+use Rattle.spec_model.specs.Rows.{EventId, same_event, start_cmp, new_version, started, with_end, ended}
 use Rattle.spec_model.specs.Script.{Reading, script}
 use Rattle.spec_model.specs.SystemTables.{first_tables}
 use Rattle.law_frame.proofs.Alls.{all_append}
@@ -30,7 +30,6 @@ use Rattle.law_journal.specs.Serial.{place_in}
 use Rattle.law_journal.proofs.Counts.{ended_cons, hit, missed, one_less}
 use Rattle.law_journal.proofs.Keeping.{statement_kept, statement_described}
 use Rattle.law_journal.proofs.Lift.{of_all as of_all_tables}
-use Rattle.law_journal.proofs.Order.{new_version}
 use Rattle.law_journal.proofs.Serials.{cut_legal, legal_described}
 use Rattle.law_journal.proofs.Statements.{change_set_fine}
 use Rattle.law_journal.proofs.Tables.{Split, split_from, once, kept_changed}

@@ -19,7 +19,7 @@ use Rattle.spec_model.specs.Effect.{Effect, effect, with_def}
 use Rattle.spec_model.specs.Events.{events_of}
 use Rattle.spec_model.specs.Lists.{inserted, sorted}
 use Rattle.spec_model.specs.ChangeSets.{TableChange, changed_in, changed_from, Definition, as_before, new, in_place, defined, ChangeSet, change_set}
-use Rattle.spec_model.specs.Rows.{EventId, same_event, start_cmp, started, with_end, ended}
+use Rattle.spec_model.specs.Rows.{EventId, same_event, start_cmp, new_version, started, with_end, ended}
 use Rattle.spec_model.specs.Script.{Reading, script}
 use Rattle.law_frame.proofs.ChangeSets.{carries_change_set_out}
 use Rattle.law_frame.proofs.WholeScripts.{whole_script}
@@ -29,7 +29,6 @@ use Rattle.law_journal.specs.Kept.{count, count_all, Kept}
 use Rattle.law_journal.proofs.Counts.{ended_cons, hit, missed, one_less}
 use Rattle.law_journal.proofs.Keeping.{statement_kept, statement_described}
 use Rattle.law_journal.proofs.Lift.{of_all as of_all_tables}
-use Rattle.law_journal.proofs.Order.{new_version}
 use Rattle.law_journal.proofs.Statements.{change_set_fine}
 use Rattle.law_journal.proofs.Tables.{Split, split_from, table_count, once, kept_changed}
 use Rattle.spec_ledger.specs.Entries.{has_events, root_in, roots_of}

@@ -7,7 +7,7 @@ use Rattle.std.proofs.lemmas.List.Sums.{sum_by-cons}
 use Rattle.sql_value.specs.declared.column.ColumnDef.{ColumnDef}
 use Rattle.sql_types.specs.declared.version.Version.{Version}
 use Rattle.spec_model.specs.Lists.{inserted}
-use Rattle.spec_model.specs.Rows.{Row, EventId, same_event, start_cmp, stored_row, started, with_end, ended}
+use Rattle.spec_model.specs.Rows.{Row, EventId, same_event, start_cmp, stored_row, new_version, started, with_end, ended}
 use Rattle.spec_model.specs.Keys.{Key, same_key, version_key}
 use Rattle.spec_model.specs.Changes.{Change, Starts, Ends, changed, replaced}
 use Rattle.law_frame.proofs.Alls.{all_inserted}
@@ -16,7 +16,7 @@ use Rattle.law_journal.specs.Fits.{Fits}
 use Rattle.law_journal.specs.Fine.{key_in, HasLive, IsFine}
 use Rattle.law_journal.specs.Kept.{is_it, count_in, count, EndedBefore, Apart, AllApart, IsPast}
 use Rattle.law_journal.proofs.Counts.{count_changed, own_same, hit, ended_cons, one_less}
-use Rattle.law_journal.proofs.Order.{NoneLive, has_no_live_row, new_version, no_now, past_changed, apart_changed, same_turned}
+use Rattle.law_journal.proofs.Order.{NoneLive, has_no_live_row, no_now, past_changed, apart_changed, same_turned}
 
 abbrev pub AllHere : List ColumnDef → ℕ → ℕ → List Change → List Version → Type 0
 AllHere columns tx seq [] vs = Unit {0}

@@ -8,7 +8,7 @@ use Rattle.sql_value.specs.declared.column.ColumnDef.{ColumnDef}
 use Rattle.sql_types.specs.declared.version.TypedValue.{TypedValue}
 use Rattle.sql_types.specs.declared.version.Version.{Version}
 use Rattle.spec_model.specs.Lists.{inserted}
-use Rattle.spec_model.specs.Rows.{EventId, same_event, start_cmp, started, with_end, ended}
+use Rattle.spec_model.specs.Rows.{EventId, same_event, start_cmp, new_version, started, with_end, ended}
 use Rattle.spec_model.specs.Keys.{Key, same_key, version_key, has_live_row}
 use Rattle.spec_model.specs.Changes.{Change, Starts, Ends, changed}
 use Rattle.law_frame.proofs.Alls.{all_weaker, all_inserted}
@@ -55,9 +55,6 @@ unfolding has_live_row
 has_no_live_row columns key [] h = refl
 has_no_live_row columns key (v ∷ vs) h =
     if_of (λ (w : Version). is_none w.end) (same_key (version_key columns v) key) v (filter (λ w. same_key (version_key columns w) key) vs) (λ e. not_none v.end (h.0 e)) (has_no_live_row columns key vs h.1)
-
-abbrev pub new_version : EventId → List (Option TypedValue) → Version
-new_version now values = record { values = values; start = now; end = None }
 
 module _ (place : ℕ → ℕ) where
   pub then_ : (a b c : EventId) → IsEarlier place a b → IsEarlier place b c → IsEarlier place a c

@@ -5,7 +5,7 @@ use Rattle.sql_value.specs.declared.column.ColumnDef.{ColumnDef}
 use Rattle.sql_types.specs.declared.table.TableDef.{TableDef}
 use Rattle.sql_types.specs.declared.version.Version.{Version}
 use Rattle.spec_model.specs.Lists.{numbered}
-use Rattle.spec_model.specs.Rows.{Row, number, stored_row, start_cmp, started}
+use Rattle.spec_model.specs.Rows.{Row, number, stored_row, start_cmp, new_version, started}
 use Rattle.spec_model.specs.Keys.{Key, same_key, version_key}
 use Rattle.spec_model.specs.Changes.{Starts, changed, changed_all}
 use Rattle.spec_model.specs.Catalog.{Defs}
@@ -15,7 +15,7 @@ use Rattle.law_journal.specs.Fits.{Fits}
 use Rattle.law_journal.specs.Fine.{key_in}
 use Rattle.law_journal.specs.Described.{items_below, IsTableKey, IsColumnKey}
 use Rattle.law_journal.proofs.NumberKeys.{same_first, table_key}
-use Rattle.law_journal.proofs.Order.{NoneLive, new_version}
+use Rattle.law_journal.proofs.Order.{NoneLive}
 use Rattle.law_journal.proofs.Here.{Differ, AllNew}
 
 -- what holds of the keys that stand, and of the new ones, holds of all

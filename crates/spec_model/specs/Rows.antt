@@ -55,9 +55,13 @@ same_event a b = a.0 == b.0 && a.1 == b.1
 abbrev pub start_cmp : Version → Version → Ordering
 start_cmp v w = event_cmp v.start w.start
 
+-- the version that the event starts
+abbrev pub new_version : EventId → List (Option TypedValue) → Version
+new_version at values = record { values = values; start = at; end = None }
+
 -- starts a version, in its place among those of its table
 unfoldable pub started : EventId → List (Option TypedValue) → List Version → List Version
-started at values versions = inserted start_cmp (record { values = values; start = at; end = None }) versions
+started at values versions = inserted start_cmp (new_version at values) versions
 
 abbrev pub with_end : EventId → Version → Version
 with_end at v = record { values = v.values; start = v.start; end = Some at }

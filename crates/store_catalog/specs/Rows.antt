@@ -1,19 +1,15 @@
 -- Rows that a statement starts in a table, and the events that they are.
-use Rattle.std.specs.Prelude.{ℕ, ◌+◌, ◌≤◌, ◌++◌, List, [], ◌∷◌, length, Option, None}
+use Rattle.std.specs.Prelude.{ℕ, ◌+◌, ◌≤◌, ◌++◌, List, [], ◌∷◌, length, Option}
 use Rattle.sql_value.specs.declared.column.ColumnDef.{ColumnDef}
 use Rattle.sql_types.specs.declared.change.Change.{Change}
 use Rattle.sql_types.specs.declared.change.Change.TheVariants.{Starts, Ends}
 use Rattle.sql_types.specs.declared.event.Event.{Event}
 use Rattle.sql_types.specs.declared.version.TypedValue.{TypedValue}
-use Rattle.sql_types.specs.declared.version.Version.{Version}
 use Rattle.spec_model.specs.Events.{start_event}
 use Rattle.spec_model.specs.Limits.{max_columns}
 use Rattle.spec_model.specs.Rows.{EventId}
+pub use Rattle.spec_model.specs.Rows.{new_version}
 use Rattle.law_journal.specs.Fits.{Fits}
-
--- a version that stands
-abbrev pub new_version : EventId → List (Option TypedValue) → Version
-new_version at values = record { values = values; start = at; end = None }
 
 -- values of the columns of a table
 abbrev pub FitTable : List (Option TypedValue) → Type 0

@@ -9,7 +9,7 @@ use Rattle.sql_types.specs.declared.version.TypedValue.{TypedValue}
 use Rattle.sql_types.specs.declared.version.Version.{Version}
 use Rattle.spec_model.specs.Changes.{Starts}
 use Rattle.spec_model.specs.Lists.{inserted}
-use Rattle.spec_model.specs.Rows.{EventId, with_end}
+use Rattle.spec_model.specs.Rows.{EventId, new_version, with_end}
 use Rattle.spec_model.specs.Runs.{MadeBefore, Rising}
 use Rattle.law_frame.proofs.Alls.{all_append}
 use Rattle.law_frame.proofs.Sounds.{rising_changed}
@@ -27,9 +27,6 @@ use Rattle.store_table.proofs.Keeping.{index_order_is, seen_with}
 use Rattle.store_table.specs.Undoing.{without_end}
 use Rattle.store_table.proofs.Moves.{are_started, rising_removed, rising_set, indexes_ended, ends_ended, indexes_reopened, ends_reopened}
 use Rattle.store_table.proofs.Splits.{cut_at}
-
-abbrev pub new_version : EventId → List (Option TypedValue) → Version
-new_version at values = record { values = values; start = at; end = None }
 
 pub started_kept : (columns : List ColumnDef) (key : List ℕ) (at : EventId) (values : List (Option TypedValue)) (vs : List Version) (o p : Orders)
     → IsKept columns key vs o → AllByRecursion (MadeBefore at.0 at.1) vs → IndexesAreWith key (new_version at values) vs p → p.ends.items ≡ o.ends.items

@@ -5,11 +5,11 @@ use Rattle.sql_value.specs.declared.column.ColumnDef.{ColumnDef}
 use Rattle.sql_types.specs.declared.event.Event.{Event}
 use Rattle.sql_types.specs.declared.statement.RowStmt.{RowStmt}
 use Rattle.sql_types.specs.declared.table.TableDef.{TableDef}
-use Rattle.sql_types.specs.declared.version.TypedValue.{TypedValue}
 use Rattle.sql_types.specs.declared.version.Version.{Version}
 use Rattle.spec_model.specs.Changes.{Change, Starts, Ends, row_changes}
 use Rattle.spec_model.specs.Events.{start_event, end_event}
 use Rattle.spec_model.specs.Rows.{EventId}
+pub use Rattle.spec_model.specs.Rows.{new_version}
 use Rattle.law_journal.specs.Fits.{Fits}
 use Rattle.format_event.specs.Leaf.{event_bytes}
 use Rattle.spec_protocol.specs.Seats.{OpenTransaction, Tree}
@@ -17,9 +17,6 @@ use Rattle.store_tx.specs.Leaves.{with_leaf}
 use Rattle.store_tx.specs.Represents.{IsOpen, Represents}
 use Rattle.store_tx.specs.declared.context.TxCtx.{TxCtx}
 use Rattle.store_table.specs.Orders.{version_at}
-
-abbrev pub new_version : EventId → List (Option TypedValue) → Version
-new_version at values = record { values = values; start = at; end = None }
 
 -- ---- events
 
