@@ -13,7 +13,7 @@ use Rattle.store_tx.specs.Represents.{Represents, IsOpen, MayNote}
 use Rattle.store_tx.specs.Trees.{tree_of, IsTree}
 use Rattle.store_tx.specs.declared.context.TxCtx.{TxCtx}
 use Rattle.store_tx.proofs.Leaves.{leaf_here, leaf_elsewhere}
-use Rattle.store_catalog.specs.Noted.{with_leaves, MayNoteBoth, MayNoteMany}
+use Rattle.store_catalog.specs.Noted.{with_leaves, MayNoteAll, MayNoteBoth}
 
 -- ---- the first of some leaves
 
@@ -97,12 +97,12 @@ module _ {H : Type 0} (digest : H → List ℕ → List ℕ) where
     kept = r.kept;
   }
 
-  pub may_note : (table count : ℕ) (c : TxCtx H) → 1 ≤ count → MayNoteMany digest table count c → MayNote digest table c
+  pub may_note : (table count : ℕ) (c : TxCtx H) → 1 ≤ count → MayNoteAll digest table count c → MayNote digest table c
   may_note table count c some m = record { h = m.h; o = m.o; is = m.is; open_tree = m.open_tree; room = omega (arith, some, m.room) }
 
   pub may_note_rest : (table count rest : ℕ) (leaf : List ℕ) (c d : TxCtx H) → rest + 1 ≡ count
       → ((h : H) (o : OpenTransaction) → Represents digest h c o → Represents digest h d (noting (o.seq + 1) (with_leaf table leaf o.trees) o))
-      → ((id : ℕ) → IsOpen id c → IsOpen id d) → MayNoteMany digest table count c → MayNoteMany digest table rest d
+      → ((id : ℕ) → IsOpen id c → IsOpen id d) → MayNoteAll digest table count c → MayNoteAll digest table rest d
   may_note_rest table count rest leaf c d more noted still m = record {
     h = m.h;
     o = noting (m.o.seq + 1) (with_leaf table leaf m.o.trees) m.o;
@@ -121,7 +121,7 @@ module _ {H : Type 0} (digest : H → List ℕ → List ℕ) where
     parts = first_and_rest leaves item some at ∙ ap (λ (l : List ℕ). l ∷ rest) (sym is)
 
     pub rest_may : (c d : TxCtx H) → ((h : H) (o : OpenTransaction) → Represents digest h c o → Represents digest h d (noting (o.seq + 1) (with_leaf table leaf o.trees) o))
-        → ((id : ℕ) → IsOpen id c → IsOpen id d) → MayNoteMany digest table (length leaves) c → MayNoteMany digest table (length (take (length leaves - 1) (drop 1 leaves))) d
+        → ((id : ℕ) → IsOpen id c → IsOpen id d) → MayNoteAll digest table (length leaves) c → MayNoteAll digest table (length (take (length leaves - 1) (drop 1 leaves))) d
     rest_may c d noted still m =
         let more = ap (λ (l : List (List ℕ)). length l) parts in
         may_note_rest table (length leaves) (length rest) leaf c d (omega (arith, more)) noted still m
@@ -136,12 +136,12 @@ module _ {H : Type 0} (digest : H → List ℕ → List ℕ) where
 
   -- ---- both tables of the system
 
-  pub first_of : (total n : ℕ) (c : TxCtx H) → n ≤ total → MayNoteBoth digest total c → MayNoteMany digest tables_id n c
+  pub first_of : (total n : ℕ) (c : TxCtx H) → n ≤ total → MayNoteBoth digest total c → MayNoteAll digest tables_id n c
   first_of total n c le m = record { h = m.h; o = m.o; is = m.is; open_tree = m.tables; room = omega (arith, le, m.room) }
 
   pub second_of : (first : List (List ℕ)) (total n : ℕ) (c d : TxCtx H) → length first + n ≡ total
       → ((h : H) (o : OpenTransaction) → Represents digest h c o → Represents digest h d (noting (o.seq + length first) (with_leaves tables_id first o.trees) o))
-      → ((id : ℕ) → IsOpen id c → IsOpen id d) → MayNoteBoth digest total c → MayNoteMany digest columns_id n d
+      → ((id : ℕ) → IsOpen id c → IsOpen id d) → MayNoteBoth digest total c → MayNoteAll digest columns_id n d
   second_of first total n c d is noted still m = record {
     h = m.h;
     o = noting (m.o.seq + length first) (with_leaves tables_id first m.o.trees) m.o;

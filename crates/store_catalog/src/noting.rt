@@ -5,7 +5,7 @@ ghost use Rattle.spec_model.specs.SystemTables.{columns_id, tables_id};
 ghost use Rattle.spec_protocol.specs.Moves.{noting};
 ghost use Rattle.spec_protocol.specs.Seats.{OpenTransaction};
 ghost use Rattle.store_tx.specs.Represents.{IsOpen, Represents};
-ghost use Rattle.store_catalog.specs.Noted.{with_leaves, MayNoteBoth, MayNoteMany};
+ghost use Rattle.store_catalog.specs.Noted.{with_leaves, MayNoteAll, MayNoteBoth};
 
 use crate::creating::{COLUMNS, TABLES};
 use base_merkle::Hash32;
@@ -14,7 +14,7 @@ use store_tx::TxCtx;
 
 /// Adds the leaves to the tree of the table, and counts each as an event. Takes no memory.
 pub(crate) fn note_all<H: Hash32>(ctx: &mut TxCtx<H>, table: TableId, leaves: &[Blob])
-    requires { MayNoteMany H.digest table (length leaves.now) ctx.old }
+    requires { MayNoteAll H.digest table (length leaves.now) ctx.old }
     ensures noted { (h : H) (o : OpenTransaction) → Represents H.digest h ctx.old o
         → Represents H.digest h ctx.new
         (noting (o.seq + length leaves.now) (with_leaves table leaves.now o.trees) o) }

@@ -12,10 +12,8 @@ use Rattle.spec_model.specs.Rows.{EventId}
 pub use Rattle.spec_model.specs.Rows.{new_version}
 use Rattle.law_journal.specs.Fits.{Fits}
 use Rattle.format_event.specs.Leaf.{event_bytes}
-use Rattle.spec_protocol.specs.Seats.{OpenTransaction, Tree}
-use Rattle.store_tx.specs.Leaves.{with_leaf}
-use Rattle.store_tx.specs.Represents.{IsOpen, Represents}
-use Rattle.store_tx.specs.declared.context.TxCtx.{TxCtx}
+pub use Rattle.store_tx.specs.Leaves.{with_leaves}
+pub use Rattle.store_tx.specs.Represents.{MayNoteAll}
 use Rattle.store_table.specs.Orders.{version_at}
 
 -- ---- events
@@ -48,22 +46,6 @@ pub record LiveFits (columns : List ColumnDef) (start : EventId) (versions : Lis
 abbrev pub IsMade : List ColumnDef → List Version → Change → Type 0
 IsMade columns versions (Starts values) = Fits columns values
 IsMade columns versions (Ends start) = LiveFits columns start versions
-
--- ---- leaves
-
--- these leaves come one after another
-abbrev pub with_leaves : ℕ → List (List ℕ) → List Tree → List Tree
-with_leaves table [] trees = trees
-with_leaves table (leaf ∷ leaves) trees = with_leaves table leaves (with_leaf table leaf trees)
-
--- so many more events of the table may be noted
-pub record MayNoteAll {H : Type 0} (digest : H → List ℕ → List ℕ) (table count : ℕ) (c : TxCtx H)
-    : Type 0 where
-  pub h : H
-  pub o : OpenTransaction
-  pub is : Represents digest h c o
-  pub open_tree : IsOpen table c
-  pub room : o.seq + count < 2 ^ 63
 
 -- ---- what a statement is to do
 

@@ -15,6 +15,11 @@ with_leaf table leaf (t ∷ ts) =
     if t.table == table then record { table = table; leaves = t.leaves ++ leaf ∷ [] } ∷ ts
     else t ∷ with_leaf table leaf ts
 
+-- these leaves come one after another
+abbrev pub with_leaves : ℕ → List (List ℕ) → List Tree → List Tree
+with_leaves table [] trees = trees
+with_leaves table (leaf ∷ leaves) trees = with_leaves table leaves (with_leaf table leaf trees)
+
 -- a savepoint of this name keeps its counter and its trees
 abbrev pub with_savepoint : List ℕ → OpenTransaction → OpenTransaction
 with_savepoint name o =

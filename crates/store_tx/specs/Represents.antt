@@ -50,3 +50,12 @@ pub record MayNote {H : Type 0} (digest : H → List ℕ → List ℕ) (table : 
   pub is : Represents digest h c o
   pub open_tree : IsOpen table c
   pub room : o.seq + 1 < 2 ^ 63
+
+-- so many more of them may be noted
+pub record MayNoteAll {H : Type 0} (digest : H → List ℕ → List ℕ) (table count : ℕ) (c : TxCtx H)
+    : Type 0 where
+  pub h : H
+  pub o : OpenTransaction
+  pub is : Represents digest h c o
+  pub open_tree : IsOpen table c
+  pub room : o.seq + count < 2 ^ 63
