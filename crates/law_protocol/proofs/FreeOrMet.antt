@@ -12,7 +12,7 @@ use Rattle.spec_model.specs.InTheWay.{Conflict, first_conflict}
 use Rattle.spec_model.specs.Journals.{serial}
 use Rattle.spec_model.specs.Locks.{CellRequests, requests_conflict}
 use Rattle.spec_model.specs.ScriptRequests.{text_requests}
-use Rattle.spec_history.specs.ExactRefusals.{HeldStatement, catalog_requests, first_some, holder_named, in_the_way, in_the_way_there}
+use Rattle.spec_history.specs.ExactRefusals.{HeldStatement, first_some, holder_named, in_the_way, in_the_way_there}
 use Rattle.spec_history.specs.ExactRefusals as exact
 use Rattle.spec_history.specs.Histories.{IsIdle}
 use Rattle.spec_history.specs.Lists.{Text, Each, In}
@@ -36,10 +36,6 @@ use Rattle.law_protocol_tables.proofs.MetLock.{wanted_there}
 use Rattle.law_protocol.proofs.OthersHold.{IsTheirs, beside, covered, is_theirs, others}
 
 -- ---- wants, as step order has them
-
-pub catalog_alike : (m : Option Mode) → catalog_requests m ≡ of_catalog m
-catalog_alike None = refl
-catalog_alike (Some mode) = refl
 
 text_catalog : (D : Defs) (o : Bool) (s : Option Stmt) → (text_requests D o s).catalog ≡ requests_catalog o s
 text_catalog D o None = refl
@@ -75,11 +71,11 @@ in_its_table m None w i = i
 in_its_table m (Some c) w i = let k = wanted_there m c w i in there c.0 (suc (suc m)) c.1 w k.0 k.1
 
 module _ (v : Server) (D : Defs) (explicit : Bool) (text : Text) where
-  pub catalog_to_text : (w : LockRequest) → In w (catalog_requests (requests_catalog explicit (v.meaning.reads text))) → In w (of_catalog (text_requests D explicit (v.reads text)).catalog)
+  pub catalog_to_text : (w : LockRequest) → In w (of_catalog (requests_catalog explicit (v.meaning.reads text))) → In w (of_catalog (text_requests D explicit (v.reads text)).catalog)
   catalog_to_text w i = subst (λ (m : Option Mode). In w (of_catalog m)) (sym (text_catalog D explicit (v.reads text)))
-      (subst (In w) (catalog_alike (requests_catalog explicit (v.reads text))) (subst (λ (s : Option Stmt). In w (catalog_requests (requests_catalog explicit s))) (v.real.reading text) i))
+      (subst (λ (s : Option Stmt). In w (of_catalog (requests_catalog explicit s))) (v.real.reading text) i)
 
-  pub catalog_of_text : (w : LockRequest) → In w (catalog_requests (requests_catalog explicit (v.meaning.reads text))) → In w (requests_in v D explicit catalog_at text)
+  pub catalog_of_text : (w : LockRequest) → In w (of_catalog (requests_catalog explicit (v.meaning.reads text))) → In w (requests_in v D explicit catalog_at text)
   catalog_of_text w i = in_left w (of_catalog (text_requests D explicit (v.reads text)).catalog) (of_cell catalog_at (text_requests D explicit (v.reads text)).cell) (catalog_to_text w i)
 
   pub cell_of_text : (i : ℕ) (w : LockRequest) → In w (of_cell i (requests_cell D (v.reads text))) → In w (requests_in v D explicit i text)
@@ -103,7 +99,7 @@ module _ (v : Server) {history : History} {cells : List Cell} {seats : List Seat
   over = v.real.defs _ ∙ ap (λ (items : List JournalItem). defs_of (serials.serial v.meaning v.meaning.first items)) st.transcripts_agree.items ∙ ap defs_of (same_serial v.reads v.hashing v.meaning v.real st.ledger.items)
 
   abbrev in_catalog : HeldStatement → List LockRequest
-  in_catalog h = catalog_requests (requests_catalog h.explicit (v.meaning.reads h.text))
+  in_catalog h = of_catalog (requests_catalog h.explicit (v.meaning.reads h.text))
 
   abbrev in_cell : ℕ → HeldStatement → List LockRequest
   in_cell id h = exact.requests_in id (requests_cell D (v.meaning.reads h.text))
@@ -123,7 +119,7 @@ module _ (v : Server) {history : History} {cells : List Cell} {seats : List Seat
 
   module _ (id : ℕ) (explicit : Bool) (text : Text) where
     abbrev requests_first : List LockRequest
-    requests_first = catalog_requests (requests_catalog explicit (v.meaning.reads text))
+    requests_first = of_catalog (requests_catalog explicit (v.meaning.reads text))
 
     catalog_free : ((w : LockRequest) → In w requests_first → Holds (c.holds catalog_at) id w) → first_conflict (holds_of in_catalog hs) id requests_first ≡ None
     catalog_free locked = none_in_way in_catalog hs (c.holds catalog_at) id catalog_covered (agree catalog_at) requests_first locked
@@ -149,7 +145,7 @@ module _ (v : Server) {history : History} {cells : List Cell} {seats : List Seat
         statement = w.statement;
         has = w.has;
         mine = w.tx;
-        wanted = subst (λ (s : Option Stmt). In lock.request (catalog_requests (requests_catalog w.statement.explicit s))) (sym (v.real.reading w.statement.text)) (subst (In lock.request) (sym (catalog_alike (requests_catalog w.statement.explicit (v.reads w.statement.text)))) w.wanted);
+        wanted = subst (λ (s : Option Stmt). In lock.request (of_catalog (requests_catalog w.statement.explicit s))) (sym (v.real.reading w.statement.text)) w.wanted;
       }
 
       cell_requested : (m : ℕ) (lock : Hold) → In lock (c.holds (suc m)) → lock.tx ≢ id → IsRequestedBy (in_cell (suc (suc m))) hs lock
@@ -165,7 +161,7 @@ module _ (v : Server) {history : History} {cells : List Cell} {seats : List Seat
       met_in_catalog q e = way_over id explicit text (Some q.0.0)
           (ap (λ (z : Option ℕ). first_some z (in_the_way_there v.meaning D id hs (requests_cell D (v.meaning.reads text))))
           (names_same in_catalog hs (c.holds catalog_at) id catalog_covered catalog_requested requests_first
-          ∙ ap (λ (ws : List LockRequest). holder_named (first_conflict (c.holds catalog_at) id ws)) (ap (λ (s : Option Stmt). catalog_requests (requests_catalog explicit s)) (v.real.reading text) ∙ catalog_alike (requests_catalog explicit (v.reads text)))
+          ∙ ap (λ (ws : List LockRequest). holder_named (first_conflict (c.holds catalog_at) id ws)) (ap (λ (s : Option Stmt). of_catalog (requests_catalog explicit s)) (v.real.reading text))
           ∙ ap holder_named e))
 
       -- and the one that stops it in its table's cell, where the catalog lets it pass

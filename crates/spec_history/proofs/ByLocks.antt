@@ -27,7 +27,7 @@ use Rattle.spec_history.specs.Worlds.{World, first, tables, item_of, items_by, p
 use Rattle.spec_history.specs.Guards.{IsEnabled, Good, images_of}
 use Rattle.spec_history.specs.Histories.{OneAtATime, IsIdle, rows_of}
 use Rattle.spec_history.specs.StepOrder.{opened_by}
-use Rattle.spec_history.specs.ExactRefusals.{HeldStatement, held_by, held_beside, catalog_requests, holder_named, first_some, catalog_holds, in_the_way_there, in_the_way, IsExact, id_around, commits_in, IsExactRow, book_after, AreExact, ExactRefusals}
+use Rattle.spec_history.specs.ExactRefusals.{HeldStatement, held_by, held_beside, of_catalog, holder_named, first_some, catalog_holds, in_the_way_there, in_the_way, IsExact, id_around, commits_in, IsExactRow, book_after, AreExact, ExactRefusals}
 use Rattle.spec_history.specs.ByLocks.{IsByLocks, LocksDecide}
 use Rattle.spec_history.proofs.TransactionLogs.{book_of, book_act}
 use Rattle.spec_history.proofs.Grows.{grows}
@@ -206,7 +206,7 @@ module _ (q : Meaning) (J : List JournalItem) (held : List HeldStatement) where
 
   abbrev way_of : Defs → ℕ → Bool → Option Stmt → Option ℕ
   way_of D id explicit o = first_some
-      (holder_named (first_conflict (catalog_holds q held) id (catalog_requests (requests_catalog explicit o))))
+      (holder_named (first_conflict (catalog_holds q held) id (of_catalog (requests_catalog explicit o))))
       (in_the_way_there q D id held (requests_cell D o))
 
   abbrev IsOther : Kind → Type 0

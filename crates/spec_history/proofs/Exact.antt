@@ -15,7 +15,7 @@ use Rattle.spec_history.specs.Transcripts.{Entry, statement, end_of_session}
 use Rattle.spec_history.specs.Facts.{entry_facts}
 use Rattle.spec_history.specs.Transactions.{TransactionLog}
 use Rattle.spec_history.specs.StepOrder.{Row, opened_by}
-use Rattle.spec_history.specs.ExactRefusals.{catalog_requests, holder_named, first_some, in_the_way_there, in_the_way, commits_in, IsExactRow, book_after, AreExact}
+use Rattle.spec_history.specs.ExactRefusals.{of_catalog, holder_named, first_some, in_the_way_there, in_the_way, commits_in, IsExactRow, book_after, AreExact}
 
 -- ---- where nobody holds anything
 
@@ -30,7 +30,7 @@ nobody_there q D id (Some c) = ap holder_named (no_conflict id c.1)
 
 pub nobody_in_the_way : (q : Meaning) (D : Defs) (id : ℕ) (explicit : Bool) (text : Text) → in_the_way q D [] id explicit text ≡ None
 nobody_in_the_way q D id explicit text =
-    ap (λ (o : Option Conflict). first_some (holder_named o) (in_the_way_there q D id [] (requests_cell D (q.reads text)))) (no_conflict id (catalog_requests (requests_catalog explicit (q.reads text))))
+    ap (λ (o : Option Conflict). first_some (holder_named o) (in_the_way_there q D id [] (requests_cell D (q.reads text)))) (no_conflict id (of_catalog (requests_catalog explicit (q.reads text))))
     ∙ nobody_there q D id (requests_cell D (q.reads text))
 
 -- ---- one session

@@ -41,9 +41,9 @@ held_beside s (suc k) opens = held_beside s k opens ++ (if k == s then [] else h
 
 -- ---- what is in the way
 
-abbrev pub catalog_requests : Option Mode → List LockRequest
-catalog_requests None = []
-catalog_requests (Some mode) = whole mode ∷ []
+abbrev pub of_catalog : Option Mode → List LockRequest
+of_catalog None = []
+of_catalog (Some mode) = whole mode ∷ []
 
 -- those in the cell of this table
 abbrev pub requests_in : ℕ → CellRequests → List LockRequest
@@ -62,7 +62,7 @@ module _ (q : Meaning) where
   -- what these statements hold in the catalog
   abbrev pub catalog_holds : List HeldStatement → List Hold
   catalog_holds hs =
-      flat_map (λ h. map (hold h.id) (catalog_requests (requests_catalog h.explicit (q.reads h.text)))) hs
+      flat_map (λ h. map (hold h.id) (of_catalog (requests_catalog h.explicit (q.reads h.text)))) hs
 
   -- and in the cell of a table, over these definitions
   abbrev pub cell_holds : Defs → ℕ → List HeldStatement → List Hold
@@ -77,7 +77,7 @@ module _ (q : Meaning) where
   abbrev pub in_the_way : Defs → List HeldStatement → ℕ → Bool → Text → Option ℕ
   in_the_way D hs id explicit text = first_some
       (holder_named
-      (first_conflict (catalog_holds hs) id (catalog_requests (requests_catalog explicit (q.reads text)))))
+      (first_conflict (catalog_holds hs) id (of_catalog (requests_catalog explicit (q.reads text)))))
       (in_the_way_there D id hs (requests_cell D (q.reads text)))
 
 -- ---- replies

@@ -1,19 +1,15 @@
 -- What a statement wants in one cell.
-use Rattle.std.specs.Prelude.{ℕ, ◌≡◌, ◌==◌, ◌++◌, Bool, true, if◌then◌else◌, List, [], ◌∷◌, Option, Some, None}
-use Rattle.sql_types.specs.declared.lock.Mode.{Mode}
+use Rattle.std.specs.Prelude.{ℕ, ◌≡◌, ◌==◌, ◌++◌, Bool, true, if◌then◌else◌, List, [], Some, None}
 use Rattle.sql_types.specs.declared.lock.Hold.{Hold}
 use Rattle.sql_types.specs.declared.lock.LockRequest.{LockRequest}
 use Rattle.spec_model.specs.Catalog.{Defs}
-use Rattle.spec_model.specs.Locks.{CellRequests, whole, same_item}
+use Rattle.spec_model.specs.Locks.{CellRequests, same_item}
 use Rattle.spec_model.specs.Agreement.{LockRequests}
 use Rattle.spec_model.specs.ScriptRequests.{text_requests}
+pub use Rattle.spec_history.specs.ExactRefusals.{of_catalog}
 use Rattle.spec_history.specs.Lists.{Text, In}
 use Rattle.spec_protocol.specs.Server.{Server}
 use Rattle.spec_protocol.specs.Cells.{catalog_at, cell_of}
-
-abbrev pub of_catalog : Option Mode → List LockRequest
-of_catalog None = []
-of_catalog (Some mode) = whole mode ∷ []
 
 abbrev pub of_cell : ℕ → CellRequests → List LockRequest
 of_cell i None = []
