@@ -1,6 +1,5 @@
 -- The rows of a table in an image: its base, its history, and its indexes.
-use Rattle.std.specs.Prelude.{ℕ, zero, suc, List, ◌++◌, map, get_or, Option, None, is_some}
-use Rattle.std.specs.List.{filter}
+use Rattle.std.specs.Prelude.{ℕ, zero, suc, List, ◌++◌, map, get_or, Option, None}
 use Rattle.std.specs.declared.cmp.Ordering.{Ordering}
 use Rattle.sql_types.specs.declared.table.TableDef.{TableDef}
 use Rattle.sql_types.specs.declared.table.IndexDef.{IndexDef}
@@ -10,6 +9,7 @@ use Rattle.sql_types.specs.declared.version.Table.{Table}
 use Rattle.sql_types.specs.declared.image.TableRows.{TableRows}
 use Rattle.spec_model.specs.Lists.{sorted}
 use Rattle.spec_model.specs.Rows.{value_or_null, live}
+pub use Rattle.spec_model.specs.Rows.{ended_ones}
 use Rattle.spec_model.specs.Keys.{key_places, key_cmp}
 
 -- a row as it is stored: a value with its type for each column, NULL being none
@@ -36,10 +36,6 @@ stored_cmp a b = key_cmp (map value_or_null a) (map value_or_null b)
 -- the rows of an index: one for each base row, sorted
 unfoldable pub index_rows : TableDef → List Version → IndexDef → List Stored
 index_rows def base index = sorted stored_cmp (map (index_row def index) base)
-
--- the versions that have ended
-abbrev pub ended_ones : List Version → List Version
-ended_ones versions = filter (λ v. is_some v.end) versions
 
 -- the rows of a table; the versions of a table stand by rising start
 unfoldable pub table_rows : Table → TableRows

@@ -1,5 +1,5 @@
 -- Rows and their versions: what a version is, and in what order versions stand.
-use Rattle.std.specs.Prelude.{ℕ, pos, ◌==◌, ◌&&◌, Bool, if◌then◌else◌, List, [], ◌∷◌, map, Option, Some, None, is_none}
+use Rattle.std.specs.Prelude.{ℕ, pos, ◌==◌, ◌&&◌, Bool, if◌then◌else◌, List, [], ◌∷◌, map, Option, Some, None, is_none, is_some}
 use Rattle.std.specs.List.{filter}
 use Rattle.std.specs.declared.cmp.Ordering.{Ordering}
 use Rattle.std.specs.Ordering.{nat_cmp, ordering_then}
@@ -73,3 +73,7 @@ ended at start versions = map (λ v. if same_event v.start start then with_end a
 -- the versions without an end
 abbrev pub live : List Version → List Version
 live versions = filter (λ v. is_none v.end) versions
+
+-- the versions that have ended
+abbrev pub ended_ones : List Version → List Version
+ended_ones versions = filter (λ v. is_some v.end) versions

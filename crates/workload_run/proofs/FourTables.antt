@@ -3,9 +3,9 @@ use Rattle.std.proofs.Common.{◌≡◌, ◌∙◌, ◌≤◌, ◌+◌, ◌*◌,
 use Rattle.sql_types.specs.declared.version.Table.{Table}
 use Rattle.sql_types.specs.declared.version.Version.{Version}
 use Rattle.spec_model.specs.Catalog.{Tables, versions_of}
-use Rattle.spec_model.specs.Rows.{live}
+use Rattle.spec_model.specs.Rows.{live, ended_ones}
 use Rattle.format_image.specs.Rows.{table_rows}
-use Rattle.law_workload.specs.Tables.{Shows, history, total}
+use Rattle.law_workload.specs.Tables.{Shows, total}
 use Rattle.law_workload.specs.Turns.{inserted_total}
 use Rattle.workload_run.specs.Figures.{amount, history_count, row_count}
 use Rattle.workload_run.specs.Reports.{inserted_in_all}
@@ -39,8 +39,8 @@ module _ (s c v w x y : Table) (n : ℕ) (s_is : s.def.id ≡ 1) (c_is : c.def.i
     rows_at : (table : ℕ) (V : List Version) → versions_of T (table + 2) ≡ V → 1 ≤ table → table ≤ 4 → length (live V) ≡ n
     rows_at table V is some four = ap (λ (U : List Version). length (live U)) (sym is) ∙ (shows table some four).rows_are
 
-    changed_at : (table : ℕ) (V : List Version) → versions_of T (table + 2) ≡ V → 1 ≤ table → table ≤ 4 → length (history V) ≡ n / 10
-    changed_at table V is some four = ap (λ (U : List Version). length (history U)) (sym is) ∙ (shows table some four).history_is
+    changed_at : (table : ℕ) (V : List Version) → versions_of T (table + 2) ≡ V → 1 ≤ table → table ≤ 4 → length (ended_ones V) ≡ n / 10
+    changed_at table V is some four = ap (λ (U : List Version). length (ended_ones U)) (sym is) ∙ (shows table some four).history_is
 
     sum_at : (table : ℕ) (V : List Version) → versions_of T (table + 2) ≡ V → 1 ≤ table → table ≤ 4 → total (live V) ≡ inserted_total table n + n / 10
     sum_at table V is some four = ap (λ (U : List Version). total (live U)) (sym is) ∙ (shows table some four).sum_is
