@@ -5,7 +5,7 @@ use Rattle.base_io.specs.declared.vault.VaultErr.TheVariants as refused
 use Rattle.base_io.specs.Store.{Names}
 use Rattle.base_io.specs.Outside.{TellsTaken}
 use Rattle.format_digest.specs.Reading.{IsRead}
-use Rattle.format_digest.specs.Writing.{IsFile, held_form}
+use Rattle.format_digest.specs.Writing.{IsFile, held}
 use Rattle.spec_history.specs.Lists.{Each}
 use Rattle.format_lines.specs.Line.{Statement}
 use Rattle.format_lines.specs.Sessions.{sessions_of}
@@ -74,7 +74,7 @@ pub record Saves (ended : Status) (save : List ℕ) (o : Output)
   -- of the bytes that are put `read_journal` gives just this journal, since it has a spelling, and
   -- `read_digests` what is held of just these digests
   pub journal_is_encodable : IsJournal o.journal
-  pub digests_read_back : IsRead digests (Ok (map held_form o.digests))
+  pub digests_read_back : IsRead digests (Ok (map held o.digests))
   pub put : HasPut ended (saved_files save o digests) names_old names_new
   pub written : HasWritten ended o.transcript taken_old taken_new
   -- where all is done each file stands under its name

@@ -7,7 +7,7 @@ use Rattle.spec_history.specs.Lists.{Each}
 use Rattle.format_journal.specs.Journal.{journal_bytes}
 use Rattle.format_journal.specs.Rules.{IsJournal}
 use Rattle.format_digest.specs.Reading.{IsRead}
-use Rattle.format_digest.specs.Writing.{HasMoments, IsFile, held_form}
+use Rattle.format_digest.specs.Writing.{HasMoments, IsFile, held}
 use Rattle.format_lines.specs.Line.{Statement}
 use Rattle.format_lines.specs.Sessions.{sessions_of}
 use Rattle.format_sections.specs.RunSections.{RunSections}
@@ -93,5 +93,5 @@ pub record IsSavable (o : Output) : Type 0 where
 pub record AreSaved (save : List ℕ) (o : Output) (made : List File) : Type 0 where
   pub digests : List ℕ
   pub file : IsFile o.digests digests
-  pub read_back : IsRead digests (Ok (map held_form o.digests))
+  pub read_back : IsRead digests (Ok (map held o.digests))
   pub files : made ≡ saved_files save o digests

@@ -5,7 +5,7 @@ ghost use Rattle.std.specs.List.{AllByRecursion};
 ghost use Rattle.base_io.specs.Count.{Rises};
 ghost use Rattle.base_io.specs.History.{Since};
 ghost use Rattle.format_digest.specs.Reading.{IsRead};
-ghost use Rattle.format_digest.specs.Writing.{HasMoments, IsFile, held_form};
+ghost use Rattle.format_digest.specs.Writing.{HasMoments, IsFile, held};
 ghost use Rattle.format_image.specs.ImageBytes.{image_bytes, IsImage};
 ghost use Rattle.format_journal.specs.Rules.{IsJournal};
 ghost use Rattle.cli_commands.specs.Answer.{EndsBy, RunOutcomeOrIdle, Saves, Unfailed};
@@ -54,7 +54,7 @@ fn image_file(alloc: Global, save: &str, bytes: Blob) -> Result<File, Memory>
 fn digests_file(alloc: Global, save: &str, digests: &[Digest]) -> Result<File, Memory>
     requires { AllByRecursion HasMoments digests.now }
     ensures file { IfOk result (λ file. IsFile digests.now file.bytes) }
-    ensures read_back { IfOk result (λ file. IsRead file.bytes (Ok (map held_form digests.now))) }
+    ensures read_back { IfOk result (λ file. IsRead file.bytes (Ok (map held digests.now))) }
     ensures is { IfOk result (λ file. file ≡ digests_file save.now file.bytes) }
 {
     let bytes = Blob::from_vec(write_digests(alloc, digests)?);

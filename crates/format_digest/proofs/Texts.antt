@@ -15,7 +15,7 @@ use Rattle.hex.proofs.HexLemmas.{length-encode_with, decode_sized-twice, decode_
 use Rattle.sql_types.specs.declared.digest.HeldDigest.{HeldDigest}
 use Rattle.sql_types.specs.declared.digest.Digest.{Digest}
 use Rattle.format_digest.specs.Reading.{IsRead, held_of, each_held, hash_of, digests_in}
-use Rattle.format_digest.specs.Writing.{DigestWithTimes, digest_data, shown_data, digest_text, digest_texts, file_text, held_form, IsHash, AreHashes, AreValues, IsFile}
+use Rattle.format_digest.specs.Writing.{DigestWithTimes, digest_data, shown_data, digest_text, digest_texts, file_text, held, IsHash, AreHashes, AreValues, IsFile}
 
 -- ---- the text
 
@@ -51,7 +51,7 @@ shallow_items (s ∷ ss) = let rest = shallow_items ss in rw shallow (omega arit
 
 -- ---- and back
 
-one_held : (s : DigestWithTimes) → IsHash s.digest.hash → held_of (shown_data s) ≡ Some (held_form s.digest)
+one_held : (s : DigestWithTimes) → IsHash s.digest.hash → held_of (shown_data s) ≡ Some (held s.digest)
 unfolding held_of digest_data hash_of
 one_held s h =
     let size : length (encode_upper s.digest.hash) ≡ 2 * 32 = length-encode_with upper_digits s.digest.hash ∙ ap (λ n. 2 * n) h.size in
@@ -59,13 +59,13 @@ one_held s h =
     rw back refl
 
 each_back : (i : ℕ) (before : List HeldDigest) (ss : List DigestWithTimes) → AreHashes ss
-    → each_held i before (items_of (map shown_data ss)) ≡ Ok (before ++ map held_form (map (λ s. s.digest) ss))
+    → each_held i before (items_of (map shown_data ss)) ≡ Ok (before ++ map held (map (λ s. s.digest) ss))
 each_back i before [] h = ap (λ l. Ok l) (sym (append-nil before))
 each_back i before (s ∷ ss) h =
-    rw (one_held s h.0) (each_back (i + 1) (before ++ held_form s.digest ∷ []) ss h.1 ∙ ap (λ l. Ok l) (append_assoc before (held_form s.digest ∷ []) (map held_form (map (λ s. s.digest) ss))))
+    rw (one_held s h.0) (each_back (i + 1) (before ++ held s.digest ∷ []) ss h.1 ∙ ap (λ l. Ok l) (append_assoc before (held s.digest ∷ []) (map held (map (λ s. s.digest) ss))))
 
 pub all_back : (ss : List DigestWithTimes) → AreHashes ss
-    → digests_in (array (items_of (map shown_data ss))) ≡ Ok (map held_form (map (λ s. s.digest) ss))
+    → digests_in (array (items_of (map shown_data ss))) ≡ Ok (map held (map (λ s. s.digest) ss))
 unfolding digests_in
 all_back ss h = each_back 0 [] ss h
 
@@ -86,8 +86,8 @@ file_is list values bytes are text =
 pub file_back : (list : List Digest) (values : Vec Value Global) (bytes : List ℕ)
     → AreValues list values.items → IsUtf8 bytes
     → (depth (view (Array values)) ≤ max_depth → read bytes ≡ Some (view (Array values)))
-    → IsRead bytes (Ok (map held_form list))
+    → IsRead bytes (Ok (map held list))
 file_back list values bytes are utf8 back =
     let is = view-Array values ∙ ap (λ xs. array (items_of xs)) are.said in
     let shallow = shallow_items are.shown in
-    (utf8, (array (items_of (map shown_data are.shown)), back (rw is (omega arith)) ∙ ap (λ x. Some x) is, all_back are.shown are.hashes ∙ ap (λ ds. Ok (map held_form ds)) are.digests))
+    (utf8, (array (items_of (map shown_data are.shown)), back (rw is (omega arith)) ∙ ap (λ x. Some x) is, all_back are.shown are.hashes ∙ ap (λ ds. Ok (map held ds)) are.digests))

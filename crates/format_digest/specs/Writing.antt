@@ -8,17 +8,13 @@ use Rattle.serde_json.specs.View.{view}
 use Rattle.serde_json.specs.declared.value.Value.{Value}
 use Rattle.base_types.specs.declared.moment.TheConstants.{MAX_TICKS}
 use Rattle.sql_types.specs.declared.digest.Digest.{Digest}
-use Rattle.sql_types.specs.declared.digest.HeldDigest.{HeldDigest}
+pub use Rattle.sql_types.specs.HeldDigests.{held}
 use Rattle.format_digest.specs.Moment.{IsMomentText}
 
 -- both times are at most the greatest moment
 pub record HasMoments (d : Digest) : Type 0 where
   pub made : d.made ≤ MAX_TICKS
   pub last_commit : d.last_commit ≤ MAX_TICKS
-
--- what is held of a digest
-abbrev pub held_form : Digest → HeldDigest
-held_form d = record { database = d.database; block = d.block; hash = d.hash }
 
 -- the text of a hash: `0x` and its digits in upper case
 abbrev pub hash_text : List ℕ → List ℕ

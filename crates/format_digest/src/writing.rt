@@ -19,7 +19,7 @@ use std::alloc::{AllocError, Global};
 pub fn write_digests(alloc: Global, list: &[Digest]) -> Result<Vec<u8>, Memory>
     requires { AllByRecursion spec.HasMoments list.now }
     ensures text { IfOk result (λ b. spec.IsFile list.now b.items) }
-    ensures reads_back { IfOk result (λ b. IsRead b.items (Ok (map spec.held_form list.now))) }
+    ensures reads_back { IfOk result (λ b. IsRead b.items (Ok (map spec.held list.now))) }
 {
     let values = Value::Array(values_of(alloc, list)?);
     let bytes = values.to_vec(alloc)?;

@@ -1,1 +1,2 @@
+pub mod HeldDigests
 pub mod JournalRules
