@@ -1,7 +1,8 @@
 -- What is a token of each kind, said of the token's own bytes.
-use Rattle.std.specs.Prelude.{ℕ, ◌+◌, ◌%◌, Bool, true, false, not, ◌&&◌, ◌||◌, ◌==◌, nat_le, nat_lt, if◌then◌else◌, List, [], ◌∷◌, length, drop, Option, Some, None}
+use Rattle.std.specs.Prelude.{ℕ, ◌+◌, ◌%◌, Bool, true, false, ◌&&◌, ◌||◌, ◌==◌, nat_le, nat_lt, if◌then◌else◌, List, [], ◌∷◌, length, drop, Option, Some, None}
 use Rattle.std.specs.Char.{is_ascii_digit, is_ascii_hexdigit, is_ascii_alphabetic, is_ascii_alphanumeric}
 use Rattle.std.specs.List.{list_all, prefix_len}
+pub use Rattle.base_types.specs.NameBytes.{is_name_byte}
 use Rattle.sql_lex.specs.declared.token.Kind.{Kind}
 use Rattle.sql_lex.specs.declared.token.Kind.TheVariants as kind
 
@@ -17,10 +18,6 @@ is_word_byte b = is_ascii_alphanumeric b || b == 95
 abbrev pub is_word : List ℕ → Bool
 is_word [] = false
 is_word (b ∷ z) = begins_word b && list_all is_word_byte z
-
--- from space to '~' without '[' and ']'
-abbrev pub is_name_byte : ℕ → Bool
-is_name_byte b = nat_le 32 b && nat_le b 126 && not (b == 91) && not (b == 93)
 
 -- some such bytes, then ']'
 abbrev pub is_closed : List ℕ → Bool

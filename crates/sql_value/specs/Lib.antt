@@ -14,4 +14,5 @@ pub mod TypeCodes
 pub use Rattle.base_types.specs.DatabaseName
 pub use Rattle.base_types.specs.Ids
 pub use Rattle.base_types.specs.Moment
+pub use Rattle.base_types.specs.NameBytes
 pub use Rattle.base_types.specs.SessionName
