@@ -17,16 +17,10 @@ use crate::effect::{StatementResult, counted};
 use base_types::{Items, Memory, TableId, TxId};
 use sql_apply::change_table;
 use sql_check::{new_index, new_table};
-use sql_system::{column_starts, index_starts, table_start};
+use sql_system::{COLUMNS, TABLES, column_starts, index_starts, table_start};
 use sql_types::{Change, CreateIndex, CreateTable, IndexDef, Reply, Table, TableDef};
 use sql_value::Refusal;
 use std::alloc::Global;
-
-/// The id of the system's table of tables.
-const TABLES: TableId = 1;
-
-/// The id of the system's table of columns.
-const COLUMNS: TableId = 2;
 
 /// A new index of the table with this id, and the starts of its rows in the table of columns.
 #[derive(Drop)]

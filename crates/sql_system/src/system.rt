@@ -16,6 +16,12 @@ use sql_types::{Change, IndexDef, Row, Table, TableDef};
 use sql_value::{ColumnDef, SqlType, TableKind};
 use std::alloc::Global;
 
+/// The id of the system's table of tables.
+pub const TABLES: TableId = 1;
+
+/// The id of the system's table of columns.
+pub const COLUMNS: TableId = 2;
+
 /// The type of names.
 const NAME: SqlType = SqlType::NVarChar { n: 128 };
 
@@ -56,14 +62,14 @@ fn tables_table(alloc: Global) -> Result<Table, Memory>
     ensures { IfOk result (λ table. table ≡ spec.empty_table spec.tables_def) }
 {
     let columns = tables_columns(alloc)?;
-    system_table(alloc, 1, "sys_ledger_tables", columns)
+    system_table(alloc, TABLES, "sys_ledger_tables", columns)
 }
 
 fn columns_table(alloc: Global) -> Result<Table, Memory>
     ensures { IfOk result (λ table. table ≡ spec.empty_table spec.columns_def) }
 {
     let columns = columns_columns(alloc)?;
-    system_table(alloc, 2, "sys_ledger_columns", columns)
+    system_table(alloc, COLUMNS, "sys_ledger_columns", columns)
 }
 
 /// A table of the system, without rows.

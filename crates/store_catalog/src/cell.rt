@@ -20,7 +20,7 @@ ghost use Rattle.spec_protocol.specs.Seats.{OpenTransaction};
 ghost use Rattle.store_tx.specs.Represents.{Represents};
 ghost use Rattle.store_catalog.specs.Calls.{left, undone, IndexMade, LocksTaken, MayCreate, TableMade};
 
-use crate::creating::{COLUMNS, NewIndex, NewTable, TABLES, work_out_index, work_out_table};
+use crate::creating::{NewIndex, NewTable, work_out_index, work_out_table};
 use crate::definitions::{Creator, ReplacedDef, copy_before, copy_defs, keep_change, undo_change};
 use crate::finding::find;
 use crate::locks::or_refusal;
@@ -29,7 +29,7 @@ use crate::reading::show;
 use crate::rows::carry_out;
 use base_merkle::Hash32;
 use base_types::{Items, Memory, Name, TableId, TxId};
-use sql_system::first_tables;
+use sql_system::{COLUMNS, TABLES, first_tables};
 use sql_types::{CreateIndex, CreateTable, Part, Row, Select, TableDef, Version};
 use sql_value::Refusal;
 use std::alloc::Global;

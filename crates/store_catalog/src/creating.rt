@@ -9,18 +9,12 @@ ghost use Rattle.store_catalog.specs.WorkedOut.{IsNewIndex, IsNewTable};
 
 use crate::finding::find;
 use crate::rows::{NewRows, new_rows};
-use base_types::{Memory, TableId, TxId};
+use base_types::{Memory, TxId};
 use sql_check::{new_index, new_table};
-use sql_system::{column_starts, copy_def, index_starts, table_start};
+use sql_system::{COLUMNS, TABLES, column_starts, copy_def, index_starts, table_start};
 use sql_types::{CreateIndex, CreateTable, IndexDef, TableDef};
 use sql_value::Refusal;
 use std::alloc::Global;
-
-/// The id of the system's table of tables.
-pub(crate) const TABLES: TableId = 1;
-
-/// The id of the system's table of columns.
-pub(crate) const COLUMNS: TableId = 2;
 
 /// The definition of a new table, and its rows in the table of tables and in that of columns.
 #[derive(Drop)]

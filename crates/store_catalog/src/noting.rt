@@ -7,9 +7,9 @@ ghost use Rattle.spec_protocol.specs.Seats.{OpenTransaction};
 ghost use Rattle.store_tx.specs.Represents.{IsOpen, Represents};
 ghost use Rattle.store_catalog.specs.Noted.{with_leaves, MayNoteAll, MayNoteBoth};
 
-use crate::creating::{COLUMNS, TABLES};
 use base_merkle::Hash32;
 use base_types::{Blob, Memory, TableId};
+use sql_system::{COLUMNS, TABLES};
 use store_tx::TxCtx;
 
 /// Adds the leaves to the tree of the table, and counts each as an event. Takes no memory.
