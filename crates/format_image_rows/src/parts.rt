@@ -6,11 +6,8 @@ ghost use Rattle.format_image.specs.Rows as spec;
 
 use crate::tables::{StoredTable, table_rows};
 use base_types::{Items, Memory};
-use sql_types::{Table, TableDef, TableRows};
+use sql_types::{SYSTEM_TABLES, Table, TableDef, TableRows};
 use std::alloc::Global;
-
-/// How many tables the system has.
-const SYSTEM_TABLES: usize = 2;
 
 /// The definitions of all tables but the first two, and the rows of all tables. The versions are moved, and
 /// the values of the rows of indexes copied.

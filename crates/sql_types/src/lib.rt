@@ -26,5 +26,5 @@ pub use lock::{Hold, Item, Key, LockRequest, Mode};
 pub use outcome::Outcome;
 pub use reply::Reply;
 pub use statement::{Agg, CreateIndex, CreateTable, RowStmt, Select, SelectList, Stmt};
-pub use table::{IndexDef, Part, TableDef};
+pub use table::{IndexDef, Part, SYSTEM_TABLES, TableDef};
 pub use version::{EventId, Row, Table, TypedValue, Version, copy_stored};

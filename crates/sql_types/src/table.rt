@@ -2,6 +2,9 @@
 
 use sql_value::{ColumnDef, Items, Name, TableId, TableKind};
 
+/// How many tables the system has. They have the first ids, and stand before those of users.
+pub const SYSTEM_TABLES: usize = 2;
+
 /// The definition of a table.
 #[derive(Debug, Drop)]
 pub struct TableDef {

@@ -21,14 +21,11 @@ use law_image::legal_images_are_encodable;
 use law_workload::{runs_of_the_workload_take_turns, texts_are_read, turns_come_to_one_end};
 use server_result::{RunOutcome, Settings};
 use server_run::run_and_close;
-use sql_types::{Digest, HeldDigest, Image};
+use sql_types::{Digest, HeldDigest, Image, SYSTEM_TABLES};
 use std::alloc::Global;
 use std::sync::Wait;
 use std::thread::Threads;
 use workload_generator::{Workload, statements_law};
-
-/// How many tables the system has. They stand before those of users.
-const SYSTEM_TABLES: usize = 2;
 
 /// How the workload is run: all at the first moment.
 const SETTINGS: Settings<'static> = Settings {
