@@ -1,5 +1,5 @@
 -- What leaves that are noted make of a transaction.
-use Rattle.std.proofs.Common.{◌≡◌, ◌≢◌, ◌≤◌, ◌+◌, ◌-◌, ℕ, Bool, true, false, List, [], ◌∷◌, ◌++◌, length, map, take, drop, get_or, refl, sym, ap, subst, ◌∙◌, ⊎_elim, arith, append_assoc, append-nil}
+use Rattle.std.proofs.Common.{◌≡◌, ◌≢◌, ◌≤◌, ◌+◌, ℕ, Bool, true, false, List, [], ◌∷◌, ◌++◌, length, map, refl, sym, ap, subst, ◌∙◌, ⊎_elim, arith, append_assoc, append-nil}
 use Rattle.std.specs.Prelude.{◌==◌, if◌then◌else◌}
 use Rattle.std.proofs.lemmas.Bool.{cases_eq, eq-eqb, eqb-true, ne_eqb}
 use Rattle.sql_types.specs.declared.event.Event.{Event}
@@ -9,25 +9,11 @@ use Rattle.spec_protocol.specs.Doing.{grown}
 use Rattle.spec_protocol.specs.Moves.{noting}
 use Rattle.spec_protocol.specs.Seats.{Tree, OpenTransaction}
 use Rattle.store_tx.specs.Leaves.{leaves_in, with_leaf}
-use Rattle.store_tx.specs.Represents.{Represents, IsOpen, MayNote}
+use Rattle.store_tx.specs.Represents.{Represents, IsOpen}
 use Rattle.store_tx.specs.Trees.{tree_of, IsTree}
 use Rattle.store_tx.specs.declared.context.TxCtx.{TxCtx}
 use Rattle.store_tx.proofs.Leaves.{leaf_here, leaf_elsewhere}
 use Rattle.store_catalog.specs.Noted.{with_leaves, MayNoteAll, MayNoteBoth}
-
--- ---- the first of some leaves
-
-take_all : (n : ℕ) (ls : List (List ℕ)) → n ≡ length ls → take n ls ≡ ls
-take_all n ls is = ap (λ (k : ℕ). take k ls) is ∙ whole ls
-  where
-    whole : (xs : List (List ℕ)) → take (length xs) xs ≡ xs
-    whole [] = refl
-    whole (x ∷ xs) = ap (λ (ys : List (List ℕ)). x ∷ ys) (whole xs)
-
-pub first_and_rest : (leaves : List (List ℕ)) (leaf : List ℕ) → 1 ≤ length leaves → leaf ≡ get_or leaves 0 leaf → leaves ≡ leaf ∷ take (length leaves - 1) (drop 1 leaves)
-first_and_rest [] leaf some is = absurd (omega (arith, some))
-first_and_rest (l ∷ ls) leaf some is =
-    ap (λ (x : List ℕ). x ∷ ls) (sym is) ∙ ap (λ (xs : List (List ℕ)). leaf ∷ xs) (sym (take_all (length (l ∷ ls) - 1) ls (omega arith)))
 
 -- ---- the leaves of each table
 
@@ -83,56 +69,6 @@ module _ {H : Type 0} (digest : H → List ℕ → List ℕ) where
     open_savepoints = r.open_savepoints;
     kept = r.kept;
   }
-
-  pub none_noted : (h : H) (c : TxCtx H) (o : OpenTransaction) (n : ℕ) → n ≡ o.seq → Represents digest h c o → Represents digest h c (noting n o.trees o)
-  none_noted h c o n is r = record {
-    hasher = r.hasher;
-    id = r.id;
-    explicit = r.explicit;
-    seq = r.seq ∙ sym is;
-    few = λ id. subst (λ (k : ℕ). length (leaves_in id o.trees) ≤ k) (sym is) (r.few id);
-    trees = r.trees;
-    differ = r.differ;
-    open_savepoints = r.open_savepoints;
-    kept = r.kept;
-  }
-
-  pub may_note : (table count : ℕ) (c : TxCtx H) → 1 ≤ count → MayNoteAll digest table count c → MayNote digest table c
-  may_note table count c some m = record { h = m.h; o = m.o; is = m.is; open_tree = m.open_tree; room = omega (arith, some, m.room) }
-
-  pub may_note_rest : (table count rest : ℕ) (leaf : List ℕ) (c d : TxCtx H) → rest + 1 ≡ count
-      → ((h : H) (o : OpenTransaction) → Represents digest h c o → Represents digest h d (noting (o.seq + 1) (with_leaf table leaf o.trees) o))
-      → ((id : ℕ) → IsOpen id c → IsOpen id d) → MayNoteAll digest table count c → MayNoteAll digest table rest d
-  may_note_rest table count rest leaf c d more noted still m = record {
-    h = m.h;
-    o = noting (m.o.seq + 1) (with_leaf table leaf m.o.trees) m.o;
-    is = noted m.h m.o m.is;
-    open_tree = still table m.open_tree;
-    room = omega (arith, more, m.room);
-  }
-
-  -- ---- one after another
-
-  module _ (table : ℕ) (leaves : List (List ℕ)) (item leaf : List ℕ) (some : 1 ≤ length leaves) (at : item ≡ get_or leaves 0 item) (is : leaf ≡ item) where
-    abbrev rest : List (List ℕ)
-    rest = take (length leaves - 1) (drop 1 leaves)
-
-    parts : leaves ≡ leaf ∷ rest
-    parts = first_and_rest leaves item some at ∙ ap (λ (l : List ℕ). l ∷ rest) (sym is)
-
-    pub rest_may : (c d : TxCtx H) → ((h : H) (o : OpenTransaction) → Represents digest h c o → Represents digest h d (noting (o.seq + 1) (with_leaf table leaf o.trees) o))
-        → ((id : ℕ) → IsOpen id c → IsOpen id d) → MayNoteAll digest table (length leaves) c → MayNoteAll digest table (length (take (length leaves - 1) (drop 1 leaves))) d
-    rest_may c d noted still m =
-        let more = ap (λ (l : List (List ℕ)). length l) parts in
-        may_note_rest table (length leaves) (length rest) leaf c d (omega (arith, more)) noted still m
-
-    pub all_noted : (c d e : TxCtx H) → ((h : H) (o : OpenTransaction) → Represents digest h c o → Represents digest h d (noting (o.seq + 1) (with_leaf table leaf o.trees) o))
-        → ((h : H) (o : OpenTransaction) → Represents digest h d o → Represents digest h e (noting (o.seq + length (take (length leaves - 1) (drop 1 leaves))) (with_leaves table (take (length leaves - 1) (drop 1 leaves)) o.trees) o))
-        → (h : H) (o : OpenTransaction) → Represents digest h c o → Represents digest h e (noting (o.seq + length leaves) (with_leaves table leaves o.trees) o)
-    all_noted c d e noted others h o r =
-        subst (λ (ls : List (List ℕ)). Represents digest h e (noting (o.seq + length ls) (with_leaves table ls o.trees) o)) (sym parts)
-        (same_leaves h e o (o.seq + 1 + length rest) (o.seq + length (leaf ∷ rest)) (with_leaves table rest (with_leaf table leaf o.trees)) (with_leaves table rest (with_leaf table leaf o.trees)) (λ id. refl) (omega arith)
-        (others h (noting (o.seq + 1) (with_leaf table leaf o.trees) o) (noted h o r)))
 
   -- ---- both tables of the system
 

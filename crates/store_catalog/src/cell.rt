@@ -24,7 +24,7 @@ use crate::creating::{NewIndex, NewTable, work_out_index, work_out_table};
 use crate::definitions::{Creator, ReplacedDef, copy_before, copy_defs, keep_change, undo_change};
 use crate::finding::find;
 use crate::locks::or_refusal;
-use crate::noting::{note_all, note_both, open_both};
+use crate::noting::{note_both, open_both};
 use crate::reading::show;
 use crate::rows::carry_out;
 use base_merkle::Hash32;
@@ -37,7 +37,7 @@ use std::marker::Model;
 use std::mem;
 use store_locks::{LockList, LockRequest};
 use store_table::VersionStore;
-use store_tx::TxCtx;
+use store_tx::{TxCtx, note_all};
 
 /// The definitions of all tables with who changed them, the versions of the two tables of the system, and the
 /// locks of the catalog. Contracts see the cell of which the laws on visits speak.

@@ -1,33 +1,16 @@
-//! The leaves of several events of a table.
+//! The leaves of events of both tables of the system.
 
-ghost use Rattle.std.specs.Prelude.{ℕ, ◌+◌, length, OnOk};
+ghost use Rattle.std.specs.Prelude.{◌+◌, length, OnOk};
 ghost use Rattle.spec_model.specs.SystemTables.{columns_id, tables_id};
 ghost use Rattle.spec_protocol.specs.Moves.{noting};
 ghost use Rattle.spec_protocol.specs.Seats.{OpenTransaction};
 ghost use Rattle.store_tx.specs.Represents.{IsOpen, Represents};
-ghost use Rattle.store_catalog.specs.Noted.{with_leaves, MayNoteAll, MayNoteBoth};
+ghost use Rattle.store_catalog.specs.Noted.{with_leaves, MayNoteBoth};
 
 use base_merkle::Hash32;
-use base_types::{Blob, Memory, TableId};
+use base_types::{Blob, Memory};
 use sql_system::{COLUMNS, TABLES};
-use store_tx::TxCtx;
-
-/// Adds the leaves to the tree of the table, and counts each as an event. Takes no memory.
-pub(crate) fn note_all<H: Hash32>(ctx: &mut TxCtx<H>, table: TableId, leaves: &[Blob])
-    requires { MayNoteAll H.digest table (length leaves.now) ctx.old }
-    ensures noted { (h : H) (o : OpenTransaction) → Represents H.digest h ctx.old o
-        → Represents H.digest h ctx.new
-        (noting (o.seq + length leaves.now) (with_leaves table leaves.now o.trees) o) }
-    ensures open { (id : ℕ) → IsOpen id ctx.old → IsOpen id ctx.new }
-{
-    match leaves {
-        [] => {}
-        [leaf, rest @ ..] => {
-            ctx.note(table, leaf.bytes());
-            note_all(ctx, table, rest);
-        }
-    }
-}
+use store_tx::{TxCtx, note_all};
 
 /// Opens the trees of both tables of the system. The context is of the same transaction as before, also after
 /// want of memory.

@@ -12,7 +12,6 @@ mod laws;
 mod leading;
 mod leaves;
 mod live_by_key;
-mod noting;
 mod orders;
 mod reading;
 mod searching;

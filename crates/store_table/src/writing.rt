@@ -12,7 +12,6 @@ ghost use Rattle.store_tx.specs.Represents.{IsOpen, Represents};
 ghost use Rattle.store_table.specs.Calls.{MayChange, RowsWritten};
 ghost use Rattle.store_table.specs.Stored.{with_versions};
 
-use crate::noting::note_all;
 use crate::version_store::VersionStore;
 use crate::working::work_out;
 use base_merkle::Hash32;
@@ -20,7 +19,7 @@ use base_types::Memory;
 use sql_types::{RowStmt, TableDef};
 use sql_value::Refusal;
 use std::alloc::Global;
-use store_tx::TxCtx;
+use store_tx::{TxCtx, note_all};
 
 /// Works out what the statement is to do, makes all the room that it takes, and only then does it; the answer
 /// is the number of rows that it replies. After a refusal the versions are as they were, and the context is of

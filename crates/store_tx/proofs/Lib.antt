@@ -1,6 +1,7 @@
 pub mod OpenSavepoints
 pub mod Leaves
 pub mod Marks
+pub mod Noted
 pub mod ReadOnly
 pub mod Represented
 pub mod RootsMade

@@ -2,8 +2,10 @@
 #![tactic(auto)]
 
 mod context;
+mod noting;
 mod roots;
 mod savepoint;
 mod tree;
 
 pub use context::TxCtx;
+pub use noting::note_all;

@@ -23,4 +23,4 @@ returns-clause-ok g c =
     c.args.stmt.now c.requires.passes c.requires.before worked.count worked.changes worked.leaves.items c.in_ok-worked.ensures.ok c.make_room.new.ctx c.note_all.new.ctx c.make_room.new.store.stored
     c.carry_out.new.self.stored c.make_room.ensures.context c.in_ok-make_room.ensures.stored c.carry_out.ensures.stored
     (subst (λ (ls : List (List ℕ)). (h : g.row.H.Denot) (o : OpenTransaction) → Represents g.H.Hash32.digest h c.make_room.new.ctx o
-    → Represents g.H.Hash32.digest h c.note_all.new.ctx (noting (o.seq + length ls) (with_leaves c.args.def.now.id ls o.trees) o)) c.deref.ensures.value c.note_all.ensures)
+    → Represents g.H.Hash32.digest h c.note_all.new.ctx (noting (o.seq + length ls) (with_leaves c.args.def.now.id ls o.trees) o)) c.deref.ensures.value c.note_all.ensures.noted)
