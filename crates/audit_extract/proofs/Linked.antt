@@ -2,7 +2,7 @@
 use Rattle.std.proofs.Common.{◌≡◌, ◌≢◌, ◌≤◌, ◌<◌, ◌+◌, ◌-◌, ℕ, suc, List, [], ◌∷◌, length, take, drop, arith, sym, ◌∙◌, ap, subst, length-take}
 use Rattle.std.specs.Prelude.{◌&&◌, nat_lt, bytes_eq}
 use Rattle.std.specs.List.{AllByRecursion}
-use Rattle.std.proofs.lemmas.Bool.{ltb-true}
+use Rattle.std.proofs.lemmas.Bool.{ltb-true, and_parts}
 use Rattle.std.proofs.lemmas.List.{drop-take, drop-drop}
 use Rattle.std.proofs.lemmas.Slice.Eq.{bytes_eq-Decides}
 use Rattle.sql_types.specs.declared.digest.HeldDigest.{HeldDigest}
@@ -16,7 +16,7 @@ use Rattle.spec_verify.specs.Collision.{Collides}
 use Rattle.spec_verify.specs.First.{unless}
 use Rattle.audit_extract.specs.Meets.{Meets}
 use Rattle.audit_extract.specs.Parts.{blocks_to}
-use Rattle.audit_extract.proofs.Heads.{both_true, passes, none_both, link_at}
+use Rattle.audit_extract.proofs.Heads.{passes, none_both, link_at}
 use Rattle.audit_extract.proofs.Lists.{cons_is, all_left}
 
 pub record Digested (h : List ℕ → List ℕ) (i : Image) (d : HeldDigest) : Type 0 where
@@ -26,9 +26,9 @@ pub record Digested (h : List ℕ → List ℕ) (i : Image) (d : HeldDigest) : T
 pub digested : (h : List ℕ → List ℕ) (i : Image) (d : HeldDigest) → Meets h i d → Digested h i d
 unfolding digest_fault
 digested h i d m =
-    let b = both_true (bytes_eq d.database i.database) (nat_lt d.block (length i.blocks) && bytes_eq d.hash (hash_at h i.blocks d.block))
+    let b = and_parts (bytes_eq d.database i.database) (nat_lt d.block (length i.blocks) && bytes_eq d.hash (hash_at h i.blocks d.block))
     (passes (digest_holds h i d) _ (none_both (unless (digest_holds h i d) _) _ m.digest_holds).0) in
-    let c = both_true (nat_lt d.block (length i.blocks)) (bytes_eq d.hash (hash_at h i.blocks d.block)) b.1 in
+    let c = and_parts (nat_lt d.block (length i.blocks)) (bytes_eq d.hash (hash_at h i.blocks d.block)) b.1 in
     record { within = ltb-true d.block (length i.blocks) c.0; hash = (bytes_eq-Decides d.hash (hash_at h i.blocks d.block)).0 c.1 }
 
 -- two chains that agree from a place on, up to block b, and whose blocks before that place have one hash

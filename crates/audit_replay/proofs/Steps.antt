@@ -3,6 +3,7 @@ use Rattle.std.proofs.Common.{◌≡◌, ℕ, ◌+◌, ◌-◌, ◌≤◌, Bool,
 use Rattle.std.specs.List.{AllByRecursion}
 use Rattle.std.proofs.lemmas.Bool.{and_parts, leb-true}
 use Rattle.std.proofs.lemmas.List.{length-append}
+use Rattle.std.proofs.ByRecursion.{All-weaker}
 use Rattle.sql_value.specs.declared.column.ColumnDef.{ColumnDef}
 use Rattle.sql_types.specs.declared.journal.JournalItem.{JournalItem}
 use Rattle.sql_types.specs.declared.journal.JournalItem.TheVariants.{Tx, Close}
@@ -16,7 +17,7 @@ use Rattle.spec_model.specs.Journals.{tx_count, closed, IsOther, IsNext, IsLegal
 use Rattle.spec_model.specs.Script.{script}
 use Rattle.spec_model.specs.SystemTables.{first_tables}
 use Rattle.format_entry.specs.Entry.{IsEntry}
-use Rattle.law_frame.proofs.Alls.{all_weaker, all_both}
+use Rattle.law_frame.proofs.Alls.{all_both}
 use Rattle.law_frame.proofs.LegalSound.{legal_sound}
 use Rattle.law_journal.specs.Fits.{Fits}
 use Rattle.law_journal.specs.Described.{Described}
@@ -105,12 +106,12 @@ as_long (c ∷ cs) (v ∷ vs) f = omega (arith, as_long cs vs f.1)
 
 short_table : (J : List JournalItem) (t : Table) → (length t.def.columns ≤ 64) × TableOf J t → AllByRecursion IsShort t.versions
 short_table J t k =
-    all_weaker (λ v. Fits t.def.columns v.values) IsShort
+    All-weaker (λ v. Fits t.def.columns v.values) IsShort
     (λ v f. omega (arith, as_long t.def.columns v.values f, k.0)) t.versions k.1.fit
 
 pub are_short : (J : List JournalItem) (T : Tables) → TablesOf J T → Described T → AreShort T
 are_short J T k d =
-    all_weaker (λ t. (length t.def.columns ≤ 64) × TableOf J t) (λ t. AllByRecursion IsShort t.versions) (short_table J) T
+    All-weaker (λ t. (length t.def.columns ≤ 64) × TableOf J t) (λ t. AllByRecursion IsShort t.versions) (short_table J) T
     (all_both (λ t. length t.def.columns ≤ 64) (TableOf J) T (all_defs (λ def. length def.columns ≤ 64) T d.few) k.each)
 
 parted : {A B : Type 0} (P : B → Type 0) (f : A → List B) (xs : List A) → AllByRecursion P (flat_map f xs)
@@ -223,7 +224,7 @@ rules_of_item (Close k) h = h
 
 pub rules_of : (j : Journal) → IsJournal j → KeepRules j.items
 rules_of j h = record {
-  each = all_weaker IsItem ItemRules rules_of_item j.items h.items;
+  each = All-weaker IsItem ItemRules rules_of_item j.items h.items;
   ids = h.ids;
   closes = h.closes;
 }

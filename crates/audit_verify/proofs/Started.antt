@@ -3,6 +3,7 @@ use Rattle.std.proofs.Common.{◌≡◌, refl, sym, subst, ℕ, Bool, true, fals
 use Rattle.std.proofs.lemmas.List.Elements.{All-from_recursion}
 use Rattle.std.specs.Prelude.{not, MatchOption}
 use Rattle.std.specs.List.{All, AllByRecursion}
+use Rattle.std.proofs.lemmas.Bool.{not-false}
 use Rattle.sql_types.specs.declared.entry.TxEntry.{TxEntry}
 use Rattle.sql_types.specs.declared.event.Event.{Event}
 use Rattle.sql_types.specs.declared.image.Image.{Image}
@@ -63,10 +64,6 @@ module _ {A : Type 0} (P : A → Type 0) where
   of_map f [] a = tt
   of_map f (b ∷ bs) a = (a.0, of_map f bs a.1)
 
-is_true : (b : Bool) → not b ≡ false → b ≡ true
-is_true true e = refl
-is_true false e = cc
-
 module _ (entries : List TxEntry) where
   abbrev IsKnown : TableEvent → Type 0
   IsKnown e = not (has_id entries e.1.0) ≡ false
@@ -79,7 +76,7 @@ module _ (entries : List TxEntry) where
 
   each_started : (table : ℕ) (vs : List Version) → AllByRecursion (Starts table) vs → AllByRecursion (IsStarted entries) vs
   each_started table [] a = tt
-  each_started table (v ∷ vs) a = (is_true (has_id entries v.start.0) a.0.0, each_started table vs a.1)
+  each_started table (v ∷ vs) a = (not-false (has_id entries v.start.0) a.0.0, each_started table vs a.1)
 
   of_table : (t : Table) → AllByRecursion IsKnown (events_in t) → AllByRecursion (IsStarted entries) t.versions
   of_table t a =

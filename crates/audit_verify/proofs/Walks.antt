@@ -33,10 +33,6 @@ pub map_parts : {A B C : Type 0} (g : B → C) (f : A → List B) (xs : List A) 
 map_parts g f [] = refl
 map_parts g f (x ∷ xs) = map-append g (f x) (flat_map f xs) ∙ ap (λ ys. map g (f x) ++ ys) (map_parts g f xs)
 
-pub over_map : {A B C : Type 0} (f : B → List C) (g : A → B) (xs : List A) → flat_map f (map g xs) ≡ flat_map (λ x. f (g x)) xs
-over_map f g [] = refl
-over_map f g (x ∷ xs) = ap (λ ys. f (g x) ++ ys) (over_map f g xs)
-
 -- one element is passed over or it may be the least
 pub one_tested : {B : Type 0} (cmp : B → B → Ordering) (has : B → Bool) (best : Option B) (x : B) (xs : List B)
     → least_from cmp best (filter (λ y. not (has y)) (x ∷ xs)) ≡ least_from cmp (cond (has x) best (lesser cmp best x)) (filter (λ y. not (has y)) xs)

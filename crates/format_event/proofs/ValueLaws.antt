@@ -3,14 +3,15 @@ use Rattle.std.proofs.Common.{◌≡◌, ◌<◌, ◌^◌, ◌≤◌, ℕ, ℤ, 
 use Rattle.std.specs.Prelude.{◌&&◌, FitsSigned}
 use Rattle.std.specs.Int.{w8, w32, w64, w128}
 use Rattle.std.specs.Str.{is_utf8}
-use Rattle.std.proofs.lemmas.Bool.{eqb-true, leb-true, ltb-true}
+use Rattle.std.proofs.lemmas.Bool.{eqb-true, leb-true, ltb-true, and_parts}
 use Rattle.std.proofs.lemmas.Int.{fits_signed_from_abs}
 use Rattle.std.proofs.Math.Nat.{pow-le-pow_right}
+use Rattle.std.proofs.lemmas.Option.{cond_some}
 use Rattle.base_fields.specs.Fields.{u32_field, signed_field, i128_field}
 use Rattle.base_fields.specs.Readers.{Reader, ◌>>=◌, signed, whole, u32_at, i128_at}
 use Rattle.base_fields.specs.Exact.{IsBytes, Exact}
 use Rattle.base_fields.proofs.Written.{bind_some, some_is, signed8_exact, signed32_exact, signed64_exact, i128_exact, u32_exact}
-use Rattle.base_fields.proofs.Parts.{test_some, whole_sound, whole_complete}
+use Rattle.base_fields.proofs.Parts.{whole_sound, whole_complete}
 use Rattle.sql_value.specs.declared.sql_type.SqlType.{SqlType}
 use Rattle.sql_value.specs.declared.sql_type.SqlType.TheVariants as types
 use Rattle.sql_value.specs.declared.value.Value.{Value}
@@ -19,7 +20,6 @@ use Rattle.sql_value.specs.Number.{has_digits}
 use Rattle.sql_value.specs.Stored.{is_in_range, is_stored, number_stored, text_stored, bytes_stored, day_stored, is_bit, in_bits}
 use Rattle.format_event.specs.Leaf.{value_bytes, number_bytes, is_told, is_text, FitsNumber, FitsBytes}
 use Rattle.format_event.specs.LeafReading.{number_of, value_of}
-use Rattle.format_event.proofs.TypeLaws.{and_parts}
 
 -- ---- the range of a type's numbers fits its bytes
 
@@ -167,7 +167,7 @@ value_back types.Int bytes v fits e = number_back types.Int (FitsSigned w32) (si
 value_back types.BigInt bytes v fits e = number_back types.BigInt (FitsSigned w64) (signed_field w64) (signed w64) signed64_exact (λ n. refl) 0 bytes v fits e
 value_back (types.Decimal p s) bytes v fits e = number_back (types.Decimal p s) (FitsSigned w128) i128_field i128_at i128_exact (λ n. refl) s bytes v fits e
 value_back (types.NVarChar n) bytes v fits e =
-    let g = test_some (is_utf8 bytes) (values.Text bytes) v e in
+    let g = cond_some (is_utf8 bytes) (values.Text bytes) v e in
     let made : IsSpelled (types.NVarChar n) bytes (values.Text bytes) = record { told = refl; text = g.0; encoded = refl } in
     let P : Value → Type 0 = IsSpelled (types.NVarChar n) bytes in
     subst P g.1 made

@@ -6,23 +6,17 @@ use Rattle.std.proofs.lemmas.List.Elements.{All-push}
 use Rattle.std.proofs.lemmas.Slice.Eq.{bytes_eq-Decides}
 use Rattle.std.proofs.lemmas.Map.Keys.{IsDistinct-push}
 use Rattle.std.specs.Cmp.Lexicographic.{nat_list_eq_equiv}
+use Rattle.std.proofs.lemmas.Bool.{or_left, or_right}
 use Rattle.format_lines.specs.Line.{Statement}
 use Rattle.format_lines.specs.Sessions.{with_session, sessions_of}
 
 self : (name : List ℕ) → bytes_eq name name ≡ true
 self name = (bytes_eq-Decides name name).1 refl
 
-joined_left : (a b : Bool) → a ≡ true → (a || b) ≡ true
-joined_left a b e = rw e refl
-
-joined_right : (a b : Bool) → b ≡ true → (a || b) ≡ true
-joined_right true b e = refl
-joined_right false b e = e
-
 -- a name that is there stays
 kept_at : (names : List (List ℕ)) (new name : List ℕ) (t : Bool) → list_any (bytes_eq name) names ≡ true → list_any (bytes_eq name) (cond t names (names ++ new ∷ [])) ≡ true
 kept_at names new name true e = e
-kept_at names new name false e = list_any-append (bytes_eq name) names (new ∷ []) ∙ joined_left (list_any (bytes_eq name) names) (list_any (bytes_eq name) (new ∷ [])) e
+kept_at names new name false e = list_any-append (bytes_eq name) names (new ∷ []) ∙ or_left (list_any (bytes_eq name) names) (list_any (bytes_eq name) (new ∷ [])) e
 
 kept : (names : List (List ℕ)) (ss : List Statement) (name : List ℕ) → list_any (bytes_eq name) names ≡ true → list_any (bytes_eq name) (fold with_session names ss) ≡ true
 kept names [] name e = e
@@ -31,7 +25,7 @@ kept names (s ∷ ss) name e = kept (with_session names s) ss name (kept_at name
 there_at : (names : List (List ℕ)) (name : List ℕ) (t : Bool) → list_any (bytes_eq name) names ≡ t → list_any (bytes_eq name) (cond t names (names ++ name ∷ [])) ≡ true
 there_at names name true e = e
 there_at names name false e =
-    list_any-append (bytes_eq name) names (name ∷ []) ∙ joined_right (list_any (bytes_eq name) names) (bytes_eq name name || false) (joined_left (bytes_eq name name) false (self name))
+    list_any-append (bytes_eq name) names (name ∷ []) ∙ or_right (list_any (bytes_eq name) names) (bytes_eq name name || false) (or_left (bytes_eq name name) false (self name))
 
 named : (names : List (List ℕ)) (ss : List Statement) (k : ℕ) (d : Statement) → k < length ss → list_any (bytes_eq (get_or ss k d).session) (fold with_session names ss) ≡ true
 named names [] k d l = absurd (none k l)

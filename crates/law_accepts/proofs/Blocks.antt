@@ -1,13 +1,13 @@
 -- Digests and the chain of blocks.
 use Rattle.std.proofs.Common.{◌≡◌, ℕ, zero, suc, ◌+◌, refl, ap, sym, ◌∙◌, List, [], ◌∷◌, length, drop, true, None, arith, add-one}
 use Rattle.std.proofs.lemmas.Bool.{lt-ltb, eq-eqb}
+use Rattle.std.proofs.ByRecursion.{All-weaker}
 use Rattle.sql_types.specs.declared.digest.HeldDigest.{HeldDigest}
 use Rattle.sql_types.specs.declared.entry.BlockRecord.{BlockRecord}
 use Rattle.sql_types.specs.declared.entry.TxEntry.{TxEntry}
 use Rattle.sql_types.specs.declared.image.Image.{Image}
 use Rattle.sql_types.specs.declared.journal.JournalItem.{JournalItem}
 use Rattle.spec_model.specs.Script.{Reading}
-use Rattle.law_frame.proofs.Alls.{all_weaker}
 use Rattle.spec_ledger.specs.Blocks.{no_hash, block_of, record_hash, first_or_no_hash}
 use Rattle.spec_ledger.specs.Parts.{AreBlocksOf}
 use Rattle.spec_ledger.specs.Ledger.{ledger_of, blocks_of, block_hash}
@@ -35,7 +35,7 @@ module _ (h : List ℕ → List ℕ) (reads : Reading) (database : List ℕ) (it
   digests_hold digests all =
       let i : Image = image_of h reads database items in
       nothing_first (λ k d. unless (digest_holds h i d) (at.Digest k)) 0 digests
-      (all_weaker (IsHeld h reads database items) (λ d. (k : ℕ) → unless (digest_holds h i d) (at.Digest k) ≡ None) (λ d is k. passes (digest_holds h i d) (at.Digest k) (it_holds d is)) digests all)
+      (All-weaker (IsHeld h reads database items) (λ d. (k : ℕ) → unless (digest_holds h i d) (at.Digest k) ≡ None) (λ d is k. passes (digest_holds h i d) (at.Digest k) (it_holds d is)) digests all)
 
 -- ---- the chain
 

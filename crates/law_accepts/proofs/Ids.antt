@@ -3,9 +3,10 @@ use Rattle.std.proofs.Common.{◌≡◌, ◌≢◌, ℕ, zero, suc, ◌+◌, inl
 use Rattle.std.specs.Prelude.{◌==◌, ◌||◌, not, if◌then◌else◌, IfSome}
 use Rattle.std.specs.List.{AllByRecursion, list_any, filter}
 use Rattle.std.proofs.Math.Seq.{take-append_seam}
-use Rattle.std.proofs.lemmas.Bool.{eq-eqb, ne_eqb}
+use Rattle.std.proofs.lemmas.Bool.{eq-eqb, ne_eqb, or_right}
 use Rattle.std.proofs.lemmas.List.{length-append, map-append, take-append-drop}
 use Rattle.std.proofs.lemmas.List.Concat.{flat_map-cons}
+use Rattle.std.proofs.ByRecursion.{All-append, All-weaker}
 use Rattle.sql_types.specs.declared.entry.TxEntry.{TxEntry}
 use Rattle.sql_types.specs.declared.event.Event.{Event}
 use Rattle.sql_types.specs.declared.journal.JournalItem.{JournalItem}
@@ -18,7 +19,7 @@ use Rattle.spec_model.specs.Journals.{IsOther, serial, IsNext, IsLegal}
 use Rattle.spec_model.specs.Rows.{EventId, live}
 use Rattle.spec_model.specs.Script.{Reading}
 use Rattle.spec_history.specs.Journals.{ids_of}
-use Rattle.law_frame.proofs.Alls.{all_weaker, all_append, all_map, all_filter}
+use Rattle.law_frame.proofs.Alls.{all_map, all_filter}
 use Rattle.law_journal.specs.Serial.{place_in, HasTx, IsOf, TableOf}
 use Rattle.law_journal.proofs.Serials.{legal_tables}
 use Rattle.spec_ledger.specs.Entries.{placed}
@@ -132,21 +133,17 @@ by_ids : (es : List TxEntry) (id : ℕ) → has_id es id ≡ list_any (λ m. m =
 by_ids [] id = refl
 by_ids (e ∷ es) id = ap (λ (b : Bool). (e.id == id) || b) (by_ids es id)
 
-or_else_true : (a b : Bool) → b ≡ true → (a || b) ≡ true
-or_else_true true b e = refl
-or_else_true false b e = e
-
 of_journal : (J : List JournalItem) (id : ℕ) → HasTx J id → list_any (λ m. m == id) (ids_of J) ≡ true
 of_journal [] id has = absurd has
 of_journal (Tx other session time explicit lines ∷ is) id has = elim has [
   | inl e ↦ rw (eq-eqb other id e) refl
-  | inr more ↦ or_else_true (other == id) _ (of_journal is id more)
+  | inr more ↦ or_right (other == id) _ (of_journal is id more)
 ]
 of_journal (Close k ∷ is) id has = of_journal is id has
 
 all_flat : {A B : Type 0} (P : A → Type 0) (Q : B → Type 0) (f : A → List B) → ((x : A) → P x → AllByRecursion Q (f x)) → (xs : List A) → AllByRecursion P xs → AllByRecursion Q (flat_map f xs)
 all_flat P Q f g [] h = tt
-all_flat P Q f g (x ∷ xs) h = subst (AllByRecursion Q) (sym (flat_map-cons f x xs)) (all_append Q (f x) (flat_map f xs) (g x h.0) (all_flat P Q f g xs h.1))
+all_flat P Q f g (x ∷ xs) h = subst (AllByRecursion Q) (sym (flat_map-cons f x xs)) (All-append Q (f x) (flat_map f xs) (g x h.0) (all_flat P Q f g xs h.1))
 
 module _ (items : List JournalItem) where
   abbrev OfTx : Event → Type 0
@@ -164,7 +161,7 @@ module _ (items : List JournalItem) where
   version_of_tx table v is = (is.start, end_of_tx table v v.end (only_tx v.start v.end _ is.end))
 
   parts_of : (t : Table) → TableOf items t → AllByRecursion (IsOf items) (in_parts t).versions
-  parts_of t is = all_append (IsOf items) (live t.versions) (ended_ones t.versions) (all_filter (IsOf items) _ t.versions is.ids) (all_filter (IsOf items) _ t.versions is.ids)
+  parts_of t is = All-append (IsOf items) (live t.versions) (ended_ones t.versions) (all_filter (IsOf items) _ t.versions is.ids) (all_filter (IsOf items) _ t.versions is.ids)
 
   events_of_tx : (t : Table) → TableOf items t → AllByRecursion (λ (e : TableEvent). HasTx items e.1.0) (events_in (in_parts t))
   events_of_tx t is =
@@ -188,7 +185,7 @@ module _ (h : List ℕ → List ℕ) (reads : Reading) (database : List ℕ) (it
   unfolding image_of
   no_strangers =
       none_left (λ (e : TableEvent). not (has_id (entries_of h reads items) e.1.0)) (flat_map events_in (tables_in (image_of h reads database items)))
-      (all_weaker (λ (e : TableEvent). HasTx items e.1.0) (λ (e : TableEvent). not (has_id (entries_of h reads items) e.1.0) ≡ false) (λ e has. ap not (known e.1.0 has)) _
+      (All-weaker (λ (e : TableEvent). HasTx items e.1.0) (λ (e : TableEvent). not (has_id (entries_of h reads items) e.1.0) ≡ false) (λ e has. ap not (known e.1.0 has)) _
       (subst (λ (T : Tables). AllByRecursion (λ (e : TableEvent). HasTx items e.1.0) (flat_map events_in T)) (sym (tables_shown h reads database items legal))
       (all_of_tx items (serial reads items) (legal_tables reads items legal).each)))
 

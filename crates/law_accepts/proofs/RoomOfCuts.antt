@@ -4,6 +4,7 @@ use Rattle.std.proofs.lemmas.List.{take-append-drop}
 use Rattle.std.specs.Prelude.{◌==◌, if◌then◌else◌, IfSome}
 use Rattle.std.specs.List.{AllByRecursion}
 use Rattle.std.specs.Ordering.{is_gt}
+use Rattle.std.proofs.ByRecursion.{All-append}
 use Rattle.sql_types.specs.declared.journal.JournalItem.{JournalItem}
 use Rattle.sql_types.specs.declared.journal.JournalItem.TheVariants.{Tx, Close}
 use Rattle.sql_types.specs.declared.statement.Stmt.{Stmt}
@@ -19,7 +20,6 @@ use Rattle.spec_model.specs.ChangeSets.{TableChange, changed_in, changed_from, D
 use Rattle.spec_model.specs.Rows.{EventId, same_event, start_cmp, started, with_end, ended}
 use Rattle.spec_model.specs.Script.{Reading, script}
 use Rattle.spec_model.specs.SystemTables.{first_tables}
-use Rattle.law_frame.proofs.Alls.{all_append}
 use Rattle.law_frame.proofs.ChangeSets.{carries_change_set_out}
 use Rattle.law_frame.proofs.WholeScripts.{whole_script}
 use Rattle.spec_history.specs.Journals.{blocks}
@@ -129,7 +129,7 @@ module _ (place : ℕ → ℕ) (tx : ℕ) where
       let parts : TablesFitFormat (s.front ++ after ∷ s.back) = subst TablesFitFormat (s.changed_ (changed (tx, seq) c.1)) r in
       let behind : TablesFitFormat (after ∷ s.back) = rest_of TableFitsFormat s.front (after ∷ s.back) parts in
       subst TablesFitFormat (sym s.is)
-      (all_append TableFitsFormat s.front (s.table ∷ s.back) (front_of TableFitsFormat s.front (after ∷ s.back) parts) (table_before (tx, seq) c.1 s.table s.holds.0 s.holds.1 behind.0, behind.1))
+      (All-append TableFitsFormat s.front (s.table ∷ s.back) (front_of TableFitsFormat s.front (after ∷ s.back) parts) (table_before (tx, seq) c.1 s.table s.holds.0 s.holds.1 behind.0, behind.1))
 
   changes_before : (seq : ℕ) (cs : List TableChange) (T : Tables) → Kept place tx seq T → AllFine tx seq cs T → TablesFitFormat (changed_from tx seq cs T) → TablesFitFormat T
   changes_before seq [] T k fine r = r

@@ -1,6 +1,6 @@
 -- The ordinals of different columns differ.
 use Rattle.std.proofs.Common.{◌≡◌, ℕ, refl, sym, ap, ◌∙◌, Bool, true, false, List, [], ◌∷◌, Option, Some, None, get_or, arith}
-use Rattle.std.proofs.lemmas.Bool.{eqb-true}
+use Rattle.std.proofs.lemmas.Bool.{eqb-true, and_parts, or_parts}
 use Rattle.std.proofs.lemmas.List.Quantifiers.{position-Some}
 use Rattle.std.proofs.lemmas.Slice.Eq.{bytes_eq-Decides}
 use Rattle.std.specs.Bool.{Decides}
@@ -12,7 +12,6 @@ use Rattle.spec_model.specs.Lists.{has_name, repeats}
 use Rattle.spec_model.specs.Columns.{place_of}
 use Rattle.spec_model.specs.Checks.{is_declared}
 use Rattle.spec_model.specs.Create.{ordinal_at, ordinals_of}
-use Rattle.law_frame.proofs.SameKeys.{or_false, and_true}
 use Rattle.law_catalog_rows.specs.IsEncodableDef.{is_among, number_repeats}
 
 pub same_bytes : (a b : List ℕ) → bytes_eq a b ≡ true → a ≡ b
@@ -44,8 +43,8 @@ one_ordinal columns n m None q e f s t same = cc
 none_among : (columns : List ColumnDef) (n : List ℕ) (ns : List (List ℕ)) → is_declared columns n ≡ true → list_all (is_declared columns) ns ≡ true → has_name ns n ≡ false → is_among (ordinals_of columns ns) (ordinal_at (place_of columns n)) ≡ false
 none_among columns n [] d all e = refl
 none_among columns n (m ∷ ms) d all e =
-    let a = and_true (is_declared columns m) (list_all (is_declared columns) ms) all in
-    let h = or_false (bytes_eq m n) (has_name ms n) e in
+    let a = and_parts (is_declared columns m) (list_all (is_declared columns) ms) all in
+    let h = or_parts (bytes_eq m n) (has_name ms n) e in
     rw (apart (ordinal_at (place_of columns m) == ordinal_at (place_of columns n)) refl a.0 h.0) (none_among columns n ms d a.1 h.1)
   where
     apart : (b : Bool) → (ordinal_at (place_of columns m) == ordinal_at (place_of columns n)) ≡ b → is_declared columns m ≡ true → bytes_eq m n ≡ false → (ordinal_at (place_of columns m) == ordinal_at (place_of columns n)) ≡ false
@@ -55,6 +54,6 @@ none_among columns n (m ∷ ms) d all e =
 pub ordinals_differ : (columns : List ColumnDef) (ns : List (List ℕ)) → list_all (is_declared columns) ns ≡ true → repeats ns ≡ false → number_repeats (ordinals_of columns ns) ≡ false
 ordinals_differ columns [] all e = refl
 ordinals_differ columns (n ∷ ns) all e =
-    let a = and_true (is_declared columns n) (list_all (is_declared columns) ns) all in
-    let h = or_false (has_name ns n) (repeats ns) e in
+    let a = and_parts (is_declared columns n) (list_all (is_declared columns) ns) all in
+    let h = or_parts (has_name ns n) (repeats ns) e in
     rw (none_among columns n ns a.0 a.1 h.0) (ordinals_differ columns ns a.1 h.1)

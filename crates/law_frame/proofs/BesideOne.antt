@@ -1,6 +1,7 @@
 -- Beside a statement alone that it doesn't clash with, a statement finds all that it wants as before.
 use Rattle.std.proofs.Common.{◌≡◌, ℕ, refl, sym, subst, Bool, true, false, List, [], ◌∷◌, Option, Some, None}
 use Rattle.std.specs.Prelude.{◌||◌}
+use Rattle.std.proofs.lemmas.Bool.{or_parts}
 use Rattle.sql_types.specs.declared.lock.Mode.{Mode}
 use Rattle.sql_types.specs.declared.lock.Mode.TheVariants.{IS, IX, S, X}
 use Rattle.sql_types.specs.declared.statement.Stmt.{Stmt}
@@ -12,7 +13,6 @@ use Rattle.spec_model.specs.Reach.{creates}
 use Rattle.spec_model.specs.Runs.{Sound}
 use Rattle.spec_model.specs.Script.{Reading, saves, rolls_back_to, in_transaction, alone, by_statement, start, text_step, script_from, script}
 use Rattle.spec_model.specs.NoClash.{text_clash}
-use Rattle.law_frame.proofs.SameKeys.{or_false}
 use Rattle.law_frame.proofs.Definitions.{cell_requests_share}
 use Rattle.law_frame.proofs.LeftScripts.{same_catalog_request}
 use Rattle.law_frame.proofs.Beside.{beside}
@@ -77,7 +77,7 @@ module _ (reads : Reading) (T : Tables) (tx : ℕ) (text : List ℕ) (sound : So
       (opened_one (Some b) e
       (subst (λ (m : Option Mode). (request.catalog_clash (request.catalog_request p a) m || request.cells_clash (request.cell_requests (defs_of T) a) (request.cell_requests (defs_of T) b)) ≡ false) (sym (same_catalog_request b k)) h))
   by_create b true k e h =
-      let free : request.catalog_clash (request.catalog_request p a) (request.catalog_request false b) ≡ false = (or_false (request.catalog_clash (request.catalog_request p a) (request.catalog_request false b)) _ h).0 in
+      let free : request.catalog_clash (request.catalog_request p a) (request.catalog_request false b) ≡ false = (or_parts (request.catalog_clash (request.catalog_request p a) (request.catalog_request false b)) _ h).0 in
       requests_nothing T (alone tx (start T) b).0.tables p a (no_conflict (request.catalog_request p a) (subst (λ (m : Option Mode). request.catalog_clash (request.catalog_request p a) m ≡ false) (creator_requests b k) free))
 
   alone_one : (o : Option Stmt) → reads text ≡ o → text_clash (defs_of T) p a false o ≡ false → Kept (by_statement false tx (start T) o).0.tables

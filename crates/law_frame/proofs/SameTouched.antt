@@ -1,6 +1,6 @@
 -- Over two states that agree on all that it wants, a statement starts and ends the same versions.
 use Rattle.std.proofs.Common.{◌≡◌, ℕ, refl, sym, ap, ◌∙◌, subst, ⊎_elim, Bool, true, false, List, [], ◌∷◌, Option, Some, None, eqb-true, ◌<◌, arith}
-use Rattle.std.proofs.lemmas.Bool.{ne_eqb, or_cases}
+use Rattle.std.proofs.lemmas.Bool.{ne_eqb, or_cases, and_parts}
 use Rattle.std.specs.Prelude.{◌==◌, if◌then◌else◌}
 use Rattle.std.specs.List.{AllByRecursion, filter, list_any}
 use Rattle.std.specs.declared.cmp.Ordering.TheVariants.{Less}
@@ -26,7 +26,7 @@ use Rattle.law_frame.proofs.Alls.{all_filter}
 use Rattle.law_frame.proofs.AtTable.{rising_at, before_at}
 use Rattle.law_frame.proofs.ByKeys.{by_keys}
 use Rattle.law_frame.proofs.LeftTables.{left_key}
-use Rattle.law_frame.proofs.SameKeys.{same_key_as, same_itself, and_true}
+use Rattle.law_frame.proofs.SameKeys.{same_key_as, same_itself}
 
 -- ---- lists
 
@@ -88,7 +88,7 @@ module _ (T U : Tables) (id : ℕ) (key : Key) where
   by_item V W S x a e f = cc
 
   by_request : (V W : List Version) (w : LockRequest) → AgreeOn columns V W w → lets_change key w ≡ true → of_key columns key V ≡ of_key columns key W
-  by_request V W w a e = let p = and_true (is_exclusive w.mode) (has_key key w.item) e in by_item V W w.mode w.item a p.0 p.1
+  by_request V W w a e = let p = and_parts (is_exclusive w.mode) (has_key key w.item) e in by_item V W w.mode w.item a p.0 p.1
 
   by_requests : (V W : List Version) (ws : List LockRequest) → AgreeOnAll columns ws V W → list_any (lets_change key) ws ≡ true → of_key columns key V ≡ of_key columns key W
   by_requests V W [] a e = cc
@@ -96,7 +96,7 @@ module _ (T U : Tables) (id : ℕ) (key : Key) where
 
   by_cell : (c : CellRequests) → AgreeInCell c T U → cell_reaches id key c ≡ true → of_key columns key (versions_of T id) ≡ of_key columns key (versions_of U id)
   by_cell None a e = cc
-  by_cell (Some c) a e = let p = and_true (c.0 == id) (list_any (lets_change key) c.1) e in
+  by_cell (Some c) a e = let p = and_parts (c.0 == id) (list_any (lets_change key) c.1) e in
       by_requests (versions_of T id) (versions_of U id) c.1 (subst (λ n. AgreeOnAll (columns_at (defs_of T) n) c.1 (versions_of T n) (versions_of U n)) (eqb-true c.0 id p.0) a) p.1
 
   pub reached_same : (w : LockRequests) → AgreeFor T U w → reaches id key w ≡ true → of_key columns key (versions_of T id) ≡ of_key columns key (versions_of U id)

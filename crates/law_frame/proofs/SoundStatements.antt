@@ -3,6 +3,7 @@ use Rattle.std.proofs.Common.{◌≡◌, ℕ, ◌+◌, refl, sym, ap, subst, ◌
 use Rattle.std.proofs.lemmas.Bool.{eqb-true}
 use Rattle.std.specs.Prelude.{◌==◌, ◌||◌, if◌then◌else◌}
 use Rattle.std.specs.List.{list_any}
+use Rattle.std.proofs.ByRecursion.{All-append}
 use Rattle.sql_value.specs.declared.column.ColumnDef.{ColumnDef}
 use Rattle.sql_value.specs.declared.refusal.Refusal.{Refusal}
 use Rattle.sql_value.specs.declared.refusal.Refusal.TheVariants.{NoSuchTable, NameConflict, NoSuchColumn, NullNotAllowed, ReadOnlyTable, LimitExceeded}
@@ -25,7 +26,7 @@ use Rattle.spec_model.specs.Agreement.{IdsFrom}
 use Rattle.spec_model.specs.Reach.{creates}
 use Rattle.spec_model.specs.Runs.{SoundTable, Sound}
 use Rattle.law_frame.proofs.Checked.{Led, led, was_passed}
-use Rattle.law_frame.proofs.Alls.{all_append, all_map}
+use Rattle.law_frame.proofs.Alls.{all_map}
 use Rattle.law_frame.proofs.ChangeSets.{carries_change_set_out}
 use Rattle.law_frame.proofs.NamedPart.{IsAmongDefs, found_is_listed, was_found}
 use Rattle.law_frame.proofs.AtTable.{names_at}
@@ -76,7 +77,7 @@ module _ (tx : ℕ) where
       let k : Sound tx (seq + length cs) U = sound_all tx seq cs T h in
       record {
         ids = ids_append 1 U (record { def = def; versions = [] }) k.ids (new_id (defs_of T) c def check ∙ omega (arith, ap (λ (ds : Defs). length ds) (changes_keep_defs tx seq cs T)));
-        each = all_append (SoundTable tx (seq + length cs)) U (record { def = def; versions = [] } ∷ []) k.each (record { names = new_columns (defs_of T) c def check; rising = tt; before = tt }, tt);
+        each = All-append (SoundTable tx (seq + length cs)) U (record { def = def; versions = [] } ∷ []) k.each (record { names = new_columns (defs_of T) c def check; rising = tt; before = tt }, tt);
       }
   table_sound seq T c (Err e) check h = subst (λ (n : ℕ). Sound tx n T) (omega arith) h
 

@@ -7,6 +7,7 @@ use Rattle.std.specs.List.{AllByRecursion, filter}
 use Rattle.std.specs.Ordering.{nat_cmp, is_gt}
 use Rattle.std.specs.declared.cmp.Ordering.{Ordering}
 use Rattle.std.specs.declared.cmp.Ordering.TheVariants.{Less, Equal, Greater}
+use Rattle.std.proofs.ByRecursion.{kept_by_passes, All-weaker}
 use Rattle.sql_value.specs.declared.column.ColumnDef.{ColumnDef}
 use Rattle.sql_value.specs.declared.value.Value.{Value}
 use Rattle.sql_value.specs.declared.value.Value.TheVariants.{Null, Num, Text, Bytes, Date}
@@ -24,7 +25,7 @@ use Rattle.spec_model.specs.Keys.{key_places, position_cmp}
 use Rattle.spec_model.specs.Lists.{inserted, sorted, numbered}
 use Rattle.spec_model.specs.Rows.{EventId, event_cmp, start_cmp, live}
 use Rattle.spec_model.specs.Runs.{Rising}
-use Rattle.law_frame.proofs.Alls.{all_filter, all_pass, all_both, all_weaker, all_map, all_sorted}
+use Rattle.law_frame.proofs.Alls.{all_filter, all_both, all_map, all_sorted}
 use Rattle.law_journal.specs.Fits.{FitsColumn, Fits}
 use Rattle.law_journal.specs.Kept.{IsEarlier}
 use Rattle.law_journal.specs.Serial.{place_in, HasTx, IsOf}
@@ -129,8 +130,8 @@ module _ (columns : List ColumnDef) (few : length columns ≤ 64) where
         let less : length (filter test vs) ≤ length vs = few_filtered test vs in (
           (
             omega (arith, less, count),
-            all_weaker (λ v. (test v ≡ true) × Known columns v) IsBaseRow (λ v k. base_row v k.0 k.1) (filter test vs)
-                (all_both (λ v. test v ≡ true) (Known columns) (filter test vs) (all_pass test vs) (all_filter (Known columns) test vs known)),
+            All-weaker (λ v. (test v ≡ true) × Known columns v) IsBaseRow (λ v k. base_row v k.0 k.1) (filter test vs)
+                (all_both (λ v. test v ≡ true) (Known columns) (filter test vs) (kept_by_passes test vs) (all_filter (Known columns) test vs known)),
           ),
           rises (filter test vs) (rising_filtered test vs rising),
         )
@@ -141,8 +142,8 @@ module _ (columns : List ColumnDef) (few : length columns ≤ 64) where
         let less : length (filter test vs) ≤ length vs = few_filtered test vs in (
           (
             omega (arith, less, count),
-            all_weaker (λ v. (test v ≡ true) × Known columns v) IsHistoryRow (λ v k. history_row v k.0 k.1) (filter test vs)
-                (all_both (λ v. test v ≡ true) (Known columns) (filter test vs) (all_pass test vs) (all_filter (Known columns) test vs known)),
+            All-weaker (λ v. (test v ≡ true) × Known columns v) IsHistoryRow (λ v k. history_row v k.0 k.1) (filter test vs)
+                (all_both (λ v. test v ≡ true) (Known columns) (filter test vs) (kept_by_passes test vs) (all_filter (Known columns) test vs known)),
           ),
           rises (filter test vs) (rising_filtered test vs rising),
         )

@@ -6,6 +6,7 @@ use Rattle.std.specs.Prelude.{◌==◌, ◌&&◌, ◌||◌, not, if◌then◌els
 use Rattle.std.specs.List.{AllByRecursion, filter, list_any}
 use Rattle.std.specs.Ordering.{nat_cmp}
 use Rattle.std.specs.declared.cmp.Ordering.TheVariants.{Less}
+use Rattle.std.proofs.ByRecursion.{All-weaker}
 use Rattle.sql_value.specs.declared.column.ColumnDef.{ColumnDef}
 use Rattle.sql_types.specs.declared.event.Event.{Event}
 use Rattle.sql_types.specs.declared.version.Version.{Version}
@@ -17,7 +18,7 @@ use Rattle.spec_model.specs.Lists.{sorted}
 use Rattle.spec_model.specs.Runs.{Rising, IsBefore, EndsBefore, MadeBefore}
 use Rattle.spec_model.specs.Undo.{is_undone, end_left, end_undone, versions_undone}
 use Rattle.law_frame.proofs.AgreeAfter.{key_after}
-use Rattle.law_frame.proofs.Alls.{all_weaker, all_filter}
+use Rattle.law_frame.proofs.Alls.{all_filter}
 use Rattle.law_frame.proofs.ByKeys.{by_keys}
 use Rattle.law_frame.proofs.OtherTransactions.{versions_untouched}
 use Rattle.law_frame.proofs.SameKeys.{same_itself}
@@ -63,7 +64,7 @@ module _ (tx : ℕ) where
   unfolding changed_all
   all_undo n seq le [] vs h = refl
   all_undo n seq le (c ∷ cs) vs h =
-      all_undo n (seq + 1) (omega arith) cs (changed (tx, seq) c vs) (all_weaker (Undoes tx n vs) (Undoes tx n (changed (tx, seq) c vs)) (λ d k. still_undoes tx n seq le c vs d k) cs h.1)
+      all_undo n (seq + 1) (omega arith) cs (changed (tx, seq) c vs) (All-weaker (Undoes tx n vs) (Undoes tx n (changed (tx, seq) c vs)) (λ d k. still_undoes tx n seq le c vs d k) cs h.1)
       ∙ change_undoes tx n seq le c vs h.0
 
 -- ---- filters

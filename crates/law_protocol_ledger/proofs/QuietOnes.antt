@@ -1,7 +1,6 @@
 -- A transaction whose trees have no leaf left no event.
-use Rattle.std.proofs.Common.{◌≡◌, ◌≢◌, ℕ, ◌+◌, ◌≤◌, Bool, true, false, List, [], ◌∷◌, ◌++◌, map, flat_map, refl, sym, ap, ◌∙◌, subst, inl, inr, ⊎_elim, ◌⊎◌, arith}
-use Rattle.std.proofs.lemmas.Bool.{cases_eq}
-use Rattle.std.specs.Prelude.{◌&&◌}
+use Rattle.std.proofs.Common.{◌≡◌, ◌≢◌, ℕ, ◌+◌, ◌≤◌, true, List, [], ◌∷◌, ◌++◌, map, flat_map, refl, sym, ap, ◌∙◌, subst, inl, inr, ⊎_elim, ◌⊎◌, arith}
+use Rattle.std.proofs.lemmas.Bool.{cases_eq, and_parts}
 use Rattle.std.specs.List.{AllByRecursion, list_all}
 use Rattle.sql_types.specs.declared.event.Event.{Event}
 use Rattle.spec_model.specs.Agreement.{IdsFrom}
@@ -21,13 +20,9 @@ is_nil : (xs : List Text) → is_empty xs ≡ true → xs ≡ []
 is_nil [] e = refl
 is_nil (x ∷ xs) e = cc
 
-both_true : (a b : Bool) → (a && b) ≡ true → (a ≡ true) × (b ≡ true)
-both_true true b e = (refl, e)
-both_true false b e = cc
-
 no_leaves : (trees : List Tree) → list_all (λ t. is_empty t.leaves) trees ≡ true → Each (λ t. t.leaves ≡ []) trees
 no_leaves [] e = tt
-no_leaves (t ∷ ts) e = let p = both_true (is_empty t.leaves) (list_all (λ u. is_empty u.leaves) ts) e in (is_nil t.leaves p.0, no_leaves ts p.1)
+no_leaves (t ∷ ts) e = let p = and_parts (is_empty t.leaves) (list_all (λ u. is_empty u.leaves) ts) e in (is_nil t.leaves p.0, no_leaves ts p.1)
 
 -- the tree of this table, if there is one
 pub record TreeOf (id : ℕ) (trees : List Tree) : Type 0 where

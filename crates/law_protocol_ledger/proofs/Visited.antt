@@ -1,6 +1,6 @@
 -- What an open transaction touched lies in cells that it visited, and what undo by number leaves of what it touched.
 use Rattle.std.proofs.Common.{◌≡◌, ◌≢◌, ℕ, ◌≤◌, Bool, true, false, not, List, [], ◌∷◌, map, Option, Some, None, refl, sym, ap, ◌∙◌, subst, inl, inr, ⊎_elim, leb-true, leb-false, arith}
-use Rattle.std.proofs.lemmas.Bool.{eq-eqb, ne_eqb, le-leb}
+use Rattle.std.proofs.lemmas.Bool.{eq-eqb, ne_eqb, le-leb, or_parts}
 use Rattle.std.specs.Prelude.{◌==◌, ◌&&◌, ◌||◌, ◌-◌, nat_le, if◌then◌else◌}
 use Rattle.std.specs.List.{filter, list_any}
 use Rattle.sql_types.specs.declared.lock.Hold.{Hold}
@@ -29,10 +29,6 @@ use Rattle.law_protocol_steps.proofs.OthersScripts.{sound_for}
 
 -- ---- undo by number
 
-both_false : (a b : Bool) → (a || b) ≡ false → (a ≡ false) × (b ≡ false)
-both_false true b e = cc
-both_false false b e = (refl, e)
-
 module _ (tx seq : ℕ) where
   end_kept : (o : Option EventId) → ends_by tx o ≡ false → ends_by tx (end_left tx seq o) ≡ false
   end_kept None e = refl
@@ -56,7 +52,7 @@ module _ (tx seq : ℕ) where
 
       by_touch : (b : Bool) → is_touched tx v ≡ b → touched tx (left vs) ≡ touched tx (left (touched tx vs)) → touched tx (left (v ∷ vs)) ≡ touched tx (left (if b then v ∷ touched tx vs else touched tx vs))
       by_touch true e ih = with_it (not (is_undone tx seq v.start)) ih
-      by_touch false e ih = let p = both_false (v.start.0 == tx) (ends_by tx v.end) e in dropped p.0 p.1 ∙ ih
+      by_touch false e ih = let p = or_parts (v.start.0 == tx) (ends_by tx v.end) e in dropped p.0 p.1 ∙ ih
 
 -- ---- cells
 

@@ -1,7 +1,7 @@
 -- The roots of a transaction's trees are those of the entry that the ledger's definitions give it.
 use Rattle.std.proofs.Common.{◌≡◌, ◌≢◌, ◌⊎◌, ℕ, suc, ◌+◌, ◌<◌, ◌≤◌, Bool, true, false, List, [], ◌∷◌, length, map, refl, sym, ap, ap₂, ◌∙◌, subst, inl, inr, ⊎_elim, arith}
-use Rattle.std.proofs.lemmas.Bool.{cases_lt, cases_eq, eqb-true, ne_eqb, ltb-true}
-use Rattle.std.specs.Prelude.{◌==◌, ◌&&◌, not, if◌then◌else◌, nat_lt}
+use Rattle.std.proofs.lemmas.Bool.{cases_lt, cases_eq, eqb-true, ne_eqb, ltb-true, and_parts}
+use Rattle.std.specs.Prelude.{◌==◌, not, if◌then◌else◌, nat_lt}
 use Rattle.std.specs.List.{filter}
 use Rattle.std.specs.Ordering.{nat_cmp, is_gt}
 use Rattle.std.specs.Cmp.{nat_cmp_is}
@@ -63,13 +63,9 @@ same_list (x ∷ xs) (y ∷ ys) a b f g = ap₂ (λ (z : Root) (zs : List Root).
     earlier_of : (z : Root) → In z ys → In z xs
     earlier_of z i = ⊎_elim (λ (e : x ≡ z). absurd (omega (arith, above_y z i, same, ap (λ (w : Root). w.0) e))) (λ k. k) (g z (inr i))
 
-both_true : (x y : Bool) → (x && y) ≡ true → (x ≡ true) × (y ≡ true)
-both_true true y e = (refl, e)
-both_true false y e = cc
-
 rise_is : (last : ℕ) (xs : List Root) → rise_above last xs ≡ true → Each (λ y. last < y.0) xs × Rises xs
 rise_is last [] e = (tt, tt)
-rise_is last (r ∷ rs) e = let both = both_true (nat_lt last r.0) (rise_above r.0 rs) e in let l : last < r.0 = ltb-true last r.0 both.0 in let rest = rise_is r.0 rs both.1 in
+rise_is last (r ∷ rs) e = let both = and_parts (nat_lt last r.0) (rise_above r.0 rs) e in let l : last < r.0 = ltb-true last r.0 both.0 in let rest = rise_is r.0 rs both.1 in
     ((l, each_weaker (λ y. r.0 < y.0) (λ y. last < y.0) (λ y k. omega arith) rs rest.0), rest)
 
 tables_are : (xs : List Root) → tables_rise xs ≡ true → Rises xs

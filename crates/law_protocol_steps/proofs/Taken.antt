@@ -1,6 +1,6 @@
 -- Locks that are taken: those that were there stay, the wants are held, and who is in the way of none of them changes none of their rows.
 use Rattle.std.proofs.Common.{◌≡◌, ◌≢◌, ◌⊎◌, ℕ, Bool, true, false, List, [], ◌∷◌, ◌++◌, refl, sym, ap, ap₂, ◌∙◌, inl, inr, ⊎_elim}
-use Rattle.std.proofs.lemmas.Bool.{eqb-true, eq-eqb}
+use Rattle.std.proofs.lemmas.Bool.{eqb-true, eq-eqb, and_parts}
 use Rattle.std.specs.Prelude.{◌==◌, ◌&&◌, ◌||◌, not, if◌then◌else◌}
 use Rattle.std.specs.List.{list_any, filter}
 use Rattle.sql_types.specs.declared.lock.Mode.{Mode}
@@ -10,7 +10,7 @@ use Rattle.sql_types.specs.declared.lock.Item.TheVariants as item
 use Rattle.sql_types.specs.declared.lock.LockRequest.{LockRequest}
 use Rattle.spec_model.specs.Keys.{Key, same_key}
 use Rattle.spec_model.specs.Locks.{conflict, same_item, requests_conflict}
-use Rattle.law_frame.proofs.SameKeys.{same_key_as, same_itself, and_true}
+use Rattle.law_frame.proofs.SameKeys.{same_key_as, same_itself}
 use Rattle.spec_history.specs.Lists.{Each, In}
 use Rattle.spec_history.proofs.Settles.{in_append, in_left, in_right}
 use Rattle.sql_types.specs.declared.lock.Hold.{Hold}
@@ -97,7 +97,7 @@ module _ (id : ℕ) where
 
   held_at_head : (w : LockRequest) (h : Hold) (hs : List Hold) (b : Bool) → answers id w h ≡ b → (b ≡ false → Holds hs id w) → Holds (h ∷ hs) id w
   held_at_head w h hs true f later =
-      let p = and_true (h.tx == id) _ f in let q = and_true (same_item w.item h.request.item) _ p.1 in
+      let p = and_parts (h.tx == id) _ f in let q = and_parts (same_item w.item h.request.item) _ p.1 in
       record { hold = h; has = inl refl; mine = eqb-true h.tx id p.0; item = items_turned h.request.item w.item ∙ q.0; mode = sym (same_modes w.mode h.request.mode q.1) }
   held_at_head w h hs false f later = let k = later refl in record { hold = k.hold; has = inr k.has; mine = k.mine; item = k.item; mode = k.mode }
 

@@ -8,6 +8,7 @@ use Rattle.std.specs.Cmp.Lexicographic.{slice_cmp}
 use Rattle.std.specs.Ordering.{ordering_then}
 use Rattle.std.specs.declared.cmp.Ordering.{Ordering}
 use Rattle.std.specs.declared.cmp.Ordering.TheVariants.{Less, Equal, Greater}
+use Rattle.std.proofs.ByRecursion.{All-append}
 use Rattle.sql_value.specs.declared.column.ColumnDef.{ColumnDef}
 use Rattle.sql_value.specs.declared.column.TableKind.{TableKind}
 use Rattle.sql_value.specs.declared.column.TableKind.TheVariants.{AppendOnly, Updatable}
@@ -21,7 +22,6 @@ use Rattle.spec_model.specs.Keys.{key_cmp, same_key}
 use Rattle.spec_model.specs.Lists.{numbered}
 use Rattle.spec_model.specs.Rows.{Row, value_or_null}
 use Rattle.spec_model.specs.SystemTables.{name_type, tables_columns, columns_columns, history_value, table_row, column_row, column_rows, index_row, index_rows}
-use Rattle.law_frame.proofs.Alls.{all_append}
 use Rattle.law_catalog_rows.specs.Encoded.{rows_of_indexes, item_rows}
 use Rattle.format_image.specs.Rows.{Stored}
 use Rattle.spec_verify.specs.Versions.{same_type, is_of, has_columns}
@@ -87,11 +87,11 @@ each_scaled row one (x ∷ xs) = (one x, each_scaled row one xs)
 indexes_scaled : (id g : ℕ) (is : List IndexDef) → AllByRecursion (Scaled columns_columns) (rows_of_indexes id g is)
 unfolding index_rows
 indexes_scaled id g [] = tt
-indexes_scaled id g (i ∷ is) = all_append (Scaled columns_columns) (index_rows id g i) (rows_of_indexes id (g + 1) is) (each_scaled (index_row id g i.name) (part_scaled id g i.name) (numbered 1 i.ordinals)) (indexes_scaled id (g + 1) is)
+indexes_scaled id g (i ∷ is) = All-append (Scaled columns_columns) (index_rows id g i) (rows_of_indexes id (g + 1) is) (each_scaled (index_row id g i.name) (part_scaled id g i.name) (numbered 1 i.ordinals)) (indexes_scaled id (g + 1) is)
 
 pub items_scaled : (def : TableDef) → AllByRecursion (Scaled columns_columns) (item_rows def)
 unfolding item_rows column_rows
-items_scaled def = all_append (Scaled columns_columns) (column_rows def) (rows_of_indexes def.id 1 def.indexes) (each_scaled (column_row def.id) (column_scaled def.id) (numbered 1 def.columns)) (indexes_scaled def.id 1 def.indexes)
+items_scaled def = All-append (Scaled columns_columns) (column_rows def) (rows_of_indexes def.id 1 def.indexes) (each_scaled (column_row def.id) (column_scaled def.id) (numbered 1 def.columns)) (indexes_scaled def.id 1 def.indexes)
 
 -- ---- their items rise
 

@@ -10,13 +10,13 @@ use Rattle.std.specs.Cmp.{tied_itself}
 use Rattle.std.proofs.lemmas.List.{get_or_default}
 use Rattle.std.proofs.lemmas.Bool.{true≢false}
 use Rattle.std.proofs.lemmas.List.Sums.{prefix_len_is}
+use Rattle.std.proofs.ByRecursion.{All-weaker}
 use Rattle.sql_types.specs.declared.version.TypedValue.{TypedValue}
 use Rattle.sql_types.specs.declared.version.Version.{Version}
 use Rattle.spec_model.specs.Lists.{inserted}
 use Rattle.spec_model.specs.Rows.{EventId, event_cmp, same_event, start_cmp, started, with_end, ended}
 use Rattle.spec_model.specs.Runs.{Rising}
 use Rattle.law_frame.proofs.Sounds.{event_total, start_total}
-use Rattle.law_frame.proofs.Alls.{all_weaker}
 use Rattle.law_journal.proofs.Counts.{NoStart, ended_cons, same_none, same_parts}
 use Rattle.sql_apply.specs.Places.{place, starts_before}
 
@@ -95,7 +95,7 @@ later_by start w u true same rest less = absurd (true≢false (sym (ap is_lt les
 later_by start w u false same rest less = refl
 
 later_none : (start : EventId) (w : Version) (us : List Version) → starts_before start w ≡ false → AllByRecursion (λ u. start_cmp w u ≡ Less) us → NoStart start us
-later_none start w us rest later = all_weaker (λ u. start_cmp w u ≡ Less) (λ u. same_event u.start start ≡ false) (λ u less. later_by start w u (same_event u.start start) refl rest less) us later
+later_none start w us rest later = All-weaker (λ u. start_cmp w u ≡ Less) (λ u. same_event u.start start ≡ false) (λ u less. later_by start w u (same_event u.start start) refl rest less) us later
 
 -- the version at the place, where it has this start
 record EndsAt (at start : EventId) (vs : List Version) (n : ℕ) : Type 0 where

@@ -1,11 +1,10 @@
 -- The longest quoted text.
 use Rattle.std.proofs.Common.{◌≡◌, ℕ, zero, suc, ◌+◌, ◌≤◌, ◌==◌, inl, inr, Bool, true, false, cond, ◌&&◌, ◌||◌, List, [], ◌∷◌, length, take, drop, get_or, Option, Some, None, refl, sym, ◌∙◌, subst, arith}
-use Rattle.std.proofs.lemmas.Bool.{and_parts}
+use Rattle.std.proofs.lemmas.Bool.{and_parts, false_from_ne_true}
 use Rattle.std.proofs.lemmas.Bool.Decides.{nat_tests}
 use Rattle.sql_lex.specs.IsToken.{is_inside, is_text}
 use Rattle.sql_lex.specs.Front.{closing, text}
 use Rattle.sql_lex.proofs.Quotes.{covers, finds}
-use Rattle.sql_lex.proofs.Runs.{not_true}
 use Rattle.sql_lex.proofs.Best.{Best, best_same, best_if}
 
 and_none : (a : Bool) → (a && false) ≡ false
@@ -21,7 +20,7 @@ the_place : (a b : ℕ) → ◌≡◌ {A = Option ℕ} (Some a) (Some b) → a �
 the_place a b h = cc
 
 closes_by : (at : ℕ) (z : List ℕ) (r : Option ℕ) → closing false None at z ≡ r → Closes at z r
-closes_by at z None e = λ m le. not_true (is_inside false (take m z)) (λ h. let c = covers false None at z m tt tt le h in cc)
+closes_by at z None e = λ m le. false_from_ne_true (is_inside false (take m z)) (λ h. let c = covers false None at z m tt tt le h in cc)
 closes_by at z (Some n) e =
     elim (finds false None at z n e) [
       | inl k ↦ absurd cc
@@ -73,7 +72,7 @@ no_text b z e f zero = refl
 no_text b z e f (suc zero) = rw e (and_none (b == 78 || b == 110))
 no_text b [] e f (suc (suc m)) = rw e (and_none (b == 78 || b == 110))
 no_text b (d ∷ z) e f (suc (suc m)) =
-    rw e (not_true ((b == 78 || b == 110) && (d == 39 && is_inside false (take m z))) (λ h.
+    rw e (false_from_ne_true ((b == 78 || b == 110) && (d == 39 && is_inside false (take m z))) (λ h.
     let outer = and_parts (b == 78 || b == 110) (d == 39 && is_inside false (take m z)) h in
     let inner = and_parts (d == 39) (is_inside false (take m z)) outer.1 in
     let both : ((b == 78 || b == 110) && d == 39) ≡ true = rw (outer.0, inner.0) refl in

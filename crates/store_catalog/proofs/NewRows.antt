@@ -5,6 +5,7 @@ use Rattle.std.specs.Prelude.{◌==◌, ◌&&◌, nat_le, if◌then◌else◌, f
 use Rattle.std.specs.List.{AllByRecursion, filter}
 use Rattle.std.specs.Ordering.{nat_cmp, is_gt}
 use Rattle.std.specs.declared.cmp.Ordering.{Ordering}
+use Rattle.std.proofs.ByRecursion.{All-weaker}
 use Rattle.sql_types.specs.declared.event.Event.{Event}
 use Rattle.sql_types.specs.declared.version.Version.{Version}
 use Rattle.sql_types.specs.declared.version.TypedValue.{TypedValue}
@@ -13,7 +14,6 @@ use Rattle.spec_model.specs.Changes.{Change, Starts, Ends, changed, changed_all}
 use Rattle.spec_model.specs.Events.{start_event, end_event, end_events, version_events}
 use Rattle.spec_model.specs.Lists.{inserted, sorted}
 use Rattle.spec_model.specs.Runs.{IsBefore, EndsBefore, MadeBefore}
-use Rattle.law_frame.proofs.Alls.{all_weaker}
 use Rattle.law_frame.proofs.LeftRows.{all_flat_map}
 use Rattle.law_frame.proofs.Sounds.{before_changed}
 use Rattle.law_frame.proofs.UndoneVersions.{filter_inserted}
@@ -152,7 +152,7 @@ module _ (tx id : ℕ) where
       later_end (Some e) k = λ same. omega (arith, k same)
 
   pub all_later : (m : ℕ) (vs : List Version) → AllByRecursion (MadeBefore tx m) vs → AllByRecursion (MadeBefore tx (m + 1)) vs
-  all_later m vs h = all_weaker (MadeBefore tx m) (MadeBefore tx (m + 1)) (later m) vs h
+  all_later m vs h = All-weaker (MadeBefore tx m) (MadeBefore tx (m + 1)) (later m) vs h
 
   -- a row's event comes behind those that were there
   one_more : (m : ℕ) (values : List (Option TypedValue)) (vs : List Version) → AllByRecursion (MadeBefore tx m) vs

@@ -10,6 +10,7 @@ use Rattle.std.specs.Cmp.{IsTotalOrder, on_total, nat_cmp_total}
 use Rattle.std.specs.Ordering.{is_gt, nat_cmp}
 use Rattle.std.specs.declared.cmp.Ordering.{Ordering}
 use Rattle.std.specs.declared.cmp.Ordering.TheVariants.{Less}
+use Rattle.std.proofs.ByRecursion.{All-weaker}
 use Rattle.sql_value.specs.declared.column.ColumnDef.{ColumnDef}
 use Rattle.sql_types.specs.declared.event.Event.{Event}
 use Rattle.sql_types.specs.declared.version.Version.{Version}
@@ -19,7 +20,6 @@ use Rattle.spec_model.specs.Lists.{inserted, sorted}
 use Rattle.spec_model.specs.Rows.{EventId, event_cmp, same_event, start_cmp, started, with_end, ended}
 use Rattle.spec_model.specs.Runs.{IsBefore, EndsBefore, MadeBefore, Rising}
 use Rattle.spec_model.specs.Undo.{end_left}
-use Rattle.law_frame.proofs.Alls.{all_weaker}
 use Rattle.law_frame.proofs.SameKeys.{IsAlone, each_alone, not_less, one_start}
 use Rattle.law_frame.proofs.Sounds.{before_changed, rising_changed}
 use Rattle.law_frame.proofs.UndoneVersions.{Undoes}
@@ -161,7 +161,7 @@ module _ (tx id n : ℕ) where
           → (if s then end_event id u at ∷ [] else []) ++ flat_map (its_end start) us ≡ end_event id v at ∷ []
       by true e f rest =
           let same : u ≡ v = cc in
-          let none = no_end start us (all_weaker (λ w. start_cmp u w ≡ Less) (λ w. same_event w.start start ≡ false) (λ w less. apart_later start u w (same_event w.start start) (one_start u.start start e) refl less) us r.0) in
+          let none = no_end start us (All-weaker (λ w. start_cmp u w ≡ Less) (λ w. same_event w.start start ≡ false) (λ w less. apart_later start u w (same_event w.start start) (one_start u.start start e) refl less) us r.0) in
           ap (λ (l : List Event). end_event id u at ∷ l) none ∙ ap (λ (x : Version). end_event id x at ∷ []) same
       by false e f rest = rest f
 
@@ -176,7 +176,7 @@ module _ (tx id n : ℕ) where
     undoes (Ends start) vs r made =
         let v = made.version in
         let p = find_all (IsAlone vs) (started_by start) vs v made.found (each_alone vs r) in
-        all_weaker (λ w. same_event w.start v.start ≡ true → w ≡ v) (λ w. same_event w.start start ≡ true → end_left tx n w.end ≡ None)
+        All-weaker (λ w. same_event w.start v.start ≡ true → w ≡ v) (λ w. same_event w.start start ≡ true → end_left tx n w.end ≡ None)
         (λ w alone same. let is : w ≡ v = alone (subst (λ (e : EventId). same_event w.start e ≡ true) (sym (one_start v.start start p.1)) same) in
         ap (λ (x : Version). end_left tx n x.end) is ∙ ap (end_left tx n) made.is_live) vs p.0
 

@@ -6,10 +6,10 @@ use Rattle.std.specs.declared.cmp.Ordering.TheVariants.{Less}
 use Rattle.std.proofs.lemmas.List.{get_or_default}
 use Rattle.std.proofs.lemmas.Bool.{true≢false}
 use Rattle.std.specs.Cmp.{tied_itself}
+use Rattle.std.proofs.ByRecursion.{All-weaker}
 use Rattle.sql_types.specs.declared.version.Version.{Version}
 use Rattle.spec_model.specs.Rows.{EventId, event_cmp, same_event, start_cmp}
 use Rattle.spec_model.specs.Runs.{Rising}
-use Rattle.law_frame.proofs.Alls.{all_weaker}
 use Rattle.law_frame.proofs.Sounds.{event_total}
 use Rattle.law_journal.proofs.Counts.{same_parts}
 use Rattle.sql_apply.specs.Places.{place, starts_before}
@@ -36,7 +36,7 @@ none_found start (v ∷ vs) h = rw h.0 (none_found start vs h.1)
 later_none : (start : EventId) (w : Version) (us : List Version) → starts_before start w ≡ false → AllByRecursion (λ u. start_cmp w u ≡ Less) us → version_at start us ≡ None
 later_none start w us rest later =
     none_found start us
-    (all_weaker (λ u. start_cmp w u ≡ Less) (λ u. same_event u.start start ≡ false) (λ u less. later_by start w u (same_event u.start start) refl rest less) us later)
+    (All-weaker (λ u. start_cmp w u ≡ Less) (λ u. same_event u.start start ≡ false) (λ u less. later_by start w u (same_event u.start start) refl rest less) us later)
 
 -- the version at the place, where it has this start
 pub record FoundAt (start : EventId) (vs : List Version) (n : ℕ) : Type 0 where

@@ -1,5 +1,5 @@
 -- The last event of a transaction, among events that rise.
-use Rattle.std.proofs.Common.{◌≡◌, ◌<◌, ◌≤◌, ◌-◌, ℕ, zero, suc, refl, ap, ◌∙◌, Bool, true, false, List, [], ◌∷◌, length, get_or, arith, ◌⊎◌, inl, inr}
+use Rattle.std.proofs.Common.{◌≡◌, ◌<◌, ◌≤◌, ◌-◌, ℕ, zero, suc, refl, ap, ◌∙◌, Bool, true, false, List, [], ◌∷◌, length, get_or, arith, inl, inr}
 use Rattle.std.proofs.lemmas.Grind.{common_steps}
 use Rattle.std.specs.Prelude.{nat_le}
 use Rattle.std.specs.List.{AllByRecursion}
@@ -7,6 +7,7 @@ use Rattle.std.specs.List.Sorted.{IsPartitionedBy, IsPartitionPoint}
 use Rattle.std.specs.Cmp.{tied_itself}
 use Rattle.std.specs.Ordering.{is_lt, ordering_reverse}
 use Rattle.std.specs.declared.cmp.Ordering.TheVariants.{Less}
+use Rattle.std.proofs.lemmas.Bool.{cases_Bool}
 use Rattle.sql_types.specs.declared.version.Version.{Version}
 use Rattle.spec_model.specs.Rows.{EventId, event_cmp, start_cmp}
 use Rattle.spec_model.specs.Runs.{Rising}
@@ -54,10 +55,6 @@ from_index : {A : Type 0} (P : A → Type 0) (xs : List A) → ((k : ℕ) (d : A
 from_index P [] h = tt
 from_index P (x ∷ xs) h = (h zero x (omega arith), from_index P xs (λ k d inside. h (suc k) d (omega (arith, inside))))
 
-cases : (b : Bool) → (b ≡ true) ⊎ (b ≡ false)
-cases true = inl refl
-cases false = inr refl
-
 module _ {A : Type 0} (event : A → EventId) (xs : List A)
     (rises : (i j : ℕ) (d : A) → i ≤ j → j < length xs → is_lt (event_cmp (event (get_or xs j d)) (event (get_or xs i d))) ≡ false) (tx seq : ℕ) where
   pub up_to_parted : IsPartitionedBy (λ x. nat_le (event x).0 tx) xs
@@ -72,7 +69,7 @@ module _ {A : Type 0} (event : A → EventId) (xs : List A)
     not_undone k d inside false e = refl
     not_undone k d inside true e =
         let p = undone_parts tx seq (event (get_or xs k d)) e in
-        elim (cases (nat_le (n) k)) [
+        elim (cases_Bool (nat_le (n) k)) [
           | inl above ↦
               let out = above_of (event (get_or xs k d)).0 tx (point.1 k d (le_of n k above) inside) in
               absurd (omega (arith, out, p.0))

@@ -4,6 +4,7 @@ use Rattle.std.specs.Prelude.{slice_set, Vec}
 use Rattle.std.specs.List.{AllByRecursion, insert, remove}
 use Rattle.std.specs.declared.alloc.Global.{Global}
 use Rattle.std.proofs.lemmas.List.{map-append}
+use Rattle.std.proofs.ByRecursion.{All-append}
 use Rattle.sql_value.specs.declared.column.ColumnDef.{ColumnDef}
 use Rattle.sql_types.specs.declared.version.TypedValue.{TypedValue}
 use Rattle.sql_types.specs.declared.version.Version.{Version}
@@ -11,7 +12,6 @@ use Rattle.spec_model.specs.Changes.{Starts}
 use Rattle.spec_model.specs.Lists.{inserted}
 use Rattle.spec_model.specs.Rows.{EventId, with_end}
 use Rattle.spec_model.specs.Runs.{MadeBefore, Rising}
-use Rattle.law_frame.proofs.Alls.{all_append}
 use Rattle.law_frame.proofs.Sounds.{rising_changed}
 use Rattle.sql_apply.specs.Places.{place}
 use Rattle.sql_apply.proofs.Places.{started_at}
