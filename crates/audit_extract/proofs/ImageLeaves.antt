@@ -26,6 +26,7 @@ use Rattle.spec_model.specs.Events.{fields_at, fields_of, start_event, end_event
 use Rattle.spec_model.specs.Lists.{sorted, numbered}
 use Rattle.spec_model.specs.Rows.{EventId}
 use Rattle.spec_model.specs.SystemTables.{tables_def, columns_def}
+use Rattle.format_event.proofs.LeafExact.{all_told as told}
 use Rattle.spec_ledger.specs.Entries.{leaves_of}
 use Rattle.sql_parts.proofs.Sorting.{sorted-map}
 use Rattle.format_image.specs.DefBytes.{IsDef}
@@ -167,10 +168,6 @@ event_fits table op id start values small pair starts are =
       columns = fields_fit 1 values (omega arith) are.1;
       rise = fields_rise 1 0 values (omega arith);
     }
-
-told : (fs : List EventField) → AllByRecursion IsField fs → filter has_value fs ≡ fs
-told [] all = refl
-told (f ∷ fs) all = rw (all.0.told, told fs all.1) refl
 
 pub values_told : (values : List (Option TypedValue)) → AreValues values → filter has_value (fields_of values) ≡ fields_of values
 values_told values are = let short = are.0 in told (fields_of values) (fields_fit 1 values (omega arith) are.1)

@@ -4,6 +4,7 @@ use Rattle.std.specs.List.{AllByRecursion}
 use Rattle.std.proofs.lemmas.Bool.{and_parts, leb-true}
 use Rattle.std.proofs.lemmas.List.{length-append}
 use Rattle.std.proofs.ByRecursion.{All-weaker}
+use Rattle.base_types.proofs.Lists.{all_front, all_back}
 use Rattle.sql_value.specs.declared.column.ColumnDef.{ColumnDef}
 use Rattle.sql_types.specs.declared.journal.JournalItem.{JournalItem}
 use Rattle.sql_types.specs.declared.journal.JournalItem.TheVariants.{Tx, Close}
@@ -90,14 +91,6 @@ module _ (h : List ℕ → List ℕ) (J : List JournalItem) (k : ℕ) (m : Machi
 
 -- ---- a transaction
 
-first_ones : {B : Type 0} (P : B → Type 0) (xs ys : List B) → AllByRecursion P (xs ++ ys) → AllByRecursion P xs
-first_ones P [] ys h = tt
-first_ones P (x ∷ xs) ys h = (h.0, first_ones P xs ys h.1)
-
-last_ones : {B : Type 0} (P : B → Type 0) (xs ys : List B) → AllByRecursion P (xs ++ ys) → AllByRecursion P ys
-last_ones P [] ys h = h
-last_ones P (x ∷ xs) ys h = last_ones P xs ys h.1
-
 as_long : (columns : List ColumnDef) (values : List (Option TypedValue)) → Fits columns values → length values ≡ length columns
 as_long [] [] f = refl
 as_long [] (v ∷ vs) f = absurd f
@@ -117,7 +110,7 @@ are_short J T k d =
 parted : {A B : Type 0} (P : B → Type 0) (f : A → List B) (xs : List A) → AllByRecursion P (flat_map f xs)
     → AllByRecursion (λ x. AllByRecursion P (f x)) xs
 parted P f [] h = tt
-parted P f (x ∷ xs) h = (first_ones P (f x) (flat_map f xs) h, parted P f xs (last_ones P (f x) (flat_map f xs) h))
+parted P f (x ∷ xs) h = (all_front P (f x) (flat_map f xs) h, parted P f xs (all_back P (f x) (flat_map f xs) h))
 
 -- no transaction before has this id, so it has no event yet
 pub is_new : (J : List JournalItem) (id : ℕ) → IsLegal statement_of J → AllByRecursion (IsOther id) J

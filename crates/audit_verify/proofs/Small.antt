@@ -5,6 +5,7 @@ use Rattle.std.proofs.lemmas.Bool.{ltb-true, and_parts}
 use Rattle.std.proofs.lemmas.List.{map-append}
 use Rattle.std.specs.Int.{w64}
 use Rattle.std.specs.List.{AllByRecursion}
+use Rattle.base_types.proofs.Lists.{all_front, all_back}
 use Rattle.sql_value.specs.declared.column.ColumnDef.{ColumnDef}
 use Rattle.sql_value.specs.declared.sql_type.SqlType.{SqlType}
 use Rattle.sql_value.specs.declared.sql_type.SqlType.TheVariants.{Int}
@@ -50,14 +51,6 @@ small_row c cs (Some t ∷ vs) ty e =
     let stored : is_stored t.value c.ty ≡ true = (and_parts _ _ of_column).1 in
     small_value t.value (map value_or_null vs) (subst (λ (y : SqlType). is_stored t.value y ≡ true) ty stored)
 
-all_front : {A : Type 0} (P : A → Type 0) (xs ys : List A) → AllByRecursion P (xs ++ ys) → AllByRecursion P xs
-all_front P [] ys a = tt
-all_front P (x ∷ xs) ys a = (a.0, all_front P xs ys a.1)
-
-all_back : {A : Type 0} (P : A → Type 0) (xs ys : List A) → AllByRecursion P (xs ++ ys) → AllByRecursion P ys
-all_back P [] ys a = a
-all_back P (x ∷ xs) ys a = all_back P xs ys a.1
-
 abbrev in_table : Table → Version → TableVersion
 in_table t v = (t, v)
 
@@ -71,7 +64,7 @@ small_rows i t c cs (v ∷ vs) is ty a =
 base_map : (t : Table) (xs ys : List Version) → map (in_table t) (xs ++ ys) ≡ map (in_table t) xs ++ map (in_table t) ys
 base_map t xs ys = map-append (in_table t) xs ys
 
-none_holds : {A : Type 0} (P : Type 0) (Q : A → Type 0) (p : Option A) → p ≡ None → MatchOption p P Q → P
+pub none_holds : {A : Type 0} (P : Type 0) (Q : A → Type 0) (p : Option A) → p ≡ None → MatchOption p P Q → P
 none_holds P Q None e h = h
 none_holds P Q (Some x) e h = cc
 

@@ -6,6 +6,7 @@ use Rattle.std.proofs.lemmas.Bool.{eq-eqb, ne_eqb}
 use Rattle.std.proofs.lemmas.List.{map-append, length-drop, get_or-drop}
 use Rattle.std.proofs.lemmas.List.Elements.{All-drop, All-from_recursion, recursion_from_All}
 use Rattle.std.proofs.ByRecursion.{All-append, All-weaker}
+use Rattle.base_types.proofs.Lists.{all_front, drop_front}
 use Rattle.sql_types.specs.declared.event.Event.{Event}
 use Rattle.sql_types.specs.declared.version.Table.{Table}
 use Rattle.spec_ledger.specs.Entries.{roots_of, root_in, has_events}
@@ -88,14 +89,6 @@ seen_own t (m ∷ ms) all = (all.0, seen_own t ms all.1)
 seen_other : (t : ℕ) (ms : List Mark) → StartsOther t ms → StartsWithOther t (map event_of ms)
 seen_other t [] other = tt
 seen_other t (m ∷ ms) other = other
-
-drop_front : {A : Type 0} (xs ys : List A) → drop (length xs) (xs ++ ys) ≡ ys
-drop_front [] ys = refl
-drop_front (x ∷ xs) ys = drop_front xs ys
-
-all_front : {A : Type 0} (P : A → Type 0) (xs zs : List A) → AllByRecursion P (xs ++ zs) → AllByRecursion P xs
-all_front P [] zs all = tt
-all_front P (x ∷ xs) zs all = (all.0, all_front P xs zs all.1)
 
 module _ (marks rest own others : List Mark) (at : ℕ) (rest_is : rest ≡ drop at marks) (parts : rest ≡ own ++ others) where
   pub group_values : All HasValues marks → All HasValues own

@@ -1,6 +1,5 @@
 -- Going on by one element: the least of what all show, and the events of a table part by part.
 use Rattle.std.proofs.Common.{Bor, ◌≡◌, ◌<◌, ◌+◌, ℕ, zero, suc, arith, refl, sym, subst, ap, ap₂, ◌∙◌, Bool, true, false, cond, List, [], ◌∷◌, ◌++◌, length, map, flat_map, filter, take, drop, get_or, Option, Some, None}
-use Rattle.std.proofs.Math.Seq.{drop-cons}
 use Rattle.std.proofs.lemmas.List.{map-append}
 use Rattle.std.proofs.lemmas.List.Elements.{filter-append, recursion_from_All}
 use Rattle.std.specs.List.{All, AllByRecursion, list_all}
@@ -9,11 +8,7 @@ use Rattle.std.specs.declared.cmp.Ordering.{Ordering}
 use Rattle.spec_model.specs.Lists.{or_else, numbered}
 use Rattle.law_catalog_rows.specs.Least.{lesser, least_from}
 use Rattle.spec_verify.specs.First.{first_from}
-
-pub from_here : {A : Type 0} (xs : List A) (k : ℕ) (d : A) → k < length xs → drop k xs ≡ get_or xs k d ∷ drop (k + 1) xs
-from_here xs k d lt =
-    let one : k + 1 ≡ suc k = omega arith in
-    rw one (drop-cons xs k d lt)
+use Rattle.audit_verify.proofs.Neighbours.{from_here}
 
 module _ {B : Type 0} (cmp : B → B → Ordering) where
   pub least_append : (best : Option B) (xs ys : List B) → least_from cmp best (xs ++ ys) ≡ least_from cmp (least_from cmp best xs) ys

@@ -2,10 +2,10 @@
 use Rattle.std.proofs.Common.{ℕ, ◌≡◌, ◌≤◌, arith, Bool, true, false, List, [], ◌∷◌, Option, Some, None, refl, subst, codes}
 use Rattle.std.specs.Prelude.{◌&&◌, ◌||◌, IfSome, if◌then◌else◌, nat_le, option_map}
 use Rattle.std.specs.Str.{bytes_eq}
-use Rattle.std.proofs.lemmas.Bool.Decides.{nat_tests}
 use Rattle.std.proofs.lemmas.Option.{same_Some}
 use Rattle.base_types.specs.DatabaseName.{is_database_name}
 use Rattle.base_types.specs.declared.moment.TheConstants.{MAX_TICKS}
+use Rattle.base_types.proofs.Naturals.{le_from_test}
 use Rattle.cli_words.specs.Commands.{Settings, AreInRange, Command, Step, Run, Verify, Extract, Replay, Gen, given, settings, meaning_of, has_dashes, arguments_of, asks_help, alone, behind, command_of}
 use Rattle.cli_words.specs.Commands as said
 use Rattle.cli_words.specs.Forms.{is_number, number_from, number_in, database_name, file_name, or_default, if_given}
@@ -36,9 +36,6 @@ both true true false e = absurd cc
 both true false c e = absurd cc
 both false b c e = absurd cc
 
-at_most : (m n : ℕ) → nat_le m n ≡ true → m ≤ n
-at_most m n e = grind (arith, nat_tests)
-
 pub record Within (low high n : ℕ) : Type 0 where
   pub least : low ≤ n
   pub most : n ≤ high
@@ -48,7 +45,7 @@ unfolding number_in
 number_within low high text n e =
     let r = tested (is_number text && (nat_le low (number_from 0 text) && nat_le (number_from 0 text) high)) (number_from 0 text) n e in
     let t = both (is_number text) (nat_le low (number_from 0 text)) (nat_le (number_from 0 text) high) r.0 in
-    subst (λ k. Within low high k) r.1 (record { least = at_most low (number_from 0 text) t.0; most = at_most (number_from 0 text) high t.1 })
+    subst (λ k. Within low high k) r.1 (record { least = le_from_test low (number_from 0 text) t.0; most = le_from_test (number_from 0 text) high t.1 })
 
 or_within : (default low high : ℕ) → Within low high default → (text : Option Text) (n : ℕ) → or_default default (number_in low high) text ≡ Some n → Within low high n
 or_within default low high within None n e = subst (λ k. Within low high k) (same_Some default n e) within

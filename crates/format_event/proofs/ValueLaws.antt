@@ -7,10 +7,11 @@ use Rattle.std.proofs.lemmas.Bool.{eqb-true, leb-true, ltb-true, and_parts}
 use Rattle.std.proofs.lemmas.Int.{fits_signed_from_abs}
 use Rattle.std.proofs.Math.Nat.{pow-le-pow_right}
 use Rattle.std.proofs.lemmas.Option.{cond_some}
+use Rattle.base_types.proofs.Options.{same_some}
 use Rattle.base_fields.specs.Fields.{u32_field, signed_field, i128_field}
 use Rattle.base_fields.specs.Readers.{Reader, ◌>>=◌, signed, whole, u32_at, i128_at}
 use Rattle.base_fields.specs.Exact.{IsBytes, Exact}
-use Rattle.base_fields.proofs.Written.{bind_some, some_is, signed8_exact, signed32_exact, signed64_exact, i128_exact, u32_exact}
+use Rattle.base_fields.proofs.Written.{bind_some, signed8_exact, signed32_exact, signed64_exact, i128_exact, u32_exact}
 use Rattle.base_fields.proofs.Parts.{whole_sound, whole_complete}
 use Rattle.sql_value.specs.declared.sql_type.SqlType.{SqlType}
 use Rattle.sql_value.specs.declared.sql_type.SqlType.TheVariants as types
@@ -158,7 +159,7 @@ number_back ty F s at exact written z bytes v fits e =
     let t = whole_sound F s at exact bytes x.0 fits x.1 in
     let made : IsSpelled ty bytes (values.Num z x.0) = record { told = refl; text = refl; encoded = written x.0 ∙ sym t.1 } in
     let P : Value → Type 0 = IsSpelled ty bytes in
-    subst P (some_is (values.Num z x.0) v x.2) made
+    subst P (same_some (values.Num z x.0) v x.2) made
 
 pub value_back : (ty : SqlType) (bytes : List ℕ) (v : Value) → IsBytes bytes → value_of ty bytes ≡ Some v → IsSpelled ty bytes v
 unfolding value_of
@@ -174,10 +175,10 @@ value_back (types.NVarChar n) bytes v fits e =
 value_back (types.VarBinary n) bytes v fits e =
     let made : IsSpelled (types.VarBinary n) bytes (values.Bytes bytes) = record { told = refl; text = refl; encoded = refl } in
     let P : Value → Type 0 = IsSpelled (types.VarBinary n) bytes in
-    subst P (some_is (values.Bytes bytes) v e) made
+    subst P (same_some (values.Bytes bytes) v e) made
 value_back types.Date bytes v fits e =
     let x = bind_some (whole u32_at bytes) (λ day. Some (values.Date day)) v e in
     let t = whole_sound (λ (n : ℕ). n < 2 ^ 32) u32_field u32_at u32_exact bytes x.0 fits x.1 in
     let made : IsSpelled types.Date bytes (values.Date x.0) = record { told = refl; text = refl; encoded = sym t.1 } in
     let P : Value → Type 0 = IsSpelled types.Date bytes in
-    subst P (some_is (values.Date x.0) v x.2) made
+    subst P (same_some (values.Date x.0) v x.2) made

@@ -7,13 +7,9 @@ use Rattle.std.proofs.lemmas.List.{take-append-drop, take_all}
 use Rattle.std.proofs.lemmas.Str.{IsUtf8-from_is_utf8, is_utf8-from_IsUtf8, IsUtf8-nil, IsUtf8-append, IsUtf8-take, IsUtf8-drop, IsUtf8-from_ascii, IsCharBoundary-before_ascii, IsCharBoundary-after_ascii}
 use Rattle.std.proofs.lemmas.Str.Ascii.{IsAscii-nil, IsAscii-cons}
 use Rattle.std.proofs.lemmas.Bool.{and_parts, and_from}
+use Rattle.base_types.proofs.Bools.{both_ways}
 use Rattle.format_lines.specs.Lines.{lines_of, without_return, is_line_feed}
 use Rattle.format_lines.proofs.Cuts.{line_ended, line_alone, feed_at}
-
-both_ways : (a b : Bool) → (a ≡ true → b ≡ true) → (b ≡ true → a ≡ true) → a ≡ b
-both_ways true b there back = sym (there refl)
-both_ways false true there back = back refl
-both_ways false false there back = refl
 
 and_true : (a : Bool) → a ≡ (a && true)
 and_true true = refl
@@ -48,7 +44,7 @@ utf8_nil = is_utf8-from_IsUtf8 [] IsUtf8-nil
 is_13 : (b : ℕ) → (b == 13) ≡ true → b ≡ 13
 is_13 b e = grind (arith, nat_tests)
 
-nothing : (z : List ℕ) → length z ≡ 0 → z ≡ []
+pub nothing : (z : List ℕ) → length z ≡ 0 → z ≡ []
 nothing [] e = refl
 nothing (b ∷ z) e = absurd (some (length z) e)
   where

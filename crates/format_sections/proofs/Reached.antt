@@ -6,6 +6,7 @@ use Rattle.std.specs.List.{list_any}
 use Rattle.std.specs.Str.{bytes_eq}
 use Rattle.std.proofs.lemmas.List.Folds.{list_any-append}
 use Rattle.std.proofs.lemmas.Bool.{or_left, not_from_false, not_from_true, or_right}
+use Rattle.base_types.proofs.Bools.{or_false}
 use Rattle.format_sections.specs.Kind.{Kind, Skipped, SetupLine, SessionLine, Statement, NoText}
 use Rattle.format_sections.specs.Form.{is_session_name, counts, begins_section, names_of, has_come, lacks_form, first_lacking}
 use Rattle.format_sections.specs.RunSections.{Section, statements_of, setup_of, sessions_of}
@@ -24,10 +25,6 @@ true_false e = cc
 pub none_behind : {A : Type 0} (z : List A) → z ++ [] ≡ z
 none_behind [] = refl
 none_behind (a ∷ z) = ap (λ x. a ∷ x) (none_behind z)
-
-or_false : (b : Bool) → (b || false) ≡ b
-or_false true = refl
-or_false false = refl
 
 -- a test that some lines pass is passed by one of more
 pub any_more : (p : Kind → Bool) (before more : List Kind) → list_any p before ≡ true → list_any p (before ++ more) ≡ true

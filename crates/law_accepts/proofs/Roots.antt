@@ -1,11 +1,12 @@
 -- Each entry of a legal journal has the roots and the numbers of its events, as the image shows them.
-use Rattle.std.proofs.Common.{◌≡◌, ◌≢◌, ◌≤◌, ℕ, ◌+◌, refl, ap, sym, subst, ◌∙◌, Bool, true, false, cond, List, [], ◌∷◌, ◌++◌, length, map, take, drop, Option, Some, None, arith, nat_lt}
+use Rattle.std.proofs.Common.{◌≡◌, ◌≢◌, ◌≤◌, ℕ, ◌+◌, refl, ap, sym, subst, ◌∙◌, true, false, List, [], ◌∷◌, ◌++◌, length, map, take, drop, Option, Some, None, arith, nat_lt}
 use Rattle.std.specs.Prelude.{not}
 use Rattle.std.specs.List.{AllByRecursion}
 use Rattle.std.specs.Ordering.{nat_cmp}
 use Rattle.std.proofs.lemmas.List.{take-append-drop}
 use Rattle.std.proofs.lemmas.List.Sums.{sum_by-cons}
 use Rattle.std.proofs.ByRecursion.{All-append, All-weaker}
+use Rattle.sql_value.proofs.Lists.{filter_none}
 use Rattle.sql_types.specs.declared.entry.TxEntry.{TxEntry}
 use Rattle.sql_types.specs.declared.event.Event.{Event}
 use Rattle.sql_types.specs.declared.journal.JournalItem.{JournalItem}
@@ -16,10 +17,11 @@ use Rattle.spec_model.specs.Journals.{after_item, serial, IsNext, IsLegal}
 use Rattle.spec_model.specs.Script.{Reading, script}
 use Rattle.spec_model.specs.SystemTables.{first_tables}
 use Rattle.law_frame.proofs.Alls.{all_both}
+use Rattle.law_frame.proofs.UpdateKeys.{named_itself}
 use Rattle.law_journal.specs.Kept.{count, count_all, IsNumbered}
 use Rattle.law_journal.specs.Serial.{place_in, TablesOf}
 use Rattle.law_journal.proofs.Serials.{legal_tables, legal_described}
-use Rattle.law_journal.proofs.Tables.{table_count}
+use Rattle.law_journal.proofs.Tables.{table_count, one_or_none}
 use Rattle.spec_ledger.specs.Entries.{entry_of, at_place, placed, roots_of}
 use Rattle.spec_ledger.specs.Ledger.{Ledger, recorded, ledger_from, ledger_of, entries_of}
 use Rattle.spec_ledger.proofs.Adding.{serial_more, one_more}
@@ -32,16 +34,12 @@ use Rattle.law_accepts.proofs.Along.{along}
 use Rattle.law_accepts.proofs.Begins.{begins}
 use Rattle.law_accepts.proofs.ByNumber.{are_all_numbered}
 use Rattle.law_accepts.proofs.Events.{same_events, numbered}
-use Rattle.law_accepts.proofs.Firsts.{same_bytes, passes, neither, nothing_first}
-use Rattle.law_accepts.proofs.Ids.{entry_ids, other_ids, same_ids, none_left}
+use Rattle.law_accepts.proofs.Firsts.{passes, neither, nothing_first}
+use Rattle.law_accepts.proofs.Ids.{entry_ids, other_ids, same_ids}
 use Rattle.law_accepts.proofs.Shown.{in_parts, tables_shown}
 use Rattle.law_accepts.proofs.Stay.{Same, all_alike, script_leaves}
 
 -- ---- the tables as the image shows them
-
-one_or_none : (b : Bool) → (let n : ℕ = cond b 1 0 in n ≤ 1)
-one_or_none true = omega arith
-one_or_none false = omega arith
 
 module _ (tx k : ℕ) where
   few_by : (T : Tables) → ((n : ℕ) → count_all (tx, n) T ≤ 1) → AllByRecursion (λ t. (n : ℕ) → count (tx, n) t.versions ≤ 1) T
@@ -141,10 +139,10 @@ module _ (h : List ℕ → List ℕ) where
 
 own_root : (o : Option (List ℕ)) → same_root o o ≡ true
 own_root None = refl
-own_root (Some a) = same_bytes a a refl
+own_root (Some a) = named_itself a a refl
 
 no_other : (rs : List TableRoot) → other_roots rs rs ≡ []
-no_other rs = none_left (λ t. not (same_root (root_at rs t) (root_at rs t))) _ (all_of_them _)
+no_other rs = filter_none (λ t. not (same_root (root_at rs t) (root_at rs t))) _ (all_of_them _)
   where
     all_of_them : (ts : List ℕ) → AllByRecursion (λ t. not (same_root (root_at rs t) (root_at rs t)) ≡ false) ts
     all_of_them [] = tt

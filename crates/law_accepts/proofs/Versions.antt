@@ -8,6 +8,8 @@ use Rattle.sql_value.specs.declared.column.ColumnDef.{ColumnDef}
 use Rattle.sql_value.specs.declared.column.TableKind.{TableKind}
 use Rattle.sql_value.specs.declared.column.TableKind.TheVariants.{AppendOnly, Updatable}
 use Rattle.sql_value.specs.declared.sql_type.SqlType.{SqlType}
+use Rattle.sql_value.proofs.Bools.{or_true}
+use Rattle.sql_value.proofs.Lists.{filter_none}
 use Rattle.sql_types.specs.declared.entry.TxEntry.{TxEntry}
 use Rattle.sql_types.specs.declared.journal.JournalItem.{JournalItem}
 use Rattle.sql_types.specs.declared.version.Table.{Table}
@@ -33,7 +35,7 @@ use Rattle.spec_verify.specs.Entries.{least_event}
 use Rattle.spec_verify.specs.Order.{position_of, is_before, is_earlier, later_of, latest, ends_before, ends_well, follows, before, is_in_order, shares_key}
 use Rattle.spec_verify.specs.Versions.{same_type, is_of, has_columns, respects_not_null, with_columns, version_holds, bad_versions, version_fault}
 use Rattle.law_accepts.proofs.Firsts.{both}
-use Rattle.law_accepts.proofs.Ids.{none_left, same_place}
+use Rattle.law_accepts.proofs.Ids.{same_place}
 use Rattle.law_accepts.proofs.Indexes.{own_type}
 use Rattle.law_accepts.proofs.Shown.{in_parts, tables_shown}
 
@@ -48,10 +50,6 @@ columns_fit [] [] fits = refl
 columns_fit [] (v ∷ vs) fits = absurd fits
 columns_fit (c ∷ cs) [] fits = absurd fits
 columns_fit (c ∷ cs) (v ∷ vs) fits = both (of_column c v fits.0) (columns_fit cs vs fits.1)
-
-or_true : (a : Bool) → (a || true) ≡ true
-or_true true = refl
-or_true false = refl
 
 there_or_null : (c : ColumnDef) (v : Option TypedValue) → FitsColumn c v → (c.nullable || is_some v) ≡ true
 there_or_null c None fits = rw fits refl
@@ -242,7 +240,7 @@ module _ (items : List JournalItem) (entries : List TxEntry) (same : (id : ℕ) 
     none_bad : bad_versions entries (in_parts t) ≡ []
     none_bad =
         ap (map (λ (v : Version). (t.def.id, v.start)))
-        (none_left (λ v. not (version_holds entries (in_parts t) v)) (in_parts t).versions
+        (filter_none (λ v. not (version_holds entries (in_parts t) v)) (in_parts t).versions
         (All-weaker Facts (λ v. not (version_holds entries (in_parts t) v) ≡ false) (λ v f. ap not (one_holds v f)) (in_parts t).versions (in_both Facts facts)))
 
   no_bad : (T : Tables) → AllByRecursion (TableOf items) T → AllKeepRows T → flat_map (bad_versions entries) (map in_parts T) ≡ []

@@ -13,7 +13,7 @@ use Rattle.spec_history.proofs.Trace.{count_append}
 use Rattle.spec_ledger.specs.Entries.{entry_of, at_place, placed}
 use Rattle.spec_ledger.specs.Ledger.{Ledger, empty_ledger, recorded, ledger_from, ledger_of, entries_of}
 
-placed_length : (b n : ℕ) (xs : List TxEntry) → length (placed b n xs) ≡ length xs
+pub placed_length : (b n : ℕ) (xs : List TxEntry) → length (placed b n xs) ≡ length xs
 placed_length b n [] = refl
 placed_length b n (x ∷ xs) = ap suc (placed_length b (n + 1) xs)
 

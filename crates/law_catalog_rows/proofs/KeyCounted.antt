@@ -7,6 +7,7 @@ use Rattle.std.specs.Prelude.{◌==◌, ◌||◌, not, nat_le, nat_lt, cond, is_
 use Rattle.std.specs.List.{AllByRecursion, list_all, position_or_len, range_with_len}
 use Rattle.std.specs.Str.{bytes_eq}
 use Rattle.sql_value.specs.declared.column.ColumnDef.{ColumnDef}
+use Rattle.sql_value.proofs.Lists.{bytes_eq-same, bytes_eq-true}
 use Rattle.spec_model.specs.Lists.{has_name, repeats}
 use Rattle.spec_model.specs.Columns.{place_of}
 use Rattle.spec_model.specs.Checks.{is_declared}
@@ -14,7 +15,6 @@ use Rattle.spec_model.specs.Create.{names_of, ordinal_at, key_position_of}
 use Rattle.law_catalog_rows.specs.IsEncodableDef.{is_among, is_between, greatest, positions_of, are_key_positions}
 use Rattle.law_catalog_rows.specs.Formed.{HasKeyPositions}
 use Rattle.law_catalog_rows.proofs.Forms.{other_way}
-use Rattle.law_catalog_rows.proofs.Ordinals.{same_bytes, own_bytes}
 use Rattle.law_catalog_rows.proofs.KeyPositions.{positions_differ}
 
 -- ---- the greatest
@@ -73,7 +73,7 @@ module _ (key : List (List ℕ)) where
   among n k (c ∷ cs) p e d = here (bytes_eq c.name n) refl d (λ h. among n k cs p.1 e h)
     where
       here : (b : Bool) → bytes_eq c.name n ≡ b → (b || has_name (names_of cs) n) ≡ true → (has_name (names_of cs) n ≡ true → is_among (positions_of cs) (suc k) ≡ true) → is_among (positions_of (c ∷ cs)) (suc k) ≡ true
-      here true is h m = has_it (c.key_position == 0) c.key_position k (positions_of cs) refl (p.0 ∙ ap (key_position_of key) (same_bytes c.name n is) ∙ e)
+      here true is h m = has_it (c.key_position == 0) c.key_position k (positions_of cs) refl (p.0 ∙ ap (key_position_of key) (bytes_eq-true c.name n is) ∙ e)
       here false is h m = still (not (c.key_position == 0)) c.key_position (suc k) (positions_of cs) (m h)
 
 -- a name that is declared is among the columns'
@@ -97,7 +97,7 @@ not_at m n rest [] h = (or_parts (bytes_eq n m) (has_name rest m) h).0
 not_at m n rest (x ∷ xs) h = not_at m n rest xs (or_parts (bytes_eq x m) (has_name (xs ++ n ∷ rest) m) h).1
 
 own_length : (front : List (List ℕ)) (n : List ℕ) (rest : List (List ℕ)) → repeats (front ++ n ∷ rest) ≡ false → position_or_len (λ m. bytes_eq m n) (front ++ n ∷ rest) ≡ length front
-own_length [] n rest e = rw (own_bytes n) refl
+own_length [] n rest e = rw (bytes_eq-same n) refl
 own_length (m ∷ front) n rest e =
     let h = or_parts (has_name (front ++ n ∷ rest) m) (repeats (front ++ n ∷ rest)) e in
     rw (other_way n m (not_at m n rest front h.0), own_length front n rest h.1) (omega arith)

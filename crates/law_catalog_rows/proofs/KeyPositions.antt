@@ -6,10 +6,10 @@ use Rattle.std.specs.Prelude.{◌==◌, not, position, if◌then◌else◌}
 use Rattle.std.specs.List.{AllByRecursion}
 use Rattle.std.specs.Str.{bytes_eq}
 use Rattle.sql_value.specs.declared.column.ColumnDef.{ColumnDef}
+use Rattle.sql_value.proofs.Lists.{bytes_eq-same, bytes_eq-true as same_bytes}
 use Rattle.spec_model.specs.Lists.{has_name, repeats}
 use Rattle.spec_model.specs.Create.{names_of, ordinal_at, key_position_of}
 use Rattle.law_catalog_rows.specs.IsEncodableDef.{is_among, number_repeats, positions_of}
-use Rattle.law_catalog_rows.proofs.Ordinals.{same_bytes, own_bytes}
 
 module _ (key : List (List ℕ)) where
   abbrev AtPlaces : List ColumnDef → Type 0
@@ -31,7 +31,7 @@ module _ (key : List (List ℕ)) where
       let same : d.key_position ≡ c.key_position = eqb-true d.key_position c.key_position is in
       let n : (key_position_of key c.name == 0) ≡ false = ap (λ (k : ℕ). k == 0) (sym p) ∙ ne in
       let e : d.name ≡ c.name = one_name d.name c.name (position (λ n. bytes_eq n d.name) key) (position (λ n. bytes_eq n c.name) key) refl refl (sym q ∙ same ∙ p) n in
-      let g : bytes_eq d.name c.name ≡ true = ap (λ (x : List ℕ). bytes_eq x c.name) e ∙ own_bytes c.name in cc
+      let g : bytes_eq d.name c.name ≡ true = ap (λ (x : List ℕ). bytes_eq x c.name) e ∙ bytes_eq-same c.name in cc
   apart c d p q ne f false is = refl
 
   with_one : (b : Bool) (m n : ℕ) (ns : List ℕ) → (m == n) ≡ false → is_among ns n ≡ false → is_among (if b then m ∷ ns else ns) n ≡ false

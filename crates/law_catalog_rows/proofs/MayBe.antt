@@ -8,6 +8,7 @@ use Rattle.std.proofs.lemmas.Bool.{or_parts}
 use Rattle.sql_value.specs.declared.column.ColumnDef.{ColumnDef}
 use Rattle.sql_value.specs.declared.column.TableKind.{TableKind}
 use Rattle.sql_value.specs.declared.column.TableKind.TheVariants.{AppendOnly, Updatable}
+use Rattle.sql_value.proofs.Naturals.{le_true}
 use Rattle.sql_types.specs.declared.table.TableDef.{TableDef}
 use Rattle.sql_types.specs.declared.table.IndexDef.{IndexDef}
 use Rattle.spec_model.specs.Create.{is_ledger_name, key_position_of}
@@ -22,14 +23,11 @@ in_between low high n a b = grind (arith, nat_tests)
 not_long : (n : ℕ) → n ≤ 128 → nat_lt 128 n ≡ false
 not_long n le = grind (arith, nat_tests)
 
-some_bytes : (n : ℕ) → 1 ≤ n → nat_le 1 n ≡ true
-some_bytes n le = grind (arith, nat_tests)
-
 at_most_four : (n : ℕ) → n ≤ 4 → nat_le n 4 ≡ true
 at_most_four n le = grind (arith, nat_tests)
 
 proper : (name : List ℕ) → IsWritten name → length name ≤ 128 → is_proper_name name ≡ true
-proper name w le = rw (some_bytes (length name) w.0, not_long (length name) le, w.1) refl
+proper name w le = rw (le_true (length name) w.0, not_long (length name) le, w.1) refl
 
 history_proper : (kind : TableKind) (name : List ℕ) → HistoryOf kind name → HistoryWritten kind name → has_its_history kind name ≡ true
 history_proper AppendOnly name h w = ap (λ (x : List ℕ). length x == 0) h

@@ -13,6 +13,7 @@ use Rattle.std.proofs.ByRecursion.{All-append}
 use Rattle.sql_value.specs.declared.column.ColumnDef.{ColumnDef}
 use Rattle.sql_value.specs.declared.column.TableKind.{TableKind}
 use Rattle.sql_value.specs.declared.column.TableKind.TheVariants.{AppendOnly, Updatable}
+use Rattle.sql_value.proofs.Lists.{bytes_eq-same, bytes_eq-true}
 use Rattle.sql_types.specs.declared.statement.Stmt.{Stmt}
 use Rattle.sql_types.specs.declared.statement.Stmt.TheVariants as s
 use Rattle.sql_types.specs.declared.statement.CreateTable.{CreateTable}
@@ -40,7 +41,6 @@ use Rattle.law_catalog_rows.specs.Written.{IsWritten, IfWritten, TableWritten, I
 use Rattle.law_catalog_rows.proofs.Forms.{keyed_places, new_def, index_is, in_its_place, found_in}
 use Rattle.law_catalog_rows.proofs.FormedAfter.{with_system_defs}
 use Rattle.law_catalog_rows.proofs.KeyCounted.{declared_name}
-use Rattle.law_catalog_rows.proofs.Ordinals.{same_bytes, own_bytes}
 
 -- ---- names
 
@@ -85,13 +85,13 @@ key_column key n (c ∷ cs) p e d = here (bytes_eq c.name n) refl d (λ h. key_c
     or_more false c h = h
 
     here : (b : Bool) → bytes_eq c.name n ≡ b → (b || has_name (names_of cs) n) ≡ true → (has_name (names_of cs) n ≡ true → list_any (λ d. not (d.key_position == 0)) cs ≡ true) → (not (c.key_position == 0) || list_any (λ d. not (d.key_position == 0)) cs) ≡ true
-    here true is h m = rw (p.0 ∙ ap (key_position_of key) (same_bytes c.name n is) ∙ e) refl
+    here true is h m = rw (p.0 ∙ ap (key_position_of key) (bytes_eq-true c.name n is) ∙ e) refl
     here false is h m = or_more (not (c.key_position == 0)) (list_any (λ d. not (d.key_position == 0)) cs) (m h)
 
 some_column : (key : List (List ℕ)) (cs : List ColumnDef) → 1 ≤ length key → AtPlaces key cs → list_all (is_declared cs) key ≡ true → list_any (λ c. not (c.key_position == 0)) cs ≡ true
 some_column [] cs le p d = absurd (omega (arith, le))
 some_column (n ∷ key) cs le p d =
-    key_column (n ∷ key) n cs p (rw (own_bytes n, lt-ltb 0 (suc (length key)) (omega arith)) refl) (declared_name n cs (place_of cs n) refl (and_parts (is_declared cs n) (list_all (is_declared cs) key) d).0)
+    key_column (n ∷ key) n cs p (rw (bytes_eq-same n, lt-ltb 0 (suc (length key)) (omega arith)) refl) (declared_name n cs (place_of cs n) refl (and_parts (is_declared cs n) (list_all (is_declared cs) key) d).0)
 
 -- ---- CREATE TABLE
 

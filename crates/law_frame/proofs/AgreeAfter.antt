@@ -1,6 +1,6 @@
 -- Two states that agree on a want still agree on it after the same changes of both.
 use Rattle.std.proofs.Common.{◌≡◌, ℕ, ◌+◌, refl, sym, ap, subst, ◌∙◌, Bool, true, false, List, [], ◌∷◌, map, Option, Some, None}
-use Rattle.std.proofs.lemmas.Bool.{eqb-true, eq-eqb}
+use Rattle.std.proofs.lemmas.Bool.{eqb-true}
 use Rattle.std.specs.Prelude.{◌==◌, ◌&&◌, ◌||◌, if◌then◌else◌}
 use Rattle.std.specs.List.{AllByRecursion, filter, list_any}
 use Rattle.std.specs.declared.cmp.Ordering.{Ordering}
@@ -8,6 +8,7 @@ use Rattle.std.specs.declared.cmp.Ordering.TheVariants.{Less, Equal, Greater}
 use Rattle.std.specs.Ordering.{is_gt}
 use Rattle.std.proofs.ByRecursion.{All-weaker}
 use Rattle.sql_value.specs.declared.column.ColumnDef.{ColumnDef}
+use Rattle.sql_value.proofs.Naturals.{eqb_sym}
 use Rattle.sql_types.specs.declared.lock.Mode.{Mode}
 use Rattle.sql_types.specs.declared.lock.Mode.TheVariants.{IS, IX, S, X}
 use Rattle.sql_types.specs.declared.lock.Item.{Item}
@@ -92,15 +93,6 @@ module _ (columns : List ColumnDef) (key : Key) where
 unfoldable pub has_table : Defs → ℕ → Bool
 has_table defs id = list_any (λ d. d.id == id) defs
 
-mirror : (a b : ℕ) → (a == b) ≡ (b == a)
-mirror a b = here (a == b) (b == a) refl refl
-  where
-    here : (p q : Bool) → (a == b) ≡ p → (b == a) ≡ q → p ≡ q
-    here true true e f = refl
-    here true false e f = sym (eq-eqb b a (sym (eqb-true a b e))) ∙ f
-    here false true e f = sym e ∙ eq-eqb a b (sym (eqb-true b a f))
-    here false false e f = refl
-
 absent : (b : Bool) (f : List Version → List Version) → let vs : List Version = if b && false then f [] else [] in [] ≡ vs
 absent true f = refl
 absent false f = refl
@@ -112,7 +104,7 @@ present false f t = refl
 at_head : (i id : ℕ) (f : List Version → List Version) (t : Table) (rest vs : List Version) (any b : Bool) → (t.def.id == id) ≡ b → rest ≡ (if i == id && any then f vs else vs)
     → (let u : Table = if t.def.id == i then with_versions f t else t in (if b then u.versions else rest) ≡ (if i == id && (b || any) then f (if b then t.versions else vs) else (if b then t.versions else vs)))
 at_head i id f t rest vs any true e h =
-    let same : (t.def.id == i) ≡ (i == id) = ap (λ (n : ℕ). n == i) (eqb-true t.def.id id e) ∙ mirror id i in
+    let same : (t.def.id == i) ≡ (i == id) = ap (λ (n : ℕ). n == i) (eqb-true t.def.id id e) ∙ eqb_sym id i in
     ap (λ (c : Bool). (λ (u : Table). u.versions) (if c then with_versions f t else t)) same ∙ present (i == id) f t
 at_head i id f t rest vs any false e h = h
 

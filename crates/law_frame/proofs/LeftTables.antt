@@ -37,9 +37,7 @@ use Rattle.law_frame.proofs.NamedPart.{IsAmongDefs, Passed, passed, checked_is_l
 use Rattle.law_frame.proofs.AtTable.{changed_at, new_table, redefined_table, rising_at, names_at}
 use Rattle.law_frame.proofs.LeftAlone.{Leaves, all_leave}
 use Rattle.law_frame.proofs.LeftRows.{row_leaves}
-
-not_both : {b : Bool} → b ≡ false → b ≡ true → ⊥
-not_both h k = cc
+use Rattle.law_frame.proofs.NoClash.{not_both}
 
 -- ---- changes of other tables
 

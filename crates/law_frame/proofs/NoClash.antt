@@ -28,7 +28,7 @@ use Rattle.spec_model.specs.NoClash.{text_clash}
 use Rattle.law_frame.proofs.SameKeys.{same_key_as, same_itself}
 use Rattle.law_frame.proofs.BaseTables.{users_table}
 
-not_both : {b : Bool} → b ≡ false → b ≡ true → ⊥
+pub not_both : {b : Bool} → b ≡ false → b ≡ true → ⊥
 not_both h k = cc
 
 -- ---- keys
@@ -64,7 +64,7 @@ relies_conflicts X r = refl
 relies_conflicts IS r = absurd r
 relies_conflicts IX r = absurd r
 
-x_conflicts : (m : Mode) → request.conflict m X ≡ true
+pub x_conflicts : (m : Mode) → request.conflict m X ≡ true
 unfolding request.conflict
 x_conflicts IS = refl
 x_conflicts IX = refl

@@ -10,6 +10,7 @@ use Rattle.std.specs.declared.cmp.Ordering.TheVariants.{Less, Equal, Greater}
 use Rattle.std.specs.Ordering.{is_eq, ordering_reverse}
 use Rattle.std.proofs.ByRecursion.{All-weaker}
 use Rattle.sql_value.specs.Order.{value_total}
+use Rattle.sql_value.proofs.Orderings.{is_equal}
 use Rattle.sql_types.specs.declared.version.Version.{Version}
 use Rattle.spec_model.specs.Rows.{EventId, event_cmp, same_event, start_cmp}
 use Rattle.spec_model.specs.Keys.{Key, key_cmp, same_key}
@@ -21,11 +22,6 @@ use Rattle.law_frame.proofs.Sounds.{event_total}
 key_total : IsTotalOrder key_cmp
 unfolding key_cmp
 key_total = lists_total value_total
-
-is_equal : (o : Ordering) → is_eq o ≡ true → o ≡ Equal
-is_equal Less h = cc
-is_equal Equal h = refl
-is_equal Greater h = cc
 
 -- what is equal to a key is equal to all that it is equal to, and to nothing else
 pub same_key_as : (a b key : Key) → same_key a b ≡ true → same_key a key ≡ same_key b key
@@ -61,7 +57,7 @@ each_alone (u ∷ us) r = (
     together [] l a = tt
     together (v ∷ vs) l a = (((λ h. absurd (rises_apart_too u v l.0 h)), a.0), together vs l.1 a.1)
 
-own_reverse : (o : Ordering) → o ≡ ordering_reverse o → is_eq o ≡ true
+pub own_reverse : (o : Ordering) → o ≡ ordering_reverse o → is_eq o ≡ true
 own_reverse Less e = cc
 own_reverse Equal e = refl
 own_reverse Greater e = cc

@@ -1,13 +1,13 @@
 -- Each event keeps the tables sound.
 use Rattle.std.proofs.Common.{◌≡◌, ◌≢◌, ℕ, ◌+◌, refl, sym, ap, subst, ◌∙◌, Bool, true, false, List, [], ◌∷◌, length, Option, Some, None, arith}
-use Rattle.std.proofs.lemmas.Grind.{common_steps}
 use Rattle.std.specs.Prelude.{◌==◌, if◌then◌else◌}
 use Rattle.std.specs.List.{AllByRecursion}
 use Rattle.std.specs.Cmp.{IsTotalOrder, then_total, on_total, nat_cmp_total}
 use Rattle.std.specs.declared.cmp.Ordering.{Ordering}
 use Rattle.std.specs.declared.cmp.Ordering.TheVariants.{Less, Equal, Greater}
-use Rattle.std.specs.Ordering.{nat_cmp, ordering_then, ordering_reverse, is_gt}
+use Rattle.std.specs.Ordering.{nat_cmp, ordering_reverse, is_gt}
 use Rattle.std.proofs.ByRecursion.{All-weaker}
+use Rattle.sql_value.proofs.Orderings.{both_equal, equal_numbers}
 use Rattle.sql_types.specs.declared.version.Table.{Table}
 use Rattle.sql_types.specs.declared.version.TypedValue.{TypedValue}
 use Rattle.sql_types.specs.declared.version.Version.{Version}
@@ -28,14 +28,6 @@ event_total = then_total (on_total (λ (e : EventId). e.0) nat_cmp_total) (on_to
 
 pub start_total : IsTotalOrder start_cmp
 start_total = on_total (λ (v : Version). v.start) event_total
-
-both_equal : (a b : Ordering) → ordering_then a b ≡ Equal → (a ≡ Equal) × (b ≡ Equal)
-both_equal Less b h = cc
-both_equal Equal b h = (refl, h)
-both_equal Greater b h = cc
-
-equal_numbers : (m n : ℕ) → nat_cmp m n ≡ Equal → m ≡ n
-equal_numbers m n h = grind (arith, common_steps)
 
 pub one_event : (a b : EventId) → event_cmp a b ≡ Equal → (a.0 ≡ b.0) × (a.1 ≡ b.1)
 one_event a b h = let p = both_equal (nat_cmp a.0 b.0) (nat_cmp a.1 b.1) h in (equal_numbers a.0 b.0 p.0, equal_numbers a.1 b.1 p.1)

@@ -1,9 +1,10 @@
 -- Undo of the changes of a transaction in all tables.
 use Rattle.std.proofs.Common.{◌≡◌, ℕ, ◌+◌, ◌≤◌, refl, sym, ap, subst, ◌∙◌, Bool, true, false, List, [], ◌∷◌, take, Ok, Err, arith}
 use Rattle.std.proofs.lemmas.Bool.{eq-eqb, eqb-true, ne_eqb}
-use Rattle.std.specs.Prelude.{◌==◌, if◌then◌else◌, zero, suc}
+use Rattle.std.specs.Prelude.{◌==◌, if◌then◌else◌}
 use Rattle.std.specs.List.{AllByRecursion}
 use Rattle.std.proofs.ByRecursion.{All-weaker}
+use Rattle.sql_value.proofs.Lists.{all_take}
 use Rattle.sql_types.specs.declared.statement.Stmt.{Stmt}
 use Rattle.sql_types.specs.declared.statement.Stmt.TheVariants as s
 use Rattle.sql_types.specs.declared.statement.RowStmt.{RowStmt}
@@ -118,15 +119,10 @@ module _ (tx n : ℕ) where
     pub statement_undone : n ≤ seq → (stmt : Stmt) → creates stmt ≡ false → undone tx n (effect T tx seq stmt).tables ≡ undone tx n T
     statement_undone le stmt e = ap (undone tx n) (tables_after T tx seq stmt e) ∙ all_undone seq le (change_set T stmt).changes T (change_set_undoes stmt e)
 
-first_few : {A : Type 0} (P : A → Type 0) (k : ℕ) (xs : List A) → AllByRecursion P xs → AllByRecursion P (take k xs)
-first_few P zero xs h = tt
-first_few P (suc k) [] h = tt
-first_few P (suc k) (x ∷ xs) h = (h.0, first_few P k xs h.1)
-
 -- a statement of which the first few changes were made
 pub part_undone : (T : Tables) (tx seq k : ℕ) (stmt : Stmt) → Sound tx seq T → creates stmt ≡ false → undone tx seq (changed_from tx seq (take k (change_set T stmt).changes) T) ≡ T
 part_undone T tx seq k stmt sound e =
-    all_undone tx seq seq (omega arith) (take k (change_set T stmt).changes) T (first_few (UndoesAt tx seq T) k (change_set T stmt).changes (change_set_undoes tx seq seq T sound stmt e))
+    all_undone tx seq seq (omega arith) (take k (change_set T stmt).changes) T (all_take (UndoesAt tx seq T) k (change_set T stmt).changes (change_set_undoes tx seq seq T sound stmt e))
     ∙ none_undone tx seq T sound.each
 
 pub whole_undone : (T : Tables) (tx seq : ℕ) (stmt : Stmt) → Sound tx seq T → creates stmt ≡ false → undone tx seq (effect T tx seq stmt).tables ≡ T

@@ -12,6 +12,7 @@ use Rattle.sql_value.specs.declared.value.Value.{Value}
 use Rattle.sql_value.specs.declared.column.ColumnDef.{ColumnDef}
 use Rattle.sql_value.specs.declared.refusal.Refusal.TheVariants.{NameConflict, NoSuchColumn, AppendOnlyTable, ReadOnlyTable, KeyNotUpdatable}
 use Rattle.sql_value.specs.declared.expr.Expr.{Expr}
+use Rattle.sql_value.proofs.Lists.{bytes_eq-true}
 use Rattle.sql_types.specs.declared.table.TableDef.{TableDef}
 use Rattle.sql_types.specs.declared.table.Part.{Part}
 use Rattle.sql_types.specs.declared.version.Version.{Version}
@@ -30,10 +31,7 @@ use Rattle.law_frame.proofs.MappedRows.{stored_mapped, key_kept}
 
 -- ---- columns by name
 
-same_name : (a b : List ℕ) → bytes_eq a b ≡ true → a ≡ b
-same_name a b h = (bytes_eq-Decides a b).0 h
-
-named_itself : (a b : List ℕ) → a ≡ b → bytes_eq a b ≡ true
+pub named_itself : (a b : List ℕ) → a ≡ b → bytes_eq a b ≡ true
 named_itself a b e = (bytes_eq-Decides a b).1 e
 
 -- none of these columns has the name
@@ -78,7 +76,7 @@ found_by_name : (columns : List ColumnDef) (p : ℕ) (c : ColumnDef) (o : Option
 found_by_name columns p c (Some i) r e f =
     let found = position-Some (λ (d : ColumnDef). bytes_eq d.name c.name) columns i c f in
     let at : slice_get columns i ≡ Some (get_or columns i c) = slice_get-get_or columns i c found.0 in
-    at ∙ ap (λ (d : ColumnDef). Some d) (one_named columns i p c (get_or columns i c) r e at (same_name (get_or columns i c).name c.name found.1))
+    at ∙ ap (λ (d : ColumnDef). Some d) (one_named columns i p c (get_or columns i c) r e at (bytes_eq-true (get_or columns i c).name c.name found.1))
 found_by_name columns p c None r e f =
     absurd (no (none_passes (λ (d : ColumnDef). bytes_eq d.name c.name) columns 0 p c (sym (position_from-zero (λ (d : ColumnDef). bytes_eq d.name c.name) columns) ∙ f) e) (named_itself c.name c.name refl))
   where
@@ -95,7 +93,7 @@ not_set columns (s ∷ ss) c h k =
     here (bytes_eq s.0 c.name) refl p.0 (not_set columns ss c p.1 k)
   where
     here : (b : Bool) → bytes_eq s.0 c.name ≡ b → is_in_key columns s.0 ≡ false → expr_set ss c.name ≡ None → (if b then Some s.1 else expr_set ss c.name) ≡ None
-    here true e f g = absurd (let t : is_in_key columns s.0 ≡ true = ap (is_in_key columns) (same_name s.0 c.name e) ∙ k in cc)
+    here true e f g = absurd (let t : is_in_key columns s.0 ≡ true = ap (is_in_key columns) (bytes_eq-true s.0 c.name e) ∙ k in cc)
     here false e f g = g
 
 key_column : (columns : List ColumnDef) (p : ℕ) (c : ColumnDef) → repeats (names_of columns) ≡ false → slice_get columns p ≡ Some c → c.key_position ≢ 0 → is_in_key columns c.name ≡ true

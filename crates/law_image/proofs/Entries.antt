@@ -4,6 +4,7 @@ use Rattle.std.proofs.lemmas.List.{length-append}
 use Rattle.std.specs.Prelude.{if◌then◌else◌}
 use Rattle.std.specs.List.{AllByRecursion, filter}
 use Rattle.std.proofs.ByRecursion.{All-append}
+use Rattle.base_types.proofs.Lists.{all_take, all_drop}
 use Rattle.base_merkle.specs.TreeHash.{tree_hash, tree_hash_within}
 use Rattle.format_entry.specs.Entry.{IsRoot, entry_bytes}
 use Rattle.format_entry.specs.Record.{IsRecord, record_bytes}
@@ -28,16 +29,6 @@ use Rattle.law_blocks.proofs.Roots.{legal_ids, roots_rise}
 use Rattle.format_image.specs.ImageBytes.{IsPlaceless}
 
 -- ---- parts of lists
-
-all_take : {A : Type 0} (P : A → Type 0) (k : ℕ) (xs : List A) → AllByRecursion P xs → AllByRecursion P (take k xs)
-all_take P zero xs h = tt
-all_take P (suc k) [] h = tt
-all_take P (suc k) (x ∷ xs) h = (h.0, all_take P k xs h.1)
-
-all_drop : {A : Type 0} (P : A → Type 0) (k : ℕ) (xs : List A) → AllByRecursion P xs → AllByRecursion P (drop k xs)
-all_drop P zero xs h = h
-all_drop P (suc k) [] h = tt
-all_drop P (suc k) (x ∷ xs) h = all_drop P k xs h.1
 
 pub few_filtered : {A : Type 0} (test : A → Bool) (xs : List A) → length (filter test xs) ≤ length xs
 few_filtered test [] = omega arith

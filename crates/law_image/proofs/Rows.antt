@@ -8,6 +8,7 @@ use Rattle.std.specs.Ordering.{nat_cmp, is_gt}
 use Rattle.std.specs.declared.cmp.Ordering.{Ordering}
 use Rattle.std.specs.declared.cmp.Ordering.TheVariants.{Less, Equal, Greater}
 use Rattle.std.proofs.ByRecursion.{kept_by_passes, All-weaker}
+use Rattle.base_types.proofs.Bools.{and_back as last}
 use Rattle.sql_value.specs.declared.column.ColumnDef.{ColumnDef}
 use Rattle.sql_value.specs.declared.value.Value.{Value}
 use Rattle.sql_value.specs.declared.value.Value.TheVariants.{Null, Num, Text, Bytes, Date}
@@ -32,7 +33,6 @@ use Rattle.law_journal.specs.Serial.{place_in, HasTx, IsOf}
 use Rattle.format_image.specs.RowBytes.{IsValue, AreValues, IsPair, IsBaseRow, IsEnd, IsHistoryRow, comes_after, rise_after, starts_rise, AreBaseRows, AreHistoryRows, AreIndexRows, AreIndexes, IsTable}
 use Rattle.format_image.specs.Rows.{Stored, stored_at, index_ordinals, index_row, stored_cmp, index_rows, ended_ones, table_rows}
 use Rattle.law_image.specs.Room.{IsUtf8Text, VersionFitsFormat, TableFitsFormat}
-use Rattle.law_image.proofs.Defs.{last}
 use Rattle.law_image.proofs.Entries.{few_filtered, length_mapped}
 
 -- ---- values

@@ -31,7 +31,7 @@ none_any : {A : Type 0} (test : A → Bool) (xs : List A) → list_any test xs �
 none_any test [] e = tt
 none_any test (x ∷ xs) e = let p = or_parts (test x) (list_any test xs) e in (p.0, none_any test xs p.1)
 
-four_passed : {A : Type 0} (a b c d : Bool) (e f g h : Refusal) (y x : A) → refused_if a e (refused_if b f (refused_if c g (refused_if d h (Ok y)))) ≡ Ok x → x ≡ y
+pub four_passed : {A : Type 0} (a b c d : Bool) (e f g h : Refusal) (y x : A) → refused_if a e (refused_if b f (refused_if c g (refused_if d h (Ok y)))) ≡ Ok x → x ≡ y
 four_passed true b c d e f g h y x k = cc
 four_passed false true c d e f g h y x k = cc
 four_passed false false true d e f g h y x k = cc
@@ -58,7 +58,7 @@ six_false false false false false false false h = record { first = refl; second 
 at_most : (m n : ℕ) → nat_lt m n ≡ false → n ≤ m
 at_most m n e = grind (arith, nat_tests)
 
-below : (m n : ℕ) → nat_le m n ≡ false → n < m
+pub below : (m n : ℕ) → nat_le m n ≡ false → n < m
 below m n e = grind (arith, nat_tests)
 
 name_short : (x : List ℕ) → is_long x ≡ false → length x ≤ 128

@@ -91,7 +91,7 @@ count_part a (x ∷ A) t B = let q = sum_by-cons (table_count a) x (A ++ t ∷ B
 
 -- ---- numbers
 
-one_or_none : (b : Bool) → (let n : ℕ = cond b 1 0 in n ≤ 1)
+pub one_or_none : (b : Bool) → (let n : ℕ = cond b 1 0 in n ≤ 1)
 one_or_none true = omega arith
 one_or_none false = omega arith
 

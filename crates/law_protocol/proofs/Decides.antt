@@ -1,6 +1,6 @@
 -- A visit or a step that says a statement does so where nobody is in its way, and one that meets a lock meets the one that is.
 use Rattle.std.proofs.Common.{◌≡◌, ◌≢◌, ℕ, zero, suc, ◌<◌, ◌≤◌, Bool, true, List, [], ◌∷◌, ◌++◌, map, Option, Some, None, refl, sym, ap, ap₂, ◌∙◌, subst, subst₂, ⊎_elim, arith, append-nil}
-use Rattle.std.proofs.lemmas.Bool.{cases_eq, cases_lt, ne_eqb, eq-eqb}
+use Rattle.std.proofs.lemmas.Bool.{cases_eq, cases_lt, eq-eqb}
 use Rattle.std.specs.Prelude.{◌==◌, if◌then◌else◌}
 use Rattle.spec_model.specs.Catalog.{Defs, defs_of}
 use Rattle.spec_model.specs.Journals.{Line, serial}
@@ -29,12 +29,11 @@ use Rattle.law_protocol_steps.proofs.ByLocksMore.{below_first}
 use Rattle.law_protocol_steps.proofs.AnonymousActs.{at_after}
 use Rattle.law_protocol.proofs.FreeOrMet.{none_there}
 use Rattle.law_protocol.proofs.HeldStatements.{in_map}
-use Rattle.law_protocol_steps.proofs.Ids.{InTransaction, each_in, in_transaction}
+use Rattle.law_protocol_steps.proofs.Ids.{InTransaction, in_transaction}
+use Rattle.law_protocol_steps.proofs.AfterSet.{each_at}
+use Rattle.law_protocol.proofs.BegunNames.{else_at}
 
 -- ---- worlds
-
-else_at : (w : World) (n : ℕ) (a : SessionAct) (t : ℕ) → t ≢ n → (step w (by n a)).at t ≡ w.at t
-else_at w n a t ne = rw (ne_eqb t n ne) refl
 
 -- sessions beyond those that act are as they were
 beyond : (k : ℕ) (w : World) (es : List Act) → SessionsBelow k es → (t : ℕ) → k ≤ t → (run w es).at t ≡ w.at t
@@ -88,7 +87,7 @@ module _ (v : Server) {history : History} {cells : List Cell} {seats : List Seat
     locked : o.end ≡ unfixed → (text : Text) → In text (texts_so_far x o) → (i : ℕ) → Each (Holds (holds_at cells i) o.id) (requests_in v (defs_of (serial v.reads st.ledger.items)) o.explicit i text)
     locked open_end text said i = let m = in_map (λ l. l.0) (script_so_far x o) text said in
         subst (λ (z : Text). Each (Holds (holds_at cells i) o.id) (requests_in v (defs_of (serial v.reads st.ledger.items)) o.explicit i z)) m.is
-        (each_in (λ l. Each (Holds (holds_at cells i) o.id) (requests_in v (defs_of (serial v.reads st.ledger.items)) o.explicit i l.0)) (script_so_far x o) m.of (st.locks_cover.cover j x o has i keeps) m.has)
+        (each_at (λ l. Each (Holds (holds_at cells i) o.id) (requests_in v (defs_of (serial v.reads st.ledger.items)) o.explicit i l.0)) (script_so_far x o) m.of (st.locks_cover.cover j x o has i keeps) m.has)
       where
         none_released : o.released ≡ []
         none_released = st.locks_cover.unreleased j x o has open_end

@@ -26,10 +26,9 @@ use Rattle.spec_protocol.specs.Server.{Server}
 use Rattle.spec_protocol.specs.StandTogether.{History, IsOfSeat, LocksAskedFor, Stands, StandsDone}
 use Rattle.spec_protocol.specs.TranscriptsAgree.{TranscriptsAgree}
 use Rattle.spec_history.specs.Histories.{OneAtATime}
-use Rattle.law_protocol_steps.proofs.AfterSet.{all_at}
+use Rattle.law_protocol_steps.proofs.AfterSet.{all_at, each_at}
 use Rattle.law_protocol_steps.proofs.ByLocksMore.{alone_append}
 use Rattle.law_protocol_steps.proofs.GoesOn.{Goes, goes, goes_on, still}
-use Rattle.law_protocol_steps.proofs.Ids.{each_in}
 use Rattle.law_protocol.proofs.SeatNames.{has_begun, name_there}
 
 -- a session that did something has begun, and its name is one of these
@@ -101,7 +100,7 @@ one_did v {j} {history} {anonymous_acts} {cells} {seats} d wanted decide t there
     each (closes k) i = tt
     each (by n a) i =
         let l = counted v d.stands n a (in_right (by n a) history d.events i) in
-        let mine : d.stands.transcripts_agree.owner n ≡ j = each_in (IsOfSeat d.stands.transcripts_agree.owner j) d.events (by n a) d.mine i in
+        let mine : d.stands.transcripts_agree.owner n ≡ j = each_at (IsOfSeat d.stands.transcripts_agree.owner j) d.events (by n a) d.mine i in
         let w = d.stands.transcripts_agree.all n l in
         let same : w.0 ≡ t = some-injective w.0 t (sym w.1 ∙ ap (get_elem? seats) mine ∙ there) in
         (has_begun v (history ++ d.events) d.stands.ledger seats d.stands.transcripts_agree n l, subst (λ (z : SeatState). In ((run first (history ++ d.events)).at n).name (names_of z)) same (name_there v (history ++ d.events) d.stands.ledger seats d.stands.transcripts_agree n l))

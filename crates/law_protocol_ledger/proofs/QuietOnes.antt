@@ -13,8 +13,8 @@ use Rattle.spec_protocol.specs.Server.{Server}
 use Rattle.spec_protocol.specs.EventsIn.{events_in}
 use Rattle.spec_protocol.specs.LedgerVisits.{is_empty}
 use Rattle.spec_protocol.specs.TreesAreOfEvents.{AreTrees}
-use Rattle.law_protocol_steps.proofs.Ids.{each_in}
 use Rattle.format_event.specs.Leaf.{event_bytes}
+use Rattle.law_protocol_steps.proofs.AfterSet.{each_at}
 
 is_nil : (xs : List Text) → is_empty xs ≡ true → xs ≡ []
 is_nil [] e = refl
@@ -43,7 +43,7 @@ no_map v (x ∷ xs) e = cc
 
 pub no_events : (v : Server) (events : ℕ → List Event) (trees : List Tree) → AreTrees events trees → list_all (λ t. is_empty t.leaves) trees ≡ true → (id : ℕ) → 1 ≤ id → events id ≡ []
 no_events v events trees h e id l = ⊎_elim
-    (λ (r : TreeOf id trees). subst (λ n. events n ≡ []) r.of (no_map v (events r.tree.table) (sym (each_in (λ t. t.leaves ≡ map event_bytes (events t.table)) trees r.tree h.leaves r.is) ∙ each_in (λ t. t.leaves ≡ []) trees r.tree (no_leaves trees e) r.is)))
+    (λ (r : TreeOf id trees). subst (λ n. events n ≡ []) r.of (no_map v (events r.tree.table) (sym (each_at (λ t. t.leaves ≡ map event_bytes (events t.table)) trees r.tree h.leaves r.is) ∙ each_at (λ t. t.leaves ≡ []) trees r.tree (no_leaves trees e) r.is)))
     (λ (r : Each (λ t. t.table ≢ id) trees). h.others id l r)
     (tree_or_none id trees)
 

@@ -1,8 +1,9 @@
 -- What an open transaction touched lies in cells that it visited, and what undo by number leaves of what it touched.
 use Rattle.std.proofs.Common.{◌≡◌, ◌≢◌, ℕ, ◌≤◌, Bool, true, false, not, List, [], ◌∷◌, map, Option, Some, None, refl, sym, ap, ◌∙◌, subst, inl, inr, ⊎_elim, leb-true, leb-false, arith}
-use Rattle.std.proofs.lemmas.Bool.{eq-eqb, ne_eqb, le-leb, or_parts}
+use Rattle.std.proofs.lemmas.Bool.{eq-eqb, ne_eqb, or_parts}
 use Rattle.std.specs.Prelude.{◌==◌, ◌&&◌, ◌||◌, ◌-◌, nat_le, if◌then◌else◌}
 use Rattle.std.specs.List.{filter, list_any}
+use Rattle.sql_value.proofs.Naturals.{le_true}
 use Rattle.sql_types.specs.declared.lock.Hold.{Hold}
 use Rattle.sql_types.specs.declared.version.Version.{Version}
 use Rattle.spec_model.specs.Rows.{EventId}
@@ -24,8 +25,8 @@ use Rattle.spec_protocol.specs.Seats.{OpenTransaction, Session, SeatState}
 use Rattle.spec_protocol.specs.StandTogether.{History, Stands}
 use Rattle.law_protocol_steps.proofs.FreshIds.{EndIsNotOf, IsNotOf, none_touched, none_touched_in}
 use Rattle.law_protocol_steps.proofs.Ids.{outside, has_not}
-use Rattle.law_protocol_steps.proofs.OpenSeats.{one_open}
 use Rattle.law_protocol_steps.proofs.OthersScripts.{sound_for}
+use Rattle.law_protocol_steps.proofs.SeatsAfter.{one_session}
 
 -- ---- undo by number
 
@@ -75,9 +76,6 @@ in_filter a test (n ∷ ns) e i = by_test (test n) refl i (in_filter a test ns e
 cell_of_user : (id : ℕ) → 3 ≤ id → cell_of id ≡ id - 1
 cell_of_user id l = rw (ne_eqb id 1 (λ e. omega (arith, e)), ne_eqb id 2 (λ e. omega (arith, e))) refl
 
-le_true : (n : ℕ) → 1 ≤ n → nat_le 1 n ≡ true
-le_true n l = le-leb 1 n l
-
 module _ (v : Server) (cells : List Cell) (seats : List SeatState) {history : History} (st : Stands v history cells seats) (j : ℕ) (x : Session) (o : OpenTransaction) (has : HasOpen seats j x o) (open_end : o.end ≡ unfixed) where
   abbrev c : Contents
   c = contents cells
@@ -89,7 +87,7 @@ module _ (v : Server) (cells : List Cell) (seats : List SeatState) {history : Hi
   pub lock_visited : (i : ℕ) (h : Hold) → In h (c.holds i) → h.tx ≡ o.id → In i o.visited
   lock_visited i h e mine = let b = st.locks_cover.belong i h e in
       let here : j ≡ b.j = b.only j x o has (sym mine) in
-      subst (λ u. In i u.visited) (one_open seats j b.x x b.o o (subst (λ n. HasOpen seats n b.x b.o) (sym here) b.has) has).1 b.visited
+      subst (λ u. In i u.visited) (one_session seats j b.x x b.o o (subst (λ n. HasOpen seats n b.x b.o) (sym here) b.has) has).1 b.visited
 
   not_in_journal : k.has o.id ≡ false
   not_in_journal = has_not o.id st.ledger.items (outside v history st.ledger seats st.transcripts_agree j x o has open_end)

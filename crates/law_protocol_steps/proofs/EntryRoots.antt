@@ -27,7 +27,7 @@ use Rattle.spec_protocol.specs.LedgerVisits.{is_empty, by_table, with_leaves, ro
 use Rattle.spec_protocol.specs.Seats.{Tree}
 use Rattle.spec_protocol.specs.Server.{Server}
 use Rattle.spec_protocol.specs.TreesAreOfEvents.{AreTrees}
-use Rattle.law_protocol_steps.proofs.Ids.{each_in}
+use Rattle.law_protocol_steps.proofs.AfterSet.{each_at}
 
 -- ---- roots that rise
 
@@ -46,10 +46,10 @@ same_list (x ∷ xs) [] a b f g = absurd (f x (inl refl))
 same_list (x ∷ xs) (y ∷ ys) a b f g = ap₂ (λ (z : Root) (zs : List Root). z ∷ zs) head (same_list xs ys a.1 b.1 (λ z i. later_of z i) (λ z i. earlier_of z i))
   where
     above_x : (z : Root) → In z xs → x.0 < z.0
-    above_x z i = each_in (λ (y : Root). x.0 < y.0) xs z a.0 i
+    above_x z i = each_at (λ (y : Root). x.0 < y.0) xs z a.0 i
 
     above_y : (z : Root) → In z ys → y.0 < z.0
-    above_y z i = each_in (λ (x : Root). y.0 < x.0) ys z b.0 i
+    above_y z i = each_at (λ (x : Root). y.0 < x.0) ys z b.0 i
 
     head : x ≡ y
     head = ⊎_elim (λ (e : y ≡ x). sym e) (λ (i : In x ys). ⊎_elim (λ (e : x ≡ y). e) (λ (k : In y xs). absurd (omega (arith, above_y x i, above_x y k))) (g y (inl refl))) (f x (inl refl))
@@ -244,7 +244,7 @@ module _ (v : Server) (tx : ℕ) (left : Tables) (ids : IdsFrom 1 (defs_of left)
   events_there u e = ap (events_in tx u.def.id) e
 
   tree_is : (t : Tree) → In t trees → t.leaves ≡ map event_bytes (events_in tx t.table (versions_of left t.table))
-  tree_is t i = each_in (λ t. t.leaves ≡ map event_bytes (events_in tx t.table (versions_of left t.table))) trees t are.leaves i
+  tree_is t i = each_at (λ t. t.leaves ≡ map event_bytes (events_in tx t.table (versions_of left t.table))) trees t are.leaves i
 
   made_is_meant : (t : Tree) → In t trees → test t ≡ true → In (root_of_tree v t) meant
   made_is_meant t i e = ⊎_elim

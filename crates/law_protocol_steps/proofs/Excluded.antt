@@ -12,7 +12,7 @@ use Rattle.spec_model.specs.Keys.{Key, same_key}
 use Rattle.spec_model.specs.Locks.{conflict, same_item, requests_conflict}
 use Rattle.spec_model.specs.Reach.{has_key, is_exclusive, lets_change}
 use Rattle.law_frame.proofs.SameKeys.{same_key_as, same_itself}
-use Rattle.law_frame.proofs.NoClash.{Relies}
+use Rattle.law_frame.proofs.NoClash.{Relies, not_both, x_conflicts}
 use Rattle.spec_history.specs.Lists.{Each, In}
 use Rattle.sql_types.specs.declared.lock.Hold.{Hold}
 use Rattle.spec_protocol.specs.RequestsIn.{Holds}
@@ -64,13 +64,6 @@ none_reach holds tx key (w ∷ ws) none_has h = rw (held_reach holds tx key w no
 
 -- ---- nobody else has X on what a want relies on
 
-x_conflicts : (m : Mode) → conflict m X ≡ true
-unfolding conflict
-x_conflicts IS = refl
-x_conflicts IX = refl
-x_conflicts S = refl
-x_conflicts X = refl
-
 relies_on : (m n : Mode) → Relies m → (n ≡ IX) ⊎ (n ≡ X) → conflict m n ≡ true
 unfolding conflict
 relies_on IS n r h = absurd r
@@ -83,9 +76,6 @@ exclusive_is IS e = cc
 exclusive_is IX e = cc
 exclusive_is S e = cc
 exclusive_is X e = refl
-
-not_both : {b : Bool} → b ≡ false → b ≡ true → ⊥
-not_both h k = cc
 
 module _ (holds : List Hold) (id : ℕ) (requests : List LockRequest) (free : AreFree holds id requests)
     (intents : (h : Hold) → In h holds → h.request.mode ≡ X → HasIntent holds h)

@@ -26,7 +26,7 @@ use Rattle.spec_protocol.specs.LocksAgree.{LocksAgree}
 key_turned : (a b : Key) → same_key a b ≡ true → same_key b a ≡ true
 key_turned a b e = sym (same_key_as a b a e) ∙ same_itself a
 
-both_ways : (a b : Key) (p q : Bool) → same_key a b ≡ p → same_key b a ≡ q → p ≡ q
+pub both_ways : (a b : Key) (p q : Bool) → same_key a b ≡ p → same_key b a ≡ q → p ≡ q
 both_ways a b true q e f = sym (key_turned a b e) ∙ f
 both_ways a b false true e f = sym e ∙ key_turned b a f
 both_ways a b false false e f = refl
@@ -53,11 +53,11 @@ like_requests x a y b e m f n = (λ i. like_items x.item a.item y.item b.item e 
 
 -- ---- two seats
 
-each_left : {A : Type 0} (P : A → Type 0) (xs ys : List A) → Each P (xs ++ ys) → Each P xs
+pub each_left : {A : Type 0} (P : A → Type 0) (xs ys : List A) → Each P (xs ++ ys) → Each P xs
 each_left P [] ys h = tt
 each_left P (x ∷ xs) ys h = (h.0, each_left P xs ys h.1)
 
-each_right : {A : Type 0} (P : A → Type 0) (xs ys : List A) → Each P (xs ++ ys) → Each P ys
+pub each_right : {A : Type 0} (P : A → Type 0) (xs ys : List A) → Each P (xs ++ ys) → Each P ys
 each_right P [] ys h = h
 each_right P (x ∷ xs) ys h = each_right P xs ys h.1
 

@@ -8,15 +8,16 @@ use Rattle.sql_types.specs.declared.lock.Mode.TheVariants.{IS, IX, S, X}
 use Rattle.sql_types.specs.declared.lock.Item.{Item}
 use Rattle.sql_types.specs.declared.lock.Item.TheVariants as item
 use Rattle.sql_types.specs.declared.lock.LockRequest.{LockRequest}
-use Rattle.spec_model.specs.Keys.{Key, same_key}
+use Rattle.spec_model.specs.Keys.{same_key}
 use Rattle.spec_model.specs.Locks.{conflict, same_item, requests_conflict}
-use Rattle.law_frame.proofs.SameKeys.{same_key_as, same_itself}
+use Rattle.law_frame.proofs.SameKeys.{same_itself}
 use Rattle.spec_history.specs.Lists.{Each, In}
 use Rattle.spec_history.proofs.Settles.{in_append, in_left, in_right}
 use Rattle.sql_types.specs.declared.lock.Hold.{Hold}
 use Rattle.spec_protocol.specs.RequestsIn.{Holds}
 use Rattle.spec_model.specs.Holds.{answers, released}
 use Rattle.spec_model.specs.Holds.{holds_after, holds_any, holds_request, same_mode}
+use Rattle.law_protocol_steps.proofs.NoClashes.{both_ways}
 
 abbrev pub taken : ℕ → List LockRequest → List Hold → List Hold
 taken id requests holds = holds_after holds id requests
@@ -30,18 +31,12 @@ AreFree holds id requests = Each (λ w. Each (λ h. h.tx ≢ id → requests_con
 
 -- ---- items
 
-pub keys_turned : (a b : Key) (p q : Bool) → same_key a b ≡ p → same_key b a ≡ q → p ≡ q
-keys_turned a b true true e f = refl
-keys_turned a b false false e f = refl
-keys_turned a b true false e f = sym (same_itself b) ∙ sym (same_key_as a b b e) ∙ e ∙ let z : same_key b a ≡ true = sym (same_key_as a b a e) ∙ same_itself a in sym z ∙ f
-keys_turned a b false true e f = sym e ∙ sym (let z : same_key a b ≡ true = sym (same_key_as b a b f) ∙ same_itself b in sym z)
-
 items_turned : (x y : Item) → same_item x y ≡ same_item y x
 unfolding same_item
 items_turned item.Whole item.Whole = refl
 items_turned item.Whole (item.Key k) = refl
 items_turned (item.Key k) item.Whole = refl
-items_turned (item.Key a) (item.Key b) = keys_turned a b (same_key a b) (same_key b a) refl refl
+items_turned (item.Key a) (item.Key b) = both_ways a b (same_key a b) (same_key b a) refl refl
 
 -- ---- what is among the locks
 

@@ -52,7 +52,6 @@ use Rattle.sql_types.specs.declared.lock.LockRequest.{LockRequest}
 use Rattle.spec_model.specs.Reach.{lets_change}
 use Rattle.law_protocol_changes.proofs.CommittedRows.{committed_undone}
 use Rattle.law_protocol_tables.proofs.Releases.{left_by}
-use Rattle.law_protocol_tables.proofs.FixedOnes.{is_committed}
 use Rattle.spec_protocol.specs.UndoVisits.{catalog_left, defs_before, creator_left, ReleasesCatalog}
 use Rattle.spec_protocol.specs.Cells.{CatalogCell, Catalog, versions_in}
 use Rattle.law_protocol_steps.proofs.CellsAfter.{catalog_changed, versions_here, were_here, versions_else}
@@ -76,6 +75,7 @@ use Rattle.law_protocol_steps.proofs.Taken.{released_is}
 use Rattle.spec_model.specs.ScriptRequests.{text_requests}
 use Rattle.spec_model.specs.Touched.{touched}
 use Rattle.law_protocol_steps.proofs.VisitActs.{unmoved}
+use Rattle.law_protocol_tables.proofs.Formed.{is_committed}
 
 rows_left : (e : End) (tx id : ℕ) (c : CatalogCell) → versions_in id (Catalog (catalog_left e tx c)) ≡ left_by (is_committed e) tx (versions_in id (Catalog c))
 rows_left (en.committed n) tx id c = refl

@@ -21,7 +21,7 @@ use Rattle.law_protocol.proofs.OneAtATime.{IsPlain}
 use Rattle.spec_protocol.proofs.Places.{set_here, set_else, set_same}
 use Rattle.law_protocol.proofs.StepsAlone.{closings_plain, done_plain, end_plain, failed_in_plain, says_plain, stopped_plain}
 use Rattle.law_sequential.specs.InStep.{InStep, due_in, Waits}
-use Rattle.law_sequential.proofs.Calm.{Calm, Still, calm_still, done_calm, failed_in_calm, stopped_calm, end_calm, still_in_step}
+use Rattle.law_sequential.proofs.Calm.{Calm, done_calm, failed_in_calm, stopped_calm, end_calm, still_in_step, each_still}
 use Rattle.law_sequential.proofs.LedgerInStep.{commit_in_step, close_in_step, issue_in_step, due_below}
 
 -- ---- no session begins in a visit, takes up a statement or answers one
@@ -100,16 +100,12 @@ not_catalog catalog ledger e = let f : Catalog catalog ≡ Ledger ledger = some-
 not_rows : (table : TableCell) (ledger : LedgerCell) → some (Rows table) ≡ some (Ledger ledger) → ⊥
 not_rows table ledger e = let f : Rows table ≡ Ledger ledger = some-injective (Rows table) (Ledger ledger) e in cc
 
-all_still : (ds : List AnonymousAct) → Each Calm ds → Each Still ds
-all_still [] h = tt
-all_still (d ∷ ds) h = (calm_still d h.0, all_still ds h.1)
-
 module _ (v : Server) (N : ℕ) (some_size : 1 ≤ N) (cells : List Cell) (catalog : CatalogCell) (l : LedgerCell) (are : AreCells cells catalog l) (size : l.block_size ≡ N) (out : List (ℕ × Cell)) (i : ℕ) where
   abbrev Then : Cell → List AnonymousAct → Type 0
   Then d anonymous_acts = LedgerAfter N cells i d l anonymous_acts
 
   stays : (anonymous_acts : List AnonymousAct) → Each Calm anonymous_acts → InStep N (due_in N l) anonymous_acts (due_in N l)
-  stays anonymous_acts calm = still_in_step N (pending_in l == N) (pending_in l) anonymous_acts (all_still anonymous_acts calm)
+  stays anonymous_acts calm = still_in_step N (pending_in l == N) (pending_in l) anonymous_acts (each_still anonymous_acts calm)
 
   else_there : (d : Cell) → ledger_at ≢ i → get_elem? (slice_set cells i d) ledger_at ≡ some (Ledger l)
   else_there d ne = set_else cells i ledger_at d ne ∙ are.has_ledger
@@ -136,7 +132,7 @@ module _ (v : Server) (N : ℕ) (some_size : 1 ≤ N) (cells : List Cell) (catal
   }
 
   as_many_pending : (a d : LedgerCell) (anonymous_acts : List AnonymousAct) → pending_in d ≡ pending_in a → Each Calm anonymous_acts → InStep N (due_in N a) anonymous_acts (due_in N d)
-  as_many_pending a d anonymous_acts same calm = subst (λ (x : Due). InStep N (due_in N a) anonymous_acts x) (ap (λ (n : ℕ). full_or (n == N) n) (sym same)) (still_in_step N (pending_in a == N) (pending_in a) anonymous_acts (all_still anonymous_acts calm))
+  as_many_pending a d anonymous_acts same calm = subst (λ (x : Due). InStep N (due_in N a) anonymous_acts x) (ap (λ (n : ℕ). full_or (n == N) n) (sym same)) (still_in_step N (pending_in a == N) (pending_in a) anonymous_acts (each_still anonymous_acts calm))
 
   sized : (a : LedgerCell) → get_elem? cells i ≡ some (Ledger a) → a.block_size ≡ N
   sized a e = ap (λ (c : LedgerCell). c.block_size) (is_ledger a e) ∙ size

@@ -11,6 +11,7 @@ use Rattle.std.proofs.lemmas.Int.{ints}
 use Rattle.std.proofs.ByRecursion.{All-weaker}
 use Rattle.sql_value.specs.Order.{value_cmp}
 use Rattle.sql_value.proofs.Numbers.{raised_none}
+use Rattle.sql_value.proofs.Storing.{self_equal}
 use Rattle.sql_scalar.proofs.OrderLaws as order
 use Rattle.sql_types.specs.declared.version.Version.{Version}
 use Rattle.spec_model.specs.Keys.{same_key, key_cmp, version_key, of_key, has_live_row}
@@ -92,11 +93,8 @@ no_start : (tx : ℕ) (V : List Version) → IsNew tx V → filter (λ v. same_e
 no_start tx [] all = refl
 no_start tx (v ∷ V) all = rw (other_event tx v all.0) (no_start tx V all.1)
 
-same_number_twice : (n : ℕ) → (n == n) ≡ true
-same_number_twice n = grind (arith, nat_tests)
-
 own_event : (tx n : ℕ) → same_event (tx, n) (tx, n) ≡ true
-own_event tx n = rw (same_number_twice tx, same_number_twice n) refl
+own_event tx n = rw (self_equal tx, self_equal n) refl
 
 -- ---- the table after so many statements
 

@@ -1,7 +1,5 @@
 -- What one server comes to, with each thing that a seat does.
-use Rattle.std.proofs.Common.{◌≡◌, ◌≢◌, ◌⊎◌, ◌<◌, ◌≤◌, ◌+◌, ℕ, zero, suc, List, [], ◌∷◌, ◌++◌, map, slice_set, refl, sym, ap, subst, subst₂, ◌∙◌, append-nil, true, inl, inr, ⊎_elim, arith}
-use Rattle.std.proofs.lemmas.Bool.{le-leb}
-use Rattle.std.specs.Prelude.{nat_le}
+use Rattle.std.proofs.Common.{◌≡◌, ◌≢◌, ◌⊎◌, ◌<◌, ◌≤◌, ◌+◌, ℕ, zero, suc, List, [], ◌∷◌, ◌++◌, map, slice_set, refl, sym, ap, subst, subst₂, ◌∙◌, append-nil, inl, inr, ⊎_elim, arith}
 use mathlib.Core.Option.{some, some-injective}
 use lib.ListN.{get_elem?}
 use Rattle.spec_history.specs.Inputs.{InputLine}
@@ -12,7 +10,7 @@ use Rattle.spec_protocol.specs.Alone.{Alones, none as no_steps, more as then_ste
 use Rattle.spec_protocol.specs.Cells.{Cell, Ledger, LedgerCell, AreCells, ledger_at, pending_in}
 use Rattle.spec_protocol.specs.AnonymousActs.{did, alones_acts}
 use Rattle.spec_protocol.specs.Follows.{alones_lines}
-use Rattle.spec_protocol.specs.LedgerVisits.{closed_by, next_block}
+use Rattle.spec_protocol.specs.LedgerVisits.{closed_by}
 use Rattle.spec_protocol.specs.InactiveExcept as law
 use Rattle.spec_protocol.specs.Seats.{idle, SeatState}
 use Rattle.spec_protocol.specs.Server.{Server}
@@ -35,6 +33,7 @@ use Rattle.server_session.specs.declared.need.NextVisit.TheVariants as need
 use Rattle.server_session.specs.declared.seat.Seat.{Seat}
 use Rattle.server_session.specs.declared.stage.ControlPoint.{ControlPoint}
 use Rattle.server_session.specs.declared.stage.ControlPoint.TheVariants.{Between, Inside, Leaving, Over}
+use Rattle.law_sequential.proofs.LedgerInStep.{next_full}
 use Rattle.server_engine.specs.CoreInput.{CoreInput, with_lines}
 use Rattle.server_engine.specs.Standing.{SitsOrIsOver, IsInactive, OnServer, pending_at, pending_found}
 use Rattle.server_engine.proofs.AnonymousActs.{plain_nameless, plain_phased, visit_phased, nameless, for_digest, one_more_pending, alone_nameless, adds_gains}
@@ -42,7 +41,7 @@ use Rattle.server_engine.proofs.Pairs.{Beside, beside, behind, both_set}
 
 -- ---- seats
 
-between_is : (p : ControlPoint) → IsBetweenAt p → p ≡ Between
+pub between_is : (p : ControlPoint) → IsBetweenAt p → p ≡ Between
 between_is Between b = refl
 between_is (Inside stage) b = absurd b
 between_is Leaving b = absurd b
@@ -275,9 +274,6 @@ module _ {H : Type 0} (digest : H → List ℕ → List ℕ) (h : H) {v : Server
           still_keeps = g.keeps
 
 -- ---- a full block
-
-next_full : (c : LedgerCell) → c.block_size ≤ pending_in c → next_block c ≡ c.block_size
-next_full c l = let e : nat_le c.block_size (pending_in c) ≡ true = le-leb c.block_size (pending_in c) l in rw e refl
 
 module _ {H : Type 0} (digest : H → List ℕ → List ℕ) (h : H) {v : Server} {a : CoreInput} {told : List SessionOutput} {cells : List Cell} {seats : List (Seat H)} (o : OnServer digest h v a told cells seats)
     (j : ℕ) (y : Seat H) (there : get_elem? seats j ≡ some y) (others : (k : ℕ) (z : Seat H) → k ≢ j → get_elem? seats k ≡ some z → IsInactive z) (k : SessionOutput) (is_told : get_elem? told j ≡ some k) (serves : Serves (digest h) statement_of v) where

@@ -168,7 +168,7 @@ each_left : {A : Type 0} (P : A → Type 0) (xs ys : List A) → Each P (xs ++ y
 each_left P [] ys a = tt
 each_left P (x ∷ xs) ys a = (a.0, each_left P xs ys a.1)
 
-each_right : {A : Type 0} (P : A → Type 0) (xs ys : List A) → Each P (xs ++ ys) → Each P ys
+pub each_right : {A : Type 0} (P : A → Type 0) (xs ys : List A) → Each P (xs ++ ys) → Each P ys
 each_right P [] ys a = a
 each_right P (x ∷ xs) ys a = each_right P xs ys a.1
 

@@ -38,7 +38,7 @@ use Rattle.server_session.proofs.CatalogSitting.{at_catalog}
 
 -- ---- the catalog is the first that was visited
 
-others_visited : (i : ℕ) (is : List ℕ) → AreVisited (i ∷ is) → AreVisited is
+pub others_visited : (i : ℕ) (is : List ℕ) → AreVisited (i ∷ is) → AreVisited is
 others_visited i [] a = tt
 others_visited i (j ∷ js) a = a.2
 

@@ -2,6 +2,7 @@
 use Rattle.std.proofs.Common.{◌≡◌, ℕ, suc, ◌+◌, Bool, true, false, List, [], ◌∷◌, ◌++◌, map, Option, Some, None, refl, sym, ap, ◌∙◌, subst, arith, append-nil, append_assoc}
 use Rattle.std.specs.Prelude.{if◌then◌else◌, ◌==◌}
 use Rattle.std.proofs.lemmas.Bool.{eqb-true}
+use Rattle.sql_value.proofs.Naturals.{eqb_sym}
 use Rattle.sql_types.specs.declared.journal.JournalItem.{JournalItem}
 use Rattle.sql_types.specs.declared.journal.JournalItem.TheVariants.{Tx, Close}
 use Rattle.spec_model.specs.Journals.{tx_count}
@@ -13,7 +14,6 @@ use Rattle.spec_history.specs.Acts.{SessionAct, assigns_id, looks, says, fails, 
 use Rattle.spec_history.specs.Sessions.{SessionTransaction, SessionState, view, viewed, runs, drawn, asks, hears, scripts, fixes, acted}
 use Rattle.spec_history.specs.Worlds.{World, item_of, items_by, put, step, run}
 use Rattle.spec_history.specs.Guards.{IsEnabled, Good, Commits}
-use Rattle.spec_history.proofs.Follow.{eqb_sym}
 use Rattle.spec_history.proofs.TransactionLogs.{map_view_append, listed_view}
 
 front : (b : Bool) (p : Placed) (xs ys zs : List Placed) → zs ≡ xs ++ ys → (if b then p ∷ zs else zs) ≡ (if b then p ∷ xs else xs) ++ ys

@@ -20,7 +20,7 @@ use Rattle.law_blocks.proofs.LeftRows.{all_flat_map}
 use Rattle.law_blocks.proofs.UndoneVersions.{Undoes, still_undoes}
 use Rattle.spec_protocol.specs.EventsIn.{events_in}
 
-abbrev by_seq : Event → Event → Ordering
+abbrev pub by_seq : Event → Event → Ordering
 by_seq a b = nat_cmp a.seq b.seq
 
 module _ (n : ℕ) where

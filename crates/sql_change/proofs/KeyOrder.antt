@@ -14,6 +14,8 @@ use Rattle.std.proofs.lemmas.List.Sums.{prefix_len_is}
 use Rattle.std.proofs.lemmas.Option.{slice_get-get_or}
 use Rattle.std.proofs.Math.Seq.{get_or-append_seam}
 use Rattle.std.proofs.ByRecursion.{All-weaker}
+use Rattle.base_types.proofs.Lists.{all_get_or}
+use Rattle.base_types.proofs.Naturals.{one_up}
 use Rattle.sql_value.specs.declared.column.ColumnDef.{ColumnDef}
 use Rattle.spec_model.specs.Rows.{Row}
 use Rattle.spec_model.specs.Keys.{Key, key_cmp, key_of, same_key}
@@ -21,11 +23,6 @@ use Rattle.sql_parts.proofs.Orders.{key_total}
 use Rattle.sql_change.specs.KeyOrder.{is_there, passes, is_below, has_key_of, InKeyOrder}
 
 -- ---- what holds of each
-
-all_at : {A : Type 0} (P : A → Type 0) (xs : List A) (k : ℕ) (d : A) → k < length xs → AllByRecursion P xs → P (get_or xs k d)
-all_at P [] k d within h = absurd (omega arith)
-all_at P (x ∷ xs) zero d within h = h.0
-all_at P (x ∷ xs) (suc k) d within h = all_at P xs k d (omega arith) h.1
 
 all_put : {A : Type 0} (P : A → Type 0) (xs : List A) (n : ℕ) (x : A) → P x → AllByRecursion P xs → AllByRecursion P (insert xs n x)
 all_put P [] zero x one h = (one, tt)
@@ -40,9 +37,6 @@ any_same p q (x ∷ xs) h = λ i. h.0 i || any_same p q xs h.1 i
 none_any : {A : Type 0} (p : A → Bool) (xs : List A) → AllByRecursion (λ x. p x ≡ false) xs → list_any p xs ≡ false
 none_any p [] h = refl
 none_any p (x ∷ xs) h = λ i. h.0 i || none_any p xs h.1 i
-
-one_up : (n : ℕ) → 1 + n ≡ suc n
-one_up n = omega arith
 
 -- ---- a key among rising keys
 
@@ -116,7 +110,7 @@ module _ (key : ℕ → Key) (k : Key) where
   parted less same [] told up i j d le within before = absurd (omega arith)
   parted less same (p ∷ ps) told up zero zero d le within before = before
   parted less same (p ∷ ps) told up zero (suc j) d le within before =
-      both_below less same p (get_or ps j d) told.0 (all_at (Tells less same) ps j d (omega arith) told.1) (all_at (λ q. key_cmp (key p) (key q) ≡ Less) ps j d (omega arith) up.0) before
+      both_below less same p (get_or ps j d) told.0 (all_get_or (Tells less same) ps j d (omega arith) told.1) (all_get_or (λ q. key_cmp (key p) (key q) ≡ Less) ps j d (omega arith) up.0) before
   parted less same (p ∷ ps) told up (suc i) zero d le within before = absurd (omega arith)
   parted less same (p ∷ ps) told up (suc i) (suc j) d le within before = parted less same ps told.1 up.1 i j d (omega arith) (omega arith) before
 

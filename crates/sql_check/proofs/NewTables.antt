@@ -44,10 +44,6 @@ found false false false own = refl
 pub has_part : (def : TableDef) (n : List ℕ) → has_name (table_names def) n ≡ new.has_part def n
 has_part def n = named_once def.name def.history def.view n ∙ sym (found (is_named def.name n) (is_named def.history n) (is_named def.view n) (own_part def))
 
-or_assoc : (a b c : Bool) → ((a || b) || c) ≡ (a || (b || c))
-or_assoc true b c = refl
-or_assoc false b c = refl
-
 pub is_used : (defs : List TableDef) (n : List ℕ) → has_name (all_names defs) n ≡ new.is_used defs n
 is_used [] n = refl
 is_used (d ∷ ds) n =

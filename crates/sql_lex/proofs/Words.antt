@@ -11,7 +11,7 @@ use Rattle.sql_lex.specs.Front.{past, word, bracketed, sign}
 use Rattle.sql_lex.proofs.Runs.{run_bound, run_passes}
 use Rattle.sql_lex.proofs.Best.{Best, best_same, best_if}
 
-start_is_word_byte : (b : ℕ) → begins_word b ≡ true → is_word_byte b ≡ true
+pub start_is_word_byte : (b : ℕ) → begins_word b ≡ true → is_word_byte b ≡ true
 start_is_word_byte b h = grind (arith, nat_tests)
 
 word_most : (b : ℕ) (z : List ℕ) (m : ℕ) → m ≤ length (b ∷ z) → is_word (take m (b ∷ z)) ≡ true → m ≤ suc (prefix_len is_word_byte z)

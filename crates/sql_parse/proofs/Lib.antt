@@ -4,9 +4,9 @@ mod Names
 mod Pages
 mod Cut
 mod Lexed
-mod Tokens
+pub mod Tokens
 mod Literals
-mod Numbers
+pub mod Numbers
 mod Quoted
 mod Values
 mod ReadExpr
@@ -25,7 +25,7 @@ mod Kept
 mod Signs
 mod KeptTokens
 mod KeptExprs
-mod KeptStmts
+pub mod KeptStmts
 mod KeptTables
 mod KeptBodies
 mod Terminals

@@ -2,6 +2,7 @@
 use Rattle.std.proofs.Common.{◌≡◌, ◌≤◌, ℕ, refl, sym, ap, subst, ◌∙◌, Bool, true, false, List, [], ◌∷◌, ◌++◌, arith}
 use Rattle.std.specs.List.{AllByRecursion}
 use Rattle.std.proofs.ByRecursion.{All-weaker}
+use Rattle.base_types.proofs.Lists.{all_back}
 use Rattle.sql_types.specs.declared.statement.Stmt.{Stmt}
 use Rattle.spec_model.specs.Catalog.{Tables}
 use Rattle.spec_model.specs.Effect.{Effect, effect}
@@ -34,10 +35,6 @@ never_behind n [] c cs h = (omega arith, h.1)
 never_behind n (d ∷ front) c cs h = never_behind d.seq front c cs h.1
 
 -- ---- the back of a list
-
-all_behind : {A : Type 0} (P : A → Type 0) (xs ys : List A) → AllByRecursion P (xs ++ ys) → AllByRecursion P ys
-all_behind P [] ys h = h
-all_behind P (x ∷ xs) ys h = all_behind P xs ys h.1
 
 not_none : {A : Type 0} (xs : List A) (y : A) (ys : List A) → xs ++ y ∷ ys ≡ [] → ⊥
 not_none [] y ys e = cc
@@ -96,8 +93,8 @@ module _ (x : Running) (h : InScript x) where
   return_in front c cs e =
       let T : Tables = x.state.tables in
       let numbers : NeverRise c.seq (c ∷ cs) = never_behind x.state.seq front c cs (subst (NeverRise x.state.seq) e h.numbers) in
-      let copies : AllByRecursion (λ d. undone x.tx d.seq T ≡ d.tables) (c ∷ cs) = all_behind (λ d. undone x.tx d.seq T ≡ d.tables) front (c ∷ cs) (subst (λ (ds : List Saved). AllByRecursion (λ d. undone x.tx d.seq T ≡ d.tables) ds) e h.copies) in
-      let both : AllByRecursion (λ d. Kept h.place x.tx d.seq d.tables × Described d.tables) (c ∷ cs) = all_behind (λ d. Kept h.place x.tx d.seq d.tables × Described d.tables) front (c ∷ cs) (subst (λ (ds : List Saved). AllByRecursion (λ d. Kept h.place x.tx d.seq d.tables × Described d.tables) ds) e h.copies_kept) in
+      let copies : AllByRecursion (λ d. undone x.tx d.seq T ≡ d.tables) (c ∷ cs) = all_back (λ d. undone x.tx d.seq T ≡ d.tables) front (c ∷ cs) (subst (λ (ds : List Saved). AllByRecursion (λ d. undone x.tx d.seq T ≡ d.tables) ds) e h.copies) in
+      let both : AllByRecursion (λ d. Kept h.place x.tx d.seq d.tables × Described d.tables) (c ∷ cs) = all_back (λ d. Kept h.place x.tx d.seq d.tables × Described d.tables) front (c ∷ cs) (subst (λ (ds : List Saved). AllByRecursion (λ d. Kept h.place x.tx d.seq d.tables × Described d.tables) ds) e h.copies_kept) in
       record {
         place = h.place;
         kept = both.0.0;

@@ -21,14 +21,13 @@ use Rattle.spec_model.specs.Changes.{Change, changed_all}
 use Rattle.spec_model.specs.Create.{index_def, index_check_in, index_check, with_index}
 use Rattle.spec_model.specs.Effect.{Effect, with_system_rows, table_start, column_starts, table_effect, with_def, redefined, index_starts, index_effect}
 use Rattle.spec_model.specs.Lists.{numbered}
-use Rattle.spec_model.specs.Rows.{Row}
 use Rattle.spec_model.specs.ChangeSets.{in_table, changed_from}
 use Rattle.spec_model.specs.Runs.{Sound}
 use Rattle.spec_model.specs.SystemTables.{tables_id, columns_id, column_row, column_rows, index_row, index_rows}
 use Rattle.law_frame.proofs.Checked.{Led, led}
 use Rattle.law_frame.proofs.Definitions.{same_defs}
 use Rattle.law_frame.proofs.NamedPart.{was_found}
-use Rattle.law_frame.proofs.ChangeSets.{in_one_table, length-in_table}
+use Rattle.law_frame.proofs.ChangeSets.{in_one_table, length-in_table, length-numbered, length-starts}
 use Rattle.law_frame.proofs.Sounds.{sound_all}
 use Rattle.law_journal.proofs.DefLists.{IsOnly}
 
@@ -148,13 +147,6 @@ index_in_place index def [] only = refl
 index_in_place index def (t ∷ ts) only = rw (in_its_place index def (t.def.id == def.id) t refl only.0, index_in_place index def ts only.1) refl
 
 -- ---- what the statements come to
-
-length-numbered : {A : Type 0} (n : ℕ) (xs : List A) → length (numbered n xs) ≡ length xs
-length-numbered n [] = refl
-length-numbered n (x ∷ xs) = ap suc (length-numbered (n + 1) xs)
-
-length-starts : (rows : List Row) → length (column_starts rows) ≡ length rows
-length-starts rows = length-map rows _
 
 length-column_starts : (def : TableDef) → length (column_starts (column_rows def)) ≡ length def.columns
 unfolding column_rows

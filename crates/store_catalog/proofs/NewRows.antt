@@ -3,7 +3,7 @@ use Rattle.std.proofs.Common.{◌≡◌, ℕ, ◌+◌, ◌≤◌, Bool, true, fa
 use Rattle.std.proofs.lemmas.Bool.{eq-eqb, eqb-true, le-leb, leb-true}
 use Rattle.std.specs.Prelude.{◌==◌, ◌&&◌, nat_le, if◌then◌else◌, flat_map}
 use Rattle.std.specs.List.{AllByRecursion, filter}
-use Rattle.std.specs.Ordering.{nat_cmp, is_gt}
+use Rattle.std.specs.Ordering.{is_gt}
 use Rattle.std.specs.declared.cmp.Ordering.{Ordering}
 use Rattle.std.proofs.ByRecursion.{All-weaker}
 use Rattle.sql_types.specs.declared.event.Event.{Event}
@@ -19,7 +19,7 @@ use Rattle.law_frame.proofs.Sounds.{before_changed}
 use Rattle.law_frame.proofs.UndoneVersions.{filter_inserted}
 use Rattle.spec_protocol.specs.Doing.{events_from}
 use Rattle.spec_protocol.specs.EventsIn.{events_in}
-use Rattle.spec_protocol.proofs.NewEvents.{come_last}
+use Rattle.spec_protocol.proofs.NewEvents.{come_last, by_seq}
 use Rattle.store_catalog.specs.Rows.{new_version, starts_of, IsRow}
 
 -- ---- lists of which a test takes one
@@ -73,9 +73,6 @@ module _ {A : Type 0} (test : A → Bool) where
   none_taken (x ∷ xs) h = rw h.0 (none_taken xs h.1)
 
 -- ---- one row
-
-abbrev by_seq : Event → Event → Ordering
-by_seq a b = nat_cmp a.seq b.seq
 
 module _ (tx id : ℕ) where
   -- an event of the transaction with this number or above

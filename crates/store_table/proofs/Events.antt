@@ -7,8 +7,7 @@ use Rattle.std.proofs.lemmas.List.{append-nil, append_assoc}
 use Rattle.std.specs.Prelude.{◌==◌, nat_le, if◌then◌else◌, flat_map}
 use Rattle.std.specs.List.{AllByRecursion, filter, find}
 use Rattle.std.specs.Cmp.{IsTotalOrder, on_total, nat_cmp_total}
-use Rattle.std.specs.Ordering.{is_gt, nat_cmp}
-use Rattle.std.specs.declared.cmp.Ordering.{Ordering}
+use Rattle.std.specs.Ordering.{is_gt}
 use Rattle.std.specs.declared.cmp.Ordering.TheVariants.{Less}
 use Rattle.std.proofs.ByRecursion.{All-weaker}
 use Rattle.sql_value.specs.declared.column.ColumnDef.{ColumnDef}
@@ -25,13 +24,10 @@ use Rattle.law_frame.proofs.Sounds.{before_changed, rising_changed}
 use Rattle.law_frame.proofs.UndoneVersions.{Undoes}
 use Rattle.spec_protocol.specs.Doing.{events_from}
 use Rattle.spec_protocol.specs.EventsIn.{events_in}
-use Rattle.spec_protocol.proofs.NewEvents.{come_last}
+use Rattle.spec_protocol.proofs.NewEvents.{come_last, by_seq}
 use Rattle.store_table.specs.Made.{new_version, end_of, event_of, events_made, LiveFits, IsMade}
 use Rattle.store_table.specs.Orders.{version_at, started_by}
 use Rattle.store_table.proofs.OneMore.{sorted_passing}
-
-abbrev by_seq : Event → Event → Ordering
-by_seq a b = nat_cmp a.seq b.seq
 
 seq_total : IsTotalOrder by_seq
 seq_total = on_total (λ (e : Event). e.seq) nat_cmp_total

@@ -1,28 +1,25 @@
 -- The version at the place of a start.
-use Rattle.std.proofs.Common.{◌≡◌, ◌<◌, ◌≤◌, ◌+◌, ℕ, suc, refl, sym, ap, subst, ◌∙◌, Bool, true, false, cond, List, [], ◌∷◌, length, get_or, Some, None, arith}
+use Rattle.std.proofs.Common.{◌≡◌, ◌<◌, ◌≤◌, ◌+◌, ℕ, refl, sym, ap, subst, ◌∙◌, Bool, true, false, cond, List, [], ◌∷◌, length, get_or, Some, None, arith}
 use Rattle.std.specs.List.{AllByRecursion}
 use Rattle.std.specs.Ordering.{is_lt}
 use Rattle.std.specs.declared.cmp.Ordering.TheVariants.{Less}
 use Rattle.std.proofs.lemmas.List.{get_or_default}
 use Rattle.std.proofs.lemmas.Bool.{true≢false}
-use Rattle.std.specs.Cmp.{tied_itself}
 use Rattle.std.proofs.ByRecursion.{All-weaker}
+use Rattle.base_types.proofs.Naturals.{one_up}
 use Rattle.sql_types.specs.declared.version.Version.{Version}
 use Rattle.spec_model.specs.Rows.{EventId, event_cmp, same_event, start_cmp}
 use Rattle.spec_model.specs.Runs.{Rising}
-use Rattle.law_frame.proofs.Sounds.{event_total}
 use Rattle.law_journal.proofs.Counts.{same_parts}
 use Rattle.sql_apply.specs.Places.{place, starts_before}
 use Rattle.store_table.specs.Orders.{version_at}
+use Rattle.store_table.proofs.Last.{itself}
 
 same_is : (a b : EventId) → same_event a b ≡ true → a ≡ b
 same_is a b same = let p = same_parts a b same in λ i. (p.0 i, p.1 i)
 
-not_before_itself : (a : EventId) → is_lt (event_cmp a a) ≡ false
-not_before_itself a = ap is_lt (tied_itself event_total a)
-
 apart_by : (a b : EventId) (s : Bool) → same_event a b ≡ s → is_lt (event_cmp a b) ≡ true → s ≡ false
-apart_by a b true same less = absurd (true≢false (sym less ∙ ap (λ x. is_lt (event_cmp x b)) (same_is a b same) ∙ not_before_itself b))
+apart_by a b true same less = absurd (true≢false (sym less ∙ ap (λ x. is_lt (event_cmp x b)) (same_is a b same) ∙ itself b))
 apart_by a b false same less = refl
 
 later_by : (start : EventId) (w u : Version) (s : Bool) → same_event u.start start ≡ s → starts_before start w ≡ false → start_cmp w u ≡ Less → s ≡ false
@@ -42,9 +39,6 @@ later_none start w us rest later =
 pub record FoundAt (start : EventId) (vs : List Version) (n : ℕ) : Type 0 where
   pub hit : (d : Version) → n < length vs → same_event (get_or vs n d).start start ≡ true → version_at start vs ≡ Some (get_or vs n d)
   pub miss : ((d : Version) → n < length vs → same_event (get_or vs n d).start start ≡ false) → version_at start vs ≡ None
-
-one_up : (n : ℕ) → 1 + n ≡ suc n
-one_up n = omega arith
 
 found_by : (start : EventId) (v : Version) (vs : List Version) (b : Bool) → starts_before start v ≡ b → AllByRecursion (λ w. start_cmp v w ≡ Less) vs
     → FoundAt start vs (place start vs) → FoundAt start (v ∷ vs) (cond b (1 + place start vs) 0)

@@ -4,9 +4,9 @@ use Rattle.std.specs.Prelude.{is_none, if◌then◌else◌}
 use Rattle.std.specs.List.{AllByRecursion, insert, remove, prefix_len}
 use Rattle.std.specs.List.Sorted.{IsPartitionedBy, IsPartitionPoint}
 use Rattle.std.specs.Cmp.{IsTotalOrder, on_total, then_total, tied_itself}
-use Rattle.std.specs.Ordering.{is_gt, ordering_then}
+use Rattle.std.specs.Ordering.{is_gt}
 use Rattle.std.specs.declared.cmp.Ordering.{Ordering}
-use Rattle.std.specs.declared.cmp.Ordering.TheVariants.{Less, Equal, Greater}
+use Rattle.std.specs.declared.cmp.Ordering.TheVariants.{Less, Equal}
 use Rattle.std.proofs.lemmas.List.Elements.{filter-append}
 use Rattle.std.proofs.lemmas.List.{length-map}
 use Rattle.std.proofs.lemmas.List.Sums.{prefix_len-le-length}
@@ -23,11 +23,7 @@ use Rattle.sql_parts.proofs.Orders.{key_total}
 use Rattle.store_table.specs.Orders.{column_values, key_values, row_cmp, order_cmp, in_order, starts_of, version_at, passes, comes_before, place_of}
 use Rattle.store_table.proofs.OneMore.{inserted_at, removed_at, place_there, place_within, sorted_more, parted, parted_map, prefix_map, point_is, before_is_downward, IsDownward}
 use Rattle.store_table.proofs.Splits.{rising_left}
-
-less_apart : (o t : Ordering) → t ≡ Less → ordering_then o t ≡ Equal → ⊥
-less_apart Less t less e = cc
-less_apart Equal t less e = cc
-less_apart Greater t less e = cc
+use Rattle.store_table.proofs.Ends.{apart_then}
 
 -- ---- who is live
 
@@ -55,7 +51,7 @@ module _ (ordinals key : List ℕ) where
   apart_before : (xs : List Version) (v : Version) (ys : List Version) → Rising (xs ++ v ∷ ys) → AllByRecursion (λ w. cmp w v ≡ Equal → ⊥) (live xs)
   apart_before xs v ys r =
       all_filter (λ w. cmp w v ≡ Equal → ⊥) (λ w. is_none w.end) xs
-      (All-weaker (λ w. start_cmp w v ≡ Less) (λ w. cmp w v ≡ Equal → ⊥) (λ w less. less_apart (row_cmp ordinals key w v) (start_cmp w v) less) xs (rising_left xs v ys r))
+      (All-weaker (λ w. start_cmp w v ≡ Less) (λ w. cmp w v ≡ Equal → ⊥) (λ w less. apart_then (row_cmp ordinals key w v) (start_cmp w v) less) xs (rising_left xs v ys r))
 
   pub one_more : (xs : List Version) (v : Version) (ys : List Version) → Rising (xs ++ v ∷ ys) → v.end ≡ None
       → in_order ordinals key (xs ++ v ∷ ys) ≡ inserted cmp v (in_order ordinals key (xs ++ ys))

@@ -8,13 +8,15 @@ use Rattle.std.specs.Cmp.{tied_itself}
 use Rattle.std.specs.Ordering.{is_lt, ordering_reverse}
 use Rattle.std.specs.declared.cmp.Ordering.TheVariants.{Less}
 use Rattle.std.proofs.lemmas.Bool.{cases_Bool}
+use Rattle.base_types.proofs.Naturals.{le_from_test}
 use Rattle.sql_types.specs.declared.version.Version.{Version}
 use Rattle.spec_model.specs.Rows.{EventId, event_cmp, start_cmp}
 use Rattle.spec_model.specs.Runs.{Rising}
 use Rattle.law_frame.proofs.Sounds.{event_total}
 use Rattle.spec_model.specs.Undo.{is_undone}
+use Rattle.law_journal.proofs.Created.{below as above_of}
 
-itself : (a : EventId) → is_lt (event_cmp a a) ≡ false
+pub itself : (a : EventId) → is_lt (event_cmp a a) ≡ false
 itself a = ap is_lt (tied_itself event_total a)
 
 turned_less : (a b : EventId) → event_cmp a b ≡ Less → is_lt (event_cmp b a) ≡ false
@@ -33,14 +35,8 @@ undone_parts tx seq e h = grind (arith, common_steps)
 undone_of : (tx seq : ℕ) (e : EventId) → e.0 ≡ tx → seq ≤ e.1 → is_undone tx seq e ≡ true
 undone_of tx seq e h k = grind (arith, common_steps)
 
-le_of : (m n : ℕ) → nat_le m n ≡ true → m ≤ n
-le_of m n h = grind (arith, common_steps)
-
 le_test : (m n : ℕ) → m ≤ n → nat_le m n ≡ true
 le_test m n h = grind (arith, common_steps)
-
-above_of : (m n : ℕ) → nat_le m n ≡ false → n < m
-above_of m n h = grind (arith, common_steps)
 
 -- b is later, and of no later transaction
 later_undone : (tx seq : ℕ) (a b : EventId) → is_lt (event_cmp b a) ≡ false → b.0 ≤ tx → is_undone tx seq a ≡ true → is_undone tx seq b ≡ true
@@ -60,7 +56,7 @@ module _ {A : Type 0} (event : A → EventId) (xs : List A)
   pub up_to_parted : IsPartitionedBy (λ x. nat_le (event x).0 tx) xs
   up_to_parted = λ i j d le lt passes.
       let one = not_before (event (get_or xs j d)) (event (get_or xs i d)) (rises i j d le lt) in
-      let two = le_of (event (get_or xs j d)).0 tx passes in
+      let two = le_from_test (event (get_or xs j d)).0 tx passes in
       le_test (event (get_or xs i d)).0 tx (omega (arith, one, two))
 
   module _ (n : ℕ) (within : n ≤ length xs) (point : IsPartitionPoint (λ x. nat_le (event x).0 tx ≡ true) (λ x. nat_le (event x).0 tx ≡ false) xs n)
@@ -71,12 +67,12 @@ module _ {A : Type 0} (event : A → EventId) (xs : List A)
         let p = undone_parts tx seq (event (get_or xs k d)) e in
         elim (cases_Bool (nat_le (n) k)) [
           | inl above ↦
-              let out = above_of (event (get_or xs k d)).0 tx (point.1 k d (le_of n k above) inside) in
+              let out = above_of (event (get_or xs k d)).0 tx (point.1 k d (le_from_test n k above) inside) in
               absurd (omega (arith, out, p.0))
           | inr below ↦
               let lt = above_of n k below in
               let late = later_undone tx seq (event (get_or xs k d)) (event (get_or xs (n - 1) d)) (rises k (n - 1) d (omega (arith, lt)) (omega (arith, within, lt)))
-              (le_of (event (get_or xs (n - 1) d)).0 tx (point.0 (n - 1) d (omega arith) (omega (arith, lt)))) e in
+              (le_from_test (event (get_or xs (n - 1) d)).0 tx (point.0 (n - 1) d (omega arith) (omega (arith, lt)))) e in
               let no = last d (omega (arith, lt)) in
               cc
         ]

@@ -83,7 +83,7 @@ take_more [] k x inside is = absurd (omega (arith, inside))
 take_more (y ∷ ys) zero x inside is = ap (λ (z : _). z ∷ []) is
 take_more (y ∷ ys) (suc k) x inside is = ap (λ (zs : List _). y ∷ zs) (take_more ys k x (omega (arith, inside)) is)
 
-one_up : (k : ℕ) → suc k ≡ k + 1
+pub one_up : (k : ℕ) → suc k ≡ k + 1
 one_up k = omega arith
 
 -- the first so many leaves are noted

@@ -5,6 +5,7 @@ use Rattle.std.specs.List.{AllByRecursion, insert, remove}
 use Rattle.std.specs.declared.alloc.Global.{Global}
 use Rattle.std.proofs.lemmas.List.{map-append}
 use Rattle.std.proofs.ByRecursion.{All-append}
+use Rattle.base_types.proofs.Lists.{all_take}
 use Rattle.sql_value.specs.declared.column.ColumnDef.{ColumnDef}
 use Rattle.sql_types.specs.declared.version.TypedValue.{TypedValue}
 use Rattle.sql_types.specs.declared.version.Version.{Version}
@@ -168,11 +169,6 @@ one_index columns key vs o is i ordinals more kept of same =
     ∙ ap (λ (x : stored.Index). map index_seen o.indexes.items ++ x ∷ [])
     (ap₂ (λ (ns : List ℕ) (l : List EventId). record { ordinals = ns; order = l }) same
     (of ∙ ap (λ (ns : List ℕ). starts_of (in_order ns key vs)) same ∙ sym (index_order_is columns key ordinals vs kept.key_is kept.rising))))
-
-all_take : {A : Type 0} (P : A → Type 0) (n : ℕ) (xs : List A) → AllByRecursion P xs → AllByRecursion P (take n xs)
-all_take P zero xs h = tt
-all_take P (suc n) [] h = tt
-all_take P (suc n) (x ∷ xs) h = (h.0, all_take P n xs h.1)
 
 last_left : (is : List Index) (n : ℕ) → n + 1 ≡ length is → map index_seen (take n is) ≡ without_last (map index_seen is)
 last_left [] n e = absurd (omega (arith, e))
