@@ -22,9 +22,9 @@ use Rattle.spec_model.specs.SystemTables.{tables_def, columns_def}
 use Rattle.format_image.specs.ImageBytes.{IsImage, AreTables}
 use Rattle.format_image.specs.Tables.{table_in, tables_with, defs_in}
 use Rattle.law_catalog_rows.specs.Differs.{table_of}
-use Rattle.spec_verify.specs.Sentences.{VersionHolds, TableVersion, versions_of_image}
+use Rattle.spec_verify.specs.Sentences.{VersionHolds, TableVersion}
 use Rattle.spec_verify.specs.Versions.{has_columns, version_fault}
-use Rattle.spec_verify.proofs.ToldVersions.{versions_told}
+use Rattle.spec_verify.proofs.EncodedSo.{versions_hold}
 use Rattle.audit_verify.specs.DefinitionRows.{HasSmallId, base_in}
 
 abbrev IsSmall : ℤ → Type 0
@@ -68,12 +68,9 @@ pub none_holds : {A : Type 0} (P : Type 0) (Q : A → Type 0) (p : Option A) →
 none_holds P Q None e h = h
 none_holds P Q (Some x) e h = cc
 
-all_hold : (i : Image) → version_fault i ≡ None → AllByRecursion (VersionHolds i) (versions_of_image i)
-all_hold i none = none_holds _ _ (version_fault i) none (versions_told i)
-
 -- the base rows of the two tables of the system
 pub small_first : (i : Image) → IsImage i → version_fault i ≡ None → AllByRecursion HasSmallId (base_in i.tables 0)
-small_first i is none = here i.tables (all_hold i none) is.tables
+small_first i is none = here i.tables (versions_hold i none) is.tables
   where
     here : (rows : List TableRows) → AllByRecursion (VersionHolds i) (flat_map (λ (t : Table). map (in_table t) t.versions) (tables_with (defs_in i) rows)) → AreTables (defs_in i) rows → AllByRecursion HasSmallId (base_in rows 0)
     here [] a t = absurd t
@@ -84,7 +81,7 @@ small_first i is none = here i.tables (all_hold i none) is.tables
         small_rows i table _ _ rows.base refl refl base
 
 pub small_second : (i : Image) → IsImage i → version_fault i ≡ None → AllByRecursion HasSmallId (base_in i.tables 1)
-small_second i is none = here i.tables (all_hold i none) is.tables
+small_second i is none = here i.tables (versions_hold i none) is.tables
   where
     here : (rows : List TableRows) → AllByRecursion (VersionHolds i) (flat_map (λ (t : Table). map (in_table t) t.versions) (tables_with (defs_in i) rows)) → AreTables (defs_in i) rows → AllByRecursion HasSmallId (base_in rows 1)
     here [] a t = absurd t

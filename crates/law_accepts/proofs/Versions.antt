@@ -34,9 +34,9 @@ use Rattle.format_image.specs.Rows.{Stored, ended_ones}
 use Rattle.spec_verify.specs.Entries.{least_event}
 use Rattle.spec_verify.specs.Order.{position_of, is_before, is_earlier, later_of, latest, ends_before, ends_well, follows, before, is_in_order, shares_key}
 use Rattle.spec_verify.specs.Versions.{same_type, is_of, has_columns, respects_not_null, with_columns, version_holds, bad_versions, version_fault}
+use Rattle.spec_verify.proofs.SameRows.{own_type}
 use Rattle.law_accepts.proofs.Firsts.{both}
 use Rattle.law_accepts.proofs.Ids.{same_place}
-use Rattle.law_accepts.proofs.Indexes.{own_type}
 use Rattle.law_accepts.proofs.Shown.{in_parts, tables_shown}
 
 -- ---- columns

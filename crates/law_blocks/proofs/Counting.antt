@@ -20,7 +20,7 @@ placed_length b n (x ∷ xs) = ap suc (placed_length b (n + 1) xs)
 abbrev all_of : Ledger → ℕ
 all_of l = length l.closed + length l.pending
 
-parts_length : (k : ℕ) (xs : List TxEntry) → length (take k xs) + length (drop k xs) ≡ length xs
+pub parts_length : (k : ℕ) (xs : List TxEntry) → length (take k xs) + length (drop k xs) ≡ length xs
 parts_length k xs = sym (length-append (take k xs) (drop k xs)) ∙ ap length (take-append-drop k xs)
 
 module _ (h : List ℕ → List ℕ) where

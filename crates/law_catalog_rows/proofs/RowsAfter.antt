@@ -37,9 +37,11 @@ use Rattle.law_frame.proofs.BaseTables.{users_table, base_alone, found_is_users}
 use Rattle.law_frame.proofs.Checked.{Led, led, was_passed, not_refused}
 use Rattle.law_frame.proofs.Definitions.{same_defs}
 use Rattle.law_frame.proofs.NamedPart.{was_found}
+use Rattle.law_frame.proofs.SameAlone.{defs_append}
+use Rattle.law_frame.proofs.SoundStatements.{four_passed}
 use Rattle.law_journal.specs.Fine.{OfTable}
-use Rattle.law_journal.proofs.Created.{Created, created, indexed, four_passed}
-use Rattle.law_journal.proofs.DefLists.{defs_append, redef, defs_redefined}
+use Rattle.law_journal.proofs.Created.{Created, created, indexed}
+use Rattle.law_journal.proofs.DefLists.{redef, defs_redefined}
 use Rattle.law_journal.proofs.Statements.{has_indexed_table}
 use Rattle.law_catalog_rows.specs.Encoded.{live_rows, item_rows, AreRowsOf, HaveTheirRows}
 use Rattle.law_catalog_rows.proofs.Defs.{tables_after, items_after, Redefined, redefined_rows}

@@ -32,9 +32,10 @@ use Rattle.spec_model.specs.Agreement.{IdsFrom}
 use Rattle.spec_model.specs.Reach.{creates}
 use Rattle.law_frame.proofs.Alls.{all_map}
 use Rattle.law_frame.proofs.Definitions.{defs_after}
+use Rattle.law_frame.proofs.SameAlone.{defs_append}
 use Rattle.law_journal.specs.Fine.{OfTable}
 use Rattle.law_journal.proofs.Created.{Created, created, indexed}
-use Rattle.law_journal.proofs.DefLists.{defs_append, redef, defs_redefined}
+use Rattle.law_journal.proofs.DefLists.{redef, defs_redefined}
 use Rattle.law_journal.proofs.Statements.{has_indexed_table}
 use Rattle.law_catalog_rows.specs.IsEncodableDef.{is_name_byte}
 use Rattle.law_catalog_rows.specs.Written.{IsWritten, IfWritten, TableWritten, IndexWritten, StatementWritten, HistoryWritten, Written, AllWritten}

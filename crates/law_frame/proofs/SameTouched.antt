@@ -45,7 +45,7 @@ rising_filter test (v ∷ vs) h = by_test (test v) (rising_filter test vs h.1)
 pub key_turned : (a b : Key) → same_key a b ≡ true → same_key b a ≡ true
 key_turned a b e = sym (same_key_as a b a e) ∙ same_itself a
 
-both_ways : (a b : Key) (p q : Bool) → same_key a b ≡ p → same_key b a ≡ q → p ≡ q
+pub both_ways : (a b : Key) (p q : Bool) → same_key a b ≡ p → same_key b a ≡ q → p ≡ q
 both_ways a b true q e f = sym (key_turned a b e) ∙ f
 both_ways a b false true e f = sym e ∙ key_turned b a f
 both_ways a b false false e f = refl

@@ -35,7 +35,7 @@ use Rattle.law_frame.proofs.Sounds.{sound_all}
 
 -- ---- CREATE TABLE
 
-four_passed : {A : Type 0} (a b c d : Bool) (e f g h : Refusal) (y x : A) → refused_if a e (refused_if b f (refused_if c g (refused_if d h (Ok y)))) ≡ Ok x → x ≡ y
+pub four_passed : {A : Type 0} (a b c d : Bool) (e f g h : Refusal) (y x : A) → refused_if a e (refused_if b f (refused_if c g (refused_if d h (Ok y)))) ≡ Ok x → x ≡ y
 four_passed true b c d e f g h y x k = cc
 four_passed false true c d e f g h y x k = cc
 four_passed false false true d e f g h y x k = cc
@@ -48,7 +48,7 @@ third_false false true c d e h = cc
 third_false false false true d e h = cc
 third_false false false false d e h = refl
 
-new_def : (defs : Defs) (c : CreateTable) (def : TableDef) → create_check defs c ≡ Ok def → def ≡ table_def (next_id defs) c
+pub new_def : (defs : Defs) (c : CreateTable) (def : TableDef) → create_check defs c ≡ Ok def → def ≡ table_def (next_id defs) c
 unfolding create_check
 new_def defs c def e = four_passed (has_bad_name defs (table_def (next_id defs) c) c.key) (exceeds_limit defs (table_def (next_id defs) c) c.key) _ (has_null_key (table_def (next_id defs) c)) NameConflict LimitExceeded NoSuchColumn NullNotAllowed (table_def (next_id defs) c) def e
 

@@ -27,6 +27,7 @@ use Rattle.spec_model.specs.Lists.{inserted, sorted, numbered}
 use Rattle.spec_model.specs.Rows.{EventId, event_cmp, start_cmp, live}
 use Rattle.spec_model.specs.Runs.{Rising}
 use Rattle.law_frame.proofs.Alls.{all_filter, all_both, all_map, all_sorted}
+use Rattle.law_frame.proofs.SameTouched.{rising_filter}
 use Rattle.law_journal.specs.Fits.{FitsColumn, Fits}
 use Rattle.law_journal.specs.Kept.{IsEarlier}
 use Rattle.law_journal.specs.Serial.{place_in, HasTx, IsOf}
@@ -86,14 +87,6 @@ rises (v ∷ vs) r = behind v vs r.0 r.1
     behind last [] a q = refl
     behind last (w ∷ ws) a q = rw (less_after last.start w.start a.0) (behind w ws q.0 q.1)
 
-rising_filtered : (test : Version → Bool) (vs : List Version) → Rising vs → Rising (filter test vs)
-rising_filtered test [] r = tt
-rising_filtered test (v ∷ vs) r = here (test v) (rising_filtered test vs r.1)
-  where
-    here : (b : Bool) → Rising (filter test vs) → Rising (if b then v ∷ filter test vs else filter test vs)
-    here true more = (all_filter (λ w. start_cmp v w ≡ Less) test vs r.0, more)
-    here false more = more
-
 -- ---- versions
 
 -- what is known of each version of a table
@@ -133,7 +126,7 @@ module _ (columns : List ColumnDef) (few : length columns ≤ 64) where
             All-weaker (λ v. (test v ≡ true) × Known columns v) IsBaseRow (λ v k. base_row v k.0 k.1) (filter test vs)
                 (all_both (λ v. test v ≡ true) (Known columns) (filter test vs) (kept_by_passes test vs) (all_filter (Known columns) test vs known)),
           ),
-          rises (filter test vs) (rising_filtered test vs rising),
+          rises (filter test vs) (rising_filter test vs rising),
         )
 
     history : AreHistoryRows (ended_ones vs)
@@ -145,7 +138,7 @@ module _ (columns : List ColumnDef) (few : length columns ≤ 64) where
             All-weaker (λ v. (test v ≡ true) × Known columns v) IsHistoryRow (λ v k. history_row v k.0 k.1) (filter test vs)
                 (all_both (λ v. test v ≡ true) (Known columns) (filter test vs) (kept_by_passes test vs) (all_filter (Known columns) test vs known)),
           ),
-          rises (filter test vs) (rising_filtered test vs rising),
+          rises (filter test vs) (rising_filter test vs rising),
         )
 
   -- ---- indexes

@@ -9,8 +9,7 @@ use Rattle.std.specs.Str.{bytes_eq}
 use Rattle.std.proofs.ByRecursion.{All-weaker}
 use Rattle.std.proofs.lemmas.Bool.{or_parts}
 use Rattle.sql_value.specs.declared.column.ColumnDef.{ColumnDef}
-use Rattle.sql_value.specs.declared.refusal.Refusal.{Refusal}
-use Rattle.sql_value.specs.declared.refusal.Refusal.TheVariants.{NoSuchTable, NameConflict, NoSuchColumn, NullNotAllowed, ReadOnlyTable, LimitExceeded}
+use Rattle.sql_value.specs.declared.refusal.Refusal.TheVariants.{NoSuchTable, NameConflict, NoSuchColumn, ReadOnlyTable, LimitExceeded}
 use Rattle.sql_value.specs.Stored.{is_in_range}
 use Rattle.sql_types.specs.declared.table.TableDef.{TableDef}
 use Rattle.sql_types.specs.declared.table.IndexDef.{IndexDef}
@@ -20,23 +19,16 @@ use Rattle.spec_model.specs.Refusals.{or_refused}
 use Rattle.spec_model.specs.Columns.{place_of}
 use Rattle.spec_model.specs.Limits.{max_columns, max_key_columns, max_tables, max_index_columns, max_indexes}
 use Rattle.spec_model.specs.Catalog.{Defs, NamedPart, find_part}
-use Rattle.spec_model.specs.Checks.{refused_if}
-use Rattle.spec_model.specs.Create.{is_name, table_names, is_long, ordinal_at, keyed, table_def, has_bad_name, system_tables, exceeds_limit, has_null_key, next_id, create_check, index_def, ordinals_of, index_check_in, index_check}
+use Rattle.spec_model.specs.Create.{is_name, table_names, is_long, ordinal_at, keyed, table_def, has_bad_name, system_tables, exceeds_limit, next_id, create_check, index_def, ordinals_of, index_check_in, index_check}
 use Rattle.law_frame.proofs.Checked.{Led, led, was_passed, not_refused}
 use Rattle.law_frame.proofs.Alls.{all_both}
 use Rattle.law_frame.proofs.NamedPart.{was_found}
+use Rattle.law_frame.proofs.SoundStatements.{four_passed, new_def}
 use Rattle.law_journal.proofs.SystemRows.{IsSmall}
 
 none_any : {A : Type 0} (test : A → Bool) (xs : List A) → list_any test xs ≡ false → AllByRecursion (λ x. test x ≡ false) xs
 none_any test [] e = tt
 none_any test (x ∷ xs) e = let p = or_parts (test x) (list_any test xs) e in (p.0, none_any test xs p.1)
-
-pub four_passed : {A : Type 0} (a b c d : Bool) (e f g h : Refusal) (y x : A) → refused_if a e (refused_if b f (refused_if c g (refused_if d h (Ok y)))) ≡ Ok x → x ≡ y
-four_passed true b c d e f g h y x k = cc
-four_passed false true c d e f g h y x k = cc
-four_passed false false true d e f g h y x k = cc
-four_passed false false false true e f g h y x k = cc
-four_passed false false false false e f g h y x k = cc
 
 pub record Six (a b c d e f : Bool) : Type 0 where
   pub first : a ≡ false
@@ -99,10 +91,6 @@ pub record Created (defs : Defs) (def : TableDef) : Type 0 where
   pub history : length def.history ≤ 128
   pub view : length def.view ≤ 128
   pub indexes : def.indexes ≡ []
-
-new_def : (defs : Defs) (c : CreateTable) (def : TableDef) → create_check defs c ≡ Ok def → def ≡ table_def (next_id defs) c
-unfolding create_check
-new_def defs c def e = four_passed (has_bad_name defs (table_def (next_id defs) c) c.key) (exceeds_limit defs (table_def (next_id defs) c) c.key) _ (has_null_key (table_def (next_id defs) c)) NameConflict LimitExceeded NoSuchColumn NullNotAllowed (table_def (next_id defs) c) def e
 
 within : (defs : Defs) (c : CreateTable) (def : TableDef) → create_check defs c ≡ Ok def → exceeds_limit defs (table_def (next_id defs) c) c.key ≡ false
 unfolding create_check

@@ -34,12 +34,13 @@ use Rattle.law_frame.proofs.BaseTables.{users_table}
 use Rattle.law_frame.proofs.Definitions.{same_defs, changes_keep_defs}
 use Rattle.law_frame.proofs.ChangeSets.{carries_change_set_out, in_one_table, in_turn}
 use Rattle.law_frame.proofs.SoundStatements.{statement_sound, first_sound}
+use Rattle.law_frame.proofs.SameAlone.{defs_append}
 use Rattle.law_journal.specs.Fine.{OfTable}
 use Rattle.law_journal.specs.Fits.{Fits}
 use Rattle.law_journal.specs.Kept.{count_all, AllApart, KeptTable, Kept}
 use Rattle.law_journal.specs.Described.{items_below, IsTableKey, IsColumnKey, Described}
 use Rattle.law_journal.proofs.Created.{Created, created, Indexed, indexed}
-use Rattle.law_journal.proofs.DefLists.{defs_append, all_defs, count_new, new_items, table_key_stays, column_key_stays, redef, defs_redefined, count_redefined, IsOnly, ListedOnce, is_listed_once, table_key_kept, column_key_kept, items_now}
+use Rattle.law_journal.proofs.DefLists.{all_defs, count_new, new_items, table_key_stays, column_key_stays, redef, defs_redefined, count_redefined, IsOnly, ListedOnce, is_listed_once, table_key_kept, column_key_kept, items_now}
 use Rattle.law_journal.proofs.Lift.{of_weaker, of_changed, of_other, of_front}
 use Rattle.law_journal.proofs.NumberKeys.{table_key, index_key}
 use Rattle.law_journal.proofs.Statements.{TablesAbout, ColumnsAbout, described_by, own_column_key, has_indexed_table, few_columns, after_first, change_set_fine}

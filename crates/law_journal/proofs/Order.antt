@@ -14,16 +14,13 @@ use Rattle.spec_model.specs.Rows.{EventId, same_event, start_cmp, started, with_
 use Rattle.spec_model.specs.Keys.{Key, same_key, version_key, has_live_row}
 use Rattle.spec_model.specs.Changes.{Change, Starts, Ends, changed}
 use Rattle.law_frame.proofs.Alls.{all_inserted}
-use Rattle.law_frame.proofs.SameKeys.{same_key_as, same_itself}
+use Rattle.law_frame.proofs.SameTouched.{key_turned}
 use Rattle.law_journal.specs.Fits.{Fits}
 use Rattle.law_journal.specs.Fine.{key_in, HasLive, IsFine}
 use Rattle.law_journal.specs.Kept.{is_it, ends_with, count_in, count, IsEarlier, EndedBefore, Apart, AllApart, IsPast}
 use Rattle.law_journal.proofs.Counts.{same_parts, hit, ended_cons, missed, one_less}
 
 -- ---- keys
-
-pub same_turned : (a b : Key) → same_key a b ≡ true → same_key b a ≡ true
-same_turned a b h = sym (same_key_as a b a h) ∙ same_itself a
 
 -- none of this key stands
 abbrev pub NoneLive : List ColumnDef → Key → List Version → Type 0
@@ -118,7 +115,7 @@ module _ (place : ℕ → ℕ) where
 
   module _ (columns : List ColumnDef) where
     pub apart_flip : (v w : Version) → Apart place columns v w → Apart place columns w v
-    apart_flip v w a same = elim (a (same_turned (version_key columns w) (version_key columns v) same)) [ inl p ↦ inr p | inr q ↦ inl q ]
+    apart_flip v w a same = elim (a (key_turned (version_key columns w) (version_key columns v) same)) [ inl p ↦ inr p | inr q ↦ inl q ]
 
     -- ---- a new version
 
@@ -139,7 +136,7 @@ module _ (place : ℕ → ℕ) where
     new_apart : (now : EventId) (values : List (Option TypedValue)) (vs : List Version) → AllByRecursion (IsPast place now) vs → NoneLive columns (key_in columns values) vs → AllByRecursion (Apart place columns (new_version now values)) vs
     new_apart now values [] past fine = tt
     new_apart now values (v ∷ vs) past fine =
-        ((λ same. inr (closed_before now v v.end refl (fine.0 (same_turned (key_in columns values) (version_key columns v) same)) past.0.end)), new_apart now values vs past.1 fine.1)
+        ((λ same. inr (closed_before now v v.end refl (fine.0 (key_turned (key_in columns values) (version_key columns v) same)) past.0.end)), new_apart now values vs past.1 fine.1)
 
     -- ---- an end
 

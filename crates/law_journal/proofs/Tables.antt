@@ -31,7 +31,7 @@ pub record Split (id : ℕ) (P : Table → Type 0) (T : Tables) : Type 0 where
   pub holds : P table
   pub changed_ : (f : List Version → List Version) → changed_table id f T ≡ front ++ with_versions f table ∷ back
 
-untouched : (n id : ℕ) (f : List Version → List Version) (T : Tables) → IdsFrom n (defs_of T) → id < n → changed_table id f T ≡ T
+pub untouched : (n id : ℕ) (f : List Version → List Version) (T : Tables) → IdsFrom n (defs_of T) → id < n → changed_table id f T ≡ T
 untouched n id f [] ids lt = refl
 untouched n id f (t ∷ ts) ids lt = rw (ne_eqb t.def.id id (λ e. absurd (omega (arith, e, ids.0, lt))), untouched (n + 1) id f ts ids.1 (omega (arith, lt))) refl
 

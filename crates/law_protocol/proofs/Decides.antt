@@ -1,20 +1,20 @@
 -- A visit or a step that says a statement does so where nobody is in its way, and one that meets a lock meets the one that is.
-use Rattle.std.proofs.Common.{◌≡◌, ◌≢◌, ℕ, zero, suc, ◌<◌, ◌≤◌, Bool, true, List, [], ◌∷◌, ◌++◌, map, Option, Some, None, refl, sym, ap, ap₂, ◌∙◌, subst, subst₂, ⊎_elim, arith, append-nil}
-use Rattle.std.proofs.lemmas.Bool.{cases_eq, cases_lt, eq-eqb}
-use Rattle.std.specs.Prelude.{◌==◌, if◌then◌else◌}
+use Rattle.std.proofs.Common.{◌≡◌, ◌≢◌, ℕ, ◌<◌, ◌≤◌, Bool, List, [], ◌∷◌, ◌++◌, map, Some, None, refl, sym, ap, ap₂, ◌∙◌, subst, subst₂, ⊎_elim, arith, append-nil}
+use Rattle.std.proofs.lemmas.Bool.{cases_eq, cases_lt}
 use Rattle.spec_model.specs.Catalog.{Defs, defs_of}
 use Rattle.spec_model.specs.Journals.{Line, serial}
 use Rattle.spec_history.specs.Acts.{SessionAct, looks, says, meets, Act, by, closes}
 use Rattle.spec_history.specs.ByLocks.{IsByLocks, LocksDecide}
-use Rattle.spec_history.specs.ExactRefusals.{HeldStatement, held_by, held_beside, in_the_way}
+use Rattle.spec_history.specs.ExactRefusals.{HeldStatement, held_beside, in_the_way}
 use Rattle.spec_history.specs.Histories.{IsIdle, SessionsBelow}
 use Rattle.spec_history.specs.Lists.{Text, Each, In}
 use Rattle.spec_history.specs.Meaning.{Meaning}
 use Rattle.spec_history.specs.Serial as serials
 use Rattle.spec_history.specs.Sessions.{SessionTransaction, SessionState, fresh, scripts, viewed}
-use Rattle.spec_history.specs.Transactions.{Transaction, on_some, unfixed}
+use Rattle.spec_history.specs.Transactions.{on_some, unfixed}
 use Rattle.spec_history.specs.Worlds.{World, first, run, step, tables}
 use Rattle.spec_history.proofs.Cuts.{run_append}
+use Rattle.spec_history.proofs.ByLocks.{held_same}
 use Rattle.spec_protocol.specs.Server.{Server}
 use Rattle.spec_protocol.specs.Cells.{Cell, catalog_at, holds_at}
 use Rattle.spec_protocol.specs.AnonymousActs.{AnonymousAct, did, anonymous_act}
@@ -46,13 +46,6 @@ has_none x d e f = let g : None ≡ Some d = ap (λ (z : SessionState). z.transa
 
 all_below : (k : ℕ) (h : History) → SessionsBelow k h → (t : ℕ) (d : SessionTransaction) → ((run first h).at t).transaction ≡ Some d → t < k
 all_below k h b t d e = ⊎_elim (λ (l : t < k). l) (λ l. absurd (has_none ((run first h).at t) d (beyond k first h b t (omega (arith, l))) e)) (cases_lt t k)
-
-held_same : (s k : ℕ) (f g : ℕ → Option Transaction) → ((t : ℕ) → t ≢ s → f t ≡ g t) → held_beside s k f ≡ held_beside s k g
-held_same s zero f g same = refl
-held_same s (suc k) f g same = ap₂ (λ (a b : List HeldStatement). a ++ b) (held_same s k f g same) (⊎_elim
-    (λ (e : k ≡ s). let is : (k == s) ≡ true = eq-eqb k s e in rw is refl)
-    (λ (ne : k ≢ s). ap (λ (l : List HeldStatement). if k == s then [] else l) (ap held_by (same k ne)))
-    (cases_eq k s))
 
 -- ---- who acts is the session at the seat that is inside a statement
 

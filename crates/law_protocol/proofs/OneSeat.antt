@@ -26,8 +26,8 @@ use Rattle.spec_protocol.specs.Server.{Server}
 use Rattle.spec_protocol.specs.StandTogether.{History, IsOfSeat, LocksAskedFor, Stands, StandsDone}
 use Rattle.spec_protocol.specs.TranscriptsAgree.{TranscriptsAgree}
 use Rattle.spec_history.specs.Histories.{OneAtATime}
+use Rattle.spec_history.proofs.Samples.{one_join}
 use Rattle.law_protocol_steps.proofs.AfterSet.{all_at, each_at}
-use Rattle.law_protocol_steps.proofs.ByLocksMore.{alone_append}
 use Rattle.law_protocol_steps.proofs.GoesOn.{Goes, goes, goes_on, still}
 use Rattle.law_protocol.proofs.SeatNames.{has_begun, name_there}
 
@@ -55,7 +55,7 @@ unfolding goes_on
 one_on v {history} {more_lines = more_lines} {names = names} {then_names} st longer last = record {
   follows = follows_append (run first history) st.goes.events last.goes.events st.follows (subst (λ (w : World). Follows w last.goes.events more_lines) (run_append first history st.goes.events) last.follows);
   goes = goes_on v st.goes last.goes;
-  alone = λ q. alone_append (run first history) st.goes.events last.goes.events (st.alone q) (subst (λ (w : World). OneAtATime w last.goes.events) (run_append first history st.goes.events) (last.alone q));
+  alone = λ q. one_join (run first history) st.goes.events last.goes.events (st.alone q) (subst (λ (w : World). OneAtATime w last.goes.events) (run_append first history st.goes.events) (last.alone q));
   named = subst (λ (h : History). Each (IsNamedIn (run first h) then_names) (st.goes.events ++ last.goes.events)) (append_assoc history st.goes.events last.goes.events)
       (each_append (IsNamedIn (run first ((history ++ st.goes.events) ++ last.goes.events)) then_names) st.goes.events last.goes.events
       (each_weaker (IsNamedIn (run first (history ++ st.goes.events)) names) (IsNamedIn (run first ((history ++ st.goes.events) ++ last.goes.events)) then_names) kept st.goes.events st.named) last.named);

@@ -1,7 +1,7 @@
 -- What an open transaction touched lies in cells that it visited, and what undo by number leaves of what it touched.
 use Rattle.std.proofs.Common.{◌≡◌, ◌≢◌, ℕ, ◌≤◌, Bool, true, false, not, List, [], ◌∷◌, map, Option, Some, None, refl, sym, ap, ◌∙◌, subst, inl, inr, ⊎_elim, leb-true, leb-false, arith}
-use Rattle.std.proofs.lemmas.Bool.{eq-eqb, ne_eqb, or_parts}
-use Rattle.std.specs.Prelude.{◌==◌, ◌&&◌, ◌||◌, ◌-◌, nat_le, if◌then◌else◌}
+use Rattle.std.proofs.lemmas.Bool.{eq-eqb, or_parts}
+use Rattle.std.specs.Prelude.{◌==◌, ◌&&◌, ◌||◌, nat_le, if◌then◌else◌}
 use Rattle.std.specs.List.{filter, list_any}
 use Rattle.sql_value.proofs.Naturals.{le_true}
 use Rattle.sql_types.specs.declared.lock.Hold.{Hold}
@@ -27,6 +27,7 @@ use Rattle.law_protocol_steps.proofs.FreshIds.{EndIsNotOf, IsNotOf, none_touched
 use Rattle.law_protocol_steps.proofs.Ids.{outside, has_not}
 use Rattle.law_protocol_steps.proofs.OthersScripts.{sound_for}
 use Rattle.law_protocol_steps.proofs.SeatsAfter.{one_session}
+use Rattle.law_protocol_changes.proofs.ChangesAt.{user_cell}
 
 -- ---- undo by number
 
@@ -73,9 +74,6 @@ in_filter a test (n ∷ ns) e i = by_test (test n) refl i (in_filter a test ns e
     by_test true f i r = ⊎_elim (λ (g : n ≡ a). inl g) (λ (g : In a ns). inr (r g)) i
     by_test false f i r = ⊎_elim (λ (g : n ≡ a). let no : true ≡ false = sym e ∙ ap test (sym g) ∙ f in cc) (λ (g : In a ns). r g) i
 
-cell_of_user : (id : ℕ) → 3 ≤ id → cell_of id ≡ id - 1
-cell_of_user id l = rw (ne_eqb id 1 (λ e. omega (arith, e)), ne_eqb id 2 (λ e. omega (arith, e))) refl
-
 module _ (v : Server) (cells : List Cell) (seats : List SeatState) {history : History} (st : Stands v history cells seats) (j : ℕ) (x : Session) (o : OpenTransaction) (has : HasOpen seats j x o) (open_end : o.end ≡ unfixed) where
   abbrev c : Contents
   c = contents cells
@@ -115,4 +113,4 @@ module _ (v : Server) (cells : List Cell) (seats : List SeatState) {history : Hi
         by_id : (b : Bool) → nat_le id 2 ≡ b → touched o.id (c.versions id) ≡ []
         by_id true e = system id l (omega (arith, leb-true id 2 e))
         by_id false e = let m : 3 ≤ id = omega (arith, leb-false id 2 e) in
-            untouched id (λ i. let no : true ≡ false = sym (in_list (cell_of id) (filter (λ n. nat_le 1 n) o.visited) (in_filter (cell_of id) (λ n. nat_le 1 n) o.visited (le_true (cell_of id) (let e = cell_of_user id m in omega arith)) i)) ∙ none in cc) l
+            untouched id (λ i. let no : true ≡ false = sym (in_list (cell_of id) (filter (λ n. nat_le 1 n) o.visited) (in_filter (cell_of id) (λ n. nat_le 1 n) o.visited (le_true (cell_of id) (let e = user_cell id m in omega arith)) i)) ∙ none in cc) l

@@ -9,6 +9,7 @@ use lib.ListN.{get_elem?}
 use Rattle.sql_types.specs.declared.journal.JournalItem.{JournalItem}
 use Rattle.sql_types.specs.declared.journal.JournalItem.TheVariants.{Tx, Close}
 use Rattle.spec_model.specs.Journals.{tx_count, cut}
+use Rattle.law_frame.proofs.LegalRules.{count_append}
 use Rattle.spec_history.specs.Lists.{Text, Each, In}
 use Rattle.spec_history.specs.Journals.{times}
 use Rattle.spec_history.specs.Meaning.{Meaning}
@@ -22,7 +23,7 @@ use Rattle.spec_history.specs.Sessions.{SessionState, unborn, runs, gone, fresh,
 use Rattle.spec_history.specs.Worlds.{World, first, step, run, items_by, ids_by, issued_by}
 use Rattle.spec_history.specs.Guards.{IsEnabled, Good}
 use Rattle.spec_history.proofs.Cuts.{run_append, of_append, good_append}
-use Rattle.spec_history.proofs.Trace.{each_append, each_weaker, count_append}
+use Rattle.spec_history.proofs.Trace.{each_append, each_weaker}
 use Rattle.spec_history.proofs.Settles.{in_right}
 use Rattle.spec_history.proofs.Setup.{silent}
 use Rattle.spec_protocol.specs.Server.{Server, journal_image}

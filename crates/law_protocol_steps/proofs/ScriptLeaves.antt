@@ -31,7 +31,7 @@ use Rattle.spec_model.specs.Undo.{undone}
 use Rattle.sql_types.specs.declared.lock.Mode.TheVariants as mode
 use Rattle.sql_types.specs.declared.statement.Stmt.TheVariants as s
 use Rattle.law_frame.proofs.Definitions.{alone_keeps}
-use Rattle.law_protocol_steps.proofs.NoClashes.{each_left, each_right}
+use Rattle.spec_history.proofs.Refused.{each_left, each_right}
 
 -- ---- what it wants reaches no key without an X
 

@@ -17,7 +17,7 @@ use Rattle.sql_types.specs.declared.lock.Hold.{Hold}
 use Rattle.spec_protocol.specs.RequestsIn.{Holds}
 use Rattle.spec_model.specs.Holds.{answers, released}
 use Rattle.spec_model.specs.Holds.{holds_after, holds_any, holds_request, same_mode}
-use Rattle.law_protocol_steps.proofs.NoClashes.{both_ways}
+use Rattle.law_frame.proofs.SameTouched.{both_ways}
 
 abbrev pub taken : ℕ → List LockRequest → List Hold → List Hold
 taken id requests holds = holds_after holds id requests

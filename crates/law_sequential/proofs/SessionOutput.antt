@@ -130,7 +130,7 @@ rests_nameless : (r : Role) → IsAtRest r → session_names r ≡ []
 rests_nameless (session x) h = absurd h
 rests_nameless r h = refl
 
-mapped : {A B : Type 0} (f : A → B) (Q : B → Type 0) (xs : List A) → Each (λ x. Q (f x)) xs → Each Q (map f xs)
+pub mapped : {A B : Type 0} (f : A → B) (Q : B → Type 0) (xs : List A) → Each (λ x. Q (f x)) xs → Each Q (map f xs)
 mapped f Q [] h = tt
 mapped f Q (x ∷ xs) h = (h.0, mapped f Q xs h.1)
 

@@ -50,7 +50,7 @@ rows_texts X (line ∷ lines) (row ∷ rows) differ h i x a = line_adds (row.0 =
 
 -- ---- so the input is that of the lines
 
-abbrev session_of : Text → List Text → InputSession
+abbrev pub session_of : Text → List Text → InputSession
 session_of name texts = record { name = name; texts = texts }
 
 pub input_is : (lines : List InputLine) (input : List InputSession) (X : List Transcript) → AreStatements input X → ((i : ℕ) (x : Transcript) → At X i x → statements x.entries ≡ texts_of_session x.session lines)

@@ -1,15 +1,15 @@
 -- Numbers in decimal digits are the longest tokens at their places.
-use Rattle.std.proofs.Common.{◌≡◌, ℕ, ◌+◌, ◌/◌, ◌%◌, ◌<◌, ◌≤◌, ◌^◌, false, ◌==◌, List, [], ◌∷◌, ◌++◌, length, get_or, nat_lt, min, Some, refl, ap, ◌∙◌, arith, length-append}
+use Rattle.std.proofs.Common.{◌≡◌, ℕ, ◌<◌, ◌≤◌, ◌^◌, false, ◌==◌, List, [], ◌∷◌, ◌++◌, length, get_or, nat_lt, min, Some, refl, ap, ◌∙◌, arith}
 use Rattle.std.proofs.lemmas.Bool.{and_parts}
 use Rattle.std.specs.List.{list_all, prefix_len}
 use Rattle.std.specs.Char.{is_ascii_digit}
 use Rattle.std.specs.Fmt.{decimal}
-use Rattle.std.proofs.lemmas.Fmt.{length-decimal-le_wide, decimal_by_steps_wide}
-use Rattle.sql_value.proofs.Naturals.{is_digit}
+use Rattle.std.proofs.lemmas.Fmt.{length-decimal-le_wide}
 use Rattle.sql_lex.specs.declared.token.Kind.TheVariants as kind
 use Rattle.sql_lex.specs.Front.{number}
 use Rattle.sql_parse.proofs.Numbers.{AreDigits, NoX, and_off, at_behind, digit_zero, digit_size, digits_no_x, front_number}
 use Rattle.sql_parse.proofs.Tokens.{run_len}
+use Rattle.sql_parse.proofs.Values.{decimal_is}
 use Rattle.law_workload.proofs.Cut.{Lexeme, cut, token}
 
 -- what stands behind a number
@@ -49,29 +49,8 @@ digits_token (d ∷ ds) rest ss all some few stop more =
 
 -- ---- decimals
 
-all_append : (a b : List ℕ) → AreDigits a → AreDigits b → AreDigits (a ++ b)
-all_append [] b g h = h
-all_append (c ∷ cs) b g h =
-    let parts = and_parts (is_ascii_digit c) (list_all is_ascii_digit cs) g in
-    rw (parts.0, all_append cs b parts.1 h) refl
-
-abbrev Decimal : ℕ → List ℕ → Type 0
-Decimal n ds = AreDigits ds × (0 < length ds)
-
-decimal_one : (n : ℕ) → n < 10 → Decimal n ((48 + n) ∷ [])
-decimal_one n h = (rw (is_digit n h) refl, omega arith)
-
-decimal_more : (n : ℕ) (ds : List ℕ) → 10 ≤ n → Decimal (n / 10) ds → Decimal n (ds ++ ((48 + n % 10) ∷ []))
-decimal_more n ds h p = (
-  all_append ds ((48 + n % 10) ∷ []) p.0 (rw (is_digit (n % 10) (omega arith)) refl),
-  omega (arith, p.1, length-append ds ((48 + n % 10) ∷ [])),
-)
-
-pub decimal_digits : (n : ℕ) → n < 10 ^ 64 → Decimal n (decimal n)
-decimal_digits n h = decimal_by_steps_wide Decimal decimal_one decimal_more n h
-
 -- a number of at most 38 digits, and then the tokens of the rest
 pub decimal_token : (n : ℕ) (rest : List ℕ) (ss : List Lexeme) → n < 10 ^ 38 → Stop rest → cut 0 rest ≡ Some ss → cut 0 (decimal n ++ rest) ≡ Some ((kind.Number, decimal n) ∷ ss)
 decimal_token n rest ss few stop more =
-    let d = decimal_digits n (omega arith) in
+    let d = decimal_is n (omega arith) in
     digits_token (decimal n) rest ss d.0 d.1 (length-decimal-le_wide 38 n (omega arith) few (omega (arith, few))) stop more

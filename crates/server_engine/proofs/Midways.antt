@@ -20,6 +20,8 @@ use Rattle.server_session.specs.declared.need.NextVisit.TheVariants as need
 use Rattle.server_session.specs.declared.seat.Seat.{Seat}
 use Rattle.server_session.specs.declared.stage.ControlPoint.{ControlPoint}
 use Rattle.server_session.specs.declared.stage.ControlPoint.TheVariants.{Between, Inside, Leaving, Over}
+use Rattle.server_session.proofs.Alone.{between_is}
+use Rattle.server_session.proofs.CatalogReleased.{not_done}
 use Rattle.server_engine.specs.CoreInput.{CoreInput}
 use Rattle.server_engine.specs.IsMidway.{OthersInactive, IsMidway, IsBelow, IsWithin, ChangesSession, WentOn, size_found, width, visits_found, work, LessWork, NoMorePending}
 use Rattle.server_engine.specs.Standing.{cells_seen, seats_seen, pending_at, pending_found, IsInactive, Holds, Stands, Found}
@@ -30,16 +32,12 @@ use Rattle.server_engine.proofs.Holding.{seated}
 use Rattle.server_engine.proofs.OneServer as one
 use Rattle.server_engine.proofs.Pairs.{all_there, each_there, seen_at, seen_set}
 use Rattle.server_engine.proofs.Pending.{less_work}
-use Rattle.server_engine.proofs.OneServer.{between_is}
 
 -- ---- points
 
 -- between statements nothing is needed
 pub not_between : {H : Type 0} (y : Seat H) (n : NextVisit) → need_of y ≡ n → (need.Done ≡ n → ⊥) → IsBetween y → ⊥
 not_between y n e ne b = ne (sym (ap (λ (p : ControlPoint). point_need p y.running) (between_is y.point b)) ∙ e)
-
-pub cell_not_done : (i : ℕ) → need.Done ≡ need.Cell i → ⊥
-cell_not_done i e = cc
 
 pub all_not_done : need.Done ≡ need.All → ⊥
 all_not_done e = cc
@@ -165,7 +163,7 @@ module _ {H : Type 0} (digest : H → List ℕ → List ℕ) (h : H) (a : CoreIn
       )
         where
           time : In y.seat.started a.moments
-          time = in_time (need.Cell i) needs (cell_not_done i)
+          time = in_time (need.Cell i) needs (not_done i)
 
     module _ (needs : need_of y.seat ≡ need.All) (z : Session H) (kept : Option KeptImage) (visits : VisitsAll digest y.seat c.cells.items kept z.seat) (stays : KeepsStatement y.seat z.seat)
         (cells_are : d.cells.items ≡ c.cells.items) (sessions_are : d.sessions.items ≡ slice_set c.sessions.items j z) where

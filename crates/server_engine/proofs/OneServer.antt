@@ -25,7 +25,7 @@ use Rattle.law_sequential.proofs.SessionsStand.{ShownAt, shown_at}
 use Rattle.server_session.specs.Full.{ClosesOne}
 use Rattle.server_session.specs.KeptCell.{KeptCell, Keeps}
 use Rattle.server_session.specs.Needs.{need_of}
-use Rattle.server_session.specs.ControlPoints.{IsBetween, IsBetweenAt, IsOver, IsOverAt}
+use Rattle.server_session.specs.ControlPoints.{IsBetween, IsOver, IsOverAt}
 use Rattle.server_session.specs.Sits.{Sits, IsControlPoint, left_of, place_seen}
 use Rattle.server_session.specs.Steps.{Steps, Answers, Ends, Among, Visits, IsVisit, last_entries, end_of, entries_at}
 use Rattle.server_session.specs.SessionOutput.{size_of, pending_of}
@@ -33,6 +33,8 @@ use Rattle.server_session.specs.declared.need.NextVisit.TheVariants as need
 use Rattle.server_session.specs.declared.seat.Seat.{Seat}
 use Rattle.server_session.specs.declared.stage.ControlPoint.{ControlPoint}
 use Rattle.server_session.specs.declared.stage.ControlPoint.TheVariants.{Between, Inside, Leaving, Over}
+use Rattle.server_session.proofs.Alone.{between_is}
+use Rattle.server_session.proofs.Ending.{each_own}
 use Rattle.law_sequential.proofs.LedgerInStep.{next_full}
 use Rattle.server_engine.specs.CoreInput.{CoreInput, with_lines}
 use Rattle.server_engine.specs.Standing.{SitsOrIsOver, IsInactive, OnServer, pending_at, pending_found}
@@ -40,12 +42,6 @@ use Rattle.server_engine.proofs.AnonymousActs.{plain_nameless, plain_phased, vis
 use Rattle.server_engine.proofs.Pairs.{Beside, beside, behind, both_set}
 
 -- ---- seats
-
-pub between_is : (p : ControlPoint) → IsBetweenAt p → p ≡ Between
-between_is Between b = refl
-between_is (Inside stage) b = absurd b
-between_is Leaving b = absurd b
-between_is Over b = absurd b
 
 over_is : (p : ControlPoint) → IsOverAt p → p ≡ Over
 over_is Between b = absurd b
@@ -125,9 +121,6 @@ no_more now moments times i e time k = ⊎_elim (λ (l : In time moments). l) (�
 in_itself : (times more : List ℕ) → ((time : ℕ) → In time times → In time more) → Each (λ time. In time more) times
 in_itself [] more f = tt
 in_itself (t ∷ ts) more f = (f t (inl refl), in_itself ts more (λ time i. f time (inr i)))
-
-each_in : (times : List ℕ) → Each (λ time. In time times) times
-each_in times = in_itself times times (λ time i. i)
 
 -- ---- one server
 
@@ -262,7 +255,7 @@ module _ {H : Type 0} (digest : H → List ℕ → List ℕ) (h : H) {v : Server
               (subst₂ (λ (ls : List InputLine) (ks : List SessionOutput). SessionsStand v a.database a.size a.phase ls (a.moments ++ g.moments) ks (slice_set cells i d.cell) (slice_set o.states j g.t))
               (ap (λ (ls : List InputLine). a.lines ++ ls) (g.lines []) ∙ append-nil a.lines) (told_set told j k is_told)
               (visit_on o.stand j s its.there k is_told others_inactive ((i, c.cell) ∷ []) (here, tt) i d.cell g.t (g.may []) (visit_phased a.phase (g.may []) (g.lines []) its_fit (g.did [])) (nameless its_fit (g.did []))
-              ledger o.stand.sequential_run.there (subst (λ (n : ℕ). n < a.size) pending_is below) (for_digest its_fit (g.did [])) [] [] g.moments g.moments (adds_gains g.adds) (each_in g.moments))))
+              ledger o.stand.sequential_run.there (subst (λ (n : ℕ). n < a.size) pending_is below) (for_digest its_fit (g.did [])) [] [] g.moments g.moments (adds_gains g.adds) (each_own g.moments))))
               (inl g.sits)
 
           -- one more is pending at most

@@ -22,13 +22,14 @@ use Rattle.server_session.specs.Steps.{StepsAlone, Among}
 use Rattle.server_session.specs.VisitedCells.{AreVisited, not_catalog, next_back}
 use Rattle.sql_types.specs.declared.end_line.EndLine.{EndLine}
 use Rattle.sql_types.specs.declared.end_line.EndLine.TheVariants.{Committed, Ended}
+use Rattle.spec_history.proofs.Refused.{each_right}
 use Rattle.server_session.specs.declared.need.NextVisit.TheVariants as need
 use Rattle.server_session.specs.declared.running.Running.{Running}
 use Rattle.server_session.specs.declared.seat.Seat.{Seat}
 use Rattle.server_session.specs.declared.stage.ControlPoint.{ControlPoint}
 use Rattle.server_session.specs.declared.stage.ControlPoint.TheVariants.{Inside}
 use Rattle.server_session.specs.declared.stage.Stage.{Stage}
-use Rattle.server_session.proofs.Alone.{placed, scripted, sits_then, script_same, adds_at, one_step, failed_plain, unsaid_room, unsaid_is_answered, each_right}
+use Rattle.server_session.proofs.Alone.{placed, scripted, sits_then, script_same, adds_at, one_step, failed_plain, unsaid_room, unsaid_is_answered}
 
 -- ---- cells in which it may have locks
 

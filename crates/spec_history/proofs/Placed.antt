@@ -29,7 +29,7 @@ picked_append pick n (Close k ∷ is) K = picked_append pick n is K
 picked_all : (pick : ℕ → Text → Bool) (J K : List JournalItem) → picked pick 0 (J ++ K) ≡ picked pick 0 J ++ picked pick (tx_count J) K
 picked_all pick J K = picked_append pick 0 J K ∙ ap (λ (m : ℕ). picked pick 0 J ++ picked pick m K) (omega arith)
 
-ones_append : (us vs : List Transaction) → committed_ones (us ++ vs) ≡ committed_ones us ++ committed_ones vs
+pub ones_append : (us vs : List Transaction) → committed_ones (us ++ vs) ≡ committed_ones us ++ committed_ones vs
 ones_append [] vs = refl
 ones_append (u ∷ us) vs = ap (λ (l : List Placed). committed_at_place u u.end ++ l) (ones_append us vs) ∙ sym (append_assoc (committed_at_place u u.end) (committed_ones us) (committed_ones vs))
 

@@ -64,7 +64,7 @@ module _ (i : Image) where
       (all_front (VersionHolds i) (each_version u) (flat_map each_version (tables_with i.defs more))
       (all_back (VersionHolds i) (each_version t) (flat_map each_version (tables_with (columns_def ∷ i.defs) (b ∷ more))) h))
 
-  versions_hold : version_fault i ≡ None → AllByRecursion (VersionHolds i) (versions_of_image i)
+  pub versions_hold : version_fault i ≡ None → AllByRecursion (VersionHolds i) (versions_of_image i)
   versions_hold e = all_hold (on start_of table_event_cmp) (VersionHolds i) (λ x p. p ≡ at.Event x.0.def.id x.1.start.0 x.1.start.1) (versions_of_image i) (version_fault i) (versions_told i) e
 
 -- ---- how many columns a definition and its indexes have

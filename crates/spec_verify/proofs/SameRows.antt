@@ -66,7 +66,7 @@ one_type a b e =
     ∙ ap (λ z. type_from (type_code b) (first_parameter b) z) s
     ∙ there b
 
-own_type : (a : SqlType) → same_type a a ≡ true
+pub own_type : (a : SqlType) → same_type a a ≡ true
 own_type a = rw (eq-eqb (type_code a) (type_code a) refl, eq-eqb (first_parameter a) (first_parameter a) refl, eq-eqb (second_parameter a) (second_parameter a) refl) refl
 
 -- ---- values
@@ -200,15 +200,15 @@ exact_rows (x ∷ a) (y ∷ b) p q e =
     ap (λ v. v ∷ a) (exact_row x y p.0 q.0 (and_front (same_row x y) (same_rows a b) e))
     ∙ ap (λ vs. y ∷ vs) (exact_rows a b p.1 q.1 (and_back (same_row x y) (same_rows a b) e))
 
-own_value : (a : Option TypedValue) → same_value a a ≡ true
+pub own_value : (a : Option TypedValue) → same_value a a ≡ true
 own_value None = refl
 own_value (Some a) = rw (own_type a.ty, tied_itself value_total a.value) refl
 
-own_row : (a : Stored) → same_row a a ≡ true
+pub own_row : (a : Stored) → same_row a a ≡ true
 own_row [] = refl
 own_row (x ∷ a) = rw (own_value x, own_row a) refl
 
-own_rows : (a : List Stored) → same_rows a a ≡ true
+pub own_rows : (a : List Stored) → same_rows a a ≡ true
 own_rows [] = refl
 own_rows (x ∷ a) = rw (own_row x, own_rows a) refl
 

@@ -19,7 +19,8 @@ use Rattle.spec_model.specs.Lists.{inserted}
 use Rattle.spec_model.specs.Rows.{EventId, event_cmp, same_event, start_cmp, started, with_end, ended}
 use Rattle.spec_model.specs.Runs.{Rising}
 use Rattle.law_frame.proofs.Sounds.{event_total, start_total}
-use Rattle.law_journal.proofs.Counts.{NoStart, ended_cons, same_none, same_parts}
+use Rattle.law_frame.proofs.SameKeys.{one_start}
+use Rattle.law_journal.proofs.Counts.{NoStart, ended_cons, same_none}
 use Rattle.sql_apply.specs.Places.{place, starts_before}
 
 -- ---- a start
@@ -60,22 +61,19 @@ place_is at vs n within point =
 
 -- ---- an end
 
-one_is : (a b : EventId) → same_event a b ≡ true → a ≡ b
-one_is a b same = let p = same_parts a b same in λ i. (p.0 i, p.1 i)
-
-not_itself : (a : EventId) → is_lt (event_cmp a a) ≡ false
+pub not_itself : (a : EventId) → is_lt (event_cmp a a) ≡ false
 not_itself a = ap is_lt (tied_itself event_total a)
 
-apart_by : (a b : EventId) (s : Bool) → same_event a b ≡ s → is_lt (event_cmp a b) ≡ true → s ≡ false
-apart_by a b true same less = absurd (true≢false (sym less ∙ ap (λ x. is_lt (event_cmp x b)) (one_is a b same) ∙ not_itself b))
+pub apart_by : (a b : EventId) (s : Bool) → same_event a b ≡ s → is_lt (event_cmp a b) ≡ true → s ≡ false
+apart_by a b true same less = absurd (true≢false (sym less ∙ ap (λ x. is_lt (event_cmp x b)) (one_start a b same) ∙ not_itself b))
 apart_by a b false same less = refl
 
 before_apart : (a b : EventId) → is_lt (event_cmp a b) ≡ true → same_event a b ≡ false
 before_apart a b less = apart_by a b (same_event a b) refl less
 
 -- what starts later than one that doesn't start before
-later_by : (start : EventId) (w u : Version) (s : Bool) → same_event u.start start ≡ s → starts_before start w ≡ false → start_cmp w u ≡ Less → s ≡ false
-later_by start w u true same rest less = absurd (true≢false (sym (ap is_lt less) ∙ ap (λ x. is_lt (event_cmp w.start x)) (one_is u.start start same) ∙ rest))
+pub later_by : (start : EventId) (w u : Version) (s : Bool) → same_event u.start start ≡ s → starts_before start w ≡ false → start_cmp w u ≡ Less → s ≡ false
+later_by start w u true same rest less = absurd (true≢false (sym (ap is_lt less) ∙ ap (λ x. is_lt (event_cmp w.start x)) (one_start u.start start same) ∙ rest))
 later_by start w u false same rest less = refl
 
 later_none : (start : EventId) (w : Version) (us : List Version) → starts_before start w ≡ false → AllByRecursion (λ u. start_cmp w u ≡ Less) us → NoStart start us

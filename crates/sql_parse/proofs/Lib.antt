@@ -8,7 +8,7 @@ pub mod Tokens
 mod Literals
 pub mod Numbers
 mod Quoted
-mod Values
+pub mod Values
 mod ReadExpr
 mod ReadTrees
 mod ReadWhole

@@ -28,7 +28,7 @@ use Rattle.sql_parse.proofs.Tokens.{null_}
 use Rattle.sql_parse.proofs.Numbers.{AreDigits, pointed_text, one_number}
 use Rattle.sql_parse.proofs.Quoted.{one_text, one_bytes}
 
-all_append : (a b : List ℕ) → AreDigits a → AreDigits b → AreDigits (a ++ b)
+pub all_append : (a b : List ℕ) → AreDigits a → AreDigits b → AreDigits (a ++ b)
 all_append [] b g h = h
 all_append (c ∷ cs) b g h =
     let parts = and_parts (is_ascii_digit c) (list_all is_ascii_digit cs) g in
@@ -50,18 +50,18 @@ zeros (suc k) = zeros k
 
 -- ---- decimals
 
-abbrev Decimal : ℕ → List ℕ → Type 0
+abbrev pub Decimal : ℕ → List ℕ → Type 0
 Decimal n ds = AreDigits ds × (0 < length ds)
 
-decimal_one : (n : ℕ) → n < 10 → Decimal n ((48 + n) ∷ [])
+pub decimal_one : (n : ℕ) → n < 10 → Decimal n ((48 + n) ∷ [])
 decimal_one n h = (rw (is_digit n h) refl, omega arith)
 
-decimal_more : (n : ℕ) (ds : List ℕ) → 10 ≤ n → Decimal (n / 10) ds → Decimal n (ds ++ ((48 + n % 10) ∷ []))
+pub decimal_more : (n : ℕ) (ds : List ℕ) → 10 ≤ n → Decimal (n / 10) ds → Decimal n (ds ++ ((48 + n % 10) ∷ []))
 decimal_more n ds h p =
     let last : n % 10 < 10 = omega arith in
     (all_append ds ((48 + n % 10) ∷ []) p.0 (rw (is_digit (n % 10) last) refl), omega (arith, length-append ds ((48 + n % 10) ∷ []), p.1))
 
-decimal_is : (n : ℕ) → n < 10 ^ 64 → Decimal n (decimal n)
+pub decimal_is : (n : ℕ) → n < 10 ^ 64 → Decimal n (decimal n)
 decimal_is n h = decimal_by_steps_wide Decimal decimal_one decimal_more n h
 
 pub one_digits : (n : ℕ) → IsSize n → One (digits n) (digits n ∷ [])

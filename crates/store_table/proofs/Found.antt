@@ -1,30 +1,17 @@
 -- The version at the place of a start.
 use Rattle.std.proofs.Common.{◌≡◌, ◌<◌, ◌≤◌, ◌+◌, ℕ, refl, sym, ap, subst, ◌∙◌, Bool, true, false, cond, List, [], ◌∷◌, length, get_or, Some, None, arith}
 use Rattle.std.specs.List.{AllByRecursion}
-use Rattle.std.specs.Ordering.{is_lt}
 use Rattle.std.specs.declared.cmp.Ordering.TheVariants.{Less}
 use Rattle.std.proofs.lemmas.List.{get_or_default}
-use Rattle.std.proofs.lemmas.Bool.{true≢false}
 use Rattle.std.proofs.ByRecursion.{All-weaker}
 use Rattle.base_types.proofs.Naturals.{one_up}
 use Rattle.sql_types.specs.declared.version.Version.{Version}
-use Rattle.spec_model.specs.Rows.{EventId, event_cmp, same_event, start_cmp}
+use Rattle.spec_model.specs.Rows.{EventId, same_event, start_cmp}
 use Rattle.spec_model.specs.Runs.{Rising}
-use Rattle.law_journal.proofs.Counts.{same_parts}
+use Rattle.law_frame.proofs.SameKeys.{one_start}
 use Rattle.sql_apply.specs.Places.{place, starts_before}
+use Rattle.sql_apply.proofs.Places.{apart_by, later_by, not_itself}
 use Rattle.store_table.specs.Orders.{version_at}
-use Rattle.store_table.proofs.Last.{itself}
-
-same_is : (a b : EventId) → same_event a b ≡ true → a ≡ b
-same_is a b same = let p = same_parts a b same in λ i. (p.0 i, p.1 i)
-
-apart_by : (a b : EventId) (s : Bool) → same_event a b ≡ s → is_lt (event_cmp a b) ≡ true → s ≡ false
-apart_by a b true same less = absurd (true≢false (sym less ∙ ap (λ x. is_lt (event_cmp x b)) (same_is a b same) ∙ itself b))
-apart_by a b false same less = refl
-
-later_by : (start : EventId) (w u : Version) (s : Bool) → same_event u.start start ≡ s → starts_before start w ≡ false → start_cmp w u ≡ Less → s ≡ false
-later_by start w u true same rest less = absurd (true≢false (sym (ap is_lt less) ∙ ap (λ x. is_lt (event_cmp w.start x)) (same_is u.start start same) ∙ rest))
-later_by start w u false same rest less = refl
 
 none_found : (start : EventId) (vs : List Version) → AllByRecursion (λ u. same_event u.start start ≡ false) vs → version_at start vs ≡ None
 none_found start [] h = refl

@@ -4,7 +4,6 @@ use Rattle.std.proofs.lemmas.Grind.{common_steps}
 use Rattle.std.specs.Prelude.{nat_le}
 use Rattle.std.specs.List.{AllByRecursion}
 use Rattle.std.specs.List.Sorted.{IsPartitionedBy, IsPartitionPoint}
-use Rattle.std.specs.Cmp.{tied_itself}
 use Rattle.std.specs.Ordering.{is_lt, ordering_reverse}
 use Rattle.std.specs.declared.cmp.Ordering.TheVariants.{Less}
 use Rattle.std.proofs.lemmas.Bool.{cases_Bool}
@@ -15,9 +14,7 @@ use Rattle.spec_model.specs.Runs.{Rising}
 use Rattle.law_frame.proofs.Sounds.{event_total}
 use Rattle.spec_model.specs.Undo.{is_undone}
 use Rattle.law_journal.proofs.Created.{below as above_of}
-
-pub itself : (a : EventId) → is_lt (event_cmp a a) ≡ false
-itself a = ap is_lt (tied_itself event_total a)
+use Rattle.sql_apply.proofs.Places.{not_itself}
 
 turned_less : (a b : EventId) → event_cmp a b ≡ Less → is_lt (event_cmp b a) ≡ false
 turned_less a b less = ap is_lt (event_total.antisymm b a ∙ ap ordering_reverse less)
@@ -89,7 +86,7 @@ start_below (w ∷ ws) v h (suc j) d inside = start_below ws v h.1 j d (omega (a
 
 pub versions_rise : (vs : List Version) → Rising vs → (i j : ℕ) (d : Version) → i ≤ j → j < length vs → is_lt (event_cmp (get_or vs j d).start (get_or vs i d).start) ≡ false
 versions_rise [] r i j d le inside = absurd (omega (arith, inside))
-versions_rise (v ∷ vs) r zero zero d le inside = itself v.start
+versions_rise (v ∷ vs) r zero zero d le inside = not_itself v.start
 versions_rise (v ∷ vs) r zero (suc j) d le inside = start_below vs v r.0 j d (omega (arith, inside))
 versions_rise (v ∷ vs) r (suc i) zero d le inside = absurd (omega (arith, le))
 versions_rise (v ∷ vs) r (suc i) (suc j) d le inside = versions_rise vs r.1 i j d (omega (arith, le)) (omega (arith, inside))

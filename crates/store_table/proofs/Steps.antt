@@ -20,6 +20,7 @@ use Rattle.store_table.specs.declared.index.Index.{Index}
 use Rattle.store_table.specs.declared.orders.Orders.{Orders}
 use Rattle.store_table.specs.Ends.{ending, ending_cmp, endings_in}
 use Rattle.spec_model.specs.Keys.{key_places, live_by_key}
+use Rattle.law_journal.proofs.Order.{new_version}
 use Rattle.store_table.specs.Kept.{HasCapacity, HaveCapacity, IsOf, IndexesAreWith, AreOf, IsKept, SeenAlike, index_seen, ordinals_of}
 use Rattle.store_table.specs.Stored as stored
 use Rattle.store_table.specs.Stored.{Stored, reordered, with_versions, with_index, without_last, without_last_index}
@@ -28,9 +29,6 @@ use Rattle.store_table.proofs.Keeping.{index_order_is, seen_with}
 use Rattle.store_table.specs.Undoing.{without_end}
 use Rattle.store_table.proofs.Moves.{are_started, rising_removed, rising_set, indexes_ended, ends_ended, indexes_reopened, ends_reopened}
 use Rattle.store_table.proofs.Splits.{cut_at}
-
-abbrev pub new_version : EventId → List (Option TypedValue) → Version
-new_version at values = record { values = values; start = at; end = None }
 
 pub started_kept : (columns : List ColumnDef) (key : List ℕ) (at : EventId) (values : List (Option TypedValue)) (vs : List Version) (o p : Orders)
     → IsKept columns key vs o → AllByRecursion (MadeBefore at.0 at.1) vs → IndexesAreWith key (new_version at values) vs p → p.ends.items ≡ o.ends.items

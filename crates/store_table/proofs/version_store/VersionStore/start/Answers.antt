@@ -3,13 +3,14 @@ use Rattle.std.specs.List.{AllByRecursion, insert}
 use Rattle.sql_types.specs.declared.version.Version.{Version}
 use Rattle.spec_model.specs.Rows.{started}
 use Rattle.spec_model.specs.Runs.{MadeBefore}
+use Rattle.law_journal.proofs.Order.{new_version}
 use Rattle.sql_apply.specs.Places.{place}
 use Rattle.sql_apply.proofs.Places.{started_at}
 use Rattle.store_table.specs.Kept.{IsKept, IndexesAreWith}
 use Rattle.store_table.specs.Stored.{ReservedTable}
 use Rattle.store_table.proofs.Done.{if_ok}
 use Rattle.store_table.proofs.Rooms.{less_room, live_few}
-use Rattle.store_table.proofs.Steps.{new_version, started_kept, told}
+use Rattle.store_table.proofs.Steps.{started_kept, told}
 use Rattle.store_table.proofs.version_store.VersionStore.start.Goals as goal
 
 pub add_live-requires-clause-room : goal.add_live-requires-clause-room
