@@ -4,6 +4,7 @@ use Rattle.std.specs.Prelude.{IfOk, Result, Ok, Err, IsSorted}
 use Rattle.std.specs.List.{AllByRecursion}
 use Rattle.std.specs.List.Sorted.{IsStable}
 use Rattle.base_types.specs.declared.memory.Memory.{Memory}
+use Rattle.base_types.proofs.Lists.{all_take}
 use Rattle.sql_types.specs.declared.digest.HeldDigest.{HeldDigest}
 use Rattle.sql_types.specs.declared.entry.TxEntry.{TxEntry}
 use Rattle.sql_types.specs.declared.image.Image.{Image}
@@ -19,14 +20,13 @@ use Rattle.audit_extract.specs.Leaves.{HasRoots, SameTrees, all_leaves, leaf_cmp
 use Rattle.audit_extract.specs.Meets.{Meets}
 use Rattle.audit_extract.specs.Parts.{blocks_to, entries_upto}
 use Rattle.audit_extract.proofs.Agreeing.{Injective, RootsOf, all_covered, all_have, all_trees, entries_back}
-use Rattle.audit_extract.proofs.Lists.{all_taken}
 use Rattle.audit_extract.proofs.Heads.{enough, heads, records_back, sizes, sizes_are}
 use Rattle.audit_extract.proofs.ImageLeaves.{all_found, image_fits}
 use Rattle.audit_extract.proofs.Linked.{digested}
 use Rattle.audit_extract.proofs.Rooted.{all_rooted}
 
 pub entries_rooted : (h : List ℕ → List ℕ) (i : Image) (d : HeldDigest) → Meets h i d → AllByRecursion (RootsOf h (tables_in i) (tables_in i) (tables_in i)) (entries_upto i d.block)
-entries_rooted h i d m = all_taken _ (entries_before i (d.block + 1)) i.entries (all_rooted h i m.image m.roots)
+entries_rooted h i d m = all_take _ (entries_before i (d.block + 1)) i.entries (all_rooted h i m.image m.roots)
 
 pub entries_same : (h : List ℕ → List ℕ) (i j : Image) (d : HeldDigest) → Meets h i d → Meets h j d → covered_of i d.block ≡ covered_of j d.block → entries_upto i d.block ≡ entries_upto j d.block
 unfolding covered_of

@@ -4,6 +4,7 @@ use Rattle.std.specs.Prelude.{IfOk, Result, Ok, Err}
 use Rattle.std.specs.List.{AllByRecursion, sum_by}
 use Rattle.std.proofs.lemmas.Bool.{ltb-true, ltb-false}
 use Rattle.std.proofs.lemmas.List.{take-map}
+use Rattle.std.proofs.ByRecursion.{All-weaker}
 use Rattle.base_fields.specs.Exact.{IsBytes}
 use Rattle.base_fields.specs.Readers.{whole}
 use Rattle.base_types.specs.declared.memory.Memory.{Memory}
@@ -102,10 +103,6 @@ is_last first (d ∷ ds) = later_or_first first d ds (nat_lt first.block d.block
 
 -- ---- each digest
 
-all_of : {A : Type 0} (P Q : A → Type 0) → ((x : A) → P x → Q x) → (xs : List A) → AllByRecursion P xs → AllByRecursion Q xs
-all_of P Q f [] all = tt
-all_of P Q f (x ∷ xs) all = (f x all.0, all_of P Q f xs all.1)
-
 at_place : {A : Type 0} (P : A → Type 0) (xs : List A) (k : ℕ) (x : A) (more : List A) → drop k xs ≡ x ∷ more → AllByRecursion P xs → P x
 at_place P [] zero x more e all = cc
 at_place P [] (suc k) x more e all = cc
@@ -130,7 +127,7 @@ module _ (h : List ℕ → List ℕ) (i j : Image) (is_i : IsImage i) (is_j : Is
         let agree : (e : HeldDigest) → e.block ≤ (last_from first rest).block → covered_of i e.block ≡ covered_of j e.block =
         λ e le. earlier h i j (last_from first rest) meets_i meets_j same e.block le in (
           agree first l.above,
-          all_of (λ (e : HeldDigest). e.block ≤ (last_from first rest).block) (λ (e : HeldDigest). covered_of i e.block ≡ covered_of j e.block) agree rest l.above_rest,
+          All-weaker (λ (e : HeldDigest). e.block ≤ (last_from first rest).block) (λ (e : HeldDigest). covered_of i e.block ≡ covered_of j e.block) agree rest l.above_rest,
         )
 
     pub last_agrees : AgreeOnEach i j (first ∷ rest) → covered_of i (last_from first rest).block ≡ covered_of j (last_from first rest).block

@@ -12,9 +12,10 @@ use Rattle.std.proofs.lemmas.Cmp.{tied_itself}
 use Rattle.std.proofs.lemmas.List.{take-append-drop, append-nil, get_or-take, get_or-drop}
 use Rattle.std.proofs.lemmas.List.Elements.{filter-append, filter_agree, recursion_from_All}
 use Rattle.std.proofs.lemmas.List.Sorted.{ranks_by, sorted_far, searchable_from_sorted, IsPartitionedBy-leb, IsPartitionedBy-ltb, IsNonDecreasingBy-drop}
+use Rattle.std.proofs.ByRecursion.{All-weaker}
+use Rattle.base_types.proofs.Orderings.{not_less_then}
 use Rattle.spec_model.specs.Lists.{sorted}
 use Rattle.spec_model.specs.Rows.{event_cmp}
-use Rattle.law_frame.proofs.Alls.{all_weaker}
 use Rattle.sql_parts.proofs.Orders.{event_total}
 use Rattle.sql_parts.proofs.Sorting.{sorted_stably}
 use Rattle.audit_extract.specs.declared.leaves.Leaf.{Leaf}
@@ -39,11 +40,6 @@ then_equal : (o p : Ordering) → is_eq (ordering_then o p) ≡ (is_eq o && is_e
 then_equal Less p = refl
 then_equal Equal p = refl
 then_equal Greater p = refl
-
-then_less : (o p : Ordering) → is_lt (ordering_then o p) ≡ false → is_lt o ≡ false
-then_less Less p e = e
-then_less Equal p e = refl
-then_less Greater p e = refl
 
 number_equal : (m n : ℕ) → is_eq (nat_cmp m n) ≡ (m == n)
 number_equal m n = by (nat_lt m n) refl
@@ -180,7 +176,7 @@ abbrev place_of : Group → Leaf → ℕ
 place_of g l = ordering_index (event_cmp l.group g)
 
 by_group : (ys : List Leaf) → IsSorted leaf_cmp ys → IsSortedBy (λ a b. is_lt (event_cmp (group_of a) (group_of b))) ys
-by_group ys up = λ k d low high. then_less (event_cmp (group_of (get_or ys (k + 1) d)) (group_of (get_or ys k d))) (nat_cmp (seq_of (get_or ys (k + 1) d)) (seq_of (get_or ys k d))) (up k d low high)
+by_group ys up = λ k d low high. not_less_then (event_cmp (group_of (get_or ys (k + 1) d)) (group_of (get_or ys k d))) (nat_cmp (seq_of (get_or ys (k + 1) d)) (seq_of (get_or ys k d))) (up k d low high)
 
 places_rise : (g : Group) (ys : List Leaf) → IsSorted leaf_cmp ys → IsNonDecreasingBy (place_of g) ys
 places_rise g ys up = searchable_from_sorted event_total group_of ys g (by_group ys up)
@@ -251,8 +247,8 @@ pub found_between : (g : Group) (ys : List Leaf) (from count : ℕ) → from ≤
     → take count (drop from ys) ≡ filter (is_of g) ys
 found_between g ys from count low high one two =
     let rest = drop from ys in
-    let front = all_weaker (λ (l : Leaf). comes_before g l ≡ true) (λ l. is_of g l ≡ false) (λ l e. of_group g l ∙ not_less (event_cmp l.group g) e) (take from ys) (all_taken (λ l. comes_before g l ≡ true) ys from low one.0) in
-    let back = all_weaker (λ (l : Leaf). not_after g l ≡ false) (λ l. is_of g l ≡ false) (λ l e. of_group g l ∙ beyond (event_cmp l.group g) e) (drop count rest) (all_left (λ l. not_after g l ≡ false) rest count two.1) in
+    let front = All-weaker (λ (l : Leaf). comes_before g l ≡ true) (λ l. is_of g l ≡ false) (λ l e. of_group g l ∙ not_less (event_cmp l.group g) e) (take from ys) (all_taken (λ l. comes_before g l ≡ true) ys from low one.0) in
+    let back = All-weaker (λ (l : Leaf). not_after g l ≡ false) (λ l. is_of g l ≡ false) (λ l e. of_group g l ∙ beyond (event_cmp l.group g) e) (drop count rest) (all_left (λ l. not_after g l ≡ false) rest count two.1) in
     let later = all_left (λ (l : Leaf). comes_before g l ≡ false) ys from one.1 in
     let middle = all_two (λ (l : Leaf). comes_before g l ≡ false) (λ l. not_after g l ≡ true) (λ l. is_of g l ≡ true) (λ l e f. of_group g l ∙ between (event_cmp l.group g) e f) (take count rest)
     (all_front (λ (l : Leaf). comes_before g l ≡ false) (take count rest) (drop count rest) (subst (AllByRecursion (λ (l : Leaf). comes_before g l ≡ false)) (sym (take-append-drop count rest)) later))

@@ -2,7 +2,7 @@
 use Rattle.std.proofs.Common.{◌≡◌, ◌≢◌, ◌≤◌, ◌<◌, ◌+◌, ◌-◌, ℕ, zero, suc, Bool, true, false, nat_le, List, [], ◌∷◌, ◌++◌, length, take, drop, map, Option, Some, None, refl, arith, sym, ◌∙◌, ap, subst, length-take, length-drop}
 use Rattle.std.specs.Prelude.{◌&&◌, ◌==◌, bytes_eq}
 use Rattle.std.specs.List.{filter, sum_by}
-use Rattle.std.proofs.lemmas.Bool.{eqb-true, ne_eqb, leb-true}
+use Rattle.std.proofs.lemmas.Bool.{eqb-true, ne_eqb, leb-true, and_parts}
 use Rattle.std.proofs.lemmas.Bool.Decides.{nat_tests}
 use Rattle.std.proofs.lemmas.List.{append_cancel_left, drop-drop, take-append-drop, take_all}
 use Rattle.std.proofs.lemmas.List.Elements.{filter-append}
@@ -34,10 +34,6 @@ none_both (Some x) b e = cc
 pub passes : (b : Bool) (p : Place) → unless b p ≡ None → b ≡ true
 passes true p e = refl
 passes false p e = cc
-
-pub both_true : (a b : Bool) → (a && b) ≡ true → (a ≡ true) × (b ≡ true)
-both_true true b e = (refl, e)
-both_true false b e = cc
 
 pub none_at : {A B : Type 0} (f : ℕ → A → Option B) (n : ℕ) (xs : List A) → first_from f n xs ≡ None → (k : ℕ) (x : A) (more : List A) → drop k xs ≡ x ∷ more → f (n + k) x ≡ None
 none_at f n [] e zero x more d = cc
@@ -187,7 +183,7 @@ module _ (h : List ℕ → List ℕ) (i : Image) (is : IsImage i) (chain : chain
   pub link_at : (k : ℕ) (r : BlockRecord) (more : List BlockRecord) → drop k i.blocks ≡ r ∷ more → (r.id ≡ k) × (r.previous ≡ hash_before h i k)
   unfolding chain_fault
   link_at k r more d =
-      let b = both_true (r.id == k) (bytes_eq r.previous (hash_before h i k)) (passes (link_holds h i k r) _ (none_first _ i.blocks chain k r more d)) in
+      let b = and_parts (r.id == k) (bytes_eq r.previous (hash_before h i k)) (passes (link_holds h i k r) _ (none_first _ i.blocks chain k r more d)) in
       (eqb-true r.id k b.0, (bytes_eq-Decides r.previous (hash_before h i k)).0 b.1)
 
   -- what a block has that holds
@@ -199,10 +195,10 @@ module _ (h : List ℕ → List ℕ) (i : Image) (is : IsImage i) (chain : chain
   block_at : (k : ℕ) (r : BlockRecord) (more : List BlockRecord) → drop k i.blocks ≡ r ∷ more → BlockHolds k r
   unfolding block_fault
   block_at k r more d =
-      let b = both_true (nat_le 1 r.size && nat_le r.size max_block) (nat_le (entries_before i k + r.size) (length i.entries) && bytes_eq r.root (tree_hash h (map entry_bytes (entries_in i k r))))
+      let b = and_parts (nat_le 1 r.size && nat_le r.size max_block) (nat_le (entries_before i k + r.size) (length i.entries) && bytes_eq r.root (tree_hash h (map entry_bytes (entries_in i k r))))
       (passes (block_holds h i k r) _ (none_first _ i.blocks blocks k r more d)) in
-      let size = both_true (nat_le 1 r.size) (nat_le r.size max_block) b.0 in
-      let rest = both_true (nat_le (entries_before i k + r.size) (length i.entries)) (bytes_eq r.root (tree_hash h (map entry_bytes (entries_in i k r)))) b.1 in
+      let size = and_parts (nat_le 1 r.size) (nat_le r.size max_block) b.0 in
+      let rest = and_parts (nat_le (entries_before i k + r.size) (length i.entries)) (bytes_eq r.root (tree_hash h (map entry_bytes (entries_in i k r)))) b.1 in
       record {
         small = leb-true r.size max_block size.1;
         within = leb-true (entries_before i k + r.size) (length i.entries) rest.0;

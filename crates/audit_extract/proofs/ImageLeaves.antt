@@ -6,6 +6,7 @@ use Rattle.std.specs.List.Sorted.{IsStable}
 use Rattle.std.specs.Ordering.{nat_cmp}
 use Rattle.std.proofs.lemmas.Bool.{eq-eqb, ne_eqb, lt-ltb}
 use Rattle.std.proofs.lemmas.List.Elements.{filter-append}
+use Rattle.std.proofs.ByRecursion.{All-append, All-weaker}
 use Rattle.base_fields.specs.Fields.{u16_field}
 use Rattle.sql_types.specs.declared.event.Event.{Event}
 use Rattle.sql_types.specs.declared.event.EventField.{EventField}
@@ -19,12 +20,13 @@ use Rattle.sql_types.specs.declared.version.Version.{Version}
 use Rattle.format_event.specs.Leaf.{event_bytes, start_bytes, column_bytes, columns_bytes, has_value, HasLeaf, IsEvent, IsField, IsStart, rise_from}
 use Rattle.format_event.specs.TypedBytes.{IsTyped}
 use Rattle.format_event.proofs.Leaves.{leaf_again}
-use Rattle.law_frame.proofs.Alls.{all_append, all_filter, all_sorted, all_weaker}
+use Rattle.law_frame.proofs.Alls.{all_filter, all_sorted}
 use Rattle.spec_model.specs.Catalog.{Defs, Tables}
 use Rattle.spec_model.specs.Events.{fields_at, fields_of, start_event, end_event, end_events, version_events, events_of}
 use Rattle.spec_model.specs.Lists.{sorted, numbered}
 use Rattle.spec_model.specs.Rows.{EventId}
 use Rattle.spec_model.specs.SystemTables.{tables_def, columns_def}
+use Rattle.format_event.proofs.LeafExact.{all_told as told}
 use Rattle.spec_ledger.specs.Entries.{leaves_of}
 use Rattle.sql_parts.proofs.Sorting.{sorted-map}
 use Rattle.format_image.specs.DefBytes.{IsDef}
@@ -42,11 +44,11 @@ use Rattle.audit_extract.proofs.Rooted.{Above, tables_above}
 
 all_each : {A B : Type 0} (P : B → Type 0) (f : A → List B) (xs : List A) → AllByRecursion (λ x. AllByRecursion P (f x)) xs → AllByRecursion P (flat_map f xs)
 all_each P f [] all = tt
-all_each P f (x ∷ xs) all = all_append P (f x) (flat_map f xs) all.0 (all_each P f xs all.1)
+all_each P f (x ∷ xs) all = All-append P (f x) (flat_map f xs) all.0 (all_each P f xs all.1)
 
 of_table : (id : ℕ) (vs : List Version) → AllByRecursion (λ (e : Event). e.table ≡ id) (flat_map (version_events id) vs)
 of_table id [] = tt
-of_table id (v ∷ vs) = (refl, all_append (λ (e : Event). e.table ≡ id) (end_events id v v.end) (flat_map (version_events id) vs) (ends v.end) (of_table id vs))
+of_table id (v ∷ vs) = (refl, All-append (λ (e : Event). e.table ≡ id) (end_events id v v.end) (flat_map (version_events id) vs) (ends v.end) (of_table id vs))
   where
     ends : (end : Option EventId) → AllByRecursion (λ (e : Event). e.table ≡ id) (end_events id v end)
     ends None = tt
@@ -85,7 +87,7 @@ all_above : (n : ℕ) (ts : Tables) → Above n ts → AllByRecursion (λ (t : T
 all_above n [] above = tt
 all_above n (t ∷ ts) above =
     let lt = above.0 in
-    (lt, all_weaker (λ (s : Table). t.def.id < s.def.id) (λ s. n < s.def.id) (λ s more. omega arith) ts (all_above t.def.id ts above.1))
+    (lt, All-weaker (λ (s : Table). t.def.id < s.def.id) (λ s. n < s.def.id) (λ s more. omega arith) ts (all_above t.def.id ts above.1))
 
 abbrev InTable : ℕ → Tables → Table → Type 0
 InTable tx ts t = filter (is_of (tx, t.def.id)) (all_leaves ts) ≡ filter (is_of (tx, t.def.id)) (table_leaves t)
@@ -123,7 +125,7 @@ found_in tx ts ys up stable t here =
 
 pub all_found : (i : Image) (ys : List Leaf) → IsImage i → IsSorted leaf_cmp ys → IsStable leaf_cmp (all_leaves (tables_in i)) ys → (tx : ℕ) → AllByRecursion (IsFound tx ys) (tables_in i)
 all_found i ys is up stable tx =
-    all_weaker (InTable tx (tables_in i)) (IsFound tx ys) (found_in tx (tables_in i) ys up stable) (tables_in i) (each_table tx 0 (tables_in i) (tables_above i.defs i.tables is.ids))
+    All-weaker (InTable tx (tables_in i)) (IsFound tx ys) (found_in tx (tables_in i) ys up stable) (tables_in i) (each_table tx 0 (tables_in i) (tables_above i.defs i.tables is.ids))
 
 -- ---- the bytes of a version's event
 
@@ -166,10 +168,6 @@ event_fits table op id start values small pair starts are =
       columns = fields_fit 1 values (omega arith) are.1;
       rise = fields_rise 1 0 values (omega arith);
     }
-
-told : (fs : List EventField) → AllByRecursion IsField fs → filter has_value fs ≡ fs
-told [] all = refl
-told (f ∷ fs) all = rw (all.0.told, told fs all.1) refl
 
 pub values_told : (values : List (Option TypedValue)) → AreValues values → filter has_value (fields_of values) ≡ fields_of values
 values_told values are = let short = are.0 in told (fields_of values) (fields_fit 1 values (omega arith) are.1)
@@ -235,7 +233,7 @@ history_version v is = record { start = is.start; end = by v.end is.end; values 
 
 pub versions_fit : (def : TableDef) (rows : TableRows) → IsTable def rows → AllByRecursion IsVersion (rows.base ++ rows.history)
 versions_fit def rows is =
-    all_append IsVersion rows.base rows.history (all_weaker IsBaseRow IsVersion base_version rows.base is.base.0.1) (all_weaker IsHistoryRow IsVersion history_version rows.history is.history.0.1)
+    All-append IsVersion rows.base rows.history (All-weaker IsBaseRow IsVersion base_version rows.base is.base.0.1) (All-weaker IsHistoryRow IsVersion history_version rows.history is.history.0.1)
 
 abbrev pub EventsFit : ℕ → Table → Type 0
 EventsFit tx t = AllByRecursion HasLeaf (events_of tx t)
@@ -246,7 +244,7 @@ table_fits tx def rows small is =
     all_sorted HasLeaf (λ (a b : Event). nat_cmp a.seq b.seq) (filter (λ (e : Event). e.tx == tx) (flat_map (version_events def.id) (rows.base ++ rows.history)))
     (all_filter HasLeaf (λ (e : Event). e.tx == tx) (flat_map (version_events def.id) (rows.base ++ rows.history))
     (all_each HasLeaf (version_events def.id) (rows.base ++ rows.history)
-    (all_weaker IsVersion (λ v. AllByRecursion HasLeaf (version_events def.id v)) (λ v fits. version_fits def.id v small fits) (rows.base ++ rows.history) (versions_fit def rows is))))
+    (All-weaker IsVersion (λ v. AllByRecursion HasLeaf (version_events def.id v)) (λ v fits. version_fits def.id v small fits) (rows.base ++ rows.history) (versions_fit def rows is))))
 
 each_fits : (tx : ℕ) (defs : Defs) (rows : List TableRows) → AllByRecursion (λ (d : TableDef). d.id < 2 ^ 32) defs → AreTables defs rows → AllByRecursion (EventsFit tx) (tables_with defs rows)
 each_fits tx [] [] small are = tt
@@ -256,7 +254,7 @@ each_fits tx (d ∷ ds) (r ∷ rs) small are = (table_fits tx d r small.0 are.0,
 
 pub image_fits : (tx : ℕ) (i : Image) → IsImage i → AllByRecursion (EventsFit tx) (tables_in i)
 image_fits tx i is =
-    each_fits tx (defs_in i) i.tables (omega arith, (omega arith, all_weaker IsDef (λ (d : TableDef). d.id < 2 ^ 32) (λ d f. f.id) i.defs is.defs)) is.tables
+    each_fits tx (defs_in i) i.tables (omega arith, (omega arith, All-weaker IsDef (λ (d : TableDef). d.id < 2 ^ 32) (λ d f. f.id) i.defs is.defs)) is.tables
 
 -- ---- table by table
 

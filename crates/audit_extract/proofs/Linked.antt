@@ -2,9 +2,10 @@
 use Rattle.std.proofs.Common.{◌≡◌, ◌≢◌, ◌≤◌, ◌<◌, ◌+◌, ◌-◌, ℕ, suc, List, [], ◌∷◌, length, take, drop, arith, sym, ◌∙◌, ap, subst, length-take}
 use Rattle.std.specs.Prelude.{◌&&◌, nat_lt, bytes_eq}
 use Rattle.std.specs.List.{AllByRecursion}
-use Rattle.std.proofs.lemmas.Bool.{ltb-true}
+use Rattle.std.proofs.lemmas.Bool.{ltb-true, and_parts}
 use Rattle.std.proofs.lemmas.List.{drop-take, drop-drop}
 use Rattle.std.proofs.lemmas.Slice.Eq.{bytes_eq-Decides}
+use Rattle.base_types.proofs.Lists.{all_drop}
 use Rattle.sql_types.specs.declared.digest.HeldDigest.{HeldDigest}
 use Rattle.sql_types.specs.declared.entry.BlockRecord.{BlockRecord}
 use Rattle.sql_types.specs.declared.image.Image.{Image}
@@ -16,8 +17,8 @@ use Rattle.spec_verify.specs.Collision.{Collides}
 use Rattle.spec_verify.specs.First.{unless}
 use Rattle.audit_extract.specs.Meets.{Meets}
 use Rattle.audit_extract.specs.Parts.{blocks_to}
-use Rattle.audit_extract.proofs.Heads.{both_true, passes, none_both, link_at}
-use Rattle.audit_extract.proofs.Lists.{cons_is, all_left}
+use Rattle.audit_extract.proofs.Heads.{passes, none_both, link_at}
+use Rattle.audit_extract.proofs.Lists.{cons_is}
 
 pub record Digested (h : List ℕ → List ℕ) (i : Image) (d : HeldDigest) : Type 0 where
   pub within : d.block < length i.blocks
@@ -26,9 +27,9 @@ pub record Digested (h : List ℕ → List ℕ) (i : Image) (d : HeldDigest) : T
 pub digested : (h : List ℕ → List ℕ) (i : Image) (d : HeldDigest) → Meets h i d → Digested h i d
 unfolding digest_fault
 digested h i d m =
-    let b = both_true (bytes_eq d.database i.database) (nat_lt d.block (length i.blocks) && bytes_eq d.hash (hash_at h i.blocks d.block))
+    let b = and_parts (bytes_eq d.database i.database) (nat_lt d.block (length i.blocks) && bytes_eq d.hash (hash_at h i.blocks d.block))
     (passes (digest_holds h i d) _ (none_both (unless (digest_holds h i d) _) _ m.digest_holds).0) in
-    let c = both_true (nat_lt d.block (length i.blocks)) (bytes_eq d.hash (hash_at h i.blocks d.block)) b.1 in
+    let c = and_parts (nat_lt d.block (length i.blocks)) (bytes_eq d.hash (hash_at h i.blocks d.block)) b.1 in
     record { within = ltb-true d.block (length i.blocks) c.0; hash = (bytes_eq-Decides d.hash (hash_at h i.blocks d.block)).0 c.1 }
 
 -- two chains that agree from a place on, up to block b, and whose blocks before that place have one hash
@@ -98,8 +99,8 @@ records_collide h i j d k l x y u v m n some is a at_x at_y ne u_is v_is =
     let two = drop_taken l (d.block + 1) j.blocks y (drop (l + 1) j.blocks) small at_y in
     let hash_x : hash_before h i k ≡ h (record_bytes x) = ap (hash_before h i) next ∙ ap (first_or_no_hash h) at_x in
     let hash_y : hash_before h j k ≡ h (record_bytes y) = ap (hash_before h j) next ∙ ap (first_or_no_hash h) at_y in
-    let fx = (subst (AllByRecursion IsRecord) at_x (all_left IsRecord l i.blocks m.image.blocks)).0 in
-    let fy = (subst (AllByRecursion IsRecord) at_y (all_left IsRecord l j.blocks n.image.blocks)).0 in (
+    let fx = (subst (AllByRecursion IsRecord) at_x (all_drop IsRecord l i.blocks m.image.blocks)).0 in
+    let fy = (subst (AllByRecursion IsRecord) at_y (all_drop IsRecord l j.blocks n.image.blocks)).0 in (
       (λ e. ne (cons_is x y _ _ (sym one ∙ ap (drop l) e ∙ two)).0),
       record {
         differ = λ e. ne (equal_records x y fx fy (sym u_is ∙ e ∙ v_is));

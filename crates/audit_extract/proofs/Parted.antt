@@ -1,6 +1,7 @@
 -- The entries of two images with the same blocks, block by block.
 use Rattle.std.proofs.Common.{◌≡◌, ◌≢◌, ◌≤◌, ◌<◌, ◌+◌, ◌^◌, ℕ, List, [], ◌∷◌, ◌++◌, length, map, take, drop, refl, arith, sym, ◌∙◌, ap, subst, length-take}
 use Rattle.std.specs.List.{AllByRecursion}
+use Rattle.base_types.proofs.Lists.{all_take, all_drop}
 use Rattle.sql_types.specs.declared.digest.HeldDigest.{HeldDigest}
 use Rattle.sql_types.specs.declared.entry.BlockRecord.{BlockRecord}
 use Rattle.sql_types.specs.declared.entry.TxEntry.{TxEntry}
@@ -18,7 +19,7 @@ use Rattle.audit_extract.specs.Meets.{Meets}
 use Rattle.audit_extract.specs.Parts.{blocks_to, entries_upto}
 use Rattle.base_fields.proofs.Fronts.{fronts}
 use Rattle.audit_extract.proofs.Heads.{Heads, heads, sizes, sizes_are, take_parts}
-use Rattle.audit_extract.proofs.Lists.{cons_is, all_taken, all_left}
+use Rattle.audit_extract.proofs.Lists.{cons_is}
 
 -- ---- entries at their places have a spelling
 
@@ -70,7 +71,7 @@ module _ (h : List ℕ → List ℕ) (Whole : Type 0) where
       → AllByRecursion IsEntry (take r.size xs)
   part_fits n previous r xs small few fits is =
       let l = length-take r.size xs in
-      subst (AllByRecursion IsEntry) (sym is.places) (placed_fit n 0 (take r.size xs) small (omega (arith, few, l)) (all_taken IsPlaceless r.size xs fits))
+      subst (AllByRecursion IsEntry) (sym is.places) (placed_fit n 0 (take r.size xs) small (omega (arith, few, l)) (all_take IsPlaceless r.size xs fits))
 
   root_is : (n : ℕ) (previous : List ℕ) (r : BlockRecord) (part : List TxEntry) → IsBlockOf h n previous r part → r.root ≡ tree_hash h (map entry_bytes part)
   unfolding block_of
@@ -115,8 +116,8 @@ module _ (h : List ℕ → List ℕ) (Whole : Type 0) where
         heads_a = l.heads_a.1.1;
         heads_b = l.heads_b.1.1;
         bound = omega arith;
-        fit_a = all_left IsPlaceless r.size a l.fit_a;
-        fit_b = all_left IsPlaceless r.size b l.fit_b;
+        fit_a = all_drop IsPlaceless r.size a l.fit_a;
+        fit_b = all_drop IsPlaceless r.size b l.fit_b;
         whole =
             λ e. l.whole (take_parts r.size (sizes more) a ∙ ap (λ (xs : List TxEntry). xs ++ take (sizes more) (drop r.size a)) same ∙ ap (λ (xs : List TxEntry). take r.size b ++ xs) e ∙ sym (take_parts r.size (sizes more) b));
         part = λ w. (both_parts r more a b l w).1;

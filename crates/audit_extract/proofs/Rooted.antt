@@ -3,8 +3,10 @@ use Rattle.std.proofs.Common.{◌≡◌, ◌≢◌, ◌≤◌, ◌<◌, ◌+◌,
 use Rattle.std.specs.Prelude.{◌==◌, not}
 use Rattle.std.specs.List.{AllByRecursion}
 use Rattle.std.specs.Ordering.{nat_cmp, is_gt}
-use Rattle.std.proofs.lemmas.Bool.{eqb-true, eqb-false, eq-eqb, ne_eqb, lt-ltb, ltb-true, ltb-false, cases_Bool}
+use Rattle.std.proofs.lemmas.Bool.{eqb-true, eqb-false, eq-eqb, ne_eqb, lt-ltb, ltb-true, ltb-false, cases_Bool, and_parts, not-false}
 use Rattle.std.proofs.lemmas.Slice.Eq.{bytes_eq-Decides}
+use Rattle.std.proofs.lemmas.Option.{same_Some}
+use Rattle.base_types.proofs.Lists.{all_front, all_back}
 use Rattle.sql_types.specs.declared.entry.TxEntry.{TxEntry}
 use Rattle.sql_types.specs.declared.event.Event.{Event}
 use Rattle.sql_types.specs.declared.image.Image.{Image}
@@ -21,7 +23,7 @@ use Rattle.law_catalog_rows.specs.Least.{least, least_from}
 use Rattle.spec_verify.specs.First.{unless, first_from}
 use Rattle.spec_verify.specs.Entries.{TableRoot, are_numbered, root_at, same_root, other_roots, root_place, entry_fault, root_fault}
 use Rattle.spec_verify.specs.declared.place.Place.TheVariants as at
-use Rattle.audit_extract.proofs.Heads.{none_both, both_true}
+use Rattle.audit_extract.proofs.Heads.{none_both}
 
 -- ---- the tables of an image stand by rising id
 
@@ -33,7 +35,7 @@ users_above : (n : ℕ) (defs : Defs) (rows : List TableRows) → ids_rise n def
 users_above n [] rows e = tt
 users_above n (d ∷ ds) [] e = tt
 users_above n (d ∷ ds) (r ∷ rs) e =
-    let b = both_true (nat_lt n d.id) (ids_rise d.id ds) e in
+    let b = and_parts (nat_lt n d.id) (ids_rise d.id ds) e in
     (ltb-true n d.id b.0, users_above d.id ds rs b.1)
 
 pub tables_above : (defs : Defs) (rows : List TableRows) → ids_rise 2 defs ≡ true → Above 0 (tables_with (tables_def ∷ columns_def ∷ defs) rows)
@@ -50,7 +52,7 @@ Rise (r ∷ rs) = rise_above r.0 rs ≡ true
 
 rise_on : (n : ℕ) (rs : List TableRoot) → rise_above n rs ≡ true → Rise rs
 rise_on n [] e = tt
-rise_on n (r ∷ rs) e = (both_true (nat_lt n r.0) (rise_above r.0 rs) e).1
+rise_on n (r ∷ rs) e = (and_parts (nat_lt n r.0) (rise_above r.0 rs) e).1
 
 entry_rises : (rs : List TableRoot) → tables_rise rs ≡ true → Rise rs
 entry_rises [] e = tt
@@ -59,7 +61,7 @@ entry_rises (r ∷ rs) e = e
 rise_lower : (m n : ℕ) (rs : List TableRoot) → m ≤ n → rise_above n rs ≡ true → rise_above m rs ≡ true
 rise_lower m n [] le e = refl
 rise_lower m n (r ∷ rs) le e =
-    let b = both_true (nat_lt n r.0) (rise_above r.0 rs) e in
+    let b = and_parts (nat_lt n r.0) (rise_above r.0 rs) e in
     let lt : n < r.0 = ltb-true n r.0 b.0 in
     let low : nat_lt m r.0 ≡ true = lt-ltb m r.0 (omega arith) in
     rw (low, b.1) refl
@@ -76,7 +78,7 @@ roots_above h tx n (t ∷ ts) above = by above.0 (roots_above h tx t.def.id ts a
 none_below : (n k : ℕ) (rs : List TableRoot) → k ≤ n → rise_above n rs ≡ true → root_at rs k ≡ None
 none_below n k [] le e = refl
 none_below n k (r ∷ rs) le e =
-    let b = both_true (nat_lt n r.0) (rise_above r.0 rs) e in
+    let b = and_parts (nat_lt n r.0) (rise_above r.0 rs) e in
     let lt : n < r.0 = ltb-true n r.0 b.0 in
     let ne : (r.0 == k) ≡ false = ne_eqb r.0 k (λ i. absurd (omega (arith, lt, i))) in
     rw ne (none_below r.0 k rs (omega arith) b.1)
@@ -86,9 +88,6 @@ at_first r rs = rw (eq-eqb r.0 r.0 refl) refl
 
 at_later : (r : TableRoot) (rs : List TableRoot) (k : ℕ) → k ≢ r.0 → root_at (r ∷ rs) k ≡ root_at rs k
 at_later r rs k ne = rw (ne_eqb r.0 k (λ e. ne (sym e))) refl
-
-some_is : {A : Type 0} (x y : A) → Some x ≡ Some y → x ≡ y
-some_is x y e = cc
 
 -- two lists by rising table in which each table has the same root are one
 one_list : (a b : List TableRoot) → Rise a → Rise b → ((k : ℕ) → root_at a k ≡ root_at b k) → a ≡ b
@@ -122,7 +121,7 @@ one_list (x ∷ a) (y ∷ b) ra rb same =
         let two = ltb-false y.0 x.0 less in
         let head : x.0 ≡ y.0 = omega arith in
         let root : Some x.1 ≡ Some y.1 = sym (at_first x a) ∙ same x.0 ∙ ap (root_at (y ∷ b)) head ∙ at_first y b in
-        let front : x ≡ y = ap (λ (n : ℕ). (n, x.1)) head ∙ ap (λ (r : List ℕ). (y.0, r)) (some_is x.1 y.1 root) in
+        let front : x ≡ y = ap (λ (n : ℕ). (n, x.1)) head ∙ ap (λ (r : List ℕ). (y.0, r)) (same_Some x.1 y.1 root) in
         ap (λ (z : TableRoot). z ∷ a) front ∙ ap (λ (l : List TableRoot). y ∷ l) (rest head)
 
 -- ---- no root is at fault
@@ -151,24 +150,12 @@ none_kept p (x ∷ xs) e = by (p x) refl (none_kept p xs) e
     by true f rest g = absurd cc
     by false f rest g = (f, rest g)
 
-all_front : {A : Type 0} (P : A → Type 0) (xs ys : List A) → AllByRecursion P (xs ++ ys) → AllByRecursion P xs
-all_front P [] ys all = tt
-all_front P (x ∷ xs) ys all = (all.0, all_front P xs ys all.1)
-
-all_back : {A : Type 0} (P : A → Type 0) (xs ys : List A) → AllByRecursion P (xs ++ ys) → AllByRecursion P ys
-all_back P [] ys all = all
-all_back P (x ∷ xs) ys all = all_back P xs ys all.1
-
 listed : (P : ℕ → Type 0) (rs : List TableRoot) (k : ℕ) (r : List ℕ) → AllByRecursion P (map (λ r. r.0) rs) → root_at rs k ≡ Some r → P k
 listed P [] k r all e = absurd cc
 listed P (x ∷ rs) k r all e = elim (cases_Bool (x.0 == k)) [
   | inl own ↦ subst P (eqb-true x.0 k own) all.0
   | inr other ↦ listed P rs k r all.1 (let g : root_at (x ∷ rs) k ≡ root_at rs k = rw other refl in sym g ∙ e)
 ]
-
-not_false : (b : Bool) → not b ≡ false → b ≡ true
-not_false true e = refl
-not_false false e = cc
 
 same_roots : (o p : Option (List ℕ)) → same_root o p ≡ true → o ≡ p
 same_roots None None e = refl
@@ -186,7 +173,7 @@ at_each a b e k = by (root_at a k) refl (root_at b k) refl
     all = none_kept (λ t. not (same_root (root_at a t) (root_at b t))) (map (λ r. r.0) a ++ map (λ r. r.0) b) e
 
     agree : not (same_root (root_at a k) (root_at b k)) ≡ false → root_at a k ≡ root_at b k
-    agree f = same_roots (root_at a k) (root_at b k) (not_false (same_root (root_at a k) (root_at b k)) f)
+    agree f = same_roots (root_at a k) (root_at b k) (not-false (same_root (root_at a k) (root_at b k)) f)
 
     by : (o : Option (List ℕ)) → root_at a k ≡ o → (p : Option (List ℕ)) → root_at b k ≡ p → root_at a k ≡ root_at b k
     by (Some x) f p g = agree (listed (λ t. not (same_root (root_at a t) (root_at b t)) ≡ false) a k x (all_front (λ t. not (same_root (root_at a t) (root_at b t)) ≡ false) (map (λ r. r.0) a) (map (λ r. r.0) b) all) f)

@@ -3,6 +3,7 @@ use Rattle.std.proofs.Common.{◌≡◌, ◌≢◌, ◌≤◌, ◌<◌, ◌+◌,
 use Rattle.std.specs.Prelude.{bytes_eq}
 use Rattle.std.specs.List.{AllByRecursion}
 use Rattle.std.proofs.lemmas.Slice.Eq.{bytes_eq-Decides}
+use Rattle.base_types.proofs.Lists.{all_drop}
 use Rattle.sql_types.specs.declared.digest.HeldDigest.{HeldDigest}
 use Rattle.sql_types.specs.declared.entry.BlockRecord.{BlockRecord}
 use Rattle.sql_types.specs.declared.entry.TxEntry.{TxEntry}
@@ -31,7 +32,7 @@ use Rattle.audit_extract.proofs.Covering.{entries_rooted}
 use Rattle.audit_extract.proofs.Halves.{Halves, back_length, front_length, halves, hash_of_hashed, joined}
 use Rattle.audit_extract.proofs.ImageLeaves.{EventsFit, image_fits}
 use Rattle.audit_extract.proofs.Linked.{Agreed, agreed_start, one_less}
-use Rattle.audit_extract.proofs.Lists.{cons_is, all_left}
+use Rattle.audit_extract.proofs.Lists.{cons_is}
 use Rattle.audit_extract.proofs.Parted.{BlocksLeft, all_left_first, ended, here, next, same_entries}
 
 -- ---- one fact after another
@@ -86,7 +87,7 @@ module _ (h : List ℕ → List ℕ) where
       (there.0, there.1 ∙ ap (λ (ys : List BlockRecord). there.0 ∷ ys) (ap (λ (n : ℕ). drop n (x ∷ xs)) next))
 
   record_there : (l : ℕ) (i : Image) (d : HeldDigest) (x : BlockRecord) → Meets h i d → drop l i.blocks ≡ x ∷ drop (l + 1) i.blocks → IsRecord x × (hash_before h i (suc l) ≡ h (record_bytes x))
-  record_there l i d x m at = ((subst (AllByRecursion IsRecord) at (all_left IsRecord l i.blocks m.image.blocks)).0, ap (first_or_no_hash h) at)
+  record_there l i d x m at = ((subst (AllByRecursion IsRecord) at (all_drop IsRecord l i.blocks m.image.blocks)).0, ap (first_or_no_hash h) at)
 
   pub same_chain : (i j : Image) (d : HeldDigest) (k : ℕ) → Meets h i d → Meets h j d → Agreed h i j d.block k → (blocks_to i d.block ≡ blocks_to j d.block) ⊎ HasCollision h
   same_chain i j d zero m n a = inl a.after

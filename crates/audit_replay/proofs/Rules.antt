@@ -1,16 +1,12 @@
 -- What the side rules of a journal say of one of its items.
-use Rattle.std.proofs.Common.{◌≡◌, ◌≢◌, ℕ, ◌+◌, ◌-◌, ◌≤◌, Bool, true, false, List, [], ◌∷◌, ◌++◌, refl, sym, arith}
-use Rattle.std.specs.Prelude.{◌==◌, ◌||◌, not}
+use Rattle.std.proofs.Common.{◌≡◌, ◌≢◌, ℕ, ◌+◌, ◌-◌, ◌≤◌, Bool, true, false, List, [], ◌∷◌, ◌++◌, sym, arith}
+use Rattle.std.specs.Prelude.{◌==◌, ◌||◌}
 use Rattle.std.specs.List.{AllByRecursion}
-use Rattle.std.proofs.lemmas.Bool.{and_parts, leb-true, eq-eqb}
+use Rattle.std.proofs.lemmas.Bool.{and_parts, leb-true, eq-eqb, not-true}
 use Rattle.sql_types.specs.declared.journal.JournalItem.{JournalItem}
 use Rattle.sql_types.specs.declared.journal.JournalItem.TheVariants.{Tx, Close}
 use Rattle.sql_types.specs.JournalRules.{Line, ItemRules, is_among, ids_differ, closes_follow}
 use Rattle.spec_model.specs.Journals.{tx_count, closed, IsOther}
-
-is_not : (b : Bool) → not b ≡ true → b ≡ false
-is_not true h = cc
-is_not false h = refl
 
 other_id : (own id : ℕ) (rest : Bool) → ((id == own) || rest) ≡ false → own ≢ id
 other_id own id rest h e = let same : (id == own) ≡ true = eq-eqb id own (sym e) in cc
@@ -23,7 +19,7 @@ rest_false false b h = h
 ids_before : (ids : List ℕ) (before : List JournalItem) (id : ℕ) (session : List ℕ) (time : ℕ) (explicit : Bool) (lines : List Line)
     (rest : List JournalItem) → ids_differ ids (before ++ Tx id session time explicit lines ∷ rest) ≡ true
     → AllByRecursion (IsOther id) before × (is_among id ids ≡ false)
-ids_before ids [] id session time explicit lines rest h = (tt, is_not (is_among id ids) (and_parts _ _ h).0)
+ids_before ids [] id session time explicit lines rest h = (tt, not-true (is_among id ids) (and_parts _ _ h).0)
 ids_before ids (Tx own s t o ls ∷ is) id session time explicit lines rest h =
     let more = ids_before (own ∷ ids) is id session time explicit lines rest (and_parts _ _ h).1 in
     ((other_id own id (is_among id ids) more.1, more.0), rest_false (id == own) (is_among id ids) more.1)

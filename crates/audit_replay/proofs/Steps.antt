@@ -3,6 +3,8 @@ use Rattle.std.proofs.Common.{◌≡◌, ℕ, ◌+◌, ◌-◌, ◌≤◌, Bool,
 use Rattle.std.specs.List.{AllByRecursion}
 use Rattle.std.proofs.lemmas.Bool.{and_parts, leb-true}
 use Rattle.std.proofs.lemmas.List.{length-append}
+use Rattle.std.proofs.ByRecursion.{All-weaker}
+use Rattle.base_types.proofs.Lists.{all_front, all_back}
 use Rattle.sql_value.specs.declared.column.ColumnDef.{ColumnDef}
 use Rattle.sql_types.specs.declared.journal.JournalItem.{JournalItem}
 use Rattle.sql_types.specs.declared.journal.JournalItem.TheVariants.{Tx, Close}
@@ -16,7 +18,7 @@ use Rattle.spec_model.specs.Journals.{tx_count, closed, IsOther, IsNext, IsLegal
 use Rattle.spec_model.specs.Script.{script}
 use Rattle.spec_model.specs.SystemTables.{first_tables}
 use Rattle.format_entry.specs.Entry.{IsEntry}
-use Rattle.law_frame.proofs.Alls.{all_weaker, all_both}
+use Rattle.law_frame.proofs.Alls.{all_both}
 use Rattle.law_frame.proofs.LegalSound.{legal_sound}
 use Rattle.law_journal.specs.Fits.{Fits}
 use Rattle.law_journal.specs.Described.{Described}
@@ -89,14 +91,6 @@ module _ (h : List ℕ → List ℕ) (J : List JournalItem) (k : ℕ) (m : Machi
 
 -- ---- a transaction
 
-first_ones : {B : Type 0} (P : B → Type 0) (xs ys : List B) → AllByRecursion P (xs ++ ys) → AllByRecursion P xs
-first_ones P [] ys h = tt
-first_ones P (x ∷ xs) ys h = (h.0, first_ones P xs ys h.1)
-
-last_ones : {B : Type 0} (P : B → Type 0) (xs ys : List B) → AllByRecursion P (xs ++ ys) → AllByRecursion P ys
-last_ones P [] ys h = h
-last_ones P (x ∷ xs) ys h = last_ones P xs ys h.1
-
 as_long : (columns : List ColumnDef) (values : List (Option TypedValue)) → Fits columns values → length values ≡ length columns
 as_long [] [] f = refl
 as_long [] (v ∷ vs) f = absurd f
@@ -105,18 +99,18 @@ as_long (c ∷ cs) (v ∷ vs) f = omega (arith, as_long cs vs f.1)
 
 short_table : (J : List JournalItem) (t : Table) → (length t.def.columns ≤ 64) × TableOf J t → AllByRecursion IsShort t.versions
 short_table J t k =
-    all_weaker (λ v. Fits t.def.columns v.values) IsShort
+    All-weaker (λ v. Fits t.def.columns v.values) IsShort
     (λ v f. omega (arith, as_long t.def.columns v.values f, k.0)) t.versions k.1.fit
 
 pub are_short : (J : List JournalItem) (T : Tables) → TablesOf J T → Described T → AreShort T
 are_short J T k d =
-    all_weaker (λ t. (length t.def.columns ≤ 64) × TableOf J t) (λ t. AllByRecursion IsShort t.versions) (short_table J) T
+    All-weaker (λ t. (length t.def.columns ≤ 64) × TableOf J t) (λ t. AllByRecursion IsShort t.versions) (short_table J) T
     (all_both (λ t. length t.def.columns ≤ 64) (TableOf J) T (all_defs (λ def. length def.columns ≤ 64) T d.few) k.each)
 
 parted : {A B : Type 0} (P : B → Type 0) (f : A → List B) (xs : List A) → AllByRecursion P (flat_map f xs)
     → AllByRecursion (λ x. AllByRecursion P (f x)) xs
 parted P f [] h = tt
-parted P f (x ∷ xs) h = (first_ones P (f x) (flat_map f xs) h, parted P f xs (last_ones P (f x) (flat_map f xs) h))
+parted P f (x ∷ xs) h = (all_front P (f x) (flat_map f xs) h, parted P f xs (all_back P (f x) (flat_map f xs) h))
 
 -- no transaction before has this id, so it has no event yet
 pub is_new : (J : List JournalItem) (id : ℕ) → IsLegal statement_of J → AllByRecursion (IsOther id) J
@@ -223,7 +217,7 @@ rules_of_item (Close k) h = h
 
 pub rules_of : (j : Journal) → IsJournal j → KeepRules j.items
 rules_of j h = record {
-  each = all_weaker IsItem ItemRules rules_of_item j.items h.items;
+  each = All-weaker IsItem ItemRules rules_of_item j.items h.items;
   ids = h.ids;
   closes = h.closes;
 }

@@ -7,7 +7,7 @@ use Rattle.sql_types.specs.declared.table.TableDef.{TableDef}
 use Rattle.spec_model.specs.Lists.{numbered}
 use Rattle.spec_model.specs.SystemTables.{column_row, column_rows, index_row, index_rows}
 use Rattle.law_catalog_rows.specs.Encoded.{item_rows, rows_of_indexes}
-use Rattle.audit_verify.proofs.Walks.{from_here}
+use Rattle.audit_verify.proofs.Neighbours.{from_here}
 
 length_numbered : {A : Type 0} (n : ℕ) (xs : List A) → length (numbered n xs) ≡ length xs
 length_numbered n [] = refl

@@ -1,14 +1,13 @@
 -- The numbers of a transaction's events, told by the ids of all starts and ends in order.
-use Rattle.std.proofs.Common.{◌≡◌, ◌==◌, ℕ, Bool, List, [], ◌∷◌, ◌++◌, map, filter, flat_map, refl, sym, ap, ap₂, subst, ◌∙◌, is_lt, false, Option, Some, None}
-use Rattle.std.specs.Cmp.{IsTotalOrder, on_total, then_total, nat_cmp_total}
+use Rattle.std.proofs.Common.{◌≡◌, ◌==◌, ℕ, Bool, List, [], ◌∷◌, ◌++◌, map, filter, flat_map, refl, sym, ap, ap₂, subst, ◌∙◌, is_lt, Option, Some, None}
+use Rattle.std.specs.Cmp.{on_total, nat_cmp_total}
 use Rattle.std.specs.List.Sorted.{IsPermutation, IsSortedBy, IsNonDecreasingBy}
-use Rattle.std.specs.Ordering.{nat_cmp, ordering_then}
-use Rattle.std.specs.declared.cmp.Ordering.{Ordering}
-use Rattle.std.specs.declared.cmp.Ordering.TheVariants.{Less, Equal, Greater}
+use Rattle.std.specs.Ordering.{nat_cmp}
 use Rattle.std.proofs.lemmas.List.{map-append}
 use Rattle.std.proofs.lemmas.List.Concat.{flat_map-append}
 use Rattle.std.proofs.lemmas.List.Elements.{filter-append}
 use Rattle.std.proofs.lemmas.List.Sorted.{IsNonDecreasingBy-from_sort, IsPermutation-refl, IsPermutation-trans, IsPermutation-sym, IsPermutation-append, IsPermutation-map}
+use Rattle.base_types.proofs.Orderings.{not_less_then}
 use Rattle.sql_parts.proofs.Sorting.{same_elements}
 use Rattle.sql_types.specs.declared.event.Event.{Event}
 use Rattle.sql_types.specs.declared.version.Version.{Version}
@@ -16,6 +15,7 @@ use Rattle.spec_model.specs.Catalog.{Tables}
 use Rattle.spec_model.specs.Events.{version_events, end_events, events_of, all_events}
 use Rattle.spec_model.specs.Lists.{sorted}
 use Rattle.spec_model.specs.Rows.{EventId, event_cmp}
+use Rattle.sql_parts.proofs.Orders.{event_total}
 use Rattle.spec_verify.specs.Entries.{are_numbered}
 use Rattle.audit_verify.specs.declared.shown.ImageTable.{ImageTable}
 use Rattle.audit_verify.specs.EventIds.{AreIds, end_ids, ids_in, ids_shown, number_in, numbers_of, tx_in, version_ids}
@@ -30,16 +30,8 @@ ids_of_parts s = sym (flat_map-append version_ids (rows_of s).base (rows_of s).h
 
 -- ---- the order
 
-pub ids_total : IsTotalOrder event_cmp
-ids_total = then_total (on_total tx_in nat_cmp_total) (on_total number_in nat_cmp_total)
-
-first_less : (o p : Ordering) → is_lt (ordering_then o p) ≡ false → is_lt o ≡ false
-first_less Less p e = e
-first_less Equal p e = refl
-first_less Greater p e = refl
-
 pub tx_rises : (ids : List EventId) → IsSortedBy (λ a b. is_lt (event_cmp a b)) ids → IsNonDecreasingBy tx_in ids
-tx_rises ids up = IsNonDecreasingBy-from_sort tx_in ids (λ k d low high. first_less _ _ (up k d low high))
+tx_rises ids up = IsNonDecreasingBy-from_sort tx_in ids (λ k d low high. not_less_then _ _ (up k d low high))
 
 -- ---- events and their ids
 
@@ -81,7 +73,7 @@ module _ (tx : ℕ) where
 
   own_ids : (ts : Tables) → filter is_own_id (sorted event_cmp (flat_map ids_in ts)) ≡ sorted event_cmp (map id_of (filter is_own (flat_map events_in ts)))
   own_ids ts =
-      filter_sorted event_cmp ids_total is_own_id (flat_map ids_in ts)
+      filter_sorted event_cmp event_total is_own_id (flat_map ids_in ts)
       ∙ ap (sorted event_cmp) (ap (filter is_own_id) (sym (of_tables ts)) ∙ sym (filter_seen id_of is_own_id (flat_map events_in ts)))
 
   seen_numbers : (es : List Event) → map number_in (map id_of es) ≡ map (λ (e : Event). e.seq) es
@@ -94,7 +86,7 @@ module _ (tx : ℕ) where
       IsPermutation-trans (map (λ (e : Event). e.seq) (all_events tx ts)) (map (λ (e : Event). e.seq) own) (map number_in (sorted event_cmp (map id_of own)))
       (IsPermutation-sym (map (λ (e : Event). e.seq) own) (map (λ (e : Event). e.seq) (all_events tx ts)) (IsPermutation-map (λ (e : Event). e.seq) own (all_events tx ts) (same_events ts)))
       (subst (λ (l : List ℕ). IsPermutation l (map number_in (sorted event_cmp (map id_of own)))) (seen_numbers own)
-      (IsPermutation-map number_in (map id_of own) (sorted event_cmp (map id_of own)) (same_elements event_cmp ids_total (map id_of own))))
+      (IsPermutation-map number_in (map id_of own) (sorted event_cmp (map id_of own)) (same_elements event_cmp event_total (map id_of own))))
 
   pub numbers_are : (ts : Tables) (ids : List EventId) → AreIds ts ids → are_numbered (numbers_of tx ids) ≡ are_numbered (map (λ (e : Event). e.seq) (all_events tx ts))
   numbers_are ts ids are =

@@ -6,6 +6,7 @@ use Rattle.std.specs.Ordering.{nat_cmp, ordering_then, is_gt}
 use Rattle.std.specs.declared.cmp.Ordering.{Ordering}
 use Rattle.std.specs.declared.cmp.Ordering.TheVariants.{Less, Equal, Greater}
 use Rattle.std.proofs.lemmas.Bool.{cond_both, eqb-true, lt-ltb, le-ltb, eq-eqb}
+use Rattle.std.proofs.ByRecursion.{All-append, All-weaker}
 use Rattle.sql_types.specs.declared.event.Event.{Event}
 use Rattle.sql_types.specs.declared.version.Table.{Table}
 use Rattle.sql_types.specs.declared.version.Version.{Version}
@@ -27,14 +28,6 @@ equal_to_itself m =
 abbrev by_seq : Event → Event → Ordering
 by_seq a b = nat_cmp a.seq b.seq
 
-pub append_all : {A : Type 0} (P : A → Type 0) (xs ys : List A) → AllByRecursion P xs → AllByRecursion P ys → AllByRecursion P (xs ++ ys)
-append_all P [] ys a b = b
-append_all P (x ∷ xs) ys a b = (a.0, append_all P xs ys a.1 b)
-
-pub map_all : {A : Type 0} (P Q : A → Type 0) → ((x : A) → P x → Q x) → (xs : List A) → AllByRecursion P xs → AllByRecursion Q xs
-map_all P Q f [] a = tt
-map_all P Q f (x ∷ xs) a = (f x a.0, map_all P Q f xs a.1)
-
 -- ---- the events of a table are of it
 
 ends_of_table : (id : ℕ) (v : Version) (end : Option EventId) → AllByRecursion (λ (e : Event). e.table ≡ id) (end_events id v end)
@@ -43,7 +36,7 @@ ends_of_table id v (Some end) = (refl, tt)
 
 of_versions : (id : ℕ) (vs : List Version) → AllByRecursion (λ (e : Event). e.table ≡ id) (flat_map (version_events id) vs)
 of_versions id [] = tt
-of_versions id (v ∷ vs) = append_all (λ (e : Event). e.table ≡ id) (version_events id v) (flat_map (version_events id) vs) (refl, ends_of_table id v v.end) (of_versions id vs)
+of_versions id (v ∷ vs) = All-append (λ (e : Event). e.table ≡ id) (version_events id v) (flat_map (version_events id) vs) (refl, ends_of_table id v v.end) (of_versions id vs)
 
 module _ (tx : ℕ) where
   abbrev is_own : Event → Bool
@@ -69,9 +62,9 @@ module _ (tx : ℕ) where
   later : (last : ℕ) (ts : Tables) → IdsRise last ts → AllByRecursion (IsLater last) (flat_map own_in ts)
   later last [] rise = tt
   later last (t ∷ ts) rise =
-      append_all (IsLater last) (own_in t) (flat_map own_in ts)
-      (map_all (IsIn t.def.id) (IsLater last) (λ e is. (is.0, omega (arith, is.1, rise.0))) (own_in t) (all_in t))
-      (map_all (IsLater t.def.id) (IsLater last) (λ e is. (is.0, omega (arith, is.1, rise.0))) (flat_map own_in ts) (later t.def.id ts rise.1))
+      All-append (IsLater last) (own_in t) (flat_map own_in ts)
+      (All-weaker (IsIn t.def.id) (IsLater last) (λ e is. (is.0, omega (arith, is.1, rise.0))) (own_in t) (all_in t))
+      (All-weaker (IsLater t.def.id) (IsLater last) (λ e is. (is.0, omega (arith, is.1, rise.0))) (flat_map own_in ts) (later t.def.id ts rise.1))
 
   not_above : (id : ℕ) (a b : Event) → IsIn id a → IsLater id b → is_gt (leaf_cmp a b) ≡ false
   not_above id a b here there =
@@ -83,7 +76,7 @@ module _ (tx : ℕ) where
 
   below : (id : ℕ) (xs ys : List Event) → AllByRecursion (IsIn id) xs → AllByRecursion (IsLater id) ys → AllByRecursion (IsBelow leaf_cmp ys) xs
   below id [] ys a b = tt
-  below id (x ∷ xs) ys a b = (map_all (IsLater id) (λ y. is_gt (leaf_cmp x y) ≡ false) (λ y there. not_above id x y a.0 there) ys b, below id xs ys a.1 b)
+  below id (x ∷ xs) ys a b = (All-weaker (IsLater id) (λ y. is_gt (leaf_cmp x y) ≡ false) (λ y there. not_above id x y a.0 there) ys b, below id xs ys a.1 b)
 
   in_one : (id : ℕ) (a b : Event) → IsIn id a → IsIn id b → leaf_cmp a b ≡ by_seq a b
   in_one id a b here there =

@@ -3,6 +3,7 @@ use Rattle.std.proofs.Common.{◌≡◌, ◌+◌, subst, ℕ, zero, suc, Bool, t
 use Rattle.std.specs.Ordering.{nat_cmp, is_gt}
 use Rattle.std.proofs.lemmas.List.{drop-drop, length-map}
 use Rattle.std.proofs.lemmas.List.Concat.{flat_map-append}
+use Rattle.base_types.proofs.Lists.{take_nil}
 use Rattle.sql_types.specs.declared.entry.TxEntry.{TxEntry}
 use Rattle.sql_types.specs.declared.image.Image.{Image}
 use Rattle.sql_types.specs.declared.image.TableRows.{TableRows}
@@ -28,13 +29,9 @@ use Rattle.audit_verify.proofs.Tables.{are_tables}
 
 -- ---- side by side
 
-empty : {A : Type 0} (n : ℕ) → take {A = A} n [] ≡ []
-empty zero = refl
-empty (suc n) = refl
-
 taken : {A : Type 0} (a b : ℕ) (xs : List A) → take (a + b) xs ≡ take a xs ++ take b (drop a xs)
 taken zero b xs = let none : 0 + b ≡ b = omega arith in ap (λ n. take n xs) none
-taken (suc a) b [] = empty (suc a + b) ∙ sym (empty b)
+taken (suc a) b [] = take_nil (suc a + b) ∙ sym (take_nil b)
 taken (suc a) b (x ∷ xs) =
     let one : suc a + b ≡ suc (a + b) = omega arith in
     ap (λ n. take n (x ∷ xs)) one ∙ ap (λ l. x ∷ l) (taken a b xs)
@@ -85,11 +82,11 @@ first_parts : (a b : ℕ) (ds : Defs) (rs : List TableRows)
     → first_table (take (a + b) ds) (take (a + b) rs) ≡ or_else (first_table (take a ds) (take a rs)) (first_table (take b (drop a ds)) (take b (drop a rs)))
 first_parts zero b ds rs = let none : 0 + b ≡ b = omega arith in ap (λ n. first_table (take n ds) (take n rs)) none
 first_parts (suc a) b [] rs =
-    ap (λ (l : Defs). first_table l (take (suc a + b) rs)) (empty (suc a + b)) ∙ no_defs (take (suc a + b) rs)
-    ∙ sym (ap₂ or_else (no_defs (take (suc a) rs)) (ap (λ (l : Defs). first_table l (take b (drop (suc a) rs))) (empty b) ∙ no_defs (take b (drop (suc a) rs))))
+    ap (λ (l : Defs). first_table l (take (suc a + b) rs)) (take_nil (suc a + b)) ∙ no_defs (take (suc a + b) rs)
+    ∙ sym (ap₂ or_else (no_defs (take (suc a) rs)) (ap (λ (l : Defs). first_table l (take b (drop (suc a) rs))) (take_nil b) ∙ no_defs (take b (drop (suc a) rs))))
 first_parts (suc a) b (d ∷ ds) [] =
-    ap (λ (l : List TableRows). first_table (take (suc a + b) (d ∷ ds)) l) (empty (suc a + b)) ∙ no_rows (take (suc a + b) (d ∷ ds))
-    ∙ sym (ap (λ (l : List TableRows). first_table (take b (drop a ds)) l) (empty b) ∙ no_rows (take b (drop a ds)))
+    ap (λ (l : List TableRows). first_table (take (suc a + b) (d ∷ ds)) l) (take_nil (suc a + b)) ∙ no_rows (take (suc a + b) (d ∷ ds))
+    ∙ sym (ap (λ (l : List TableRows). first_table (take b (drop a ds)) l) (take_nil b) ∙ no_rows (take b (drop a ds)))
 first_parts (suc a) b (d ∷ ds) (r ∷ rs) =
     let one : suc a + b ≡ suc (a + b) = omega arith in
     ap (λ n. first_table (take n (d ∷ ds)) (take n (r ∷ rs))) one

@@ -5,6 +5,7 @@ use Rattle.std.specs.List.Sorted.{IsPermutation, IsNonDecreasing}
 use Rattle.std.proofs.lemmas.Bool.{cases_lt, cases_Bool, and_parts, eqb-true, eqb-false, eq-eqb, ne_eqb, cond-true, cond-false}
 use Rattle.std.proofs.lemmas.List.Sorted.{sum_by-IsPermutation, length_permutation}
 use Rattle.std.proofs.lemmas.List.Sums.{length-filter}
+use Rattle.base_types.proofs.Bools.{both_ways}
 use Rattle.spec_verify.specs.Entries.{are_numbered}
 use Rattle.audit_verify.specs.Numbered.{is_range}
 
@@ -118,15 +119,10 @@ same_counts : (xs ys : List ℕ) → IsPermutation xs ys → (n : ℕ) → count
 same_counts xs ys moved n =
     length-filter (λ (m : ℕ). m == n) ys ∙ sum_by-IsPermutation (λ (m : ℕ). cond (m == n) 1 0) xs ys moved ∙ sym (length-filter (λ (m : ℕ). m == n) xs)
 
-both_true : (a b : Bool) → (a ≡ true → b ≡ true) → (b ≡ true → a ≡ true) → a ≡ b
-both_true true b f g = sym (f refl)
-both_true false true f g = g refl
-both_true false false f g = refl
-
 pub numbered_sorted : (xs ys : List ℕ) → IsPermutation xs ys → IsNonDecreasing ys → is_range 0 ys ≡ are_numbered xs
 numbered_sorted xs ys moved up =
     let long = length_permutation xs ys moved in
-    both_true (is_range 0 ys) (are_numbered xs)
+    both_ways (is_range 0 ys) (are_numbered xs)
     (λ is. all_to (λ n. count n xs == 1) 0 (length xs)
     (λ n le lt. eq-eqb (count n xs) 1 (sym (same_counts xs ys moved n) ∙ from_range 0 ys is n (omega arith) (omega (arith, lt, long)))))
     (λ are. to_range 0 ys (rises ys up) (all_at 0 ys (λ j lt. zero-le))

@@ -6,9 +6,9 @@ use Rattle.std.proofs.lemmas.List.{get_or_default}
 use Rattle.std.specs.Prelude.{◌&&◌, ◌||◌, ◌==◌, not, is_none, is_some, option_map, IfSome}
 use Rattle.std.specs.Cmp.{IsTotalOrder, on_total, then_total, nat_cmp_total}
 use Rattle.std.specs.List.{AllByRecursion, list_any}
-use Rattle.std.specs.declared.cmp.Ordering.{Ordering}
 use Rattle.std.specs.declared.cmp.Ordering.TheVariants.{Less, Equal, Greater}
 use Rattle.std.specs.Ordering.{is_eq, nat_cmp, ordering_then}
+use Rattle.base_types.proofs.Orderings.{both_equal}
 use Rattle.sql_value.specs.declared.column.ColumnDef.{ColumnDef}
 use Rattle.sql_types.specs.declared.entry.TxEntry.{TxEntry}
 use Rattle.sql_types.specs.declared.version.Version.{Version}
@@ -39,11 +39,6 @@ keys_total columns = on_total (λ (r : VersionWithRanks). version_key columns r.
 pub ranked_total : (columns : List ColumnDef) → IsTotalOrder (ranked_cmp columns)
 ranked_total columns = then_total (keys_total columns) starts_total
 
-then_both : (r s : Ordering) → ordering_then r s ≡ Equal → (r ≡ Equal) × (s ≡ Equal)
-then_both Less s e = cc
-then_both Equal s e = (refl, e)
-then_both Greater s e = cc
-
 open_by : (a b : Option Rank) → nat_cmp (openness a) (openness b) ≡ Equal → is_none a ≡ is_none b
 open_by None None e = refl
 open_by None (Some b) e = absurd (true≢false (sym (ap is_eq e)))
@@ -51,7 +46,7 @@ open_by (Some a) None e = absurd (true≢false (sym (ap is_eq e)))
 open_by (Some a) (Some b) e = refl
 
 ties_open : (x y : VersionWithRanks) → start_cmp x y ≡ Equal → is_open x ≡ is_open y
-ties_open x y e = open_by x.end y.end (then_both (event_cmp x.start y.start) _ e).1
+ties_open x y e = open_by x.end y.end (both_equal (event_cmp x.start y.start) _ e).1
 
 -- ---- what the pass knows
 

@@ -9,19 +9,10 @@ use Rattle.std.specs.Cmp.{IsTotalOrder, tied_itself}
 use Rattle.std.specs.declared.cmp.Ordering.{Ordering}
 use Rattle.std.specs.declared.cmp.Ordering.TheVariants.{Less, Equal, Greater}
 use Rattle.std.specs.Ordering.{is_eq, is_gt, is_lt, ordering_reverse, ordering_then}
+use Rattle.base_types.proofs.Orderings.{is_equal, less_is}
 use Rattle.spec_model.specs.Lists.{sorted}
 use Rattle.audit_verify.specs.Runs as runs
 use Rattle.audit_verify.proofs.Folds.{sorted_is}
-
-is_equal : (r : Ordering) → is_eq r ≡ true → r ≡ Equal
-is_equal Less e = cc
-is_equal Equal e = refl
-is_equal Greater e = cc
-
-is_less : (r : Ordering) → is_lt r ≡ true → r ≡ Less
-is_less Less e = refl
-is_less Equal e = cc
-is_less Greater e = cc
 
 is_greater : (r : Ordering) → is_gt r ≡ true → r ≡ Greater
 is_greater Less e = cc
@@ -55,7 +46,7 @@ module _ {A : Type 0} (by_key by_start : A → A → Ordering) (keys : IsTotalOr
   key_of w v p = is_equal _ (both _ _ p).0
 
   less_of : (w v : A) → precedes w v ≡ true → by_start w v ≡ Less
-  less_of w v p = is_less _ (both _ _ p).1
+  less_of w v p = less_is _ (both _ _ p).1
 
   it_precedes : (w v : A) → by_key w v ≡ Equal → by_start w v ≡ Less → precedes w v ≡ true
   it_precedes w v k s = rw (k, s) refl
@@ -110,7 +101,7 @@ module _ {A : Type 0} (by_key by_start : A → A → Ordering) (keys : IsTotalOr
       here true e true f = rw (e, f, no, yes) refl
       here true e false f = rw (e, f, no) (rw e refl)
       here false e true f =
-          let on : by_start w x ≡ Less = starts.trans w y x (is_less _ f) less in
+          let on : by_start w x ≡ Less = starts.trans w y x (less_is _ f) less in
           absurd (true≢false (sym (ap is_lt on) ∙ e))
       here false e false f = rw (e, f, e) refl
 
@@ -261,7 +252,7 @@ module _ {A : Type 0} (by_key by_start : A → A → Ordering) (keys : IsTotalOr
       is_key = is_equal _ key
 
       is_start : by_start u v ≡ Less
-      is_start = is_less _ less
+      is_start = less_is _ less
 
       before_v : precedes u v ≡ true
       before_v = it_precedes u v is_key is_start

@@ -1,10 +1,11 @@
 -- Where each version fits its table, the rows of the system's tables are about tables whose numbers are small.
 use Rattle.std.proofs.Common.{◌≡◌, ◌^◌, arith, refl, subst, ℤ, true, List, [], ◌∷◌, ◌++◌, map, flat_map, Option, Some, None}
 use Rattle.std.specs.Prelude.{FitsSigned, IfSome, MatchOption, pos, negsuc, ◌<◌}
-use Rattle.std.proofs.lemmas.Bool.{ltb-true}
+use Rattle.std.proofs.lemmas.Bool.{ltb-true, and_parts}
 use Rattle.std.proofs.lemmas.List.{map-append}
 use Rattle.std.specs.Int.{w64}
 use Rattle.std.specs.List.{AllByRecursion}
+use Rattle.base_types.proofs.Lists.{all_front, all_back}
 use Rattle.sql_value.specs.declared.column.ColumnDef.{ColumnDef}
 use Rattle.sql_value.specs.declared.sql_type.SqlType.{SqlType}
 use Rattle.sql_value.specs.declared.sql_type.SqlType.TheVariants.{Int}
@@ -20,11 +21,10 @@ use Rattle.spec_model.specs.Rows.{Row, value_or_null}
 use Rattle.spec_model.specs.SystemTables.{tables_def, columns_def}
 use Rattle.format_image.specs.ImageBytes.{IsImage, AreTables}
 use Rattle.format_image.specs.Tables.{table_in, tables_with, defs_in}
-use Rattle.format_event.proofs.TypeLaws.{and_parts}
 use Rattle.law_catalog_rows.specs.Differs.{table_of}
-use Rattle.spec_verify.specs.Sentences.{VersionHolds, TableVersion, versions_of_image}
+use Rattle.spec_verify.specs.Sentences.{VersionHolds, TableVersion}
 use Rattle.spec_verify.specs.Versions.{has_columns, version_fault}
-use Rattle.spec_verify.proofs.ToldVersions.{versions_told}
+use Rattle.spec_verify.proofs.EncodedSo.{versions_hold}
 use Rattle.audit_verify.specs.DefinitionRows.{HasSmallId, base_in}
 
 abbrev IsSmall : ℤ → Type 0
@@ -51,14 +51,6 @@ small_row c cs (Some t ∷ vs) ty e =
     let stored : is_stored t.value c.ty ≡ true = (and_parts _ _ of_column).1 in
     small_value t.value (map value_or_null vs) (subst (λ (y : SqlType). is_stored t.value y ≡ true) ty stored)
 
-all_front : {A : Type 0} (P : A → Type 0) (xs ys : List A) → AllByRecursion P (xs ++ ys) → AllByRecursion P xs
-all_front P [] ys a = tt
-all_front P (x ∷ xs) ys a = (a.0, all_front P xs ys a.1)
-
-all_back : {A : Type 0} (P : A → Type 0) (xs ys : List A) → AllByRecursion P (xs ++ ys) → AllByRecursion P ys
-all_back P [] ys a = a
-all_back P (x ∷ xs) ys a = all_back P xs ys a.1
-
 abbrev in_table : Table → Version → TableVersion
 in_table t v = (t, v)
 
@@ -72,16 +64,13 @@ small_rows i t c cs (v ∷ vs) is ty a =
 base_map : (t : Table) (xs ys : List Version) → map (in_table t) (xs ++ ys) ≡ map (in_table t) xs ++ map (in_table t) ys
 base_map t xs ys = map-append (in_table t) xs ys
 
-none_holds : {A : Type 0} (P : Type 0) (Q : A → Type 0) (p : Option A) → p ≡ None → MatchOption p P Q → P
+pub none_holds : {A : Type 0} (P : Type 0) (Q : A → Type 0) (p : Option A) → p ≡ None → MatchOption p P Q → P
 none_holds P Q None e h = h
 none_holds P Q (Some x) e h = cc
 
-all_hold : (i : Image) → version_fault i ≡ None → AllByRecursion (VersionHolds i) (versions_of_image i)
-all_hold i none = none_holds _ _ (version_fault i) none (versions_told i)
-
 -- the base rows of the two tables of the system
 pub small_first : (i : Image) → IsImage i → version_fault i ≡ None → AllByRecursion HasSmallId (base_in i.tables 0)
-small_first i is none = here i.tables (all_hold i none) is.tables
+small_first i is none = here i.tables (versions_hold i none) is.tables
   where
     here : (rows : List TableRows) → AllByRecursion (VersionHolds i) (flat_map (λ (t : Table). map (in_table t) t.versions) (tables_with (defs_in i) rows)) → AreTables (defs_in i) rows → AllByRecursion HasSmallId (base_in rows 0)
     here [] a t = absurd t
@@ -92,7 +81,7 @@ small_first i is none = here i.tables (all_hold i none) is.tables
         small_rows i table _ _ rows.base refl refl base
 
 pub small_second : (i : Image) → IsImage i → version_fault i ≡ None → AllByRecursion HasSmallId (base_in i.tables 1)
-small_second i is none = here i.tables (all_hold i none) is.tables
+small_second i is none = here i.tables (versions_hold i none) is.tables
   where
     here : (rows : List TableRows) → AllByRecursion (VersionHolds i) (flat_map (λ (t : Table). map (in_table t) t.versions) (tables_with (defs_in i) rows)) → AreTables (defs_in i) rows → AllByRecursion HasSmallId (base_in rows 1)
     here [] a t = absurd t

@@ -1,8 +1,9 @@
 -- Where no start or end is a stranger's, each version was started by a transaction that has an entry.
 use Rattle.std.proofs.Common.{◌≡◌, refl, sym, subst, ℕ, Bool, true, false, cond, List, [], ◌∷◌, ◌++◌, map, flat_map, filter, Option, Some, None}
 use Rattle.std.proofs.lemmas.List.Elements.{All-from_recursion}
-use Rattle.std.specs.Prelude.{not, MatchOption}
+use Rattle.std.specs.Prelude.{not}
 use Rattle.std.specs.List.{All, AllByRecursion}
+use Rattle.std.proofs.lemmas.Bool.{not-false}
 use Rattle.sql_types.specs.declared.entry.TxEntry.{TxEntry}
 use Rattle.sql_types.specs.declared.event.Event.{Event}
 use Rattle.sql_types.specs.declared.image.Image.{Image}
@@ -19,6 +20,7 @@ use Rattle.audit_verify.specs.declared.shown.ImageTable.{ImageTable}
 use Rattle.audit_verify.specs.Order.{IsStarted, AreStarted}
 use Rattle.audit_verify.specs.ImageTable.{rows_of, table_of, AreImageTables}
 use Rattle.audit_verify.proofs.Tables.{are_tables}
+use Rattle.audit_verify.proofs.Small.{none_holds}
 
 second_none : {A : Type 0} (a b : Option A) → or_else a b ≡ None → b ≡ None
 second_none None b e = e
@@ -28,14 +30,10 @@ no_event : (o : Option TableEvent) → event_place o ≡ None → o ≡ None
 no_event None e = refl
 no_event (Some x) e = cc
 
-none_there : {A : Type 0} (P : Type 0) (Q : A → Type 0) (o : Option A) → o ≡ None → MatchOption o P Q → P
-none_there P Q None e h = h
-none_there P Q (Some x) e h = cc
-
 no_strangers : (i : Image) → id_fault i ≡ None → strangers i ≡ []
 unfolding id_fault
 no_strangers i e =
-    none_there (strangers i ≡ []) (IsLeast table_event_cmp table_event_total (strangers i)) (least table_event_cmp (strangers i))
+    none_holds (strangers i ≡ []) (IsLeast table_event_cmp table_event_total (strangers i)) (least table_event_cmp (strangers i))
     (no_event (least table_event_cmp (strangers i)) (second_none (repeated_id i) (least_event (strangers i)) e)) (least_is table_event_cmp table_event_total (strangers i))
 
 none_kept : {A : Type 0} (p : A → Bool) (xs : List A) → filter p xs ≡ [] → AllByRecursion (λ x. p x ≡ false) xs
@@ -63,10 +61,6 @@ module _ {A : Type 0} (P : A → Type 0) where
   of_map f [] a = tt
   of_map f (b ∷ bs) a = (a.0, of_map f bs a.1)
 
-is_true : (b : Bool) → not b ≡ false → b ≡ true
-is_true true e = refl
-is_true false e = cc
-
 module _ (entries : List TxEntry) where
   abbrev IsKnown : TableEvent → Type 0
   IsKnown e = not (has_id entries e.1.0) ≡ false
@@ -79,7 +73,7 @@ module _ (entries : List TxEntry) where
 
   each_started : (table : ℕ) (vs : List Version) → AllByRecursion (Starts table) vs → AllByRecursion (IsStarted entries) vs
   each_started table [] a = tt
-  each_started table (v ∷ vs) a = (is_true (has_id entries v.start.0) a.0.0, each_started table vs a.1)
+  each_started table (v ∷ vs) a = (not-false (has_id entries v.start.0) a.0.0, each_started table vs a.1)
 
   of_table : (t : Table) → AllByRecursion IsKnown (events_in t) → AllByRecursion (IsStarted entries) t.versions
   of_table t a =

@@ -1,6 +1,7 @@
 -- Strangers among the events of an image are those of each version.
 use Rattle.std.proofs.Common.{◌≡◌, sym, ap, ◌∙◌, ℕ, Bool, cond, List, [], ◌∷◌, ◌++◌, map, flat_map, filter, Option, Some}
 use Rattle.std.proofs.lemmas.List.Concat.{flat_map-append}
+use Rattle.std.proofs.lemmas.List.Folds.{flat_map-map}
 use Rattle.sql_types.specs.declared.entry.TxEntry.{TxEntry}
 use Rattle.sql_types.specs.declared.event.Event.{Event}
 use Rattle.sql_types.specs.declared.image.Image.{Image}
@@ -15,7 +16,7 @@ use Rattle.audit_verify.specs.declared.shown.ImageTable.{ImageTable}
 use Rattle.audit_verify.specs.Ids.{is_stranger, strangers_of, strangers_in}
 use Rattle.audit_verify.specs.ImageTable.{def_of, rows_of, table_of, AreImageTables}
 use Rattle.audit_verify.proofs.Tables.{are_tables}
-use Rattle.audit_verify.proofs.Walks.{filter_parts, map_parts, over_map, one_tested, least_append}
+use Rattle.audit_verify.proofs.Walks.{filter_parts, map_parts, one_tested, least_append}
 
 abbrev as_event : Event → TableEvent
 as_event e = (e.table, (e.tx, e.seq))
@@ -34,7 +35,7 @@ pub by_table : (ts : List ImageTable) (i : Image) → AreImageTables ts i → st
 by_table ts i s =
     filter_parts (is_stranger i.entries) events_in (tables_in i)
     ∙ ap (flat_map (strangers_in i.entries)) (sym (are_tables ts i s))
-    ∙ over_map (strangers_in i.entries) table_of ts
+    ∙ flat_map-map (strangers_in i.entries) table_of ts
 
 -- a version that has ended has two events
 pub two_events : (entries : List TxEntry) (table : ℕ) (v : Version) (end : EventId) (best first found : Option TableEvent) → v.end ≡ Some end

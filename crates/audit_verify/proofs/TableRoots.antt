@@ -5,6 +5,8 @@ use Rattle.std.specs.List.{All, AllByRecursion}
 use Rattle.std.proofs.lemmas.Bool.{eq-eqb, ne_eqb}
 use Rattle.std.proofs.lemmas.List.{map-append, length-drop, get_or-drop}
 use Rattle.std.proofs.lemmas.List.Elements.{All-drop, All-from_recursion, recursion_from_All}
+use Rattle.std.proofs.ByRecursion.{All-append, All-weaker}
+use Rattle.base_types.proofs.Lists.{all_front, drop_front}
 use Rattle.sql_types.specs.declared.event.Event.{Event}
 use Rattle.sql_types.specs.declared.version.Table.{Table}
 use Rattle.spec_ledger.specs.Entries.{roots_of, root_in, has_events}
@@ -17,7 +19,7 @@ use Rattle.audit_verify.specs.declared.marks.Mark.{Mark}
 use Rattle.audit_verify.specs.Marks.{event_of, HasValues, StartsOther}
 use Rattle.audit_verify.specs.Roots.{same_first, joined, grouped, group_root, roots_in}
 use Rattle.audit_verify.specs.ImageTable.{IdsRise}
-use Rattle.audit_verify.proofs.Grouped.{append_all, map_all, all_in}
+use Rattle.audit_verify.proofs.Grouped.{all_in}
 use Rattle.audit_verify.proofs.Sortings.{all_sorted}
 
 -- the first of these, if there is one, is of another table
@@ -42,14 +44,14 @@ one_group t x (y ∷ ys) rest is all other =
 module _ (tx : ℕ) where
   of_table : (t : Table) → AllByRecursion (λ (e : Event). e.table ≡ t.def.id) (events_of tx t)
   unfolding events_of
-  of_table t = all_sorted _ (λ (e : Event). e.table ≡ t.def.id) _ (map_all _ (λ (e : Event). e.table ≡ t.def.id) (λ e is. is.1) _ (all_in tx t))
+  of_table t = all_sorted _ (λ (e : Event). e.table ≡ t.def.id) _ (All-weaker _ (λ (e : Event). e.table ≡ t.def.id) (λ e is. is.1) _ (all_in tx t))
 
   beyond : (last : ℕ) (ts : Tables) → IdsRise last ts → AllByRecursion (λ (e : Event). last < e.table) (flat_map (events_of tx) ts)
   beyond last [] rise = tt
   beyond last (t ∷ ts) rise =
-      append_all (λ (e : Event). last < e.table) (events_of tx t) (flat_map (events_of tx) ts)
-      (map_all (λ (e : Event). e.table ≡ t.def.id) (λ e. last < e.table) (λ e is. omega (arith, is, rise.0)) (events_of tx t) (of_table t))
-      (map_all (λ (e : Event). t.def.id < e.table) (λ e. last < e.table) (λ e lt. omega (arith, lt, rise.0)) (flat_map (events_of tx) ts) (beyond t.def.id ts rise.1))
+      All-append (λ (e : Event). last < e.table) (events_of tx t) (flat_map (events_of tx) ts)
+      (All-weaker (λ (e : Event). e.table ≡ t.def.id) (λ e. last < e.table) (λ e is. omega (arith, is, rise.0)) (events_of tx t) (of_table t))
+      (All-weaker (λ (e : Event). t.def.id < e.table) (λ e. last < e.table) (λ e lt. omega (arith, lt, rise.0)) (flat_map (events_of tx) ts) (beyond t.def.id ts rise.1))
 
   other_first : (t : ℕ) (es : List Event) → AllByRecursion (λ (e : Event). t < e.table) es → StartsWithOther t es
   other_first t [] all = tt
@@ -87,14 +89,6 @@ seen_own t (m ∷ ms) all = (all.0, seen_own t ms all.1)
 seen_other : (t : ℕ) (ms : List Mark) → StartsOther t ms → StartsWithOther t (map event_of ms)
 seen_other t [] other = tt
 seen_other t (m ∷ ms) other = other
-
-drop_front : {A : Type 0} (xs ys : List A) → drop (length xs) (xs ++ ys) ≡ ys
-drop_front [] ys = refl
-drop_front (x ∷ xs) ys = drop_front xs ys
-
-all_front : {A : Type 0} (P : A → Type 0) (xs zs : List A) → AllByRecursion P (xs ++ zs) → AllByRecursion P xs
-all_front P [] zs all = tt
-all_front P (x ∷ xs) zs all = (all.0, all_front P xs zs all.1)
 
 module _ (marks rest own others : List Mark) (at : ℕ) (rest_is : rest ≡ drop at marks) (parts : rest ≡ own ++ others) where
   pub group_values : All HasValues marks → All HasValues own

@@ -1,6 +1,6 @@
 -- The tables of an image.
 use Rattle.std.proofs.Common.{◌≡◌, ◌<◌, ◌+◌, ◌⊎◌, inl, inr, suc, arith, refl, sym, ap, ap₂, ◌∙◌, List, [], ◌∷◌, ◌++◌, length, length-append, map, Bor}
-use Rattle.std.proofs.lemmas.List.{append-nil, length-map}
+use Rattle.std.proofs.lemmas.List.{append-nil, length-map, nil_from_length}
 use Rattle.std.specs.List.{AllByRecursion, All}
 use Rattle.std.proofs.lemmas.List.Elements.{All-from_recursion}
 use Rattle.sql_types.specs.declared.image.Image.{Image}
@@ -77,10 +77,6 @@ as_many [] (r ∷ rs) a = absurd a
 as_many (d ∷ ds) [] a = absurd a
 as_many (d ∷ ds) (r ∷ rs) a = ap suc (as_many ds rs a.1)
 
-none_left : {A : Type 0} (xs : List A) → length xs ≡ 0 → xs ≡ []
-none_left [] e = refl
-none_left (x ∷ xs) e = cc
-
 pub all_shown : (i : Image) (ts : List ImageTable) (left : List (Bor TableDef)) (rest : List TableRows) → IsImage i
     → map def_of ts ++ map (λ (d : Bor TableDef). d.now) left ≡ defs_in i → map rows_of ts ++ rest ≡ i.tables
     → ((length left ≡ 0) ⊎ (length rest ≡ 0)) → AreImageTables ts i
@@ -92,6 +88,6 @@ all_shown i ts left rest is defs rows ended =
     let no_left : length left ≡ 0 = elim ended [ inl e ↦ e | inr e ↦ omega (arith, count, same, e) ] in
     let no_rest : length rest ≡ 0 = omega (arith, count, same, no_left) in
     record {
-      defs = sym (append-nil (map def_of ts)) ∙ ap (λ (l : List (Bor TableDef)). map def_of ts ++ map (λ (d : Bor TableDef). d.now) l) (sym (none_left left no_left)) ∙ defs;
-      rows = sym (append-nil (map rows_of ts)) ∙ ap (λ (l : List TableRows). map rows_of ts ++ l) (sym (none_left rest no_rest)) ∙ rows;
+      defs = sym (append-nil (map def_of ts)) ∙ ap (λ (l : List (Bor TableDef)). map def_of ts ++ map (λ (d : Bor TableDef). d.now) l) (sym (nil_from_length left no_left)) ∙ defs;
+      rows = sym (append-nil (map rows_of ts)) ∙ ap (λ (l : List TableRows). map rows_of ts ++ l) (sym (nil_from_length rest no_rest)) ∙ rows;
     }

@@ -1,6 +1,5 @@
 -- Going on by one element: the least of what all show, and the events of a table part by part.
 use Rattle.std.proofs.Common.{Bor, ◌≡◌, ◌<◌, ◌+◌, ℕ, zero, suc, arith, refl, sym, subst, ap, ap₂, ◌∙◌, Bool, true, false, cond, List, [], ◌∷◌, ◌++◌, length, map, flat_map, filter, take, drop, get_or, Option, Some, None}
-use Rattle.std.proofs.Math.Seq.{drop-cons}
 use Rattle.std.proofs.lemmas.List.{map-append}
 use Rattle.std.proofs.lemmas.List.Elements.{filter-append, recursion_from_All}
 use Rattle.std.specs.List.{All, AllByRecursion, list_all}
@@ -9,11 +8,7 @@ use Rattle.std.specs.declared.cmp.Ordering.{Ordering}
 use Rattle.spec_model.specs.Lists.{or_else, numbered}
 use Rattle.law_catalog_rows.specs.Least.{lesser, least_from}
 use Rattle.spec_verify.specs.First.{first_from}
-
-pub from_here : {A : Type 0} (xs : List A) (k : ℕ) (d : A) → k < length xs → drop k xs ≡ get_or xs k d ∷ drop (k + 1) xs
-from_here xs k d lt =
-    let one : k + 1 ≡ suc k = omega arith in
-    rw one (drop-cons xs k d lt)
+use Rattle.audit_verify.proofs.Neighbours.{from_here}
 
 module _ {B : Type 0} (cmp : B → B → Ordering) where
   pub least_append : (best : Option B) (xs ys : List B) → least_from cmp best (xs ++ ys) ≡ least_from cmp (least_from cmp best xs) ys
@@ -32,10 +27,6 @@ filter_parts p f (x ∷ xs) = filter-append p (f x) (flat_map f xs) ∙ ap (λ y
 pub map_parts : {A B C : Type 0} (g : B → C) (f : A → List B) (xs : List A) → map g (flat_map f xs) ≡ flat_map (λ x. map g (f x)) xs
 map_parts g f [] = refl
 map_parts g f (x ∷ xs) = map-append g (f x) (flat_map f xs) ∙ ap (λ ys. map g (f x) ++ ys) (map_parts g f xs)
-
-pub over_map : {A B C : Type 0} (f : B → List C) (g : A → B) (xs : List A) → flat_map f (map g xs) ≡ flat_map (λ x. f (g x)) xs
-over_map f g [] = refl
-over_map f g (x ∷ xs) = ap (λ ys. f (g x) ++ ys) (over_map f g xs)
 
 -- one element is passed over or it may be the least
 pub one_tested : {B : Type 0} (cmp : B → B → Ordering) (has : B → Bool) (best : Option B) (x : B) (xs : List B)

@@ -6,9 +6,9 @@ use Rattle.std.proofs.lemmas.List.{map-append}
 use Rattle.std.proofs.lemmas.List.Elements.{filter-append}
 use Rattle.std.specs.Prelude.{◌&&◌, ◌||◌, not}
 use Rattle.std.specs.List.{AllByRecursion}
-use Rattle.std.specs.declared.cmp.Ordering.{Ordering}
-use Rattle.std.specs.declared.cmp.Ordering.TheVariants.{Less, Equal, Greater}
-use Rattle.std.specs.Ordering.{nat_cmp, ordering_then}
+use Rattle.std.specs.declared.cmp.Ordering.TheVariants.{Equal}
+use Rattle.std.specs.Ordering.{nat_cmp}
+use Rattle.base_types.proofs.Orderings.{both_equal, equal_numbers}
 use Rattle.sql_value.specs.declared.column.ColumnDef.{ColumnDef}
 use Rattle.sql_types.specs.declared.entry.TxEntry.{TxEntry}
 use Rattle.sql_types.specs.declared.image.TableRows.{TableRows}
@@ -29,19 +29,11 @@ use Rattle.audit_verify.proofs.InRuns.{ordered_among_is, ordered_among_sorted}
 use Rattle.audit_verify.proofs.LeastParts.{in_parts, when_sorted}
 use Rattle.audit_verify.proofs.Neighbours.{from_here}
 
-then_both : (r s : Ordering) → ordering_then r s ≡ Equal → (r ≡ Equal) × (s ≡ Equal)
-then_both Less s e = cc
-then_both Equal s e = (refl, e)
-then_both Greater s e = cc
-
-same_number : (m n : ℕ) → nat_cmp m n ≡ Equal → m ≡ n
-same_number m n e = ranked m n Equal (sym e)
-
 same_event : (x y : TableEvent) → table_event_cmp x y ≡ Equal → x ≡ y
 same_event x y e =
-    let outer = then_both (nat_cmp x.0 y.0) _ e in
-    let inner = then_both (nat_cmp x.1.0 y.1.0) (nat_cmp x.1.1 y.1.1) outer.1 in
-    ap₂ (λ (t : ℕ) (p : ℕ × ℕ). (t, p)) (same_number x.0 y.0 outer.0) (ap₂ (λ (a b : ℕ). (a, b)) (same_number x.1.0 y.1.0 inner.0) (same_number x.1.1 y.1.1 inner.1))
+    let outer = both_equal (nat_cmp x.0 y.0) _ e in
+    let inner = both_equal (nat_cmp x.1.0 y.1.0) (nat_cmp x.1.1 y.1.1) outer.1 in
+    ap₂ (λ (t : ℕ) (p : ℕ × ℕ). (t, p)) (equal_numbers x.0 y.0 outer.0) (ap₂ (λ (a b : ℕ). (a, b)) (equal_numbers x.1.0 y.1.0 inner.0) (equal_numbers x.1.1 y.1.1 inner.1))
 
 append : (best : Option TableEvent) (xs ys : List TableEvent) → least_from table_event_cmp best (xs ++ ys) ≡ least_from table_event_cmp (least_from table_event_cmp best xs) ys
 append best [] ys = refl

@@ -1,4 +1,4 @@
-use Rattle.std.proofs.Common.{◌≡◌, ◌∙◌, ◌++◌, ◌+◌, ◌<◌, ap, ap₂, ◌&&◌, ◌||◌, ℕ, Bool, true, false, not, List, [], ◌∷◌, map, length, is_some, Option, Some, None, refl, sym, subst, arith}
+use Rattle.std.proofs.Common.{◌≡◌, ◌∙◌, ◌++◌, ◌+◌, ◌<◌, ap, ap₂, ◌&&◌, ℕ, Bool, true, false, not, List, [], ◌∷◌, map, length, is_some, Option, Some, None, refl, sym, subst, arith}
 use Rattle.std.specs.List.{list_any, fold}
 use Rattle.std.specs.Prelude.{if◌then◌else◌, drop}
 use Rattle.clap.specs.Walk.{Row, has_row, with_default, finished, rows_after, nothing_held, walk, walk_from, settled}
@@ -6,20 +6,13 @@ use Rattle.clap.specs.Simple.{App, built, matches_of, entered}
 use Rattle.clap.specs.Kinds.{Kinds, or_else}
 use Rattle.clap.specs.Takes.{is_given}
 use Rattle.clap.specs.Faults.{level_fault, walk_fault, settle_fault, defaults_fault, check_fault, fault_of, is_simple_and_free, entered_fault}
+use Rattle.base_types.proofs.Bools.{or_true, and_false}
 use Rattle.cli_words.specs.Line.{Text, nothing, uses_of}
 use Rattle.cli_words.specs.Shapes.{line_rules, line_shape, operand_rules, full_option, app_for}
 use Rattle.cli_words.specs.Subcommands.{name_of, operands_of, options_of}
 use Rattle.cli_words.specs.declared.subcommand.Subcommand.{Subcommand}
 use Rattle.cli_words.specs.declared.subcommand.Subcommand.TheVariants.{Step, Run, Verify, Extract, Replay, Gen}
-use Rattle.cli_words.proofs.Run.{Tells, All_plain, run}
-
-and_false : (b : Bool) → (b && false) ≡ false
-and_false true = refl
-and_false false = refl
-
-or_true : (b : Bool) → (b || true) ≡ true
-or_true true = refl
-or_true false = refl
+use Rattle.cli_words.proofs.Run.{Tells, All_plain, run, or_nil}
 
 -- no rule has a default, and none is required
 no_defaults : (options operands : List Text) (place : ℕ) (rows : List Row) → defaults_fault rows (operand_rules operands place ++ map full_option options) ≡ []
@@ -54,10 +47,6 @@ kept_rows options (p ∷ ps) place rows =
 or_assoc : (a b d : Kinds) → or_else (or_else a b) d ≡ or_else a (or_else b d)
 or_assoc [] b d = refl
 or_assoc (k ∷ ks) b d = refl
-
-or_nil : (k : Kinds) → or_else k [] ≡ k
-or_nil [] = refl
-or_nil (k ∷ ks) = refl
 
 -- what clap says of a line's words, by what our definition reads
 pub line_says : (name : Text) (options operands words : List Text) (b : Bool) → All_plain words → length operands < 1000

@@ -2,9 +2,10 @@
 use Rattle.std.proofs.Common.{ℕ, ◌≡◌, ◌≤◌, arith, Bool, true, false, List, [], ◌∷◌, Option, Some, None, refl, subst, codes}
 use Rattle.std.specs.Prelude.{◌&&◌, ◌||◌, IfSome, if◌then◌else◌, nat_le, option_map}
 use Rattle.std.specs.Str.{bytes_eq}
-use Rattle.std.proofs.lemmas.Bool.Decides.{nat_tests}
+use Rattle.std.proofs.lemmas.Option.{same_Some}
 use Rattle.base_types.specs.DatabaseName.{is_database_name}
 use Rattle.base_types.specs.declared.moment.TheConstants.{MAX_TICKS}
+use Rattle.base_types.proofs.Naturals.{le_from_test}
 use Rattle.cli_words.specs.Commands.{Settings, AreInRange, Command, Step, Run, Verify, Extract, Replay, Gen, given, settings, meaning_of, has_dashes, arguments_of, asks_help, alone, behind, command_of}
 use Rattle.cli_words.specs.Commands as said
 use Rattle.cli_words.specs.Forms.{is_number, number_from, number_in, database_name, file_name, or_default, if_given}
@@ -23,11 +24,8 @@ bound : {A B : Type 0} (o : Option A) (f : A → Option B) (b : B) → (o >>= f)
 bound None f b e = absurd cc
 bound (Some a) f b e = record { value = a; found = refl; rest = e }
 
-inner : {A : Type 0} (a b : A) → Some a ≡ Some b → a ≡ b
-inner a b e = cc
-
 tested : {A : Type 0} (b : Bool) (m n : A) → (if b then Some m else None) ≡ Some n → (b ≡ true) × (m ≡ n)
-tested true m n e = (refl, inner m n e)
+tested true m n e = (refl, same_Some m n e)
 tested false m n e = absurd cc
 
 -- ---- forms of values
@@ -38,9 +36,6 @@ both true true false e = absurd cc
 both true false c e = absurd cc
 both false b c e = absurd cc
 
-at_most : (m n : ℕ) → nat_le m n ≡ true → m ≤ n
-at_most m n e = grind (arith, nat_tests)
-
 pub record Within (low high n : ℕ) : Type 0 where
   pub least : low ≤ n
   pub most : n ≤ high
@@ -50,26 +45,26 @@ unfolding number_in
 number_within low high text n e =
     let r = tested (is_number text && (nat_le low (number_from 0 text) && nat_le (number_from 0 text) high)) (number_from 0 text) n e in
     let t = both (is_number text) (nat_le low (number_from 0 text)) (nat_le (number_from 0 text) high) r.0 in
-    subst (λ k. Within low high k) r.1 (record { least = at_most low (number_from 0 text) t.0; most = at_most (number_from 0 text) high t.1 })
+    subst (λ k. Within low high k) r.1 (record { least = le_from_test low (number_from 0 text) t.0; most = le_from_test (number_from 0 text) high t.1 })
 
 or_within : (default low high : ℕ) → Within low high default → (text : Option Text) (n : ℕ) → or_default default (number_in low high) text ≡ Some n → Within low high n
-or_within default low high within None n e = subst (λ k. Within low high k) (inner default n e) within
+or_within default low high within None n e = subst (λ k. Within low high k) (same_Some default n e) within
 or_within default low high within (Some text) n e = number_within low high text n e
 
 given_within : (high : ℕ) (text : Option Text) (o : Option ℕ) → if_given (number_in 0 high) text ≡ Some o → IfSome o (λ n. n ≤ high)
-given_within high None o e = subst (λ k. IfSome k (λ n. n ≤ high)) (inner None o e) tt
+given_within high None o e = subst (λ k. IfSome k (λ n. n ≤ high)) (same_Some None o e) tt
 given_within high (Some text) o e = go (number_in 0 high text) refl e
   where
     go : (found : Option ℕ) → number_in 0 high text ≡ found → option_map (λ (a : ℕ). Some a) found ≡ Some o → IfSome o (λ n. n ≤ high)
     go None is f = absurd cc
-    go (Some n) is f = subst (λ k. IfSome k (λ n. n ≤ high)) (inner (Some n) o f) (number_within 0 high text n is).most
+    go (Some n) is f = subst (λ k. IfSome k (λ n. n ≤ high)) (same_Some (Some n) o f) (number_within 0 high text n is).most
 
 default_named : is_database_name (codes "LedgerDB") ≡ true
 unfolding is_database_name
 default_named = refl
 
 database_named : (text : Option Text) (name : Text) → or_default (codes "LedgerDB") database_name text ≡ Some name → is_database_name name ≡ true
-database_named None name e = subst (λ n. is_database_name n ≡ true) (inner (codes "LedgerDB") name e) default_named
+database_named None name e = subst (λ n. is_database_name n ≡ true) (same_Some (codes "LedgerDB") name e) default_named
 database_named (Some text) name e =
     let r = tested (is_database_name text) text name e in
     subst (λ n. is_database_name n ≡ true) r.1 r.0
@@ -84,7 +79,7 @@ in_range value how e =
     let c = bound (or_default (codes "LedgerDB") database_name (value (codes "database"))) _ how b.rest in
     let size = or_within 100000 1 100000 (record { least = omega arith; most = omega arith }) (value (codes "block-size")) a.value a.found in
     let made : Settings = record { block_size = a.value; clock = b.value; database = c.value } in
-    subst (λ s. AreInRange s) (inner made how c.rest) (record {
+    subst (λ s. AreInRange s) (same_Some made how c.rest) (record {
       least = size.least;
       most = size.most;
       clock = given_within MAX_TICKS (value (codes "clock")) b.value b.found;
@@ -109,7 +104,7 @@ every None f P h b e = absurd cc
 every (Some a) f P h b e = h a refl b e
 
 is_some : (c d : Command) → HasRange c → Some c ≡ Some d → HasRange d
-is_some c d range e = some_range c d (inner c d e) range
+is_some c d range e = some_range c d (same_Some c d e) range
 
 has_range : (w : Subcommand) (value : Text → Option Text) (c : Command) → meaning_of w value ≡ Some c → HasRange c
 unfolding meaning_of
@@ -150,7 +145,7 @@ arguments_range w words c e = go (has_dashes words) e
 
 helped : (b : Bool) (w : Subcommand) (o : Option Command) (c : Command) → ((d : Command) → o ≡ Some d → HasRange d)
     → (if b then Some (said.Help (Some w)) else o) ≡ Some c → HasRange c
-helped true w o c range e = some_range _ c (inner _ c e) tt
+helped true w o c range e = some_range _ c (same_Some _ c e) tt
 helped false w o c range e = range c e
 
 alone_range : (word : Text) (c : Command) → alone word ≡ Some c → HasRange c
@@ -159,8 +154,8 @@ alone_range word c e =
     go (bytes_eq word (codes "--help") || bytes_eq word (codes "-h")) (bytes_eq word (codes "--version") || bytes_eq word (codes "-V")) e
   where
     go : (a b : Bool) → (if a then Some (said.Help None) else if b then Some said.Version else None) ≡ Some c → HasRange c
-    go true b f = some_range _ c (inner _ c f) tt
-    go false true f = some_range _ c (inner _ c f) tt
+    go true b f = some_range _ c (same_Some _ c f) tt
+    go false true f = some_range _ c (same_Some _ c f) tt
     go false false f = absurd cc
 
 behind_range : (o : Option Subcommand) (word : Text) (words : List Text) (c : Command) → behind o word words ≡ Some c → HasRange c

@@ -1,4 +1,4 @@
-use Rattle.std.proofs.Common.{suc, ◌≡◌, ◌∙◌, ◌++◌, ◌+◌, ◌<◌, ◌≤◌, ap, ◌&&◌, ℕ, Bool, true, false, List, [], ◌∷◌, map, length, is_some, Option, Some, None, refl, sym, subst, arith, true≢false}
+use Rattle.std.proofs.Common.{suc, ◌≡◌, ◌∙◌, ◌++◌, ◌+◌, ◌<◌, ◌≤◌, ap, ℕ, Bool, true, false, List, [], ◌∷◌, map, length, is_some, Option, Some, None, refl, sym, subst, arith, true≢false}
 use Rattle.std.specs.List.{fold}
 use Rattle.std.specs.Str.{bytes_eq, chars}
 use Rattle.std.specs.Prelude.{slice_get, if◌then◌else◌, min}
@@ -18,6 +18,7 @@ use Rattle.std.specs.Option.{option_map_or}
 use Rattle.clap.specs.Lexer.{long_of, short_of, usize_max}
 use Rattle.clap.specs.Walk.{plain, bundle, bundle_met, long_or_other, plain_word, subcommand_met}
 use Rattle.clap.specs.Faults.{flag_word_fault, flags_fault, bundle_fault, word_fault}
+use Rattle.base_types.proofs.Bools.{and_false}
 use Rattle.cli_words.specs.Line.{is_short, read_from, ◌>>=◌, word_read, long_read, plain_read, operand_read}
 use Rattle.cli_words.specs.Shapes.{line_rules, line_shape, full_option, full_operand}
 use Rattle.cli_words.proofs.Facts.{SetsOne, Known, one_option, long_line, short_line, index_line, id_line, id_operand}
@@ -119,11 +120,7 @@ no_sub idle word = refl
 no_sub (option name) word = refl
 no_sub Rattle.clap.specs.Walk.positional word = refl
 
-and_false : (b : Bool) → (b && false) ≡ false
-and_false true = refl
-and_false false = refl
-
-or_nil : (k : Kinds) → or_else k [] ≡ k
+pub or_nil : (k : Kinds) → or_else k [] ≡ k
 or_nil [] = refl
 or_nil (k ∷ ks) = refl
 

@@ -4,6 +4,7 @@ use Rattle.std.specs.Prelude.{slice_get, if◌then◌else◌, unwrap_or, option_
 use Rattle.std.specs.Str.{bytes_eq}
 use Rattle.std.proofs.lemmas.Slice.Eq.{bytes_eq-Decides}
 use Rattle.clap.specs.Lexer.{long_of, long_of_rest, strip_byte, name_and_value, has_byte}
+use Rattle.std.proofs.lemmas.Option.{none-some}
 use Rattle.cli_words.specs.Line.{Text, Use, Last, nothing, whole, begun, is_among, is_short, is_used, with_use, closed, read_from, ◌>>=◌, Going, word_read, long_read, plain_read, operand_read}
 use Rattle.cli_words.specs.Arguments.{Argument, two, one, operand, IsValueWord, Give, spelled_out}
 
@@ -58,30 +59,27 @@ nv_back (x ∷ xs) = go (x == 61) refl (nv_back xs)
     go true e rest = let at : x ≡ 61 = grind arith in subst (λ (y : ℕ). y ∷ xs ≡ spelling (name_and_value (y ∷ xs))) (sym at) refl
     go false e rest = ap (λ (t : Text). x ∷ t) rest ∙ sym (spelling_cons x (name_and_value xs)) ∙ ap spelling (sym (nv_cons x xs e))
 
-none_some : {X : Type 0} (x : X) → None ≡ Some x → ⊥
-none_some x e = true≢false (sym (ap is_some e))
-
 long_back : (word : Text) (p : Text × Option Text) → long_of word ≡ Some p → word ≡ 45 ∷ 45 ∷ spelling p
-long_back [] p e = absurd (none_some p e)
+long_back [] p e = absurd (none-some p e)
 long_back (x ∷ xs) p e = go (x == 45) refl e
   where
     after : (ys : Text) → x ≡ 45 → option_and_then long_of_rest (strip_byte 45 ys) ≡ Some p → x ∷ ys ≡ 45 ∷ 45 ∷ spelling p
-    after [] at f = absurd (none_some p f)
+    after [] at f = absurd (none-some p f)
     after (y ∷ ys) at f = second (y == 45) refl f
       where
         rest : (zs : Text) → y ≡ 45 → long_of_rest zs ≡ Some p → x ∷ y ∷ zs ≡ 45 ∷ 45 ∷ spelling p
-        rest [] too g = absurd (none_some p g)
+        rest [] too g = absurd (none-some p g)
         rest (z ∷ zs) too g =
             let read : name_and_value (z ∷ zs) ≡ p = ap (λ o. unwrap_or o (name_and_value (z ∷ zs))) g in
             rw (at, too) (ap (λ (t : Text). 45 ∷ 45 ∷ t) (nv_back (z ∷ zs) ∙ ap spelling read))
 
         second : (b : Bool) → (y == 45) ≡ b → option_and_then long_of_rest (if b then Some ys else None) ≡ Some p → x ∷ y ∷ ys ≡ 45 ∷ 45 ∷ spelling p
         second true h g = rest ys (grind arith) g
-        second false h g = absurd (none_some p g)
+        second false h g = absurd (none-some p g)
 
     go : (b : Bool) → (x == 45) ≡ b → option_and_then long_of_rest (option_and_then (strip_byte 45) (if b then Some xs else None)) ≡ Some p → x ∷ xs ≡ 45 ∷ 45 ∷ spelling p
     go true h f = after xs (grind arith) f
-    go false h f = absurd (none_some p f)
+    go false h f = absurd (none-some p f)
 
 module _ (options operands : List Text) (names : (n : Text) → is_among options n ≡ true → IsOptionName n) where
   abbrev read : List Text → Going
@@ -130,7 +128,7 @@ module _ (options operands : List Text) (names : (n : Text) → is_among options
   closing words uses (begun n) at all f c = absurd (no_answer c.0 c.1)
 
   bind_some : {A B : Type 0} (o : Option A) (f : A → Option B) (b : B) → (o >>= f) ≡ Some b → (a : A) × (o ≡ Some a)
-  bind_some None f b e = absurd (none_some b e)
+  bind_some None f b e = absurd (none-some b e)
   bind_some (Some a) f b e = (a, refl)
 
   abbrev Says : List Text → List Use → Type 0
@@ -144,7 +142,7 @@ module _ (options operands : List Text) (names : (n : Text) → is_among options
 
   one_items : (word : Text) (words : List Text) (all : List Use) → Says words all → (n v : Text) (at : ℕ) → long_of word ≡ Some (n, Some v) → is_among options n ≡ true
       → (u : List Use) (b : Bool) → is_used u n ≡ b → ((if b then None else Some (u ++ (n, v) ∷ [])) >>= λ w. read words w nothing at) ≡ Some all → IsSpelled (word ∷ words) u nothing at all
-  one_items word words all rec n v at is among u true used e = absurd (none_some all e)
+  one_items word words all rec n v at is among u true used e = absurd (none-some all e)
   one_items word words all rec n v at is among u false used e =
       let r = rec (u ++ (n, v) ∷ []) nothing at e in
       (one n v ∷ r.0, ap₂ (λ (w : Text) (ws : List Text). w ∷ ws) (long_back word (n, Some v) is) r.1, (among, used, r.2))
@@ -157,7 +155,7 @@ module _ (options operands : List Text) (names : (n : Text) → is_among options
 
   on_place : (word : Text) (words : List Text) (all : List Use) → Says words all → (uses : List Use) (last : Last) (at : ℕ) → IsValueWord word → (o : Option Text) → slice_get operands at ≡ o
       → operand_read options operands uses last at word (read words) o ≡ Some all → IsSpelled (word ∷ words) uses last at all
-  on_place word words all rec uses last at plain None here e = absurd (none_some all e)
+  on_place word words all rec uses last at plain None here e = absurd (none-some all e)
   on_place word words all rec uses last at plain (Some n) here e =
       closing (word ∷ words) uses last at all (λ u c. place_items word words all rec n at plain here u (rw c at e)) (bind_some (closed uses last) (λ u. read words u (whole n word) (at + 1)) all e)
 
@@ -174,17 +172,17 @@ module _ (options operands : List Text) (names : (n : Text) → is_among options
   on_word word words all rec uses last at None is e = go (is_short word) refl e
     where
       go : (b : Bool) → is_short word ≡ b → (if b then None else plain_read options operands uses last at word (read words)) ≡ Some all → IsSpelled (word ∷ words) uses last at all
-      go true s f = absurd (none_some all f)
+      go true s f = absurd (none-some all f)
       go false s f = on_plain word words all rec uses last at (is, s) f
   on_word word words all rec uses last at (Some (n, None)) is e = go (is_among options n) refl e
     where
       go : (b : Bool) → is_among options n ≡ b → (if b then long_read options operands uses last at n None (read words) else None) ≡ Some all → IsSpelled (word ∷ words) uses last at all
-      go false m f = absurd (none_some all f)
+      go false m f = absurd (none-some all f)
       go true m f = closing (word ∷ words) uses last at all (λ u c. two_items word words all rec n at is m u (rw c at f)) (bind_some (closed uses last) (λ u. read words u (begun n) at) all f)
   on_word word words all rec uses last at (Some (n, Some v)) is e = go (is_among options n) refl e
     where
       go : (b : Bool) → is_among options n ≡ b → (if b then long_read options operands uses last at n (Some v) (read words) else None) ≡ Some all → IsSpelled (word ∷ words) uses last at all
-      go false m f = absurd (none_some all f)
+      go false m f = absurd (none-some all f)
       go true m f = closing (word ∷ words) uses last at all (λ u c. one_items word words all rec n v at is m u (is_used u n) refl (rw c at f))
           (bind_some (closed uses last) (λ u. with_use u n v >>= λ w. read words w nothing at) all f)
 
@@ -192,7 +190,7 @@ module _ (options operands : List Text) (names : (n : Text) → is_among options
   unfolding read_from
   sound [] uses nothing at all e = ([], refl, sym (ap (λ o. unwrap_or o uses) e))
   sound [] uses (whole n t) at all e = closing [] uses (whole n t) at all (λ u c. ([], refl, sym (ap (λ o. unwrap_or o u) (sym c ∙ e)))) (all, e)
-  sound [] uses (begun n) at all e = absurd (none_some all e)
+  sound [] uses (begun n) at all e = absurd (none-some all e)
   sound (word ∷ words) uses last at all e = on_word word words all (λ u l p f. sound words u l p all f) uses last at (long_of word) refl e
 
 -- names that are written out are option names

@@ -1,17 +1,15 @@
 -- What is read of some bytes excludes what else may be.
-use Rattle.std.proofs.Common.{◌≡◌, ◌∙◌, ℕ, List, Option, Some, Result, Ok, Err, refl, sym, ap}
+use Rattle.std.proofs.Common.{◌≡◌, ◌∙◌, ℕ, List, Result, Ok, Err, refl, sym, ap}
 use Rattle.std.specs.Prelude.{MatchResult}
+use Rattle.base_types.proofs.Options.{same_some}
 use Rattle.sql_types.specs.declared.digest.HeldDigest.{HeldDigest}
 use Rattle.format_digest.specs.declared.digest_err.DigestErr.TheVariants as errors
 use Rattle.format_digest.specs.Reading.{Answer, AreDigests, IsRead, digests_in}
 
-some_is : {A : Type 0} (x y : A) → (let o : Option A = Some x in let p : Option A = Some y in o ≡ p) → x ≡ y
-some_is x y e = cc
-
 one_meaning : (bytes : List ℕ) (m n : Result (List HeldDigest) ℕ) → AreDigests bytes m → AreDigests bytes n
     → m ≡ n
 one_meaning bytes m n a b =
-    let same : a.1.0 ≡ b.1.0 = some_is a.1.0 b.1.0 (sym a.1.1 ∙ b.1.1) in
+    let same : a.1.0 ≡ b.1.0 = same_some a.1.0 b.1.0 (sym a.1.1 ∙ b.1.1) in
     sym a.1.2 ∙ ap digests_in same ∙ b.1.2
 
 same_list : (a b : List HeldDigest)

@@ -19,10 +19,10 @@ use Rattle.format_entry.specs.EntryReading.{root_at, roots_at, Head, head_at, fr
 
 -- ---- the parts
 
-abbrev FitId : ℕ → Type 0
+abbrev pub FitId : ℕ → Type 0
 FitId id = is_tx_id id ≡ true
 
-abbrev FitTime : ℕ → Type 0
+abbrev pub FitTime : ℕ → Type 0
 FitTime time = is_moment time ≡ true
 
 abbrev FitName : List ℕ → Type 0

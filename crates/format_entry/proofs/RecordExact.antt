@@ -4,11 +4,12 @@ use Rattle.std.specs.Option.{option_map, IsSome}
 use Rattle.std.proofs.lemmas.List.{append-nil, nil_from_length, length-drop, take_at, drop_at}
 use Rattle.std.proofs.lemmas.Bool.{le-ltb}
 use Rattle.std.specs.Int.{w64, from_be_bytes}
+use Rattle.base_types.proofs.Options.{same_some}
 use Rattle.base_fields.specs.Fields.{u64_field, hash_field}
 use Rattle.base_fields.specs.Readers.{u64_at, hash_at, both}
 use Rattle.base_fields.specs.Exact.{IsBytes, Exact}
 use Rattle.base_fields.proofs.Worth.{length-bytes_high_first}
-use Rattle.base_fields.proofs.Written.{u64_exact, hash_exact, some_is}
+use Rattle.base_fields.proofs.Written.{u64_exact, hash_exact}
 use Rattle.base_fields.proofs.Parts.{both_exact, mapped_exact, one_value}
 use Rattle.sql_types.specs.declared.entry.BlockRecord.{BlockRecord}
 use Rattle.format_entry.specs.Record.{record_bytes, IsRecord, record_from, record_at}
@@ -100,7 +101,7 @@ pub found_of : (bytes : List ℕ) (b : BlockRecord) → length bytes ≡ 80 → 
 found_of bytes b len fits read =
     let f = found bytes len in
     let t = record_exact.takes bytes f.0 [] fits f.1 in
-    let same : f.0 ≡ b = some_is f.0 b (ap first (sym f.1) ∙ read) in
+    let same : f.0 ≡ b = same_some f.0 b (ap first (sym f.1) ∙ read) in
     let P : BlockRecord → Type 0 = λ x. IsRecord x × (bytes ≡ record_bytes x) in
     subst P same (t.fits, t.parts ∙ append-nil (record_bytes f.0))
 

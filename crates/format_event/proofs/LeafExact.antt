@@ -4,11 +4,13 @@ use Rattle.std.specs.Prelude.{IfSome, filter, ◌==◌}
 use Rattle.std.specs.List.{AllByRecursion}
 use Rattle.std.proofs.lemmas.Bool.{eqb-true}
 use Rattle.std.proofs.lemmas.List.{append-nil}
+use Rattle.std.proofs.lemmas.Option.{cond_some}
+use Rattle.base_types.proofs.Options.{same_some}
 use Rattle.base_fields.specs.Fields.{u8_field, u16_field, u32_field, u64_field, long_field}
 use Rattle.base_fields.specs.Readers.{◌>>=◌, u8_at, u16_at, u32_at, u64_at, long_at, both, depends, mapped, listed, whole}
 use Rattle.base_fields.specs.Exact.{IsBytes, Exact, Taken}
-use Rattle.base_fields.proofs.Written.{IsBytes-back, bind_some, some_is, u8_exact, u16_exact, u32_exact, u64_exact, long_exact}
-use Rattle.base_fields.proofs.Parts.{after_exact, both_exact, depends_exact, decoded_exact, mapped_exact, where_exact, listed_exact, one_value, test_some, whole_sound, whole_complete}
+use Rattle.base_fields.proofs.Written.{IsBytes-back, bind_some, u8_exact, u16_exact, u32_exact, u64_exact, long_exact}
+use Rattle.base_fields.proofs.Parts.{after_exact, both_exact, depends_exact, decoded_exact, mapped_exact, where_exact, listed_exact, one_value, whole_sound, whole_complete}
 use Rattle.sql_value.specs.declared.sql_type.SqlType.{SqlType}
 use Rattle.sql_value.specs.Stored.{is_stored}
 use Rattle.sql_types.specs.declared.event.Event.{Event}
@@ -42,7 +44,7 @@ column_fits f fits = (fits.ordinal, (in_range_fits f.ty (stored_in_range f.ty f.
 column_back : (x : Parts) (f : EventField) → IsBytes (encode_parts x) → FitParts x → field_of x ≡ Some f → IsField f × (encode_parts x ≡ column_bytes f)
 column_back x f bytes fits e =
     let v = bind_some (value_of x.1.0 x.1.1) (λ v. cond (is_stored v x.1.0) (Some (field x.0 x.1.0 v)) None) f e in
-    let g = test_some (is_stored v.0 x.1.0) (field x.0 x.1.0 v.0) f v.2 in
+    let g = cond_some (is_stored v.0 x.1.0) (field x.0 x.1.0 v.0) f v.2 in
     let rest = IsBytes-back (u16_field x.0) (type_bytes x.1.0 ++ long_field x.1.1) bytes in
     let long = IsBytes-back (type_bytes x.1.0) (long_field x.1.1) rest in
     let text = IsBytes-back (u32_field (length x.1.1)) x.1.1 long in
@@ -84,13 +86,13 @@ start_takes_by op true b one two bytes start rest fits e =
     let none : Option (ℕ × ℕ) = None in
     let made : Taken (IsStart op) start_bytes bytes none bytes = record { parts = refl; rest_fits = fits; fits = eqb-true _ _ one } in
     let P : Option (ℕ × ℕ) × List ℕ → Type 0 = λ q. Taken (IsStart op) start_bytes bytes q.0 q.1 in
-    subst P (some_is (none, bytes) (start, rest) e) made
+    subst P (same_some (none, bytes) (start, rest) e) made
 start_takes_by op false true one two bytes start rest fits e =
     let x = bind_some (both u64_at u64_at bytes) (λ x. Some (some_start x.0, x.1)) (start, rest) e in
     let t = pair_exact.takes bytes x.0.0 x.0.1 fits x.1 in
     let made : Taken (IsStart op) start_bytes bytes (some_start x.0.0) x.0.1 = record { parts = t.parts; rest_fits = t.rest_fits; fits = (eqb-true _ _ two, t.fits) } in
     let P : Option (ℕ × ℕ) × List ℕ → Type 0 = λ q. Taken (IsStart op) start_bytes bytes q.0 q.1 in
-    subst P (some_is (some_start x.0.0, x.0.1) (start, rest) x.2) made
+    subst P (same_some (some_start x.0.0, x.0.1) (start, rest) x.2) made
 start_takes_by op false false one two bytes start rest fits e = absurd cc
 
 start_again : (op : ℕ) (start : Option (ℕ × ℕ)) (rest : List ℕ) → IsStart op start → start_at op (start_bytes start ++ rest) ≡ Some (start, rest)

@@ -1,5 +1,5 @@
 mod Growing
-mod LeafExact
+pub mod LeafExact
 pub mod Leaves
 mod Sizes
 mod Texts

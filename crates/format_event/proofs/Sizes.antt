@@ -4,7 +4,7 @@ use Rattle.std.specs.Prelude.{sum_by}
 use Rattle.std.specs.Str.{is_utf8, chars, encode_utf8_all}
 use Rattle.std.specs.Char.Escape.{encode_utf16}
 use Rattle.std.proofs.Math.Utf8.{encode}
-use Rattle.std.proofs.lemmas.Bool.{leb-true}
+use Rattle.std.proofs.lemmas.Bool.{leb-true, and_parts}
 use Rattle.std.proofs.lemmas.List.Sums.{sum_by-cons}
 use Rattle.std.proofs.lemmas.Str.{encodes-chars, length-encode, IsUtf8-from_is_utf8}
 use Rattle.base_fields.specs.Fields.{u32_field, signed_field, i128_field}
@@ -15,7 +15,6 @@ use Rattle.sql_value.specs.declared.value.Value.TheVariants as values
 use Rattle.sql_value.specs.Text.{utf16_units}
 use Rattle.sql_value.specs.Stored.{is_in_range, is_stored, text_stored, bytes_stored}
 use Rattle.format_event.specs.Leaf.{value_bytes, number_bytes, is_text}
-use Rattle.format_event.proofs.TypeLaws.{and_parts}
 
 either_small : (b : Bool) (x y : ℕ) → x ≤ 4 → y ≤ 4 → cond b x y ≤ 4
 either_small true x y lx ly = lx

@@ -1,12 +1,13 @@
 -- Types are read as they are written.
-use Rattle.std.proofs.Common.{◌≡◌, ◌<◌, ◌^◌, ◌≤◌, ℕ, Bool, true, false, leb, List, ◌++◌, Some, refl, subst, arith}
+use Rattle.std.proofs.Common.{◌≡◌, ◌<◌, ◌^◌, ◌≤◌, ℕ, true, leb, List, ◌++◌, Some, refl, subst, arith}
 use Rattle.std.specs.Prelude.{◌&&◌, ◌==◌}
-use Rattle.std.proofs.lemmas.Bool.{eqb-true, eq-eqb, leb-true}
+use Rattle.std.proofs.lemmas.Bool.{eqb-true, eq-eqb, leb-true, and_parts}
+use Rattle.std.proofs.lemmas.Option.{cond_some}
 use Rattle.base_fields.specs.Fields.{u8_field, u16_field}
 use Rattle.base_fields.specs.Readers.{both, u8_at, u16_at}
 use Rattle.base_fields.specs.Exact.{IsBytes, Exact}
 use Rattle.base_fields.proofs.Written.{u8_exact, u16_exact}
-use Rattle.base_fields.proofs.Parts.{both_exact, decoded_exact, test_some}
+use Rattle.base_fields.proofs.Parts.{both_exact, decoded_exact}
 use Rattle.sql_value.specs.declared.sql_type.SqlType.{SqlType}
 use Rattle.sql_value.specs.declared.sql_type.SqlType.TheVariants as types
 use Rattle.sql_value.specs.Stored.{is_in_range}
@@ -17,10 +18,6 @@ use Rattle.format_event.specs.LeafReading.{coded, is_coded, type_of, type_at}
 pub record FitsFields (ty : SqlType) : Type 0 where
   pub first : first_parameter ty < 2 ^ 16
   pub second : second_parameter ty < 256
-
-pub and_parts : (a b : Bool) → (a && b) ≡ true → (a ≡ true) × (b ≡ true)
-and_parts true b e = (refl, e)
-and_parts false b e = absurd cc
 
 code_small : (ty : SqlType) → type_code ty < 256
 code_small types.Bit = omega arith
@@ -63,7 +60,7 @@ parts ty = ((type_code ty, first_parameter ty), second_parameter ty)
 type_back : (x : (ℕ × ℕ) × ℕ) (ty : SqlType) → IsBytes (encode_parts x) → FitParts x → type_of x ≡ Some ty → FitsFields ty × (encode_parts x ≡ type_bytes ty)
 type_back x ty bytes fits e =
     let made = coded x.0.0 x.0.1 x.1 in
-    let g = test_some (is_coded made x.0.0 x.0.1 x.1) made ty e in
+    let g = cond_some (is_coded made x.0.0 x.0.1 x.1) made ty e in
     let P : SqlType → Type 0 = λ t. is_coded t x.0.0 x.0.1 x.1 ≡ true in
     let is = parts_of ty x.0.0 x.0.1 x.1 (subst P g.1 g.0) in
     (record { first = rw is.first fits.0.1; second = rw is.second fits.1 }, rw (is.code, is.first, is.second) refl)

@@ -1,10 +1,11 @@
 -- A value with its type is read exactly as it is written.
 use Rattle.std.proofs.Common.{◌≡◌, ◌<◌, ◌^◌, ℕ, cond, List, ◌++◌, length, Some, None, refl, sym, ap, subst}
+use Rattle.std.proofs.lemmas.Option.{cond_some}
 use Rattle.base_fields.specs.Fields.{u32_field, long_field}
 use Rattle.base_fields.specs.Readers.{long_at, both}
 use Rattle.base_fields.specs.Exact.{IsBytes, Exact}
 use Rattle.base_fields.proofs.Written.{IsBytes-back, bind_some, long_exact}
-use Rattle.base_fields.proofs.Parts.{both_exact, decoded_exact, test_some}
+use Rattle.base_fields.proofs.Parts.{both_exact, decoded_exact}
 use Rattle.sql_value.specs.declared.sql_type.SqlType.{SqlType}
 use Rattle.sql_value.specs.Stored.{is_stored}
 use Rattle.sql_types.specs.declared.version.TypedValue.{TypedValue}
@@ -36,7 +37,7 @@ typed_fits t fits = (in_range_fits t.ty (stored_in_range t.ty t.value fits.told 
 typed_back : (x : Parts) (t : TypedValue) → IsBytes (encode_parts x) → FitParts x → typed_of x ≡ Some t → IsTyped t × (encode_parts x ≡ typed_bytes t)
 typed_back x t bytes fits e =
     let v = bind_some (value_of x.0 x.1) (λ v. cond (is_stored v x.0) (Some (record { ty = x.0; value = v })) None) t e in
-    let g = test_some (is_stored v.0 x.0) (record { ty = x.0; value = v.0 }) t v.2 in
+    let g = cond_some (is_stored v.0 x.0) (record { ty = x.0; value = v.0 }) t v.2 in
     let long = IsBytes-back (type_bytes x.0) (long_field x.1) bytes in
     let text = IsBytes-back (u32_field (length x.1)) x.1 long in
     let is = value_back x.0 x.1 v.0 text v.1 in

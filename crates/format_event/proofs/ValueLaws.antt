@@ -3,14 +3,16 @@ use Rattle.std.proofs.Common.{◌≡◌, ◌<◌, ◌^◌, ◌≤◌, ℕ, ℤ, 
 use Rattle.std.specs.Prelude.{◌&&◌, FitsSigned}
 use Rattle.std.specs.Int.{w8, w32, w64, w128}
 use Rattle.std.specs.Str.{is_utf8}
-use Rattle.std.proofs.lemmas.Bool.{eqb-true, leb-true, ltb-true}
+use Rattle.std.proofs.lemmas.Bool.{eqb-true, leb-true, ltb-true, and_parts}
 use Rattle.std.proofs.lemmas.Int.{fits_signed_from_abs}
 use Rattle.std.proofs.Math.Nat.{pow-le-pow_right}
+use Rattle.std.proofs.lemmas.Option.{cond_some}
+use Rattle.base_types.proofs.Options.{same_some}
 use Rattle.base_fields.specs.Fields.{u32_field, signed_field, i128_field}
 use Rattle.base_fields.specs.Readers.{Reader, ◌>>=◌, signed, whole, u32_at, i128_at}
 use Rattle.base_fields.specs.Exact.{IsBytes, Exact}
-use Rattle.base_fields.proofs.Written.{bind_some, some_is, signed8_exact, signed32_exact, signed64_exact, i128_exact, u32_exact}
-use Rattle.base_fields.proofs.Parts.{test_some, whole_sound, whole_complete}
+use Rattle.base_fields.proofs.Written.{bind_some, signed8_exact, signed32_exact, signed64_exact, i128_exact, u32_exact}
+use Rattle.base_fields.proofs.Parts.{whole_sound, whole_complete}
 use Rattle.sql_value.specs.declared.sql_type.SqlType.{SqlType}
 use Rattle.sql_value.specs.declared.sql_type.SqlType.TheVariants as types
 use Rattle.sql_value.specs.declared.value.Value.{Value}
@@ -19,7 +21,6 @@ use Rattle.sql_value.specs.Number.{has_digits}
 use Rattle.sql_value.specs.Stored.{is_in_range, is_stored, number_stored, text_stored, bytes_stored, day_stored, is_bit, in_bits}
 use Rattle.format_event.specs.Leaf.{value_bytes, number_bytes, is_told, is_text, FitsNumber, FitsBytes}
 use Rattle.format_event.specs.LeafReading.{number_of, value_of}
-use Rattle.format_event.proofs.TypeLaws.{and_parts}
 
 -- ---- the range of a type's numbers fits its bytes
 
@@ -158,7 +159,7 @@ number_back ty F s at exact written z bytes v fits e =
     let t = whole_sound F s at exact bytes x.0 fits x.1 in
     let made : IsSpelled ty bytes (values.Num z x.0) = record { told = refl; text = refl; encoded = written x.0 ∙ sym t.1 } in
     let P : Value → Type 0 = IsSpelled ty bytes in
-    subst P (some_is (values.Num z x.0) v x.2) made
+    subst P (same_some (values.Num z x.0) v x.2) made
 
 pub value_back : (ty : SqlType) (bytes : List ℕ) (v : Value) → IsBytes bytes → value_of ty bytes ≡ Some v → IsSpelled ty bytes v
 unfolding value_of
@@ -167,17 +168,17 @@ value_back types.Int bytes v fits e = number_back types.Int (FitsSigned w32) (si
 value_back types.BigInt bytes v fits e = number_back types.BigInt (FitsSigned w64) (signed_field w64) (signed w64) signed64_exact (λ n. refl) 0 bytes v fits e
 value_back (types.Decimal p s) bytes v fits e = number_back (types.Decimal p s) (FitsSigned w128) i128_field i128_at i128_exact (λ n. refl) s bytes v fits e
 value_back (types.NVarChar n) bytes v fits e =
-    let g = test_some (is_utf8 bytes) (values.Text bytes) v e in
+    let g = cond_some (is_utf8 bytes) (values.Text bytes) v e in
     let made : IsSpelled (types.NVarChar n) bytes (values.Text bytes) = record { told = refl; text = g.0; encoded = refl } in
     let P : Value → Type 0 = IsSpelled (types.NVarChar n) bytes in
     subst P g.1 made
 value_back (types.VarBinary n) bytes v fits e =
     let made : IsSpelled (types.VarBinary n) bytes (values.Bytes bytes) = record { told = refl; text = refl; encoded = refl } in
     let P : Value → Type 0 = IsSpelled (types.VarBinary n) bytes in
-    subst P (some_is (values.Bytes bytes) v e) made
+    subst P (same_some (values.Bytes bytes) v e) made
 value_back types.Date bytes v fits e =
     let x = bind_some (whole u32_at bytes) (λ day. Some (values.Date day)) v e in
     let t = whole_sound (λ (n : ℕ). n < 2 ^ 32) u32_field u32_at u32_exact bytes x.0 fits x.1 in
     let made : IsSpelled types.Date bytes (values.Date x.0) = record { told = refl; text = refl; encoded = sym t.1 } in
     let P : Value → Type 0 = IsSpelled types.Date bytes in
-    subst P (some_is (values.Date x.0) v x.2) made
+    subst P (same_some (values.Date x.0) v x.2) made

@@ -2,7 +2,7 @@
 use Rattle.std.proofs.Common.{◌≡◌, ◌<◌, ◌^◌, ℕ, Bool, true, false, cond, leb, List, ◌++◌, length, Some, None, refl, ap, arith}
 use Rattle.std.specs.Prelude.{◌&&◌, ◌==◌, not, flat_map}
 use Rattle.std.specs.List.{AllByRecursion, list_all}
-use Rattle.std.proofs.lemmas.Bool.{eqb-true}
+use Rattle.std.proofs.lemmas.Bool.{eqb-true, not-true, and_parts}
 use Rattle.std.proofs.lemmas.Bool.Decides.{nat_tests}
 use Rattle.base_fields.specs.Fields.{u8_field, flag_field, u16_field, u32_field, short_field}
 use Rattle.base_fields.specs.Readers.{u8_at, u16_at, u32_at, short_at, both, listed}
@@ -61,19 +61,11 @@ kind_exact = decoded_exact (λ (n : ℕ). n < 256) Any u8_field (λ k. u8_field 
 
 -- ---- names
 
-and_parts : (a b : Bool) → (a && b) ≡ true → (a ≡ true) × (b ≡ true)
-and_parts true b e = (refl, e)
-and_parts false b e = absurd cc
-
-not_long : (b : Bool) → not b ≡ true → b ≡ false
-not_long true e = absurd cc
-not_long false e = refl
-
 pub proper_short : (name : List ℕ) → is_proper_name name ≡ true → length name < 2 ^ 16
 proper_short name e =
     let p = and_parts (leb 1 (length name) && not (is_long name)) (list_all is_name_byte name) e in
     let q = and_parts (leb 1 (length name)) (not (is_long name)) p.0 in
-    let short = not_long (is_long name) q.1 in
+    let short = not-true (is_long name) q.1 in
     grind (arith, nat_tests)
 
 pub history_short : (kind : TableKind) (name : List ℕ) → has_its_history kind name ≡ true → length name < 2 ^ 16

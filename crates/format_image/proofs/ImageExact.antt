@@ -4,20 +4,19 @@ use Rattle.std.specs.Prelude.{IfSome, flat_map}
 use Rattle.std.specs.List.{AllByRecursion}
 use Rattle.std.proofs.lemmas.List.{append-nil, length-map}
 use Rattle.base_types.specs.DatabaseName.{is_database_name}
-use Rattle.base_types.specs.Ids.{is_tx_id}
-use Rattle.base_types.specs.Moment.{is_moment}
 use Rattle.base_types.specs.SessionName.{is_session_name}
+use Rattle.base_types.proofs.Options.{same_some}
 use Rattle.base_fields.specs.Fields.{u8_field, u64_field, short_field}
 use Rattle.base_fields.specs.Forms.{tx_id_at, moment_at, session_at, database_at}
 use Rattle.base_fields.specs.Readers.{Reader, ◌>>=◌, u64_at, after, both, decoded, depends, listed, whole}
 use Rattle.base_fields.specs.Exact.{IsBytes, Exact}
 use Rattle.base_fields.proofs.FormsExact.{tx_id_exact, moment_exact, session_exact, database_exact}
-use Rattle.base_fields.proofs.Written.{u64_exact, some_is}
+use Rattle.base_fields.proofs.Written.{u64_exact}
 use Rattle.base_fields.proofs.Parts.{after_exact, both_exact, depends_exact, mapped_exact, decoded_exact, listed_exact, each_exact, encode_each, FitEach, one_value, whole_sound, whole_complete}
 use Rattle.format_entry.specs.Entry.{TableRoot}
 use Rattle.format_entry.specs.EntryReading.{roots_at}
 use Rattle.format_entry.specs.Record.{record_bytes, IsRecord, record_at}
-use Rattle.format_entry.proofs.EntryExact.{FitRoots, encode_roots, roots_exact}
+use Rattle.format_entry.proofs.EntryExact.{FitRoots, encode_roots, roots_exact, FitId, FitTime}
 use Rattle.format_entry.proofs.RecordExact.{record_exact}
 use Rattle.sql_types.specs.declared.entry.BlockRecord.{BlockRecord}
 use Rattle.sql_types.specs.declared.entry.TxEntry.{TxEntry}
@@ -39,12 +38,6 @@ use Rattle.format_image.proofs.Places.{bare, IsBare, by_sizes_bare, by_sizes_twi
 
 abbrev EntryParts : Type 0
 EntryParts = ℕ × (ℕ × (List ℕ × List TableRoot))
-
-abbrev FitId : ℕ → Type 0
-FitId id = is_tx_id id ≡ true
-
-abbrev FitTime : ℕ → Type 0
-FitTime time = is_moment time ≡ true
 
 abbrev FitSession : List ℕ → Type 0
 FitSession name = is_session_name name ≡ true
@@ -70,7 +63,7 @@ entry_back x e bytes f same =
     let placeless : IsPlaceless made = record { id = f.0; time = f.1.0; principal = f.1.1.0; count = f.1.1.1.0.0; roots = f.1.1.1.0.1; rise = f.1.1.1.1 } in
     let is : IsBare made × (encode_entry x ≡ placeless_bytes made) = (record { placeless = placeless; block = refl; ordinal = refl }, refl) in
     let P : TxEntry → Type 0 = λ y. IsBare y × (encode_entry x ≡ placeless_bytes y) in
-    subst P (some_is made e same) is
+    subst P (same_some made e same) is
 
 entry_exact : Exact IsBare placeless_bytes placeless_at
 unfolding placeless_at
@@ -136,7 +129,7 @@ ledger_back x y bytes f same =
     let encoded : encode_ledger x ≡ encode_ledger made =
     ap (λ (bytes : List ℕ). blocks_bytes x.0 ++ bytes) (entries_spelled x.1 (by_sizes 0 ks x.1) (sym count) (sym (bytes_by_sizes 0 ks x.1))) in
     let P : Ledgers → Type 0 = λ z. FitLedger z × (encode_ledger x ≡ encode_ledger z) in
-    subst P (some_is made y same) (fits, encoded)
+    subst P (same_some made y same) (fits, encoded)
 
 both_at : Reader Ledgers
 both_at = both blocks_at (listed u64_at placeless_at)

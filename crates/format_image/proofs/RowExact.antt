@@ -3,10 +3,11 @@ use Rattle.std.proofs.Common.{◌≡◌, ◌<◌, ◌^◌, ℕ, Bool, true, fals
 use Rattle.std.specs.Prelude.{◌==◌}
 use Rattle.std.specs.List.{AllByRecursion}
 use Rattle.std.proofs.lemmas.Bool.{eqb-true}
+use Rattle.base_types.proofs.Options.{same_some}
 use Rattle.base_fields.specs.Fields.{u8_field, u16_field, u64_field}
 use Rattle.base_fields.specs.Readers.{◌>>=◌, u8_at, u16_at, u64_at, both, mapped, listed, for_each}
 use Rattle.base_fields.specs.Exact.{IsBytes, Exact, Taken}
-use Rattle.base_fields.proofs.Written.{bind_some, some_is, u8_exact, u16_exact, u64_exact}
+use Rattle.base_fields.proofs.Written.{bind_some, u8_exact, u16_exact, u64_exact}
 use Rattle.base_fields.proofs.Parts.{both_exact, mapped_exact, decoded_exact, where_exact, listed_exact, each_exact, encode_each, FitEach}
 use Rattle.format_event.specs.TypedBytes.{typed_bytes, typed_at}
 use Rattle.format_event.proofs.TypedExact.{typed_exact}
@@ -31,7 +32,7 @@ behind_takes_by n true b zero one bytes v rest fits e =
     let none : Option TypedValue = None in
     let made : Behind n bytes none bytes = record { parts = ap (λ k. u8_field k ++ bytes) (eqb-true _ _ zero); rest_fits = fits; fits = tt } in
     let P : Option TypedValue × List ℕ → Type 0 = λ q. Behind n bytes q.0 q.1 in
-    subst P (some_is (none, bytes) (v, rest) e) made
+    subst P (same_some (none, bytes) (v, rest) e) made
 behind_takes_by n false true zero one bytes v rest fits e =
     let x = bind_some (typed_at bytes) (λ x. Some (some_typed x.0, x.1)) (v, rest) e in
     let t = typed_exact.takes bytes x.0.0 x.0.1 fits x.1 in
@@ -39,7 +40,7 @@ behind_takes_by n false true zero one bytes v rest fits e =
     let made : Behind n bytes (some_typed x.0.0) x.0.1 =
     record { parts = ap (λ z. u8_field n ++ z) t.parts ∙ ap (λ k. u8_field k ++ (typed_bytes x.0.0 ++ x.0.1)) is; rest_fits = t.rest_fits; fits = t.fits } in
     let P : Option TypedValue × List ℕ → Type 0 = λ q. Behind n bytes q.0 q.1 in
-    subst P (some_is (some_typed x.0.0, x.0.1) (v, rest) x.2) made
+    subst P (same_some (some_typed x.0.0, x.0.1) (v, rest) x.2) made
 behind_takes_by n false false zero one bytes v rest fits e = absurd cc
 
 behind_takes : (n : ℕ) (bytes : List ℕ) (v : Option TypedValue) (rest : List ℕ) → IsBytes bytes → value_behind n bytes ≡ Some (v, rest) → Behind n bytes v rest
@@ -89,7 +90,7 @@ base_back x v bytes fits e =
     let made : Version = record { values = x.1; start = x.0; end = None } in
     let is : IsBaseRow made × (encode_base x ≡ base_bytes made) = (record { start = fits.0; end = refl; values = fits.1 }, refl) in
     let P : Version → Type 0 = λ w. IsBaseRow w × (encode_base x ≡ base_bytes w) in
-    subst P (some_is made v e) is
+    subst P (same_some made v e) is
 
 base_exact : Exact IsBaseRow base_bytes base_at
 unfolding base_at
@@ -133,7 +134,7 @@ history_back x v bytes fits e =
     let made : Version = record { values = x.1.1; start = x.0; end = Some x.1.0 } in
     let is : IsHistoryRow made × (encode_history x ≡ history_bytes made) = (record { start = fits.0; end = fits.1.0; values = fits.1.1 }, refl) in
     let P : Version → Type 0 = λ w. IsHistoryRow w × (encode_history x ≡ history_bytes w) in
-    subst P (some_is made v e) is
+    subst P (same_some made v e) is
 
 history_exact : Exact IsHistoryRow history_bytes history_at
 unfolding history_at

@@ -1,10 +1,12 @@
 -- Ids in an ordered set.
-use Rattle.std.proofs.Common.{◌≡◌, ℕ, Bool, true, false, cond, List, [], ◌∷◌, refl, sym, ap, ◌∙◌, arith}
+use Rattle.std.proofs.Common.{◌≡◌, ℕ, Bool, true, cond, List, [], ◌∷◌, refl, sym, ap, ◌∙◌, arith}
 use Rattle.std.specs.Prelude.{◌&&◌, ◌||◌, not, ◌==◌}
 use Rattle.std.specs.List.{list_any}
 use Rattle.std.specs.Ordering.{nat_cmp}
 use Rattle.std.specs.BTreeMap.{is_at}
 use Rattle.std.proofs.lemmas.Bool.Decides.{nat_tests}
+use Rattle.base_types.proofs.Bools.{or_cond}
+use Rattle.base_types.proofs.Naturals.{eqb_sym}
 use Rattle.sql_types.specs.declared.journal.JournalItem.{JournalItem}
 use Rattle.sql_types.specs.declared.journal.JournalItem.TheVariants.{Tx, Close}
 use Rattle.sql_types.specs.JournalRules.{is_among, ids_differ}
@@ -24,16 +26,9 @@ differ_same (Close k ∷ items) a b same = differ_same items a b same
 at_is : (q x : ℕ) → is_at (nat_cmp q) x ≡ (q == x)
 at_is q x = grind (arith, nat_tests)
 
-turned : (q x : ℕ) → (q == x) ≡ (x == q)
-turned q x = grind (arith, nat_tests)
-
 among_is : (q : ℕ) (keys : List ℕ) → list_any (is_at (nat_cmp q)) keys ≡ is_among q keys
 among_is q [] = refl
 among_is q (x ∷ keys) = rw (at_is q x, among_is q keys) refl
-
-or_is : (a b : Bool) → cond a true b ≡ (a || b)
-or_is true b = refl
-or_is false b = refl
 
 -- a set to which an id was added, as the list of those before with it at the front
 added : (id : ℕ) (old new : List ℕ)
@@ -42,7 +37,7 @@ added : (id : ℕ) (old new : List ℕ)
 added id old new updates items =
     let same : Same (id ∷ old) new = λ q.
     let one : is_among q new ≡ cond (is_at (nat_cmp id) q) true (list_any (is_at (nat_cmp q)) old) = sym (among_is q new) ∙ updates q in
-    let two : cond (is_at (nat_cmp id) q) true (list_any (is_at (nat_cmp q)) old) ≡ ((q == id) || is_among q old) = rw (at_is id q, turned id q, among_is q old) (or_is (q == id) (is_among q old)) in
+    let two : cond (is_at (nat_cmp id) q) true (list_any (is_at (nat_cmp q)) old) ≡ ((q == id) || is_among q old) = rw (at_is id q, eqb_sym id q, among_is q old) (or_cond (q == id) (is_among q old)) in
     sym (one ∙ two) in
     differ_same items (id ∷ old) new same
 

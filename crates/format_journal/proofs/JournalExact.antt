@@ -10,12 +10,13 @@ use Rattle.base_types.specs.DatabaseName.{is_database_name}
 use Rattle.base_types.specs.Ids.{is_tx_id}
 use Rattle.base_types.specs.Moment.{is_moment}
 use Rattle.base_types.specs.SessionName.{is_session_name}
+use Rattle.base_types.proofs.Options.{same_some}
 use Rattle.base_fields.specs.Fields.{u8_field, flag_field, u32_field, u64_field, short_field, wide_field}
 use Rattle.base_fields.specs.Forms.{flag_at, tx_id_at, moment_at, session_at, database_at}
 use Rattle.base_fields.specs.Readers.{Reader, ◌>>=◌, u8_at, u32_at, u64_at, wide_at, after, both, mapped, where_, listed, whole}
 use Rattle.base_fields.specs.Exact.{IsBytes, Exact, Taken}
 use Rattle.base_fields.proofs.FormsExact.{flag_exact, tx_id_exact, moment_exact, session_exact, database_exact}
-use Rattle.base_fields.proofs.Written.{bind_some, some_is, u8_exact, u32_exact, u64_exact, wide_exact}
+use Rattle.base_fields.proofs.Written.{bind_some, u8_exact, u32_exact, u64_exact, wide_exact}
 use Rattle.base_fields.proofs.Parts.{after_exact, both_exact, mapped_exact, where_exact, listed_exact, one_value, whole_sound, whole_complete}
 use Rattle.sql_types.specs.declared.journal.Journal.{Journal}
 use Rattle.sql_types.specs.declared.journal.JournalItem.{JournalItem}
@@ -139,14 +140,14 @@ behind_takes_by kind true b one two bytes item rest fits e =
     let is : kind ≡ 1 = eqb-true _ _ one in
     let made : TakenBehind kind bytes (tx_from x.0.0) x.0.1 = record { parts = ap (λ z. u8_field kind ++ z) t.parts ∙ ap (λ k. u8_field k ++ (encode_tx x.0.0 ++ x.0.1)) is; rest_fits = t.rest_fits; fits = tx_is x.0.0 t.fits } in
     let P : JournalItem × List ℕ → Type 0 = λ q. TakenBehind kind bytes q.0 q.1 in
-    subst P (some_is (tx_from x.0.0, x.0.1) (item, rest) x.2) made
+    subst P (same_some (tx_from x.0.0, x.0.1) (item, rest) x.2) made
 behind_takes_by kind false true one two bytes item rest fits e =
     let x = bind_some (size_at bytes) (λ x. Some (close_from x.0, x.1)) (item, rest) e in
     let t = size_exact.takes bytes x.0.0 x.0.1 fits x.1 in
     let is : kind ≡ 2 = eqb-true _ _ two in
     let made : TakenBehind kind bytes (close_from x.0.0) x.0.1 = record { parts = ap (λ z. u8_field kind ++ z) t.parts ∙ ap (λ k. u8_field k ++ (u32_field x.0.0 ++ x.0.1)) is; rest_fits = t.rest_fits; fits = t.fits.1 } in
     let P : JournalItem × List ℕ → Type 0 = λ q. TakenBehind kind bytes q.0 q.1 in
-    subst P (some_is (close_from x.0.0, x.0.1) (item, rest) x.2) made
+    subst P (same_some (close_from x.0.0, x.0.1) (item, rest) x.2) made
 behind_takes_by kind false false one two bytes item rest fits e = absurd cc
 
 behind_takes : (kind : ℕ) (bytes : List ℕ) (item : JournalItem) (rest : List ℕ) → IsBytes bytes

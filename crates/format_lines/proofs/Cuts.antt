@@ -5,6 +5,7 @@ use Rattle.std.proofs.lemmas.Bool.Decides.{nat_tests}
 use Rattle.std.proofs.lemmas.List.{drop_all, take_all}
 use Rattle.std.proofs.lemmas.List.Sums.{prefix_len_passes, prefix_len_stops}
 use Rattle.std.proofs.lemmas.List.Splits.{slice_split_first, slice_split_none, length-slice_split}
+use Rattle.std.proofs.lemmas.Bool.{not-true}
 use Rattle.format_lines.specs.Lines.{ended, lines_of, without_return, is_line_feed}
 
 no_end : (n : ℕ) → 0 ≡ suc n → ⊥
@@ -43,10 +44,6 @@ found_below n len at false e f = cc
 found_not : (n len : ℕ) (t : Bool) → nat_lt n len ≡ t → cond t (Some n) None ≡ None → len ≤ n
 found_not n len true e f = cc
 found_not n len false e f = grind (arith, nat_tests)
-
-not_false : (t : Bool) → not t ≡ true → t ≡ false
-not_false true e = cc
-not_false false e = refl
 
 alone : (z : List ℕ) (t : Bool) → (length z == 0) ≡ t → 0 < length z → cond t [] (z ∷ []) ≡ z ∷ []
 alone z true e l = absurd (not_zero (length z) e l)
@@ -96,7 +93,7 @@ pub line_alone : (z : List ℕ) → position is_line_feed z ≡ None → 0 < len
 line_alone z e l =
     let n = position_or_len is_line_feed z in
     let past = found_not n (length z) (nat_lt n (length z)) refl e in
-    let none : All (λ b. is_line_feed b ≡ false) z = λ k d h. not_false (is_line_feed (get_or z k d)) (prefix_len_passes (λ b. not (is_line_feed b)) z k d (omega (arith, past))) in
+    let none : All (λ b. is_line_feed b ≡ false) z = λ k d h. not-true (is_line_feed (get_or z k d)) (prefix_len_passes (λ b. not (is_line_feed b)) z k d (omega (arith, past))) in
     ap ended (slice_split_none is_line_feed z none) ∙ alone z (length z == 0) refl l
 
 -- where there is no line feed, nothing stands behind one

@@ -3,26 +3,17 @@ use Rattle.std.proofs.Common.{◌≡◌, ◌<◌, ◌∙◌, ℕ, zero, suc, Boo
 use Rattle.std.specs.List.{fold, list_any, IsDistinct, All}
 use Rattle.std.proofs.lemmas.List.Folds.{list_any-append, list_any_at}
 use Rattle.std.proofs.lemmas.List.Elements.{All-push}
-use Rattle.std.proofs.lemmas.Slice.Eq.{bytes_eq-Decides}
 use Rattle.std.proofs.lemmas.Map.Keys.{IsDistinct-push}
 use Rattle.std.specs.Cmp.Lexicographic.{nat_list_eq_equiv}
+use Rattle.std.proofs.lemmas.Bool.{or_left, or_right}
+use Rattle.base_types.proofs.Lists.{bytes_eq-same}
 use Rattle.format_lines.specs.Line.{Statement}
 use Rattle.format_lines.specs.Sessions.{with_session, sessions_of}
-
-self : (name : List ℕ) → bytes_eq name name ≡ true
-self name = (bytes_eq-Decides name name).1 refl
-
-joined_left : (a b : Bool) → a ≡ true → (a || b) ≡ true
-joined_left a b e = rw e refl
-
-joined_right : (a b : Bool) → b ≡ true → (a || b) ≡ true
-joined_right true b e = refl
-joined_right false b e = e
 
 -- a name that is there stays
 kept_at : (names : List (List ℕ)) (new name : List ℕ) (t : Bool) → list_any (bytes_eq name) names ≡ true → list_any (bytes_eq name) (cond t names (names ++ new ∷ [])) ≡ true
 kept_at names new name true e = e
-kept_at names new name false e = list_any-append (bytes_eq name) names (new ∷ []) ∙ joined_left (list_any (bytes_eq name) names) (list_any (bytes_eq name) (new ∷ [])) e
+kept_at names new name false e = list_any-append (bytes_eq name) names (new ∷ []) ∙ or_left (list_any (bytes_eq name) names) (list_any (bytes_eq name) (new ∷ [])) e
 
 kept : (names : List (List ℕ)) (ss : List Statement) (name : List ℕ) → list_any (bytes_eq name) names ≡ true → list_any (bytes_eq name) (fold with_session names ss) ≡ true
 kept names [] name e = e
@@ -31,7 +22,7 @@ kept names (s ∷ ss) name e = kept (with_session names s) ss name (kept_at name
 there_at : (names : List (List ℕ)) (name : List ℕ) (t : Bool) → list_any (bytes_eq name) names ≡ t → list_any (bytes_eq name) (cond t names (names ++ name ∷ [])) ≡ true
 there_at names name true e = e
 there_at names name false e =
-    list_any-append (bytes_eq name) names (name ∷ []) ∙ joined_right (list_any (bytes_eq name) names) (bytes_eq name name || false) (joined_left (bytes_eq name name) false (self name))
+    list_any-append (bytes_eq name) names (name ∷ []) ∙ or_right (list_any (bytes_eq name) names) (bytes_eq name name || false) (or_left (bytes_eq name name) false (bytes_eq-same name))
 
 named : (names : List (List ℕ)) (ss : List Statement) (k : ℕ) (d : Statement) → k < length ss → list_any (bytes_eq (get_or ss k d).session) (fold with_session names ss) ≡ true
 named names [] k d l = absurd (none k l)
@@ -69,7 +60,7 @@ of_after names (s ∷ ss) P all each = of_after (with_session names s) ss P (of_
 pub all_of_statements : (ss : List Statement) → All (λ name. list_any (λ s. bytes_eq name s.session) ss ≡ true) (sessions_of ss)
 unfolding sessions_of
 all_of_statements ss = of_after [] ss (λ name. list_any (λ s. bytes_eq name s.session) ss ≡ true) (λ k d l. absurd (none k l))
-    (λ k d l. list_any_at (λ s. bytes_eq (get_or ss k d).session s.session) ss k d l (self (get_or ss k d).session))
+    (λ k d l. list_any_at (λ s. bytes_eq (get_or ss k d).session s.session) ss k d l (bytes_eq-same (get_or ss k d).session))
   where
     none : (k : ℕ) → k < 0 → ⊥
     none k l = omega arith

@@ -6,20 +6,10 @@ use Rattle.std.proofs.lemmas.Bool.Decides.{nat_tests}
 use Rattle.std.proofs.lemmas.List.{take-append-drop, take_all}
 use Rattle.std.proofs.lemmas.Str.{IsUtf8-from_is_utf8, is_utf8-from_IsUtf8, IsUtf8-nil, IsUtf8-append, IsUtf8-take, IsUtf8-drop, IsUtf8-from_ascii, IsCharBoundary-before_ascii, IsCharBoundary-after_ascii}
 use Rattle.std.proofs.lemmas.Str.Ascii.{IsAscii-nil, IsAscii-cons}
+use Rattle.std.proofs.lemmas.Bool.{and_parts, and_from}
+use Rattle.base_types.proofs.Bools.{both_ways}
 use Rattle.format_lines.specs.Lines.{lines_of, without_return, is_line_feed}
 use Rattle.format_lines.proofs.Cuts.{line_ended, line_alone, feed_at}
-
-both_ways : (a b : Bool) → (a ≡ true → b ≡ true) → (b ≡ true → a ≡ true) → a ≡ b
-both_ways true b there back = sym (there refl)
-both_ways false true there back = back refl
-both_ways false false there back = refl
-
-both : (a b : Bool) → a ≡ true → b ≡ true → (a && b) ≡ true
-both a b e f = rw (e, f) refl
-
-each : (a b : Bool) → (a && b) ≡ true → (a ≡ true) × (b ≡ true)
-each true b e = (refl, e)
-each false b e = cc
 
 and_true : (a : Bool) → a ≡ (a && true)
 and_true true = refl
@@ -40,9 +30,9 @@ utf8_cut z n c within is small =
     let utf8 = IsUtf8-from_is_utf8 z e in
     let front = IsUtf8-take z n utf8 (IsCharBoundary-before_ascii z n within low) in
     let rest = subst (λ k. IsUtf8 (drop k z)) next (IsUtf8-drop z (n + 1) utf8 (IsCharBoundary-after_ascii z n utf8 within low)) in
-    both (is_utf8 (take n z)) (is_utf8 (drop (suc n) z)) (is_utf8-from_IsUtf8 (take n z) front) (is_utf8-from_IsUtf8 (drop (suc n) z) rest) in
+    and_from (is_utf8 (take n z)) (is_utf8 (drop (suc n) z)) (is_utf8-from_IsUtf8 (take n z) front) (is_utf8-from_IsUtf8 (drop (suc n) z) rest) in
     let back : (is_utf8 (take n z) && is_utf8 (drop (suc n) z)) ≡ true → is_utf8 z ≡ true = λ e.
-    let parts = each (is_utf8 (take n z)) (is_utf8 (drop (suc n) z)) e in
+    let parts = and_parts (is_utf8 (take n z)) (is_utf8 (drop (suc n) z)) e in
     let rest = IsUtf8-append (c ∷ []) (drop (suc n) z) (one_byte c small) (IsUtf8-from_is_utf8 (drop (suc n) z) parts.1) in
     let all = IsUtf8-append (take n z) (c ∷ drop (suc n) z) (IsUtf8-from_is_utf8 (take n z) parts.0) rest in
     is_utf8-from_IsUtf8 z (subst IsUtf8 (sym (joined z n c within is)) all) in
@@ -54,7 +44,7 @@ utf8_nil = is_utf8-from_IsUtf8 [] IsUtf8-nil
 is_13 : (b : ℕ) → (b == 13) ≡ true → b ≡ 13
 is_13 b e = grind (arith, nat_tests)
 
-nothing : (z : List ℕ) → length z ≡ 0 → z ≡ []
+pub nothing : (z : List ℕ) → length z ≡ 0 → z ≡ []
 nothing [] e = refl
 nothing (b ∷ z) e = absurd (some (length z) e)
   where

@@ -1,18 +1,18 @@
 -- What values show is UTF-8.
-use Rattle.std.proofs.Common.{◌≡◌, ◌∙◌, ◌<◌, ◌≤◌, ◌+◌, ◌-◌, ◌/◌, ◌%◌, ◌^◌, ℕ, zero, suc, ℤ, pos, negsuc, unsigned_abs, FitsSigned, Bool, true, false, List, [], ◌∷◌, ◌++◌, length, take, drop, get_or, replicate, refl, sym, ap, subst, arith, inl, inr, append_assoc, length-append, true≢false, IsUtf8, Option, Some, None, IsSome, is_some, decimal, codes}
+use Rattle.std.proofs.Common.{◌≡◌, ◌∙◌, ◌<◌, ◌≤◌, ◌+◌, ◌-◌, ◌/◌, ◌%◌, ◌^◌, ℕ, zero, suc, ℤ, pos, negsuc, unsigned_abs, FitsSigned, Bool, false, List, [], ◌∷◌, ◌++◌, length, take, drop, get_or, replicate, refl, sym, ap, subst, arith, inl, inr, append_assoc, length-append, true≢false, IsUtf8, Option, Some, None, IsSome, is_some, decimal, codes}
 use Rattle.std.specs.Prelude.{◌==◌, ◌&&◌, nat_lt, nat_le, option_and_then, if◌then◌else◌}
-use Rattle.std.specs.List.{list_all}
 use Rattle.std.specs.Str.{IsAscii}
 use Rattle.std.specs.Int.{w128}
 use Rattle.std.specs.Char.{is_ascii_digit}
-use Rattle.std.proofs.lemmas.Bool.{cases_Bool, and_parts, eqb-true, leb-true, ltb-true}
-use Rattle.std.proofs.lemmas.Bool.Decides.{nat_tests}
+use Rattle.std.proofs.lemmas.Bool.{cases_Bool, and_parts, eqb-true, leb-true}
 use Rattle.std.proofs.Math.Seq.{take-append_seam, drop-append_seam, get_or-append_seam}
 use Rattle.std.proofs.lemmas.Str.{IsUtf8-append, IsUtf8-from_ascii, IsUtf8-take, IsUtf8-drop, IsUtf8-nil, IsCharBoundary-after_ascii, IsAscii-append, IsAscii-take, IsAscii-drop}
 use Rattle.std.proofs.lemmas.Str.Ascii.{IsAscii-nil, IsAscii-cons}
 use Rattle.std.proofs.lemmas.Fmt.{IsAscii-decimal_wide}
 use Rattle.hex.specs.Hex.{encode_upper, upper_digits}
 use Rattle.hex.proofs.HexLemmas.{IsAscii-encode_with}
+use Rattle.base_types.proofs.Lists.{all_ascii}
+use Rattle.base_types.proofs.Naturals.{digit_small}
 use Rattle.sql_value.specs.declared.value.Value.TheVariants.{Null, Num, Text, Bytes, Date}
 use Rattle.sql_value.specs.declared.day.CivilDate.{CivilDate}
 use Rattle.sql_value.specs.Day.{last_day, two_digits, as_date, day_if, day_of, written_date, date_of, date_text}
@@ -60,10 +60,6 @@ unfolding printed
 text_utf8 text u = ascii_cons 78 (39 ∷ doubled text ++ 39 ∷ []) (omega arith) (quoted_utf8 (doubled text) (doubled_behind [] text u))
 
 -- ---- NULL, bytes and numbers
-
-all_ascii : (bs : List ℕ) → list_all (λ b. nat_lt b 128) bs ≡ true → IsAscii bs
-all_ascii [] h = IsAscii-nil
-all_ascii (b ∷ bs) h = let both = and_parts (nat_lt b 128) (list_all (λ c. nat_lt c 128) bs) h in IsAscii-cons b bs (ltb-true b 128 both.0) (all_ascii bs both.1)
 
 pub null_utf8 : IsUtf8 (printed Null)
 unfolding printed
@@ -114,9 +110,6 @@ number_small (negsuc n) h = omega (arith, h)
 
 abbrev AreSmall : ℕ → ℕ → Type 0
 AreSmall a b = (a < 128) × (b < 128)
-
-digit_small : (a : ℕ) → is_ascii_digit a ≡ true → a < 128
-digit_small a h = grind (arith, nat_tests)
 
 none_there : (b : Bool) (n : ℕ) → b ≡ false → IsSome (if b then Some n else None) → ⊥
 none_there b n e h = true≢false (sym h ∙ ap (λ c. is_some (if c then Some n else None)) e)

@@ -5,6 +5,8 @@ use Rattle.std.specs.BTreeSet.{BTreeSet}
 use Rattle.std.specs.List.{list_any}
 use Rattle.std.specs.Str.{bytes_eq}
 use Rattle.std.proofs.lemmas.List.Folds.{list_any-append}
+use Rattle.std.proofs.lemmas.Bool.{or_left, not_from_false, not_from_true, or_right}
+use Rattle.base_types.proofs.Bools.{or_false}
 use Rattle.format_sections.specs.Kind.{Kind, Skipped, SetupLine, SessionLine, Statement, NoText}
 use Rattle.format_sections.specs.Form.{is_session_name, counts, begins_section, names_of, has_come, lacks_form, first_lacking}
 use Rattle.format_sections.specs.RunSections.{Section, statements_of, setup_of, sessions_of}
@@ -24,23 +26,12 @@ pub none_behind : {A : Type 0} (z : List A) → z ++ [] ≡ z
 none_behind [] = refl
 none_behind (a ∷ z) = ap (λ x. a ∷ x) (none_behind z)
 
-or_true_left : (a b : Bool) → a ≡ true → (a || b) ≡ true
-or_true_left a b e = rw e refl
-
-or_true_right : (a b : Bool) → b ≡ true → (a || b) ≡ true
-or_true_right true b e = refl
-or_true_right false b e = e
-
-or_false : (b : Bool) → (b || false) ≡ b
-or_false true = refl
-or_false false = refl
-
 -- a test that some lines pass is passed by one of more
 pub any_more : (p : Kind → Bool) (before more : List Kind) → list_any p before ≡ true → list_any p (before ++ more) ≡ true
-any_more p before more e = list_any-append p before more ∙ or_true_left (list_any p before) (list_any p more) e
+any_more p before more e = list_any-append p before more ∙ or_left (list_any p before) (list_any p more) e
 
 pub any_last : (p : Kind → Bool) (before : List Kind) (line : Kind) → p line ≡ true → list_any p (before ++ line ∷ []) ≡ true
-any_last p before line e = list_any-append p before (line ∷ []) ∙ or_true_right (list_any p before) (list_any p (line ∷ [])) (or_true_left (p line) false e)
+any_last p before line e = list_any-append p before (line ∷ []) ∙ or_right (list_any p before) (list_any p (line ∷ [])) (or_left (p line) false e)
 
 -- the lines of a rest that were passed: the names and the first line that lacks its form stay as they are
 pub record Passed (before more rest : List Kind) : Type 0 where
@@ -63,16 +54,13 @@ pass_one before more rest line fits same_names same_sessions p = record {
   sessions = same_sessions more ∙ p.sessions;
 }
 
-not_true : (t : Bool) → t ≡ true → not t ≡ false
-not_true t e = rw e refl
-
 -- behind the line of a section all that are its own have their form
 pub pass_section : (before more : List Kind) → list_any begins_section before ≡ true → Passed before more (behind_section more)
 pass_section before [] begun = pass_none before []
 pass_section before (Skipped ∷ more) begun =
     pass_one before more (behind_section more) Skipped refl (λ z. refl) (λ z. refl) (pass_section (before ++ Skipped ∷ []) more (any_more begins_section before (Skipped ∷ []) begun))
 pass_section before (Statement text ∷ more) begun =
-    pass_one before more (behind_section more) (Statement text) (not_true (list_any begins_section before) begun) (λ z. refl) (λ z. refl)
+    pass_one before more (behind_section more) (Statement text) (not_from_true (list_any begins_section before) begun) (λ z. refl) (λ z. refl)
     (pass_section (before ++ Statement text ∷ []) more (any_more begins_section before (Statement text ∷ []) begun))
 pass_section before (SetupLine ∷ more) begun = pass_none before (SetupLine ∷ more)
 pass_section before (SessionLine name ∷ more) begun = pass_none before (SessionLine name ∷ more)
@@ -180,9 +168,6 @@ none_begins (SessionLine name ∷ more) e = absurd (true_false e)
 none_begins (Statement text ∷ more) e = absurd (true_false e)
 none_begins (NoText ∷ more) e = absurd (true_false e)
 
-false_not : (t : Bool) → t ≡ false → not t ≡ true
-false_not t e = rw e refl
-
 -- nothing but skipped lines was read, and the next one doesn't begin the setup
 unopened : (all rest : List Kind) (skipping : Skipping [] all rest) → setup_of all ≡ [] → is_settled skipping.passed.front rest ≡ true → Reached all rest [] [] (λ q. bytes_eq q (codes "setup"))
 unopened all rest skipping setup settled = record {
@@ -200,7 +185,7 @@ opened_at all [] skipping first setup = unopened all [] skipping setup refl
 opened_at all (Skipped ∷ more) skipping first setup = absurd (false_true first)
 opened_at all (SessionLine name ∷ more) skipping first setup = unopened all (SessionLine name ∷ more) skipping setup refl
 opened_at all (Statement text ∷ more) skipping first setup =
-    unopened all (Statement text ∷ more) skipping setup (false_not (list_any begins_section skipping.passed.front) (none_begins skipping.passed.front skipping.none))
+    unopened all (Statement text ∷ more) skipping setup (not_from_false (list_any begins_section skipping.passed.front) (none_begins skipping.passed.front skipping.none))
 opened_at all (NoText ∷ more) skipping first setup = unopened all (NoText ∷ more) skipping setup refl
 opened_at all (SetupLine ∷ more) skipping first setup =
     let front = skipping.passed.front in

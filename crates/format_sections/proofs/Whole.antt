@@ -1,10 +1,11 @@
 -- What is read of a whole input.
-use Rattle.std.proofs.Common.{◌≡◌, ◌==◌, ◌+◌, ◌<◌, ◌∙◌, ℕ, suc, arith, true, List, [], ◌∷◌, ◌++◌, length, codes, refl, ap, subst, Option, Some, None, Ok, Err}
+use Rattle.std.proofs.Common.{◌≡◌, ◌==◌, ◌+◌, ◌<◌, ◌∙◌, ℕ, arith, true, List, [], ◌∷◌, ◌++◌, length, codes, refl, ap, subst, Option, Some, None, Ok, Err}
 use Rattle.std.specs.Borrow.{Bor}
 use Rattle.std.specs.BTreeSet.{BTreeSet}
 use Rattle.std.specs.List.{All, IsDistinct}
 use Rattle.std.specs.Str.{bytes_eq}
 use Rattle.std.proofs.lemmas.Bool.Decides.{nat_tests}
+use Rattle.format_lines.proofs.Utf8.{nothing}
 use Rattle.format_sections.specs.Form.{is_session_name, first_lacking}
 use Rattle.format_sections.specs.Kind.{kinds_of}
 use Rattle.format_sections.specs.Names.{has}
@@ -19,13 +20,6 @@ plan_is first setup read_setup sessions read_sessions e f g = rw (e, f, g) refl
 
 is_zero : (n : ℕ) → (n == 0) ≡ true → n ≡ 0
 is_zero n e = grind (arith, nat_tests)
-
-nothing : (z : List ℕ) → length z ≡ 0 → z ≡ []
-nothing [] e = refl
-nothing (b ∷ z) e = absurd (some (length z) e)
-  where
-    some : (n : ℕ) → suc n ≡ 0 → ⊥
-    some n e = omega arith
 
 -- all was read
 pub finished : (bytes rest : List ℕ) (setup : List (List ℕ)) (sessions : List Section) (names : BTreeSet (Bor (List ℕ))) → Reached (kinds_of bytes) (kinds_of rest) setup sessions (has names) → (length rest == 0) ≡ true

@@ -3,6 +3,7 @@ use Rattle.std.proofs.Common.{◌≡◌, ◌<◌, ℕ, suc, inl, inr, refl, ap, 
 use Rattle.std.specs.Prelude.{◌==◌, if◌then◌else◌, IfSome}
 use Rattle.std.specs.List.{AllByRecursion}
 use Rattle.std.proofs.lemmas.Bool.{eq-eqb, ne_eqb}
+use Rattle.std.proofs.ByRecursion.{All-weaker}
 use Rattle.sql_types.specs.declared.journal.JournalItem.{JournalItem}
 use Rattle.sql_types.specs.declared.journal.JournalItem.TheVariants.{Tx, Close}
 use Rattle.sql_types.specs.declared.version.Table.{Table}
@@ -11,7 +12,6 @@ use Rattle.spec_model.specs.Journals.{tx_count, IsOther, serial, IsLegal}
 use Rattle.spec_model.specs.Rows.{EventId}
 use Rattle.spec_model.specs.Runs.{Sound}
 use Rattle.spec_model.specs.Script.{Reading}
-use Rattle.law_frame.proofs.Alls.{all_weaker}
 use Rattle.law_frame.proofs.LegalSound.{legal_sound}
 use Rattle.law_journal.specs.Kept.{IsEarlier, IsPast, KeptTable, Kept}
 use Rattle.law_journal.specs.Serial.{place_in, HasTx, IsOf, TableOf, TablesOf}
@@ -49,7 +49,7 @@ module _ (J : List JournalItem) (id : ℕ) (next : place_in J id ≡ tx_count J)
   past v is = record { start = before_it v.start is.start; end = past_end v.start v.end is.end }
 
   kept_table : (t : Table) → TableOf J t → KeptTable place (id, 0) t
-  kept_table t is = record { past = all_weaker (IsOf J) (IsPast place (id, 0)) past t.versions is.ids; apart = is.apart; fit = is.fit }
+  kept_table t is = record { past = All-weaker (IsOf J) (IsPast place (id, 0)) past t.versions is.ids; apart = is.apart; fit = is.fit }
 
 pub begins : (reads : Reading) (J : List JournalItem) (id : ℕ) → IsLegal reads J → AllByRecursion (IsOther id) J → Kept (place_in J) id 0 (serial reads J)
 begins reads J id legal others =
@@ -59,5 +59,5 @@ begins reads J id legal others =
       sound = sound;
       own = no_number id (serial reads J) sound;
       others = tables.numbered;
-      each = all_weaker (TableOf J) (KeptTable (place_in J) (id, 0)) (kept_table J id (comes_next J id others)) (serial reads J) tables.each;
+      each = All-weaker (TableOf J) (KeptTable (place_in J) (id, 0)) (kept_table J id (comes_next J id others)) (serial reads J) tables.each;
     }

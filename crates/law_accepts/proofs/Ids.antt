@@ -1,11 +1,12 @@
 -- The entries of a legal journal have the ids of its transactions, in order.
 use Rattle.std.proofs.Common.{◌≡◌, ◌≢◌, ℕ, zero, suc, ◌+◌, inl, inr, refl, ap, sym, subst, ◌∙◌, List, [], ◌∷◌, ◌++◌, length, map, flat_map, take, drop, Bool, true, false, Option, Some, None, arith, append_assoc, append-nil}
 use Rattle.std.specs.Prelude.{◌==◌, ◌||◌, not, if◌then◌else◌, IfSome}
-use Rattle.std.specs.List.{AllByRecursion, list_any, filter}
+use Rattle.std.specs.List.{AllByRecursion, list_any}
 use Rattle.std.proofs.Math.Seq.{take-append_seam}
-use Rattle.std.proofs.lemmas.Bool.{eq-eqb, ne_eqb}
+use Rattle.std.proofs.lemmas.Bool.{eq-eqb, ne_eqb, or_right}
 use Rattle.std.proofs.lemmas.List.{length-append, map-append, take-append-drop}
-use Rattle.std.proofs.lemmas.List.Concat.{flat_map-cons}
+use Rattle.std.proofs.ByRecursion.{All-append, All-weaker}
+use Rattle.sql_value.proofs.Lists.{filter_none}
 use Rattle.sql_types.specs.declared.entry.TxEntry.{TxEntry}
 use Rattle.sql_types.specs.declared.event.Event.{Event}
 use Rattle.sql_types.specs.declared.journal.JournalItem.{JournalItem}
@@ -18,7 +19,8 @@ use Rattle.spec_model.specs.Journals.{IsOther, serial, IsNext, IsLegal}
 use Rattle.spec_model.specs.Rows.{EventId, live}
 use Rattle.spec_model.specs.Script.{Reading}
 use Rattle.spec_history.specs.Journals.{ids_of}
-use Rattle.law_frame.proofs.Alls.{all_weaker, all_append, all_map, all_filter}
+use Rattle.law_frame.proofs.Alls.{all_map, all_filter}
+use Rattle.law_frame.proofs.LeftRows.{all_flat_map}
 use Rattle.law_journal.specs.Serial.{place_in, HasTx, IsOf, TableOf}
 use Rattle.law_journal.proofs.Serials.{legal_tables}
 use Rattle.spec_ledger.specs.Entries.{placed}
@@ -132,21 +134,13 @@ by_ids : (es : List TxEntry) (id : ℕ) → has_id es id ≡ list_any (λ m. m =
 by_ids [] id = refl
 by_ids (e ∷ es) id = ap (λ (b : Bool). (e.id == id) || b) (by_ids es id)
 
-or_else_true : (a b : Bool) → b ≡ true → (a || b) ≡ true
-or_else_true true b e = refl
-or_else_true false b e = e
-
 of_journal : (J : List JournalItem) (id : ℕ) → HasTx J id → list_any (λ m. m == id) (ids_of J) ≡ true
 of_journal [] id has = absurd has
 of_journal (Tx other session time explicit lines ∷ is) id has = elim has [
   | inl e ↦ rw (eq-eqb other id e) refl
-  | inr more ↦ or_else_true (other == id) _ (of_journal is id more)
+  | inr more ↦ or_right (other == id) _ (of_journal is id more)
 ]
 of_journal (Close k ∷ is) id has = of_journal is id has
-
-all_flat : {A B : Type 0} (P : A → Type 0) (Q : B → Type 0) (f : A → List B) → ((x : A) → P x → AllByRecursion Q (f x)) → (xs : List A) → AllByRecursion P xs → AllByRecursion Q (flat_map f xs)
-all_flat P Q f g [] h = tt
-all_flat P Q f g (x ∷ xs) h = subst (AllByRecursion Q) (sym (flat_map-cons f x xs)) (all_append Q (f x) (flat_map f xs) (g x h.0) (all_flat P Q f g xs h.1))
 
 module _ (items : List JournalItem) where
   abbrev OfTx : Event → Type 0
@@ -164,21 +158,17 @@ module _ (items : List JournalItem) where
   version_of_tx table v is = (is.start, end_of_tx table v v.end (only_tx v.start v.end _ is.end))
 
   parts_of : (t : Table) → TableOf items t → AllByRecursion (IsOf items) (in_parts t).versions
-  parts_of t is = all_append (IsOf items) (live t.versions) (ended_ones t.versions) (all_filter (IsOf items) _ t.versions is.ids) (all_filter (IsOf items) _ t.versions is.ids)
+  parts_of t is = All-append (IsOf items) (live t.versions) (ended_ones t.versions) (all_filter (IsOf items) _ t.versions is.ids) (all_filter (IsOf items) _ t.versions is.ids)
 
   events_of_tx : (t : Table) → TableOf items t → AllByRecursion (λ (e : TableEvent). HasTx items e.1.0) (events_in (in_parts t))
   events_of_tx t is =
       all_map OfTx (λ (e : TableEvent). HasTx items e.1.0) (λ (e : Event). (e.table, (e.tx, e.seq))) (λ e h. h) (flat_map (version_events t.def.id) (in_parts t).versions)
-      (all_flat (IsOf items) OfTx (version_events t.def.id) (version_of_tx t.def.id) (in_parts t).versions (parts_of t is))
+      (all_flat_map (IsOf items) OfTx (version_events t.def.id) (version_of_tx t.def.id) (in_parts t).versions (parts_of t is))
 
   all_of_tx : (T : Tables) → AllByRecursion (TableOf items) T → AllByRecursion (λ (e : TableEvent). HasTx items e.1.0) (flat_map events_in (map in_parts T))
   all_of_tx T all =
-      all_flat (λ t. AllByRecursion (λ (e : TableEvent). HasTx items e.1.0) (events_in t)) (λ (e : TableEvent). HasTx items e.1.0) events_in (λ t h. h) (map in_parts T)
+      all_flat_map (λ t. AllByRecursion (λ (e : TableEvent). HasTx items e.1.0) (events_in t)) (λ (e : TableEvent). HasTx items e.1.0) events_in (λ t h. h) (map in_parts T)
       (all_map (TableOf items) (λ t. AllByRecursion (λ (e : TableEvent). HasTx items e.1.0) (events_in t)) in_parts events_of_tx T all)
-
-pub none_left : {A : Type 0} (test : A → Bool) (xs : List A) → AllByRecursion (λ x. test x ≡ false) xs → filter test xs ≡ []
-none_left test [] h = refl
-none_left test (x ∷ xs) h = rw (h.0, none_left test xs h.1) refl
 
 module _ (h : List ℕ → List ℕ) (reads : Reading) (database : List ℕ) (items : List JournalItem) (legal : IsLegal reads items) where
   known : (id : ℕ) → HasTx items id → has_id (entries_of h reads items) id ≡ true
@@ -187,8 +177,8 @@ module _ (h : List ℕ → List ℕ) (reads : Reading) (database : List ℕ) (it
   no_strangers : strangers (image_of h reads database items) ≡ []
   unfolding image_of
   no_strangers =
-      none_left (λ (e : TableEvent). not (has_id (entries_of h reads items) e.1.0)) (flat_map events_in (tables_in (image_of h reads database items)))
-      (all_weaker (λ (e : TableEvent). HasTx items e.1.0) (λ (e : TableEvent). not (has_id (entries_of h reads items) e.1.0) ≡ false) (λ e has. ap not (known e.1.0 has)) _
+      filter_none (λ (e : TableEvent). not (has_id (entries_of h reads items) e.1.0)) (flat_map events_in (tables_in (image_of h reads database items)))
+      (All-weaker (λ (e : TableEvent). HasTx items e.1.0) (λ (e : TableEvent). not (has_id (entries_of h reads items) e.1.0) ≡ false) (λ e has. ap not (known e.1.0 has)) _
       (subst (λ (T : Tables). AllByRecursion (λ (e : TableEvent). HasTx items e.1.0) (flat_map events_in T)) (sym (tables_shown h reads database items legal))
       (all_of_tx items (serial reads items) (legal_tables reads items legal).each)))
 

@@ -1,55 +1,28 @@
 -- The rows of each index are those of the base, sorted.
-use Rattle.std.proofs.Common.{◌≡◌, ℕ, ◌+◌, refl, ap, ◌∙◌, true, List, [], ◌∷◌, ◌++◌, length, map, get_or, Option, Some, None, arith}
-use Rattle.std.proofs.lemmas.Bool.{eq-eqb}
+use Rattle.std.proofs.Common.{◌≡◌, ℕ, ◌+◌, refl, ap, ◌∙◌, true, List, [], ◌∷◌, ◌++◌, length, map, get_or, None, arith}
 use Rattle.std.proofs.lemmas.List.{length-append}
-use Rattle.std.specs.Ordering.{is_eq, ordering_reverse}
-use Rattle.std.specs.declared.cmp.Ordering.{Ordering}
-use Rattle.std.specs.declared.cmp.Ordering.TheVariants.{Less, Equal, Greater}
-use Rattle.sql_value.specs.declared.sql_type.SqlType.{SqlType}
+use Rattle.std.specs.Ordering.{is_eq}
 use Rattle.sql_value.specs.declared.value.Value.{Value}
 use Rattle.sql_value.specs.Order.{value_cmp, value_total}
-use Rattle.sql_value.specs.TypeCodes.{type_code, first_parameter, second_parameter}
 use Rattle.sql_types.specs.declared.journal.JournalItem.{JournalItem}
 use Rattle.sql_types.specs.declared.table.IndexDef.{IndexDef}
 use Rattle.sql_types.specs.declared.version.Table.{Table}
-use Rattle.sql_types.specs.declared.version.TypedValue.{TypedValue}
 use Rattle.spec_model.specs.Catalog.{Tables, Defs, defs_of}
 use Rattle.spec_model.specs.Journals.{serial, IsLegal}
 use Rattle.spec_model.specs.Rows.{live}
 use Rattle.spec_model.specs.Script.{Reading}
+use Rattle.law_frame.proofs.SameKeys.{own_reverse}
 use Rattle.format_image.specs.Image.{image_of}
 use Rattle.format_image.specs.Rows.{Stored, index_rows, table_rows}
 use Rattle.spec_verify.specs.declared.place.Place.TheVariants as at
 use Rattle.spec_verify.specs.First.{unless, first_from}
-use Rattle.spec_verify.specs.Indexes.{same_value, same_row, same_rows, index_holds, table_fault, first_table, index_fault}
-use Rattle.spec_verify.specs.Versions.{same_type}
-use Rattle.law_accepts.proofs.Firsts.{both, passes, neither}
+use Rattle.spec_verify.specs.Indexes.{same_rows, index_holds, table_fault, first_table, index_fault}
+use Rattle.spec_verify.proofs.SameRows.{own_rows}
+use Rattle.law_accepts.proofs.Firsts.{passes, neither}
 use Rattle.law_accepts.proofs.Shown.{defs_shown}
-
-own_reverse : (o : Ordering) → o ≡ ordering_reverse o → is_eq o ≡ true
-own_reverse Less e = cc
-own_reverse Equal e = refl
-own_reverse Greater e = cc
 
 own_value : (v : Value) → is_eq (value_cmp v v) ≡ true
 own_value v = own_reverse (value_cmp v v) (value_total.antisymm v v)
-
-pub own_type : (ty : SqlType) → same_type ty ty ≡ true
-own_type ty =
-    both (eq-eqb (type_code ty) (type_code ty) refl)
-    (both (eq-eqb (first_parameter ty) (first_parameter ty) refl) (eq-eqb (second_parameter ty) (second_parameter ty) refl))
-
-same_itself : (v : Option TypedValue) → same_value v v ≡ true
-same_itself None = refl
-same_itself (Some t) = both (own_type t.ty) (own_value t.value)
-
-own_row : (row : Stored) → same_row row row ≡ true
-own_row [] = refl
-own_row (v ∷ vs) = both (same_itself v) (own_row vs)
-
-own_rows : (rows : List Stored) → same_rows rows rows ≡ true
-own_rows [] = refl
-own_rows (r ∷ rs) = both (own_row r) (own_rows rs)
 
 -- the rows of the index with this number
 there : (f : IndexDef → List Stored) (before : List IndexDef) (x : IndexDef) (rest : List IndexDef) → get_or (map f (before ++ x ∷ rest)) (length before) [] ≡ f x

@@ -4,6 +4,8 @@ use Rattle.std.proofs.lemmas.List.{take-append-drop}
 use Rattle.std.specs.Prelude.{◌==◌, if◌then◌else◌, IfSome}
 use Rattle.std.specs.List.{AllByRecursion}
 use Rattle.std.specs.Ordering.{is_gt}
+use Rattle.std.proofs.ByRecursion.{All-append}
+use Rattle.sql_value.proofs.Lists.{all_take, all_front, all_back}
 use Rattle.sql_types.specs.declared.journal.JournalItem.{JournalItem}
 use Rattle.sql_types.specs.declared.journal.JournalItem.TheVariants.{Tx, Close}
 use Rattle.sql_types.specs.declared.statement.Stmt.{Stmt}
@@ -19,7 +21,6 @@ use Rattle.spec_model.specs.ChangeSets.{TableChange, changed_in, changed_from, D
 use Rattle.spec_model.specs.Rows.{EventId, same_event, start_cmp, new_version, started, with_end, ended}
 use Rattle.spec_model.specs.Script.{Reading, script}
 use Rattle.spec_model.specs.SystemTables.{first_tables}
-use Rattle.law_frame.proofs.Alls.{all_append}
 use Rattle.law_frame.proofs.ChangeSets.{carries_change_set_out}
 use Rattle.law_frame.proofs.WholeScripts.{whole_script}
 use Rattle.spec_history.specs.Journals.{blocks}
@@ -44,14 +45,6 @@ AllRoom versions = AllByRecursion VersionFitsFormat versions
 
 abbrev TablesFitFormat : Tables → Type 0
 TablesFitFormat T = AllByRecursion TableFitsFormat T
-
-front_of : {A : Type 0} (P : A → Type 0) (xs ys : List A) → AllByRecursion P (xs ++ ys) → AllByRecursion P xs
-front_of P [] ys h = tt
-front_of P (x ∷ xs) ys h = (h.0, front_of P xs ys h.1)
-
-rest_of : {A : Type 0} (P : A → Type 0) (xs ys : List A) → AllByRecursion P (xs ++ ys) → AllByRecursion P ys
-rest_of P [] ys h = h
-rest_of P (x ∷ xs) ys h = rest_of P xs ys h.1
 
 -- ---- versions
 
@@ -114,7 +107,7 @@ redefined_before def (t ∷ ts) r = (here (t.def.id == def.id) r.0, redefined_be
 
 definition_before : (d : Definition) (T : Tables) → TablesFitFormat (defined d T) → TablesFitFormat T
 definition_before as_before T r = r
-definition_before (new def) T r = front_of TableFitsFormat T (record { def = def; versions = [] } ∷ []) r
+definition_before (new def) T r = all_front TableFitsFormat T (record { def = def; versions = [] } ∷ []) r
 definition_before (in_place def) T r = redefined_before def T r
 
 -- ---- statements and scripts
@@ -126,9 +119,9 @@ module _ (place : ℕ → ℕ) (tx : ℕ) where
       let s : Split c.0 P T = (split_from 1 c.0 P T k.sound.ids (of_all_tables c.0 Few (λ t. IsFine t.def.columns c.1 t.versions) T (few_each T (once place tx seq T k)) fine)).split in
       let after : Table = with_versions (changed (tx, seq) c.1) s.table in
       let parts : TablesFitFormat (s.front ++ after ∷ s.back) = subst TablesFitFormat (s.changed_ (changed (tx, seq) c.1)) r in
-      let behind : TablesFitFormat (after ∷ s.back) = rest_of TableFitsFormat s.front (after ∷ s.back) parts in
+      let behind : TablesFitFormat (after ∷ s.back) = all_back TableFitsFormat s.front (after ∷ s.back) parts in
       subst TablesFitFormat (sym s.is)
-      (all_append TableFitsFormat s.front (s.table ∷ s.back) (front_of TableFitsFormat s.front (after ∷ s.back) parts) (table_before (tx, seq) c.1 s.table s.holds.0 s.holds.1 behind.0, behind.1))
+      (All-append TableFitsFormat s.front (s.table ∷ s.back) (all_front TableFitsFormat s.front (after ∷ s.back) parts) (table_before (tx, seq) c.1 s.table s.holds.0 s.holds.1 behind.0, behind.1))
 
   changes_before : (seq : ℕ) (cs : List TableChange) (T : Tables) → Kept place tx seq T → AllFine tx seq cs T → TablesFitFormat (changed_from tx seq cs T) → TablesFitFormat T
   changes_before seq [] T k fine r = r
@@ -188,11 +181,6 @@ module _ (reads : Reading) where
 
 -- ---- counts
 
-all_cut : {A : Type 0} (P : A → Type 0) (m : ℕ) (xs : List A) → AllByRecursion P xs → AllByRecursion P (take m xs)
-all_cut P zero xs h = tt
-all_cut P (suc m) [] h = tt
-all_cut P (suc m) (x ∷ xs) h = (h.0, all_cut P m xs h.1)
-
 blocks_cut : (items : List JournalItem) (m : ℕ) → blocks (take m items) ≤ blocks items
 blocks_cut items zero = omega arith
 blocks_cut [] (suc m) = omega arith
@@ -214,7 +202,7 @@ room_of_cut h reads database items m legal r =
     record {
       hash = r.hash;
       database_name = r.database_name;
-      rules = all_cut _ m items r.rules;
+      rules = all_take _ m items r.rules;
       blocks = omega (arith, few, all_few);
       entries = omega (arith, less, all_less);
       tables = tables_of_cut reads items m legal r.tables;

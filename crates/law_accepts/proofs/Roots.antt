@@ -1,10 +1,12 @@
 -- Each entry of a legal journal has the roots and the numbers of its events, as the image shows them.
-use Rattle.std.proofs.Common.{◌≡◌, ◌≢◌, ◌≤◌, ℕ, ◌+◌, refl, ap, sym, subst, ◌∙◌, Bool, true, false, cond, List, [], ◌∷◌, ◌++◌, length, map, take, drop, Option, Some, None, arith, nat_lt}
+use Rattle.std.proofs.Common.{◌≡◌, ◌≢◌, ◌≤◌, ℕ, ◌+◌, refl, ap, sym, subst, ◌∙◌, true, false, List, [], ◌∷◌, ◌++◌, length, map, take, drop, Option, Some, None, arith, nat_lt}
 use Rattle.std.specs.Prelude.{not}
 use Rattle.std.specs.List.{AllByRecursion}
 use Rattle.std.specs.Ordering.{nat_cmp}
 use Rattle.std.proofs.lemmas.List.{take-append-drop}
 use Rattle.std.proofs.lemmas.List.Sums.{sum_by-cons}
+use Rattle.std.proofs.ByRecursion.{All-append, All-weaker}
+use Rattle.sql_value.proofs.Lists.{filter_none}
 use Rattle.sql_types.specs.declared.entry.TxEntry.{TxEntry}
 use Rattle.sql_types.specs.declared.event.Event.{Event}
 use Rattle.sql_types.specs.declared.journal.JournalItem.{JournalItem}
@@ -14,11 +16,12 @@ use Rattle.spec_model.specs.Events.{all_events}
 use Rattle.spec_model.specs.Journals.{after_item, serial, IsNext, IsLegal}
 use Rattle.spec_model.specs.Script.{Reading, script}
 use Rattle.spec_model.specs.SystemTables.{first_tables}
-use Rattle.law_frame.proofs.Alls.{all_weaker, all_both, all_append}
+use Rattle.law_frame.proofs.Alls.{all_both}
+use Rattle.law_frame.proofs.UpdateKeys.{named_itself}
 use Rattle.law_journal.specs.Kept.{count, count_all, IsNumbered}
 use Rattle.law_journal.specs.Serial.{place_in, TablesOf}
 use Rattle.law_journal.proofs.Serials.{legal_tables, legal_described}
-use Rattle.law_journal.proofs.Tables.{table_count}
+use Rattle.law_journal.proofs.Tables.{table_count, one_or_none}
 use Rattle.spec_ledger.specs.Entries.{entry_of, at_place, placed, roots_of}
 use Rattle.spec_ledger.specs.Ledger.{Ledger, recorded, ledger_from, ledger_of, entries_of}
 use Rattle.spec_ledger.proofs.Adding.{serial_more, one_more}
@@ -31,16 +34,12 @@ use Rattle.law_accepts.proofs.Along.{along}
 use Rattle.law_accepts.proofs.Begins.{begins}
 use Rattle.law_accepts.proofs.ByNumber.{are_all_numbered}
 use Rattle.law_accepts.proofs.Events.{same_events, numbered}
-use Rattle.law_accepts.proofs.Firsts.{same_bytes, passes, neither, nothing_first}
-use Rattle.law_accepts.proofs.Ids.{entry_ids, other_ids, same_ids, none_left}
+use Rattle.law_accepts.proofs.Firsts.{passes, neither, nothing_first}
+use Rattle.law_accepts.proofs.Ids.{entry_ids, other_ids, same_ids}
 use Rattle.law_accepts.proofs.Shown.{in_parts, tables_shown}
 use Rattle.law_accepts.proofs.Stay.{Same, all_alike, script_leaves}
 
 -- ---- the tables as the image shows them
-
-one_or_none : (b : Bool) → (let n : ℕ = cond b 1 0 in n ≤ 1)
-one_or_none true = omega arith
-one_or_none false = omega arith
 
 module _ (tx k : ℕ) where
   few_by : (T : Tables) → ((n : ℕ) → count_all (tx, n) T ≤ 1) → AllByRecursion (λ t. (n : ℕ) → count (tx, n) t.versions ≤ 1) T
@@ -53,7 +52,7 @@ module _ (tx k : ℕ) where
 
   roots_shown : (h : List ℕ → List ℕ) (T : Tables) → IsNumbered tx k T → roots_of h tx (map in_parts T) ≡ roots_of h tx T
   roots_shown h T numbers =
-      all_alike h tx in_parts T (all_weaker (λ t. (n : ℕ) → count (tx, n) t.versions ≤ 1) (λ t. Same h tx t (in_parts t)) (λ t f. record { id = refl; events = same_events tx t f }) T (few T numbers))
+      all_alike h tx in_parts T (All-weaker (λ t. (n : ℕ) → count (tx, n) t.versions ≤ 1) (λ t. Same h tx t (in_parts t)) (λ t f. record { id = refl; events = same_events tx t f }) T (few T numbers))
 
   events_shown : (T : Tables) → AllByRecursion (λ t. (n : ℕ) → count (tx, n) t.versions ≤ 1) T → all_events tx (map in_parts T) ≡ all_events tx T
   unfolding all_events
@@ -94,15 +93,15 @@ module _ (h : List ℕ → List ℕ) where
   closed_rooted T k l all =
       let P : TxEntry → Type 0 = Rooted T in
       let pending : AllByRecursion P (take k l.pending ++ drop k l.pending) = subst (AllByRecursion P) (sym (take-append-drop k l.pending)) (second_part P l.closed l.pending all) in
-      all_append P (l.closed ++ take k l.pending) (placed (length l.blocks + 1) 0 (drop k l.pending))
-      (all_append P l.closed (take k l.pending) (first_part P l.closed l.pending all) (first_part P (take k l.pending) (drop k l.pending) pending))
+      All-append P (l.closed ++ take k l.pending) (placed (length l.blocks + 1) 0 (drop k l.pending))
+      (All-append P l.closed (take k l.pending) (first_part P l.closed l.pending all) (first_part P (take k l.pending) (drop k l.pending) pending))
       (placed_rooted T (length l.blocks + 1) 0 (drop k l.pending) (second_part P (take k l.pending) (drop k l.pending) pending))
 
   committed_rooted : (T : Tables) (id time : ℕ) (session : List ℕ) (l : Ledger) → AllByRecursion (Rooted T) (all_in l)
       → AllByRecursion (Rooted T) (l.closed ++ (l.pending ++ at_place (length l.blocks) (length l.pending) (entry_of h T id session time) ∷ []))
   committed_rooted T id time session l all =
-      all_append (Rooted T) l.closed (l.pending ++ _) (first_part (Rooted T) l.closed l.pending all)
-      (all_append (Rooted T) l.pending _ (second_part (Rooted T) l.closed l.pending all) (refl, tt))
+      All-append (Rooted T) l.closed (l.pending ++ _) (first_part (Rooted T) l.closed l.pending all)
+      (All-append (Rooted T) l.pending _ (second_part (Rooted T) l.closed l.pending all) (refl, tt))
 
   module _ (reads : Reading) where
     after_one : (before : List JournalItem) (i : JournalItem) → IsLegal reads before → IsNext reads before (serial reads before) i → AllByRecursion (Rooted (serial reads before)) (entries_of h reads before)
@@ -116,7 +115,7 @@ module _ (h : List ℕ → List ℕ) where
         let others : AllByRecursion (λ (e : TxEntry). e.id ≢ id) (entries_of h reads before) =
         each_entry (λ n. n ≢ id) (entries_of h reads before) (subst (AllByRecursion (λ n. n ≢ id)) (sym (same_ids h reads before legal)) (other_ids id before next.1)) in
         committed_rooted U id time session (ledger_of h reads before)
-        (all_weaker (λ (e : TxEntry). Rooted T e × (e.id ≢ id)) (Rooted U)
+        (All-weaker (λ (e : TxEntry). Rooted T e × (e.id ≢ id)) (Rooted U)
         (λ e r. sym (script_leaves h (place_in before) e.id id (λ same. r.1 (sym same)) e.roots reads explicit T texts kept (legal_described reads before legal) (sym r.0)))
         (entries_of h reads before) (all_both (Rooted T) (λ (e : TxEntry). e.id ≢ id) (entries_of h reads before) all others))
 
@@ -140,10 +139,10 @@ module _ (h : List ℕ → List ℕ) where
 
 own_root : (o : Option (List ℕ)) → same_root o o ≡ true
 own_root None = refl
-own_root (Some a) = same_bytes a a refl
+own_root (Some a) = named_itself a a refl
 
 no_other : (rs : List TableRoot) → other_roots rs rs ≡ []
-no_other rs = none_left (λ t. not (same_root (root_at rs t) (root_at rs t))) _ (all_of_them _)
+no_other rs = filter_none (λ t. not (same_root (root_at rs t) (root_at rs t))) _ (all_of_them _)
   where
     all_of_them : (ts : List ℕ) → AllByRecursion (λ t. not (same_root (root_at rs t) (root_at rs t)) ≡ false) ts
     all_of_them [] = tt
@@ -165,7 +164,7 @@ module _ (h : List ℕ → List ℕ) (reads : Reading) (database : List ℕ) (it
   entries_hold : AllByRecursion (λ e. (k : ℕ) → entry_fault h (image_of h reads database items) e ≡ None) (image_of h reads database items).entries
   unfolding image_of
   entries_hold =
-      all_weaker (Rooted h (serial reads items)) (λ e. (k : ℕ) → entry_fault h (image_of h reads database items) e ≡ None) (λ e r k. entry_holds e r) (entries_of h reads items) (rooted h reads items legal)
+      All-weaker (Rooted h (serial reads items)) (λ e. (k : ℕ) → entry_fault h (image_of h reads database items) e ≡ None) (λ e r k. entry_holds e r) (entries_of h reads items) (rooted h reads items legal)
 
   pub roots_hold : root_fault h (image_of h reads database items) ≡ None
   unfolding root_fault

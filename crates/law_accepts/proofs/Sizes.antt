@@ -5,6 +5,7 @@ use Rattle.std.proofs.lemmas.Bool.{le-leb}
 use Rattle.std.proofs.lemmas.List.{length-append, length-take-le}
 use Rattle.std.proofs.lemmas.List.Sums.{sum_by-cons}
 use Rattle.std.specs.List.{AllByRecursion, sum_by}
+use Rattle.std.proofs.ByRecursion.{All-append}
 use Rattle.format_entry.specs.Entry.{entry_bytes}
 use Rattle.base_merkle.specs.TreeHash.{tree_hash}
 use Rattle.sql_types.specs.declared.entry.BlockRecord.{BlockRecord}
@@ -16,7 +17,7 @@ use Rattle.spec_model.specs.Catalog.{Tables}
 use Rattle.spec_model.specs.Journals.{closed, tx_count, serial, IsNext, IsLegal}
 use Rattle.spec_model.specs.Limits.{max_block}
 use Rattle.spec_model.specs.Script.{Reading}
-use Rattle.law_frame.proofs.Alls.{all_append}
+use Rattle.law_frame.proofs.UpdateKeys.{named_itself}
 use Rattle.spec_ledger.specs.Blocks.{no_hash, block_of, record_hash, last_hash}
 use Rattle.spec_ledger.specs.Parts.{AreBlocksOf}
 use Rattle.spec_ledger.specs.Ledger.{Ledger, recorded, ledger_from, ledger_of, blocks_of}
@@ -29,7 +30,7 @@ use Rattle.spec_verify.specs.First.{unless, first_from}
 use Rattle.spec_verify.specs.Blocks.{entries_before, entries_in, block_holds, block_fault}
 use Rattle.law_accepts.proofs.Along.{along}
 use Rattle.law_accepts.proofs.Blocks.{behind}
-use Rattle.law_accepts.proofs.Firsts.{same_bytes, both, passes, neither}
+use Rattle.law_accepts.proofs.Firsts.{both, passes, neither}
 
 -- ---- sizes
 
@@ -46,7 +47,7 @@ module _ (h : List ℕ → List ℕ) where
   sizes_after reads before T U (Tx id session time explicit lines) l all in_blocks next sizes = sizes
   sizes_after reads before T U (Close k) l all in_blocks next sizes =
       let fits : k ≤ length l.pending = let most = next.2 in omega (arith, all, in_blocks, most) in
-      all_append IsSize l.blocks (block_of h (length l.blocks) (take k l.pending) (last_hash h no_hash l.blocks) ∷ []) sizes
+      All-append IsSize l.blocks (block_of h (length l.blocks) (take k l.pending) (last_hash h no_hash l.blocks) ∷ []) sizes
       (of_size (length l.blocks) k (take k l.pending) (last_hash h no_hash l.blocks) (length-take-le k l.pending fits) next.0 next.1, tt)
 
   no_blocks : (reads : Reading) → AllByRecursion IsSize (blocks_of h reads [])
@@ -103,7 +104,7 @@ module _ (h : List ℕ → List ℕ) (i : Image) where
       let here : entries_in i b r ≡ part = ap (λ (es : List TxEntry). take r.size (drop (entries_before i b) es)) all ∙ cut_out front part more (entries_before i b) r.size before is.size in
       both (both (le-leb 1 r.size size.0) (le-leb r.size max_block size.1))
       (both (le-leb (entries_before i b + r.size) (length i.entries) (let s = is.size in omega (arith, count, before, s)))
-      (same_bytes r.root (tree_hash h (map entry_bytes (entries_in i b r))) (is.root ∙ ap (λ (es : List TxEntry). tree_hash h (map entry_bytes es)) (sym here))))
+      (named_itself r.root (tree_hash h (map entry_bytes (entries_in i b r))) (is.root ∙ ap (λ (es : List TxEntry). tree_hash h (map entry_bytes es)) (sym here))))
 
   all_hold : (b : ℕ) (previous : List ℕ) (rs : List BlockRecord) (es front more : List TxEntry) → AreBlocksOf h b previous rs es → AllByRecursion IsSize rs
       → drop b i.blocks ≡ rs → i.entries ≡ front ++ (es ++ more) → entries_before i b ≡ length front

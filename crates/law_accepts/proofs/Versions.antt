@@ -2,11 +2,14 @@
 use Rattle.std.proofs.Common.{◌≡◌, ◌⊎◌, ℕ, inl, inr, refl, ap, sym, subst, ◌∙◌, List, [], ◌∷◌, map, flat_map, Bool, true, false, Option, Some, None, arith, nat_lt}
 use Rattle.std.specs.Prelude.{◌==◌, ◌&&◌, ◌||◌, not, if◌then◌else◌, IfSome, is_some, is_none}
 use Rattle.std.specs.List.{AllByRecursion, list_any}
-use Rattle.std.proofs.lemmas.Bool.{eq-eqb, eqb-true, lt-ltb, ltb-true}
+use Rattle.std.proofs.lemmas.Bool.{eq-eqb, eqb-true, lt-ltb, ltb-true, and_parts, or_cases}
+use Rattle.std.proofs.ByRecursion.{All-append, kept_by_passes, All-weaker}
 use Rattle.sql_value.specs.declared.column.ColumnDef.{ColumnDef}
 use Rattle.sql_value.specs.declared.column.TableKind.{TableKind}
 use Rattle.sql_value.specs.declared.column.TableKind.TheVariants.{AppendOnly, Updatable}
 use Rattle.sql_value.specs.declared.sql_type.SqlType.{SqlType}
+use Rattle.sql_value.proofs.Bools.{or_true}
+use Rattle.sql_value.proofs.Lists.{filter_none}
 use Rattle.sql_types.specs.declared.entry.TxEntry.{TxEntry}
 use Rattle.sql_types.specs.declared.journal.JournalItem.{JournalItem}
 use Rattle.sql_types.specs.declared.version.Table.{Table}
@@ -18,8 +21,7 @@ use Rattle.spec_model.specs.Journals.{serial, IsLegal}
 use Rattle.spec_model.specs.Keys.{Key, same_key, version_key, of_key}
 use Rattle.spec_model.specs.Rows.{EventId, same_event, live}
 use Rattle.spec_model.specs.Script.{Reading}
-use Rattle.law_frame.proofs.Alls.{all_weaker, all_both, all_append, all_filter, all_pass}
-use Rattle.law_frame.proofs.SameKeys.{and_true}
+use Rattle.law_frame.proofs.Alls.{all_both, all_filter}
 use Rattle.law_journal.specs.AppendOnly.{KeepsRows, AllKeepRows}
 use Rattle.law_journal.specs.Fits.{FitsColumn, Fits}
 use Rattle.law_journal.specs.Kept.{IsEarlier, EndedBefore, Apart, AllApart}
@@ -32,9 +34,9 @@ use Rattle.format_image.specs.Rows.{Stored, ended_ones}
 use Rattle.spec_verify.specs.Entries.{least_event}
 use Rattle.spec_verify.specs.Order.{position_of, is_before, is_earlier, later_of, latest, ends_before, ends_well, follows, before, is_in_order, shares_key}
 use Rattle.spec_verify.specs.Versions.{same_type, is_of, has_columns, respects_not_null, with_columns, version_holds, bad_versions, version_fault}
+use Rattle.spec_verify.proofs.SameRows.{own_type}
 use Rattle.law_accepts.proofs.Firsts.{both}
-use Rattle.law_accepts.proofs.Ids.{none_left, same_place}
-use Rattle.law_accepts.proofs.Indexes.{own_type}
+use Rattle.law_accepts.proofs.Ids.{same_place}
 use Rattle.law_accepts.proofs.Shown.{in_parts, tables_shown}
 
 -- ---- columns
@@ -48,10 +50,6 @@ columns_fit [] [] fits = refl
 columns_fit [] (v ∷ vs) fits = absurd fits
 columns_fit (c ∷ cs) [] fits = absurd fits
 columns_fit (c ∷ cs) (v ∷ vs) fits = both (of_column c v fits.0) (columns_fit cs vs fits.1)
-
-or_true : (a : Bool) → (a || true) ≡ true
-or_true true = refl
-or_true false = refl
 
 there_or_null : (c : ColumnDef) (v : Option TypedValue) → FitsColumn c v → (c.nullable || is_some v) ≡ true
 there_or_null c None fits = rw fits refl
@@ -88,16 +86,12 @@ module _ (place : ℕ → ℕ) (columns : List ColumnDef) where
   pub each_apart : (vs : List Version) → AllApart place columns vs → AllByRecursion (λ v. AllByRecursion (OneOrApart place columns v) vs) vs
   each_apart [] apart = tt
   each_apart (v ∷ vs) apart = (
-    (inl refl, all_weaker (Apart place columns v) (OneOrApart place columns v) (λ w a. inr (apart_flip place columns v w a)) vs apart.0),
+    (inl refl, All-weaker (Apart place columns v) (OneOrApart place columns v) (λ w a. inr (apart_flip place columns v w a)) vs apart.0),
     with_others v vs vs apart.0 (each_apart vs apart.1),
   )
 
 never_itself : (place : ℕ → ℕ) (a : EventId) → IsEarlier place a a → ⊥
 never_itself place a h = elim h [ inl lt ↦ omega (arith, lt) | inr p ↦ omega (arith, p.1) ]
-
-or_cases : (a b : Bool) → (a || b) ≡ true → (a ≡ true) ⊎ (b ≡ true)
-or_cases true b e = inl refl
-or_cases false b e = inr e
 
 some_or_none : (o : Option EventId) → is_some o ≡ true → is_none o ≡ true → ⊥
 some_or_none None e f = cc
@@ -118,7 +112,7 @@ module _ (items : List JournalItem) (entries : List TxEntry) (same : (id : ℕ) 
       let test : (nat_lt (place a.0) (place b.0) || ((place a.0 == place b.0) && nat_lt a.1 b.1)) ≡ true = rw (same a.0, same b.0) at e in
       elim (or_cases (nat_lt (place a.0) (place b.0)) ((place a.0 == place b.0) && nat_lt a.1 b.1) test) [
         | inl lt ↦ inl (ltb-true (place a.0) (place b.0) lt)
-        | inr p ↦ (let q = and_true (place a.0 == place b.0) (nat_lt a.1 b.1) p in inr (eqb-true (place a.0) (place b.0) q.0, ltb-true a.1 b.1 q.1))
+        | inr p ↦ (let q = and_parts (place a.0 == place b.0) (nat_lt a.1 b.1) p in inr (eqb-true (place a.0) (place b.0) q.0, ltb-true a.1 b.1 q.1))
       ]
 
   after_start : (v : Version) → IsOf items v → ends_well entries v v.end ≡ true
@@ -146,7 +140,7 @@ module _ (items : List JournalItem) (entries : List TxEntry) (same : (id : ℕ) 
     not_both_ways v w is ended earlier =
         elim (or_cases (is_before entries w.start v.start) (same_event w.start v.start && (is_some w.end && is_none v.end)) earlier) [
           | inl b ↦ never_itself place v.start (then_ place v.start ended.0 v.start (starts_before v ended.0 is ended.1) (then_ place ended.0 w.start v.start ended.2 (from_test w.start v.start b)))
-          | inr p ↦ (let q = and_true (is_some w.end) (is_none v.end) (and_true (same_event w.start v.start) (is_some w.end && is_none v.end) p).1 in
+          | inr p ↦ (let q = and_parts (is_some w.end) (is_none v.end) (and_parts (same_event w.start v.start) (is_some w.end && is_none v.end) p).1 in
               let some : is_some v.end ≡ true = ap is_some ended.1 in some_or_none v.end some q.1)
         ]
 
@@ -154,7 +148,7 @@ module _ (items : List JournalItem) (entries : List TxEntry) (same : (id : ℕ) 
     not_itself v earlier =
         elim (or_cases (is_before entries v.start v.start) (same_event v.start v.start && (is_some v.end && is_none v.end)) earlier) [
           | inl b ↦ never_itself place v.start (from_test v.start v.start b)
-          | inr p ↦ (let q = and_true (is_some v.end) (is_none v.end) (and_true (same_event v.start v.start) (is_some v.end && is_none v.end) p).1 in some_or_none v.end q.0 q.1)
+          | inr p ↦ (let q = and_parts (is_some v.end) (is_none v.end) (and_parts (same_event v.start v.start) (is_some v.end && is_none v.end) p).1 in some_or_none v.end q.0 q.1)
         ]
 
     -- an earlier version of the key ends before this one starts
@@ -170,11 +164,11 @@ module _ (items : List JournalItem) (entries : List TxEntry) (same : (id : ℕ) 
         let found : List Version = of_key columns key vs in
         let P : Version → Type 0 = λ w. OneOrApart place columns v w × (same_key (version_key columns w) key ≡ true) in
         let Q : Version → Type 0 = λ w. is_earlier entries w v ≡ true in
-        all_weaker (λ w. P w × Q w) (Precedes v) (λ w h. precedes v w is h.0.0 h.0.1 h.1) (before entries columns vs v)
+        All-weaker (λ w. P w × Q w) (Precedes v) (λ w h. precedes v w is h.0.0 h.0.1 h.1) (before entries columns vs v)
         (all_both P Q (before entries columns vs v)
         (all_filter P (λ w. is_earlier entries w v) found (all_both (OneOrApart place columns v) (λ w. same_key (version_key columns w) key ≡ true) found
-        (all_filter (OneOrApart place columns v) (λ w. same_key (version_key columns w) key) vs apart) (all_pass (λ w. same_key (version_key columns w) key) vs)))
-        (all_pass (λ w. is_earlier entries w v) found))
+        (all_filter (OneOrApart place columns v) (λ w. same_key (version_key columns w) key) vs apart) (kept_by_passes (λ w. same_key (version_key columns w) key) vs)))
+        (kept_by_passes (λ w. is_earlier entries w v) found))
 
     latest_of : (P : Version → Type 0) (vs : List Version) → AllByRecursion P vs → IfSome (latest entries vs) P
     latest_of P [] all = tt
@@ -229,7 +223,7 @@ module _ (items : List JournalItem) (entries : List TxEntry) (same : (id : ℕ) 
 
     -- in both parts of the table as the image shows it
     in_both : (P : Version → Type 0) → AllByRecursion P t.versions → AllByRecursion P (in_parts t).versions
-    in_both P all = all_append P (live t.versions) (ended_ones t.versions) (all_filter P _ t.versions all) (all_filter P _ t.versions all)
+    in_both P all = All-append P (live t.versions) (ended_ones t.versions) (all_filter P _ t.versions all) (all_filter P _ t.versions all)
 
     one_holds : (v : Version) → Facts v → version_holds entries (in_parts t) v ≡ true
     one_holds v f =
@@ -246,8 +240,8 @@ module _ (items : List JournalItem) (entries : List TxEntry) (same : (id : ℕ) 
     none_bad : bad_versions entries (in_parts t) ≡ []
     none_bad =
         ap (map (λ (v : Version). (t.def.id, v.start)))
-        (none_left (λ v. not (version_holds entries (in_parts t) v)) (in_parts t).versions
-        (all_weaker Facts (λ v. not (version_holds entries (in_parts t) v) ≡ false) (λ v f. ap not (one_holds v f)) (in_parts t).versions (in_both Facts facts)))
+        (filter_none (λ v. not (version_holds entries (in_parts t) v)) (in_parts t).versions
+        (All-weaker Facts (λ v. not (version_holds entries (in_parts t) v) ≡ false) (λ v f. ap not (one_holds v f)) (in_parts t).versions (in_both Facts facts)))
 
   no_bad : (T : Tables) → AllByRecursion (TableOf items) T → AllKeepRows T → flat_map (bad_versions entries) (map in_parts T) ≡ []
   no_bad [] all keep = refl

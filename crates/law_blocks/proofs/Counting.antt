@@ -13,14 +13,14 @@ use Rattle.spec_history.proofs.Trace.{count_append}
 use Rattle.spec_ledger.specs.Entries.{entry_of, at_place, placed}
 use Rattle.spec_ledger.specs.Ledger.{Ledger, empty_ledger, recorded, ledger_from, ledger_of, entries_of}
 
-placed_length : (b n : ℕ) (xs : List TxEntry) → length (placed b n xs) ≡ length xs
+pub placed_length : (b n : ℕ) (xs : List TxEntry) → length (placed b n xs) ≡ length xs
 placed_length b n [] = refl
 placed_length b n (x ∷ xs) = ap suc (placed_length b (n + 1) xs)
 
 abbrev all_of : Ledger → ℕ
 all_of l = length l.closed + length l.pending
 
-parts_length : (k : ℕ) (xs : List TxEntry) → length (take k xs) + length (drop k xs) ≡ length xs
+pub parts_length : (k : ℕ) (xs : List TxEntry) → length (take k xs) + length (drop k xs) ≡ length xs
 parts_length k xs = sym (length-append (take k xs) (drop k xs)) ∙ ap length (take-append-drop k xs)
 
 module _ (h : List ℕ → List ℕ) where

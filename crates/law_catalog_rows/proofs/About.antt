@@ -8,6 +8,7 @@ use Rattle.std.specs.Bool.{Decides}
 use Rattle.std.specs.List.{AllByRecursion}
 use Rattle.std.specs.List.Sorted.{IsPermutation}
 use Rattle.std.specs.Ordering.{int_eq}
+use Rattle.std.proofs.ByRecursion.{All-append, All-weaker}
 use Rattle.sql_value.specs.declared.value.Value.{Value}
 use Rattle.sql_value.specs.declared.column.ColumnDef.{ColumnDef}
 use Rattle.sql_types.specs.declared.table.TableDef.{TableDef}
@@ -17,7 +18,6 @@ use Rattle.spec_model.specs.Rows.{Row, number}
 use Rattle.spec_model.specs.Catalog.{Defs}
 use Rattle.spec_model.specs.SystemTables.{table_row, column_row, column_rows, index_row, index_rows}
 use Rattle.spec_model.specs.Agreement.{IdsFrom}
-use Rattle.law_frame.proofs.Alls.{all_weaker, all_append}
 use Rattle.law_catalog_rows.specs.Encoded.{rows_of_indexes, item_rows, AreRowsOf, is_about, about, IsAmong, AreRowsOfEach}
 use Rattle.law_catalog_rows.proofs.Orders.{filtered, filter_all, filter_none}
 
@@ -37,11 +37,11 @@ parts_start id g n name (o ∷ os) = ((_, refl), parts_start id g (n + 1) name o
 indexes_start : (id g : ℕ) (is : List IndexDef) → AllByRecursion (StartsWith id) (rows_of_indexes id g is)
 unfolding index_rows
 indexes_start id g [] = tt
-indexes_start id g (i ∷ is) = all_append (StartsWith id) (index_rows id g i) (rows_of_indexes id (g + 1) is) (parts_start id g 1 i.name i.ordinals) (indexes_start id (g + 1) is)
+indexes_start id g (i ∷ is) = All-append (StartsWith id) (index_rows id g i) (rows_of_indexes id (g + 1) is) (parts_start id g 1 i.name i.ordinals) (indexes_start id (g + 1) is)
 
 items_start : (def : TableDef) → AllByRecursion (StartsWith def.id) (item_rows def)
 unfolding item_rows column_rows
-items_start def = all_append (StartsWith def.id) (column_rows def) (rows_of_indexes def.id 1 def.indexes) (columns_start def.id 1 def.columns) (indexes_start def.id 1 def.indexes)
+items_start def = All-append (StartsWith def.id) (column_rows def) (rows_of_indexes def.id 1 def.indexes) (columns_start def.id 1 def.columns) (indexes_start def.id 1 def.indexes)
 
 table_starts : (def : TableDef) → StartsWith def.id (table_row def)
 unfolding table_row
@@ -77,7 +77,7 @@ module _ (f : TableDef → List Row) (starts : (def : TableDef) → AllByRecursi
   no_others id [] ne = refl
   no_others id (d ∷ ds) ne =
       ap (about id) (flat_map-cons f d ds)
-      ∙ filter_none (is_about id) (f d) (flat_map f ds) (all_weaker (StartsWith d.id) (λ r. is_about id r ≡ false) (other_row d.id id (ne d (inl refl))) (f d) (starts d))
+      ∙ filter_none (is_about id) (f d) (flat_map f ds) (All-weaker (StartsWith d.id) (λ r. is_about id r ≡ false) (other_row d.id id (ne d (inl refl))) (f d) (starts d))
       ∙ no_others id ds (λ def a. ne def (inr a))
 
   later : (n : ℕ) (def : TableDef) (ds : Defs) → IdsFrom n ds → IsAmong def ds → n ≤ def.id
@@ -95,12 +95,12 @@ module _ (f : TableDef → List Row) (starts : (def : TableDef) → AllByRecursi
         | inl p ↦ (
             let e : d.id ≡ def.id = ap (λ (x : TableDef). x.id) p in
             let own : AllByRecursion (StartsWith def.id) (f d) = subst (λ (i : ℕ). AllByRecursion (StartsWith i) (f d)) e (starts d) in
-            filter_all (is_about (pos def.id)) (f d) (flat_map f ds) (all_weaker (StartsWith def.id) (λ r. is_about (pos def.id) r ≡ true) (own_row def.id) (f d) own)
+            filter_all (is_about (pos def.id)) (f d) (flat_map f ds) (All-weaker (StartsWith def.id) (λ r. is_about (pos def.id) r ≡ true) (own_row def.id) (f d) own)
             ∙ ap (λ (rs : List Row). f d ++ rs) (no_others (pos def.id) ds (λ x b same. absurd (let l = later (n + 1) x ds ids.1 b in let k : x.id ≡ def.id = same_pos x.id def.id same in omega (arith, l, k, e, ids.0))))
             ∙ no_more (f d) ∙ ap f p)
         | inr q ↦ (
             let l = later (n + 1) def ds ids.1 q in
-            filter_none (is_about (pos def.id)) (f d) (flat_map f ds) (all_weaker (StartsWith d.id) (λ r. is_about (pos def.id) r ≡ false) (other_row d.id (pos def.id) (λ same. (let k : d.id ≡ def.id = same_pos d.id def.id same in absurd (omega (arith, l, k, ids.0))))) (f d) (starts d))
+            filter_none (is_about (pos def.id)) (f d) (flat_map f ds) (All-weaker (StartsWith d.id) (λ r. is_about (pos def.id) r ≡ false) (other_row d.id (pos def.id) (λ same. (let k : d.id ≡ def.id = same_pos d.id def.id same in absurd (omega (arith, l, k, ids.0))))) (f d) (starts d))
             ∙ only_its (n + 1) def ds ids.1 q)
       ]
     where

@@ -15,7 +15,8 @@ use Rattle.spec_model.specs.Effect.{effect, table_effect, index_effect, with_sys
 use Rattle.spec_model.specs.Agreement.{IdsFrom}
 use Rattle.spec_model.specs.Reach.{creates}
 use Rattle.law_frame.proofs.Definitions.{same_defs, defs_after}
-use Rattle.law_journal.proofs.DefLists.{defs_append, redef, defs_redefined}
+use Rattle.law_frame.proofs.SameAlone.{defs_append}
+use Rattle.law_journal.proofs.DefLists.{redef, defs_redefined}
 use Rattle.law_catalog_rows.specs.Formed.{AllFormed}
 use Rattle.law_catalog_rows.proofs.Forms.{made, new_formed, redefined_formed}
 

@@ -1,6 +1,6 @@
 -- What the checks of CREATE TABLE and CREATE INDEX leave.
 use Rattle.std.proofs.Common.{◌≡◌, ◌≤◌, ◌<◌, ℕ, ◌+◌, inl, inr, refl, sym, ap, subst, ◌∙◌, Bool, true, false, List, [], ◌∷◌, ◌++◌, map, flat_map, length, Option, Some, None, Ok, arith, append_assoc, length-append}
-use Rattle.std.proofs.lemmas.Bool.{eq-eqb, ne_eqb}
+use Rattle.std.proofs.lemmas.Bool.{eq-eqb, ne_eqb, and_parts, or_parts, not-false}
 use Rattle.std.proofs.lemmas.Bool.Decides.{nat_tests}
 use Rattle.std.proofs.lemmas.List.{map-append, length-map}
 use Rattle.std.proofs.lemmas.List.Concat.{flat_map-cons}
@@ -21,14 +21,14 @@ use Rattle.spec_model.specs.Catalog.{Defs, Tables, defs_of, find_part}
 use Rattle.spec_model.specs.Checks.{refused_if, is_declared}
 use Rattle.spec_model.specs.Create.{names_of, table_names, all_names, is_ledger_name, history_of, key_position_of, keyed, table_def, has_bad_name, exceeds_limit, has_null_key, next_id, create_check, index_def, index_check_in, index_check, ordinal_at, ordinals_of, with_index}
 use Rattle.spec_model.specs.Agreement.{IdsFrom}
-use Rattle.law_frame.proofs.Alls.{all_weaker, all_both, all_append, all_map}
+use Rattle.law_frame.proofs.Alls.{all_both, all_map}
 use Rattle.law_frame.proofs.Checked.{Led, led}
-use Rattle.law_frame.proofs.SameKeys.{or_false, and_true}
 use Rattle.spec_model.specs.Columns.{place_of}
 use Rattle.spec_model.specs.Refusals.{or_refused}
 use Rattle.std.specs.Str.{bytes_eq}
 use Rattle.std.specs.Bool.{Decides}
 use Rattle.std.proofs.lemmas.Slice.Eq.{bytes_eq-Decides}
+use Rattle.std.proofs.ByRecursion.{All-append, All-weaker}
 use Rattle.law_journal.specs.Fine.{OfTable}
 use Rattle.law_journal.proofs.Created.{Created, created, Indexed, indexed}
 use Rattle.law_journal.proofs.DefLists.{redef}
@@ -59,10 +59,6 @@ second_false : (a b c d e f : Bool) → (a || b || c || d || e || f) ≡ false �
 second_false true b c d e f h = cc
 second_false false true c d e f h = cc
 second_false false false c d e f h = refl
-
-not_not : (b : Bool) → not b ≡ false → b ≡ true
-not_not true h = refl
-not_not false h = cc
 
 pub record Passed (a b c d : Bool) : Type 0 where
   pub first : a ≡ false
@@ -97,7 +93,7 @@ unfolding create_check
 new_def defs c def e =
     let d : TableDef = table_def (next_id defs) c in
     let p : Passed (has_bad_name defs d c.key) (exceeds_limit defs d c.key) (not (list_all (is_declared d.columns) c.key)) (has_null_key d) × (def ≡ d) = all_passed _ _ _ _ NameConflict LimitExceeded NoSuchColumn NullNotAllowed d def e in
-    record { is = p.1; declared = not_not _ p.0.third }
+    record { is = p.1; declared = not-false _ p.0.third }
 
 pub record Made (defs : Defs) (def : TableDef) : Type 0 where
   pub formed : Formed def
@@ -119,10 +115,10 @@ made defs c def e =
         view = k.view;
         own_names = n.first;
         count = k.count;
-        columns = all_weaker _ FormedColumn (λ x small. record { name = small.name; ty = small.ty }) d.columns k.columns;
+        columns = All-weaker _ FormedColumn (λ x small. record { name = small.name; ty = small.ty }) d.columns k.columns;
         column_names = n.third;
         not_ledgers = n.fifth;
-        keyed = record { key = c.key; few = grind (arith, nat_tests); differ = n.fourth; declared = not_not _ p.0.third; places = keyed_places c.key c.columns };
+        keyed = record { key = c.key; few = grind (arith, nat_tests); differ = n.fourth; declared = not-false _ p.0.third; places = keyed_places c.key c.columns };
         not_null = p.0.fourth;
         few_indexes = omega arith;
         indexes = tt;
@@ -154,7 +150,7 @@ still_in_front (a ∷ b ∷ ds) def h = h
 pub new_formed : (ds : Defs) (def : TableDef) → Made ds def → AllFormed ds → AllFormed (ds ++ def ∷ [])
 new_formed ds def m a = record {
   system = still_in_front ds def a.system;
-  each = all_append (λ (d : TableDef). 2 < d.id → Formed d) ds (def ∷ []) a.each ((λ lt. m.formed), tt);
+  each = All-append (λ (d : TableDef). 2 < d.id → Formed d) ds (def ∷ []) a.each ((λ lt. m.formed), tt);
   fresh = subst (AllFresh []) (sym (map-append table_names ds (def ∷ [])))
       (fresh_more [] (map table_names ds) (table_names def) a.fresh (ap (λ (xs : List (List ℕ)). list_any (has_name xs) (table_names def)) (names_together ds) ∙ m.fresh));
 }
@@ -176,13 +172,13 @@ other_way a b e = here (bytes_eq b a) (bytes_eq b a) (bytes_eq-Decides b a) refl
 
 one_name_more : (ns : List (List ℕ)) (n m : List ℕ) → has_name ns m ≡ false → bytes_eq n m ≡ false → has_name (ns ++ n ∷ []) m ≡ false
 one_name_more [] n m e f = rw f refl
-one_name_more (k ∷ ns) n m e f = let p = or_false (bytes_eq k m) (has_name ns m) e in rw p.0 (one_name_more ns n m p.1 f)
+one_name_more (k ∷ ns) n m e f = let p = or_parts (bytes_eq k m) (has_name ns m) e in rw p.0 (one_name_more ns n m p.1 f)
 
 still_differ : (ns : List (List ℕ)) (n : List ℕ) → repeats ns ≡ false → has_name ns n ≡ false → repeats (ns ++ n ∷ []) ≡ false
 still_differ [] n e f = refl
 still_differ (m ∷ ns) n e f =
-    let p = or_false (has_name ns m) (repeats ns) e in
-    let q = or_false (bytes_eq m n) (has_name ns n) f in
+    let p = or_parts (has_name ns m) (repeats ns) e in
+    let q = or_parts (bytes_eq m n) (has_name ns n) f in
     rw (one_name_more ns n m p.0 (other_way m n q.0)) (still_differ ns n p.1 q.1)
 
 ordinal_from_one : (o : Option ℕ) → is_some o ≡ true → 1 ≤ ordinal_at o
@@ -191,7 +187,7 @@ ordinal_from_one None e = cc
 
 ordinals_from_one : (columns : List ColumnDef) (names : List (List ℕ)) → list_all (is_declared columns) names ≡ true → AllByRecursion (λ o. 1 ≤ o) (ordinals_of columns names)
 ordinals_from_one columns [] e = tt
-ordinals_from_one columns (n ∷ ns) e = let p = and_true (is_declared columns n) (list_all (is_declared columns) ns) e in (ordinal_from_one (place_of columns n) p.0, ordinals_from_one columns ns p.1)
+ordinals_from_one columns (n ∷ ns) e = let p = and_parts (is_declared columns n) (list_all (is_declared columns) ns) e in (ordinal_from_one (place_of columns n) p.0, ordinals_from_one columns ns p.1)
 
 -- the new index has the statement's name, and an ordinal for each of its columns
 pub record IsIndexOf (c : CreateIndex) (x : TableDef × IndexDef) : Type 0 where
@@ -218,9 +214,9 @@ new_index defs c x e =
     let y : TableDef × IndexDef = (l.value.0, index_def l.value.0 c) in
     let p : Passed (has_name (map (λ i. i.name) l.value.0.indexes) c.name || repeats c.columns) _ _ (not (list_all (is_declared l.value.0.columns) c.columns)) × (x ≡ y) = all_passed _ _ _ _ NameConflict LimitExceeded ReadOnlyTable NoSuchColumn y x l.then_ in
     subst NewIndex (sym p.1) (record {
-      name = (or_false (has_name (map (λ i. i.name) l.value.0.indexes) c.name) (repeats c.columns) p.0.first).0;
-      ordinals = ordinals_from_one l.value.0.columns c.columns (not_not _ p.0.fourth);
-      differ = ordinals_differ l.value.0.columns c.columns (not_not _ p.0.fourth) (or_false (has_name (map (λ i. i.name) l.value.0.indexes) c.name) (repeats c.columns) p.0.first).1;
+      name = (or_parts (has_name (map (λ i. i.name) l.value.0.indexes) c.name) (repeats c.columns) p.0.first).0;
+      ordinals = ordinals_from_one l.value.0.columns c.columns (not-false _ p.0.fourth);
+      differ = ordinals_differ l.value.0.columns c.columns (not-false _ p.0.fourth) (or_parts (has_name (map (λ i. i.name) l.value.0.indexes) c.name) (repeats c.columns) p.0.first).1;
     })
 
 pub index_formed : (ds : Defs) (x : TableDef × IndexDef) → Indexed ds x → NewIndex x → Formed x.0 → Formed (with_index x.0 x.1)
@@ -237,7 +233,7 @@ index_formed ds x i new f = record {
   keyed = f.keyed;
   not_null = f.not_null;
   few_indexes = omega (arith, i.indexes, length-append x.0.indexes (x.1 ∷ []));
-  indexes = all_append (FormedIndex (length x.0.columns)) x.0.indexes (x.1 ∷ []) f.indexes (record { name = i.name; count = i.count; ordinals = all_both (λ o. 1 ≤ o) (λ o. o ≤ length x.0.columns) x.1.ordinals new.ordinals i.ordinals; differ = new.differ }, tt);
+  indexes = All-append (FormedIndex (length x.0.columns)) x.0.indexes (x.1 ∷ []) f.indexes (record { name = i.name; count = i.count; ordinals = all_both (λ o. 1 ≤ o) (λ o. o ≤ length x.0.columns) x.1.ordinals new.ordinals i.ordinals; differ = new.differ }, tt);
   index_names = subst (λ (ns : List (List ℕ)). repeats ns ≡ false) (sym (map-append (λ (j : IndexDef). j.name) x.0.indexes (x.1 ∷ []))) (still_differ (map (λ j. j.name) x.0.indexes) x.1.name f.index_names new.name);
 }
 

@@ -14,14 +14,7 @@ use Rattle.spec_model.specs.Journals.{IsOther, after_item, serial_from, serial, 
 use Rattle.law_frame.proofs.OtherTransactions.{others_sound}
 use Rattle.law_frame.proofs.SoundStatements.{statement_sound, first_sound}
 use Rattle.law_frame.proofs.StepByStep.{OnText, Throughout, throughout, script_keeps_where}
-
-first_part : (P : JournalItem → Type 0) (xs ys : List JournalItem) → AllByRecursion P (xs ++ ys) → AllByRecursion P xs
-first_part P [] ys h = tt
-first_part P (x ∷ xs) ys h = (h.0, first_part P xs ys h.1)
-
-last_one : (P : JournalItem → Type 0) (xs : List JournalItem) (y : JournalItem) → AllByRecursion P (xs ++ y ∷ []) → P y
-last_one P [] y h = h.0
-last_one P (x ∷ xs) y h = last_one P xs y h.1
+use Rattle.law_frame.proofs.LegalSound.{first_part, last_one}
 
 -- an id above all of these
 abbrev one_more : List JournalItem → ℕ

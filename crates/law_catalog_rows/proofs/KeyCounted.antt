@@ -1,21 +1,20 @@
 -- The key positions of columns are all those from 1 to the number of names in the key.
 use Rattle.std.proofs.Common.{◌≡◌, ◌≤◌, ◌<◌, ℕ, zero, suc, ◌+◌, refl, sym, ap, ◌∙◌, Bool, true, false, List, [], ◌∷◌, ◌++◌, length, Option, Some, None, get_or, arith, length-append}
-use Rattle.std.proofs.lemmas.Bool.{eqb-true, eq-eqb, lt-ltb}
+use Rattle.std.proofs.lemmas.Bool.{eqb-true, eq-eqb, lt-ltb, and_parts, or_parts}
 use Rattle.std.proofs.lemmas.Bool.Decides.{nat_tests}
 use Rattle.std.proofs.lemmas.List.Quantifiers.{position-Some}
 use Rattle.std.specs.Prelude.{◌==◌, ◌||◌, not, nat_le, nat_lt, cond, is_some, position, if◌then◌else◌}
 use Rattle.std.specs.List.{AllByRecursion, list_all, position_or_len, range_with_len}
 use Rattle.std.specs.Str.{bytes_eq}
 use Rattle.sql_value.specs.declared.column.ColumnDef.{ColumnDef}
+use Rattle.sql_value.proofs.Lists.{bytes_eq-same, bytes_eq-true}
 use Rattle.spec_model.specs.Lists.{has_name, repeats}
 use Rattle.spec_model.specs.Columns.{place_of}
 use Rattle.spec_model.specs.Checks.{is_declared}
 use Rattle.spec_model.specs.Create.{names_of, ordinal_at, key_position_of}
-use Rattle.law_frame.proofs.SameKeys.{or_false, and_true}
 use Rattle.law_catalog_rows.specs.IsEncodableDef.{is_among, is_between, greatest, positions_of, are_key_positions}
 use Rattle.law_catalog_rows.specs.Formed.{HasKeyPositions}
 use Rattle.law_catalog_rows.proofs.Forms.{other_way}
-use Rattle.law_catalog_rows.proofs.Ordinals.{same_bytes, own_bytes}
 use Rattle.law_catalog_rows.proofs.KeyPositions.{positions_differ}
 
 -- ---- the greatest
@@ -74,7 +73,7 @@ module _ (key : List (List ℕ)) where
   among n k (c ∷ cs) p e d = here (bytes_eq c.name n) refl d (λ h. among n k cs p.1 e h)
     where
       here : (b : Bool) → bytes_eq c.name n ≡ b → (b || has_name (names_of cs) n) ≡ true → (has_name (names_of cs) n ≡ true → is_among (positions_of cs) (suc k) ≡ true) → is_among (positions_of (c ∷ cs)) (suc k) ≡ true
-      here true is h m = has_it (c.key_position == 0) c.key_position k (positions_of cs) refl (p.0 ∙ ap (key_position_of key) (same_bytes c.name n is) ∙ e)
+      here true is h m = has_it (c.key_position == 0) c.key_position k (positions_of cs) refl (p.0 ∙ ap (key_position_of key) (bytes_eq-true c.name n is) ∙ e)
       here false is h m = still (not (c.key_position == 0)) c.key_position (suc k) (positions_of cs) (m h)
 
 -- a name that is declared is among the columns'
@@ -94,13 +93,13 @@ declared_name n (c ∷ cs) (Some i) e h = let x = position-Some (λ (d : ColumnD
 
 -- where no name stands twice each is found at its own place
 not_at : (m n : List ℕ) (rest xs : List (List ℕ)) → has_name (xs ++ n ∷ rest) m ≡ false → bytes_eq n m ≡ false
-not_at m n rest [] h = (or_false (bytes_eq n m) (has_name rest m) h).0
-not_at m n rest (x ∷ xs) h = not_at m n rest xs (or_false (bytes_eq x m) (has_name (xs ++ n ∷ rest) m) h).1
+not_at m n rest [] h = (or_parts (bytes_eq n m) (has_name rest m) h).0
+not_at m n rest (x ∷ xs) h = not_at m n rest xs (or_parts (bytes_eq x m) (has_name (xs ++ n ∷ rest) m) h).1
 
 own_length : (front : List (List ℕ)) (n : List ℕ) (rest : List (List ℕ)) → repeats (front ++ n ∷ rest) ≡ false → position_or_len (λ m. bytes_eq m n) (front ++ n ∷ rest) ≡ length front
-own_length [] n rest e = rw (own_bytes n) refl
+own_length [] n rest e = rw (bytes_eq-same n) refl
 own_length (m ∷ front) n rest e =
-    let h = or_false (has_name (front ++ n ∷ rest) m) (repeats (front ++ n ∷ rest)) e in
+    let h = or_parts (has_name (front ++ n ∷ rest) m) (repeats (front ++ n ∷ rest)) e in
     rw (other_way n m (not_at m n rest front h.0), own_length front n rest h.1) (omega arith)
 
 own_place : (front : List (List ℕ)) (n : List ℕ) (rest : List (List ℕ)) → repeats (front ++ n ∷ rest) ≡ false → position (λ m. bytes_eq m n) (front ++ n ∷ rest) ≡ Some (length front)
@@ -117,7 +116,7 @@ each_among : (key front rest : List (List ℕ)) (cs : List ColumnDef) → key �
     → list_all (is_among (positions_of cs)) (range_with_len (suc (length front)) (length rest)) ≡ true
 each_among key front [] cs is e p d = refl
 each_among key front (n ∷ rest) cs is e p d =
-    let h = and_true (is_declared cs n) (list_all (is_declared cs) rest) d in
+    let h = and_parts (is_declared cs n) (list_all (is_declared cs) rest) d in
     let place : position (λ m. bytes_eq m n) key ≡ Some (length front) = ap (position (λ m. bytes_eq m n)) is ∙ own_place front n rest (ap repeats (sym is) ∙ e) in
     let at : key_position_of key n ≡ suc (length front) = ap ordinal_at place ∙ omega arith in
     let here : is_among (positions_of cs) (suc (length front)) ≡ true = among key n (length front) cs p at (declared_name n cs (place_of cs n) refl h.0) in
@@ -126,8 +125,8 @@ each_among key front (n ∷ rest) cs is e p d =
     rw here (ap (λ (k : ℕ). list_all (is_among (positions_of cs)) (range_with_len k (length rest))) (sym count) ∙ more)
 
 last_among : (ns : List ℕ) (from k : ℕ) → list_all (is_among ns) (range_with_len from (suc k)) ≡ true → is_among ns (from + k) ≡ true
-last_among ns from zero e = (let h = and_true (is_among ns from) true e in ap (is_among ns) (omega arith) ∙ h.0)
-last_among ns from (suc k) e = let h = and_true (is_among ns from) _ e in ap (is_among ns) (omega arith) ∙ last_among ns (from + 1) k h.1
+last_among ns from zero e = (let h = and_parts (is_among ns from) true e in ap (is_among ns) (omega arith) ∙ h.0)
+last_among ns from (suc k) e = let h = and_parts (is_among ns from) _ e in ap (is_among ns) (omega arith) ∙ last_among ns (from + 1) k h.1
 
 between : (k : ℕ) → 1 ≤ k → k ≤ 4 → is_between 1 4 k ≡ true
 between k a b = grind (arith, nat_tests)

@@ -4,13 +4,14 @@ use Rattle.std.proofs.lemmas.Bool.Decides.{nat_tests}
 use Rattle.std.specs.Prelude.{◌==◌, ◌||◌, not, nat_le, nat_lt, position}
 use Rattle.std.specs.List.{AllByRecursion, list_all, list_any}
 use Rattle.std.specs.Str.{bytes_eq}
+use Rattle.std.proofs.lemmas.Bool.{or_parts}
 use Rattle.sql_value.specs.declared.column.ColumnDef.{ColumnDef}
 use Rattle.sql_value.specs.declared.column.TableKind.{TableKind}
 use Rattle.sql_value.specs.declared.column.TableKind.TheVariants.{AppendOnly, Updatable}
+use Rattle.sql_value.proofs.Naturals.{le_true}
 use Rattle.sql_types.specs.declared.table.TableDef.{TableDef}
 use Rattle.sql_types.specs.declared.table.IndexDef.{IndexDef}
 use Rattle.spec_model.specs.Create.{is_ledger_name, key_position_of}
-use Rattle.law_frame.proofs.SameKeys.{or_false}
 use Rattle.law_catalog_rows.specs.Formed.{FormedColumn, FormedIndex, HistoryOf, Formed}
 use Rattle.law_catalog_rows.specs.IsEncodableDef.{is_proper_name, is_between, is_encodable_column, is_encodable_index, has_its_history, is_encodable_def}
 use Rattle.law_catalog_rows.specs.Written.{IsWritten, HistoryWritten, Written}
@@ -22,14 +23,11 @@ in_between low high n a b = grind (arith, nat_tests)
 not_long : (n : ℕ) → n ≤ 128 → nat_lt 128 n ≡ false
 not_long n le = grind (arith, nat_tests)
 
-some_bytes : (n : ℕ) → 1 ≤ n → nat_le 1 n ≡ true
-some_bytes n le = grind (arith, nat_tests)
-
 at_most_four : (n : ℕ) → n ≤ 4 → nat_le n 4 ≡ true
 at_most_four n le = grind (arith, nat_tests)
 
 proper : (name : List ℕ) → IsWritten name → length name ≤ 128 → is_proper_name name ≡ true
-proper name w le = rw (some_bytes (length name) w.0, not_long (length name) le, w.1) refl
+proper name w le = rw (le_true (length name) w.0, not_long (length name) le, w.1) refl
 
 history_proper : (kind : TableKind) (name : List ℕ) → HistoryOf kind name → HistoryWritten kind name → has_its_history kind name ≡ true
 history_proper AppendOnly name h w = ap (λ (x : List ℕ). length x == 0) h
@@ -38,7 +36,7 @@ history_proper Updatable name h w = proper name w h
 columns_spelled : (cs : List ColumnDef) → AllByRecursion FormedColumn cs → AllByRecursion (λ c. IsWritten c.name) cs → list_any (λ c. is_ledger_name c.name) cs ≡ false → list_all is_encodable_column cs ≡ true
 columns_spelled [] f w e = refl
 columns_spelled (c ∷ cs) f w e =
-    let h = or_false (is_ledger_name c.name) (list_any (λ d. is_ledger_name d.name) cs) e in
+    let h = or_parts (is_ledger_name c.name) (list_any (λ d. is_ledger_name d.name) cs) e in
     rw (f.0.ty, proper c.name w.0 f.0.name, h.0) (columns_spelled cs f.1 w.1 h.1)
 
 all_between : (low high : ℕ) (ns : List ℕ) → AllByRecursion (λ n. (low ≤ n) × (n ≤ high)) ns → list_all (is_between low high) ns ≡ true

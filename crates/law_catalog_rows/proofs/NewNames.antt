@@ -9,6 +9,8 @@ use Rattle.std.specs.List.{AllByRecursion, list_any, filter}
 use Rattle.std.specs.List.Sorted.{IsPermutation}
 use Rattle.std.specs.Ordering.{int_cmp, is_lt}
 use Rattle.std.specs.Str.{bytes_eq}
+use Rattle.std.proofs.ByRecursion.{All-append}
+use Rattle.std.proofs.lemmas.Bool.{and_right, or_parts}
 use Rattle.sql_value.specs.declared.column.TableKind.{TableKind}
 use Rattle.sql_value.specs.declared.column.TableKind.TheVariants.{AppendOnly, Updatable}
 use Rattle.sql_value.specs.declared.value.Value.TheVariants.{Text}
@@ -19,8 +21,6 @@ use Rattle.spec_model.specs.Catalog.{Defs}
 use Rattle.spec_model.specs.SystemTables.{kind_code, history_value, table_row, tables_def, columns_def}
 use Rattle.spec_model.specs.Create.{is_name, table_names, all_names}
 use Rattle.spec_model.specs.Agreement.{IdsFrom}
-use Rattle.law_frame.proofs.Alls.{all_append}
-use Rattle.law_frame.proofs.SameKeys.{or_false}
 use Rattle.law_catalog_rows.specs.Formed.{HistoryOf, Formed, AllFresh}
 use Rattle.law_catalog_rows.specs.IsEncodableDef.{names_in, is_before, share_name, has_new_names}
 use Rattle.law_catalog_rows.specs.Written.{IsWritten, HistoryWritten, Written}
@@ -56,10 +56,6 @@ not_before : (def other : TableDef) → def.id ≤ other.id → is_before def.id
 unfolding table_row
 not_before def other le = higher other.id def.id le
 
-either_false : (a b : Bool) → b ≡ false → (a && b) ≡ false
-either_false true b e = e
-either_false false b e = refl
-
 none_behind : (def : TableDef) (n : ℕ) (ds : Defs) → IdsFrom n ds → def.id ≤ n → list_any (bars def) (map table_row ds) ≡ false
 none_behind def n [] ids le = refl
 none_behind def n (d ∷ ds) ids le = rw (not_before def d (omega (arith, ids.0, le))) (none_behind def (n + 1) ds ids.1 (omega (arith, le)))
@@ -68,8 +64,8 @@ none_behind def n (d ∷ ds) ids le = rw (not_before def d (omega (arith, ids.0,
 in_neither : (xs ys names : List (List ℕ)) → list_any (has_name (xs ++ ys)) names ≡ false → (list_any (has_name xs) names ≡ false) × (list_any (has_name ys) names ≡ false)
 in_neither xs ys [] e = (refl, refl)
 in_neither xs ys (n ∷ ns) e =
-    let p = or_false (has_name (xs ++ ys) n) (list_any (has_name (xs ++ ys)) ns) e in
-    let q = or_false (has_name xs n) (has_name ys n) (sym (list_any-append (λ m. bytes_eq m n) xs ys) ∙ p.0) in
+    let p = or_parts (has_name (xs ++ ys) n) (list_any (has_name (xs ++ ys)) ns) e in
+    let q = or_parts (has_name xs n) (has_name ys n) (sym (list_any-append (λ m. bytes_eq m n) xs ys) ∙ p.0) in
     let r = in_neither xs ys ns p.1 in
     (rw (q.0, r.0) refl, rw (q.1, r.1) refl)
 
@@ -78,7 +74,7 @@ none_in_front def [] named e = refl
 none_in_front def (d ∷ ds) named e =
     let p = in_neither (table_names d) (all_names ds) (table_names def) (ap (λ (names : List (List ℕ)). list_any (has_name names) (table_names def)) (sym (flat_map-cons table_names d ds)) ∙ e) in
     let other : share_name (names_in (table_row d)) def ≡ false = ap (λ (names : List (List ℕ)). share_name names def) named.0 ∙ p.0 in
-    rw (either_false (is_before def.id (table_row d)) (share_name (names_in (table_row d)) def) other) (none_in_front def ds named.1 p.1)
+    rw (and_right (is_before def.id (table_row d)) (share_name (names_in (table_row d)) def) other) (none_in_front def ds named.1 p.1)
 
 rows_append : (front ds : Defs) → map table_row (front ++ ds) ≡ map table_row front ++ map table_row ds
 rows_append [] ds = refl
@@ -117,7 +113,7 @@ module _ (first : List Row) where
       ∙ list_any-append (bars d) (map table_row front) (map table_row (d ∷ ds)) ∙ rw (none_in_front d front known p.1) (none_behind d n (d ∷ ds) ids (omega (arith, ids.0))) in (
         both_new (share_name systems d) (list_any (bars d) first) p.0 barred,
         new_after (front ++ d ∷ []) ds (n + 1) ids.1 (subst (λ (all : Defs). IsPermutation first (map table_row all)) (sym (append_one front d ds)) rows)
-            (all_append IsNamed front (d ∷ []) known (named.0, tt)) named.1
+            (All-append IsNamed front (d ∷ []) known (named.0, tt)) named.1
             (subst (λ (names : List (List ℕ)). AllFresh names (map table_names ds)) (append_assoc systems (all_names front) (table_names d) ∙ ap (λ (names : List (List ℕ)). systems ++ names) (names_append front d)) f.1),
       )
 

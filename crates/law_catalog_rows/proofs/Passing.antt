@@ -1,6 +1,6 @@
 -- Where each definition is spelled and rows are about no other table, no fault is found.
 use Rattle.std.proofs.Common.{◌≡◌, ◌≢◌, ℤ, pos, inl, inr, refl, sym, ap, ◌∙◌, Bool, true, false, List, [], ◌∷◌, ◌++◌, map, length, None, arith}
-use Rattle.std.proofs.lemmas.Bool.{eq-eqb}
+use Rattle.std.proofs.lemmas.Bool.{eq-eqb, or_right}
 use Rattle.std.proofs.lemmas.Bool.Decides.{Decides-int_eq}
 use Rattle.std.proofs.lemmas.List.Sorted.{list_any-IsPermutation}
 use Rattle.std.proofs.lemmas.List.Sorted.{length_permutation}
@@ -9,13 +9,13 @@ use Rattle.std.specs.Prelude.{◌&&◌, ◌||◌, not, if◌then◌else◌}
 use Rattle.std.specs.List.{AllByRecursion, list_any, list_all, filter, filter_map}
 use Rattle.std.specs.List.Sorted.{IsPermutation}
 use Rattle.std.specs.Ordering.{int_cmp, int_eq}
+use Rattle.std.proofs.ByRecursion.{All-append}
 use Rattle.sql_types.specs.declared.table.TableDef.{TableDef}
 use Rattle.sql_value.specs.declared.value.Value.TheVariants.{Null, Num, Text, Bytes, Date}
 use Rattle.spec_model.specs.Rows.{Row}
 use Rattle.spec_model.specs.Keys.{same_key}
 use Rattle.spec_model.specs.Catalog.{Defs}
 use Rattle.spec_model.specs.SystemTables.{table_row}
-use Rattle.law_frame.proofs.Alls.{all_append}
 use Rattle.law_frame.proofs.SameKeys.{same_itself}
 use Rattle.law_catalog_rows.specs.Least.{least}
 use Rattle.law_catalog_rows.specs.Encoded.{item_rows, is_about, about, IsAmong, AreRowsOfOne, AreRowsOfEach, RowsEncode}
@@ -24,16 +24,12 @@ use Rattle.law_catalog_rows.specs.Differs.{are_rows, table_of, is_encoded, is_wr
 
 -- ---- rows in another order
 
-or_true : (a b : Bool) → b ≡ true → (a || b) ≡ true
-or_true true b e = refl
-or_true false b e = e
-
 all_or : {A : Type 0} (p q : A → Bool) (xs : List A) → list_all q xs ≡ true → list_all (λ x. p x || q x) xs ≡ true
 all_or p q [] e = refl
 all_or p q (x ∷ xs) e = here (q x) refl e (λ h. all_or p q xs h)
   where
     here : (b : Bool) → q x ≡ b → (b && list_all q xs) ≡ true → (list_all q xs ≡ true → list_all (λ y. p y || q y) xs ≡ true) → ((p x || q x) && list_all (λ y. p y || q y) xs) ≡ true
-    here true is h k = rw (or_true (p x) (q x) is) (k h)
+    here true is h k = rw (or_right (p x) (q x) is) (k h)
     here false is h k = cc
 
 own_rows : (rows : List Row) → list_all (λ w. list_any (same_key w) rows) rows ≡ true
@@ -121,7 +117,7 @@ module _ (first second : List Row) (defs : Defs) (all : AllByRecursion (λ d. is
 
   defs_right : (ds : Defs) → ((id : ℤ) → has_def ds id ≡ true → has_def defs id ≡ true) → AllByRecursion (λ id. is_wrong first second defs id ≡ false) (map (λ (d : TableDef). pos d.id) ds)
   defs_right [] h = tt
-  defs_right (d ∷ ds) h = (right (pos d.id) (h (pos d.id) (rw (itself (pos d.id)) refl)), defs_right ds (λ id e. h id (or_true (int_eq (pos d.id) id) (has_def ds id) e)))
+  defs_right (d ∷ ds) h = (right (pos d.id) (h (pos d.id) (rw (itself (pos d.id)) refl)), defs_right ds (λ id e. h id (or_right (int_eq (pos d.id) id) (has_def ds id) e)))
 
   none_wrong : (ids : List ℤ) → AllByRecursion (λ id. is_wrong first second defs id ≡ false) ids → filter (is_wrong first second defs) ids ≡ []
   none_wrong [] h = refl
@@ -132,9 +128,9 @@ module _ (first second : List Row) (defs : Defs) (all : AllByRecursion (λ d. is
   nothing h =
       let P : ℤ → Type 0 = λ id. is_wrong first second defs id ≡ false in
       ap (least int_cmp) (none_wrong (all_ids first second defs)
-      (all_append P (filter_map table_of first) (filter_map table_of second ++ map (λ (d : TableDef). pos d.id) defs)
+      (All-append P (filter_map table_of first) (filter_map table_of second ++ map (λ (d : TableDef). pos d.id) defs)
       (rows_right first (λ id e. about_none id first (h.others id (no_def defs id e)).0))
-      (all_append P (filter_map table_of second) (map (λ (d : TableDef). pos d.id) defs)
+      (All-append P (filter_map table_of second) (map (λ (d : TableDef). pos d.id) defs)
       (rows_right second (λ id e. about_none id second (h.others id (no_def defs id e)).1))
       (defs_right defs (λ id e. e)))))
 

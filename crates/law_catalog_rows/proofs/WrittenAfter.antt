@@ -1,6 +1,6 @@
 -- Each statement that the grammar writes keeps that the definitions are as the grammar leaves them.
 use Rattle.std.proofs.Common.{◌≡◌, ◌≤◌, ◌<◌, ℕ, suc, ◌+◌, ◌/◌, ◌%◌, ◌^◌, refl, sym, ap, subst, ◌∙◌, Bool, true, false, List, [], ◌∷◌, ◌++◌, length, Option, Some, None, Ok, Err, arith, length-append}
-use Rattle.std.proofs.lemmas.Bool.{lt-ltb}
+use Rattle.std.proofs.lemmas.Bool.{lt-ltb, and_parts}
 use Rattle.std.proofs.lemmas.Bool.Decides.{nat_tests}
 use Rattle.std.proofs.lemmas.Fmt.{decimal_by_steps_wide}
 use Rattle.std.proofs.lemmas.List.{length-map}
@@ -9,9 +9,11 @@ use Rattle.std.specs.Prelude.{◌==◌, ◌||◌, not, codes}
 use Rattle.std.specs.List.{AllByRecursion, list_all, list_any}
 use Rattle.std.specs.Fmt.{decimal}
 use Rattle.std.specs.Str.{bytes_eq}
+use Rattle.std.proofs.ByRecursion.{All-append}
 use Rattle.sql_value.specs.declared.column.ColumnDef.{ColumnDef}
 use Rattle.sql_value.specs.declared.column.TableKind.{TableKind}
 use Rattle.sql_value.specs.declared.column.TableKind.TheVariants.{AppendOnly, Updatable}
+use Rattle.sql_value.proofs.Lists.{bytes_eq-same, bytes_eq-true}
 use Rattle.sql_types.specs.declared.statement.Stmt.{Stmt}
 use Rattle.sql_types.specs.declared.statement.Stmt.TheVariants as s
 use Rattle.sql_types.specs.declared.statement.CreateTable.{CreateTable}
@@ -28,19 +30,18 @@ use Rattle.spec_model.specs.Create.{names_of, history_of, view_of, key_position_
 use Rattle.spec_model.specs.Effect.{effect, table_effect, index_effect, table_start, column_starts, index_starts, with_system_rows}
 use Rattle.spec_model.specs.Agreement.{IdsFrom}
 use Rattle.spec_model.specs.Reach.{creates}
-use Rattle.law_frame.proofs.Alls.{all_append, all_map}
+use Rattle.law_frame.proofs.Alls.{all_map}
 use Rattle.law_frame.proofs.Definitions.{defs_after}
-use Rattle.law_frame.proofs.SameKeys.{and_true}
+use Rattle.law_frame.proofs.SameAlone.{defs_append}
 use Rattle.law_journal.specs.Fine.{OfTable}
 use Rattle.law_journal.proofs.Created.{Created, created, indexed}
-use Rattle.law_journal.proofs.DefLists.{defs_append, redef, defs_redefined}
+use Rattle.law_journal.proofs.DefLists.{redef, defs_redefined}
 use Rattle.law_journal.proofs.Statements.{has_indexed_table}
 use Rattle.law_catalog_rows.specs.IsEncodableDef.{is_name_byte}
 use Rattle.law_catalog_rows.specs.Written.{IsWritten, IfWritten, TableWritten, IndexWritten, StatementWritten, HistoryWritten, Written, AllWritten}
 use Rattle.law_catalog_rows.proofs.Forms.{keyed_places, new_def, index_is, in_its_place, found_in}
 use Rattle.law_catalog_rows.proofs.FormedAfter.{with_system_defs}
 use Rattle.law_catalog_rows.proofs.KeyCounted.{declared_name}
-use Rattle.law_catalog_rows.proofs.Ordinals.{same_bytes, own_bytes}
 
 -- ---- names
 
@@ -85,13 +86,13 @@ key_column key n (c ∷ cs) p e d = here (bytes_eq c.name n) refl d (λ h. key_c
     or_more false c h = h
 
     here : (b : Bool) → bytes_eq c.name n ≡ b → (b || has_name (names_of cs) n) ≡ true → (has_name (names_of cs) n ≡ true → list_any (λ d. not (d.key_position == 0)) cs ≡ true) → (not (c.key_position == 0) || list_any (λ d. not (d.key_position == 0)) cs) ≡ true
-    here true is h m = rw (p.0 ∙ ap (key_position_of key) (same_bytes c.name n is) ∙ e) refl
+    here true is h m = rw (p.0 ∙ ap (key_position_of key) (bytes_eq-true c.name n is) ∙ e) refl
     here false is h m = or_more (not (c.key_position == 0)) (list_any (λ d. not (d.key_position == 0)) cs) (m h)
 
 some_column : (key : List (List ℕ)) (cs : List ColumnDef) → 1 ≤ length key → AtPlaces key cs → list_all (is_declared cs) key ≡ true → list_any (λ c. not (c.key_position == 0)) cs ≡ true
 some_column [] cs le p d = absurd (omega (arith, le))
 some_column (n ∷ key) cs le p d =
-    key_column (n ∷ key) n cs p (rw (own_bytes n, lt-ltb 0 (suc (length key)) (omega arith)) refl) (declared_name n cs (place_of cs n) refl (and_true (is_declared cs n) (list_all (is_declared cs) key) d).0)
+    key_column (n ∷ key) n cs p (rw (bytes_eq-same n, lt-ltb 0 (suc (length key)) (omega arith)) refl) (declared_name n cs (place_of cs n) refl (and_parts (is_declared cs n) (list_all (is_declared cs) key) d).0)
 
 -- ---- CREATE TABLE
 
@@ -122,7 +123,7 @@ index_written x i name some w = record {
   some_columns = w.some_columns;
   columns = w.columns;
   some_key = w.some_key;
-  indexes = all_append (λ (j : IndexDef). IsWritten j.name × (1 ≤ length j.ordinals)) x.indexes (i ∷ []) w.indexes ((name, some), tt);
+  indexes = All-append (λ (j : IndexDef). IsWritten j.name × (1 ≤ length j.ordinals)) x.indexes (i ∷ []) w.indexes ((name, some), tt);
 }
 
 -- ---- all statements
@@ -133,7 +134,7 @@ module _ (tx seq : ℕ) (T : Tables) (ids : IdsFrom 1 (defs_of T)) (h : AllWritt
   table_written c (Ok def) is w =
       let U : Tables = with_system_rows tx seq (table_start def) (column_starts (column_rows def)) T in
       subst AllWritten (sym (defs_append U (record { def = def; versions = [] }) ∙ ap (λ (ds : Defs). ds ++ def ∷ []) (with_system_defs tx seq T (table_start def) (column_starts (column_rows def)))))
-      (all_append (λ (d : TableDef). 2 < d.id → Written d) (defs_of T) (def ∷ []) h ((λ lt. new_written (defs_of T) c def is w), tt))
+      (All-append (λ (d : TableDef). 2 < d.id → Written d) (defs_of T) (def ∷ []) h ((λ lt. new_written (defs_of T) c def is w), tt))
 
   indexed_written : (c : CreateIndex) (m : Checked (TableDef × IndexDef)) → index_check (defs_of T) c ≡ m → IndexWritten c → AllWritten (defs_of (index_effect T tx seq m).tables)
   indexed_written c (Err e) is w = h

@@ -8,6 +8,7 @@ use Rattle.sql_types.specs.declared.statement.Stmt.{Stmt}
 use Rattle.sql_types.specs.declared.statement.Stmt.TheVariants as s
 use Rattle.sql_parse.specs.Parsed.{IsName, Each, OneOrMore, Maybe, IsColumn, IsHistory, IsParsed}
 use Rattle.law_catalog_rows.specs.Written.{IsWritten, IfWritten, StatementWritten}
+use Rattle.sql_parse.proofs.KeptStmts.{some_each}
 
 name_written : (n : List ℕ) → IsName n → IsWritten n
 name_written n is = (omega (arith, is.0), is.1)
@@ -28,15 +29,11 @@ columns_written : (cs : List ColumnDef) → Each IsColumn cs → AllByRecursion 
 columns_written [] h = tt
 columns_written (c ∷ cs) h = (name_written c.name h.0.0, columns_written cs h.1)
 
-each_of : {A : Type 0} (P : A → Type 0) (xs : List A) → OneOrMore P xs → Each P xs
-each_of P [] h = absurd h
-each_of P (x ∷ xs) h = h
-
 pub parsed_written : (stmt : Stmt) → IsParsed stmt → StatementWritten stmt
 parsed_written (s.Create c) p = record {
   name = name_written c.name p.0;
   some_columns = some IsColumn c.columns p.1;
-  columns = columns_written c.columns (each_of IsColumn c.columns p.1);
+  columns = columns_written c.columns (some_each IsColumn c.columns p.1);
   some_key = some IsName c.key p.2;
   history = history_written c.kind c.history p.3;
   view = if_written c.view p.4;

@@ -6,8 +6,8 @@ use Rattle.sql_types.specs.declared.statement.Stmt.{Stmt}
 use Rattle.spec_model.specs.Catalog.{Defs}
 use Rattle.spec_history.specs.Agree.{Agree, DigestsAreOf, EndedHaveTheirReplies, IdsAssignedOnce, IsEndedOver, JournalIsTheirs, LockRefusals, MarksNeverFall, ShowsHash, committed_ones}
 use Rattle.spec_history.specs.Digests.{IsDigest, replies_of_block}
-use Rattle.spec_history.specs.Facts.{Fact, digest, no_digest, facts_of, id_of, open_after, Shows}
-use Rattle.spec_history.specs.InPlace.{ControlledBy, EndsInside, EndsOutside, EndsWhereItMay, HasItsForm, IsControlled, IsElseNoMemory, ReadOnlyEnd, Throughout, images_after}
+use Rattle.spec_history.specs.Facts.{Fact, digest, no_digest, facts_of, id_of, Shows}
+use Rattle.spec_history.specs.InPlace.{ControlledBy, EndsInside, EndsOutside, EndsWhereItMay, HasItsForm, IsControlled, IsElseNoMemory, ReadOnlyEnd}
 use Rattle.spec_history.specs.Inputs.{InputSession}
 use Rattle.spec_history.specs.Lists.{Text, Each, Some_of, In, sum}
 use Rattle.spec_history.specs.Marks.{IdsRise, ImagesHave, ImagesOfOthersHave, MarksRise, NoneBelow, NoneCounted}
@@ -17,16 +17,13 @@ use Rattle.spec_history.specs.Serial.{after_tx, texts_of}
 use Rattle.spec_history.specs.Transactions.{End, unfixed, committed, ended, Transaction, transactions}
 use Rattle.spec_history.specs.Transcripts.{Entry, statement, end_of_session, kind_of, Transcript}
 use Rattle.spec_history.proofs.Trace.{each_weaker}
+use Rattle.spec_history.proofs.Agreed.{throughout_weaker}
 use Rattle.law_concurrent.proofs.SameMeanings.{Same, same_after, same_facts_of, still_legal}
 
 some_of : {A : Type 0} (P Q : A → Type 0) → ((x : A) → P x → Q x) → (xs : List A) → Some_of P xs → Some_of Q xs
 some_of P Q f [] h = absurd h
 some_of P Q f (x ∷ xs) (inl h) = inl (f x h)
 some_of P Q f (x ∷ xs) (inr h) = inr (some_of P Q f xs h)
-
-throughout : (P Q : Option ℕ → ℕ → Entry → Type 0) → ((o : Option ℕ) (n : ℕ) (e : Entry) → P o n e → Q o n e) → (o : Option ℕ) (n : ℕ) (es : List Entry) → Throughout P o n es → Throughout Q o n es
-throughout P Q f o n [] h = tt
-throughout P Q f o n (e ∷ es) h = (f o n e h.0, throughout P Q f (open_after o e) (images_after n e) es h.1)
 
 module _ (q r : Meaning) (s : Same q r) where
   abbrev theirs : (x : Transcript) → facts_of q x ≡ facts_of r x
@@ -67,7 +64,7 @@ module _ (q r : Meaning) (s : Same q r) where
     legal = still_legal q r s J h.legal;
     no_others = h.no_others;
     items = λ i t x a b. h.items i t x a b ∙ ap (λ (gs : List Fact). committed_ones (transactions gs)) (theirs x);
-    ends = λ i x a. throughout (EndsWhereItMay q) (EndsWhereItMay r) ends_where None 0 x.entries (h.ends i x a);
+    ends = λ i x a. throughout_weaker (EndsWhereItMay q) (EndsWhereItMay r) ends_where None 0 x.entries (h.ends i x a);
   }
 
   ended_over : (J : List JournalItem) (u : Transaction) (end : End) → IsEndedOver q J u end → IsEndedOver r J u end
@@ -172,6 +169,6 @@ module _ (q r : Meaning) (s : Same q r) where
     marks_never_fall = marks setup X J h.marks_never_fall;
     digests_are_the_journals = digests database setup X J G h.digests_are_the_journals;
     lock_refusals_name_holders = refusals setup X J h.lock_refusals_name_holders;
-    control_is_refused_in_place = λ i x a. throughout (IsControlled q) (IsControlled r) controlled None 0 x.entries (h.control_is_refused_in_place i x a);
-    else_no_memory = λ i x a. throughout (IsElseNoMemory q) (IsElseNoMemory r) else_no_memory None 0 x.entries (h.else_no_memory i x a);
+    control_is_refused_in_place = λ i x a. throughout_weaker (IsControlled q) (IsControlled r) controlled None 0 x.entries (h.control_is_refused_in_place i x a);
+    else_no_memory = λ i x a. throughout_weaker (IsElseNoMemory q) (IsElseNoMemory r) else_no_memory None 0 x.entries (h.else_no_memory i x a);
   }

@@ -12,6 +12,8 @@ use Rattle.spec_history.specs.Inputs.{InputSession}
 use Rattle.spec_history.specs.Journals.{times}
 use Rattle.spec_history.specs.Lists.{Text, Each, Some_of, At, In}
 use Rattle.spec_history.specs.Transcripts.{Transcript}
+use Rattle.spec_history.proofs.Settles.{in_append}
+use Rattle.spec_history.proofs.Trace.{each_append, each_weaker}
 use Rattle.spec_protocol.specs.AtTheEnd.{AllRest, AreWritten, HasItsImages, NamesDiffer, SessionsDiffer, WasKnown, WroteAt}
 use Rattle.spec_protocol.specs.Cells.{Cell, Ledger, LedgerCell, ledger_at}
 use Rattle.spec_protocol.specs.JournalForms.{HaveForms}
@@ -21,6 +23,7 @@ use Rattle.spec_protocol.specs.Seats.{IsAtRest, Role, session, SeatState, Writte
 use Rattle.spec_protocol.specs.Server.{Server}
 use Rattle.spec_protocol.specs.StandTogether.{History, Stands}
 use Rattle.spec_protocol.specs.TranscriptsAgree.{IsMoment, moments_of, session_moments}
+use Rattle.law_protocol_steps.proofs.LedgerVisit.{same_cell}
 use Rattle.law_sequential.proofs.JournalKept.{legal_journal}
 use Rattle.law_sequential.proofs.KeptImages.{have_images}
 use Rattle.law_sequential.proofs.InSessionOrder.{in_order_of}
@@ -31,7 +34,7 @@ use Rattle.law_sequential.specs.Wrote.{transcripts_in}
 use Rattle.law_sequential.proofs.SameNames.{differ, same_list}
 use Rattle.law_concurrent.specs.Joined.{IsJoined, KnewThatOver}
 use Rattle.law_concurrent.specs.Together.{AreFormed, IsMomentOf, RanTogether, names_in, session_in}
-use Rattle.law_concurrent.proofs.SameTranscripts.{all_in, apart_by_place, at_of, each_both, each_flat, each_map, each_named, each_of, each_within, in_at, in_either, in_some, in_transcripts, inputs_are, named_in, no_longer, transcript_at}
+use Rattle.law_concurrent.proofs.SameTranscripts.{all_in, apart_by_place, at_of, each_flat, each_map, each_named, each_within, in_at, in_some, in_transcripts, inputs_are, named_in, no_longer, transcript_at}
 
 nameless : (r : Role) → IsAtRest r → session_names r ≡ []
 nameless (session x) h = absurd h
@@ -40,9 +43,6 @@ nameless r h = refl
 timeless : (r : Role) → IsAtRest r → session_moments r ≡ []
 timeless (session x) h = absurd h
 timeless r h = refl
-
-same_ledger : (k l : LedgerCell) → Ledger k ≡ Ledger l → k ≡ l
-same_ledger k l e = cc
 
 module _ (v : Server) (cells : List Cell) (w : Written) (ws : List Written) (joined : IsJoined v cells (w ∷ ws)) (knew : KnewThatOver w ws) (apart : NamesApart (names_in (transcripts_in (w ∷ ws)))) where
   abbrev written : List Written
@@ -128,7 +128,7 @@ module _ (v : Server) (cells : List Cell) (w : Written) (ws : List Written) (joi
 
   known : WasKnown seats w.transcript
   known k t e = of_each (λ (s : SeatState). Each IsKnown s.written)
-      (subst (λ (us : List Written). Each IsKnown us) (sym joined.wrote) (inl refl, each_of (λ u. In w.transcript u.earlier) IsKnown (λ u i. inr i) ws knew)) tt k t e
+      (subst (λ (us : List Written). Each IsKnown us) (sym joined.wrote) (inl refl, each_weaker (λ u. In w.transcript u.earlier) IsKnown (λ u i. inr i) ws knew)) tt k t e
 
   ran : SetupRan (Some first_at.0) history
   ran = ran_first v history cells seats st rests input X are_written then_agrees.0 first_at.0 w.transcript first_at.1 known
@@ -157,7 +157,7 @@ module _ (v : Server) (cells : List Cell) (w : Written) (ws : List Written) (joi
   moment_is time m = of_each (λ (t : SeatState). In time (moments_of t) → IsMomentOf written time)
       (λ i. ⊎_elim (λ (l : In time (flat_map (λ u. u.moments) joined.s.written)). subst (λ (us : List Written). IsMomentOf us time) joined.wrote (in_some time joined.s.written l))
       (λ (r : In time (session_moments joined.s.role)). absurd (subst (λ (ts : List ℕ). In time ts) (timeless joined.s.role joined.rests) r))
-      (in_either time (flat_map (λ u. u.moments) joined.s.written) (session_moments joined.s.role) i))
+      (in_append time (flat_map (λ u. u.moments) joined.s.written) (session_moments joined.s.role) i))
       (λ i. absurd i) m.j m.seat m.there m.is
 
   forms : AreFormed st.ledger written → HaveForms st.ledger seats
@@ -165,12 +165,12 @@ module _ (v : Server) (cells : List Cell) (w : Written) (ws : List Written) (joi
     database = f.database;
     ids = f.ids;
     names = λ k t e. of_each (λ (u : SeatState). Each (λ name. is_session_name name ≡ true) (names_of u))
-        (each_both (λ name. is_session_name name ≡ true) (map (λ u. u.transcript.session) joined.s.written) (session_names joined.s.role)
+        (each_append (λ name. is_session_name name ≡ true) (map (λ u. u.transcript.session) joined.s.written) (session_names joined.s.role)
         (each_map (λ (u : Written). u.transcript.session) (λ name. is_session_name name ≡ true) joined.s.written (subst (λ (us : List Written). Each (λ u. is_session_name u.transcript.session ≡ true) us) (sym joined.wrote) f.names))
         (subst (λ (ns : List Text). Each (λ name. is_session_name name ≡ true) ns) (sym (nameless joined.s.role joined.rests)) tt))
         tt k t e;
     moments = λ k t e. of_each (λ (u : SeatState). Each (λ time. is_moment time ≡ true) (moments_of u))
-        (each_both (λ time. is_moment time ≡ true) (flat_map (λ u. u.moments) joined.s.written) (session_moments joined.s.role)
+        (each_append (λ time. is_moment time ≡ true) (flat_map (λ u. u.moments) joined.s.written) (session_moments joined.s.role)
         (each_flat (λ (u : Written). u.moments) (λ time. is_moment time ≡ true) joined.s.written (subst (λ (us : List Written). Each (λ u. Each (λ time. is_moment time ≡ true) u.moments) us) (sym joined.wrote) f.moments))
         (subst (λ (ts : List ℕ). Each (λ time. is_moment time ≡ true) ts) (sym (timeless joined.s.role joined.rests)) tt))
         tt k t e;
@@ -180,11 +180,11 @@ module _ (v : Server) (cells : List Cell) (w : Written) (ws : List Written) (joi
   ran_together = record {
     agree = agree;
     images = images;
-    times = each_of (IsMoment seats) (IsMomentOf written) moment_is (times st.ledger.items) st.transcripts_agree.times;
-    made = each_of (λ d. IsMoment seats d.made) (λ d. IsMomentOf written d.made) (λ d m. moment_is d.made m) st.ledger.issued st.transcripts_agree.made;
+    times = each_weaker (IsMoment seats) (IsMomentOf written) moment_is (times st.ledger.items) st.transcripts_agree.times;
+    made = each_weaker (λ d. IsMoment seats d.made) (λ d. IsMomentOf written d.made) (λ d m. moment_is d.made m) st.ledger.issued st.transcripts_agree.made;
     closings = st.ledger_is_legal.closings;
     legal = λ f. legal_journal v history cells seats st (forms f);
   }
 
   pub comes_to : (ledger : LedgerCell) → get_elem? cells ledger_at ≡ some (Ledger ledger) → RanTogether v written ledger
-  comes_to ledger e = subst (RanTogether v written) (same_ledger st.ledger ledger (some-injective (Ledger st.ledger) (Ledger ledger) (sym st.are_cells.has_ledger ∙ e))) ran_together
+  comes_to ledger e = subst (RanTogether v written) (same_cell st.ledger ledger (some-injective (Ledger st.ledger) (Ledger ledger) (sym st.are_cells.has_ledger ∙ e))) ran_together

@@ -1,14 +1,17 @@
 -- Lists with the same transcripts, each of a name of its own.
-use Rattle.std.proofs.Common.{◌≡◌, ◌≢◌, ◌≤◌, ◌⊎◌, ℕ, zero, suc, List, [], ◌∷◌, ◌++◌, length, map, flat_map, refl, sym, ap, ap₂, subst, ◌∙◌, inl, inr, ⊎_elim, arith}
+use Rattle.std.proofs.Common.{◌≡◌, ◌≢◌, ◌≤◌, ◌⊎◌, ℕ, zero, suc, List, [], ◌∷◌, length, map, flat_map, refl, sym, ap, ap₂, subst, ◌∙◌, inl, inr, ⊎_elim, arith}
 use Rattle.spec_history.specs.Agree.{AreStatements}
 use Rattle.spec_history.specs.Inputs.{InputSession}
 use Rattle.spec_history.specs.Lists.{Text, Each, Some_of, At, In}
 use Rattle.spec_history.specs.Transcripts.{Transcript}
+use Rattle.spec_history.proofs.Settles.{in_append}
+use Rattle.spec_history.proofs.Trace.{each_append}
 use Rattle.spec_protocol.specs.AtTheEnd.{SessionsDiffer}
 use Rattle.spec_protocol.specs.Reordered.{NamesApart}
 use Rattle.spec_protocol.specs.Seats.{Written}
 use Rattle.law_sequential.specs.Wrote.{transcripts_in}
 use Rattle.law_sequential.proofs.SameNames.{its_name, not_in}
+use Rattle.law_sequential.proofs.Texts.{session_of}
 use Rattle.law_concurrent.specs.Together.{names_in, session_in}
 
 -- ---- places
@@ -97,9 +100,6 @@ each_within (x ∷ A) B f = (f x (inl refl), each_within A B (λ y k. f y (inr k
 
 -- ---- what the input has of the sessions is in the transcripts
 
-abbrev session_of : Text → List Text → InputSession
-session_of name texts = record { name = name; texts = texts }
-
 pub inputs_are : (input : List InputSession) (X : List Transcript) → AreStatements input X → input ≡ map session_in X
 inputs_are [] [] h = refl
 inputs_are [] (x ∷ X) h = absurd h
@@ -108,18 +108,9 @@ inputs_are (s ∷ input) (x ∷ X) h = ap₂ (λ (z : InputSession) (zs : List I
 
 -- ---- lists put together
 
-pub in_either : {A : Type 0} (x : A) (xs ys : List A) → In x (xs ++ ys) → In x xs ⊎ In x ys
-in_either x [] ys i = inr i
-in_either x (z ∷ xs) ys (inl e) = inl (inl e)
-in_either x (z ∷ xs) ys (inr k) = ⊎_elim (λ (l : In x xs). inl (inr l)) (λ (r : In x ys). inr r) (in_either x xs ys k)
-
 pub in_some : (time : ℕ) (ws : List Written) → In time (flat_map (λ w. w.moments) ws) → Some_of (λ w. In time w.moments) ws
 in_some time [] i = absurd i
-in_some time (w ∷ ws) i = ⊎_elim (λ (l : In time w.moments). inl l) (λ r. inr (in_some time ws r)) (in_either time w.moments (flat_map (λ u. u.moments) ws) i)
-
-pub each_both : {A : Type 0} (P : A → Type 0) (xs ys : List A) → Each P xs → Each P ys → Each P (xs ++ ys)
-each_both P [] ys h k = k
-each_both P (x ∷ xs) ys h k = (h.0, each_both P xs ys h.1 k)
+in_some time (w ∷ ws) i = ⊎_elim (λ (l : In time w.moments). inl l) (λ r. inr (in_some time ws r)) (in_append time w.moments (flat_map (λ u. u.moments) ws) i)
 
 pub each_map : {A B : Type 0} (f : A → B) (P : B → Type 0) (xs : List A) → Each (λ x. P (f x)) xs → Each P (map f xs)
 each_map f P [] h = tt
@@ -127,8 +118,4 @@ each_map f P (x ∷ xs) h = (h.0, each_map f P xs h.1)
 
 pub each_flat : {A B : Type 0} (f : A → List B) (P : B → Type 0) (xs : List A) → Each (λ x. Each P (f x)) xs → Each P (flat_map f xs)
 each_flat f P [] h = tt
-each_flat f P (x ∷ xs) h = each_both P (f x) (flat_map f xs) h.0 (each_flat f P xs h.1)
-
-pub each_of : {A : Type 0} (P Q : A → Type 0) → ((x : A) → P x → Q x) → (xs : List A) → Each P xs → Each Q xs
-each_of P Q f [] h = tt
-each_of P Q f (x ∷ xs) h = (f x h.0, each_of P Q f xs h.1)
+each_flat f P (x ∷ xs) h = each_append P (f x) (flat_map f xs) h.0 (each_flat f P xs h.1)

@@ -4,6 +4,7 @@ use Rattle.std.proofs.lemmas.Bool.Decides.{nat_tests}
 use Rattle.std.specs.Prelude.{◌==◌, IfSome}
 use Rattle.std.specs.List.{AllByRecursion, filter}
 use Rattle.std.specs.Ordering.{nat_cmp}
+use Rattle.std.proofs.ByRecursion.{All-weaker}
 use Rattle.sql_value.specs.declared.column.ColumnDef.{ColumnDef}
 use Rattle.sql_value.specs.declared.sql_type.SqlType.{SqlType}
 use Rattle.sql_value.specs.declared.value.Value.{Value}
@@ -17,7 +18,7 @@ use Rattle.spec_model.specs.Lists.{numbered}
 use Rattle.spec_model.specs.Rows.{EventId}
 use Rattle.spec_model.specs.Catalog.{Tables}
 use Rattle.spec_model.specs.Events.{fields_at, fields_of, end_events, version_events, events_of, all_events}
-use Rattle.law_frame.proofs.Alls.{all_weaker, all_both, all_filter, all_sorted}
+use Rattle.law_frame.proofs.Alls.{all_both, all_filter, all_sorted}
 use Rattle.law_frame.proofs.LeftRows.{all_flat_map}
 use Rattle.law_journal.specs.Fits.{Fits}
 use Rattle.law_journal.specs.Serial.{TableOf, TablesOf}
@@ -52,10 +53,10 @@ fields_told : (n : ℕ) (columns : List ColumnDef) (values : List (Option TypedV
 fields_told n [] [] h = tt
 fields_told n [] (v ∷ vs) h = absurd h
 fields_told n (c ∷ cs) [] h = absurd h
-fields_told n (c ∷ cs) (None ∷ vs) h = all_weaker (IsToldBelow (n + 1 + length cs)) (IsToldBelow (n + length (c ∷ cs))) (still_told (n + 1 + length cs) (n + length (c ∷ cs)) (omega arith)) (flat_map fields_at (numbered (n + 1) vs)) (fields_told (n + 1) cs vs h.1)
+fields_told n (c ∷ cs) (None ∷ vs) h = All-weaker (IsToldBelow (n + 1 + length cs)) (IsToldBelow (n + length (c ∷ cs))) (still_told (n + 1 + length cs) (n + length (c ∷ cs)) (omega arith)) (flat_map fields_at (numbered (n + 1) vs)) (fields_told (n + 1) cs vs h.1)
 fields_told n (c ∷ cs) (Some t ∷ vs) h = (
   record { ordinal = omega arith; told = is_not_null t.value h.0.1; stored = subst (λ (ty : SqlType). is_stored t.value ty ≡ true) (sym h.0.0) h.0.2 },
-  all_weaker (IsToldBelow (n + 1 + length cs)) (IsToldBelow (n + length (c ∷ cs))) (still_told (n + 1 + length cs) (n + length (c ∷ cs)) (omega arith)) (flat_map fields_at (numbered (n + 1) vs)) (fields_told (n + 1) cs vs h.1),
+  All-weaker (IsToldBelow (n + 1 + length cs)) (IsToldBelow (n + length (c ∷ cs))) (still_told (n + 1 + length cs) (n + length (c ∷ cs)) (omega arith)) (flat_map fields_at (numbered (n + 1) vs)) (fields_told (n + 1) cs vs h.1),
 )
 
 fields_rise : (last n : ℕ) (values : List (Option TypedValue)) → last < n → rise_from last (flat_map fields_at (numbered n values)) ≡ true
@@ -92,7 +93,7 @@ module _ (columns : List ColumnDef) (few : length columns ≤ 64) where
       let told = fields_told 1 columns values fit in
       let all : filter has_value (fields_of values) ≡ fields_of values =
       none_left_out (1 + length columns) (fields_of values) told in
-      let fields = all_weaker (λ f. IsToldBelow (1 + length columns) f × IsUtf8 f) IsField is_field (fields_of values)
+      let fields = All-weaker (λ f. IsToldBelow (1 + length columns) f × IsUtf8 f) IsField is_field (fields_of values)
       (all_both (IsToldBelow (1 + length columns)) IsUtf8 (fields_of values) told room.texts) in
       record {
         table = room.table;

@@ -1,12 +1,14 @@
 -- Two states that agree on a want still agree on it after the same changes of both.
 use Rattle.std.proofs.Common.{◌≡◌, ℕ, ◌+◌, refl, sym, ap, subst, ◌∙◌, Bool, true, false, List, [], ◌∷◌, map, Option, Some, None}
-use Rattle.std.proofs.lemmas.Bool.{eqb-true, eq-eqb}
+use Rattle.std.proofs.lemmas.Bool.{eqb-true}
 use Rattle.std.specs.Prelude.{◌==◌, ◌&&◌, ◌||◌, if◌then◌else◌}
 use Rattle.std.specs.List.{AllByRecursion, filter, list_any}
 use Rattle.std.specs.declared.cmp.Ordering.{Ordering}
 use Rattle.std.specs.declared.cmp.Ordering.TheVariants.{Less, Equal, Greater}
 use Rattle.std.specs.Ordering.{is_gt}
+use Rattle.std.proofs.ByRecursion.{All-weaker}
 use Rattle.sql_value.specs.declared.column.ColumnDef.{ColumnDef}
+use Rattle.sql_value.proofs.Naturals.{eqb_sym}
 use Rattle.sql_types.specs.declared.lock.Mode.{Mode}
 use Rattle.sql_types.specs.declared.lock.Mode.TheVariants.{IS, IX, S, X}
 use Rattle.sql_types.specs.declared.lock.Item.{Item}
@@ -24,7 +26,7 @@ use Rattle.spec_model.specs.Locks.{CellRequests}
 use Rattle.spec_model.specs.ChangeSets.{TableChange, changed_in, changed_from}
 use Rattle.spec_model.specs.Agreement.{AgreeIn, AgreeOn, AgreeOnAll, AgreeInCell, AgreeInCatalog, SameCatalog, columns_at, LockRequests, AgreeFor}
 use Rattle.spec_model.specs.Runs.{Rising, Sound}
-use Rattle.law_frame.proofs.Alls.{all_weaker, all_filter}
+use Rattle.law_frame.proofs.Alls.{all_filter}
 use Rattle.law_frame.proofs.ChangeSets.{same_def}
 use Rattle.law_frame.proofs.Definitions.{same_defs}
 use Rattle.law_frame.proofs.AtTable.{rising_at}
@@ -55,7 +57,7 @@ module _ (test : Version → Bool) where
   start_among v [] h r = rw h refl
   start_among v (w ∷ ws) h r =
       beside (is_gt (start_cmp v w)) (test w) v w ws (inserted start_cmp v ws) refl refl h (start_among v ws h r.1)
-      (λ e. all_filter (λ u. is_gt (start_cmp v u) ≡ false) test ws (all_weaker (λ u. start_cmp w u ≡ Less) (λ u. is_gt (start_cmp v u) ≡ false) (λ u l. not_greater v w u (start_cmp v w) refl e l) ws r.0))
+      (λ e. all_filter (λ u. is_gt (start_cmp v u) ≡ false) test ws (All-weaker (λ u. start_cmp w u ≡ Less) (λ u. is_gt (start_cmp v u) ≡ false) (λ u l. not_greater v w u (start_cmp v w) refl e l) ws r.0))
 
   start_same : (b : Bool) (v : Version) (V W : List Version) → test v ≡ b → Rising V → Rising W → filter test V ≡ filter test W → filter test (inserted start_cmp v V) ≡ filter test (inserted start_cmp v W)
   start_same true v V W h r q e = start_among v V h r ∙ ap (inserted start_cmp v) e ∙ sym (start_among v W h q)
@@ -91,15 +93,6 @@ module _ (columns : List ColumnDef) (key : Key) where
 unfoldable pub has_table : Defs → ℕ → Bool
 has_table defs id = list_any (λ d. d.id == id) defs
 
-mirror : (a b : ℕ) → (a == b) ≡ (b == a)
-mirror a b = here (a == b) (b == a) refl refl
-  where
-    here : (p q : Bool) → (a == b) ≡ p → (b == a) ≡ q → p ≡ q
-    here true true e f = refl
-    here true false e f = sym (eq-eqb b a (sym (eqb-true a b e))) ∙ f
-    here false true e f = sym e ∙ eq-eqb a b (sym (eqb-true b a f))
-    here false false e f = refl
-
 absent : (b : Bool) (f : List Version → List Version) → let vs : List Version = if b && false then f [] else [] in [] ≡ vs
 absent true f = refl
 absent false f = refl
@@ -111,7 +104,7 @@ present false f t = refl
 at_head : (i id : ℕ) (f : List Version → List Version) (t : Table) (rest vs : List Version) (any b : Bool) → (t.def.id == id) ≡ b → rest ≡ (if i == id && any then f vs else vs)
     → (let u : Table = if t.def.id == i then with_versions f t else t in (if b then u.versions else rest) ≡ (if i == id && (b || any) then f (if b then t.versions else vs) else (if b then t.versions else vs)))
 at_head i id f t rest vs any true e h =
-    let same : (t.def.id == i) ≡ (i == id) = ap (λ (n : ℕ). n == i) (eqb-true t.def.id id e) ∙ mirror id i in
+    let same : (t.def.id == i) ≡ (i == id) = ap (λ (n : ℕ). n == i) (eqb-true t.def.id id e) ∙ eqb_sym id i in
     ap (λ (c : Bool). (λ (u : Table). u.versions) (if c then with_versions f t else t)) same ∙ present (i == id) f t
 at_head i id f t rest vs any false e h = h
 
@@ -160,7 +153,7 @@ module _ (T U : Tables) (defs : defs_of T ≡ defs_of U) where
     cell_after None h = tt
     cell_after (Some x) h =
         subst (λ (ds : Defs). AgreeOnAll (columns_at ds x.0) x.1 (versions_of (changed_in (tx, seq) c T) x.0) (versions_of (changed_in (tx, seq) c U) x.0)) (sym (same_defs c.0 f T))
-        (all_weaker (AgreeOn (columns_at (defs_of T) x.0) (versions_of T x.0) (versions_of U x.0))
+        (All-weaker (AgreeOn (columns_at (defs_of T) x.0) (versions_of T x.0) (versions_of U x.0))
         (AgreeOn (columns_at (defs_of T) x.0) (versions_of (changed_in (tx, seq) c T) x.0) (versions_of (changed_in (tx, seq) c U) x.0))
         (λ w. item_after (columns_at (defs_of T) x.0) x.0 w.mode w.item) x.1 h)
 
@@ -189,4 +182,4 @@ agree_after tx seq (c ∷ cs) T U d s t ws h =
     agree_after tx (seq + 1) cs (changed_in (tx, seq) c T) (changed_in (tx, seq) c U)
     (same_defs c.0 (changed (tx, seq) c.1) T ∙ d ∙ sym (same_defs c.0 (changed (tx, seq) c.1) U))
     (sound_changed tx seq c T s) (sound_changed tx seq c U t) ws
-    (all_weaker (AgreeFor T U) (AgreeFor (changed_in (tx, seq) c T) (changed_in (tx, seq) c U)) (one_after T U d tx seq s t c) ws h)
+    (All-weaker (AgreeFor T U) (AgreeFor (changed_in (tx, seq) c T) (changed_in (tx, seq) c U)) (one_after T U d tx seq s t c) ws h)

@@ -14,21 +14,21 @@ use Rattle.law_frame.proofs.Checked.{was_passed, not_refused}
 use Rattle.law_frame.proofs.NamedPart.{named_part, Passed, passed}
 
 -- the base part is of a table with an id above 2
-abbrev IsUsers : NamedPart → Type 0
+abbrev pub IsUsers : NamedPart → Type 0
 IsUsers n = n.1 ≡ Base → 2 < n.0.id
 
-own_is_users : (def : TableDef) (b : Bool) → nat_le def.id 2 ≡ b → (if b then System else Base) ≡ Base → 2 < def.id
+pub own_is_users : (def : TableDef) (b : Bool) → nat_le def.id 2 ≡ b → (if b then System else Base) ≡ Base → 2 < def.id
 own_is_users def true e h = cc
 own_is_users def false e h = grind (arith, common_steps)
 
-found_is_users : (defs : Defs) (name : List ℕ) (found : NamedPart) → find_part defs name ≡ Some found → IsUsers found
+pub found_is_users : (defs : Defs) (name : List ℕ) (found : NamedPart) → find_part defs name ≡ Some found → IsUsers found
 unfolding find_part
 found_is_users [] name found e = cc
 found_is_users (d ∷ defs) name found e =
     named_part d (own_part d) (is_named d.name name) (is_named d.history name) (is_named d.view name) (find_part defs name) found IsUsers e
     (λ h. own_is_users d (nat_le d.id 2) refl h) (λ h. cc) (λ h. cc) (λ h. found_is_users defs name found h)
 
-base_alone : (p : Part) → not (is_base p) ≡ false → p ≡ Base
+pub base_alone : (p : Part) → not (is_base p) ≡ false → p ≡ Base
 base_alone Base e = refl
 base_alone History e = cc
 base_alone View e = cc

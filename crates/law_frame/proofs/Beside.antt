@@ -2,6 +2,7 @@
 use Rattle.std.proofs.Common.{◌≡◌, ℕ, refl, sym, Bool, true, false, List, [], ◌∷◌, map, Option, Some, None, Ok, Err, arith}
 use Rattle.std.specs.Prelude.{◌||◌}
 use Rattle.std.specs.List.{AllByRecursion, list_any}
+use Rattle.std.proofs.lemmas.Bool.{or_parts}
 use Rattle.sql_value.specs.declared.column.ColumnDef.{ColumnDef}
 use Rattle.sql_types.specs.declared.lock.Mode.{Mode}
 use Rattle.sql_types.specs.declared.lock.Mode.TheVariants.{IS, IX, S, X}
@@ -26,7 +27,6 @@ use Rattle.spec_model.specs.Agreement.{AgreeOn, AgreeOnAll, AgreeInCell, AgreeIn
 use Rattle.spec_model.specs.Runs.{Sound}
 use Rattle.spec_model.specs.Script.{Reading, script}
 use Rattle.spec_model.specs.NoClash.{text_clash}
-use Rattle.law_frame.proofs.SameKeys.{or_false}
 use Rattle.law_frame.proofs.Definitions.{opened_keep_defs}
 use Rattle.law_frame.proofs.LeftScripts.{script_leaves_key, script_leaves_table}
 use Rattle.law_frame.proofs.NoClash.{Intends, Free, key_texts, whole_texts, system_texts}
@@ -76,8 +76,8 @@ module _ (reads : Reading) (T : Tables) (tx : ℕ) (texts : List (List ℕ)) (so
         → AgreeOnAll columns (map (request.of_key X) keys) (versions_of T id) (versions_of after id)
     on_keys [] whole each = tt
     on_keys (k ∷ ks) whole each = (
-      on_key IX X k (λ vs h. (whole vs h, (or_false (list_any (request.requests_conflict (request.of_key X k)) vs) (request.some_conflict (map (request.of_key X) ks) vs) (each vs h)).0)),
-      on_keys ks whole (λ vs h. (or_false (list_any (request.requests_conflict (request.of_key X k)) vs) (request.some_conflict (map (request.of_key X) ks) vs) (each vs h)).1),
+      on_key IX X k (λ vs h. (whole vs h, (or_parts (list_any (request.requests_conflict (request.of_key X k)) vs) (request.some_conflict (map (request.of_key X) ks) vs) (each vs h)).0)),
+      on_keys ks whole (λ vs h. (or_parts (list_any (request.requests_conflict (request.of_key X k)) vs) (request.some_conflict (map (request.of_key X) ks) vs) (each vs h)).1),
     )
 
   module _ (a : Stmt) (p : Bool) (ok : AllByRecursion (λ t. text_clash (defs_of T) p a true (reads t) ≡ false) texts) (id : ℕ) where
@@ -85,15 +85,15 @@ module _ (reads : Reading) (T : Tables) (tx : ℕ) (texts : List (List ℕ)) (so
     AllOf ws = request.cell_requests (defs_of T) a ≡ Some (id, ws) → AgreeOnAll (columns_at (defs_of T) id) ws (versions_of T id) (versions_of after id)
 
     whole_alone : (m : Mode) → AllOf (request.whole m ∷ [])
-    whole_alone m cell = (on_whole a p ok id (request.whole m ∷ []) cell m (λ vs h. (or_false (list_any (request.requests_conflict (request.whole m)) vs) false h).0), tt)
+    whole_alone m cell = (on_whole a p ok id (request.whole m ∷ []) cell m (λ vs h. (or_parts (list_any (request.requests_conflict (request.whole m)) vs) false h).0), tt)
 
     by_key : (i m : Mode) → Intends i → (o : Option Key) → AllOf (request.by_key_or_whole i m o)
     by_key i m h (Some key) cell = (
       on_intent a p ok id (request.by_key_or_whole i m (Some key)) cell i h,
       (
         on_key a p ok id (request.by_key_or_whole i m (Some key)) cell i m key (λ vs c.
-            let q = or_false (list_any (request.requests_conflict (request.whole i)) vs) (list_any (request.requests_conflict (request.of_key m key)) vs || false) c in
-            (q.0, (or_false (list_any (request.requests_conflict (request.of_key m key)) vs) false q.1).0)),
+            let q = or_parts (list_any (request.requests_conflict (request.whole i)) vs) (list_any (request.requests_conflict (request.of_key m key)) vs || false) c in
+            (q.0, (or_parts (list_any (request.requests_conflict (request.of_key m key)) vs) false q.1).0)),
         tt,
       ),
     )
@@ -103,8 +103,8 @@ module _ (reads : Reading) (T : Tables) (tx : ℕ) (texts : List (List ℕ)) (so
     by_keys (Some keys) cell = (
       tt,
       on_keys a p ok id (request.by_keys (Some keys)) cell keys
-          (λ vs c. (or_false (list_any (request.requests_conflict (request.whole IX)) vs) (request.some_conflict (map (request.of_key X) keys) vs) c).0)
-          (λ vs c. (or_false (list_any (request.requests_conflict (request.whole IX)) vs) (request.some_conflict (map (request.of_key X) keys) vs) c).1),
+          (λ vs c. (or_parts (list_any (request.requests_conflict (request.whole IX)) vs) (request.some_conflict (map (request.of_key X) keys) vs) c).0)
+          (λ vs c. (or_parts (list_any (request.requests_conflict (request.whole IX)) vs) (request.some_conflict (map (request.of_key X) keys) vs) c).1),
     )
     by_keys None cell = whole_alone X cell
 

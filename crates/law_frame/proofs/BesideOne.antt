@@ -1,6 +1,7 @@
 -- Beside a statement alone that it doesn't clash with, a statement finds all that it wants as before.
 use Rattle.std.proofs.Common.{◌≡◌, ℕ, refl, sym, subst, Bool, true, false, List, [], ◌∷◌, Option, Some, None}
 use Rattle.std.specs.Prelude.{◌||◌}
+use Rattle.std.proofs.lemmas.Bool.{or_parts}
 use Rattle.sql_types.specs.declared.lock.Mode.{Mode}
 use Rattle.sql_types.specs.declared.lock.Mode.TheVariants.{IS, IX, S, X}
 use Rattle.sql_types.specs.declared.statement.Stmt.{Stmt}
@@ -12,8 +13,7 @@ use Rattle.spec_model.specs.Reach.{creates}
 use Rattle.spec_model.specs.Runs.{Sound}
 use Rattle.spec_model.specs.Script.{Reading, saves, rolls_back_to, in_transaction, alone, by_statement, start, text_step, script_from, script}
 use Rattle.spec_model.specs.NoClash.{text_clash}
-use Rattle.law_frame.proofs.SameKeys.{or_false}
-use Rattle.law_frame.proofs.Definitions.{cell_requests_share}
+use Rattle.law_frame.proofs.Definitions.{cell_requests_share, creates_alone}
 use Rattle.law_frame.proofs.LeftScripts.{same_catalog_request}
 use Rattle.law_frame.proofs.Beside.{beside}
 
@@ -48,18 +48,6 @@ no_conflict (Some IX) e = cc
 no_conflict (Some S) e = cc
 no_conflict (Some X) e = cc
 
-creator_requests : (b : Stmt) → creates b ≡ true → request.catalog_request false b ≡ Some X
-creator_requests (s.Create c) k = refl
-creator_requests (s.Index c) k = refl
-creator_requests (s.Change stmt) k = cc
-creator_requests (s.Select q) k = cc
-creator_requests s.Begin k = cc
-creator_requests s.Commit k = cc
-creator_requests (s.Save name) k = cc
-creator_requests (s.Rollback name) k = cc
-creator_requests s.Digest k = cc
-creator_requests s.Image k = cc
-
 module _ (reads : Reading) (T : Tables) (tx : ℕ) (text : List ℕ) (sound : Sound tx 0 T) (a : Stmt) (p : Bool) where
   abbrev Kept : Tables → Type 0
   Kept U = AgreeFor T U (requests_of (defs_of T) p a)
@@ -77,8 +65,8 @@ module _ (reads : Reading) (T : Tables) (tx : ℕ) (text : List ℕ) (sound : So
       (opened_one (Some b) e
       (subst (λ (m : Option Mode). (request.catalog_clash (request.catalog_request p a) m || request.cells_clash (request.cell_requests (defs_of T) a) (request.cell_requests (defs_of T) b)) ≡ false) (sym (same_catalog_request b k)) h))
   by_create b true k e h =
-      let free : request.catalog_clash (request.catalog_request p a) (request.catalog_request false b) ≡ false = (or_false (request.catalog_clash (request.catalog_request p a) (request.catalog_request false b)) _ h).0 in
-      requests_nothing T (alone tx (start T) b).0.tables p a (no_conflict (request.catalog_request p a) (subst (λ (m : Option Mode). request.catalog_clash (request.catalog_request p a) m ≡ false) (creator_requests b k) free))
+      let free : request.catalog_clash (request.catalog_request p a) (request.catalog_request false b) ≡ false = (or_parts (request.catalog_clash (request.catalog_request p a) (request.catalog_request false b)) _ h).0 in
+      requests_nothing T (alone tx (start T) b).0.tables p a (no_conflict (request.catalog_request p a) (subst (λ (m : Option Mode). request.catalog_clash (request.catalog_request p a) m ≡ false) (creates_alone b k) free))
 
   alone_one : (o : Option Stmt) → reads text ≡ o → text_clash (defs_of T) p a false o ≡ false → Kept (by_statement false tx (start T) o).0.tables
   alone_one None e h = opened_one None e refl

@@ -40,7 +40,7 @@ same_value c (val.Date d) x w h k = converted_alone (conversion_of (val.Date d) 
 
 -- ---- a row
 
-abbrev kept_at : ColumnDef × Value → Checked Value
+abbrev pub kept_at : ColumnDef × Value → Checked Value
 kept_at p = kept p.0 p.1
 
 at_place : (columns : List ColumnDef) (row out : Row) (place : ℕ) (c : ColumnDef) (x : Value) → checked_map kept_at (zip columns row) ≡ Ok out

@@ -3,10 +3,11 @@ use Rattle.std.proofs.Common.{arith, ◌≡◌, ◌≢◌, ℕ, suc, refl, ap, s
 use Rattle.std.proofs.lemmas.Bool.{eq-eqb}
 use Rattle.std.specs.Prelude.{slice_get, ◌+◌, ◌==◌, not}
 use Rattle.std.specs.List.{AllByRecursion, filter}
+use Rattle.std.proofs.ByRecursion.{kept_by_passes, All-weaker}
 use Rattle.sql_value.specs.declared.column.ColumnDef.{ColumnDef}
 use Rattle.spec_model.specs.Lists.{sorted, numbered}
 use Rattle.spec_model.specs.Keys.{Placed, position_cmp, key_places}
-use Rattle.law_frame.proofs.Alls.{all_weaker, all_both, all_filter, all_pass, all_sorted, all_map}
+use Rattle.law_frame.proofs.Alls.{all_both, all_filter, all_sorted, all_map}
 
 abbrev pub HasColumn : List ColumnDef → ℕ → Type 0
 HasColumn columns place = (c : ColumnDef) × (slice_get columns place ≡ Some c)
@@ -40,7 +41,7 @@ module _ (columns : List ColumnDef) where
       (all_sorted (λ p. IsColumnAt p × (in_key p ≡ true)) position_cmp (filter in_key (numbered 0 columns))
       (all_both IsColumnAt (λ p. in_key p ≡ true) (filter in_key (numbered 0 columns))
       (all_filter IsColumnAt in_key (numbered 0 columns) (numbered_at_places columns 0 (λ i. ap (slice_get columns) (omega arith))))
-      (all_pass in_key (numbered 0 columns))))
+      (kept_by_passes in_key (numbered 0 columns))))
 
   pub key_places_have : AllByRecursion (HasColumn columns) (key_places columns)
-  key_places_have = all_weaker (HasKeyColumn columns) (HasColumn columns) (λ p h. (h.0, h.1)) (key_places columns) key_place_columns
+  key_places_have = All-weaker (HasKeyColumn columns) (HasColumn columns) (λ p h. (h.0, h.1)) (key_places columns) key_place_columns

@@ -3,6 +3,8 @@ use Rattle.std.proofs.Common.{◌≡◌, ℕ, ◌+◌, refl, ap, subst, ◌∙�
 use Rattle.std.specs.Prelude.{if◌then◌else◌}
 use Rattle.std.specs.List.{AllByRecursion, list_any}
 use Rattle.std.specs.Ordering.{is_gt}
+use Rattle.std.proofs.ByRecursion.{All-append, All-weaker}
+use Rattle.std.proofs.lemmas.Bool.{or_parts}
 use Rattle.sql_value.specs.declared.column.ColumnDef.{ColumnDef}
 use Rattle.sql_value.specs.declared.refusal.Refusal.{Refusal}
 use Rattle.sql_types.specs.declared.lock.Mode.TheVariants.{X}
@@ -15,8 +17,7 @@ use Rattle.spec_model.specs.Changes.{Change, Starts, Ends, changed, changed_all,
 use Rattle.spec_model.specs.Locks as request
 use Rattle.spec_model.specs.Reach.{lets_change}
 use Rattle.law_frame.proofs.Checked.{Led, led, Parts, parts}
-use Rattle.law_frame.proofs.Alls.{all_weaker, all_append, all_map, all_inserted}
-use Rattle.law_frame.proofs.SameKeys.{or_false}
+use Rattle.law_frame.proofs.Alls.{all_map, all_inserted}
 use Rattle.law_frame.proofs.InsertedKeys.{inserted_key}
 use Rattle.law_frame.proofs.MappedRows.{stored_mapped}
 
@@ -72,7 +73,7 @@ module _ (columns : List ColumnDef) (key : Key) where
   unfolding changed_all
   all_leave tx seq [] vs h = refl
   all_leave tx seq (c ∷ cs) vs h =
-      all_leave tx (seq + 1) cs (changed (tx, seq) c vs) (all_weaker (Leaves vs) (Leaves (changed (tx, seq) c vs)) (still (tx, seq) c vs h.0) cs h.1)
+      all_leave tx (seq + 1) cs (changed (tx, seq) c vs) (All-weaker (Leaves vs) (Leaves (changed (tx, seq) c vs)) (still (tx, seq) c vs h.0) cs h.1)
       ∙ change_leaves (tx, seq) c vs h.0
 
   -- ---- INSERT
@@ -89,7 +90,7 @@ module _ (columns : List ColumnDef) (key : Key) where
 
     added : (b : Bool) (e : Refusal) (before more : List Row) (row : Row) → (if b then Err e else Ok (before ++ row ∷ [])) ≡ Ok more → AllByRecursion Unlike before → Unlike row → AllByRecursion Unlike more
     added true e before more row h k l = cc
-    added false e before more row h k l = let is : before ++ row ∷ [] ≡ more = cc in subst (AllByRecursion Unlike) is (all_append Unlike before (row ∷ []) k (l, tt))
+    added false e before more row h k l = let is : before ++ row ∷ [] ≡ more = cc in subst (AllByRecursion Unlike) is (All-append Unlike before (row ∷ []) k (l, tt))
 
     rows_unlike : (rows before out : List Row) → checked_fold next_row before rows ≡ Ok out → AllByRecursion KeptUnlike rows → AllByRecursion Unlike before → AllByRecursion Unlike out
     rows_unlike [] before out e h k = let is : before ≡ out = cc in subst (AllByRecursion Unlike) is k
@@ -106,7 +107,7 @@ module _ (columns : List ColumnDef) (key : Key) where
     wanted_unlike [] keys e h = tt
     wanted_unlike (r ∷ rs) keys e h =
         let p : Parts (request.key_inserted columns names r) (all_some (map (request.key_inserted columns names) rs)) keys = parts _ _ keys e in
-        let q = or_false (same_key p.first key) (list_any (lets_change key) (map (request.of_key X) p.others)) (subst (λ (ks : List Key). list_any (lets_change key) (map (request.of_key X) ks) ≡ false) p.are h) in (
+        let q = or_parts (same_key p.first key) (list_any (lets_change key) (map (request.of_key X) p.others)) (subst (λ (ks : List Key). list_any (lets_change key) (map (request.of_key X) ks) ≡ false) p.are h) in (
           (λ row is. ap (λ (k : Row). same_key (key_of columns k) key) (kept_stored (arranged columns names r) row is)
               ∙ ap (λ (k : Key). same_key k key) (inserted_key columns names r row p.first is p.is_first) ∙ q.0),
           wanted_unlike rs p.others p.are_others q.1,

@@ -2,6 +2,8 @@
 use Rattle.std.proofs.Common.{◌≡◌, ℕ, refl, sym, ap, subst, ◌∙◌, Bool, true, false, List, [], ◌∷◌, map, flat_map, Option, Some, None, Ok}
 use Rattle.std.specs.Prelude.{is_none}
 use Rattle.std.specs.List.{AllByRecursion, list_any, zip}
+use Rattle.std.proofs.ByRecursion.{All-append, kept_by_passes, All-weaker}
+use Rattle.std.proofs.lemmas.Bool.{or_parts}
 use Rattle.sql_value.specs.declared.column.ColumnDef.{ColumnDef}
 use Rattle.sql_value.specs.declared.expr.Expr.{Expr}
 use Rattle.sql_types.specs.declared.lock.Mode.TheVariants.{IX, X}
@@ -22,8 +24,8 @@ use Rattle.spec_model.specs.Locks as request
 use Rattle.spec_model.specs.Reach.{lets_change}
 use Rattle.spec_model.specs.Runs.{Rising}
 use Rattle.law_frame.proofs.Checked.{Led, led}
-use Rattle.law_frame.proofs.Alls.{all_weaker, all_both, all_append, all_map, all_filter, all_pass, all_sorted, all_checked_filter}
-use Rattle.law_frame.proofs.SameKeys.{same_key_as, or_false, IsAlone, each_alone}
+use Rattle.law_frame.proofs.Alls.{all_both, all_map, all_filter, all_sorted, all_checked_filter}
+use Rattle.law_frame.proofs.SameKeys.{same_key_as, IsAlone, each_alone}
 use Rattle.law_frame.proofs.UpdateKeys.{update_keeps_key, sets_no_key}
 use Rattle.law_frame.proofs.LeftAlone.{Leaves, insert_unlike}
 
@@ -40,7 +42,7 @@ zipped f P (x ∷ xs) ys e h =
 
 pub all_flat_map : {A B : Type 0} (P : A → Type 0) (Q : B → Type 0) (f : A → List B) → ((x : A) → P x → AllByRecursion Q (f x)) → (xs : List A) → AllByRecursion P xs → AllByRecursion Q (flat_map f xs)
 all_flat_map P Q f g [] h = tt
-all_flat_map P Q f g (x ∷ xs) h = all_append Q (f x) (flat_map f xs) (g x h.0) (all_flat_map P Q f g xs h.1)
+all_flat_map P Q f g (x ∷ xs) h = All-append Q (f x) (flat_map f xs) (g x h.0) (all_flat_map P Q f g xs h.1)
 
 module _ (columns : List ColumnDef) (key : Key) (V : List Version) where
   abbrev has_it : Version → Bool
@@ -53,20 +55,20 @@ module _ (columns : List ColumnDef) (key : Key) (V : List Version) where
   apart : (k : Key) → same_key k key ≡ false → (v : Version) → IsAlone V v × (same_key (version_key columns v) k ≡ true) → Apart v
   apart k unlike v h =
       let other : has_it v ≡ false = same_key_as (version_key columns v) k key h.1 ∙ unlike in
-      (all_weaker (λ w. same_event w.start v.start ≡ true → w ≡ v) (λ w. same_event w.start v.start ≡ true → has_it w ≡ false) (λ w a e. subst (λ (u : Version). has_it u ≡ false) (sym (a e)) other) V h.0, other)
+      (All-weaker (λ w. same_event w.start v.start ≡ true → w ≡ v) (λ w. same_event w.start v.start ≡ true → has_it w ≡ false) (λ w a e. subst (λ (u : Version). has_it u ≡ false) (sym (a e)) other) V h.0, other)
 
   all_apart : (k : Key) → Rising V → same_key k key ≡ false → AllByRecursion Apart (of_key columns k V)
   all_apart k r unlike =
-      all_weaker (λ v. IsAlone V v × (same_key (version_key columns v) k ≡ true)) Apart (apart k unlike) (of_key columns k V)
+      All-weaker (λ v. IsAlone V v × (same_key (version_key columns v) k ≡ true)) Apart (apart k unlike) (of_key columns k V)
       (all_both (IsAlone V) (λ v. same_key (version_key columns v) k ≡ true) (of_key columns k V)
       (all_filter (IsAlone V) (λ v. same_key (version_key columns v) k) V (each_alone V r))
-      (all_pass (λ v. same_key (version_key columns v) k) V))
+      (kept_by_passes (λ v. same_key (version_key columns v) k) V))
 
   live_apart : (o : Option Key) → Rising V → list_any (lets_change key) (request.by_key_or_whole IX X o) ≡ false → AllByRecursion Apart (live_by_key columns o V)
   unfolding live_by_key
   live_apart (Some k) r h =
       all_sorted Apart (λ v w. key_cmp (version_key columns v) (version_key columns w)) (live (of_key columns k V))
-      (all_filter Apart (λ v. is_none v.end) (of_key columns k V) (all_apart k r (or_false (same_key k key) false h).0))
+      (all_filter Apart (λ v. is_none v.end) (of_key columns k V) (all_apart k r (or_parts (same_key k key) false h).0))
   live_apart None r h = cc
 
   taken_apart : (cond : Option Expr) (taken : List Version) → Rising V → list_any (lets_change key) (request.by_key_or_whole IX X (key_fixed columns cond)) ≡ false → versions_matched columns cond V ≡ Ok taken → AllByRecursion Apart taken

@@ -1,8 +1,9 @@
 -- What a statement leaves alone, in the tables after it.
 use Rattle.std.proofs.Common.{◌≡◌, ℕ, ◌+◌, refl, sym, ap, subst, ◌∙◌, Bool, true, false, List, [], ◌∷◌, ◌++◌, map, Option, Some, None, Ok, Err, ⊎_elim}
-use Rattle.std.proofs.lemmas.Bool.{eqb-true, eq-eqb}
+use Rattle.std.proofs.lemmas.Bool.{eqb-true, eq-eqb, or_parts}
 use Rattle.std.specs.Prelude.{◌==◌, ◌&&◌}
 use Rattle.std.specs.List.{AllByRecursion, list_any}
+use Rattle.std.proofs.ByRecursion.{All-append}
 use Rattle.sql_value.specs.declared.column.ColumnDef.{ColumnDef}
 use Rattle.sql_types.specs.declared.lock.Mode.TheVariants.{IX, X}
 use Rattle.sql_types.specs.declared.statement.Stmt.{Stmt}
@@ -31,16 +32,12 @@ use Rattle.spec_model.specs.Agreement.{columns_at, requests_of}
 use Rattle.spec_model.specs.Runs.{Sound}
 use Rattle.spec_model.specs.Reach.{lets_change, is_exclusive, cell_reaches, cell_reaches_table, catalog_reaches, reaches, reaches_table}
 use Rattle.law_frame.proofs.Checked.{Parts, parts}
-use Rattle.law_frame.proofs.Alls.{all_append}
-use Rattle.law_frame.proofs.SameKeys.{or_false}
 use Rattle.law_frame.proofs.ChangeSets.{carries_change_set_out, in_one_table}
 use Rattle.law_frame.proofs.NamedPart.{IsAmongDefs, Passed, passed, checked_is_listed}
 use Rattle.law_frame.proofs.AtTable.{changed_at, new_table, redefined_table, rising_at, names_at}
 use Rattle.law_frame.proofs.LeftAlone.{Leaves, all_leave}
 use Rattle.law_frame.proofs.LeftRows.{row_leaves}
-
-not_both : {b : Bool} → b ≡ false → b ≡ true → ⊥
-not_both h k = cc
+use Rattle.law_frame.proofs.NoClash.{not_both}
 
 -- ---- changes of other tables
 
@@ -74,9 +71,9 @@ module _ (id : ℕ) where
   -- rows of the system tables alone
   created : (tx seq : ℕ) (cs ds : List Change) (T : Tables) → catalog_reaches id (Some X) ≡ false → versions_of (changed_from tx seq (in_table tables_id cs ++ in_table columns_id ds) T) id ≡ versions_of T id
   created tx seq cs ds T h =
-      let p = or_false (id == tables_id) (id == columns_id) h in
+      let p = or_parts (id == tables_id) (id == columns_id) h in
       elsewhere tx seq (in_table tables_id cs ++ in_table columns_id ds) T
-      (all_append Elsewhere (in_table tables_id cs) (in_table columns_id ds) (all_in_other tables_id cs (turn tables_id p.0)) (all_in_other columns_id ds (turn columns_id p.1)))
+      (All-append Elsewhere (in_table tables_id cs) (in_table columns_id ds) (all_in_other tables_id cs (turn tables_id p.0)) (all_in_other columns_id ds (turn columns_id p.1)))
 
   abbrev after : ℕ → ℕ → ChangeSet → Tables → List Version
   after tx seq p T = versions_of (carried_out T tx seq p).tables id
@@ -141,8 +138,8 @@ module _ (tx seq : ℕ) (T : Tables) (id : ℕ) where
 
   by_change_set : (stmt : Stmt) → reaches_table id (requests_of (defs_of T) false stmt) ≡ false → versions_of (carried_out T tx seq (change_set T stmt)).tables id ≡ versions_of T id
   unfolding change_set request.cell_requests
-  by_change_set (s.Create c) h = table_left id tx seq T (create_check (defs_of T) c) (or_false (catalog_reaches id (Some X)) false h).0
-  by_change_set (s.Index c) h = index_left id tx seq T (index_check (defs_of T) c) (or_false (catalog_reaches id (Some X)) false h).0
+  by_change_set (s.Create c) h = table_left id tx seq T (create_check (defs_of T) c) (or_parts (catalog_reaches id (Some X)) false h).0
+  by_change_set (s.Index c) h = index_left id tx seq T (index_check (defs_of T) c) (or_parts (catalog_reaches id (Some X)) false h).0
   by_change_set (s.Change stmt) h = ap (λ (U : Tables). versions_of U id) (change_definition stmt (row_statement_check (defs_of T) stmt)) ∙ change_left stmt (row_statement_check (defs_of T) stmt) h
   by_change_set (s.Select q) h = query_left id tx seq T q (query_check (defs_of T) q)
   by_change_set s.Begin h = refl
@@ -191,8 +188,8 @@ module _ (tx seq : ℕ) (T : Tables) (id : ℕ) where
 
     by_change_set_key : (stmt : Stmt) → reaches id key (requests_of (defs_of T) false stmt) ≡ false → Left (carried_out T tx seq (change_set T stmt)).tables
     unfolding change_set request.cell_requests
-    by_change_set_key (s.Create c) h = ap (of_key (columns_at (defs_of T) id) key) (table_left id tx seq T (create_check (defs_of T) c) (or_false (catalog_reaches id (Some X)) false h).0)
-    by_change_set_key (s.Index c) h = ap (of_key (columns_at (defs_of T) id) key) (index_left id tx seq T (index_check (defs_of T) c) (or_false (catalog_reaches id (Some X)) false h).0)
+    by_change_set_key (s.Create c) h = ap (of_key (columns_at (defs_of T) id) key) (table_left id tx seq T (create_check (defs_of T) c) (or_parts (catalog_reaches id (Some X)) false h).0)
+    by_change_set_key (s.Index c) h = ap (of_key (columns_at (defs_of T) id) key) (index_left id tx seq T (index_check (defs_of T) c) (or_parts (catalog_reaches id (Some X)) false h).0)
     by_change_set_key (s.Change stmt) h = subst Left (sym (change_definition stmt (row_statement_check (defs_of T) stmt))) (change_key stmt (row_statement_check (defs_of T) stmt) refl h)
     by_change_set_key (s.Select q) h = ap (of_key (columns_at (defs_of T) id) key) (query_left id tx seq T q (query_check (defs_of T) q))
     by_change_set_key s.Begin h = refl

@@ -1,7 +1,7 @@
 -- A script that doesn't clash with a statement leaves all that the statement wants.
 use Rattle.std.proofs.Common.{◌≡◌, ℕ, ◌≤◌, refl, sym, subst, ◌∙◌, Bool, true, false, List, [], ◌∷◌, map, Option, Some, None, Ok, Err, arith}
-use Rattle.std.proofs.lemmas.Bool.{eqb-true, eq-eqb, ne_eqb}
-use Rattle.std.specs.Prelude.{◌==◌, ◌&&◌, ◌||◌}
+use Rattle.std.proofs.lemmas.Bool.{eqb-true, eq-eqb, ne_eqb, and_left, and_right, or_from, or_parts}
+use Rattle.std.specs.Prelude.{◌==◌, ◌&&◌}
 use Rattle.std.specs.List.{AllByRecursion, list_any}
 use Rattle.sql_types.specs.declared.lock.Mode.{Mode}
 use Rattle.sql_types.specs.declared.lock.Mode.TheVariants.{IS, IX, S, X}
@@ -25,14 +25,11 @@ use Rattle.spec_model.specs.Reach.{lets_change, is_exclusive, cell_reaches, cell
 use Rattle.spec_model.specs.Script.{Reading}
 use Rattle.spec_model.specs.ScriptRequests.{text_requests, script_requests}
 use Rattle.spec_model.specs.NoClash.{text_clash}
-use Rattle.law_frame.proofs.SameKeys.{or_false, same_key_as, same_itself}
+use Rattle.law_frame.proofs.SameKeys.{same_key_as, same_itself}
 use Rattle.law_frame.proofs.BaseTables.{users_table}
 
-not_both : {b : Bool} → b ≡ false → b ≡ true → ⊥
+pub not_both : {b : Bool} → b ≡ false → b ≡ true → ⊥
 not_both h k = cc
-
-and_false_left : (a b : Bool) → a ≡ false → (a && b) ≡ false
-and_false_left a b e = rw e refl
 
 -- ---- keys
 
@@ -67,7 +64,7 @@ relies_conflicts X r = refl
 relies_conflicts IS r = absurd r
 relies_conflicts IX r = absurd r
 
-x_conflicts : (m : Mode) → request.conflict m X ≡ true
+pub x_conflicts : (m : Mode) → request.conflict m X ≡ true
 unfolding request.conflict
 x_conflicts IS = refl
 x_conflicts IX = refl
@@ -98,7 +95,7 @@ module _ (i m : Mode) (key : Key) where
   unfolding request.same_item
   keys_free [] h = refl
   keys_free (k ∷ ks) h =
-      let p = or_false (same_key key k && request.conflict m X) (list_any (request.requests_conflict (request.of_key m key)) (map (request.of_key X) ks)) h in
+      let p = or_parts (same_key key k && request.conflict m X) (list_any (request.requests_conflict (request.of_key m key)) (map (request.of_key X) ks)) h in
       let q : same_key key k ≡ false = only (same_key key k) (request.conflict m X) (x_conflicts m) p.0 in
       rw (unlike_too key k q) (keys_free ks p.1)
     where
@@ -145,14 +142,6 @@ only_shares (def, History) q = refl
 only_shares (def, View) q = refl
 only_shares (def, System) q = refl
 
-and_no : (b c : Bool) → c ≡ false → (b && c) ≡ false
-and_no true c e = e
-and_no false c e = refl
-
-or_no : (b c : Bool) → b ≡ false → c ≡ false → (b || c) ≡ false
-or_no true c e f = cc
-or_no false c e f = f
-
 -- in a transaction that BEGIN opened nobody changes the system tables
 no_catalog : (id : ℕ) (b : Stmt) → catalog_reaches id (request.catalog_request true b) ≡ false
 no_catalog id (s.Create c) = refl
@@ -173,11 +162,11 @@ module _ (defs : Defs) (id : ℕ) where
   -- ---- the system tables
 
   system_row : (stmt : RowStmt) (m : Checked TableDef) → row_statement_check defs stmt ≡ m → id ≤ 2 → cell_reaches_table id (request.row_cell_requests stmt m) ≡ false
-  system_row stmt (Ok def) e le = and_false_left (def.id == id) _ (ne_eqb def.id id (λ same. absurd (omega (arith, users_table defs stmt def e, same, le))))
+  system_row stmt (Ok def) e le = and_left (def.id == id) _ (ne_eqb def.id id (λ same. absurd (omega (arith, users_table defs stmt def e, same, le))))
   system_row stmt (Err r) e le = refl
 
   query_table : (q : Select) (m : Checked NamedPart) → cell_reaches_table id (request.query_cell_requests q m) ≡ false
-  query_table q (Ok n) = and_no (n.0.id == id) _ (only_shares n q)
+  query_table q (Ok n) = and_right (n.0.id == id) _ (only_shares n q)
   query_table q (Err r) = refl
 
   system_cell : (b : Stmt) → id ≤ 2 → cell_reaches_table id (request.cell_requests defs b) ≡ false
@@ -195,13 +184,13 @@ module _ (defs : Defs) (id : ℕ) where
 
   system_text : (o : Option Stmt) → id ≤ 2 → reaches_table id (text_requests defs true o) ≡ false
   system_text None le = refl
-  system_text (Some b) le = or_no (catalog_reaches id (request.catalog_request true b)) _ (no_catalog id b) (system_cell b le)
+  system_text (Some b) le = or_from (catalog_reaches id (request.catalog_request true b)) _ (no_catalog id b) (system_cell b le)
 
   module _ (a : Stmt) (p : Bool) (ws : List LockRequest) (cell : request.cell_requests defs a ≡ Some (id, ws)) where
     cells_free : (b : Stmt) → text_clash defs p a true (Some b) ≡ false → request.cells_clash (Some (id, ws)) (request.cell_requests defs b) ≡ false
     unfolding request.clash
     cells_free b h = subst (λ (c : request.CellRequests). request.cells_clash c (request.cell_requests defs b) ≡ false) cell
-        (or_false (request.catalog_clash (request.catalog_request p a) (request.catalog_request true b)) (request.cells_clash (request.cell_requests defs a) (request.cell_requests defs b)) h).1
+        (or_parts (request.catalog_clash (request.catalog_request p a) (request.catalog_request true b)) (request.cells_clash (request.cell_requests defs a) (request.cell_requests defs b)) h).1
 
     -- ---- a key
 
@@ -215,7 +204,7 @@ module _ (defs : Defs) (id : ℕ) where
       key_row stmt (Err r) h = refl
 
       key_query : (q : Select) (c : Checked NamedPart) → cell_reaches id key (request.query_cell_requests q c) ≡ false
-      key_query q (Ok n) = and_no (n.0.id == id) _ (only_reads key n q)
+      key_query q (Ok n) = and_right (n.0.id == id) _ (only_reads key n q)
       key_query q (Err r) = refl
 
       key_cell : (b : Stmt) → request.cells_clash (Some (id, ws)) (request.cell_requests defs b) ≡ false → cell_reaches id key (request.cell_requests defs b) ≡ false
@@ -233,7 +222,7 @@ module _ (defs : Defs) (id : ℕ) where
 
       key_text : (o : Option Stmt) → text_clash defs p a true o ≡ false → reaches id key (text_requests defs true o) ≡ false
       key_text None h = refl
-      key_text (Some b) h = or_no (catalog_reaches id (request.catalog_request true b)) _ (no_catalog id b) (key_cell b (cells_free b h))
+      key_text (Some b) h = or_from (catalog_reaches id (request.catalog_request true b)) _ (no_catalog id b) (key_cell b (cells_free b h))
 
       pub key_texts : (reads : Reading) (texts : List (List ℕ)) → AllByRecursion (λ t. text_clash defs p a true (reads t) ≡ false) texts → AllByRecursion (λ w. reaches id key w ≡ false) (script_requests reads defs true texts)
       key_texts reads [] h = tt
@@ -265,7 +254,7 @@ module _ (defs : Defs) (id : ℕ) where
 
       whole_text : (o : Option Stmt) → text_clash defs p a true o ≡ false → reaches_table id (text_requests defs true o) ≡ false
       whole_text None h = refl
-      whole_text (Some b) h = or_no (catalog_reaches id (request.catalog_request true b)) _ (no_catalog id b) (whole_cell b (cells_free b h))
+      whole_text (Some b) h = or_from (catalog_reaches id (request.catalog_request true b)) _ (no_catalog id b) (whole_cell b (cells_free b h))
 
       pub whole_texts : (reads : Reading) (texts : List (List ℕ)) → AllByRecursion (λ t. text_clash defs p a true (reads t) ≡ false) texts → AllByRecursion (λ w. reaches_table id w ≡ false) (script_requests reads defs true texts)
       whole_texts reads [] h = tt

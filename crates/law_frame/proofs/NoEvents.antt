@@ -2,8 +2,9 @@
 use Rattle.std.proofs.Common.{◌≡◌, ℕ, refl, ap, Bool, true, false, List, [], ◌∷◌, flat_map, Option, Some, None, arith}
 use Rattle.std.proofs.lemmas.Bool.{eqb-true}
 use Rattle.std.specs.Prelude.{◌==◌}
-use Rattle.std.specs.List.{AllByRecursion, filter}
+use Rattle.std.specs.List.{AllByRecursion}
 use Rattle.std.specs.Ordering.{nat_cmp}
+use Rattle.sql_value.proofs.Lists.{filter_none}
 use Rattle.sql_types.specs.declared.event.Event.{Event}
 use Rattle.sql_types.specs.declared.version.Table.{Table}
 use Rattle.sql_types.specs.declared.version.Version.{Version}
@@ -14,12 +15,8 @@ use Rattle.spec_model.specs.Events.{end_events, version_events, events_of, all_e
 use Rattle.spec_model.specs.Runs.{IsBefore, EndsBefore, MadeBefore, SoundTable}
 use Rattle.law_frame.proofs.LeftRows.{all_flat_map}
 
-filter_none : {A : Type 0} (test : A → Bool) (xs : List A) → AllByRecursion (λ x. test x ≡ false) xs → filter test xs ≡ []
-filter_none test [] h = refl
-filter_none test (x ∷ xs) h = rw (h.0) (filter_none test xs h.1)
-
 module _ (tx : ℕ) where
-  is_others : (e : EventId) → IsBefore tx 0 e → (e.0 == tx) ≡ false
+  pub is_others : (e : EventId) → IsBefore tx 0 e → (e.0 == tx) ≡ false
   is_others e h = here (e.0 == tx) refl
     where
       here : (b : Bool) → (e.0 == tx) ≡ b → b ≡ false

@@ -2,6 +2,7 @@
 use Rattle.std.proofs.Common.{◌≢◌, ℕ, ◌+◌, sym, subst, Bool, true, false, List, [], ◌∷◌}
 use Rattle.std.specs.Prelude.{◌==◌, if◌then◌else◌}
 use Rattle.std.specs.List.{AllByRecursion}
+use Rattle.std.proofs.ByRecursion.{All-append, All-weaker}
 use Rattle.sql_types.specs.declared.statement.Stmt.{Stmt}
 use Rattle.sql_types.specs.declared.table.TableDef.{TableDef}
 use Rattle.sql_types.specs.declared.version.Table.{Table}
@@ -13,7 +14,7 @@ use Rattle.spec_model.specs.Effect.{Effect, effect, with_def}
 use Rattle.spec_model.specs.ChangeSets.{TableChange, changed_in, changed_from, Definition, as_before, new, in_place, defined, ChangeSet, change_set}
 use Rattle.spec_model.specs.Runs.{IsBefore, MadeBefore, SoundTable, Sound}
 use Rattle.spec_model.specs.Script.{Reading, script}
-use Rattle.law_frame.proofs.Alls.{all_weaker, all_both, all_append, all_map, all_inserted}
+use Rattle.law_frame.proofs.Alls.{all_both, all_map, all_inserted}
 use Rattle.law_frame.proofs.ChangeSets.{carries_change_set_out}
 use Rattle.law_frame.proofs.SoundStatements.{statement_sound}
 use Rattle.law_frame.proofs.WholeScripts.{whole_script}
@@ -55,7 +56,7 @@ module _ (tx other n : ℕ) (differs : tx ≢ other) where
 
   defined_untouched : (d : Definition) (T : Tables) → AllUntouched T → AllUntouched (defined d T)
   defined_untouched as_before T h = h
-  defined_untouched (new def) T h = all_append Untouched T (record { def = def; versions = [] } ∷ []) h (tt, tt)
+  defined_untouched (new def) T h = All-append Untouched T (record { def = def; versions = [] } ∷ []) h (tt, tt)
   defined_untouched (in_place def) T h = all_map Untouched Untouched (λ t. if t.def.id == def.id then with_def def t else t) (λ t. def_untouched def (t.def.id == def.id) t) T h
 
   effect_untouched : (T : Tables) (seq : ℕ) (stmt : Stmt) → AllUntouched T → AllUntouched (effect T tx seq stmt).tables
@@ -80,7 +81,7 @@ module _ (tx other n : ℕ) (differs : tx ≢ other) where
   combined : (seq : ℕ) (T : Tables) → Both seq T → Sound other n T
   combined seq T h = record {
     ids = h.own.ids;
-    each = all_weaker (λ t. SoundTable tx seq t × Untouched t) (SoundTable other n) (λ t k. record { names = k.0.names; rising = k.0.rising; before = k.1 }) T
+    each = All-weaker (λ t. SoundTable tx seq t × Untouched t) (SoundTable other n) (λ t k. record { names = k.0.names; rising = k.0.rising; before = k.1 }) T
         (all_both (SoundTable tx seq) Untouched T h.own.each h.others);
   }
 
@@ -88,4 +89,4 @@ module _ (tx other n : ℕ) (differs : tx ≢ other) where
   pub others_sound : (reads : Reading) (explicit : Bool) (T : Tables) (texts : List (List ℕ)) → Sound tx 0 T → Sound other n T → Sound other n (script reads explicit T tx texts).state.tables
   others_sound reads explicit T texts h k =
       combined (script reads explicit T tx texts).state.seq (script reads explicit T tx texts).state.tables
-      (script_both reads explicit T texts (record { own = h; others = all_weaker (SoundTable other n) Untouched (λ t x. x.before) T k.each }))
+      (script_both reads explicit T texts (record { own = h; others = All-weaker (SoundTable other n) Untouched (λ t x. x.before) T k.each }))

@@ -29,11 +29,11 @@ use Rattle.law_frame.proofs.SameTouched.{untouched_at}
 
 -- ---- definitions after a CREATE
 
-defs_append : (T : Tables) (t : Table) → defs_of (T ++ t ∷ []) ≡ defs_of T ++ t.def ∷ []
+pub defs_append : (T : Tables) (t : Table) → defs_of (T ++ t ∷ []) ≡ defs_of T ++ t.def ∷ []
 defs_append [] t = refl
 defs_append (u ∷ us) t = ap (λ (ds : Defs). u.def ∷ ds) (defs_append us t)
 
-def_if : (def : TableDef) (b : Bool) (t : Table) → (if b then with_def def t else t).def ≡ (if b then def else t.def)
+pub def_if : (def : TableDef) (b : Bool) (t : Table) → (if b then with_def def t else t).def ≡ (if b then def else t.def)
 def_if def true t = refl
 def_if def false t = refl
 

@@ -1,10 +1,11 @@
 -- Over two states that agree on all that it wants, a statement starts and ends the same versions.
-use Rattle.std.proofs.Common.{◌≡◌, ℕ, refl, sym, ap, ◌∙◌, subst, ⊎_elim, Bool, true, false, List, [], ◌∷◌, Option, Some, None, eqb-true, ◌<◌, arith}
-use Rattle.std.proofs.lemmas.Bool.{ne_eqb, or_cases}
+use Rattle.std.proofs.Common.{◌≡◌, ℕ, refl, sym, ap, ◌∙◌, subst, ⊎_elim, Bool, true, false, List, [], ◌∷◌, Option, Some, None, eqb-true}
+use Rattle.std.proofs.lemmas.Bool.{or_cases, and_parts}
 use Rattle.std.specs.Prelude.{◌==◌, if◌then◌else◌}
 use Rattle.std.specs.List.{AllByRecursion, filter, list_any}
 use Rattle.std.specs.declared.cmp.Ordering.TheVariants.{Less}
 use Rattle.sql_value.specs.declared.column.ColumnDef.{ColumnDef}
+use Rattle.sql_value.proofs.Lists.{filters_turned as filter_both}
 use Rattle.sql_types.specs.declared.lock.Mode.{Mode}
 use Rattle.sql_types.specs.declared.lock.Mode.TheVariants.{IS, IX, S, X}
 use Rattle.sql_types.specs.declared.lock.Item.{Item}
@@ -20,25 +21,16 @@ use Rattle.spec_model.specs.Locks.{CellRequests}
 use Rattle.spec_model.specs.Effect.{effect}
 use Rattle.spec_model.specs.Agreement.{AgreeIn, AgreeOn, AgreeOnAll, AgreeInCell, AgreeInCatalog, LockRequests, requests_of, AgreeFor, columns_at}
 use Rattle.spec_model.specs.Reach.{has_key, is_exclusive, lets_change, cell_reaches, catalog_reaches, reaches}
-use Rattle.spec_model.specs.Runs.{IsBefore, EndsBefore, MadeBefore, Rising, Sound}
+use Rattle.spec_model.specs.Runs.{EndsBefore, MadeBefore, Rising, Sound}
 use Rattle.spec_model.specs.Touched.{ends_by, is_touched, touched}
 use Rattle.law_frame.proofs.Alls.{all_filter}
 use Rattle.law_frame.proofs.AtTable.{rising_at, before_at}
 use Rattle.law_frame.proofs.ByKeys.{by_keys}
 use Rattle.law_frame.proofs.LeftTables.{left_key}
-use Rattle.law_frame.proofs.SameKeys.{same_key_as, same_itself, and_true}
+use Rattle.law_frame.proofs.SameKeys.{same_key_as, same_itself}
+use Rattle.law_frame.proofs.NoEvents.{is_others}
 
 -- ---- lists
-
-pub filter_both : {A : Type 0} (p q : A → Bool) (xs : List A) → filter p (filter q xs) ≡ filter q (filter p xs)
-filter_both p q [] = refl
-filter_both p q (x ∷ xs) = by_tests (p x) (q x) refl refl (filter_both p q xs)
-  where
-    by_tests : (b c : Bool) → p x ≡ b → q x ≡ c → filter p (filter q xs) ≡ filter q (filter p xs) → filter p (if c then x ∷ filter q xs else filter q xs) ≡ filter q (if b then x ∷ filter p xs else filter p xs)
-    by_tests true true e f h = rw (e, f) (ap (λ (l : List _). x ∷ l) h)
-    by_tests true false e f h = rw f h
-    by_tests false true e f h = rw e h
-    by_tests false false e f h = h
 
 pub rising_filter : (test : Version → Bool) (vs : List Version) → Rising vs → Rising (filter test vs)
 rising_filter test [] h = tt
@@ -50,10 +42,10 @@ rising_filter test (v ∷ vs) h = by_test (test v) (rising_filter test vs h.1)
 
 -- ---- keys
 
-key_turned : (a b : Key) → same_key a b ≡ true → same_key b a ≡ true
+pub key_turned : (a b : Key) → same_key a b ≡ true → same_key b a ≡ true
 key_turned a b e = sym (same_key_as a b a e) ∙ same_itself a
 
-both_ways : (a b : Key) (p q : Bool) → same_key a b ≡ p → same_key b a ≡ q → p ≡ q
+pub both_ways : (a b : Key) (p q : Bool) → same_key a b ≡ p → same_key b a ≡ q → p ≡ q
 both_ways a b true q e f = sym (key_turned a b e) ∙ f
 both_ways a b false true e f = sym e ∙ key_turned b a f
 both_ways a b false false e f = refl
@@ -88,7 +80,7 @@ module _ (T U : Tables) (id : ℕ) (key : Key) where
   by_item V W S x a e f = cc
 
   by_request : (V W : List Version) (w : LockRequest) → AgreeOn columns V W w → lets_change key w ≡ true → of_key columns key V ≡ of_key columns key W
-  by_request V W w a e = let p = and_true (is_exclusive w.mode) (has_key key w.item) e in by_item V W w.mode w.item a p.0 p.1
+  by_request V W w a e = let p = and_parts (is_exclusive w.mode) (has_key key w.item) e in by_item V W w.mode w.item a p.0 p.1
 
   by_requests : (V W : List Version) (ws : List LockRequest) → AgreeOnAll columns ws V W → list_any (lets_change key) ws ≡ true → of_key columns key V ≡ of_key columns key W
   by_requests V W [] a e = cc
@@ -96,7 +88,7 @@ module _ (T U : Tables) (id : ℕ) (key : Key) where
 
   by_cell : (c : CellRequests) → AgreeInCell c T U → cell_reaches id key c ≡ true → of_key columns key (versions_of T id) ≡ of_key columns key (versions_of U id)
   by_cell None a e = cc
-  by_cell (Some c) a e = let p = and_true (c.0 == id) (list_any (lets_change key) c.1) e in
+  by_cell (Some c) a e = let p = and_parts (c.0 == id) (list_any (lets_change key) c.1) e in
       by_requests (versions_of T id) (versions_of U id) c.1 (subst (λ n. AgreeOnAll (columns_at (defs_of T) n) c.1 (versions_of T n) (versions_of U n)) (eqb-true c.0 id p.0) a) p.1
 
   pub reached_same : (w : LockRequests) → AgreeFor T U w → reaches id key w ≡ true → of_key columns key (versions_of T id) ≡ of_key columns key (versions_of U id)
@@ -107,16 +99,13 @@ module _ (T U : Tables) (id : ℕ) (key : Key) where
 
 -- ---- before its start it touched nothing
 
-not_before : (tx : ℕ) (event : EventId) → IsBefore tx 0 event → (event.0 == tx) ≡ false
-not_before tx event h = ne_eqb event.0 tx (λ e. let l : event.1 < 0 = h e in absurd (omega arith))
-
 end_not : (tx : ℕ) (o : Option EventId) → EndsBefore tx 0 o → ends_by tx o ≡ false
 end_not tx None h = refl
-end_not tx (Some event) h = not_before tx event h
+end_not tx (Some event) h = is_others tx event h
 
 pub untouched : (tx : ℕ) (vs : List Version) → AllByRecursion (MadeBefore tx 0) vs → touched tx vs ≡ []
 untouched tx [] h = refl
-untouched tx (v ∷ vs) h = rw (not_before tx v.start h.0.start) (rw (end_not tx v.end h.0.end) (untouched tx vs h.1))
+untouched tx (v ∷ vs) h = rw (is_others tx v.start h.0.start) (rw (end_not tx v.end h.0.end) (untouched tx vs h.1))
 
 pub untouched_at : (tx : ℕ) (T : Tables) (id : ℕ) → Sound tx 0 T → touched tx (versions_of T id) ≡ []
 untouched_at tx T id h = untouched tx (versions_of T id) (before_at tx 0 id T h.each)

@@ -3,6 +3,7 @@ use Rattle.std.proofs.Common.{◌≡◌, ℕ, ◌+◌, refl, sym, ap, subst, ◌
 use Rattle.std.proofs.lemmas.Bool.{eqb-true}
 use Rattle.std.specs.Prelude.{◌==◌, ◌||◌, if◌then◌else◌}
 use Rattle.std.specs.List.{list_any}
+use Rattle.std.proofs.ByRecursion.{All-append}
 use Rattle.sql_value.specs.declared.column.ColumnDef.{ColumnDef}
 use Rattle.sql_value.specs.declared.refusal.Refusal.{Refusal}
 use Rattle.sql_value.specs.declared.refusal.Refusal.TheVariants.{NoSuchTable, NameConflict, NoSuchColumn, NullNotAllowed, ReadOnlyTable, LimitExceeded}
@@ -25,7 +26,7 @@ use Rattle.spec_model.specs.Agreement.{IdsFrom}
 use Rattle.spec_model.specs.Reach.{creates}
 use Rattle.spec_model.specs.Runs.{SoundTable, Sound}
 use Rattle.law_frame.proofs.Checked.{Led, led, was_passed}
-use Rattle.law_frame.proofs.Alls.{all_append, all_map}
+use Rattle.law_frame.proofs.Alls.{all_map}
 use Rattle.law_frame.proofs.ChangeSets.{carries_change_set_out}
 use Rattle.law_frame.proofs.NamedPart.{IsAmongDefs, found_is_listed, was_found}
 use Rattle.law_frame.proofs.AtTable.{names_at}
@@ -34,7 +35,7 @@ use Rattle.law_frame.proofs.Sounds.{sound_all}
 
 -- ---- CREATE TABLE
 
-four_passed : {A : Type 0} (a b c d : Bool) (e f g h : Refusal) (y x : A) → refused_if a e (refused_if b f (refused_if c g (refused_if d h (Ok y)))) ≡ Ok x → x ≡ y
+pub four_passed : {A : Type 0} (a b c d : Bool) (e f g h : Refusal) (y x : A) → refused_if a e (refused_if b f (refused_if c g (refused_if d h (Ok y)))) ≡ Ok x → x ≡ y
 four_passed true b c d e f g h y x k = cc
 four_passed false true c d e f g h y x k = cc
 four_passed false false true d e f g h y x k = cc
@@ -47,7 +48,7 @@ third_false false true c d e h = cc
 third_false false false true d e h = cc
 third_false false false false d e h = refl
 
-new_def : (defs : Defs) (c : CreateTable) (def : TableDef) → create_check defs c ≡ Ok def → def ≡ table_def (next_id defs) c
+pub new_def : (defs : Defs) (c : CreateTable) (def : TableDef) → create_check defs c ≡ Ok def → def ≡ table_def (next_id defs) c
 unfolding create_check
 new_def defs c def e = four_passed (has_bad_name defs (table_def (next_id defs) c) c.key) (exceeds_limit defs (table_def (next_id defs) c) c.key) _ (has_null_key (table_def (next_id defs) c)) NameConflict LimitExceeded NoSuchColumn NullNotAllowed (table_def (next_id defs) c) def e
 
@@ -76,7 +77,7 @@ module _ (tx : ℕ) where
       let k : Sound tx (seq + length cs) U = sound_all tx seq cs T h in
       record {
         ids = ids_append 1 U (record { def = def; versions = [] }) k.ids (new_id (defs_of T) c def check ∙ omega (arith, ap (λ (ds : Defs). length ds) (changes_keep_defs tx seq cs T)));
-        each = all_append (SoundTable tx (seq + length cs)) U (record { def = def; versions = [] } ∷ []) k.each (record { names = new_columns (defs_of T) c def check; rising = tt; before = tt }, tt);
+        each = All-append (SoundTable tx (seq + length cs)) U (record { def = def; versions = [] } ∷ []) k.each (record { names = new_columns (defs_of T) c def check; rising = tt; before = tt }, tt);
       }
   table_sound seq T c (Err e) check h = subst (λ (n : ℕ). Sound tx n T) (omega arith) h
 

@@ -1,12 +1,13 @@
 -- Each event keeps the tables sound.
 use Rattle.std.proofs.Common.{◌≡◌, ◌≢◌, ℕ, ◌+◌, refl, sym, ap, subst, ◌∙◌, Bool, true, false, List, [], ◌∷◌, length, Option, Some, None, arith}
-use Rattle.std.proofs.lemmas.Grind.{common_steps}
 use Rattle.std.specs.Prelude.{◌==◌, if◌then◌else◌}
 use Rattle.std.specs.List.{AllByRecursion}
 use Rattle.std.specs.Cmp.{IsTotalOrder, then_total, on_total, nat_cmp_total}
 use Rattle.std.specs.declared.cmp.Ordering.{Ordering}
 use Rattle.std.specs.declared.cmp.Ordering.TheVariants.{Less, Equal, Greater}
-use Rattle.std.specs.Ordering.{nat_cmp, ordering_then, ordering_reverse, is_gt}
+use Rattle.std.specs.Ordering.{nat_cmp, ordering_reverse, is_gt}
+use Rattle.std.proofs.ByRecursion.{All-weaker}
+use Rattle.sql_value.proofs.Orderings.{both_equal, equal_numbers}
 use Rattle.sql_types.specs.declared.version.Table.{Table}
 use Rattle.sql_types.specs.declared.version.TypedValue.{TypedValue}
 use Rattle.sql_types.specs.declared.version.Version.{Version}
@@ -17,7 +18,7 @@ use Rattle.spec_model.specs.Catalog.{Tables, with_versions}
 use Rattle.spec_model.specs.ChangeSets.{TableChange, changed_in, changed_from}
 use Rattle.spec_model.specs.Agreement.{IdsFrom}
 use Rattle.spec_model.specs.Runs.{Rising, IsBefore, EndsBefore, MadeBefore, SoundTable, Sound}
-use Rattle.law_frame.proofs.Alls.{all_weaker, all_inserted, all_map}
+use Rattle.law_frame.proofs.Alls.{all_inserted, all_map}
 use Rattle.law_frame.proofs.Definitions.{same_defs}
 
 -- ---- the order of events
@@ -27,14 +28,6 @@ event_total = then_total (on_total (λ (e : EventId). e.0) nat_cmp_total) (on_to
 
 pub start_total : IsTotalOrder start_cmp
 start_total = on_total (λ (v : Version). v.start) event_total
-
-both_equal : (a b : Ordering) → ordering_then a b ≡ Equal → (a ≡ Equal) × (b ≡ Equal)
-both_equal Less b h = cc
-both_equal Equal b h = (refl, h)
-both_equal Greater b h = cc
-
-equal_numbers : (m n : ℕ) → nat_cmp m n ≡ Equal → m ≡ n
-equal_numbers m n h = grind (arith, common_steps)
 
 pub one_event : (a b : EventId) → event_cmp a b ≡ Equal → (a.0 ≡ b.0) × (a.1 ≡ b.1)
 one_event a b h = let p = both_equal (nat_cmp a.0 b.0) (nat_cmp a.1 b.1) h in (equal_numbers a.0 b.0 p.0, equal_numbers a.1 b.1 p.1)
@@ -46,7 +39,7 @@ turned v w h = start_total.antisymm w v ∙ ap ordering_reverse h
 
 rises : (v w : Version) (ws us : List Version) (o : Ordering) → start_cmp v w ≡ o → o ≢ Equal → Rising (w ∷ ws) → Rising us → (start_cmp w v ≡ Less → AllByRecursion (λ u. start_cmp w u ≡ Less) us)
     → Rising (if is_gt o then w ∷ us else v ∷ w ∷ ws)
-rises v w ws us Less e ne r s k = ((e, all_weaker (λ u. start_cmp w u ≡ Less) (λ u. start_cmp v u ≡ Less) (λ u l. start_total.trans v w u e l) ws r.0), r)
+rises v w ws us Less e ne r s k = ((e, All-weaker (λ u. start_cmp w u ≡ Less) (λ u. start_cmp v u ≡ Less) (λ u l. start_total.trans v w u e l) ws r.0), r)
 rises v w ws us Equal e ne r s k = absurd (ne refl)
 rises v w ws us Greater e ne r s k = (k (turned v w e), s)
 
@@ -96,20 +89,20 @@ ended_before tx seq false v m = later_version tx seq v m
 module _ (tx seq : ℕ) where
   pub rising_changed : (c : Change) (vs : List Version) → AllByRecursion (MadeBefore tx seq) vs → Rising vs → Rising (changed (tx, seq) c vs)
   unfolding started
-  rising_changed (Starts values) vs m r = rising_inserted _ vs (all_weaker (MadeBefore tx seq) _ (new_start tx seq values) vs m) r
+  rising_changed (Starts values) vs m r = rising_inserted _ vs (All-weaker (MadeBefore tx seq) _ (new_start tx seq values) vs m) r
   rising_changed (Ends start) vs m r = rising_ended (tx, seq) start vs r
 
   pub before_changed : (c : Change) (vs : List Version) → AllByRecursion (MadeBefore tx seq) vs → AllByRecursion (MadeBefore tx (seq + 1)) (changed (tx, seq) c vs)
   unfolding started ended
   before_changed (Starts values) vs m =
       all_inserted (MadeBefore tx (seq + 1)) start_cmp _ vs (record { start = λ _. omega arith; end = tt })
-      (all_weaker (MadeBefore tx seq) (MadeBefore tx (seq + 1)) (later_version tx seq) vs m)
+      (All-weaker (MadeBefore tx seq) (MadeBefore tx (seq + 1)) (later_version tx seq) vs m)
   before_changed (Ends start) vs m =
       all_map (MadeBefore tx seq) (MadeBefore tx (seq + 1)) (λ v. if same_event v.start start then with_end (tx, seq) v else v)
       (λ v. ended_before tx seq (same_event v.start start) v) vs m
 
   pub later_table : (t : Table) → SoundTable tx seq t → SoundTable tx (seq + 1) t
-  later_table t h = record { names = h.names; rising = h.rising; before = all_weaker (MadeBefore tx seq) (MadeBefore tx (seq + 1)) (later_version tx seq) t.versions h.before }
+  later_table t h = record { names = h.names; rising = h.rising; before = All-weaker (MadeBefore tx seq) (MadeBefore tx (seq + 1)) (later_version tx seq) t.versions h.before }
 
   table_changed : (b : Bool) (c : Change) (t : Table) → SoundTable tx seq t → SoundTable tx (seq + 1) (if b then with_versions (changed (tx, seq) c) t else t)
   table_changed true c t h = record { names = h.names; rising = rising_changed c t.versions h.before h.rising; before = before_changed c t.versions h.before }

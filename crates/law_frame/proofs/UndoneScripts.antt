@@ -3,6 +3,7 @@ use Rattle.std.proofs.Common.{◌≡◌, ℕ, ◌≤◌, sym, ap, subst, ◌∙�
 use Rattle.std.specs.Prelude.{if◌then◌else◌}
 use Rattle.std.specs.List.{AllByRecursion}
 use Rattle.std.specs.Str.{bytes_eq}
+use Rattle.std.proofs.ByRecursion.{All-weaker}
 use Rattle.sql_types.specs.declared.statement.Stmt.{Stmt}
 use Rattle.spec_model.specs.Catalog.{Tables}
 use Rattle.spec_model.specs.Effect.{Effect, effect}
@@ -10,7 +11,6 @@ use Rattle.spec_model.specs.Reach.{creates}
 use Rattle.spec_model.specs.Runs.{Sound}
 use Rattle.spec_model.specs.Script.{Reading, Saved, State, back_to, rolled_back, rolls_back_to, start, script}
 use Rattle.spec_model.specs.Undo.{undone}
-use Rattle.law_frame.proofs.Alls.{all_weaker}
 use Rattle.law_frame.proofs.ChangeSets.{carries_change_set_out}
 use Rattle.law_frame.proofs.StepByStep.{at_copy, Keeps, script_keeps}
 use Rattle.law_frame.proofs.SoundStatements.{kept_sound}
@@ -77,7 +77,7 @@ module _ (tx : ℕ) where
   undoable_kept = record {
     by_change = λ x stmt k q h. record {
       sound = kept_sound tx x.seq x.tables stmt k h.sound;
-      under = all_weaker (Under x.tables x.seq) _ (after_change x.tables x.seq stmt k h.sound) x.saved h.under;
+      under = All-weaker (Under x.tables x.seq) _ (after_change x.tables x.seq stmt k h.sound) x.saved h.under;
       nested = h.nested;
     };
     by_save = λ x name h. record { sound = h.sound; under = (itself name x.tables x.seq h.sound, h.under); nested = (h.under, h.nested) };
@@ -101,7 +101,7 @@ script_undoable reads T tx texts sound = script_keeps tx (Undoable tx) (undoable
 pub copies_undone : (reads : Reading) (T : Tables) (tx : ℕ) (texts : List (List ℕ)) → Sound tx 0 T → AllByRecursion (λ c. undone tx c.seq (script reads true T tx texts).state.tables ≡ c.tables) (script reads true T tx texts).state.saved
 copies_undone reads T tx texts sound =
     let x : State = (script reads true T tx texts).state in
-    all_weaker (Under tx x.tables x.seq) (λ c. undone tx c.seq x.tables ≡ c.tables) (λ c u. u.undo) x.saved (script_undoable reads T tx texts sound).under
+    All-weaker (Under tx x.tables x.seq) (λ c. undone tx c.seq x.tables ≡ c.tables) (λ c u. u.undo) x.saved (script_undoable reads T tx texts sound).under
 
 pub names_undone : (reads : Reading) (T : Tables) (tx : ℕ) (texts : List (List ℕ)) (name : List ℕ) → Sound tx 0 T → (rolls_back_to (script reads true T tx texts).state name).0.tables ≡ undone tx (rolls_back_to (script reads true T tx texts).state name).0.seq (script reads true T tx texts).state.tables
 names_undone reads T tx texts name sound = goes_back_undone tx (script reads true T tx texts).state name (script_undoable reads T tx texts sound)
@@ -112,4 +112,4 @@ script_sound reads T tx texts sound = (script_undoable reads T tx texts sound).s
 pub copies_sound : (reads : Reading) (T : Tables) (tx : ℕ) (texts : List (List ℕ)) → Sound tx 0 T → AllByRecursion (λ c. Sound tx c.seq c.tables) (script reads true T tx texts).state.saved
 copies_sound reads T tx texts sound =
     let x : State = (script reads true T tx texts).state in
-    all_weaker (Under tx x.tables x.seq) (λ c. Sound tx c.seq c.tables) (λ c u. u.sound) x.saved (script_undoable reads T tx texts sound).under
+    All-weaker (Under tx x.tables x.seq) (λ c. Sound tx c.seq c.tables) (λ c u. u.sound) x.saved (script_undoable reads T tx texts sound).under

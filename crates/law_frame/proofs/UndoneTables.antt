@@ -1,8 +1,10 @@
 -- Undo of the changes of a transaction in all tables.
 use Rattle.std.proofs.Common.{◌≡◌, ℕ, ◌+◌, ◌≤◌, refl, sym, ap, subst, ◌∙◌, Bool, true, false, List, [], ◌∷◌, take, Ok, Err, arith}
 use Rattle.std.proofs.lemmas.Bool.{eq-eqb, eqb-true, ne_eqb}
-use Rattle.std.specs.Prelude.{◌==◌, if◌then◌else◌, zero, suc}
+use Rattle.std.specs.Prelude.{◌==◌, if◌then◌else◌}
 use Rattle.std.specs.List.{AllByRecursion}
+use Rattle.std.proofs.ByRecursion.{All-weaker}
+use Rattle.sql_value.proofs.Lists.{all_take}
 use Rattle.sql_types.specs.declared.statement.Stmt.{Stmt}
 use Rattle.sql_types.specs.declared.statement.Stmt.TheVariants as s
 use Rattle.sql_types.specs.declared.statement.RowStmt.{RowStmt}
@@ -22,7 +24,7 @@ use Rattle.spec_model.specs.Agreement.{IdsFrom}
 use Rattle.spec_model.specs.Reach.{creates}
 use Rattle.spec_model.specs.Runs.{SoundTable, Sound}
 use Rattle.spec_model.specs.Undo.{versions_undone, undone}
-use Rattle.law_frame.proofs.Alls.{all_weaker, all_both, all_map}
+use Rattle.law_frame.proofs.Alls.{all_both, all_map}
 use Rattle.law_frame.proofs.AtTable.{rising_at}
 use Rattle.law_frame.proofs.Definitions.{tables_after}
 use Rattle.law_frame.proofs.UndoneVersions.{nothing_undone, Undoes, change_undoes, still_undoes, row_undoes}
@@ -31,13 +33,13 @@ use Rattle.law_frame.proofs.UndoneVersions.{nothing_undone, Undoes, change_undoe
 
 ids_above : (k : ℕ) (T : Tables) → IdsFrom k (defs_of T) → AllByRecursion (λ t. k ≤ t.def.id) T
 ids_above k [] h = tt
-ids_above k (t ∷ ts) h = (omega (arith, h.0), all_weaker (λ u. k + 1 ≤ u.def.id) (λ u. k ≤ u.def.id) (λ u le. omega (arith, le)) ts (ids_above (k + 1) ts h.1))
+ids_above k (t ∷ ts) h = (omega (arith, h.0), All-weaker (λ u. k + 1 ≤ u.def.id) (λ u. k ≤ u.def.id) (λ u le. omega (arith, le)) ts (ids_above (k + 1) ts h.1))
 
 pub own_versions : (k : ℕ) (T : Tables) → IdsFrom k (defs_of T) → AllByRecursion (λ t. versions_of T t.def.id ≡ t.versions) T
 own_versions k [] h = tt
 own_versions k (t ∷ ts) h = (
   rw (eq-eqb t.def.id t.def.id refl) refl,
-  all_weaker (λ u. (k + 1 ≤ u.def.id) × (versions_of ts u.def.id ≡ u.versions)) (λ u. versions_of (t ∷ ts) u.def.id ≡ u.versions)
+  All-weaker (λ u. (k + 1 ≤ u.def.id) × (versions_of ts u.def.id ≡ u.versions)) (λ u. versions_of (t ∷ ts) u.def.id ≡ u.versions)
       (λ u p. rw (ne_eqb t.def.id u.def.id (λ e. absurd (omega (arith, h.0, p.0, e)))) p.1) ts
       (all_both (λ u. k + 1 ≤ u.def.id) (λ u. versions_of ts u.def.id ≡ u.versions) ts (ids_above (k + 1) ts h.1) (own_versions (k + 1) ts h.1)),
 )
@@ -74,7 +76,7 @@ module _ (tx n : ℕ) where
   pub all_undone : (m : ℕ) → n ≤ m → (cs : List TableChange) (T : Tables) → AllByRecursion (UndoesAt T) cs → undone tx n (changed_from tx m cs T) ≡ undone tx n T
   all_undone m le [] T h = refl
   all_undone m le (c ∷ cs) T h =
-      all_undone (m + 1) (omega (arith, le)) cs (changed_in (tx, m) c T) (all_weaker (UndoesAt T) (UndoesAt (changed_in (tx, m) c T)) (still_at m le c T) cs h.1)
+      all_undone (m + 1) (omega (arith, le)) cs (changed_in (tx, m) c T) (All-weaker (UndoesAt T) (UndoesAt (changed_in (tx, m) c T)) (still_at m le c T) cs h.1)
       ∙ in_tables m le c T h.0
 
   -- ---- a statement
@@ -83,7 +85,7 @@ module _ (tx n : ℕ) where
     row_change_set_undoes : (def : TableDef) (stmt : RowStmt) (m : Checked Changes) → row_changes def (versions_of T def.id) stmt ≡ m → AllByRecursion (UndoesAt T) (row_change_set def.id m).changes
     row_change_set_undoes def stmt (Ok c) e =
         all_map (Undoes tx n (versions_of T def.id)) (UndoesAt T) (λ d. (def.id, d))
-        (λ d u. all_weaker (λ t. versions_of T t.def.id ≡ t.versions) (λ t. (t.def.id == def.id) ≡ true → Undoes tx n t.versions d)
+        (λ d u. All-weaker (λ t. versions_of T t.def.id ≡ t.versions) (λ t. (t.def.id == def.id) ≡ true → Undoes tx n t.versions d)
         (λ t own i. subst (λ (vs : List Version). Undoes tx n vs d) (ap (versions_of T) (sym (eqb-true t.def.id def.id i)) ∙ own) u) T (own_versions 1 T sound.ids))
         c.0 (row_undoes tx n def stmt (versions_of T def.id) c (rising_at tx seq def.id T sound.each) e)
     row_change_set_undoes def stmt (Err r) e = tt
@@ -117,15 +119,10 @@ module _ (tx n : ℕ) where
     pub statement_undone : n ≤ seq → (stmt : Stmt) → creates stmt ≡ false → undone tx n (effect T tx seq stmt).tables ≡ undone tx n T
     statement_undone le stmt e = ap (undone tx n) (tables_after T tx seq stmt e) ∙ all_undone seq le (change_set T stmt).changes T (change_set_undoes stmt e)
 
-first_few : {A : Type 0} (P : A → Type 0) (k : ℕ) (xs : List A) → AllByRecursion P xs → AllByRecursion P (take k xs)
-first_few P zero xs h = tt
-first_few P (suc k) [] h = tt
-first_few P (suc k) (x ∷ xs) h = (h.0, first_few P k xs h.1)
-
 -- a statement of which the first few changes were made
 pub part_undone : (T : Tables) (tx seq k : ℕ) (stmt : Stmt) → Sound tx seq T → creates stmt ≡ false → undone tx seq (changed_from tx seq (take k (change_set T stmt).changes) T) ≡ T
 part_undone T tx seq k stmt sound e =
-    all_undone tx seq seq (omega arith) (take k (change_set T stmt).changes) T (first_few (UndoesAt tx seq T) k (change_set T stmt).changes (change_set_undoes tx seq seq T sound stmt e))
+    all_undone tx seq seq (omega arith) (take k (change_set T stmt).changes) T (all_take (UndoesAt tx seq T) k (change_set T stmt).changes (change_set_undoes tx seq seq T sound stmt e))
     ∙ none_undone tx seq T sound.each
 
 pub whole_undone : (T : Tables) (tx seq : ℕ) (stmt : Stmt) → Sound tx seq T → creates stmt ≡ false → undone tx seq (effect T tx seq stmt).tables ≡ T

@@ -5,6 +5,7 @@ use Rattle.std.specs.Prelude.{◌==◌, ◌&&◌, not, nat_le, if◌then◌else�
 use Rattle.std.specs.List.{AllByRecursion, filter, zip}
 use Rattle.std.specs.declared.cmp.Ordering.{Ordering}
 use Rattle.std.specs.Ordering.{is_gt}
+use Rattle.std.proofs.ByRecursion.{kept_by_passes, All-weaker}
 use Rattle.sql_value.specs.declared.column.ColumnDef.{ColumnDef}
 use Rattle.sql_value.specs.declared.expr.Expr.{Expr}
 use Rattle.sql_types.specs.declared.statement.RowStmt.{RowStmt}
@@ -20,7 +21,7 @@ use Rattle.spec_model.specs.Changes.{Change, Starts, Ends, Changes, changed, ins
 use Rattle.spec_model.specs.Undo.{is_undone, end_left, end_undone, versions_undone}
 use Rattle.spec_model.specs.Runs.{Rising, IsBefore, EndsBefore, MadeBefore}
 use Rattle.law_frame.proofs.Checked.{Led, led}
-use Rattle.law_frame.proofs.Alls.{all_weaker, all_both, all_map, all_filter, all_pass, all_sorted, all_inserted, all_checked_filter}
+use Rattle.law_frame.proofs.Alls.{all_both, all_map, all_filter, all_sorted, all_inserted, all_checked_filter}
 use Rattle.law_frame.proofs.SameKeys.{IsAlone, each_alone}
 use Rattle.law_frame.proofs.LeftRows.{zipped, all_flat_map}
 
@@ -124,7 +125,7 @@ module _ (tx n : ℕ) where
     Undone v = Undoes V (Ends v.start)
 
     live_undone : (v : Version) → IsAlone V v × (is_none v.end ≡ true) → Undone v
-    live_undone v h = all_weaker (λ w. same_event w.start v.start ≡ true → w ≡ v) (λ w. same_event w.start v.start ≡ true → end_left tx n w.end ≡ None)
+    live_undone v h = All-weaker (λ w. same_event w.start v.start ≡ true → w ≡ v) (λ w. same_event w.start v.start ≡ true → end_left tx n w.end ≡ None)
         (λ w a e. subst (λ (u : Version). end_left tx n u.end ≡ None) (sym (a e)) (no_end v.end h.1)) V h.0
 
     part_alone : (o : Option Key) → AllByRecursion (IsAlone V) (part_read columns o V)
@@ -135,10 +136,10 @@ module _ (tx n : ℕ) where
     unfolding live_by_key
     undone_live o =
         all_sorted Undone (λ v w. key_cmp (version_key columns v) (version_key columns w)) (live (part_read columns o V))
-        (all_weaker (λ v. IsAlone V v × (is_none v.end ≡ true)) Undone live_undone (live (part_read columns o V))
+        (All-weaker (λ v. IsAlone V v × (is_none v.end ≡ true)) Undone live_undone (live (part_read columns o V))
         (all_both (IsAlone V) (λ v. is_none v.end ≡ true) (live (part_read columns o V))
         (all_filter (IsAlone V) (λ v. is_none v.end) (part_read columns o V) (part_alone o))
-        (all_pass (λ v. is_none v.end) (part_read columns o V))))
+        (kept_by_passes (λ v. is_none v.end) (part_read columns o V))))
 
     taken_undone : (cond : Option Expr) (taken : List Version) → versions_matched columns cond V ≡ Ok taken → AllByRecursion Undone taken
     unfolding versions_matched

@@ -1,6 +1,6 @@
 -- An UPDATE that passes leaves the keys of its rows.
 use Rattle.std.proofs.Common.{◌≡◌, ◌≢◌, ℕ, zero, suc, ◌+◌, refl, sym, ap, subst, ◌∙◌, Bool, true, false, List, [], ◌∷◌, map, Option, Some, None, Ok}
-use Rattle.std.proofs.lemmas.Bool.{ne_eqb}
+use Rattle.std.proofs.lemmas.Bool.{ne_eqb, or_parts}
 use Rattle.std.proofs.lemmas.Iterator.Adapters.{position_from-zero}
 use Rattle.std.proofs.lemmas.List.Quantifiers.{position-Some}
 use Rattle.std.proofs.lemmas.Option.{slice_get-get_or}
@@ -12,6 +12,7 @@ use Rattle.sql_value.specs.declared.value.Value.{Value}
 use Rattle.sql_value.specs.declared.column.ColumnDef.{ColumnDef}
 use Rattle.sql_value.specs.declared.refusal.Refusal.TheVariants.{NameConflict, NoSuchColumn, AppendOnlyTable, ReadOnlyTable, KeyNotUpdatable}
 use Rattle.sql_value.specs.declared.expr.Expr.{Expr}
+use Rattle.sql_value.proofs.Lists.{bytes_eq-true}
 use Rattle.sql_types.specs.declared.table.TableDef.{TableDef}
 use Rattle.sql_types.specs.declared.table.Part.{Part}
 use Rattle.sql_types.specs.declared.version.Version.{Version}
@@ -26,22 +27,18 @@ use Rattle.spec_model.specs.Changes.{expr_set, value_set, row_after_set}
 use Rattle.spec_model.specs.Create.{names_of}
 use Rattle.spec_model.specs.Checks.{is_key_column, is_in_key, sets_check, update_check}
 use Rattle.law_frame.proofs.Checked.{was_passed, not_refused}
-use Rattle.law_frame.proofs.SameKeys.{or_false}
 use Rattle.law_frame.proofs.MappedRows.{stored_mapped, key_kept}
 
 -- ---- columns by name
 
-same_name : (a b : List ℕ) → bytes_eq a b ≡ true → a ≡ b
-same_name a b h = (bytes_eq-Decides a b).0 h
-
-named_itself : (a b : List ℕ) → a ≡ b → bytes_eq a b ≡ true
+pub named_itself : (a b : List ℕ) → a ≡ b → bytes_eq a b ≡ true
 named_itself a b e = (bytes_eq-Decides a b).1 e
 
 -- none of these columns has the name
 not_named : (columns : List ColumnDef) (name : List ℕ) (i : ℕ) (c : ColumnDef) → has_name (names_of columns) name ≡ false → slice_get columns i ≡ Some c → bytes_eq c.name name ≡ false
 not_named [] name i c h e = cc
-not_named (d ∷ ds) name zero c h e = let same : d ≡ c = cc in subst (λ (b : ColumnDef). bytes_eq b.name name ≡ false) same (or_false (bytes_eq d.name name) (has_name (names_of ds) name) h).0
-not_named (d ∷ ds) name (suc i) c h e = not_named ds name i c (or_false (bytes_eq d.name name) (has_name (names_of ds) name) h).1 e
+not_named (d ∷ ds) name zero c h e = let same : d ≡ c = cc in subst (λ (b : ColumnDef). bytes_eq b.name name ≡ false) same (or_parts (bytes_eq d.name name) (has_name (names_of ds) name) h).0
+not_named (d ∷ ds) name (suc i) c h e = not_named ds name i c (or_parts (bytes_eq d.name name) (has_name (names_of ds) name) h).1 e
 
 -- of columns with names of their own, two with one name are one
 one_named : (columns : List ColumnDef) (i p : ℕ) (c d : ColumnDef) → repeats (names_of columns) ≡ false → slice_get columns p ≡ Some c → slice_get columns i ≡ Some d → d.name ≡ c.name → d ≡ c
@@ -49,17 +46,17 @@ one_named [] i p c d r e f n = cc
 one_named (x ∷ xs) zero zero c d r e f n = cc
 one_named (x ∷ xs) zero (suc p) c d r e f n =
     let same : x ≡ d = cc in
-    absurd (no (not_named xs x.name p c (or_false (has_name (names_of xs) x.name) (repeats (names_of xs)) r).0 e) (named_itself c.name x.name (sym n ∙ ap (λ (b : ColumnDef). b.name) (sym same))))
+    absurd (no (not_named xs x.name p c (or_parts (has_name (names_of xs) x.name) (repeats (names_of xs)) r).0 e) (named_itself c.name x.name (sym n ∙ ap (λ (b : ColumnDef). b.name) (sym same))))
   where
     no : {b : Bool} → b ≡ false → b ≡ true → ⊥
     no h k = cc
 one_named (x ∷ xs) (suc i) zero c d r e f n =
     let same : x ≡ c = cc in
-    absurd (no (not_named xs x.name i d (or_false (has_name (names_of xs) x.name) (repeats (names_of xs)) r).0 f) (named_itself d.name x.name (n ∙ ap (λ (b : ColumnDef). b.name) (sym same))))
+    absurd (no (not_named xs x.name i d (or_parts (has_name (names_of xs) x.name) (repeats (names_of xs)) r).0 f) (named_itself d.name x.name (n ∙ ap (λ (b : ColumnDef). b.name) (sym same))))
   where
     no : {b : Bool} → b ≡ false → b ≡ true → ⊥
     no h k = cc
-one_named (x ∷ xs) (suc i) (suc p) c d r e f n = one_named xs i p c d (or_false (has_name (names_of xs) x.name) (repeats (names_of xs)) r).1 e f n
+one_named (x ∷ xs) (suc i) (suc p) c d r e f n = one_named xs i p c d (or_parts (has_name (names_of xs) x.name) (repeats (names_of xs)) r).1 e f n
 
 not_here : (b : Bool) (n : ℕ) (o : Option ℕ) → (if b then Some n else o) ≡ None → b ≡ false
 not_here true n o h = cc
@@ -79,7 +76,7 @@ found_by_name : (columns : List ColumnDef) (p : ℕ) (c : ColumnDef) (o : Option
 found_by_name columns p c (Some i) r e f =
     let found = position-Some (λ (d : ColumnDef). bytes_eq d.name c.name) columns i c f in
     let at : slice_get columns i ≡ Some (get_or columns i c) = slice_get-get_or columns i c found.0 in
-    at ∙ ap (λ (d : ColumnDef). Some d) (one_named columns i p c (get_or columns i c) r e at (same_name (get_or columns i c).name c.name found.1))
+    at ∙ ap (λ (d : ColumnDef). Some d) (one_named columns i p c (get_or columns i c) r e at (bytes_eq-true (get_or columns i c).name c.name found.1))
 found_by_name columns p c None r e f =
     absurd (no (none_passes (λ (d : ColumnDef). bytes_eq d.name c.name) columns 0 p c (sym (position_from-zero (λ (d : ColumnDef). bytes_eq d.name c.name) columns) ∙ f) e) (named_itself c.name c.name refl))
   where
@@ -92,11 +89,11 @@ found_by_name columns p c None r e f =
 not_set : (columns : List ColumnDef) (sets : List (List ℕ × Expr)) (c : ColumnDef) → list_any (λ s. is_in_key columns s.0) sets ≡ false → is_in_key columns c.name ≡ true → expr_set sets c.name ≡ None
 not_set columns [] c h k = refl
 not_set columns (s ∷ ss) c h k =
-    let p = or_false (is_in_key columns s.0) (list_any (λ t. is_in_key columns t.0) ss) h in
+    let p = or_parts (is_in_key columns s.0) (list_any (λ t. is_in_key columns t.0) ss) h in
     here (bytes_eq s.0 c.name) refl p.0 (not_set columns ss c p.1 k)
   where
     here : (b : Bool) → bytes_eq s.0 c.name ≡ b → is_in_key columns s.0 ≡ false → expr_set ss c.name ≡ None → (if b then Some s.1 else expr_set ss c.name) ≡ None
-    here true e f g = absurd (let t : is_in_key columns s.0 ≡ true = ap (is_in_key columns) (same_name s.0 c.name e) ∙ k in cc)
+    here true e f g = absurd (let t : is_in_key columns s.0 ≡ true = ap (is_in_key columns) (bytes_eq-true s.0 c.name e) ∙ k in cc)
     here false e f g = g
 
 key_column : (columns : List ColumnDef) (p : ℕ) (c : ColumnDef) → repeats (names_of columns) ≡ false → slice_get columns p ≡ Some c → c.key_position ≢ 0 → is_in_key columns c.name ≡ true

@@ -5,6 +5,8 @@ use Rattle.std.proofs.lemmas.Bool.Decides.{nat_tests, Decides-eqb}
 use Rattle.std.specs.Bool.{Decides}
 use Rattle.std.specs.Prelude.{◌&&◌, ◌==◌, not, nat_le, if◌then◌else◌}
 use Rattle.std.specs.List.{AllByRecursion, list_all, range_with_len}
+use Rattle.base_types.proofs.Bools.{and_front, and_back}
+use Rattle.base_types.proofs.Naturals.{le_from_test}
 use Rattle.sql_value.specs.Stored.{is_in_range}
 use Rattle.sql_value.specs.declared.column.ColumnDef.{ColumnDef}
 use Rattle.sql_types.specs.declared.table.IndexDef.{IndexDef}
@@ -18,19 +20,8 @@ use Rattle.format_image.specs.DefBytes.{IsColumn, IsIndex, IsDef, ids_rise}
 
 -- ---- tests
 
-pub front : (a b : Bool) → (a && b) ≡ true → a ≡ true
-front true b e = refl
-front false b e = cc
-
-pub last : (a b : Bool) → (a && b) ≡ true → b ≡ true
-last true b e = e
-last false b e = cc
-
-at_most : (a b : ℕ) → nat_le a b ≡ true → a ≤ b
-at_most a b e = grind (arith, nat_tests)
-
 upper : (low high n : ℕ) → is_between low high n ≡ true → n ≤ high
-upper low high n e = at_most n high (last (nat_le low n) (nat_le n high) e)
+upper low high n e = le_from_test n high (and_back (nat_le low n) (nat_le n high) e)
 
 -- ---- columns
 
@@ -39,7 +30,7 @@ greatest_rest : (n : ℕ) (ns : List ℕ) → greatest (n ∷ ns) ≤ 4 → (n �
 greatest_rest n ns le = here (nat_le n (greatest ns)) refl le
   where
     here : (b : Bool) → nat_le n (greatest ns) ≡ b → (if b then greatest ns else n) ≤ 4 → (n ≤ 4) × (greatest ns ≤ 4)
-    here true e l = let less : n ≤ greatest ns = at_most n (greatest ns) e in (omega (arith, less, l), l)
+    here true e l = let less : n ≤ greatest ns = le_from_test n (greatest ns) e in (omega (arith, less, l), l)
     here false e l = let more : greatest ns < n = grind (arith, nat_tests, e) in (l, omega (arith, more, l))
 
 few_positions : (columns : List ColumnDef) → greatest (positions_of columns) ≤ 4 → AllByRecursion (λ (c : ColumnDef). c.key_position ≤ 4) columns
@@ -53,24 +44,24 @@ few_positions (c ∷ cs) le = here (c.key_position == 0) (Decides-eqb c.key_posi
 
 column_is : (c : ColumnDef) → is_encodable_column c ≡ true → c.key_position ≤ 4 → IsColumn c
 column_is c e le =
-    let ranged : (is_in_range c.ty && is_proper_name c.name) ≡ true = front (is_in_range c.ty && is_proper_name c.name) (not (is_ledger_name c.name)) e in
+    let ranged : (is_in_range c.ty && is_proper_name c.name) ≡ true = and_front (is_in_range c.ty && is_proper_name c.name) (not (is_ledger_name c.name)) e in
     record {
-      name = last (is_in_range c.ty) (is_proper_name c.name) ranged;
-      ty = front (is_in_range c.ty) (is_proper_name c.name) ranged;
+      name = and_back (is_in_range c.ty) (is_proper_name c.name) ranged;
+      ty = and_front (is_in_range c.ty) (is_proper_name c.name) ranged;
       key_position = omega (arith, le);
     }
 
 columns_are : (cs : List ColumnDef) → list_all is_encodable_column cs ≡ true → AllByRecursion (λ (c : ColumnDef). c.key_position ≤ 4) cs → AllByRecursion IsColumn cs
 columns_are [] e le = tt
-columns_are (c ∷ cs) e le = (column_is c (front (is_encodable_column c) (list_all is_encodable_column cs) e) le.0, columns_are cs (last (is_encodable_column c) (list_all is_encodable_column cs) e) le.1)
+columns_are (c ∷ cs) e le = (column_is c (and_front (is_encodable_column c) (list_all is_encodable_column cs) e) le.0, columns_are cs (and_back (is_encodable_column c) (list_all is_encodable_column cs) e) le.1)
 
 -- ---- indexes
 
 ordinals_are : (columns : ℕ) (os : List ℕ) → columns ≤ 64 → list_all (is_between 1 columns) os ≡ true → AllByRecursion (λ o. o < 2 ^ 16) os
 ordinals_are columns [] le e = tt
 ordinals_are columns (o ∷ os) le e =
-    let up : o ≤ columns = upper 1 columns o (front (is_between 1 columns o) (list_all (is_between 1 columns) os) e) in
-    (omega (arith, up, le), ordinals_are columns os le (last (is_between 1 columns o) (list_all (is_between 1 columns) os) e))
+    let up : o ≤ columns = upper 1 columns o (and_front (is_between 1 columns o) (list_all (is_between 1 columns) os) e) in
+    (omega (arith, up, le), ordinals_are columns os le (and_back (is_between 1 columns o) (list_all (is_between 1 columns) os) e))
 
 -- the tests of an index, one before the other
 index_is : (columns : ℕ) (i : IndexDef) → columns ≤ 64 → is_encodable_index columns i ≡ true → IsIndex i
@@ -78,18 +69,18 @@ index_is columns i le e =
     let name : Bool = is_proper_name i.name in
     let count : Bool = is_between 1 4 (length i.ordinals) in
     let all : Bool = list_all (is_between 1 columns) i.ordinals in
-    let three : (name && count && all) ≡ true = front (name && count && all) (not (number_repeats i.ordinals)) e in
-    let two : (name && count) ≡ true = front (name && count) all three in
-    let few : length i.ordinals ≤ 4 = upper 1 4 (length i.ordinals) (last name count two) in
+    let three : (name && count && all) ≡ true = and_front (name && count && all) (not (number_repeats i.ordinals)) e in
+    let two : (name && count) ≡ true = and_front (name && count) all three in
+    let few : length i.ordinals ≤ 4 = upper 1 4 (length i.ordinals) (and_back name count two) in
     record {
-      name = front name count two;
+      name = and_front name count two;
       count = omega (arith, few);
-      ordinals = ordinals_are columns i.ordinals le (last (name && count) all three);
+      ordinals = ordinals_are columns i.ordinals le (and_back (name && count) all three);
     }
 
 indexes_are : (columns : ℕ) (is : List IndexDef) → columns ≤ 64 → list_all (is_encodable_index columns) is ≡ true → AllByRecursion IsIndex is
 indexes_are columns [] le e = tt
-indexes_are columns (i ∷ is) le e = (index_is columns i le (front (is_encodable_index columns i) (list_all (is_encodable_index columns) is) e), indexes_are columns is le (last (is_encodable_index columns i) (list_all (is_encodable_index columns) is) e))
+indexes_are columns (i ∷ is) le e = (index_is columns i le (and_front (is_encodable_index columns i) (list_all (is_encodable_index columns) is) e), indexes_are columns is le (and_back (is_encodable_index columns i) (list_all (is_encodable_index columns) is) e))
 
 -- ---- definitions
 
@@ -119,41 +110,41 @@ said def e =
     let null : Bool = not (has_null_key def) in
     let few : Bool = nat_le (length def.indexes) 4 in
     let indexes : Bool = list_all (is_encodable_index (length def.columns)) def.indexes in
-    let e12 = front (id && name && history && view && own && count && columns && names && positions && null && few && indexes) (not (repeats (map (λ (i : IndexDef). i.name) def.indexes))) e in
-    let e11 = front (id && name && history && view && own && count && columns && names && positions && null && few) indexes e12 in
-    let e10 = front (id && name && history && view && own && count && columns && names && positions && null) few e11 in
-    let e9 = front (id && name && history && view && own && count && columns && names && positions) null e10 in
-    let e8 = front (id && name && history && view && own && count && columns && names) positions e9 in
-    let e7 = front (id && name && history && view && own && count && columns) names e8 in
-    let e6 = front (id && name && history && view && own && count) columns e7 in
-    let e5 = front (id && name && history && view && own) count e6 in
-    let e4 = front (id && name && history && view) own e5 in
-    let e3 = front (id && name && history) view e4 in
-    let e2 = front (id && name) history e3 in
+    let e12 = and_front (id && name && history && view && own && count && columns && names && positions && null && few && indexes) (not (repeats (map (λ (i : IndexDef). i.name) def.indexes))) e in
+    let e11 = and_front (id && name && history && view && own && count && columns && names && positions && null && few) indexes e12 in
+    let e10 = and_front (id && name && history && view && own && count && columns && names && positions && null) few e11 in
+    let e9 = and_front (id && name && history && view && own && count && columns && names && positions) null e10 in
+    let e8 = and_front (id && name && history && view && own && count && columns && names) positions e9 in
+    let e7 = and_front (id && name && history && view && own && count && columns) names e8 in
+    let e6 = and_front (id && name && history && view && own && count) columns e7 in
+    let e5 = and_front (id && name && history && view && own) count e6 in
+    let e4 = and_front (id && name && history && view) own e5 in
+    let e3 = and_front (id && name && history) view e4 in
+    let e2 = and_front (id && name) history e3 in
     record {
-      id = front id name e2;
-      name = last id name e2;
-      history = last (id && name) history e3;
-      view = last (id && name && history) view e4;
-      column_count = last (id && name && history && view && own) count e6;
-      columns = last (id && name && history && view && own && count) columns e7;
-      positions = last (id && name && history && view && own && count && columns && names) positions e9;
-      index_count = last (id && name && history && view && own && count && columns && names && positions && null) few e11;
-      indexes = last (id && name && history && view && own && count && columns && names && positions && null && few) indexes e12;
+      id = and_front id name e2;
+      name = and_back id name e2;
+      history = and_back (id && name) history e3;
+      view = and_back (id && name && history) view e4;
+      column_count = and_back (id && name && history && view && own) count e6;
+      columns = and_back (id && name && history && view && own && count) columns e7;
+      positions = and_back (id && name && history && view && own && count && columns && names) positions e9;
+      index_count = and_back (id && name && history && view && own && count && columns && names && positions && null) few e11;
+      indexes = and_back (id && name && history && view && own && count && columns && names && positions && null && few) indexes e12;
     }
 
 few_keys : (ps : List ℕ) → are_key_positions ps ≡ true → greatest ps ≤ 4
 few_keys ps e =
     let within : Bool = is_between 1 4 (greatest ps) in
     let all : Bool = list_all (is_among ps) (range_with_len 1 (greatest ps)) in
-    upper 1 4 (greatest ps) (front within all (front (within && all) (not (number_repeats ps)) e))
+    upper 1 4 (greatest ps) (and_front within all (and_front (within && all) (not (number_repeats ps)) e))
 
 pub def_is : (def : TableDef) → is_encodable_def def ≡ true → IsDef def
 def_is def e =
     let s = said def e in
     let id : def.id ≤ 34 = upper 3 34 def.id s.id in
     let columns : length def.columns ≤ 64 = upper 1 64 (length def.columns) s.column_count in
-    let indexes : length def.indexes ≤ 4 = at_most (length def.indexes) 4 s.index_count in
+    let indexes : length def.indexes ≤ 4 = le_from_test (length def.indexes) 4 s.index_count in
     record {
       id = omega (arith, id);
       name = s.name;

@@ -3,6 +3,8 @@ use Rattle.std.proofs.Common.{◌≡◌, ◌<◌, ◌≤◌, ◌+◌, ◌^◌, �
 use Rattle.std.proofs.lemmas.List.{length-append}
 use Rattle.std.specs.Prelude.{if◌then◌else◌}
 use Rattle.std.specs.List.{AllByRecursion, filter}
+use Rattle.std.proofs.ByRecursion.{All-append}
+use Rattle.base_types.proofs.Lists.{all_take, all_drop}
 use Rattle.base_merkle.specs.TreeHash.{tree_hash, tree_hash_within}
 use Rattle.format_entry.specs.Entry.{IsRoot, entry_bytes}
 use Rattle.format_entry.specs.Record.{IsRecord, record_bytes}
@@ -17,7 +19,6 @@ use Rattle.spec_model.specs.Catalog.{Tables, defs_of}
 use Rattle.spec_model.specs.Journals.{IsNext, IsLegalFrom, IsLegal, after_item, serial_from, serial}
 use Rattle.spec_model.specs.Script.{Reading}
 use Rattle.spec_model.specs.SystemTables.{first_tables}
-use Rattle.law_frame.proofs.Alls.{all_append}
 use Rattle.law_journal.proofs.Serials.{legal_described}
 use Rattle.spec_ledger.specs.Blocks.{block_of, record_hash}
 use Rattle.spec_ledger.specs.Entries.{has_events, root_in, roots_of, entry_of, at_place, placed}
@@ -28,16 +29,6 @@ use Rattle.law_blocks.proofs.Roots.{legal_ids, roots_rise}
 use Rattle.format_image.specs.ImageBytes.{IsPlaceless}
 
 -- ---- parts of lists
-
-all_take : {A : Type 0} (P : A → Type 0) (k : ℕ) (xs : List A) → AllByRecursion P xs → AllByRecursion P (take k xs)
-all_take P zero xs h = tt
-all_take P (suc k) [] h = tt
-all_take P (suc k) (x ∷ xs) h = (h.0, all_take P k xs h.1)
-
-all_drop : {A : Type 0} (P : A → Type 0) (k : ℕ) (xs : List A) → AllByRecursion P xs → AllByRecursion P (drop k xs)
-all_drop P zero xs h = h
-all_drop P (suc k) [] h = tt
-all_drop P (suc k) (x ∷ xs) h = all_drop P k xs h.1
 
 pub few_filtered : {A : Type 0} (test : A → Bool) (xs : List A) → length (filter test xs) ≤ length xs
 few_filtered test [] = omega arith
@@ -141,10 +132,10 @@ module _ (h : List ℕ → List ℕ) (sized : (bytes : List ℕ) → length (h b
           roots = roots_are id after ids few;
           rise = roots_rise h id after ids next.0.events;
         } in
-        record { closed = a.closed; pending = all_append IsPlaceless l.pending _ a.pending (at_place_is (length l.blocks) (length l.pending) (entry_of h after id session time) own, tt) }
+        record { closed = a.closed; pending = All-append IsPlaceless l.pending _ a.pending (at_place_is (length l.blocks) (length l.pending) (entry_of h after id session time) own, tt) }
     one_recorded before (Close k) l legal next rules a =
         record {
-          closed = all_append IsPlaceless l.closed (take k l.pending) a.closed (all_take IsPlaceless k l.pending a.pending);
+          closed = All-append IsPlaceless l.closed (take k l.pending) a.closed (all_take IsPlaceless k l.pending a.pending);
           pending = all_placed (length l.blocks + 1) 0 (drop k l.pending) (all_drop IsPlaceless k l.pending a.pending);
         }
 

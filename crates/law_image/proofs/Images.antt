@@ -2,6 +2,7 @@
 use Rattle.std.proofs.Common.{◌≡◌, ◌<◌, ◌≤◌, ◌+◌, ◌^◌, ◌∙◌, ℕ, refl, sym, ap, subst, true, List, [], ◌∷◌, ◌++◌, length, map, arith}
 use Rattle.std.proofs.lemmas.List.{length-append}
 use Rattle.std.specs.List.{AllByRecursion}
+use Rattle.std.proofs.ByRecursion.{All-append}
 use Rattle.sql_types.specs.JournalRules.{ItemRules}
 use Rattle.sql_types.specs.declared.image.TableRows.{TableRows}
 use Rattle.sql_types.specs.declared.journal.JournalItem.{JournalItem}
@@ -15,7 +16,6 @@ use Rattle.spec_model.specs.Runs.{Sound, SoundTable}
 use Rattle.spec_model.specs.Script.{Reading}
 use Rattle.spec_model.specs.SystemTables.{tables_def, columns_def}
 use Rattle.spec_history.specs.Journals.{blocks}
-use Rattle.law_frame.proofs.Alls.{all_append}
 use Rattle.law_frame.proofs.StepByStep.{Any}
 use Rattle.law_journal.specs.Serial.{TableOf}
 use Rattle.law_journal.proofs.Serials.{legal_tables, legal_described}
@@ -113,7 +113,7 @@ module _ (reads : Reading) (gives : ReadsWritten reads) (items : List JournalIte
         block_count = omega (arith, count, few);
         blocks = records_are h room.hash 0 no_hash l.blocks l.closed (parted h reads items).closed refl (omega (arith, count, few)) (omega (arith, all, both, many));
         entry_count = omega (arith, all, many);
-        entries = all_append IsPlaceless l.closed l.pending e.closed e.pending;
+        entries = All-append IsPlaceless l.closed l.pending e.closed e.pending;
         places = entries_by_size h reads items;
         def_count = s.count;
         defs = s.defs_are;

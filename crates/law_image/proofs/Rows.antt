@@ -7,6 +7,8 @@ use Rattle.std.specs.List.{AllByRecursion, filter}
 use Rattle.std.specs.Ordering.{nat_cmp, is_gt}
 use Rattle.std.specs.declared.cmp.Ordering.{Ordering}
 use Rattle.std.specs.declared.cmp.Ordering.TheVariants.{Less, Equal, Greater}
+use Rattle.std.proofs.ByRecursion.{kept_by_passes, All-weaker}
+use Rattle.base_types.proofs.Bools.{and_back as last}
 use Rattle.sql_value.specs.declared.column.ColumnDef.{ColumnDef}
 use Rattle.sql_value.specs.declared.value.Value.{Value}
 use Rattle.sql_value.specs.declared.value.Value.TheVariants.{Null, Num, Text, Bytes, Date}
@@ -24,14 +26,14 @@ use Rattle.spec_model.specs.Keys.{key_places, position_cmp}
 use Rattle.spec_model.specs.Lists.{inserted, sorted, numbered}
 use Rattle.spec_model.specs.Rows.{EventId, event_cmp, start_cmp, live}
 use Rattle.spec_model.specs.Runs.{Rising}
-use Rattle.law_frame.proofs.Alls.{all_filter, all_pass, all_both, all_weaker, all_map, all_sorted}
+use Rattle.law_frame.proofs.Alls.{all_filter, all_both, all_map, all_sorted}
+use Rattle.law_frame.proofs.SameTouched.{rising_filter}
 use Rattle.law_journal.specs.Fits.{FitsColumn, Fits}
 use Rattle.law_journal.specs.Kept.{IsEarlier}
 use Rattle.law_journal.specs.Serial.{place_in, HasTx, IsOf}
 use Rattle.format_image.specs.RowBytes.{IsValue, AreValues, IsPair, IsBaseRow, IsEnd, IsHistoryRow, comes_after, rise_after, starts_rise, AreBaseRows, AreHistoryRows, AreIndexRows, AreIndexes, IsTable}
 use Rattle.format_image.specs.Rows.{Stored, stored_at, index_ordinals, index_row, stored_cmp, index_rows, ended_ones, table_rows}
 use Rattle.law_image.specs.Room.{IsUtf8Text, VersionFitsFormat, TableFitsFormat}
-use Rattle.law_image.proofs.Defs.{last}
 use Rattle.law_image.proofs.Entries.{few_filtered, length_mapped}
 
 -- ---- values
@@ -85,14 +87,6 @@ rises (v ∷ vs) r = behind v vs r.0 r.1
     behind last [] a q = refl
     behind last (w ∷ ws) a q = rw (less_after last.start w.start a.0) (behind w ws q.0 q.1)
 
-rising_filtered : (test : Version → Bool) (vs : List Version) → Rising vs → Rising (filter test vs)
-rising_filtered test [] r = tt
-rising_filtered test (v ∷ vs) r = here (test v) (rising_filtered test vs r.1)
-  where
-    here : (b : Bool) → Rising (filter test vs) → Rising (if b then v ∷ filter test vs else filter test vs)
-    here true more = (all_filter (λ w. start_cmp v w ≡ Less) test vs r.0, more)
-    here false more = more
-
 -- ---- versions
 
 -- what is known of each version of a table
@@ -129,10 +123,10 @@ module _ (columns : List ColumnDef) (few : length columns ≤ 64) where
         let less : length (filter test vs) ≤ length vs = few_filtered test vs in (
           (
             omega (arith, less, count),
-            all_weaker (λ v. (test v ≡ true) × Known columns v) IsBaseRow (λ v k. base_row v k.0 k.1) (filter test vs)
-                (all_both (λ v. test v ≡ true) (Known columns) (filter test vs) (all_pass test vs) (all_filter (Known columns) test vs known)),
+            All-weaker (λ v. (test v ≡ true) × Known columns v) IsBaseRow (λ v k. base_row v k.0 k.1) (filter test vs)
+                (all_both (λ v. test v ≡ true) (Known columns) (filter test vs) (kept_by_passes test vs) (all_filter (Known columns) test vs known)),
           ),
-          rises (filter test vs) (rising_filtered test vs rising),
+          rises (filter test vs) (rising_filter test vs rising),
         )
 
     history : AreHistoryRows (ended_ones vs)
@@ -141,10 +135,10 @@ module _ (columns : List ColumnDef) (few : length columns ≤ 64) where
         let less : length (filter test vs) ≤ length vs = few_filtered test vs in (
           (
             omega (arith, less, count),
-            all_weaker (λ v. (test v ≡ true) × Known columns v) IsHistoryRow (λ v k. history_row v k.0 k.1) (filter test vs)
-                (all_both (λ v. test v ≡ true) (Known columns) (filter test vs) (all_pass test vs) (all_filter (Known columns) test vs known)),
+            All-weaker (λ v. (test v ≡ true) × Known columns v) IsHistoryRow (λ v k. history_row v k.0 k.1) (filter test vs)
+                (all_both (λ v. test v ≡ true) (Known columns) (filter test vs) (kept_by_passes test vs) (all_filter (Known columns) test vs known)),
           ),
-          rises (filter test vs) (rising_filtered test vs rising),
+          rises (filter test vs) (rising_filter test vs rising),
         )
 
   -- ---- indexes

@@ -3,6 +3,7 @@ use Rattle.std.proofs.Common.{◌≡◌, ◌∙◌, ◌⊎◌, ℕ, ◌+◌, ref
 use Rattle.std.proofs.lemmas.Bool.{eqb-true}
 use Rattle.std.specs.Prelude.{◌==◌, if◌then◌else◌}
 use Rattle.std.specs.List.{AllByRecursion}
+use Rattle.std.proofs.ByRecursion.{All-append}
 use Rattle.sql_value.specs.declared.column.TableKind.{TableKind}
 use Rattle.sql_value.specs.declared.column.TableKind.TheVariants.{AppendOnly, Updatable}
 use Rattle.sql_value.specs.declared.refusal.Refusal.TheVariants.{NameConflict, AppendOnlyTable, ReadOnlyTable}
@@ -29,7 +30,7 @@ use Rattle.spec_model.specs.Effect.{effect, done, row_effect, shown, query_rows,
 use Rattle.spec_model.specs.Agreement.{IdsFrom}
 use Rattle.spec_model.specs.Runs.{Sound}
 use Rattle.spec_model.specs.Script.{Reading, script}
-use Rattle.law_frame.proofs.Alls.{all_append, all_inserted, all_map}
+use Rattle.law_frame.proofs.Alls.{all_inserted, all_map}
 use Rattle.law_frame.proofs.Checked.{Led, led}
 use Rattle.law_frame.proofs.Definitions.{same_defs}
 use Rattle.law_frame.proofs.NamedPart.{Passed, passed}
@@ -149,7 +150,7 @@ module _ (T : Tables) (tx seq : ℕ) (ids : IdsFrom 1 (defs_of T)) (h : AllKeepR
   table_keeps (Ok def) =
       let first = starts_keep tables_id tx seq (table_start def) (tt, tt) T h in
       let both = starts_keep columns_id tx (seq + 1) (column_starts (column_rows def)) (column_starts_start (column_rows def)) _ first in
-      all_append KeepsRows _ (record { def = def; versions = [] } ∷ []) both ((λ k. tt), tt)
+      All-append KeepsRows _ (record { def = def; versions = [] } ∷ []) both ((λ k. tt), tt)
 
   redefined_keeps : (x : TableDef) (index : IndexDef) (U : Tables) → AllByRecursion (IsOnly x) (defs_of U) → AllKeepRows U → AllKeepRows (redefined (with_index x index) U)
   redefined_keeps x index [] o k = tt

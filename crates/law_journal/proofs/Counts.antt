@@ -3,14 +3,13 @@ use Rattle.std.proofs.Common.{◌≡◌, ◌≤◌, ℕ, ◌+◌, inl, inr, Bool
 use Rattle.std.specs.Prelude.{if◌then◌else◌, ◌==◌}
 use Rattle.std.specs.List.{AllByRecursion}
 use Rattle.std.specs.Ordering.{is_gt}
-use Rattle.std.proofs.lemmas.Bool.{eqb-true, eq-eqb}
+use Rattle.std.proofs.lemmas.Bool.{eqb-true, eq-eqb, and_parts}
 use Rattle.std.proofs.lemmas.List.Sums.{sum_by-cons}
 use Rattle.sql_value.specs.declared.column.ColumnDef.{ColumnDef}
 use Rattle.sql_types.specs.declared.version.Version.{Version}
 use Rattle.spec_model.specs.Lists.{inserted}
 use Rattle.spec_model.specs.Rows.{EventId, same_event, start_cmp, started, with_end, ended}
 use Rattle.spec_model.specs.Changes.{Change, Starts, Ends, changed}
-use Rattle.law_frame.proofs.SameKeys.{and_true}
 use Rattle.law_journal.specs.Fine.{HasLive, IsFine}
 use Rattle.law_journal.specs.Kept.{is_it, ends_with, count_in, count}
 
@@ -32,7 +31,7 @@ same_none at start [] n = refl
 same_none at start (v ∷ vs) n = rw (n.0, same_none at start vs n.1) refl
 
 pub same_parts : (a b : EventId) → same_event a b ≡ true → (a.0 ≡ b.0) × (a.1 ≡ b.1)
-same_parts a b e = let p = and_true (a.0 == b.0) (a.1 == b.1) e in (eqb-true a.0 b.0 p.0, eqb-true a.1 b.1 p.1)
+same_parts a b e = let p = and_parts (a.0 == b.0) (a.1 == b.1) e in (eqb-true a.0 b.0 p.0, eqb-true a.1 b.1 p.1)
 
 pub own_same : (a : EventId) → same_event a a ≡ true
 own_same a = rw (eq-eqb a.0 a.0 refl, eq-eqb a.1 a.1 refl) refl

@@ -6,9 +6,10 @@ use Rattle.std.proofs.lemmas.List.Quantifiers.{position-Some}
 use Rattle.std.specs.Prelude.{◌||◌, not, nat_lt, nat_le, if◌then◌else◌, position}
 use Rattle.std.specs.List.{AllByRecursion, list_any, filter}
 use Rattle.std.specs.Str.{bytes_eq}
+use Rattle.std.proofs.ByRecursion.{All-weaker}
+use Rattle.std.proofs.lemmas.Bool.{or_parts}
 use Rattle.sql_value.specs.declared.column.ColumnDef.{ColumnDef}
-use Rattle.sql_value.specs.declared.refusal.Refusal.{Refusal}
-use Rattle.sql_value.specs.declared.refusal.Refusal.TheVariants.{NoSuchTable, NameConflict, NoSuchColumn, NullNotAllowed, ReadOnlyTable, LimitExceeded}
+use Rattle.sql_value.specs.declared.refusal.Refusal.TheVariants.{NoSuchTable, NameConflict, NoSuchColumn, ReadOnlyTable, LimitExceeded}
 use Rattle.sql_value.specs.Stored.{is_in_range}
 use Rattle.sql_types.specs.declared.table.TableDef.{TableDef}
 use Rattle.sql_types.specs.declared.table.IndexDef.{IndexDef}
@@ -18,24 +19,16 @@ use Rattle.spec_model.specs.Refusals.{or_refused}
 use Rattle.spec_model.specs.Columns.{place_of}
 use Rattle.spec_model.specs.Limits.{max_columns, max_key_columns, max_tables, max_index_columns, max_indexes}
 use Rattle.spec_model.specs.Catalog.{Defs, NamedPart, find_part}
-use Rattle.spec_model.specs.Checks.{refused_if}
-use Rattle.spec_model.specs.Create.{is_name, table_names, is_long, ordinal_at, keyed, table_def, has_bad_name, system_tables, exceeds_limit, has_null_key, next_id, create_check, index_def, ordinals_of, index_check_in, index_check}
+use Rattle.spec_model.specs.Create.{is_name, table_names, is_long, ordinal_at, keyed, table_def, has_bad_name, system_tables, exceeds_limit, next_id, create_check, index_def, ordinals_of, index_check_in, index_check}
 use Rattle.law_frame.proofs.Checked.{Led, led, was_passed, not_refused}
-use Rattle.law_frame.proofs.Alls.{all_weaker, all_both}
+use Rattle.law_frame.proofs.Alls.{all_both}
 use Rattle.law_frame.proofs.NamedPart.{was_found}
-use Rattle.law_frame.proofs.SameKeys.{or_false}
+use Rattle.law_frame.proofs.SoundStatements.{four_passed, new_def}
 use Rattle.law_journal.proofs.SystemRows.{IsSmall}
 
 none_any : {A : Type 0} (test : A → Bool) (xs : List A) → list_any test xs ≡ false → AllByRecursion (λ x. test x ≡ false) xs
 none_any test [] e = tt
-none_any test (x ∷ xs) e = let p = or_false (test x) (list_any test xs) e in (p.0, none_any test xs p.1)
-
-four_passed : {A : Type 0} (a b c d : Bool) (e f g h : Refusal) (y x : A) → refused_if a e (refused_if b f (refused_if c g (refused_if d h (Ok y)))) ≡ Ok x → x ≡ y
-four_passed true b c d e f g h y x k = cc
-four_passed false true c d e f g h y x k = cc
-four_passed false false true d e f g h y x k = cc
-four_passed false false false true e f g h y x k = cc
-four_passed false false false false e f g h y x k = cc
+none_any test (x ∷ xs) e = let p = or_parts (test x) (list_any test xs) e in (p.0, none_any test xs p.1)
 
 pub record Six (a b c d e f : Bool) : Type 0 where
   pub first : a ≡ false
@@ -57,14 +50,14 @@ six_false false false false false false false h = record { first = refl; second 
 at_most : (m n : ℕ) → nat_lt m n ≡ false → n ≤ m
 at_most m n e = grind (arith, nat_tests)
 
-below : (m n : ℕ) → nat_le m n ≡ false → n < m
+pub below : (m n : ℕ) → nat_le m n ≡ false → n < m
 below m n e = grind (arith, nat_tests)
 
 name_short : (x : List ℕ) → is_long x ≡ false → length x ≤ 128
 name_short x e = at_most 128 (length x) e
 
 of_named : (b : Bool) (x : List ℕ) (xs : List (List ℕ)) → is_name x ≡ b → list_any is_long (if b then x ∷ xs else xs) ≡ false → (length x ≤ 128) × (list_any is_long xs ≡ false)
-of_named true x xs is e = let p = or_false (is_long x) (list_any is_long xs) e in (name_short x p.0, p.1)
+of_named true x xs is e = let p = or_parts (is_long x) (list_any is_long xs) e in (name_short x p.0, p.1)
 of_named false [] xs is e = (omega arith, e)
 of_named false (b ∷ bs) xs is e = cc
 
@@ -99,10 +92,6 @@ pub record Created (defs : Defs) (def : TableDef) : Type 0 where
   pub view : length def.view ≤ 128
   pub indexes : def.indexes ≡ []
 
-new_def : (defs : Defs) (c : CreateTable) (def : TableDef) → create_check defs c ≡ Ok def → def ≡ table_def (next_id defs) c
-unfolding create_check
-new_def defs c def e = four_passed (has_bad_name defs (table_def (next_id defs) c) c.key) (exceeds_limit defs (table_def (next_id defs) c) c.key) _ (has_null_key (table_def (next_id defs) c)) NameConflict LimitExceeded NoSuchColumn NullNotAllowed (table_def (next_id defs) c) def e
-
 within : (defs : Defs) (c : CreateTable) (def : TableDef) → create_check defs c ≡ Ok def → exceeds_limit defs (table_def (next_id defs) c) c.key ≡ false
 unfolding create_check
 within defs c def e = was_passed (exceeds_limit defs (table_def (next_id defs) c) c.key) LimitExceeded _ def (not_refused (has_bad_name defs (table_def (next_id defs) c) c.key) NameConflict _ def e)
@@ -118,7 +107,7 @@ new_facts defs c e =
       id = refl;
       room = below 34 (length defs) s.third;
       count = at_most 64 (length d.columns) s.first;
-      columns = all_weaker (λ x. (x.key_position ≤ length c.key) × ((not (is_in_range x.ty) ≡ false) × (is_long x.name ≡ false))) IsSmall
+      columns = All-weaker (λ x. (x.key_position ≤ length c.key) × ((not (is_in_range x.ty) ≡ false) × (is_long x.name ≡ false))) IsSmall
           (λ x h. record { name = name_short x.name h.1.1; ty = in_range (is_in_range x.ty) h.1.0; key = omega (arith, h.0, keys) }) d.columns
           (all_both (λ x. x.key_position ≤ length c.key) (λ x. (not (is_in_range x.ty) ≡ false) × (is_long x.name ≡ false)) d.columns (positions_small c.key c.columns)
           (all_both (λ x. not (is_in_range x.ty) ≡ false) (λ x. is_long x.name ≡ false) d.columns (none_any (λ x. not (is_in_range x.ty)) d.columns s.fourth) (none_any (λ x. is_long x.name) d.columns s.sixth)));

@@ -12,14 +12,11 @@ use Rattle.spec_model.specs.Keys.{Key}
 use Rattle.spec_model.specs.Catalog.{Defs, Tables, defs_of}
 use Rattle.spec_model.specs.Effect.{with_def, redefined}
 use Rattle.spec_model.specs.Agreement.{IdsFrom}
+use Rattle.law_frame.proofs.SameAlone.{def_if}
 use Rattle.law_journal.specs.Fine.{OfTable}
 use Rattle.law_journal.specs.Kept.{count_all}
 use Rattle.law_journal.specs.Described.{items_below, IsTableKey, IsColumnKey}
 use Rattle.law_journal.proofs.Tables.{table_count}
-
-pub defs_append : (T : Tables) (t : Table) → defs_of (T ++ t ∷ []) ≡ defs_of T ++ t.def ∷ []
-defs_append [] t = refl
-defs_append (u ∷ us) t = ap (λ (ds : Defs). u.def ∷ ds) (defs_append us t)
 
 pub all_defs : (P : TableDef → Type 0) (T : Tables) → AllByRecursion P (defs_of T) → AllByRecursion (λ t. P t.def) T
 all_defs P [] h = tt
@@ -62,13 +59,9 @@ column_key_stays def defs key h = (h.0, h.1, omega (arith, h.2, more_items h.0 d
 abbrev pub redef : TableDef → Defs → Defs
 redef def defs = map (λ (d : TableDef). if d.id == def.id then def else d) defs
 
-def_after : (def : TableDef) (b : Bool) (t : Table) → (if b then with_def def t else t).def ≡ (if b then def else t.def)
-def_after def true t = refl
-def_after def false t = refl
-
 pub defs_redefined : (def : TableDef) (T : Tables) → defs_of (redefined def T) ≡ redef def (defs_of T)
 defs_redefined def [] = refl
-defs_redefined def (t ∷ ts) = rw (def_after def (t.def.id == def.id) t, defs_redefined def ts) refl
+defs_redefined def (t ∷ ts) = rw (def_if def (t.def.id == def.id) t, defs_redefined def ts) refl
 
 count_after : (a : EventId) (def : TableDef) (b : Bool) (t : Table) → table_count a (if b then with_def def t else t) ≡ table_count a t
 count_after a def true t = refl

@@ -12,11 +12,12 @@ use Rattle.spec_model.specs.Keys.{Key, same_key, version_key}
 use Rattle.spec_model.specs.Changes.{Change, Starts, Ends, changed, replaced}
 use Rattle.law_frame.proofs.Alls.{all_inserted}
 use Rattle.law_frame.proofs.SameKeys.{one_start}
+use Rattle.law_frame.proofs.SameTouched.{key_turned}
 use Rattle.law_journal.specs.Fits.{Fits}
 use Rattle.law_journal.specs.Fine.{key_in, HasLive, IsFine}
 use Rattle.law_journal.specs.Kept.{is_it, count_in, count, EndedBefore, Apart, AllApart, IsPast}
 use Rattle.law_journal.proofs.Counts.{count_changed, own_same, hit, ended_cons, one_less}
-use Rattle.law_journal.proofs.Order.{NoneLive, has_no_live_row, no_now, past_changed, apart_changed, same_turned}
+use Rattle.law_journal.proofs.Order.{NoneLive, has_no_live_row, no_now, past_changed, apart_changed}
 
 abbrev pub AllHere : List ColumnDef → ℕ → ℕ → List Change → List Version → Type 0
 AllHere columns tx seq [] vs = Unit {0}
@@ -141,7 +142,7 @@ module _ (place : ℕ → ℕ) (columns : List ColumnDef) where
   others_closed : (u : Version) (vs : List Version) → u.end ≡ None → AllByRecursion (Apart place columns u) vs → NoneLive columns (version_key columns u) vs
   others_closed u [] none a = tt
   others_closed u (w ∷ ws) none a =
-      ((λ same closed. elim (a.0 (same_turned (version_key columns w) (version_key columns u) same)) [ inl p ↦ some_end w.start u p none | inr q ↦ some_end u.start w q closed ]), others_closed u ws none a.1)
+      ((λ same closed. elim (a.0 (key_turned (version_key columns w) (version_key columns u) same)) [ inl p ↦ some_end w.start u p none | inr q ↦ some_end u.start w q closed ]), others_closed u ws none a.1)
 
   -- once the one version of a key that stands has ended, none of its key stands
   closed_all : (u : Version) (now : EventId) (vs : List Version) → Open u vs → count u.start vs ≤ 1 → AllApart place columns vs → NoneLive columns (version_key columns u) (ended now u.start vs)

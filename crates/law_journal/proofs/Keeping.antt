@@ -4,6 +4,7 @@ use Rattle.std.proofs.lemmas.List.{length-map}
 use Rattle.std.proofs.lemmas.Bool.{eqb-true, le-ltb}
 use Rattle.std.specs.Prelude.{◌==◌, if◌then◌else◌}
 use Rattle.std.specs.List.{AllByRecursion}
+use Rattle.std.proofs.ByRecursion.{All-append, All-weaker as all_weaker}
 use Rattle.sql_value.specs.declared.column.ColumnDef.{ColumnDef}
 use Rattle.sql_types.specs.declared.statement.Stmt.{Stmt}
 use Rattle.sql_types.specs.declared.statement.Stmt.TheVariants as s
@@ -28,17 +29,18 @@ use Rattle.spec_model.specs.Effect.{Effect, effect, query_rows, table_start, col
 use Rattle.spec_model.specs.ChangeSets.{TableChange, in_table, changed_from, Definition, as_before, new, in_place, defined, ChangeSet, row_change_set, row_stmt_change_set, select_change_set, query_change_set, create_table_change_set, create_index_change_set, change_set, carried_out}
 use Rattle.spec_model.specs.Agreement.{IdsFrom}
 use Rattle.spec_model.specs.Runs.{Sound}
-use Rattle.law_frame.proofs.Alls.{all_weaker, all_both, all_append, all_map}
+use Rattle.law_frame.proofs.Alls.{all_both, all_map}
 use Rattle.law_frame.proofs.BaseTables.{users_table}
 use Rattle.law_frame.proofs.Definitions.{same_defs, changes_keep_defs}
 use Rattle.law_frame.proofs.ChangeSets.{carries_change_set_out, in_one_table, in_turn}
 use Rattle.law_frame.proofs.SoundStatements.{statement_sound, first_sound}
+use Rattle.law_frame.proofs.SameAlone.{defs_append}
 use Rattle.law_journal.specs.Fine.{OfTable}
 use Rattle.law_journal.specs.Fits.{Fits}
 use Rattle.law_journal.specs.Kept.{count_all, AllApart, KeptTable, Kept}
 use Rattle.law_journal.specs.Described.{items_below, IsTableKey, IsColumnKey, Described}
 use Rattle.law_journal.proofs.Created.{Created, created, Indexed, indexed}
-use Rattle.law_journal.proofs.DefLists.{defs_append, all_defs, count_new, new_items, table_key_stays, column_key_stays, redef, defs_redefined, count_redefined, IsOnly, ListedOnce, is_listed_once, table_key_kept, column_key_kept, items_now}
+use Rattle.law_journal.proofs.DefLists.{all_defs, count_new, new_items, table_key_stays, column_key_stays, redef, defs_redefined, count_redefined, IsOnly, ListedOnce, is_listed_once, table_key_kept, column_key_kept, items_now}
 use Rattle.law_journal.proofs.Lift.{of_weaker, of_changed, of_other, of_front}
 use Rattle.law_journal.proofs.NumberKeys.{table_key, index_key}
 use Rattle.law_journal.proofs.Statements.{TablesAbout, ColumnsAbout, described_by, own_column_key, has_indexed_table, few_columns, after_first, change_set_fine}
@@ -74,7 +76,7 @@ module _ (place : ℕ → ℕ) (tx n : ℕ) where
   defined_kept as_before U h k sound = k
   defined_kept (new def) U h k sound =
       same_numbers U (defined (new def) U) (λ a. count_new a def U) k sound
-      (all_append (KeptTable place (tx, n)) U (record { def = def; versions = [] } ∷ []) k.each (record { past = tt; apart = tt; fit = tt }, tt))
+      (All-append (KeptTable place (tx, n)) U (record { def = def; versions = [] } ∷ []) k.each (record { past = tt; apart = tt; fit = tt }, tt))
   defined_kept (in_place def) U h k sound =
       same_numbers U (redefined def U) (λ a. count_redefined a def U) k sound
       (all_map (λ t. HasColumns def t × KeptTable place (tx, n) t) (KeptTable place (tx, n)) (λ t. if t.def.id == def.id then with_def def t else t) (λ t. redefined_kept def (t.def.id == def.id) t refl) U
@@ -176,7 +178,7 @@ module _ (place : ℕ → ℕ) (tx : ℕ) where
       described_by ds (W ++ t ∷ []) (defs_append W t ∙ ap (λ (xs : Defs). xs ++ def ∷ []) (same_defs columns_id g U ∙ same_defs tables_id f T)) (record {
         of_tables = of_front tables_id (TablesAbout ds) W (t ∷ []) (of_other tables_id columns_id (TablesAbout ds) g U (λ e. cc) (of_changed tables_id (TablesAbout (defs_of T)) (TablesAbout ds) f T (λ u h. (h.0, hf u h)) d.of_tables));
         of_columns = of_front columns_id (ColumnsAbout ds) W (t ∷ []) (of_changed columns_id (ColumnsAbout (defs_of T)) (ColumnsAbout ds) g U (λ u h. (h.0, hg u h)) (of_other columns_id tables_id (ColumnsAbout (defs_of T)) f T (λ e. cc) d.of_columns));
-        few = all_append (λ (x : TableDef). length x.columns ≤ 64) (defs_of T) (def ∷ []) d.few (c.count, tt);
+        few = All-append (λ (x : TableDef). length x.columns ≤ 64) (defs_of T) (def ∷ []) d.few (c.count, tt);
         count = omega (arith, c.room, length-append (defs_of T) (def ∷ []));
       })
 

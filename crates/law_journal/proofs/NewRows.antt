@@ -1,9 +1,10 @@
 -- The rows that an INSERT keeps fit, at new keys.
 use Rattle.std.proofs.Common.{◌≡◌, ℕ, refl, sym, ap, subst, ◌∙◌, Bool, true, false, List, [], ◌∷◌, ◌++◌, length, Option, Some, None, Ok, Err}
-use Rattle.std.proofs.lemmas.Bool.{eqb-true}
+use Rattle.std.proofs.lemmas.Bool.{eqb-true, and_parts, or_parts, not-false}
 use Rattle.std.proofs.lemmas.List.{length-map}
-use Rattle.std.specs.Prelude.{if◌then◌else◌, ◌==◌, not}
+use Rattle.std.specs.Prelude.{if◌then◌else◌, ◌==◌}
 use Rattle.std.specs.List.{AllByRecursion, list_any, list_all, zip}
+use Rattle.std.proofs.ByRecursion.{All-append, All-weaker}
 use Rattle.sql_value.specs.declared.column.ColumnDef.{ColumnDef}
 use Rattle.sql_value.specs.declared.refusal.Refusal.TheVariants.{NameConflict, NoSuchColumn, DuplicateKey, ReadOnlyTable, LimitExceeded, ValueCountMismatch}
 use Rattle.sql_types.specs.declared.table.TableDef.{TableDef}
@@ -16,9 +17,8 @@ use Rattle.spec_model.specs.Keys.{Key, key_of, same_key, has_live_row}
 use Rattle.spec_model.specs.Changes.{kept, kept_row, value_named, arranged, is_duplicate, one_more, inserted_rows}
 use Rattle.spec_model.specs.Checks.{listed, listed_check, values_check, insert_check}
 use Rattle.law_frame.proofs.Checked.{Led, led, was_passed, not_refused}
-use Rattle.law_frame.proofs.Alls.{all_weaker, all_both, all_append}
+use Rattle.law_frame.proofs.Alls.{all_both}
 use Rattle.law_frame.proofs.MappedRows.{stored_mapped}
-use Rattle.law_frame.proofs.SameKeys.{or_false, and_true}
 use Rattle.law_journal.specs.Fits.{Fits}
 use Rattle.law_journal.specs.Fine.{key_in}
 use Rattle.law_journal.proofs.Order.{NoneLive, none_is_live}
@@ -27,16 +27,12 @@ use Rattle.law_journal.proofs.Values.{kept_row_fits}
 
 -- ---- how many values a row has
 
-passed_not : (b : Bool) → not b ≡ false → b ≡ true
-passed_not true e = refl
-passed_not false e = cc
-
 abbrev HasAll : List ColumnDef → Option (List (List ℕ)) → Row → Type 0
 HasAll columns names row = length (arranged columns names row) ≡ length columns
 
 lengths : (n : ℕ) (rows : List Row) → list_all (λ (row : Row). length row == n) rows ≡ true → AllByRecursion (λ (row : Row). length row ≡ n) rows
 lengths n [] e = tt
-lengths n (r ∷ rs) e = let p = and_true (length r == n) (list_all (λ (row : Row). length row == n) rs) e in (eqb-true (length r) n p.0, lengths n rs p.1)
+lengths n (r ∷ rs) e = let p = and_parts (length r == n) (list_all (λ (row : Row). length row == n) rs) e in (eqb-true (length r) n p.0, lengths n rs p.1)
 
 always : (columns : List ColumnDef) (names : List (List ℕ)) (rows : List Row) → AllByRecursion (HasAll columns (Some names)) rows
 unfolding arranged
@@ -45,7 +41,7 @@ always columns names (r ∷ rs) = (length-map columns (λ c. value_named (zip na
 
 listed_lengths : (columns : List ColumnDef) (rows : List Row) → listed_check columns rows ≡ Ok tt → AllByRecursion (λ (row : Row). length row ≡ length columns) rows
 unfolding listed_check
-listed_lengths columns rows e = lengths (length columns) rows (passed_not _ (was_passed _ ValueCountMismatch _ tt e))
+listed_lengths columns rows e = lengths (length columns) rows (not-false _ (was_passed _ ValueCountMismatch _ tt e))
 
 arranged_lengths : (columns : List ColumnDef) (names : Option (List (List ℕ))) (rows : List Row) → listed_check (listed columns names) rows ≡ Ok tt → AllByRecursion (HasAll columns names) rows
 unfolding arranged
@@ -64,11 +60,11 @@ rows_have_all def part names rows e = arranged_lengths def.columns names rows (v
 
 none_any : (test : Row → Bool) (rows : List Row) → list_any test rows ≡ false → AllByRecursion (λ r. test r ≡ false) rows
 none_any test [] e = tt
-none_any test (r ∷ rs) e = let p = or_false (test r) (list_any test rs) e in (p.0, none_any test rs p.1)
+none_any test (r ∷ rs) e = let p = or_parts (test r) (list_any test rs) e in (p.0, none_any test rs p.1)
 
 pub new_appended : (columns : List ColumnDef) (V : List Version) (rows : List Row) (row : Row) → AllNew columns rows V → Fits columns (stored_row columns row) → NoneLive columns (key_in columns (stored_row columns row)) V → AllByRecursion (λ r. Differ columns r row) rows → AllNew columns (rows ++ row ∷ []) V
 new_appended columns V [] row a f n d = (f, n, tt, tt)
-new_appended columns V (r ∷ rs) row a f n d = (a.0, a.1, all_append (Differ columns r) rs (row ∷ []) a.2 (d.0, tt), new_appended columns V rs row a.3 f n d.1)
+new_appended columns V (r ∷ rs) row a f n d = (a.0, a.1, All-append (Differ columns r) rs (row ∷ []) a.2 (d.0, tt), new_appended columns V rs row a.3 f n d.1)
 
 module _ (columns : List ColumnDef) (V : List Version) (names : Option (List (List ℕ))) where
   -- columns store all its values
@@ -85,14 +81,14 @@ module _ (columns : List ColumnDef) (V : List Version) (names : Option (List (Li
 
   free : (before : List Row) (key : Key) → is_duplicate columns V before key ≡ false → (has_live_row columns key V ≡ false) × (list_any (λ row. same_key (key_of columns row) key) before ≡ false)
   unfolding is_duplicate
-  free before key e = or_false (has_live_row columns key V) (list_any (λ row. same_key (key_of columns row) key) before) e
+  free before key e = or_parts (has_live_row columns key V) (list_any (λ row. same_key (key_of columns row) key) before) e
 
   added : (before : List Row) (row : Row) → AllNew columns before V → AllByRecursion IsPlain before → Fits columns (stored_row columns row) → IsPlain row → is_duplicate columns V before (key_of columns row) ≡ false → AllNew columns (before ++ row ∷ []) V
   added before row a p f is e =
       let g = free before (key_of columns row) e in
       let n : NoneLive columns (key_in columns (stored_row columns row)) V = subst (λ (k : Key). NoneLive columns k V) (sym is) (none_is_live columns (key_of columns row) V g.0) in
       new_appended columns V before row a f n
-      (all_weaker (λ r. IsPlain r × (same_key (key_of columns r) (key_of columns row) ≡ false)) (λ r. Differ columns r row) (λ r h. ap (λ (k : Key). same_key k (key_in columns (stored_row columns row))) h.0 ∙ ap (same_key (key_of columns r)) is ∙ h.1) before
+      (All-weaker (λ r. IsPlain r × (same_key (key_of columns r) (key_of columns row) ≡ false)) (λ r. Differ columns r row) (λ r h. ap (λ (k : Key). same_key k (key_in columns (stored_row columns row))) h.0 ∙ ap (same_key (key_of columns r)) is ∙ h.1) before
       (all_both IsPlain (λ r. same_key (key_of columns r) (key_of columns row) ≡ false) before p (none_any (λ r. same_key (key_of columns r) (key_of columns row)) before g.1)))
 
   abbrev step : List Row → Row → Checked (List Row)
@@ -108,7 +104,7 @@ module _ (columns : List ColumnDef) (V : List Version) (names : Option (List (Li
       let is : IsPlain k.value = plain (arranged columns names r) k.value k.was in
       fold_new rs l.value kept h.1
       (subst (λ (xs : List Row). AllNew columns xs V) t.1 (added before k.value a p fit is t.0))
-      (subst (λ (xs : List Row). AllByRecursion IsPlain xs) t.1 (all_append IsPlain before (k.value ∷ []) p (is, tt)))
+      (subst (λ (xs : List Row). AllByRecursion IsPlain xs) t.1 (All-append IsPlain before (k.value ∷ []) p (is, tt)))
       l.then_
 
   pub inserted_new : (rows kept : List Row) → AllByRecursion (HasAll columns names) rows → inserted_rows columns V names rows ≡ Ok kept → AllNew columns kept V

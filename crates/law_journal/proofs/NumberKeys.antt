@@ -1,8 +1,8 @@
 -- Keys of whole numbers, and the keys of system rows.
-use Rattle.std.proofs.Common.{◌≡◌, ◌<◌, ℕ, ◌+◌, ◌*◌, ◌^◌, refl, sym, ◌∙◌, true, List, [], ◌∷◌, arith, lit<, inl, inr}
+use Rattle.std.proofs.Common.{◌≡◌, ℕ, ◌+◌, ◌*◌, ◌^◌, refl, sym, ◌∙◌, true, List, [], ◌∷◌, arith, inl, inr}
 use Rattle.std.specs.Prelude.{pos}
 use Rattle.std.proofs.Math.IntN.{pos-*ℤ-pos}
-use Rattle.std.proofs.Math.Nat.{mul-lt-mul_of_pos_right, pow-le-pow_right}
+use Rattle.std.proofs.Math.Nat.{mul-lt-mul_of_pos_right}
 use Rattle.std.proofs.lemmas.Bool.{cases_lt}
 use Rattle.std.proofs.lemmas.Map.Lookups.{exact_signed}
 use Rattle.std.specs.declared.cmp.Ordering.{Ordering}
@@ -13,13 +13,12 @@ use Rattle.sql_value.specs.Number.{raised}
 use Rattle.sql_value.specs.Order.{value_cmp}
 use Rattle.sql_types.specs.declared.table.TableDef.{TableDef}
 use Rattle.sql_value.specs.declared.column.ColumnDef.{ColumnDef}
+use Rattle.sql_value.proofs.Orderings.{then_equal}
+use Rattle.sql_value.proofs.Numbers.{ten_pos}
 use Rattle.spec_model.specs.Rows.{number, stored_row}
 use Rattle.spec_model.specs.Keys.{Key, key_places, key_of, key_cmp, same_key}
 use Rattle.spec_model.specs.SystemTables.{tables_columns, columns_columns, table_row, column_row, index_row}
 use Rattle.law_journal.specs.Fine.{key_in}
-
-ten_pos : (k : ℕ) → 0 < 10 ^ k
-ten_pos k = let more = pow-le-pow_right {n = 10} (lit< tt) {i = 0} {j = k} (omega arith) in omega (arith, more)
 
 cancelled : (a b k : ℕ) → a * 10 ^ k ≡ b * 10 ^ k → a ≡ b
 cancelled a b k e = elim (cases_lt a b) [
@@ -36,14 +35,9 @@ raised_same a b k e =
     let f : pos (a * 10 ^ k) ≡ pos (b * 10 ^ k) = sym (pos-*ℤ-pos a (10 ^ k)) ∙ e ∙ pos-*ℤ-pos b (10 ^ k) in
     cancelled a b k (omega (arith, ints, f))
 
-then_right : (r : Ordering) → ordering_then r Equal ≡ r
-then_right Less = refl
-then_right Equal = refl
-then_right Greater = refl
-
 equal_numbers : (a b : ℕ) → value_cmp (number a) (number b) ≡ Equal → a ≡ b
 unfolding value_cmp
-equal_numbers a b e = raised_same a b 255 (exact_signed (raised (pos a) 255) (raised (pos b) 255) (sym (then_right (int_cmp (raised (pos a) 255) (raised (pos b) 255))) ∙ e))
+equal_numbers a b e = raised_same a b 255 (exact_signed (raised (pos a) 255) (raised (pos b) 255) (sym (then_equal (int_cmp (raised (pos a) 255) (raised (pos b) 255))) ∙ e))
 
 both_equal : (a b : Ordering) → is_eq (ordering_then a b) ≡ true → (a ≡ Equal) × (is_eq b ≡ true)
 both_equal Less b h = cc

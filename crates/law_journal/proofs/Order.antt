@@ -4,6 +4,8 @@ use Rattle.std.specs.Prelude.{if◌then◌else◌, is_none, IfSome}
 use Rattle.std.specs.List.{AllByRecursion, list_any, filter}
 use Rattle.std.specs.Ordering.{is_gt}
 use Rattle.std.proofs.lemmas.List.Sums.{sum_by-cons}
+use Rattle.std.proofs.ByRecursion.{All-weaker}
+use Rattle.std.proofs.lemmas.Bool.{or_parts}
 use Rattle.sql_value.specs.declared.column.ColumnDef.{ColumnDef}
 use Rattle.sql_types.specs.declared.version.TypedValue.{TypedValue}
 use Rattle.sql_types.specs.declared.version.Version.{Version}
@@ -11,17 +13,14 @@ use Rattle.spec_model.specs.Lists.{inserted}
 use Rattle.spec_model.specs.Rows.{EventId, same_event, start_cmp, new_version, started, with_end, ended}
 use Rattle.spec_model.specs.Keys.{Key, same_key, version_key, has_live_row}
 use Rattle.spec_model.specs.Changes.{Change, Starts, Ends, changed}
-use Rattle.law_frame.proofs.Alls.{all_weaker, all_inserted}
-use Rattle.law_frame.proofs.SameKeys.{or_false, same_key_as, same_itself}
+use Rattle.law_frame.proofs.Alls.{all_inserted}
+use Rattle.law_frame.proofs.SameTouched.{key_turned}
 use Rattle.law_journal.specs.Fits.{Fits}
 use Rattle.law_journal.specs.Fine.{key_in, HasLive, IsFine}
 use Rattle.law_journal.specs.Kept.{is_it, ends_with, count_in, count, IsEarlier, EndedBefore, Apart, AllApart, IsPast}
 use Rattle.law_journal.proofs.Counts.{same_parts, hit, ended_cons, missed, one_less}
 
 -- ---- keys
-
-pub same_turned : (a b : Key) → same_key a b ≡ true → same_key b a ≡ true
-same_turned a b h = sym (same_key_as a b a h) ∙ same_itself a
 
 -- none of this key stands
 abbrev pub NoneLive : List ColumnDef → Key → List Version → Type 0
@@ -32,7 +31,7 @@ ended_or_other None e = cc
 ended_or_other (Some x) e = λ k. cc
 
 of_if : (P : Version → Bool) (b : Bool) (v : Version) (vs : List Version) → list_any P (if b then v ∷ vs else vs) ≡ false → (b ≡ true → P v ≡ false) × (list_any P vs ≡ false)
-of_if P true v vs e = let p = or_false (P v) (list_any P vs) e in ((λ t. p.0), p.1)
+of_if P true v vs e = let p = or_parts (P v) (list_any P vs) e in ((λ t. p.0), p.1)
 of_if P false v vs e = ((λ t. cc), e)
 
 pub none_is_live : (columns : List ColumnDef) (key : Key) (vs : List Version) → has_live_row columns key vs ≡ false → NoneLive columns key vs
@@ -113,7 +112,7 @@ module _ (place : ℕ → ℕ) where
 
   module _ (columns : List ColumnDef) where
     pub apart_flip : (v w : Version) → Apart place columns v w → Apart place columns w v
-    apart_flip v w a same = elim (a (same_turned (version_key columns w) (version_key columns v) same)) [ inl p ↦ inr p | inr q ↦ inl q ]
+    apart_flip v w a same = elim (a (key_turned (version_key columns w) (version_key columns v) same)) [ inl p ↦ inr p | inr q ↦ inl q ]
 
     -- ---- a new version
 
@@ -134,7 +133,7 @@ module _ (place : ℕ → ℕ) where
     new_apart : (now : EventId) (values : List (Option TypedValue)) (vs : List Version) → AllByRecursion (IsPast place now) vs → NoneLive columns (key_in columns values) vs → AllByRecursion (Apart place columns (new_version now values)) vs
     new_apart now values [] past fine = tt
     new_apart now values (v ∷ vs) past fine =
-        ((λ same. inr (closed_before now v v.end refl (fine.0 (same_turned (key_in columns values) (version_key columns v) same)) past.0.end)), new_apart now values vs past.1 fine.1)
+        ((λ same. inr (closed_before now v v.end refl (fine.0 (key_turned (key_in columns values) (version_key columns v) same)) past.0.end)), new_apart now values vs past.1 fine.1)
 
     -- ---- an end
 
@@ -165,7 +164,7 @@ module _ (place : ℕ → ℕ) where
     apart_ended_at at start true v vs e once there av a rest =
         let F : List Version → Type 0 = λ xs. AllApart place columns xs in
         let h = hit at start v vs e once there in
-        subst F (sym h.is) (all_weaker (Apart place columns v) (Apart place columns (with_end at v)) (λ w p. apart_end columns at v w h.is_live p) vs av, a)
+        subst F (sym h.is) (All-weaker (Apart place columns v) (Apart place columns (with_end at v)) (λ w p. apart_end columns at v w h.is_live p) vs av, a)
     apart_ended_at at start false v vs e once there av a rest =
         let F : List Version → Type 0 = λ xs. AllApart place columns xs in
         let o = missed start v vs e there in
@@ -183,10 +182,10 @@ module _ (place : ℕ → ℕ) where
       unfolding started
       past_changed (Starts values) vs once past fine =
           all_inserted (IsPast place (tx, seq + 1)) start_cmp (new_version (tx, seq) values) vs (record { start = now_next tx seq; end = tt })
-          (all_weaker (IsPast place (tx, seq)) (IsPast place (tx, seq + 1)) (past_next tx seq) vs past)
+          (All-weaker (IsPast place (tx, seq)) (IsPast place (tx, seq + 1)) (past_next tx seq) vs past)
       past_changed (Ends start) vs once past fine =
-          all_weaker (PastOf tx seq) (IsPast place (tx, seq + 1)) (λ w p. p.past) (ended (tx, seq) start vs)
-          (all_ended (PastOf tx seq) (tx, seq) start vs (once start) fine (ends_past tx seq) (all_weaker (IsPast place (tx, seq)) (PastOf tx seq) (past_of tx seq) vs past))
+          All-weaker (PastOf tx seq) (IsPast place (tx, seq + 1)) (λ w p. p.past) (ended (tx, seq) start vs)
+          (all_ended (PastOf tx seq) (tx, seq) start vs (once start) fine (ends_past tx seq) (All-weaker (IsPast place (tx, seq)) (PastOf tx seq) (past_of tx seq) vs past))
 
       pub apart_changed : (c : Change) (vs : List Version) → ((start : EventId) → count start vs ≤ 1) → AllByRecursion (IsPast place (tx, seq)) vs → IsFine columns c vs → AllApart place columns vs → AllApart place columns (changed (tx, seq) c vs)
       unfolding started

@@ -1,6 +1,7 @@
 -- The changes of INSERT, UPDATE and DELETE are fine.
 use Rattle.std.proofs.Common.{◌≡◌, ℕ, subst, false, List, Ok}
 use Rattle.std.specs.List.{AllByRecursion, list_any, zip}
+use Rattle.std.proofs.ByRecursion.{All-weaker}
 use Rattle.sql_value.specs.declared.column.ColumnDef.{ColumnDef}
 use Rattle.sql_value.specs.declared.expr.Expr.{Expr}
 use Rattle.sql_types.specs.declared.statement.RowStmt.{RowStmt}
@@ -16,7 +17,6 @@ use Rattle.spec_model.specs.Create.{names_of}
 use Rattle.spec_model.specs.Checks.{is_in_key, row_check}
 use Rattle.spec_model.specs.Runs.{Rising}
 use Rattle.law_frame.proofs.Checked.{Led, led}
-use Rattle.law_frame.proofs.Alls.{all_weaker}
 use Rattle.law_frame.proofs.LeftRows.{zipped}
 use Rattle.law_frame.proofs.UpdateKeys.{update_keeps_key, sets_no_key}
 use Rattle.law_journal.specs.Fits.{Fits}
@@ -41,8 +41,8 @@ module _ (place : ℕ → ℕ) (tx seq : ℕ) where
   replaced_fine columns V sets taken rows r none o d e =
       let z = zipped (row_after_set columns sets) (OpenAnd columns (FitOf columns) V) taken rows e o in
       update_fine place columns tx seq (zip taken rows) V r.here (distinct_zip place columns taken rows d)
-      (all_weaker (λ (p : Version × Row). (Open p.0 V × FitOf columns p.0) × (row_after_set columns sets p.0 ≡ Ok p.1)) (λ (p : Version × Row). Open p.0 V) (λ p h. h.0.0) (zip taken rows) z)
-      (all_weaker (λ (p : Version × Row). (Open p.0 V × FitOf columns p.0) × (row_after_set columns sets p.0 ≡ Ok p.1)) (TakesPlace place columns)
+      (All-weaker (λ (p : Version × Row). (Open p.0 V × FitOf columns p.0) × (row_after_set columns sets p.0 ≡ Ok p.1)) (λ (p : Version × Row). Open p.0 V) (λ p h. h.0.0) (zip taken rows) z)
+      (All-weaker (λ (p : Version × Row). (Open p.0 V × FitOf columns p.0) × (row_after_set columns sets p.0 ≡ Ok p.1)) (TakesPlace place columns)
       (λ p h. (row_set_fits columns sets p.0 p.1 h.0.1 h.1, update_keeps_key columns sets p.0 p.1 r.names none h.1)) (zip taken rows) z)
 
   pub row_fine : (def : TableDef) (part : Part) (V : List Version) (stmt : RowStmt) (c : Changes) → Ready def.columns V → row_check stmt def part ≡ Ok tt → row_changes def V stmt ≡ Ok c → AllHere def.columns tx seq c.0 V
@@ -63,4 +63,4 @@ module _ (place : ℕ → ℕ) (tx seq : ℕ) where
       let is : deletion l.value ≡ c = cc in
       subst (λ (d : Changes). AllHere def.columns tx seq d.0 V) is
       (delete_fine def.columns tx seq l.value V (taken_distinct def.columns (FitOf def.columns) V cond l.value r.rising l.was)
-      (all_weaker (OpenAnd def.columns (FitOf def.columns) V) (λ u. Open u V) (λ u h. h.0) l.value (taken_open def.columns (FitOf def.columns) V cond l.value r.fit l.was)))
+      (All-weaker (OpenAnd def.columns (FitOf def.columns) V) (λ u. Open u V) (λ u h. h.0) l.value (taken_open def.columns (FitOf def.columns) V cond l.value r.fit l.was)))

@@ -4,6 +4,7 @@ use Rattle.std.proofs.lemmas.Bool.{eqb-true, eq-eqb, ne_eqb}
 use Rattle.std.proofs.lemmas.List.Sums.{sum_by-cons}
 use Rattle.std.specs.Prelude.{◌==◌, if◌then◌else◌, IfSome}
 use Rattle.std.specs.List.{AllByRecursion}
+use Rattle.std.proofs.ByRecursion.{All-weaker}
 use Rattle.sql_types.specs.declared.journal.JournalItem.{JournalItem}
 use Rattle.sql_types.specs.declared.journal.JournalItem.TheVariants.{Tx, Close}
 use Rattle.sql_types.specs.declared.version.Table.{Table}
@@ -14,7 +15,6 @@ use Rattle.spec_model.specs.SystemTables.{first_tables}
 use Rattle.spec_model.specs.Runs.{IsBefore, EndsBefore, MadeBefore, SoundTable, Sound}
 use Rattle.spec_model.specs.Script.{Reading, script}
 use Rattle.spec_model.specs.Journals.{cut, tx_count, IsOther, after_item, serial_from, serial, IsNext, IsLegalFrom, IsLegal}
-use Rattle.law_frame.proofs.Alls.{all_weaker}
 use Rattle.law_frame.proofs.OtherTransactions.{others_sound}
 use Rattle.law_frame.proofs.SoundStatements.{first_sound}
 use Rattle.law_journal.specs.Fits.{Fits}
@@ -102,7 +102,7 @@ module _ (place : ℕ → ℕ) where
 
   settles : (m id seq : ℕ) (t : Table) → place id ≡ m → KeptTable place (id, seq) t → SettledTable (suc m) t
   settles m id seq t is k = record {
-    settled = all_weaker (IsPast place (id, seq)) (Settled (suc m)) (λ v p. record { start = before_next m id seq v.start is p.start; end = settled_end m id seq v.start v.end is p.end }) t.versions k.past;
+    settled = All-weaker (IsPast place (id, seq)) (Settled (suc m)) (λ v p. record { start = before_next m id seq v.start is p.start; end = settled_end m id seq v.start v.end is p.end }) t.versions k.past;
     apart = k.apart;
     fit = k.fit;
   }
@@ -113,7 +113,7 @@ module _ (place : ℕ → ℕ) where
 
   begins : (m id : ℕ) (t : Table) → place id ≡ m → SettledTable m t → KeptTable place (id, 0) t
   begins m id t is s = record {
-    past = all_weaker (Settled m) (IsPast place (id, 0)) (λ v p. record { start = inl (omega (arith, is, p.start)); end = past_end m id v.start v.end is p.end }) t.versions s.settled;
+    past = All-weaker (Settled m) (IsPast place (id, 0)) (λ v p. record { start = inl (omega (arith, is, p.start)); end = past_end m id v.start v.end is p.end }) t.versions s.settled;
     apart = s.apart;
     fit = s.fit;
   }
@@ -140,14 +140,14 @@ module _ (place : ℕ → ℕ) where
         let m : ℕ = tx_count before in
         let texts : List (List ℕ) = map (λ l. l.0) lines in
         let is : place id ≡ m = at id (rw (eq-eqb id id refl) refl) refl next.1 in
-        let k : Kept place id 0 T = record { sound = b.sound id next.1; own = no_number id T (b.sound id next.1); others = b.numbered; each = all_weaker (SettledTable m) (KeptTable place (id, 0)) (λ t s. begins m id t is s) T b.each } in
+        let k : Kept place id 0 T = record { sound = b.sound id next.1; own = no_number id T (b.sound id next.1); others = b.numbered; each = All-weaker (SettledTable m) (KeptTable place (id, 0)) (λ t s. begins m id t is s) T b.each } in
         let after = (script_both place id reads explicit T texts (k, b.described)).0 in
         let count : tx_count (before ++ Tx id session time explicit lines ∷ []) ≡ suc m = omega (arith, one_tx before (Tx id session time explicit lines)) in
         record {
           sound = λ other h. others_sound id other 0 (last_one (IsOther other) before (Tx id session time explicit lines) h) reads explicit T texts (b.sound id next.1) (b.sound other (first_part (IsOther other) before (Tx id session time explicit lines ∷ []) h));
           numbered = after.0.others;
           each = subst (λ (n : ℕ). AllByRecursion (SettledTable n) (after_item reads T (Tx id session time explicit lines))) (sym count)
-              (all_weaker (KeptTable place (id, (script reads explicit T id texts).state.seq)) (SettledTable (suc m)) (λ t s. settles m id (script reads explicit T id texts).state.seq t is s) (script reads explicit T id texts).state.tables after.0.each);
+              (All-weaker (KeptTable place (id, (script reads explicit T id texts).state.seq)) (SettledTable (suc m)) (λ t s. settles m id (script reads explicit T id texts).state.seq t is s) (script reads explicit T id texts).state.tables after.0.each);
           described = after.1;
           keeps_rows = script_keeps_rows id reads explicit T texts (b.sound id next.1) b.keeps_rows;
         }
@@ -209,7 +209,7 @@ module _ (reads : Reading) (all : List JournalItem) where
 
   table_of : (t : Table) → SettledTable (place_in all) (tx_count all) t → TableOf all t
   table_of t s = record {
-    ids = all_weaker (Settled (place_in all) (tx_count all)) (IsOf all) (λ v p. record { start = has_tx all v.start.0 p.start; end = end_of v.start v.end p.end }) t.versions s.settled;
+    ids = All-weaker (Settled (place_in all) (tx_count all)) (IsOf all) (λ v p. record { start = has_tx all v.start.0 p.start; end = end_of v.start v.end p.end }) t.versions s.settled;
     apart = s.apart;
     fit = s.fit;
   }
@@ -217,7 +217,7 @@ module _ (reads : Reading) (all : List JournalItem) where
   pub legal_tables : IsLegal reads all → TablesOf all (serial reads all)
   legal_tables legal =
       let b : Between (place_in all) reads all (serial reads all) = after_all [] first_tables all refl legal first_between in
-      record { numbered = b.numbered; each = all_weaker (SettledTable (place_in all) (tx_count all)) (TableOf all) table_of (serial reads all) b.each }
+      record { numbered = b.numbered; each = All-weaker (SettledTable (place_in all) (tx_count all)) (TableOf all) table_of (serial reads all) b.each }
 
   pub legal_described : IsLegal reads all → Described (serial reads all)
   legal_described legal = (after_all [] first_tables all refl legal first_between).described

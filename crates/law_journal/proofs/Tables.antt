@@ -5,6 +5,7 @@ use Rattle.std.specs.List.{AllByRecursion}
 use Rattle.std.proofs.lemmas.Bool.{eqb-true, eq-eqb, ne_eqb}
 use Rattle.std.proofs.lemmas.Bool.Decides.{nat_tests}
 use Rattle.std.proofs.lemmas.List.Sums.{sum_by-cons}
+use Rattle.std.proofs.ByRecursion.{All-weaker}
 use Rattle.sql_types.specs.declared.version.Table.{Table}
 use Rattle.sql_types.specs.declared.version.Version.{Version}
 use Rattle.spec_model.specs.Rows.{EventId}
@@ -12,7 +13,6 @@ use Rattle.spec_model.specs.Changes.{Change, changed}
 use Rattle.spec_model.specs.Catalog.{Tables, defs_of, with_versions, changed_table}
 use Rattle.spec_model.specs.ChangeSets.{TableChange, changed_in, changed_from}
 use Rattle.spec_model.specs.Agreement.{IdsFrom}
-use Rattle.law_frame.proofs.Alls.{all_weaker}
 use Rattle.law_frame.proofs.Sounds.{sound_changed}
 use Rattle.law_journal.specs.Fine.{IsFine, OfTable, IsFineIn, AllFine}
 use Rattle.law_journal.specs.Kept.{is_it, count, count_all, IsNumbered, IsPast, KeptTable, Kept}
@@ -31,7 +31,7 @@ pub record Split (id : ℕ) (P : Table → Type 0) (T : Tables) : Type 0 where
   pub holds : P table
   pub changed_ : (f : List Version → List Version) → changed_table id f T ≡ front ++ with_versions f table ∷ back
 
-untouched : (n id : ℕ) (f : List Version → List Version) (T : Tables) → IdsFrom n (defs_of T) → id < n → changed_table id f T ≡ T
+pub untouched : (n id : ℕ) (f : List Version → List Version) (T : Tables) → IdsFrom n (defs_of T) → id < n → changed_table id f T ≡ T
 untouched n id f [] ids lt = refl
 untouched n id f (t ∷ ts) ids lt = rw (ne_eqb t.def.id id (λ e. absurd (omega (arith, e, ids.0, lt))), untouched (n + 1) id f ts ids.1 (omega (arith, lt))) refl
 
@@ -71,7 +71,7 @@ split_from n id P (t ∷ ts) ids o = elim o [
 ]
 
 pub all_replaced : (P Q : Table → Type 0) (A : Tables) (t u : Table) (B : Tables) → ((x : Table) → P x → Q x) → (P t → Q u) → AllByRecursion P (A ++ t ∷ B) → AllByRecursion Q (A ++ u ∷ B)
-all_replaced P Q [] t u B f g h = (g h.0, all_weaker P Q f B h.1)
+all_replaced P Q [] t u B f g h = (g h.0, All-weaker P Q f B h.1)
 all_replaced P Q (x ∷ A) t u B f g h = (f x h.0, all_replaced P Q A t u B f g h.1)
 
 abbrev pub table_count : EventId → Table → ℕ
@@ -91,7 +91,7 @@ count_part a (x ∷ A) t B = let q = sum_by-cons (table_count a) x (A ++ t ∷ B
 
 -- ---- numbers
 
-one_or_none : (b : Bool) → (let n : ℕ = cond b 1 0 in n ≤ 1)
+pub one_or_none : (b : Bool) → (let n : ℕ = cond b 1 0 in n ≤ 1)
 one_or_none true = omega arith
 one_or_none false = omega arith
 
@@ -112,7 +112,7 @@ module _ (place : ℕ → ℕ) (tx seq : ℕ) where
       omega (arith, h, l)
 
   later_table : (t : Table) → KeptTable place (tx, seq) t → KeptTable place (tx, seq + 1) t
-  later_table t k = record { past = all_weaker (IsPast place (tx, seq)) (IsPast place (tx, seq + 1)) (past_next place tx seq) t.versions k.past; apart = k.apart; fit = k.fit }
+  later_table t k = record { past = All-weaker (IsPast place (tx, seq)) (IsPast place (tx, seq + 1)) (past_next place tx seq) t.versions k.past; apart = k.apart; fit = k.fit }
 
   table_changed : (c : Change) (t : Table) → ((a : EventId) → count a t.versions ≤ 1) → IsFine t.def.columns c t.versions → KeptTable place (tx, seq) t → KeptTable place (tx, seq + 1) (with_versions (changed (tx, seq) c) t)
   table_changed c t few fine k = record {

@@ -5,6 +5,7 @@ use Rattle.std.specs.List.{AllByRecursion, filter, zip}
 use Rattle.std.specs.declared.cmp.Ordering.{Ordering}
 use Rattle.std.specs.declared.cmp.Ordering.TheVariants.{Less}
 use Rattle.std.specs.Ordering.{is_gt}
+use Rattle.std.proofs.ByRecursion.{kept_by_passes, All-weaker}
 use Rattle.sql_value.specs.declared.column.ColumnDef.{ColumnDef}
 use Rattle.sql_value.specs.declared.expr.Expr.{Expr}
 use Rattle.sql_types.specs.declared.version.Version.{Version}
@@ -16,7 +17,7 @@ use Rattle.spec_model.specs.Where.{key_fixed}
 use Rattle.spec_model.specs.Changes.{versions_matched}
 use Rattle.spec_model.specs.Runs.{Rising}
 use Rattle.law_frame.proofs.Checked.{Led, led}
-use Rattle.law_frame.proofs.Alls.{all_weaker, all_both, all_filter, all_pass, all_inserted, all_sorted, all_checked_filter}
+use Rattle.law_frame.proofs.Alls.{all_both, all_filter, all_inserted, all_sorted, all_checked_filter}
 use Rattle.law_frame.proofs.SameKeys.{one_start, not_less}
 use Rattle.law_journal.proofs.Counts.{own_same}
 use Rattle.law_journal.proofs.Here.{Open, Distinct, AllDistinct}
@@ -39,7 +40,7 @@ less_unlike u w false e l = e
 
 rising_distinct : (vs : List Version) → Rising vs → AllDistinct vs
 rising_distinct [] r = tt
-rising_distinct (v ∷ vs) r = (all_weaker (λ w. start_cmp v w ≡ Less) (Unlike v) (λ w l. less_unlike v w (same_event w.start v.start) refl l) vs r.0, rising_distinct vs r.1)
+rising_distinct (v ∷ vs) r = (All-weaker (λ w. start_cmp v w ≡ Less) (Unlike v) (λ w l. less_unlike v w (same_event w.start v.start) refl l) vs r.0, rising_distinct vs r.1)
 
 if_distinct : (b : Bool) (v : Version) (vs : List Version) → AllByRecursion (Unlike v) vs → AllDistinct vs → AllDistinct (if b then v ∷ vs else vs)
 if_distinct true v vs a d = (a, d)
@@ -78,7 +79,7 @@ OpenIf vs u = u.end ≡ None → Open u vs
 
 each_open : (vs : List Version) → AllByRecursion (OpenIf vs) vs
 each_open [] = tt
-each_open (v ∷ vs) = ((λ n. inl (refl, n)), all_weaker (OpenIf vs) (OpenIf (v ∷ vs)) (λ u h n. inr (h n)) vs (each_open vs))
+each_open (v ∷ vs) = ((λ n. inl (refl, n)), All-weaker (OpenIf vs) (OpenIf (v ∷ vs)) (λ u h n. inr (h n)) vs (each_open vs))
 
 no_end : (o : Option EventId) → is_none o ≡ true → o ≡ None
 no_end None e = refl
@@ -100,10 +101,10 @@ module _ (columns : List ColumnDef) (P : Version → Type 0) (V : List Version) 
   unfolding live_by_key
   live_are_open o h =
       all_sorted OpenAnd (λ v w. key_cmp (version_key columns v) (version_key columns w)) (live (part_read columns o V))
-      (all_weaker (λ u. (OpenIf V u × P u) × (is_none u.end ≡ true)) OpenAnd (λ u k. (k.0.0 (no_end u.end k.1), k.0.1)) (live (part_read columns o V))
+      (All-weaker (λ u. (OpenIf V u × P u) × (is_none u.end ≡ true)) OpenAnd (λ u k. (k.0.0 (no_end u.end k.1), k.0.1)) (live (part_read columns o V))
       (all_both (λ u. OpenIf V u × P u) (λ u. is_none u.end ≡ true) (live (part_read columns o V))
       (all_filter (λ u. OpenIf V u × P u) (λ v. is_none v.end) (part_read columns o V) (part_all (λ u. OpenIf V u × P u) o (all_both (OpenIf V) P V (each_open V) h)))
-      (all_pass (λ v. is_none v.end) (part_read columns o V))))
+      (kept_by_passes (λ v. is_none v.end) (part_read columns o V))))
 
   live_are_distinct : (o : Option Key) → AllDistinct V → AllDistinct (live_by_key columns o V)
   unfolding live_by_key

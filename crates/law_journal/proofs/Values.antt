@@ -24,6 +24,7 @@ use Rattle.spec_model.specs.Evaluation.{meaning_of}
 use Rattle.spec_model.specs.Parts.{base_row}
 use Rattle.spec_model.specs.Changes.{or_its_refusal, kept, kept_row, expr_set, as_value, value_set, row_after_set}
 use Rattle.law_frame.proofs.Checked.{Led, led}
+use Rattle.law_frame.proofs.InsertedKeys.{kept_at}
 use Rattle.law_journal.specs.Fits.{FitsColumn, Fits}
 
 -- ---- conversion makes no NULL
@@ -126,9 +127,6 @@ kept_fits c (val.Bytes x) w e = converted_fits c (val.Bytes x) w (λ k. cc) (was
 kept_fits c (val.Date d) w e = converted_fits c (val.Date d) w (λ k. cc) (was_made (conversion_of (val.Date d) c.ty) w e)
 
 -- ---- a row
-
-abbrev kept_at : ColumnDef × Value → Checked Value
-kept_at p = kept p.0 p.1
 
 less : (m n : ℕ) → suc m ≡ suc n → m ≡ n
 less m n e = cc

@@ -1,5 +1,5 @@
 -- Digests of a run are held where their blocks are closed, and images of its cuts are accepted with them.
-use Rattle.std.proofs.Common.{◌≡◌, ◌<◌, ℕ, List, [], ◌∷◌, length, map, refl, sym, ap, subst, ◌∙◌, inl, inr, ⊎_elim, arith}
+use Rattle.std.proofs.Common.{◌≡◌, ◌<◌, ℕ, List, [], ◌∷◌, length, map, refl, sym, ap, subst, ◌∙◌, inl, inr, arith}
 use Rattle.std.proofs.lemmas.List.{take_all}
 use Rattle.sql_types.specs.declared.digest.Digest.{Digest}
 use Rattle.sql_types.specs.declared.digest.HeldDigest.{HeldDigest}
@@ -11,6 +11,7 @@ use Rattle.spec_history.specs.Journals.{blocks}
 use Rattle.spec_history.specs.Lists.{Text, Each, In}
 use Rattle.spec_history.specs.Meaning.{Meaning}
 use Rattle.spec_history.specs.Transcripts.{Transcript}
+use Rattle.spec_history.proofs.Refused.{in_each}
 use Rattle.sql_parse.specs.Text.{statement_of}
 use Rattle.format_image.specs.Image.{image_of, image_of_cut}
 use Rattle.format_image.specs.ImageBytes.{image_bytes}
@@ -23,10 +24,6 @@ use Rattle.law_sequential.specs.SessionOutput.{IsMeaning, IsImageOf, RunAgrees}
 use Rattle.law_sequential.proofs.SessionOutput.{some_meaning}
 use Rattle.law_kept_images.proofs.Closed.{digests_are_closed}
 use Rattle.law_kept_images.specs.Accepted.{IsOfCut, IsAccepted}
-
-pub each_in : {A : Type 0} (P : A → Type 0) (xs : List A) (x : A) → Each P xs → In x xs → P x
-each_in P [] x h i = absurd i
-each_in P (y ∷ ys) x h i = ⊎_elim (λ (e : y ≡ x). subst P e h.0) (λ k. each_in P ys x h.1 k) i
 
 -- what is held of a digest of this journal, at a cut in which its block is closed
 abbrev pub Held : (List ℕ → List ℕ) → Text → List JournalItem → Type 0
@@ -50,7 +47,7 @@ module _ (h : List ℕ → List ℕ) (database : Text) (size : ℕ) (names : Lis
 
   all_held : (m : ℕ) (digests : List Digest) → Each (IsOfCut J m G) digests → AllHeld h statement_of database (cut J m) (map held digests)
   all_held m [] e = tt
-  all_held m (d ∷ ds) e = (holds q m d (λ K b. real.real.block_hash K b ∙ real.hashes K b) (each_in (IsDigest q database J) G d digests_are e.0.0) e.0.1, all_held m ds e.1)
+  all_held m (d ∷ ds) e = (holds q m d (λ K b. real.real.block_hash K b ∙ real.hashes K b) (in_each (IsDigest q database J) G d digests_are e.0.0) e.0.1, all_held m ds e.1)
 
   pub accepted : (k : KeptImage) → IsImageOf h statement_of database J k → Verifies h database J k.0 → IsAccepted h database J G k
   accepted k is verify digests e = ap (verdict_of h (map held digests)) is.bytes ∙ verify (map held digests) (all_held k.0 digests e)

@@ -47,7 +47,7 @@ one_next v cells seats st asked wanted j s t there step = let d = one_keeps v ce
   locks_decide = alone_decides v st j s there t step d.events d.are d.stands;
 }
 
-did_append : (xs ys : List SessionAct) → map did (xs ++ ys) ≡ map did xs ++ map did ys
+pub did_append : (xs ys : List SessionAct) → map did (xs ++ ys) ≡ map did xs ++ map did ys
 did_append [] ys = refl
 did_append (x ∷ xs) ys = ap (λ (ds : List AnonymousAct). did x ∷ ds) (did_append xs ys)
 

@@ -49,7 +49,7 @@ record AreNumbered (at : ℕ → SessionState) (ns : List Text) : Type 0 where
   named : (i : ℕ) (name : Text) → At ns i name → Named name (at i)
   others : (i : ℕ) → length ns ≤ i → (at i).phase ≡ unborn
 
-else_at : (w : World) (n : ℕ) (a : SessionAct) (t : ℕ) → t ≢ n → (step w (by n a)).at t ≡ w.at t
+pub else_at : (w : World) (n : ℕ) (a : SessionAct) (t : ℕ) → t ≢ n → (step w (by n a)).at t ≡ w.at t
 else_at w n a t ne = rw (ne_eqb t n ne) refl
 
 module _ (q : Meaning) (db : Text) where

@@ -19,7 +19,8 @@ use Rattle.spec_protocol.specs.StandTogether.{History, LocksAskedFor, Stands}
 use Rattle.spec_protocol.specs.RequestsIn.{of_cell}
 use Rattle.law_protocol_steps.proofs.ActedFor.{sessions_at}
 use Rattle.law_protocol_tables.proofs.AskedStays.{asked_it}
-use Rattle.law_protocol_steps.proofs.Ids.{InTransaction, in_transaction, apart, each_in}
+use Rattle.law_protocol_steps.proofs.Ids.{InTransaction, in_transaction, apart}
+use Rattle.law_protocol_steps.proofs.AfterSet.{each_at}
 use Rattle.law_protocol_tables.proofs.KeepsAsked.{defs_at}
 
 no_cell_requested : (D : Defs) (d : Stmt) → creates d ≡ true → cell_requests D d ≡ None
@@ -44,7 +45,7 @@ module _ (v : Server) {history : History} {cells : List Cell} {seats : List Seat
   its_text : (i : ℕ) (lock : Hold) → In lock (holds_at cells i) → (explicit : Bool) (a : Text × Bool) → WasAsked (sessions_at history) lock.tx explicit a → a.1 ≡ true → text ≡ a.0
   its_text i lock has explicit a was flag =
       let in_asked : In a its_transaction.transaction.asked = asked_it (run first history) (apart v history st.ledger seats st.transcripts_agree) lock.tx explicit a was its_transaction.runs.number its_transaction.transaction its_transaction.has (its_transaction.is.id ∙ sym (its i lock has)) in
-      let in_texts : In a.0 (texts_so_far x o) = each_in (λ (b : Text × Bool). b.1 ≡ true → In b.0 (texts_so_far x o)) its_transaction.transaction.asked a (its_transaction.is.asked open_end) in_asked flag in
+      let in_texts : In a.0 (texts_so_far x o) = each_at (λ (b : Text × Bool). b.1 ≡ true → In b.0 (texts_so_far x o)) its_transaction.transaction.asked a (its_transaction.is.asked open_end) in_asked flag in
       ⊎_elim (λ (e : text ≡ a.0). e) (λ (e : ⊥). absurd e) (subst (In a.0) texts_are in_texts)
 
   nothing_there : (n : ℕ) (lock : Hold) (a : Text × Bool) → text ≡ a.0 → In lock.request (of_cell n (requests_cell (defs_at st) (v.reads a.0))) → ⊥

@@ -1,20 +1,20 @@
 -- A visit or a step that says a statement does so where nobody is in its way, and one that meets a lock meets the one that is.
-use Rattle.std.proofs.Common.{◌≡◌, ◌≢◌, ℕ, zero, suc, ◌<◌, ◌≤◌, Bool, true, List, [], ◌∷◌, ◌++◌, map, Option, Some, None, refl, sym, ap, ap₂, ◌∙◌, subst, subst₂, ⊎_elim, arith, append-nil}
-use Rattle.std.proofs.lemmas.Bool.{cases_eq, cases_lt, ne_eqb, eq-eqb}
-use Rattle.std.specs.Prelude.{◌==◌, if◌then◌else◌}
+use Rattle.std.proofs.Common.{◌≡◌, ◌≢◌, ℕ, ◌<◌, ◌≤◌, Bool, List, [], ◌∷◌, ◌++◌, map, Some, None, refl, sym, ap, ap₂, ◌∙◌, subst, subst₂, ⊎_elim, arith, append-nil}
+use Rattle.std.proofs.lemmas.Bool.{cases_eq, cases_lt}
 use Rattle.spec_model.specs.Catalog.{Defs, defs_of}
 use Rattle.spec_model.specs.Journals.{Line, serial}
 use Rattle.spec_history.specs.Acts.{SessionAct, looks, says, meets, Act, by, closes}
 use Rattle.spec_history.specs.ByLocks.{IsByLocks, LocksDecide}
-use Rattle.spec_history.specs.ExactRefusals.{HeldStatement, held_by, held_beside, in_the_way}
+use Rattle.spec_history.specs.ExactRefusals.{HeldStatement, held_beside, in_the_way}
 use Rattle.spec_history.specs.Histories.{IsIdle, SessionsBelow}
 use Rattle.spec_history.specs.Lists.{Text, Each, In}
 use Rattle.spec_history.specs.Meaning.{Meaning}
 use Rattle.spec_history.specs.Serial as serials
 use Rattle.spec_history.specs.Sessions.{SessionTransaction, SessionState, fresh, scripts, viewed}
-use Rattle.spec_history.specs.Transactions.{Transaction, on_some, unfixed}
+use Rattle.spec_history.specs.Transactions.{on_some, unfixed}
 use Rattle.spec_history.specs.Worlds.{World, first, run, step, tables}
 use Rattle.spec_history.proofs.Cuts.{run_append}
+use Rattle.spec_history.proofs.ByLocks.{held_same}
 use Rattle.spec_protocol.specs.Server.{Server}
 use Rattle.spec_protocol.specs.Cells.{Cell, catalog_at, holds_at}
 use Rattle.spec_protocol.specs.AnonymousActs.{AnonymousAct, did, anonymous_act}
@@ -29,12 +29,11 @@ use Rattle.law_protocol_steps.proofs.ByLocksMore.{below_first}
 use Rattle.law_protocol_steps.proofs.AnonymousActs.{at_after}
 use Rattle.law_protocol.proofs.FreeOrMet.{none_there}
 use Rattle.law_protocol.proofs.HeldStatements.{in_map}
-use Rattle.law_protocol_steps.proofs.Ids.{InTransaction, each_in, in_transaction}
+use Rattle.law_protocol_steps.proofs.Ids.{InTransaction, in_transaction}
+use Rattle.law_protocol_steps.proofs.AfterSet.{each_at}
+use Rattle.law_protocol.proofs.BegunNames.{else_at}
 
 -- ---- worlds
-
-else_at : (w : World) (n : ℕ) (a : SessionAct) (t : ℕ) → t ≢ n → (step w (by n a)).at t ≡ w.at t
-else_at w n a t ne = rw (ne_eqb t n ne) refl
 
 -- sessions beyond those that act are as they were
 beyond : (k : ℕ) (w : World) (es : List Act) → SessionsBelow k es → (t : ℕ) → k ≤ t → (run w es).at t ≡ w.at t
@@ -47,13 +46,6 @@ has_none x d e f = let g : None ≡ Some d = ap (λ (z : SessionState). z.transa
 
 all_below : (k : ℕ) (h : History) → SessionsBelow k h → (t : ℕ) (d : SessionTransaction) → ((run first h).at t).transaction ≡ Some d → t < k
 all_below k h b t d e = ⊎_elim (λ (l : t < k). l) (λ l. absurd (has_none ((run first h).at t) d (beyond k first h b t (omega (arith, l))) e)) (cases_lt t k)
-
-held_same : (s k : ℕ) (f g : ℕ → Option Transaction) → ((t : ℕ) → t ≢ s → f t ≡ g t) → held_beside s k f ≡ held_beside s k g
-held_same s zero f g same = refl
-held_same s (suc k) f g same = ap₂ (λ (a b : List HeldStatement). a ++ b) (held_same s k f g same) (⊎_elim
-    (λ (e : k ≡ s). let is : (k == s) ≡ true = eq-eqb k s e in rw is refl)
-    (λ (ne : k ≢ s). ap (λ (l : List HeldStatement). if k == s then [] else l) (ap held_by (same k ne)))
-    (cases_eq k s))
 
 -- ---- who acts is the session at the seat that is inside a statement
 
@@ -88,7 +80,7 @@ module _ (v : Server) {history : History} {cells : List Cell} {seats : List Seat
     locked : o.end ≡ unfixed → (text : Text) → In text (texts_so_far x o) → (i : ℕ) → Each (Holds (holds_at cells i) o.id) (requests_in v (defs_of (serial v.reads st.ledger.items)) o.explicit i text)
     locked open_end text said i = let m = in_map (λ l. l.0) (script_so_far x o) text said in
         subst (λ (z : Text). Each (Holds (holds_at cells i) o.id) (requests_in v (defs_of (serial v.reads st.ledger.items)) o.explicit i z)) m.is
-        (each_in (λ l. Each (Holds (holds_at cells i) o.id) (requests_in v (defs_of (serial v.reads st.ledger.items)) o.explicit i l.0)) (script_so_far x o) m.of (st.locks_cover.cover j x o has i keeps) m.has)
+        (each_at (λ l. Each (Holds (holds_at cells i) o.id) (requests_in v (defs_of (serial v.reads st.ledger.items)) o.explicit i l.0)) (script_so_far x o) m.of (st.locks_cover.cover j x o has i keeps) m.has)
       where
         none_released : o.released ≡ []
         none_released = st.locks_cover.unreleased j x o has open_end

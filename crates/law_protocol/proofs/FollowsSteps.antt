@@ -31,11 +31,12 @@ use Rattle.spec_protocol.specs.Visits as visit
 use Rattle.spec_protocol.specs.Visits.{Visit, Happens}
 use Rattle.law_protocol.proofs.Decides.{done_first, nothing_more}
 use Rattle.law_protocol_steps.proofs.AnonymousActs.{at_after}
-use Rattle.law_protocol_steps.proofs.Ids.{each_in, running}
+use Rattle.law_protocol_steps.proofs.Ids.{running}
 use Rattle.law_protocol_ledger.proofs.NoneWanting.{listed_is, past_over}
 use Rattle.law_protocol.proofs.OneAtATime.{IsPlain}
 use Rattle.law_protocol.proofs.OneSeat.{counted}
 use Rattle.spec_protocol.proofs.Places.{set_here}
+use Rattle.law_protocol_steps.proofs.AfterSet.{each_at}
 use Rattle.law_protocol.proofs.SeatNames.{has_begun}
 use Rattle.law_protocol.proofs.StepsAlone.{checked_plain, closings_plain, done_plain, end_plain, failed_in_plain, says_plain, stopped_plain}
 
@@ -107,7 +108,7 @@ module _ (v : Server) {history : History} {cells : List Cell} {seats : List Seat
           (in_append n (later.of_seat (later.owner n)).past (listed (later.of_seat (later.owner n)).now) (later.all n below).2)
         where
           owner : later.owner n ≡ j
-          owner = each_in (IsOfSeat later.owner j) d.events (by n a) d.mine inside
+          owner = each_at (IsOfSeat later.owner j) d.events (by n a) d.mine inside
 
           named : (later.of_seat j).now ≡ Some n → (acted (W.at n) a).name ≡ y.transcript.session
           named now = let r = running v then_history d.stands.ledger (slice_set seats j t) later j t y (set_here seats j t s there) role in
@@ -141,7 +142,7 @@ module _ (v : Server) {history : History} {cells : List Cell} {seats : List Seat
 
 -- ---- visits
 
-visit_plain : (v : Server) (out : List (ℕ × Cell)) (how : Visit) (a : Cell) (s : SeatState) (b : Cell) (t : SeatState) (h : Happens v out how a s b t) → Each IsPlain (visit_anonymous_acts v out how a s b t h)
+pub visit_plain : (v : Server) (out : List (ℕ × Cell)) (how : Visit) (a : Cell) (s : SeatState) (b : Cell) (t : SeatState) (h : Happens v out how a s b t) → Each IsPlain (visit_anonymous_acts v out how a s b t h)
 visit_plain v out (visit.assign_id explicit) (Ledger a) s (Ledger b) t h = (tt, tt)
 visit_plain v out visit.look (Catalog a) s (Catalog b) t h = (tt, tt)
 visit_plain v out visit.read_system (Catalog a) s (Catalog b) t h = (tt, done_plain h.o.explicit h.at.stands.text true _)

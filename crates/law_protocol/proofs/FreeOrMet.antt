@@ -1,6 +1,6 @@
 -- Where all other sessions are idle, nobody is in the way of a statement whose wants are locked, and the lock that stops one is in its way.
 use Rattle.std.proofs.Common.{◌≡◌, ◌≢◌, ℕ, suc, ◌<◌, Bool, true, false, List, [], Option, Some, None, refl, sym, ap, ◌∙◌, subst, arith}
-use Rattle.std.proofs.lemmas.Bool.{eq-eqb, eqb-true, ne_eqb}
+use Rattle.std.proofs.lemmas.Bool.{eqb-true, ne_eqb}
 use Rattle.std.specs.Prelude.{◌==◌, if◌then◌else◌}
 use Rattle.sql_types.specs.declared.journal.JournalItem.{JournalItem}
 use Rattle.sql_types.specs.declared.lock.Hold.{Hold}
@@ -29,10 +29,11 @@ use Rattle.spec_protocol.specs.Seats.{SeatState}
 use Rattle.spec_protocol.specs.StandTogether.{History, LocksAskedFor, Stands}
 use Rattle.spec_protocol.specs.RequestsIn.{of_catalog, of_cell, requests_in, Holds}
 use Rattle.law_protocol.proofs.HeldStatements.{IsRequestedBy, holds_of, names_same, none_in_way}
-use Rattle.law_protocol_steps.proofs.Ids.{each_in}
 use Rattle.law_protocol_steps.proofs.JournalMore.{same_serial}
 use Rattle.law_protocol_steps.proofs.Locks.{no_conflict}
+use Rattle.law_protocol_steps.proofs.AfterSet.{each_at}
 use Rattle.law_protocol_tables.proofs.MetLock.{wanted_there}
+use Rattle.law_protocol_tables.proofs.VisitsAsked.{there_in}
 use Rattle.law_protocol.proofs.OthersHold.{IsTheirs, beside, covered, is_theirs, others}
 
 -- ---- wants, as step order has them
@@ -44,9 +45,6 @@ text_catalog D o (Some stmt) = refl
 text_cell : (D : Defs) (o : Bool) (s : Option Stmt) → (text_requests D o s).cell ≡ requests_cell D s
 text_cell D o None = refl
 text_cell D o (Some stmt) = refl
-
-there : (m n : ℕ) (ws : List LockRequest) (w : LockRequest) → m ≡ n → In w ws → In w (if m == n then ws else [])
-there m n ws w e i = subst (λ (b : Bool). In w (if b then ws else [])) (sym (eq-eqb m n e)) i
 
 record There (m n : ℕ) (ws : List LockRequest) (w : LockRequest) : Type 0 where
   same : m ≡ n
@@ -61,14 +59,14 @@ there_so m n ws w i = by (m == n) refl i
 
 in_its_cell : (id : ℕ) (cw : CellRequests) (w : LockRequest) → In w (exact.requests_in id cw) → In w (of_cell (cell_of id) cw)
 in_its_cell id None w i = i
-in_its_cell id (Some c) w i = let k = there_so c.0 id c.1 w i in there (cell_of c.0) (cell_of id) c.1 w (ap cell_of k.same) k.has
+in_its_cell id (Some c) w i = let k = there_so c.0 id c.1 w i in there_in (cell_of c.0) (cell_of id) c.1 w (ap cell_of k.same) k.has
 
 user_cell : (m : ℕ) → cell_of (suc (suc (suc m))) ≡ suc (suc m)
 user_cell m = rw (ne_eqb (suc (suc (suc m))) 1 (λ e. omega (arith, e)), ne_eqb (suc (suc (suc m))) 2 (λ e. omega (arith, e))) (omega arith)
 
 in_its_table : (m : ℕ) (cw : CellRequests) (w : LockRequest) → In w (of_cell (suc m) cw) → In w (exact.requests_in (suc (suc m)) cw)
 in_its_table m None w i = i
-in_its_table m (Some c) w i = let k = wanted_there m c w i in there c.0 (suc (suc m)) c.1 w k.0 k.1
+in_its_table m (Some c) w i = let k = wanted_there m c w i in there_in c.0 (suc (suc m)) c.1 w k.0 k.1
 
 module _ (v : Server) (D : Defs) (explicit : Bool) (text : Text) where
   pub catalog_to_text : (w : LockRequest) → In w (of_catalog (requests_catalog explicit (v.meaning.reads text))) → In w (of_catalog (text_requests D explicit (v.reads text)).catalog)
@@ -127,13 +125,13 @@ module _ (v : Server) {history : History} {cells : List Cell} {seats : List Seat
     there_free : (cw : CellRequests) → requests_cell D (v.meaning.reads text) ≡ cw → ((i : ℕ) → Each (Holds (c.holds i) id) (requests_in v D explicit i text)) → in_the_way_there v.meaning D id hs cw ≡ None
     there_free None e locked = refl
     there_free (Some t) e locked = ap holder_named (none_in_way (in_cell t.0) hs (c.holds (cell_of t.0)) id (cell_covered t.0) (agree (cell_of t.0)) t.1
-        (λ w i. each_in (Holds (c.holds (cell_of t.0)) id) (requests_in v D explicit (cell_of t.0) text) w (locked (cell_of t.0))
-        (cell_of_text v D explicit text (cell_of t.0) w (subst (λ (z : CellRequests). In w (of_cell (cell_of t.0) z)) (sym (ap (requests_cell D) (sym (v.real.reading text)) ∙ e)) (there (cell_of t.0) (cell_of t.0) t.1 w refl i)))))
+        (λ w i. each_at (Holds (c.holds (cell_of t.0)) id) (requests_in v D explicit (cell_of t.0) text) w (locked (cell_of t.0))
+        (cell_of_text v D explicit text (cell_of t.0) w (subst (λ (z : CellRequests). In w (of_cell (cell_of t.0) z)) (sym (ap (requests_cell D) (sym (v.real.reading text)) ∙ e)) (there_in (cell_of t.0) (cell_of t.0) t.1 w refl i)))))
 
     -- where all that it wants is locked, nobody is in its way
     pub none_there : ((i : ℕ) → Each (Holds (c.holds i) id) (requests_in v D explicit i text)) → in_the_way v.meaning (v.meaning.defs (tables v.meaning W)) hs id explicit text ≡ None
     none_there locked = way_over id explicit text None
-        (ap (λ (z : Option Conflict). first_some (holder_named z) (in_the_way_there v.meaning D id hs (requests_cell D (v.meaning.reads text)))) (catalog_free (λ w i. each_in (Holds (c.holds catalog_at) id) (requests_in v D explicit catalog_at text) w (locked catalog_at) (catalog_of_text v D explicit text w i)))
+        (ap (λ (z : Option Conflict). first_some (holder_named z) (in_the_way_there v.meaning D id hs (requests_cell D (v.meaning.reads text)))) (catalog_free (λ w i. each_at (Holds (c.holds catalog_at) id) (requests_in v D explicit catalog_at text) w (locked catalog_at) (catalog_of_text v D explicit text w i)))
         ∙ there_free (requests_cell D (v.meaning.reads text)) refl locked)
 
     module _ (asked : LocksAskedFor st) (are_requested : LocksAreRequested v c seats) (below : (t : ℕ) (d : SessionTransaction) → (W.at t).transaction ≡ Some d → t < k) (mine : (d : SessionTransaction) → (W.at n).transaction ≡ Some d → d.id ≡ id) where
@@ -168,7 +166,7 @@ module _ (v : Server) {history : History} {cells : List Cell} {seats : List Seat
       pub met_in_table : (m : ℕ) (ws : List LockRequest) (q : Conflict) → Each (Holds (c.holds catalog_at) id) (of_catalog (text_requests D explicit (v.reads text)).catalog) → requests_cell D (v.reads text) ≡ Some (suc (suc (suc m)), ws) → first_conflict (c.holds (suc (suc m))) id ws ≡ Some q
           → in_the_way v.meaning (v.meaning.defs (tables v.meaning W)) hs id explicit text ≡ Some q.0.0
       met_in_table m ws q locked is e = way_over id explicit text (Some q.0.0)
-          (ap (λ (z : Option Conflict). first_some (holder_named z) (in_the_way_there v.meaning D id hs (requests_cell D (v.meaning.reads text)))) (catalog_free (λ w i. each_in (Holds (c.holds catalog_at) id) (of_catalog (text_requests D explicit (v.reads text)).catalog) w locked (catalog_to_text v D explicit text w i)))
+          (ap (λ (z : Option Conflict). first_some (holder_named z) (in_the_way_there v.meaning D id hs (requests_cell D (v.meaning.reads text)))) (catalog_free (λ w i. each_at (Holds (c.holds catalog_at) id) (of_catalog (text_requests D explicit (v.reads text)).catalog) w locked (catalog_to_text v D explicit text w i)))
           ∙ ap (in_the_way_there v.meaning D id hs) (ap (requests_cell D) (v.real.reading text) ∙ is)
           ∙ names_same (in_cell (suc (suc (suc m)))) hs (c.holds (suc (suc m))) id (λ h i u k. subst (λ (n : ℕ). Holds (c.holds n) h.id u) (user_cell m) (cell_covered (suc (suc (suc m))) h i u k)) (cell_requested (suc m)) ws
           ∙ ap holder_named e)

@@ -7,7 +7,7 @@ use Rattle.spec_history.specs.Lists.{Text}
 use Rattle.spec_history.specs.Meaning.{Meaning}
 use Rattle.spec_history.specs.Transcripts.{EndLine, committed_at, ended_after, Entry, statement, end_of_session, ended_id, Kind, commit, roll_back, create, rows, kind_of}
 use Rattle.spec_history.specs.Facts.{Fact, end_facts, maybe_end, other_facts, answer_facts, own_facts, facts_inside, facts_outside, entry_facts, open_after, facts}
-use Rattle.spec_history.specs.Transactions.{unfixed, Transaction, TransactionLog, new, open_by, noted, read_facts, blank}
+use Rattle.spec_history.specs.Transactions.{unfixed, Transaction, TransactionLog, new, read_facts, blank}
 use Rattle.spec_history.specs.Acts.{Act, all_shown, of}
 use Rattle.spec_history.specs.Sessions.{SessionTransaction, viewed}
 use Rattle.spec_history.specs.Worlds.{first, run}
@@ -15,18 +15,7 @@ use Rattle.spec_history.specs.Guards.{Good}
 use Rattle.spec_history.specs.Histories.{IsIdle}
 use Rattle.spec_history.proofs.TransactionLogs.{has_book}
 use Rattle.spec_history.proofs.TranscriptsSoFar.{told}
-
-abbrev open_all : Option Transaction → List Fact → Option Transaction
-open_all o [] = o
-open_all o (g ∷ gs) = open_all (open_by o g) gs
-
-open_more : (o : Option Transaction) (gs fs : List Fact) → open_all o (gs ++ fs) ≡ open_all (open_all o gs) fs
-open_more o [] fs = refl
-open_more o (g ∷ gs) fs = open_more (open_by o g) gs fs
-
-open_read : (b : TransactionLog) (gs : List Fact) → (read_facts b gs).open_one ≡ open_all b.open_one gs
-open_read b [] = refl
-open_read b (g ∷ gs) = open_read (noted b g) gs
+use Rattle.spec_history.proofs.ByLocks.{open_all, open_more, open_read}
 
 -- none is open, or one that BEGIN opened and that goes on
 abbrev GoesOn : Option Transaction → Type 0

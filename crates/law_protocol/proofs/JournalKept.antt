@@ -38,8 +38,8 @@ use Rattle.spec_protocol.specs.StandTogether.{History, Stands}
 use Rattle.spec_protocol.specs.TranscriptsAgree.{IsMoment, TranscriptsAgree}
 use Rattle.law_protocol_steps.proofs.FreshIds.{none_in_tables}
 use Rattle.law_protocol.proofs.HeldStatements.{in_flat}
-use Rattle.law_protocol_steps.proofs.Ids.{each_in}
 use Rattle.law_protocol_steps.proofs.JournalMore.{legal_more, serial_more}
+use Rattle.law_protocol_steps.proofs.AfterSet.{each_at}
 use Rattle.law_protocol.proofs.SeatNames.{name_there}
 use Rattle.law_protocol_ledger.proofs.QuietOnes.{none_at_all}
 
@@ -102,7 +102,7 @@ closings_fit n (Close k ∷ is) h = (and_from (nat_le 1 k) _ (le-leb 1 k h.0) (l
 -- ---- names, ids and times
 
 shown_in : (P : ℕ → Type 0) (xs : List SessionAct) (id : ℕ) → Shows assigned_id P xs → In id (flat_map assigned_id xs) → P id
-shown_in P xs id h i = let a = in_flat assigned_id xs id i in each_in P (assigned_id a.of) id (each_in (λ x. Each P (assigned_id x)) xs a.of h a.has) a.is
+shown_in P xs id h i = let a = in_flat assigned_id xs id i in each_at P (assigned_id a.of) id (each_at (λ x. Each P (assigned_id x)) xs a.of h a.has) a.is
 
 none_shown : (acts : List SessionAct) (id : ℕ) → acts ≡ [] → In id (flat_map assigned_id acts) → ⊥
 none_shown acts id e i = subst (λ (xs : List SessionAct). In id (flat_map assigned_id xs)) e i
@@ -118,7 +118,7 @@ module _ (v : Server) (history : History) (cells : List Cell) (seats : List Seat
   IsName name = is_session_name name ≡ true
 
   its_name : (n : ℕ) → n < agree.count → IsName (W.at n).name
-  its_name n l = let a = agree.all n l in each_in IsName (names_of a.0) (W.at n).name (forms.names (agree.owner n) a.0 a.1) (name_there v history s.ledger seats agree n l)
+  its_name n l = let a = agree.all n l in each_at IsName (names_of a.0) (W.at n).name (forms.names (agree.owner n) a.0 a.1) (name_there v history s.ledger seats agree n l)
 
   each_rule : (items : List JournalItem) → Each (HasItsName history) items → Each (IsMoment seats) (times items) → Each IsSingle items → Each HasLine items → Each Fits items → Each ItemRules items
   each_rule [] named moments single lines fits = tt
@@ -126,7 +126,7 @@ module _ (v : Server) (history : History) (cells : List Cell) (seats : List Seat
     record {
       id = and_from (nat_lt 0 id) _ (lt-ltb 0 id (shown_in (λ m. 1 ≤ m) (of n history) id (ids_from v.meaning s.ledger.database 1 n first history agree.good (omega arith)) named.0.drew)) (lt-ltb id _ below);
       session = subst IsName named.0.named (its_name n acted);
-      time = each_in (λ t. is_moment t ≡ true) _ time (forms.moments moments.0.j moments.0.seat moments.0.there) moments.0.is;
+      time = each_at (λ t. is_moment t ≡ true) _ time (forms.moments moments.0.j moments.0.seat moments.0.there) moments.0.is;
       alone = one_line explicit script single.0 lines.0;
     },
     each_rule is named.1 moments.1 single.1 lines.1 fits.1,

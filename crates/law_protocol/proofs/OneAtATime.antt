@@ -1,6 +1,6 @@
 -- Where all other seats are between statements, what a seat does is done while all other sessions are idle.
 use Rattle.std.proofs.Common.{◌≡◌, ◌≢◌, ℕ, ◌<◌, List, [], ◌∷◌, ◌++◌, map, Option, Some, None, refl, sym, ap, ◌∙◌, subst, ⊎_elim, arith}
-use Rattle.std.proofs.lemmas.Bool.{cases_eq, cases_lt, ne_eqb}
+use Rattle.std.proofs.lemmas.Bool.{cases_eq, cases_lt}
 use mathlib.Core.Option.{some}
 use lib.ListN.{get_elem?}
 use Rattle.spec_history.specs.Acts.{SessionAct, starts, takes, releases_locks, answers, stops, Act, by, closes}
@@ -28,13 +28,14 @@ use Rattle.spec_protocol.specs.StandTogether.{History, IsOfSeat, Stands}
 use Rattle.spec_protocol.specs.TranscriptsAgree.{TranscriptsAgree}
 use Rattle.spec_protocol.specs.TranscriptsSoFar.{shown_at}
 use Rattle.law_protocol.proofs.Decides.{done_first, nothing_more}
-use Rattle.law_protocol_steps.proofs.AfterSet.{all_at}
+use Rattle.law_protocol_steps.proofs.AfterSet.{all_at, each_at}
 use Rattle.law_protocol_steps.proofs.AnonymousActs.{at_after}
 use Rattle.law_protocol_ledger.proofs.GoneFree.{gone_rests}
 use Rattle.law_protocol.proofs.IdleOnes.{idle_goes_on}
-use Rattle.law_protocol_steps.proofs.Ids.{Running, each_in, running}
+use Rattle.law_protocol_steps.proofs.Ids.{Running, running}
 use Rattle.law_protocol_ledger.proofs.NoneWanting.{listed_is, past_over}
 use Rattle.law_protocol.proofs.OneSeat.{acted_in}
+use Rattle.law_protocol.proofs.BegunNames.{else_at}
 
 -- ---- acts that leave what is under way
 
@@ -51,9 +52,6 @@ plain_under x (takes text) p = absurd p
 plain_under x (answers entry) p = absurd p
 plain_under x stops p = absurd p
 plain_under x a p = (refl, refl)
-
-else_at : (w : World) (n : ℕ) (a : SessionAct) (t : ℕ) → t ≢ n → (step w (by n a)).at t ≡ w.at t
-else_at w n a t ne = rw (ne_eqb t n ne) refl
 
 -- the statement under way and the phase of a session
 abbrev SameSo : SessionState → SessionState → Type 0
@@ -169,7 +167,7 @@ module _ (v : Server) {history : History} {cells : List Cell} {seats : List Seat
       by_mine (closes k) i = tt
       by_mine (by n a) i = ⊎_elim
           (λ (l : n < later.count). let w = later.all n l in
-          let owner : later.owner n ≡ j = each_in (IsOfSeat later.owner j) events (by n a) mine i in
+          let owner : later.owner n ≡ j = each_at (IsOfSeat later.owner j) events (by n a) mine i in
           let k = later.owner n in ⊎_elim
           (λ (p : In n (later.of_seat k).past). absurd (not_gone n a i (past_over (history ++ events) (later.of_seat k).past w.0.written n (later.agree k w.0 w.1).sessions.past p)))
           (λ (p : In n (listed (later.of_seat k).now)). now_is n (ap (λ (u : ℕ). (later.of_seat u).now) (sym owner) ∙ listed_is n (later.of_seat k).now p))

@@ -26,10 +26,9 @@ use Rattle.spec_protocol.specs.Server.{Server}
 use Rattle.spec_protocol.specs.StandTogether.{History, IsOfSeat, LocksAskedFor, Stands, StandsDone}
 use Rattle.spec_protocol.specs.TranscriptsAgree.{TranscriptsAgree}
 use Rattle.spec_history.specs.Histories.{OneAtATime}
-use Rattle.law_protocol_steps.proofs.AfterSet.{all_at}
-use Rattle.law_protocol_steps.proofs.ByLocksMore.{alone_append}
+use Rattle.spec_history.proofs.Samples.{one_join}
+use Rattle.law_protocol_steps.proofs.AfterSet.{all_at, each_at}
 use Rattle.law_protocol_steps.proofs.GoesOn.{Goes, goes, goes_on, still}
-use Rattle.law_protocol_steps.proofs.Ids.{each_in}
 use Rattle.law_protocol.proofs.SeatNames.{has_begun, name_there}
 
 -- a session that did something has begun, and its name is one of these
@@ -56,7 +55,7 @@ unfolding goes_on
 one_on v {history} {more_lines = more_lines} {names = names} {then_names} st longer last = record {
   follows = follows_append (run first history) st.goes.events last.goes.events st.follows (subst (λ (w : World). Follows w last.goes.events more_lines) (run_append first history st.goes.events) last.follows);
   goes = goes_on v st.goes last.goes;
-  alone = λ q. alone_append (run first history) st.goes.events last.goes.events (st.alone q) (subst (λ (w : World). OneAtATime w last.goes.events) (run_append first history st.goes.events) (last.alone q));
+  alone = λ q. one_join (run first history) st.goes.events last.goes.events (st.alone q) (subst (λ (w : World). OneAtATime w last.goes.events) (run_append first history st.goes.events) (last.alone q));
   named = subst (λ (h : History). Each (IsNamedIn (run first h) then_names) (st.goes.events ++ last.goes.events)) (append_assoc history st.goes.events last.goes.events)
       (each_append (IsNamedIn (run first ((history ++ st.goes.events) ++ last.goes.events)) then_names) st.goes.events last.goes.events
       (each_weaker (IsNamedIn (run first (history ++ st.goes.events)) names) (IsNamedIn (run first ((history ++ st.goes.events) ++ last.goes.events)) then_names) kept st.goes.events st.named) last.named);
@@ -101,7 +100,7 @@ one_did v {j} {history} {anonymous_acts} {cells} {seats} d wanted decide t there
     each (closes k) i = tt
     each (by n a) i =
         let l = counted v d.stands n a (in_right (by n a) history d.events i) in
-        let mine : d.stands.transcripts_agree.owner n ≡ j = each_in (IsOfSeat d.stands.transcripts_agree.owner j) d.events (by n a) d.mine i in
+        let mine : d.stands.transcripts_agree.owner n ≡ j = each_at (IsOfSeat d.stands.transcripts_agree.owner j) d.events (by n a) d.mine i in
         let w = d.stands.transcripts_agree.all n l in
         let same : w.0 ≡ t = some-injective w.0 t (sym w.1 ∙ ap (get_elem? seats) mine ∙ there) in
         (has_begun v (history ++ d.events) d.stands.ledger seats d.stands.transcripts_agree n l, subst (λ (z : SeatState). In ((run first (history ++ d.events)).at n).name (names_of z)) same (name_there v (history ++ d.events) d.stands.ledger seats d.stands.transcripts_agree n l))

@@ -32,10 +32,10 @@ use Rattle.spec_protocol.specs.Seats.{OpenTransaction, SessionStatus, between, i
 use Rattle.spec_protocol.specs.StandTogether.{History, LocksAskedFor, Stands}
 use Rattle.spec_protocol.specs.TranscriptsAgree.{TranscriptsAgree}
 use Rattle.spec_protocol.specs.RequestsIn.{of_catalog, of_cell, requests_in, Holds}
+use Rattle.law_protocol_steps.proofs.AfterSet.{each_at}
 use Rattle.law_protocol_ledger.proofs.GoneFree.{gone_free}
 use Rattle.law_protocol.proofs.HeldStatements.{Made, at_held, held_at, in_map, statement_of}
 use Rattle.law_protocol.proofs.IdleOnes.{idle_goes_on}
-use Rattle.law_protocol_steps.proofs.Ids.{each_in}
 use Rattle.law_protocol_tables.proofs.MetLock as met
 use Rattle.law_protocol_ledger.proofs.NoneWanting.{listed_is, past_over}
 
@@ -175,8 +175,8 @@ module _ (v : Server) {history : History} {cells : List Cell} {seats : List Seat
 
         its : (u : LockRequest) → In u (requests_in v D w.transaction.explicit i w.line.0) → Holds (c.holds i) w.transaction.id u
         its u k = subst (λ (id : ℕ). Holds (c.holds i) id u) (sym w.seat.is.id)
-            (each_in (Holds (c.holds i) w.seat.o.id) (requests_in v D w.seat.o.explicit i w.line.0) u
-            (each_in (λ l. Each (Holds (c.holds i) w.seat.o.id) (requests_in v D w.seat.o.explicit i l.0)) (script_so_far w.seat.x w.seat.o) w.line (st.locks_cover.cover w.seat.j w.seat.x w.seat.o w.seat.has i keeps)
+            (each_at (Holds (c.holds i) w.seat.o.id) (requests_in v D w.seat.o.explicit i w.line.0) u
+            (each_at (λ l. Each (Holds (c.holds i) w.seat.o.id) (requests_in v D w.seat.o.explicit i l.0)) (script_so_far w.seat.x w.seat.o) w.line (st.locks_cover.cover w.seat.j w.seat.x w.seat.o w.seat.has i keeps)
             (in_left w.line w.seat.o.script (lines_at w.seat.x.place) (subst (In w.line) w.seat.is.script w.has)))
             (subst (λ (b : Bool). In u (requests_in v D b i w.line.0)) w.seat.is.explicit k))
 
@@ -237,7 +237,7 @@ module _ (v : Server) {history : History} {cells : List Cell} {seats : List Seat
           where
             shares : whole S ≡ lock.request
             shares = shares_only (v.reads was.statement.0) lock.request (subst (λ (b : Bool). In lock.request (of_catalog (requests_catalog b (v.reads was.statement.0)))) (sym was.asked.by_begin ∙ goes_on.0) wanted)
-        by_script (suc m) e wanted = said (in_map (λ l. l.0) (o.script ++ lines_at x.place) was.statement.0 (each_in (λ a. a.1 ≡ true → In a.0 (texts_so_far x o)) d.asked was.statement (is.asked (sym is.end ∙ goes_on.1)) was.asked.asked wanted.0))
+        by_script (suc m) e wanted = said (in_map (λ l. l.0) (o.script ++ lines_at x.place) was.statement.0 (each_at (λ a. a.1 ≡ true → In a.0 (texts_so_far x o)) d.asked was.statement (is.asked (sym is.end ∙ goes_on.1)) was.asked.asked wanted.0))
           where
             in_script : (line : Line) → In line o.script ⊎ In line (lines_at x.place) → In line o.script
             in_script line (inl a) = a

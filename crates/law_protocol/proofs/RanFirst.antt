@@ -21,7 +21,7 @@ use Rattle.spec_protocol.specs.Parts.{Numbers, BeganAfter, WasOver, Past, IsPast
 use Rattle.spec_protocol.specs.Seats.{SeatState, Written}
 use Rattle.spec_protocol.specs.Server.{Server}
 use Rattle.spec_protocol.specs.StandTogether.{History, Stands}
-use Rattle.law_protocol_steps.proofs.Ids.{each_in}
+use Rattle.law_protocol_steps.proofs.AfterSet.{each_at}
 use Rattle.law_protocol_ledger.proofs.JoinsStand.{rests_none}
 
 -- ---- one place in the history, from the places for each other session
@@ -153,7 +153,7 @@ module _ (v : Server) (history : History) (cells : List Cell) (seats : List Seat
   by_seat : (n : ℕ) → n ≢ u → n < length X → WroteSo history (λ y. (y.transcript ≡ x) ⊎ In x y.earlier) n → BeganAfter history u n
   by_seat n ne l k = ⊎_elim
       (λ (e : k.written.transcript ≡ x). absurd (ne (is_it n l (k.past.is ∙ e))))
-      (λ (i : In x k.written.earlier). let was = each_in (WasOver history n) k.written.earlier x k.past.earlier i in
+      (λ (i : In x k.written.earlier). let was = each_at (WasOver history n) k.written.earlier x k.past.earlier i in
       subst (λ (m : ℕ). BeganAfter history m n) (is_it was.number (is_one was.number n was.before) was.is) was.before)
       k.so
 

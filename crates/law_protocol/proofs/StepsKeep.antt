@@ -53,9 +53,9 @@ use Rattle.law_protocol.proofs.FollowsMore.{follows_append}
 use Rattle.law_protocol.proofs.FollowsSteps.{visit_follows}
 use Rattle.spec_history.specs.Worlds.{World, first, run}
 use Rattle.spec_history.proofs.Cuts.{run_append}
+use Rattle.spec_history.proofs.Samples.{one_join}
 use Rattle.spec_protocol.specs.InactiveExcept.{InactiveExcept}
 use Rattle.spec_protocol.specs.OneByOne.{IsOneAlone, OneByOne}
-use Rattle.law_protocol_steps.proofs.ByLocksMore.{alone_append}
 use Rattle.law_protocol.proofs.StepsAlone.{visit_one_at_a_time}
 use Rattle.law_protocol.proofs.OneSeat.{OneSeat, one_did, one_on, quieter, seats_own}
 use Rattle.law_protocol.proofs.SeatNames.{KeepsNames, alones_names, visit_names}
@@ -347,7 +347,7 @@ unfolding goes_on
 both_go v {history} {more_lines = more_lines} st last = record {
   follows = follows_append (run first history) st.goes.events last.goes.events st.follows (subst (λ (w : World). Follows w last.goes.events more_lines) (run_append first history st.goes.events) last.follows);
   goes = goes_on v st.goes last.goes;
-  alone = λ q. alone_append (run first history) st.goes.events last.goes.events (st.alone q.0) (subst (λ (w : World). OneAtATime w last.goes.events) (run_append first history st.goes.events) (last.alone q.1));
+  alone = λ q. one_join (run first history) st.goes.events last.goes.events (st.alone q.0) (subst (λ (w : World). OneAtATime w last.goes.events) (run_append first history st.goes.events) (last.alone q.1));
 }
 
 all_go : (v : Server) (cells : List Cell) (seats : List SeatState) {history : History} (st : Stands v history cells seats) → LocksAskedFor st → LocksAreRequested v (contents cells) seats → (then_cells : List Cell) (then_seats : List SeatState) → (steps : Steps v cells seats then_cells then_seats) → GoesAlone v history (steps_anonymous_acts steps) (steps_lines steps) then_cells then_seats (OneByOne steps)

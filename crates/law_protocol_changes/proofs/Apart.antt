@@ -1,5 +1,6 @@
 -- Two transactions never have X on the rows of one key, and who has X on the catalog is alone there.
 use Rattle.std.proofs.Common.{◌≡◌, ◌≢◌, Bool, List, [], false, inl, inr, refl, subst, sym, true, ℕ, ◌∙◌, ◌∷◌}
+use Rattle.std.proofs.lemmas.Bool.{and_parts}
 use Rattle.sql_types.specs.declared.lock.Hold.{Hold}
 use Rattle.spec_protocol.specs.Cells.{Cell, holds_at}
 use Rattle.spec_history.specs.Lists.{Each, In}
@@ -11,7 +12,6 @@ use Rattle.law_frame.proofs.NoClash.{Relies}
 use Rattle.spec_protocol.specs.Seats.{SeatState}
 use Rattle.spec_protocol.specs.Server.{Server}
 use Rattle.spec_protocol.specs.StandTogether.{History, Stands}
-use Rattle.law_frame.proofs.SameKeys.{and_true}
 use Rattle.spec_model.specs.Reach.{has_key, is_exclusive, lets_change}
 use Rattle.law_protocol_steps.proofs.Locks.{no_conflict}
 use Rattle.spec_model.specs.Locks.{requests_conflict}
@@ -24,7 +24,7 @@ module _ (v : Server) (cells : List Cell) (seats : List SeatState) {history : Hi
   exclusive_mode m e = cc
 
   parts_g : (is_exclusive g.request.mode ≡ true) × (has_key key g.request.item ≡ true)
-  parts_g = and_true (is_exclusive g.request.mode) (has_key key g.request.item) reach_g
+  parts_g = and_parts (is_exclusive g.request.mode) (has_key key g.request.item) reach_g
 
   intent : HasIntent (holds_at cells i) g
   intent = S.locks_cover.intents i g has_g (exclusive_mode g.request.mode parts_g.0)

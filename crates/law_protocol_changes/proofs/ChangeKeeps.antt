@@ -64,7 +64,7 @@ use Rattle.spec_protocol.specs.StandTogether.{History, Stands}
 use Rattle.law_protocol_steps.proofs.AfterSet.{set_here, set_else, each_at, all_at}
 use Rattle.law_protocol_steps.proofs.CellsAfter.{held_here, table_changed}
 use Rattle.law_protocol_steps.proofs.SeatsAfter.{one_session, open_here, open_else, each_open, kept_open}
-use Rattle.law_protocol_changes.proofs.ChangedRows.{touched_agree, all_rising, all_untouched, keys_follow, was_in, of_its_key, rising_filter, undone_of_key, rising_undone, undone_untouched, IsCounted, all_count, some_undone, counted_is}
+use Rattle.law_protocol_changes.proofs.ChangedRows.{touched_agree, all_rising, all_untouched, keys_follow, was_in, of_its_key, undone_of_key, rising_undone, undone_untouched, IsCounted, all_count, some_undone, counted_is}
 use Rattle.law_protocol_steps.proofs.SeatIds.{one_seat, outside}
 use Rattle.law_protocol_steps.proofs.Excluded.{HasX, HasNoX, has_x_or_not}
 use Rattle.law_protocol_steps.proofs.RowsFor.{sound, script_left}
@@ -76,6 +76,7 @@ use Rattle.law_protocol_steps.proofs.VisitActs.{done_act}
 use Rattle.law_protocol_steps.proofs.GotMore.{got_at_more}
 use Rattle.spec_history.specs.Transcripts.{kind_of}
 use Rattle.spec_model.specs.Touched.{touched}
+use Rattle.law_frame.proofs.SameTouched.{rising_filter}
 use Rattle.law_protocol_changes.proofs.Apart.{x_apart}
 use Rattle.spec_protocol.specs.ActsOf.{done_acts}
 

@@ -6,7 +6,9 @@ use Rattle.std.specs.Prelude.{◌==◌, ◌&&◌, ◌||◌, not, if◌then◌els
 use Rattle.std.specs.List.{AllByRecursion, filter, list_any}
 use Rattle.std.specs.Ordering.{nat_cmp}
 use Rattle.std.specs.declared.cmp.Ordering.TheVariants.{Less}
+use Rattle.std.proofs.ByRecursion.{All-weaker}
 use Rattle.sql_value.specs.declared.column.ColumnDef.{ColumnDef}
+use Rattle.sql_value.proofs.Lists.{filters_turned}
 use Rattle.sql_types.specs.declared.event.Event.{Event}
 use Rattle.sql_types.specs.declared.version.Version.{Version}
 use Rattle.spec_model.specs.Rows.{EventId, start_cmp}
@@ -17,7 +19,7 @@ use Rattle.spec_model.specs.Lists.{sorted}
 use Rattle.spec_model.specs.Runs.{Rising, IsBefore, EndsBefore, MadeBefore}
 use Rattle.spec_model.specs.Undo.{is_undone, end_left, end_undone, versions_undone}
 use Rattle.law_frame.proofs.AgreeAfter.{key_after}
-use Rattle.law_frame.proofs.Alls.{all_weaker, all_filter}
+use Rattle.law_frame.proofs.Alls.{all_filter}
 use Rattle.law_frame.proofs.ByKeys.{by_keys}
 use Rattle.law_frame.proofs.OtherTransactions.{versions_untouched}
 use Rattle.law_frame.proofs.SameKeys.{same_itself}
@@ -31,6 +33,7 @@ use Rattle.spec_protocol.specs.OpenScripts.{counted}
 use Rattle.spec_protocol.specs.RowsAgree.{GoesBackTo}
 use Rattle.spec_model.specs.Touched as t
 use Rattle.law_frame.proofs.SameTouched as touching
+use Rattle.law_frame.proofs.SameTouched.{rising_filter}
 
 -- ---- changes one after another
 
@@ -63,20 +66,10 @@ module _ (tx : ℕ) where
   unfolding changed_all
   all_undo n seq le [] vs h = refl
   all_undo n seq le (c ∷ cs) vs h =
-      all_undo n (seq + 1) (omega arith) cs (changed (tx, seq) c vs) (all_weaker (Undoes tx n vs) (Undoes tx n (changed (tx, seq) c vs)) (λ d k. still_undoes tx n seq le c vs d k) cs h.1)
+      all_undo n (seq + 1) (omega arith) cs (changed (tx, seq) c vs) (All-weaker (Undoes tx n vs) (Undoes tx n (changed (tx, seq) c vs)) (λ d k. still_undoes tx n seq le c vs d k) cs h.1)
       ∙ change_undoes tx n seq le c vs h.0
 
 -- ---- filters
-
-pub filters_turned : {A : Type 0} (p q : A → Bool) (xs : List A) → filter p (filter q xs) ≡ filter q (filter p xs)
-filters_turned p q [] = refl
-filters_turned p q (x ∷ xs) = by (p x) (q x) refl refl (filters_turned p q xs)
-  where
-    by : (b c : Bool) → p x ≡ b → q x ≡ c → filter p (filter q xs) ≡ filter q (filter p xs) → filter p (if q x then x ∷ filter q xs else filter q xs) ≡ filter q (if p x then x ∷ filter p xs else filter p xs)
-    by true true e f h = rw (e, f) (rw e (ap (λ l. x ∷ l) h))
-    by true false e f h = rw (e, f) h
-    by false true e f h = rw (e, f) (rw e h)
-    by false false e f h = rw (e, f) h
 
 pub in_passed : {A : Type 0} (p : A → Bool) (x : A) (xs : List A) → In x xs → p x ≡ true → In x (filter p xs)
 in_passed p x [] i e = absurd i
@@ -93,14 +86,6 @@ was_in p x (y ∷ ys) i = by (p y) i (was_in p x ys)
     by : (b : Bool) → In x (if b then y ∷ filter p ys else filter p ys) → (In x (filter p ys) → In x ys) → In x (y ∷ ys)
     by true k rest = ⊎_elim (λ (q : y ≡ x). inl q) (λ (q : In x (filter p ys)). inr (rest q)) k
     by false k rest = inr (rest k)
-
-pub rising_filter : (p : Version → Bool) (vs : List Version) → Rising vs → Rising (filter p vs)
-rising_filter p [] r = tt
-rising_filter p (v ∷ vs) r = by (p v) (rising_filter p vs r.1)
-  where
-    by : (b : Bool) → Rising (filter p vs) → Rising (if b then v ∷ filter p vs else filter p vs)
-    by true h = (all_filter (λ w. start_cmp v w ≡ Less) p vs r.0, h)
-    by false h = h
 
 -- a version is among those of its key
 pub of_its_key : (columns : List ColumnDef) (v : Version) (vs : List Version) → In v vs → In v (of_key columns (version_key columns v) vs)

@@ -5,6 +5,7 @@ use Rattle.std.specs.Prelude.{◌-◌}
 use Rattle.std.specs.List.{AllByRecursion}
 use mathlib.Core.Option.{some}
 use lib.ListN.{get_elem?}
+use Rattle.std.proofs.ByRecursion.{All-weaker}
 use Rattle.sql_value.specs.declared.column.ColumnDef.{ColumnDef}
 use Rattle.sql_types.specs.declared.lock.LockRequest.{LockRequest}
 use Rattle.sql_types.specs.declared.reply.Reply.TheVariants as reply
@@ -25,7 +26,6 @@ use Rattle.spec_model.specs.Runs.{Rising, MadeBefore}
 use Rattle.spec_model.specs.Replies.{reply_text}
 use Rattle.spec_model.specs.Script.{Step, ScriptEnd, start, script}
 use Rattle.spec_model.specs.Undo.{versions_undone}
-use Rattle.law_frame.proofs.Alls.{all_weaker}
 use Rattle.law_frame.proofs.AtTable.{rising_at, before_at, names_at}
 use Rattle.law_frame.proofs.Definitions.{same_defs, opened_keep_defs}
 use Rattle.law_frame.proofs.LeftAlone.{all_leave}
@@ -357,7 +357,7 @@ module _ (v : Server) (cells : List Cell) (seats : List SeatState) {history : Hi
   before_then = by_table (λ id. AllByRecursion (MadeBefore o.id open_then.seq) (counted o.id id session_then.place (versions_at cells_then id)))
       (subst (AllByRecursion (MadeBefore o.id open_then.seq)) (sym (counts_then o.id c.id _ ∙ rows_are)) (all_before o.id o.seq changes c.versions V_before))
       (λ id l ne. subst (AllByRecursion (MadeBefore o.id open_then.seq)) (sym (counts_then o.id id _ ∙ rows_elsewhere id ne))
-      (all_weaker (MadeBefore o.id o.seq) (MadeBefore o.id open_then.seq) (λ w. later o.id o.seq (length changes) w) (versions_at cells id)
+      (All-weaker (MadeBefore o.id o.seq) (MadeBefore o.id open_then.seq) (λ w. later o.id o.seq (length changes) w) (versions_at cells id)
       (subst (AllByRecursion (MadeBefore o.id o.seq)) (no_count id (versions_at cells id)) (S.rows_agree.before j x o has_open K.unfixed id l))))
 
   -- another transaction's counter is above its starts and ends, which stay

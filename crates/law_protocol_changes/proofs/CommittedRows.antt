@@ -1,18 +1,17 @@
 -- What a transaction outside the journal did leaves what is committed.
 use Rattle.std.proofs.Common.{◌≡◌, ℕ, Bool, true, false, List, [], ◌∷◌, map, Option, Some, None, refl, ap, ap₂, ◌∙◌}
-use Rattle.std.proofs.lemmas.Bool.{eqb-true}
+use Rattle.std.proofs.lemmas.Bool.{eqb-true, and_parts}
 use Rattle.std.specs.Prelude.{◌==◌, not, nat_le, if◌then◌else◌}
 use Rattle.std.specs.List.{filter}
 use Rattle.sql_types.specs.declared.journal.JournalItem.{JournalItem}
 use Rattle.sql_types.specs.declared.version.Version.{Version}
 use Rattle.spec_model.specs.Rows.{EventId}
 use Rattle.spec_model.specs.Undo.{is_undone, end_left, end_undone, versions_undone}
-use Rattle.law_frame.proofs.SameKeys.{and_true}
 use Rattle.law_protocol_steps.proofs.OfCells.{committed, end_committed, in_journal, with_committed_end}
 
 module _ (J : List JournalItem) (tx : ℕ) (outside : in_journal J (tx, 0) ≡ false) where
   undone_outside : (e : EventId) → is_undone tx 0 e ≡ true → in_journal J e ≡ false
-  undone_outside e h = ap (λ (n : ℕ). in_journal J (n, e.1)) (eqb-true e.0 tx (and_true (e.0 == tx) (nat_le 0 e.1) h).0) ∙ outside
+  undone_outside e h = ap (λ (n : ℕ). in_journal J (n, e.1)) (eqb-true e.0 tx (and_parts (e.0 == tx) (nat_le 0 e.1) h).0) ∙ outside
 
   end_same : (o : Option EventId) → end_committed J o ≡ end_committed J (end_left tx 0 o)
   end_same None = refl

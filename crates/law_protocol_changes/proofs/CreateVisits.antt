@@ -50,7 +50,7 @@ use Rattle.law_frame.proofs.ChangeSets.{length-numbered, length-starts}
 use Rattle.law_frame.proofs.UndoneVersions.{Undoes}
 use Rattle.law_journal.specs.Fine.{OfTable}
 use Rattle.law_journal.specs.Described.{Described}
-use Rattle.law_journal.proofs.DefLists.{defs_append, defs_redefined}
+use Rattle.law_journal.proofs.DefLists.{defs_redefined}
 use Rattle.law_journal.proofs.Serials.{legal_described}
 use Rattle.spec_history.specs.Lists.{Text, In}
 use Rattle.spec_protocol.specs.Server.{Server}
@@ -75,6 +75,7 @@ use Rattle.law_protocol_changes.proofs.Creating.{no_seq, IsStage, SystemChange, 
 use Rattle.law_frame.proofs.PlainRefusals.{IsPlainReply, effect_reply}
 use Rattle.law_protocol_steps.proofs.TakenLocks.{all_free}
 use Rattle.spec_model.specs.InTheWay.{first_conflict}
+use Rattle.law_frame.proofs.SameAlone.{defs_append}
 use Rattle.law_protocol_changes.proofs.PlainReplies.{replied_fits}
 use Rattle.spec_history.specs.Transactions.{unfixed}
 use Rattle.spec_history.specs.Acts.{SessionAct, looks}

@@ -6,6 +6,7 @@ use Rattle.std.specs.Prelude.{not, if◌then◌else◌, ◌==◌}
 use Rattle.std.specs.List.{AllByRecursion}
 use mathlib.Core.Option.{some}
 use lib.ListN.{get_elem?}
+use Rattle.std.proofs.ByRecursion.{All-weaker}
 use Rattle.sql_types.specs.declared.lock.Mode.TheVariants.{X}
 use Rattle.sql_types.specs.declared.reply.Reply.{Reply}
 use Rattle.sql_types.specs.declared.statement.Stmt.{Stmt}
@@ -53,7 +54,6 @@ use Rattle.spec_protocol.specs.RowsAgree.{GoesBackTo, IsExplicitAt}
 use Rattle.spec_model.specs.Script.{script}
 use Rattle.law_frame.proofs.Definitions.{opened_keep_defs}
 use Rattle.law_frame.proofs.UndoneVersions.{nothing_undone}
-use Rattle.law_frame.proofs.Alls.{all_weaker}
 use Rattle.law_protocol_changes.proofs.ChangedRows.{later}
 use Rattle.law_protocol_steps.proofs.CellsAfter.{each_holds, versions_here, versions_else}
 use Rattle.spec_model.specs.Replies.{reply_text}
@@ -361,7 +361,7 @@ module _ (v : Server) (cells : List Cell) (seats : List SeatState) {history : Hi
 
   was_before : (id : ℕ) (l : 1 ≤ id) (e : cell_of id ≡ catalog_at) (n : ℕ) → AllByRecursion (MadeBefore o.id n) (versions_at cells id)
   was_before id l e n = subst (λ (vs : List Version). AllByRecursion (MadeBefore o.id n) vs) (sym (were id l e))
-      (all_weaker (MadeBefore o.id 0) (MadeBefore o.id n) (λ w k. subst (λ (m : ℕ). MadeBefore o.id m w) (let z : 0 + n ≡ n = omega arith in z) (later o.id 0 n w k)) (versions_of T id) (before_at o.id 0 id T T_sound.each))
+      (All-weaker (MadeBefore o.id 0) (MadeBefore o.id n) (λ w k. subst (λ (m : ℕ). MadeBefore o.id m w) (let z : 0 + n ≡ n = omega arith in z) (later o.id 0 n w k)) (versions_of T id) (before_at o.id 0 id T T_sound.each))
 
   rising_then : (id : ℕ) → 1 ≤ id → Rising (versions_at C' id)
   rising_then = by_cell (λ id. Rising (versions_at C' id))
@@ -371,10 +371,10 @@ module _ (v : Server) (cells : List Cell) (seats : List SeatState) {history : Hi
   before_then : (id : ℕ) → 1 ≤ id → AllByRecursion (MadeBefore o.id p.seq) (versions_at C' id)
   before_then = by_cell (λ id. AllByRecursion (MadeBefore o.id p.seq) (versions_at C' id))
       (λ id l e. let c = change id l e in subst (AllByRecursion (MadeBefore o.id p.seq)) (sym (rows_are id e ∙ c.is))
-      (all_weaker (MadeBefore o.id (c.from + length c.changes)) (MadeBefore o.id p.seq) (λ w k. subst (λ (m : ℕ). MadeBefore o.id m w) (let q = c.within in let z : (c.from + length c.changes) + (p.seq - (c.from + length c.changes)) ≡ p.seq = omega (arith, q) in z) (later o.id (c.from + length c.changes) (p.seq - (c.from + length c.changes)) w k))
+      (All-weaker (MadeBefore o.id (c.from + length c.changes)) (MadeBefore o.id p.seq) (λ w k. subst (λ (m : ℕ). MadeBefore o.id m w) (let q = c.within in let z : (c.from + length c.changes) + (p.seq - (c.from + length c.changes)) ≡ p.seq = omega (arith, q) in z) (later o.id (c.from + length c.changes) (p.seq - (c.from + length c.changes)) w k))
       (changed_all o.id c.from c.changes (versions_at cells id)) (all_before o.id c.from c.changes (versions_at cells id) (was_before id l e c.from))))
       (λ id l ne. subst (AllByRecursion (MadeBefore o.id p.seq)) (sym (rows_else id ne))
-      (all_weaker (MadeBefore o.id o.seq) (MadeBefore o.id p.seq) (λ w k. subst (λ (m : ℕ). MadeBefore o.id m w) (let z : o.seq + p.seq ≡ p.seq = let q = no_seq in omega (arith, q) in z) (later o.id o.seq p.seq w k)) (versions_at cells id)
+      (All-weaker (MadeBefore o.id o.seq) (MadeBefore o.id p.seq) (λ w k. subst (λ (m : ℕ). MadeBefore o.id m w) (let z : o.seq + p.seq ≡ p.seq = let q = no_seq in omega (arith, q) in z) (later o.id o.seq p.seq w k)) (versions_at cells id)
       (subst (AllByRecursion (MadeBefore o.id o.seq)) (no_count id (versions_at cells id)) (S.rows_agree.before j x o has_open K.unfixed id l))))
 
   was_held : (n : ℕ) (h : Hold) → In h (holds_at C' n) → In h (holds_at cells n)

@@ -22,7 +22,7 @@ use Rattle.spec_history.specs.Acts.{issues, lacks, closes}
 use Rattle.spec_history.specs.Sessions.{SessionTransaction, SessionState}
 use Rattle.spec_history.specs.Worlds.{first, run}
 use Rattle.spec_history.proofs.Settles.{in_append, in_left, in_right}
-use Rattle.spec_history.proofs.Trace.{each_append, each_weaker, count_append}
+use Rattle.spec_history.proofs.Trace.{each_append, each_weaker}
 use Rattle.spec_protocol.specs.Server.{Server}
 use Rattle.spec_protocol.specs.Cells.{LedgerCell, Cell, Ledger, ledger_at, pending_in, blocks_in}
 use Rattle.spec_protocol.specs.Contents.{Contents, Known, contents, known}
@@ -43,6 +43,7 @@ use Rattle.spec_protocol.proofs.Places.{set_here, set_same, set_again}
 use Rattle.law_protocol_steps.proofs.PlainAct.{plain_act, plain_act_owner}
 use Rattle.law_protocol_steps.proofs.Turns.{Turns}
 use Rattle.spec_model.specs.Catalog.{Defs}
+use Rattle.law_frame.proofs.LegalRules.{count_append}
 use Rattle.spec_protocol.specs.ActsOf.{closings}
 use Rattle.spec_protocol.proofs.LedgerNumbers.{blocks_are, pending_are, pending_after}
 

@@ -3,7 +3,7 @@ use Rattle.std.proofs.Common.{◌≡◌, ◌≢◌, ℕ, ◌⊎◌, Bool, true, 
 use Rattle.std.specs.Prelude.{◌&&◌, ◌||◌}
 use Rattle.std.specs.List.{AllByRecursion}
 use Rattle.sql_types.specs.declared.lock.Mode.{Mode}
-use Rattle.sql_types.specs.declared.lock.Mode.TheVariants.{IS, IX, S, X}
+use Rattle.sql_types.specs.declared.lock.Mode.TheVariants.{S, X}
 use Rattle.sql_types.specs.declared.statement.Stmt.{Stmt}
 use Rattle.sql_types.specs.declared.statement.Stmt.TheVariants as s
 use Rattle.sql_types.specs.declared.lock.LockRequest.{LockRequest}
@@ -15,6 +15,7 @@ use Rattle.spec_model.specs.ScriptRequests.{text_requests, script_requests}
 use Rattle.law_frame.proofs.Definitions.{cell_requests_share}
 use Rattle.law_frame.proofs.LeftScripts.{script_leaves_table}
 use Rattle.law_frame.proofs.SameEnds.{IsShort}
+use Rattle.law_frame.proofs.NoClash.{x_conflicts}
 use Rattle.spec_history.specs.Lists.{Text, Each, In}
 use Rattle.spec_protocol.specs.Server.{Server}
 use Rattle.spec_protocol.specs.Cells.{catalog_at}
@@ -23,8 +24,8 @@ use Rattle.spec_protocol.specs.Seats.{OpenTransaction, Session, SeatState}
 use Rattle.spec_protocol.specs.OpenOnes.{HasOpen}
 use Rattle.spec_protocol.specs.RequestsIn.{of_catalog, of_cell, requests_in, Holds}
 use Rattle.spec_protocol.specs.LocksAgree.{LocksAgree}
-use Rattle.law_protocol_steps.proofs.Ids.{each_in}
 use Rattle.law_protocol_steps.proofs.OthersAgree.{AllLocked}
+use Rattle.law_protocol_steps.proofs.AfterSet.{each_at}
 
 -- ---- who wants nothing in the catalog does nothing
 
@@ -79,17 +80,10 @@ requests_or_not v defs explicit (t ∷ ts) = first (text_requests defs explicit 
     first (Some m) e r = inl (record { text = t; is = inl refl; mode = m; requests = e })
     first None e r = ⊎_elim (λ w. inl (record { text = w.text; is = inr w.is; mode = w.mode; requests = w.requests })) (λ n. inr (e, n)) r
 
-x_conflicts : (m : Mode) → conflict m X ≡ true
-unfolding conflict
-x_conflicts IS = refl
-x_conflicts IX = refl
-x_conflicts S = refl
-x_conflicts X = refl
-
 module _ (v : Server) (c : Contents) (seats : List SeatState) (agree : LocksAgree c seats) (T : Tables) (j : ℕ) (x : Session) (o : OpenTransaction) (has : HasOpen seats j x o) (texts : List Text) (locked : AllLocked v c T o.explicit o.id texts)
     (requests : RequestsCatalog v (defs_of T) o.explicit texts) where
   lock : Holds (c.holds catalog_at) o.id (whole requests.mode)
-  lock = first_of (text_requests (defs_of T) o.explicit (v.reads requests.text)).catalog requests.requests (each_in (λ t. Each (Holds (c.holds catalog_at) o.id) (requests_in v (defs_of T) o.explicit catalog_at t)) texts requests.text (locked catalog_at) requests.is)
+  lock = first_of (text_requests (defs_of T) o.explicit (v.reads requests.text)).catalog requests.requests (each_at (λ t. Each (Holds (c.holds catalog_at) o.id) (requests_in v (defs_of T) o.explicit catalog_at t)) texts requests.text (locked catalog_at) requests.is)
     where
       first_of : (m : Option Mode) → m ≡ Some requests.mode → Each (Holds (c.holds catalog_at) o.id) (of_catalog m ++ of_cell catalog_at (text_requests (defs_of T) o.explicit (v.reads requests.text)).cell) → Holds (c.holds catalog_at) o.id (whole requests.mode)
       first_of None e h = cc

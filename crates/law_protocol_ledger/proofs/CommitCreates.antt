@@ -93,7 +93,7 @@ use Rattle.law_protocol_changes.proofs.ChangedRows.{rising_undone, undone_of_key
 use Rattle.spec_model.specs.Locks.{whole}
 use Rattle.sql_value.specs.declared.column.ColumnDef.{ColumnDef}
 use Rattle.law_protocol_steps.proofs.DefsAfter.{IndexMade, else_redefined, found_id, here_redefined, index_made, kept_append, new_append}
-use Rattle.law_journal.proofs.DefLists.{defs_append, defs_redefined, redef}
+use Rattle.law_journal.proofs.DefLists.{defs_redefined, redef}
 use Rattle.law_protocol_steps.proofs.SeatsAfter.{one_session, Goes, each_open, open_else, open_here}
 use Rattle.std.specs.List.{AllByRecursion}
 use Rattle.law_protocol_changes.proofs.StepsSaid.{none_requested}
@@ -103,6 +103,7 @@ use Rattle.spec_protocol.specs.ActsOf.{commit_acts}
 use Rattle.law_protocol_steps.proofs.GoesOn.{Owned, each_so, ActsBy, then_more}
 use Rattle.spec_history.specs.Acts as act
 use Rattle.sql_types.specs.declared.entry.TxEntry.{TxEntry}
+use Rattle.law_frame.proofs.SameAlone.{defs_append}
 
 first_looked : (place : SessionStatus) → LookedFirst place → HasLooked place
 first_looked (inside text (found named true)) h = tt

@@ -23,11 +23,11 @@ use Rattle.sql_types.specs.declared.lock.LockRequest.{LockRequest}
 use Rattle.sql_types.specs.declared.lock.Item.TheVariants.{Whole}
 use Rattle.law_protocol_steps.proofs.Ids.{below, differ, others}
 use Rattle.std.proofs.lemmas.Bool.{cases_eq}
+use Rattle.sql_value.proofs.Lists.{filters_turned}
 use Rattle.spec_model.specs.Locks.{cell_requests, whole}
 use Rattle.spec_model.specs.Agreement.{columns_at, requests_of}
 use Rattle.spec_protocol.specs.OpenScripts.{counted}
 use Rattle.spec_model.specs.Reach.{creates, lets_change}
-use Rattle.law_frame.proofs.SameTouched.{filter_both}
 use Rattle.law_protocol_steps.proofs.OthersScripts.{is_short, locked, sound_for}
 use Rattle.spec_model.specs.Touched.{is_touched, touched}
 use Rattle.law_protocol_steps.proofs.ScriptLeaves.{kept_and_undone, key_left, none_requested_by}
@@ -36,7 +36,7 @@ use Rattle.law_protocol_changes.proofs.Apart.{none_besides}
 use Rattle.law_protocol_steps.proofs.AssignsId.{others_in_journal}
 use Rattle.law_frame.proofs.OtherTransactions.{others_sound}
 use Rattle.law_frame.proofs.AtTable.{rising_at}
-use Rattle.law_protocol_changes.proofs.ChangedRows.{rising_filter, undone_of_key}
+use Rattle.law_protocol_changes.proofs.ChangedRows.{undone_of_key}
 use Rattle.law_protocol_ledger.proofs.CommittedMore.{same_by_undo}
 use Rattle.law_protocol_steps.proofs.OthersScripts.{same_end}
 use Rattle.spec_model.specs.ScriptRequests.{text_requests}
@@ -44,6 +44,7 @@ use Rattle.spec_model.specs.Undo.{undone, versions_undone}
 use Rattle.spec_history.specs.Transactions.{unfixed}
 use Rattle.law_protocol_steps.proofs.Taken.{whole_alone}
 use Rattle.sql_types.specs.declared.lock.Mode.TheVariants.{X}
+use Rattle.law_frame.proofs.SameTouched.{rising_filter}
 
 module _ (v : Server) (cells : List Cell) (seats : List SeatState) {history : History} (st : Stands v history cells seats) (j : ℕ) (x : Session) (o : OpenTransaction) (has : HasOpen seats j x o) (open_end : o.end ≡ unfixed)
     (counts : (id : ℕ) (ws : List Version) → counted o.id id x.place ws ≡ ws)
@@ -141,7 +142,7 @@ module _ (v : Server) (cells : List Cell) (seats : List SeatState) {history : Hi
     rows id key vs = key_rows T id key vs
 
     touched_rows : (id : ℕ) (key : Key) (V : List Version) → touched u.id (rows id key V) ≡ rows id key (touched u.id V)
-    touched_rows id key V = sym (filter_both (λ w. same_key (version_key (columns_at (defs_of T) id) w) key) (is_touched u.id) V)
+    touched_rows id key V = sym (filters_turned (λ w. same_key (version_key (columns_at (defs_of T) id) w) key) (is_touched u.id) V)
 
     undone_rows : (S : Tables) (id : ℕ) (key : Key) → undone u.id 0 (script_end v S z u).state.tables ≡ S → versions_undone u.id 0 (rows id key (versions_of (script_end v S z u).state.tables id)) ≡ rows id key (versions_of S id)
     undone_rows S id key e = undone_of_key (columns_at (defs_of T) id) key u.id 0 (versions_of (script_end v S z u).state.tables id)

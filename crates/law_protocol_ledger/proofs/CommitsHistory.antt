@@ -23,7 +23,6 @@ use Rattle.spec_history.specs.Sessions.{SessionTransaction, SessionState, fixes,
 use Rattle.spec_history.specs.Worlds.{first, run, item_of, tables}
 use Rattle.spec_history.specs.Guards.{Commits, NoTable}
 use Rattle.spec_history.proofs.Settles.{in_append, in_left, in_right}
-use Rattle.spec_history.proofs.Trace.{count_append}
 use Rattle.spec_protocol.specs.Server.{Server}
 use Rattle.spec_protocol.specs.Cells.{LedgerCell}
 use Rattle.spec_protocol.specs.Seats.{OpenTransaction, answering, inside, Session, Written, Role, session, SeatState}
@@ -37,6 +36,7 @@ use Rattle.law_protocol_steps.proofs.JournalMore.{same_serial}
 use Rattle.law_protocol_steps.proofs.OneMore.{Acts, agrees_then, agrees_owner, images_stay_each}
 use Rattle.law_protocol_steps.proofs.GoesOn.{Owned, one_number}
 use Rattle.sql_types.specs.declared.entry.TxEntry.{TxEntry}
+use Rattle.law_frame.proofs.LegalRules.{count_append}
 
 some_there : {A : Type 0} (xs : List A) → xs ≢ [] → 0 < length xs
 some_there [] e = absurd (e refl)

@@ -8,14 +8,16 @@ use Rattle.spec_model.specs.Undo.{is_undone, end_left, end_undone, versions_undo
 use Rattle.law_frame.proofs.Alls.{all_filter}
 use Rattle.law_frame.proofs.ByTest.{by_test}
 use Rattle.law_frame.proofs.SameKeys.{IsAlone, each_alone}
-use Rattle.law_frame.proofs.SameTouched.{filter_both, rising_filter}
+use Rattle.law_frame.proofs.SameTouched.{rising_filter}
 use Rattle.spec_history.specs.Lists.{Each, In}
 use Rattle.spec_history.proofs.Trace.{each_weaker}
 use Rattle.spec_protocol.specs.CommittedTxs.{end_committed, with_committed_end, committed}
 use Rattle.std.specs.List.{AllByRecursion, filter, list_any}
 use Rattle.std.specs.declared.cmp.Ordering.TheVariants.{Less}
+use Rattle.sql_value.proofs.Lists.{filters_turned}
 use Rattle.sql_types.specs.declared.version.Version.{Version}
 use Rattle.spec_model.specs.Runs.{Rising}
+use Rattle.law_journal.proofs.Counts.{own_same}
 
 -- ---- lists
 
@@ -93,12 +95,9 @@ pub all_in : (P : Version → Type 0) (vs : List Version) (v : Version) → AllB
 all_in P [] v h i = absurd i
 all_in P (w ∷ ws) v h i = ⊎_elim (λ (e : w ≡ v). subst P e h.0) (λ (k : In v ws). all_in P ws v h.1 k) i
 
-itself : (e : EventId) → same_event e e ≡ true
-itself e = rw (eq-eqb e.0 e.0 refl, eq-eqb e.1 e.1 refl) refl
-
 module _ (tx : ℕ) where
   found_in : (b : Bool) (w v : Version) (us : List Version) → b ≡ true → w ≡ v → among tx (if b then w ∷ us else us) v ≡ true
-  found_in true w v us e same = ap (λ (u : Version). same_event u.start v.start || among tx us v) same ∙ or_left (same_event v.start v.start) (among tx us v) (itself v.start)
+  found_in true w v us e same = ap (λ (u : Version). same_event u.start v.start || among tx us v) same ∙ or_left (same_event v.start v.start) (among tx us v) (own_same v.start)
   found_in false w v us e same = cc
 
   further : (b : Bool) (w v : Version) (us : List Version) → among tx us v ≡ true → among tx (if b then w ∷ us else us) v ≡ true
@@ -177,7 +176,7 @@ module _ (o : ℕ) (has more : ℕ → Bool) (own : more o ≡ true) (others : (
 
     its_own : filter t A ≡ filter t W
     its_own = filter_map t (with_committed_end more) touch_same (filter (λ v. more v.start.0) V)
-        ∙ ap (map (with_committed_end more)) (filter_both t (λ v. more v.start.0) V ∙ ap (filter (λ v. more v.start.0)) same
+        ∙ ap (map (with_committed_end more)) (filters_turned t (λ v. more v.start.0) V ∙ ap (filter (λ v. more v.start.0)) same
         ∙ all_pass (λ v. more v.start.0) (touched o W) (each_weaker (IsWithin more) (λ v. more v.start.0 ≡ true) (λ v h. h.start) (touched o W) (each_filter (IsWithin more) t W within)))
         ∙ unchanged (with_committed_end more) (touched o W) (each_weaker (IsWithin more) (λ v. with_committed_end more v ≡ v) (λ v h i. record { values = v.values; start = v.start; end = h.end i }) (touched o W) (each_filter (IsWithin more) t W within))
 
@@ -193,17 +192,17 @@ module _ (o : ℕ) (has more : ℕ → Bool) (own : more o ≡ true) (others : (
     -- the others as they were
     left_v : filter other A ≡ filter apart (committed has V)
     left_v = filter_map other (with_committed_end more) (λ v. ap not (touch_same v)) (filter (λ v. more v.start.0) V)
-        ∙ ap (map (with_committed_end more)) (filter_both other (λ v. more v.start.0) V
+        ∙ ap (map (with_committed_end more)) (filters_turned other (λ v. more v.start.0) V
         ∙ filter_same (λ v. more v.start.0) (λ v. has v.start.0) (filter other V) (each_weaker (λ v. t v ≡ false) (λ v. more v.start.0 ≡ has v.start.0) start_other (filter other V) (untouched V)))
         ∙ map_same (with_committed_end more) (with_committed_end has) (filter (λ v. has v.start.0) (filter other V))
         (each_weaker (λ v. t v ≡ false) (λ v. with_committed_end more v ≡ with_committed_end has v) end_other (filter (λ v. has v.start.0) (filter other V)) (each_filter (λ v. t v ≡ false) (λ v. has v.start.0) (filter other V) (untouched V)))
         ∙ ap (λ (l : List Version). map (with_committed_end has) (filter (λ v. has v.start.0) l)) apart_v
-        ∙ ap (map (with_committed_end has)) (filter_both (λ v. has v.start.0) apart V)
+        ∙ ap (map (with_committed_end has)) (filters_turned (λ v. has v.start.0) apart V)
         ∙ sym (filter_map apart (with_committed_end has) (λ v. refl) (filter (λ v. has v.start.0) V))
 
     left_w : filter apart (versions_undone o 0 W) ≡ filter other W
     left_w = filter_map apart (end_undone o 0) (λ v. refl) (filter (λ v. not (is_undone o 0 v.start)) W)
-        ∙ ap (map (end_undone o 0)) (filter_both apart (λ v. not (is_undone o 0 v.start)) W ∙ ap (filter (λ v. not (is_undone o 0 v.start))) (sym apart_w)
+        ∙ ap (map (end_undone o 0)) (filters_turned apart (λ v. not (is_undone o 0 v.start)) W ∙ ap (filter (λ v. not (is_undone o 0 v.start))) (sym apart_w)
         ∙ all_pass (λ v. not (is_undone o 0 v.start)) (filter other W) (each_weaker (λ v. t v ≡ false) (λ v. not (is_undone o 0 v.start) ≡ true) not_undone (filter other W) (untouched W)))
         ∙ unchanged (end_undone o 0) (filter other W) (each_weaker (λ v. t v ≡ false) (λ v. end_undone o 0 v ≡ v) undone_stays (filter other W) (untouched W))
 
@@ -228,7 +227,7 @@ module _ (o : ℕ) where
 
   others_are : (W : List Version) → Rising W → filter (apart_of W) (versions_undone o 0 W) ≡ filter not_touched W
   others_are W r = filter_map (apart_of W) (end_undone o 0) (λ v. refl) (filter (λ v. not (is_undone o 0 v.start)) W)
-      ∙ ap (map (end_undone o 0)) (filter_both (apart_of W) (λ v. not (is_undone o 0 v.start)) W
+      ∙ ap (map (end_undone o 0)) (filters_turned (apart_of W) (λ v. not (is_undone o 0 v.start)) W
       ∙ ap (filter (λ v. not (is_undone o 0 v.start))) (sym (filter_same not_touched (apart_of W) W (each_weaker (λ v. is_touched o v ≡ among o (touched o W) v) (λ v. not_touched v ≡ apart_of W v) (λ v e. ap not e) W (touched_is o W r))))
       ∙ all_pass (λ v. not (is_undone o 0 v.start)) (filter not_touched W) (each_weaker (λ v. is_touched o v ≡ false) (λ v. not (is_undone o 0 v.start) ≡ true) (not_undone o each_id each_id refl (λ n ne. refl)) (filter not_touched W) (untouched o each_id each_id refl (λ n ne. refl) W)))
       ∙ unchanged (end_undone o 0) (filter not_touched W) (each_weaker (λ v. is_touched o v ≡ false) (λ v. end_undone o 0 v ≡ v) (undone_stays o each_id each_id refl (λ n ne. refl)) (filter not_touched W) (untouched o each_id each_id refl (λ n ne. refl) W))

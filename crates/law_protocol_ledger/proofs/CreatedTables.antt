@@ -18,13 +18,14 @@ use Rattle.law_frame.proofs.Definitions.{changes_keep_defs}
 use Rattle.spec_model.specs.Create.{create_check, index_check, with_index}
 use Rattle.law_journal.proofs.Created.{created}
 use Rattle.spec_model.specs.Reach.{creates}
-use Rattle.law_journal.proofs.DefLists.{defs_append, defs_redefined, redef}
+use Rattle.law_journal.proofs.DefLists.{defs_redefined, redef}
 use Rattle.spec_model.specs.Effect.{effect, index_effect, table_effect}
 use Rattle.law_frame.proofs.AtTable.{new_table, redefined_table}
 use Rattle.law_protocol_changes.proofs.CreateVisits.{not_columns, not_tables}
 use Rattle.law_protocol_changes.proofs.Creating.{one_text, step_is}
 use Rattle.law_frame.proofs.ChangeSets.{carries_change_set_out}
 use Rattle.spec_model.specs.ScriptRequests.{text_requests}
+use Rattle.law_frame.proofs.SameAlone.{defs_append}
 use Rattle.spec_history.specs.Real.{requests_catalog}
 
 -- a definition depends on the definitions alone

@@ -57,7 +57,7 @@ images_append v h c [] ns (x ∷ xs) ys p i k = absurd p
 images_append v h c (m ∷ ms) ns [] ys p i k = absurd p
 images_append v h c (m ∷ ms) ns (x ∷ xs) ys p i k = (i.0, images_append v h c ms ns xs ys p.1 i.1 k)
 
-in_left : (i : ℕ) (xs ys : List ℕ) → In i xs → In i (xs ++ ys)
+pub in_left : (i : ℕ) (xs ys : List ℕ) → In i xs → In i (xs ++ ys)
 in_left i [] ys e = absurd e
 in_left i (x ∷ xs) ys e = ⊎_elim (λ f. inl f) (λ f. inr (in_left i xs ys f)) e
 
@@ -75,7 +75,7 @@ rests_none q h (Some n) (session x) rest p = absurd rest
 rests_none q h (Some n) idle rest p = absurd p
 rests_none q h (Some n) builder rest p = absurd p
 
-rests_moments : (r : Role) → IsAtRest r → session_moments r ≡ []
+pub rests_moments : (r : Role) → IsAtRest r → session_moments r ≡ []
 rests_moments idle rest = refl
 rests_moments builder rest = refl
 rests_moments (session x) rest = absurd rest

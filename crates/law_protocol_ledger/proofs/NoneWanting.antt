@@ -18,7 +18,8 @@ use Rattle.spec_protocol.specs.OpenOnes.{HasOpen, texts_so_far}
 use Rattle.spec_protocol.specs.Parts.{AreTransactions, IsTransaction, Now, Past, all_of}
 use Rattle.spec_protocol.specs.TranscriptsAgree.{TranscriptsAgree}
 use Rattle.law_protocol_ledger.proofs.GoneFree.{gone_free}
-use Rattle.law_protocol_steps.proofs.Ids.{InTransaction, in_transaction, each_in}
+use Rattle.law_protocol_steps.proofs.Ids.{InTransaction, in_transaction}
+use Rattle.law_protocol_steps.proofs.AfterSet.{each_at}
 
 pub past_over : (h : List Act) (ns : List ℕ) (xs : List Written) (n : ℕ) → Past h ns xs → In n ns → ((run first h).at n).phase ≡ gone
 past_over h [] xs n p i = absurd i
@@ -43,7 +44,7 @@ module _ (v : Server) (h : List Act) (ledger : LedgerCell) (seats : List SeatSta
   of_open : (i : ℕ) (z : Session) (u : OpenTransaction) (d : SessionTransaction) → i ≢ j → HasOpen seats i z u → IsTransaction d z u → NoTable v.meaning (Some d)
   of_open i z u d ne k is = λ f. let open_end : u.end ≡ unfixed = sym is.end ∙ f in
       each_weaker (λ a. a.1 ≡ true → In a.0 (texts_so_far z u)) (λ a. a.1 ≡ true → v.meaning.requests d.explicit a.0 ≡ false)
-      (λ a g e. ap (λ (b : Bool). v.meaning.requests b a.0) is.explicit ∙ each_in (λ t. v.meaning.requests u.explicit t ≡ false) (texts_so_far z u) a.0 (others i z u ne k open_end) (g e)) d.asked (is.asked open_end)
+      (λ a g e. ap (λ (b : Bool). v.meaning.requests b a.0) is.explicit ∙ each_at (λ t. v.meaning.requests u.explicit t ≡ false) (texts_so_far z u) a.0 (others i z u ne k open_end) (g e)) d.asked (is.asked open_end)
 
   of_transactions : (i : ℕ) (s : SeatState) (z : Session) (there : get_elem? seats i ≡ some s) (role : s.role ≡ session z) (ne : i ≢ j) (d : Option SessionTransaction) (u : Option OpenTransaction) → z.open_one ≡ u → AreTransactions d z u → NoTable v.meaning d
   of_transactions i s z there role ne None u e a = tt

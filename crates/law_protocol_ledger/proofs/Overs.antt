@@ -23,10 +23,10 @@ use Rattle.spec_protocol.specs.Alone.{over}
 use Rattle.spec_protocol.specs.Parts.{Numbers, all_of, IsPast, IsOver, WasOver, Past, Now}
 use Rattle.spec_protocol.specs.TranscriptsAgree.{session_moments, moments_of, IsMoment, image_of, AreImages, ImagesOfPast, ImagesNow, MarksWithin, SeatAgrees, TranscriptsAgree}
 use Rattle.law_protocol_steps.proofs.AnonymousActs.{IsPlain, same_items, same_next, same_issued, no_images, no_marks}
-use Rattle.law_protocol_steps.proofs.Ids.{each_in}
 use Rattle.law_protocol_steps.proofs.OneMore.{acted_all, by_each, good_more, world_more, else_same, now_acted, of_else, of_now, over_stays, each_was_over, past_stays, past_images_stay, seat_stays, differ_front}
 use Rattle.spec_protocol.proofs.Places.{at_set, set_here, set_else}
 use Rattle.law_protocol_steps.proofs.PlainAct.{KeepsAll}
+use Rattle.law_protocol_steps.proofs.AfterSet.{each_at}
 
 past_snoc : (h : List Act) (ns : List ℕ) (xs : List Written) (n : ℕ) (x : Written) → Past h ns xs → IsPast h n x → Past h (ns ++ n ∷ []) (xs ++ x ∷ [])
 past_snoc h [] [] n x p e = (e, tt)
@@ -83,7 +83,7 @@ module _ (v : Server) (c : LedgerCell) (seats : List SeatState) (h : List Act) (
   among = subst (λ (o : Option ℕ). In n (m.past ++ listed o)) (sym number) (in_right n m.past (n ∷ []) (inl refl))
 
   owned : agree.owner n ≡ j
-  owned = each_in (λ i. agree.owner i ≡ j) (all_of m) n (agree.own j s there) among
+  owned = each_at (λ i. agree.owner i ≡ j) (all_of m) n (agree.own j s there) among
 
   not_of : (k : ℕ) (u : SeatState) → k ≢ j → get_elem? seats k ≡ some u → Each (λ i. i ≢ n) (all_of (agree.of_seat k))
   not_of k u ne e = each_weaker (λ i. agree.owner i ≡ k) (λ i. i ≢ n) (λ i o same. ne (sym o ∙ ap agree.owner same ∙ owned)) (all_of (agree.of_seat k)) (agree.own k u e)
@@ -101,7 +101,7 @@ module _ (v : Server) (c : LedgerCell) (seats : List SeatState) (h : List Act) (
 
   now_marks : Shows marked (λ i. (s.least ≤ i) × (i ≤ s.greatest)) (of n longer)
   now_marks = subst (Shows marked (λ i. (s.least ≤ i) × (i ≤ s.greatest))) (sym (of_now v.meaning c.database h agree.good n anonymous_acts alive))
-      (each_append (λ b. Each (λ i. (s.least ≤ i) × (i ≤ s.greatest)) (marked b)) (of n h) anonymous_acts (each_in (MarksWithin v h c s) (all_of m) n was.marks among) (no_marks _ anonymous_acts plain))
+      (each_append (λ b. Each (λ i. (s.least ≤ i) × (i ≤ s.greatest)) (marked b)) (of n h) anonymous_acts (each_at (MarksWithin v h c s) (all_of m) n was.marks among) (no_marks _ anonymous_acts plain))
 
   own_images : AreImages v c (of n h) x.images
   own_images = subst (λ (o : Option ℕ). ImagesNow v h c o (session x)) number (subst (ImagesNow v h c m.now) role was.images)

@@ -1,7 +1,6 @@
 -- A transaction whose trees have no leaf left no event.
-use Rattle.std.proofs.Common.{◌≡◌, ◌≢◌, ℕ, ◌+◌, ◌≤◌, Bool, true, false, List, [], ◌∷◌, ◌++◌, map, flat_map, refl, sym, ap, ◌∙◌, subst, inl, inr, ⊎_elim, ◌⊎◌, arith}
-use Rattle.std.proofs.lemmas.Bool.{cases_eq}
-use Rattle.std.specs.Prelude.{◌&&◌}
+use Rattle.std.proofs.Common.{◌≡◌, ◌≢◌, ℕ, ◌+◌, ◌≤◌, true, List, [], ◌∷◌, ◌++◌, map, flat_map, refl, sym, ap, ◌∙◌, subst, inl, inr, ⊎_elim, ◌⊎◌, arith}
+use Rattle.std.proofs.lemmas.Bool.{cases_eq, and_parts}
 use Rattle.std.specs.List.{AllByRecursion, list_all}
 use Rattle.sql_types.specs.declared.event.Event.{Event}
 use Rattle.spec_model.specs.Agreement.{IdsFrom}
@@ -14,20 +13,16 @@ use Rattle.spec_protocol.specs.Server.{Server}
 use Rattle.spec_protocol.specs.EventsIn.{events_in}
 use Rattle.spec_protocol.specs.LedgerVisits.{is_empty}
 use Rattle.spec_protocol.specs.TreesAreOfEvents.{AreTrees}
-use Rattle.law_protocol_steps.proofs.Ids.{each_in}
 use Rattle.format_event.specs.Leaf.{event_bytes}
+use Rattle.law_protocol_steps.proofs.AfterSet.{each_at}
 
 is_nil : (xs : List Text) → is_empty xs ≡ true → xs ≡ []
 is_nil [] e = refl
 is_nil (x ∷ xs) e = cc
 
-both_true : (a b : Bool) → (a && b) ≡ true → (a ≡ true) × (b ≡ true)
-both_true true b e = (refl, e)
-both_true false b e = cc
-
 no_leaves : (trees : List Tree) → list_all (λ t. is_empty t.leaves) trees ≡ true → Each (λ t. t.leaves ≡ []) trees
 no_leaves [] e = tt
-no_leaves (t ∷ ts) e = let p = both_true (is_empty t.leaves) (list_all (λ u. is_empty u.leaves) ts) e in (is_nil t.leaves p.0, no_leaves ts p.1)
+no_leaves (t ∷ ts) e = let p = and_parts (is_empty t.leaves) (list_all (λ u. is_empty u.leaves) ts) e in (is_nil t.leaves p.0, no_leaves ts p.1)
 
 -- the tree of this table, if there is one
 pub record TreeOf (id : ℕ) (trees : List Tree) : Type 0 where
@@ -48,7 +43,7 @@ no_map v (x ∷ xs) e = cc
 
 pub no_events : (v : Server) (events : ℕ → List Event) (trees : List Tree) → AreTrees events trees → list_all (λ t. is_empty t.leaves) trees ≡ true → (id : ℕ) → 1 ≤ id → events id ≡ []
 no_events v events trees h e id l = ⊎_elim
-    (λ (r : TreeOf id trees). subst (λ n. events n ≡ []) r.of (no_map v (events r.tree.table) (sym (each_in (λ t. t.leaves ≡ map event_bytes (events t.table)) trees r.tree h.leaves r.is) ∙ each_in (λ t. t.leaves ≡ []) trees r.tree (no_leaves trees e) r.is)))
+    (λ (r : TreeOf id trees). subst (λ n. events n ≡ []) r.of (no_map v (events r.tree.table) (sym (each_at (λ t. t.leaves ≡ map event_bytes (events t.table)) trees r.tree h.leaves r.is) ∙ each_at (λ t. t.leaves ≡ []) trees r.tree (no_leaves trees e) r.is)))
     (λ (r : Each (λ t. t.table ≢ id) trees). h.others id l r)
     (tree_or_none id trees)
 

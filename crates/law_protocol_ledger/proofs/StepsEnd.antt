@@ -32,11 +32,13 @@ use Rattle.law_protocol_steps.proofs.AnonymousActs.{IsPlain, at_after, plain_act
 use Rattle.law_protocol_changes.proofs.DigestsStand.{no_turn}
 use Rattle.law_protocol_ledger.proofs.Entries.{open_snoc, Pays, line_is, pays_end_at, pays_leaving}
 use Rattle.law_protocol_steps.proofs.Heard.{heard_all}
-use Rattle.law_protocol_steps.proofs.Ids.{each_in, Running, running, InTransaction, in_transaction}
-use Rattle.law_protocol_steps.proofs.OpenSeats.{Own, owns_none, owns_one, one_open}
+use Rattle.law_protocol_steps.proofs.Ids.{Running, running, InTransaction, in_transaction}
+use Rattle.law_protocol_steps.proofs.OpenSeats.{Own, owns_none, owns_one}
 use Rattle.law_protocol_ledger.proofs.Overs.{over_agrees, over_owner}
 use Rattle.law_protocol_ledger.proofs.StepsTake.{plain_answer, paid, written}
 use Rattle.law_protocol_steps.proofs.Turns.{Turns}
+use Rattle.law_protocol_steps.proofs.SeatsAfter.{one_session}
+use Rattle.law_protocol_steps.proofs.AfterSet.{each_at}
 
 pub plain_free : IsPlain releases_locks
 plain_free = record { items = λ x. refl; ids = refl; issued = refl; marks = refl; images = refl }
@@ -93,8 +95,8 @@ module _ (v : Server) (cells : List Cell) (seats : List SeatState) {history : Hi
     no_lock : (i : ℕ) (h : Hold) → In h (c.holds i) → o.id ≡ h.tx → ⊥
     no_lock i h e mine = let b = st.locks_cover.belong i h e in
         let here : j ≡ b.j = b.only j x o has mine in
-        let same : b.o ≡ o = (one_open seats j b.x x b.o o (subst (λ n. HasOpen seats n b.x b.o) (sym here) b.has) has).1 in
-        subst (λ u. (In i u.released → ⊥)) same b.unreleased (each_in (λ n. In n o.released) o.visited i released (subst (λ u. In i u.visited) same b.visited))
+        let same : b.o ≡ o = (one_session seats j b.x x b.o o (subst (λ n. HasOpen seats n b.x b.o) (sym here) b.has) has).1 in
+        subst (λ u. (In i u.released → ⊥)) same b.unreleased (each_at (λ n. In n o.released) o.visited i released (subst (λ u. In i u.visited) same b.visited))
 
     released_turn : (t : SeatState) → ((z : Session) (u : OpenTransaction) → Own t z u → ⊥) → Turns v c k st.catalog.defs s t
     released_turn t free = record {

@@ -1,8 +1,9 @@
 -- What an open transaction touched lies in cells that it visited, and what undo by number leaves of what it touched.
 use Rattle.std.proofs.Common.{◌≡◌, ◌≢◌, ℕ, ◌≤◌, Bool, true, false, not, List, [], ◌∷◌, map, Option, Some, None, refl, sym, ap, ◌∙◌, subst, inl, inr, ⊎_elim, leb-true, leb-false, arith}
-use Rattle.std.proofs.lemmas.Bool.{eq-eqb, ne_eqb, le-leb}
-use Rattle.std.specs.Prelude.{◌==◌, ◌&&◌, ◌||◌, ◌-◌, nat_le, if◌then◌else◌}
+use Rattle.std.proofs.lemmas.Bool.{eq-eqb, or_parts}
+use Rattle.std.specs.Prelude.{◌==◌, ◌&&◌, ◌||◌, nat_le, if◌then◌else◌}
 use Rattle.std.specs.List.{filter, list_any}
+use Rattle.sql_value.proofs.Naturals.{le_true}
 use Rattle.sql_types.specs.declared.lock.Hold.{Hold}
 use Rattle.sql_types.specs.declared.version.Version.{Version}
 use Rattle.spec_model.specs.Rows.{EventId}
@@ -24,14 +25,11 @@ use Rattle.spec_protocol.specs.Seats.{OpenTransaction, Session, SeatState}
 use Rattle.spec_protocol.specs.StandTogether.{History, Stands}
 use Rattle.law_protocol_steps.proofs.FreshIds.{EndIsNotOf, IsNotOf, none_touched, none_touched_in}
 use Rattle.law_protocol_steps.proofs.Ids.{outside, has_not}
-use Rattle.law_protocol_steps.proofs.OpenSeats.{one_open}
 use Rattle.law_protocol_steps.proofs.OthersScripts.{sound_for}
+use Rattle.law_protocol_steps.proofs.SeatsAfter.{one_session}
+use Rattle.law_protocol_changes.proofs.ChangesAt.{user_cell}
 
 -- ---- undo by number
-
-both_false : (a b : Bool) → (a || b) ≡ false → (a ≡ false) × (b ≡ false)
-both_false true b e = cc
-both_false false b e = (refl, e)
 
 module _ (tx seq : ℕ) where
   end_kept : (o : Option EventId) → ends_by tx o ≡ false → ends_by tx (end_left tx seq o) ≡ false
@@ -56,7 +54,7 @@ module _ (tx seq : ℕ) where
 
       by_touch : (b : Bool) → is_touched tx v ≡ b → touched tx (left vs) ≡ touched tx (left (touched tx vs)) → touched tx (left (v ∷ vs)) ≡ touched tx (left (if b then v ∷ touched tx vs else touched tx vs))
       by_touch true e ih = with_it (not (is_undone tx seq v.start)) ih
-      by_touch false e ih = let p = both_false (v.start.0 == tx) (ends_by tx v.end) e in dropped p.0 p.1 ∙ ih
+      by_touch false e ih = let p = or_parts (v.start.0 == tx) (ends_by tx v.end) e in dropped p.0 p.1 ∙ ih
 
 -- ---- cells
 
@@ -76,12 +74,6 @@ in_filter a test (n ∷ ns) e i = by_test (test n) refl i (in_filter a test ns e
     by_test true f i r = ⊎_elim (λ (g : n ≡ a). inl g) (λ (g : In a ns). inr (r g)) i
     by_test false f i r = ⊎_elim (λ (g : n ≡ a). let no : true ≡ false = sym e ∙ ap test (sym g) ∙ f in cc) (λ (g : In a ns). r g) i
 
-cell_of_user : (id : ℕ) → 3 ≤ id → cell_of id ≡ id - 1
-cell_of_user id l = rw (ne_eqb id 1 (λ e. omega (arith, e)), ne_eqb id 2 (λ e. omega (arith, e))) refl
-
-le_true : (n : ℕ) → 1 ≤ n → nat_le 1 n ≡ true
-le_true n l = le-leb 1 n l
-
 module _ (v : Server) (cells : List Cell) (seats : List SeatState) {history : History} (st : Stands v history cells seats) (j : ℕ) (x : Session) (o : OpenTransaction) (has : HasOpen seats j x o) (open_end : o.end ≡ unfixed) where
   abbrev c : Contents
   c = contents cells
@@ -93,7 +85,7 @@ module _ (v : Server) (cells : List Cell) (seats : List SeatState) {history : Hi
   pub lock_visited : (i : ℕ) (h : Hold) → In h (c.holds i) → h.tx ≡ o.id → In i o.visited
   lock_visited i h e mine = let b = st.locks_cover.belong i h e in
       let here : j ≡ b.j = b.only j x o has (sym mine) in
-      subst (λ u. In i u.visited) (one_open seats j b.x x b.o o (subst (λ n. HasOpen seats n b.x b.o) (sym here) b.has) has).1 b.visited
+      subst (λ u. In i u.visited) (one_session seats j b.x x b.o o (subst (λ n. HasOpen seats n b.x b.o) (sym here) b.has) has).1 b.visited
 
   not_in_journal : k.has o.id ≡ false
   not_in_journal = has_not o.id st.ledger.items (outside v history st.ledger seats st.transcripts_agree j x o has open_end)
@@ -121,4 +113,4 @@ module _ (v : Server) (cells : List Cell) (seats : List SeatState) {history : Hi
         by_id : (b : Bool) → nat_le id 2 ≡ b → touched o.id (c.versions id) ≡ []
         by_id true e = system id l (omega (arith, leb-true id 2 e))
         by_id false e = let m : 3 ≤ id = omega (arith, leb-false id 2 e) in
-            untouched id (λ i. let no : true ≡ false = sym (in_list (cell_of id) (filter (λ n. nat_le 1 n) o.visited) (in_filter (cell_of id) (λ n. nat_le 1 n) o.visited (le_true (cell_of id) (let e = cell_of_user id m in omega arith)) i)) ∙ none in cc) l
+            untouched id (λ i. let no : true ≡ false = sym (in_list (cell_of id) (filter (λ n. nat_le 1 n) o.visited) (in_filter (cell_of id) (λ n. nat_le 1 n) o.visited (le_true (cell_of id) (let e = user_cell id m in omega arith)) i)) ∙ none in cc) l

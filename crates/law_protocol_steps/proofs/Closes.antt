@@ -9,6 +9,7 @@ use Rattle.spec_model.specs.Catalog.{Tables}
 use Rattle.spec_model.specs.Journals.{tx_count, closed, upto, serial_from, after_item}
 use Rattle.spec_model.specs.Script.{Reading}
 use Rattle.spec_model.specs.SystemTables.{first_tables}
+use Rattle.law_frame.proofs.LegalRules.{count_append}
 use Rattle.spec_history.specs.Lists.{Each}
 use Rattle.spec_history.specs.Journals.{times}
 use Rattle.spec_history.specs.Facts.{Shows}
@@ -18,7 +19,7 @@ use Rattle.spec_history.specs.Acts.{SessionAct, Act, closes, of, marked}
 use Rattle.spec_history.specs.Sessions.{SessionState, transcript_of}
 use Rattle.spec_history.specs.Worlds.{World, first, step, run}
 use Rattle.spec_history.proofs.Cuts.{run_append, of_append}
-use Rattle.spec_history.proofs.Trace.{each_append, each_weaker, count_append}
+use Rattle.spec_history.proofs.Trace.{each_append, each_weaker}
 use Rattle.spec_history.proofs.Grows.{blocks_append, digest_stays}
 use Rattle.spec_protocol.specs.Server.{Server}
 use Rattle.spec_protocol.specs.Cells.{LedgerCell, Cell, Ledger, ledger_at, pending_in}

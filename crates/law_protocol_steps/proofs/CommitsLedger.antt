@@ -32,7 +32,7 @@ use Rattle.spec_protocol.specs.StandTogether.{History, Stands}
 use Rattle.spec_protocol.specs.Moves.{InStatement}
 use Rattle.spec_protocol.specs.LedgerVisits.{Commits, is_empty, is_read_only, with_item, entry_of_trees, root_of_tree, with_leaves}
 use Rattle.law_protocol_steps.proofs.FreshIds.{events_of_touched}
-use Rattle.law_protocol_steps.proofs.Ids.{each_in, outside, others}
+use Rattle.law_protocol_steps.proofs.Ids.{outside, others}
 use Rattle.law_protocol_steps.proofs.JournalMore.{legal_more, none_in_one}
 use Rattle.spec_protocol.specs.Leaf.{event_bytes}
 use Rattle.sql_types.specs.declared.entry.TxEntry.{TxEntry}
@@ -44,6 +44,7 @@ use Rattle.spec_protocol.proofs.Roots.{legal_ids}
 use Rattle.law_protocol_steps.proofs.EntryRoots.{same_roots}
 use Rattle.law_protocol_steps.proofs.SaidMore.{trees_over}
 use Rattle.spec_protocol.specs.Ledger as of_journal
+use Rattle.law_protocol_steps.proofs.AfterSet.{each_at}
 
 -- ---- one item more
 
@@ -129,8 +130,8 @@ module _ (v : Server) (cells : List Cell) (seats : List SeatState) {history : Hi
 
   pub some_event : all_events o.id left ≢ []
   some_event none = let f = has_leaf o.trees acts in let t = f.tree in
-      let l : 1 ≤ t.table = each_in (λ (t : Tree). 1 ≤ t.table) o.trees t its_trees.trees.tables f.is in
-      f.some (each_in (λ (t : Tree). t.leaves ≡ map event_bytes (events_counted c p.x o t.table)) o.trees t its_trees.trees.leaves f.is
+      let l : 1 ≤ t.table = each_at (λ (t : Tree). 1 ≤ t.table) o.trees t its_trees.trees.tables f.is in
+      f.some (each_at (λ (t : Tree). t.leaves ≡ map event_bytes (events_counted c p.x o t.table)) o.trees t its_trees.trees.leaves f.is
       ∙ ap (map event_bytes) (ap (events_in o.id t.table) (counts t.table (c.versions t.table)) ∙ its_events t.table l ∙ none_in_one o.id t.table left none))
 
   abbrev lines : List Line

@@ -1,7 +1,7 @@
 -- The roots of a transaction's trees are those of the entry that the ledger's definitions give it.
 use Rattle.std.proofs.Common.{◌≡◌, ◌≢◌, ◌⊎◌, ℕ, suc, ◌+◌, ◌<◌, ◌≤◌, Bool, true, false, List, [], ◌∷◌, length, map, refl, sym, ap, ap₂, ◌∙◌, subst, inl, inr, ⊎_elim, arith}
-use Rattle.std.proofs.lemmas.Bool.{cases_lt, cases_eq, eqb-true, ne_eqb, ltb-true}
-use Rattle.std.specs.Prelude.{◌==◌, ◌&&◌, not, if◌then◌else◌, nat_lt}
+use Rattle.std.proofs.lemmas.Bool.{cases_lt, cases_eq, eqb-true, ne_eqb, ltb-true, and_parts}
+use Rattle.std.specs.Prelude.{◌==◌, not, if◌then◌else◌, nat_lt}
 use Rattle.std.specs.List.{filter}
 use Rattle.std.specs.Ordering.{nat_cmp, is_gt}
 use Rattle.std.specs.Cmp.{nat_cmp_is}
@@ -27,7 +27,7 @@ use Rattle.spec_protocol.specs.LedgerVisits.{is_empty, by_table, with_leaves, ro
 use Rattle.spec_protocol.specs.Seats.{Tree}
 use Rattle.spec_protocol.specs.Server.{Server}
 use Rattle.spec_protocol.specs.TreesAreOfEvents.{AreTrees}
-use Rattle.law_protocol_steps.proofs.Ids.{each_in}
+use Rattle.law_protocol_steps.proofs.AfterSet.{each_at}
 
 -- ---- roots that rise
 
@@ -46,10 +46,10 @@ same_list (x ∷ xs) [] a b f g = absurd (f x (inl refl))
 same_list (x ∷ xs) (y ∷ ys) a b f g = ap₂ (λ (z : Root) (zs : List Root). z ∷ zs) head (same_list xs ys a.1 b.1 (λ z i. later_of z i) (λ z i. earlier_of z i))
   where
     above_x : (z : Root) → In z xs → x.0 < z.0
-    above_x z i = each_in (λ (y : Root). x.0 < y.0) xs z a.0 i
+    above_x z i = each_at (λ (y : Root). x.0 < y.0) xs z a.0 i
 
     above_y : (z : Root) → In z ys → y.0 < z.0
-    above_y z i = each_in (λ (x : Root). y.0 < x.0) ys z b.0 i
+    above_y z i = each_at (λ (x : Root). y.0 < x.0) ys z b.0 i
 
     head : x ≡ y
     head = ⊎_elim (λ (e : y ≡ x). sym e) (λ (i : In x ys). ⊎_elim (λ (e : x ≡ y). e) (λ (k : In y xs). absurd (omega (arith, above_y x i, above_x y k))) (g y (inl refl))) (f x (inl refl))
@@ -63,13 +63,9 @@ same_list (x ∷ xs) (y ∷ ys) a b f g = ap₂ (λ (z : Root) (zs : List Root).
     earlier_of : (z : Root) → In z ys → In z xs
     earlier_of z i = ⊎_elim (λ (e : x ≡ z). absurd (omega (arith, above_y z i, same, ap (λ (w : Root). w.0) e))) (λ k. k) (g z (inr i))
 
-both_true : (x y : Bool) → (x && y) ≡ true → (x ≡ true) × (y ≡ true)
-both_true true y e = (refl, e)
-both_true false y e = cc
-
 rise_is : (last : ℕ) (xs : List Root) → rise_above last xs ≡ true → Each (λ y. last < y.0) xs × Rises xs
 rise_is last [] e = (tt, tt)
-rise_is last (r ∷ rs) e = let both = both_true (nat_lt last r.0) (rise_above r.0 rs) e in let l : last < r.0 = ltb-true last r.0 both.0 in let rest = rise_is r.0 rs both.1 in
+rise_is last (r ∷ rs) e = let both = and_parts (nat_lt last r.0) (rise_above r.0 rs) e in let l : last < r.0 = ltb-true last r.0 both.0 in let rest = rise_is r.0 rs both.1 in
     ((l, each_weaker (λ y. r.0 < y.0) (λ y. last < y.0) (λ y k. omega arith) rs rest.0), rest)
 
 tables_are : (xs : List Root) → tables_rise xs ≡ true → Rises xs
@@ -248,7 +244,7 @@ module _ (v : Server) (tx : ℕ) (left : Tables) (ids : IdsFrom 1 (defs_of left)
   events_there u e = ap (events_in tx u.def.id) e
 
   tree_is : (t : Tree) → In t trees → t.leaves ≡ map event_bytes (events_in tx t.table (versions_of left t.table))
-  tree_is t i = each_in (λ t. t.leaves ≡ map event_bytes (events_in tx t.table (versions_of left t.table))) trees t are.leaves i
+  tree_is t i = each_at (λ t. t.leaves ≡ map event_bytes (events_in tx t.table (versions_of left t.table))) trees t are.leaves i
 
   made_is_meant : (t : Tree) → In t trees → test t ≡ true → In (root_of_tree v t) meant
   made_is_meant t i e = ⊎_elim

@@ -1,6 +1,6 @@
 -- Who has X on the rows of a key, and that nobody else has it on rows that a want relies on.
 use Rattle.std.proofs.Common.{◌≡◌, ◌≢◌, ◌⊎◌, ℕ, Bool, true, false, List, [], ◌∷◌, refl, sym, ap, ◌∙◌, subst, inl, inr, ⊎_elim}
-use Rattle.std.proofs.lemmas.Bool.{cases_eq}
+use Rattle.std.proofs.lemmas.Bool.{cases_eq, and_parts}
 use Rattle.std.specs.Prelude.{◌&&◌}
 use Rattle.std.specs.List.{list_any}
 use Rattle.sql_types.specs.declared.lock.Mode.{Mode}
@@ -11,8 +11,8 @@ use Rattle.sql_types.specs.declared.lock.LockRequest.{LockRequest}
 use Rattle.spec_model.specs.Keys.{Key, same_key}
 use Rattle.spec_model.specs.Locks.{conflict, same_item, requests_conflict}
 use Rattle.spec_model.specs.Reach.{has_key, is_exclusive, lets_change}
-use Rattle.law_frame.proofs.SameKeys.{same_key_as, same_itself, and_true}
-use Rattle.law_frame.proofs.NoClash.{Relies}
+use Rattle.law_frame.proofs.SameKeys.{same_key_as, same_itself}
+use Rattle.law_frame.proofs.NoClash.{Relies, not_both, x_conflicts}
 use Rattle.spec_history.specs.Lists.{Each, In}
 use Rattle.sql_types.specs.declared.lock.Hold.{Hold}
 use Rattle.spec_protocol.specs.RequestsIn.{Holds}
@@ -64,13 +64,6 @@ none_reach holds tx key (w ∷ ws) none_has h = rw (held_reach holds tx key w no
 
 -- ---- nobody else has X on what a want relies on
 
-x_conflicts : (m : Mode) → conflict m X ≡ true
-unfolding conflict
-x_conflicts IS = refl
-x_conflicts IX = refl
-x_conflicts S = refl
-x_conflicts X = refl
-
 relies_on : (m n : Mode) → Relies m → (n ≡ IX) ⊎ (n ≡ X) → conflict m n ≡ true
 unfolding conflict
 relies_on IS n r h = absurd r
@@ -83,9 +76,6 @@ exclusive_is IS e = cc
 exclusive_is IX e = cc
 exclusive_is S e = cc
 exclusive_is X e = refl
-
-not_both : {b : Bool} → b ≡ false → b ≡ true → ⊥
-not_both h k = cc
 
 module _ (holds : List Hold) (id : ℕ) (requests : List LockRequest) (free : AreFree holds id requests)
     (intents : (h : Hold) → In h holds → h.request.mode ≡ X → HasIntent holds h)
@@ -119,7 +109,7 @@ module _ (holds : List Hold) (id : ℕ) (requests : List LockRequest) (free : Ar
 
     by_reach : (b : Bool) → lets_change key h.request ≡ b → lets_change key h.request ≡ false
     by_reach false e = e
-    by_reach true e = let p = and_true (is_exclusive h.request.mode) (has_key key h.request.item) e in absurd (by_item h.request.item refl (exclusive_is h.request.mode p.0) p.1)
+    by_reach true e = let p = and_parts (is_exclusive h.request.mode) (has_key key h.request.item) e in absurd (by_item h.request.item refl (exclusive_is h.request.mode p.0) p.1)
 
     pub excluded : lets_change key h.request ≡ false
     excluded = by_reach (lets_change key h.request) refl

@@ -2,11 +2,11 @@
 use Rattle.std.proofs.Common.{◌≡◌, ℕ, List, [], ◌++◌, map, Option, Some, refl, sym, ap, ◌∙◌, subst, append-nil, append_assoc, ◌∷◌, ap₂, inl}
 use mathlib.Core.Option.{some}
 use lib.ListN.{get_elem?}
+use Rattle.sql_value.proofs.Dates.{some_same}
 use Rattle.spec_history.specs.Lists.{Each, In}
 use Rattle.spec_history.specs.Transactions.{listed}
 use Rattle.spec_history.proofs.Settles.{in_right}
 use Rattle.spec_protocol.specs.Parts.{all_of}
-use Rattle.law_protocol_steps.proofs.Ids.{each_in}
 use Rattle.spec_history.specs.Acts.{SessionAct, Act, by, closes}
 use Rattle.spec_protocol.specs.Server.{Server}
 use Rattle.spec_protocol.specs.Contents.{contents}
@@ -18,6 +18,7 @@ use Rattle.spec_protocol.specs.Cells.{Cell, LedgerCell}
 use Rattle.spec_protocol.specs.Seats.{SeatState}
 use Rattle.spec_protocol.specs.StandTogether.{History, IsOfSeat, LocksAskedFor, Stands, StandsAfter, StandsDone}
 use Rattle.spec_protocol.specs.TranscriptsAgree.{TranscriptsAgree}
+use Rattle.law_protocol_steps.proofs.AfterSet.{each_at}
 
 -- nothing came behind it
 pub nothing_added : (v : Server) (history : History) (ledger : LedgerCell) (seats : List SeatState) → TranscriptsAgree v (history ++ []) ledger seats → TranscriptsAgree v history ledger seats
@@ -41,11 +42,8 @@ pub each_so : {A P : Type 0} (xs : List A) → P → Each (λ x. P) xs
 each_so [] p = tt
 each_so (x ∷ xs) p = (p, each_so xs p)
 
-some_is : (m n : ℕ) → Some m ≡ Some n → m ≡ n
-some_is m n e = cc
-
 pub one_number : {o : Option ℕ} (m n : ℕ) → o ≡ Some m → o ≡ Some n → m ≡ n
-one_number m n e f = some_is m n (sym e ∙ f)
+one_number m n e f = some_same m n (sym e ∙ f)
 
 -- they agree, and this session is one of the seat's
 abbrev pub Owned : Server → History → LedgerCell → List SeatState → ℕ → ℕ → Type 0

@@ -21,7 +21,7 @@ use Rattle.law_protocol_steps.proofs.Turns.{Turns, tables_turn, scripts_turn, tr
 use Rattle.spec_protocol.specs.RowsAgree.{RowsAgree}
 use Rattle.spec_history.proofs.Legal.{legal}
 
-same_cell : (c d : LedgerCell) → Ledger c ≡ Ledger d → c ≡ d
+pub same_cell : (c d : LedgerCell) → Ledger c ≡ Ledger d → c ≡ d
 same_cell c d e = cc
 
 -- the ledger's cell is the one that lies there

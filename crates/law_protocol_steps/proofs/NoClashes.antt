@@ -1,5 +1,5 @@
 -- Statements of two seats whose wants are locked don't clash.
-use Rattle.std.proofs.Common.{◌≡◌, ◌≢◌, ℕ, Bool, true, false, List, [], ◌∷◌, ◌++◌, Option, Some, None, refl, sym, ◌∙◌, subst, eqb-true}
+use Rattle.std.proofs.Common.{◌≡◌, ◌≢◌, ℕ, Bool, true, false, List, [], ◌∷◌, Option, Some, None, refl, sym, ◌∙◌, subst, eqb-true}
 use Rattle.std.proofs.lemmas.Bool.{eq-eqb, or_from}
 use Rattle.std.specs.Prelude.{◌==◌, ◌&&◌, if◌then◌else◌}
 use Rattle.std.specs.List.{list_any}
@@ -12,8 +12,10 @@ use Rattle.spec_model.specs.Keys.{Key, same_key}
 use Rattle.spec_model.specs.Catalog.{Defs}
 use Rattle.spec_model.specs.Locks.{CellRequests, whole, conflict, same_item, requests_conflict, some_conflict, cells_clash, catalog_clash, catalog_request, cell_requests, clash}
 use Rattle.spec_model.specs.Agreement.{LockRequests, requests_of}
-use Rattle.law_frame.proofs.SameKeys.{same_key_as, same_itself}
+use Rattle.law_frame.proofs.SameKeys.{same_key_as}
+use Rattle.law_frame.proofs.SameTouched.{key_sym}
 use Rattle.spec_history.specs.Lists.{Each}
+use Rattle.spec_history.proofs.Refused.{each_left, each_right}
 use Rattle.spec_protocol.specs.Cells.{catalog_at, cell_of}
 use Rattle.spec_protocol.specs.Contents.{Contents}
 use Rattle.spec_protocol.specs.Seats.{OpenTransaction, Session, SeatState}
@@ -22,17 +24,6 @@ use Rattle.spec_protocol.specs.RequestsIn.{of_catalog, of_cell, requests_at, Hol
 use Rattle.spec_protocol.specs.LocksAgree.{LocksAgree}
 
 -- ---- like wants conflict alike
-
-key_turned : (a b : Key) → same_key a b ≡ true → same_key b a ≡ true
-key_turned a b e = sym (same_key_as a b a e) ∙ same_itself a
-
-both_ways : (a b : Key) (p q : Bool) → same_key a b ≡ p → same_key b a ≡ q → p ≡ q
-both_ways a b true q e f = sym (key_turned a b e) ∙ f
-both_ways a b false true e f = sym e ∙ key_turned b a f
-both_ways a b false false e f = refl
-
-key_sym : (a b : Key) → same_key a b ≡ same_key b a
-key_sym a b = both_ways a b (same_key a b) (same_key b a) refl refl
 
 like_keys : (x a y b : Key) → same_key x a ≡ true → same_key y b ≡ true → same_key x y ≡ same_key a b
 like_keys x a y b e f = same_key_as x a y e ∙ key_sym a y ∙ same_key_as y b a f ∙ key_sym b a
@@ -52,14 +43,6 @@ pub like_requests : (x a y b : LockRequest) → same_item x.item a.item ≡ true
 like_requests x a y b e m f n = (λ i. like_items x.item a.item y.item b.item e f i && conflict (m i) (n i))
 
 -- ---- two seats
-
-each_left : {A : Type 0} (P : A → Type 0) (xs ys : List A) → Each P (xs ++ ys) → Each P xs
-each_left P [] ys h = tt
-each_left P (x ∷ xs) ys h = (h.0, each_left P xs ys h.1)
-
-each_right : {A : Type 0} (P : A → Type 0) (xs ys : List A) → Each P (xs ++ ys) → Each P ys
-each_right P [] ys h = h
-each_right P (x ∷ xs) ys h = each_right P xs ys h.1
 
 module _ (c : Contents) (seats : List SeatState) (agree : LocksAgree c seats) (i j : ℕ) (y x : Session) (p o : OpenTransaction) (ne : i ≢ j) (has_p : HasOpen seats i y p) (has_o : HasOpen seats j x o) where
   free_pair : (n : ℕ) (a b : LockRequest) → Holds (c.holds n) p.id a → Holds (c.holds n) o.id b → requests_conflict a b ≡ false

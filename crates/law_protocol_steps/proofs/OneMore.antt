@@ -9,6 +9,7 @@ use lib.ListN.{get_elem?}
 use Rattle.sql_types.specs.declared.journal.JournalItem.{JournalItem}
 use Rattle.sql_types.specs.declared.journal.JournalItem.TheVariants.{Tx, Close}
 use Rattle.spec_model.specs.Journals.{tx_count, cut}
+use Rattle.law_frame.proofs.LegalRules.{count_append}
 use Rattle.spec_history.specs.Lists.{Text, Each, In}
 use Rattle.spec_history.specs.Journals.{times}
 use Rattle.spec_history.specs.Meaning.{Meaning}
@@ -22,7 +23,7 @@ use Rattle.spec_history.specs.Sessions.{SessionState, unborn, runs, gone, fresh,
 use Rattle.spec_history.specs.Worlds.{World, first, step, run, items_by, ids_by, issued_by}
 use Rattle.spec_history.specs.Guards.{IsEnabled, Good}
 use Rattle.spec_history.proofs.Cuts.{run_append, of_append, good_append}
-use Rattle.spec_history.proofs.Trace.{each_append, each_weaker, count_append}
+use Rattle.spec_history.proofs.Trace.{each_append, each_weaker}
 use Rattle.spec_history.proofs.Settles.{in_right}
 use Rattle.spec_history.proofs.Setup.{silent}
 use Rattle.spec_protocol.specs.Server.{Server, journal_image}
@@ -30,8 +31,8 @@ use Rattle.spec_protocol.specs.Cells.{LedgerCell}
 use Rattle.spec_protocol.specs.Seats.{KeptImage, Session, Written, Role, idle, session, builder, SeatState}
 use Rattle.spec_protocol.specs.Parts.{Numbers, all_of, IsNow, BeganAfter, IsOver, WasOver, Past, Now, Sessions}
 use Rattle.spec_protocol.specs.TranscriptsAgree.{moments_of, IsMoment, image_of, IsImage, AreImages, ImagesOfPast, ImagesNow, MarksWithin, SeatAgrees, TranscriptsAgree}
-use Rattle.law_protocol_steps.proofs.Ids.{each_in}
 use Rattle.spec_protocol.proofs.Places.{at_set, set_here, set_else}
+use Rattle.law_protocol_steps.proofs.AfterSet.{each_at}
 
 -- ---- histories
 
@@ -260,7 +261,7 @@ module _ (v : Server) (h : List Act) (c d : LedgerCell) (seats : List SeatState)
   among = subst (λ (o : Option ℕ). In n ((agree.of_seat j).past ++ listed o)) (sym number) (in_right n (agree.of_seat j).past (n ∷ []) (inl refl))
 
   owned : agree.owner n ≡ j
-  owned = each_in (λ m. agree.owner m ≡ j) (all_of (agree.of_seat j)) n (agree.own j s there) among
+  owned = each_at (λ m. agree.owner m ≡ j) (all_of (agree.of_seat j)) n (agree.own j s there) among
 
   not_of : (k : ℕ) (u : SeatState) → k ≢ j → get_elem? seats k ≡ some u → Each (λ m. m ≢ n) (all_of (agree.of_seat k))
   not_of k u ne e = each_weaker (λ m. agree.owner m ≡ k) (λ m. m ≢ n) (λ m o same. ne (sym o ∙ ap agree.owner same ∙ owned)) (all_of (agree.of_seat k)) (agree.own k u e)
@@ -300,7 +301,7 @@ module _ (v : Server) (h : List Act) (c d : LedgerCell) (seats : List SeatState)
 
   now_marks : Shows marked Within (of n longer)
   now_marks = subst (Shows marked Within) (sym (of_now v.meaning c.database h was_good n anonymous_acts alive))
-      (each_append (λ b. Each Within (marked b)) (of n h) anonymous_acts (wider_marks (of n h) (each_in (MarksWithin v h c s) (all_of m) n was.marks among)) new_marks)
+      (each_append (λ b. Each Within (marked b)) (of n h) anonymous_acts (wider_marks (of n h) (each_at (MarksWithin v h c s) (all_of m) n was.marks among)) new_marks)
 
   own_images : AreImages v c (of n h) acts.x.images
   own_images = subst (λ (o : Option ℕ). ImagesNow v h c o (session acts.x)) number (subst (ImagesNow v h c m.now) acts.was was.images)

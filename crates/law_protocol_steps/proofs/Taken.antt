@@ -1,6 +1,6 @@
 -- Locks that are taken: those that were there stay, the wants are held, and who is in the way of none of them changes none of their rows.
 use Rattle.std.proofs.Common.{◌≡◌, ◌≢◌, ◌⊎◌, ℕ, Bool, true, false, List, [], ◌∷◌, ◌++◌, refl, sym, ap, ap₂, ◌∙◌, inl, inr, ⊎_elim}
-use Rattle.std.proofs.lemmas.Bool.{eqb-true, eq-eqb}
+use Rattle.std.proofs.lemmas.Bool.{eqb-true, eq-eqb, and_parts}
 use Rattle.std.specs.Prelude.{◌==◌, ◌&&◌, ◌||◌, not, if◌then◌else◌}
 use Rattle.std.specs.List.{list_any, filter}
 use Rattle.sql_types.specs.declared.lock.Mode.{Mode}
@@ -8,15 +8,16 @@ use Rattle.sql_types.specs.declared.lock.Mode.TheVariants.{IS, IX, S, X}
 use Rattle.sql_types.specs.declared.lock.Item.{Item}
 use Rattle.sql_types.specs.declared.lock.Item.TheVariants as item
 use Rattle.sql_types.specs.declared.lock.LockRequest.{LockRequest}
-use Rattle.spec_model.specs.Keys.{Key, same_key}
+use Rattle.spec_model.specs.Keys.{same_key}
 use Rattle.spec_model.specs.Locks.{conflict, same_item, requests_conflict}
-use Rattle.law_frame.proofs.SameKeys.{same_key_as, same_itself, and_true}
+use Rattle.law_frame.proofs.SameKeys.{same_itself}
 use Rattle.spec_history.specs.Lists.{Each, In}
 use Rattle.spec_history.proofs.Settles.{in_append, in_left, in_right}
 use Rattle.sql_types.specs.declared.lock.Hold.{Hold}
 use Rattle.spec_protocol.specs.RequestsIn.{Holds}
 use Rattle.spec_model.specs.Holds.{answers, released}
 use Rattle.spec_model.specs.Holds.{holds_after, holds_any, holds_request, same_mode}
+use Rattle.law_frame.proofs.SameTouched.{both_ways}
 
 abbrev pub taken : ℕ → List LockRequest → List Hold → List Hold
 taken id requests holds = holds_after holds id requests
@@ -30,18 +31,12 @@ AreFree holds id requests = Each (λ w. Each (λ h. h.tx ≢ id → requests_con
 
 -- ---- items
 
-pub keys_turned : (a b : Key) (p q : Bool) → same_key a b ≡ p → same_key b a ≡ q → p ≡ q
-keys_turned a b true true e f = refl
-keys_turned a b false false e f = refl
-keys_turned a b true false e f = sym (same_itself b) ∙ sym (same_key_as a b b e) ∙ e ∙ let z : same_key b a ≡ true = sym (same_key_as a b a e) ∙ same_itself a in sym z ∙ f
-keys_turned a b false true e f = sym e ∙ sym (let z : same_key a b ≡ true = sym (same_key_as b a b f) ∙ same_itself b in sym z)
-
 items_turned : (x y : Item) → same_item x y ≡ same_item y x
 unfolding same_item
 items_turned item.Whole item.Whole = refl
 items_turned item.Whole (item.Key k) = refl
 items_turned (item.Key k) item.Whole = refl
-items_turned (item.Key a) (item.Key b) = keys_turned a b (same_key a b) (same_key b a) refl refl
+items_turned (item.Key a) (item.Key b) = both_ways a b (same_key a b) (same_key b a) refl refl
 
 -- ---- what is among the locks
 
@@ -97,7 +92,7 @@ module _ (id : ℕ) where
 
   held_at_head : (w : LockRequest) (h : Hold) (hs : List Hold) (b : Bool) → answers id w h ≡ b → (b ≡ false → Holds hs id w) → Holds (h ∷ hs) id w
   held_at_head w h hs true f later =
-      let p = and_true (h.tx == id) _ f in let q = and_true (same_item w.item h.request.item) _ p.1 in
+      let p = and_parts (h.tx == id) _ f in let q = and_parts (same_item w.item h.request.item) _ p.1 in
       record { hold = h; has = inl refl; mine = eqb-true h.tx id p.0; item = items_turned h.request.item w.item ∙ q.0; mode = sym (same_modes w.mode h.request.mode q.1) }
   held_at_head w h hs false f later = let k = later refl in record { hold = k.hold; has = inr k.has; mine = k.mine; item = k.item; mode = k.mode }
 

@@ -1,6 +1,6 @@
 -- Locks that are taken, and locks that aren't in the way.
 use Rattle.std.proofs.Common.{◌≡◌, ◌≢◌, ℕ, not, Bool, true, false, cond, List, [], ◌∷◌, map, filter, Option, Some, None, refl, sym, ap, ◌∙◌, inl, inr, eqb-true}
-use Rattle.std.proofs.lemmas.Bool.{ne_eqb}
+use Rattle.std.proofs.lemmas.Bool.{ne_eqb, and_parts}
 use Rattle.std.specs.Prelude.{◌==◌, ◌&&◌, ◌||◌}
 use Rattle.std.specs.List.{fold}
 use Rattle.sql_types.specs.declared.lock.Mode.{Mode}
@@ -35,10 +35,6 @@ same_mode_is X IS e = cc
 same_mode_is X IX e = cc
 same_mode_is X S e = cc
 
-both : (a b : Bool) → (a && b) ≡ true → (a ≡ true) × (b ≡ true)
-both true b e = (refl, e)
-both false b e = cc
-
 whole_there : (i : Item) → same_item item.Whole i ≡ true → same_item i item.Whole ≡ true
 unfolding same_item
 whole_there item.Whole e = refl
@@ -47,8 +43,8 @@ whole_there (item.Key key) e = cc
 held_by : (hs : List Hold) (id : ℕ) (m : Mode) (h : Hold) (b : Bool) → answers id (whole m) h ≡ b → (b || holds_request hs id (whole m)) ≡ true
     → (holds_request hs id (whole m) ≡ true → Holds hs id (whole m)) → Holds (h ∷ hs) id (whole m)
 held_by hs id m h true f g rest =
-    let a = both (h.tx == id) _ f in
-    let c = both (same_item item.Whole h.request.item) (same_mode m h.request.mode) a.1 in
+    let a = and_parts (h.tx == id) _ f in
+    let c = and_parts (same_item item.Whole h.request.item) (same_mode m h.request.mode) a.1 in
     record {
       hold = h;
       has = inl refl;

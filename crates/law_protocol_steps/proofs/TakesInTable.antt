@@ -1,6 +1,6 @@
 -- A statement takes its locks in a table's cell: cells and seats stand together then, before anything is changed or answered.
 use Rattle.std.proofs.Common.{◌≡◌, ◌≢◌, ◌⊎◌, ℕ, zero, suc, ◌≤◌, Bool, true, false, List, ◌++◌, set, Option, Some, refl, sym, ap, ◌∙◌, subst, inl, inr, ⊎_elim, append-nil, arith, []}
-use Rattle.std.proofs.lemmas.Bool.{cases_eq, ne_eqb, eqb-false}
+use Rattle.std.proofs.lemmas.Bool.{cases_eq, ne_eqb, eqb-false, and_parts}
 use Rattle.std.specs.Prelude.{◌==◌, ◌-◌, not, if◌then◌else◌}
 use mathlib.Core.Option.{some}
 use lib.ListN.{get_elem?}
@@ -18,7 +18,6 @@ use Rattle.spec_model.specs.Undo.{versions_undone}
 use Rattle.law_frame.proofs.Alls.{all_filter}
 use Rattle.law_frame.proofs.AtTable.{before_at}
 use Rattle.law_frame.proofs.NoClash.{Relies}
-use Rattle.law_frame.proofs.SameKeys.{and_true}
 use Rattle.law_frame.proofs.UndoneVersions.{nothing_undone}
 use Rattle.spec_history.specs.Lists.{Text, In}
 use Rattle.spec_history.specs.Transactions.{unfixed}
@@ -138,7 +137,7 @@ module _ (v : Server) (cells : List Cell) (seats : List SeatState) {history : Hi
       K.announced key w is r q h (subst (In h) (held_here cells i (Rows c) (Rows c) K.out) has) ne
 
   relies_x : (w : LockRequest) (key : Key) → lets_change key w ≡ true → Relies w.mode × (has_key key w.item ≡ true)
-  relies_x w key q = let p = and_true (is_exclusive w.mode) (has_key key w.item) q in (exclusive w.mode p.0, p.1)
+  relies_x w key q = let p = and_parts (is_exclusive w.mode) (has_key key w.item) q in (exclusive w.mode p.0, p.1)
     where
       exclusive : (m : Mode) → is_exclusive m ≡ true → Relies m
       exclusive X e = tt

@@ -1,7 +1,7 @@
 -- The lock that is in the way: who is named holds it, and it conflicts with one of the wants.
 use Rattle.std.proofs.Common.{◌≡◌, ◌≢◌, ◌⊎◌, ℕ, Bool, true, false, cond, List, [], ◌∷◌, map, Option, Some, None, refl, sym, ap, ◌∙◌, inl, inr, ⊎_elim}
-use Rattle.std.proofs.lemmas.Bool.{eq-eqb}
-use Rattle.std.specs.Prelude.{◌==◌, ◌&&◌, not, if◌then◌else◌}
+use Rattle.std.proofs.lemmas.Bool.{eq-eqb, and_parts}
+use Rattle.std.specs.Prelude.{◌==◌, not, if◌then◌else◌}
 use Rattle.std.specs.List.{filter, fold}
 use Rattle.sql_types.specs.declared.lock.Hold.{Hold}
 use Rattle.sql_types.specs.declared.lock.LockRequest.{LockRequest}
@@ -38,10 +38,6 @@ none_best : (a : Holder) (hs : List Holder) → (None ≡ Some a) ⊎ In a hs �
 none_best a hs (inl e) = absurd cc
 none_best a hs (inr k) = k
 
-both : (a b : Bool) → (a && b) ≡ true → (a ≡ true) × (b ≡ true)
-both true b e = (refl, e)
-both false b e = cc
-
 module _ (id : ℕ) (request : LockRequest) where
   foreign_to : (h : Hold) → not (h.tx == id) ≡ true → h.tx ≢ id
   foreign_to h f same = let e : (h.tx == id) ≡ true = eq-eqb h.tx id same in let no : not true ≡ true = ap not (sym e) ∙ f in cc
@@ -55,7 +51,7 @@ module _ (id : ℕ) (request : LockRequest) where
       later b = record { hold = b.hold; has = inr b.has; is = b.is; foreign = b.foreign; request = b.request; wanted = b.wanted; conflicts = b.conflicts }
 
       by : (c : Bool) → bars id request h ≡ c → (In a (map holder_of (filter (bars id request) hs)) → Bars hs id (request ∷ []) a.0) → In a (map holder_of (cond c (h ∷ filter (bars id request) hs) (filter (bars id request) hs))) → Bars (h ∷ hs) id (request ∷ []) a.0
-      by true e rest (inl f) = let p = both (not (h.tx == id)) (requests_conflict request h.request) e in
+      by true e rest (inl f) = let p = and_parts (not (h.tx == id)) (requests_conflict request h.request) e in
           record { hold = h; has = inl refl; is = ap (λ (z : Holder). z.0) f; foreign = foreign_to h p.0; request = request; wanted = inl refl; conflicts = p.1 }
       by true e rest (inr k) = later (rest k)
       by false e rest k = later (rest k)

@@ -23,6 +23,7 @@ use Rattle.spec_protocol.specs.OpenOnes.{HasOpen}
 use Rattle.spec_protocol.specs.StandTogether.{History, Stands}
 use Rattle.law_protocol_steps.proofs.Ids as ids
 use Rattle.law_protocol_steps.proofs.OfCells.{in_journal}
+use Rattle.law_protocol_tables.proofs.Formed.{is_committed}
 
 -- a transaction with this end has its id among those of the journal, or not
 abbrev pub Placing : End → ℕ → List ℕ → Type 0
@@ -96,10 +97,6 @@ among id (i ∷ is) h = ⊎_elim
 not_among : (id : ℕ) (ids : List ℕ) → Each (λ i. i ≢ id) ids → list_any (λ i. i == id) ids ≡ false
 not_among id [] h = refl
 not_among id (i ∷ is) h = ap (λ (b : Bool). b || list_any (λ n. n == id) is) (ne_eqb i id h.0) ∙ not_among id is h.1
-
-abbrev pub is_committed : End → Bool
-is_committed (committed n) = true
-is_committed _ = false
 
 module _ (v : Server) (cells : List Cell) (seats : List SeatState) {history : History} (S : Stands v history cells seats) (j : ℕ) (x : Session) (o : OpenTransaction) (h : HasOpen seats j x o) where
   abbrev mine : ids.InTransaction v.meaning history (S.transcripts_agree.of_seat j) x o

@@ -4,6 +4,7 @@ use Rattle.std.proofs.Common.{◌≡◌, ℕ, suc, ◌<◌, Bool, true, false, L
 use Rattle.std.proofs.lemmas.Bool.{ne_eqb, eq-eqb}
 use Rattle.std.specs.Prelude.{◌==◌, if◌then◌else◌, IfSome}
 use Rattle.std.specs.List.{AllByRecursion}
+use Rattle.std.proofs.ByRecursion.{All-weaker}
 use Rattle.sql_value.specs.declared.column.ColumnDef.{ColumnDef}
 use Rattle.sql_types.specs.declared.journal.JournalItem.{JournalItem}
 use Rattle.sql_types.specs.declared.journal.JournalItem.TheVariants.{Tx, Close}
@@ -13,7 +14,6 @@ use Rattle.spec_model.specs.Catalog.{Tables, defs_of, versions_of}
 use Rattle.spec_model.specs.Agreement.{columns_at}
 use Rattle.spec_model.specs.Journals.{IsLegal, IsOther, tx_count, serial}
 use Rattle.spec_model.specs.Script.{Reading, script}
-use Rattle.law_frame.proofs.Alls.{all_weaker}
 use Rattle.law_frame.proofs.LegalSound.{legal_sound}
 use Rattle.law_journal.specs.Fits.{Fits}
 use Rattle.law_journal.specs.Kept.{IsEarlier, AllApart, IsPast, KeptTable, Kept}
@@ -83,7 +83,7 @@ module _ (reads : Reading) (items : List JournalItem) (legal : IsLegal reads ite
       sound = sound;
       own = no_number tx T sound;
       others = are.numbered;
-      each = all_weaker (TableOf items) (KeptTable place (tx, 0)) (λ t h. record { past = all_weaker (IsOf items) (IsPast place (tx, 0)) past_of t.versions h.ids; apart = h.apart; fit = h.fit }) T are.each;
+      each = All-weaker (TableOf items) (KeptTable place (tx, 0)) (λ t h. record { past = All-weaker (IsOf items) (IsPast place (tx, 0)) past_of t.versions h.ids; apart = h.apart; fit = h.fit }) T are.each;
     }
 
     -- and of those after the script of a transaction that the journal doesn't have

@@ -3,16 +3,18 @@ use Rattle.std.proofs.Common.{◌≡◌, ◌≢◌, ◌⊎◌, ℕ, Bool, true, 
 use Rattle.std.specs.Prelude.{if◌then◌else◌, is_none}
 use Rattle.std.specs.List.{AllByRecursion}
 use Rattle.sql_value.specs.declared.column.ColumnDef.{ColumnDef}
+use Rattle.sql_value.proofs.Lists.{filters_turned}
 use Rattle.sql_types.specs.declared.version.Version.{Version}
 use Rattle.spec_model.specs.Rows.{live}
 use Rattle.spec_model.specs.Keys.{Key, of_key, same_key, version_key}
-use Rattle.law_frame.proofs.SameKeys.{same_key_as, same_itself}
+use Rattle.law_frame.proofs.SameKeys.{same_itself}
+use Rattle.law_frame.proofs.SameTouched.{key_turned}
 use Rattle.law_journal.specs.Fits.{Fits}
 use Rattle.law_journal.specs.Kept.{EndedBefore, Apart, AllApart}
 use Rattle.spec_history.specs.Lists.{Each, In}
 use Rattle.spec_protocol.specs.TablesAreSerial.{KeysDiffer}
 use Rattle.law_protocol_steps.proofs.AfterSet.{each_at, all_at}
-use Rattle.law_protocol_changes.proofs.ChangedRows.{filters_turned, in_passed, was_in, of_its_key}
+use Rattle.law_protocol_changes.proofs.ChangedRows.{in_passed, was_in, of_its_key}
 use Rattle.law_protocol_tables.proofs.KeptNow.{KeptRows}
 
 -- ---- what stands of kept rows
@@ -45,9 +47,6 @@ fit_each columns (v ∷ vs) h = (h.0, fit_each columns vs h.1)
 
 -- ---- key by key
 
-turned : (a b : Key) → same_key a b ≡ true → same_key b a ≡ true
-turned a b e = sym (same_key_as a b a e) ∙ same_itself a
-
 -- of the versions of one key
 differ_here : (columns : List ColumnDef) (key : Key) (vs : List Version) → KeysDiffer columns vs → KeysDiffer columns (of_key columns key vs)
 differ_here columns key [] h = tt
@@ -71,7 +70,7 @@ differ_all columns (v ∷ vs) h = (all_at (λ w. same_key (version_key columns v
 
     first : (w : Version) → In w vs → same_key (version_key columns v) (version_key columns w) ≡ true → ⊥
     first w i e = each_at (λ u. same_key (version_key columns v) (version_key columns u) ≢ true) (of_key columns (version_key columns v) vs) w here.0
-        (in_passed (λ u. same_key (version_key columns u) (version_key columns v)) w vs i (turned (version_key columns v) (version_key columns w) e)) e
+        (in_passed (λ u. same_key (version_key columns u) (version_key columns v)) w vs i (key_turned (version_key columns v) (version_key columns w) e)) e
 
     by : (key : Key) (b : Bool) → KeysDiffer columns (if b then v ∷ of_key columns key vs else of_key columns key vs) → KeysDiffer columns (of_key columns key vs)
     by key true k = k.1

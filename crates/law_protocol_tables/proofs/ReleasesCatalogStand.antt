@@ -52,7 +52,6 @@ use Rattle.sql_types.specs.declared.lock.LockRequest.{LockRequest}
 use Rattle.spec_model.specs.Reach.{lets_change}
 use Rattle.law_protocol_changes.proofs.CommittedRows.{committed_undone}
 use Rattle.law_protocol_tables.proofs.Releases.{left_by}
-use Rattle.law_protocol_tables.proofs.FixedOnes.{is_committed}
 use Rattle.spec_protocol.specs.UndoVisits.{catalog_left, defs_before, creator_left, ReleasesCatalog}
 use Rattle.spec_protocol.specs.Cells.{CatalogCell, Catalog, versions_in}
 use Rattle.law_protocol_steps.proofs.CellsAfter.{catalog_changed, versions_here, were_here, versions_else}
@@ -71,11 +70,12 @@ use Rattle.spec_protocol.specs.Contents.{HasAlone, contents, table_found}
 use Rattle.law_protocol_steps.proofs.FreshIds.{events_of_touched}
 use Rattle.law_protocol_steps.proofs.GotMore.{got_at_more}
 use Rattle.law_protocol_steps.proofs.Ids.{others}
-use Rattle.spec_model.specs.Holds.{released}
 use Rattle.law_protocol_steps.proofs.Taken.{released_is}
 use Rattle.spec_model.specs.ScriptRequests.{text_requests}
 use Rattle.spec_model.specs.Touched.{touched}
 use Rattle.law_protocol_steps.proofs.VisitActs.{unmoved}
+use Rattle.law_protocol_steps.proofs.CatalogThere.{catalog_held}
+use Rattle.law_protocol_tables.proofs.Formed.{is_committed}
 
 rows_left : (e : End) (tx id : ℕ) (c : CatalogCell) → versions_in id (Catalog (catalog_left e tx c)) ≡ left_by (is_committed e) tx (versions_in id (Catalog c))
 rows_left (en.committed n) tx id c = refl
@@ -89,11 +89,6 @@ rows_left (en.ended n back) tx id c = by (id == tables_id)
     by : (b : Bool) → (if b then versions_undone tx 0 c.tables else versions_undone tx 0 c.columns) ≡ versions_undone tx 0 (if b then c.tables else c.columns)
     by true = refl
     by false = refl
-
-holds_left : (e : End) (tx : ℕ) (c : CatalogCell) → (catalog_left e tx c).holds ≡ released c.holds tx
-holds_left (en.committed n) tx c = refl
-holds_left en.unfixed tx c = refl
-holds_left (en.ended n back) tx c = refl
 
 creator_is : (e : End) (tx : ℕ) (c : CatalogCell) → (catalog_left e tx c).creator ≡ creator_left tx c.creator
 creator_is (en.committed n) tx c = refl
@@ -177,7 +172,7 @@ module _ (v : Server) (cells : List Cell) (seats : List SeatState) {history : Hi
   rows_else = versions_else cells catalog_at (Catalog c) (Catalog d) out
 
   holds_are : holds_at C' catalog_at ≡ filter (λ g. not (g.tx == o.id)) (holds_at cells catalog_at)
-  holds_are = holds_here cells catalog_at (Catalog c) (Catalog d) out ∙ ap (λ (q : CatalogCell). q.holds) L.cell ∙ holds_left o.end o.id c ∙ released_is c.holds o.id ∙ ap (filter (λ g. not (g.tx == o.id))) (sym (held_here cells catalog_at (Catalog c) (Catalog d) out))
+  holds_are = holds_here cells catalog_at (Catalog c) (Catalog d) out ∙ ap (λ (q : CatalogCell). q.holds) L.cell ∙ catalog_held o.end o.id c ∙ released_is c.holds o.id ∙ ap (filter (λ g. not (g.tx == o.id))) (sym (held_here cells catalog_at (Catalog c) (Catalog d) out))
 
   same_holds : (n : ℕ) → n ≢ catalog_at → holds_at C' n ≡ holds_at cells n
   same_holds = holds_else cells catalog_at (Catalog c) (Catalog d) out

@@ -5,6 +5,7 @@ use Rattle.std.specs.Prelude.{◌==◌, not, if◌then◌else◌}
 use Rattle.std.specs.List.{AllByRecursion, list_any}
 use mathlib.Core.Option.{some}
 use lib.ListN.{get_elem?}
+use Rattle.std.proofs.ByRecursion.{All-weaker}
 use Rattle.sql_value.specs.declared.column.ColumnDef.{ColumnDef}
 use Rattle.sql_types.specs.declared.lock.Mode.TheVariants.{X}
 use Rattle.sql_types.specs.declared.statement.Stmt.{Stmt}
@@ -54,7 +55,6 @@ use Rattle.spec_protocol.specs.RowsAgree.{GoesBackTo, IsExplicitAt}
 use Rattle.spec_model.specs.Script.{ScriptEnd, script}
 use Rattle.law_frame.proofs.Definitions.{opened_keep_defs}
 use Rattle.law_frame.proofs.UndoneVersions.{nothing_undone}
-use Rattle.law_frame.proofs.Alls.{all_weaker}
 use Rattle.law_protocol_changes.proofs.ChangedRows.{later}
 use Rattle.law_protocol_steps.proofs.CellsAfter.{each_holds, versions_here, were_here, versions_else}
 use Rattle.law_protocol_changes.proofs.ChangesAt.{user_cell}
@@ -204,7 +204,7 @@ module _ (v : Server) (cells : List Cell) (seats : List SeatState) {history : Hi
   -- ---- the rows of a key
 
   weaker : (vs : List Version) → AllByRecursion (MadeBefore o.id 0) vs → AllByRecursion (MadeBefore o.id seq) vs
-  weaker vs h = all_weaker (MadeBefore o.id 0) (MadeBefore o.id seq) (λ w k. subst (λ (n : ℕ). MadeBefore o.id n w) (let z : 0 + seq ≡ seq = omega arith in z) (later o.id 0 seq w k)) vs h
+  weaker vs h = All-weaker (MadeBefore o.id 0) (MadeBefore o.id seq) (λ w k. subst (λ (n : ℕ). MadeBefore o.id n w) (let z : 0 + seq ≡ seq = omega arith in z) (later o.id 0 seq w k)) vs h
 
   kept_key : (key : Key) → HasNoX (holds_at cells (cell_of c.id)) o.id key → of_key columns key d.versions ≡ of_key columns key c.versions
   kept_key key free = ap (of_key columns key) versions_left ∙ sym (undone_of_key columns key o.id seq c.versions)

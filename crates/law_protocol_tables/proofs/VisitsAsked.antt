@@ -78,7 +78,7 @@ module _ (v : Server) {history : History} {cells : List Cell} {seats : List Seat
 
 -- ---- a statement that passes its checks, in the cell of the table that it found
 
-there_in : (n m : ℕ) (ws : List LockRequest) (w : LockRequest) → n ≡ m → In w ws → In w (if n == m then ws else [])
+pub there_in : (n m : ℕ) (ws : List LockRequest) (w : LockRequest) → n ≡ m → In w ws → In w (if n == m then ws else [])
 there_in n m ws w e k = subst (λ (b : Bool). In w (if b then ws else [])) (sym (eq-eqb n m e)) k
 
 module _ (v : Server) {history : History} {cells : List Cell} {seats : List SeatState} (st : Stands v history cells seats) (j : ℕ) (s : SeatState) (there : get_elem? seats j ≡ some s)

@@ -89,7 +89,7 @@ end_calm (lacks_index text def indexed a b) n = (tt, (tt, tt))
 
 -- ---- what a seat does alone
 
-each_still : (ds : List AnonymousAct) → Each Calm ds → Each Still ds
+pub each_still : (ds : List AnonymousAct) → Each Calm ds → Each Still ds
 each_still [] h = tt
 each_still (d ∷ ds) h = (calm_still d h.0, each_still ds h.1)
 

@@ -10,14 +10,10 @@ use Rattle.spec_history.specs.Journals.{blocks, in_blocks}
 use Rattle.spec_history.specs.Lists.{Each}
 use Rattle.spec_history.specs.Serial.{ClosesPending}
 use Rattle.spec_history.specs.StepOrder.{Counted, When, TakesClose, ItemsInOrder}
+use Rattle.spec_history.proofs.Grows.{blocks_append}
 use Rattle.law_sequential.specs.Outcome.{IsClosedThere}
 
 -- ---- blocks of parts of a journal
-
-blocks_both : (A K : List JournalItem) → blocks (A ++ K) ≡ blocks A + blocks K
-blocks_both [] K = let e : blocks K ≡ 0 + blocks K = omega arith in e
-blocks_both (Tx id name time explicit script ∷ A) K = blocks_both A K
-blocks_both (Close k ∷ A) K = let e = blocks_both A K in omega (arith, e)
 
 closed_both : (A K : List JournalItem) → closed (A ++ K) ≡ closed A + closed K
 closed_both [] K = let e : closed K ≡ 0 + closed K = omega arith in e
@@ -58,7 +54,7 @@ closed_there A K b c closes is counts below = ⊎_elim (λ (l : b < blocks A). l
     no_more : blocks A ≤ b → ⊥
     no_more l =
         let rest = rest_closes A K 0 closes in
-        let both = blocks_both A K in
+        let both = blocks_append A K in
         let some : 1 ≤ in_blocks (suc (b - blocks A)) K = some_in K rest.0 (b - blocks A) rest.1 (omega (arith, both, below, l)) in
         let same : suc (b - blocks A) ≡ suc b - blocks A = omega (arith, l) in
         let there : 1 ≤ in_blocks (suc b - blocks A) K = subst (λ (i : ℕ). 1 ≤ in_blocks i K) same some in

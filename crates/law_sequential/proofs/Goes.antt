@@ -28,15 +28,17 @@ use Rattle.spec_protocol.specs.Steps as step
 use Rattle.spec_protocol.specs.Steps.{Step}
 use Rattle.law_protocol.proofs.LedgerVisit.{the_ledger}
 use Rattle.law_protocol.proofs.OneAtATime.{IsPlain}
-use Rattle.spec_protocol.proofs.Places.{set_same, set_here, set_else, set_again}
+use Rattle.spec_protocol.proofs.Places.{set_same, set_here, set_again}
 use Rattle.law_protocol.proofs.StepsAlone.{checked_plain, failed_in_plain}
 use Rattle.law_protocol.proofs.SinceFirst.{SinceFirst, since_first}
+use Rattle.law_protocol.proofs.AlonesKeep.{did_append, quiet_then}
+use Rattle.law_protocol.proofs.FollowsSteps.{visit_plain}
 use Rattle.law_sequential.specs.SequentialRun.{SequentialRun, IsInside, StaysInside}
 use Rattle.law_sequential.specs.EndsLast.{Phase, running, ending, CameSo, InPhase, IsNoEnd, IsNoStatement}
 use Rattle.law_sequential.specs.InStep.{InStep, due_in, Waits}
 use Rattle.law_sequential.proofs.Calm.{Still, alone_still, alones_still, still_in_step}
 use Rattle.law_sequential.proofs.Closes.{in_step_append}
-use Rattle.law_sequential.proofs.VisitInStep.{LedgerAfter, visit_in_step, visit_plain}
+use Rattle.law_sequential.proofs.VisitInStep.{LedgerAfter, visit_in_step}
 
 -- ---- what more deeds add
 
@@ -198,16 +200,9 @@ module _ {v : Server} {database : Text} {size : ℕ} {phase : Phase} {names : Li
 
 -- ---- with several steps alone
 
-acts_append : (xs ys : List SessionAct) → map did (xs ++ ys) ≡ map did xs ++ map did ys
-acts_append [] ys = refl
-acts_append (x ∷ xs) ys = ap (λ (ds : List AnonymousAct). did x ∷ ds) (acts_append xs ys)
-
 each_left : (P : AnonymousAct → Type 0) (xs ys : List SessionAct) → Each P (map did (xs ++ ys)) → Each P (map did xs) × Each P (map did ys)
 each_left P [] ys h = (tt, h)
 each_left P (x ∷ xs) ys h = let r = each_left P xs ys h.1 in ((h.0, r.0), r.1)
-
-still_inactive : (seats : List SeatState) (j : ℕ) (t : SeatState) → InactiveExcept seats j → InactiveExcept (slice_set seats j t) j
-still_inactive seats j t quiet k s ne e = quiet k s ne (sym (set_else seats j k t ne) ∙ e)
 
 module _ {v : Server} {database : Text} {size : ℕ} {phase : Phase} {names : List Text} {lines : List InputLine} {cells : List Cell} {seats : List SeatState} (c : SequentialRun v database size phase names lines cells seats)
     (j : ℕ) (s : SeatState) (there : get_elem? seats j ≡ some s) (quiet : InactiveExcept seats j) where
@@ -217,10 +212,10 @@ module _ {v : Server} {database : Text} {size : ℕ} {phase : Phase} {names : Li
       (subst (λ (us : List SeatState). SequentialRun v database size phase names lines cells us) (sym (set_same seats j s there)) c)
   alones_more _ (more {t} {u} first last) phased = let p = each_left (InPhase phase) (alones_acts first) (alone_acts last) phased in
       let before = alones_more t first p.0 in
-      let after = alone_more before j t u (set_here seats j t s there) (still_inactive seats j t quiet) last p.1 in
+      let after = alone_more before j t u (set_here seats j t s there) (quiet_then seats j t quiet) last p.1 in
       subst₂ (λ (ns : List Text) (us : List SeatState). SequentialRun v database size phase ns (lines ++ (alones_lines first ++ alone_lines last)) cells us)
       (append_assoc names (names_begun (map did (alones_acts first))) (names_begun (map did (alone_acts last)))
-      ∙ ap (λ (ns : List Text). names ++ ns) (sym (more_names (map did (alones_acts first)) (map did (alone_acts last))) ∙ ap names_begun (sym (acts_append (alones_acts first) (alone_acts last)))))
+      ∙ ap (λ (ns : List Text). names ++ ns) (sym (more_names (map did (alones_acts first)) (map did (alone_acts last))) ∙ ap names_begun (sym (did_append (alones_acts first) (alone_acts last)))))
       (set_again seats j t u)
       (subst (λ (ls : List InputLine). SequentialRun v database size phase ((names ++ names_begun (map did (alones_acts first))) ++ names_begun (map did (alone_acts last))) ls cells (slice_set (slice_set seats j t) j u)) (append_assoc lines (alones_lines first) (alone_lines last)) after)
 
@@ -254,7 +249,7 @@ no_lines_left (x ∷ xs) ys e = absurd (let g : ⊥ = cc in g)
 pub all_silent : {v : Server} {s t : SeatState} (steps : Alones v s t) → alones_lines steps ≡ [] → Each IsNoStatement (map did (alones_acts steps))
 all_silent none e = tt
 all_silent (more first last) e = let p = no_lines_left (alones_lines first) (alone_lines last) e in
-    subst (Each IsNoStatement) (sym (acts_append (alones_acts first) (alone_acts last)))
+    subst (Each IsNoStatement) (sym (did_append (alones_acts first) (alone_acts last)))
     (each_append IsNoStatement (map did (alones_acts first)) (map did (alone_acts last)) (all_silent first p.0) (one_silent last p.1))
 
 pub may_silent : {v : Server} {s : SeatState} {out : List (ℕ × Cell)} {i : ℕ} {c : Cell} {t : SeatState} (m : AllowedVisit v s out i c t) → may_lines m ≡ [] → Each IsNoStatement (may_anonymous_acts m)

@@ -46,7 +46,7 @@ commit_in_step N c d entry item ls time place l is = subst (λ (x : Due). InStep
 
 -- ---- a closing
 
-next_full : (c : LedgerCell) → c.block_size ≤ pending_in c → next_block c ≡ c.block_size
+pub next_full : (c : LedgerCell) → c.block_size ≤ pending_in c → next_block c ≡ c.block_size
 next_full c l = let e : nat_le c.block_size (pending_in c) ≡ true = le-leb c.block_size (pending_in c) l in rw e refl
 
 next_rest : (c : LedgerCell) → pending_in c < c.block_size → next_block c ≡ pending_in c

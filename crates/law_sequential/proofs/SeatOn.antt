@@ -27,14 +27,14 @@ use Rattle.law_sequential.proofs.SessionsStand.{ShownAt, shown_at, one_seat_on, 
 
 -- ---- sessions
 
-abbrev role_seen : Role → List Session
+abbrev pub role_seen : Role → List Session
 role_seen (session x) = x ∷ []
 role_seen _ = []
 
-one_session : (r : Role) (x y : Session) → r ≡ session x → r ≡ session y → x ≡ y
+pub one_session : (r : Role) (x y : Session) → r ≡ session x → r ≡ session y → x ≡ y
 one_session r x y a b = let e : x ∷ [] ≡ y ∷ [] = ap role_seen (sym a ∙ b) in cc
 
-not_idle : (r : Role) (x : Session) → r ≡ session x → r ≡ idle → ⊥
+pub not_idle : (r : Role) (x : Session) → r ≡ session x → r ≡ idle → ⊥
 not_idle r x a b = let e : x ∷ [] ≡ [] = ap role_seen (sym a ∙ b) in cc
 
 abbrev transcript_with : Text → List Entry → Transcript
@@ -100,11 +100,11 @@ no_issue (did a ∷ ds) h i = ⊎_elim (λ (e : IsIssue (did a)). not_this a h.0
     not_this (issues g mark) s e = s
     not_this b s e = e
 
-some_either : (P : AnonymousAct → Type 0) (xs ys : List AnonymousAct) → Some_of P (xs ++ ys) → Some_of P xs ⊎ Some_of P ys
+pub some_either : (P : AnonymousAct → Type 0) (xs ys : List AnonymousAct) → Some_of P (xs ++ ys) → Some_of P xs ⊎ Some_of P ys
 some_either P [] ys h = inr h
 some_either P (x ∷ xs) ys h = ⊎_elim (λ (e : P x). inl (inl e)) (λ k. ⊎_elim (λ (l : Some_of P xs). inl (inr l)) (λ r. inr r) (some_either P xs ys k)) h
 
-some_right : (P : AnonymousAct → Type 0) (xs ys : List AnonymousAct) → Some_of P ys → Some_of P (xs ++ ys)
+pub some_right : (P : AnonymousAct → Type 0) (xs ys : List AnonymousAct) → Some_of P ys → Some_of P (xs ++ ys)
 some_right P [] ys h = h
 some_right P (x ∷ xs) ys h = inr (some_right P xs ys h)
 

@@ -1,5 +1,5 @@
 -- What a course comes to, by every meaning that statements have; and the forms of its journal.
-use Rattle.std.proofs.Common.{◌≡◌, ◌≤◌, ◌^◌, ℕ, zero, suc, true, List, [], ◌∷◌, ◌++◌, map, flat_map, None, refl, sym, ap, ap₂, subst, subst₂, ◌∙◌, append-nil, ⊎_elim}
+use Rattle.std.proofs.Common.{◌≡◌, ◌≤◌, ◌^◌, ℕ, zero, suc, true, List, [], ◌∷◌, ◌++◌, map, flat_map, None, refl, sym, ap, ap₂, subst, subst₂, ◌∙◌, append-nil}
 use mathlib.Core.Option.{some, none, some-injective}
 use lib.ListN.{get_elem?}
 use Rattle.base_types.specs.DatabaseName.{is_database_name}
@@ -21,6 +21,7 @@ use Rattle.spec_history.specs.Meaning.{Meaning}
 use Rattle.spec_history.specs.Transcripts.{Transcript}
 use Rattle.spec_history.proofs.Real.{real, is_real}
 use Rattle.spec_history.proofs.Trace.{each_append, each_weaker}
+use Rattle.spec_history.proofs.Refused.{in_each}
 use Rattle.format_image.specs.Image.{image_of}
 use Rattle.format_image.specs.ImageBytes.{image_bytes}
 use Rattle.spec_protocol.proofs.Staying.{hashing}
@@ -32,9 +33,10 @@ use Rattle.spec_protocol.specs.SeatNames.{names_of, session_names}
 use Rattle.spec_protocol.specs.Seats.{KeptImage, Written, Role, session, SeatState, IsAtRest}
 use Rattle.spec_protocol.specs.Server.{Server, journal_image}
 use Rattle.spec_protocol.specs.StandTogether.{Stands}
-use Rattle.spec_protocol.specs.TranscriptsAgree.{IsImage, IsMoment, moments_of, session_moments}
+use Rattle.spec_protocol.specs.TranscriptsAgree.{IsImage, IsMoment, moments_of}
 use Rattle.law_protocol.proofs.JournalKept.{legal_journal}
 use Rattle.spec_protocol.specs.Serves.{Serves}
+use Rattle.law_protocol.proofs.JoinsStand.{rests_moments}
 use Rattle.law_sequential.specs.Outcome.{Outcome}
 use Rattle.law_sequential.specs.SessionOutput.{HasEnded, IsMeaning, IsImageOf, RunAgrees}
 use Rattle.law_sequential.specs.Wrote.{Wrote, transcripts_in}
@@ -128,11 +130,7 @@ rests_nameless : (r : Role) → IsAtRest r → session_names r ≡ []
 rests_nameless (session x) h = absurd h
 rests_nameless r h = refl
 
-rests_timeless : (r : Role) → IsAtRest r → session_moments r ≡ []
-rests_timeless (session x) h = absurd h
-rests_timeless r h = refl
-
-mapped : {A B : Type 0} (f : A → B) (Q : B → Type 0) (xs : List A) → Each (λ x. Q (f x)) xs → Each Q (map f xs)
+pub mapped : {A B : Type 0} (f : A → B) (Q : B → Type 0) (xs : List A) → Each (λ x. Q (f x)) xs → Each Q (map f xs)
 mapped f Q [] h = tt
 mapped f Q (x ∷ xs) h = (h.0, mapped f Q xs h.1)
 
@@ -140,15 +138,11 @@ flattened : {A B : Type 0} (f : A → List B) (Q : B → Type 0) (xs : List A) �
 flattened f Q [] h = tt
 flattened f Q (x ∷ xs) h = each_append Q (f x) (flat_map f xs) h.0 (flattened f Q xs h.1)
 
-each_in : {A : Type 0} (Q : A → Type 0) (xs : List A) (x : A) → Each Q xs → In x xs → Q x
-each_in Q [] x h i = absurd i
-each_in Q (y ∷ ys) x h i = ⊎_elim (λ (e : y ≡ x). subst Q e h.0) (λ k. each_in Q ys x h.1 k) i
-
 seat_names : (Q : Text → Type 0) (s : SeatState) → IsAtRest s.role → Each (λ w. Q w.transcript.session) s.written → Each Q (names_of s)
 seat_names Q s rests h = subst (Each Q) (sym (ap (λ (ns : List Text). map (λ w. w.transcript.session) s.written ++ ns) (rests_nameless s.role rests) ∙ append-nil _)) (mapped (λ w. w.transcript.session) Q s.written h)
 
 seat_moments : (Q : ℕ → Type 0) (s : SeatState) → IsAtRest s.role → Each (λ w. Each Q w.moments) s.written → Each Q (moments_of s)
-seat_moments Q s rests h = subst (Each Q) (sym (ap (λ (ns : List ℕ). flat_map (λ x. x.moments) s.written ++ ns) (rests_timeless s.role rests) ∙ append-nil _)) (flattened (λ w. w.moments) Q s.written h)
+seat_moments Q s rests h = subst (Each Q) (sym (ap (λ (ns : List ℕ). flat_map (λ x. x.moments) s.written ++ ns) (rests_moments s.role rests) ∙ append-nil _)) (flattened (λ w. w.moments) Q s.written h)
 
 -- what holds of all that was written holds of what each seat wrote
 record SeatHas (R : Written → Type 0) (s : SeatState) : Type 0 where
@@ -191,7 +185,7 @@ module _ {v : Server} {database : Text} {size : ℕ} {names : List Text} {lines 
   its_moments j s there = let h = every_seat (λ w. Each IsTime w.moments) e.seats e.written e.wrote e.in_time j s there in seat_moments IsTime s h.rests h.each
 
   is_time : (time : ℕ) → IsMoment e.seats time → IsTime time
-  is_time time m = each_in IsTime (moments_of m.seat) time (its_moments m.j m.seat m.there) m.is
+  is_time time m = in_each IsTime (moments_of m.seat) time (its_moments m.j m.seat m.there) m.is
 
   pub times_are : Each IsTime (times J)
   times_are = subst (λ (K : List JournalItem). Each IsTime (times K)) (ap (λ (c : LedgerCell). c.items) (sym (ledger_is e.sequential_run)) ∙ e.items) (each_weaker (IsMoment e.seats) IsTime is_time (times st.ledger.items) st.transcripts_agree.times)
@@ -207,7 +201,7 @@ module _ {v : Server} {database : Text} {size : ℕ} {names : List Text} {lines 
     names = λ j s there. let h = every_seat (λ w. is_session_name w.transcript.session ≡ true) e.seats e.written e.wrote
         (named_so (λ name. is_session_name name ≡ true) e.written (subst (Each (λ name. is_session_name name ≡ true)) (sym (ap names_in e.transcripts ∙ named)) good)) j s there in
         seat_names (λ name. is_session_name name ≡ true) s h.rests h.each;
-    moments = λ j s there. each_weaker IsTime (λ t. is_moment t ≡ true) (λ t i. each_in (λ m. is_moment m ≡ true) moments t time i) (moments_of s) (its_moments j s there);
+    moments = λ j s there. each_weaker IsTime (λ t. is_moment t ≡ true) (λ t i. in_each (λ m. is_moment m ≡ true) moments t time i) (moments_of s) (its_moments j s there);
   }))
     where
       same_journal : journal_in st.ledger ≡ record { database = database; items = J }

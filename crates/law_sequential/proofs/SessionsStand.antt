@@ -12,6 +12,7 @@ use Rattle.spec_protocol.specs.Moves.{sits}
 use Rattle.spec_protocol.specs.InactiveExcept.{IsInactive, InactiveExcept}
 use Rattle.spec_protocol.specs.Seats.{KeptImage, Session, Role, idle, session, SeatState, Written, IsAtRest, idle_seat, split}
 use Rattle.spec_protocol.specs.Server.{Server}
+use Rattle.law_protocol.proofs.JoinsStand.{in_left}
 use Rattle.law_sequential.specs.SequentialRun.{SequentialRun}
 use Rattle.law_sequential.specs.EndsLast.{Phase, running, ending}
 use Rattle.law_sequential.specs.Sessions.{SessionOutput, names_told, told_nothing, Runs, IsOver, IsShown, EachShown, SessionsStand, OthersInactive}
@@ -57,10 +58,6 @@ names_set (m ∷ ms) zero l k e same = ap (λ (n : Text). n ∷ names_told ms) (
 names_set (m ∷ ms) (suc j) l k e same = ap (λ (ns : List Text). m.transcript.session ∷ ns) (names_set ms j l k e same)
 
 -- ---- more moments
-
-in_left : (time : ℕ) (xs ys : List ℕ) → In time xs → In time (xs ++ ys)
-in_left time [] ys h = absurd h
-in_left time (x ∷ xs) ys h = ⊎_elim (λ (e : x ≡ time). inl e) (λ k. inr (in_left time xs ys k)) h
 
 all_left : (ts xs ys : List ℕ) → Each (λ time. In time xs) ts → Each (λ time. In time (xs ++ ys)) ts
 all_left [] xs ys h = tt

@@ -2,7 +2,7 @@
 use Rattle.std.proofs.Common.{◌≡◌, ◌≢◌, ℕ, zero, suc, Bool, true, false, List, [], ◌∷◌, map, refl, sym, ap, ap₂, subst, ◌∙◌}
 use Rattle.std.specs.Prelude.{◌==◌, if◌then◌else◌}
 use Rattle.std.specs.Str.{bytes_eq}
-use Rattle.std.proofs.lemmas.Bool.{eqb-true, eq-eqb}
+use Rattle.std.proofs.lemmas.Bool.{eqb-true, eq-eqb, false_from_ne_true}
 use Rattle.std.proofs.lemmas.Slice.Eq.{bytes_eq-Decides}
 use Rattle.spec_history.specs.Agree.{AreStatements}
 use Rattle.spec_history.specs.Inputs.{InputLine, InputSession, texts_of_session, sessions_in}
@@ -18,10 +18,6 @@ at_same : (X : List Transcript) (i : ℕ) (x y : Transcript) → At X i x → At
 at_same [] i x y a b = absurd a
 at_same (z ∷ X) zero x y a b = sym a ∙ b
 at_same (z ∷ X) (suc i) x y a b = at_same X i x y a b
-
-not_true : (b : Bool) → (b ≡ true → ⊥) → b ≡ false
-not_true true h = absurd (h refl)
-not_true false h = refl
 
 -- ---- entries (end) have no statement
 
@@ -49,12 +45,12 @@ rows_texts X (line ∷ lines) (row ∷ rows) differ h i x a = line_adds (row.0 =
   where
     same_session : (b : Bool) → (row.0 == i) ≡ b → bytes_eq line.session x.session ≡ b
     same_session true e = (bytes_eq-Decides line.session x.session).1 (sym h.0.session ∙ ap (λ (t : Transcript). t.session) (at_same X i h.0.transcript x (subst (λ (n : ℕ). At X n h.0.transcript) (eqb-true row.0 i e) h.0.there) a))
-    same_session false e = not_true (bytes_eq line.session x.session) (λ f. differ row.0 i h.0.transcript x h.0.there a
+    same_session false e = false_from_ne_true (bytes_eq line.session x.session) (λ f. differ row.0 i h.0.transcript x h.0.there a
         (λ same. let is : (row.0 == i) ≡ true = eq-eqb row.0 i same in cc) (h.0.session ∙ (bytes_eq-Decides line.session x.session).0 f))
 
 -- ---- so the input is that of the lines
 
-abbrev session_of : Text → List Text → InputSession
+abbrev pub session_of : Text → List Text → InputSession
 session_of name texts = record { name = name; texts = texts }
 
 pub input_is : (lines : List InputLine) (input : List InputSession) (X : List Transcript) → AreStatements input X → ((i : ℕ) (x : Transcript) → At X i x → statements x.entries ≡ texts_of_session x.session lines)

@@ -5,7 +5,7 @@ use mathlib.Core.Option.{some, some-injective}
 use lib.ListN.{get_elem?}
 use Rattle.sql_types.specs.declared.journal.JournalItem.TheVariants.{Tx}
 use Rattle.spec_model.specs.Journals.{tx_count}
-use Rattle.spec_history.specs.Acts.{commits, issues, keeps}
+use Rattle.spec_history.specs.Acts.{keeps}
 use Rattle.spec_history.specs.Histories.{Due, full_or}
 use Rattle.spec_history.specs.Lists.{Each}
 use Rattle.spec_protocol.specs.Cells.{CatalogCell, LedgerCell, TableCell, Cell, Catalog, Ledger, Rows, AreCells, ledger_at, pending_in}
@@ -17,40 +17,12 @@ use Rattle.spec_protocol.specs.Server.{Server}
 use Rattle.spec_protocol.specs.Visits as visit
 use Rattle.spec_protocol.specs.Visits.{Visit, Happens}
 use Rattle.law_protocol.proofs.LedgerVisit.{the_ledger, lies_there}
-use Rattle.law_protocol.proofs.OneAtATime.{IsPlain}
 use Rattle.spec_protocol.proofs.Places.{set_here, set_else, set_same}
-use Rattle.law_protocol.proofs.StepsAlone.{closings_plain, done_plain, end_plain, failed_in_plain, says_plain, stopped_plain}
 use Rattle.law_sequential.specs.InStep.{InStep, due_in, Waits}
-use Rattle.law_sequential.proofs.Calm.{Calm, Still, calm_still, done_calm, failed_in_calm, stopped_calm, end_calm, still_in_step}
+use Rattle.law_sequential.proofs.Calm.{Calm, done_calm, failed_in_calm, stopped_calm, end_calm, still_in_step, each_still}
 use Rattle.law_sequential.proofs.LedgerInStep.{commit_in_step, close_in_step, issue_in_step, due_below}
 
 -- ---- no session begins in a visit, takes up a statement or answers one
-
-pub visit_plain : (v : Server) (out : List (ℕ × Cell)) (how : Visit) (a : Cell) (s : SeatState) (b : Cell) (t : SeatState) (h : Happens v out how a s b t) → Each IsPlain (visit_anonymous_acts v out how a s b t h)
-visit_plain v out (visit.assign_id explicit) (Ledger a) s (Ledger b) t h = (tt, tt)
-visit_plain v out visit.look (Catalog a) s (Catalog b) t h = (tt, tt)
-visit_plain v out visit.read_system (Catalog a) s (Catalog b) t h = (tt, done_plain h.o.explicit h.at.stands.text true _)
-visit_plain v out visit.create_table (Catalog a) s (Catalog b) t h = (tt, tt)
-visit_plain v out visit.create_index (Catalog a) s (Catalog b) t h = (tt, tt)
-visit_plain v out visit.refuse_create (Catalog a) s (Catalog b) t h = (tt, tt)
-visit_plain v out visit.stop_in_catalog (Catalog a) s (Catalog b) t h = stopped_plain h.0.stopped h.0.at.stands.text _ (failed_in_plain v.meaning (Some h.0.o) h.0.at.stands.text)
-visit_plain v out visit.change (Rows a) s (Rows b) t h = done_plain h.o.explicit h.at.at.stands.text true _
-visit_plain v out visit.refuse_change (Rows a) s (Rows b) t h = done_plain h.o.explicit h.at.at.stands.text true _
-visit_plain v out visit.read (Rows a) s (Rows b) t h = done_plain h.o.explicit h.at.at.stands.text true _
-visit_plain v out visit.stop_in_table (Rows a) s (Rows b) t h = stopped_plain h.0.stopped h.0.at.at.stands.text _ (tt, tt)
-visit_plain v out visit.add_index (Rows a) s (Rows b) t h = tt
-visit_plain v out visit.undo_to (Rows a) s (Rows b) t h = tt
-visit_plain v out (visit.commit time) (Ledger a) s (Ledger b) t h = says_plain (lines_at h.stands.x.place) (commits time (tx_count a.items + 1) ∷ []) (tt, tt)
-visit_plain v out visit.read_point (Ledger a) s (Ledger b) t h = end_plain h.0.ends (tx_count a.items)
-visit_plain v out visit.release (Rows a) s (Rows b) t h = tt
-visit_plain v out visit.release_catalog (Catalog a) s (Catalog b) t h = tt
-visit_plain v out visit.give_back (Catalog a) s (Catalog b) t h = tt
-visit_plain v out (visit.close k) (Ledger a) s (Ledger b) t h = (tt, tt)
-visit_plain v out (visit.issue moment) (Ledger a) s (Ledger b) t h = closings_plain v (pending_in a) a (did (issues h.digest (tx_count a.items)) ∷ []) (tt, tt)
-visit_plain v out visit.lack_block (Ledger a) s (Ledger b) t h = (tt, tt)
-visit_plain v out visit.keep a s b t h = (tt, tt)
-visit_plain v out visit.nothing a s b t h = tt
-visit_plain v out how a s b t h = absurd h
 
 -- one that neither commits nor closes, issues a digest or keeps an image
 abbrev IsCalm : Visit → Type 0
@@ -100,16 +72,12 @@ not_catalog catalog ledger e = let f : Catalog catalog ≡ Ledger ledger = some-
 not_rows : (table : TableCell) (ledger : LedgerCell) → some (Rows table) ≡ some (Ledger ledger) → ⊥
 not_rows table ledger e = let f : Rows table ≡ Ledger ledger = some-injective (Rows table) (Ledger ledger) e in cc
 
-all_still : (ds : List AnonymousAct) → Each Calm ds → Each Still ds
-all_still [] h = tt
-all_still (d ∷ ds) h = (calm_still d h.0, all_still ds h.1)
-
 module _ (v : Server) (N : ℕ) (some_size : 1 ≤ N) (cells : List Cell) (catalog : CatalogCell) (l : LedgerCell) (are : AreCells cells catalog l) (size : l.block_size ≡ N) (out : List (ℕ × Cell)) (i : ℕ) where
   abbrev Then : Cell → List AnonymousAct → Type 0
   Then d anonymous_acts = LedgerAfter N cells i d l anonymous_acts
 
   stays : (anonymous_acts : List AnonymousAct) → Each Calm anonymous_acts → InStep N (due_in N l) anonymous_acts (due_in N l)
-  stays anonymous_acts calm = still_in_step N (pending_in l == N) (pending_in l) anonymous_acts (all_still anonymous_acts calm)
+  stays anonymous_acts calm = still_in_step N (pending_in l == N) (pending_in l) anonymous_acts (each_still anonymous_acts calm)
 
   else_there : (d : Cell) → ledger_at ≢ i → get_elem? (slice_set cells i d) ledger_at ≡ some (Ledger l)
   else_there d ne = set_else cells i ledger_at d ne ∙ are.has_ledger
@@ -136,7 +104,7 @@ module _ (v : Server) (N : ℕ) (some_size : 1 ≤ N) (cells : List Cell) (catal
   }
 
   as_many_pending : (a d : LedgerCell) (anonymous_acts : List AnonymousAct) → pending_in d ≡ pending_in a → Each Calm anonymous_acts → InStep N (due_in N a) anonymous_acts (due_in N d)
-  as_many_pending a d anonymous_acts same calm = subst (λ (x : Due). InStep N (due_in N a) anonymous_acts x) (ap (λ (n : ℕ). full_or (n == N) n) (sym same)) (still_in_step N (pending_in a == N) (pending_in a) anonymous_acts (all_still anonymous_acts calm))
+  as_many_pending a d anonymous_acts same calm = subst (λ (x : Due). InStep N (due_in N a) anonymous_acts x) (ap (λ (n : ℕ). full_or (n == N) n) (sym same)) (still_in_step N (pending_in a == N) (pending_in a) anonymous_acts (each_still anonymous_acts calm))
 
   sized : (a : LedgerCell) → get_elem? cells i ≡ some (Ledger a) → a.block_size ≡ N
   sized a e = ap (λ (c : LedgerCell). c.block_size) (is_ledger a e) ∙ size

@@ -1,15 +1,16 @@
 -- What an entry adds to the committed transactions, where its statement is a transaction of its own.
-use Rattle.std.proofs.Common.{◌≡◌, ℕ, Bool, true, false, List, [], ◌∷◌, ◌++◌, Option, Some, None, refl, sym, ap, ◌∙◌, inl, inr, append_assoc, append-nil}
+use Rattle.std.proofs.Common.{◌≡◌, ℕ, Bool, true, false, List, [], ◌∷◌, ◌++◌, Option, Some, None, refl, sym, ap, inl, inr, append-nil}
 use Rattle.std.specs.Prelude.{◌⊎◌}
 use Rattle.sql_value.specs.declared.refusal.Refusal.TheVariants.{Locked, NoMemory}
 use Rattle.sql_types.specs.declared.reply.Reply.{Reply}
 use Rattle.sql_types.specs.declared.reply.Reply.TheVariants as reply
 use Rattle.spec_history.specs.Lists.{Text}
 use Rattle.spec_history.specs.Meaning.{Meaning}
-use Rattle.spec_history.specs.Agree.{Placed, committed_at_place, committed_ones}
+use Rattle.spec_history.specs.Agree.{Placed, committed_ones}
 use Rattle.spec_history.specs.Facts.{Fact, began, said, failed, met, answer_facts, own_facts, facts_inside, facts_outside, entry_facts, end_facts}
 use Rattle.spec_history.specs.Transactions.{committed, ended, Transaction, TransactionLog, new, adds_line, adds_answer, ends_so, read_facts}
 use Rattle.spec_history.specs.Transcripts.{EndLine, committed_at, ended_after, statement, end_of_session, ended_id, Kind, create, rows, kind_of}
+use Rattle.spec_history.proofs.Placed.{ones_append}
 
 -- a statement of this kind is a transaction of its own where BEGIN opened none
 abbrev pub IsOwn : Kind → Type 0
@@ -29,10 +30,6 @@ abbrev pub AtMostOne : Text → List Placed → Type 0
 AtMostOne text [] = Unit {0}
 AtMostOne text (p ∷ []) = IsOf text p
 AtMostOne text (p ∷ r ∷ ps) = ⊥
-
-pub ones_append : (us vs : List Transaction) → committed_ones (us ++ vs) ≡ committed_ones us ++ committed_ones vs
-ones_append [] vs = refl
-ones_append (u ∷ us) vs = ap (λ (l : List Placed). committed_at_place u u.end ++ l) (ones_append us vs) ∙ sym (append_assoc (committed_at_place u u.end) (committed_ones us) (committed_ones vs))
 
 -- none is open, and these are over
 abbrev pub closed_book : List Transaction → TransactionLog

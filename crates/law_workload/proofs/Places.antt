@@ -6,7 +6,7 @@ use Rattle.spec_history.specs.Agree.{Placed, committed_at_place, committed_ones}
 use Rattle.spec_history.specs.Facts.{Fact, began, said, failed, met, placed, passed, over, mark_of, Shows}
 use Rattle.spec_history.specs.Transactions.{End, unfixed, committed, ended, Transaction, TransactionLog, on_some, listed, adds_line, adds_answer, open_by, past_by, read_facts, blank, transactions}
 use Rattle.spec_history.proofs.Trace.{each_append}
-use Rattle.law_workload.proofs.Entries.{ones_append}
+use Rattle.spec_history.proofs.Placed.{ones_append}
 
 module _ (J : List JournalItem) (P : ℕ → Type 0) where
   abbrev pub AreAt : List Placed → Type 0

@@ -24,10 +24,10 @@ use Rattle.spec_grammar.specs.Rows as r
 use Rattle.spec_grammar.specs.Tables as b
 use Rattle.spec_grammar.specs.Statements as s
 use Rattle.spec_grammar.specs.Statements.{IsStmt, IsStatement}
+use Rattle.sql_parse.proofs.Values.{decimal_is}
 use Rattle.workload_generator.specs.Workload.{value_of, create_text, insert_text, update_text}
 use Rattle.law_workload.specs.Statements.{table_name, one_more, of_row, create_statement, insert_statement, update_statement}
 use Rattle.law_workload.proofs.Cut.{Lexeme, cut, tokens_written}
-use Rattle.law_workload.proofs.Numbers.{decimal_digits}
 use Rattle.law_workload.proofs.Tokens.{created, inserted, updated, create_tokens, insert_tokens, update_tokens}
 use Rattle.law_workload.proofs.FourTables.{by_table}
 
@@ -67,7 +67,7 @@ create_read table some few =
 text_of_number : (n : ℕ) → n < 10 ^ 38 → literal_text (number n) ≡ decimal n
 unfolding literal_text pointed
 text_of_number n few =
-    let some = (decimal_digits n (omega (arith, few))).1 in
+    let some = (decimal_is n (omega (arith, few))).1 in
     let all : length (decimal n) - 0 ≡ length (decimal n) = omega arith in
     rw (lt-ltb 0 (length (decimal n)) some, all, drop_all (length (decimal n)) (decimal n) (omega arith), take_all (length (decimal n)) (decimal n) (omega arith)) (append-nil (decimal n))
 

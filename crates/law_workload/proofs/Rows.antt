@@ -5,18 +5,20 @@ use Rattle.std.specs.List.{filter, AllByRecursion}
 use Rattle.std.specs.Ordering.{is_eq, ordering_then}
 use Rattle.std.specs.declared.cmp.Ordering.{Ordering}
 use Rattle.std.specs.declared.cmp.Ordering.TheVariants.{Less, Equal, Greater}
-use Rattle.std.proofs.lemmas.Bool.{and_parts}
+use Rattle.std.proofs.lemmas.Bool.{and_parts, false_from_ne_true}
 use Rattle.std.proofs.lemmas.Bool.Decides.{nat_tests}
 use Rattle.std.proofs.lemmas.Int.{ints}
+use Rattle.std.proofs.ByRecursion.{All-weaker}
 use Rattle.sql_value.specs.Order.{value_cmp}
 use Rattle.sql_value.proofs.Numbers.{raised_none}
+use Rattle.sql_value.proofs.Storing.{self_equal}
 use Rattle.sql_scalar.proofs.OrderLaws as order
 use Rattle.sql_types.specs.declared.version.Version.{Version}
 use Rattle.spec_model.specs.Keys.{same_key, key_cmp, version_key, of_key, has_live_row}
 use Rattle.spec_model.specs.Lists.{inserted}
 use Rattle.spec_model.specs.Rows.{EventId, same_event, start_cmp, with_end, number, stored_row, values_of}
 use Rattle.spec_model.specs.Runs.{MadeBefore}
-use Rattle.law_frame.proofs.Alls.{all_weaker, all_inserted, all_map}
+use Rattle.law_frame.proofs.Alls.{all_inserted, all_map}
 use Rattle.workload_generator.specs.Workload.{value_of}
 use Rattle.law_workload.specs.Statements.{row_with}
 use Rattle.law_workload.specs.Tables.{second}
@@ -42,13 +44,9 @@ equal_numbers a b e =
     let whole : pos a ≡ pos b = sym (raised_none (pos a)) ∙ same ∙ raised_none (pos b) in
     omega (arith, ints, whole)
 
-not_true : (t : Bool) → (t ≡ true → ⊥) → t ≡ false
-not_true true h = absurd (h refl)
-not_true false h = refl
-
 apart : (a b : ℕ) → a < b → same_key (number a ∷ []) (number b ∷ []) ≡ false
 unfolding same_key key_cmp
-apart a b less = not_true _ (λ h. let same = equal_numbers a b (is_one (value_cmp (number a) (number b)) h) in omega (arith, less, same))
+apart a b less = false_from_ne_true _ (λ h. let same = equal_numbers a b (is_one (value_cmp (number a) (number b)) h) in omega (arith, less, same))
 
 itself : (a : ℕ) → same_key (number a ∷ []) (number a ∷ []) ≡ true
 unfolding same_key key_cmp
@@ -85,7 +83,7 @@ abbrev pub IsNew : ℕ → List Version → Type 0
 IsNew tx V = AllByRecursion (MadeBefore tx 0) V
 
 other_event : (tx : ℕ) (v : Version) → MadeBefore tx 0 v → same_event v.start (tx, 0) ≡ false
-other_event tx v made = not_true _ (λ h.
+other_event tx v made = false_from_ne_true _ (λ h.
     let both = and_parts (v.start.0 == tx) (v.start.1 == 0) h in
     let own : v.start.0 ≡ tx = grind (arith, nat_tests, both.0) in
     let less = made.start own in
@@ -95,11 +93,8 @@ no_start : (tx : ℕ) (V : List Version) → IsNew tx V → filter (λ v. same_e
 no_start tx [] all = refl
 no_start tx (v ∷ V) all = rw (other_event tx v all.0) (no_start tx V all.1)
 
-same_number_twice : (n : ℕ) → (n == n) ≡ true
-same_number_twice n = grind (arith, nat_tests)
-
 own_event : (tx n : ℕ) → same_event (tx, n) (tx, n) ≡ true
-own_event tx n = rw (same_number_twice tx, same_number_twice n) refl
+own_event tx n = rw (self_equal tx, self_equal n) refl
 
 -- ---- the table after so many statements
 
@@ -149,7 +144,7 @@ after_insert table k tx V place h new =
     let more : rows_after (suc k) ≡ suc row = omega (arith, place) in
     let quotient : suc k / 11 ≡ k / 11 = omega (arith, place) in
     let own : IsBelow (rows_after (suc k)) (row_version row value (tx, 0)) = record { row = row; value = value; less = omega (arith, more); are = refl } in
-    let others = all_weaker (IsBelow row) (IsBelow (rows_after (suc k))) (below_more row (rows_after (suc k)) (omega (arith, more))) V h.below in
+    let others = All-weaker (IsBelow row) (IsBelow (rows_after (suc k))) (below_more row (rows_after (suc k)) (omega (arith, more))) V h.below in
     let total : inserted_total table (rows_after (suc k)) ≡ inserted_total table row + value = ap (inserted_total table) more in
     let at_row : suc k % 11 ≡ 10 → row ≡ suc k / 11 * 10 + 9 = λ last. omega (arith, last, place) in
     record {

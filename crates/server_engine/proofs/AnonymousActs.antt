@@ -1,5 +1,5 @@
 -- What the deeds of seats are to a course.
-use Rattle.std.proofs.Common.{◌≡◌, ◌⊎◌, ◌≤◌, ◌+◌, ℕ, zero, suc, List, [], ◌∷◌, ◌++◌, map, refl, sym, ap, subst, ◌∙◌, inl, inr, ⊎_elim, arith}
+use Rattle.std.proofs.Common.{◌≡◌, ◌≤◌, ◌+◌, ℕ, zero, suc, List, [], ◌∷◌, ◌++◌, map, refl, sym, ap, subst, ◌∙◌, inl, ⊎_elim, arith}
 use Rattle.spec_history.specs.Acts.{SessionAct, starts, commits, issues, answers}
 use Rattle.spec_history.specs.Lists.{Text, Each, Some_of}
 use Rattle.spec_history.specs.Transcripts.{Entry, end_of_session}
@@ -11,7 +11,7 @@ use Rattle.spec_protocol.specs.Cells.{Cell}
 use Rattle.spec_protocol.specs.AnonymousActs.{AnonymousAct, did, closed, alones_acts, may_anonymous_acts}
 use Rattle.spec_protocol.specs.Follows.{alones_lines, may_lines, names_begun}
 use Rattle.spec_protocol.specs.AllowedVisit.{AllowedVisit}
-use Rattle.spec_protocol.specs.Seats.{KeptImage, Role, Session, idle, session, SeatState}
+use Rattle.spec_protocol.specs.Seats.{KeptImage, Session, session, SeatState}
 use Rattle.spec_protocol.specs.Server.{Server}
 use Rattle.law_sequential.specs.EndsLast.{Phase, running, ending, InPhase, IsNoEnd}
 use Rattle.law_sequential.specs.InStep.{IsClosing, IsIssue, ClosesForDigest}
@@ -19,6 +19,8 @@ use Rattle.law_sequential.specs.Sessions.{Gains}
 use Rattle.law_sequential.proofs.StepsAlone.{checked_plain, failed_in_plain}
 use Rattle.law_sequential.proofs.Goes.{more_names, plain_names, all_silent, may_silent}
 use Rattle.server_session.specs.SessionOutput.{IsPlain, IsPlainAnonymousAct, closed_first, AreVisitDeeds, plainly, committed, closed_full, issued, Adds}
+use Rattle.law_sequential.proofs.SeatOn.{not_idle, some_either, some_right}
+pub use Rattle.law_sequential.proofs.SeatOn.{one_session}
 
 -- ---- acts
 
@@ -58,14 +60,6 @@ none_closing : (ds : List AnonymousAct) → Each IsPlainAnonymousAct ds → Some
 none_closing [] h i = i
 none_closing (did a ∷ ds) h i = ⊎_elim (λ (e : IsClosing (did a)). e) (λ k. none_closing ds h.1 k) i
 none_closing (closed k ∷ ds) h i = h.0
-
-some_either : (P : AnonymousAct → Type 0) (xs ys : List AnonymousAct) → Some_of P (xs ++ ys) → Some_of P xs ⊎ Some_of P ys
-some_either P [] ys h = inr h
-some_either P (x ∷ xs) ys h = ⊎_elim (λ (e : P x). inl (inl e)) (λ k. ⊎_elim (λ (l : Some_of P xs). inl (inr l)) (λ r. inr r) (some_either P xs ys k)) h
-
-some_right : (P : AnonymousAct → Type 0) (xs ys : List AnonymousAct) → Some_of P ys → Some_of P (xs ++ ys)
-some_right P [] ys h = h
-some_right P (x ∷ xs) ys h = inr (some_right P xs ys h)
 
 first_no_end : (p : ℕ) → Each IsNoEnd (closed_first p)
 first_no_end zero = tt
@@ -124,16 +118,6 @@ visit_phased running m e fits h = no_end fits h
 visit_phased ending m e fits h = may_silent m e
 
 -- ---- who has a session begins none
-
-abbrev role_seen : Role → List Session
-role_seen (session x) = x ∷ []
-role_seen _ = []
-
-pub not_idle : (r : Role) (x : Session) → r ≡ session x → r ≡ idle → ⊥
-not_idle r x a b = let e : x ∷ [] ≡ [] = ap role_seen (sym a ∙ b) in cc
-
-pub one_session : (r : Role) (x y : Session) → r ≡ session x → r ≡ session y → x ≡ y
-one_session r x y a b = let e : x ∷ [] ≡ y ∷ [] = ap role_seen (sym a ∙ b) in cc
 
 pub alone_nameless : {v : Server} {s t : SeatState} (x : Session) → s.role ≡ session x → (how : Alone v s t) → names_begun (map did (alone_acts how)) ≡ []
 alone_nameless {v} {s} x role (alone.begins name a b) = absurd (not_idle s.role x role b)

@@ -41,7 +41,6 @@ use Rattle.server_engine.specs.Standing.{entry_texts, cells_seen, seats_seen, pe
 use Rattle.server_engine.specs.declared.one_thread.Core.{Core}
 use Rattle.server_engine.specs.declared.parts.Parts.{Parts}
 use Rattle.server_engine.specs.declared.session.Session.{Session}
-use Rattle.server_engine.proofs.AnonymousActs.{one_session}
 use Rattle.server_engine.proofs.FirstCells.{first_keep, first_same}
 use Rattle.server_engine.proofs.Holding as holding
 use Rattle.server_engine.proofs.Midways.{found_is}
@@ -49,6 +48,7 @@ use Rattle.server_engine.proofs.OneServer as one
 use Rattle.server_engine.proofs.OneServer.{not_over, quiet_state}
 use Rattle.server_engine.proofs.Pairs.{Behind, all_there, as_long, behind, both_last, each_last, each_there, near, same_seen, seen_at, seen_last, seen_of}
 use Rattle.server_session.proofs.Servers.{some_server}
+use Rattle.law_sequential.proofs.SeatOn.{one_session}
 use Rattle.server_engine.proofs.Turns.{stand_at_end}
 
 -- ---- the beginning

@@ -12,7 +12,7 @@ use Rattle.spec_protocol.proofs.Places.{at_set, set_again, set_else, set_here, s
 use Rattle.server_session.specs.Full.{ClosesFull, ClosesOne}
 use Rattle.server_session.specs.KeptCell.{KeptCell, Keeps}
 use Rattle.server_session.specs.Needs.{need_of, point_need, visits_left}
-use Rattle.server_session.specs.ControlPoints.{IsBetween, IsBetweenAt, IsOver, IsOverAt, KeepsStatement, IsSamePhase}
+use Rattle.server_session.specs.ControlPoints.{IsBetween, IsOver, IsOverAt, KeepsStatement, IsSamePhase}
 use Rattle.server_session.specs.Steps.{Among, AmongAll, ComesOn, Visits, VisitsAll, images_kept}
 use Rattle.server_session.specs.SessionOutput.{pending_of}
 use Rattle.server_session.specs.declared.need.NextVisit.{NextVisit}
@@ -20,6 +20,8 @@ use Rattle.server_session.specs.declared.need.NextVisit.TheVariants as need
 use Rattle.server_session.specs.declared.seat.Seat.{Seat}
 use Rattle.server_session.specs.declared.stage.ControlPoint.{ControlPoint}
 use Rattle.server_session.specs.declared.stage.ControlPoint.TheVariants.{Between, Inside, Leaving, Over}
+use Rattle.server_session.proofs.Alone.{between_is}
+use Rattle.server_session.proofs.CatalogReleased.{not_done}
 use Rattle.server_engine.specs.CoreInput.{CoreInput}
 use Rattle.server_engine.specs.IsMidway.{OthersInactive, IsMidway, IsBelow, IsWithin, ChangesSession, WentOn, size_found, width, visits_found, work, LessWork, NoMorePending}
 use Rattle.server_engine.specs.Standing.{cells_seen, seats_seen, pending_at, pending_found, IsInactive, Holds, Stands, Found}
@@ -33,18 +35,9 @@ use Rattle.server_engine.proofs.Pending.{less_work}
 
 -- ---- points
 
-between_is : (p : ControlPoint) → IsBetweenAt p → p ≡ Between
-between_is Between b = refl
-between_is (Inside stage) b = absurd b
-between_is Leaving b = absurd b
-between_is Over b = absurd b
-
 -- between statements nothing is needed
 pub not_between : {H : Type 0} (y : Seat H) (n : NextVisit) → need_of y ≡ n → (need.Done ≡ n → ⊥) → IsBetween y → ⊥
 not_between y n e ne b = ne (sym (ap (λ (p : ControlPoint). point_need p y.running) (between_is y.point b)) ∙ e)
-
-pub cell_not_done : (i : ℕ) → need.Done ≡ need.Cell i → ⊥
-cell_not_done i e = cc
 
 pub all_not_done : need.Done ≡ need.All → ⊥
 all_not_done e = cc
@@ -170,7 +163,7 @@ module _ {H : Type 0} (digest : H → List ℕ → List ℕ) (h : H) (a : CoreIn
       )
         where
           time : In y.seat.started a.moments
-          time = in_time (need.Cell i) needs (cell_not_done i)
+          time = in_time (need.Cell i) needs (not_done i)
 
     module _ (needs : need_of y.seat ≡ need.All) (z : Session H) (kept : Option KeptImage) (visits : VisitsAll digest y.seat c.cells.items kept z.seat) (stays : KeepsStatement y.seat z.seat)
         (cells_are : d.cells.items ≡ c.cells.items) (sessions_are : d.sessions.items ≡ slice_set c.sessions.items j z) where

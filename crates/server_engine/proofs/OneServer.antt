@@ -1,7 +1,5 @@
 -- What one server comes to, with each thing that a seat does.
-use Rattle.std.proofs.Common.{◌≡◌, ◌≢◌, ◌⊎◌, ◌<◌, ◌≤◌, ◌+◌, ℕ, zero, suc, List, [], ◌∷◌, ◌++◌, map, slice_set, refl, sym, ap, subst, subst₂, ◌∙◌, append-nil, true, inl, inr, ⊎_elim, arith}
-use Rattle.std.proofs.lemmas.Bool.{le-leb}
-use Rattle.std.specs.Prelude.{nat_le}
+use Rattle.std.proofs.Common.{◌≡◌, ◌≢◌, ◌⊎◌, ◌<◌, ◌≤◌, ◌+◌, ℕ, zero, suc, List, [], ◌∷◌, ◌++◌, map, slice_set, refl, sym, ap, subst, subst₂, ◌∙◌, append-nil, inl, inr, ⊎_elim, arith}
 use mathlib.Core.Option.{some, some-injective}
 use lib.ListN.{get_elem?}
 use Rattle.spec_history.specs.Inputs.{InputLine}
@@ -12,7 +10,7 @@ use Rattle.spec_protocol.specs.Alone.{Alones, none as no_steps, more as then_ste
 use Rattle.spec_protocol.specs.Cells.{Cell, Ledger, LedgerCell, AreCells, ledger_at, pending_in}
 use Rattle.spec_protocol.specs.AnonymousActs.{did, alones_acts}
 use Rattle.spec_protocol.specs.Follows.{alones_lines}
-use Rattle.spec_protocol.specs.LedgerVisits.{closed_by, next_block}
+use Rattle.spec_protocol.specs.LedgerVisits.{closed_by}
 use Rattle.spec_protocol.specs.InactiveExcept as law
 use Rattle.spec_protocol.specs.Seats.{idle, SeatState}
 use Rattle.spec_protocol.specs.Server.{Server}
@@ -27,7 +25,7 @@ use Rattle.law_sequential.proofs.SessionsStand.{ShownAt, shown_at}
 use Rattle.server_session.specs.Full.{ClosesOne}
 use Rattle.server_session.specs.KeptCell.{KeptCell, Keeps}
 use Rattle.server_session.specs.Needs.{need_of}
-use Rattle.server_session.specs.ControlPoints.{IsBetween, IsBetweenAt, IsOver, IsOverAt}
+use Rattle.server_session.specs.ControlPoints.{IsBetween, IsOver, IsOverAt}
 use Rattle.server_session.specs.Sits.{Sits, IsControlPoint, left_of, place_seen}
 use Rattle.server_session.specs.Steps.{Steps, Answers, Ends, Among, Visits, IsVisit, last_entries, end_of, entries_at}
 use Rattle.server_session.specs.SessionOutput.{size_of, pending_of}
@@ -35,18 +33,15 @@ use Rattle.server_session.specs.declared.need.NextVisit.TheVariants as need
 use Rattle.server_session.specs.declared.seat.Seat.{Seat}
 use Rattle.server_session.specs.declared.stage.ControlPoint.{ControlPoint}
 use Rattle.server_session.specs.declared.stage.ControlPoint.TheVariants.{Between, Inside, Leaving, Over}
+use Rattle.server_session.proofs.Alone.{between_is}
+use Rattle.server_session.proofs.Ending.{each_own}
+use Rattle.law_sequential.proofs.LedgerInStep.{next_full}
 use Rattle.server_engine.specs.CoreInput.{CoreInput, with_lines}
 use Rattle.server_engine.specs.Standing.{SitsOrIsOver, IsInactive, OnServer, pending_at, pending_found}
 use Rattle.server_engine.proofs.AnonymousActs.{plain_nameless, plain_phased, visit_phased, nameless, for_digest, one_more_pending, alone_nameless, adds_gains}
 use Rattle.server_engine.proofs.Pairs.{Beside, beside, behind, both_set}
 
 -- ---- seats
-
-between_is : (p : ControlPoint) → IsBetweenAt p → p ≡ Between
-between_is Between b = refl
-between_is (Inside stage) b = absurd b
-between_is Leaving b = absurd b
-between_is Over b = absurd b
 
 over_is : (p : ControlPoint) → IsOverAt p → p ≡ Over
 over_is Between b = absurd b
@@ -126,9 +121,6 @@ no_more now moments times i e time k = ⊎_elim (λ (l : In time moments). l) (�
 in_itself : (times more : List ℕ) → ((time : ℕ) → In time times → In time more) → Each (λ time. In time more) times
 in_itself [] more f = tt
 in_itself (t ∷ ts) more f = (f t (inl refl), in_itself ts more (λ time i. f time (inr i)))
-
-each_in : (times : List ℕ) → Each (λ time. In time times) times
-each_in times = in_itself times times (λ time i. i)
 
 -- ---- one server
 
@@ -263,7 +255,7 @@ module _ {H : Type 0} (digest : H → List ℕ → List ℕ) (h : H) {v : Server
               (subst₂ (λ (ls : List InputLine) (ks : List SessionOutput). SessionsStand v a.database a.size a.phase ls (a.moments ++ g.moments) ks (slice_set cells i d.cell) (slice_set o.states j g.t))
               (ap (λ (ls : List InputLine). a.lines ++ ls) (g.lines []) ∙ append-nil a.lines) (told_set told j k is_told)
               (visit_on o.stand j s its.there k is_told others_inactive ((i, c.cell) ∷ []) (here, tt) i d.cell g.t (g.may []) (visit_phased a.phase (g.may []) (g.lines []) its_fit (g.did [])) (nameless its_fit (g.did []))
-              ledger o.stand.sequential_run.there (subst (λ (n : ℕ). n < a.size) pending_is below) (for_digest its_fit (g.did [])) [] [] g.moments g.moments (adds_gains g.adds) (each_in g.moments))))
+              ledger o.stand.sequential_run.there (subst (λ (n : ℕ). n < a.size) pending_is below) (for_digest its_fit (g.did [])) [] [] g.moments g.moments (adds_gains g.adds) (each_own g.moments))))
               (inl g.sits)
 
           -- one more is pending at most
@@ -275,9 +267,6 @@ module _ {H : Type 0} (digest : H → List ℕ → List ℕ) (h : H) {v : Server
           still_keeps = g.keeps
 
 -- ---- a full block
-
-next_full : (c : LedgerCell) → c.block_size ≤ pending_in c → next_block c ≡ c.block_size
-next_full c l = let e : nat_le c.block_size (pending_in c) ≡ true = le-leb c.block_size (pending_in c) l in rw e refl
 
 module _ {H : Type 0} (digest : H → List ℕ → List ℕ) (h : H) {v : Server} {a : CoreInput} {told : List SessionOutput} {cells : List Cell} {seats : List (Seat H)} (o : OnServer digest h v a told cells seats)
     (j : ℕ) (y : Seat H) (there : get_elem? seats j ≡ some y) (others : (k : ℕ) (z : Seat H) → k ≢ j → get_elem? seats k ≡ some z → IsInactive z) (k : SessionOutput) (is_told : get_elem? told j ≡ some k) (serves : Serves (digest h) statement_of v) where

@@ -3,6 +3,7 @@ use Rattle.std.proofs.Common.{◌≡◌, ◌≤◌, ◌-◌, ℕ, zero, suc, min
 use Rattle.std.specs.Prelude.{slice_get}
 use Rattle.std.specs.List.{AllByRecursion}
 use Rattle.std.proofs.lemmas.Bool.Decides.{nat_tests}
+use Rattle.std.proofs.lemmas.Option.{same_Some}
 use Rattle.base_types.specs.Moment.{is_moment}
 use Rattle.base_types.specs.declared.moment.TheConstants.{MAX_TICKS}
 use Rattle.sql_types.specs.declared.digest.Digest.{Digest}
@@ -26,12 +27,9 @@ in_time said = omega arith
 is_in_time : (says : ℕ → Type 0) (t : ℕ) → IsMoment says t → t ≤ MAX_TICKS
 is_in_time says t m = subst (λ (n : ℕ). n ≤ MAX_TICKS) (sym m.2) (in_time m.0)
 
-same : {A : Type 0} (y x : A) → Some y ≡ Some x → y ≡ x
-same y x at = cc
-
 each_at : {A : Type 0} (P : A → Type 0) (xs : List A) (i : ℕ) (x : A) → Each P xs → slice_get xs i ≡ Some x → P x
 each_at P [] i x each at = absurd cc
-each_at P (y ∷ ys) zero x each at = subst P (same y x at) each.0
+each_at P (y ∷ ys) zero x each at = subst P (same_Some y x at) each.0
 each_at P (y ∷ ys) (suc i) x each at = each_at P ys i x each.1 at
 
 pub have_moments : (q : Meaning) (database : Text) (J : List JournalItem) (says : ℕ → Type 0) (G : List Digest)

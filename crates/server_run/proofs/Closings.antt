@@ -1,6 +1,6 @@
 -- Closing what is pending keeps cells and seats standing together.
-use Rattle.std.proofs.Common.{◌≡◌, ◌<◌, ◌≤◌, ◌+◌, ◌-◌, ◌++◌, ◌∙◌, ℕ, Bool, true, false, List, [], ◌∷◌, length, nat_lt, refl, sym, ap, subst, subst₂, ⊎_elim, arith, length-append}
-use Rattle.std.specs.Prelude.{MatchBool, nat_le, slice_set}
+use Rattle.std.proofs.Common.{◌≡◌, ◌<◌, ◌≤◌, ◌+◌, ◌-◌, ◌++◌, ◌∙◌, ℕ, Bool, true, false, List, [], ◌∷◌, length, nat_lt, sym, ap, subst, subst₂, ⊎_elim, arith, length-append}
+use Rattle.std.specs.Prelude.{MatchBool, slice_set}
 use Rattle.std.proofs.lemmas.Bool.Decides.{nat_tests}
 use Rattle.std.proofs.lemmas.List.{length-map}
 use mathlib.Core.Option.{some, some-injective}
@@ -12,6 +12,7 @@ use Rattle.spec_protocol.specs.LedgerVisits.{closed_by, next_block}
 use Rattle.spec_protocol.specs.Seats.{SeatState}
 use Rattle.spec_protocol.proofs.LedgerNumbers.{pending_after}
 use Rattle.spec_protocol.proofs.Places.{set_here, set_same}
+use Rattle.store_ledger.proofs.Closings.{next_some}
 use Rattle.server_session.specs.Full.{ClosesNext, ClosesPending, IsLedger}
 use Rattle.server_session.specs.KeptCell.{KeptCell, Keeps}
 use Rattle.server_session.specs.Steps.{items_of}
@@ -26,20 +27,12 @@ use Rattle.server_run.proofs.ClosingPending.{kept_there, may_close}
 
 -- ---- what one closing tells
 
--- a block takes some of what is pending
-some_taken : (c : LedgerCell) → 1 ≤ c.block_size → 1 ≤ pending_in c → 1 ≤ next_block c
-some_taken c size any = by_case (nat_le c.block_size (pending_in c)) refl
-  where
-    by_case : (b : Bool) → nat_le c.block_size (pending_in c) ≡ b → 1 ≤ next_block c
-    by_case true e = rw e size
-    by_case false e = rw e any
-
 module _ (h : List ℕ → List ℕ) (c : LedgerCell) (size : 1 ≤ c.block_size) where
   fewer : 1 ≤ pending_in c → pending_in (closed_by h (next_block c) c) < pending_in c
   fewer any =
       let v = some_server h statement_of in
       let left = subst (λ (g : List ℕ → List ℕ). pending_in (closed_by g (next_block c) c) ≡ pending_in c - next_block c) v.1.hash (pending_after v.0 (next_block c) c) in
-      let taken = some_taken c size any in omega (arith, left, taken, any)
+      let taken = next_some c size any in omega (arith, left, taken, any)
 
   -- whether the journal has an item more tells whether any was pending
   pub tells : (d : Cell) → ClosesNext h c d → MatchBool (nat_lt (length c.items) (length (items_of d))) (pending_of d < pending_in c) (pending_of d ≡ 0)

@@ -3,6 +3,7 @@ use Rattle.std.proofs.Common.{◌≡◌, ◌+◌, ℕ, List, [], ◌∷◌, ◌+
 use Rattle.spec_history.specs.Inputs.{InputLine}
 use Rattle.spec_history.specs.Lists.{Text, Each}
 use Rattle.spec_history.specs.Transcripts.{Entry, EndLine, statements}
+use Rattle.spec_history.proofs.TranscriptsSoFar.{statements_append}
 use Rattle.sql_parse.specs.Text.{statement_of}
 use Rattle.format_transcript.specs.TranscriptText.{entry_text}
 use Rattle.spec_protocol.specs.Serves.{Serves}
@@ -26,7 +27,7 @@ use Rattle.server_engine.proofs.AnonymousActs.{one_session}
 use Rattle.server_run.specs.Seated.{known_by, known_in, all_known, says_in, texts_in, under_way, IsAhead, IsIdle, IsSeated, IsTimed}
 use Rattle.server_run.specs.declared.worker.Job.{Job}
 use Rattle.server_engine.proofs.Holding.{seated}
-use Rattle.server_run.proofs.Seating.{at, none_between, none_leaving, seated_on, statements_more}
+use Rattle.server_run.proofs.Seating.{at, none_between, none_leaving, seated_on}
 use Rattle.server_run.proofs.StepsAhead.{steps_both}
 
 -- ---- points
@@ -155,5 +156,5 @@ module _ {H C : Type 0} (digest : H → List ℕ → List ℕ) (says : C → ℕ
 
       texts : statements (so_far ++ entries_at y.seat) ++ under_way z.seat.point z.seat.text ≡ take n (texts_in job.statements.now)
       texts = ap (λ (ts : List Text). statements (so_far ++ entries_at y.seat) ++ ts) (none_between z.seat.point z.seat.text w.between)
-          ∙ append-nil (statements (so_far ++ entries_at y.seat)) ∙ statements_more so_far (entries_at y.seat)
+          ∙ append-nil (statements (so_far ++ entries_at y.seat)) ∙ statements_append so_far (entries_at y.seat)
           ∙ ap (λ (ts : List Text). statements so_far ++ ts) (answered_text y.seat.point y.seat.text (end_of y.seat.running) a) ∙ now.texts

@@ -3,6 +3,7 @@ use Rattle.std.proofs.Common.{◌≡◌, ℕ, List, [], ◌∷◌, ◌++◌, Opt
 use Rattle.std.specs.Borrow.{Bor}
 use Rattle.spec_history.specs.Lists.{Text, Each}
 use Rattle.spec_history.specs.Transcripts.{Entry, EndLine, statements}
+use Rattle.spec_history.proofs.TranscriptsSoFar.{statements_append}
 use Rattle.sql_parse.specs.Text.{statement_of}
 use Rattle.format_transcript.specs.TranscriptText.{entry_text}
 use Rattle.spec_protocol.specs.Serves.{Serves}
@@ -22,7 +23,7 @@ use Rattle.server_run.specs.Seated.{known_by, says_in, texts_in, under_way, IsAh
 use Rattle.server_run.specs.Wrote.{HasLeft, IsWritten, left_of}
 use Rattle.server_run.specs.declared.worker.Job.{Job}
 use Rattle.server_run.proofs.Going.{all_answered}
-use Rattle.server_run.proofs.Seating.{at, statements_more, texts_more}
+use Rattle.server_run.proofs.Seating.{at, texts_more}
 
 none_at_end : {H : Type 0} (p : ControlPoint) (r : Option (Running H)) (text : Text) → MayEndSessionAt p r → under_way p text ≡ []
 none_at_end Between r text m = refl
@@ -60,7 +61,7 @@ module _ {H C : Type 0} (digest : H → List ℕ → List ℕ) (says : C → ℕ
   entries_are = its_end.entries ∙ ap (λ (x : Session). x.transcript.entries ++ last) was
 
   texts_are : statements its_end.w.transcript.entries ≡ texts_in job.statements.now
-  texts_are = ap statements entries_are ∙ statements_more now.sits.x.transcript.entries last ∙ ap (λ (ts : List Text). statements now.sits.x.transcript.entries ++ ts) (no_statement (end_of y.seat.running))
+  texts_are = ap statements entries_are ∙ statements_append now.sits.x.transcript.entries last ∙ ap (λ (ts : List Text). statements now.sits.x.transcript.entries ++ ts) (no_statement (end_of y.seat.running))
       ∙ append-nil (statements now.sits.x.transcript.entries) ∙ all_answered digest says job v serves y n image s ahead (none_at_end y.seat.point y.seat.running y.seat.text ends) ∙ taken_all job.statements.now n all
 
   shown : z.entries ≡ map (entry_text job.name.now) its_end.w.transcript.entries

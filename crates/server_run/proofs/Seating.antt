@@ -3,7 +3,7 @@ use Rattle.std.proofs.Common.{◌≡◌, ◌<◌, ◌+◌, ℕ, zero, suc, List,
 use Rattle.std.specs.Borrow.{Bor}
 use Rattle.std.specs.Prelude.{slice_index_or}
 use Rattle.spec_history.specs.Lists.{Text, Each}
-use Rattle.spec_history.specs.Transcripts.{Entry, statement, end_of_session, statements, Transcript}
+use Rattle.spec_history.specs.Transcripts.{Entry, statements, Transcript}
 use Rattle.spec_history.proofs.Trace.{each_append}
 use Rattle.format_transcript.specs.TranscriptText.{entry_text}
 use Rattle.spec_protocol.specs.Alone.{none}
@@ -27,11 +27,6 @@ use Rattle.server_run.specs.declared.worker.Worker.{Worker}
 pub texts_more : {A B : Type 0} (f : A → B) (xs ys : List A) → map f (xs ++ ys) ≡ map f xs ++ map f ys
 texts_more f [] ys = refl
 texts_more {A} {B} f (x ∷ xs) ys = ap (λ (zs : List B). f x ∷ zs) (texts_more f xs ys)
-
-pub statements_more : (es more : List Entry) → statements (es ++ more) ≡ statements es ++ statements more
-statements_more [] more = refl
-statements_more (statement text reply end ∷ es) more = ap (λ (ts : List Text). text ∷ ts) (statements_more es more)
-statements_more (end_of_session end ∷ es) more = statements_more es more
 
 take_next : (ts : List (Bor Text)) (n : ℕ) (d : Bor Text) → n < length ts → take (suc n) (texts_in ts) ≡ take n (texts_in ts) ++ (slice_index_or ts n d).now ∷ []
 take_next [] n d l = absurd (omega (arith, l))

@@ -23,9 +23,10 @@ use Rattle.server_engine.specs.declared.session.Session as core
 use Rattle.server_run.specs.Seated.{known_by, says_in, IsAhead, IsSeated}
 use Rattle.server_run.specs.declared.worker.Job.{Job}
 use Rattle.server_engine.proofs.Holding.{seated}
+use Rattle.server_engine.proofs.Midways.{all_not_done}
 use Rattle.server_run.proofs.Seating.{at, seated_on}
 use Rattle.server_run.proofs.StepsAhead.{may_behind}
-use Rattle.server_run.proofs.Visiting.{all_not_done, among_all, keeps_there, needs_timed, same_texts}
+use Rattle.server_run.proofs.Visiting.{among_all, keeps_there, needs_timed, same_texts}
 
 -- ---- all cells are out
 

@@ -27,6 +27,7 @@ use Rattle.server_session.specs.declared.need.NextVisit.TheVariants as need
 use Rattle.server_session.specs.declared.seat.Seat.{Seat}
 use Rattle.server_session.specs.declared.stage.ControlPoint.{ControlPoint}
 use Rattle.server_session.specs.declared.stage.ControlPoint.TheVariants.{Between, Inside, Leaving, Over}
+use Rattle.server_session.proofs.CatalogReleased.{not_done}
 use Rattle.server_engine.specs.declared.session.Session as core
 use Rattle.server_run.specs.Seated.{known_by, says_in, texts_in, under_way, IsAhead, IsSeated, IsTimed}
 use Rattle.server_run.specs.Wrote.{HasLeft, HasWritten, left_of}
@@ -56,12 +57,6 @@ between_done y Over b = absurd b
 -- who needs something has a statement that was taken up at such a moment
 pub needs_timed : {H : Type 0} (says : ℕ → Type 0) (y : Seat H) (n : NextVisit) → need_of y ≡ n → (need.Done ≡ n → ⊥) → IsTimed says y → IsMoment says y.started
 needs_timed says y n needs ne timed = ⊎_elim (λ (b : IsBetween y × (y.running ≡ None)). absurd (ne (sym (between_done y y.point b.0) ∙ needs))) (λ m. m) timed
-
-cell_not_done : (i : ℕ) → need.Done ≡ need.Cell i → ⊥
-cell_not_done i e = cc
-
-pub all_not_done : need.Done ≡ need.All → ⊥
-all_not_done e = cc
 
 -- ---- the seat among the others
 
@@ -129,7 +124,7 @@ module _ {H C : Type 0} (digest : H → List ℕ → List ℕ) (says : C → ℕ
       visited = visits (among i needs c here)
 
       time : IsMoment (says_in says job) y.seat.started
-      time = needs_timed (says_in says job) y.seat (need.Cell i) needs (cell_not_done i) now.timed
+      time = needs_timed (says_in says job) y.seat (need.Cell i) needs (not_done i) now.timed
 
       pub visit_seated : IsSeated digest says (known_by s) s.written (at job (seated y z) n image) visited.t
       visit_seated = seated_on digest says (known_by s) s.written job y (seated y z) n n image image ahead.t visited.t now visited.sits [] [] visited.moments visited.adds stays.name (same_texts z stays)

@@ -13,6 +13,8 @@ use Rattle.spec_history.specs.Inputs.{InputLine}
 use Rattle.spec_history.specs.Lists.{Text, Each}
 use Rattle.spec_history.specs.Meaning.{Meaning}
 use Rattle.spec_history.specs.Transcripts.{Kind, unread, begin, commit, roll_back, to_savepoint, create, rows, issue, keep, kind_of}
+use Rattle.spec_history.proofs.Refused.{each_left, each_right}
+use Rattle.spec_history.proofs.Trace.{each_append}
 use Rattle.spec_protocol.specs.ActsOf.{alone_acts, failed_acts, failed_in}
 use Rattle.spec_protocol.specs.Alone.{Alone, begins, takes, no_memory, Alones, none, more, new_session, GoesOn, IsUnfixed}
 use Rattle.spec_protocol.specs.AnonymousActs.{alones_acts}
@@ -160,18 +162,6 @@ adds_both s t u a b = let e : b.x ≡ a.y = ap (session_in a.y) (sym b.before �
 
 -- ---- steps one after another
 
-pub each_both : {A : Type 0} (P : A → Type 0) (xs ys : List A) → Each P xs → Each P ys → Each P (xs ++ ys)
-each_both P [] ys a b = b
-each_both P (x ∷ xs) ys a b = (a.0, each_both P xs ys a.1 b)
-
-each_left : {A : Type 0} (P : A → Type 0) (xs ys : List A) → Each P (xs ++ ys) → Each P xs
-each_left P [] ys a = tt
-each_left P (x ∷ xs) ys a = (a.0, each_left P xs ys a.1)
-
-each_right : {A : Type 0} (P : A → Type 0) (xs ys : List A) → Each P (xs ++ ys) → Each P ys
-each_right P [] ys a = a
-each_right P (x ∷ xs) ys a = each_right P xs ys a.1
-
 module _ (v : Server) where
   pub both : (s t u : SeatState) → Alones v s t → Alones v t u → Alones v s u
   both s t u a none = a
@@ -186,7 +176,7 @@ module _ (v : Server) where
   pub plain_both : (s t u : SeatState) (a : Alones v s t) (b : Alones v t u) → Each IsPlain (alones_acts a) → Each IsPlain (alones_acts b) → Each IsPlain (alones_acts (both s t u a b))
   unfolding both
   plain_both s t u a none p q = p
-  plain_both s t u a (more {t = w} steps step) p q = each_both IsPlain (alones_acts (both s t w a steps)) (alone_acts step)
+  plain_both s t u a (more {t = w} steps step) p q = each_append IsPlain (alones_acts (both s t w a steps)) (alone_acts step)
       (plain_both s t w a steps p (each_left IsPlain (alones_acts steps) (alone_acts step) q)) (each_right IsPlain (alones_acts steps) (alone_acts step) q)
 
 module _ {H : Type 0} (digest : H → List ℕ → List ℕ) (h : H) (v : Server) where

@@ -7,7 +7,7 @@ use Rattle.spec_history.specs.Transactions.{End, unfixed, committed, ended}
 use Rattle.spec_protocol.specs.Cells.{CatalogCell, Creator, catalog_at, ledger_at}
 use Rattle.spec_protocol.specs.Moves.{at_place, releasing, sits}
 use Rattle.spec_protocol.specs.Seats.{OpenTransaction, Session}
-use Rattle.spec_protocol.specs.UndoVisits.{catalog_left, creator_left, ReleasesCatalog}
+use Rattle.spec_protocol.specs.UndoVisits.{catalog_left, ReleasesCatalog}
 use Rattle.spec_protocol.specs.Visits.{release_catalog}
 use Rattle.store_catalog.specs.Calls.{left, undone}
 use Rattle.store_tx.specs.Represents.{Represents}
@@ -22,6 +22,7 @@ use Rattle.server_session.specs.SessionOutput.{plainly}
 use Rattle.server_session.specs.VisitedCells.{AreVisited, IsTableCell, not_catalog, table_cell}
 use Rattle.sql_types.specs.declared.end_line.EndLine.{EndLine}
 use Rattle.sql_types.specs.declared.end_line.EndLine.TheVariants.{Committed, Ended}
+use Rattle.store_catalog.proofs.Visits.{left_twice}
 use Rattle.server_session.specs.declared.need.NextVisit.{NextVisit}
 use Rattle.server_session.specs.declared.need.NextVisit.TheVariants as need
 use Rattle.server_session.specs.declared.running.Running.{Running}
@@ -38,7 +39,7 @@ use Rattle.server_session.proofs.CatalogSitting.{at_catalog}
 
 -- ---- the catalog is the first that was visited
 
-others_visited : (i : ℕ) (is : List ℕ) → AreVisited (i ∷ is) → AreVisited is
+pub others_visited : (i : ℕ) (is : List ℕ) → AreVisited (i ∷ is) → AreVisited is
 others_visited i [] a = tt
 others_visited i (j ∷ js) a = a.2
 
@@ -75,14 +76,6 @@ each_turned i is [] a = tt
 each_turned i is (j ∷ js) a = (⊎_elim (λ (e : i ≡ j). inl (sym e)) (λ (r : In j is). inr r) a.0, each_turned i is js a.1)
 
 -- ---- what is left of the cell
-
-left_twice : (tx : ℕ) (k : Option Creator) → creator_left tx (creator_left tx k) ≡ creator_left tx k
-left_twice tx None = refl
-left_twice tx (Some k) = by (k.tx == tx) refl
-  where
-    by : (b : Bool) → (k.tx == tx) ≡ b → creator_left tx (if b then None else Some k) ≡ (if b then None else Some k)
-    by true e = refl
-    by false e = ap (λ (c : Bool). if c then None else Some k) e
 
 cell_left : (line : EndLine) (e : End) (tx : ℕ) (c : CatalogCell) → IsEnd tx (Some line) e → released_by (Some line) tx c ≡ catalog_left e tx c
 cell_left (Committed id place) unfixed tx c k = absurd k
@@ -150,7 +143,7 @@ not_a_table id i e t f =
     let g : id ≡ catalog_at = ap (λ (n : NextVisit). elim n [ need.Cell k ↦ k | need.All ↦ 0 | need.Done ↦ 0 ]) (f ∙ ap (λ (n : ℕ). need.Cell n) e) in
     let low : 2 ≤ id = t.0 in omega (arith, low, g)
 
-not_done : (i : ℕ) → need.Done ≡ need.Cell i → ⊥
+pub not_done : (i : ℕ) → need.Done ≡ need.Cell i → ⊥
 not_done i e = cc
 
 not_all : (i : ℕ) → need.All ≡ need.Cell i → ⊥

@@ -25,6 +25,7 @@ use Rattle.server_session.specs.SessionOutput.{Adds}
 use Rattle.server_session.specs.VisitedCells.{VisitedCells}
 use Rattle.sql_types.specs.declared.end_line.EndLine.{EndLine}
 use Rattle.sql_types.specs.declared.end_line.EndLine.TheVariants.{Committed, Ended}
+use Rattle.spec_history.proofs.Trace.{each_append}
 use Rattle.server_session.specs.declared.need.NextVisit.TheVariants.{Done}
 use Rattle.server_session.specs.declared.running.Running.{Running}
 use Rattle.server_session.specs.declared.seat.Seat.{Seat}
@@ -32,7 +33,7 @@ use Rattle.server_session.specs.declared.stage.Answering.{Answering}
 use Rattle.server_session.specs.declared.stage.ControlPoint.{ControlPoint}
 use Rattle.server_session.specs.declared.stage.ControlPoint.TheVariants.{Between, Inside, Leaving, Over}
 use Rattle.server_session.specs.declared.stage.Stage.TheVariants.{Answering as Answered}
-use Rattle.server_session.proofs.Alone.{then_seat, between_is, placed, holds_at_point, scripted, sits_then, script_same, adds_at, adds_none, one_step, each_both}
+use Rattle.server_session.proofs.Alone.{then_seat, between_is, placed, holds_at_point, scripted, sits_then, script_same, adds_at, adds_none, one_step}
 
 -- ---- what was released
 
@@ -40,13 +41,13 @@ more_in : (y : ℕ) (xs zs : List ℕ) → Each (λ i. In i xs) zs → Each (λ 
 more_in y xs [] a = tt
 more_in y xs (z ∷ zs) a = (inr a.0, more_in y xs zs a.1)
 
-each_own : (xs : List ℕ) → Each (λ i. In i xs) xs
+pub each_own : (xs : List ℕ) → Each (λ i. In i xs) xs
 each_own [] = tt
 each_own (x ∷ xs) = (inl refl, more_in x xs xs (each_own xs))
 
 each_back : (ys xs : List ℕ) → Each (λ i. In i ys) xs → Each (λ i. In i ys) (reverse xs)
 each_back ys [] a = tt
-each_back ys (x ∷ xs) a = subst (Each (λ i. In i ys)) (sym (reverse-append (x ∷ []) xs)) (each_both (λ i. In i ys) (reverse xs) (x ∷ []) (each_back ys xs a.1) (a.0, tt))
+each_back ys (x ∷ xs) a = subst (Each (λ i. In i ys)) (sym (reverse-append (x ∷ []) xs)) (each_append (λ i. In i ys) (reverse xs) (x ∷ []) (each_back ys xs a.1) (a.0, tt))
 
 -- where nothing is left, all is released
 pub all_released : (o : OpenTransaction) (left : List ℕ) → o.visited ≡ reverse o.released ++ left → left ≡ [] → IsReleased o

@@ -40,6 +40,7 @@ use Rattle.server_session.specs.declared.stage.Stage.{Stage}
 use Rattle.server_session.specs.declared.stage.Stage.TheVariants.{Begun, AssigningId, Committing, RollingBack, Issuing, Keeping, Looking, Found, Made, LacksIndex, GoingBack, Replied, GivingBack, Answering as Answered}
 use Rattle.server_session.proofs.Alone.{then_seat, holds_at_point, lacking}
 use Rattle.server_session.proofs.Sitting.{stmt_found, in_statement, lacks_so, plain_anonymous_acts}
+use Rattle.server_session.proofs.Ledger.{none_runs as no_running}
 
 -- ---- who needs all cells
 
@@ -82,10 +83,6 @@ keeping_point Leaving (Some r) e = absurd (not_all_end false r.end r.visited.lef
 keeping_point Over r e = absurd cc
 
 -- ---- its seat
-
-no_running : {H : Type 0} (digest : H → List ℕ → List ℕ) (h : H) (r : Option (Running H)) → Runs digest h r None → r ≡ None
-no_running digest h None k = refl
-no_running digest h (Some r) k = absurd k
 
 module _ {H : Type 0} (digest : H → List ℕ → List ℕ) (y : Seat H) (all : List KeptCell) (a : AmongAll digest y all) where
   pub at_keeping : y.point ≡ Inside Keeping

@@ -1,5 +1,5 @@
 -- A seat that needs the ledger's cell: where it stands, and how it is refused for want of memory.
-use Rattle.std.proofs.Common.{◌≡◌, ◌≢◌, ℕ, zero, suc, Bool, true, false, List, [], ◌∷◌, ◌++◌, Option, Some, None, length, reverse, refl, sym, ap, ◌∙◌, subst, subst₂, arith}
+use Rattle.std.proofs.Common.{◌≡◌, ◌≢◌, ℕ, zero, suc, Bool, true, false, List, [], ◌∷◌, Option, Some, None, length, reverse, refl, sym, ap, ◌∙◌, subst, subst₂, arith}
 use Rattle.std.specs.Prelude.{◌==◌, if◌then◌else◌, slice_get}
 use lib.ListN.{get_elem?}
 use mathlib.Core.Option.{some-injective}
@@ -22,6 +22,7 @@ use Rattle.server_session.specs.Steps.{StepsAlone, Among}
 use Rattle.server_session.specs.VisitedCells.{AreVisited, not_catalog, next_back}
 use Rattle.sql_types.specs.declared.end_line.EndLine.{EndLine}
 use Rattle.sql_types.specs.declared.end_line.EndLine.TheVariants.{Committed, Ended}
+use Rattle.spec_history.proofs.Refused.{each_right}
 use Rattle.server_session.specs.declared.need.NextVisit.TheVariants as need
 use Rattle.server_session.specs.declared.running.Running.{Running}
 use Rattle.server_session.specs.declared.seat.Seat.{Seat}
@@ -40,10 +41,6 @@ none_is_ledger [] v = tt
 none_is_ledger (i ∷ []) v = ((λ e. absurd (omega (arith, v, e))), tt)
 none_is_ledger (i ∷ j ∷ is) v = ((λ e. absurd (omega (arith, v.0.0, e))), none_is_ledger (j ∷ is) v.2)
 
-each_back : {A : Type 0} (P : A → Type 0) (xs ys : List A) → Each P (xs ++ ys) → Each P ys
-each_back P [] ys k = k
-each_back P (x ∷ xs) ys k = each_back P xs ys k.1
-
 each_at : {A : Type 0} (P : A → Type 0) (xs : List A) (n : ℕ) (x : A) → Each P xs → slice_get xs n ≡ Some x → P x
 each_at P [] n x k e = cc
 each_at P (y ∷ ys) zero x k e = let same : y ≡ x = cc in subst P same k.0
@@ -51,7 +48,7 @@ each_at P (y ∷ ys) (suc n) x k e = each_at P ys n x k.1 e
 
 -- those that a transaction hasn't released
 pub left_not : {H : Type 0} (digest : H → List ℕ → List ℕ) (h : H) (r : Running H) (o : OpenTransaction) → IsRunning digest h r o → Each (λ i. i ≢ ledger_at) r.visited.left
-left_not digest h r o run = each_back (λ i. i ≢ ledger_at) (reverse o.released) r.visited.left (subst (Each (λ i. i ≢ ledger_at)) run.visited (none_is_ledger o.visited run.cells))
+left_not digest h r o run = each_right (λ i. i ≢ ledger_at) (reverse o.released) r.visited.left (subst (Each (λ i. i ≢ ledger_at)) run.visited (none_is_ledger o.visited run.cells))
 
 pub first_not : (left : List ℕ) → Each (λ i. i ≢ ledger_at) left → cell_or_done (slice_get left 0) ≡ need.Cell ledger_at → ⊥
 first_not [] k e = cc

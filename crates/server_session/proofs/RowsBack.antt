@@ -35,8 +35,10 @@ use Rattle.server_session.specs.declared.stage.ControlPoint.TheVariants.{Inside}
 use Rattle.server_session.specs.declared.stage.Stage.{Stage}
 use Rattle.server_session.specs.declared.stage.Stage.TheVariants.{GoingBack, Answering as Answered}
 use Rattle.server_session.proofs.Alone.{adds_at, adds_both, scripted, sits_then, then_seat}
-use Rattle.server_session.proofs.RowsSeat.{RunsNow, here, holds_there, is_table, none_ended, represents_too, runs_now, in_open_transaction, visited_tail}
+use Rattle.server_session.proofs.RowsSeat.{RunsNow, here, holds_there, is_table, represents_too, runs_now, in_open_transaction}
 use Rattle.server_session.proofs.Sitting.{stmt_found, visited_left}
+use Rattle.server_session.proofs.CatalogReleased.{others_visited}
+use Rattle.server_session.proofs.Ledger.{free_end}
 
 -- ---- the cells that are passed
 
@@ -69,7 +71,7 @@ none_left [] v zero e = refl
 none_left [] v (suc n) e = refl
 none_left (j ∷ []) v zero e = ap (λ (k : ℕ). tables_in (k ∷ [])) v
 none_left (j ∷ k ∷ ks) v zero e = absurd (let two = v.0.0 in let z : Some j ≡ None = sym (ap (λ (b : Bool). if b then None else Some j) (ne_eqb j catalog_at (λ f. omega (arith, two, f)))) ∙ e in cc)
-none_left (j ∷ js) v (suc n) e = none_left js (visited_tail j js v) n e
+none_left (j ∷ js) v (suc n) e = none_left js (others_visited j js v) n e
 
 -- ---- one that BEGIN opened
 
@@ -113,7 +115,7 @@ module _ {H : Type 0} (digest : H → List ℕ → List ℕ) (y : Seat H) (r : R
   all = visited_left digest a.h r o k.runs free
 
   no_end : r.end ≡ None
-  no_end = none_ended o.id r.end o.end k.runs.end free
+  no_end = free_end o.id r.end o.end k.runs.end free
 
   statement : (s : Stmt) × (y.stmt ≡ Some s) × IsSome s
   statement = stmt_found IsSome y.stmt (holds_there digest y (rows_seen c) a r e k (GoingBack seq passed) p).1

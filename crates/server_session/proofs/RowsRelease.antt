@@ -33,7 +33,8 @@ use Rattle.server_session.specs.declared.stage.ControlPoint.{ControlPoint}
 use Rattle.server_session.specs.declared.stage.ControlPoint.TheVariants.{Between, Inside, Leaving, Over}
 use Rattle.server_session.specs.declared.stage.Stage.TheVariants.{Begun, AssigningId, Committing, RollingBack, Issuing, Keeping, Looking, Found, Made, LacksIndex, GoingBack, Replied, GivingBack, Answering as Answered}
 use Rattle.server_session.proofs.Alone.{adds_at, sits_then, then_seat}
-use Rattle.server_session.proofs.RowsSeat.{RunsNow, end_fixed, here, in_reverse, in_right, is_table, once, represents_too, runs_now, visits_fixed}
+use Rattle.server_session.proofs.RowsSeat.{RunsNow, end_fixed, here, in_reverse, in_right, is_table, once, represents_too, runs_now}
+use Rattle.server_session.proofs.Ledger.{ended_visits}
 
 -- ---- where a release is due
 
@@ -118,7 +119,7 @@ still_there _ (answered a) i s o images k = k
 still_there _ left i s o images k = k
 
 cells_left : {H : Type 0} (p : ControlPoint) → IsLast p → (r : Running H) (line : EndLine) → r.end ≡ Some line → point_visits p (Some r) ≡ length r.visited.left
-cells_left _ (answered a) r line f = ap (λ (e : Option EndLine). end_visits r.explicit e r.visited.left) f ∙ visits_fixed r.explicit line r.visited.left
+cells_left _ (answered a) r line f = ap (λ (e : Option EndLine). end_visits r.explicit e r.visited.left) f ∙ ended_visits r.explicit line r.visited.left
 cells_left _ left r line f = ap (λ (e : Option EndLine). end_visits false e r.visited.left) f
 
 undone_is : (id : ℕ) (line : EndLine) (e : End) (c : TableCell) → IsEnd id (Some line) e → undone_by (Some line) id c ≡ undone_unless e id c

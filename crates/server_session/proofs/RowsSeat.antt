@@ -20,7 +20,6 @@ use Rattle.store_tx.specs.Trees.{TreesHold, tables_of}
 use Rattle.store_tx.specs.declared.context.TxCtx.{TxCtx}
 use Rattle.server_session.specs.IsEnd.{IsEnd}
 use Rattle.server_session.specs.KeptCell.{KeptCell, rows_seen}
-use Rattle.server_session.specs.Needs.{end_visits}
 use Rattle.server_session.specs.Sits.{IsRunning, Runs, IsStage, IsRead, place_seen, stage_seen, left_of}
 use Rattle.server_session.specs.Steps.{Among}
 use Rattle.server_session.specs.VisitedCells.{AreVisited, IsTableCell, table_cell}
@@ -31,6 +30,7 @@ use Rattle.server_session.specs.declared.seat.Seat.{Seat}
 use Rattle.server_session.specs.declared.stage.ControlPoint.TheVariants.{Inside}
 use Rattle.server_session.specs.declared.stage.Stage.{Stage}
 use Rattle.server_session.proofs.Alone.{placed, holds_at_point}
+use Rattle.server_session.proofs.CatalogReleased.{others_visited}
 
 -- ---- lists of cells
 
@@ -52,15 +52,11 @@ visited_head : (i : ℕ) (is : List ℕ) → AreVisited (i ∷ is) → In i is �
 visited_head i [] v h = h
 visited_head i (j ∷ js) v h = v.1 h
 
-pub visited_tail : (i : ℕ) (is : List ℕ) → AreVisited (i ∷ is) → AreVisited is
-visited_tail i [] v = tt
-visited_tail i (j ∷ js) v = v.2
-
 -- each is visited once
 pub once : (i : ℕ) (xs rest : List ℕ) → AreVisited (xs ++ i ∷ rest) → In i xs → ⊥
 once i [] rest v h = h
 once i (x ∷ xs) rest v (inl e) = visited_head x (xs ++ i ∷ rest) v (subst (λ (k : ℕ). In k (xs ++ i ∷ rest)) (sym e) (in_right i xs (i ∷ rest) (inl refl)))
-once i (x ∷ xs) rest v (inr h) = once i xs rest (visited_tail x (xs ++ i ∷ rest) v) h
+once i (x ∷ xs) rest v (inr h) = once i xs rest (others_visited x (xs ++ i ∷ rest) v) h
 
 any_in : (i : ℕ) (xs : List ℕ) → In i xs → list_any (λ k. k == i) xs ≡ true
 any_in i [] h = absurd h
@@ -84,14 +80,6 @@ put_visited i k xs t h v = by (list_any (λ n. n == i) xs) refl
 pub end_fixed : (id : ℕ) (line : EndLine) (e : End) → IsEnd id (Some line) e → e ≡ unfixed → ⊥
 end_fixed id (Committed i place) e w f = subst (IsEnd id (Some (Committed i place))) f w
 end_fixed id (Ended i after) e w f = subst (IsEnd id (Some (Ended i after))) f w
-
-pub none_ended : (id : ℕ) (line : Option EndLine) (e : End) → IsEnd id line e → e ≡ unfixed → line ≡ None
-none_ended id None e w f = refl
-none_ended id (Some line) e w f = absurd (end_fixed id line e w f)
-
-pub visits_fixed : (b : Bool) (line : EndLine) (left : List ℕ) → end_visits b (Some line) left ≡ length left
-visits_fixed true line left = refl
-visits_fixed false line left = refl
 
 -- ---- its transaction
 

@@ -16,6 +16,7 @@ use Rattle.spec_history.specs.Journals as journals
 use Rattle.spec_history.specs.Lists.{Text, Each, In}
 use Rattle.spec_history.specs.Transcripts.{Transcript}
 use Rattle.spec_history.proofs.Trace.{each_weaker}
+use Rattle.spec_history.proofs.Refused.{in_each}
 use Rattle.format_image.specs.Image.{image_of, image_of_cut}
 use Rattle.format_image.specs.ImageBytes.{image_bytes}
 use Rattle.law_image.specs.Room.{FitsImageFormat}
@@ -35,7 +36,6 @@ use Rattle.server_engine.proofs.SessionOutput.{some_meaning}
 use Rattle.law_kept_images.specs.Accepted.{IsAccepted}
 use Rattle.server_engine.specs.declared.parts.Parts.{Parts}
 use Rattle.law_kept_images.specs.LastImage.{journal_of, last_image, last_image_bytes}
-use Rattle.law_kept_images.proofs.Accepts.{each_in}
 use Rattle.server_result.specs.Images.{with_each}
 use Rattle.server_result.specs.Moments.{IsMoment}
 use Rattle.server_result.proofs.Kept.{are_kept, each_of_all}
@@ -167,8 +167,8 @@ module _ {H : Type 0} (agree : SequentialRunsAgree) (legal : JournalsAreLegal) (
       agrees = they_agree;
       legal = subst (λ (j : Journal). IsLegalJournal statement_of j) the_journal is_legal;
       of_database = x.left.database;
-      times = each_weaker (λ time. In time x.times) (IsMoment says) (λ time i. each_in (IsMoment says) x.times time x.moments i) (journals.times J) (in_time).0;
-      made = each_weaker (λ (d : Digest). In d.made x.times) (λ d. IsMoment says d.made) (λ d i. each_in (IsMoment says) x.times d.made x.moments i) p.digests (in_time).1;
+      times = each_weaker (λ time. In time x.times) (IsMoment says) (λ time i. in_each (IsMoment says) x.times time x.moments i) (journals.times J) (in_time).0;
+      made = each_weaker (λ (d : Digest). In d.made x.times) (λ d. IsMoment says d.made) (λ d i. in_each (IsMoment says) x.times d.made x.moments i) p.digests (in_time).1;
       written = are_written_so;
       saved = are_kept bytes images each_has;
       accepted = push (IsAccepted h database J p.digests) (with_each images) (last_image h p.journal)

@@ -9,12 +9,8 @@ use Rattle.spec_history.proofs.Trace.{each_weaker}
 use Rattle.format_lines.specs.Line.{Statement, seen}
 use Rattle.format_lines.specs.Sessions.{sessions_of}
 use Rattle.format_lines.specs.declared.line.Line.{Line}
+use Rattle.server_engine.proofs.SessionOutput.{mapped}
 use Rattle.server_result.proofs.Each.{each_from_all, all_from_each}
-
--- what is so of what each shows is so of the shown
-each_shown : {A B : Type 0} (f : A → B) (P : B → Type 0) (xs : List A) → Each (λ x. P (f x)) xs → Each P (map f xs)
-each_shown f P [] e = tt
-each_shown f P (x ∷ xs) e = (e.0, each_shown f P xs e.1)
 
 each_behind : {A B : Type 0} (f : A → B) (P : B → Type 0) (xs : List A) → Each P (map f xs) → Each (λ x. P (f x)) xs
 each_behind f P [] e = tt
@@ -41,7 +37,7 @@ pub sessions_formed : (lines : List Line) → All (λ l. is_session_name l.sessi
     → Each (λ name. is_session_name name ≡ true) (sessions_of (map seen lines))
 sessions_formed lines formed of_lines =
     let ss = map seen lines in
-    let each : Each (λ s. IsNamed s.session) ss = each_shown seen (λ s. IsNamed s.session) lines (each_from_all (λ l. is_session_name l.session.now ≡ true) lines formed) in
+    let each : Each (λ s. IsNamed s.session) ss = mapped seen (λ s. IsNamed s.session) lines (each_from_all (λ l. is_session_name l.session.now ≡ true) lines formed) in
     each_weaker (λ name. list_any (λ s. bytes_eq name s.session) ss ≡ true) IsNamed (formed_by ss each) (sessions_of ss)
     (each_from_all (λ name. list_any (λ s. bytes_eq name s.session) ss ≡ true) (sessions_of ss) of_lines)
 

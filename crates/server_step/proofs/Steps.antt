@@ -1,10 +1,11 @@
 -- What a core was asked, and which of its sessions are open, after one thing more.
-use Rattle.std.proofs.Common.{◌≡◌, ◌≢◌, ◌<◌, ◌≤◌, ◌+◌, ◌==◌, ℕ, Bool, true, false, List, [], ◌∷◌, ◌++◌, refl, sym, ap, subst, arith, inr, ⊎_elim, Result, Ok, Err}
+use Rattle.std.proofs.Common.{◌≡◌, ◌≢◌, ◌<◌, ◌≤◌, ◌+◌, ◌==◌, ℕ, Bool, true, false, List, [], ◌∷◌, ◌++◌, refl, sym, ap, subst, arith, inr, ⊎_elim, Result}
 use Rattle.std.specs.Prelude.{◌⊎◌, OnOk}
 use mathlib.Core.Option.{Option, some}
 use lib.ListN.{get_elem?}
 use Rattle.std.proofs.lemmas.Bool.Decides.{nat_tests}
 use Rattle.std.proofs.lemmas.List.{map_push}
+use Rattle.std.proofs.lemmas.Result.{on_ok_weaker}
 use Rattle.server_engine.specs.EndsLast.{running}
 use Rattle.spec_history.specs.Inputs.{InputLine}
 use Rattle.spec_history.specs.Lists.{Text, Each}
@@ -15,10 +16,6 @@ use Rattle.server_engine.specs.declared.one_thread.Core.{Core}
 use Rattle.server_engine.specs.declared.session.Session.{Session}
 use Rattle.server_result.specs.Moments.{IsMoment}
 use Rattle.server_step.specs.Reached.{AreEnded, AreOpen, Reached, StandsEnded, asked}
-
-pub on_ok : {T E P Q : Type 0} (r : Result T E) → (P → Q) → OnOk r P → OnOk r Q
-on_ok (Ok v) f p = f p
-on_ok (Err e) f p = tt
 
 -- ---- what was asked
 
@@ -51,7 +48,7 @@ module _ {H : Type 0} (digest : H → List ℕ → List ℕ) where
       → ((k : H) (a : CoreInput) (name : Text) → Stands digest k c a → a.phase ≡ running → get_elem? a.names session ≡ some name → OnOk r (Stands digest k d (with_line name s.text time a)))
       → Reached digest h database size names says before c → OnOk r (Reached digest h database size names says (before ++ s ∷ []) d)
   reached_more h database size names says before c d s session time r moment there stands reached =
-      on_ok r (λ standing. record {
+      on_ok_weaker r (λ standing. record {
         times = reached.times ++ time ∷ [];
         moments = push (IsMoment says) reached.times time reached.moments moment;
         stands = subst (λ (a : CoreInput). Stands digest h d a) (more_asked database size names before s reached.times time) standing;
@@ -63,8 +60,8 @@ module _ {H : Type 0} (digest : H → List ℕ → List ℕ) where
   -- its sessions are ended one by one
   pub ended_more : {T E : Type 0} (h : H) (a : CoreInput) (c d : Core H) (r : Result T E) → ((k : H) (b : CoreInput) → Stands digest k c b → OnOk r (Stands digest k d (at_end b))) → StandsEnded digest h c a → OnOk r (StandsEnded digest h d a)
   ended_more h a c d r stands standing = ⊎_elim
-      (λ s. on_ok r (λ t. inr t) (stands h a s))
-      (λ s. on_ok r (λ t. inr t) (stands h (at_end a) s))
+      (λ s. on_ok_weaker r (λ t. inr t) (stands h a s))
+      (λ s. on_ok_weaker r (λ t. inr t) (stands h (at_end a) s))
       standing
 
 -- ---- open sessions

@@ -74,7 +74,7 @@ some_input at n (s ∷ input) [] a i l = absurd a
 some_input at n (s ∷ input) (y ∷ X) a zero l = inl (a.0.name ∙ ap (λ (m : ℕ). (at m).name) (omega arith))
 some_input at n (s ∷ input) (y ∷ X) a (suc i) l = inr (subst (λ (m : ℕ). Some_of (λ z. z.name ≡ (at m).name) input) (omega arith) (some_input at (suc n) input X a.3 i (omega arith)))
 
-throughout_weaker : (P Q : Option ℕ → ℕ → Entry → Type 0) → ((o : Option ℕ) (n : ℕ) (e : Entry) → P o n e → Q o n e) → (o : Option ℕ) (n : ℕ) (es : List Entry) → Throughout P o n es → Throughout Q o n es
+pub throughout_weaker : (P Q : Option ℕ → ℕ → Entry → Type 0) → ((o : Option ℕ) (n : ℕ) (e : Entry) → P o n e → Q o n e) → (o : Option ℕ) (n : ℕ) (es : List Entry) → Throughout P o n es → Throughout Q o n es
 throughout_weaker P Q f o n [] h = tt
 throughout_weaker P Q f o n (e ∷ es) h = (f o n e h.0, throughout_weaker P Q f (open_after o e) (images_after n e) es h.1)
 

@@ -13,6 +13,7 @@ use Rattle.spec_model.specs.Catalog.{Defs}
 use Rattle.spec_model.specs.InTheWay.{first_conflict}
 use Rattle.spec_model.specs.Journals.{tx_count}
 use Rattle.spec_model.specs.Locks.{cell_requests}
+use Rattle.law_frame.proofs.LegalRules.{count_append}
 use Rattle.spec_history.specs.Lists.{Text}
 use Rattle.spec_history.specs.Meaning.{Meaning}
 use Rattle.spec_history.specs.Real.{requests_catalog, requests_cell}
@@ -33,7 +34,6 @@ use Rattle.spec_history.proofs.TransactionLogs.{book_of, book_act}
 use Rattle.spec_history.proofs.Grows.{grows}
 use Rattle.spec_history.proofs.Rows.{OpensAre, put_here, put_else, opens_then, opens_answer}
 use Rattle.spec_history.proofs.Stable.{after_all}
-use Rattle.spec_history.proofs.Trace.{count_append}
 
 -- ---- a list of facts, one after another
 
@@ -46,7 +46,7 @@ abbrev count_after : ℕ → List Fact → ℕ
 count_after c [] = c
 count_after c (g ∷ gs) = count_after (then_count c g) gs
 
-abbrev open_all : Option Transaction → List Fact → Option Transaction
+abbrev pub open_all : Option Transaction → List Fact → Option Transaction
 open_all o [] = o
 open_all o (g ∷ gs) = open_all (open_by o g) gs
 
@@ -54,7 +54,7 @@ count_all : (c : ℕ) (gs fs : List Fact) → count_after c (gs ++ fs) ≡ count
 count_all c [] fs = refl
 count_all c (g ∷ gs) fs = count_all (then_count c g) gs fs
 
-open_more : (o : Option Transaction) (gs fs : List Fact) → open_all o (gs ++ fs) ≡ open_all (open_all o gs) fs
+pub open_more : (o : Option Transaction) (gs fs : List Fact) → open_all o (gs ++ fs) ≡ open_all (open_all o gs) fs
 open_more o [] fs = refl
 open_more o (g ∷ gs) fs = open_more (open_by o g) gs fs
 
@@ -72,7 +72,7 @@ counts c (digest block hash ∷ gs) = counts c gs
 counts c (image items ∷ gs) = counts c gs
 counts c (no_digest ∷ gs) = counts c gs
 
-open_read : (b : TransactionLog) (gs : List Fact) → (read_facts b gs).open_one ≡ open_all b.open_one gs
+pub open_read : (b : TransactionLog) (gs : List Fact) → (read_facts b gs).open_one ≡ open_all b.open_one gs
 open_read b [] = refl
 open_read b (g ∷ gs) = open_read (noted b g) gs
 
@@ -290,7 +290,7 @@ module _ (q : Meaning) (J : List JournalItem) (held : List HeldStatement) where
 
 -- ---- what others hold
 
-held_same : (s k : ℕ) (f g : ℕ → Option Transaction) → ((t : ℕ) → t ≢ s → f t ≡ g t) → held_beside s k f ≡ held_beside s k g
+pub held_same : (s k : ℕ) (f g : ℕ → Option Transaction) → ((t : ℕ) → t ≢ s → f t ≡ g t) → held_beside s k f ≡ held_beside s k g
 held_same s zero f g same = refl
 held_same s (suc k) f g same = ap (λ (l : List HeldStatement). l ++ (if k == s then [] else held_by (f k))) (held_same s k f g same)
     ∙ ap (λ (l : List HeldStatement). held_beside s k g ++ l) (⊎_elim

@@ -6,6 +6,7 @@ use Rattle.sql_types.specs.declared.journal.JournalItem.{JournalItem}
 use Rattle.sql_types.specs.declared.journal.JournalItem.TheVariants.{Tx, Close}
 use Rattle.spec_model.specs.Catalog.{Tables, Defs}
 use Rattle.spec_model.specs.Journals.{Line, tx_count}
+use Rattle.law_frame.proofs.LegalRules.{count_append}
 use Rattle.spec_history.specs.Lists.{Text, Each, Some_of, In}
 use Rattle.spec_history.specs.Meaning.{Meaning}
 use Rattle.spec_history.specs.Serial.{texts_of, serial}
@@ -16,7 +17,7 @@ use Rattle.spec_history.specs.Sessions.{SessionTransaction, SessionState, asks, 
 use Rattle.spec_history.specs.Worlds.{World, item_of, items_by, step, run, tables}
 use Rattle.spec_history.specs.Guards.{tables_at_end, HasOpenTransaction, Fixed, NoTable, IsEnabled, Good, Commits}
 use Rattle.spec_history.specs.WantClashes.{HasIn, HasWantThat, Firm, ClashesWithId, IsAlone, AloneIn}
-use Rattle.spec_history.proofs.Trace.{count_append, each_weaker}
+use Rattle.spec_history.proofs.Trace.{each_weaker}
 use Rattle.spec_history.proofs.Alone.{alone_step}
 use Rattle.spec_history.proofs.Settles.{in_left, in_right}
 use Rattle.spec_history.proofs.Stable.{serial_append, tables_at_end_stay, tables_at_end_last}

@@ -2,6 +2,7 @@
 use Rattle.std.proofs.Common.{◌≡◌, ℕ, Bool, true, false, List, [], ◌∷◌, ◌++◌, Option, Some, None, refl, sym, ap, ◌∙◌, subst, append_assoc}
 use Rattle.std.specs.Prelude.{if◌then◌else◌, ◌==◌}
 use Rattle.std.proofs.lemmas.Bool.{eqb-true}
+use Rattle.sql_value.proofs.Naturals.{eqb_sym}
 use Rattle.spec_history.specs.Lists.{Text, Each}
 use Rattle.spec_history.specs.Meaning.{Meaning}
 use Rattle.spec_history.specs.Facts.{Fact, began, over}
@@ -13,7 +14,6 @@ use Rattle.spec_history.specs.Sessions.{SessionTransaction, SessionState, asks, 
 use Rattle.spec_history.specs.Worlds.{World, put, step, run}
 use Rattle.spec_history.specs.Guards.{IsEnabled, Good}
 use Rattle.spec_history.proofs.Trace.{each_append}
-use Rattle.spec_history.proofs.Follow.{eqb_sym}
 
 -- the first `over` among these facts, with no begin before it
 pub record Closes (gs : List Fact) : Type 0 where

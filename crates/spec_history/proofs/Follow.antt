@@ -1,7 +1,8 @@
 -- What is said of a session and of what its acts have shown so far.
-use Rattle.std.proofs.Common.{◌≡◌, ◌≢◌, ℕ, Bool, true, false, List, [], ◌∷◌, ◌++◌, Option, refl, sym, ap, ◌∙◌, subst, ⊎_elim, append-nil, append_assoc}
-use Rattle.std.proofs.lemmas.Bool.{eqb-true, eq-eqb, ne_eqb, cases_eq}
+use Rattle.std.proofs.Common.{◌≡◌, ℕ, Bool, true, false, List, [], ◌∷◌, ◌++◌, Option, refl, sym, ap, ◌∙◌, subst, append-nil, append_assoc}
+use Rattle.std.proofs.lemmas.Bool.{eqb-true}
 use Rattle.std.specs.Prelude.{if◌then◌else◌, ◌==◌}
+use Rattle.sql_value.proofs.Naturals.{eqb_sym}
 use Rattle.spec_history.specs.Lists.{Text}
 use Rattle.spec_history.specs.Meaning.{Meaning}
 use Rattle.spec_history.specs.Transcripts.{Entry}
@@ -10,9 +11,6 @@ use Rattle.spec_history.specs.Acts.{SessionAct, Act, by, closes, of, shown, all_
 use Rattle.spec_history.specs.Sessions.{SessionState, acted}
 use Rattle.spec_history.specs.Worlds.{World, put, step, run}
 use Rattle.spec_history.specs.Guards.{IsEnabled, Good}
-
-pub eqb_sym : (s t : ℕ) → (s == t) ≡ (t == s)
-eqb_sym s t = ⊎_elim (λ (e : s ≡ t). eq-eqb s t e ∙ sym (eq-eqb t s (sym e))) (λ (n : s ≢ t). ne_eqb s t n ∙ sym (ne_eqb t s (λ e. n (sym e)))) (cases_eq s t)
 
 pub shown_append : (xs ys : List SessionAct) → all_shown (xs ++ ys) ≡ all_shown xs ++ all_shown ys
 shown_append [] ys = refl

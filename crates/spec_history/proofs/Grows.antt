@@ -4,6 +4,7 @@ use Rattle.std.specs.Prelude.{slice_get}
 use Rattle.sql_types.specs.declared.journal.JournalItem.{JournalItem}
 use Rattle.sql_types.specs.declared.journal.JournalItem.TheVariants.{Tx, Close}
 use Rattle.spec_model.specs.Journals.{closed}
+pub use Rattle.law_frame.proofs.LegalRules.{closed_append}
 use Rattle.spec_history.specs.Lists.{Text}
 use Rattle.spec_history.specs.Journals.{blocks, in_blocks, times}
 use Rattle.spec_history.specs.Meaning.{Meaning}
@@ -20,11 +21,6 @@ pub blocks_append : (J K : List JournalItem) → blocks (J ++ K) ≡ blocks J + 
 blocks_append [] K = omega arith
 blocks_append (Tx id session time explicit script ∷ is) K = blocks_append is K
 blocks_append (Close k ∷ is) K = omega (arith, blocks_append is K)
-
-pub closed_append : (J K : List JournalItem) → closed (J ++ K) ≡ closed J + closed K
-closed_append [] K = omega arith
-closed_append (Tx id session time explicit script ∷ is) K = closed_append is K
-closed_append (Close k ∷ is) K = omega (arith, closed_append is K)
 
 pub blocks_step : (w : World) (e : Act) → blocks w.items ≤ blocks (step w e).items
 blocks_step w (by s a) = omega (arith, blocks_append w.items (items_by (w.at s) a))

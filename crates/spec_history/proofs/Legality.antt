@@ -1,6 +1,7 @@
 -- A journal is legal by a meaning exactly where it is by the meaning of statements.
 use Rattle.std.proofs.Common.{◌≡◌, ◌≢◌, ◌↔◌, ℕ, suc, ◌+◌, ◌-◌, ◌<◌, ◌≤◌, Bool, List, [], ◌∷◌, ◌++◌, length, refl, sym, ◌∙◌, subst, arith}
 use Rattle.std.specs.List.{AllByRecursion}
+use Rattle.std.proofs.ByRecursion.{All-append}
 use Rattle.sql_types.specs.declared.event.Event.{Event}
 use Rattle.sql_types.specs.declared.journal.JournalItem.{JournalItem}
 use Rattle.sql_types.specs.declared.journal.JournalItem.TheVariants.{Tx, Close}
@@ -9,7 +10,6 @@ use Rattle.spec_model.specs.Journals as model
 use Rattle.spec_model.specs.Journals.{Line, tx_count, closed, IsOther}
 use Rattle.spec_model.specs.Script.{Reading, script}
 use Rattle.spec_model.specs.SystemTables.{first_tables}
-use Rattle.law_frame.proofs.Alls.{all_append}
 use Rattle.law_frame.proofs.LegalRules.{count_append, closed_append}
 use Rattle.law_frame.proofs.LegalSound.{first_part, last_one}
 use Rattle.spec_history.specs.Lists.{Each}
@@ -32,7 +32,7 @@ AreNew before ids = Each (λ id. AllByRecursion (IsOther id) before) ids
 
 newer : (before : List JournalItem) (item : JournalItem) (ids : List ℕ) → AreNew before ids → Each (λ id. IsOther id item) ids → AreNew (before ++ item ∷ []) ids
 newer before item [] h k = tt
-newer before item (id ∷ ids) h k = (all_append (IsOther id) before (item ∷ []) h.0 (k.0, tt), newer before item ids h.1 k.1)
+newer before item (id ∷ ids) h k = (All-append (IsOther id) before (item ∷ []) h.0 (k.0, tt), newer before item ids h.1 k.1)
 
 older : (before : List JournalItem) (item : JournalItem) (ids : List ℕ) → AreNew (before ++ item ∷ []) ids → AreNew before ids × Each (λ id. IsOther id item) ids
 older before item [] h = (tt, tt)

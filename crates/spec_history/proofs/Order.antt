@@ -3,6 +3,7 @@ use Rattle.std.proofs.Common.{◌≡◌, ℕ, suc, ◌+◌, ◌<◌, List, [], �
 use Rattle.sql_types.specs.declared.journal.JournalItem.{JournalItem}
 use Rattle.sql_types.specs.declared.journal.JournalItem.TheVariants.{Tx, Close}
 use Rattle.spec_model.specs.Journals.{tx_count, closed}
+use Rattle.law_frame.proofs.LegalRules.{count_append}
 use Rattle.spec_history.specs.Lists.{Text}
 use Rattle.spec_history.specs.Journals.{blocks}
 use Rattle.spec_history.specs.Meaning.{Meaning}
@@ -12,7 +13,6 @@ use Rattle.spec_history.specs.StepOrder.{Counted}
 use Rattle.spec_history.specs.Acts.{SessionAct, assigns_id, commits, ends, issues, keeps, lacks, Act, by, closes, shown}
 use Rattle.spec_history.specs.Worlds.{World, item_of, items_by, step, run}
 use Rattle.spec_history.specs.Guards.{Good}
-use Rattle.spec_history.proofs.Trace.{count_append}
 use Rattle.spec_history.proofs.Clash.{place_last}
 use Rattle.spec_history.proofs.Signs.{mark_same}
 use Rattle.spec_history.proofs.Legal.{closings_run}

@@ -2,6 +2,7 @@
 use Rattle.std.proofs.Common.{◌≡◌, ℕ, suc, ◌+◌, Bool, true, false, List, [], ◌∷◌, ◌++◌, map, Option, Some, None, refl, sym, ap, ◌∙◌, subst, arith, append-nil, append_assoc}
 use Rattle.std.specs.Prelude.{if◌then◌else◌, ◌==◌}
 use Rattle.std.proofs.lemmas.Bool.{eqb-true}
+use Rattle.sql_value.proofs.Naturals.{eqb_sym}
 use Rattle.sql_types.specs.declared.journal.JournalItem.{JournalItem}
 use Rattle.sql_types.specs.declared.journal.JournalItem.TheVariants.{Tx, Close}
 use Rattle.spec_model.specs.Journals.{tx_count}
@@ -13,7 +14,6 @@ use Rattle.spec_history.specs.Acts.{SessionAct, assigns_id, looks, says, fails, 
 use Rattle.spec_history.specs.Sessions.{SessionTransaction, SessionState, view, viewed, runs, drawn, asks, hears, scripts, fixes, acted}
 use Rattle.spec_history.specs.Worlds.{World, item_of, items_by, put, step, run}
 use Rattle.spec_history.specs.Guards.{IsEnabled, Good, Commits}
-use Rattle.spec_history.proofs.Follow.{eqb_sym}
 use Rattle.spec_history.proofs.TransactionLogs.{map_view_append, listed_view}
 
 front : (b : Bool) (p : Placed) (xs ys zs : List Placed) → zs ≡ xs ++ ys → (if b then p ∷ zs else zs) ≡ (if b then p ∷ xs else xs) ++ ys
@@ -29,7 +29,7 @@ picked_append pick n (Close k ∷ is) K = picked_append pick n is K
 picked_all : (pick : ℕ → Text → Bool) (J K : List JournalItem) → picked pick 0 (J ++ K) ≡ picked pick 0 J ++ picked pick (tx_count J) K
 picked_all pick J K = picked_append pick 0 J K ∙ ap (λ (m : ℕ). picked pick 0 J ++ picked pick m K) (omega arith)
 
-ones_append : (us vs : List Transaction) → committed_ones (us ++ vs) ≡ committed_ones us ++ committed_ones vs
+pub ones_append : (us vs : List Transaction) → committed_ones (us ++ vs) ≡ committed_ones us ++ committed_ones vs
 ones_append [] vs = refl
 ones_append (u ∷ us) vs = ap (λ (l : List Placed). committed_at_place u u.end ++ l) (ones_append us vs) ∙ sym (append_assoc (committed_at_place u u.end) (committed_ones us) (committed_ones vs))
 

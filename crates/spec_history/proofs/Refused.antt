@@ -38,7 +38,7 @@ pub each_right : {A : Type 0} (P : A → Type 0) (xs ys : List A) → Each P (xs
 each_right P [] ys h = h
 each_right P (x ∷ xs) ys h = each_right P xs ys h.1
 
-in_each : {A : Type 0} (P : A → Type 0) (xs : List A) (x : A) → Each P xs → In x xs → P x
+pub in_each : {A : Type 0} (P : A → Type 0) (xs : List A) (x : A) → Each P xs → In x xs → P x
 in_each P [] x h i = absurd i
 in_each P (y ∷ xs) x h i = ⊎_elim (λ (e : y ≡ x). subst P e h.0) (λ (j : In x xs). in_each P xs x h.1 j) i
 

@@ -2,6 +2,7 @@
 use Rattle.std.proofs.Common.{◌≡◌, ◌≢◌, ℕ, Bool, true, false, List, [], ◌∷◌, ◌++◌, Option, None, refl, sym, ap, ◌∙◌, subst, ⊎_elim, append-nil, append_assoc}
 use Rattle.std.specs.Prelude.{◌==◌}
 use Rattle.std.proofs.lemmas.Bool.{eqb-true, eq-eqb, ne_eqb, cases_eq}
+use Rattle.sql_value.proofs.Naturals.{eqb_sym}
 use Rattle.spec_history.specs.Lists.{Text}
 use Rattle.spec_history.specs.Meaning.{Meaning}
 use Rattle.spec_history.specs.Transcripts.{Entry}
@@ -12,7 +13,7 @@ use Rattle.spec_history.specs.Sessions.{SessionState, acted}
 use Rattle.spec_history.specs.Worlds.{World, put, step, run}
 use Rattle.spec_history.specs.Guards.{Good}
 use Rattle.spec_history.specs.Histories.{OneAtATime, rows_by, rows_of}
-use Rattle.spec_history.proofs.Follow.{eqb_sym, open_append}
+use Rattle.spec_history.proofs.Follow.{open_append}
 use Rattle.spec_history.proofs.Order.{facts_in}
 
 -- ---- the entries of a session

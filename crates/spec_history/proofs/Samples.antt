@@ -215,7 +215,7 @@ stretch s w (closes n ∷ es) h k = stretch s (step w (closes n)) es h k
 turn : (s t : ℕ) (w : World) → OthersIdle s w → IsIdle (w.at s) → OthersIdle t w
 turn s t w h e u ne = ⊎_elim (λ (k : u ≡ s). subst (λ (i : ℕ). IsIdle (w.at i)) (sym k) e) (λ (k : u ≢ s). h u k) (cases_eq u s)
 
-one_join : (w : World) (es fs : List Act) → OneAtATime w es → OneAtATime (run w es) fs → OneAtATime w (es ++ fs)
+pub one_join : (w : World) (es fs : List Act) → OneAtATime w es → OneAtATime (run w es) fs → OneAtATime w (es ++ fs)
 one_join w [] fs h k = k
 one_join w (by s a ∷ es) fs h k = (h.0, one_join (step w (by s a)) es fs h.1 k)
 one_join w (closes n ∷ es) fs h k = one_join (step w (closes n)) es fs h k
@@ -258,7 +258,7 @@ in_step = (tt, (tt, (tt, (refl, (refl, tt)))))
 
 -- ---- locks decide
 
-decide_join : (q : Meaning) (k : ℕ) (w : World) (es fs : List Act) → LocksDecide q k w es → LocksDecide q k (run w es) fs → LocksDecide q k w (es ++ fs)
+pub decide_join : (q : Meaning) (k : ℕ) (w : World) (es fs : List Act) → LocksDecide q k w es → LocksDecide q k (run w es) fs → LocksDecide q k w (es ++ fs)
 decide_join q k w [] fs h l = l
 decide_join q k w (by s a ∷ es) fs h l = (h.0, decide_join q k (step w (by s a)) es fs h.1 l)
 decide_join q k w (closes n ∷ es) fs h l = decide_join q k (step w (closes n)) es fs h l

@@ -4,6 +4,7 @@ use Rattle.std.specs.Prelude.{if◌then◌else◌, ◌==◌}
 use Rattle.sql_types.specs.declared.journal.JournalItem.{JournalItem}
 use Rattle.sql_types.specs.declared.journal.JournalItem.TheVariants.{Tx, Close}
 use Rattle.spec_model.specs.Journals.{Line, tx_count}
+use Rattle.law_frame.proofs.LegalRules.{count_append}
 use Rattle.spec_history.specs.Lists.{Text, In}
 use Rattle.spec_history.specs.Journals.{nth_tx}
 use Rattle.spec_history.specs.Meaning.{Meaning}
@@ -14,7 +15,6 @@ use Rattle.spec_history.specs.Sessions.{SessionTransaction, SessionState, drawn,
 use Rattle.spec_history.specs.Worlds.{World, item_of, items_by, step, run}
 use Rattle.spec_history.specs.Guards.{IsEnabled, Good, Commits, Ends}
 use Rattle.spec_history.specs.WantClashes.{SettledAt, Settled}
-use Rattle.spec_history.proofs.Trace.{count_append}
 use Rattle.spec_history.proofs.Stable.{after_stays, after_last}
 
 nth_stays : (m : ℕ) (J K : List JournalItem) (i : JournalItem) → nth_tx m J ≡ Some i → nth_tx m (J ++ K) ≡ Some i

@@ -12,7 +12,7 @@ use Rattle.spec_history.specs.Worlds.{World, run}
 use Rattle.spec_history.specs.Guards.{IsEnabled, Good, IsStatement, Answered, Answers, images_of}
 use Rattle.spec_history.proofs.Follow.{follow, facts_append}
 
-statements_append : (es fs : List Entry) → statements (es ++ fs) ≡ statements es ++ statements fs
+pub statements_append : (es fs : List Entry) → statements (es ++ fs) ≡ statements es ++ statements fs
 statements_append [] fs = refl
 statements_append (statement text r end ∷ es) fs = ap (λ (l : List Text). text ∷ l) (statements_append es fs)
 statements_append (end_of_session end ∷ es) fs = statements_append es fs

@@ -1,7 +1,8 @@
 -- Which refusals an expression without a class has.
 use Rattle.std.proofs.Common.{◌≡◌, ℕ, List, refl, arith, rules, inl, inr}
 use Rattle.std.proofs.lemmas.Grind.{common_steps}
-use Rattle.std.specs.Prelude.{Bool, true, false, ◌&&◌, if◌then◌else◌, ◌↔◌, ◌⊎◌, Option, Some, None, Ok, Err, option_and_then, slice_get, is_some}
+use Rattle.std.specs.Prelude.{Bool, true, false, if◌then◌else◌, ◌↔◌, ◌⊎◌, Option, Some, None, Ok, Err, option_and_then, slice_get, is_some}
+use Rattle.std.proofs.lemmas.Bool.{and_from}
 use Rattle.sql_value.specs.declared.column.ColumnDef.{ColumnDef}
 use Rattle.sql_value.specs.declared.refusal.Refusal.{Refusal}
 use Rattle.sql_value.specs.declared.refusal.Refusal.TheVariants.{NoSuchColumn, TypeMismatch}
@@ -21,9 +22,6 @@ there_at : (columns : List ColumnDef) (place : Option ℕ) (c : Class)
 there_at columns None c ok = absurd (search rules)
 there_at columns (Some i) c ok = refl
 
-both_true : (a b : Bool) → a ≡ true → b ≡ true → (a && b) ≡ true
-both_true a b h k = grind arith
-
 pub there : (columns : List ColumnDef) (t : Tree) (c : Class) → cl.class columns t ≡ Ok c → cl.names_columns columns t ≡ true
 there columns (literal v) c ok = refl
 there columns (column name) c ok = there_at columns (place_of columns name) c ok
@@ -33,7 +31,7 @@ there columns (is_null a n) c ok = let p = ok_before (cl.class columns a) cl.nul
 there columns (binary o a b) c ok =
     let p = ok_before (cl.class columns a) _ c ok in
     let q = ok_before (cl.class columns b) _ c p.2 in
-    both_true _ _ (there columns a p.0 p.1) (there columns b q.0 q.1)
+    and_from _ _ (there columns a p.0 p.1) (there columns b q.0 q.1)
 
 -- where classes don't agree it is TypeMismatch
 abbrev OnlyTypeMismatch : {A : Type 0} → Checked A → Type 0

@@ -1,11 +1,12 @@
 -- The events of changes come after those before them.
 use Rattle.std.proofs.Common.{◌≡◌, ℕ, ◌+◌, ◌≤◌, Bool, true, false, List, [], ◌∷◌, ◌++◌, Option, Some, None, refl, sym, ap, ap₂, ◌∙◌, arith}
 use Rattle.std.proofs.lemmas.Grind.{common_steps}
-use Rattle.std.proofs.lemmas.Bool.{eqb-true}
+use Rattle.std.proofs.lemmas.Bool.{eqb-true, and_parts}
 use Rattle.std.specs.Prelude.{◌==◌, ◌&&◌, not, nat_le, if◌then◌else◌, flat_map}
 use Rattle.std.specs.List.{AllByRecursion, filter}
 use Rattle.std.specs.Ordering.{nat_cmp, is_gt}
 use Rattle.std.specs.declared.cmp.Ordering.{Ordering}
+use Rattle.std.proofs.ByRecursion.{All-weaker}
 use Rattle.sql_types.specs.declared.event.Event.{Event}
 use Rattle.sql_types.specs.declared.version.Version.{Version}
 use Rattle.sql_types.specs.declared.version.TypedValue.{TypedValue}
@@ -15,13 +16,11 @@ use Rattle.spec_model.specs.Events.{start_event, end_event, end_events, version_
 use Rattle.spec_model.specs.Lists.{inserted, sorted}
 use Rattle.spec_model.specs.Runs.{IsBefore, EndsBefore, MadeBefore}
 use Rattle.spec_model.specs.Undo.{is_undone, end_left}
-use Rattle.law_blocks.proofs.Alls.{all_weaker}
 use Rattle.law_blocks.proofs.LeftRows.{all_flat_map}
-use Rattle.law_blocks.proofs.SameKeys.{and_true}
 use Rattle.law_blocks.proofs.UndoneVersions.{Undoes, still_undoes}
 use Rattle.spec_protocol.specs.EventsIn.{events_in}
 
-abbrev by_seq : Event → Event → Ordering
+abbrev pub by_seq : Event → Event → Ordering
 by_seq a b = nat_cmp a.seq b.seq
 
 module _ (n : ℕ) where
@@ -154,7 +153,7 @@ module _ (n : ℕ) where
       old_end v (Some e) h = by (is_undone tx n e) refl h
         where
           by : (b : Bool) → is_undone tx n e ≡ b → (if b then None else Some e) ≡ None → filter counts (end_event id v e ∷ []) ≡ []
-          by true f g = let p = and_true (e.0 == tx) (nat_le n e.1) f in
+          by true f g = let p = and_parts (e.0 == tx) (nat_le n e.1) f in
               ap (λ (c : Bool). if c then end_event id v e ∷ [] else []) (skip (end_event id v e) (eqb-true e.0 tx p.0) (let q = p.1 in grind (arith, common_steps, q)))
           by false f g = cc
 
@@ -176,7 +175,7 @@ module _ (n : ℕ) where
     all_old : (m : ℕ) → n ≤ m → (cs : List Change) (vs : List Version) → AllByRecursion (Undoes tx n vs) cs → old (changed_all tx m cs vs) ≡ old vs
     unfolding changed_all
     all_old m le [] vs h = refl
-    all_old m le (c ∷ cs) vs h = all_old (m + 1) (omega arith) cs (changed (tx, m) c vs) (all_weaker (Undoes tx n vs) (Undoes tx n (changed (tx, m) c vs)) (λ d k. still_undoes tx n m le c vs d k) cs h.1) ∙ changed_old m le c vs h.0
+    all_old m le (c ∷ cs) vs h = all_old (m + 1) (omega arith) cs (changed (tx, m) c vs) (All-weaker (Undoes tx n vs) (Undoes tx n (changed (tx, m) c vs)) (λ d k. still_undoes tx n m le c vs d k) cs h.1) ∙ changed_old m le c vs h.0
 
     -- ---- all
 

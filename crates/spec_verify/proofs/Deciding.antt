@@ -7,14 +7,6 @@ use Rattle.std.specs.List.{AllByRecursion, Any, list_any, list_all, slice_index_
 use Rattle.spec_verify.specs.declared.place.Place.{Place}
 use Rattle.spec_verify.specs.First.{unless}
 
-pub not_true : (b : Bool) → not b ≡ false → b ≡ true
-not_true true e = refl
-not_true false e = cc
-
-pub not_false : (b : Bool) → not b ≡ true → b ≡ false
-not_false true e = cc
-not_false false e = refl
-
 pub Decides-le : (a b : ℕ) → Decides (nat_le a b) (a ≤ b)
 Decides-le a b = here (nat_le a b) (leb_tells a b)
   where

@@ -5,6 +5,8 @@ use Rattle.std.specs.Bool.{Decides}
 use Rattle.std.specs.Prelude.{◌↔◌, ◌&&◌, ◌==◌, not, nat_le, nat_lt, flat_map, if◌then◌else◌}
 use Rattle.std.specs.List.{AllByRecursion, Any, list_all, list_any, filter_map}
 use Rattle.std.specs.Ordering.{int_cmp, int_eq, on}
+use Rattle.base_types.proofs.Lists.{all_front, all_back}
+use Rattle.base_types.proofs.Bools.{and_front, and_back}
 use Rattle.sql_value.specs.declared.value.Value.TheVariants.{Null, Num, Text, Bytes, Date}
 use Rattle.sql_types.specs.declared.image.Image.{Image}
 use Rattle.sql_types.specs.declared.image.TableRows.{TableRows}
@@ -32,18 +34,9 @@ use Rattle.spec_verify.specs.Sentences.{TableVersion, VersionHolds, versions_of_
 use Rattle.spec_verify.specs.Versions.{version_fault}
 use Rattle.spec_verify.proofs.AllTold.{all_hold}
 use Rattle.spec_verify.proofs.Deciding.{one_of, none_of}
-use Rattle.spec_verify.proofs.SameRows.{front, rest}
 use Rattle.spec_verify.proofs.SystemRows.{Scaled, stored_scaled, table_scaled, items_scaled, items_differ, those_rows}
 use Rattle.spec_verify.proofs.ToldTables.{definitions_told}
 use Rattle.spec_verify.proofs.ToldVersions.{versions_told}
-
-all_front : {A : Type 0} (P : A → Type 0) (xs ys : List A) → AllByRecursion P (xs ++ ys) → AllByRecursion P xs
-all_front P [] ys h = tt
-all_front P (x ∷ xs) ys h = (h.0, all_front P xs ys h.1)
-
-all_rest : {A : Type 0} (P : A → Type 0) (xs ys : List A) → AllByRecursion P (xs ++ ys) → AllByRecursion P ys
-all_rest P [] ys h = h
-all_rest P (x ∷ xs) ys h = all_rest P xs ys h.1
 
 -- ---- the base rows of the system's tables have their columns
 
@@ -69,9 +62,9 @@ module _ (i : Image) where
       let u : Table = record { def = columns_def; versions = b.base ++ b.history } in
       base_scaled u b.base b.history
       (all_front (VersionHolds i) (each_version u) (flat_map each_version (tables_with i.defs more))
-      (all_rest (VersionHolds i) (each_version t) (flat_map each_version (tables_with (columns_def ∷ i.defs) (b ∷ more))) h))
+      (all_back (VersionHolds i) (each_version t) (flat_map each_version (tables_with (columns_def ∷ i.defs) (b ∷ more))) h))
 
-  versions_hold : version_fault i ≡ None → AllByRecursion (VersionHolds i) (versions_of_image i)
+  pub versions_hold : version_fault i ≡ None → AllByRecursion (VersionHolds i) (versions_of_image i)
   versions_hold e = all_hold (on start_of table_event_cmp) (VersionHolds i) (λ x p. p ≡ at.Event x.0.def.id x.1.start.0 x.1.start.1) (versions_of_image i) (version_fault i) (versions_told i) e
 
 -- ---- how many columns a definition and its indexes have
@@ -81,7 +74,7 @@ record Few (def : TableDef) : Type 0 where
   parts : AllByRecursion (λ (i : IndexDef). length i.ordinals ≤ 4) def.indexes
 
 upper : (low high n : ℕ) → is_between low high n ≡ true → n ≤ high
-upper low high n e = let most : nat_le n high ≡ true = rest (nat_le low n) (nat_le n high) e in grind (arith, nat_tests, most)
+upper low high n e = let most : nat_le n high ≡ true = and_back (nat_le low n) (nat_le n high) e in grind (arith, nat_tests, most)
 
 few_parts : (columns : ℕ) (is : List IndexDef) → list_all (is_encodable_index columns) is ≡ true → AllByRecursion (λ (i : IndexDef). length i.ordinals ≤ 4) is
 few_parts columns [] e = tt
@@ -89,9 +82,9 @@ few_parts columns (i ∷ is) e =
     let name : Bool = is_proper_name i.name in
     let count : Bool = is_between 1 4 (length i.ordinals) in
     let ordinals : Bool = list_all (is_between 1 columns) i.ordinals in
-    let own : (name && count && ordinals && not (number_repeats i.ordinals)) ≡ true = front (is_encodable_index columns i) (list_all (is_encodable_index columns) is) e in (
-      upper 1 4 (length i.ordinals) (rest name count (front (name && count) ordinals (front (name && count && ordinals) (not (number_repeats i.ordinals)) own))),
-      few_parts columns is (rest (is_encodable_index columns i) (list_all (is_encodable_index columns) is) e),
+    let own : (name && count && ordinals && not (number_repeats i.ordinals)) ≡ true = and_front (is_encodable_index columns i) (list_all (is_encodable_index columns) is) e in (
+      upper 1 4 (length i.ordinals) (and_back name count (and_front (name && count) ordinals (and_front (name && count && ordinals) (not (number_repeats i.ordinals)) own))),
+      few_parts columns is (and_back (is_encodable_index columns i) (list_all (is_encodable_index columns) is) e),
     )
 
 few : (def : TableDef) → is_encodable_def def ≡ true → Few def
@@ -104,24 +97,24 @@ few def e =
     let key : Bool = not (has_null_key def) in
     let number : Bool = nat_le (length def.indexes) 4 in
     let indexes : Bool = list_all (is_encodable_index (length def.columns)) def.indexes in
-    let all = front (names && count && columns && differ && positions && key && number && indexes) (not (repeats (map (λ (i : IndexDef). i.name) def.indexes))) e in
-    let to_number = front (names && count && columns && differ && positions && key && number) indexes all in
-    let to_key = front (names && count && columns && differ && positions && key) number to_number in
-    let to_positions = front (names && count && columns && differ && positions) key to_key in
-    let to_differ = front (names && count && columns && differ) positions to_positions in
-    let to_columns = front (names && count && columns) differ to_differ in
+    let all = and_front (names && count && columns && differ && positions && key && number && indexes) (not (repeats (map (λ (i : IndexDef). i.name) def.indexes))) e in
+    let to_number = and_front (names && count && columns && differ && positions && key && number) indexes all in
+    let to_key = and_front (names && count && columns && differ && positions && key) number to_number in
+    let to_positions = and_front (names && count && columns && differ && positions) key to_key in
+    let to_differ = and_front (names && count && columns && differ) positions to_positions in
+    let to_columns = and_front (names && count && columns) differ to_differ in
     record {
-      columns = upper 1 64 (length def.columns) (rest names count (front (names && count) columns to_columns));
-      parts = few_parts (length def.columns) def.indexes (rest (names && count && columns && differ && positions && key && number) indexes all);
+      columns = upper 1 64 (length def.columns) (and_back names count (and_front (names && count) columns to_columns));
+      parts = few_parts (length def.columns) def.indexes (and_back (names && count && columns && differ && positions && key && number) indexes all);
     }
 
 -- ---- a definition that is spelled
 
 same_count : (rows wanted : List Row) → are_rows rows wanted ≡ true → length rows ≡ length wanted
-same_count rows wanted e = (Decides-eqb (length rows) (length wanted)).0 (front (length rows == length wanted) (list_all (λ w. list_any (same_key w) rows) wanted) e)
+same_count rows wanted e = (Decides-eqb (length rows) (length wanted)).0 (and_front (length rows == length wanted) (list_all (λ w. list_any (same_key w) rows) wanted) e)
 
 each_there : (rows wanted : List Row) → are_rows rows wanted ≡ true → list_all (λ w. list_any (same_key w) rows) wanted ≡ true
-each_there rows wanted e = rest (length rows == length wanted) (list_all (λ w. list_any (same_key w) rows) wanted) e
+each_there rows wanted e = and_back (length rows == length wanted) (list_all (λ w. list_any (same_key w) rows) wanted) e
 
 module _ (first second : List Row) (defs : Defs) where
   record Said (def : TableDef) : Type 0 where
@@ -135,13 +128,13 @@ module _ (first second : List Row) (defs : Defs) where
       let table : Bool = are_rows (about (pos def.id) first) (table_row def ∷ []) in
       let items : Bool = are_rows (about (pos def.id) second) (item_rows def) in
       let rules : Bool = is_encodable_def def in
-      let three = front (table && items && rules) (has_new_names first def) e in
-      let two = front (table && items) rules three in
+      let three = and_front (table && items && rules) (has_new_names first def) e in
+      let two = and_front (table && items) rules three in
       record {
-        table = front table items two;
-        items = rest table items two;
-        rules = rest (table && items) rules three;
-        names = rest (table && items && rules) (has_new_names first def) e;
+        table = and_front table items two;
+        items = and_back table items two;
+        rules = and_back (table && items) rules three;
+        names = and_back (table && items && rules) (has_new_names first def) e;
       }
 
   its_rows : AllByRecursion (Scaled tables_columns) first → AllByRecursion (Scaled columns_columns) second → (def : TableDef) → Said def → AreRowsOfOne first second def
@@ -163,13 +156,13 @@ one_id : (m n : ℕ) → pos m ≡ pos n → m ≡ n
 one_id m n e = cc
 
 rises : (last id : ℕ) (ds : Defs) → (nat_lt last id && ids_rise id ds) ≡ true → last < id
-rises last id ds e = let lt : nat_lt last id ≡ true = front (nat_lt last id) (ids_rise id ds) e in grind (arith, nat_tests, lt)
+rises last id ds e = let lt : nat_lt last id ≡ true = and_front (nat_lt last id) (ids_rise id ds) e in grind (arith, nat_tests, lt)
 
 among_rises : (n : ℕ) (es : Defs) (def : TableDef) → ids_rise n es ≡ true → IsAmong def es → n < def.id
 among_rises n [] def r q = absurd q
 among_rises n (x ∷ es) def r (inl same) = subst (λ (y : TableDef). n < y.id) same (rises n x.id es r)
 among_rises n (x ∷ es) def r (inr q) =
-    let far : x.id < def.id = among_rises x.id es def (rest (nat_lt n x.id) (ids_rise x.id es) r) q in
+    let far : x.id < def.id = among_rises x.id es def (and_back (nat_lt n x.id) (ids_rise x.id es) r) q in
     let near : n < x.id = rises n x.id es r in
     omega (arith, far, near)
 
@@ -179,7 +172,7 @@ module _ (P : TableDef → Type 0) where
   none_below last n [] le r a = none_of (HasId P (pos n)) a
   none_below last n (d ∷ ds) le r a =
       let lt : last < d.id = rises last d.id ds r in
-      here lt (one_of (HasId P (pos n)) d ds a) (λ q. none_below d.id n ds (omega (arith, lt, le)) (rest (nat_lt last d.id) (ids_rise d.id ds) r) q)
+      here lt (one_of (HasId P (pos n)) d ds a) (λ q. none_below d.id n ds (omega (arith, lt, le)) (and_back (nat_lt last d.id) (ids_rise d.id ds) r) q)
     where
       here : last < d.id → HasId P (pos n) d ⊎ Any (HasId P (pos n)) ds → (Any (HasId P (pos n)) ds → ⊥) → ⊥
       here lt (inl p) never = let same : d.id ≡ n = one_id d.id n p.0 in omega (arith, lt, le, same)
@@ -189,7 +182,7 @@ module _ (P : TableDef → Type 0) where
   unfolding HasId
   its_own last [] def r among a = absurd among
   its_own last (d ∷ ds) def r among a =
-      let more : ids_rise d.id ds ≡ true = rest (nat_lt last d.id) (ids_rise d.id ds) r in
+      let more : ids_rise d.id ds ≡ true = and_back (nat_lt last d.id) (ids_rise d.id ds) r in
       here (rises last d.id ds r) more among (one_of (HasId P (pos def.id)) d ds a) (λ q b. its_own d.id ds def more q b)
     where
       here : last < d.id → ids_rise d.id ds ≡ true → (d ≡ def) ⊎ IsAmong def ds → HasId P (pos def.id) d ⊎ Any (HasId P (pos def.id)) ds
@@ -254,10 +247,10 @@ module _ (i : Image) (rise : ids_rise 2 i.defs ≡ true) (versions : version_fau
   they_encode : definition_fault i ≡ None → RowsEncode first second i.defs
   they_encode e =
       let ids = all_hold int_cmp (IsEncodedAt i) (λ id p. p ≡ at.Table id) (ids_of_tables i) (definition_fault i) (definitions_told i) e in
-      let behind = all_rest (IsEncodedAt i) (filter_map table_of first) (filter_map table_of second ++ map (λ (d : TableDef). pos d.id) i.defs) ids in
+      let behind = all_back (IsEncodedAt i) (filter_map table_of first) (filter_map table_of second ++ map (λ (d : TableDef). pos d.id) i.defs) ids in
       let in_first = all_front (IsEncodedAt i) (filter_map table_of first) (filter_map table_of second ++ map (λ (d : TableDef). pos d.id) i.defs) ids in
       let in_second = all_front (IsEncodedAt i) (filter_map table_of second) (map (λ (d : TableDef). pos d.id) i.defs) behind in
-      let of_defs = all_rest (IsEncodedAt i) (filter_map table_of second) (map (λ (d : TableDef). pos d.id) i.defs) behind in
+      let of_defs = all_back (IsEncodedAt i) (filter_map table_of second) (map (λ (d : TableDef). pos d.id) i.defs) behind in
       let hold = versions_hold i versions in
       let each : (def : TableDef) → IsAmong def i.defs → Said first second i.defs def =
       λ def among. said first second i.defs def (its_own Encoded 2 i.defs def rise among (found (pos def.id) (at_id (IsEncodedAt i) i.defs of_defs def among))) in

@@ -1,13 +1,14 @@
 -- Values of one type that compare as equal are one, where the type stores them; and so are rows.
-use Rattle.std.proofs.Common.{◌≡◌, ◌<◌, ◌≤◌, ◌^◌, ◌∙◌, ℤ, ℕ, zero, suc, refl, sym, ap, subst, arith, Bool, true, false, List, [], ◌∷◌, map, Option, Some, None}
+use Rattle.std.proofs.Common.{◌≡◌, ◌<◌, ◌≤◌, ◌^◌, ◌∙◌, ℤ, ℕ, zero, suc, refl, sym, ap, subst, arith, Bool, true, List, [], ◌∷◌, map, Option, Some, None}
 use Rattle.std.proofs.lemmas.Bool.Decides.{Decides-eqb, nat_tests}
 use Rattle.std.proofs.lemmas.Bool.{eq-eqb}
 use Rattle.std.specs.Prelude.{◌↔◌, ◌&&◌, ◌==◌, get_or, if◌then◌else◌, nat_le}
 use Rattle.std.specs.Cmp.{tied_itself, int_cmp_total}
 use Rattle.std.specs.List.{AllByRecursion}
 use Rattle.std.specs.Ordering.{is_eq, int_cmp}
-use Rattle.std.specs.declared.cmp.Ordering.{Ordering}
-use Rattle.std.specs.declared.cmp.Ordering.TheVariants.{Less, Equal, Greater}
+use Rattle.std.specs.declared.cmp.Ordering.TheVariants.{Equal}
+use Rattle.base_types.proofs.Orderings.{is_equal}
+use Rattle.base_types.proofs.Bools.{and_front, and_back}
 use Rattle.sql_value.specs.declared.sql_type.SqlType.{SqlType}
 use Rattle.sql_value.specs.declared.sql_type.SqlType.TheVariants as t
 use Rattle.sql_value.specs.declared.value.Value.{Value}
@@ -29,14 +30,6 @@ use Rattle.format_image.specs.RowBytes.{IsValue, AreValues, IsBaseRow, AreIndexe
 use Rattle.format_image.specs.Rows.{Stored, stored_at, index_ordinals, index_row, stored_cmp, index_rows}
 use Rattle.spec_verify.specs.Indexes.{same_value, same_row, same_rows, index_holds}
 use Rattle.spec_verify.specs.Versions.{same_type}
-
-pub front : (a b : Bool) → (a && b) ≡ true → a ≡ true
-front true b e = refl
-front false b e = cc
-
-pub rest : (a b : Bool) → (a && b) ≡ true → b ≡ true
-rest true b e = e
-rest false b e = cc
 
 -- ---- types
 
@@ -63,17 +56,17 @@ there t.Date = refl
 one_type : (a b : SqlType) → same_type a b ≡ true → a ≡ b
 one_type a b e =
     let two : Bool = first_parameter a == first_parameter b && second_parameter a == second_parameter b in
-    let code : type_code a ≡ type_code b = (Decides-eqb (type_code a) (type_code b)).0 (front (type_code a == type_code b) two e) in
-    let both : two ≡ true = rest (type_code a == type_code b) two e in
-    let p : first_parameter a ≡ first_parameter b = (Decides-eqb (first_parameter a) (first_parameter b)).0 (front (first_parameter a == first_parameter b) (second_parameter a == second_parameter b) both) in
-    let s : second_parameter a ≡ second_parameter b = (Decides-eqb (second_parameter a) (second_parameter b)).0 (rest (first_parameter a == first_parameter b) (second_parameter a == second_parameter b) both) in
+    let code : type_code a ≡ type_code b = (Decides-eqb (type_code a) (type_code b)).0 (and_front (type_code a == type_code b) two e) in
+    let both : two ≡ true = and_back (type_code a == type_code b) two e in
+    let p : first_parameter a ≡ first_parameter b = (Decides-eqb (first_parameter a) (first_parameter b)).0 (and_front (first_parameter a == first_parameter b) (second_parameter a == second_parameter b) both) in
+    let s : second_parameter a ≡ second_parameter b = (Decides-eqb (second_parameter a) (second_parameter b)).0 (and_back (first_parameter a == first_parameter b) (second_parameter a == second_parameter b) both) in
     sym (there a)
     ∙ ap (λ c. type_from c (first_parameter a) (second_parameter a)) code
     ∙ ap (λ q. type_from (type_code b) q (second_parameter a)) p
     ∙ ap (λ z. type_from (type_code b) (first_parameter b) z) s
     ∙ there b
 
-own_type : (a : SqlType) → same_type a a ≡ true
+pub own_type : (a : SqlType) → same_type a a ≡ true
 own_type a = rw (eq-eqb (type_code a) (type_code a) refl, eq-eqb (first_parameter a) (first_parameter a) refl, eq-eqb (second_parameter a) (second_parameter a) refl) refl
 
 -- ---- values
@@ -85,10 +78,10 @@ scale_of _ = 0
 
 has_scale : (ty : SqlType) (v : ℤ) (s : ℕ) → number_stored ty v s ≡ true → s ≡ scale_of ty
 unfolding scale_of
-has_scale t.Bit v s e = (Decides-eqb s 0).0 (front (s == 0) (is_bit v) e)
-has_scale t.Int v s e = (Decides-eqb s 0).0 (front (s == 0) (in_bits 31 v) e)
-has_scale t.BigInt v s e = (Decides-eqb s 0).0 (front (s == 0) (in_bits 63 v) e)
-has_scale (t.Decimal p z) v s e = (Decides-eqb s z).0 (front (s == z) (has_digits v p) e)
+has_scale t.Bit v s e = (Decides-eqb s 0).0 (and_front (s == 0) (is_bit v) e)
+has_scale t.Int v s e = (Decides-eqb s 0).0 (and_front (s == 0) (in_bits 31 v) e)
+has_scale t.BigInt v s e = (Decides-eqb s 0).0 (and_front (s == 0) (in_bits 63 v) e)
+has_scale (t.Decimal p z) v s e = (Decides-eqb s z).0 (and_front (s == z) (has_digits v p) e)
 has_scale (t.NVarChar n) v s e = cc
 has_scale (t.VarBinary n) v s e = cc
 has_scale t.Date v s e = cc
@@ -99,9 +92,9 @@ small_scale t.Bit e = omega arith
 small_scale t.Int e = omega arith
 small_scale t.BigInt e = omega arith
 small_scale (t.Decimal p z) e =
-    let within : (nat_le 1 p && nat_le p 38) ≡ true = front (nat_le 1 p && nat_le p 38) (nat_le z p) e in
-    let most : nat_le p 38 ≡ true = rest (nat_le 1 p) (nat_le p 38) within in
-    let less : nat_le z p ≡ true = rest (nat_le 1 p && nat_le p 38) (nat_le z p) e in
+    let within : (nat_le 1 p && nat_le p 38) ≡ true = and_front (nat_le 1 p && nat_le p 38) (nat_le z p) e in
+    let most : nat_le p 38 ≡ true = and_back (nat_le 1 p) (nat_le p 38) within in
+    let less : nat_le z p ≡ true = and_back (nat_le 1 p && nat_le p 38) (nat_le z p) e in
     let a : p ≤ 38 = grind (arith, nat_tests, most) in
     let b : z ≤ p = grind (arith, nat_tests, less) in
     omega (arith, a, b)
@@ -113,8 +106,8 @@ pub stored_scale : (ty : SqlType) (v : Value) → is_stored v ty ≡ true → Ha
 unfolding is_stored
 stored_scale ty Null e = tt
 stored_scale ty (Num s v) e =
-    let small : scale_of ty < 2 ^ 8 = small_scale ty (front (is_in_range ty) (number_stored ty v s) e) in
-    let is : s ≡ scale_of ty = has_scale ty v s (rest (is_in_range ty) (number_stored ty v s) e) in
+    let small : scale_of ty < 2 ^ 8 = small_scale ty (and_front (is_in_range ty) (number_stored ty v s) e) in
+    let is : s ≡ scale_of ty = has_scale ty v s (and_back (is_in_range ty) (number_stored ty v s) e) in
     omega (arith, small, is)
 stored_scale ty (Text x) e = tt
 stored_scale ty (Bytes x) e = tt
@@ -128,15 +121,10 @@ AtScale ty _ = Unit {0}
 pub at_scale : (ty : SqlType) (v : Value) → is_stored v ty ≡ true → AtScale ty v
 unfolding is_stored
 at_scale ty Null e = tt
-at_scale ty (Num s v) e = has_scale ty v s (rest (is_in_range ty) (number_stored ty v s) e)
+at_scale ty (Num s v) e = has_scale ty v s (and_back (is_in_range ty) (number_stored ty v s) e)
 at_scale ty (Text x) e = tt
 at_scale ty (Bytes x) e = tt
 at_scale ty (Date d) e = tt
-
-pub eq_equal : (r : Ordering) → is_eq r ≡ true → r ≡ Equal
-eq_equal Less e = cc
-eq_equal Equal e = refl
-eq_equal Greater e = cc
 
 one_number : (v w : ℤ) (k : ℕ) → raised v k ≡ raised w k → v ≡ w
 one_number v w k e =
@@ -182,8 +170,8 @@ typed_as ty v = record { ty = ty; value = v }
 one_typed : (a b : TypedValue) → IsTyped a → IsTyped b → (same_type a.ty b.ty && is_eq (value_cmp a.value b.value)) ≡ true → a ≡ b
 unfolding typed_as
 one_typed a b p q e =
-    let ty : a.ty ≡ b.ty = one_type a.ty b.ty (front (same_type a.ty b.ty) (is_eq (value_cmp a.value b.value)) e) in
-    let cmp : value_cmp a.value b.value ≡ Equal = eq_equal (value_cmp a.value b.value) (rest (same_type a.ty b.ty) (is_eq (value_cmp a.value b.value)) e) in
+    let ty : a.ty ≡ b.ty = one_type a.ty b.ty (and_front (same_type a.ty b.ty) (is_eq (value_cmp a.value b.value)) e) in
+    let cmp : value_cmp a.value b.value ≡ Equal = is_equal (value_cmp a.value b.value) (and_back (same_type a.ty b.ty) (is_eq (value_cmp a.value b.value)) e) in
     let same : IsSameValue a.value b.value = (equal a.value b.value (stored_scale a.ty a.value p.stored) (stored_scale b.ty b.value q.stored)).0 cmp in
     let value : a.value ≡ b.value = one_value b.ty a.value b.value (at_scale b.ty a.value (subst (λ y. is_stored a.value y ≡ true) ty p.stored)) (at_scale b.ty b.value q.stored) same in
     ap (λ y. typed_as y a.value) ty ∙ ap (typed_as b.ty) value
@@ -201,26 +189,26 @@ exact_row [] [] p q e = refl
 exact_row [] (y ∷ b) p q e = cc
 exact_row (x ∷ a) [] p q e = cc
 exact_row (x ∷ a) (y ∷ b) p q e =
-    ap (λ v. v ∷ a) (exact_value x y p.0 q.0 (front (same_value x y) (same_row a b) e))
-    ∙ ap (λ vs. y ∷ vs) (exact_row a b p.1 q.1 (rest (same_value x y) (same_row a b) e))
+    ap (λ v. v ∷ a) (exact_value x y p.0 q.0 (and_front (same_value x y) (same_row a b) e))
+    ∙ ap (λ vs. y ∷ vs) (exact_row a b p.1 q.1 (and_back (same_value x y) (same_row a b) e))
 
 exact_rows : (a b : List Stored) → AllByRecursion (λ r. AllByRecursion IsValue r) a → AllByRecursion (λ r. AllByRecursion IsValue r) b → same_rows a b ≡ true → a ≡ b
 exact_rows [] [] p q e = refl
 exact_rows [] (y ∷ b) p q e = cc
 exact_rows (x ∷ a) [] p q e = cc
 exact_rows (x ∷ a) (y ∷ b) p q e =
-    ap (λ v. v ∷ a) (exact_row x y p.0 q.0 (front (same_row x y) (same_rows a b) e))
-    ∙ ap (λ vs. y ∷ vs) (exact_rows a b p.1 q.1 (rest (same_row x y) (same_rows a b) e))
+    ap (λ v. v ∷ a) (exact_row x y p.0 q.0 (and_front (same_row x y) (same_rows a b) e))
+    ∙ ap (λ vs. y ∷ vs) (exact_rows a b p.1 q.1 (and_back (same_row x y) (same_rows a b) e))
 
-own_value : (a : Option TypedValue) → same_value a a ≡ true
+pub own_value : (a : Option TypedValue) → same_value a a ≡ true
 own_value None = refl
 own_value (Some a) = rw (own_type a.ty, tied_itself value_total a.value) refl
 
-own_row : (a : Stored) → same_row a a ≡ true
+pub own_row : (a : Stored) → same_row a a ≡ true
 own_row [] = refl
 own_row (x ∷ a) = rw (own_value x, own_row a) refl
 
-own_rows : (a : List Stored) → same_rows a a ≡ true
+pub own_rows : (a : List Stored) → same_rows a a ≡ true
 own_rows [] = refl
 own_rows (x ∷ a) = rw (own_row x, own_rows a) refl
 

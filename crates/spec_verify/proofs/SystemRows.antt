@@ -5,9 +5,10 @@ use Rattle.std.specs.Prelude.{◌||◌}
 use Rattle.std.specs.List.{AllByRecursion, list_any, list_all}
 use Rattle.std.specs.List.Sorted.{IsPermutation}
 use Rattle.std.specs.Cmp.Lexicographic.{slice_cmp}
-use Rattle.std.specs.Ordering.{ordering_then}
-use Rattle.std.specs.declared.cmp.Ordering.{Ordering}
-use Rattle.std.specs.declared.cmp.Ordering.TheVariants.{Less, Equal, Greater}
+use Rattle.std.specs.declared.cmp.Ordering.TheVariants.{Equal}
+use Rattle.std.proofs.ByRecursion.{All-append}
+use Rattle.base_types.proofs.Orderings.{is_equal, both_equal}
+use Rattle.base_types.proofs.Bools.{and_front, and_back}
 use Rattle.sql_value.specs.declared.column.ColumnDef.{ColumnDef}
 use Rattle.sql_value.specs.declared.column.TableKind.{TableKind}
 use Rattle.sql_value.specs.declared.column.TableKind.TheVariants.{AppendOnly, Updatable}
@@ -21,11 +22,10 @@ use Rattle.spec_model.specs.Keys.{key_cmp, same_key}
 use Rattle.spec_model.specs.Lists.{numbered}
 use Rattle.spec_model.specs.Rows.{Row, value_or_null}
 use Rattle.spec_model.specs.SystemTables.{name_type, tables_columns, columns_columns, history_value, table_row, column_row, column_rows, index_row, index_rows}
-use Rattle.law_frame.proofs.Alls.{all_append}
 use Rattle.law_catalog_rows.specs.Encoded.{rows_of_indexes, item_rows}
 use Rattle.format_image.specs.Rows.{Stored}
 use Rattle.spec_verify.specs.Versions.{same_type, is_of, has_columns}
-use Rattle.spec_verify.proofs.SameRows.{front, rest, scale_of, AtScale, at_scale, stored_scale, eq_equal, one_value}
+use Rattle.spec_verify.proofs.SameRows.{scale_of, AtScale, at_scale, stored_scale, one_value}
 
 -- ---- rows whose numbers have the scales of their columns
 
@@ -34,11 +34,6 @@ Scaled [] [] = Unit {0}
 Scaled (c ∷ cs) (v ∷ vs) = (AtScale c.ty v × HasScale v) × Scaled cs vs
 Scaled _ _ = ⊥
 
-then_equal : (r s : Ordering) → ordering_then r s ≡ Equal → (r ≡ Equal) × (s ≡ Equal)
-then_equal Less s e = cc
-then_equal Equal s e = (refl, e)
-then_equal Greater s e = cc
-
 one_row : (cs : List ColumnDef) (a b : Row) → Scaled cs a → Scaled cs b → slice_cmp value_cmp a b ≡ Equal → a ≡ b
 one_row [] [] [] p q e = refl
 one_row [] [] (y ∷ b) p q e = absurd q
@@ -46,12 +41,12 @@ one_row [] (x ∷ a) b p q e = absurd p
 one_row (c ∷ cs) [] b p q e = absurd p
 one_row (c ∷ cs) (x ∷ a) [] p q e = absurd q
 one_row (c ∷ cs) (x ∷ a) (y ∷ b) p q e =
-    let t = then_equal (value_cmp x y) (slice_cmp value_cmp a b) e in
+    let t = both_equal (value_cmp x y) (slice_cmp value_cmp a b) e in
     ap (λ v. v ∷ a) (one_value c.ty x y p.0.0 q.0.0 ((equal x y p.0.1 q.0.1).0 t.0)) ∙ ap (λ vs. y ∷ vs) (one_row cs a b p.1 q.1 t.1)
 
 one_key : (cs : List ColumnDef) (a b : Row) → Scaled cs a → Scaled cs b → same_key a b ≡ true → a ≡ b
 unfolding same_key key_cmp
-one_key cs a b p q e = one_row cs a b p q (eq_equal (slice_cmp value_cmp a b) e)
+one_key cs a b p q e = one_row cs a b p q (is_equal (slice_cmp value_cmp a b) e)
 
 pub stored_scaled : (cs : List ColumnDef) (values : Stored) → has_columns cs values ≡ true → Scaled cs (map value_or_null values)
 stored_scaled [] [] e = tt
@@ -59,8 +54,8 @@ stored_scaled [] (v ∷ vs) e = cc
 stored_scaled (c ∷ cs) [] e = cc
 stored_scaled (c ∷ cs) (None ∷ vs) e = ((tt, tt), stored_scaled cs vs e)
 stored_scaled (c ∷ cs) (Some t ∷ vs) e =
-    let stored : is_stored t.value c.ty ≡ true = rest (same_type t.ty c.ty) (is_stored t.value c.ty) (front (is_of c (Some t)) (has_columns cs vs) e) in
-    ((at_scale c.ty t.value stored, stored_scale c.ty t.value stored), stored_scaled cs vs (rest (is_of c (Some t)) (has_columns cs vs) e))
+    let stored : is_stored t.value c.ty ≡ true = and_back (same_type t.ty c.ty) (is_stored t.value c.ty) (and_front (is_of c (Some t)) (has_columns cs vs) e) in
+    ((at_scale c.ty t.value stored, stored_scale c.ty t.value stored), stored_scaled cs vs (and_back (is_of c (Some t)) (has_columns cs vs) e))
 
 -- ---- those of a definition have them
 
@@ -87,11 +82,11 @@ each_scaled row one (x ∷ xs) = (one x, each_scaled row one xs)
 indexes_scaled : (id g : ℕ) (is : List IndexDef) → AllByRecursion (Scaled columns_columns) (rows_of_indexes id g is)
 unfolding index_rows
 indexes_scaled id g [] = tt
-indexes_scaled id g (i ∷ is) = all_append (Scaled columns_columns) (index_rows id g i) (rows_of_indexes id (g + 1) is) (each_scaled (index_row id g i.name) (part_scaled id g i.name) (numbered 1 i.ordinals)) (indexes_scaled id (g + 1) is)
+indexes_scaled id g (i ∷ is) = All-append (Scaled columns_columns) (index_rows id g i) (rows_of_indexes id (g + 1) is) (each_scaled (index_row id g i.name) (part_scaled id g i.name) (numbered 1 i.ordinals)) (indexes_scaled id (g + 1) is)
 
 pub items_scaled : (def : TableDef) → AllByRecursion (Scaled columns_columns) (item_rows def)
 unfolding item_rows column_rows
-items_scaled def = all_append (Scaled columns_columns) (column_rows def) (rows_of_indexes def.id 1 def.indexes) (each_scaled (column_row def.id) (column_scaled def.id) (numbered 1 def.columns)) (indexes_scaled def.id 1 def.indexes)
+items_scaled def = All-append (Scaled columns_columns) (column_rows def) (rows_of_indexes def.id 1 def.indexes) (each_scaled (column_row def.id) (column_scaled def.id) (numbered 1 def.columns)) (indexes_scaled def.id 1 def.indexes)
 
 -- ---- their items rise
 
@@ -188,18 +183,18 @@ taken cs w (r ∷ rs) own all e = here (same_key w r) refl e (taken cs w rs own 
 still : (w : Row) (rows left : List Row) → IsPermutation rows (w ∷ left) → (ws : List Row) → AllByRecursion (λ v. same_key v w ≡ false) ws → list_all (λ v. list_any (same_key v) rows) ws ≡ true → list_all (λ v. list_any (same_key v) left) ws ≡ true
 still w rows left is [] d e = refl
 still w rows left is (v ∷ vs) d e =
-    let there : list_any (same_key v) rows ≡ true = front (list_any (same_key v) rows) (list_all (λ x. list_any (same_key x) rows) vs) e in
+    let there : list_any (same_key v) rows ≡ true = and_front (list_any (same_key v) rows) (list_all (λ x. list_any (same_key x) rows) vs) e in
     let parts : list_any (same_key v) rows ≡ (same_key v w || list_any (same_key v) left) = list_any-IsPermutation (same_key v) rows (w ∷ left) is in
     let own : list_any (same_key v) rows ≡ list_any (same_key v) left = parts ∙ ap (λ b. b || list_any (same_key v) left) d.0 in
-    rw (sym own ∙ there) (still w rows left is vs d.1 (rest (list_any (same_key v) rows) (list_all (λ x. list_any (same_key x) rows) vs) e))
+    rw (sym own ∙ there) (still w rows left is vs d.1 (and_back (list_any (same_key v) rows) (list_all (λ x. list_any (same_key x) rows) vs) e))
 
 pub those_rows : (cs : List ColumnDef) (wanted rows : List Row) → AllByRecursion (Scaled cs) wanted → AllByRecursion (Scaled cs) rows → Differ wanted
     → length rows ≡ length wanted → list_all (λ w. list_any (same_key w) rows) wanted ≡ true → IsPermutation rows wanted
 those_rows cs [] [] own all d long e = IsPermutation-refl []
 those_rows cs [] (r ∷ rs) own all d long e = absurd (omega (arith, long))
 those_rows cs (w ∷ ws) rows own all d long e =
-    let t = taken cs w rows own.0 all (front (list_any (same_key w) rows) (list_all (λ v. list_any (same_key v) rows) ws) e) in
+    let t = taken cs w rows own.0 all (and_front (list_any (same_key w) rows) (list_all (λ v. list_any (same_key v) rows) ws) e) in
     let count : length (w ∷ t.left) ≡ length rows = length_permutation rows (w ∷ t.left) t.is in
     IsPermutation-trans rows (w ∷ t.left) (w ∷ ws) t.is
     (IsPermutation-cons w t.left ws
-    (those_rows cs ws t.left own.1 t.scaled d.1 (omega (arith, count, long)) (still w rows t.left t.is ws d.0 (rest (list_any (same_key w) rows) (list_all (λ v. list_any (same_key v) rows) ws) e))))
+    (those_rows cs ws t.left own.1 t.scaled d.1 (omega (arith, count, long)) (still w rows t.left t.is ws d.0 (and_back (list_any (same_key w) rows) (list_all (λ v. list_any (same_key v) rows) ws) e))))

@@ -9,6 +9,8 @@ use Rattle.std.specs.List.{AllByRecursion, filter, list_all, range_with_len}
 use Rattle.std.specs.Ordering.{nat_cmp}
 use Rattle.std.specs.Str.{bytes_eq}
 use Rattle.std.specs.declared.cmp.Ordering.TheVariants.{Greater}
+use Rattle.std.proofs.lemmas.Bool.{not-true, not-false}
+use Rattle.std.proofs.lemmas.Option.{same_Some}
 use Rattle.sql_types.specs.declared.entry.TxEntry.{TxEntry}
 use Rattle.sql_types.specs.declared.image.Image.{Image}
 use Rattle.spec_model.specs.Lists.{or_else}
@@ -21,7 +23,7 @@ use Rattle.spec_verify.specs.Entries.{TableEvent, TableRoot, has_id, table_event
 use Rattle.spec_verify.specs.First.{unless}
 use Rattle.spec_verify.specs.Sentences.{IsNewId, HasEntry, events_of_image, AreNumbered, numbers_of, RootHolds, EntryHolds, IsEntryFault}
 use Rattle.spec_verify.specs.Told.{TellsFirst, TellsLeast}
-use Rattle.spec_verify.proofs.Deciding.{not_true, not_false, unless_told, Decides-none, Decides-any}
+use Rattle.spec_verify.proofs.Deciding.{unless_told, Decides-none, Decides-any}
 use Rattle.spec_verify.proofs.Firsts.{first_told}
 use Rattle.spec_verify.proofs.Leasts.{Placed, least_told}
 
@@ -49,8 +51,8 @@ places_of_events = record { none = refl; at = λ e. at.Event e.0 e.1.0 e.1.1; so
 pub events_told : (i : Image) → TellsLeast table_event_cmp (HasEntry i.entries) (λ e p. p ≡ at.Event e.0 e.1.0 e.1.1) (events_of_image i) (least_event (strangers i))
 events_told i =
     least_told table_event_cmp table_event_total (HasEntry i.entries) (λ (e : TableEvent). not (has_id i.entries e.1.0))
-    (λ e is. (has_entry i.entries e).0 (not_true (has_id i.entries e.1.0) is))
-    (λ e is. not_from_Decides (has_id i.entries e.1.0) (has_entry i.entries e) (not_false (has_id i.entries e.1.0) is))
+    (λ e is. (has_entry i.entries e).0 (not-false (has_id i.entries e.1.0) is))
+    (λ e is. not_from_Decides (has_id i.entries e.1.0) (has_entry i.entries e) (not-true (has_id i.entries e.1.0) is))
     (λ e p. p ≡ at.Event e.0 e.1.0 e.1.1) event_place (events_of_image i) places_of_events
 
 -- ---- numbers
@@ -79,14 +81,11 @@ decides_numbered ns =
 
 -- ---- roots
 
-some_same : {A : Type 0} (a b : A) → Some a ≡ Some b → a ≡ b
-some_same a b e = cc
-
 decides_same : (a b : Option (List ℕ)) → Decides (same_root a b) (a ≡ b)
 decides_same None None = (λ e. refl, λ e. refl)
 decides_same None (Some b) = (λ e. absurd (true≢false (sym e)), λ e. absurd (let f : None ≡ Some b = e in cc))
 decides_same (Some a) None = (λ e. absurd (true≢false (sym e)), λ e. absurd (let f : Some a ≡ None = e in cc))
-decides_same (Some a) (Some b) = Decides-like (bytes_eq a b) (λ e. ap (λ (x : List ℕ). Some x) e) (λ e. some_same a b e) (bytes_eq-Decides a b)
+decides_same (Some a) (Some b) = Decides-like (bytes_eq a b) (λ e. ap (λ (x : List ℕ). Some x) e) (λ e. same_Some a b e) (bytes_eq-Decides a b)
 
 module _ (a b : List TableRoot) where
   abbrev SameAt : ℕ → Type 0
@@ -150,8 +149,8 @@ module _ (a b : List TableRoot) where
   pub least_other : Named (least nat_cmp (other_roots a b))
   least_other = here (least nat_cmp (other_roots a b))
       (least_told nat_cmp nat_cmp_total SameAt other_at
-      (λ t is. (decides_same (root_at a t) (root_at b t)).0 (not_true (same_root (root_at a t) (root_at b t)) is))
-      (λ t is. not_from_Decides (same_root (root_at a t) (root_at b t)) (decides_same (root_at a t) (root_at b t)) (not_false (same_root (root_at a t) (root_at b t)) is))
+      (λ t is. (decides_same (root_at a t) (root_at b t)).0 (not-false (same_root (root_at a t) (root_at b t)) is))
+      (λ t is. not_from_Decides (same_root (root_at a t) (root_at b t)) (decides_same (root_at a t) (root_at b t)) (not-true (same_root (root_at a t) (root_at b t)) is))
       (λ t u. u ≡ t) (λ found. found) tables_of_both (record { none = refl; at = λ t. t; some = λ t. refl; says = λ t. refl }))
     where
       here : (found : Option ℕ) → TellsLeast nat_cmp SameAt (λ t u. u ≡ t) tables_of_both found → Named found

@@ -6,6 +6,7 @@ use Rattle.std.specs.Cmp.{int_cmp_total}
 use Rattle.std.specs.Prelude.{◌&&◌, MatchOption}
 use Rattle.std.specs.List.{list_any, zip}
 use Rattle.std.specs.Ordering.{int_cmp, int_eq}
+use Rattle.std.proofs.lemmas.Bool.{not-true, not-false}
 use Rattle.sql_types.specs.declared.image.Image.{Image}
 use Rattle.sql_types.specs.declared.image.TableRows.{TableRows}
 use Rattle.sql_types.specs.declared.table.IndexDef.{IndexDef}
@@ -22,7 +23,7 @@ use Rattle.spec_verify.specs.First.{unless, first_from}
 use Rattle.spec_verify.specs.Indexes.{index_holds, table_fault, first_table, index_fault}
 use Rattle.spec_verify.specs.Sentences.{IsEncodedAt, ids_of_tables, defs_and_rows, IndexHolds, IndexesHold, IsIndexFault}
 use Rattle.spec_verify.specs.Told.{FailsFirst, TellsFirst, TellsLeast}
-use Rattle.spec_verify.proofs.Deciding.{not_true, not_false, unless_told, Decides-any}
+use Rattle.spec_verify.proofs.Deciding.{unless_told, Decides-any}
 use Rattle.spec_verify.proofs.Firsts.{first_told}
 use Rattle.spec_verify.proofs.Leasts.{Placed, least_told}
 
@@ -50,8 +51,8 @@ module _ (i : Image) where
   unfolding definition_fault encoding_fault
   definitions_told =
       least_told int_cmp int_cmp_total (IsEncodedAt i) (is_wrong first_rows second_rows i.defs)
-      (λ id is. (decides_spelled id).0 (not_true (found_at id) is))
-      (λ id is. not_from_Decides (found_at id) (decides_spelled id) (not_false (found_at id) is))
+      (λ id is. (decides_spelled id).0 (not-false (found_at id) is))
+      (λ id is. not_from_Decides (found_at id) (decides_spelled id) (not-true (found_at id) is))
       (λ id p. p ≡ at.Table id) table_place (ids_of_tables i) places_of_tables
 
 -- ---- indexes

@@ -7,6 +7,7 @@ use Rattle.std.specs.Prelude.{◌&&◌, not, is_some, is_none, flat_map, IfSome}
 use Rattle.std.specs.List.{AllByRecursion, filter, list_any}
 use Rattle.std.specs.Ordering.{is_gt, on}
 use Rattle.std.specs.declared.cmp.Ordering.{Ordering}
+use Rattle.std.proofs.lemmas.Bool.{not-true, not-false}
 use Rattle.sql_value.specs.declared.column.TableKind.{TableKind}
 use Rattle.sql_value.specs.declared.column.TableKind.TheVariants.{AppendOnly, Updatable}
 use Rattle.sql_types.specs.declared.image.Image.{Image}
@@ -23,7 +24,7 @@ use Rattle.spec_verify.specs.Order.{is_before, latest, ends_before, ends_well, f
 use Rattle.spec_verify.specs.Sentences.{TableVersion, versions_of_image, start_of, earlier_of, VersionHolds}
 use Rattle.spec_verify.specs.Told.{TellsLeast}
 use Rattle.spec_verify.specs.Versions.{has_columns, respects_not_null, with_columns, version_holds, bad_versions, version_fault}
-use Rattle.spec_verify.proofs.Deciding.{not_true, not_false, Decides-none}
+use Rattle.spec_verify.proofs.Deciding.{Decides-none}
 use Rattle.spec_verify.proofs.Leasts.{Placed, least_told}
 use Rattle.spec_verify.proofs.ToldEntries.{table_event_total}
 
@@ -143,6 +144,6 @@ module _ (i : Image) where
       subst (λ p. TellsLeast (on start_of table_event_cmp) (VersionHolds i) (λ x p. p ≡ at.Event x.0.def.id x.1.start.0 x.1.start.1) (versions_of_image i) p)
       (sym (ap least_event (all_tables (tables_in i)) ∙ ap event_place (least_through start_of table_event_cmp None (filter is_bad (versions_of_image i)))))
       (least_told (on start_of table_event_cmp) start_total (VersionHolds i) is_bad
-      (λ x is. (decides_version i x).0 (not_true (version_holds i.entries x.0 x.1) is))
-      (λ x is. not_from_Decides (version_holds i.entries x.0 x.1) (decides_version i x) (not_false (version_holds i.entries x.0 x.1) is))
+      (λ x is. (decides_version i x).0 (not-false (version_holds i.entries x.0 x.1) is))
+      (λ x is. not_from_Decides (version_holds i.entries x.0 x.1) (decides_version i x) (not-true (version_holds i.entries x.0 x.1) is))
       (λ x p. p ≡ at.Event x.0.def.id x.1.start.0 x.1.start.1) start_place (versions_of_image i) places_of_starts)

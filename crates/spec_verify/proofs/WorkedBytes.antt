@@ -1,14 +1,14 @@
 -- A small image has a spelling.
 use Rattle.std.proofs.Common.{◌≡◌, ◌∙◌, ℕ, refl, arith, true, List, [], ◌∷◌, codes, None}
-use Rattle.std.proofs.lemmas.Bool.Decides.{nat_tests}
 use Rattle.std.proofs.lemmas.Str.{IsUtf8-from_ascii, is_utf8-from_IsUtf8}
-use Rattle.std.proofs.lemmas.Str.Ascii.{IsAscii-nil, IsAscii-cons}
 use Rattle.std.specs.Fmt.{digits}
 use Rattle.std.specs.Prelude.{nat_lt}
 use Rattle.std.specs.List.{AllByRecursion, list_all}
-use Rattle.std.specs.Str.{chars, is_utf8, IsAscii}
+use Rattle.std.specs.Str.{chars, is_utf8}
 use Rattle.base_types.specs.DatabaseName.{is_database_name}
 use Rattle.base_types.specs.SessionName.{is_session_name}
+use Rattle.base_types.proofs.Lists.{all_ascii}
+use Rattle.base_types.proofs.Bools.{and_front, and_back}
 use Rattle.base_fields.specs.Fields.{u32_field}
 use Rattle.sql_value.specs.Stored.{is_in_range, is_stored}
 use Rattle.sql_value.specs.Text.{utf16_units}
@@ -28,7 +28,6 @@ use Rattle.sql_value.specs.declared.sql_type.SqlType.{SqlType}
 use Rattle.sql_value.specs.declared.sql_type.SqlType.TheVariants.{Int, Bit}
 use Rattle.sql_value.specs.declared.value.Value.TheVariants.{Text}
 use Rattle.test_samples.specs.Samples.{num, version}
-use Rattle.spec_verify.proofs.SameRows.{front, rest}
 use Rattle.spec_verify.proofs.Judged.{of_image}
 use Rattle.spec_verify.proofs.Worked.{holds}
 
@@ -46,15 +45,8 @@ def_is =
       indexes = (record { name = refl; count = omega arith; ordinals = (omega arith, tt) }, tt);
     }
 
--- texts of ASCII are UTF-8
-ascii : (bytes : List ℕ) → list_all (λ b. nat_lt b 128) bytes ≡ true → IsAscii bytes
-ascii [] e = IsAscii-nil
-ascii (b ∷ bytes) e =
-    let low : nat_lt b 128 ≡ true = front (nat_lt b 128) (list_all (λ c. nat_lt c 128) bytes) e in
-    IsAscii-cons b bytes (grind (arith, nat_tests, low)) (ascii bytes (rest (nat_lt b 128) (list_all (λ c. nat_lt c 128) bytes) e))
-
 is_text : (bytes : List ℕ) → list_all (λ b. nat_lt b 128) bytes ≡ true → is_utf8 bytes ≡ true
-is_text bytes e = is_utf8-from_IsUtf8 bytes (IsUtf8-from_ascii bytes (ascii bytes e))
+is_text bytes e = is_utf8-from_IsUtf8 bytes (IsUtf8-from_ascii bytes (all_ascii bytes e))
 
 number_is : (ty : SqlType) (n : ℕ) → is_stored (num n) ty ≡ true → IsTyped (record { ty = ty; value = num n })
 number_is ty n e = record { told = refl; stored = e; text = refl }

@@ -13,6 +13,9 @@ use Rattle.std.proofs.lemmas.List.Sorted.{IsPermutation-insert, list_any-IsPermu
 use Rattle.std.proofs.lemmas.List.Sums.{prefix_len_is}
 use Rattle.std.proofs.lemmas.Option.{slice_get-get_or}
 use Rattle.std.proofs.Math.Seq.{get_or-append_seam}
+use Rattle.std.proofs.ByRecursion.{All-weaker}
+use Rattle.base_types.proofs.Lists.{all_get_or}
+use Rattle.base_types.proofs.Naturals.{one_up}
 use Rattle.sql_value.specs.declared.column.ColumnDef.{ColumnDef}
 use Rattle.spec_model.specs.Rows.{Row}
 use Rattle.spec_model.specs.Keys.{Key, key_cmp, key_of, same_key}
@@ -20,15 +23,6 @@ use Rattle.sql_parts.proofs.Orders.{key_total}
 use Rattle.sql_change.specs.KeyOrder.{is_there, passes, is_below, has_key_of, InKeyOrder}
 
 -- ---- what holds of each
-
-all_follow : {A : Type 0} (P Q : A → Type 0) → ((x : A) → P x → Q x) → (xs : List A) → AllByRecursion P xs → AllByRecursion Q xs
-all_follow P Q more [] h = tt
-all_follow P Q more (x ∷ xs) h = (more x h.0, all_follow P Q more xs h.1)
-
-all_at : {A : Type 0} (P : A → Type 0) (xs : List A) (k : ℕ) (d : A) → k < length xs → AllByRecursion P xs → P (get_or xs k d)
-all_at P [] k d within h = absurd (omega arith)
-all_at P (x ∷ xs) zero d within h = h.0
-all_at P (x ∷ xs) (suc k) d within h = all_at P xs k d (omega arith) h.1
 
 all_put : {A : Type 0} (P : A → Type 0) (xs : List A) (n : ℕ) (x : A) → P x → AllByRecursion P xs → AllByRecursion P (insert xs n x)
 all_put P [] zero x one h = (one, tt)
@@ -43,9 +37,6 @@ any_same p q (x ∷ xs) h = λ i. h.0 i || any_same p q xs h.1 i
 none_any : {A : Type 0} (p : A → Bool) (xs : List A) → AllByRecursion (λ x. p x ≡ false) xs → list_any p xs ≡ false
 none_any p [] h = refl
 none_any p (x ∷ xs) h = λ i. h.0 i || none_any p xs h.1 i
-
-one_up : (n : ℕ) → 1 + n ≡ suc n
-one_up n = omega arith
 
 -- ---- a key among rising keys
 
@@ -92,7 +83,7 @@ module _ (key : ℕ → Key) (k : Key) where
   put_by Equal p x ps n is apart later up more = absurd (true≢false apart)
   put_by Greater p x ps n is apart later up more =
       let first : key_cmp (key x) (key p) ≡ Less = key_total.antisymm (key x) (key p) ∙ ap ordering_reverse is in
-      ((first, all_follow (λ q. key_cmp (key p) (key q) ≡ Less) (λ q. key_cmp (key x) (key q) ≡ Less) (λ q next. key_total.trans (key x) (key p) (key q) first next) ps later), (later, up))
+      ((first, All-weaker (λ q. key_cmp (key p) (key q) ≡ Less) (λ q. key_cmp (key x) (key q) ≡ Less) (λ q next. key_total.trans (key x) (key p) (key q) first next) ps later), (later, up))
 
   -- a new key k keeps the order before the first that isn't below it
   put_is : (less same : ℕ → Bool) (order : List ℕ) (x : ℕ) → key x ≡ k → AllByRecursion (Tells less same) order → Rising order → list_any same order ≡ false
@@ -119,7 +110,7 @@ module _ (key : ℕ → Key) (k : Key) where
   parted less same [] told up i j d le within before = absurd (omega arith)
   parted less same (p ∷ ps) told up zero zero d le within before = before
   parted less same (p ∷ ps) told up zero (suc j) d le within before =
-      both_below less same p (get_or ps j d) told.0 (all_at (Tells less same) ps j d (omega arith) told.1) (all_at (λ q. key_cmp (key p) (key q) ≡ Less) ps j d (omega arith) up.0) before
+      both_below less same p (get_or ps j d) told.0 (all_get_or (Tells less same) ps j d (omega arith) told.1) (all_get_or (λ q. key_cmp (key p) (key q) ≡ Less) ps j d (omega arith) up.0) before
   parted less same (p ∷ ps) told up (suc i) zero d le within before = absurd (omega arith)
   parted less same (p ∷ ps) told up (suc i) (suc j) d le within before = parted less same ps told.1 up.1 i j d (omega arith) (omega arith) before
 
@@ -154,7 +145,7 @@ module _ (columns : List ColumnDef) (rows : List Row) (row : Row) where
   }
 
   all_told : (order : List ℕ) → InKeyOrder columns rows order → AllByRecursion (Tells row_key (key_of columns row) less same) order
-  all_told order h = all_follow (λ p. p < length rows) (Tells row_key (key_of columns row) less same) tells order h.inside
+  all_told order h = All-weaker (λ p. p < length rows) (Tells row_key (key_of columns row) less same) tells order h.inside
 
   pub partitioned : (order : List ℕ) → InKeyOrder columns rows order → IsPartitionedBy less order
   partitioned order h = parted row_key (key_of columns row) less same order (all_told order h) h.rising
@@ -197,7 +188,7 @@ module _ (columns : List ColumnDef) (rows : List Row) (row : Row) where
   still_same : (order : List ℕ) (n : ℕ) → InKeyOrder columns rows order → (test : Row → Bool) → list_any (passes test more) (insert order n (length rows)) ≡ list_any test more
   still_same order n h test =
       let those : list_any (passes test rows) order ≡ list_any (passes test more) order =
-      any_same (passes test rows) (passes test more) order (all_follow (λ p. p < length rows) (λ p. passes test rows p ≡ passes test more p) (λ p within. ap (is_there test) (still_there p within)) order h.inside) in
+      any_same (passes test rows) (passes test more) order (All-weaker (λ p. p < length rows) (λ p. passes test rows p ≡ passes test more p) (λ p within. ap (is_there test) (still_there p within)) order h.inside) in
       sym (list_any-IsPermutation (passes test more) (length rows ∷ order) (insert order n (length rows)) (IsPermutation-insert order n (length rows)))
       ∙ (λ i. ap (is_there test) last_there i || (sym those ∙ h.same test) i)
       ∙ turned (test row) (list_any test rows)
@@ -210,12 +201,12 @@ module _ (columns : List ColumnDef) (rows : List Row) (row : Row) where
       let k = key_of columns row in
       let key : ℕ → Key = λ p. key_of columns (get_or more p []) in
       let told : AllByRecursion (Tells key k (less columns rows row) (same columns rows row)) order =
-      all_follow (λ p. p < length rows) (Tells key k (less columns rows row) (same columns rows row)) (λ p within. told_more p within) order h.inside in
+      All-weaker (λ p. p < length rows) (Tells key k (less columns rows row) (same columns rows row)) (λ p within. told_more p within) order h.inside in
       let up : IsStrictlySortedBy (λ p q. key_cmp (key p) (key q)) order =
       rising_along (row_key columns rows row) key (length rows) (λ p within. ap (key_of columns) (still_at p within)) order h.inside h.rising in
       let n = prefix_len (less columns rows row) order in
       record {
-        inside = all_put (λ p. p < length more) order n (length rows) last_within (all_follow (λ p. p < length rows) (λ p. p < length more) within_more order h.inside);
+        inside = all_put (λ p. p < length more) order n (length rows) last_within (All-weaker (λ p. p < length rows) (λ p. p < length more) within_more order h.inside);
         same = still_same order n h;
         rising = put_is key k (less columns rows row) (same columns rows row) order (length rows) (ap (key_of columns) (get_or-append_seam rows row [] [])) told up (h.same (has_key_of columns row) ∙ none);
       }

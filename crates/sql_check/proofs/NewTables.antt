@@ -1,9 +1,10 @@
 -- The checks of a new table's definition are those of what is written of it.
-use Rattle.std.proofs.Common.{◌≡◌, ◌∙◌, ℕ, suc, refl, sym, ap, arith, Bool, true, false, List, [], ◌∷◌, ◌++◌, map, length, Some, None, Ok, Err, Bor}
+use Rattle.std.proofs.Common.{◌≡◌, ◌∙◌, ℕ, suc, refl, sym, ap, arith, Bool, true, false, List, [], ◌∷◌, map, length, Some, None, Ok, Err, Bor}
 use Rattle.std.proofs.lemmas.Grind.{common_steps}
 use Rattle.std.specs.Prelude.{cond, ◌≤◌, ◌+◌, ◌==◌, ◌&&◌, ◌||◌, not, nat_lt, nat_le, if◌then◌else◌, is_some}
 use Rattle.std.specs.List.{list_all, list_any, filter, position_or_len}
 use Rattle.std.specs.Str.{bytes_eq}
+use Rattle.std.proofs.lemmas.List.Folds.{list_any-append}
 use Rattle.sql_value.specs.declared.column.ColumnDef.{ColumnDef}
 use Rattle.sql_value.specs.Stored.{is_in_range}
 use Rattle.sql_types.specs.declared.table.TableDef.{TableDef}
@@ -43,18 +44,10 @@ found false false false own = refl
 pub has_part : (def : TableDef) (n : List ℕ) → has_name (table_names def) n ≡ new.has_part def n
 has_part def n = named_once def.name def.history def.view n ∙ sym (found (is_named def.name n) (is_named def.history n) (is_named def.view n) (own_part def))
 
-or_assoc : (a b c : Bool) → ((a || b) || c) ≡ (a || (b || c))
-or_assoc true b c = refl
-or_assoc false b c = refl
-
-any_append : {A : Type 0} (p : A → Bool) (xs ys : List A) → list_any p (xs ++ ys) ≡ (list_any p xs || list_any p ys)
-any_append p [] ys = refl
-any_append p (x ∷ xs) ys = ap (λ b. p x || b) (any_append p xs ys) ∙ sym (or_assoc (p x) (list_any p xs) (list_any p ys))
-
 pub is_used : (defs : List TableDef) (n : List ℕ) → has_name (all_names defs) n ≡ new.is_used defs n
 is_used [] n = refl
 is_used (d ∷ ds) n =
-    any_append (λ m. bytes_eq m n) (table_names d) (all_names ds)
+    list_any-append (λ m. bytes_eq m n) (table_names d) (all_names ds)
     ∙ ap (λ b. b || has_name (all_names ds) n) (has_part d n)
     ∙ ap (λ b. new.has_part d n || b) (is_used ds n)
 

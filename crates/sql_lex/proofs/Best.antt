@@ -1,11 +1,11 @@
 -- The longest token of one kind, and of several kinds that are asked in turn.
 use Rattle.std.proofs.Common.{◌≡◌, ℕ, zero, suc, ◌<◌, ◌≤◌, Bool, true, false, cond, List, length, take, Option, Some, None, refl, subst, sym, arith, nat_lt}
 use Rattle.std.proofs.lemmas.Bool.Decides.{nat_tests}
+use Rattle.std.proofs.lemmas.Bool.{false_from_ne_true}
 use Rattle.sql_lex.specs.declared.token.Kind.{Kind}
 use Rattle.sql_lex.specs.IsToken.{kind_of}
 use Rattle.sql_lex.specs.Longest.{longest, longest_within, or_else}
 use Rattle.sql_lex.specs.Front.{with_kind}
-use Rattle.sql_lex.proofs.Runs.{not_true}
 
 -- so many bytes pass the test and no more do, or none
 abbrev pub Best : (List ℕ → Bool) → List ℕ → Option ℕ → Type 0
@@ -48,7 +48,7 @@ ask is of k z (Some n) p best under found = (
   best.0,
   best.1,
   rw best.2 refl,
-  λ m lt le. let fails : is (take m z) ≡ false = not_true (is (take m z)) (λ passes. let most = best.3 m le passes in omega (arith, most)) in rw fails (none_past of z p n m under found lt le),
+  λ m lt le. let fails : is (take m z) ≡ false = false_from_ne_true (is (take m z)) (λ passes. let most = best.3 m le passes in omega (arith, most)) in rw fails (none_past of z p n m under found lt le),
 )
 
 none_within : (n : ℕ) (z : List ℕ) → n ≤ length z → ((m : ℕ) → m ≤ length z → kind_of (take m z) ≡ None) → longest_within n z ≡ None

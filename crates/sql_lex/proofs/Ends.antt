@@ -5,6 +5,7 @@ use Rattle.std.proofs.lemmas.Bool.Decides.{nat_tests}
 use Rattle.std.proofs.lemmas.List.{take-append-drop}
 use Rattle.std.specs.List.{list_all, prefix_len}
 use Rattle.std.specs.Char.{is_ascii_digit, is_ascii_hexdigit}
+use Rattle.base_types.proofs.Naturals.{digit_small as low_digit}
 use Rattle.sql_lex.specs.declared.token.Kind.{Kind}
 use Rattle.sql_lex.specs.IsToken.{kind_of, begins_word, is_word_byte, is_word, is_name_byte, is_closed, is_bracketed, is_fraction, is_number, is_inside, is_quoted, is_text, is_bytes, is_single, is_pair, is_sign}
 use Rattle.sql_lex.proofs.Runs.{run_passes}
@@ -32,9 +33,6 @@ low_start b h = grind (arith, nat_tests)
 
 low_word : (b : ℕ) → is_word_byte b ≡ true → b < 128
 low_word b h = grind (arith, nat_tests)
-
-low_digit : (b : ℕ) → is_ascii_digit b ≡ true → b < 128
-low_digit b h = grind (arith, nat_tests)
 
 low_hex : (b : ℕ) → is_ascii_hexdigit b ≡ true → b < 128
 low_hex b h = grind (arith, nat_tests)

@@ -1,6 +1,6 @@
 -- What is found is the longest token: where a kind has one, the kinds behind it have none or one of one byte.
 use Rattle.std.proofs.Common.{◌≡◌, ℕ, ◌≤◌, ◌==◌, Bool, true, false, cond, ◌&&◌, ◌||◌, List, [], ◌∷◌, get_or, Option, Some, None, refl, sym, subst, arith}
-use Rattle.std.proofs.lemmas.Bool.{and_parts}
+use Rattle.std.proofs.lemmas.Bool.{and_parts, or_parts}
 use Rattle.std.proofs.lemmas.Bool.Decides.{nat_tests}
 use Rattle.std.specs.Char.{is_ascii_digit}
 use Rattle.sql_lex.specs.declared.token.Kind.{Kind}
@@ -9,7 +9,6 @@ use Rattle.sql_lex.specs.IsToken.{kind_of, is_bytes, is_number, is_text, is_word
 use Rattle.sql_lex.specs.Longest.{longest, or_else}
 use Rattle.sql_lex.specs.Front as f
 use Rattle.sql_lex.specs.Front.{front, with_kind}
-use Rattle.sql_lex.proofs.Runs.{or_false}
 use Rattle.sql_lex.proofs.Best.{Best, Found, Under, AtMost, ask, found_is_longest}
 use Rattle.sql_lex.proofs.Bytes.{best_bytes}
 use Rattle.sql_lex.proofs.Numbers.{best_number}
@@ -99,7 +98,7 @@ behind_text_at b z true e h =
 behind_text_at b z false e h = let both = and_parts (b == 78 || b == 110) (get_or z 0 0 == 39) h in behind_letter b z both.0 both.1
 
 not_text : (b : ℕ) (z : List ℕ) → begins_text b z ≡ false → f.text (b ∷ z) ≡ None
-not_text b z e = let both = or_false (b == 39) ((b == 78 || b == 110) && get_or z 0 0 == 39) e in rw (both.0, both.1) refl
+not_text b z e = let both = or_parts (b == 39) ((b == 78 || b == 110) && get_or z 0 0 == 39) e in rw (both.0, both.1) refl
 
 digit_no_start : (b : ℕ) → is_ascii_digit b ≡ true → begins_word b ≡ false
 digit_no_start b e = grind (arith, nat_tests)
@@ -124,7 +123,7 @@ behind_number_at b z false e h =
     subst P at (omega arith)
 
 not_number : (b : ℕ) (z : List ℕ) → (is_ascii_digit b || b == 46) ≡ false → f.number (b ∷ z) ≡ None
-not_number b z e = let both = or_false (is_ascii_digit b) (b == 46) e in rw (both.0, both.1) refl
+not_number b z e = let both = or_parts (is_ascii_digit b) (b == 46) e in rw (both.0, both.1) refl
 
 abbrev begins_bytes : ℕ → List ℕ → Bool
 begins_bytes b z = b == 48 && (get_or z 0 0 == 120 || get_or z 0 0 == 88)

@@ -1,6 +1,6 @@
 -- The longest number.
 use Rattle.std.proofs.Common.{◌≡◌, ℕ, zero, suc, ◌+◌, ◌-◌, ◌<◌, ◌≤◌, ◌==◌, ◌⊎◌, inl, inr, Bool, true, false, ◌&&◌, List, [], ◌∷◌, length, take, drop, get_or, min, nat_lt, nat_le, Some, None, refl, ap, sym, ◌∙◌, subst, arith}
-use Rattle.std.proofs.lemmas.Bool.{and_parts}
+use Rattle.std.proofs.lemmas.Bool.{and_parts, false_from_ne_true}
 use Rattle.std.proofs.lemmas.Bool.Decides.{nat_tests}
 use Rattle.std.proofs.lemmas.List.{length-take-le, length-drop, drop-take, drop-drop, get_or-drop}
 use Rattle.std.proofs.lemmas.List.Sums.{prefix_len-le-length, prefix_len_passes}
@@ -8,7 +8,7 @@ use Rattle.std.specs.List.{list_all, prefix_len}
 use Rattle.std.specs.Char.{is_ascii_digit}
 use Rattle.sql_lex.specs.IsToken.{is_fraction, is_number}
 use Rattle.sql_lex.specs.Front.{number}
-use Rattle.sql_lex.proofs.Runs.{not_true, run_bound, run_passes, run_of_part, run_of_more}
+use Rattle.sql_lex.proofs.Runs.{run_bound, run_passes, run_of_part, run_of_more}
 use Rattle.sql_lex.proofs.Best.{Best, best_if}
 
 abbrev run : List ℕ → ℕ
@@ -173,7 +173,7 @@ whole_most z e m le h =
 
 no_number : (z : List ℕ) → has_point z ≡ false → (whole z == 0) ≡ true → (m : ℕ) → m ≤ length z → is_number (take m z) ≡ false
 no_number z e f m le =
-    not_true (is_number (take m z)) (λ h.
+    false_from_ne_true (is_number (take m z)) (λ h.
     let none : whole z ≡ 0 = grind (arith, nat_tests, f) in
     elim (number_is z m le h) [
       | inl is ↦ omega (arith, is.some, is.few, is.inside, none)

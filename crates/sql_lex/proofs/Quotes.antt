@@ -76,7 +76,7 @@ covers false best at (b ∷ z) (suc m) below is within h =
 abbrev Ends : Bool → Option ℕ → ℕ → List ℕ → ℕ → Type 0
 Ends is_second best at z n = (best ≡ Some n) ⊎ ((m : ℕ) × (n ≡ at + m) × (m ≤ length z) × (is_inside is_second (take m z) ≡ true))
 
-the_number : (a b : ℕ) → ◌≡◌ {A = Option ℕ} (Some a) (Some b) → a ≡ b
+pub the_number : (a b : ℕ) → ◌≡◌ {A = Option ℕ} (Some a) (Some b) → a ≡ b
 the_number a b h = cc
 
 second_ends : (c : Bool) (best : Option ℕ) (at b n : ℕ) (z : List ℕ) → eqb b 39 ≡ c → (closing false best (at + 1) z ≡ Some n → Ends false best (at + 1) z n) → cond c (closing false best (at + 1) z) best ≡ Some n → Ends true best at (b ∷ z) n

@@ -1,31 +1,24 @@
 -- The longest quoted text.
 use Rattle.std.proofs.Common.{◌≡◌, ℕ, zero, suc, ◌+◌, ◌≤◌, ◌==◌, inl, inr, Bool, true, false, cond, ◌&&◌, ◌||◌, List, [], ◌∷◌, length, take, drop, get_or, Option, Some, None, refl, sym, ◌∙◌, subst, arith}
-use Rattle.std.proofs.lemmas.Bool.{and_parts}
+use Rattle.std.proofs.lemmas.Bool.{and_parts, false_from_ne_true}
 use Rattle.std.proofs.lemmas.Bool.Decides.{nat_tests}
+use Rattle.base_types.proofs.Bools.{and_false}
 use Rattle.sql_lex.specs.IsToken.{is_inside, is_text}
 use Rattle.sql_lex.specs.Front.{closing, text}
-use Rattle.sql_lex.proofs.Quotes.{covers, finds}
-use Rattle.sql_lex.proofs.Runs.{not_true}
+use Rattle.sql_lex.proofs.Quotes.{covers, finds, the_number}
 use Rattle.sql_lex.proofs.Best.{Best, best_same, best_if}
-
-and_none : (a : Bool) → (a && false) ≡ false
-and_none true = refl
-and_none false = refl
 
 -- so many bytes are the rest of a text and no more are, or none, counted from the place `at`
 abbrev Closes : ℕ → List ℕ → Option ℕ → Type 0
 Closes at z None = (m : ℕ) → m ≤ length z → is_inside false (take m z) ≡ false
 Closes at z (Some n) = (j : ℕ) × (n ≡ at + j) × (j ≤ length z) × (is_inside false (take j z) ≡ true) × ((m : ℕ) → m ≤ length z → is_inside false (take m z) ≡ true → at + m ≤ n)
 
-the_place : (a b : ℕ) → ◌≡◌ {A = Option ℕ} (Some a) (Some b) → a ≡ b
-the_place a b h = cc
-
 closes_by : (at : ℕ) (z : List ℕ) (r : Option ℕ) → closing false None at z ≡ r → Closes at z r
-closes_by at z None e = λ m le. not_true (is_inside false (take m z)) (λ h. let c = covers false None at z m tt tt le h in cc)
+closes_by at z None e = λ m le. false_from_ne_true (is_inside false (take m z)) (λ h. let c = covers false None at z m tt tt le h in cc)
 closes_by at z (Some n) e =
     elim (finds false None at z n e) [
       | inl k ↦ absurd cc
-      | inr k ↦ (k.0, k.1, k.2, k.3, λ m le h. let c = covers false None at z m tt tt le h in let same = the_place c.0 n (sym c.1 ∙ e) in omega (arith, c.2, same))
+      | inr k ↦ (k.0, k.1, k.2, k.3, λ m le h. let c = covers false None at z m tt tt le h in let same = the_number c.0 n (sym c.1 ∙ e) in omega (arith, c.2, same))
     ]
 
 quoted_none : (b : ℕ) (z : List ℕ) → b ≡ 39 → Closes 1 z None → (m : ℕ) → m ≤ length (b ∷ z) → is_text (take m (b ∷ z)) ≡ false
@@ -49,8 +42,8 @@ quoted b z (Some n) e closes =
 
 lettered_none : (b : ℕ) (z : List ℕ) → (b == 39) ≡ false → Closes 2 z None → (m : ℕ) → m ≤ length (b ∷ 39 ∷ z) → is_text (take m (b ∷ 39 ∷ z)) ≡ false
 lettered_none b z e closes zero le = refl
-lettered_none b z e closes (suc zero) le = rw e (and_none (b == 78 || b == 110))
-lettered_none b z e closes (suc (suc m)) le = rw (e, closes m (omega arith)) (and_none (b == 78 || b == 110))
+lettered_none b z e closes (suc zero) le = rw e (and_false (b == 78 || b == 110))
+lettered_none b z e closes (suc (suc m)) le = rw (e, closes m (omega arith)) (and_false (b == 78 || b == 110))
 
 lettered_most : (b : ℕ) (z : List ℕ) (n : ℕ) → (b == 39) ≡ false → Closes 2 z (Some n) → (m : ℕ) → m ≤ length (b ∷ 39 ∷ z) → is_text (take m (b ∷ 39 ∷ z)) ≡ true → m ≤ n
 lettered_most b z n e closes zero le h = omega arith
@@ -70,10 +63,10 @@ lettered b z (Some n) e letter closes =
 
 no_text : (b : ℕ) (z : List ℕ) → (b == 39) ≡ false → ((b == 78 || b == 110) && get_or z 0 0 == 39) ≡ false → (m : ℕ) → is_text (take m (b ∷ z)) ≡ false
 no_text b z e f zero = refl
-no_text b z e f (suc zero) = rw e (and_none (b == 78 || b == 110))
-no_text b [] e f (suc (suc m)) = rw e (and_none (b == 78 || b == 110))
+no_text b z e f (suc zero) = rw e (and_false (b == 78 || b == 110))
+no_text b [] e f (suc (suc m)) = rw e (and_false (b == 78 || b == 110))
 no_text b (d ∷ z) e f (suc (suc m)) =
-    rw e (not_true ((b == 78 || b == 110) && (d == 39 && is_inside false (take m z))) (λ h.
+    rw e (false_from_ne_true ((b == 78 || b == 110) && (d == 39 && is_inside false (take m z))) (λ h.
     let outer = and_parts (b == 78 || b == 110) (d == 39 && is_inside false (take m z)) h in
     let inner = and_parts (d == 39) (is_inside false (take m z)) outer.1 in
     let both : ((b == 78 || b == 110) && d == 39) ≡ true = rw (outer.0, inner.0) refl in

@@ -1,6 +1,6 @@
 -- The longest word, bracketed name and sign.
 use Rattle.std.proofs.Common.{◌≡◌, ℕ, zero, suc, ◌+◌, ◌<◌, ◌≤◌, ◌==◌, Bool, true, false, cond, ◌&&◌, List, [], ◌∷◌, length, take, get_or, nat_lt, Some, None, refl, ap, sym, ◌∙◌, subst, arith}
-use Rattle.std.proofs.lemmas.Bool.{and_parts}
+use Rattle.std.proofs.lemmas.Bool.{and_parts, false_from_ne_true}
 use Rattle.std.proofs.lemmas.Bool.Decides.{nat_tests}
 use Rattle.std.proofs.lemmas.List.{length-take-le}
 use Rattle.std.proofs.lemmas.List.Sums.{prefix_len-le-length}
@@ -8,10 +8,10 @@ use Rattle.std.specs.List.{list_all, prefix_len}
 use Rattle.sql_lex.specs.declared.front.Class.TheVariants as class
 use Rattle.sql_lex.specs.IsToken.{begins_word, is_word_byte, is_word, is_name_byte, is_closed, is_bracketed, is_single, is_pair, is_sign}
 use Rattle.sql_lex.specs.Front.{past, word, bracketed, sign}
-use Rattle.sql_lex.proofs.Runs.{not_true, run_bound, run_passes}
+use Rattle.sql_lex.proofs.Runs.{run_bound, run_passes}
 use Rattle.sql_lex.proofs.Best.{Best, best_same, best_if}
 
-start_is_word_byte : (b : ℕ) → begins_word b ≡ true → is_word_byte b ≡ true
+pub start_is_word_byte : (b : ℕ) → begins_word b ≡ true → is_word_byte b ≡ true
 start_is_word_byte b h = grind (arith, nat_tests)
 
 word_most : (b : ℕ) (z : List ℕ) (m : ℕ) → m ≤ length (b ∷ z) → is_word (take m (b ∷ z)) ≡ true → m ≤ suc (prefix_len is_word_byte z)
@@ -100,7 +100,7 @@ bracketed_most b z (suc m) le h = let is = bracketed_is b z m le h in omega (ari
 bracketed_unless : (b : ℕ) (z : List ℕ) → (nat_lt 1 (1 + prefix_len is_name_byte z) && get_or (b ∷ z) (1 + prefix_len is_name_byte z) 0 == 93) ≡ false → (m : ℕ) → m ≤ length (b ∷ z) → is_bracketed (take m (b ∷ z)) ≡ false
 bracketed_unless b z e zero le = refl
 bracketed_unless b z e (suc m) le =
-    not_true (is_bracketed (take (suc m) (b ∷ z))) (λ h.
+    false_from_ne_true (is_bracketed (take (suc m) (b ∷ z))) (λ h.
     let is = bracketed_is b z m le h in
     let one : 1 + prefix_len is_name_byte z ≡ suc (prefix_len is_name_byte z) = omega arith in
     let more : nat_lt 1 (1 + prefix_len is_name_byte z) ≡ true = grind (arith, nat_tests, is.0, is.1) in

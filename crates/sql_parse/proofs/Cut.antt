@@ -1,6 +1,7 @@
 -- The tokens of a text, without their places.
 use Rattle.std.proofs.Common.{◌≡◌, ℕ, zero, suc, ◌+◌, ◌-◌, Bool, true, false, List, [], ◌∷◌, ◌++◌, length, take, drop, map, slice_range, Option, Some, None, Ok, Err, refl, ap, subst, cond, ◌∙◌, sym, arith, append_assoc, length-append}
 use Rattle.std.specs.Prelude.{if◌then◌else◌, option_and_then}
+use Rattle.base_types.proofs.Lists.{drop_front}
 use Rattle.sql_lex.specs.declared.token.Kind.{Kind}
 use Rattle.sql_lex.specs.Longest.{longest}
 use Rattle.sql_lex.specs.Cut.{is_blank, begins_comment, Scan, scan, with_front, goes_on, tokens_of}
@@ -34,10 +35,6 @@ cut_drop (suc n) (b ∷ z) = cut_drop n z
 take_front : {A : Type 0} (n m : List A) → take (length n) (n ++ m) ≡ n
 take_front [] m = refl
 take_front (x ∷ n) m = ap (λ z. x ∷ z) (take_front n m)
-
-drop_front : {A : Type 0} (n m : List A) → drop (length n) (n ++ m) ≡ m
-drop_front [] m = refl
-drop_front (x ∷ n) m = drop_front n m
 
 -- a token, and then the rest
 pub cut_token : (k : Kind) (b : ℕ) (w rest : List ℕ) → is_blank b ≡ false → begins_comment (b ∷ (w ++ rest)) ≡ false → longest (b ∷ (w ++ rest)) ≡ Some (k, length (b ∷ w))

@@ -20,7 +20,7 @@ use Rattle.sql_parse.specs.declared.expr.Level.TheVariants as l
 use Rattle.sql_parse.specs.Tags.{same_tag, tag_of}
 use Rattle.sql_parse.specs.Input.{Input, Sym, Outcome, Parser, and_then, ◌>>=◌, ◌>>◌, ◌<$>◌, pure, peek, take_text, tag, tag_at, text, next, sees, after, eat, expect, spend, repeated, repeated_at, begin, required, max_parts}
 use Rattle.sql_parse.specs.Expr.{operator, comparison, name, literal, literal_by, inside, leaf, leaf_by, times, more, more_by, prim, unary, product, sum, cmp, cmp_by, not, level, operand, expr, whole, max_nesting}
-use Rattle.sql_parse.proofs.Repeats.{at_}
+use Rattle.sql_parse.proofs.Repeats.{at_, ended_at}
 use Rattle.sql_parse.proofs.Names.{closed}
 use Rattle.sql_parse.proofs.Levels.{starts}
 use Rattle.sql_value.proofs.Trees.{of_literal, of_column, of_minus, of_not, of_is_null, of_binary}
@@ -426,11 +426,6 @@ unfolding sees
 seen_at gt [] n h = absurd (cc)
 seen_at gt (s ∷ ts) n h = (s.1, ts, ap (λ a. (a, s.1) ∷ ts) (same_tag_true s.0 gt h))
 
-no_more_at : (lead : Tag) (rest : List Sym) (n : ℕ) → sees lead (at_ rest n) ≡ false → repeated_at lead rest n ≡ Some (0, at_ rest n)
-unfolding sees
-no_more_at lead [] n h = refl
-no_more_at lead (s ∷ ts) n h = rw h refl
-
 same_self : (lead : Tag) → (lead ≡ t.Minus) ⊎ (lead ≡ t.Not) → same_tag lead lead ≡ true
 unfolding same_tag
 same_self lead (inl h) = rw h refl
@@ -481,7 +476,7 @@ lead_none lead f operand_ z n e j never read true seen =
     let no : operand_ (at_ z n) ≡ None = ap (λ y. operand_ (at_ y n)) s.2 ∙ never s.0 s.1 in
     absurd (cc)
 lead_none lead f operand_ z n e j never read false seen =
-    rw (no_more_at lead z n seen) (ap (λ q. and_then q (λ x k. Some (x, k))) read)
+    rw (ended_at lead z n seen) (ap (λ q. and_then q (λ x k. Some (x, k))) read)
 
 unary_up : (d : ℕ) (xs : List Sym) (c : ℕ) (e : Expr) → Claim d Prim' xs c e → Claim d Unary' xs c e
 unfolding unary repeated

@@ -173,7 +173,7 @@ sort_keeps i ok =
     then_keeps IsName IsSort (λ x. _) (name i) (name_keeps i ok) (λ column named j more.
     then_keeps Always IsSort (λ x. _) (g.falls j) (falls_keeps j more) (λ down is k end. (named, end)))
 
-some_each : {A : Type 0} (P : A → Type 0) (xs : List A) → OneOrMore P xs → Each P xs
+pub some_each : {A : Type 0} (P : A → Type 0) (xs : List A) → OneOrMore P xs → Each P xs
 some_each P [] k = absurd k
 some_each P (x ∷ xs) k = k
 

@@ -30,6 +30,7 @@ use Rattle.sql_parse.specs.Ledger as g
 use Rattle.sql_parse.specs.Table as b
 use Rattle.sql_parse.specs.Parsed.{IsName, IsSize, IsType, IsColumn, IsHistory, IsTable, Each, OneOrMore, Maybe}
 use Rattle.sql_scalar.proofs.Digits.{one_digit, small_digit}
+use Rattle.sql_scalar.proofs.ReadValues.{digits_bound as bounded}
 use Rattle.sql_parse.proofs.Kept.{AreSyms, Holds, Always, then_keeps, map_keeps, required_keeps, next_ok, after_ok, expect_keeps, if_keeps, name_keeps}
 use Rattle.sql_parse.proofs.KeptStmts.{name_list_keeps, always}
 
@@ -44,10 +45,6 @@ bounded_by true d ds m n is again e =
 
 same_end : (m n : ℕ) → Some m ≡ Some n → n ≡ m
 same_end m n e = cc
-
-bounded : (ds : List ℕ) (m n : ℕ) → digits_after m ds ≡ Some n → n + 1 ≤ (m + 1) * 10 ^ length ds
-bounded [] m n e = let same : n ≡ m = same_end m n e in rw same (omega arith)
-bounded (d ∷ ds) m n e = bounded_by (is_ascii_digit d) d ds m n refl (λ k h. bounded ds k n h) e
 
 size_by : (c : Bool) (ds : List ℕ) (n : ℕ) → nat_le (length ds) 9 ≡ c → cond c (digits_after 0 ds) None ≡ Some n → IsSize n
 size_by false ds n few e = absurd (cc)

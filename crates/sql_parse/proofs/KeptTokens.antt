@@ -14,6 +14,7 @@ use Rattle.sql_lex.specs.IsToken.{kind_of, is_word, is_bracketed, is_closed, is_
 use Rattle.sql_lex.specs.Longest.{longest}
 use Rattle.sql_lex.specs.Cut.{is_blank, begins_comment}
 use Rattle.sql_lex.proofs.Laws.{says}
+use Rattle.sql_lex.proofs.Words.{start_is_word_byte}
 use Rattle.sql_parse.specs.declared.tag.Tag.{Tag}
 use Rattle.sql_parse.specs.declared.tag.Tag.TheVariants as t
 use Rattle.sql_parse.specs.declared.tag.TheConstants.{SIGNS}
@@ -35,9 +36,6 @@ not_open b w n first e = let none : None ≡ Some n = sym (rw first refl) ∙ e 
 word_name_byte : (b : ℕ) → is_word_byte b ≡ true → is_name_byte b ≡ true
 word_name_byte b e = grind (arith, nat_tests)
 
-begins_word_byte : (b : ℕ) → begins_word b ≡ true → is_word_byte b ≡ true
-begins_word_byte b e = grind (arith, nat_tests)
-
 word_name : (w : List ℕ) → list_all is_word_byte w ≡ true → list_all is_name_byte w ≡ true
 word_name [] all = refl
 word_name (b ∷ w) all =
@@ -53,7 +51,7 @@ word_sym (b ∷ w) tag is =
     let both = and_parts (begins_word b) (list_all is_word_byte w) is in
     let first = letter_first b both.0 in
     record {
-      word = λ e. (omega arith, rw (word_name_byte b (begins_word_byte b both.0), word_name w both.1) refl);
+      word = λ e. (omega arith, rw (word_name_byte b (start_is_word_byte b both.0), word_name w both.1) refl);
       bracket = λ n e. absurd (not_open b w n first.0 e);
       unsigned = λ v e. literal_unsigned b w v first.1 e;
     }

@@ -3,7 +3,7 @@ use Rattle.std.proofs.Common.{◌≡◌, ◌∙◌, ◌==◌, ℕ, Bool, true, f
 use Rattle.std.specs.Char.{to_ascii_lowercase}
 use Rattle.std.specs.Str.{str_eq_ignore_ascii_case, str_to_ascii_lowercase}
 use Rattle.std.specs.List.{list_all, list_any}
-use Rattle.std.proofs.lemmas.Bool.{and_parts}
+use Rattle.std.proofs.lemmas.Bool.{and_parts, or_parts}
 use Rattle.std.proofs.lemmas.Bool.Decides.{nat_tests}
 use Rattle.sql_lex.specs.declared.token.Kind.{Kind}
 use Rattle.sql_lex.specs.declared.token.Kind.TheVariants as kind
@@ -38,14 +38,10 @@ any_mapped (k ∷ ks) w = ap (λ z. str_eq_ignore_ascii_case k.0 w || z) (any_ma
 same_words : (w : List ℕ) → is_reserved w ≡ list_any (λ k. str_eq_ignore_ascii_case k.0 w) words
 same_words w = any_lower reserved (map (λ k. k.0) words) w refl ∙ any_mapped words w
 
-or_false : (a b : Bool) → (a || b) ≡ false → (a ≡ false) × (b ≡ false)
-or_false true b h = absurd (cc)
-or_false false b h = (refl, h)
-
 missed : (ks : Table) (w : List ℕ) (other : Tag) → list_any (λ k. str_eq_ignore_ascii_case k.0 w) ks ≡ false → lookup ks w other ≡ other
 missed [] w other h = refl
 missed (k ∷ ks) w other h =
-    let both = or_false (str_eq_ignore_ascii_case k.0 w) (list_any (λ x. str_eq_ignore_ascii_case x.0 w) ks) h in
+    let both = or_parts (str_eq_ignore_ascii_case k.0 w) (list_any (λ x. str_eq_ignore_ascii_case x.0 w) ks) h in
     rw both.0 (missed ks w other both.1)
 
 -- marks of the tags of tokens that are no reserved words and no signs

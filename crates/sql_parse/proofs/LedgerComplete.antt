@@ -31,10 +31,10 @@ use Rattle.sql_parse.proofs.Repeats.{at_}
 use Rattle.sql_parse.proofs.Terminals as w
 use Rattle.sql_parse.proofs.ExprComplete.{syms, One, one}
 use Rattle.sql_parse.proofs.ParsesTo.{ParsesTo, then_parses, flow, give_at, go, pure_parses, expects_parses, either_one, either_none, name_parses, one_other, one_tag, closes}
-use Rattle.sql_parse.proofs.RowComplete.{name_list_parses}
-use Rattle.sql_parse.proofs.TableComplete.{required_parses, option_word_parses, the_parses, close_comma, all_of, all_by, fold_parses, items_give, columns_only, columns_back}
+use Rattle.sql_parse.proofs.RowComplete.{name_list_parses, comma_no_open, close_no_comma}
+use Rattle.sql_parse.proofs.TableComplete.{required_parses, option_word_parses, the_parses, all_of, all_by, fold_parses, items_give, columns_only, columns_back}
 use Rattle.sql_parse.proofs.Steps.{the_same}
-use Rattle.sql_parse.proofs.LedgerSound.{once}
+use Rattle.sql_parse.proofs.LedgerSound.{once, kind_once}
 use Rattle.sql_parse.proofs.RowComplete.{ends}
 
 -- ---- choices
@@ -148,7 +148,7 @@ may_choose (present (enclosed {a = a} {b = e} {c = f} {x = xs} open_ is close_))
     give_at choose n (flow a (e ++ f) rest)
     (either_one open_choices (pure p.no_choices) c (syms (e ++ f) ++ rest) rest n (one w.open_ a open_)
     (closes (p.choices p.no_choices) (λ z. z) e f c rest n
-    (fold_parses after_choice p.choice_step IsChoice with_choice choice_step_reads refl refl choice_step_none e xs is p.no_choices c made (syms f ++ rest) n (close_choice close rest) (close_comma close rest)) close))
+    (fold_parses after_choice p.choice_step IsChoice with_choice choice_step_reads refl refl choice_step_none e xs is p.no_choices c made (syms f ++ rest) n (close_choice close rest) (close_no_comma close rest)) close))
 
 -- behind LEDGER
 chosen_read : (e f k : Lexemes) {found : Option (List g.Choice)} (c : Choices) → One t.Equal e → One t.On f → Optional (Enclosed (Listed IsChoice)) k found → all_of with_choice p.no_choices (listed found) ≡ Some c → (rest : List Sym) (n : ℕ) → same_tag (tag_at rest) t.Open ≡ false
@@ -215,10 +215,6 @@ views_only : (v : Option (List ℕ)) → all_of with_choice p.no_choices (view_c
 unfolding view_choices
 views_only None = refl
 views_only (Some n) = refl
-
-comma_no_open : {a : Lexemes} → One t.Comma a → (rest : List Sym) → same_tag (tag_at (syms a ++ rest)) t.Open ≡ false
-unfolding same_tag
-comma_no_open k rest = one_other t.Open refl k rest
 
 close_no_open : {a : Lexemes} → One t.Close a → (rest : List Sym) → same_tag (tag_at (syms a ++ rest)) t.Open ≡ false
 unfolding same_tag
@@ -308,10 +304,6 @@ versions_last_read {b_ = b_} {c = c} {h = h} (g.updatable {a = a} {b = e} {v = v
     (ap (λ z. same_tag (tag_at z) t.Open) (flow b_ c rest) ∙ comma_no_open comma (syms c ++ rest))
     (λ m. give_at (tail_of found) m (flow b_ c rest) (either_one (versions_tail found) (pure (p.alone found)) (with_versions h v) (syms c ++ rest) rest m comma (versions_last_tail v others rest m other))))
 
-once_kind : (c : Bool) → kind_of (once c) ≡ p.kind_of c
-once_kind true = refl
-once_kind false = refl
-
 abbrev made_of : TableKind → Option (List ℕ) → List Sym → ℕ → Outcome Ledger
 made_of kind_ v rest n = Some (record { kind = kind_; history = None; view = v }, at_ rest n)
 
@@ -322,14 +314,14 @@ alone_read {found = found} {v = v} on is few named_ rest n other no_comma =
     let k = choose_all (listed found) false None v (omega (arith, few)) named_ in
     let c : Choices = record { append_only = k.both; view = v } in
     let count : once k.both ≡ appends (listed found) = omega (arith, k.counted) in
-    let kind_ : p.kind_of k.both ≡ kind_of (appends (listed found)) = sym (once_kind k.both) ∙ ap kind_of count in
+    let kind_ : p.kind_of k.both ≡ kind_of (appends (listed found)) = sym (kind_once k.both) ∙ ap kind_of count in
     let y = ledger_first c on is k.made rest rest n (p.alone c) other (λ m. either_none t.Comma (versions_tail c) (pure (p.alone c)) (p.alone c) rest rest m no_comma (pure_parses (p.alone c) rest m)) in
     (y.0, y.1 ∙ ap (λ (z : TableKind). made_of z v rest y.0) kind_)
 
 ledger_parses : {a : Lexemes} {l : g.Ledger} → IsLedger a l → {c : Lexemes} → One t.Close c → (rest : List Sym) (n : ℕ) → ParsesTo (p.ledger (at_ (syms a ++ (syms c ++ rest)) n)) (back_ledger l) (syms c ++ rest)
 ledger_parses (g.versions_first {b = e} is comma others) {c} close rest n = versions_first_read is (one w.comma_ e comma) others (syms c ++ rest) n (close_no_open close rest)
 ledger_parses (g.versions_last {b = e} is comma others) {c} close rest n = versions_last_read is (one w.comma_ e comma) others (syms c ++ rest) n (close_no_open close rest)
-ledger_parses (g.alone on is few named_) {c} close rest n = alone_read on is few named_ (syms c ++ rest) n (close_no_open close rest) (close_comma close rest)
+ledger_parses (g.alone on is few named_) {c} close rest n = alone_read on is few named_ (syms c ++ rest) n (close_no_open close rest) (close_no_comma close rest)
 
 -- ---- the statements
 

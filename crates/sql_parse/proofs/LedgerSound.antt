@@ -310,7 +310,7 @@ once_few : (c : Bool) → once c ≤ 1
 once_few true = omega arith
 once_few false = omega arith
 
-kind_once : (c : Bool) → kind_of (once c) ≡ p.kind_of c
+pub kind_once : (c : Bool) → kind_of (once c) ≡ p.kind_of c
 kind_once true = refl
 kind_once false = refl
 

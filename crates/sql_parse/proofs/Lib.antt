@@ -4,11 +4,11 @@ mod Names
 mod Pages
 mod Cut
 mod Lexed
-mod Tokens
+pub mod Tokens
 mod Literals
-mod Numbers
+pub mod Numbers
 mod Quoted
-mod Values
+pub mod Values
 mod ReadExpr
 mod ReadTrees
 mod ReadWhole
@@ -25,7 +25,7 @@ mod Kept
 mod Signs
 mod KeptTokens
 mod KeptExprs
-mod KeptStmts
+pub mod KeptStmts
 mod KeptTables
 mod KeptBodies
 mod Terminals

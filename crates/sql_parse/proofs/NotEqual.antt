@@ -2,7 +2,7 @@
 use Rattle.std.proofs.Common.{◌≡◌, ℕ, Bool, true, false, cond, List, [], ◌∷◌, Option, Some, None, refl, ap, sym, subst, codes, ◌||◌, ◌⊎◌, inl, inr}
 use Rattle.std.specs.Str.{str_eq_ignore_ascii_case}
 use Rattle.std.specs.List.{list_all}
-use Rattle.std.proofs.lemmas.Bool.{and_parts}
+use Rattle.std.proofs.lemmas.Bool.{and_parts, or_cases}
 use Rattle.sql_lex.specs.declared.token.Kind.{Kind}
 use Rattle.sql_lex.specs.declared.token.Kind.TheVariants as kind
 use Rattle.sql_value.specs.declared.expr.Op.TheVariants as op
@@ -25,16 +25,12 @@ two_by (Some s) w = str_eq_ignore_ascii_case (codes "<>") w || str_eq_ignore_asc
 abbrev Either : List ℕ → Type 0
 Either w = (str_eq_ignore_ascii_case (codes "<>") w ≡ true) ⊎ (str_eq_ignore_ascii_case (codes "!=") w ≡ true)
 
-or_true : (a b : Bool) → (a || b) ≡ true → (a ≡ true) ⊎ (b ≡ true)
-or_true true b h = inl refl
-or_true false b h = inr h
-
 either_through : (v w : List ℕ) → str_eq_ignore_ascii_case v w ≡ true → Either v → Either w
 either_through v w same (inl h) = inl (same_through (codes "<>") v w h same)
 either_through v w same (inr h) = inr (same_through (codes "!=") v w h same)
 
 either_of : (o : Option (List ℕ)) (v : List ℕ) → o ≡ Some [] → two_by o v ≡ true → Either v
-either_of o v e h = let P : Option (List ℕ) → Type 0 = λ z. two_by z v ≡ true in or_true _ _ (subst P e h)
+either_of o v e h = let P : Option (List ℕ) → Type 0 = λ z. two_by z v ≡ true in or_cases _ _ (subst P e h)
 
 found_by : (c : Bool) (k : List ℕ × Tag) (w : List ℕ) (rest : Tag) → str_eq_ignore_ascii_case k.0 w ≡ c → two_by (differs k.1) k.0 ≡ true → (rest ≡ t.NotEqual → Either w) → cond c k.1 rest ≡ t.NotEqual → Either w
 found_by true k w rest same fits again e = either_through k.0 w same (either_of (differs k.1) k.0 (ap differs e) fits)

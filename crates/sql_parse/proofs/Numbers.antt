@@ -23,30 +23,30 @@ no_digit = by_stop (λ r. prefix_len is_ascii_digit r ≡ 0) refl (λ z. refl) (
 no_point : {rest : List ℕ} → Stop rest → (get_or rest 0 0 == 46) ≡ false
 no_point = by_stop (λ r. (get_or r 0 0 == 46) ≡ false) refl (λ z. refl) (λ z. refl) (λ z. refl)
 
-abbrev NoX : List ℕ → Type 0
+abbrev pub NoX : List ℕ → Type 0
 NoX z = (get_or z 0 0 == 120 || get_or z 0 0 == 88) ≡ false
 
 stop_no_x : {rest : List ℕ} → Stop rest → NoX rest
 stop_no_x = by_stop NoX refl (λ z. refl) (λ z. refl) (λ z. refl)
 
-digit_no_x : (b : ℕ) → is_ascii_digit b ≡ true → (b == 120 || b == 88) ≡ false
+pub digit_no_x : (b : ℕ) → is_ascii_digit b ≡ true → (b == 120 || b == 88) ≡ false
 digit_no_x b e = grind (arith, nat_tests)
 
-digits_no_x : (ds z : List ℕ) → AreDigits ds → NoX z → NoX (ds ++ z)
+pub digits_no_x : (ds z : List ℕ) → AreDigits ds → NoX z → NoX (ds ++ z)
 digits_no_x [] z all other = other
 digits_no_x (d ∷ ds) z all other = digit_no_x d (and_parts (is_ascii_digit d) (list_all is_ascii_digit ds) all).0
 
-and_none : (c : Bool) (x : Option ℕ) → cond (c && false) x None ≡ None
+pub and_none : (c : Bool) (x : Option ℕ) → cond (c && false) x None ≡ None
 and_none true x = refl
 and_none false x = refl
 
-no_bytes : (b : ℕ) (z : List ℕ) → NoX z → bytes (b ∷ z) ≡ None
+pub no_bytes : (b : ℕ) (z : List ℕ) → NoX z → bytes (b ∷ z) ≡ None
 no_bytes b z other = rw other (and_none (b == 48) _)
 
-digit_zero : (n : ℕ) → 0 < n → (n == 0) ≡ false
+pub digit_zero : (n : ℕ) → 0 < n → (n == 0) ≡ false
 digit_zero n h = grind (arith, nat_tests)
 
-at_behind : (n : List ℕ) (rest : List ℕ) → get_or (n ++ rest) (length n) 0 ≡ get_or rest 0 0
+pub at_behind : (n : List ℕ) (rest : List ℕ) → get_or (n ++ rest) (length n) 0 ≡ get_or rest 0 0
 at_behind [] rest = refl
 at_behind (x ∷ n) rest = at_behind n rest
 
@@ -58,7 +58,7 @@ drop_behind : (n : List ℕ) (b : ℕ) (rest : List ℕ) → drop (suc (length n
 drop_behind [] b rest = refl
 drop_behind (x ∷ n) b rest = drop_behind n b rest
 
-and_off : (c : Bool) (d : Bool) (x y : Option ℕ) → cond (c && false && d) x y ≡ y
+pub and_off : (c : Bool) (d : Bool) (x y : Option ℕ) → cond (c && false && d) x y ≡ y
 and_off true d x y = refl
 and_off false d x y = refl
 
@@ -86,14 +86,14 @@ point_number ws f fs rest whole fraction few stop =
     let most : min (38 - length ws) (length (f ∷ fs)) ≡ length (f ∷ fs) = omega (arith, few) in
     rw (run, least, under, point, next, first) (rw (tail) (ap (λ n. Some (length ws + 1 + min (38 - length ws) n)) more ∙ ap (λ n. Some (length ws + 1 + n)) most))
 
-front_number : (b : ℕ) (z : List ℕ) (n : ℕ) → NoX z → number (b ∷ z) ≡ Some n → front (b ∷ z) ≡ Some (kind.Number, n)
+pub front_number : (b : ℕ) (z : List ℕ) (n : ℕ) → NoX z → number (b ∷ z) ≡ Some n → front (b ∷ z) ≡ Some (kind.Number, n)
 unfolding front
 front_number b z n other is = rw (no_bytes b z other, is) refl
 
-abbrev Size : ℕ → Type 0
+abbrev pub Size : ℕ → Type 0
 Size b = (is_blank b ≡ false) × ((b == 45) ≡ false)
 
-digit_size : (b : ℕ) → is_ascii_digit b ≡ true → Size b
+pub digit_size : (b : ℕ) → is_ascii_digit b ≡ true → Size b
 digit_size b e = (grind (arith, nat_tests), grind (arith, nat_tests))
 
 -- the digits of a number without a sign, before and behind its point

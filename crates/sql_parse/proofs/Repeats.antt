@@ -1,6 +1,7 @@
 -- Tokens of one tag in a row.
 use Rattle.std.proofs.Common.{◌≡◌, ℕ, ◌+◌, ◌-◌, ◌<◌, ◌≤◌, Bool, Err, true, false, cond, List, [], ◌∷◌, Some, None, refl, ap, ◌∙◌, sym, arith, eqb}
 use Rattle.std.proofs.lemmas.Bool.Decides.{nat_tests}
+use Rattle.base_types.proofs.Options.{guard_some}
 use Rattle.sql_parse.specs.declared.tag.Tag.{Tag}
 use Rattle.sql_parse.specs.declared.parse_err.ParseErr.{ParseErr}
 use Rattle.sql_parse.specs.declared.parse_err.ParseErr.TheVariants.{Syntax, Memory}
@@ -17,10 +18,6 @@ adds-one n (Some p) = let e : n + (p.0 + 1) ≡ n + 1 + p.0 = omega arith in ap 
 
 abbrev pub at_ : List Sym → ℕ → Input
 at_ rest left = record { rest = rest; left = left }
-
-pub guard_some : {A : Type 0} (b : Bool) (x k : A) → cond b None (Some x) ≡ Some k → (b ≡ false) × (x ≡ k)
-guard_some true x k e = cc
-guard_some false x k e = (refl, cc)
 
 pub guard_none : {A : Type 0} (b : Bool) (x : A) → cond b None (Some x) ≡ None → b ≡ true
 guard_none true x e = refl
@@ -52,7 +49,7 @@ unfolding sees next
 refused_at t [] left seen spent = cc
 refused_at t (s ∷ ts) left seen spent = rw (seen, spent_none ts left spent) refl
 
-ended_at : (t : Tag) (rest : List Sym) (left : ℕ) → sees t (at_ rest left) ≡ false → repeated_at t rest left ≡ Some (0, at_ rest left)
+pub ended_at : (t : Tag) (rest : List Sym) (left : ℕ) → sees t (at_ rest left) ≡ false → repeated_at t rest left ≡ Some (0, at_ rest left)
 unfolding sees
 ended_at t [] left seen = refl
 ended_at t (s ∷ ts) left seen = rw seen refl

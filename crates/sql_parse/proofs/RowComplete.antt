@@ -118,7 +118,7 @@ name_none n = refl
 pub names_give : (a : Lexemes) (ns : List (List ℕ)) → AreNames a ns → (rest : List Sym) (n : ℕ) → same_tag (tag_at rest) t.Comma ≡ false → ParsesTo (r.names (at_ (syms a ++ rest) n)) ns rest
 names_give a ns is rest n other = list_parses any name IsName name_if refl refl name_none a ns is rest n refl other
 
-close_no_comma : {c : Lexemes} → One t.Close c → (rest : List Sym) → same_tag (tag_at (syms c ++ rest)) t.Comma ≡ false
+pub close_no_comma : {c : Lexemes} → One t.Close c → (rest : List Sym) → same_tag (tag_at (syms c ++ rest)) t.Comma ≡ false
 unfolding same_tag
 close_no_comma k rest = one_other t.Comma refl k rest
 
@@ -399,7 +399,7 @@ name_calls is rest n other =
     let k = name_token is in
     ap (λ z. calls (at_ (z ++ rest) n)) k.whole ∙ second_open k.tag_ k.word_ rest n other
 
-comma_no_open : {a : Lexemes} → One t.Comma a → (rest : List Sym) → same_tag (tag_at (syms a ++ rest)) t.Open ≡ false
+pub comma_no_open : {a : Lexemes} → One t.Comma a → (rest : List Sym) → same_tag (tag_at (syms a ++ rest)) t.Open ≡ false
 unfolding same_tag
 comma_no_open k rest = one_other t.Open refl k rest
 

@@ -33,7 +33,7 @@ use Rattle.sql_parse.proofs.Terminals.{lower_same}
 use Rattle.sql_parse.proofs.TableSound.{spelled_type, spelled_option, defined_, nullable_same}
 use Rattle.sql_parse.proofs.ExprComplete.{syms, syms_join, One, one, name_token}
 use Rattle.sql_parse.proofs.ParsesTo.{ParsesTo, then_parses, flow, give_at, go, pure_parses, expects_parses, either_one, either_none, skips, name_parses, one_other, one_tag, enclosed_parses, ReadsIf, not_empty}
-use Rattle.sql_parse.proofs.RowComplete.{name_list_parses}
+use Rattle.sql_parse.proofs.RowComplete.{name_list_parses, close_no_comma}
 
 -- ---- words that aren't reserved
 
@@ -448,10 +448,7 @@ columns_back key (g.Key ns ∷ xs) = columns_back key xs
 close_item : {c : Lexemes} → One t.Close c → (rest : List Sym) → after_item (tag_at (syms c ++ rest)) ≡ true
 close_item k rest = ap after_item (one_tag k rest)
 
-pub close_comma : {c : Lexemes} → One t.Close c → (rest : List Sym) → same_tag (tag_at (syms c ++ rest)) t.Comma ≡ false
-close_comma k rest = one_other t.Comma close_tag k rest
-
 pub items_give : (a : Lexemes) (xs : List g.Item) (key : List (List ℕ)) → Listed IsItem a xs → keys_of xs ≡ key ∷ [] → {c : Lexemes} → One t.Close c → (rest : List Sym) (n : ℕ)
     → ParsesTo (b.items b.no_items (at_ (syms a ++ (syms c ++ rest)) n)) (record { columns = columns_only xs; key = Some key }) (syms c ++ rest)
 items_give a xs key is keys {c} close rest n =
-    fold_parses after_item b.item_step IsItem with_back step_reads refl refl step_none a xs is b.no_items (record { columns = columns_only xs; key = Some key }) (draft_all xs [] None key keys) (syms c ++ rest) n (close_item close rest) (close_comma close rest)
+    fold_parses after_item b.item_step IsItem with_back step_reads refl refl step_none a xs is b.no_items (record { columns = columns_only xs; key = Some key }) (draft_all xs [] None key keys) (syms c ++ rest) n (close_item close rest) (close_no_comma close rest)

@@ -2,7 +2,7 @@
 use Rattle.std.proofs.Common.{◌≡◌, ◌∙◌, ◌≤◌, ℕ, zero, suc, Bool, true, false, cond, if◌then◌else◌, List, [], ◌∷◌, ◌++◌, map, length, nat_le, Option, Some, None, refl, ap, sym, subst, codes, ◌⊎◌, inl, inr, arith, append_assoc, bytes_eq, ◌||◌}
 use Rattle.std.specs.Prelude.{flat_map, not}
 use Rattle.std.specs.List.{list_any}
-use Rattle.std.proofs.lemmas.List.{append-nil}
+use Rattle.std.proofs.lemmas.List.{append-nil, map_push}
 use Rattle.std.proofs.lemmas.Bool.Decides.{nat_tests}
 use Rattle.sql_lex.specs.declared.token.Kind.{Kind}
 use Rattle.sql_value.specs.Literal.{digits_after}
@@ -308,10 +308,6 @@ flat_last : {A B : Type 0} (f : A → List B) (xs : List A) (x : A) → flat_map
 flat_last f [] x = append-nil (f x)
 flat_last f (y ∷ ys) x = ap (λ z. f y ++ z) (flat_last f ys x) ∙ sym (append_assoc (f y) (flat_map f ys) (f x))
 
-map_last : {A B : Type 0} (f : A → B) (xs : List A) (x : A) → map f (xs ++ x ∷ []) ≡ map f xs ++ f x ∷ []
-map_last f [] x = refl
-map_last f (y ∷ ys) x = ap (λ z. f y ∷ z) (map_last f ys x)
-
 -- the draft has the keys and the columns of the items
 pub record Drafts (d : Draft) (xs : List g.Item) : Type 0 where
   pub keys : keys_of xs ≡ one_or_none d.key
@@ -344,7 +340,7 @@ one_key o xs x ns keys none is = flat_last keys_in xs x ∙ ap (λ z. z ++ keys_
 
 more_columns : (d : Draft) (xs : List g.Item) (c : Column) (marked : Bool) → Drafts d xs → (key : List (List ℕ)) → columns_of key (xs ++ item_of (item.Column c marked) ∷ []) ≡ map (b.column_def key) (d.columns ++ c ∷ [])
 more_columns d xs c marked k key =
-    flat_last (columns_in key) xs (item_of (item.Column c marked)) ∙ ap (λ z. columns_of key xs ++ z) (column_same key c marked) ∙ ap (λ z. z ++ b.column_def key c ∷ []) (k.columns key) ∙ sym (map_last (b.column_def key) d.columns c)
+    flat_last (columns_in key) xs (item_of (item.Column c marked)) ∙ ap (λ z. columns_of key xs ++ z) (column_same key c marked) ∙ ap (λ z. z ++ b.column_def key c ∷ []) (k.columns key) ∙ sym (map_push (b.column_def key) d.columns c)
 
 keyed : (columns : List Column) (o : Option (List (List ℕ))) (ns : List (List ℕ)) (new : Draft) → b.with_key columns o ns ≡ Some new → (o ≡ None) × (◌≡◌ {A = Draft} (record { columns = columns; key = Some ns }) new)
 keyed columns None ns new h = (refl, the_same h)

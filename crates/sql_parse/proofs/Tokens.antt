@@ -1,9 +1,10 @@
 -- Printed tokens are the longest at their places.
-use Rattle.std.proofs.Common.{◌≡◌, ℕ, suc, ◌+◌, Bool, true, false, ◌==◌, ◌&&◌, ◌||◌, List, [], ◌∷◌, ◌++◌, length, get_or, Some, refl, ap, ◌∙◌, sym, subst, arith, codes}
+use Rattle.std.proofs.Common.{◌≡◌, ℕ, suc, ◌+◌, Bool, true, false, ◌==◌, ◌||◌, List, [], ◌∷◌, ◌++◌, length, get_or, Some, refl, ap, ◌∙◌, sym, subst, arith, codes}
 use Rattle.std.proofs.lemmas.Bool.{and_parts}
 use Rattle.std.specs.List.{list_all, prefix_len}
 use Rattle.std.specs.Char.{is_ascii_digit}
 use Rattle.std.proofs.lemmas.Bool.Decides.{nat_tests}
+use Rattle.base_types.proofs.Bools.{and_false}
 use Rattle.sql_lex.specs.declared.token.Kind.TheVariants as kind
 use Rattle.sql_lex.specs.IsToken.{begins_word, is_word_byte}
 use Rattle.sql_lex.specs.Cut.{is_blank, begins_comment}
@@ -109,10 +110,6 @@ Letter b = ((b == 48) ≡ false) × (is_ascii_digit b ≡ false) × ((b == 46) �
 
 letter : (b : ℕ) → begins_word b ≡ true → Letter b
 letter b e = (grind (arith, nat_tests), grind (arith, nat_tests), grind (arith, nat_tests), grind (arith, nat_tests), grind (arith, nat_tests), grind (arith, nat_tests), grind (arith, nat_tests))
-
-pub and_false : (t : Bool) → (t && false) ≡ false
-and_false true = refl
-and_false false = refl
 
 word_front : (b : ℕ) (w rest : List ℕ) → begins_word b ≡ true → list_all is_word_byte w ≡ true → Stop rest → front (b ∷ (w ++ rest)) ≡ Some (kind.Word, length (b ∷ w))
 unfolding front

@@ -8,10 +8,12 @@ use Rattle.std.proofs.lemmas.Fmt.{length-decimal-le_wide, decimal_by_steps_wide}
 use Rattle.std.proofs.lemmas.List.{take-append-drop, length-replicate}
 use Rattle.std.proofs.lemmas.Bool.{and_parts, cases_eq, cases_lt, lt-ltb, le-ltb}
 use Rattle.std.proofs.lemmas.Bool.Decides.{nat_tests}
+use Rattle.base_types.proofs.Naturals.{is_digit}
 use Rattle.sql_value.specs.declared.value.Value.{Value}
 use Rattle.sql_value.specs.declared.value.Value.TheVariants.{Null, Num, Text, Bytes, Date}
 use Rattle.sql_value.specs.Literals.{IsLiteral}
 use Rattle.sql_value.specs.Printed.{literal_text, pointed, behind_point}
+use Rattle.sql_scalar.proofs.RoundTrip.{not_38}
 use Rattle.sql_lex.specs.declared.token.Kind.TheVariants as kind
 use Rattle.sql_lex.proofs.Found.{front_is}
 use Rattle.sql_lex.specs.Front.{front}
@@ -26,7 +28,7 @@ use Rattle.sql_parse.proofs.Tokens.{null_}
 use Rattle.sql_parse.proofs.Numbers.{AreDigits, pointed_text, one_number}
 use Rattle.sql_parse.proofs.Quoted.{one_text, one_bytes}
 
-all_append : (a b : List ℕ) → AreDigits a → AreDigits b → AreDigits (a ++ b)
+pub all_append : (a b : List ℕ) → AreDigits a → AreDigits b → AreDigits (a ++ b)
 all_append [] b g h = h
 all_append (c ∷ cs) b g h =
     let parts = and_parts (is_ascii_digit c) (list_all is_ascii_digit cs) g in
@@ -48,21 +50,18 @@ zeros (suc k) = zeros k
 
 -- ---- decimals
 
-abbrev Decimal : ℕ → List ℕ → Type 0
+abbrev pub Decimal : ℕ → List ℕ → Type 0
 Decimal n ds = AreDigits ds × (0 < length ds)
 
-is_digit : (n : ℕ) → n < 10 → is_ascii_digit (48 + n) ≡ true
-is_digit n h = grind (arith, nat_tests)
-
-decimal_one : (n : ℕ) → n < 10 → Decimal n ((48 + n) ∷ [])
+pub decimal_one : (n : ℕ) → n < 10 → Decimal n ((48 + n) ∷ [])
 decimal_one n h = (rw (is_digit n h) refl, omega arith)
 
-decimal_more : (n : ℕ) (ds : List ℕ) → 10 ≤ n → Decimal (n / 10) ds → Decimal n (ds ++ ((48 + n % 10) ∷ []))
+pub decimal_more : (n : ℕ) (ds : List ℕ) → 10 ≤ n → Decimal (n / 10) ds → Decimal n (ds ++ ((48 + n % 10) ∷ []))
 decimal_more n ds h p =
     let last : n % 10 < 10 = omega arith in
     (all_append ds ((48 + n % 10) ∷ []) p.0 (rw (is_digit (n % 10) last) refl), omega (arith, length-append ds ((48 + n % 10) ∷ []), p.1))
 
-decimal_is : (n : ℕ) → n < 10 ^ 64 → Decimal n (decimal n)
+pub decimal_is : (n : ℕ) → n < 10 ^ 64 → Decimal n (decimal n)
 decimal_is n h = decimal_by_steps_wide Decimal decimal_one decimal_more n h
 
 pub one_digits : (n : ℕ) → IsSize n → One (digits n) (digits n ∷ [])
@@ -105,9 +104,6 @@ pointed_is first ds s none all some few room = elim (cases_lt s (length ds)) [
   | inl inside ↦ rw (lt-ltb s (length ds) inside) (with_whole ds s all inside few)
   | inr outside ↦ rw (le-ltb s (length ds) outside) (with_zeros first ds s none all some outside room)
 ]
-
-not_38 : (s : ℕ) → (s ≡ 38 → ⊥) → (s == 38) ≡ false
-not_38 s h = grind (arith, nat_tests)
 
 abbrev first_of : ℕ → List ℕ
 first_of s = cond (s == 38) [] (48 ∷ [])

@@ -11,6 +11,7 @@ use Rattle.std.specs.List.Sorted.{IsPermutation, ties, IsStable, IsSortedBy, IsS
 use Rattle.std.specs.Fn.{ComparesAs}
 use Rattle.std.specs.declared.cmp.Ordering.{Ordering}
 use Rattle.std.specs.declared.cmp.Ordering.TheVariants.{Less, Equal, Greater}
+use Rattle.base_types.proofs.Orderings.{is_equal}
 use Rattle.spec_model.specs.Lists.{inserted, sorted}
 
 if_cases : {B : Type 0} (P : B → Type 0) (b : Bool) (x y : B) → (b ≡ true → P x) → (b ≡ false → P y) → P (cond b x y)
@@ -29,11 +30,6 @@ equal_alone : (r : Ordering) → not (is_lt r) && not (is_lt (ordering_reverse r
 equal_alone Less = refl
 equal_alone Equal = refl
 equal_alone Greater = refl
-
-is_equal : (r : Ordering) → is_eq r ≡ true → r ≡ Equal
-is_equal Less h = absurd (true≢false (sym h))
-is_equal Equal h = refl
-is_equal Greater h = absurd (true≢false (sym h))
 
 greater_not_less : (r : Ordering) → is_gt r ≡ true → is_lt r ≡ false
 greater_not_less Less h = sym h

@@ -4,6 +4,7 @@ use Rattle.std.proofs.lemmas.Bool.{eq-eqb, ne_eqb, eqb-true}
 use Rattle.std.proofs.lemmas.List.{length-map}
 use Rattle.std.specs.Prelude.{slice_set, ◌==◌, if◌then◌else◌}
 use Rattle.std.specs.List.{AllByRecursion}
+use Rattle.std.proofs.ByRecursion.{All-weaker}
 use Rattle.sql_value.specs.declared.refusal.Refusal.{Refusal}
 use Rattle.sql_value.specs.declared.refusal.Refusal.TheVariants.{NoSuchTable, NameConflict, NoSuchColumn, ReadOnlyTable, LimitExceeded}
 use Rattle.sql_types.specs.declared.table.TableDef.{TableDef}
@@ -20,15 +21,13 @@ use Rattle.spec_model.specs.Changes.{Change, changed_all}
 use Rattle.spec_model.specs.Create.{index_def, index_check_in, index_check, with_index}
 use Rattle.spec_model.specs.Effect.{Effect, with_system_rows, table_start, column_starts, table_effect, with_def, redefined, index_starts, index_effect}
 use Rattle.spec_model.specs.Lists.{numbered}
-use Rattle.spec_model.specs.Rows.{Row}
 use Rattle.spec_model.specs.ChangeSets.{in_table, changed_from}
 use Rattle.spec_model.specs.Runs.{Sound}
 use Rattle.spec_model.specs.SystemTables.{tables_id, columns_id, column_row, column_rows, index_row, index_rows}
-use Rattle.law_frame.proofs.Alls.{all_weaker}
 use Rattle.law_frame.proofs.Checked.{Led, led}
 use Rattle.law_frame.proofs.Definitions.{same_defs}
 use Rattle.law_frame.proofs.NamedPart.{was_found}
-use Rattle.law_frame.proofs.ChangeSets.{in_one_table, length-in_table}
+use Rattle.law_frame.proofs.ChangeSets.{in_one_table, length-in_table, length-numbered, length-starts}
 use Rattle.law_frame.proofs.Sounds.{sound_all}
 use Rattle.law_journal.proofs.DefLists.{IsOnly}
 
@@ -97,13 +96,13 @@ found_all P (def ∷ defs) name x e h = by_part P def (part_named def name) (fin
 
 ids_above : (n : ℕ) (defs : Defs) → IdsFrom n defs → AllByRecursion (λ def. n ≤ def.id) defs
 ids_above n [] ids = tt
-ids_above n (def ∷ defs) ids = (omega (arith, ids.0), all_weaker (λ d. n + 1 ≤ d.id) (λ d. n ≤ d.id) (λ d le. omega (arith, le)) defs (ids_above (n + 1) defs ids.1))
+ids_above n (def ∷ defs) ids = (omega (arith, ids.0), All-weaker (λ d. n + 1 ≤ d.id) (λ d. n ≤ d.id) (λ d le. omega (arith, le)) defs (ids_above (n + 1) defs ids.1))
 
 only_by_part : (n : ℕ) (def : TableDef) (defs : Defs) (part : Option Part) (rest : Option NamedPart) (x : NamedPart) → def.id ≡ n → AllByRecursion (λ d. n + 1 ≤ d.id) defs → or_in part def rest ≡ Some x
     → (rest ≡ Some x → (n + 1 ≤ x.0.id) × AllByRecursion (IsOnly x.0) defs) → AllByRecursion (IsOnly x.0) (def ∷ defs)
 only_by_part n def defs (Some part) rest x is above e behind =
     let it : def ≡ x.0 = cc in
-    ((λ same. it), all_weaker (λ d. n + 1 ≤ d.id) (IsOnly x.0) (λ d le same. absurd (omega (arith, le, same, is, ap (λ (y : TableDef). y.id) it))) defs above)
+    ((λ same. it), All-weaker (λ d. n + 1 ≤ d.id) (IsOnly x.0) (λ d le same. absurd (omega (arith, le, same, is, ap (λ (y : TableDef). y.id) it))) defs above)
 only_by_part n def defs None rest x is above e behind = let b = behind e in ((λ same. absurd (omega (arith, same, is, b.0))), b.1)
 
 -- and the only one with its id
@@ -148,13 +147,6 @@ index_in_place index def [] only = refl
 index_in_place index def (t ∷ ts) only = rw (in_its_place index def (t.def.id == def.id) t refl only.0, index_in_place index def ts only.1) refl
 
 -- ---- what the statements come to
-
-length-numbered : {A : Type 0} (n : ℕ) (xs : List A) → length (numbered n xs) ≡ length xs
-length-numbered n [] = refl
-length-numbered n (x ∷ xs) = ap suc (length-numbered (n + 1) xs)
-
-length-starts : (rows : List Row) → length (column_starts rows) ≡ length rows
-length-starts rows = length-map rows _
 
 length-column_starts : (def : TableDef) → length (column_starts (column_rows def)) ≡ length def.columns
 unfolding column_rows

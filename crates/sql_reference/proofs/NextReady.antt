@@ -3,13 +3,14 @@ use Rattle.std.proofs.Common.{◌≡◌, ℕ, suc, inl, inr, refl, sym, subst, �
 use Rattle.std.proofs.lemmas.Bool.{eq-eqb, ne_eqb}
 use Rattle.std.specs.Prelude.{◌==◌, if◌then◌else◌, IfSome}
 use Rattle.std.specs.List.{AllByRecursion}
+use Rattle.std.proofs.ByRecursion.{All-weaker}
 use Rattle.sql_value.specs.declared.column.ColumnDef.{ColumnDef}
 use Rattle.sql_types.specs.declared.version.Table.{Table}
 use Rattle.sql_types.specs.declared.version.Version.{Version}
 use Rattle.spec_model.specs.Rows.{EventId}
 use Rattle.spec_model.specs.Catalog.{Tables}
 use Rattle.spec_model.specs.Runs as run
-use Rattle.law_frame.proofs.Alls.{all_weaker, all_both}
+use Rattle.law_frame.proofs.Alls.{all_both}
 use Rattle.law_journal.specs.Kept.{IsEarlier, EndedBefore, Apart, AllApart, IsPast, KeptTable, Kept}
 use Rattle.law_journal.proofs.Serials.{no_number}
 use Rattle.sql_reference.specs.declared.begun.RunningScript.{RunningScript}
@@ -60,7 +61,7 @@ module _ (place : ℕ → ℕ) (tx other : ℕ) where
   all_apart : (columns : List ColumnDef) (vs : List Version) → AllByRecursion (run.MadeBefore other 0) vs → AllApart place columns vs → AllApart next_place columns vs
   all_apart columns [] m h = tt
   all_apart columns (v ∷ vs) m h = (
-    all_weaker (λ w. run.MadeBefore other 0 w × Apart place columns v w) (Apart next_place columns v) (λ w k. apart columns v w m.0 k) vs
+    All-weaker (λ w. run.MadeBefore other 0 w × Apart place columns v w) (Apart next_place columns v) (λ w k. apart columns v w m.0 k) vs
         (all_both (run.MadeBefore other 0) (Apart place columns v) vs m.1 h.0),
     all_apart columns vs m.1 h.1,
   )
@@ -70,7 +71,7 @@ module _ (place : ℕ → ℕ) (tx other : ℕ) where
 
   kept_table : (seq : ℕ) (t : Table) → Both seq t → KeptTable next_place (other, 0) t
   kept_table seq t h = record {
-    past = all_weaker (λ v. run.MadeBefore other 0 v × IsPast place (tx, seq) v) (IsPast next_place (other, 0)) (is_past seq) t.versions
+    past = All-weaker (λ v. run.MadeBefore other 0 v × IsPast place (tx, seq) v) (IsPast next_place (other, 0)) (is_past seq) t.versions
         (all_both (run.MadeBefore other 0) (IsPast place (tx, seq)) t.versions h.0 h.1.1.past);
     apart = all_apart t.def.columns t.versions h.0 h.1.1.apart;
     fit = h.1.1.fit;
@@ -83,12 +84,12 @@ module _ (place : ℕ → ℕ) (tx other : ℕ) where
   next_ready seq T k new =
       let both : AllByRecursion (Both seq) T = all_both (λ t. AllByRecursion (run.MadeBefore other 0) t.versions) (λ t. run.SoundTable tx seq t × KeptTable place (tx, seq) t) T new
       (all_both (run.SoundTable tx seq) (KeptTable place (tx, seq)) T k.sound.each k.each) in
-      let sound : run.Sound other 0 T = record { ids = k.sound.ids; each = all_weaker (Both seq) (run.SoundTable other 0) (sound_table seq) T both } in
+      let sound : run.Sound other 0 T = record { ids = k.sound.ids; each = All-weaker (Both seq) (run.SoundTable other 0) (sound_table seq) T both } in
       record {
         sound = sound;
         own = no_number other T sound;
         others = k.others;
-        each = all_weaker (Both seq) (KeptTable next_place (other, 0)) (kept_table seq) T both;
+        each = All-weaker (Both seq) (KeptTable next_place (other, 0)) (kept_table seq) T both;
       }
 
 -- the tables to which a script came are steady

@@ -2,6 +2,7 @@
 use Rattle.std.proofs.Common.{◌≡◌, ◌≤◌, ◌<◌, ℕ, refl, List, [], ◌∷◌, length, Option, Some, None, arith}
 use Rattle.std.specs.Prelude.{◌-◌, ◌^◌}
 use Rattle.std.specs.List.{AllByRecursion}
+use Rattle.std.proofs.ByRecursion.{All-weaker}
 use Rattle.sql_value.specs.declared.column.ColumnDef.{ColumnDef}
 use Rattle.sql_types.specs.declared.version.TypedValue.{TypedValue}
 use Rattle.sql_types.specs.declared.version.Table.{Table}
@@ -10,7 +11,7 @@ use Rattle.spec_model.specs.Catalog.{Tables, defs_of}
 use Rattle.spec_model.specs.SystemTables.{first_tables}
 use Rattle.spec_model.specs.Agreement.{IdsFrom}
 use Rattle.spec_model.specs.Runs.{MadeBefore, SoundTable, Sound}
-use Rattle.law_frame.proofs.Alls.{all_weaker, all_both}
+use Rattle.law_frame.proofs.Alls.{all_both}
 use Rattle.law_journal.specs.Fits.{Fits}
 use Rattle.law_journal.specs.Kept.{KeptTable}
 use Rattle.law_journal.proofs.DefLists.{all_defs}
@@ -56,7 +57,7 @@ module _ (tx seq : ℕ) (T : Tables) (h : IsReady tx seq T) where
   ready_count = omega (arith, h.1.count)
 
   pub ready_columns : AllByRecursion (λ (def : TableDef). length def.columns < 2 ^ 16 - 1) (defs_of T)
-  ready_columns = all_weaker (λ (def : TableDef). length def.columns ≤ 64) (λ (def : TableDef). length def.columns < 2 ^ 16 - 1) (λ def le. omega (arith, le)) (defs_of T) h.1.few
+  ready_columns = All-weaker (λ (def : TableDef). length def.columns ≤ 64) (λ (def : TableDef). length def.columns < 2 ^ 16 - 1) (λ def le. omega (arith, le)) (defs_of T) h.1.few
 
   as_long : (columns : List ColumnDef) (values : List (Option TypedValue)) → Fits columns values → length values ≡ length columns
   as_long [] [] f = refl
@@ -65,13 +66,13 @@ module _ (tx seq : ℕ) (T : Tables) (h : IsReady tx seq T) where
   as_long (c ∷ cs) (v ∷ vs) f = omega (arith, as_long cs vs f.1)
 
   short_table : (t : Table) → (length t.def.columns ≤ 64) × KeptTable h.0.0 (tx, seq) t → AllByRecursion IsShort t.versions
-  short_table t k = all_weaker (λ v. Fits t.def.columns v.values) IsShort (λ v f. omega (arith, as_long t.def.columns v.values f, k.0)) t.versions k.1.fit
+  short_table t k = All-weaker (λ v. Fits t.def.columns v.values) IsShort (λ v f. omega (arith, as_long t.def.columns v.values f, k.0)) t.versions k.1.fit
 
   pub ready_short : AreShort T
   ready_short =
-      all_weaker (λ t. (length t.def.columns ≤ 64) × KeptTable h.0.0 (tx, seq) t) (λ t. AllByRecursion IsShort t.versions) short_table T
+      All-weaker (λ t. (length t.def.columns ≤ 64) × KeptTable h.0.0 (tx, seq) t) (λ t. AllByRecursion IsShort t.versions) short_table T
       (all_both (λ t. length t.def.columns ≤ 64) (KeptTable h.0.0 (tx, seq)) T (all_defs (λ (def : TableDef). length def.columns ≤ 64) T h.1.few) h.0.1.each)
 
 -- a transaction that hasn't begun has no event in tables that are sound for it
 pub sound_new : (tx : ℕ) (T : Tables) → Sound tx 0 T → IsNew tx T
-sound_new tx T h = all_weaker (SoundTable tx 0) (λ (t : Table). AllByRecursion (MadeBefore tx 0) t.versions) (λ t k. k.before) T h.each
+sound_new tx T h = All-weaker (SoundTable tx 0) (λ (t : Table). AllByRecursion (MadeBefore tx 0) t.versions) (λ t k. k.before) T h.each

@@ -3,6 +3,7 @@ use Rattle.std.proofs.Common.{◌≡◌, ◌≤◌, ℕ, ◌+◌, refl, sym, ap,
 use Rattle.std.proofs.lemmas.List.{map-append, length-map}
 use Rattle.std.specs.Prelude.{◌==◌, if◌then◌else◌}
 use Rattle.std.specs.List.{AllByRecursion}
+use Rattle.std.proofs.ByRecursion.{All-append}
 use Rattle.sql_value.specs.declared.column.ColumnDef.{ColumnDef}
 use Rattle.sql_types.specs.declared.statement.Stmt.{Stmt}
 use Rattle.sql_types.specs.declared.statement.Stmt.TheVariants as s
@@ -22,7 +23,6 @@ use Rattle.spec_model.specs.ChangeSets.{TableChange, in_table, changed_from, Def
 use Rattle.spec_model.specs.Reach.{creates}
 use Rattle.spec_model.specs.Script.{by_effect}
 use Rattle.spec_model.specs.Undo.{versions_undone, undone}
-use Rattle.law_frame.proofs.Alls.{all_append}
 use Rattle.law_frame.proofs.Definitions.{changes_keep_defs}
 use Rattle.law_frame.proofs.ChangeSets.{carries_change_set_out}
 use Rattle.law_frame.proofs.UndoneTables.{UndoesAt, all_undone}
@@ -109,7 +109,7 @@ module _ (tx n : ℕ) where
   starts_undo id columns (r ∷ rs) T = (start_undoes id (stored_row columns r) T, starts_undo id columns rs T)
 
   table_undoes : (T : Tables) (m : Checked TableDef) → AllByRecursion (UndoesAt tx n T) (create_table_change_set m).changes
-  table_undoes T (Ok def) = all_append (UndoesAt tx n T) (in_table tables_id (table_start def)) (in_table columns_id (column_starts (column_rows def)))
+  table_undoes T (Ok def) = All-append (UndoesAt tx n T) (in_table tables_id (table_start def)) (in_table columns_id (column_starts (column_rows def)))
       (start_undoes tables_id (stored_row tables_columns (table_row def)) T, tt) (starts_undo columns_id columns_columns (column_rows def) T)
   table_undoes T (Err e) = tt
 

@@ -5,13 +5,13 @@ use Rattle.std.proofs.lemmas.Bool.Decides.{nat_tests}
 use Rattle.std.specs.Prelude.{not, nat_lt, position}
 use Rattle.std.specs.List.{AllByRecursion, prefix_len}
 use Rattle.std.specs.Str.{bytes_eq}
+use Rattle.std.proofs.ByRecursion.{All-weaker}
 use Rattle.sql_types.specs.declared.statement.Stmt.{Stmt}
 use Rattle.spec_model.specs.Catalog.{Defs, Tables}
 use Rattle.spec_model.specs.Effect.{Effect, effect}
 use Rattle.spec_model.specs.Reach.{creates}
 use Rattle.spec_model.specs.Script.{Saved, back_to, by_effect}
 use Rattle.spec_model.specs.Undo.{undone}
-use Rattle.law_frame.proofs.Alls.{all_weaker}
 use Rattle.law_frame.proofs.StepByStep.{with_copy, at_copy}
 use Rattle.law_frame.proofs.UndoneTables.{none_undone, statement_undone}
 use Rattle.law_journal.specs.Kept.{Kept}
@@ -74,7 +74,7 @@ module _ (T : Tables) (b : RunningScript) (h : InOrder (machine_of T (Some b))) 
       let first : undone b.tx 0 e.tables ≡ undone b.tx 0 T = statement_undone b.tx 0 b.seq T h.script.kept.sound (omega arith) stmt k in
       let copies : map (copy_at b.tx e.tables) b.saved ≡ map (copy_at b.tx T) b.saved =
       same_copies b.tx T e.tables b.saved
-      (all_weaker (λ s. s.seq ≤ b.seq) (λ s. undone b.tx s.seq e.tables ≡ undone b.tx s.seq T) (λ s le. statement_undone b.tx s.seq b.seq T h.script.kept.sound le stmt k) b.saved saved_above) in
+      (All-weaker (λ s. s.seq ≤ b.seq) (λ s. undone b.tx s.seq e.tables ≡ undone b.tx s.seq T) (λ s le. statement_undone b.tx s.seq b.seq T h.script.kept.sound le stmt k) b.saved saved_above) in
       comes_to e.tables (with_seq b e.seq b.defs) (moved (machine_of T (Some b)) (running_of T b) (by_effect (state_of T b) e).0)
       (rw (first, copies) refl) (record { steady = h.steady; script = change_in (running_of T b) h.script stmt k })
 
@@ -96,7 +96,7 @@ module _ (T : Tables) (b : RunningScript) (h : InOrder (machine_of T (Some b))) 
       let script : InScript (record { tx = b.tx; explicit = b.explicit; state = at_copy (copy_at b.tx T s) (map (copy_at b.tx T) ss) }) = return_in (running_of T b) h.script (map (copy_at b.tx T) front) (copy_at b.tx T s) (map (copy_at b.tx T) ss) parts in
       let above : AllByRecursion (λ r. r.seq ≤ s.seq) (s ∷ ss) = of_map (λ (c : Saved). c.seq ≤ s.seq) (copy_at b.tx T) (s ∷ ss) (none_above s.seq (map (copy_at b.tx T) (s ∷ ss)) script.numbers) in
       let copies : map (copy_at b.tx U) (s ∷ ss) ≡ map (copy_at b.tx T) (s ∷ ss) =
-      same_copies b.tx T U (s ∷ ss) (all_weaker (λ r. r.seq ≤ s.seq) (λ r. undone b.tx r.seq U ≡ undone b.tx r.seq T) (λ r le. undone_twice b.tx r.seq s.seq le T) (s ∷ ss) above) in
+      same_copies b.tx T U (s ∷ ss) (All-weaker (λ r. r.seq ≤ s.seq) (λ r. undone b.tx r.seq U ≡ undone b.tx r.seq T) (λ r le. undone_twice b.tx r.seq s.seq le T) (s ∷ ss) above) in
       let first : undone b.tx 0 U ≡ undone b.tx 0 T = undone_twice b.tx 0 s.seq (omega arith) T in
       comes_to U (with_saved b s.seq (s ∷ ss)) (moved (machine_of T (Some b)) (running_of T b) (record { tables = U; seq = s.seq; saved = map (copy_at b.tx T) (s ∷ ss) }))
       (same_machine U first copies)

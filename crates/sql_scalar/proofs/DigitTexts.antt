@@ -9,6 +9,7 @@ use Rattle.std.proofs.lemmas.List.{take-append-drop, take_at, length-replicate, 
 use Rattle.std.proofs.Math.Seq.{drop-append-add}
 use Rattle.std.proofs.lemmas.Bool.{and_parts, cases_lt, lt-ltb, le-ltb, le-leb}
 use Rattle.std.proofs.lemmas.Bool.Decides.{nat_tests}
+use Rattle.base_types.proofs.Naturals.{is_digit}
 use Rattle.sql_value.specs.Literal.{digits_after, sized, unsigned, is_point}
 use Rattle.sql_value.specs.Printed.{pointed, behind_point}
 
@@ -22,9 +23,6 @@ one_more n c cs b false h rest = rw h refl
 pub in_parts : (n : ℕ) (a b : List ℕ) → digits_after n (a ++ b) ≡ option_and_then (λ m. digits_after m b) (digits_after n a)
 in_parts n [] b = refl
 in_parts n (c ∷ cs) b = one_more n c cs b (is_ascii_digit c) refl (in_parts (n * 10 + (c - 48)) cs b)
-
-is_digit : (n : ℕ) → n < 10 → is_ascii_digit (48 + n) ≡ true
-is_digit n h = grind (arith, nat_tests)
 
 read_digit : (m n : ℕ) → n < 10 → digits_after m ((48 + n) ∷ []) ≡ Some (m * 10 + n)
 read_digit m n h = let value : 48 + n - 48 ≡ n = omega arith in rw (is_digit n h, value) refl

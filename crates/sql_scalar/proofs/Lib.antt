@@ -7,8 +7,8 @@ mod Doubling
 mod Hexes
 pub mod OrderLaws
 mod Ranges
-mod ReadValues
+pub mod ReadValues
 mod Reading
-mod RoundTrip
+pub mod RoundTrip
 mod Rounding
 mod Texts

@@ -3,21 +3,17 @@ use Rattle.std.proofs.Common.{◌≡◌, ◌∙◌, ℕ, ◌+◌, ◌-◌, ◌<�
 use Rattle.std.specs.Prelude.{ℤ, pos, ◌≢◌, ◌↔◌, ◌<ℤ◌}
 use Rattle.std.specs.declared.cmp.Ordering.{Ordering}
 use Rattle.std.specs.declared.cmp.Ordering.TheVariants.{Less, Equal, Greater}
-use Rattle.std.specs.Ordering.{nat_cmp, int_cmp, ordering_then, ordering_reverse, is_le, MatchOrdering}
+use Rattle.std.specs.Ordering.{nat_cmp, int_cmp, ordering_reverse, is_le, MatchOrdering}
 use Rattle.std.specs.Cmp.{IsTotalOrder, int_cmp_total, nat_cmp_total, int_cmp_is, ranked}
 use Rattle.std.specs.Cmp.Lexicographic.{slice_cmp, nat_list_cmp_total}
 use Rattle.std.proofs.lemmas.Int.{ints}
 use Rattle.std.proofs.lemmas.Map.Lookups.{exact_signed, exact_unsigned, exact_bytes}
+use Rattle.base_types.proofs.Orderings.{then_equal}
 use Rattle.sql_value.specs.declared.value.Value.{Value}
 use Rattle.sql_value.specs.declared.value.Value.TheVariants.{Null, Num, Text, Bytes, Date}
 use Rattle.sql_value.specs.Number.{raised}
 use Rattle.sql_value.specs.Order.{value_cmp, value_total, IsSameValue, HasScale}
 use Rattle.sql_value.proofs.Numbers.{raised_twice, cmp_raised}
-
-then_equal : (r : Ordering) → ordering_then r Equal ≡ r
-then_equal Less = refl
-then_equal Equal = refl
-then_equal Greater = refl
 
 -- each brought to the units of both
 same_units : (v w : ℤ) (s z : ℕ) → s ≤ 255 → z ≤ 255 → int_cmp (raised v (255 - s)) (raised w (255 - z)) ≡ int_cmp (raised v z) (raised w s)

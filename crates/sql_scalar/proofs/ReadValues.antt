@@ -19,7 +19,7 @@ digit_bound : (c : ℕ) (cs : List ℕ) (m n : ℕ) (t : Bool) → is_ascii_digi
 digit_bound c cs m n true h rest is = omega (arith, rest (rw h at is), one_digit m (c - 48) (length cs) (small_digit c h))
 digit_bound c cs m n false h rest is = absurd (search (rules, rw h at is))
 
-digits_bound : (ds : List ℕ) (m n : ℕ) → digits_after m ds ≡ Some n → n + 1 ≤ (m + 1) * 10 ^ length ds
+pub digits_bound : (ds : List ℕ) (m n : ℕ) → digits_after m ds ≡ Some n → n + 1 ≤ (m + 1) * 10 ^ length ds
 digits_bound [] m n is = let same : m ≡ n = search rules in omega (arith, same)
 digits_bound (c ∷ cs) m n is = digit_bound c cs m n (is_ascii_digit c) refl (digits_bound cs (m * 10 + (c - 48)) n) is
 

@@ -1,6 +1,6 @@
 -- What is written of a value is read as the value.
 use Rattle.std.proofs.Common.{◌≡◌, ◌∙◌, ◌<◌, ◌≤◌, ℕ, zero, suc, ◌+◌, ◌-◌, ◌%◌, ◌^◌, Bool, true, false, List, [], ◌∷◌, ◌++◌, length, take, drop, replicate, ap, sym, refl, subst, arith, rules, Some, None, inl, inr, append_assoc, append-nil, length-append}
-use Rattle.std.specs.Prelude.{ℤ, pos, negsuc, ◌==◌, ◌&&◌, ◌||◌, unsigned_abs, option_map, codes, ⊤}
+use Rattle.std.specs.Prelude.{ℤ, pos, negsuc, ◌==◌, ◌||◌, unsigned_abs, option_map, codes, ⊤}
 use Rattle.std.specs.List.{list_all}
 use Rattle.std.specs.Char.{is_ascii_digit, to_ascii_lowercase}
 use Rattle.std.specs.Fmt.{decimal}
@@ -9,6 +9,7 @@ use Rattle.std.proofs.lemmas.List.{take-append-drop}
 use Rattle.std.proofs.lemmas.Bool.{eqb-true, cases_eq, and_parts, cases_lt, lt-ltb, le-ltb, le-leb}
 use Rattle.std.proofs.lemmas.Bool.Decides.{nat_tests}
 use Rattle.hex.proofs.HexLemmas.{decode_of-encode_upper}
+use Rattle.base_types.proofs.Bools.{and_false}
 use Rattle.sql_value.specs.declared.value.Value.{Value}
 use Rattle.sql_value.specs.declared.value.Value.TheVariants.{Null, Num, Text, Bytes, Date}
 use Rattle.sql_value.specs.Literal.{literal_of, signed, unsigned, number, minus, unquoted, unquoted_from, digits_after}
@@ -76,10 +77,6 @@ Begins c = ((c == 39) ≡ false) × ((c == 78) ≡ false) × ((c == 110) ≡ fal
 
 begins : (c : ℕ) → is_size_byte c ≡ true → Begins c
 begins c h = (grind (arith, nat_tests), grind (arith, nat_tests), grind (arith, nat_tests), grind (arith, nat_tests), grind (arith, nat_tests), grind (arith, nat_tests), grind (arith, nat_tests), grind (arith, nat_tests))
-
-and_false : (t : Bool) → (t && false) ≡ false
-and_false true = refl
-and_false false = refl
 
 unsigned_none : unsigned [] ≡ None
 unfolding unsigned
@@ -172,7 +169,7 @@ read_with (Text t) first is none few = ap (option_map Text) (text_read t)
 read_with (Bytes b) first is none few = rw (decode_of-encode_upper b is) refl
 read_with (Date d) first is none few = absurd is
 
-not_38 : (s : ℕ) → (s ≡ 38 → ⊥) → (s == 38) ≡ false
+pub not_38 : (s : ℕ) → (s ≡ 38 → ⊥) → (s == 38) ≡ false
 not_38 s h = grind (arith, nat_tests)
 
 room : (v : Value) → IsLiteral v → Leaves (leading_zero v) v

@@ -32,7 +32,7 @@ number_bound c h =
     let is : IsCivilDate (pos c.year) c.month c.day = ((omega (arith, signed_arith), omega (arith, signed_arith, h)), h.2, h.3) in
     omega (arith, day_count_bounds (pos c.year) c.month c.day is, first_count)
 
-some_same : (m n : ℕ) → Some m ≡ Some n → m ≡ n
+pub some_same : (m n : ℕ) → Some m ≡ Some n → m ≡ n
 some_same m n e = search rules
 
 if_bound : (c : CivilDate) (n : ℕ) (t : Bool) → is_date c ≡ t → day_if c ≡ Some n → n ≤ last_day

@@ -48,7 +48,7 @@ whole_fits t.Int v w is = let p = only (in_bits 31 v) OutOfRange (Num 0 v) w is 
 whole_fits t.BigInt v w is = let p = only (in_bits 63 v) OutOfRange (Num 0 v) w is in subst (AreOf t.BigInt) p.1 p.0
 whole_fits _ v w is = absurd (search rules)
 
-self_equal : (n : ℕ) → (n == n) ≡ true
+pub self_equal : (n : ℕ) → (n == n) ≡ true
 self_equal n = grind (arith, nat_tests)
 
 number_fits : (ty : SqlType) (v : ℤ) (s : ℕ) (w : Value) → number_to ty v s ≡ Ok w → AreOf ty w

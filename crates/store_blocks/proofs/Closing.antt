@@ -3,6 +3,7 @@ use Rattle.std.proofs.Common.{◌≡◌, ◌≤◌, ◌<◌, ◌+◌, ◌-◌, �
 use Rattle.std.proofs.Math.Seq.{take-append_seam, drop-append_seam}
 use Rattle.std.proofs.lemmas.List.{length-append, length-drop, length-take}
 use Rattle.std.specs.List.{AllByRecursion}
+use Rattle.base_types.proofs.Lists.{take_nil as none_taken}
 use Rattle.sql_types.specs.declared.entry.BlockRecord.{BlockRecord}
 use Rattle.sql_types.specs.declared.entry.TxEntry.{TxEntry}
 use Rattle.format_entry.specs.Entry.{IsEntry, entry_bytes}
@@ -14,10 +15,6 @@ use Rattle.spec_ledger.specs.Ledger.{Ledger, closes}
 use Rattle.store_blocks.specs.LedgerChain.{IsLedgerChain}
 
 -- ---- parts of lists
-
-none_taken : {A : Type 0} (k : ℕ) → take {A = A} k [] ≡ []
-none_taken zero = refl
-none_taken (suc k) = refl
 
 none_left : {A : Type 0} (k : ℕ) → drop {A = A} k [] ≡ []
 none_left zero = refl

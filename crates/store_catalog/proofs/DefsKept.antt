@@ -4,12 +4,12 @@ use Rattle.std.proofs.lemmas.Bool.{eq-eqb, ne_eqb}
 use Rattle.std.proofs.lemmas.List.{set-set, set-get_or, take-append-le}
 use Rattle.std.specs.Prelude.{slice_set, ◌==◌}
 use Rattle.std.specs.List.{AllByRecursion}
+use Rattle.std.proofs.ByRecursion.{All-append}
 use Rattle.sql_types.specs.declared.table.TableDef.{TableDef}
 use Rattle.sql_types.specs.declared.table.Part.{Part}
 use Rattle.spec_model.specs.Agreement.{IdsFrom}
 use Rattle.spec_model.specs.Catalog.{Defs, NamedPart, part_named, or_in, find_part}
 use Rattle.spec_model.specs.SystemTables.{columns_def, tables_def}
-use Rattle.law_frame.proofs.Alls.{all_append}
 use Rattle.law_journal.proofs.Created.{Created}
 use Rattle.spec_protocol.specs.CatalogVisits.{replaced_def}
 use Rattle.store_catalog.specs.Definitions.{AreFormed}
@@ -24,7 +24,7 @@ pub formed_more : (defs : Defs) (def : TableDef) → AreFormed defs → Created 
 formed_more defs def h c = record {
   ids = ids_more 1 def defs h.ids (omega (arith, c.id));
   count = omega (arith, c.room, length-append defs (def ∷ []));
-  few = all_append (λ (d : TableDef). length d.columns ≤ 64) defs (def ∷ []) h.few (c.count, tt);
+  few = All-append (λ (d : TableDef). length d.columns ≤ 64) defs (def ∷ []) h.few (c.count, tt);
 }
 
 pub before_more : (defs : Defs) (def : TableDef) → take (length (defs ++ def ∷ []) - 1) (defs ++ def ∷ []) ≡ defs

@@ -1,5 +1,5 @@
 -- The rows of a new table and of a new index fit the tables of the system.
-use Rattle.std.proofs.Common.{◌≡◌, ◌≤◌, ◌<◌, ℕ, suc, ◌+◌, ◌*◌, refl, subst, ap, ◌∙◌, List, [], ◌∷◌, map, length, Ok, arith}
+use Rattle.std.proofs.Common.{◌≡◌, ◌≤◌, ◌<◌, ℕ, ◌+◌, ◌*◌, subst, ◌∙◌, List, [], ◌∷◌, map, length, Ok, arith}
 use Rattle.std.proofs.lemmas.List.{length-map}
 use Rattle.std.specs.List.{AllByRecursion}
 use Rattle.sql_value.specs.declared.column.ColumnDef.{ColumnDef}
@@ -12,6 +12,7 @@ use Rattle.spec_model.specs.Effect.{column_starts, index_starts, table_start}
 use Rattle.spec_model.specs.Lists.{numbered}
 use Rattle.spec_model.specs.Rows.{Row, stored_row}
 use Rattle.spec_model.specs.SystemTables.{column_row, column_rows, columns_columns, index_row, index_rows, tables_columns}
+use Rattle.law_frame.proofs.ChangeSets.{length-numbered}
 use Rattle.law_journal.specs.Fits.{Fits}
 use Rattle.law_journal.proofs.Created.{Created, Indexed, indexed}
 use Rattle.law_journal.proofs.SystemRows.{IsSmall, column_row_fits, index_row_fits, table_row_fits}
@@ -70,17 +71,13 @@ of_index defs c def index formed e =
 
 -- ---- how many there are
 
-length_numbered : {A : Type 0} (n : ℕ) (xs : List A) → length (numbered n xs) ≡ length xs
-length_numbered n [] = refl
-length_numbered n (x ∷ xs) = ap suc (length_numbered (n + 1) xs)
-
 pub length_columns : (def : TableDef) → length (column_starts (column_rows def)) ≡ length def.columns
 unfolding column_rows
-length_columns def = length-map (map (column_row def.id) (numbered 1 def.columns)) _ ∙ length-map (numbered 1 def.columns) (column_row def.id) ∙ length_numbered 1 def.columns
+length_columns def = length-map (map (column_row def.id) (numbered 1 def.columns)) _ ∙ length-map (numbered 1 def.columns) (column_row def.id) ∙ length-numbered 1 def.columns
 
 pub length_index : (def : TableDef) (index : IndexDef) → length (index_starts def index) ≡ length index.ordinals
 unfolding index_rows
 length_index def index =
     length-map (map (index_row def.id (length def.indexes + 1) index.name) (numbered 1 index.ordinals)) _
     ∙ length-map (numbered 1 index.ordinals) (index_row def.id (length def.indexes + 1) index.name)
-    ∙ length_numbered 1 index.ordinals
+    ∙ length-numbered 1 index.ordinals

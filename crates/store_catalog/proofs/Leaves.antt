@@ -7,9 +7,10 @@ use Rattle.sql_types.specs.declared.change.Change.TheVariants.{Starts, Ends}
 use Rattle.sql_types.specs.declared.event.Event.{Event}
 use Rattle.sql_types.specs.declared.version.TypedValue.{TypedValue}
 use Rattle.std.specs.Prelude.{Option}
+use Rattle.std.proofs.ByRecursion.{All-append, All-weaker}
 use Rattle.spec_model.specs.Rows.{EventId}
 use Rattle.law_journal.specs.Fits.{Fits}
-use Rattle.law_frame.proofs.Alls.{all_append, all_both, all_weaker}
+use Rattle.law_frame.proofs.Alls.{all_both}
 use Rattle.format_event.specs.Leaf.{HasLeaf}
 use Rattle.law_events.specs.Room.{FitsLeaf, FitsLeafFormat}
 use Rattle.law_events.proofs.Leaves.{leaf_of}
@@ -21,12 +22,12 @@ start_leaf table at (Ends start) h = absurd h
 
 fit_leaves : (table tx seq : ℕ) (cs : List Change) → AllByRecursion IsRow cs → AllByRecursion FitsLeaf (starts_of table tx seq cs)
 fit_leaves table tx seq [] h = tt
-fit_leaves table tx seq (c ∷ cs) h = all_append FitsLeaf (start_as table (tx, seq) c) (starts_of table tx (seq + 1) cs) (start_leaf table (tx, seq) c h.0) (fit_leaves table tx (seq + 1) cs h.1)
+fit_leaves table tx seq (c ∷ cs) h = All-append FitsLeaf (start_as table (tx, seq) c) (starts_of table tx (seq + 1) cs) (start_leaf table (tx, seq) c h.0) (fit_leaves table tx (seq + 1) cs h.1)
 
 -- those of which the numbers have room in a leaf
 pub have_leaves : (table tx seq : ℕ) (cs : List Change) (es : List Event) → AllByRecursion IsRow cs → es ≡ starts_of table tx seq cs → AllByRecursion FitsLeafFormat es → AllByRecursion HasLeaf es
 have_leaves table tx seq cs es h is room =
-    all_weaker (λ e. FitsLeaf e × FitsLeafFormat e) HasLeaf (λ e k. k.0 k.1) es
+    All-weaker (λ e. FitsLeaf e × FitsLeafFormat e) HasLeaf (λ e k. k.0 k.1) es
     (all_both FitsLeaf FitsLeafFormat es (subst (λ (l : List Event). AllByRecursion FitsLeaf l) (is_back is) (fit_leaves table tx seq cs h)) room)
   where
     is_back : {A : Type 0} {x y : A} → x ≡ y → y ≡ x

@@ -3,8 +3,9 @@ use Rattle.std.proofs.Common.{◌≡◌, ℕ, ◌+◌, ◌≤◌, Bool, true, fa
 use Rattle.std.proofs.lemmas.Bool.{eq-eqb, eqb-true, le-leb, leb-true}
 use Rattle.std.specs.Prelude.{◌==◌, ◌&&◌, nat_le, if◌then◌else◌, flat_map}
 use Rattle.std.specs.List.{AllByRecursion, filter}
-use Rattle.std.specs.Ordering.{nat_cmp, is_gt}
+use Rattle.std.specs.Ordering.{is_gt}
 use Rattle.std.specs.declared.cmp.Ordering.{Ordering}
+use Rattle.std.proofs.ByRecursion.{All-weaker}
 use Rattle.sql_types.specs.declared.event.Event.{Event}
 use Rattle.sql_types.specs.declared.version.Version.{Version}
 use Rattle.sql_types.specs.declared.version.TypedValue.{TypedValue}
@@ -13,13 +14,12 @@ use Rattle.spec_model.specs.Changes.{Change, Starts, Ends, changed, changed_all}
 use Rattle.spec_model.specs.Events.{start_event, end_event, end_events, version_events}
 use Rattle.spec_model.specs.Lists.{inserted, sorted}
 use Rattle.spec_model.specs.Runs.{IsBefore, EndsBefore, MadeBefore}
-use Rattle.law_frame.proofs.Alls.{all_weaker}
 use Rattle.law_frame.proofs.LeftRows.{all_flat_map}
 use Rattle.law_frame.proofs.Sounds.{before_changed}
 use Rattle.law_frame.proofs.UndoneVersions.{filter_inserted}
 use Rattle.spec_protocol.specs.Doing.{events_from}
 use Rattle.spec_protocol.specs.EventsIn.{events_in}
-use Rattle.spec_protocol.proofs.NewEvents.{come_last}
+use Rattle.spec_protocol.proofs.NewEvents.{come_last, by_seq}
 use Rattle.store_catalog.specs.Rows.{new_version, starts_of, IsRow}
 
 -- ---- lists of which a test takes one
@@ -73,9 +73,6 @@ module _ {A : Type 0} (test : A → Bool) where
   none_taken (x ∷ xs) h = rw h.0 (none_taken xs h.1)
 
 -- ---- one row
-
-abbrev by_seq : Event → Event → Ordering
-by_seq a b = nat_cmp a.seq b.seq
 
 module _ (tx id : ℕ) where
   -- an event of the transaction with this number or above
@@ -152,7 +149,7 @@ module _ (tx id : ℕ) where
       later_end (Some e) k = λ same. omega (arith, k same)
 
   pub all_later : (m : ℕ) (vs : List Version) → AllByRecursion (MadeBefore tx m) vs → AllByRecursion (MadeBefore tx (m + 1)) vs
-  all_later m vs h = all_weaker (MadeBefore tx m) (MadeBefore tx (m + 1)) (later m) vs h
+  all_later m vs h = All-weaker (MadeBefore tx m) (MadeBefore tx (m + 1)) (later m) vs h
 
   -- a row's event comes behind those that were there
   one_more : (m : ℕ) (values : List (Option TypedValue)) (vs : List Version) → AllByRecursion (MadeBefore tx m) vs

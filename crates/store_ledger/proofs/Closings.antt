@@ -12,11 +12,11 @@ use Rattle.std.specs.Prelude.{length, drop}
 use Rattle.sql_types.specs.declared.journal.JournalItem.TheVariants.{Close}
 use Rattle.spec_model.specs.Journals.{tx_count}
 use Rattle.spec_history.proofs.Trace.{count_append}
-use Rattle.store_ledger.proofs.Counted.{length_placed}
+use Rattle.spec_protocol.proofs.Counting.{placed_length}
 
 -- ---- the next block
 
-next_some : (c : LedgerCell) → 1 ≤ c.block_size → 1 ≤ pending_in c → 1 ≤ next_block c
+pub next_some : (c : LedgerCell) → 1 ≤ c.block_size → 1 ≤ pending_in c → 1 ≤ next_block c
 next_some c size some = (next_within c size some).0
 
 size_of : (size pending : ℕ) (b : Bool) → nat_le size pending ≡ b
@@ -33,7 +33,7 @@ module _ (h : List ℕ → List ℕ) where
 
   pub pending_after : (k : ℕ) (c : LedgerCell) → pending_in (closed_by h k c) ≡ pending_in c - k
   pending_after k c =
-      length_placed (length c.chain.blocks + 1) 0 (drop k c.chain.pending)
+      placed_length (length c.chain.blocks + 1) 0 (drop k c.chain.pending)
       ∙ length-drop k c.chain.pending
 
   -- ---- from the front

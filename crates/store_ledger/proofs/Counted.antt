@@ -1,22 +1,16 @@
 -- The counts of the cell, after a commit and after a closing.
-use Rattle.std.proofs.Common.{◌≡◌, ℕ, suc, ◌+◌, Bool, List, [], ◌∷◌, ◌++◌, length, take, drop, refl, ap, sym, ◌∙◌, arith}
-use Rattle.std.proofs.lemmas.List.{length-append, take-append-drop}
+use Rattle.std.proofs.Common.{◌≡◌, ℕ, ◌+◌, Bool, List, [], ◌∷◌, ◌++◌, length, take, drop, arith}
+use Rattle.std.proofs.lemmas.List.{length-append}
 use Rattle.sql_types.specs.declared.entry.TxEntry.{TxEntry}
 use Rattle.sql_types.specs.declared.journal.JournalItem.{JournalItem}
 use Rattle.sql_types.specs.declared.journal.JournalItem.TheVariants.{Tx, Close}
 use Rattle.spec_model.specs.Journals.{Line}
 use Rattle.spec_history.proofs.Trace.{count_append}
 use Rattle.spec_ledger.specs.Blocks.{no_hash, block_of, last_hash}
-use Rattle.spec_ledger.specs.Entries.{at_place, placed}
+use Rattle.spec_ledger.specs.Entries.{at_place}
 use Rattle.spec_ledger.specs.Ledger.{Ledger, commits, closes}
+use Rattle.spec_protocol.proofs.Counting.{parts_length as parts, placed_length as length_placed}
 use Rattle.store_ledger.specs.HashedCell.{IsCounted}
-
-pub length_placed : (block ordinal : ℕ) (es : List TxEntry) → length (placed block ordinal es) ≡ length es
-length_placed block ordinal [] = refl
-length_placed block ordinal (e ∷ es) = ap suc (length_placed block (ordinal + 1) es)
-
-parts : (k : ℕ) (es : List TxEntry) → length (take k es) + length (drop k es) ≡ length es
-parts k es = sym (length-append (take k es) (drop k es)) ∙ ap length (take-append-drop k es)
 
 module _ (size : ℕ) (items after : List JournalItem) (next : ℕ) (chain then : Ledger)
     (counted : IsCounted size items next chain) where

@@ -1,6 +1,7 @@
 -- The digest of the newest block, where nothing is pending.
 use Rattle.std.proofs.Common.{◌≡◌, ◌≤◌, ◌<◌, ℕ, zero, suc, ◌+◌, ◌-◌, List, [], ◌∷◌, ◌++◌, length, map, refl, ap, sym, subst, ◌∙◌, arith, Some, append-nil, get_or}
 use Rattle.std.specs.Prelude.{slice_get}
+use Rattle.std.proofs.lemmas.List.{nil_from_length}
 use Rattle.sql_types.specs.declared.entry.BlockRecord.{BlockRecord}
 use Rattle.sql_types.specs.declared.entry.TxEntry.{TxEntry}
 use Rattle.spec_model.specs.Journals.{tx_count}
@@ -8,10 +9,6 @@ use Rattle.spec_ledger.specs.Blocks.{no_hash, last_hash}
 use Rattle.spec_protocol.specs.Cells.{LedgerCell, pending_in}
 use Rattle.store_ledger.specs.HashedCell.{IsCounted}
 use Rattle.store_ledger.specs.Issues.{IsOfNewest}
-
-pub nothing : {A : Type 0} (xs : List A) → length xs ≡ 0 → xs ≡ []
-nothing [] none = refl
-nothing (x ∷ xs) none = absurd (omega (arith, none))
 
 time_at : (es : List TxEntry) (i : ℕ) (e : TxEntry) → i < length es → e ≡ get_or es i e
     → slice_get (map (λ x. x.time) es) i ≡ Some e.time
@@ -35,7 +32,7 @@ module _ (h : List ℕ → List ℕ) (c : LedgerCell) (all : List TxEntry) (last
 
   all_are_closed : all ≡ c.chain.closed
   all_are_closed =
-      entries ∙ ap (λ (l : List TxEntry). c.chain.closed ++ l) (nothing c.chain.pending none_pending)
+      entries ∙ ap (λ (l : List TxEntry). c.chain.closed ++ l) (nil_from_length c.chain.pending none_pending)
       ∙ append-nil c.chain.closed
 
   one_block : (n : ℕ) → length c.chain.blocks ≡ n → n ≡ n - 1 + 1

@@ -1,7 +1,7 @@
 -- The digest of the newest block of a legal cell is one of its journal.
 use Rattle.std.proofs.Common.{◌≡◌, ℕ, zero, suc, ◌+◌, Bool, true, false, List, [], ◌∷◌, ◌++◌, length, map, take, drop, refl, ap, sym, subst, ◌∙◌, arith, Some, append_assoc, append-nil}
 use Rattle.std.specs.Prelude.{nat_le, if◌then◌else◌}
-use Rattle.std.proofs.lemmas.List.{take-append-drop}
+use Rattle.std.proofs.lemmas.List.{take-append-drop, nil_from_length}
 use Rattle.sql_types.specs.declared.digest.Digest.{Digest}
 use Rattle.sql_types.specs.declared.entry.BlockRecord.{BlockRecord}
 use Rattle.sql_types.specs.declared.entry.TxEntry.{TxEntry}
@@ -28,7 +28,6 @@ use Rattle.spec_protocol.proofs.LedgerNumbers.{blocks_are}
 use Rattle.store_ledger.specs.declared.cell.IssuedDigest.{IssuedDigest}
 use Rattle.store_ledger.specs.Issues.{IsOfNewest, IsIssued}
 use Rattle.store_ledger.proofs.Closings.{one_closed, closings_are_legal}
-use Rattle.store_ledger.proofs.Newest.{nothing}
 
 -- ---- the hash of the last block
 
@@ -116,7 +115,7 @@ module _ (v : Server) (c : LedgerCell) (l : LedgerIsLegal v c) (none : pending_i
   times_are : times c.items ≡ times_in c.chain.closed
   times_are =
       sym (ap (λ (m : Ledger). times_in (all_of m)) l.chain ∙ times_of_entries v.hash v.reads c.items)
-      ∙ ap (λ (m : List TxEntry). times_in (c.chain.closed ++ m)) (nothing c.chain.pending none)
+      ∙ ap (λ (m : List TxEntry). times_in (c.chain.closed ++ m)) (nil_from_length c.chain.pending none)
       ∙ ap times_in (append-nil c.chain.closed)
 
   last_is : last_time c.items d.block ≡ Some d.last_commit

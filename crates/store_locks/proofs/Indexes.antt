@@ -1,5 +1,5 @@
 -- An index finds all holds on an item, and stays one when holds come and go.
-use Rattle.std.proofs.Common.{◌≡◌, inl, inr, ◌<◌, ◌≤◌, ◌+◌, ℕ, zero, suc, Bool, true, false, List, [], ◌∷◌, ◌++◌, map, take, length, get_or, Option, Some, None, refl, sym, ap, subst, ◌∙◌, arith, Ordering}
+use Rattle.std.proofs.Common.{◌≡◌, inl, inr, ◌<◌, ◌≤◌, ◌+◌, ℕ, zero, suc, true, false, List, [], ◌∷◌, ◌++◌, map, take, length, get_or, Option, Some, None, refl, sym, ap, subst, ◌∙◌, arith, Ordering}
 use Rattle.std.specs.List.{cons_option, filter_map, list_any, slice_get}
 use Rattle.std.specs.Prelude.{slice_range}
 use Rattle.std.specs.Ordering.{is_lt, is_gt}
@@ -9,6 +9,7 @@ use Rattle.std.proofs.lemmas.List.{take_more, map-append, get_or_push, get_or_ap
 use Rattle.std.proofs.lemmas.List.Elements.{filter_map-append}
 use Rattle.std.proofs.lemmas.Option.{slice_get_within, slice_get_read}
 use Rattle.std.proofs.lemmas.Map.Keys.{any_passes_from_place}
+use Rattle.base_types.proofs.Bools.{both_ways}
 use Rattle.sql_types.specs.declared.lock.Item.{Item}
 use Rattle.sql_types.specs.declared.lock.Item.TheVariants.{Whole}
 use Rattle.sql_types.specs.declared.lock.LockRequest.{LockRequest}
@@ -97,15 +98,10 @@ picked_barrier holds places tx request covers =
     let there = covered holds request places covers at.0 at.1 at.2 same in
     barring_from tx request (picked holds places) there.0 at.1 a there.1 at.3 at.4)
 
-any_both : (x y : Bool) → (x ≡ true → y ≡ true) → (y ≡ true → x ≡ true) → x ≡ y
-any_both true y there back = sym (there refl)
-any_both false true there back = absurd (false≢true (back refl))
-any_both false false there back = refl
-
 pub picked_answers : (holds : List Hold) (places : List ℕ) (tx : ℕ) (request : LockRequest) → Covers holds request.item places → list_any (answers tx request) (picked holds places) ≡ holds_request holds tx request
 unfolding holds_request
 picked_answers holds places tx request covers =
-    any_both (list_any (answers tx request) (picked holds places)) (list_any (answers tx request) holds)
+    both_ways (list_any (answers tx request) (picked holds places)) (list_any (answers tx request) holds)
     (λ some. let at = any_at (answers tx request) (picked holds places) some in let there = picked_from holds places at.0 at.1 at.2 in any_passes_from_place (answers tx request) holds there.0 at.1 there.1 at.3)
     (λ some.
     let at = any_at (answers tx request) holds some in

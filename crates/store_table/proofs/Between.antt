@@ -1,5 +1,5 @@
 -- What single versions say of the place of an event among those that rise.
-use Rattle.std.proofs.Common.{◌≡◌, ◌<◌, ◌≤◌, ◌+◌, ◌-◌, ℕ, zero, suc, sym, ap, ◌∙◌, true, false, List, [], ◌∷◌, length, get_or, take, drop, None, ◌⊎◌, inl, inr, arith}
+use Rattle.std.proofs.Common.{◌≡◌, ◌<◌, ◌≤◌, ◌+◌, ◌-◌, ℕ, zero, suc, sym, ap, ◌∙◌, true, false, List, [], ◌∷◌, length, get_or, take, drop, inl, inr, arith}
 use Rattle.std.specs.List.{AllByRecursion}
 use Rattle.std.specs.List.Sorted.{IsPartitionedBy, IsPartitionPoint}
 use Rattle.std.specs.Ordering.{is_lt, ordering_reverse}
@@ -11,21 +11,16 @@ use Rattle.sql_types.specs.declared.version.Version.{Version}
 use Rattle.spec_model.specs.Rows.{EventId, event_cmp, start_cmp}
 use Rattle.spec_model.specs.Runs.{Rising}
 use Rattle.law_frame.proofs.Sounds.{event_total}
+use Rattle.store_order.proofs.Edits.{below_or_not}
 use Rattle.sql_apply.specs.Places.{place, starts_before}
-use Rattle.sql_apply.proofs.Places.{partitioned}
-
-above_or_not : (m n : ℕ) → (m < n) ⊎ (n ≤ m)
-above_or_not m n = grind arith
-
-no_version : Version
-no_version = record { values = []; start = (0, 0); end = None }
+use Rattle.sql_apply.proofs.Places.{partitioned, no_version}
 
 pub place_within : (at : EventId) (vs : List Version) → place at vs ≤ length vs
 place_within at vs = prefix_len-le-length (starts_before at) vs
 
 -- one that doesn't start before the event stands at its place or behind
 pub fails_above : (at : EventId) (vs : List Version) (k : ℕ) (d : Version) → starts_before at (get_or vs k d) ≡ false → place at vs ≤ k
-fails_above at vs k d fails = elim (above_or_not k (place at vs)) [
+fails_above at vs k d fails = elim (below_or_not k (place at vs)) [
   | inl below ↦ absurd (true≢false (sym (prefix_len_passes (starts_before at) vs k d below) ∙ fails))
   | inr above ↦ above
 ]
@@ -33,7 +28,7 @@ fails_above at vs k d fails = elim (above_or_not k (place at vs)) [
 module _ (at : EventId) (vs : List Version) (rising : Rising vs) where
   -- one that does stands in front of it
   pub passes_below : (k : ℕ) (d : Version) → k < length vs → starts_before at (get_or vs k d) ≡ true → suc k ≤ place at vs
-  passes_below k d inside passes = elim (above_or_not k (place at vs)) [
+  passes_below k d inside passes = elim (below_or_not k (place at vs)) [
     | inl below ↦ omega (arith, below)
     | inr above ↦
         let first = partitioned at vs rising (place at vs) k d above inside passes in
@@ -68,7 +63,7 @@ module _ (at : EventId) (vs : List Version) (rising : Rising vs) where
     unfolding part
     part_place n from upto long point =
         let few : n ≤ high - low = omega (arith, long, part_long) in
-        let up : place at vs ≤ low + n = elim (above_or_not n (high - low)) [
+        let up : place at vs ≤ low + n = elim (below_or_not n (high - low)) [
           | inl inside ↦ fails_above at vs (low + n) no_version
               (ap (starts_before at) (sym (part_at n no_version inside)) ∙ point.1 n no_version (omega arith) (omega (arith, inside, part_long)))
           | inr whole ↦ omega (arith, whole, upto)
@@ -104,7 +99,7 @@ same_behind a b c same less =
 pub own_place : (at : EventId) (vs : List Version) → Rising vs → (k : ℕ) (d : Version) → k < length vs → event_cmp (get_or vs k d).start at ≡ Equal → k ≡ place at vs
 own_place at vs rising k d inside same =
     let up = fails_above at vs k d (ap is_lt same) in
-    elim (above_or_not (place at vs) k) [
+    elim (below_or_not (place at vs) k) [
       | inl less ↦
           let before = same_behind (get_or vs (place at vs) d).start (get_or vs k d).start at same (rises vs rising (place at vs) k d less inside) in
           absurd (true≢false (sym (ap is_lt before) ∙ prefix_len_stops (starts_before at) vs d (omega (arith, less, inside))))

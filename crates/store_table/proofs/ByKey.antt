@@ -4,6 +4,7 @@ use Rattle.std.specs.Prelude.{is_none, not, ◌&&◌, if◌then◌else◌}
 use Rattle.std.specs.List.{AllByRecursion, filter, filter_map, prefix_len}
 use Rattle.std.specs.Cmp.{on_total}
 use Rattle.std.specs.declared.cmp.Ordering.{Ordering}
+use Rattle.base_types.proofs.Lists.{filters_turned}
 use Rattle.sql_value.specs.declared.column.ColumnDef.{ColumnDef}
 use Rattle.sql_types.specs.declared.version.Version.{Version}
 use Rattle.spec_model.specs.Lists.{sorted}
@@ -16,16 +17,6 @@ use Rattle.store_table.specs.Orders.{order_cmp, in_order, starts_of, version_at}
 use Rattle.store_table.proofs.OneMore.{sorted_passing}
 use Rattle.store_table.proofs.InOrder.{find_own}
 use Rattle.store_table.proofs.Keeping.{row_is, rows_in_order}
-
-filters_turn : {A : Type 0} (p q : A → Bool) (xs : List A) → filter p (filter q xs) ≡ filter q (filter p xs)
-filters_turn p q [] = refl
-filters_turn p q (x ∷ xs) = by (p x) (q x) refl refl (filters_turn p q xs)
-  where
-    by : (a b : Bool) → p x ≡ a → q x ≡ b → filter p (filter q xs) ≡ filter q (filter p xs) → filter p (if b then x ∷ filter q xs else filter q xs) ≡ filter q (if a then x ∷ filter p xs else filter p xs)
-    by true true e f rest = rw (e, f) (ap (λ l. x ∷ l) rest)
-    by true false e f rest = rw f rest
-    by false true e f rest = rw e rest
-    by false false e f rest = rest
 
 module _ (columns : List ColumnDef) (vs : List Version) (r : Rising vs) where
   abbrev by_key : Version → Version → Ordering
@@ -41,7 +32,7 @@ module _ (columns : List ColumnDef) (vs : List Version) (r : Rising vs) where
   pub one_in_order : (k : Key) → live_by_key columns (Some k) vs ≡ filter (λ v. same_key (version_key columns v) k) (in_order [] (key_places columns) vs)
   unfolding live_by_key
   one_in_order k =
-      ap (sorted by_key) (filters_turn (λ v. is_none v.end) (λ v. same_key (version_key columns v) k) vs)
+      ap (sorted by_key) (filters_turned (λ v. is_none v.end) (λ v. same_key (version_key columns v) k) vs)
       ∙ sym (sorted_passing by_key (on_total (version_key columns) key_total) (λ v. same_key (version_key columns v) k) (live vs))
       ∙ ap (filter (λ v. same_key (version_key columns v) k)) sorted_by_key
 

@@ -1,10 +1,11 @@
 -- Changes are carried out, one after another.
-use Rattle.std.proofs.Common.{◌≡◌, ◌<◌, ◌≤◌, ◌+◌, ◌^◌, ℕ, refl, sym, ap, subst, ◌∙◌, List, [], ◌∷◌, length, arith}
+use Rattle.std.proofs.Common.{◌≡◌, ◌<◌, ◌≤◌, ◌+◌, ◌^◌, ℕ, refl, sym, ap, subst, ◌∙◌, List, ◌∷◌, length, arith}
 use Rattle.std.specs.List.{AllByRecursion}
 use Rattle.sql_types.specs.declared.version.Version.{Version}
 use Rattle.spec_model.specs.Changes.{Change, changed, changed_all}
 use Rattle.spec_model.specs.Runs.{MadeBefore}
 use Rattle.law_frame.proofs.Sounds.{before_changed}
+use Rattle.sql_apply.proofs.Steps.{none_left}
 use Rattle.store_table.specs.Stored.{Stored, ReservedTable, with_versions}
 use Rattle.store_table.proofs.Keeping.{follows_on}
 
@@ -47,11 +48,6 @@ module _ (tx seq number : ℕ) (changes left rest : List Change) (c : Change) (w
         few = h.few;
         room = omega (arith, longer, there, room);
       }
-
-none_left : (tx number : ℕ) (rest : List Change) (vs : List Version) → length rest ≡ 0 → vs ≡ changed_all tx number rest vs
-unfolding changed_all
-none_left tx number [] vs e = refl
-none_left tx number (c ∷ cs) vs e = absurd (omega (arith, e))
 
 pub carried : (tx seq number : ℕ) (changes rest : List Change) (was now : ReservedTable) → length rest ≡ 0 → Carrying tx seq number changes rest was now
     → now.stored ≡ with_versions was.stored.columns (changed_all tx seq changes was.stored.versions) was.stored

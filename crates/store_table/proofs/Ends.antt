@@ -22,7 +22,7 @@ use Rattle.store_table.proofs.Splits.{rising_left}
 pub ending_total : IsTotalOrder ending_cmp
 ending_total = then_total (on_total (λ (e : Ending). e.end) event_total) (on_total (λ (e : Ending). e.start) event_total)
 
-apart_then : (o t : Ordering) → t ≡ Less → ordering_then o t ≡ Equal → ⊥
+pub apart_then : (o t : Ordering) → t ≡ Less → ordering_then o t ≡ Equal → ⊥
 apart_then Less t less e = cc
 apart_then Equal t less e = cc
 apart_then Greater t less e = cc

@@ -7,9 +7,9 @@ use Rattle.std.proofs.lemmas.List.{append-nil, append_assoc}
 use Rattle.std.specs.Prelude.{◌==◌, nat_le, if◌then◌else◌, flat_map}
 use Rattle.std.specs.List.{AllByRecursion, filter, find}
 use Rattle.std.specs.Cmp.{IsTotalOrder, on_total, nat_cmp_total}
-use Rattle.std.specs.Ordering.{is_gt, nat_cmp}
-use Rattle.std.specs.declared.cmp.Ordering.{Ordering}
+use Rattle.std.specs.Ordering.{is_gt}
 use Rattle.std.specs.declared.cmp.Ordering.TheVariants.{Less}
+use Rattle.std.proofs.ByRecursion.{All-weaker}
 use Rattle.sql_value.specs.declared.column.ColumnDef.{ColumnDef}
 use Rattle.sql_types.specs.declared.event.Event.{Event}
 use Rattle.sql_types.specs.declared.version.Version.{Version}
@@ -19,19 +19,15 @@ use Rattle.spec_model.specs.Lists.{inserted, sorted}
 use Rattle.spec_model.specs.Rows.{EventId, event_cmp, same_event, start_cmp, started, with_end, ended}
 use Rattle.spec_model.specs.Runs.{IsBefore, EndsBefore, MadeBefore, Rising}
 use Rattle.spec_model.specs.Undo.{end_left}
-use Rattle.law_frame.proofs.Alls.{all_weaker}
 use Rattle.law_frame.proofs.SameKeys.{IsAlone, each_alone, not_less, one_start}
 use Rattle.law_frame.proofs.Sounds.{before_changed, rising_changed}
 use Rattle.law_frame.proofs.UndoneVersions.{Undoes}
 use Rattle.spec_protocol.specs.Doing.{events_from}
 use Rattle.spec_protocol.specs.EventsIn.{events_in}
-use Rattle.spec_protocol.proofs.NewEvents.{come_last}
+use Rattle.spec_protocol.proofs.NewEvents.{come_last, by_seq}
 use Rattle.store_table.specs.Made.{new_version, end_of, event_of, events_made, LiveFits, IsMade}
 use Rattle.store_table.specs.Orders.{version_at, started_by}
 use Rattle.store_table.proofs.OneMore.{sorted_passing}
-
-abbrev by_seq : Event → Event → Ordering
-by_seq a b = nat_cmp a.seq b.seq
 
 seq_total : IsTotalOrder by_seq
 seq_total = on_total (λ (e : Event). e.seq) nat_cmp_total
@@ -161,7 +157,7 @@ module _ (tx id n : ℕ) where
           → (if s then end_event id u at ∷ [] else []) ++ flat_map (its_end start) us ≡ end_event id v at ∷ []
       by true e f rest =
           let same : u ≡ v = cc in
-          let none = no_end start us (all_weaker (λ w. start_cmp u w ≡ Less) (λ w. same_event w.start start ≡ false) (λ w less. apart_later start u w (same_event w.start start) (one_start u.start start e) refl less) us r.0) in
+          let none = no_end start us (All-weaker (λ w. start_cmp u w ≡ Less) (λ w. same_event w.start start ≡ false) (λ w less. apart_later start u w (same_event w.start start) (one_start u.start start e) refl less) us r.0) in
           ap (λ (l : List Event). end_event id u at ∷ l) none ∙ ap (λ (x : Version). end_event id x at ∷ []) same
       by false e f rest = rest f
 
@@ -176,7 +172,7 @@ module _ (tx id n : ℕ) where
     undoes (Ends start) vs r made =
         let v = made.version in
         let p = find_all (IsAlone vs) (started_by start) vs v made.found (each_alone vs r) in
-        all_weaker (λ w. same_event w.start v.start ≡ true → w ≡ v) (λ w. same_event w.start start ≡ true → end_left tx n w.end ≡ None)
+        All-weaker (λ w. same_event w.start v.start ≡ true → w ≡ v) (λ w. same_event w.start start ≡ true → end_left tx n w.end ≡ None)
         (λ w alone same. let is : w ≡ v = alone (subst (λ (e : EventId). same_event w.start e ≡ true) (sym (one_start v.start start p.1)) same) in
         ap (λ (x : Version). end_left tx n x.end) is ∙ ap (end_left tx n) made.is_live) vs p.0
 

@@ -4,29 +4,26 @@ use Rattle.std.specs.Prelude.{is_none, if◌then◌else◌}
 use Rattle.std.specs.List.{AllByRecursion, insert, remove, prefix_len}
 use Rattle.std.specs.List.Sorted.{IsPartitionedBy, IsPartitionPoint}
 use Rattle.std.specs.Cmp.{IsTotalOrder, on_total, then_total, tied_itself}
-use Rattle.std.specs.Ordering.{is_gt, ordering_then}
+use Rattle.std.specs.Ordering.{is_gt}
 use Rattle.std.specs.declared.cmp.Ordering.{Ordering}
-use Rattle.std.specs.declared.cmp.Ordering.TheVariants.{Less, Equal, Greater}
+use Rattle.std.specs.declared.cmp.Ordering.TheVariants.{Less, Equal}
 use Rattle.std.proofs.lemmas.List.Elements.{filter-append}
 use Rattle.std.proofs.lemmas.List.{length-map}
 use Rattle.std.proofs.lemmas.List.Sums.{prefix_len-le-length}
+use Rattle.std.proofs.ByRecursion.{All-weaker}
 use Rattle.sql_types.specs.declared.version.TypedValue.{TypedValue}
 use Rattle.sql_types.specs.declared.version.Version.{Version}
 use Rattle.spec_model.specs.Lists.{inserted, sorted}
 use Rattle.spec_model.specs.Rows.{EventId, event_cmp, same_event, start_cmp, live}
 use Rattle.spec_model.specs.Runs.{Rising}
-use Rattle.law_frame.proofs.Alls.{all_weaker, all_both, all_filter, all_map, all_sorted}
+use Rattle.law_frame.proofs.Alls.{all_both, all_filter, all_map, all_sorted}
 use Rattle.law_frame.proofs.Sounds.{event_total, start_total}
 use Rattle.law_journal.proofs.Counts.{own_same, same_parts}
 use Rattle.sql_parts.proofs.Orders.{key_total}
 use Rattle.store_table.specs.Orders.{column_values, key_values, row_cmp, order_cmp, in_order, starts_of, version_at, passes, comes_before, place_of}
 use Rattle.store_table.proofs.OneMore.{inserted_at, removed_at, place_there, place_within, sorted_more, parted, parted_map, prefix_map, point_is, before_is_downward, IsDownward}
 use Rattle.store_table.proofs.Splits.{rising_left}
-
-less_apart : (o t : Ordering) → t ≡ Less → ordering_then o t ≡ Equal → ⊥
-less_apart Less t less e = cc
-less_apart Equal t less e = cc
-less_apart Greater t less e = cc
+use Rattle.store_table.proofs.Ends.{apart_then}
 
 -- ---- who is live
 
@@ -54,7 +51,7 @@ module _ (ordinals key : List ℕ) where
   apart_before : (xs : List Version) (v : Version) (ys : List Version) → Rising (xs ++ v ∷ ys) → AllByRecursion (λ w. cmp w v ≡ Equal → ⊥) (live xs)
   apart_before xs v ys r =
       all_filter (λ w. cmp w v ≡ Equal → ⊥) (λ w. is_none w.end) xs
-      (all_weaker (λ w. start_cmp w v ≡ Less) (λ w. cmp w v ≡ Equal → ⊥) (λ w less. less_apart (row_cmp ordinals key w v) (start_cmp w v) less) xs (rising_left xs v ys r))
+      (All-weaker (λ w. start_cmp w v ≡ Less) (λ w. cmp w v ≡ Equal → ⊥) (λ w less. apart_then (row_cmp ordinals key w v) (start_cmp w v) less) xs (rising_left xs v ys r))
 
   pub one_more : (xs : List Version) (v : Version) (ys : List Version) → Rising (xs ++ v ∷ ys) → v.end ≡ None
       → in_order ordinals key (xs ++ v ∷ ys) ≡ inserted cmp v (in_order ordinals key (xs ++ ys))
@@ -99,7 +96,7 @@ pub find_own : (vs : List Version) → Rising vs → AllByRecursion (λ w. versi
 find_own [] r = tt
 find_own (v ∷ vs) r = (
   rw (own_same v.start) refl,
-  all_weaker (λ w. (start_cmp v w ≡ Less) × (version_at w.start vs ≡ Some w)) (λ w. version_at w.start (v ∷ vs) ≡ Some w) (λ w h. find_later v w vs h) vs
+  All-weaker (λ w. (start_cmp v w ≡ Less) × (version_at w.start vs ≡ Some w)) (λ w. version_at w.start (v ∷ vs) ≡ Some w) (λ w h. find_later v w vs h) vs
       (all_both (λ w. start_cmp v w ≡ Less) (λ w. version_at w.start vs ≡ Some w) vs r.0 (find_own vs r.1)),
 )
 
@@ -111,7 +108,7 @@ module _ (ordinals key : List ℕ) (test : Version → Bool) (down : IsDownward 
   agree =
       all_sorted (λ w. passes test (version_at w.start vs) ≡ test w) (order_cmp ordinals key) (live vs)
       (all_filter (λ w. passes test (version_at w.start vs) ≡ test w) (λ w. is_none w.end) vs
-      (all_weaker (λ w. version_at w.start vs ≡ Some w) (λ w. passes test (version_at w.start vs) ≡ test w) (λ w found. ap (passes test) found) vs (find_own vs r)))
+      (All-weaker (λ w. version_at w.start vs ≡ Some w) (λ w. passes test (version_at w.start vs) ≡ test w) (λ w found. ap (passes test) found) vs (find_own vs r)))
 
   pub order_parted : IsPartitionedBy (λ e. passes test (version_at e vs)) order
   order_parted =
@@ -223,7 +220,7 @@ module _ (ordinals key : List ℕ) where
   not_itself a b less same = let equal : event_cmp a b ≡ Equal = ap (λ x. event_cmp x b) same ∙ tied_itself event_total b in cc
 
   others_apart : (xs : List Version) (v : Version) (ys : List Version) → Rising (xs ++ v ∷ ys) → AllByRecursion (λ w. w.start ≡ v.start → ⊥) (xs ++ ys)
-  others_apart [] v ys r = all_weaker (λ w. start_cmp v w ≡ Less) (λ w. w.start ≡ v.start → ⊥) (λ w less same. not_itself v.start w.start less (sym same)) ys r.0
+  others_apart [] v ys r = All-weaker (λ w. start_cmp v w ≡ Less) (λ w. w.start ≡ v.start → ⊥) (λ w less same. not_itself v.start w.start less (sym same)) ys r.0
   others_apart (x ∷ xs) v ys r = (not_itself x.start v.start (rising_left (x ∷ xs) v ys r).0, others_apart xs v ys r.1)
 
   -- what stands at the start of a version that stands between these is at its place

@@ -16,6 +16,7 @@ use Rattle.law_events.specs.Room.{FitsLeaf}
 use Rattle.law_events.proofs.Leaves.{leaf_of}
 use Rattle.format_event.specs.Leaf.{event_bytes}
 use Rattle.store_table.specs.Made.{event_of, events_made, new_version}
+use Rattle.store_tx.proofs.Noted.{one_up}
 
 fits_long : (columns : List ColumnDef) (values : List (Option TypedValue)) → Fits columns values → length values ≡ length columns
 fits_long [] [] h = refl
@@ -64,9 +65,6 @@ drop_next : {A : Type 0} (xs : List A) (k : ℕ) (x : A) → k < length xs → x
 drop_next [] k x inside is = absurd (omega (arith, inside))
 drop_next (y ∷ ys) zero x inside is = ap (λ (z : _). z ∷ ys) (sym is)
 drop_next (y ∷ ys) (suc k) x inside is = drop_next ys k x (omega (arith, inside)) is
-
-one_up : (k : ℕ) → suc k ≡ k + 1
-one_up k = omega arith
 
 none_left : {A : Type 0} (xs : List A) (k : ℕ) → length xs ≤ k → drop k xs ≡ []
 none_left [] zero over = refl

@@ -3,11 +3,11 @@ use Rattle.std.proofs.Common.{◌≡◌, ◌<◌, ℕ, suc, sym, ap, subst, ◌�
 use Rattle.std.specs.Prelude.{slice_set}
 use Rattle.std.specs.List.{remove, HoldsAt}
 use Rattle.std.proofs.lemmas.List.{get_or_default}
+use Rattle.std.proofs.ByRecursion.{All-weaker}
 use Rattle.sql_types.specs.declared.version.Version.{Version}
 use Rattle.spec_model.specs.Lists.{inserted, sorted}
 use Rattle.spec_model.specs.Rows.{EventId}
 use Rattle.spec_model.specs.Runs.{Rising}
-use Rattle.law_frame.proofs.Alls.{all_weaker}
 use Rattle.store_table.specs.declared.ending.Ending.{Ending}
 use Rattle.store_table.specs.declared.index.Index.{Index}
 use Rattle.store_table.specs.declared.orders.Orders.{Orders}
@@ -68,14 +68,14 @@ module _ (vs : List Version) (p : ℕ) (v : Version) (inside : p < length vs) (i
   indexes_past key end o ended h = record {
     no_ordinals = h.no_ordinals;
     in_key_order = index_past key end o.key_order ended h.in_key_order;
-    indexed = all_weaker (IsOf key vs) (IsOf key (remove vs p)) (λ i k. index_past key end i ended k) o.indexes.items h.indexed;
+    indexed = All-weaker (IsOf key vs) (IsOf key (remove vs p)) (λ i k. index_past key end i ended k) o.indexes.items h.indexed;
   }
 
   pub indexes_back : (key : List ℕ) (end : EventId) (o : Orders) → v.end ≡ Some end → IndexesAreOf key (remove vs p) o → IndexesAreOf key vs o
   indexes_back key end o ended h = record {
     no_ordinals = h.no_ordinals;
     in_key_order = index_back key end o.key_order ended h.in_key_order;
-    indexed = all_weaker (IsOf key (remove vs p)) (IsOf key vs) (λ i k. index_back key end i ended k) o.indexes.items h.indexed;
+    indexed = All-weaker (IsOf key (remove vs p)) (IsOf key vs) (λ i k. index_back key end i ended k) o.indexes.items h.indexed;
   }
 
   -- the ends have one more
@@ -98,7 +98,7 @@ module _ (vs : List Version) (p : ℕ) (v : Version) (inside : p < length vs) (i
     indexes_ended key end o ended h = record {
       no_ordinals = h.no_ordinals;
       in_key_order = index_ended key end o.key_order ended h.in_key_order;
-      indexed = all_weaker (IsOf key (remove vs p)) (IsOf key (slice_set vs p w)) (λ i k. index_ended key end i ended k) o.indexes.items h.indexed;
+      indexed = All-weaker (IsOf key (remove vs p)) (IsOf key (slice_set vs p w)) (λ i k. index_ended key end i ended k) o.indexes.items h.indexed;
     }
 
     pub ends_ended : (end : EventId) → w.end ≡ Some end → inserted ending_cmp (ending end v.start) (endings_in (remove vs p)) ≡ endings_in (slice_set vs p w)
@@ -117,7 +117,7 @@ module _ (vs : List Version) (p : ℕ) (v : Version) (inside : p < length vs) (i
     indexes_reopened key end o ended is_live values h = record {
       no_ordinals = h.no_ordinals;
       in_key_order = index_reopened key end o.key_order ended is_live values h.in_key_order;
-      indexed = all_weaker (IsWith key v vs) (IsOf key (slice_set vs p w)) (λ i k. index_reopened key end i ended is_live values k) o.indexes.items h.indexed;
+      indexed = All-weaker (IsWith key v vs) (IsOf key (slice_set vs p w)) (λ i k. index_reopened key end i ended is_live values k) o.indexes.items h.indexed;
     }
 
     pub ends_reopened : (ends : List Ending) → w.end ≡ None → ends ≡ endings_in (remove vs p) → ends ≡ endings_in (slice_set vs p w)
@@ -154,7 +154,7 @@ module _ (vs xs : List Version) (v : Version) (ys : List Version) (cut : vs ≡ 
     are_indexed = record {
       no_ordinals = h.no_ordinals;
       in_key_order = index_started key o.key_order h.in_key_order;
-      indexed = all_weaker (IsWith key v vs) (IsOf key (xs ++ v ∷ ys)) (λ i k. index_started key i k) o.indexes.items h.indexed;
+      indexed = All-weaker (IsWith key v vs) (IsOf key (xs ++ v ∷ ys)) (λ i k. index_started key i k) o.indexes.items h.indexed;
     };
     ends = ends ∙ ap endings_in cut ∙ sym (ap (sorted ending_cmp) (none_ended xs v ys is_live));
   }

@@ -30,7 +30,7 @@ all_elsewhere id table (l ∷ ls) trees ne = all_elsewhere id table ls (with_lea
 
 -- ---- all at once
 
-grown_here : (table : ℕ) (es : List Event) (trees : List Tree) → leaves_in table (grown table es trees) ≡ leaves_in table trees ++ map event_bytes es
+pub grown_here : (table : ℕ) (es : List Event) (trees : List Tree) → leaves_in table (grown table es trees) ≡ leaves_in table trees ++ map event_bytes es
 grown_here table es [] = rw (eq-eqb table table refl) refl
 grown_here table es (t ∷ ts) = by (t.table == table) refl (grown_here table es ts)
   where
@@ -40,7 +40,7 @@ grown_here table es (t ∷ ts) = by (t.table == table) refl (grown_here table es
     by true e rest = rw (eq-eqb table table refl) refl
     by false e rest = rw e rest
 
-grown_elsewhere : (id table : ℕ) (es : List Event) (trees : List Tree) → id ≢ table → leaves_in id (grown table es trees) ≡ leaves_in id trees
+pub grown_elsewhere : (id table : ℕ) (es : List Event) (trees : List Tree) → id ≢ table → leaves_in id (grown table es trees) ≡ leaves_in id trees
 grown_elsewhere id table es [] ne = rw (ne_eqb table id (λ e. ne (sym e))) refl
 grown_elsewhere id table es (t ∷ ts) ne = by (t.table == table) refl (grown_elsewhere id table es ts ne)
   where

@@ -4,7 +4,7 @@ use Rattle.std.specs.Prelude.{is_none, not, ◌&&◌, ◌||◌, if◌then◌else
 use Rattle.std.specs.List.{AllByRecursion, drop-map, filter, list_any, prefix_len, take-map}
 use Rattle.std.specs.List.Sorted.{IsPartitionedBy}
 use Rattle.std.specs.Cmp.{IsTotalOrder}
-use Rattle.std.specs.Ordering.{is_eq, is_gt, is_le, is_lt, ordering_reverse, ordering_then}
+use Rattle.std.specs.Ordering.{is_eq, is_gt, is_le, is_lt, ordering_reverse}
 use Rattle.std.specs.declared.cmp.Ordering.{Ordering}
 use Rattle.std.specs.declared.cmp.Ordering.TheVariants.{Less, Equal, Greater}
 use Rattle.std.proofs.lemmas.Bool.{true≢false}
@@ -26,15 +26,13 @@ use Rattle.store_table.specs.Stored.{rows_below}
 use Rattle.store_table.specs.Kept.{index_seen}
 use Rattle.store_table.specs.declared.index.Index.{Index}
 use Rattle.std.specs.Prelude.{slice_get}
+use Rattle.base_types.proofs.Options.{same_some}
+use Rattle.base_types.proofs.Naturals.{one_up}
+use Rattle.base_types.proofs.Orderings.{not_less_then}
 use Rattle.store_table.proofs.ByKey.{Front, between, one_in_order}
 use Rattle.law_frame.proofs.Alls.{all_filter, all_sorted}
 
 -- ---- what is below a key, and what is up to it
-
-not_less_then : (o t : Ordering) → is_lt (ordering_then o t) ≡ false → is_lt o ≡ false
-not_less_then Less t h = h
-not_less_then Equal t h = refl
-not_less_then Greater t h = refl
 
 module _ {K : Type 0} (cmp : K → K → Ordering) (total : IsTotalOrder cmp) where
   up_below : (x y z : K) (o p : Ordering) → cmp y x ≡ o → cmp y z ≡ p → is_lt o ≡ false → is_le p ≡ true → is_le (cmp x z) ≡ true
@@ -92,9 +90,6 @@ front p (x ∷ xs) h = (
 pub record FirstHas {A : Type 0} (has : A → Bool) (xs : List A) (n : ℕ) : Type 0 where
   pub hit : (d : A) → n < length xs → has (get_or xs n d) ≡ list_any has xs
   pub miss : length xs ≤ n → false ≡ list_any has xs
-
-one_up : (n : ℕ) → 1 + n ≡ suc n
-one_up n = omega arith
 
 module _ {A : Type 0} (below up has : A → Bool) (is : (x : A) → has x ≡ (not (below x) && up x)) where
   none_has : (xs : List A) → AllByRecursion (λ y. up y ≡ false) xs → list_any has xs ≡ false
@@ -284,12 +279,9 @@ same_live_by_key columns cols key vs which = elim which [
 
 -- ---- the rows of an index below that of a version
 
-row_gap : (o t : Ordering) → is_lt (ordering_then o t) ≡ false → is_lt o ≡ false
-row_gap o t h = not_less_then o t h
-
 pub row_below_down : (ordinals key : List ℕ) (v : Version) → IsDownward (order_cmp ordinals key) (order_total ordinals key) (has_row_below ordinals key v)
 row_below_down ordinals key v x y le passes_ =
-    before_is_downward (row_cmp ordinals key) (row_total ordinals key) v x y (row_gap (row_cmp ordinals key y x) (start_cmp y x) le) passes_
+    before_is_downward (row_cmp ordinals key) (row_total ordinals key) v x y (not_less_then (row_cmp ordinals key y x) (start_cmp y x) le) passes_
 
 none_counted : {A : Type 0} (p : A → Bool) (ys : List A) → AllByRecursion (λ y. p y ≡ false) ys → length (filter p ys) ≡ 0
 none_counted p [] h = refl
@@ -340,9 +332,6 @@ place_counts columns ordinals v vs =
     front_count test (in_order ordinals key vs) (front test (in_order ordinals key vs) (parted (order_cmp ordinals key) (order_total ordinals key) test (row_below_down ordinals key v) (live vs)))
     ∙ count_sorted (order_cmp ordinals key) test (live vs)
     ∙ sym (λ i. length (filter (λ w. is_lt (row_is columns ordinals w v i)) (live vs)))
-
-same_some : {A : Type 0} (x y : A) → (let o : Option A = Some x in let p : Option A = Some y in o ≡ p) → x ≡ y
-same_some x y e = cc
 
 seen_at : (xs : List Index) (n : ℕ) (x : Index) (i : stored.Index) → x ≡ get_or xs n x → slice_get (map index_seen xs) n ≡ Some i → index_seen x ≡ i
 seen_at [] n x i at is = absurd cc

@@ -9,21 +9,11 @@ use Rattle.std.specs.declared.cmp.Ordering.{Ordering}
 use Rattle.std.specs.declared.cmp.Ordering.TheVariants.{Less, Equal, Greater}
 use Rattle.std.proofs.lemmas.List.Sorted.{ranks_by, sorted_far}
 use Rattle.std.proofs.lemmas.List.Sums.{prefix_len_is}
+use Rattle.base_types.proofs.Orderings.{gt_reversed, less_is}
+use Rattle.base_types.proofs.Lists.{all_get_or}
+use Rattle.base_types.proofs.Naturals.{one_up}
 use Rattle.spec_model.specs.Lists.{inserted, sorted}
 use Rattle.sql_parts.proofs.Sorting.{is_sorted}
-
-gt_reversed : (o : Ordering) → is_gt (ordering_reverse o) ≡ is_lt o
-gt_reversed Less = refl
-gt_reversed Equal = refl
-gt_reversed Greater = refl
-
-less_is : (o : Ordering) → is_lt o ≡ true → o ≡ Less
-less_is Less is = refl
-less_is Equal is = absurd cc
-less_is Greater is = absurd cc
-
-one_up : (n : ℕ) → 1 + n ≡ suc n
-one_up n = omega arith
 
 module _ {A : Type 0} (cmp : A → A → Ordering) (total : IsTotalOrder cmp) where
   abbrev pub before : A → A → Bool
@@ -176,14 +166,9 @@ map_at f [] k d e inside = absurd (omega (arith, inside))
 map_at f (z ∷ zs) zero d e inside = refl
 map_at f (z ∷ zs) (suc k) d e inside = map_at f zs k d e (omega (arith, inside))
 
-at_all : {A : Type 0} (P : A → Type 0) (xs : List A) (k : ℕ) (d : A) → k < length xs → AllByRecursion P xs → P (get_or xs k d)
-at_all P [] k d inside h = absurd (omega (arith, inside))
-at_all P (x ∷ xs) zero d inside h = h.0
-at_all P (x ∷ xs) (suc k) d inside h = at_all P xs k d (omega (arith, inside)) h.1
-
 module _ {A B : Type 0} (f : A → B) (p : A → Bool) (q : B → Bool) where
   agree_at : (zs : List A) (k : ℕ) (d : B) (e : A) → AllByRecursion (λ z. q (f z) ≡ p z) zs → k < length zs → q (get_or (map f zs) k d) ≡ p (get_or zs k e)
-  agree_at zs k d e agree inside = ap q (map_at f zs k d e inside) ∙ at_all (λ z. q (f z) ≡ p z) zs k e inside agree
+  agree_at zs k d e agree inside = ap q (map_at f zs k d e inside) ∙ all_get_or (λ z. q (f z) ≡ p z) zs k e inside agree
 
   map_length : (zs : List A) → length (map f zs) ≡ length zs
   map_length [] = refl

@@ -3,9 +3,9 @@ use Rattle.std.proofs.Common.{◌≡◌, ◌<◌, ◌≤◌, ◌+◌, ℕ, zero,
 use Rattle.std.specs.Prelude.{is_none, if◌then◌else◌}
 use Rattle.std.specs.List.{HoldsAt, remove}
 use Rattle.std.proofs.lemmas.List.Edits.{length-remove}
+use Rattle.std.proofs.ByRecursion.{All-weaker}
 use Rattle.sql_types.specs.declared.version.Version.{Version}
 use Rattle.spec_model.specs.Rows.{EventId, live}
-use Rattle.law_frame.proofs.Alls.{all_weaker}
 use Rattle.store_table.specs.declared.ending.Ending.{Ending}
 use Rattle.store_table.specs.declared.orders.Orders.{Orders}
 use Rattle.store_table.specs.Ends.{ending_cmp, own_ending, endings_of, endings_in}
@@ -16,7 +16,7 @@ pub less_room : (n m : ℕ) (o : Orders) → n ≤ m → HaveCapacity m o → Ha
 less_room n m o le h = record {
   for_keys = omega (arith, le, h.for_keys);
   for_ends = omega (arith, le, h.for_ends);
-  for_indexes = all_weaker (HasCapacity m) (HasCapacity n) (λ i k. omega (arith, le, k)) o.indexes.items h.for_indexes;
+  for_indexes = All-weaker (HasCapacity m) (HasCapacity n) (λ i k. omega (arith, le, k)) o.indexes.items h.for_indexes;
 }
 
 live_by : (b : Bool) (v : Version) (vs : List Version) → length (live vs) ≤ length vs → length (if b then v ∷ live vs else live vs) ≤ suc (length vs)

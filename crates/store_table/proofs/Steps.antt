@@ -4,6 +4,8 @@ use Rattle.std.specs.Prelude.{slice_set, Vec}
 use Rattle.std.specs.List.{AllByRecursion, insert, remove}
 use Rattle.std.specs.declared.alloc.Global.{Global}
 use Rattle.std.proofs.lemmas.List.{map-append}
+use Rattle.std.proofs.ByRecursion.{All-append}
+use Rattle.base_types.proofs.Lists.{all_take}
 use Rattle.sql_value.specs.declared.column.ColumnDef.{ColumnDef}
 use Rattle.sql_types.specs.declared.version.TypedValue.{TypedValue}
 use Rattle.sql_types.specs.declared.version.Version.{Version}
@@ -11,7 +13,6 @@ use Rattle.spec_model.specs.Changes.{Starts}
 use Rattle.spec_model.specs.Lists.{inserted}
 use Rattle.spec_model.specs.Rows.{EventId, new_version, with_end}
 use Rattle.spec_model.specs.Runs.{MadeBefore, Rising}
-use Rattle.law_frame.proofs.Alls.{all_append}
 use Rattle.law_frame.proofs.Sounds.{rising_changed}
 use Rattle.sql_apply.specs.Places.{place}
 use Rattle.sql_apply.proofs.Places.{started_at}
@@ -19,6 +20,7 @@ use Rattle.store_table.specs.declared.index.Index.{Index}
 use Rattle.store_table.specs.declared.orders.Orders.{Orders}
 use Rattle.store_table.specs.Ends.{ending, ending_cmp, endings_in}
 use Rattle.spec_model.specs.Keys.{key_places, live_by_key}
+use Rattle.law_journal.proofs.Order.{new_version}
 use Rattle.store_table.specs.Kept.{HasCapacity, HaveCapacity, IsOf, IndexesAreWith, AreOf, IsKept, SeenAlike, index_seen, ordinals_of}
 use Rattle.store_table.specs.Stored as stored
 use Rattle.store_table.specs.Stored.{Stored, reordered, with_versions, with_index, without_last, without_last_index}
@@ -165,11 +167,6 @@ one_index columns key vs o is i ordinals more kept of same =
     ∙ ap (λ (x : stored.Index). map index_seen o.indexes.items ++ x ∷ [])
     (ap₂ (λ (ns : List ℕ) (l : List EventId). record { ordinals = ns; order = l }) same
     (of ∙ ap (λ (ns : List ℕ). starts_of (in_order ns key vs)) same ∙ sym (index_order_is columns key ordinals vs kept.key_is kept.rising))))
-
-all_take : {A : Type 0} (P : A → Type 0) (n : ℕ) (xs : List A) → AllByRecursion P xs → AllByRecursion P (take n xs)
-all_take P zero xs h = tt
-all_take P (suc n) [] h = tt
-all_take P (suc n) (x ∷ xs) h = (h.0, all_take P n xs h.1)
 
 last_left : (is : List Index) (n : ℕ) → n + 1 ≡ length is → map index_seen (take n is) ≡ without_last (map index_seen is)
 last_left [] n e = absurd (omega (arith, e))

@@ -1,12 +1,10 @@
 -- The starts in a stretch of an order.
 use Rattle.std.proofs.Common.{◌≡◌, ◌<◌, ◌≤◌, ◌+◌, ◌-◌, ℕ, zero, suc, refl, sym, ap, ◌∙◌, List, [], ◌∷◌, ◌++◌, length, get_or, take, drop, Option, Some, None, filter_map, append_assoc, arith}
 use Rattle.std.specs.Prelude.{slice_get}
+use Rattle.base_types.proofs.Options.{same_some}
 use Rattle.sql_types.specs.declared.version.Version.{Version}
 use Rattle.spec_model.specs.Rows.{EventId}
 use Rattle.store_table.specs.Orders.{version_at, version_of}
-
-same_some : {A : Type 0} (x y : A) → (let o : Option A = Some x in let p : Option A = Some y in o ≡ p) → x ≡ y
-same_some x y e = cc
 
 pub start_there : (order : List EventId) (n : ℕ) (e : EventId) → slice_get order n ≡ Some e → (n < length order) × (e ≡ get_or order n e)
 start_there [] n e is = absurd cc

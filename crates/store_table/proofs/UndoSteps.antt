@@ -7,15 +7,13 @@ use Rattle.sql_value.specs.declared.column.ColumnDef.{ColumnDef}
 use Rattle.sql_types.specs.declared.version.Version.{Version}
 use Rattle.spec_model.specs.Rows.{EventId}
 use Rattle.spec_model.specs.Undo.{versions_undone}
+use Rattle.sql_apply.proofs.Places.{no_version}
 use Rattle.store_table.specs.declared.ending.Ending.{Ending}
 use Rattle.store_table.specs.Ends.{own_ending, endings_of}
 use Rattle.store_table.specs.Stored.{Stored, ReservedTable, with_versions}
 use Rattle.store_table.specs.Undoing.{without_end, EndsUndone, StartsUndone, NoEndUndone, NoStartUndone}
 use Rattle.store_table.proofs.Keeping.{follows_on, with_twice}
 use Rattle.store_table.proofs.Undone.{undone_without, undone_gone, none_left}
-
-no_version : Version
-no_version = record { values = []; start = (0, 0); end = None }
 
 -- what is to be undone is the same
 pub record Undoing (tx seq : ℕ) (was now : ReservedTable) : Type 0 where

@@ -7,13 +7,14 @@ use Rattle.base_merkle.specs.declared.frontier.Frontier.{Frontier}
 use Rattle.base_merkle.specs.Holds.{Holds}
 use Rattle.spec_history.specs.Lists.{Each, In}
 use Rattle.spec_history.specs.Serial.{Differ}
+use Rattle.spec_history.proofs.Refused.{in_each as each_in}
 use Rattle.spec_protocol.specs.LedgerVisits.{is_empty}
 use Rattle.spec_protocol.specs.Seats.{Tree}
 use Rattle.store_tx.specs.Leaves.{leaves_in}
 use Rattle.store_tx.specs.Trees.{tree_of, tables_of, IsTree, TreesHold}
 use Rattle.store_tx.specs.declared.tree.TableTree.{TableTree}
 use Rattle.store_tx.proofs.RootsMade.{each_more, has_leaves, has_tree, holds_at, holds_each, leaves_are, one_more}
-use Rattle.store_tx.proofs.Sorting.{each_in, in_each}
+use Rattle.store_tx.proofs.Sorting.{in_each}
 
 abbrev are_quiet : List Tree → Bool
 are_quiet trees = list_all (λ t. is_empty t.leaves) trees

@@ -11,13 +11,14 @@ use Rattle.base_merkle.specs.TreeHash.{tree_hash}
 use Rattle.spec_model.specs.Lists.{inserted}
 use Rattle.spec_history.specs.Lists.{Each, In}
 use Rattle.spec_history.specs.Serial.{Differ}
+use Rattle.spec_history.proofs.Refused.{in_each as each_in}
 use Rattle.spec_protocol.specs.LedgerVisits.{is_empty, with_leaves}
 use Rattle.spec_protocol.specs.Seats.{Tree}
 use Rattle.store_tx.specs.Leaves.{leaves_in}
 use Rattle.store_tx.specs.Roots.{Root, by_root, with_root, roots_of_trees}
 use Rattle.store_tx.specs.Trees.{tree_of, tables_of, IsTree, TreesHold}
 use Rattle.store_tx.specs.declared.tree.TableTree.{TableTree}
-use Rattle.store_tx.proofs.Sorting.{each_in, in_each, RisesBy, each_inserted, in_inserted, insert_rises, each_sorted, in_sorted, each_kept, in_kept, sorting_rises, same_list}
+use Rattle.store_tx.proofs.Sorting.{in_each, RisesBy, each_inserted, in_inserted, insert_rises, each_sorted, in_sorted, each_kept, in_kept, sorting_rises, same_list}
 
 abbrev table_of_root : Root → ℕ
 table_of_root r = r.0

@@ -1,5 +1,5 @@
 -- Lists that are sorted by a number of each element.
-use Rattle.std.proofs.Common.{◌≡◌, ◌≢◌, ◌⊎◌, ℕ, suc, ◌+◌, ◌<◌, ◌≤◌, Bool, true, false, List, [], ◌∷◌, length, map, refl, sym, ap, ap₂, ◌∙◌, subst, inl, inr, ⊎_elim, arith}
+use Rattle.std.proofs.Common.{◌≡◌, ◌≢◌, ◌⊎◌, ℕ, suc, ◌+◌, ◌<◌, ◌≤◌, Bool, true, false, List, [], ◌∷◌, length, map, refl, sym, ap, ap₂, ◌∙◌, inl, inr, ⊎_elim, arith}
 use Rattle.std.proofs.lemmas.Bool.{cases_lt}
 use Rattle.std.proofs.lemmas.Bool.Decides.{nat_tests}
 use Rattle.std.specs.Prelude.{not, nat_le, nat_lt, cond, Option, Some, None, if◌then◌else◌}
@@ -13,10 +13,7 @@ use Rattle.std.specs.declared.cmp.Ordering.TheVariants.{Less, Equal, Greater}
 use Rattle.spec_model.specs.Lists.{inserted, sorted}
 use Rattle.spec_history.specs.Lists.{Each, In}
 use Rattle.spec_history.specs.Serial.{Differ}
-
-pub each_in : {A : Type 0} (P : A → Type 0) (xs : List A) (x : A) → Each P xs → In x xs → P x
-each_in P [] x e i = absurd i
-each_in P (y ∷ ys) x e i = ⊎_elim (λ (q : y ≡ x). subst P q e.0) (λ (k : In x ys). each_in P ys x e.1 k) i
+use Rattle.spec_history.proofs.Refused.{in_each as each_in}
 
 pub in_each : {A : Type 0} (P : A → Type 0) (xs : List A) → ((x : A) → In x xs → P x) → Each P xs
 in_each P [] f = tt

@@ -12,11 +12,11 @@ use Rattle.sql_value.specs.Order.{value_cmp}
 use Rattle.sql_value.specs.Stored.{is_in_range}
 use Rattle.sql_value.specs.Tree.{Tree, literal, binary, tree}
 use Rattle.sql_value.specs.Tree as t
+use Rattle.sql_value.proofs.Trees.{of_binary}
 use Rattle.sql_types.specs.declared.lock.Mode.TheVariants.{IX, S, X}
-use Rattle.sql_types.specs.declared.statement.RowStmt.TheVariants.{Delete}
 use Rattle.sql_types.specs.declared.statement.Stmt.TheVariants as s
 use Rattle.spec_model.specs.Catalog.{defs_of, find_part}
-use Rattle.spec_model.specs.Checks.{delete_check, row_statement_check, sets_check, update_check}
+use Rattle.spec_model.specs.Checks.{row_statement_check, sets_check, update_check}
 use Rattle.spec_model.specs.Create.{table_def}
 use Rattle.spec_model.specs.Keys.{key_places}
 use Rattle.spec_model.specs.Locks.{cell_requests, of_key, query_requests, row_requests, whole}
@@ -24,7 +24,7 @@ use Rattle.spec_model.specs.Query.{query_check, select_check}
 use Rattle.spec_model.specs.SystemTables.{first_tables}
 use Rattle.spec_model.specs.Where.{key_fixed}
 use Rattle.test_samples.specs.Samples.{all_of, create_t, def_t, delete_1, id_is, key_column, nested, num, one_or_other, update_5, update_t, v_is}
-use Rattle.test_samples.proofs.Worked.{is_literal_beside, is_plus_one, of_binary, select_5_fixes, update_checked}
+use Rattle.test_samples.proofs.Worked.{is_literal_beside, is_plus_one, select_5_fixes, update_checked, delete_checked}
 
 -- ---- keys
 
@@ -70,17 +70,13 @@ pub update_all : cell_requests (defs_of first_tables ++ def_t ∷ []) update_t �
 unfolding cell_requests row_requests key_fixed
 update_all = rw update_checked refl
 
-delete_1_checked : row_statement_check (defs_of first_tables ++ def_t ∷ []) (Delete (codes "t") (Some (id_is (num 1)))) ≡ Ok def_t
-unfolding first_tables value_cmp raised is_in_range conversion_of find_part key_places delete_check row_statement_check table_def
-delete_1_checked = rw (is_literal_beside (codes "id") (num 1)) refl
-
 delete_1_fixes : key_fixed def_t.columns (Some (id_is (num 1))) ≡ Some (num 1 ∷ [])
 unfolding key_fixed key_places conversion_of is_in_range value_cmp raised
 delete_1_fixes = rw (is_literal_beside (codes "id") (num 1)) refl
 
 pub delete_key : cell_requests (defs_of first_tables ++ def_t ∷ []) delete_1 ≡ Some (3, whole IX ∷ of_key X (num 1 ∷ []) ∷ [])
 unfolding cell_requests row_requests
-delete_key = rw (delete_1_checked, delete_1_fixes) refl
+delete_key = rw (delete_checked, delete_1_fixes) refl
 
 pub create_nowhere : cell_requests (defs_of first_tables ++ def_t ∷ []) create_t ≡ None
 unfolding cell_requests

@@ -1,5 +1,5 @@
 -- Worked examples: what is answered to small statements, closed by computation.
-use Rattle.std.proofs.Common.{◌≡◌, ◌∙◌, ℕ, List, refl, ap, sym, arith}
+use Rattle.std.proofs.Common.{◌≡◌, ◌∙◌, ℕ, List, refl, ap, arith}
 use Rattle.std.specs.Prelude.{pos, negsuc, true, false, [], ◌∷◌, ◌++◌, codes, Some, None, replicate, map, Ok, Err}
 use Rattle.std.specs.Fmt.{digits}
 use Rattle.std.specs.Str.{chars}
@@ -9,11 +9,8 @@ use Rattle.sql_value.specs.declared.column.TableKind.TheVariants.{AppendOnly, Up
 use Rattle.sql_value.specs.declared.sql_type.SqlType.TheVariants.{Bit, Int, BigInt, NVarChar, Decimal, Date}
 use Rattle.sql_value.specs.declared.expr.Op.{Op}
 use Rattle.sql_value.specs.declared.expr.Op.TheVariants as op
-use Rattle.sql_value.specs.declared.expr.Expr.{Expr}
-use Rattle.sql_value.specs.declared.expr.Expr.TheVariants.{Lit, Col, Bin, rolls-Lit, rolls-Col, rolls-Bin}
-use Rattle.sql_value.specs.declared.expr.Expr.TheOpen.{Expr-F}
-use Rattle.sql_value.specs.declared.expr.Expr.TheFolds.{fold-roll-Expr}
-use Rattle.sql_value.specs.Tree.{Tree, literal, binary, tree, tree_step}
+use Rattle.sql_value.specs.declared.expr.Expr.TheVariants.{Lit, Col, Bin}
+use Rattle.sql_value.specs.Tree.{Tree, literal, binary, tree}
 use Rattle.sql_value.specs.Tree as t
 use Rattle.spec_model.specs.Evaluation.{meaning_of}
 use Rattle.spec_model.specs.Numbers.{sum_of}
@@ -49,18 +46,10 @@ use Rattle.spec_model.specs.Replies.{reply_lines, reply_text}
 use Rattle.sql_types.specs.declared.event.Event.{Event}
 use Rattle.spec_model.specs.Events.{events_of, all_events}
 use Rattle.sql_value.specs.declared.refusal.ValueErr.TheVariants.{Mismatch}
+use Rattle.sql_value.proofs.Trees.{of_binary, of_column, of_literal}
 use Rattle.spec_model.specs.Script.{saves, rolls_back_to, text_step, script_from, script}
 use Rattle.test_samples.specs.Samples.{column, create, create_t, insert, all_of, num, answers, plus_one, typed, version, key_column, def_t, with_t, update_t, id_is, listed, create_x, select, four, answer, index_on, made_tables, delete_1, create_balance, def_balance, of_nick, balance, set_100, select_5, read_in, texts, in_script, by_themselves, each_alone, in_journal, journal, wide_def, wide_tables, wide, nines, wide_where, wide_select, doubled_is_positive, pairs}
 use Rattle.spec_model.specs.Journals.{IsLegal}
-
-pub of_literal : (v : Value) → tree (Lit v) ≡ literal v
-of_literal v = ap tree (sym (rolls-Lit v)) ∙ fold-roll-Expr Tree tree_step (Expr-F.Lit v)
-
-pub of_column : (name : List ℕ) → tree (Col name) ≡ t.column name
-of_column name = ap tree (sym (rolls-Col name)) ∙ fold-roll-Expr Tree tree_step (Expr-F.Col name)
-
-pub of_binary : (o : Op) (a b : Expr) → tree (Bin o a b) ≡ binary o (tree a) (tree b)
-of_binary o a b = ap tree (sym (rolls-Bin o a b)) ∙ fold-roll-Expr Tree tree_step (Expr-F.Bin o a b)
 
 pub system_columns : answers first_tables 1 (create_t ∷ insert (codes "t") ((num 1 ∷ num 10 ∷ []) ∷ []) ∷ all_of (codes "sys_ledger_columns") ∷ [])
     ≡ (codes "made" ∷ []) ∷ (codes "1 rows" ∷ [])
@@ -242,7 +231,7 @@ pub tables_33 : (effect (made_tables (3 ∷ 4 ∷ 5 ∷ 6 ∷ 7 ∷ 8 ∷ 9 ∷ 
 unfolding chars meaning_of sum_of digits value_cmp raised utf16_units pointed printed is_in_range conversion_of find_part started ended key_places key_of key_cmp same_key has_live_row live_by_key rows_of holds key_fixed changed_all kept kept_row arranged is_duplicate inserted_rows versions_matched row_after_set row_changes insert_check values_check listed_check update_check sets_check delete_check row_statement_check select_check query_check total agg_value selected first_tables table_row column_rows index_rows table_def create_check index_check query_rows effect reply_lines reply_text
 tables_33 = refl
 
-delete_checked : row_statement_check (defs_of first_tables ++ def_t ∷ []) (Delete (codes "t") (Some (id_is (num 1)))) ≡ Ok def_t
+pub delete_checked : row_statement_check (defs_of first_tables ++ def_t ∷ []) (Delete (codes "t") (Some (id_is (num 1)))) ≡ Ok def_t
 unfolding first_tables value_cmp is_in_range find_part delete_check row_statement_check
 delete_checked = rw (is_literal_beside (codes "id") (num 1)) refl
 

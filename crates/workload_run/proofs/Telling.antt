@@ -1,5 +1,5 @@
 -- A run of the workload in which each statement is committed tells what is expected.
-use Rattle.std.proofs.Common.{◌≡◌, ◌∙◌, ◌≤◌, ◌+◌, ◌++◌, ◌*◌, ◌/◌, ℕ, List, [], ◌∷◌, codes, length, map, Some, refl, sym, ap, subst, arith}
+use Rattle.std.proofs.Common.{◌≡◌, ◌∙◌, ◌≤◌, ◌+◌, ◌++◌, ◌*◌, ◌/◌, ℕ, List, [], ◌∷◌, codes, map, Some, sym, ap, subst}
 use Rattle.std.specs.List.{AllByRecursion}
 use Rattle.sql_types.specs.declared.digest.Digest.{Digest}
 use Rattle.sql_types.specs.declared.image.Image.{Image}
@@ -19,7 +19,7 @@ use Rattle.law_catalog_rows.specs.Written.{ReadsWritten}
 use Rattle.law_blocks.proofs.Counting.{entries_counted}
 use Rattle.format_image.specs.Image.{image_of}
 use Rattle.format_image.specs.ImageBytes.{image_bytes, IsImage}
-use Rattle.format_image.proofs.ImageExact.{only_of}
+use Rattle.format_image.proofs.ImageExact.{equal_images}
 use Rattle.law_image.specs.Room.{FitsImageFormat}
 use Rattle.spec_verify.specs.declared.place.Verdict.{Verdict}
 use Rattle.spec_verify.specs.declared.place.Verdict.TheVariants.{Yes}
@@ -37,10 +37,6 @@ use Rattle.workload_run.specs.Figures.{amount, history_count, row_count, user_ta
 use Rattle.workload_run.specs.Reports.{expected, image_in, inserted_in_all, TellsOf, TellsOfImage}
 use Rattle.workload_run.specs.declared.report.Report.{Report}
 use Rattle.workload_run.proofs.FourTables.{Are, counted_are}
-
-pub none_left : {A : Type 0} (xs : List A) → length xs ≡ 0 → xs ≡ []
-none_left [] e = refl
-none_left (x ∷ xs) e = absurd (omega (arith, e))
 
 -- the laws on the workload
 pub record Laws : Type 0 where
@@ -71,13 +67,6 @@ same_report a b t r h s v =
     ∙ ap (λ (n : ℕ). record { transactions = b.transactions; rows = b.rows; history = n; sum = a.sum; verdict = a.verdict }) h
     ∙ ap (λ (n : ℕ). record { transactions = b.transactions; rows = b.rows; history = b.history; sum = n; verdict = a.verdict }) s
     ∙ ap (λ (x : Verdict). record { transactions = b.transactions; rows = b.rows; history = b.history; sum = b.sum; verdict = x }) v
-
--- bytes are those of one image alone
-bytes_of_one : (i j : Image) → IsImage i → IsImage j → image_bytes i ≡ image_bytes j → i ≡ j
-bytes_of_one i j a b e = some_same i j (sym (only_of (image_bytes j) i a (sym e)) ∙ only_of (image_bytes j) j b refl)
-  where
-    some_same : (x y : Image) → Some x ≡ Some y → x ≡ y
-    some_same x y f = cc
 
 -- the workload's journal, with as many transactions as there are statements
 module _ (laws : Laws) (h : List ℕ → List ℕ) (rows : ℕ) (few : rows ≤ 1000000) (X : List Transcript) (J : Journal) (G : List Digest)
@@ -119,7 +108,7 @@ module _ (laws : Laws) (written : ReadsWritten statement_of)
   its_image = spelled h statement_of left.J.database left.J.items written came.legal.legal room
 
   same : image ≡ image_in h left.J
-  same = bytes_of_one image (image_in h left.J) is_image its_image (sym read ∙ is)
+  same = equal_images image (image_in h left.J) is_image its_image (sym read ∙ is)
 
   here : TellsOfImage h (image_in h left.J) (map held (left.G ++ more)) r
   here = subst (λ (i : Image). TellsOfImage h i (map held (left.G ++ more)) r) same tells

@@ -1,10 +1,10 @@
 use Rattle.std.proofs.Common.{List, ◌++◌, ap, sym, ◌∙◌, map, flat_map, arith}
 use Rattle.std.specs.List.{All}
+use Rattle.std.proofs.lemmas.List.Folds.{flat_map-map}
 use Rattle.spec_model.specs.Lists.{sorted}
 use Rattle.audit_verify.specs.declared.marks.Mark.{Mark}
 use Rattle.audit_verify.specs.Marks.{event_of, events_in, events_shown, leaf_cmp, HasValues}
 use Rattle.audit_verify.specs.ImageTable.{table_of}
-use Rattle.audit_verify.proofs.Walks.{over_map}
 use Rattle.audit_verify.proofs.marks.sorted_marks.Goals as goal
 
 pub returns : goal.returns
@@ -16,7 +16,7 @@ returns c =
           c.in_ok-sort_marks.ensures.events
           ∙ ap (sorted leaf_cmp) (c.in_ok-add_tables.ensures.events
           ∙ ap (λ (ms : List Mark). map event_of ms ++ flat_map events_shown tables) c.new-marks.ensures.items
-          ∙ sym (over_map events_in table_of tables));
+          ∙ sym (flat_map-map events_in table_of tables));
       rise = c.in_ok-sort_marks.ensures.rise;
       values = c.sort_marks.ensures.values (c.in_ok-add_tables.ensures.values none);
     }

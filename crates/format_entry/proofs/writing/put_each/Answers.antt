@@ -1,4 +1,4 @@
-use Rattle.format_entry.proofs.Growing.{first_part_stays}
+use Rattle.base_types.proofs.Lists.{first_part_stays}
 use Rattle.format_entry.proofs.writing.put_each.Goals as goal
 
 pub returns-in_err-put_root-clause-grows : goal.returns-in_err-put_root-clause-grows

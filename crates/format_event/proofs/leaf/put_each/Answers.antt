@@ -1,4 +1,4 @@
-use Rattle.format_event.proofs.Growing.{first_part_stays}
+use Rattle.base_types.proofs.Lists.{first_part_stays}
 use Rattle.format_event.proofs.leaf.put_each.Goals as goal
 
 pub returns-in_err-put_column-clause-grows : goal.returns-in_err-put_column-clause-grows

@@ -1,8 +1,8 @@
 use Rattle.std.proofs.Common.{◌++◌, ◌∙◌, List, [], ◌∷◌, append-nil, append_assoc, map, ap, sym, arith}
+use Rattle.std.proofs.lemmas.List.{nil_from_length}
 use Rattle.sql_types.specs.declared.digest.Digest.{Digest}
 use Rattle.sql_types.specs.declared.digest.HeldDigest.{HeldDigest}
 use Rattle.server_run.specs.Held.{held}
-use Rattle.workload_run.proofs.Telling.{none_left}
 use Rattle.workload_run.proofs.running.held_of.Goals as goal
 
 pub loop-digest-init : goal.loop-digest-init
@@ -21,7 +21,7 @@ loop-digest-preserved c =
 pub returns : goal.returns
 returns c =
     let rest = c.loop-digest.digest-iterator.rest in
-    let none = none_left rest.items (omega (arith, c.in-None.ensures.steps.0, rest.ok.0)) in
+    let none = nil_from_length rest.items (omega (arith, c.in-None.ensures.steps.0, rest.ok.0)) in
     sym (append-nil c.loop-digest.all.items)
     ∙ ap (λ (more : List Digest). c.loop-digest.all.items ++ map held more) (sym none)
     ∙ c.loop-digest.invariant

@@ -3,6 +3,7 @@ use Rattle.std.specs.List.{AllByRecursion, insert}
 use Rattle.sql_types.specs.declared.version.Version.{Version}
 use Rattle.spec_model.specs.Rows.{new_version, started}
 use Rattle.spec_model.specs.Runs.{MadeBefore}
+use Rattle.law_journal.proofs.Order.{new_version}
 use Rattle.sql_apply.specs.Places.{place}
 use Rattle.sql_apply.proofs.Places.{started_at}
 use Rattle.store_table.specs.Kept.{IsKept, IndexesAreWith}
