@@ -3,9 +3,9 @@ use Rattle.std.proofs.Common.{◌≡◌, ◌<◌, ◌^◌, ℕ, true, List, [], 
 use Rattle.std.specs.Prelude.{IfSome, flat_map}
 use Rattle.std.specs.List.{AllByRecursion}
 use Rattle.std.proofs.lemmas.List.{append-nil}
-use Rattle.base_types.specs.Ids.{is_tx_id}
-use Rattle.base_types.specs.Moment.{is_moment}
-use Rattle.base_types.specs.SessionName.{is_session_name}
+use Rattle.base_fields.specs.Ids.{is_tx_id}
+use Rattle.base_fields.specs.Moment.{is_moment}
+use Rattle.base_fields.specs.SessionName.{is_session_name}
 use Rattle.base_fields.specs.Fields.{u8_field, u32_field, u64_field, hash_field, short_field}
 use Rattle.base_fields.specs.Forms.{tx_id_at, moment_at, session_at}
 use Rattle.base_fields.specs.Readers.{u8_at, u32_at, u64_at, hash_at, after, both, listed, whole}

@@ -1,9 +1,9 @@
 -- A transaction entry: its one spelling in bytes.
 use Rattle.std.specs.Prelude.{◌≡◌, ◌<◌, ◌^◌, ◌&&◌, nat_lt, ℕ, Bool, true, false, List, [], ◌∷◌, ◌++◌, length, flat_map}
 use Rattle.std.specs.List.{AllByRecursion}
-use Rattle.base_types.specs.Ids.{is_tx_id}
-use Rattle.base_types.specs.Moment.{is_moment}
-use Rattle.base_types.specs.SessionName.{is_session_name}
+use Rattle.base_fields.specs.Ids.{is_tx_id}
+use Rattle.base_fields.specs.Moment.{is_moment}
+use Rattle.base_fields.specs.SessionName.{is_session_name}
 use Rattle.base_fields.specs.Fields.{u8_field, u32_field, u64_field, hash_field, short_field}
 use Rattle.sql_types.specs.declared.entry.TxEntry.{TxEntry}
 

@@ -8,9 +8,9 @@ ghost use Rattle.format_entry.specs.Entry.{IsEntry, entry_bytes, rise_above, tab
 ghost use Rattle.format_entry.specs.EntryReading.{entry_at, root_at, roots_at};
 
 use base_fields::{
-    ReadError, hash_at, literal, moment_at, session_at, tx_id_at, u8_at, u32_at, u64_at, whole,
+    Items, Memory, ReadError, TableId, hash_at, literal, moment_at, session_at, tx_id_at, u8_at,
+    u32_at, u64_at, whole,
 };
-use base_types::{Items, Memory, TableId};
 use sql_types::TxEntry;
 use std::alloc::Global;
 

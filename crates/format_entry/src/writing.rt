@@ -3,8 +3,7 @@
 ghost use Rattle.std.specs.Prelude.{◌≡◌, ◌<◌, ◌^◌, ◌++◌, take, length, flat_map, OnOk, OnErr};
 ghost use Rattle.format_entry.specs.Entry.{IsEntry, entry_bytes, head_bytes, roots_bytes, root_bytes};
 
-use base_fields::{put_hash, put_short, put_u8, put_u32, put_u64};
-use base_types::{Memory, TableId};
+use base_fields::{Memory, TableId, put_hash, put_short, put_u8, put_u32, put_u64};
 use sql_types::TxEntry;
 
 /// Appends the bytes of an entry that has a spelling: its transaction is from 1 to 2^63 - 1, its place in the

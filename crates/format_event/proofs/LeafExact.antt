@@ -9,8 +9,8 @@ use Rattle.base_fields.specs.Readers.{◌>>=◌, u8_at, u16_at, u32_at, u64_at, 
 use Rattle.base_fields.specs.Exact.{IsBytes, Exact, Taken}
 use Rattle.base_fields.proofs.Written.{IsBytes-back, bind_some, some_is, u8_exact, u16_exact, u32_exact, u64_exact, long_exact}
 use Rattle.base_fields.proofs.Parts.{after_exact, both_exact, depends_exact, decoded_exact, mapped_exact, where_exact, listed_exact, one_value, test_some, whole_sound, whole_complete}
-use Rattle.sql_value.specs.declared.sql_type.SqlType.{SqlType}
-use Rattle.sql_value.specs.Stored.{is_stored}
+use Rattle.sql_scalar.specs.SqlType.{SqlType}
+use Rattle.sql_scalar.specs.Stored.{is_stored}
 use Rattle.sql_types.specs.declared.event.Event.{Event}
 use Rattle.sql_types.specs.declared.event.EventField.{EventField}
 use Rattle.format_event.specs.Leaf.{type_bytes, value_bytes, column_bytes, columns_bytes, start_bytes, encoded, event_bytes, has_value, without_nulls, ordinals_rise, IsStart, IsField, IsEvent}

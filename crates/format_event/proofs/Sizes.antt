@@ -8,12 +8,12 @@ use Rattle.std.proofs.lemmas.Bool.{leb-true}
 use Rattle.std.proofs.lemmas.List.Sums.{sum_by-cons}
 use Rattle.std.proofs.lemmas.Str.{encodes-chars, length-encode, IsUtf8-from_is_utf8}
 use Rattle.base_fields.specs.Fields.{u32_field, signed_field, i128_field}
-use Rattle.sql_value.specs.declared.sql_type.SqlType.{SqlType}
-use Rattle.sql_value.specs.declared.sql_type.SqlType.TheVariants as types
-use Rattle.sql_value.specs.declared.value.Value.{Value}
-use Rattle.sql_value.specs.declared.value.Value.TheVariants as values
-use Rattle.sql_value.specs.Text.{utf16_units}
-use Rattle.sql_value.specs.Stored.{is_in_range, is_stored, text_stored, bytes_stored}
+use Rattle.sql_scalar.specs.SqlType.{SqlType}
+use Rattle.sql_scalar.specs.SqlType.TheVariants as types
+use Rattle.sql_scalar.specs.Value.{Value}
+use Rattle.sql_scalar.specs.Value.TheVariants as values
+use Rattle.sql_scalar.specs.Text.{utf16_units}
+use Rattle.sql_scalar.specs.Stored.{is_in_range, is_stored, text_stored, bytes_stored}
 use Rattle.format_event.specs.Leaf.{value_bytes, number_bytes, is_text}
 use Rattle.format_event.proofs.TypeLaws.{and_parts}
 

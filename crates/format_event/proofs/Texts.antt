@@ -2,7 +2,7 @@
 use Rattle.std.proofs.Common.{◌≡◌, List, ℕ, Bool, true, false, Some, None, refl}
 use Rattle.std.specs.Str.{IsUtf8, is_utf8}
 use Rattle.std.proofs.lemmas.Str.{IsUtf8-from_is_utf8, is_utf8-from_IsUtf8}
-use Rattle.sql_value.specs.declared.value.Value.TheVariants.{Text}
+use Rattle.sql_scalar.specs.Value.TheVariants.{Text}
 use Rattle.format_event.specs.LeafReading.{text_of}
 
 pub text_is : (bytes copy : List ℕ) → IsUtf8 bytes → copy ≡ bytes → text_of bytes ≡ Some (Text copy)

@@ -7,9 +7,9 @@ use Rattle.base_fields.specs.Readers.{both, u8_at, u16_at}
 use Rattle.base_fields.specs.Exact.{IsBytes, Exact}
 use Rattle.base_fields.proofs.Written.{u8_exact, u16_exact}
 use Rattle.base_fields.proofs.Parts.{both_exact, decoded_exact, test_some}
-use Rattle.sql_value.specs.declared.sql_type.SqlType.{SqlType}
-use Rattle.sql_value.specs.declared.sql_type.SqlType.TheVariants as types
-use Rattle.sql_value.specs.Stored.{is_in_range}
+use Rattle.sql_scalar.specs.SqlType.{SqlType}
+use Rattle.sql_scalar.specs.SqlType.TheVariants as types
+use Rattle.sql_scalar.specs.Stored.{is_in_range}
 use Rattle.format_event.specs.Leaf.{type_code, first_parameter, second_parameter, type_bytes}
 use Rattle.format_event.specs.LeafReading.{coded, is_coded, type_of, type_at}
 

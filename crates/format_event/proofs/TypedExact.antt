@@ -5,8 +5,8 @@ use Rattle.base_fields.specs.Readers.{long_at, both}
 use Rattle.base_fields.specs.Exact.{IsBytes, Exact}
 use Rattle.base_fields.proofs.Written.{IsBytes-back, bind_some, long_exact}
 use Rattle.base_fields.proofs.Parts.{both_exact, decoded_exact, test_some}
-use Rattle.sql_value.specs.declared.sql_type.SqlType.{SqlType}
-use Rattle.sql_value.specs.Stored.{is_stored}
+use Rattle.sql_scalar.specs.SqlType.{SqlType}
+use Rattle.sql_scalar.specs.Stored.{is_stored}
 use Rattle.sql_types.specs.declared.version.TypedValue.{TypedValue}
 use Rattle.format_event.specs.Leaf.{type_bytes, value_bytes}
 use Rattle.format_event.specs.LeafReading.{type_at, value_of}

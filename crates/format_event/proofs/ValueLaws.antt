@@ -11,12 +11,12 @@ use Rattle.base_fields.specs.Readers.{Reader, ◌>>=◌, signed, whole, u32_at, 
 use Rattle.base_fields.specs.Exact.{IsBytes, Exact}
 use Rattle.base_fields.proofs.Written.{bind_some, some_is, signed8_exact, signed32_exact, signed64_exact, i128_exact, u32_exact}
 use Rattle.base_fields.proofs.Parts.{test_some, whole_sound, whole_complete}
-use Rattle.sql_value.specs.declared.sql_type.SqlType.{SqlType}
-use Rattle.sql_value.specs.declared.sql_type.SqlType.TheVariants as types
-use Rattle.sql_value.specs.declared.value.Value.{Value}
-use Rattle.sql_value.specs.declared.value.Value.TheVariants as values
-use Rattle.sql_value.specs.Number.{has_digits}
-use Rattle.sql_value.specs.Stored.{is_in_range, is_stored, number_stored, text_stored, bytes_stored, day_stored, is_bit, in_bits}
+use Rattle.sql_scalar.specs.SqlType.{SqlType}
+use Rattle.sql_scalar.specs.SqlType.TheVariants as types
+use Rattle.sql_scalar.specs.Value.{Value}
+use Rattle.sql_scalar.specs.Value.TheVariants as values
+use Rattle.sql_scalar.specs.Number.{has_digits}
+use Rattle.sql_scalar.specs.Stored.{is_in_range, is_stored, number_stored, text_stored, bytes_stored, day_stored, is_bit, in_bits}
 use Rattle.format_event.specs.Leaf.{value_bytes, number_bytes, is_told, is_text, FitsNumber, FitsBytes}
 use Rattle.format_event.specs.LeafReading.{number_of, value_of}
 use Rattle.format_event.proofs.TypeLaws.{and_parts}

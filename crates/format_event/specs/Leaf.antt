@@ -4,12 +4,12 @@ use Rattle.std.specs.List.{AllByRecursion}
 use Rattle.std.specs.Str.{is_utf8}
 use Rattle.std.specs.Int.{w8, w32, w64}
 use Rattle.base_fields.specs.Fields.{u8_field, u16_field, u32_field, u64_field, signed_field, i128_field, long_field}
-use Rattle.sql_value.specs.declared.sql_type.SqlType.{SqlType}
-use Rattle.sql_value.specs.declared.sql_type.SqlType.TheVariants as types
-use Rattle.sql_value.specs.declared.value.Value.{Value}
-use Rattle.sql_value.specs.declared.value.Value.TheVariants as values
-use Rattle.sql_value.specs.Stored.{is_stored}
-pub use Rattle.sql_value.specs.TypeCodes.{type_code, first_parameter, second_parameter}
+use Rattle.sql_scalar.specs.SqlType.{SqlType}
+use Rattle.sql_scalar.specs.SqlType.TheVariants as types
+use Rattle.sql_scalar.specs.Value.{Value}
+use Rattle.sql_scalar.specs.Value.TheVariants as values
+use Rattle.sql_scalar.specs.Stored.{is_stored}
+pub use Rattle.sql_scalar.specs.TypeCodes.{type_code, first_parameter, second_parameter}
 use Rattle.sql_types.specs.declared.event.Event.{Event}
 use Rattle.sql_types.specs.declared.event.EventField.{EventField}
 

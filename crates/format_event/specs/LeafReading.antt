@@ -4,11 +4,11 @@ use Rattle.std.specs.Int.{w8, w32, w64}
 use Rattle.std.specs.Str.{is_utf8}
 use Rattle.base_fields.specs.Fields.{u8_field}
 use Rattle.base_fields.specs.Readers.{Reader, ◌>>=◌, signed, u8_at, u16_at, u32_at, u64_at, i128_at, long_at, after, both, depends, mapped, decoded, where_, listed, whole}
-use Rattle.sql_value.specs.declared.sql_type.SqlType.{SqlType}
-use Rattle.sql_value.specs.declared.sql_type.SqlType.TheVariants as types
-use Rattle.sql_value.specs.declared.value.Value.{Value}
-use Rattle.sql_value.specs.declared.value.Value.TheVariants as values
-use Rattle.sql_value.specs.Stored.{is_stored}
+use Rattle.sql_scalar.specs.SqlType.{SqlType}
+use Rattle.sql_scalar.specs.SqlType.TheVariants as types
+use Rattle.sql_scalar.specs.Value.{Value}
+use Rattle.sql_scalar.specs.Value.TheVariants as values
+use Rattle.sql_scalar.specs.Stored.{is_stored}
 use Rattle.sql_types.specs.declared.event.Event.{Event}
 use Rattle.sql_types.specs.declared.event.EventField.{EventField}
 use Rattle.format_event.specs.Leaf.{type_code, first_parameter, second_parameter, ordinals_rise}

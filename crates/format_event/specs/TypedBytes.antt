@@ -2,8 +2,8 @@
 use Rattle.std.specs.Prelude.{◌≡◌, true, List, ℕ, ◌++◌, Option, Some, None, if◌then◌else◌}
 use Rattle.base_fields.specs.Fields.{long_field}
 use Rattle.base_fields.specs.Readers.{Reader, ◌>>=◌, long_at, both, decoded}
-use Rattle.sql_value.specs.declared.sql_type.SqlType.{SqlType}
-use Rattle.sql_value.specs.Stored.{is_stored}
+use Rattle.sql_scalar.specs.SqlType.{SqlType}
+use Rattle.sql_scalar.specs.Stored.{is_stored}
 use Rattle.sql_types.specs.declared.version.TypedValue.{TypedValue}
 use Rattle.format_event.specs.Leaf.{type_bytes, value_bytes, is_told, is_text}
 use Rattle.format_event.specs.LeafReading.{type_at, value_of}

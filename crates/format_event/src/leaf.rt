@@ -5,10 +5,9 @@ ghost use Rattle.std.specs.Int.{w8, w32, w64};
 ghost use Rattle.base_fields.specs.Fields.{long_field, u32_field, signed_field, i128_field};
 ghost use Rattle.format_event.specs.Leaf.{event_bytes, encoded, head_bytes, without_nulls, columns_bytes, column_bytes, start_bytes, type_bytes, value_bytes, number_bytes, first_parameter, second_parameter, has_value, is_told, HasLeaf, IsField, IsFieldOrNull, FitsBytes, FitsNumber};
 
-use base_fields::{put_long, put_u8, put_u16, put_u32, put_u64};
-use base_types::Memory;
+use base_fields::{Memory, put_long, put_u8, put_u16, put_u32, put_u64};
+use sql_scalar::{SqlType, Value, type_parts};
 use sql_types::{Event, EventField};
-use sql_value::{SqlType, Value, type_parts};
 
 /// Appends the leaf of an event, which leaves its NULL columns out. The event is to have one: its values are
 /// those of their types, and their ordinals rise. The only error is want of memory, and then the bytes are as

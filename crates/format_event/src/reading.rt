@@ -8,11 +8,11 @@ ghost use Rattle.format_event.specs.Leaf.{IsEvent, event_bytes, ordinals_rise, s
 ghost use Rattle.format_event.specs.LeafReading.{event_at, start_at, columns_at, column_at, type_at, coded};
 
 use crate::value_reading::value_of;
-use base_fields::{ReadError, literal, long_at, u8_at, u16_at, u32_at, u64_at, whole};
-use base_types::{Items, Memory};
-use sql_scalar::fits;
+use base_fields::{
+    Items, Memory, ReadError, literal, long_at, u8_at, u16_at, u32_at, u64_at, whole,
+};
+use sql_scalar::{SqlType, fits, type_parts};
 use sql_types::{Event, EventField};
-use sql_value::{SqlType, type_parts};
 use std::alloc::Global;
 
 /// The event whose leaf these bytes are, all of them, or None exactly where they are no leaf.

@@ -7,9 +7,8 @@ ghost use Rattle.base_fields.specs.Reading.{ReadsAs};
 ghost use Rattle.format_event.specs.LeafReading.{value_of, number_of, text_of, day_of};
 ghost use Rattle.format_event.specs.Leaf.{second_parameter};
 
-use base_fields::{ReadError, i128_at, u32_at};
-use base_types::{Blob, Text};
-use sql_value::{SqlType, Value};
+use base_fields::{Blob, ReadError, Text, i128_at, u32_at};
+use sql_scalar::{SqlType, Value};
 use std::alloc::Global;
 
 /// The value of this type that the bytes spell. Whether it is in the range of the type is tested elsewhere.

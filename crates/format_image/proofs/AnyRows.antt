@@ -6,7 +6,7 @@ use Rattle.sql_types.specs.declared.image.Image.{Image}
 use Rattle.sql_types.specs.declared.image.TableRows.{TableRows}
 use Rattle.sql_types.specs.declared.table.IndexDef.{IndexDef}
 use Rattle.sql_types.specs.declared.table.TableDef.{TableDef}
-use Rattle.spec_model.specs.Catalog.{Defs}
+use Rattle.spec_ledger.specs.Catalog.{Defs}
 use Rattle.format_image.specs.Rows.{Stored}
 use Rattle.format_image.specs.RowBytes.{AreValues, base_rows_bytes, history_rows_bytes, index_rows_bytes, indexes_bytes, table_bytes, AreIndexes, IsTable, rows_bytes, AreRows}
 use Rattle.format_image.specs.ImageBytes.{tables_bytes, AreTables, IsImage}

@@ -9,20 +9,20 @@ use Rattle.base_fields.specs.Readers.{u8_at, u16_at, u32_at, short_at, both, lis
 use Rattle.base_fields.specs.Exact.{Exact}
 use Rattle.base_fields.proofs.Written.{u8_exact, u16_exact, u32_exact, short_exact}
 use Rattle.base_fields.proofs.Parts.{both_exact, mapped_exact, decoded_exact, where_exact, listed_exact}
-use Rattle.sql_value.specs.declared.column.ColumnDef.{ColumnDef}
-use Rattle.sql_value.specs.declared.column.TableKind.{TableKind}
-use Rattle.sql_value.specs.declared.column.TableKind.TheVariants.{AppendOnly, Updatable}
-use Rattle.sql_value.specs.declared.sql_type.SqlType.{SqlType}
-use Rattle.sql_value.specs.Stored.{is_in_range}
+use Rattle.sql_types.specs.ColumnDef.{ColumnDef}
+use Rattle.sql_types.specs.TableKind.{TableKind}
+use Rattle.sql_types.specs.TableKind.TheVariants.{AppendOnly, Updatable}
+use Rattle.sql_types.specs.SqlType.{SqlType}
+use Rattle.sql_types.specs.Stored.{is_in_range}
 use Rattle.sql_types.specs.declared.table.IndexDef.{IndexDef}
 use Rattle.sql_types.specs.declared.table.TableDef.{TableDef}
-use Rattle.format_event.specs.Leaf.{type_bytes}
-use Rattle.format_event.specs.LeafReading.{type_at}
-use Rattle.format_event.proofs.TypeLaws.{FitsFields, type_exact, in_range_fits}
-use Rattle.spec_model.specs.Catalog.{Defs}
-use Rattle.spec_model.specs.Create.{is_long}
-use Rattle.spec_model.specs.SystemTables.{kind_code}
-use Rattle.spec_model.specs.ProperNames.{is_name_byte, is_proper_name, has_its_history}
+use Rattle.spec_ledger.specs.Leaf.{type_bytes}
+use Rattle.spec_ledger.specs.LeafReading.{type_at}
+use Rattle.spec_ledger.proofs.TypeLaws.{FitsFields, type_exact, in_range_fits}
+use Rattle.spec_ledger.specs.Catalog.{Defs}
+use Rattle.spec_ledger.specs.Create.{is_long}
+use Rattle.spec_ledger.specs.SystemTables.{kind_code}
+use Rattle.spec_ledger.specs.ProperNames.{is_name_byte, is_proper_name, has_its_history}
 use Rattle.format_image.specs.DefBytes.{flag, column_bytes, IsColumn, index_bytes, IsIndex, columns_bytes, indexes_bytes, def_bytes, IsDef, defs_bytes}
 use Rattle.format_image.specs.ImageReading.{flag_of, flag_at, name_at, column_type_at, column_of, column_at, index_of, index_at, kind_of, kind_at, TableHeading, is_named, named_at, def_of, def_at, ids_are_users, defs_at}
 

@@ -8,10 +8,10 @@ use Rattle.std.proofs.lemmas.Bool.Decides.{nat_tests}
 use Rattle.std.proofs.lemmas.List.{nil_from_length}
 use Rattle.std.proofs.lemmas.Str.{IsUtf8-from_ascii, IsUtf8-nil}
 use Rattle.std.proofs.lemmas.Str.Ascii.{IsAscii-nil, IsAscii-cons}
-use Rattle.sql_value.specs.declared.column.TableKind.{TableKind}
-use Rattle.sql_value.specs.declared.column.TableKind.TheVariants.{AppendOnly, Updatable}
-use Rattle.spec_model.specs.Create.{is_long}
-use Rattle.spec_model.specs.ProperNames.{is_name_byte, is_proper_name, has_its_history}
+use Rattle.sql_types.specs.TableKind.{TableKind}
+use Rattle.sql_types.specs.TableKind.TheVariants.{AppendOnly, Updatable}
+use Rattle.spec_ledger.specs.Create.{is_long}
+use Rattle.spec_ledger.specs.ProperNames.{is_name_byte, is_proper_name, has_its_history}
 
 ascii : (bytes : List ℕ) → list_all is_name_byte bytes ≡ true → IsAscii bytes
 ascii [] e = IsAscii-nil

@@ -8,14 +8,14 @@ use Rattle.base_fields.specs.Readers.{◌>>=◌, u8_at, u16_at, u64_at, both, ma
 use Rattle.base_fields.specs.Exact.{IsBytes, Exact, Taken}
 use Rattle.base_fields.proofs.Written.{bind_some, some_is, u8_exact, u16_exact, u64_exact}
 use Rattle.base_fields.proofs.Parts.{both_exact, mapped_exact, decoded_exact, where_exact, listed_exact, each_exact, encode_each, FitEach}
-use Rattle.format_event.specs.TypedBytes.{typed_bytes, typed_at}
-use Rattle.format_event.proofs.TypedExact.{typed_exact}
+use Rattle.spec_ledger.specs.TypedBytes.{typed_bytes, typed_at}
+use Rattle.spec_ledger.proofs.TypedExact.{typed_exact}
 use Rattle.sql_types.specs.declared.image.TableRows.{TableRows}
 use Rattle.sql_types.specs.declared.table.IndexDef.{IndexDef}
 use Rattle.sql_types.specs.declared.table.TableDef.{TableDef}
 use Rattle.sql_types.specs.declared.version.TypedValue.{TypedValue}
 use Rattle.sql_types.specs.declared.version.Version.{Version}
-use Rattle.spec_model.specs.Rows.{EventId}
+use Rattle.spec_ledger.specs.Rows.{EventId}
 use Rattle.format_image.specs.Rows.{Stored}
 use Rattle.format_image.specs.RowBytes.{value_bytes, values_bytes, IsValue, AreValues, pair_bytes, IsPair, base_bytes, IsBaseRow, end_bytes, history_bytes, IsEnd, IsHistoryRow, starts_rise, base_rows_bytes, history_rows_bytes, index_rows_bytes, indexes_bytes, table_bytes, AreBaseRows, AreHistoryRows, AreIndexRows, AreIndexes, IsTable}
 use Rattle.format_image.specs.ImageReading.{some_typed, value_behind, value_at, values_at, pair_at, base_of, base_at, history_of, history_at, base_rows_at, history_rows_at, index_rows_at, rows_of, rows_at, table_at}

@@ -2,14 +2,14 @@
 use Rattle.std.specs.Prelude.{ℕ, ◌≡◌, ◌<◌, ◌^◌, ◌&&◌, nat_lt, Bool, true, List, [], ◌∷◌, ◌++◌, length, flat_map, if◌then◌else◌}
 use Rattle.std.specs.List.{AllByRecursion}
 use Rattle.base_fields.specs.Fields.{u8_field, u16_field, u32_field, short_field}
-use Rattle.sql_value.specs.Stored.{is_in_range}
-use Rattle.sql_value.specs.declared.column.ColumnDef.{ColumnDef}
+use Rattle.sql_types.specs.Stored.{is_in_range}
+use Rattle.sql_types.specs.ColumnDef.{ColumnDef}
 use Rattle.sql_types.specs.declared.table.IndexDef.{IndexDef}
 use Rattle.sql_types.specs.declared.table.TableDef.{TableDef}
-use Rattle.format_event.specs.Leaf.{type_bytes}
-use Rattle.spec_model.specs.Catalog.{Defs}
-use Rattle.spec_model.specs.SystemTables.{kind_code}
-use Rattle.spec_model.specs.ProperNames.{is_proper_name, has_its_history}
+use Rattle.spec_ledger.specs.Leaf.{type_bytes}
+use Rattle.spec_ledger.specs.Catalog.{Defs}
+use Rattle.spec_ledger.specs.SystemTables.{kind_code}
+use Rattle.spec_ledger.specs.ProperNames.{is_proper_name, has_its_history}
 
 abbrev pub flag : Bool → ℕ
 flag b = if b then 1 else 0

@@ -2,10 +2,10 @@
 use Rattle.std.specs.Prelude.{ℕ, List, map, drop}
 use Rattle.sql_types.specs.declared.image.Image.{Image}
 use Rattle.sql_types.specs.declared.journal.JournalItem.{JournalItem}
-use Rattle.spec_model.specs.Catalog.{Tables, Defs, defs_of}
-use Rattle.spec_model.specs.Create.{system_tables}
-use Rattle.spec_model.specs.Journals.{cut, serial}
-use Rattle.spec_model.specs.Script.{Reading}
+use Rattle.spec_ledger.specs.Catalog.{Tables, Defs, defs_of}
+use Rattle.spec_ledger.specs.Create.{system_tables}
+use Rattle.spec_ledger.specs.Journals.{cut, serial}
+use Rattle.spec_ledger.specs.Script.{Reading}
 use Rattle.spec_ledger.specs.Ledger.{blocks_of, entries_of}
 use Rattle.format_image.specs.Rows.{table_rows}
 

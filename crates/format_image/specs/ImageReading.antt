@@ -3,16 +3,16 @@ use Rattle.std.specs.Prelude.{ℕ, ◌+◌, ◌==◌, Bool, true, false, List, �
 use Rattle.base_fields.specs.Fields.{u8_field}
 use Rattle.base_fields.specs.Forms.{tx_id_at, moment_at, session_at, database_at}
 use Rattle.base_fields.specs.Readers.{Reader, ◌>>=◌, u8_at, u16_at, u32_at, u64_at, short_at, after, both, depends, mapped, decoded, where_, listed, times, for_each}
-use Rattle.sql_value.specs.Stored.{is_in_range}
-use Rattle.sql_value.specs.declared.column.ColumnDef.{ColumnDef}
-use Rattle.sql_value.specs.declared.column.TableKind.{TableKind}
-use Rattle.sql_value.specs.declared.column.TableKind.TheVariants.{AppendOnly, Updatable}
-use Rattle.sql_value.specs.declared.sql_type.SqlType.{SqlType}
-use Rattle.format_entry.specs.Entry.{TableRoot}
-use Rattle.format_entry.specs.EntryReading.{roots_at}
-use Rattle.format_entry.specs.Record.{record_at}
-use Rattle.format_event.specs.LeafReading.{type_at}
-use Rattle.format_event.specs.TypedBytes.{typed_at}
+use Rattle.sql_types.specs.Stored.{is_in_range}
+use Rattle.sql_types.specs.ColumnDef.{ColumnDef}
+use Rattle.sql_types.specs.TableKind.{TableKind}
+use Rattle.sql_types.specs.TableKind.TheVariants.{AppendOnly, Updatable}
+use Rattle.sql_types.specs.SqlType.{SqlType}
+use Rattle.spec_ledger.specs.Entry.{TableRoot}
+use Rattle.spec_ledger.specs.EntryReading.{roots_at}
+use Rattle.spec_ledger.specs.Record.{record_at}
+use Rattle.spec_ledger.specs.LeafReading.{type_at}
+use Rattle.spec_ledger.specs.TypedBytes.{typed_at}
 use Rattle.sql_types.specs.declared.entry.BlockRecord.{BlockRecord}
 use Rattle.sql_types.specs.declared.entry.TxEntry.{TxEntry}
 use Rattle.sql_types.specs.declared.image.Image.{Image}
@@ -21,10 +21,10 @@ use Rattle.sql_types.specs.declared.table.IndexDef.{IndexDef}
 use Rattle.sql_types.specs.declared.table.TableDef.{TableDef}
 use Rattle.sql_types.specs.declared.version.TypedValue.{TypedValue}
 use Rattle.sql_types.specs.declared.version.Version.{Version}
-use Rattle.spec_model.specs.Catalog.{Defs}
-use Rattle.spec_model.specs.Rows.{EventId}
-use Rattle.spec_model.specs.SystemTables.{tables_def, columns_def}
-use Rattle.spec_model.specs.ProperNames.{is_proper_name, has_its_history}
+use Rattle.spec_ledger.specs.Catalog.{Defs}
+use Rattle.spec_ledger.specs.Rows.{EventId}
+use Rattle.spec_ledger.specs.SystemTables.{tables_def, columns_def}
+use Rattle.spec_ledger.specs.ProperNames.{is_proper_name, has_its_history}
 use Rattle.spec_ledger.specs.Parts.{by_sizes}
 use Rattle.format_image.specs.DefBytes.{ids_rise}
 use Rattle.format_image.specs.ImageBytes.{sizes_of}

@@ -8,9 +8,9 @@ use Rattle.sql_types.specs.declared.version.TypedValue.{TypedValue}
 use Rattle.sql_types.specs.declared.version.Version.{Version}
 use Rattle.sql_types.specs.declared.version.Table.{Table}
 use Rattle.sql_types.specs.declared.image.TableRows.{TableRows}
-use Rattle.spec_model.specs.Lists.{sorted}
-use Rattle.spec_model.specs.Rows.{value_or_null, live}
-use Rattle.spec_model.specs.Keys.{key_places, key_cmp}
+use Rattle.spec_ledger.specs.Lists.{sorted}
+use Rattle.spec_ledger.specs.Rows.{value_or_null, live}
+use Rattle.spec_ledger.specs.Keys.{key_places, key_cmp}
 
 -- a row as it is stored: a value with its type for each column, NULL being none
 abbrev pub Stored : Type 0

@@ -4,8 +4,8 @@ use Rattle.sql_types.specs.declared.table.TableDef.{TableDef}
 use Rattle.sql_types.specs.declared.version.Table.{Table}
 use Rattle.sql_types.specs.declared.image.Image.{Image}
 use Rattle.sql_types.specs.declared.image.TableRows.{TableRows}
-use Rattle.spec_model.specs.Catalog.{Defs, Tables}
-use Rattle.spec_model.specs.SystemTables.{tables_def, columns_def}
+use Rattle.spec_ledger.specs.Catalog.{Defs, Tables}
+use Rattle.spec_ledger.specs.SystemTables.{tables_def, columns_def}
 
 -- a table with the versions of its base and of its history
 abbrev pub table_in : TableDef → TableRows → Table

@@ -2,7 +2,7 @@
 
 ghost use Rattle.std.specs.Prelude.{ℕ, ◌≡◌, ◌∷◌, ◌++◌, List, [], codes, replicate};
 ghost use Rattle.sql_types.specs.declared.image.Image.{Image};
-ghost use Rattle.spec_model.specs.Script.{Reading};
+ghost use Rattle.spec_ledger.specs.Script.{Reading};
 ghost use Rattle.format_image.specs.Image.{image_of};
 ghost use Rattle.format_image.specs.ImageBytes.{image_bytes, IsImage};
 

@@ -2,9 +2,9 @@
 
 ghost use Rattle.std.specs.Prelude.{◌≡◌};
 ghost use Rattle.std.specs.List.{list_all};
-ghost use Rattle.spec_model.specs.ProperNames.{is_name_byte, is_proper_name, has_its_history};
+ghost use Rattle.spec_ledger.specs.ProperNames.{is_name_byte, is_proper_name, has_its_history};
 
-use sql_value::TableKind;
+use sql_types::TableKind;
 
 /// Whether the bytes are a name: 1 to 128 of them, from a blank to `~` without the brackets.
 pub fn is_proper_name(name: &[u8]) -> bool

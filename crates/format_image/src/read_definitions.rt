@@ -10,9 +10,8 @@ ghost use Rattle.base_fields.specs.Readers.{u16_at};
 use crate::names::{has_its_history, is_proper_name};
 use base_fields::{ReadError, short_at, u8_at, u16_at, u32_at};
 use base_types::{Items, Name};
-use format_event::type_at;
-use sql_types::{IndexDef, TableDef};
-use sql_value::{ColumnDef, SqlType, TableKind};
+use spec_ledger::type_at;
+use sql_types::{ColumnDef, IndexDef, SqlType, TableDef, TableKind};
 use std::alloc::Global;
 
 /// The definitions of the tables of users, by strictly rising id from 3.

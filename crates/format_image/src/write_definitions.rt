@@ -2,14 +2,13 @@
 
 ghost use Rattle.std.specs.Prelude.{All, ◌≡◌, ◌<◌, ◌^◌, ◌++◌, OnOk, flat_map, length};
 ghost use Rattle.base_fields.specs.Fields.{u16_field};
-ghost use Rattle.spec_model.specs.SystemTables.{kind_code};
+ghost use Rattle.spec_ledger.specs.SystemTables.{kind_code};
 ghost use Rattle.format_image.specs.DefBytes.{flag, column_bytes, IsColumn, index_bytes, IsIndex, columns_bytes, indexes_bytes, names_bytes, def_bytes, IsDef, defs_bytes};
 
 use base_fields::{put_short, put_u8, put_u16, put_u32};
 use base_types::Memory;
-use format_event::put_type;
-use sql_types::{IndexDef, TableDef};
-use sql_value::{ColumnDef, TableKind};
+use spec_ledger::put_type;
+use sql_types::{ColumnDef, IndexDef, TableDef, TableKind};
 
 /// Appends how many definitions there are, and these.
 pub fn put_defs(defs: &[TableDef], out: &mut Vec<u8>) -> Result<(), Memory>

@@ -1,13 +1,13 @@
 -- How many entries a journal leads to, and how many of them are in blocks.
 use Rattle.std.proofs.Common.{◌≡◌, ◌≤◌, ℕ, suc, ◌+◌, refl, ap, sym, ◌∙◌, List, [], ◌∷◌, ◌++◌, length, take, drop, arith}
 use Rattle.std.proofs.lemmas.List.{length-append, take-append-drop, length-take-le}
-use Rattle.sql_types.specs.declared.entry.TxEntry.{TxEntry}
-use Rattle.sql_types.specs.declared.journal.JournalItem.{JournalItem}
-use Rattle.sql_types.specs.declared.journal.JournalItem.TheVariants.{Tx, Close}
-use Rattle.spec_model.specs.Catalog.{Tables}
-use Rattle.spec_model.specs.Journals.{tx_count, closed, after_item, IsLegalFrom, IsLegal}
-use Rattle.spec_model.specs.Script.{Reading}
-use Rattle.spec_model.specs.SystemTables.{first_tables}
+use Rattle.spec_history.specs.TxEntry.{TxEntry}
+use Rattle.spec_history.specs.JournalItem.{JournalItem}
+use Rattle.spec_history.specs.JournalItem.TheVariants.{Tx, Close}
+use Rattle.spec_ledger.specs.Catalog.{Tables}
+use Rattle.spec_ledger.specs.Journals.{tx_count, closed, after_item, IsLegalFrom, IsLegal}
+use Rattle.spec_ledger.specs.Script.{Reading}
+use Rattle.spec_ledger.specs.SystemTables.{first_tables}
 use Rattle.spec_history.proofs.Grows.{closed_append}
 use Rattle.spec_history.proofs.Trace.{count_append}
 use Rattle.spec_ledger.specs.Entries.{entry_of, at_place, placed}

@@ -1,12 +1,12 @@
 -- The digest of a closed block is a digest of its journal.
 use Rattle.std.proofs.Common.{◌≡◌, ◌≤◌, ◌<◌, ℕ, zero, suc, ◌-◌, refl, ap, sym, ◌∙◌, List, [], ◌∷◌, ◌++◌, length, arith, Some}
 use Rattle.std.specs.Prelude.{slice_get}
-use Rattle.sql_types.specs.declared.journal.JournalItem.{JournalItem}
-use Rattle.sql_types.specs.declared.journal.JournalItem.TheVariants.{Tx, Close}
-use Rattle.spec_model.specs.Catalog.{Tables}
-use Rattle.spec_model.specs.Journals.{tx_count, closed, after_item, IsLegalFrom, IsLegal}
-use Rattle.spec_model.specs.Script.{Reading}
-use Rattle.spec_model.specs.SystemTables.{first_tables}
+use Rattle.spec_history.specs.JournalItem.{JournalItem}
+use Rattle.spec_history.specs.JournalItem.TheVariants.{Tx, Close}
+use Rattle.spec_ledger.specs.Catalog.{Tables}
+use Rattle.spec_ledger.specs.Journals.{tx_count, closed, after_item, IsLegalFrom, IsLegal}
+use Rattle.spec_ledger.specs.Script.{Reading}
+use Rattle.spec_ledger.specs.SystemTables.{first_tables}
 use Rattle.spec_history.specs.Digests.{IsDigest}
 use Rattle.spec_history.specs.Journals.{blocks, in_blocks, times}
 use Rattle.spec_history.specs.Meaning.{Meaning}

@@ -7,3 +7,4 @@ pub use Rattle.spec_history.proofs.LeftRows
 pub use Rattle.spec_history.proofs.SameKeys
 pub use Rattle.spec_history.proofs.UndoneVersions
 pub use Rattle.spec_ledger.proofs.Adding
+pub use Rattle.spec_ledger.proofs.Parting

@@ -4,16 +4,16 @@ use Rattle.std.specs.Prelude.{◌==◌, not, if◌then◌else◌}
 use Rattle.std.specs.List.{AllByRecursion, filter}
 use Rattle.std.proofs.lemmas.Bool.{lt-ltb, ne_eqb}
 use Rattle.spec_ledger.specs.Entry.{rise_above, tables_rise}
-use Rattle.sql_types.specs.declared.event.Event.{Event}
-use Rattle.sql_types.specs.declared.journal.JournalItem.{JournalItem}
-use Rattle.sql_types.specs.declared.journal.JournalItem.TheVariants.{Tx, Close}
-use Rattle.sql_types.specs.declared.version.Table.{Table}
-use Rattle.spec_model.specs.Agreement.{IdsFrom}
-use Rattle.spec_model.specs.Catalog.{Tables, defs_of}
-use Rattle.spec_model.specs.Events.{events_of, all_events}
-use Rattle.spec_model.specs.Journals.{Line, IsOther, IsNext, IsLegalFrom, IsLegal, after_item, serial_from, serial}
-use Rattle.spec_model.specs.Script.{Reading}
-use Rattle.spec_model.specs.SystemTables.{first_tables}
+use Rattle.spec_history.specs.Event.{Event}
+use Rattle.spec_history.specs.JournalItem.{JournalItem}
+use Rattle.spec_history.specs.JournalItem.TheVariants.{Tx, Close}
+use Rattle.spec_history.specs.Table.{Table}
+use Rattle.spec_ledger.specs.Agreement.{IdsFrom}
+use Rattle.spec_ledger.specs.Catalog.{Tables, defs_of}
+use Rattle.spec_ledger.specs.Events.{events_of, all_events}
+use Rattle.spec_ledger.specs.Journals.{Line, IsOther, IsNext, IsLegalFrom, IsLegal, after_item, serial_from, serial}
+use Rattle.spec_ledger.specs.Script.{Reading}
+use Rattle.spec_ledger.specs.SystemTables.{first_tables}
 use Rattle.spec_history.proofs.LegalSound.{legal_sound}
 use Rattle.spec_ledger.proofs.Adding.{serial_more}
 use Rattle.spec_ledger.specs.Entries.{has_events, root_in, roots_of}

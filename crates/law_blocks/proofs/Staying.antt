@@ -1,13 +1,13 @@
 -- The blocks of a journal are counted, and stay.
 use Rattle.std.proofs.Common.{◌≡◌, ◌<◌, ℕ, ◌+◌, ap, ◌∙◌, List, [], ◌∷◌, ◌++◌, length, arith}
 use Rattle.std.proofs.lemmas.List.{length-append}
-use Rattle.sql_types.specs.declared.entry.BlockRecord.{BlockRecord}
-use Rattle.sql_types.specs.declared.journal.JournalItem.{JournalItem}
-use Rattle.sql_types.specs.declared.journal.JournalItem.TheVariants.{Tx, Close}
-use Rattle.spec_model.specs.Catalog.{Tables}
-use Rattle.spec_model.specs.Journals.{after_item}
-use Rattle.spec_model.specs.Script.{Reading}
-use Rattle.spec_model.specs.SystemTables.{first_tables}
+use Rattle.spec_history.specs.BlockRecord.{BlockRecord}
+use Rattle.spec_history.specs.JournalItem.{JournalItem}
+use Rattle.spec_history.specs.JournalItem.TheVariants.{Tx, Close}
+use Rattle.spec_ledger.specs.Catalog.{Tables}
+use Rattle.spec_ledger.specs.Journals.{after_item}
+use Rattle.spec_ledger.specs.Script.{Reading}
+use Rattle.spec_ledger.specs.SystemTables.{first_tables}
 use Rattle.spec_history.specs.Journals.{blocks}
 use Rattle.spec_history.specs.Real.{Hashing}
 use Rattle.spec_history.proofs.Grows.{blocks_append}

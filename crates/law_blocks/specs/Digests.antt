@@ -1,7 +1,7 @@
 -- Digests of the blocks of a journal.
 use Rattle.std.specs.Prelude.{ℕ, List, Option, Some, None}
-use Rattle.sql_types.specs.declared.journal.JournalItem.{JournalItem}
-use Rattle.spec_model.specs.Script.{Reading}
+use Rattle.spec_history.specs.JournalItem.{JournalItem}
+use Rattle.spec_ledger.specs.Script.{Reading}
 use Rattle.spec_history.specs.Digests.{Digest, last_time}
 use Rattle.spec_ledger.specs.Ledger.{block_hash}
 

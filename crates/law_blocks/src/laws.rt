@@ -1,12 +1,12 @@
 //! Laws of the closings of a journal.
 
 ghost use Rattle.std.specs.Prelude.{ℕ, ◌≡◌, ◌<◌, Bool, true, List, [], ◌∷◌, ◌++◌, length};
-ghost use Rattle.sql_types.specs.declared.entry.BlockRecord.{BlockRecord};
-ghost use Rattle.sql_types.specs.declared.entry.TxEntry.{TxEntry};
-ghost use Rattle.sql_types.specs.declared.journal.JournalItem.{JournalItem};
-ghost use Rattle.sql_types.specs.declared.journal.JournalItem.TheVariants.{Tx};
-ghost use Rattle.spec_model.specs.Journals.{Line, tx_count, closed, serial, IsLegal};
-ghost use Rattle.spec_model.specs.Script.{Reading};
+ghost use Rattle.spec_history.specs.BlockRecord.{BlockRecord};
+ghost use Rattle.spec_history.specs.TxEntry.{TxEntry};
+ghost use Rattle.spec_history.specs.JournalItem.{JournalItem};
+ghost use Rattle.spec_history.specs.JournalItem.TheVariants.{Tx};
+ghost use Rattle.spec_ledger.specs.Journals.{Line, tx_count, closed, serial, IsLegal};
+ghost use Rattle.spec_ledger.specs.Script.{Reading};
 ghost use Rattle.spec_history.specs.Journals.{blocks};
 ghost use Rattle.spec_history.specs.Digests.{IsDigest};
 ghost use Rattle.spec_history.specs.Meaning.{Meaning};

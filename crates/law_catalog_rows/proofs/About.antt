@@ -17,7 +17,7 @@ use Rattle.spec_model.specs.Rows.{Row, number}
 use Rattle.spec_model.specs.Catalog.{Defs}
 use Rattle.spec_model.specs.SystemTables.{table_row, column_row, column_rows, index_row, index_rows}
 use Rattle.spec_model.specs.Agreement.{IdsFrom}
-use Rattle.law_frame.proofs.Alls.{all_weaker, all_append}
+use Rattle.law_journal.proofs.Alls.{all_weaker, all_append}
 use Rattle.law_catalog_rows.specs.Encoded.{rows_of_indexes, item_rows, AreRowsOf, is_about, about, IsAmong, AreRowsOfEach}
 use Rattle.law_catalog_rows.proofs.Orders.{filtered, filter_all, filter_none}
 

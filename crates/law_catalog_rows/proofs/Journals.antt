@@ -12,7 +12,7 @@ use Rattle.spec_model.specs.Runs.{Sound}
 use Rattle.spec_model.specs.Script.{Reading}
 use Rattle.spec_model.specs.SystemTables.{tables_def, columns_def}
 use Rattle.spec_model.specs.Journals.{serial, IsLegal}
-use Rattle.law_frame.proofs.StepByStep.{Any}
+use Rattle.law_journal.proofs.StepByStep.{Any}
 use Rattle.law_catalog_rows.specs.Encoded.{live_rows, HaveTheirRows, EachHasItsRows, AreEncodedByRows}
 use Rattle.law_catalog_rows.specs.Formed.{Formed, AllFresh, AllFormed}
 use Rattle.law_catalog_rows.specs.IsEncodableDef.{is_encodable_def}

@@ -19,8 +19,8 @@ use Rattle.spec_model.specs.Catalog.{Defs}
 use Rattle.spec_model.specs.SystemTables.{kind_code, history_value, table_row, tables_def, columns_def}
 use Rattle.spec_model.specs.Create.{is_name, table_names, all_names}
 use Rattle.spec_model.specs.Agreement.{IdsFrom}
-use Rattle.law_frame.proofs.Alls.{all_append}
-use Rattle.law_frame.proofs.SameKeys.{or_false}
+use Rattle.law_journal.proofs.Alls.{all_append}
+use Rattle.law_journal.proofs.SameKeys.{or_false}
 use Rattle.law_catalog_rows.specs.Formed.{HistoryOf, Formed, AllFresh}
 use Rattle.law_catalog_rows.specs.IsEncodableDef.{names_in, is_before, share_name, has_new_names}
 use Rattle.law_catalog_rows.specs.Written.{IsWritten, HistoryWritten, Written}

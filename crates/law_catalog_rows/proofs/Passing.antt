@@ -15,8 +15,8 @@ use Rattle.spec_model.specs.Rows.{Row}
 use Rattle.spec_model.specs.Keys.{same_key}
 use Rattle.spec_model.specs.Catalog.{Defs}
 use Rattle.spec_model.specs.SystemTables.{table_row}
-use Rattle.law_frame.proofs.Alls.{all_append}
-use Rattle.law_frame.proofs.SameKeys.{same_itself}
+use Rattle.law_journal.proofs.Alls.{all_append}
+use Rattle.law_journal.proofs.SameKeys.{same_itself}
 use Rattle.law_catalog_rows.specs.Least.{least}
 use Rattle.law_catalog_rows.specs.Encoded.{item_rows, is_about, about, IsAmong, AreRowsOfOne, AreRowsOfEach, RowsEncode}
 use Rattle.law_catalog_rows.specs.IsEncodableDef.{is_encodable_def, has_new_names}

@@ -35,10 +35,10 @@ use Rattle.spec_model.specs.SystemTables.{tables_columns, columns_columns, kind_
 use Rattle.spec_model.specs.Create.{create_check, index_def, index_check_in, index_check, with_index}
 use Rattle.spec_model.specs.Effect.{effect, done, row_effect, shown, query_rows, query_effect, table_start, column_starts, table_effect, redefined, index_starts, index_effect}
 use Rattle.spec_model.specs.Agreement.{IdsFrom}
-use Rattle.law_frame.proofs.BaseTables.{users_table}
-use Rattle.law_frame.proofs.Checked.{Led, led, was_passed, not_refused}
-use Rattle.law_frame.proofs.Definitions.{same_defs}
-use Rattle.law_frame.proofs.NamedPart.{named_part, was_found}
+use Rattle.law_journal.proofs.BaseTables.{users_table}
+use Rattle.law_journal.proofs.Checked.{Led, led, was_passed, not_refused}
+use Rattle.law_journal.proofs.Definitions.{same_defs}
+use Rattle.law_journal.proofs.NamedPart.{named_part, was_found}
 use Rattle.law_journal.specs.Fine.{OfTable}
 use Rattle.law_journal.proofs.Created.{Created, created, indexed}
 use Rattle.law_journal.proofs.DefLists.{defs_append, redef, defs_redefined}

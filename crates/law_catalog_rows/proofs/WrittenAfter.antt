@@ -28,9 +28,9 @@ use Rattle.spec_model.specs.Create.{names_of, history_of, view_of, key_position_
 use Rattle.spec_model.specs.Effect.{effect, table_effect, index_effect, table_start, column_starts, index_starts, with_system_rows}
 use Rattle.spec_model.specs.Agreement.{IdsFrom}
 use Rattle.spec_model.specs.Reach.{creates}
-use Rattle.law_frame.proofs.Alls.{all_append, all_map}
-use Rattle.law_frame.proofs.Definitions.{defs_after}
-use Rattle.law_frame.proofs.SameKeys.{and_true}
+use Rattle.law_journal.proofs.Alls.{all_append, all_map}
+use Rattle.law_journal.proofs.Definitions.{defs_after}
+use Rattle.law_journal.proofs.SameKeys.{and_true}
 use Rattle.law_journal.specs.Fine.{OfTable}
 use Rattle.law_journal.proofs.Created.{Created, created, indexed}
 use Rattle.law_journal.proofs.DefLists.{defs_append, redef, defs_redefined}

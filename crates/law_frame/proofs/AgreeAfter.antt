@@ -7,13 +7,13 @@ use Rattle.std.specs.declared.cmp.Ordering.{Ordering}
 use Rattle.std.specs.declared.cmp.Ordering.TheVariants.{Less, Equal, Greater}
 use Rattle.std.specs.Ordering.{is_gt}
 use Rattle.sql_value.specs.declared.column.ColumnDef.{ColumnDef}
-use Rattle.sql_types.specs.declared.lock.Mode.{Mode}
-use Rattle.sql_types.specs.declared.lock.Mode.TheVariants.{IS, IX, S, X}
-use Rattle.sql_types.specs.declared.lock.Item.{Item}
-use Rattle.sql_types.specs.declared.lock.Item.TheVariants as item
-use Rattle.sql_types.specs.declared.table.TableDef.{TableDef}
-use Rattle.sql_types.specs.declared.version.Table.{Table}
-use Rattle.sql_types.specs.declared.version.Version.{Version}
+use Rattle.spec_model.specs.Mode.{Mode}
+use Rattle.spec_model.specs.Mode.TheVariants.{IS, IX, S, X}
+use Rattle.spec_model.specs.Item.{Item}
+use Rattle.spec_model.specs.Item.TheVariants as item
+use Rattle.spec_model.specs.TableDef.{TableDef}
+use Rattle.spec_model.specs.Table.{Table}
+use Rattle.spec_model.specs.Version.{Version}
 use Rattle.spec_model.specs.Lists.{inserted}
 use Rattle.spec_model.specs.Rows.{EventId, same_event, start_cmp, started, with_end, ended}
 use Rattle.spec_model.specs.Keys.{Key, same_key, version_key, of_key}

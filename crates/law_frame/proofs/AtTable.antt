@@ -4,9 +4,9 @@ use Rattle.std.proofs.lemmas.Bool.{eqb-true}
 use Rattle.std.specs.Prelude.{◌==◌, if◌then◌else◌}
 use Rattle.std.specs.List.{AllByRecursion}
 use Rattle.sql_value.specs.declared.column.ColumnDef.{ColumnDef}
-use Rattle.sql_types.specs.declared.table.TableDef.{TableDef}
-use Rattle.sql_types.specs.declared.version.Table.{Table}
-use Rattle.sql_types.specs.declared.version.Version.{Version}
+use Rattle.spec_model.specs.TableDef.{TableDef}
+use Rattle.spec_model.specs.Table.{Table}
+use Rattle.spec_model.specs.Version.{Version}
 use Rattle.spec_model.specs.Lists.{repeats}
 use Rattle.spec_model.specs.Catalog.{Tables, defs_of, versions_of, with_versions, changed_table}
 use Rattle.spec_model.specs.Create.{names_of}

@@ -3,11 +3,11 @@ use Rattle.std.proofs.Common.{◌≡◌, ℕ, ◌<◌, refl, subst, Bool, true, 
 use Rattle.std.proofs.lemmas.Grind.{common_steps}
 use Rattle.std.specs.Prelude.{nat_le, not, if◌then◌else◌}
 use Rattle.sql_value.specs.declared.refusal.Refusal.TheVariants.{NameConflict, ReadOnlyTable, LimitExceeded}
-use Rattle.sql_types.specs.declared.statement.RowStmt.{RowStmt}
-use Rattle.sql_types.specs.declared.statement.RowStmt.TheVariants.{Insert, Update, Delete}
-use Rattle.sql_types.specs.declared.table.TableDef.{TableDef}
-use Rattle.sql_types.specs.declared.table.Part.{Part}
-use Rattle.sql_types.specs.declared.table.Part.TheVariants.{Base, History, View, System}
+use Rattle.spec_model.specs.RowStmt.{RowStmt}
+use Rattle.spec_model.specs.RowStmt.TheVariants.{Insert, Update, Delete}
+use Rattle.spec_model.specs.TableDef.{TableDef}
+use Rattle.spec_model.specs.Part.{Part}
+use Rattle.spec_model.specs.Part.TheVariants.{Base, History, View, System}
 use Rattle.spec_model.specs.Catalog.{is_named, Defs, NamedPart, own_part, find_part}
 use Rattle.spec_model.specs.Checks.{is_base, table_of, row_check, insert_check, update_check, delete_check, row_statement_check}
 use Rattle.law_frame.proofs.Checked.{was_passed, not_refused}

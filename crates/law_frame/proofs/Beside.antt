@@ -3,16 +3,16 @@ use Rattle.std.proofs.Common.{◌≡◌, ℕ, refl, sym, Bool, true, false, List
 use Rattle.std.specs.Prelude.{◌||◌}
 use Rattle.std.specs.List.{AllByRecursion, list_any}
 use Rattle.sql_value.specs.declared.column.ColumnDef.{ColumnDef}
-use Rattle.sql_types.specs.declared.lock.Mode.{Mode}
-use Rattle.sql_types.specs.declared.lock.Mode.TheVariants.{IS, IX, S, X}
-use Rattle.sql_types.specs.declared.lock.LockRequest.{LockRequest}
-use Rattle.sql_types.specs.declared.statement.Stmt.{Stmt}
-use Rattle.sql_types.specs.declared.statement.Stmt.TheVariants as s
-use Rattle.sql_types.specs.declared.statement.RowStmt.{RowStmt}
-use Rattle.sql_types.specs.declared.statement.RowStmt.TheVariants.{Insert, Update, Delete}
-use Rattle.sql_types.specs.declared.statement.Select.{Select}
-use Rattle.sql_types.specs.declared.table.TableDef.{TableDef}
-use Rattle.sql_types.specs.declared.table.Part.TheVariants.{Base, History, View, System}
+use Rattle.spec_model.specs.Mode.{Mode}
+use Rattle.spec_model.specs.Mode.TheVariants.{IS, IX, S, X}
+use Rattle.spec_model.specs.LockRequest.{LockRequest}
+use Rattle.spec_model.specs.Stmt.{Stmt}
+use Rattle.spec_model.specs.Stmt.TheVariants as s
+use Rattle.spec_model.specs.RowStmt.{RowStmt}
+use Rattle.spec_model.specs.RowStmt.TheVariants.{Insert, Update, Delete}
+use Rattle.spec_model.specs.Select.{Select}
+use Rattle.spec_model.specs.TableDef.{TableDef}
+use Rattle.spec_model.specs.Part.TheVariants.{Base, History, View, System}
 use Rattle.spec_model.specs.Refusals.{Checked}
 use Rattle.spec_model.specs.Lists.{all_some}
 use Rattle.spec_model.specs.Keys.{Key}

@@ -1,10 +1,10 @@
 -- Beside a statement alone that it doesn't clash with, a statement finds all that it wants as before.
 use Rattle.std.proofs.Common.{◌≡◌, ℕ, refl, sym, subst, Bool, true, false, List, [], ◌∷◌, Option, Some, None}
 use Rattle.std.specs.Prelude.{◌||◌}
-use Rattle.sql_types.specs.declared.lock.Mode.{Mode}
-use Rattle.sql_types.specs.declared.lock.Mode.TheVariants.{IS, IX, S, X}
-use Rattle.sql_types.specs.declared.statement.Stmt.{Stmt}
-use Rattle.sql_types.specs.declared.statement.Stmt.TheVariants as s
+use Rattle.spec_model.specs.Mode.{Mode}
+use Rattle.spec_model.specs.Mode.TheVariants.{IS, IX, S, X}
+use Rattle.spec_model.specs.Stmt.{Stmt}
+use Rattle.spec_model.specs.Stmt.TheVariants as s
 use Rattle.spec_model.specs.Catalog.{Tables, defs_of}
 use Rattle.spec_model.specs.Locks as request
 use Rattle.spec_model.specs.Agreement.{AgreeInCell, AgreeInCatalog, AgreeFor, requests_of}

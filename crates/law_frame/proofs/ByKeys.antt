@@ -4,7 +4,7 @@ use Rattle.std.specs.Prelude.{if◌then◌else◌}
 use Rattle.std.specs.List.{AllByRecursion, filter}
 use Rattle.std.specs.declared.cmp.Ordering.TheVariants.{Less}
 use Rattle.sql_value.specs.declared.column.ColumnDef.{ColumnDef}
-use Rattle.sql_types.specs.declared.version.Version.{Version}
+use Rattle.spec_model.specs.Version.{Version}
 use Rattle.spec_model.specs.Rows.{start_cmp}
 use Rattle.spec_model.specs.Keys.{Key, same_key, version_key, of_key}
 use Rattle.spec_model.specs.Runs.{Rising}

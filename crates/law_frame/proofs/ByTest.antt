@@ -3,7 +3,7 @@ use Rattle.std.proofs.Common.{◌≡◌, ◌⊎◌, refl, sym, ap, subst, ◌∙
 use Rattle.std.specs.Prelude.{if◌then◌else◌}
 use Rattle.std.specs.List.{AllByRecursion, filter}
 use Rattle.std.specs.declared.cmp.Ordering.TheVariants.{Less}
-use Rattle.sql_types.specs.declared.version.Version.{Version}
+use Rattle.spec_model.specs.Version.{Version}
 use Rattle.spec_model.specs.Rows.{start_cmp}
 use Rattle.spec_model.specs.Runs.{Rising}
 use Rattle.law_frame.proofs.SameKeys.{not_less}

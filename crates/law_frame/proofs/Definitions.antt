@@ -4,15 +4,15 @@ use Rattle.std.specs.Prelude.{◌==◌, ◌&&◌, ◌||◌, if◌then◌else◌}
 use Rattle.std.proofs.lemmas.Bool.{eq-eqb}
 use Rattle.std.specs.List.{AllByRecursion}
 use Rattle.std.specs.Str.{bytes_eq}
-use Rattle.sql_types.specs.declared.lock.Mode.{Mode}
-use Rattle.sql_types.specs.declared.lock.Mode.TheVariants.{IS, IX, S, X}
-use Rattle.sql_types.specs.declared.lock.LockRequest.{LockRequest}
-use Rattle.sql_types.specs.declared.statement.Stmt.{Stmt}
-use Rattle.sql_types.specs.declared.statement.Stmt.TheVariants as s
-use Rattle.sql_types.specs.declared.statement.RowStmt.{RowStmt}
-use Rattle.sql_types.specs.declared.statement.Select.{Select}
-use Rattle.sql_types.specs.declared.table.TableDef.{TableDef}
-use Rattle.sql_types.specs.declared.version.Version.{Version}
+use Rattle.spec_model.specs.Mode.{Mode}
+use Rattle.spec_model.specs.Mode.TheVariants.{IS, IX, S, X}
+use Rattle.spec_model.specs.LockRequest.{LockRequest}
+use Rattle.spec_model.specs.Stmt.{Stmt}
+use Rattle.spec_model.specs.Stmt.TheVariants as s
+use Rattle.spec_model.specs.RowStmt.{RowStmt}
+use Rattle.spec_model.specs.Select.{Select}
+use Rattle.spec_model.specs.TableDef.{TableDef}
+use Rattle.spec_model.specs.Version.{Version}
 use Rattle.spec_model.specs.Refusals.{Checked}
 use Rattle.spec_model.specs.Changes.{Changes, row_changes}
 use Rattle.spec_model.specs.Catalog.{Defs, NamedPart, Tables, defs_of, versions_of, changed_table}
@@ -23,7 +23,7 @@ use Rattle.spec_model.specs.Locks as request
 use Rattle.spec_model.specs.ChangeSets.{TableChange, changed_from, changed_in, Definition, as_before, defined, row_change_set, row_stmt_change_set, select_change_set, query_change_set, change_set}
 use Rattle.spec_model.specs.Reach.{creates}
 use Rattle.spec_model.specs.Script.{Reading, Saved, State, back_to, in_transaction, alone, by_statement, start, text_step, script_from, script}
-use Rattle.sql_types.specs.declared.reply.Reply.TheVariants.{Refused}
+use Rattle.spec_model.specs.Reply.TheVariants.{Refused}
 use Rattle.sql_value.specs.declared.refusal.Refusal.TheVariants.{ForbiddenInTransaction}
 use Rattle.law_frame.proofs.ChangeSets.{carries_change_set_out, same_def}
 use Rattle.law_frame.proofs.StepByStep.{Keeps, script_keeps}

@@ -5,8 +5,8 @@ use Rattle.std.specs.List.{AllByRecursion, list_any}
 use Rattle.std.specs.Ordering.{is_gt}
 use Rattle.sql_value.specs.declared.column.ColumnDef.{ColumnDef}
 use Rattle.sql_value.specs.declared.refusal.Refusal.{Refusal}
-use Rattle.sql_types.specs.declared.lock.Mode.TheVariants.{X}
-use Rattle.sql_types.specs.declared.version.Version.{Version}
+use Rattle.spec_model.specs.Mode.TheVariants.{X}
+use Rattle.spec_model.specs.Version.{Version}
 use Rattle.spec_model.specs.Refusals.{Checked, and_then}
 use Rattle.spec_model.specs.Lists.{inserted, checked_fold, all_some}
 use Rattle.spec_model.specs.Rows.{Row, EventId, same_event, start_cmp, started, with_end, ended, value_or_null, stored_row}

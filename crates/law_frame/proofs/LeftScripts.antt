@@ -1,9 +1,9 @@
 -- What a script leaves alone: the rows of which none of its statements wants X.
 use Rattle.std.proofs.Common.{◌≡◌, ℕ, refl, sym, subst, ◌∙◌, true, false, List, [], ◌∷◌, Option, Some, None}
 use Rattle.std.specs.List.{AllByRecursion}
-use Rattle.sql_types.specs.declared.lock.Mode.{Mode}
-use Rattle.sql_types.specs.declared.statement.Stmt.{Stmt}
-use Rattle.sql_types.specs.declared.statement.Stmt.TheVariants as s
+use Rattle.spec_model.specs.Mode.{Mode}
+use Rattle.spec_model.specs.Stmt.{Stmt}
+use Rattle.spec_model.specs.Stmt.TheVariants as s
 use Rattle.spec_model.specs.Keys.{Key, of_key}
 use Rattle.spec_model.specs.Catalog.{Defs, Tables, defs_of, versions_of}
 use Rattle.spec_model.specs.Effect.{effect}

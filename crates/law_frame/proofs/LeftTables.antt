@@ -4,15 +4,15 @@ use Rattle.std.proofs.lemmas.Bool.{eqb-true, eq-eqb}
 use Rattle.std.specs.Prelude.{◌==◌, ◌&&◌}
 use Rattle.std.specs.List.{AllByRecursion, list_any}
 use Rattle.sql_value.specs.declared.column.ColumnDef.{ColumnDef}
-use Rattle.sql_types.specs.declared.lock.Mode.TheVariants.{IX, X}
-use Rattle.sql_types.specs.declared.statement.Stmt.{Stmt}
-use Rattle.sql_types.specs.declared.statement.Stmt.TheVariants as s
-use Rattle.sql_types.specs.declared.statement.RowStmt.{RowStmt}
-use Rattle.sql_types.specs.declared.statement.RowStmt.TheVariants.{Insert, Update, Delete}
-use Rattle.sql_types.specs.declared.statement.Select.{Select}
-use Rattle.sql_types.specs.declared.table.TableDef.{TableDef}
-use Rattle.sql_types.specs.declared.table.IndexDef.{IndexDef}
-use Rattle.sql_types.specs.declared.version.Version.{Version}
+use Rattle.spec_model.specs.Mode.TheVariants.{IX, X}
+use Rattle.spec_model.specs.Stmt.{Stmt}
+use Rattle.spec_model.specs.Stmt.TheVariants as s
+use Rattle.spec_model.specs.RowStmt.{RowStmt}
+use Rattle.spec_model.specs.RowStmt.TheVariants.{Insert, Update, Delete}
+use Rattle.spec_model.specs.Select.{Select}
+use Rattle.spec_model.specs.TableDef.{TableDef}
+use Rattle.spec_model.specs.IndexDef.{IndexDef}
+use Rattle.spec_model.specs.Version.{Version}
 use Rattle.spec_model.specs.Refusals.{Checked, and_then}
 use Rattle.spec_model.specs.Lists.{all_some, repeats}
 use Rattle.spec_model.specs.Rows.{Row}

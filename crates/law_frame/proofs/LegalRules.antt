@@ -2,10 +2,10 @@
 use Rattle.std.proofs.Common.{◌≡◌, ◌≢◌, ℕ, ◌+◌, ◌-◌, ◌≤◌, Bool, true, false, List, [], ◌∷◌, ◌++◌, refl, sym, arith}
 use Rattle.std.specs.List.{AllByRecursion}
 use Rattle.std.proofs.lemmas.Bool.{ne_eqb, le-leb}
-use Rattle.sql_types.specs.declared.journal.Journal.{Journal}
-use Rattle.sql_types.specs.declared.journal.JournalItem.{JournalItem}
-use Rattle.sql_types.specs.declared.journal.JournalItem.TheVariants.{Tx, Close}
-use Rattle.sql_types.specs.JournalRules.{JournalRules, is_among, ids_differ, closes_follow}
+use Rattle.spec_model.specs.Journal.{Journal}
+use Rattle.spec_model.specs.JournalItem.{JournalItem}
+use Rattle.spec_model.specs.JournalItem.TheVariants.{Tx, Close}
+use Rattle.spec_model.specs.JournalRules.{JournalRules, is_among, ids_differ, closes_follow}
 use Rattle.spec_model.specs.Catalog.{Tables}
 use Rattle.spec_model.specs.SystemTables.{first_tables}
 use Rattle.spec_model.specs.Script.{Reading}

@@ -1,8 +1,8 @@
 -- The tables of a legal journal are sound for each transaction that it doesn't have.
 use Rattle.std.proofs.Common.{ℕ, List, [], ◌∷◌, ◌++◌, map}
 use Rattle.std.specs.List.{AllByRecursion}
-use Rattle.sql_types.specs.declared.journal.JournalItem.{JournalItem}
-use Rattle.sql_types.specs.declared.journal.JournalItem.TheVariants.{Tx, Close}
+use Rattle.spec_model.specs.JournalItem.{JournalItem}
+use Rattle.spec_model.specs.JournalItem.TheVariants.{Tx, Close}
 use Rattle.spec_model.specs.Catalog.{Tables}
 use Rattle.spec_model.specs.SystemTables.{first_tables}
 use Rattle.spec_model.specs.Runs.{Sound}

@@ -5,11 +5,11 @@ use Rattle.std.specs.Prelude.{nat_le, if◌then◌else◌}
 use Rattle.std.proofs.lemmas.Grind.{common_steps}
 use Rattle.sql_value.specs.declared.refusal.Refusal.{Refusal}
 use Rattle.sql_value.specs.declared.refusal.Refusal.TheVariants.{NoSuchTable}
-use Rattle.sql_types.specs.declared.statement.RowStmt.{RowStmt}
-use Rattle.sql_types.specs.declared.statement.Select.{Select}
-use Rattle.sql_types.specs.declared.table.TableDef.{TableDef}
-use Rattle.sql_types.specs.declared.table.Part.{Part}
-use Rattle.sql_types.specs.declared.table.Part.TheVariants.{Base, History, View, System}
+use Rattle.spec_model.specs.RowStmt.{RowStmt}
+use Rattle.spec_model.specs.Select.{Select}
+use Rattle.spec_model.specs.TableDef.{TableDef}
+use Rattle.spec_model.specs.Part.{Part}
+use Rattle.spec_model.specs.Part.TheVariants.{Base, History, View, System}
 use Rattle.spec_model.specs.Refusals.{Checked, and_then, or_refused}
 use Rattle.spec_model.specs.Parts.{columns_of}
 use Rattle.spec_model.specs.Catalog.{is_named, Defs, NamedPart, own_part, part_named, or_in, find_part}

@@ -14,26 +14,26 @@ use Rattle.sql_value.specs.declared.expr.Op.TheVariants as op
 use Rattle.sql_value.specs.Conversion.{Converted, conversion_of}
 use Rattle.sql_value.specs.Number.{has_digits, raised}
 use Rattle.sql_value.specs.Tree.{Tree, literal, column, minus, not, is_null, binary, tree}
-use Rattle.sql_types.specs.declared.outcome.Outcome.{Outcome}
-use Rattle.sql_types.specs.declared.outcome.Outcome.TheVariants as out
-use Rattle.sql_types.specs.declared.reply.Reply.{Reply}
-use Rattle.sql_types.specs.declared.reply.Reply.TheVariants as r
-use Rattle.sql_types.specs.declared.statement.Agg.{Agg}
-use Rattle.sql_types.specs.declared.statement.Agg.TheVariants.{Count, Sum}
-use Rattle.sql_types.specs.declared.statement.CreateIndex.{CreateIndex}
-use Rattle.sql_types.specs.declared.statement.CreateTable.{CreateTable}
-use Rattle.sql_types.specs.declared.statement.RowStmt.{RowStmt}
-use Rattle.sql_types.specs.declared.statement.RowStmt.TheVariants.{Insert, Update, Delete}
-use Rattle.sql_types.specs.declared.statement.Select.{Select}
-use Rattle.sql_types.specs.declared.statement.Stmt.{Stmt}
-use Rattle.sql_types.specs.declared.statement.Stmt.TheVariants as s
-use Rattle.sql_types.specs.declared.statement.SelectList.{SelectList}
-use Rattle.sql_types.specs.declared.statement.SelectList.TheVariants.{All, Columns, Aggs}
-use Rattle.sql_types.specs.declared.table.IndexDef.{IndexDef}
-use Rattle.sql_types.specs.declared.table.Part.{Part}
-use Rattle.sql_types.specs.declared.table.Part.TheVariants.{Base}
-use Rattle.sql_types.specs.declared.table.TableDef.{TableDef}
-use Rattle.sql_types.specs.declared.version.Version.{Version}
+use Rattle.spec_model.specs.Outcome.{Outcome}
+use Rattle.spec_model.specs.Outcome.TheVariants as out
+use Rattle.spec_model.specs.Reply.{Reply}
+use Rattle.spec_model.specs.Reply.TheVariants as r
+use Rattle.spec_model.specs.Agg.{Agg}
+use Rattle.spec_model.specs.Agg.TheVariants.{Count, Sum}
+use Rattle.spec_model.specs.CreateIndex.{CreateIndex}
+use Rattle.spec_model.specs.CreateTable.{CreateTable}
+use Rattle.spec_model.specs.RowStmt.{RowStmt}
+use Rattle.spec_model.specs.RowStmt.TheVariants.{Insert, Update, Delete}
+use Rattle.spec_model.specs.Select.{Select}
+use Rattle.spec_model.specs.Stmt.{Stmt}
+use Rattle.spec_model.specs.Stmt.TheVariants as s
+use Rattle.spec_model.specs.SelectList.{SelectList}
+use Rattle.spec_model.specs.SelectList.TheVariants.{All, Columns, Aggs}
+use Rattle.spec_model.specs.IndexDef.{IndexDef}
+use Rattle.spec_model.specs.Part.{Part}
+use Rattle.spec_model.specs.Part.TheVariants.{Base}
+use Rattle.spec_model.specs.TableDef.{TableDef}
+use Rattle.spec_model.specs.Version.{Version}
 use Rattle.spec_model.specs.Refusals.{Checked, and_then, or_refused}
 use Rattle.spec_model.specs.Catalog.{Defs, NamedPart, Tables, defs_of, versions_of, find_part}
 use Rattle.spec_model.specs.Changes.{or_its_refusal, kept, kept_row, arranged, is_duplicate, one_more, inserted_rows, versions_matched, expr_set, as_value, value_set, row_after_set, Changes, row_changes}

@@ -2,12 +2,12 @@
 use Rattle.std.proofs.Common.{◌≡◌, ℕ, refl, sym, ap, subst, ◌∙◌, Bool, true, false, List, [], ◌∷◌, ◌++◌, map, take, Option, Some, None, eqb-true}
 use Rattle.std.specs.Prelude.{◌==◌, ◌||◌, if◌then◌else◌}
 use Rattle.std.specs.List.{AllByRecursion}
-use Rattle.sql_types.specs.declared.lock.Mode.TheVariants.{X}
-use Rattle.sql_types.specs.declared.statement.Stmt.{Stmt}
-use Rattle.sql_types.specs.declared.statement.Stmt.TheVariants as s
-use Rattle.sql_types.specs.declared.reply.Reply.{Reply}
-use Rattle.sql_types.specs.declared.table.TableDef.{TableDef}
-use Rattle.sql_types.specs.declared.version.Table.{Table}
+use Rattle.spec_model.specs.Mode.TheVariants.{X}
+use Rattle.spec_model.specs.Stmt.{Stmt}
+use Rattle.spec_model.specs.Stmt.TheVariants as s
+use Rattle.spec_model.specs.Reply.{Reply}
+use Rattle.spec_model.specs.TableDef.{TableDef}
+use Rattle.spec_model.specs.Table.{Table}
 use Rattle.spec_model.specs.Catalog.{Defs, Tables, defs_of, versions_of}
 use Rattle.spec_model.specs.SystemTables.{tables_id, columns_id}
 use Rattle.spec_model.specs.Effect.{Effect, effect, with_def, redefined}

@@ -9,7 +9,7 @@ use Rattle.std.specs.declared.cmp.Ordering.{Ordering}
 use Rattle.std.specs.declared.cmp.Ordering.TheVariants.{Less, Equal, Greater}
 use Rattle.std.specs.Ordering.{is_eq, ordering_reverse}
 use Rattle.sql_value.specs.Order.{value_total}
-use Rattle.sql_types.specs.declared.version.Version.{Version}
+use Rattle.spec_model.specs.Version.{Version}
 use Rattle.spec_model.specs.Rows.{EventId, event_cmp, same_event, start_cmp}
 use Rattle.spec_model.specs.Keys.{Key, key_cmp, same_key}
 use Rattle.spec_model.specs.Runs.{Rising}

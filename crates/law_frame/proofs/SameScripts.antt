@@ -3,10 +3,10 @@ use Rattle.std.proofs.Common.{◌≡◌, ℕ, suc, ◌⊎◌, refl, sym, ap, sub
 use Rattle.std.specs.Prelude.{if◌then◌else◌, nat_lt}
 use Rattle.std.specs.List.{AllByRecursion}
 use Rattle.std.specs.Str.{bytes_eq}
-use Rattle.sql_types.specs.declared.statement.Stmt.{Stmt}
-use Rattle.sql_types.specs.declared.statement.Stmt.TheVariants as s
-use Rattle.sql_types.specs.declared.reply.Reply.{Reply}
-use Rattle.sql_types.specs.declared.reply.Reply.TheVariants as r
+use Rattle.spec_model.specs.Stmt.{Stmt}
+use Rattle.spec_model.specs.Stmt.TheVariants as s
+use Rattle.spec_model.specs.Reply.{Reply}
+use Rattle.spec_model.specs.Reply.TheVariants as r
 use Rattle.sql_value.specs.declared.refusal.Refusal.TheVariants.{LimitExceeded}
 use Rattle.spec_model.specs.Limits.{max_savepoints}
 use Rattle.spec_model.specs.Catalog.{Defs, Tables, defs_of, versions_of}

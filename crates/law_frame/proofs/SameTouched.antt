@@ -5,13 +5,13 @@ use Rattle.std.specs.Prelude.{◌==◌, if◌then◌else◌}
 use Rattle.std.specs.List.{AllByRecursion, filter, list_any}
 use Rattle.std.specs.declared.cmp.Ordering.TheVariants.{Less}
 use Rattle.sql_value.specs.declared.column.ColumnDef.{ColumnDef}
-use Rattle.sql_types.specs.declared.lock.Mode.{Mode}
-use Rattle.sql_types.specs.declared.lock.Mode.TheVariants.{IS, IX, S, X}
-use Rattle.sql_types.specs.declared.lock.Item.{Item}
-use Rattle.sql_types.specs.declared.lock.Item.TheVariants as item
-use Rattle.sql_types.specs.declared.lock.LockRequest.{LockRequest}
-use Rattle.sql_types.specs.declared.statement.Stmt.{Stmt}
-use Rattle.sql_types.specs.declared.version.Version.{Version}
+use Rattle.spec_model.specs.Mode.{Mode}
+use Rattle.spec_model.specs.Mode.TheVariants.{IS, IX, S, X}
+use Rattle.spec_model.specs.Item.{Item}
+use Rattle.spec_model.specs.Item.TheVariants as item
+use Rattle.spec_model.specs.LockRequest.{LockRequest}
+use Rattle.spec_model.specs.Stmt.{Stmt}
+use Rattle.spec_model.specs.Version.{Version}
 use Rattle.spec_model.specs.Rows.{EventId, start_cmp}
 use Rattle.spec_model.specs.Keys.{Key, same_key, version_key, of_key}
 use Rattle.spec_model.specs.Catalog.{Tables, defs_of, versions_of}

@@ -6,13 +6,13 @@ use Rattle.std.specs.List.{list_any}
 use Rattle.sql_value.specs.declared.column.ColumnDef.{ColumnDef}
 use Rattle.sql_value.specs.declared.refusal.Refusal.{Refusal}
 use Rattle.sql_value.specs.declared.refusal.Refusal.TheVariants.{NoSuchTable, NameConflict, NoSuchColumn, NullNotAllowed, ReadOnlyTable, LimitExceeded}
-use Rattle.sql_types.specs.declared.statement.Stmt.{Stmt}
-use Rattle.sql_types.specs.declared.statement.Stmt.TheVariants as s
-use Rattle.sql_types.specs.declared.statement.CreateTable.{CreateTable}
-use Rattle.sql_types.specs.declared.statement.CreateIndex.{CreateIndex}
-use Rattle.sql_types.specs.declared.table.TableDef.{TableDef}
-use Rattle.sql_types.specs.declared.table.IndexDef.{IndexDef}
-use Rattle.sql_types.specs.declared.version.Table.{Table}
+use Rattle.spec_model.specs.Stmt.{Stmt}
+use Rattle.spec_model.specs.Stmt.TheVariants as s
+use Rattle.spec_model.specs.CreateTable.{CreateTable}
+use Rattle.spec_model.specs.CreateIndex.{CreateIndex}
+use Rattle.spec_model.specs.TableDef.{TableDef}
+use Rattle.spec_model.specs.IndexDef.{IndexDef}
+use Rattle.spec_model.specs.Table.{Table}
 use Rattle.spec_model.specs.Refusals.{Checked, or_refused}
 use Rattle.spec_model.specs.Lists.{repeats, has_name}
 use Rattle.spec_model.specs.Checks.{refused_if}

@@ -7,9 +7,9 @@ use Rattle.std.specs.Cmp.{IsTotalOrder, then_total, on_total, nat_cmp_total}
 use Rattle.std.specs.declared.cmp.Ordering.{Ordering}
 use Rattle.std.specs.declared.cmp.Ordering.TheVariants.{Less, Equal, Greater}
 use Rattle.std.specs.Ordering.{nat_cmp, ordering_then, ordering_reverse, is_gt}
-use Rattle.sql_types.specs.declared.version.Table.{Table}
-use Rattle.sql_types.specs.declared.version.TypedValue.{TypedValue}
-use Rattle.sql_types.specs.declared.version.Version.{Version}
+use Rattle.spec_model.specs.Table.{Table}
+use Rattle.spec_model.specs.TypedValue.{TypedValue}
+use Rattle.spec_model.specs.Version.{Version}
 use Rattle.spec_model.specs.Lists.{inserted}
 use Rattle.spec_model.specs.Rows.{EventId, event_cmp, same_event, start_cmp, started, with_end, ended}
 use Rattle.spec_model.specs.Changes.{Change, Starts, Ends, changed}

@@ -3,7 +3,7 @@ use Rattle.std.proofs.Common.{◌≡◌, ℕ, ◌≤◌, sym, ap, subst, ◌∙�
 use Rattle.std.specs.Prelude.{if◌then◌else◌}
 use Rattle.std.specs.List.{AllByRecursion}
 use Rattle.std.specs.Str.{bytes_eq}
-use Rattle.sql_types.specs.declared.statement.Stmt.{Stmt}
+use Rattle.spec_model.specs.Stmt.{Stmt}
 use Rattle.spec_model.specs.Catalog.{Tables}
 use Rattle.spec_model.specs.Effect.{Effect, effect}
 use Rattle.spec_model.specs.Reach.{creates}

@@ -3,13 +3,13 @@ use Rattle.std.proofs.Common.{◌≡◌, ℕ, ◌+◌, ◌≤◌, refl, sym, ap,
 use Rattle.std.proofs.lemmas.Bool.{eq-eqb, eqb-true, ne_eqb}
 use Rattle.std.specs.Prelude.{◌==◌, if◌then◌else◌, zero, suc}
 use Rattle.std.specs.List.{AllByRecursion}
-use Rattle.sql_types.specs.declared.statement.Stmt.{Stmt}
-use Rattle.sql_types.specs.declared.statement.Stmt.TheVariants as s
-use Rattle.sql_types.specs.declared.statement.RowStmt.{RowStmt}
-use Rattle.sql_types.specs.declared.statement.Select.{Select}
-use Rattle.sql_types.specs.declared.table.TableDef.{TableDef}
-use Rattle.sql_types.specs.declared.version.Table.{Table}
-use Rattle.sql_types.specs.declared.version.Version.{Version}
+use Rattle.spec_model.specs.Stmt.{Stmt}
+use Rattle.spec_model.specs.Stmt.TheVariants as s
+use Rattle.spec_model.specs.RowStmt.{RowStmt}
+use Rattle.spec_model.specs.Select.{Select}
+use Rattle.spec_model.specs.TableDef.{TableDef}
+use Rattle.spec_model.specs.Table.{Table}
+use Rattle.spec_model.specs.Version.{Version}
 use Rattle.spec_model.specs.Refusals.{Checked}
 use Rattle.spec_model.specs.Rows.{Row}
 use Rattle.spec_model.specs.Changes.{Change, Changes, changed, row_changes}

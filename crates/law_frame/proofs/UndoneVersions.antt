@@ -7,10 +7,10 @@ use Rattle.std.specs.declared.cmp.Ordering.{Ordering}
 use Rattle.std.specs.Ordering.{is_gt}
 use Rattle.sql_value.specs.declared.column.ColumnDef.{ColumnDef}
 use Rattle.sql_value.specs.declared.expr.Expr.{Expr}
-use Rattle.sql_types.specs.declared.statement.RowStmt.{RowStmt}
-use Rattle.sql_types.specs.declared.statement.RowStmt.TheVariants.{Insert, Update, Delete}
-use Rattle.sql_types.specs.declared.table.TableDef.{TableDef}
-use Rattle.sql_types.specs.declared.version.Version.{Version}
+use Rattle.spec_model.specs.RowStmt.{RowStmt}
+use Rattle.spec_model.specs.RowStmt.TheVariants.{Insert, Update, Delete}
+use Rattle.spec_model.specs.TableDef.{TableDef}
+use Rattle.spec_model.specs.Version.{Version}
 use Rattle.spec_model.specs.Refusals.{and_then}
 use Rattle.spec_model.specs.Lists.{inserted, checked_map}
 use Rattle.spec_model.specs.Rows.{Row, EventId, same_event, start_cmp, started, with_end, ended, live, stored_row}

@@ -12,14 +12,14 @@ use Rattle.sql_value.specs.declared.value.Value.{Value}
 use Rattle.sql_value.specs.declared.column.ColumnDef.{ColumnDef}
 use Rattle.sql_value.specs.declared.refusal.Refusal.TheVariants.{NameConflict, NoSuchColumn, AppendOnlyTable, ReadOnlyTable, KeyNotUpdatable}
 use Rattle.sql_value.specs.declared.expr.Expr.{Expr}
-use Rattle.sql_types.specs.declared.table.TableDef.{TableDef}
-use Rattle.sql_types.specs.declared.table.Part.{Part}
-use Rattle.sql_types.specs.declared.version.Version.{Version}
+use Rattle.spec_model.specs.TableDef.{TableDef}
+use Rattle.spec_model.specs.Part.{Part}
+use Rattle.spec_model.specs.Version.{Version}
 use Rattle.spec_model.specs.Refusals.{Checked}
 use Rattle.spec_model.specs.Columns.{place_of}
 use Rattle.spec_model.specs.Lists.{has_name, repeats}
 use Rattle.spec_model.specs.Rows.{Row, values_of, stored_row, value_or_null}
-use Rattle.sql_types.specs.declared.table.Part.TheVariants.{Base}
+use Rattle.spec_model.specs.Part.TheVariants.{Base}
 use Rattle.spec_model.specs.Parts.{base_row, columns_of}
 use Rattle.spec_model.specs.Keys.{key_of, version_key}
 use Rattle.spec_model.specs.Changes.{expr_set, value_set, row_after_set}

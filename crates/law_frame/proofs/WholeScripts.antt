@@ -1,7 +1,7 @@
 -- What each statement keeps is kept by a whole script, and by the copy of each savepoint, whether BEGIN opened it or not.
 use Rattle.std.proofs.Common.{ℕ, Bool, true, false, List, [], ◌∷◌, Option, Some, None}
-use Rattle.sql_types.specs.declared.statement.Stmt.{Stmt}
-use Rattle.sql_types.specs.declared.statement.Stmt.TheVariants as s
+use Rattle.spec_model.specs.Stmt.{Stmt}
+use Rattle.spec_model.specs.Stmt.TheVariants as s
 use Rattle.spec_model.specs.Catalog.{Tables}
 use Rattle.spec_model.specs.Effect.{effect}
 use Rattle.spec_model.specs.Script.{Reading, State, alone, by_statement, start, text_step, script_from, script}

@@ -3,8 +3,8 @@
 
 ghost use Rattle.std.specs.Prelude.{ℕ, ◌≡◌, false, List};
 ghost use Rattle.sql_value.specs.declared.column.ColumnDef.{ColumnDef};
-ghost use Rattle.sql_types.specs.declared.statement.Stmt.{Stmt};
-ghost use Rattle.sql_types.specs.declared.version.Version.{Version};
+ghost use Rattle.spec_model.specs.Stmt.{Stmt};
+ghost use Rattle.spec_model.specs.Version.{Version};
 ghost use Rattle.spec_model.specs.Keys.{Key, of_key};
 ghost use Rattle.spec_model.specs.Catalog.{Tables, defs_of, versions_of};
 ghost use Rattle.spec_model.specs.Effect.{effect};

@@ -3,11 +3,11 @@
 ghost use Rattle.std.specs.Prelude.{ℕ, ◌≡◌, Bool, true, false, List, [], ◌∷◌, Option, Some, None};
 ghost use Rattle.std.specs.List.{AllByRecursion};
 ghost use Rattle.sql_value.specs.declared.refusal.Refusal.TheVariants.{ForbiddenInTransaction};
-ghost use Rattle.sql_types.specs.declared.lock.Mode.{Mode};
-ghost use Rattle.sql_types.specs.declared.lock.Mode.TheVariants.{S, X};
-ghost use Rattle.sql_types.specs.declared.lock.LockRequest.{LockRequest};
-ghost use Rattle.sql_types.specs.declared.statement.Stmt.{Stmt};
-ghost use Rattle.sql_types.specs.declared.reply.Reply.TheVariants.{Refused};
+ghost use Rattle.spec_model.specs.Mode.{Mode};
+ghost use Rattle.spec_model.specs.Mode.TheVariants.{S, X};
+ghost use Rattle.spec_model.specs.LockRequest.{LockRequest};
+ghost use Rattle.spec_model.specs.Stmt.{Stmt};
+ghost use Rattle.spec_model.specs.Reply.TheVariants.{Refused};
 ghost use Rattle.spec_model.specs.Catalog.{Defs, Tables, defs_of};
 ghost use Rattle.spec_model.specs.Effect.{effect};
 ghost use Rattle.spec_model.specs.Locks.{catalog_request, cell_requests, conflict, some_conflict, clash};

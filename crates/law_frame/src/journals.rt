@@ -1,9 +1,9 @@
 //! Laws of legal journals.
 
 ghost use Rattle.std.specs.Prelude.{◌≡◌, true, List, []};
-ghost use Rattle.sql_types.specs.declared.journal.Journal.{Journal};
-ghost use Rattle.sql_types.specs.declared.journal.JournalItem.{JournalItem};
-ghost use Rattle.sql_types.specs.JournalRules.{JournalRules, closes_follow, ids_differ};
+ghost use Rattle.spec_model.specs.Journal.{Journal};
+ghost use Rattle.spec_model.specs.JournalItem.{JournalItem};
+ghost use Rattle.spec_model.specs.JournalRules.{JournalRules, closes_follow, ids_differ};
 ghost use Rattle.spec_model.specs.Journals.{IsLegal};
 ghost use Rattle.spec_model.specs.LegalJournals.{IsLegalJournal};
 ghost use Rattle.spec_model.specs.Script.{Reading};

@@ -2,8 +2,8 @@
 
 ghost use Rattle.std.specs.Prelude.{ℕ, ◌≡◌, ◌≢◌, Bool, true, List, []};
 ghost use Rattle.std.specs.List.{AllByRecursion};
-ghost use Rattle.sql_types.specs.declared.journal.JournalItem.{JournalItem};
-ghost use Rattle.sql_types.specs.declared.statement.Stmt.{Stmt};
+ghost use Rattle.spec_model.specs.JournalItem.{JournalItem};
+ghost use Rattle.spec_model.specs.Stmt.{Stmt};
 ghost use Rattle.spec_model.specs.Catalog.{Tables};
 ghost use Rattle.spec_model.specs.SystemTables.{first_tables};
 ghost use Rattle.spec_model.specs.Effect.{effect};

@@ -3,7 +3,7 @@
 
 ghost use Rattle.std.specs.Prelude.{ℕ, ◌≡◌, Bool, true, false, List, [], ◌∷◌, ◌++◌, length, Some};
 ghost use Rattle.std.specs.List.{AllByRecursion};
-ghost use Rattle.sql_types.specs.declared.statement.Stmt.{Stmt};
+ghost use Rattle.spec_model.specs.Stmt.{Stmt};
 ghost use Rattle.spec_model.specs.Keys.{Key, of_key};
 ghost use Rattle.spec_model.specs.Catalog.{Tables, defs_of, versions_of};
 ghost use Rattle.spec_model.specs.Agreement.{LockRequests, AgreeFor, SameCatalog, columns_at, requests_of};

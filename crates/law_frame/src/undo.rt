@@ -2,7 +2,7 @@
 
 ghost use Rattle.std.specs.Prelude.{ℕ, ◌≡◌, true, false, List, take};
 ghost use Rattle.std.specs.List.{AllByRecursion};
-ghost use Rattle.sql_types.specs.declared.statement.Stmt.{Stmt};
+ghost use Rattle.spec_model.specs.Stmt.{Stmt};
 ghost use Rattle.spec_model.specs.Catalog.{Tables};
 ghost use Rattle.spec_model.specs.Effect.{effect};
 ghost use Rattle.spec_model.specs.ChangeSets.{change_set, changed_from};

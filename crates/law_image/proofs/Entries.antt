@@ -19,11 +19,11 @@ use Rattle.spec_model.specs.Script.{Reading}
 use Rattle.spec_model.specs.SystemTables.{first_tables}
 use Rattle.law_frame.proofs.Alls.{all_append}
 use Rattle.law_journal.proofs.Serials.{legal_described}
-use Rattle.spec_ledger.specs.Blocks.{block_of, record_hash}
-use Rattle.spec_ledger.specs.Entries.{has_events, root_in, roots_of, entry_of, at_place, placed}
-use Rattle.spec_ledger.specs.Ledger.{Ledger, recorded, ledger_from, empty_ledger}
-use Rattle.spec_ledger.specs.Parts.{AreBlocksOf}
-use Rattle.spec_ledger.proofs.Adding.{serial_more}
+use Rattle.law_blocks.specs.Blocks.{block_of, record_hash}
+use Rattle.law_blocks.specs.Entries.{has_events, root_in, roots_of, entry_of, at_place, placed}
+use Rattle.law_blocks.specs.Ledger.{Ledger, recorded, ledger_from, empty_ledger}
+use Rattle.law_blocks.specs.Parts.{AreBlocksOf}
+use Rattle.law_blocks.proofs.Adding.{serial_more}
 use Rattle.law_blocks.proofs.Roots.{legal_ids, roots_rise}
 use Rattle.format_image.specs.ImageBytes.{IsPlaceless}
 

@@ -24,11 +24,11 @@ use Rattle.law_catalog_rows.specs.Encoded.{AreEncodedByRows}
 use Rattle.law_catalog_rows.specs.Written.{ReadsWritten}
 use Rattle.law_catalog_rows.proofs.Journals.{legal_described as legal_formed, legal_ids, legal_encoded}
 use Rattle.law_catalog_rows.proofs.KeptByJournals.{legal_keeps}
-use Rattle.spec_ledger.specs.Blocks.{no_hash}
-use Rattle.spec_ledger.specs.Ledger.{Ledger, ledger_of}
+use Rattle.law_blocks.specs.Blocks.{no_hash}
+use Rattle.law_blocks.specs.Ledger.{Ledger, ledger_of}
 use Rattle.law_blocks.proofs.Staying.{blocks_counted}
 use Rattle.law_blocks.proofs.Counting.{entries_counted}
-use Rattle.spec_ledger.proofs.Parting.{parted, entries_by_size}
+use Rattle.law_blocks.proofs.Parting.{parted, entries_by_size}
 use Rattle.format_image.specs.DefBytes.{IsIndex, IsDef, ids_rise}
 use Rattle.format_image.specs.Image.{user_defs, image_of}
 use Rattle.format_image.specs.ImageBytes.{IsPlaceless, AreTables, IsImage}

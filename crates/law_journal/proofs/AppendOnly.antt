@@ -3,9 +3,9 @@ use Rattle.std.proofs.Common.{◌≡◌, ◌∙◌, ◌⊎◌, ℕ, ◌+◌, ref
 use Rattle.std.proofs.lemmas.Bool.{eqb-true}
 use Rattle.std.specs.Prelude.{◌==◌, if◌then◌else◌}
 use Rattle.std.specs.List.{AllByRecursion}
-use Rattle.sql_value.specs.declared.column.TableKind.{TableKind}
-use Rattle.sql_value.specs.declared.column.TableKind.TheVariants.{AppendOnly, Updatable}
-use Rattle.sql_value.specs.declared.refusal.Refusal.TheVariants.{NameConflict, AppendOnlyTable, ReadOnlyTable}
+use Rattle.sql_types.specs.TableKind.{TableKind}
+use Rattle.sql_types.specs.TableKind.TheVariants.{AppendOnly, Updatable}
+use Rattle.sql_types.specs.Refusal.TheVariants.{NameConflict, AppendOnlyTable, ReadOnlyTable}
 use Rattle.sql_types.specs.declared.statement.RowStmt.{RowStmt}
 use Rattle.sql_types.specs.declared.statement.RowStmt.TheVariants.{Insert, Update, Delete}
 use Rattle.sql_types.specs.declared.statement.CreateIndex.{CreateIndex}
@@ -17,18 +17,18 @@ use Rattle.sql_types.specs.declared.table.Part.{Part}
 use Rattle.sql_types.specs.declared.table.TableDef.{TableDef}
 use Rattle.sql_types.specs.declared.version.Table.{Table}
 use Rattle.sql_types.specs.declared.version.Version.{Version}
-use Rattle.spec_model.specs.Refusals.{Checked}
-use Rattle.spec_model.specs.Rows.{Row, start_cmp, started, stored_row}
-use Rattle.spec_model.specs.Changes.{Change, Starts, Ends, Changes, changed_all, inserted_rows, insertion, row_changes}
-use Rattle.spec_model.specs.Catalog.{Defs, NamedPart, Tables, defs_of, find_part, versions_of, with_versions, changed_table}
-use Rattle.spec_model.specs.Checks.{refused_if, is_append_only, row_check, update_check, delete_check, row_statement_check}
-use Rattle.spec_model.specs.Query.{query_check}
-use Rattle.spec_model.specs.SystemTables.{tables_id, columns_id, columns_columns, column_rows, index_rows}
-use Rattle.spec_model.specs.Create.{create_check, index_check, with_index}
-use Rattle.spec_model.specs.Effect.{effect, done, row_effect, shown, query_rows, query_effect, table_start, column_starts, table_effect, with_system_rows, with_def, redefined, index_starts, index_effect}
-use Rattle.spec_model.specs.Agreement.{IdsFrom}
-use Rattle.spec_model.specs.Runs.{Sound}
-use Rattle.spec_model.specs.Script.{Reading, script}
+use Rattle.law_frame.specs.Refusals.{Checked}
+use Rattle.law_frame.specs.Rows.{Row, start_cmp, started, stored_row}
+use Rattle.law_frame.specs.Changes.{Change, Starts, Ends, Changes, changed_all, inserted_rows, insertion, row_changes}
+use Rattle.law_frame.specs.Catalog.{Defs, NamedPart, Tables, defs_of, find_part, versions_of, with_versions, changed_table}
+use Rattle.law_frame.specs.Checks.{refused_if, is_append_only, row_check, update_check, delete_check, row_statement_check}
+use Rattle.law_frame.specs.Query.{query_check}
+use Rattle.law_frame.specs.SystemTables.{tables_id, columns_id, columns_columns, column_rows, index_rows}
+use Rattle.law_frame.specs.Create.{create_check, index_check, with_index}
+use Rattle.law_frame.specs.Effect.{effect, done, row_effect, shown, query_rows, query_effect, table_start, column_starts, table_effect, with_system_rows, with_def, redefined, index_starts, index_effect}
+use Rattle.law_frame.specs.Agreement.{IdsFrom}
+use Rattle.law_frame.specs.Runs.{Sound}
+use Rattle.law_frame.specs.Script.{Reading, script}
 use Rattle.law_frame.proofs.Alls.{all_append, all_inserted, all_map}
 use Rattle.law_frame.proofs.Checked.{Led, led}
 use Rattle.law_frame.proofs.Definitions.{same_defs}

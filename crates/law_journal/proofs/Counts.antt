@@ -5,11 +5,11 @@ use Rattle.std.specs.List.{AllByRecursion}
 use Rattle.std.specs.Ordering.{is_gt}
 use Rattle.std.proofs.lemmas.Bool.{eqb-true, eq-eqb}
 use Rattle.std.proofs.lemmas.List.Sums.{sum_by-cons}
-use Rattle.sql_value.specs.declared.column.ColumnDef.{ColumnDef}
+use Rattle.sql_types.specs.ColumnDef.{ColumnDef}
 use Rattle.sql_types.specs.declared.version.Version.{Version}
-use Rattle.spec_model.specs.Lists.{inserted}
-use Rattle.spec_model.specs.Rows.{EventId, same_event, start_cmp, started, with_end, ended}
-use Rattle.spec_model.specs.Changes.{Change, Starts, Ends, changed}
+use Rattle.law_frame.specs.Lists.{inserted}
+use Rattle.law_frame.specs.Rows.{EventId, same_event, start_cmp, started, with_end, ended}
+use Rattle.law_frame.specs.Changes.{Change, Starts, Ends, changed}
 use Rattle.law_frame.proofs.SameKeys.{and_true}
 use Rattle.law_journal.specs.Fine.{HasLive, IsFine}
 use Rattle.law_journal.specs.Kept.{is_it, ends_with, count_in, count}

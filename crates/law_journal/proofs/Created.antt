@@ -6,20 +6,20 @@ use Rattle.std.proofs.lemmas.List.Quantifiers.{position-Some}
 use Rattle.std.specs.Prelude.{◌||◌, not, nat_lt, nat_le, if◌then◌else◌, position}
 use Rattle.std.specs.List.{AllByRecursion, list_any, filter}
 use Rattle.std.specs.Str.{bytes_eq}
-use Rattle.sql_value.specs.declared.column.ColumnDef.{ColumnDef}
-use Rattle.sql_value.specs.declared.refusal.Refusal.{Refusal}
-use Rattle.sql_value.specs.declared.refusal.Refusal.TheVariants.{NoSuchTable, NameConflict, NoSuchColumn, NullNotAllowed, ReadOnlyTable, LimitExceeded}
-use Rattle.sql_value.specs.Stored.{is_in_range}
+use Rattle.sql_types.specs.ColumnDef.{ColumnDef}
+use Rattle.sql_types.specs.Refusal.{Refusal}
+use Rattle.sql_types.specs.Refusal.TheVariants.{NoSuchTable, NameConflict, NoSuchColumn, NullNotAllowed, ReadOnlyTable, LimitExceeded}
+use Rattle.sql_types.specs.Stored.{is_in_range}
 use Rattle.sql_types.specs.declared.table.TableDef.{TableDef}
 use Rattle.sql_types.specs.declared.table.IndexDef.{IndexDef}
 use Rattle.sql_types.specs.declared.statement.CreateTable.{CreateTable}
 use Rattle.sql_types.specs.declared.statement.CreateIndex.{CreateIndex}
-use Rattle.spec_model.specs.Refusals.{or_refused}
-use Rattle.spec_model.specs.Columns.{place_of}
-use Rattle.spec_model.specs.Limits.{max_columns, max_key_columns, max_tables, max_index_columns, max_indexes}
-use Rattle.spec_model.specs.Catalog.{Defs, NamedPart, find_part}
-use Rattle.spec_model.specs.Checks.{refused_if}
-use Rattle.spec_model.specs.Create.{is_name, table_names, is_long, ordinal_at, keyed, table_def, has_bad_name, system_tables, exceeds_limit, has_null_key, next_id, create_check, index_def, ordinals_of, index_check_in, index_check}
+use Rattle.law_frame.specs.Refusals.{or_refused}
+use Rattle.law_frame.specs.Columns.{place_of}
+use Rattle.law_frame.specs.Limits.{max_columns, max_key_columns, max_tables, max_index_columns, max_indexes}
+use Rattle.law_frame.specs.Catalog.{Defs, NamedPart, find_part}
+use Rattle.law_frame.specs.Checks.{refused_if}
+use Rattle.law_frame.specs.Create.{is_name, table_names, is_long, ordinal_at, keyed, table_def, has_bad_name, system_tables, exceeds_limit, has_null_key, next_id, create_check, index_def, ordinals_of, index_check_in, index_check}
 use Rattle.law_frame.proofs.Checked.{Led, led, was_passed, not_refused}
 use Rattle.law_frame.proofs.Alls.{all_weaker, all_both}
 use Rattle.law_frame.proofs.NamedPart.{was_found}

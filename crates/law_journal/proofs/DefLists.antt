@@ -7,11 +7,11 @@ use Rattle.std.specs.List.{AllByRecursion}
 use Rattle.std.proofs.lemmas.List.Sums.{sum_by-cons}
 use Rattle.sql_types.specs.declared.table.TableDef.{TableDef}
 use Rattle.sql_types.specs.declared.version.Table.{Table}
-use Rattle.spec_model.specs.Rows.{EventId}
-use Rattle.spec_model.specs.Keys.{Key}
-use Rattle.spec_model.specs.Catalog.{Defs, Tables, defs_of}
-use Rattle.spec_model.specs.Effect.{with_def, redefined}
-use Rattle.spec_model.specs.Agreement.{IdsFrom}
+use Rattle.law_frame.specs.Rows.{EventId}
+use Rattle.law_frame.specs.Keys.{Key}
+use Rattle.law_frame.specs.Catalog.{Defs, Tables, defs_of}
+use Rattle.law_frame.specs.Effect.{with_def, redefined}
+use Rattle.law_frame.specs.Agreement.{IdsFrom}
 use Rattle.law_journal.specs.Fine.{OfTable}
 use Rattle.law_journal.specs.Kept.{count_all}
 use Rattle.law_journal.specs.Described.{items_below, IsTableKey, IsColumnKey}

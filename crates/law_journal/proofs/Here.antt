@@ -4,12 +4,12 @@ use Rattle.std.specs.Prelude.{if◌then◌else◌}
 use Rattle.std.specs.List.{AllByRecursion}
 use Rattle.std.specs.Ordering.{is_gt}
 use Rattle.std.proofs.lemmas.List.Sums.{sum_by-cons}
-use Rattle.sql_value.specs.declared.column.ColumnDef.{ColumnDef}
+use Rattle.sql_types.specs.ColumnDef.{ColumnDef}
 use Rattle.sql_types.specs.declared.version.Version.{Version}
-use Rattle.spec_model.specs.Lists.{inserted}
-use Rattle.spec_model.specs.Rows.{Row, EventId, same_event, start_cmp, stored_row, started, with_end, ended}
-use Rattle.spec_model.specs.Keys.{Key, same_key, version_key}
-use Rattle.spec_model.specs.Changes.{Change, Starts, Ends, changed, replaced}
+use Rattle.law_frame.specs.Lists.{inserted}
+use Rattle.law_frame.specs.Rows.{Row, EventId, same_event, start_cmp, stored_row, started, with_end, ended}
+use Rattle.law_frame.specs.Keys.{Key, same_key, version_key}
+use Rattle.law_frame.specs.Changes.{Change, Starts, Ends, changed, replaced}
 use Rattle.law_frame.proofs.Alls.{all_inserted}
 use Rattle.law_frame.proofs.SameKeys.{one_start}
 use Rattle.law_journal.specs.Fits.{Fits}

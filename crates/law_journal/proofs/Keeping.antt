@@ -4,7 +4,7 @@ use Rattle.std.proofs.lemmas.List.{length-map}
 use Rattle.std.proofs.lemmas.Bool.{eqb-true, le-ltb}
 use Rattle.std.specs.Prelude.{◌==◌, if◌then◌else◌}
 use Rattle.std.specs.List.{AllByRecursion}
-use Rattle.sql_value.specs.declared.column.ColumnDef.{ColumnDef}
+use Rattle.sql_types.specs.ColumnDef.{ColumnDef}
 use Rattle.sql_types.specs.declared.statement.Stmt.{Stmt}
 use Rattle.sql_types.specs.declared.statement.Stmt.TheVariants as s
 use Rattle.sql_types.specs.declared.statement.RowStmt.{RowStmt}
@@ -15,19 +15,19 @@ use Rattle.sql_types.specs.declared.table.TableDef.{TableDef}
 use Rattle.sql_types.specs.declared.table.IndexDef.{IndexDef}
 use Rattle.sql_types.specs.declared.version.Table.{Table}
 use Rattle.sql_types.specs.declared.version.Version.{Version}
-use Rattle.spec_model.specs.Refusals.{Checked}
-use Rattle.spec_model.specs.Rows.{Row, EventId}
-use Rattle.spec_model.specs.Keys.{version_key}
-use Rattle.spec_model.specs.Changes.{Changes, changed_all, row_changes}
-use Rattle.spec_model.specs.Catalog.{Defs, NamedPart, Tables, defs_of, versions_of, changed_table}
-use Rattle.spec_model.specs.Checks.{row_statement_check}
-use Rattle.spec_model.specs.Query.{query_check}
-use Rattle.spec_model.specs.SystemTables.{tables_id, columns_id, tables_columns, columns_columns, table_row, column_row, column_rows, index_row, index_rows, first_tables}
-use Rattle.spec_model.specs.Create.{create_check, index_check, with_index}
-use Rattle.spec_model.specs.Effect.{Effect, effect, query_rows, table_start, column_starts, index_starts, with_def, redefined}
-use Rattle.spec_model.specs.ChangeSets.{TableChange, in_table, changed_from, Definition, as_before, new, in_place, defined, ChangeSet, row_change_set, row_stmt_change_set, select_change_set, query_change_set, create_table_change_set, create_index_change_set, change_set, carried_out}
-use Rattle.spec_model.specs.Agreement.{IdsFrom}
-use Rattle.spec_model.specs.Runs.{Sound}
+use Rattle.law_frame.specs.Refusals.{Checked}
+use Rattle.law_frame.specs.Rows.{Row, EventId}
+use Rattle.law_frame.specs.Keys.{version_key}
+use Rattle.law_frame.specs.Changes.{Changes, changed_all, row_changes}
+use Rattle.law_frame.specs.Catalog.{Defs, NamedPart, Tables, defs_of, versions_of, changed_table}
+use Rattle.law_frame.specs.Checks.{row_statement_check}
+use Rattle.law_frame.specs.Query.{query_check}
+use Rattle.law_frame.specs.SystemTables.{tables_id, columns_id, tables_columns, columns_columns, table_row, column_row, column_rows, index_row, index_rows, first_tables}
+use Rattle.law_frame.specs.Create.{create_check, index_check, with_index}
+use Rattle.law_frame.specs.Effect.{Effect, effect, query_rows, table_start, column_starts, index_starts, with_def, redefined}
+use Rattle.law_frame.specs.ChangeSets.{TableChange, in_table, changed_from, Definition, as_before, new, in_place, defined, ChangeSet, row_change_set, row_stmt_change_set, select_change_set, query_change_set, create_table_change_set, create_index_change_set, change_set, carried_out}
+use Rattle.law_frame.specs.Agreement.{IdsFrom}
+use Rattle.law_frame.specs.Runs.{Sound}
 use Rattle.law_frame.proofs.Alls.{all_weaker, all_both, all_append, all_map}
 use Rattle.law_frame.proofs.BaseTables.{users_table}
 use Rattle.law_frame.proofs.Definitions.{same_defs, changes_keep_defs}

@@ -9,14 +9,14 @@ use Rattle.sql_types.specs.declared.table.Part.{Part}
 use Rattle.sql_types.specs.declared.table.TableDef.{TableDef}
 use Rattle.sql_types.specs.declared.version.Table.{Table}
 use Rattle.sql_types.specs.declared.version.Version.{Version}
-use Rattle.spec_model.specs.Refusals.{Checked}
-use Rattle.spec_model.specs.Rows.{EventId}
-use Rattle.spec_model.specs.Changes.{Change, Changes, changed, row_changes}
-use Rattle.spec_model.specs.Catalog.{NamedPart, Tables, defs_of, versions_of, with_versions, changed_table, part_named, or_in, find_part}
-use Rattle.spec_model.specs.Checks.{row_check, row_statement_check}
-use Rattle.spec_model.specs.ChangeSets.{TableChange, in_table, changed_in, changed_from, row_change_set, row_stmt_change_set}
-use Rattle.spec_model.specs.Agreement.{IdsFrom}
-use Rattle.spec_model.specs.Runs.{SoundTable}
+use Rattle.law_frame.specs.Refusals.{Checked}
+use Rattle.law_frame.specs.Rows.{EventId}
+use Rattle.law_frame.specs.Changes.{Change, Changes, changed, row_changes}
+use Rattle.law_frame.specs.Catalog.{NamedPart, Tables, defs_of, versions_of, with_versions, changed_table, part_named, or_in, find_part}
+use Rattle.law_frame.specs.Checks.{row_check, row_statement_check}
+use Rattle.law_frame.specs.ChangeSets.{TableChange, in_table, changed_in, changed_from, row_change_set, row_stmt_change_set}
+use Rattle.law_frame.specs.Agreement.{IdsFrom}
+use Rattle.law_frame.specs.Runs.{SoundTable}
 use Rattle.law_frame.proofs.Alls.{all_both}
 use Rattle.law_frame.proofs.NamedPart.{Passed, passed}
 use Rattle.law_journal.specs.Fine.{IsFine, OfTable, AllFine}

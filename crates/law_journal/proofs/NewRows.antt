@@ -4,17 +4,17 @@ use Rattle.std.proofs.lemmas.Bool.{eqb-true}
 use Rattle.std.proofs.lemmas.List.{length-map}
 use Rattle.std.specs.Prelude.{if◌then◌else◌, ◌==◌, not}
 use Rattle.std.specs.List.{AllByRecursion, list_any, list_all, zip}
-use Rattle.sql_value.specs.declared.column.ColumnDef.{ColumnDef}
-use Rattle.sql_value.specs.declared.refusal.Refusal.TheVariants.{NameConflict, NoSuchColumn, DuplicateKey, ReadOnlyTable, LimitExceeded, ValueCountMismatch}
+use Rattle.sql_types.specs.ColumnDef.{ColumnDef}
+use Rattle.sql_types.specs.Refusal.TheVariants.{NameConflict, NoSuchColumn, DuplicateKey, ReadOnlyTable, LimitExceeded, ValueCountMismatch}
 use Rattle.sql_types.specs.declared.table.TableDef.{TableDef}
 use Rattle.sql_types.specs.declared.table.Part.{Part}
 use Rattle.sql_types.specs.declared.version.Version.{Version}
-use Rattle.spec_model.specs.Refusals.{Checked, and_then}
-use Rattle.spec_model.specs.Lists.{checked_fold}
-use Rattle.spec_model.specs.Rows.{Row, stored_row}
-use Rattle.spec_model.specs.Keys.{Key, key_of, same_key, has_live_row}
-use Rattle.spec_model.specs.Changes.{kept, kept_row, value_named, arranged, is_duplicate, one_more, inserted_rows}
-use Rattle.spec_model.specs.Checks.{listed, listed_check, values_check, insert_check}
+use Rattle.law_frame.specs.Refusals.{Checked, and_then}
+use Rattle.law_frame.specs.Lists.{checked_fold}
+use Rattle.law_frame.specs.Rows.{Row, stored_row}
+use Rattle.law_frame.specs.Keys.{Key, key_of, same_key, has_live_row}
+use Rattle.law_frame.specs.Changes.{kept, kept_row, value_named, arranged, is_duplicate, one_more, inserted_rows}
+use Rattle.law_frame.specs.Checks.{listed, listed_check, values_check, insert_check}
 use Rattle.law_frame.proofs.Checked.{Led, led, was_passed, not_refused}
 use Rattle.law_frame.proofs.Alls.{all_weaker, all_both, all_append}
 use Rattle.law_frame.proofs.MappedRows.{stored_mapped}

@@ -9,13 +9,13 @@ use Rattle.std.specs.declared.cmp.Ordering.{Ordering}
 use Rattle.std.specs.declared.cmp.Ordering.TheVariants.{Less, Equal, Greater}
 use Rattle.std.specs.Ordering.{ordering_then, is_eq, int_cmp}
 use Rattle.std.proofs.lemmas.Int.{ints}
-use Rattle.sql_value.specs.Number.{raised}
-use Rattle.sql_value.specs.Order.{value_cmp}
+use Rattle.sql_types.specs.Number.{raised}
+use Rattle.sql_types.specs.Order.{value_cmp}
 use Rattle.sql_types.specs.declared.table.TableDef.{TableDef}
-use Rattle.sql_value.specs.declared.column.ColumnDef.{ColumnDef}
-use Rattle.spec_model.specs.Rows.{number, stored_row}
-use Rattle.spec_model.specs.Keys.{Key, key_places, key_of, key_cmp, same_key}
-use Rattle.spec_model.specs.SystemTables.{tables_columns, columns_columns, table_row, column_row, index_row}
+use Rattle.sql_types.specs.ColumnDef.{ColumnDef}
+use Rattle.law_frame.specs.Rows.{number, stored_row}
+use Rattle.law_frame.specs.Keys.{Key, key_places, key_of, key_cmp, same_key}
+use Rattle.law_frame.specs.SystemTables.{tables_columns, columns_columns, table_row, column_row, index_row}
 use Rattle.law_journal.specs.Fine.{key_in}
 
 ten_pos : (k : ℕ) → 0 < 10 ^ k

@@ -4,13 +4,13 @@ use Rattle.std.specs.Prelude.{if◌then◌else◌, is_none, IfSome}
 use Rattle.std.specs.List.{AllByRecursion, list_any, filter}
 use Rattle.std.specs.Ordering.{is_gt}
 use Rattle.std.proofs.lemmas.List.Sums.{sum_by-cons}
-use Rattle.sql_value.specs.declared.column.ColumnDef.{ColumnDef}
+use Rattle.sql_types.specs.ColumnDef.{ColumnDef}
 use Rattle.sql_types.specs.declared.version.TypedValue.{TypedValue}
 use Rattle.sql_types.specs.declared.version.Version.{Version}
-use Rattle.spec_model.specs.Lists.{inserted}
-use Rattle.spec_model.specs.Rows.{EventId, same_event, start_cmp, started, with_end, ended}
-use Rattle.spec_model.specs.Keys.{Key, same_key, version_key, has_live_row}
-use Rattle.spec_model.specs.Changes.{Change, Starts, Ends, changed}
+use Rattle.law_frame.specs.Lists.{inserted}
+use Rattle.law_frame.specs.Rows.{EventId, same_event, start_cmp, started, with_end, ended}
+use Rattle.law_frame.specs.Keys.{Key, same_key, version_key, has_live_row}
+use Rattle.law_frame.specs.Changes.{Change, Starts, Ends, changed}
 use Rattle.law_frame.proofs.Alls.{all_weaker, all_inserted}
 use Rattle.law_frame.proofs.SameKeys.{or_false, same_key_as, same_itself}
 use Rattle.law_journal.specs.Fits.{Fits}

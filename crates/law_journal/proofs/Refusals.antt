@@ -1,8 +1,8 @@
 -- A statement that is refused leaves all as it was.
 use Rattle.std.proofs.Common.{◌≡◌, ℕ, refl, Bool, true, false, List, [], ◌∷◌, length, Option, Some, None, Ok, Err}
 use Rattle.std.specs.Prelude.{if◌then◌else◌, nat_lt}
-use Rattle.sql_value.specs.declared.refusal.Refusal.{Refusal}
-use Rattle.sql_value.specs.declared.refusal.Refusal.TheVariants.{LimitExceeded}
+use Rattle.sql_types.specs.Refusal.{Refusal}
+use Rattle.sql_types.specs.Refusal.TheVariants.{LimitExceeded}
 use Rattle.sql_types.specs.declared.statement.Stmt.{Stmt}
 use Rattle.sql_types.specs.declared.statement.Stmt.TheVariants as s
 use Rattle.sql_types.specs.declared.statement.RowStmt.{RowStmt}
@@ -12,16 +12,16 @@ use Rattle.sql_types.specs.declared.statement.Select.{Select}
 use Rattle.sql_types.specs.declared.table.TableDef.{TableDef}
 use Rattle.sql_types.specs.declared.table.IndexDef.{IndexDef}
 use Rattle.sql_types.specs.declared.reply.Reply.TheVariants as r
-use Rattle.spec_model.specs.Refusals.{Checked}
-use Rattle.spec_model.specs.Limits.{max_savepoints}
-use Rattle.spec_model.specs.Rows.{Row}
-use Rattle.spec_model.specs.Changes.{Changes, row_changes}
-use Rattle.spec_model.specs.Catalog.{NamedPart, defs_of, versions_of}
-use Rattle.spec_model.specs.Checks.{row_statement_check}
-use Rattle.spec_model.specs.Query.{query_check}
-use Rattle.spec_model.specs.Create.{create_check, index_check}
-use Rattle.spec_model.specs.Effect.{Effect, done, row_effect, shown, query_rows, query_effect, table_effect, index_effect, effect}
-use Rattle.spec_model.specs.Script.{Saved, State, Step, refuses, by_effect, saves, back_to, rolled_back, rolls_back_to, in_transaction, alone, by_statement}
+use Rattle.law_frame.specs.Refusals.{Checked}
+use Rattle.law_frame.specs.Limits.{max_savepoints}
+use Rattle.law_frame.specs.Rows.{Row}
+use Rattle.law_frame.specs.Changes.{Changes, row_changes}
+use Rattle.law_frame.specs.Catalog.{NamedPart, defs_of, versions_of}
+use Rattle.law_frame.specs.Checks.{row_statement_check}
+use Rattle.law_frame.specs.Query.{query_check}
+use Rattle.law_frame.specs.Create.{create_check, index_check}
+use Rattle.law_frame.specs.Effect.{Effect, done, row_effect, shown, query_rows, query_effect, table_effect, index_effect, effect}
+use Rattle.law_frame.specs.Script.{Saved, State, Step, refuses, by_effect, saves, back_to, rolled_back, rolls_back_to, in_transaction, alone, by_statement}
 
 abbrev Leaves : State → Refusal → Step → Type 0
 Leaves x e p = p.1 ≡ r.Refused e → p.0 ≡ x

@@ -1,20 +1,20 @@
 -- The changes of INSERT, UPDATE and DELETE are fine.
 use Rattle.std.proofs.Common.{◌≡◌, ℕ, subst, false, List, Ok}
 use Rattle.std.specs.List.{AllByRecursion, list_any, zip}
-use Rattle.sql_value.specs.declared.column.ColumnDef.{ColumnDef}
-use Rattle.sql_value.specs.declared.expr.Expr.{Expr}
+use Rattle.sql_types.specs.ColumnDef.{ColumnDef}
+use Rattle.sql_types.specs.Expr.{Expr}
 use Rattle.sql_types.specs.declared.statement.RowStmt.{RowStmt}
 use Rattle.sql_types.specs.declared.statement.RowStmt.TheVariants.{Insert, Update, Delete}
 use Rattle.sql_types.specs.declared.table.TableDef.{TableDef}
 use Rattle.sql_types.specs.declared.table.Part.{Part}
 use Rattle.sql_types.specs.declared.version.Version.{Version}
-use Rattle.spec_model.specs.Refusals.{and_then}
-use Rattle.spec_model.specs.Lists.{checked_map, repeats}
-use Rattle.spec_model.specs.Rows.{Row}
-use Rattle.spec_model.specs.Changes.{Changes, inserted_rows, versions_matched, row_after_set, insertion, replacement, deletion, row_changes}
-use Rattle.spec_model.specs.Create.{names_of}
-use Rattle.spec_model.specs.Checks.{is_in_key, row_check}
-use Rattle.spec_model.specs.Runs.{Rising}
+use Rattle.law_frame.specs.Refusals.{and_then}
+use Rattle.law_frame.specs.Lists.{checked_map, repeats}
+use Rattle.law_frame.specs.Rows.{Row}
+use Rattle.law_frame.specs.Changes.{Changes, inserted_rows, versions_matched, row_after_set, insertion, replacement, deletion, row_changes}
+use Rattle.law_frame.specs.Create.{names_of}
+use Rattle.law_frame.specs.Checks.{is_in_key, row_check}
+use Rattle.law_frame.specs.Runs.{Rising}
 use Rattle.law_frame.proofs.Checked.{Led, led}
 use Rattle.law_frame.proofs.Alls.{all_weaker}
 use Rattle.law_frame.proofs.LeftRows.{zipped}

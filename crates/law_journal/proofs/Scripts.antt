@@ -1,9 +1,9 @@
 -- Scripts keep what is kept, and so does each savepoint's copy.
 use Rattle.std.proofs.Common.{ℕ, Bool, List}
 use Rattle.sql_types.specs.declared.statement.Stmt.{Stmt}
-use Rattle.spec_model.specs.Catalog.{Tables}
-use Rattle.spec_model.specs.Effect.{effect}
-use Rattle.spec_model.specs.Script.{Reading, State, script}
+use Rattle.law_frame.specs.Catalog.{Tables}
+use Rattle.law_frame.specs.Effect.{effect}
+use Rattle.law_frame.specs.Script.{Reading, State, script}
 use Rattle.law_frame.proofs.StepByStep.{Throughout}
 use Rattle.law_frame.proofs.WholeScripts.{whole_script}
 use Rattle.law_journal.specs.Kept.{Kept}

@@ -8,12 +8,12 @@ use Rattle.sql_types.specs.declared.journal.JournalItem.{JournalItem}
 use Rattle.sql_types.specs.declared.journal.JournalItem.TheVariants.{Tx, Close}
 use Rattle.sql_types.specs.declared.version.Table.{Table}
 use Rattle.sql_types.specs.declared.version.Version.{Version}
-use Rattle.spec_model.specs.Rows.{EventId, same_event}
-use Rattle.spec_model.specs.Catalog.{Tables}
-use Rattle.spec_model.specs.SystemTables.{first_tables}
-use Rattle.spec_model.specs.Runs.{IsBefore, EndsBefore, MadeBefore, SoundTable, Sound}
-use Rattle.spec_model.specs.Script.{Reading, script}
-use Rattle.spec_model.specs.Journals.{cut, tx_count, IsOther, after_item, serial_from, serial, IsNext, IsLegalFrom, IsLegal}
+use Rattle.law_frame.specs.Rows.{EventId, same_event}
+use Rattle.law_frame.specs.Catalog.{Tables}
+use Rattle.law_frame.specs.SystemTables.{first_tables}
+use Rattle.law_frame.specs.Runs.{IsBefore, EndsBefore, MadeBefore, SoundTable, Sound}
+use Rattle.law_frame.specs.Script.{Reading, script}
+use Rattle.law_frame.specs.Journals.{cut, tx_count, IsOther, after_item, serial_from, serial, IsNext, IsLegalFrom, IsLegal}
 use Rattle.law_frame.proofs.Alls.{all_weaker}
 use Rattle.law_frame.proofs.OtherTransactions.{others_sound}
 use Rattle.law_frame.proofs.SoundStatements.{first_sound}

@@ -1,7 +1,7 @@
 -- Each statement's changes are fine, and each statement keeps what is kept.
 use Rattle.std.proofs.Common.{◌≡◌, ◌≢◌, ◌≤◌, ◌<◌, ℕ, ◌+◌, ◌*◌, inl, inr, refl, sym, ap, subst, ◌∙◌, List, [], ◌∷◌, map, length, Ok, Err, arith}
 use Rattle.std.specs.List.{AllByRecursion}
-use Rattle.sql_value.specs.declared.column.ColumnDef.{ColumnDef}
+use Rattle.sql_types.specs.ColumnDef.{ColumnDef}
 use Rattle.sql_types.specs.declared.statement.Stmt.{Stmt}
 use Rattle.sql_types.specs.declared.statement.Stmt.TheVariants as s
 use Rattle.sql_types.specs.declared.statement.CreateTable.{CreateTable}
@@ -10,19 +10,19 @@ use Rattle.sql_types.specs.declared.statement.Select.{Select}
 use Rattle.sql_types.specs.declared.table.TableDef.{TableDef}
 use Rattle.sql_types.specs.declared.table.IndexDef.{IndexDef}
 use Rattle.sql_types.specs.declared.version.Table.{Table}
-use Rattle.spec_model.specs.Refusals.{Checked}
-use Rattle.spec_model.specs.Lists.{numbered}
-use Rattle.spec_model.specs.Rows.{Row, stored_row}
-use Rattle.spec_model.specs.Keys.{version_key}
-use Rattle.spec_model.specs.Changes.{changed_all}
-use Rattle.spec_model.specs.Catalog.{Defs, NamedPart, Tables, defs_of, versions_of, changed_table}
-use Rattle.spec_model.specs.Checks.{row_statement_check}
-use Rattle.spec_model.specs.Query.{query_check}
-use Rattle.spec_model.specs.SystemTables.{tables_id, columns_id, tables_columns, columns_columns, table_row, column_row, column_rows, index_row, index_rows}
-use Rattle.spec_model.specs.Create.{create_check, index_check}
-use Rattle.spec_model.specs.Effect.{query_rows, table_start, column_starts, index_starts}
-use Rattle.spec_model.specs.ChangeSets.{TableChange, in_table, changed_from, select_change_set, query_change_set, create_table_change_set, create_index_change_set, change_set}
-use Rattle.spec_model.specs.Agreement.{IdsFrom}
+use Rattle.law_frame.specs.Refusals.{Checked}
+use Rattle.law_frame.specs.Lists.{numbered}
+use Rattle.law_frame.specs.Rows.{Row, stored_row}
+use Rattle.law_frame.specs.Keys.{version_key}
+use Rattle.law_frame.specs.Changes.{changed_all}
+use Rattle.law_frame.specs.Catalog.{Defs, NamedPart, Tables, defs_of, versions_of, changed_table}
+use Rattle.law_frame.specs.Checks.{row_statement_check}
+use Rattle.law_frame.specs.Query.{query_check}
+use Rattle.law_frame.specs.SystemTables.{tables_id, columns_id, tables_columns, columns_columns, table_row, column_row, column_rows, index_row, index_rows}
+use Rattle.law_frame.specs.Create.{create_check, index_check}
+use Rattle.law_frame.specs.Effect.{query_rows, table_start, column_starts, index_starts}
+use Rattle.law_frame.specs.ChangeSets.{TableChange, in_table, changed_from, select_change_set, query_change_set, create_table_change_set, create_index_change_set, change_set}
+use Rattle.law_frame.specs.Agreement.{IdsFrom}
 use Rattle.law_frame.proofs.ChangeSets.{in_one_table}
 use Rattle.law_journal.specs.Fits.{Fits}
 use Rattle.law_journal.specs.Fine.{key_in, OfTable, AllFine}

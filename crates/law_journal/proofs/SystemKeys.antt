@@ -1,15 +1,15 @@
 -- The system rows of a table and of an index have new keys, and are about what there is then.
 use Rattle.std.proofs.Common.{◌≡◌, ◌≤◌, ◌<◌, ℕ, ◌+◌, refl, sym, ap, subst, ◌∙◌, Bool, true, false, List, [], ◌∷◌, map, length, arith}
 use Rattle.std.specs.List.{AllByRecursion}
-use Rattle.sql_value.specs.declared.column.ColumnDef.{ColumnDef}
+use Rattle.sql_types.specs.ColumnDef.{ColumnDef}
 use Rattle.sql_types.specs.declared.table.TableDef.{TableDef}
 use Rattle.sql_types.specs.declared.version.Version.{Version}
-use Rattle.spec_model.specs.Lists.{numbered}
-use Rattle.spec_model.specs.Rows.{Row, number, stored_row, start_cmp, started}
-use Rattle.spec_model.specs.Keys.{Key, same_key, version_key}
-use Rattle.spec_model.specs.Changes.{Starts, changed, changed_all}
-use Rattle.spec_model.specs.Catalog.{Defs}
-use Rattle.spec_model.specs.SystemTables.{tables_columns, columns_columns, table_row}
+use Rattle.law_frame.specs.Lists.{numbered}
+use Rattle.law_frame.specs.Rows.{Row, number, stored_row, start_cmp, started}
+use Rattle.law_frame.specs.Keys.{Key, same_key, version_key}
+use Rattle.law_frame.specs.Changes.{Starts, changed, changed_all}
+use Rattle.law_frame.specs.Catalog.{Defs}
+use Rattle.law_frame.specs.SystemTables.{tables_columns, columns_columns, table_row}
 use Rattle.law_frame.proofs.Alls.{all_inserted}
 use Rattle.law_journal.specs.Fits.{Fits}
 use Rattle.law_journal.specs.Fine.{key_in}

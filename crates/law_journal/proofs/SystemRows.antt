@@ -2,18 +2,18 @@
 use Rattle.std.proofs.Common.{◌≡◌, ◌≤◌, ◌<◌, ℕ, ◌+◌, ◌*◌, ◌^◌, refl, Bool, true, false, List, [], length, arith}
 use Rattle.std.proofs.lemmas.Bool.{lt-ltb, le-leb}
 use Rattle.std.proofs.lemmas.Bool.Decides.{nat_tests}
-use Rattle.sql_value.specs.declared.value.Value.TheVariants.{Text}
-use Rattle.sql_value.specs.declared.sql_type.SqlType.{SqlType}
-use Rattle.sql_value.specs.declared.sql_type.SqlType.TheVariants as t
-use Rattle.sql_value.specs.declared.column.ColumnDef.{ColumnDef}
-use Rattle.sql_value.specs.declared.column.TableKind.{TableKind}
-use Rattle.sql_value.specs.declared.column.TableKind.TheVariants.{AppendOnly, Updatable}
-use Rattle.sql_value.specs.Stored.{is_in_range, is_stored}
-use Rattle.sql_value.specs.Text.{utf16_units}
+use Rattle.sql_types.specs.Value.TheVariants.{Text}
+use Rattle.sql_types.specs.SqlType.{SqlType}
+use Rattle.sql_types.specs.SqlType.TheVariants as t
+use Rattle.sql_types.specs.ColumnDef.{ColumnDef}
+use Rattle.sql_types.specs.TableKind.{TableKind}
+use Rattle.sql_types.specs.TableKind.TheVariants.{AppendOnly, Updatable}
+use Rattle.sql_types.specs.Stored.{is_in_range, is_stored}
+use Rattle.sql_types.specs.Text.{utf16_units}
 use Rattle.sql_types.specs.declared.table.TableDef.{TableDef}
-use Rattle.sql_value.specs.TypeCodes.{type_code, first_parameter, second_parameter}
-use Rattle.spec_model.specs.Rows.{number, stored_value, stored_row}
-use Rattle.spec_model.specs.SystemTables.{a_column, name_type, tables_columns, columns_columns, kind_code, history_value, bit, table_row, column_row, index_row}
+use Rattle.sql_types.specs.TypeCodes.{type_code, first_parameter, second_parameter}
+use Rattle.law_frame.specs.Rows.{number, stored_value, stored_row}
+use Rattle.law_frame.specs.SystemTables.{a_column, name_type, tables_columns, columns_columns, kind_code, history_value, bit, table_row, column_row, index_row}
 use Rattle.law_journal.specs.Fits.{FitsColumn, Fits}
 use Rattle.law_journal.proofs.Units.{few_units}
 

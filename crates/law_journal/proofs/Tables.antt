@@ -7,11 +7,11 @@ use Rattle.std.proofs.lemmas.Bool.Decides.{nat_tests}
 use Rattle.std.proofs.lemmas.List.Sums.{sum_by-cons}
 use Rattle.sql_types.specs.declared.version.Table.{Table}
 use Rattle.sql_types.specs.declared.version.Version.{Version}
-use Rattle.spec_model.specs.Rows.{EventId}
-use Rattle.spec_model.specs.Changes.{Change, changed}
-use Rattle.spec_model.specs.Catalog.{Tables, defs_of, with_versions, changed_table}
-use Rattle.spec_model.specs.ChangeSets.{TableChange, changed_in, changed_from}
-use Rattle.spec_model.specs.Agreement.{IdsFrom}
+use Rattle.law_frame.specs.Rows.{EventId}
+use Rattle.law_frame.specs.Changes.{Change, changed}
+use Rattle.law_frame.specs.Catalog.{Tables, defs_of, with_versions, changed_table}
+use Rattle.law_frame.specs.ChangeSets.{TableChange, changed_in, changed_from}
+use Rattle.law_frame.specs.Agreement.{IdsFrom}
 use Rattle.law_frame.proofs.Alls.{all_weaker}
 use Rattle.law_frame.proofs.Sounds.{sound_changed}
 use Rattle.law_journal.specs.Fine.{IsFine, OfTable, IsFineIn, AllFine}

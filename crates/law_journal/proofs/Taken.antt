@@ -5,16 +5,16 @@ use Rattle.std.specs.List.{AllByRecursion, filter, zip}
 use Rattle.std.specs.declared.cmp.Ordering.{Ordering}
 use Rattle.std.specs.declared.cmp.Ordering.TheVariants.{Less}
 use Rattle.std.specs.Ordering.{is_gt}
-use Rattle.sql_value.specs.declared.column.ColumnDef.{ColumnDef}
-use Rattle.sql_value.specs.declared.expr.Expr.{Expr}
+use Rattle.sql_types.specs.ColumnDef.{ColumnDef}
+use Rattle.sql_types.specs.Expr.{Expr}
 use Rattle.sql_types.specs.declared.version.Version.{Version}
-use Rattle.spec_model.specs.Refusals.{Checked, and_then}
-use Rattle.spec_model.specs.Lists.{inserted, sorted, checked_filter}
-use Rattle.spec_model.specs.Rows.{Row, EventId, event_cmp, same_event, start_cmp, live}
-use Rattle.spec_model.specs.Keys.{Key, key_cmp, same_key, version_key, part_read, live_by_key}
-use Rattle.spec_model.specs.Where.{key_fixed}
-use Rattle.spec_model.specs.Changes.{versions_matched}
-use Rattle.spec_model.specs.Runs.{Rising}
+use Rattle.law_frame.specs.Refusals.{Checked, and_then}
+use Rattle.law_frame.specs.Lists.{inserted, sorted, checked_filter}
+use Rattle.law_frame.specs.Rows.{Row, EventId, event_cmp, same_event, start_cmp, live}
+use Rattle.law_frame.specs.Keys.{Key, key_cmp, same_key, version_key, part_read, live_by_key}
+use Rattle.law_frame.specs.Where.{key_fixed}
+use Rattle.law_frame.specs.Changes.{versions_matched}
+use Rattle.law_frame.specs.Runs.{Rising}
 use Rattle.law_frame.proofs.Checked.{Led, led}
 use Rattle.law_frame.proofs.Alls.{all_weaker, all_both, all_filter, all_pass, all_inserted, all_sorted, all_checked_filter}
 use Rattle.law_frame.proofs.SameKeys.{one_start, not_less}

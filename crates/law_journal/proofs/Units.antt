@@ -5,7 +5,7 @@ use Rattle.std.specs.Str.{chars, chars_after, continuation_len, lead_bits}
 use Rattle.std.specs.Char.Escape.{encode_utf16}
 use Rattle.std.proofs.lemmas.Grind.{common_steps}
 use Rattle.std.proofs.lemmas.List.Sums.{sum_by-cons}
-use Rattle.sql_value.specs.Text.{utf16_units}
+use Rattle.sql_types.specs.Text.{utf16_units}
 
 abbrev units : ℕ → ℕ
 units c = length (encode_utf16 c)

@@ -2,27 +2,27 @@
 use Rattle.std.proofs.Common.{◌≡◌, ◌≢◌, ℕ, ℤ, suc, refl, ap, subst, ◌∙◌, Bool, true, false, List, [], ◌∷◌, map, length, Option, Some, None, Ok, Err}
 use Rattle.std.specs.Prelude.{if◌then◌else◌, ◌==◌}
 use Rattle.std.specs.List.{zip}
-use Rattle.sql_value.specs.declared.value.Value.{Value}
-use Rattle.sql_value.specs.declared.value.Value.TheVariants as val
-use Rattle.sql_value.specs.declared.sql_type.SqlType.{SqlType}
-use Rattle.sql_value.specs.declared.sql_type.SqlType.TheVariants as t
-use Rattle.sql_value.specs.declared.refusal.ValueErr.{ValueErr}
-use Rattle.sql_value.specs.declared.refusal.ValueErr.TheVariants.{Mismatch}
-use Rattle.sql_value.specs.declared.column.ColumnDef.{ColumnDef}
-use Rattle.sql_value.specs.declared.refusal.Refusal.TheVariants.{NullNotAllowed}
-use Rattle.sql_value.specs.declared.expr.Expr.{Expr}
-use Rattle.sql_value.specs.Conversion.{Converted, only_if, whole_to, number_to, day_or_mismatch, text_to, bytes_to, day_to, converted, conversion_of}
-use Rattle.sql_value.specs.Day.{day_of}
-use Rattle.sql_value.specs.Stored.{is_in_range, is_stored}
-use Rattle.sql_value.proofs.Storing.{made_stored}
+use Rattle.sql_types.specs.Value.{Value}
+use Rattle.sql_types.specs.Value.TheVariants as val
+use Rattle.sql_types.specs.SqlType.{SqlType}
+use Rattle.sql_types.specs.SqlType.TheVariants as t
+use Rattle.sql_types.specs.ValueErr.{ValueErr}
+use Rattle.sql_types.specs.ValueErr.TheVariants.{Mismatch}
+use Rattle.sql_types.specs.ColumnDef.{ColumnDef}
+use Rattle.sql_types.specs.Refusal.TheVariants.{NullNotAllowed}
+use Rattle.sql_types.specs.Expr.{Expr}
+use Rattle.sql_types.specs.Conversion.{Converted, only_if, whole_to, number_to, day_or_mismatch, text_to, bytes_to, day_to, converted, conversion_of}
+use Rattle.sql_types.specs.Day.{day_of}
+use Rattle.sql_types.specs.Stored.{is_in_range, is_stored}
+use Rattle.sql_types.proofs.Storing.{made_stored}
 use Rattle.sql_types.specs.declared.version.TypedValue.{TypedValue}
 use Rattle.sql_types.specs.declared.version.Version.{Version}
-use Rattle.spec_model.specs.Refusals.{Checked, and_then}
-use Rattle.spec_model.specs.Lists.{checked_map}
-use Rattle.spec_model.specs.Rows.{Row, stored_value, stored_row, value_or_null}
-use Rattle.spec_model.specs.Evaluation.{meaning_of}
-use Rattle.spec_model.specs.Parts.{base_row}
-use Rattle.spec_model.specs.Changes.{or_its_refusal, kept, kept_row, expr_set, as_value, value_set, row_after_set}
+use Rattle.law_frame.specs.Refusals.{Checked, and_then}
+use Rattle.law_frame.specs.Lists.{checked_map}
+use Rattle.law_frame.specs.Rows.{Row, stored_value, stored_row, value_or_null}
+use Rattle.law_frame.specs.Evaluation.{meaning_of}
+use Rattle.law_frame.specs.Parts.{base_row}
+use Rattle.law_frame.specs.Changes.{or_its_refusal, kept, kept_row, expr_set, as_value, value_set, row_after_set}
 use Rattle.law_frame.proofs.Checked.{Led, led}
 use Rattle.law_journal.specs.Fits.{FitsColumn, Fits}
 

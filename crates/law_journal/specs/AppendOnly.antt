@@ -1,9 +1,9 @@
 -- Append-only tables keep all their rows.
 use Rattle.std.specs.Prelude.{◌≡◌, None}
 use Rattle.std.specs.List.{AllByRecursion}
-use Rattle.sql_value.specs.declared.column.TableKind.TheVariants.{AppendOnly}
+use Rattle.sql_types.specs.TableKind.TheVariants.{AppendOnly}
 use Rattle.sql_types.specs.declared.version.Table.{Table}
-use Rattle.spec_model.specs.Catalog.{Tables}
+use Rattle.law_frame.specs.Catalog.{Tables}
 
 -- if the table is append-only, none of its versions has an end
 abbrev pub KeepsRows : Table → Type 0

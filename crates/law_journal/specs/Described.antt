@@ -4,12 +4,12 @@
 -- has.
 use Rattle.std.specs.Prelude.{ℕ, ◌+◌, ◌*◌, ◌==◌, ◌≡◌, ◌<◌, ◌≤◌, if◌then◌else◌, [], ◌∷◌, length}
 use Rattle.std.specs.List.{AllByRecursion}
-use Rattle.spec_model.specs.Limits.{max_columns, max_tables}
-use Rattle.spec_model.specs.Rows.{number}
-use Rattle.spec_model.specs.Keys.{Key, version_key}
-use Rattle.spec_model.specs.Catalog.{Defs, Tables, defs_of}
-use Rattle.spec_model.specs.Create.{system_tables}
-use Rattle.spec_model.specs.SystemTables.{tables_id, columns_id, tables_columns, columns_columns}
+use Rattle.law_frame.specs.Limits.{max_columns, max_tables}
+use Rattle.law_frame.specs.Rows.{number}
+use Rattle.law_frame.specs.Keys.{Key, version_key}
+use Rattle.law_frame.specs.Catalog.{Defs, Tables, defs_of}
+use Rattle.law_frame.specs.Create.{system_tables}
+use Rattle.law_frame.specs.SystemTables.{tables_id, columns_id, tables_columns, columns_columns}
 use Rattle.law_journal.specs.Fine.{OfTable}
 
 -- the items of a table's rows are below 1000 for its columns, from 1000 on for its first index, and so on:

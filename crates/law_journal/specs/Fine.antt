@@ -2,15 +2,15 @@
 -- end of a
 -- version that stands.
 use Rattle.std.specs.Prelude.{ℕ, ◌+◌, ◌≡◌, ◌⊎◌, false, List, [], ◌∷◌, map, None, Option}
-use Rattle.sql_value.specs.declared.column.ColumnDef.{ColumnDef}
+use Rattle.sql_types.specs.ColumnDef.{ColumnDef}
 use Rattle.sql_types.specs.declared.version.TypedValue.{TypedValue}
 use Rattle.sql_types.specs.declared.version.Table.{Table}
 use Rattle.sql_types.specs.declared.version.Version.{Version}
-use Rattle.spec_model.specs.Rows.{EventId, value_or_null}
-use Rattle.spec_model.specs.Keys.{Key, key_of, has_live_row}
-use Rattle.spec_model.specs.Changes.{Change, Starts, Ends}
-use Rattle.spec_model.specs.Catalog.{Tables}
-use Rattle.spec_model.specs.ChangeSets.{TableChange, changed_in}
+use Rattle.law_frame.specs.Rows.{EventId, value_or_null}
+use Rattle.law_frame.specs.Keys.{Key, key_of, has_live_row}
+use Rattle.law_frame.specs.Changes.{Change, Starts, Ends}
+use Rattle.law_frame.specs.Catalog.{Tables}
+use Rattle.law_frame.specs.ChangeSets.{TableChange, changed_in}
 use Rattle.law_journal.specs.Fits.{Fits}
 
 -- the key that values have

@@ -1,8 +1,8 @@
 -- Rows that fit their columns.
 use Rattle.std.specs.Prelude.{◌≡◌, ◌≢◌, true, List, [], ◌∷◌, Option, Some, None}
-use Rattle.sql_value.specs.declared.value.Value.TheVariants.{Null}
-use Rattle.sql_value.specs.declared.column.ColumnDef.{ColumnDef}
-use Rattle.sql_value.specs.Stored.{is_stored}
+use Rattle.sql_types.specs.Value.TheVariants.{Null}
+use Rattle.sql_types.specs.ColumnDef.{ColumnDef}
+use Rattle.sql_types.specs.Stored.{is_stored}
 use Rattle.sql_types.specs.declared.version.TypedValue.{TypedValue}
 
 -- NULL where the column may be NULL, and else a value of the column's type that the type stores

@@ -3,13 +3,13 @@
 -- key one ends before the other starts; and each version fits its table.
 use Rattle.std.specs.Prelude.{ℕ, ◌+◌, ◌≡◌, ◌<◌, ◌⊎◌, true, cond, nat_lt, List, [], ◌∷◌, Option, Some, None, IfSome}
 use Rattle.std.specs.List.{AllByRecursion, sum_by}
-use Rattle.sql_value.specs.declared.column.ColumnDef.{ColumnDef}
+use Rattle.sql_types.specs.ColumnDef.{ColumnDef}
 use Rattle.sql_types.specs.declared.version.Table.{Table}
 use Rattle.sql_types.specs.declared.version.Version.{Version}
-use Rattle.spec_model.specs.Rows.{EventId, same_event}
-use Rattle.spec_model.specs.Keys.{same_key, version_key}
-use Rattle.spec_model.specs.Catalog.{Tables}
-use Rattle.spec_model.specs.Runs.{Sound}
+use Rattle.law_frame.specs.Rows.{EventId, same_event}
+use Rattle.law_frame.specs.Keys.{same_key, version_key}
+use Rattle.law_frame.specs.Catalog.{Tables}
+use Rattle.law_frame.specs.Runs.{Sound}
 use Rattle.law_journal.specs.Fits.{Fits}
 
 -- ---- how many starts and ends are this event

@@ -2,17 +2,17 @@
 
 ghost use Rattle.std.specs.Prelude.{ℕ, ◌≡◌, ◌+◌, Bool, List, Option};
 ghost use Rattle.std.specs.List.{AllByRecursion};
-ghost use Rattle.sql_value.specs.declared.refusal.Refusal.{Refusal};
+ghost use Rattle.sql_types.specs.Refusal.{Refusal};
 ghost use Rattle.sql_types.specs.declared.journal.JournalItem.{JournalItem};
 ghost use Rattle.sql_types.specs.declared.reply.Reply.TheVariants.{Refused};
 ghost use Rattle.sql_types.specs.declared.statement.Stmt.{Stmt};
-ghost use Rattle.spec_model.specs.Catalog.{Tables};
-ghost use Rattle.spec_model.specs.Effect.{effect};
-ghost use Rattle.spec_model.specs.Journals.{cut, serial, IsLegal};
-ghost use Rattle.spec_model.specs.ChangeSets.{TableChange, changed_in, change_set};
-ghost use Rattle.spec_model.specs.Runs.{Sound};
-ghost use Rattle.spec_model.specs.Script.{Reading, State, by_statement, script};
-ghost use Rattle.spec_model.specs.SystemTables.{first_tables};
+ghost use Rattle.law_frame.specs.Catalog.{Tables};
+ghost use Rattle.law_frame.specs.Effect.{effect};
+ghost use Rattle.law_frame.specs.Journals.{cut, serial, IsLegal};
+ghost use Rattle.law_frame.specs.ChangeSets.{TableChange, changed_in, change_set};
+ghost use Rattle.law_frame.specs.Runs.{Sound};
+ghost use Rattle.law_frame.specs.Script.{Reading, State, by_statement, script};
+ghost use Rattle.law_frame.specs.SystemTables.{first_tables};
 ghost use Rattle.law_journal.specs.AppendOnly.{AllKeepRows};
 ghost use Rattle.law_journal.specs.Described.{Described};
 ghost use Rattle.law_journal.specs.Fine.{IsFineIn, AllFine};

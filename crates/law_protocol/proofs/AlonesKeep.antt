@@ -5,14 +5,14 @@ use lib.ListN.{get_elem?}
 use Rattle.spec_model.specs.Catalog.{defs_of}
 use Rattle.spec_model.specs.Journals.{serial}
 use Rattle.spec_history.specs.Acts.{SessionAct}
-use Rattle.spec_protocol.specs.ActsOf.{alone_acts}
-use Rattle.spec_protocol.specs.AnonymousActs.{AnonymousAct, did, alones_acts}
-use Rattle.spec_protocol.specs.Follows.{alone_lines, alones_lines}
-use Rattle.spec_protocol.specs.Alone.{Alone, Alones, none, more}
-use Rattle.spec_protocol.specs.Cells.{Cell, LedgerCell}
-use Rattle.spec_protocol.specs.Seats.{SeatState}
-use Rattle.spec_protocol.specs.Server.{Server}
-use Rattle.spec_protocol.specs.StandTogether.{History, LocksAskedFor, Stands, StandsDone, StandsNext}
+use Rattle.law_protocol_steps.specs.ActsOf.{alone_acts}
+use Rattle.law_protocol_steps.specs.AnonymousActs.{AnonymousAct, did, alones_acts}
+use Rattle.law_protocol_steps.specs.Follows.{alone_lines, alones_lines}
+use Rattle.law_protocol_steps.specs.Alone.{Alone, Alones, none, more}
+use Rattle.law_protocol_steps.specs.Cells.{Cell, LedgerCell}
+use Rattle.law_protocol_steps.specs.Seats.{SeatState}
+use Rattle.law_protocol_steps.specs.Server.{Server}
+use Rattle.law_protocol_steps.specs.StandTogether.{History, LocksAskedFor, Stands, StandsDone, StandsNext}
 use Rattle.law_protocol_ledger.proofs.AloneStands.{alone_keeps}
 use Rattle.law_protocol.proofs.AssignNoId.{alone_none}
 use Rattle.law_protocol.proofs.FollowsSteps.{alone_follows}
@@ -20,14 +20,14 @@ use Rattle.law_protocol.proofs.DecidesSteps.{alone_decides}
 use Rattle.law_protocol.proofs.KeepsRequested.{alone_requested}
 use Rattle.law_protocol.proofs.OneSeat.{OneSeat, none_did, one_did, one_on}
 use Rattle.law_protocol.proofs.SeatNames.{alone_names}
-use Rattle.spec_protocol.specs.SeatNames.{names_of}
-use Rattle.spec_protocol.specs.Contents.{contents}
-use Rattle.spec_protocol.specs.LocksAreRequested.{LocksAreRequested}
+use Rattle.law_protocol_steps.specs.SeatNames.{names_of}
+use Rattle.law_protocol_steps.specs.Contents.{contents}
+use Rattle.law_protocol_steps.specs.LocksAreRequested.{LocksAreRequested}
 use Rattle.law_protocol_steps.proofs.GoesOn.{after_acts}
 use Rattle.law_protocol_tables.proofs.KeepsAsked.{same_ledger, stay_asked}
-use Rattle.spec_protocol.specs.InactiveExcept.{InactiveExcept}
+use Rattle.law_protocol_steps.specs.InactiveExcept.{InactiveExcept}
 use Rattle.law_protocol.proofs.StepsAlone.{alone_one_at_a_time}
-use Rattle.spec_protocol.proofs.Places.{set_else, set_again, set_here, set_same}
+use Rattle.law_protocol_steps.proofs.Places.{set_else, set_again, set_here, set_same}
 
 -- one step
 pub one_keeps : (v : Server) (cells : List Cell) (seats : List SeatState) {history : History} (st : Stands v history cells seats) → LocksAskedFor st → (j : ℕ) (s t : SeatState) → get_elem? seats j ≡ some s → (step : Alone v s t) → StandsDone v j history (map did (alone_acts step)) cells (slice_set seats j t)

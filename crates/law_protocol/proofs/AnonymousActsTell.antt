@@ -7,7 +7,7 @@ use Rattle.spec_history.specs.Inputs.{InputLine}
 use Rattle.spec_history.specs.Sessions.{SessionState}
 use Rattle.spec_history.specs.Transcripts.{end_of_session}
 use Rattle.spec_history.specs.Worlds.{World, step}
-use Rattle.spec_protocol.specs.AnonymousActs.{anonymous_act}
+use Rattle.law_protocol_steps.specs.AnonymousActs.{anonymous_act}
 
 -- two histories begin with one act
 record SameFirst (a b : SessionAct) (es fs : List Act) : Type 0 where

@@ -7,13 +7,13 @@ use Rattle.spec_history.specs.Lists.{Text, Each}
 use Rattle.spec_history.specs.Meaning.{Meaning}
 use Rattle.spec_history.specs.Transcripts.{Kind, unread, begin, commit, roll_back, to_savepoint, create, rows, issue, keep, kind_of}
 use Rattle.spec_history.specs.Acts.{says, commits, fails}
-use Rattle.spec_protocol.specs.Server.{Server}
-use Rattle.spec_protocol.specs.ActsOf.{done_acts, checked_acts, failed_acts, failed_in, commit_acts, end_acts, alone_acts}
-use Rattle.spec_protocol.specs.Alone.{Alone}
-use Rattle.spec_protocol.specs.Alone as alone
-use Rattle.spec_protocol.specs.LedgerVisits.{Ends, commits_nothing, rolls_back, leaves, did_nothing, was_refused, lacks_memory, lacks_index}
-use Rattle.spec_protocol.specs.OpenOnes.{lines_at}
-use Rattle.spec_protocol.specs.Seats.{OpenTransaction, SessionStatus, SeatState, Session}
+use Rattle.law_protocol_steps.specs.Server.{Server}
+use Rattle.law_protocol_steps.specs.ActsOf.{done_acts, checked_acts, failed_acts, failed_in, commit_acts, end_acts, alone_acts}
+use Rattle.law_protocol_steps.specs.Alone.{Alone}
+use Rattle.law_protocol_steps.specs.Alone as alone
+use Rattle.law_protocol_steps.specs.LedgerVisits.{Ends, commits_nothing, rolls_back, leaves, did_nothing, was_refused, lacks_memory, lacks_index}
+use Rattle.law_protocol_steps.specs.OpenOnes.{lines_at}
+use Rattle.law_protocol_steps.specs.Seats.{OpenTransaction, SessionStatus, SeatState, Session}
 use Rattle.law_protocol_steps.proofs.AskedMore.{NotFree}
 use Rattle.law_protocol_tables.proofs.AskedStays.{AssignsNoId}
 

@@ -1,5 +1,5 @@
 -- The cells at the beginning and the first seat stand together.
-use Rattle.spec_protocol.specs.AllowedVisit.{first_seat}
+use Rattle.law_protocol_steps.specs.AllowedVisit.{first_seat}
 use Rattle.std.proofs.Common.{◌≡◌, ℕ, zero, suc, ◌+◌, ◌≤◌, Bool, true, false, List, [], ◌∷◌, refl, sym, ap, ◌∙◌, subst, inl, arith, Option, Some, None}
 use Rattle.std.proofs.lemmas.Bool.{ne_eqb}
 use Rattle.std.specs.Prelude.{◌==◌, if◌then◌else◌}
@@ -14,18 +14,18 @@ use Rattle.spec_model.specs.Limits.{max_block}
 use Rattle.spec_model.specs.Runs.{Rising}
 use Rattle.spec_model.specs.Journals.{serial_from, serial}
 use Rattle.spec_history.specs.Lists.{Text, Each, In}
-use Rattle.spec_protocol.specs.Server.{Server}
-use Rattle.spec_protocol.specs.Cells.{TableCell, Cell, Rows, first_catalog, first_ledger, empty_cells, first_cells, holds_in, holds_found, holds_at, versions_in, versions_found, versions_at, cell_of}
-use Rattle.spec_protocol.specs.Seats.{OpenTransaction, Session, Role, session, SeatState, idle_seat}
-use Rattle.spec_protocol.specs.OpenOnes.{HasOpen}
-use Rattle.spec_protocol.specs.CommittedTxs.{committed}
-use Rattle.spec_protocol.specs.Contents.{Contents, Known, contents, known, table_found}
-use Rattle.spec_protocol.specs.TablesAreSerial.{StandsAs, def_at}
-use Rattle.spec_protocol.specs.LocksAreRequested.{LocksAreRequested}
-use Rattle.spec_protocol.specs.LocksCover.{IsUnderLocks}
-use Rattle.spec_protocol.specs.Parts.{Numbers}
-use Rattle.spec_protocol.specs.TranscriptsAgree.{SeatAgrees, TranscriptsAgree}
-use Rattle.spec_protocol.specs.StandTogether.{LocksAskedFor, Stands}
+use Rattle.law_protocol_steps.specs.Server.{Server}
+use Rattle.law_protocol_steps.specs.Cells.{TableCell, Cell, Rows, first_catalog, first_ledger, empty_cells, first_cells, holds_in, holds_found, holds_at, versions_in, versions_found, versions_at, cell_of}
+use Rattle.law_protocol_steps.specs.Seats.{OpenTransaction, Session, Role, session, SeatState, idle_seat}
+use Rattle.law_protocol_steps.specs.OpenOnes.{HasOpen}
+use Rattle.law_protocol_steps.specs.CommittedTxs.{committed}
+use Rattle.law_protocol_steps.specs.Contents.{Contents, Known, contents, known, table_found}
+use Rattle.law_protocol_steps.specs.TablesAreSerial.{StandsAs, def_at}
+use Rattle.law_protocol_steps.specs.LocksAreRequested.{LocksAreRequested}
+use Rattle.law_protocol_steps.specs.LocksCover.{IsUnderLocks}
+use Rattle.law_protocol_steps.specs.Parts.{Numbers}
+use Rattle.law_protocol_steps.specs.TranscriptsAgree.{SeatAgrees, TranscriptsAgree}
+use Rattle.law_protocol_steps.specs.StandTogether.{LocksAskedFor, Stands}
 use Rattle.spec_model.specs.Agreement.{columns_at}
 use Rattle.spec_model.specs.Keys.{of_key}
 use Rattle.spec_ledger.specs.Ledger.{ledger_from}

@@ -10,13 +10,13 @@ use Rattle.spec_history.specs.Lists.{Text, In}
 use Rattle.spec_history.specs.Real.{requests_cell}
 use Rattle.spec_history.specs.Transactions.{unfixed}
 use Rattle.spec_history.specs.Worlds.{first, run}
-use Rattle.spec_protocol.specs.Server.{Server}
-use Rattle.spec_protocol.specs.Cells.{Cell, holds_at}
-use Rattle.spec_protocol.specs.LocksWereAsked.{IsAskedFor, WasAsked}
-use Rattle.spec_protocol.specs.OpenOnes.{HasOpen, texts_so_far}
-use Rattle.spec_protocol.specs.Seats.{OpenTransaction, SeatState, Session}
-use Rattle.spec_protocol.specs.StandTogether.{History, LocksAskedFor, Stands}
-use Rattle.spec_protocol.specs.RequestsIn.{of_cell}
+use Rattle.law_protocol_steps.specs.Server.{Server}
+use Rattle.law_protocol_steps.specs.Cells.{Cell, holds_at}
+use Rattle.law_protocol_steps.specs.LocksWereAsked.{IsAskedFor, WasAsked}
+use Rattle.law_protocol_steps.specs.OpenOnes.{HasOpen, texts_so_far}
+use Rattle.law_protocol_steps.specs.Seats.{OpenTransaction, SeatState, Session}
+use Rattle.law_protocol_steps.specs.StandTogether.{History, LocksAskedFor, Stands}
+use Rattle.law_protocol_steps.specs.RequestsIn.{of_cell}
 use Rattle.law_protocol_steps.proofs.ActedFor.{sessions_at}
 use Rattle.law_protocol_tables.proofs.AskedStays.{asked_it}
 use Rattle.law_protocol_steps.proofs.Ids.{InTransaction, in_transaction, apart, each_in}

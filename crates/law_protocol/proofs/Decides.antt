@@ -15,16 +15,16 @@ use Rattle.spec_history.specs.Sessions.{SessionTransaction, SessionState, fresh,
 use Rattle.spec_history.specs.Transactions.{Transaction, on_some, unfixed}
 use Rattle.spec_history.specs.Worlds.{World, first, run, step, tables}
 use Rattle.spec_history.proofs.Cuts.{run_append}
-use Rattle.spec_protocol.specs.Server.{Server}
-use Rattle.spec_protocol.specs.Cells.{Cell, catalog_at, holds_at}
-use Rattle.spec_protocol.specs.AnonymousActs.{AnonymousAct, did, anonymous_act}
-use Rattle.spec_protocol.specs.LocksCover.{KeepsLocks}
-use Rattle.spec_protocol.specs.LocksDecideIn.{LocksDecideIn}
-use Rattle.spec_protocol.specs.OpenOnes.{HasOpen, script_so_far, text_at, texts_so_far}
-use Rattle.spec_protocol.specs.Parts.{IsTransaction}
-use Rattle.spec_protocol.specs.Seats.{OpenTransaction, inside, StatementProgress, Session, SeatState}
-use Rattle.spec_protocol.specs.StandTogether.{History, Stands}
-use Rattle.spec_protocol.specs.RequestsIn.{requests_in, Holds}
+use Rattle.law_protocol_steps.specs.Server.{Server}
+use Rattle.law_protocol_steps.specs.Cells.{Cell, catalog_at, holds_at}
+use Rattle.law_protocol_steps.specs.AnonymousActs.{AnonymousAct, did, anonymous_act}
+use Rattle.law_protocol_steps.specs.LocksCover.{KeepsLocks}
+use Rattle.law_protocol_steps.specs.LocksDecideIn.{LocksDecideIn}
+use Rattle.law_protocol_steps.specs.OpenOnes.{HasOpen, script_so_far, text_at, texts_so_far}
+use Rattle.law_protocol_steps.specs.Parts.{IsTransaction}
+use Rattle.law_protocol_steps.specs.Seats.{OpenTransaction, inside, StatementProgress, Session, SeatState}
+use Rattle.law_protocol_steps.specs.StandTogether.{History, Stands}
+use Rattle.law_protocol_steps.specs.RequestsIn.{requests_in, Holds}
 use Rattle.law_protocol_steps.proofs.ByLocksMore.{below_first}
 use Rattle.law_protocol_steps.proofs.AnonymousActs.{at_after}
 use Rattle.law_protocol.proofs.FreeOrMet.{none_there}

@@ -25,35 +25,35 @@ use Rattle.spec_history.specs.Transcripts.{Kind, unread, begin, commit, roll_bac
 use Rattle.spec_history.specs.Worlds.{first, run, tables}
 use Rattle.spec_history.specs.ExactRefusals.{held_beside, in_the_way}
 use Rattle.spec_history.proofs.Settles.{in_left, in_right}
-use Rattle.spec_protocol.specs.Server.{Server}
-use Rattle.spec_protocol.specs.ActsOf.{closings, done_acts, checked_acts, end_acts, failed_acts, failed_in, alone_acts}
-use Rattle.spec_protocol.specs.Alone.{Alone}
-use Rattle.spec_protocol.specs.Alone as alone
-use Rattle.spec_protocol.specs.CatalogVisits.{StopsInCatalog}
-use Rattle.spec_protocol.specs.Cells.{Cell, Catalog, CatalogCell, Ledger, LedgerCell, Rows, TableCell, catalog_at, holds_at, holds_found, pending_in}
-use Rattle.spec_protocol.specs.Contents.{contents}
-use Rattle.spec_protocol.specs.AnonymousActs.{AnonymousAct, did, anonymous_act, stopped_acts, visit_anonymous_acts}
-use Rattle.spec_protocol.specs.Doing.{Stopped, blocked, no_memory, done, stage_after, with_line, with_reply}
-use Rattle.spec_protocol.specs.LedgerVisits.{Ends, commits_nothing, rolls_back, leaves, did_nothing, was_refused, lacks_memory, lacks_index, closed_by, next_block}
-use Rattle.spec_protocol.specs.LocksAreRequested.{LocksAreRequested}
-use Rattle.spec_protocol.specs.LocksCover.{IsNamed}
-use Rattle.spec_protocol.specs.RowsAgree.{IsExplicitAt}
-use Rattle.spec_protocol.specs.LocksDecideIn.{LocksDecideIn}
-use Rattle.spec_protocol.specs.Moves.{InStatement, InOpenTransaction, at_place, saying, sits}
-use Rattle.spec_protocol.specs.OpenOnes.{HasOpen, last_line, lines_at, script_so_far}
-use Rattle.spec_protocol.specs.Parts.{IsTransaction}
-use Rattle.spec_protocol.specs.Seats.{OpenTransaction, SessionStatus, between, inside, leaving, StatementProgress, begun, found, made, going_back, replied, answering, refused, Session, SeatState, session}
-use Rattle.spec_protocol.specs.StandTogether.{History, LocksAskedFor, Stands}
-use Rattle.spec_protocol.specs.TableVisits.{StopsInTable, requests_here}
-use Rattle.spec_protocol.specs.Visits as visit
-use Rattle.spec_protocol.specs.Visits.{Visit, Happens}
-use Rattle.spec_protocol.specs.RequestsIn.{of_catalog}
+use Rattle.law_protocol_steps.specs.Server.{Server}
+use Rattle.law_protocol_steps.specs.ActsOf.{closings, done_acts, checked_acts, end_acts, failed_acts, failed_in, alone_acts}
+use Rattle.law_protocol_steps.specs.Alone.{Alone}
+use Rattle.law_protocol_steps.specs.Alone as alone
+use Rattle.law_protocol_steps.specs.CatalogVisits.{StopsInCatalog}
+use Rattle.law_protocol_steps.specs.Cells.{Cell, Catalog, CatalogCell, Ledger, LedgerCell, Rows, TableCell, catalog_at, holds_at, holds_found, pending_in}
+use Rattle.law_protocol_steps.specs.Contents.{contents}
+use Rattle.law_protocol_steps.specs.AnonymousActs.{AnonymousAct, did, anonymous_act, stopped_acts, visit_anonymous_acts}
+use Rattle.law_protocol_steps.specs.Doing.{Stopped, blocked, no_memory, done, stage_after, with_line, with_reply}
+use Rattle.law_protocol_steps.specs.LedgerVisits.{Ends, commits_nothing, rolls_back, leaves, did_nothing, was_refused, lacks_memory, lacks_index, closed_by, next_block}
+use Rattle.law_protocol_steps.specs.LocksAreRequested.{LocksAreRequested}
+use Rattle.law_protocol_steps.specs.LocksCover.{IsNamed}
+use Rattle.law_protocol_steps.specs.RowsAgree.{IsExplicitAt}
+use Rattle.law_protocol_steps.specs.LocksDecideIn.{LocksDecideIn}
+use Rattle.law_protocol_steps.specs.Moves.{InStatement, InOpenTransaction, at_place, saying, sits}
+use Rattle.law_protocol_steps.specs.OpenOnes.{HasOpen, last_line, lines_at, script_so_far}
+use Rattle.law_protocol_steps.specs.Parts.{IsTransaction}
+use Rattle.law_protocol_steps.specs.Seats.{OpenTransaction, SessionStatus, between, inside, leaving, StatementProgress, begun, found, made, going_back, replied, answering, refused, Session, SeatState, session}
+use Rattle.law_protocol_steps.specs.StandTogether.{History, LocksAskedFor, Stands}
+use Rattle.law_protocol_steps.specs.TableVisits.{StopsInTable, requests_here}
+use Rattle.law_protocol_steps.specs.Visits as visit
+use Rattle.law_protocol_steps.specs.Visits.{Visit, Happens}
+use Rattle.law_protocol_steps.specs.RequestsIn.{of_catalog}
 use Rattle.law_protocol_tables.proofs.Barring.{Bars, first_bars}
 use Rattle.law_protocol_steps.proofs.CatalogThere.{catalog_there}
 use Rattle.law_protocol.proofs.Decides.{IsSilent, SaidAt, all_silent, is_its, meets_one, says_first, says_one, says_then}
 use Rattle.law_protocol.proofs.FreeOrMet.{met_in_catalog, met_in_table}
 use Rattle.law_protocol.proofs.HeldStatements.{map_in}
-use Rattle.spec_protocol.proofs.Places.{set_here}
+use Rattle.law_protocol_steps.proofs.Places.{set_here}
 use Rattle.law_protocol_tables.proofs.PassedRequests.{requests_found}
 use Rattle.law_protocol_steps.proofs.TakesInTable.{IsAtPlace}
 use Rattle.law_protocol_tables.proofs.VisitsAsked.{got, lies, looked}

@@ -4,7 +4,7 @@ use Rattle.spec_history.specs.Acts.{Act, by, closes}
 use Rattle.spec_history.specs.Histories.{line_by, lines_of}
 use Rattle.spec_history.specs.Inputs.{InputLine}
 use Rattle.spec_history.specs.Worlds.{World, run, step}
-use Rattle.spec_protocol.specs.Follows.{BeginInTurn, Follows}
+use Rattle.law_protocol_steps.specs.Follows.{BeginInTurn, Follows}
 
 lines_append : (w : World) (es fs : List Act) → lines_of w (es ++ fs) ≡ lines_of w es ++ lines_of (run w es) fs
 lines_append w [] fs = refl

@@ -16,26 +16,26 @@ use Rattle.spec_history.proofs.Cuts.{good_append, run_append}
 use Rattle.spec_history.proofs.Settles.{in_append, in_right}
 use Rattle.spec_history.proofs.Trace.{each_weaker}
 use Rattle.spec_model.specs.Journals.{tx_count}
-use Rattle.spec_protocol.specs.ActsOf.{alone_acts}
-use Rattle.spec_protocol.specs.Alone.{Alone}
-use Rattle.spec_protocol.specs.Alone as alone
-use Rattle.spec_protocol.specs.Cells.{Cell, Catalog, Ledger, Rows, pending_in}
-use Rattle.spec_protocol.specs.AnonymousActs.{AnonymousAct, did, anonymous_act, visit_anonymous_acts}
-use Rattle.spec_protocol.specs.Follows.{alone_lines, BeginsNext, Follows}
-use Rattle.spec_protocol.specs.OpenOnes.{lines_at}
-use Rattle.spec_protocol.specs.Seats.{Session, SeatState, session}
-use Rattle.spec_protocol.specs.Server.{Server}
-use Rattle.spec_protocol.specs.StandTogether.{History, IsOfSeat, Stands, StandsDone}
-use Rattle.spec_protocol.specs.TranscriptsAgree.{TranscriptsAgree}
-use Rattle.spec_protocol.specs.Visits as visit
-use Rattle.spec_protocol.specs.Visits.{Visit, Happens}
+use Rattle.law_protocol_steps.specs.ActsOf.{alone_acts}
+use Rattle.law_protocol_steps.specs.Alone.{Alone}
+use Rattle.law_protocol_steps.specs.Alone as alone
+use Rattle.law_protocol_steps.specs.Cells.{Cell, Catalog, Ledger, Rows, pending_in}
+use Rattle.law_protocol_steps.specs.AnonymousActs.{AnonymousAct, did, anonymous_act, visit_anonymous_acts}
+use Rattle.law_protocol_steps.specs.Follows.{alone_lines, BeginsNext, Follows}
+use Rattle.law_protocol_steps.specs.OpenOnes.{lines_at}
+use Rattle.law_protocol_steps.specs.Seats.{Session, SeatState, session}
+use Rattle.law_protocol_steps.specs.Server.{Server}
+use Rattle.law_protocol_steps.specs.StandTogether.{History, IsOfSeat, Stands, StandsDone}
+use Rattle.law_protocol_steps.specs.TranscriptsAgree.{TranscriptsAgree}
+use Rattle.law_protocol_steps.specs.Visits as visit
+use Rattle.law_protocol_steps.specs.Visits.{Visit, Happens}
 use Rattle.law_protocol.proofs.Decides.{done_first, nothing_more}
 use Rattle.law_protocol_steps.proofs.AnonymousActs.{at_after}
 use Rattle.law_protocol_steps.proofs.Ids.{each_in, running}
 use Rattle.law_protocol_ledger.proofs.NoneWanting.{listed_is, past_over}
 use Rattle.law_protocol.proofs.OneAtATime.{IsPlain}
 use Rattle.law_protocol.proofs.OneSeat.{counted}
-use Rattle.spec_protocol.proofs.Places.{set_here}
+use Rattle.law_protocol_steps.proofs.Places.{set_here}
 use Rattle.law_protocol.proofs.SeatNames.{has_begun}
 use Rattle.law_protocol.proofs.StepsAlone.{checked_plain, closings_plain, done_plain, end_plain, failed_in_plain, says_plain, stopped_plain}
 

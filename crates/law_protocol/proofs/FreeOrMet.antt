@@ -21,13 +21,13 @@ use Rattle.spec_history.specs.Serial as serials
 use Rattle.spec_history.specs.Sessions.{SessionTransaction}
 use Rattle.spec_history.specs.Worlds.{World, first, run, tables}
 use Rattle.spec_history.proofs.Settles.{in_left, in_right}
-use Rattle.spec_protocol.specs.Server.{Server}
-use Rattle.spec_protocol.specs.Cells.{Cell, catalog_at, cell_of}
-use Rattle.spec_protocol.specs.Contents.{Contents, contents}
-use Rattle.spec_protocol.specs.LocksAreRequested.{LocksAreRequested}
-use Rattle.spec_protocol.specs.Seats.{SeatState}
-use Rattle.spec_protocol.specs.StandTogether.{History, LocksAskedFor, Stands}
-use Rattle.spec_protocol.specs.RequestsIn.{of_catalog, of_cell, requests_in, Holds}
+use Rattle.law_protocol_steps.specs.Server.{Server}
+use Rattle.law_protocol_steps.specs.Cells.{Cell, catalog_at, cell_of}
+use Rattle.law_protocol_steps.specs.Contents.{Contents, contents}
+use Rattle.law_protocol_steps.specs.LocksAreRequested.{LocksAreRequested}
+use Rattle.law_protocol_steps.specs.Seats.{SeatState}
+use Rattle.law_protocol_steps.specs.StandTogether.{History, LocksAskedFor, Stands}
+use Rattle.law_protocol_steps.specs.RequestsIn.{of_catalog, of_cell, requests_in, Holds}
 use Rattle.law_protocol.proofs.HeldStatements.{IsRequestedBy, holds_of, names_same, none_in_way}
 use Rattle.law_protocol_steps.proofs.Ids.{each_in}
 use Rattle.law_protocol_steps.proofs.JournalMore.{same_serial}

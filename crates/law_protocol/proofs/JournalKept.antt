@@ -29,13 +29,13 @@ use Rattle.spec_history.proofs.Alone.{alone_step}
 use Rattle.spec_history.proofs.IdsAssigned.{all_named}
 use Rattle.spec_history.proofs.Legal.{closings_run}
 use Rattle.spec_history.proofs.Trace.{each_append, ids_from, ids_to}
-use Rattle.spec_protocol.specs.Cells.{Cell}
-use Rattle.spec_protocol.specs.JournalForms.{HaveForms, journal_in}
-use Rattle.spec_protocol.specs.SeatNames.{names_of}
-use Rattle.spec_protocol.specs.Seats.{SeatState}
-use Rattle.spec_protocol.specs.Server.{Server}
-use Rattle.spec_protocol.specs.StandTogether.{History, Stands}
-use Rattle.spec_protocol.specs.TranscriptsAgree.{IsMoment, TranscriptsAgree}
+use Rattle.law_protocol_steps.specs.Cells.{Cell}
+use Rattle.law_protocol_steps.specs.JournalForms.{HaveForms, journal_in}
+use Rattle.law_protocol_steps.specs.SeatNames.{names_of}
+use Rattle.law_protocol_steps.specs.Seats.{SeatState}
+use Rattle.law_protocol_steps.specs.Server.{Server}
+use Rattle.law_protocol_steps.specs.StandTogether.{History, Stands}
+use Rattle.law_protocol_steps.specs.TranscriptsAgree.{IsMoment, TranscriptsAgree}
 use Rattle.law_protocol_steps.proofs.FreshIds.{none_in_tables}
 use Rattle.law_protocol.proofs.HeldStatements.{in_flat}
 use Rattle.law_protocol_steps.proofs.Ids.{each_in}

@@ -21,20 +21,20 @@ use Rattle.spec_model.specs.Locks.{catalog_request}
 use Rattle.spec_history.specs.Lists.{Text, In, Some_of}
 use Rattle.spec_history.specs.Real.{requests_catalog}
 use Rattle.spec_history.specs.Transactions.{unfixed, committed, ended}
-use Rattle.spec_protocol.specs.Alone.{Alone}
-use Rattle.spec_protocol.specs.Alone as alone
-use Rattle.spec_protocol.specs.Answering.{refused_by_check}
-use Rattle.spec_protocol.specs.Cells.{CatalogCell, LedgerCell, Cell, Catalog, Ledger, Rows, TableCell, catalog_at, holds_at, holds_found}
-use Rattle.spec_protocol.specs.Contents.{Contents, contents}
-use Rattle.spec_protocol.specs.Doing.{done, stage_refused, with_line}
-use Rattle.spec_protocol.specs.Moves.{InOpenTransaction, at_place, then_at, visiting}
-use Rattle.spec_protocol.specs.LocksAreRequested.{LocksAreRequested, RequestsCatalog}
-use Rattle.spec_protocol.specs.LocksCover.{HasLock, LookedFirst}
-use Rattle.spec_protocol.specs.OpenOnes.{HasOpen}
-use Rattle.spec_protocol.specs.Seats.{OpenTransaction, SessionStatus, StatementProgress, begun, found, going_back, inside, Role, idle, session, builder, kept, split, Session, SeatState}
-use Rattle.spec_protocol.specs.Server.{Server}
-use Rattle.spec_protocol.specs.StandTogether.{History, Stands}
-use Rattle.spec_protocol.specs.Visits.{Visit, assign_id, look, read_system, create_table, create_index, refuse_create, stop_in_catalog, change, refuse_change, read, stop_in_table, add_index, undo_to, commit, read_point, release, release_catalog, give_back, close, issue, lack_block, keep, nothing, Happens}
+use Rattle.law_protocol_steps.specs.Alone.{Alone}
+use Rattle.law_protocol_steps.specs.Alone as alone
+use Rattle.law_protocol_steps.specs.Answering.{refused_by_check}
+use Rattle.law_protocol_steps.specs.Cells.{CatalogCell, LedgerCell, Cell, Catalog, Ledger, Rows, TableCell, catalog_at, holds_at, holds_found}
+use Rattle.law_protocol_steps.specs.Contents.{Contents, contents}
+use Rattle.law_protocol_steps.specs.Doing.{done, stage_refused, with_line}
+use Rattle.law_protocol_steps.specs.Moves.{InOpenTransaction, at_place, then_at, visiting}
+use Rattle.law_protocol_steps.specs.LocksAreRequested.{LocksAreRequested, RequestsCatalog}
+use Rattle.law_protocol_steps.specs.LocksCover.{HasLock, LookedFirst}
+use Rattle.law_protocol_steps.specs.OpenOnes.{HasOpen}
+use Rattle.law_protocol_steps.specs.Seats.{OpenTransaction, SessionStatus, StatementProgress, begun, found, going_back, inside, Role, idle, session, builder, kept, split, Session, SeatState}
+use Rattle.law_protocol_steps.specs.Server.{Server}
+use Rattle.law_protocol_steps.specs.StandTogether.{History, Stands}
+use Rattle.law_protocol_steps.specs.Visits.{Visit, assign_id, look, read_system, create_table, create_index, refuse_create, stop_in_catalog, change, refuse_change, read, stop_in_table, add_index, undo_to, commit, read_point, release, release_catalog, give_back, close, issue, lack_block, keep, nothing, Happens}
 use Rattle.law_protocol_steps.proofs.AfterSet.{set_here, set_else, set_same}
 use Rattle.law_protocol_steps.proofs.CatalogThere.{catalog_held, catalog_there}
 use Rattle.law_protocol_steps.proofs.AssignsId.{at_own, no_lock}
@@ -44,7 +44,7 @@ use Rattle.law_protocol_steps.proofs.OpenSeats.{Own, owns_none, was_open}
 use Rattle.law_protocol_ledger.proofs.Splits.{back}
 use Rattle.law_protocol_steps.proofs.Taken.{taken_comes}
 use Rattle.law_protocol_tables.proofs.VisitsAsked.{were_held}
-use Rattle.spec_protocol.specs.CatalogVisits.{Looks}
+use Rattle.law_protocol_steps.specs.CatalogVisits.{Looks}
 use Rattle.spec_model.specs.Catalog.{find_part}
 
 -- ---- scripts

@@ -10,13 +10,13 @@ use Rattle.spec_history.specs.Sessions.{gone, transcript_of}
 use Rattle.spec_history.specs.Transcripts.{Transcript}
 use Rattle.spec_history.specs.Worlds.{first, run}
 use Rattle.spec_history.proofs.TranscriptsSoFar.{told}
-use Rattle.spec_protocol.specs.AtTheEnd.{HasItsImages, image_items}
-use Rattle.spec_protocol.specs.Cells.{Cell}
-use Rattle.spec_protocol.specs.Parts.{Past}
-use Rattle.spec_protocol.specs.Seats.{SeatState, Written}
-use Rattle.spec_protocol.specs.Server.{Server}
-use Rattle.spec_protocol.specs.StandTogether.{History, Stands}
-use Rattle.spec_protocol.specs.TranscriptsAgree.{ImagesOfPast, image_of}
+use Rattle.law_protocol_steps.specs.AtTheEnd.{HasItsImages, image_items}
+use Rattle.law_protocol_steps.specs.Cells.{Cell}
+use Rattle.law_protocol_steps.specs.Parts.{Past}
+use Rattle.law_protocol_steps.specs.Seats.{SeatState, Written}
+use Rattle.law_protocol_steps.specs.Server.{Server}
+use Rattle.law_protocol_steps.specs.StandTogether.{History, Stands}
+use Rattle.law_protocol_steps.specs.TranscriptsAgree.{ImagesOfPast, image_of}
 use Rattle.law_protocol_ledger.proofs.GoneFree.{gone_rests}
 
 -- an act shows the image that it keeps, and no other

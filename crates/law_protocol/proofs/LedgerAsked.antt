@@ -12,13 +12,13 @@ use Rattle.spec_history.specs.Acts.{SessionAct, by, closes, assigns_id}
 use Rattle.spec_history.specs.Sessions.{SessionState}
 use Rattle.spec_history.specs.Worlds.{World, first, run, step}
 use Rattle.spec_history.proofs.Cuts.{good_append, run_append}
-use Rattle.spec_protocol.specs.Server.{Server}
-use Rattle.spec_protocol.specs.ActsOf.{closings}
-use Rattle.spec_protocol.specs.Cells.{Cell, Ledger, LedgerCell, ledger_at, holds_at, pending_in}
-use Rattle.spec_protocol.specs.LedgerVisits.{all_closed, closed_by}
-use Rattle.spec_protocol.specs.LocksWereAsked.{IsAskedFor, WasAsked}
-use Rattle.spec_protocol.specs.Seats.{SeatState}
-use Rattle.spec_protocol.specs.StandTogether.{History, LocksAskedFor, Stands, StandsAfter}
+use Rattle.law_protocol_steps.specs.Server.{Server}
+use Rattle.law_protocol_steps.specs.ActsOf.{closings}
+use Rattle.law_protocol_steps.specs.Cells.{Cell, Ledger, LedgerCell, ledger_at, holds_at, pending_in}
+use Rattle.law_protocol_steps.specs.LedgerVisits.{all_closed, closed_by}
+use Rattle.law_protocol_steps.specs.LocksWereAsked.{IsAskedFor, WasAsked}
+use Rattle.law_protocol_steps.specs.Seats.{SeatState}
+use Rattle.law_protocol_steps.specs.StandTogether.{History, LocksAskedFor, Stands, StandsAfter}
 use Rattle.law_protocol_steps.proofs.ActedFor.{sessions_at}
 use Rattle.law_protocol_steps.proofs.AfterSet.{set_here}
 use Rattle.law_protocol_steps.proofs.AskedMore.{NotFree, asked_by_all}

@@ -5,14 +5,14 @@ use Rattle.std.specs.Prelude.{if◌then◌else◌, nat_le}
 use mathlib.Core.Option.{some}
 use lib.ListN.{get_elem?}
 use Rattle.spec_history.specs.Lists.{Text}
-use Rattle.spec_protocol.specs.Server.{Server}
-use Rattle.spec_protocol.specs.Cells.{Cell, Catalog, Ledger, LedgerCell, Rows, ledger_at, pending_in}
-use Rattle.spec_protocol.specs.LedgerVisits.{all_closed, closed_by}
-use Rattle.spec_protocol.specs.AllowedVisit.{OutsAreIn, AllowedVisit}
-use Rattle.spec_protocol.specs.Seats.{SeatState}
-use Rattle.spec_protocol.specs.StandTogether.{History, Stands}
-use Rattle.spec_protocol.specs.Steps.{Step, alone, visits, splits, joins, Steps, none, more}
-use Rattle.spec_protocol.specs.Visits.{Visit, assign_id, commit, read_point, close, issue, lack_block, keep, nothing, Happens}
+use Rattle.law_protocol_steps.specs.Server.{Server}
+use Rattle.law_protocol_steps.specs.Cells.{Cell, Catalog, Ledger, LedgerCell, Rows, ledger_at, pending_in}
+use Rattle.law_protocol_steps.specs.LedgerVisits.{all_closed, closed_by}
+use Rattle.law_protocol_steps.specs.AllowedVisit.{OutsAreIn, AllowedVisit}
+use Rattle.law_protocol_steps.specs.Seats.{SeatState}
+use Rattle.law_protocol_steps.specs.StandTogether.{History, Stands}
+use Rattle.law_protocol_steps.specs.Steps.{Step, alone, visits, splits, joins, Steps, none, more}
+use Rattle.law_protocol_steps.specs.Visits.{Visit, assign_id, commit, read_point, close, issue, lack_block, keep, nothing, Happens}
 use Rattle.law_protocol_steps.proofs.AfterSet.{set_else, set_here}
 
 -- the second has the database and the block size of the first

@@ -17,16 +17,16 @@ use Rattle.spec_history.specs.Worlds.{World, first, run, step}
 use Rattle.spec_history.proofs.Cuts.{good_append, run_append}
 use Rattle.spec_history.proofs.Settles.{in_append, in_right}
 use Rattle.spec_history.proofs.Setup.{silent}
-use Rattle.spec_protocol.specs.Cells.{Cell}
-use Rattle.spec_protocol.specs.AnonymousActs.{AnonymousAct, did, anonymous_act}
-use Rattle.spec_protocol.specs.InactiveExcept.{IsInactive, InactiveExcept}
-use Rattle.spec_protocol.specs.OpenOnes.{text_at}
-use Rattle.spec_protocol.specs.Parts.{IsNow, Now}
-use Rattle.spec_protocol.specs.Seats.{SessionStatus, inside, StatementProgress, Role, session, Session, SeatState}
-use Rattle.spec_protocol.specs.Server.{Server}
-use Rattle.spec_protocol.specs.StandTogether.{History, IsOfSeat, Stands}
-use Rattle.spec_protocol.specs.TranscriptsAgree.{TranscriptsAgree}
-use Rattle.spec_protocol.specs.TranscriptsSoFar.{shown_at}
+use Rattle.law_protocol_steps.specs.Cells.{Cell}
+use Rattle.law_protocol_steps.specs.AnonymousActs.{AnonymousAct, did, anonymous_act}
+use Rattle.law_protocol_steps.specs.InactiveExcept.{IsInactive, InactiveExcept}
+use Rattle.law_protocol_steps.specs.OpenOnes.{text_at}
+use Rattle.law_protocol_steps.specs.Parts.{IsNow, Now}
+use Rattle.law_protocol_steps.specs.Seats.{SessionStatus, inside, StatementProgress, Role, session, Session, SeatState}
+use Rattle.law_protocol_steps.specs.Server.{Server}
+use Rattle.law_protocol_steps.specs.StandTogether.{History, IsOfSeat, Stands}
+use Rattle.law_protocol_steps.specs.TranscriptsAgree.{TranscriptsAgree}
+use Rattle.law_protocol_steps.specs.TranscriptsSoFar.{shown_at}
 use Rattle.law_protocol.proofs.Decides.{done_first, nothing_more}
 use Rattle.law_protocol_steps.proofs.AfterSet.{all_at}
 use Rattle.law_protocol_steps.proofs.AnonymousActs.{at_after}

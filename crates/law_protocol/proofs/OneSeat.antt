@@ -13,18 +13,18 @@ use Rattle.spec_history.proofs.Cuts.{good_append, run_append}
 use Rattle.spec_history.proofs.Names.{Named, keeps_name}
 use Rattle.spec_history.proofs.Settles.{in_right}
 use Rattle.spec_history.proofs.Trace.{each_append, each_weaker}
-use Rattle.spec_protocol.specs.Cells.{Cell}
-use Rattle.spec_protocol.specs.Contents.{contents}
-use Rattle.spec_protocol.specs.AnonymousActs.{AnonymousAct}
-use Rattle.spec_protocol.specs.Follows.{Follows}
+use Rattle.law_protocol_steps.specs.Cells.{Cell}
+use Rattle.law_protocol_steps.specs.Contents.{contents}
+use Rattle.law_protocol_steps.specs.AnonymousActs.{AnonymousAct}
+use Rattle.law_protocol_steps.specs.Follows.{Follows}
 use Rattle.law_protocol.proofs.FollowsMore.{follows_append}
-use Rattle.spec_protocol.specs.LocksAreRequested.{LocksAreRequested}
-use Rattle.spec_protocol.specs.LocksDecideIn.{LocksDecideIn}
-use Rattle.spec_protocol.specs.SeatNames.{OthersDiffer, names_of}
-use Rattle.spec_protocol.specs.Seats.{SeatState}
-use Rattle.spec_protocol.specs.Server.{Server}
-use Rattle.spec_protocol.specs.StandTogether.{History, IsOfSeat, LocksAskedFor, Stands, StandsDone}
-use Rattle.spec_protocol.specs.TranscriptsAgree.{TranscriptsAgree}
+use Rattle.law_protocol_steps.specs.LocksAreRequested.{LocksAreRequested}
+use Rattle.law_protocol_steps.specs.LocksDecideIn.{LocksDecideIn}
+use Rattle.law_protocol_steps.specs.SeatNames.{OthersDiffer, names_of}
+use Rattle.law_protocol_steps.specs.Seats.{SeatState}
+use Rattle.law_protocol_steps.specs.Server.{Server}
+use Rattle.law_protocol_steps.specs.StandTogether.{History, IsOfSeat, LocksAskedFor, Stands, StandsDone}
+use Rattle.law_protocol_steps.specs.TranscriptsAgree.{TranscriptsAgree}
 use Rattle.spec_history.specs.Histories.{OneAtATime}
 use Rattle.law_protocol_steps.proofs.AfterSet.{all_at}
 use Rattle.law_protocol_steps.proofs.ByLocksMore.{alone_append}

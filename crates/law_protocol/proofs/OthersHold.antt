@@ -20,18 +20,18 @@ use Rattle.spec_history.specs.Sessions.{SessionTransaction, SessionState, view, 
 use Rattle.spec_history.specs.Transactions.{Transaction, listed, unfixed}
 use Rattle.spec_history.specs.Worlds.{World, first, run}
 use Rattle.spec_history.proofs.Settles.{in_append, in_left}
-use Rattle.spec_protocol.specs.Server.{Server}
-use Rattle.spec_protocol.specs.Cells.{Cell, catalog_at}
-use Rattle.spec_protocol.specs.Contents.{Contents, contents}
-use Rattle.spec_protocol.specs.LocksAreRequested.{LocksAreRequested}
-use Rattle.spec_protocol.specs.LocksCover.{Belongs, KeepsLocks, LookedFirst}
-use Rattle.spec_protocol.specs.LocksWereAsked.{IsAskedFor, IsRequested}
-use Rattle.spec_protocol.specs.OpenOnes.{HasOpen, lines_at, script_so_far, text_at, texts_so_far}
-use Rattle.spec_protocol.specs.Parts.{AreTransactions, IsNow, IsTransaction, Now}
-use Rattle.spec_protocol.specs.Seats.{OpenTransaction, SessionStatus, between, inside, leaving, Role, session, Session, SeatState}
-use Rattle.spec_protocol.specs.StandTogether.{History, LocksAskedFor, Stands}
-use Rattle.spec_protocol.specs.TranscriptsAgree.{TranscriptsAgree}
-use Rattle.spec_protocol.specs.RequestsIn.{of_catalog, of_cell, requests_in, Holds}
+use Rattle.law_protocol_steps.specs.Server.{Server}
+use Rattle.law_protocol_steps.specs.Cells.{Cell, catalog_at}
+use Rattle.law_protocol_steps.specs.Contents.{Contents, contents}
+use Rattle.law_protocol_steps.specs.LocksAreRequested.{LocksAreRequested}
+use Rattle.law_protocol_steps.specs.LocksCover.{Belongs, KeepsLocks, LookedFirst}
+use Rattle.law_protocol_steps.specs.LocksWereAsked.{IsAskedFor, IsRequested}
+use Rattle.law_protocol_steps.specs.OpenOnes.{HasOpen, lines_at, script_so_far, text_at, texts_so_far}
+use Rattle.law_protocol_steps.specs.Parts.{AreTransactions, IsNow, IsTransaction, Now}
+use Rattle.law_protocol_steps.specs.Seats.{OpenTransaction, SessionStatus, between, inside, leaving, Role, session, Session, SeatState}
+use Rattle.law_protocol_steps.specs.StandTogether.{History, LocksAskedFor, Stands}
+use Rattle.law_protocol_steps.specs.TranscriptsAgree.{TranscriptsAgree}
+use Rattle.law_protocol_steps.specs.RequestsIn.{of_catalog, of_cell, requests_in, Holds}
 use Rattle.law_protocol_ledger.proofs.GoneFree.{gone_free}
 use Rattle.law_protocol.proofs.HeldStatements.{Made, at_held, held_at, in_map, statement_of}
 use Rattle.law_protocol.proofs.IdleOnes.{idle_goes_on}

@@ -6,19 +6,19 @@ use Rattle.spec_history.specs.Transactions.{listed}
 use Rattle.spec_history.specs.Transcripts.{Transcript}
 use Rattle.spec_history.specs.Worlds.{first, run}
 use Rattle.spec_history.proofs.Settles.{in_append, in_left, in_right}
-use Rattle.spec_protocol.specs.Alone.{Alone, Alones, none, more}
-use Rattle.spec_protocol.specs.Alone as alone
+use Rattle.law_protocol_steps.specs.Alone.{Alone, Alones, none, more}
+use Rattle.law_protocol_steps.specs.Alone as alone
 use Rattle.spec_history.specs.Transcripts.{end_of_session}
-use Rattle.spec_protocol.specs.Answering.{with_entry, written_of}
-use Rattle.spec_protocol.specs.Cells.{Cell, Catalog, Ledger, LedgerCell, Rows}
-use Rattle.spec_protocol.specs.Parts.{Now}
-use Rattle.spec_protocol.specs.SeatNames.{names_of, session_names}
-use Rattle.spec_protocol.specs.Seats.{Role, between, idle, builder, session, Session, SeatState, Written}
-use Rattle.spec_protocol.specs.Server.{Server}
-use Rattle.spec_protocol.specs.StandTogether.{History}
-use Rattle.spec_protocol.specs.TranscriptsAgree.{TranscriptsAgree}
-use Rattle.spec_protocol.specs.Visits.{Visit, Happens}
-use Rattle.spec_protocol.specs.Visits as visit
+use Rattle.law_protocol_steps.specs.Answering.{with_entry, written_of}
+use Rattle.law_protocol_steps.specs.Cells.{Cell, Catalog, Ledger, LedgerCell, Rows}
+use Rattle.law_protocol_steps.specs.Parts.{Now}
+use Rattle.law_protocol_steps.specs.SeatNames.{names_of, session_names}
+use Rattle.law_protocol_steps.specs.Seats.{Role, between, idle, builder, session, Session, SeatState, Written}
+use Rattle.law_protocol_steps.specs.Server.{Server}
+use Rattle.law_protocol_steps.specs.StandTogether.{History}
+use Rattle.law_protocol_steps.specs.TranscriptsAgree.{TranscriptsAgree}
+use Rattle.law_protocol_steps.specs.Visits.{Visit, Happens}
+use Rattle.law_protocol_steps.specs.Visits as visit
 use Rattle.law_protocol_ledger.proofs.NoneWanting.{listed_is, past_over}
 use Rattle.law_protocol.proofs.TheEnd.{past_has}
 

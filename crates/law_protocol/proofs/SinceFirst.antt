@@ -3,18 +3,18 @@ use Rattle.std.proofs.Common.{◌≡◌, ◌≤◌, ℕ, List, [], ◌∷◌, ma
 use mathlib.Core.Option.{some}
 use Rattle.spec_model.specs.Limits.{max_block}
 use Rattle.spec_history.specs.Lists.{Text}
-use Rattle.spec_protocol.specs.Cells.{Cell, Ledger, LedgerCell, first_cells, first_ledger}
-use Rattle.spec_protocol.specs.AnonymousActs.{anonymous_act, steps_anonymous_acts}
-use Rattle.spec_protocol.specs.Follows.{Follows, steps_lines}
-use Rattle.spec_protocol.specs.LocksDecideIn.{LocksDecideIn}
-use Rattle.spec_protocol.specs.AllowedVisit.{first_seat}
-use Rattle.spec_protocol.specs.Seats.{SeatState}
-use Rattle.spec_protocol.specs.Server.{Server}
-use Rattle.spec_protocol.specs.StandTogether.{Stands, StandsLater, StandTogether}
+use Rattle.law_protocol_steps.specs.Cells.{Cell, Ledger, LedgerCell, first_cells, first_ledger}
+use Rattle.law_protocol_steps.specs.AnonymousActs.{anonymous_act, steps_anonymous_acts}
+use Rattle.law_protocol_steps.specs.Follows.{Follows, steps_lines}
+use Rattle.law_protocol_steps.specs.LocksDecideIn.{LocksDecideIn}
+use Rattle.law_protocol_steps.specs.AllowedVisit.{first_seat}
+use Rattle.law_protocol_steps.specs.Seats.{SeatState}
+use Rattle.law_protocol_steps.specs.Server.{Server}
+use Rattle.law_protocol_steps.specs.StandTogether.{Stands, StandsLater, StandTogether}
 use Rattle.spec_history.specs.Histories.{OneAtATime}
 use Rattle.spec_history.specs.Worlds.{first}
-use Rattle.spec_protocol.specs.Steps.{Steps}
-use Rattle.spec_protocol.specs.OneByOne.{OneByOne}
+use Rattle.law_protocol_steps.specs.Steps.{Steps}
+use Rattle.law_protocol_steps.specs.OneByOne.{OneByOne}
 use Rattle.law_protocol.proofs.Beginning.{begins, none_asked, none_requested}
 use Rattle.law_protocol.proofs.StepsKeep.{all_alone}
 

@@ -5,12 +5,12 @@ use Rattle.spec_history.specs.Histories.{IsWhole, SessionsBelow, lines_of, rows_
 use Rattle.spec_history.specs.Worlds.{first}
 use Rattle.spec_history.proofs.ByLocks.{exact_refusals}
 use Rattle.spec_history.proofs.Ordered as ordered
-use Rattle.spec_protocol.specs.Cells.{Cell}
-use Rattle.spec_protocol.specs.LocksDecideIn.{LocksDecideIn}
-use Rattle.spec_protocol.specs.Seats.{SeatState}
-use Rattle.spec_protocol.specs.Server.{Server}
-use Rattle.spec_protocol.specs.StandTogether.{History, Stands}
-use Rattle.spec_protocol.specs.StepOrderThen.{KeepsStepOrder}
+use Rattle.law_protocol_steps.specs.Cells.{Cell}
+use Rattle.law_protocol_steps.specs.LocksDecideIn.{LocksDecideIn}
+use Rattle.law_protocol_steps.specs.Seats.{SeatState}
+use Rattle.law_protocol_steps.specs.Server.{Server}
+use Rattle.law_protocol_steps.specs.StandTogether.{History, Stands}
+use Rattle.law_protocol_steps.specs.StepOrderThen.{KeepsStepOrder}
 use Rattle.law_protocol.proofs.TheEnd.{below}
 
 pub keeps_order : (v : Server) (history : History) (cells : List Cell) (seats : List SeatState) (st : Stands v history cells seats) → LocksDecideIn v [] history → KeepsStepOrder v history seats st.ledger.items

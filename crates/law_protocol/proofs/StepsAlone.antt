@@ -16,23 +16,23 @@ use Rattle.spec_history.specs.Transactions.{unfixed}
 use Rattle.spec_history.specs.Transcripts.{Kind, unread, begin, commit, roll_back, to_savepoint, create, rows, issue, keep, kind_of}
 use Rattle.spec_history.specs.Worlds.{World, first, run, step}
 use Rattle.spec_history.proofs.Cuts.{good_append}
-use Rattle.spec_protocol.specs.Server.{Server}
-use Rattle.spec_protocol.specs.ActsOf.{closings, done_acts, checked_acts, end_acts, failed_acts, failed_in, alone_acts}
-use Rattle.spec_protocol.specs.Alone.{Alone}
-use Rattle.spec_protocol.specs.Alone as alone
-use Rattle.spec_protocol.specs.Cells.{Cell, Catalog, Ledger, LedgerCell, Rows, pending_in}
-use Rattle.spec_protocol.specs.AnonymousActs.{AnonymousAct, did, closed, anonymous_act, stopped_acts, visit_anonymous_acts}
-use Rattle.spec_protocol.specs.Doing.{Stopped, blocked, no_memory}
-use Rattle.spec_protocol.specs.LedgerVisits.{Ends, commits_nothing, rolls_back, leaves, did_nothing, was_refused, lacks_memory, lacks_index, closed_by, next_block}
-use Rattle.spec_protocol.specs.InactiveExcept.{IsInactive, InactiveExcept}
-use Rattle.spec_protocol.specs.OpenOnes.{lines_at, text_at}
-use Rattle.spec_protocol.specs.Seats.{OpenTransaction, SessionStatus, between, inside, leaving, StatementProgress, Session, SeatState, Role, idle, session}
-use Rattle.spec_protocol.specs.StandTogether.{History, Stands, StandsDone}
-use Rattle.spec_protocol.specs.TranscriptsSoFar.{end_shown, shown_at}
-use Rattle.spec_protocol.specs.Visits as visit
-use Rattle.spec_protocol.specs.Visits.{Visit, Happens}
+use Rattle.law_protocol_steps.specs.Server.{Server}
+use Rattle.law_protocol_steps.specs.ActsOf.{closings, done_acts, checked_acts, end_acts, failed_acts, failed_in, alone_acts}
+use Rattle.law_protocol_steps.specs.Alone.{Alone}
+use Rattle.law_protocol_steps.specs.Alone as alone
+use Rattle.law_protocol_steps.specs.Cells.{Cell, Catalog, Ledger, LedgerCell, Rows, pending_in}
+use Rattle.law_protocol_steps.specs.AnonymousActs.{AnonymousAct, did, closed, anonymous_act, stopped_acts, visit_anonymous_acts}
+use Rattle.law_protocol_steps.specs.Doing.{Stopped, blocked, no_memory}
+use Rattle.law_protocol_steps.specs.LedgerVisits.{Ends, commits_nothing, rolls_back, leaves, did_nothing, was_refused, lacks_memory, lacks_index, closed_by, next_block}
+use Rattle.law_protocol_steps.specs.InactiveExcept.{IsInactive, InactiveExcept}
+use Rattle.law_protocol_steps.specs.OpenOnes.{lines_at, text_at}
+use Rattle.law_protocol_steps.specs.Seats.{OpenTransaction, SessionStatus, between, inside, leaving, StatementProgress, Session, SeatState, Role, idle, session}
+use Rattle.law_protocol_steps.specs.StandTogether.{History, Stands, StandsDone}
+use Rattle.law_protocol_steps.specs.TranscriptsSoFar.{end_shown, shown_at}
+use Rattle.law_protocol_steps.specs.Visits as visit
+use Rattle.law_protocol_steps.specs.Visits.{Visit, Happens}
 use Rattle.law_protocol.proofs.OneAtATime.{IsPlain, answers_end, answers_one, inside_alone, leaves_last, none_does, one_leaving, one_inactive}
-use Rattle.spec_protocol.proofs.Places.{set_here}
+use Rattle.law_protocol_steps.proofs.Places.{set_here}
 
 -- ---- plain acts
 

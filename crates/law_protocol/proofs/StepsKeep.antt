@@ -23,48 +23,48 @@ use Rattle.spec_history.specs.Lists.{Text, Each, In}
 use Rattle.spec_history.specs.Real.{requests_catalog}
 use Rattle.spec_history.specs.Transactions.{End}
 use Rattle.spec_history.specs.Acts.{SessionAct, Act, closes, fails, looks, meets}
-use Rattle.spec_protocol.specs.Server.{Server}
-use Rattle.spec_protocol.specs.AnonymousActs.{AnonymousAct, did, stopped_acts, visit_anonymous_acts, alones_acts, may_anonymous_acts, step_anonymous_acts, steps_anonymous_acts}
-use Rattle.spec_protocol.specs.ActsOf.{alone_acts, closings, commit_acts, done_acts, failed_in}
-use Rattle.spec_protocol.specs.Answering.{error_of, refused_by_check}
-use Rattle.spec_protocol.specs.CatalogVisits.{CreateRefused, StopsInCatalog}
-use Rattle.spec_protocol.specs.Cells.{CatalogCell, LedgerCell, Cell, Catalog, Ledger, Rows, AreCells, TableCell, catalog_at, ledger_at, pending_in}
-use Rattle.spec_protocol.specs.Doing.{Stopped, blocked, no_memory}
-use Rattle.spec_protocol.specs.LedgerVisits.{CommitsNow, closed_by, next_block}
-use Rattle.spec_protocol.specs.LocksWereAsked.{IsAskedFor}
-use Rattle.spec_protocol.specs.OpenOnes.{HasOpen, script_end}
-use Rattle.spec_protocol.specs.Seats.{OpenTransaction, SeatState, kept}
-use Rattle.spec_protocol.specs.StandTogether.{History, IsOfSeat, LocksAskedFor, Stands, StandsAfter, StandsDone, StandsLater, StandsNext}
-use Rattle.spec_protocol.specs.Steps.{Step, alone, visits, splits, joins, Steps, none, more}
-use Rattle.spec_protocol.specs.TableVisits.{Found, StopsInTable, requests_here}
-use Rattle.spec_protocol.specs.UndoVisits.{index_dropped, refused_def, undone_unless}
-use Rattle.spec_protocol.specs.Visits.{Visit, assign_id, look, read_system, create_table, create_index, refuse_create, stop_in_catalog, change, refuse_change, read, stop_in_table, add_index, undo_to, commit, read_point, release, release_catalog, give_back, close, issue, lack_block, keep, nothing, Happens}
-use Rattle.spec_protocol.specs.RequestsIn.{of_catalog}
+use Rattle.law_protocol_steps.specs.Server.{Server}
+use Rattle.law_protocol_steps.specs.AnonymousActs.{AnonymousAct, did, stopped_acts, visit_anonymous_acts, alones_acts, may_anonymous_acts, step_anonymous_acts, steps_anonymous_acts}
+use Rattle.law_protocol_steps.specs.ActsOf.{alone_acts, closings, commit_acts, done_acts, failed_in}
+use Rattle.law_protocol_steps.specs.Answering.{error_of, refused_by_check}
+use Rattle.law_protocol_steps.specs.CatalogVisits.{CreateRefused, StopsInCatalog}
+use Rattle.law_protocol_steps.specs.Cells.{CatalogCell, LedgerCell, Cell, Catalog, Ledger, Rows, AreCells, TableCell, catalog_at, ledger_at, pending_in}
+use Rattle.law_protocol_steps.specs.Doing.{Stopped, blocked, no_memory}
+use Rattle.law_protocol_steps.specs.LedgerVisits.{CommitsNow, closed_by, next_block}
+use Rattle.law_protocol_steps.specs.LocksWereAsked.{IsAskedFor}
+use Rattle.law_protocol_steps.specs.OpenOnes.{HasOpen, script_end}
+use Rattle.law_protocol_steps.specs.Seats.{OpenTransaction, SeatState, kept}
+use Rattle.law_protocol_steps.specs.StandTogether.{History, IsOfSeat, LocksAskedFor, Stands, StandsAfter, StandsDone, StandsLater, StandsNext}
+use Rattle.law_protocol_steps.specs.Steps.{Step, alone, visits, splits, joins, Steps, none, more}
+use Rattle.law_protocol_steps.specs.TableVisits.{Found, StopsInTable, requests_here}
+use Rattle.law_protocol_steps.specs.UndoVisits.{index_dropped, refused_def, undone_unless}
+use Rattle.law_protocol_steps.specs.Visits.{Visit, assign_id, look, read_system, create_table, create_index, refuse_create, stop_in_catalog, change, refuse_change, read, stop_in_table, add_index, undo_to, commit, read_point, release, release_catalog, give_back, close, issue, lack_block, keep, nothing, Happens}
+use Rattle.law_protocol_steps.specs.RequestsIn.{of_catalog}
 use Rattle.law_protocol_steps.proofs.CellsOut.{out_lies}
 use Rattle.law_protocol_steps.proofs.ActedFor.{StandsBy, sessions_at, by_any, looked_then, done_for}
 use Rattle.law_protocol_tables.proofs.AddIndex.{adds_index}
 use Rattle.law_protocol_steps.proofs.AfterSet.{set_same}
-use Rattle.spec_protocol.specs.AllowedVisit.{OutsAreIn, AllowedVisit}
+use Rattle.law_protocol_steps.specs.AllowedVisit.{OutsAreIn, AllowedVisit}
 use Rattle.law_protocol.proofs.AlonesKeep.{alones_one, quiet_then, step_one}
 use Rattle.spec_history.specs.Histories.{OneAtATime}
 use Rattle.spec_history.specs.Inputs.{InputLine}
-use Rattle.spec_protocol.specs.Follows.{Follows, alone_lines, alones_lines, may_lines, step_lines, steps_lines}
+use Rattle.law_protocol_steps.specs.Follows.{Follows, alone_lines, alones_lines, may_lines, step_lines, steps_lines}
 use Rattle.law_protocol.proofs.FollowsMore.{follows_append}
 use Rattle.law_protocol.proofs.FollowsSteps.{visit_follows}
 use Rattle.spec_history.specs.Worlds.{World, first, run}
 use Rattle.spec_history.proofs.Cuts.{run_append}
-use Rattle.spec_protocol.specs.InactiveExcept.{InactiveExcept}
-use Rattle.spec_protocol.specs.OneByOne.{IsOneAlone, OneByOne}
+use Rattle.law_protocol_steps.specs.InactiveExcept.{InactiveExcept}
+use Rattle.law_protocol_steps.specs.OneByOne.{IsOneAlone, OneByOne}
 use Rattle.law_protocol_steps.proofs.ByLocksMore.{alone_append}
 use Rattle.law_protocol.proofs.StepsAlone.{visit_one_at_a_time}
 use Rattle.law_protocol.proofs.OneSeat.{OneSeat, one_did, one_on, quieter, seats_own}
 use Rattle.law_protocol.proofs.SeatNames.{KeepsNames, alones_names, visit_names}
-use Rattle.spec_protocol.specs.SeatNames.{OthersDiffer, names_of}
+use Rattle.law_protocol_steps.specs.SeatNames.{OthersDiffer, names_of}
 use Rattle.law_protocol.proofs.DecidesSteps.{visit_decides}
 use Rattle.law_protocol.proofs.KeepsRequested.{same_requested, split_requested, visit_requested}
-use Rattle.spec_protocol.specs.Contents.{contents}
-use Rattle.spec_protocol.specs.LocksAreRequested.{LocksAreRequested}
-use Rattle.spec_protocol.proofs.Places.{set_again, set_here}
+use Rattle.law_protocol_steps.specs.Contents.{contents}
+use Rattle.law_protocol_steps.specs.LocksAreRequested.{LocksAreRequested}
+use Rattle.law_protocol_steps.proofs.Places.{set_again, set_here}
 use Rattle.law_protocol_steps.proofs.CatalogThere.{catalog_held, catalog_there}
 use Rattle.law_protocol_steps.proofs.AskedMore.{NotFree}
 use Rattle.law_protocol_tables.proofs.AskedStays.{AssignsNoId}

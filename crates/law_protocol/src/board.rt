@@ -5,11 +5,11 @@ ghost use mathlib.Core.Option.{some};
 ghost use lib.ListN.{get_elem?};
 ghost use Rattle.spec_model.specs.Limits.{max_block};
 ghost use Rattle.spec_history.specs.Lists.{Text};
-ghost use Rattle.spec_protocol.specs.Server.{Server};
-ghost use Rattle.spec_protocol.specs.Cells.{Cell, first_cells};
-ghost use Rattle.spec_protocol.specs.Seats.{SeatState, kept, split, joined, nobody, may_end};
-ghost use Rattle.spec_protocol.specs.AllowedVisit.{AllowedVisit, OutsAreIn, first_seat};
-ghost use Rattle.spec_protocol.specs.StandTogether.{StandTogether};
+ghost use Rattle.law_protocol_steps.specs.Server.{Server};
+ghost use Rattle.law_protocol_steps.specs.Cells.{Cell, first_cells};
+ghost use Rattle.law_protocol_steps.specs.Seats.{SeatState, kept, split, joined, nobody, may_end};
+ghost use Rattle.law_protocol_steps.specs.AllowedVisit.{AllowedVisit, OutsAreIn, first_seat};
+ghost use Rattle.law_protocol_steps.specs.StandTogether.{StandTogether};
 
 /// Cells and seats that stand together, from the first cells and the first seat on: a visit that a seat may
 /// make keeps them so, a split does, and a join of a seat that may end. With `StandTogether v` as what

@@ -1,16 +1,16 @@
 -- Two transactions never have X on the rows of one key, and who has X on the catalog is alone there.
 use Rattle.std.proofs.Common.{◌≡◌, ◌≢◌, Bool, List, [], false, inl, inr, refl, subst, sym, true, ℕ, ◌∙◌, ◌∷◌}
 use Rattle.sql_types.specs.declared.lock.Hold.{Hold}
-use Rattle.spec_protocol.specs.Cells.{Cell, holds_at}
+use Rattle.law_protocol_steps.specs.Cells.{Cell, holds_at}
 use Rattle.spec_history.specs.Lists.{Each, In}
-use Rattle.spec_protocol.specs.LocksCover.{HasIntent}
+use Rattle.law_protocol_steps.specs.LocksCover.{HasIntent}
 use Rattle.law_protocol_steps.proofs.Excluded.{HasNoX, excluded}
 use Rattle.spec_model.specs.Keys.{Key}
 use Rattle.sql_types.specs.declared.lock.Mode.{Mode}
 use Rattle.law_frame.proofs.NoClash.{Relies}
-use Rattle.spec_protocol.specs.Seats.{SeatState}
-use Rattle.spec_protocol.specs.Server.{Server}
-use Rattle.spec_protocol.specs.StandTogether.{History, Stands}
+use Rattle.law_protocol_steps.specs.Seats.{SeatState}
+use Rattle.law_protocol_steps.specs.Server.{Server}
+use Rattle.law_protocol_steps.specs.StandTogether.{History, Stands}
 use Rattle.law_frame.proofs.SameKeys.{and_true}
 use Rattle.spec_model.specs.Reach.{has_key, is_exclusive, lets_change}
 use Rattle.law_protocol_steps.proofs.Locks.{no_conflict}

@@ -21,21 +21,21 @@ use Rattle.law_frame.proofs.AtTable.{before_at}
 use Rattle.law_frame.proofs.UndoneVersions.{nothing_undone}
 use Rattle.spec_history.specs.Lists.{Text, In}
 use Rattle.spec_history.specs.Transactions.{unfixed}
-use Rattle.spec_protocol.specs.Server.{Server}
+use Rattle.law_protocol_steps.specs.Server.{Server}
 use Rattle.sql_types.specs.declared.lock.Hold.{Hold}
-use Rattle.spec_protocol.specs.Cells.{CatalogCell, TableCell, Cell, Catalog, Rows, holds_at, versions_at, catalog_at, cell_of}
-use Rattle.spec_protocol.specs.Seats.{OpenTransaction, begun, SessionStatus, inside, Session, session, SeatState}
-use Rattle.spec_protocol.specs.OpenOnes.{HasOpen, text_at, lines_at, script_so_far, script_end}
-use Rattle.spec_protocol.specs.OpenScripts.{counted}
-use Rattle.spec_protocol.specs.TableVisits.{with_holds}
-use Rattle.spec_protocol.specs.Moves.{visiting, at_place, sits}
-use Rattle.spec_protocol.specs.RequestsIn.{of_catalog}
+use Rattle.law_protocol_steps.specs.Cells.{CatalogCell, TableCell, Cell, Catalog, Rows, holds_at, versions_at, catalog_at, cell_of}
+use Rattle.law_protocol_steps.specs.Seats.{OpenTransaction, begun, SessionStatus, inside, Session, session, SeatState}
+use Rattle.law_protocol_steps.specs.OpenOnes.{HasOpen, text_at, lines_at, script_so_far, script_end}
+use Rattle.law_protocol_steps.specs.OpenScripts.{counted}
+use Rattle.law_protocol_steps.specs.TableVisits.{with_holds}
+use Rattle.law_protocol_steps.specs.Moves.{visiting, at_place, sits}
+use Rattle.law_protocol_steps.specs.RequestsIn.{of_catalog}
 use Rattle.law_protocol_steps.proofs.Taken.{taken, AreFree}
-use Rattle.spec_protocol.specs.TablesAreSerial.{HasAdded}
-use Rattle.spec_protocol.specs.LocksCover.{IsDropping, LookedFirst}
-use Rattle.spec_protocol.specs.RowsAgree.{IsExplicitAt}
-use Rattle.spec_protocol.specs.CatalogVisits as c
-use Rattle.spec_protocol.specs.StandTogether.{History, Stands}
+use Rattle.law_protocol_steps.specs.TablesAreSerial.{HasAdded}
+use Rattle.law_protocol_steps.specs.LocksCover.{IsDropping, LookedFirst}
+use Rattle.law_protocol_steps.specs.RowsAgree.{IsExplicitAt}
+use Rattle.law_protocol_steps.specs.CatalogVisits as c
+use Rattle.law_protocol_steps.specs.StandTogether.{History, Stands}
 use Rattle.law_protocol_steps.proofs.AfterSet.{set_here, set_else, each_at}
 use Rattle.law_protocol_steps.proofs.CellsAfter.{catalog_changed, held_here}
 use Rattle.law_protocol_steps.proofs.CatalogAlone.{on_all}

@@ -45,22 +45,22 @@ use Rattle.spec_history.specs.Journals.{ids_of}
 use Rattle.spec_history.specs.Refusals.{EndsAt}
 use Rattle.spec_history.specs.Transactions.{End, unfixed}
 use Rattle.spec_history.proofs.Trace.{each_append, each_weaker}
-use Rattle.spec_protocol.specs.Server.{Server}
+use Rattle.law_protocol_steps.specs.Server.{Server}
 use Rattle.sql_types.specs.declared.lock.Hold.{Hold}
-use Rattle.spec_protocol.specs.Cells.{Creator, Index, TableCell, Cell, Rows, holds_at, versions_at, catalog_at, cell_of, AreCells}
-use Rattle.spec_protocol.specs.Seats.{OpenTransaction, made, SessionStatus, inside, Session, SeatState, found}
-use Rattle.spec_protocol.specs.OpenOnes.{HasOpen, text_at, script_so_far, texts_so_far, script_end}
-use Rattle.spec_protocol.specs.OpenScripts.{counted}
-use Rattle.spec_protocol.specs.Moves.{sits}
-use Rattle.spec_protocol.specs.TableVisits.{reordered}
-use Rattle.spec_protocol.specs.Doing.{stage_after, with_line}
-use Rattle.spec_protocol.specs.TablesAreSerial.{IsCarried, def_at, ordinals_of, IsAdding}
+use Rattle.law_protocol_steps.specs.Cells.{Creator, Index, TableCell, Cell, Rows, holds_at, versions_at, catalog_at, cell_of, AreCells}
+use Rattle.law_protocol_steps.specs.Seats.{OpenTransaction, made, SessionStatus, inside, Session, SeatState, found}
+use Rattle.law_protocol_steps.specs.OpenOnes.{HasOpen, text_at, script_so_far, texts_so_far, script_end}
+use Rattle.law_protocol_steps.specs.OpenScripts.{counted}
+use Rattle.law_protocol_steps.specs.Moves.{sits}
+use Rattle.law_protocol_steps.specs.TableVisits.{reordered}
+use Rattle.law_protocol_steps.specs.Doing.{stage_after, with_line}
+use Rattle.law_protocol_steps.specs.TablesAreSerial.{IsCarried, def_at, ordinals_of, IsAdding}
 use Rattle.law_protocol_changes.proofs.CommittedRows.{committed_undone}
 use Rattle.spec_model.specs.ChangeSets.{change_set, defined}
 use Rattle.spec_model.specs.Reach.{creates}
-use Rattle.spec_protocol.specs.RequestsIn.{of_catalog, of_cell, requests_at, requests_in, Holds}
-use Rattle.spec_protocol.specs.LocksCover.{KeepsLocks, Belongs, HasIntent, LookedFirst, IsDropping}
-use Rattle.spec_protocol.specs.StandTogether.{History, Stands}
+use Rattle.law_protocol_steps.specs.RequestsIn.{of_catalog, of_cell, requests_at, requests_in, Holds}
+use Rattle.law_protocol_steps.specs.LocksCover.{KeepsLocks, Belongs, HasIntent, LookedFirst, IsDropping}
+use Rattle.law_protocol_steps.specs.StandTogether.{History, Stands}
 use Rattle.law_protocol_steps.proofs.AfterSet.{set_here, set_else, each_at, all_at}
 use Rattle.law_protocol_steps.proofs.CellsAfter.{held_here, table_changed}
 use Rattle.law_protocol_steps.proofs.SeatsAfter.{one_session, open_here, open_else, each_open, kept_open}
@@ -71,13 +71,13 @@ use Rattle.law_protocol_steps.proofs.RowsFor.{sound, script_left}
 use Rattle.law_protocol_steps.proofs.Takes.{tables_now}
 use Rattle.law_protocol_changes.proofs.ChangesAt as ch
 use Rattle.law_protocol_steps.proofs.OfCells.{LookedAt, AreDefinitions, AreIndexes, Creates, EndLiesUnder, GoesBack, HasItsTrees, HasLock, HasLooked, HoldsInCatalog, IsGotAt, IsIndexed, IsOfItsScript, IsUnderLocks, IsUnderWay, LiesUnder, LocksAgree, LocksCover, OpenScripts, SeatHas, StandsAs, RequestsNone, committed, in_journal, looked_now, looked_so, table_there}
-use Rattle.spec_protocol.specs.Contents.{HasAlone, contents, table_found}
+use Rattle.law_protocol_steps.specs.Contents.{HasAlone, contents, table_found}
 use Rattle.law_protocol_steps.proofs.VisitActs.{done_act}
 use Rattle.law_protocol_steps.proofs.GotMore.{got_at_more}
 use Rattle.spec_history.specs.Transcripts.{kind_of}
 use Rattle.spec_model.specs.Touched.{touched}
 use Rattle.law_protocol_changes.proofs.Apart.{x_apart}
-use Rattle.spec_protocol.specs.ActsOf.{done_acts}
+use Rattle.law_protocol_steps.specs.ActsOf.{done_acts}
 
 -- ---- equal keys
 

@@ -24,11 +24,11 @@ use Rattle.law_frame.proofs.SameKeys.{same_itself}
 use Rattle.law_frame.proofs.Sounds.{rising_changed, before_changed}
 use Rattle.law_frame.proofs.UndoneVersions.{Undoes, change_undoes, still_undoes}
 use Rattle.spec_history.specs.Lists.{In}
-use Rattle.spec_protocol.specs.EventsIn.{events_in}
-use Rattle.spec_protocol.specs.Cells.{cell_of}
-use Rattle.spec_protocol.specs.Seats.{going_back, SessionStatus, inside}
-use Rattle.spec_protocol.specs.OpenScripts.{counted}
-use Rattle.spec_protocol.specs.RowsAgree.{GoesBackTo}
+use Rattle.law_protocol_steps.specs.EventsIn.{events_in}
+use Rattle.law_protocol_steps.specs.Cells.{cell_of}
+use Rattle.law_protocol_steps.specs.Seats.{going_back, SessionStatus, inside}
+use Rattle.law_protocol_steps.specs.OpenScripts.{counted}
+use Rattle.law_protocol_steps.specs.RowsAgree.{GoesBackTo}
 use Rattle.spec_model.specs.Touched as t
 use Rattle.law_frame.proofs.SameTouched as touching
 

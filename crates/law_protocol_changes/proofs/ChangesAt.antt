@@ -35,18 +35,18 @@ use Rattle.law_frame.proofs.SameChangeSet.{same_changes}
 use Rattle.law_frame.proofs.UndoneVersions.{row_undoes}
 use Rattle.spec_history.specs.Lists.{Text, Each, In}
 use Rattle.spec_history.specs.Transactions.{unfixed}
-use Rattle.spec_protocol.specs.Server.{Server}
+use Rattle.law_protocol_steps.specs.Server.{Server}
 use Rattle.sql_types.specs.declared.lock.Hold.{Hold}
-use Rattle.spec_protocol.specs.Cells.{TableCell, Cell, Rows, holds_at, versions_at, cell_of}
-use Rattle.spec_protocol.specs.Seats.{OpenTransaction, found, SessionStatus, inside, Session, session, SeatState}
-use Rattle.spec_protocol.specs.OpenOnes.{HasOpen, lines_at, script_so_far, texts_so_far, script_end}
-use Rattle.spec_protocol.specs.OpenScripts.{counted}
-use Rattle.spec_protocol.specs.Moves.{noting, at_place, sits}
-use Rattle.spec_protocol.specs.Doing.{grown, events_from, with_line, with_reply, stage_after}
-use Rattle.spec_protocol.specs.TableVisits.{with_versions}
-use Rattle.spec_protocol.specs.RequestsIn.{Holds}
-use Rattle.spec_protocol.specs.RowsAgree.{GoesBackTo, IsExplicitAt}
-use Rattle.spec_protocol.specs.StandTogether.{History, Stands}
+use Rattle.law_protocol_steps.specs.Cells.{TableCell, Cell, Rows, holds_at, versions_at, cell_of}
+use Rattle.law_protocol_steps.specs.Seats.{OpenTransaction, found, SessionStatus, inside, Session, session, SeatState}
+use Rattle.law_protocol_steps.specs.OpenOnes.{HasOpen, lines_at, script_so_far, texts_so_far, script_end}
+use Rattle.law_protocol_steps.specs.OpenScripts.{counted}
+use Rattle.law_protocol_steps.specs.Moves.{noting, at_place, sits}
+use Rattle.law_protocol_steps.specs.Doing.{grown, events_from, with_line, with_reply, stage_after}
+use Rattle.law_protocol_steps.specs.TableVisits.{with_versions}
+use Rattle.law_protocol_steps.specs.RequestsIn.{Holds}
+use Rattle.law_protocol_steps.specs.RowsAgree.{GoesBackTo, IsExplicitAt}
+use Rattle.law_protocol_steps.specs.StandTogether.{History, Stands}
 use Rattle.law_protocol_steps.proofs.SeatsAfter.{Goes, each_open}
 use Rattle.law_protocol_steps.proofs.CellsAfter.{held_here, each_holds, versions_here, were_here, versions_else}
 use Rattle.law_protocol_changes.proofs.ChangedRows.{all_rising, all_before, all_untouched, keys_follow, all_undo, undone_of_key, IsCounted, all_count, some_undone, counted_is, later, undone_before}

@@ -31,12 +31,12 @@ use Rattle.spec_model.specs.Locks.{whole, catalog_request}
 use Rattle.spec_model.specs.ChangeSets.{change_set, create_table_change_set, create_index_change_set, defined, in_place}
 use Rattle.spec_model.specs.Reach.{creates}
 use Rattle.spec_model.specs.Replies.{reply_text}
-use Rattle.spec_protocol.specs.EventsIn.{events_in}
-use Rattle.spec_protocol.specs.TreesAreOfEvents.{AreTrees}
+use Rattle.law_protocol_steps.specs.EventsIn.{events_in}
+use Rattle.law_protocol_steps.specs.TreesAreOfEvents.{AreTrees}
 use Rattle.sql_types.specs.declared.event.Event.{Event}
-use Rattle.spec_protocol.specs.Doing.{grown, events_from}
+use Rattle.law_protocol_steps.specs.Doing.{grown, events_from}
 use Rattle.law_protocol_changes.proofs.Grown.{grown_trees}
-use Rattle.spec_protocol.specs.CatalogVisits.{with_table, with_new_index, with_system_leaves, replaced_def}
+use Rattle.law_protocol_steps.specs.CatalogVisits.{with_table, with_new_index, with_system_leaves, replaced_def}
 use Rattle.std.specs.Prelude.{nat_le}
 use Rattle.std.proofs.lemmas.Bool.Decides.{nat_tests}
 use Rattle.std.specs.List.{filter}
@@ -53,16 +53,16 @@ use Rattle.law_journal.specs.Described.{Described}
 use Rattle.law_journal.proofs.DefLists.{defs_append, defs_redefined}
 use Rattle.law_journal.proofs.Serials.{legal_described}
 use Rattle.spec_history.specs.Lists.{Text, In}
-use Rattle.spec_protocol.specs.Server.{Server}
+use Rattle.law_protocol_steps.specs.Server.{Server}
 use Rattle.sql_types.specs.declared.lock.Hold.{Hold}
-use Rattle.spec_protocol.specs.Cells.{CatalogCell, Cell, Catalog, versions_in, versions_at, catalog_at, cell_of}
-use Rattle.spec_protocol.specs.Seats.{OpenTransaction, begun, made, replied, inside, Session, SeatState}
-use Rattle.spec_protocol.specs.RequestsIn.{Holds}
-use Rattle.spec_protocol.specs.Moves.{visiting, noting, InOpenTransaction, at_place, sits}
-use Rattle.spec_protocol.specs.Doing.{with_reply, with_line, stage_after}
-use Rattle.spec_protocol.specs.LocksCover.{IsRepliedTo, IsAfter}
-use Rattle.spec_protocol.specs.CatalogVisits.{CreateRefused, RefusesCreate, CreatesTable, CreatesIndex}
-use Rattle.spec_protocol.specs.StandTogether.{History, Stands}
+use Rattle.law_protocol_steps.specs.Cells.{CatalogCell, Cell, Catalog, versions_in, versions_at, catalog_at, cell_of}
+use Rattle.law_protocol_steps.specs.Seats.{OpenTransaction, begun, made, replied, inside, Session, SeatState}
+use Rattle.law_protocol_steps.specs.RequestsIn.{Holds}
+use Rattle.law_protocol_steps.specs.Moves.{visiting, noting, InOpenTransaction, at_place, sits}
+use Rattle.law_protocol_steps.specs.Doing.{with_reply, with_line, stage_after}
+use Rattle.law_protocol_steps.specs.LocksCover.{IsRepliedTo, IsAfter}
+use Rattle.law_protocol_steps.specs.CatalogVisits.{CreateRefused, RefusesCreate, CreatesTable, CreatesIndex}
+use Rattle.law_protocol_steps.specs.StandTogether.{History, Stands}
 use Rattle.law_protocol_steps.proofs.AfterSet.{set_here, set_same, set_twice}
 use Rattle.law_protocol_steps.proofs.CellsAfter.{were_here, versions_here}
 use Rattle.law_protocol_steps.proofs.Looks.{put_there}

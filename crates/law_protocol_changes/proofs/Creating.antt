@@ -24,18 +24,18 @@ use Rattle.spec_history.specs.Lists.{Text, Each, In}
 use Rattle.spec_history.specs.Refusals.{EndsAt}
 use Rattle.spec_history.specs.Transactions.{End, unfixed}
 use Rattle.spec_history.proofs.Trace.{each_weaker}
-use Rattle.spec_protocol.specs.Server.{Server}
+use Rattle.law_protocol_steps.specs.Server.{Server}
 use Rattle.sql_types.specs.declared.lock.Hold.{Hold}
-use Rattle.spec_protocol.specs.Cells.{Creator, TableCell, Cell, Rows, holds_at, versions_at, catalog_at, cell_of}
-use Rattle.spec_protocol.specs.OpenOnes.{HasOpen, script_so_far, script_end}
-use Rattle.spec_protocol.specs.OpenScripts.{counted}
-use Rattle.spec_protocol.specs.EventsIn.{events_in}
-use Rattle.spec_protocol.specs.Moves.{at_place, sits}
-use Rattle.spec_protocol.specs.RequestsIn.{requests_in, Holds}
-use Rattle.spec_protocol.specs.LocksCover as at
-use Rattle.spec_protocol.specs.TablesAreSerial.{HasActed, def_at, ordinals_of, IsAdding, IsCarried}
-use Rattle.spec_protocol.specs.LocksCover.{KeepsLocks, Belongs, HasIntent, LookedFirst, IsDropping}
-use Rattle.spec_protocol.specs.StandTogether.{History, Stands}
+use Rattle.law_protocol_steps.specs.Cells.{Creator, TableCell, Cell, Rows, holds_at, versions_at, catalog_at, cell_of}
+use Rattle.law_protocol_steps.specs.OpenOnes.{HasOpen, script_so_far, script_end}
+use Rattle.law_protocol_steps.specs.OpenScripts.{counted}
+use Rattle.law_protocol_steps.specs.EventsIn.{events_in}
+use Rattle.law_protocol_steps.specs.Moves.{at_place, sits}
+use Rattle.law_protocol_steps.specs.RequestsIn.{requests_in, Holds}
+use Rattle.law_protocol_steps.specs.LocksCover as at
+use Rattle.law_protocol_steps.specs.TablesAreSerial.{HasActed, def_at, ordinals_of, IsAdding, IsCarried}
+use Rattle.law_protocol_steps.specs.LocksCover.{KeepsLocks, Belongs, HasIntent, LookedFirst, IsDropping}
+use Rattle.law_protocol_steps.specs.StandTogether.{History, Stands}
 use Rattle.law_protocol_steps.proofs.AfterSet.{set_here, set_else, all_at}
 use Rattle.law_protocol_steps.proofs.SeatsAfter.{Goes, one_session, open_here, open_else, each_open}
 use Rattle.law_protocol_steps.proofs.CellsAfter.{held_here}
@@ -47,9 +47,9 @@ use Rattle.law_protocol_steps.proofs.Takes.{tables_now}
 use Rattle.sql_types.specs.declared.lock.LockRequest.{LockRequest}
 use Rattle.spec_model.specs.Reach.{lets_change}
 use Rattle.law_protocol_changes.proofs.CommittedRows.{committed_undone}
-use Rattle.spec_protocol.specs.OpenOnes.{lines_at, texts_so_far}
+use Rattle.law_protocol_steps.specs.OpenOnes.{lines_at, texts_so_far}
 use Rattle.spec_history.specs.Facts.{Fact, began}
-use Rattle.spec_protocol.specs.RowsAgree.{GoesBackTo, IsExplicitAt}
+use Rattle.law_protocol_steps.specs.RowsAgree.{GoesBackTo, IsExplicitAt}
 use Rattle.spec_model.specs.Script.{script}
 use Rattle.law_frame.proofs.Definitions.{opened_keep_defs}
 use Rattle.law_frame.proofs.UndoneVersions.{nothing_undone}
@@ -57,9 +57,9 @@ use Rattle.law_frame.proofs.Alls.{all_weaker}
 use Rattle.law_protocol_changes.proofs.ChangedRows.{later}
 use Rattle.law_protocol_steps.proofs.CellsAfter.{each_holds, versions_here, versions_else}
 use Rattle.spec_model.specs.Replies.{reply_text}
-use Rattle.spec_protocol.specs.TreesAreOfEvents.{AreOpenSavepoints}
-use Rattle.spec_protocol.specs.Seats.{OpenTransaction, StatementProgress, begun, made, going_back, replied, found, refused, answering, SessionStatus, between, inside, leaving, Session, session, SeatState}
-use Rattle.spec_protocol.specs.Cells.{CatalogCell, Catalog, versions_in}
+use Rattle.law_protocol_steps.specs.TreesAreOfEvents.{AreOpenSavepoints}
+use Rattle.law_protocol_steps.specs.Seats.{OpenTransaction, StatementProgress, begun, made, going_back, replied, found, refused, answering, SessionStatus, between, inside, leaving, Session, session, SeatState}
+use Rattle.law_protocol_steps.specs.Cells.{CatalogCell, Catalog, versions_in}
 use Rattle.law_protocol_steps.proofs.CellsAfter.{catalog_changed}
 use Rattle.law_protocol_steps.proofs.CatalogAlone.{none_besides}
 use Rattle.law_protocol_steps.proofs.VisitActs.{IsAlike, asks_act, asks_owner, g}
@@ -76,22 +76,22 @@ use Rattle.law_frame.proofs.Definitions.{nothing_done, defs_after}
 use Rattle.law_protocol_steps.proofs.RowsFor.{sound, end_alone}
 use Rattle.law_protocol_steps.proofs.SameOne.{trees_from}
 use Rattle.law_protocol_changes.proofs.ChangedRows.{no_events}
-use Rattle.spec_protocol.specs.TreesAreOfEvents.{AreTrees}
+use Rattle.law_protocol_steps.specs.TreesAreOfEvents.{AreTrees}
 use Rattle.spec_model.specs.Script.{Saved}
-use Rattle.spec_protocol.specs.Seats.{OpenSavepoint}
+use Rattle.law_protocol_steps.specs.Seats.{OpenSavepoint}
 use Rattle.law_protocol_changes.proofs.ChangedRows.{all_rising, all_before, all_untouched, all_undo}
 use Rattle.sql_types.specs.declared.statement.Stmt.TheVariants as st
-use Rattle.spec_protocol.specs.RequestsIn.{of_catalog, of_cell, requests_at}
+use Rattle.law_protocol_steps.specs.RequestsIn.{of_catalog, of_cell, requests_at}
 use Rattle.sql_types.specs.declared.lock.Mode.{Mode}
 use Rattle.spec_model.specs.Runs.{EndsBefore}
 use Rattle.spec_model.specs.Keys.{same_key, version_key}
 use Rattle.law_frame.proofs.LegalSound.{legal_sound}
 use Rattle.law_protocol_steps.proofs.OfCells.{AreDefinitions, AreIndexes, Creates, EndLiesUnder, GoesBack, HasItsTrees, HasLock, HoldsInCatalog, IsFree, IsGotAt, IsIndexed, IsOfItsScript, IsUnderLocks, IsUnderWay, LiesUnder, LocksAgree, LocksCover, OpenScripts, RowsAgree, SeatHas, StandsAs, TreesAreOfEvents, RequestsNone, committed, events_counted, in_journal, LookedAt, looked_now, looked_so, table_there}
-use Rattle.spec_protocol.specs.TranscriptsSoFar.{EndsOwn, ProgressOwn, end_shown, image_in, is_begin, shown_alone, shown_with}
-use Rattle.spec_protocol.specs.Contents.{HasAlone, contents, table_found}
+use Rattle.law_protocol_steps.specs.TranscriptsSoFar.{EndsOwn, ProgressOwn, end_shown, image_in, is_begin, shown_alone, shown_with}
+use Rattle.law_protocol_steps.specs.Contents.{HasAlone, contents, table_found}
 use Rattle.spec_history.specs.Guards.{IsAnswered}
-use Rattle.spec_protocol.specs.TranscriptsAgree.{TranscriptsAgree}
-use Rattle.spec_protocol.specs.Parts.{asking_in}
+use Rattle.law_protocol_steps.specs.TranscriptsAgree.{TranscriptsAgree}
+use Rattle.law_protocol_steps.specs.Parts.{asking_in}
 use Rattle.law_protocol_steps.proofs.FreshIds.{events_of_touched}
 use Rattle.law_protocol_steps.proofs.TranscriptProgress.{fits_if, from_at, if_fits}
 use Rattle.law_protocol_steps.proofs.GotMore.{got_at_more}

@@ -12,7 +12,7 @@ use Rattle.spec_history.specs.Facts.{no_digest, digest}
 use Rattle.spec_history.specs.Transcripts.{issue, kind_of}
 use Rattle.sql_types.specs.declared.statement.Stmt.TheVariants as stmt
 use Rattle.spec_history.specs.Sessions.{acted}
-use Rattle.spec_protocol.specs.Seats.{begun}
+use Rattle.law_protocol_steps.specs.Seats.{begun}
 use Rattle.law_protocol_steps.proofs.TranscriptActs.{goes_on}
 use Rattle.law_protocol_steps.proofs.TranscriptProgress.{from_at, at_lack, at_digest}
 use Rattle.spec_history.specs.Lists.{Text, In}
@@ -23,28 +23,28 @@ use Rattle.spec_history.specs.Sessions.{SessionTransaction, SessionState}
 use Rattle.spec_history.specs.Worlds.{first, run}
 use Rattle.spec_history.proofs.Settles.{in_append, in_left, in_right}
 use Rattle.spec_history.proofs.Trace.{each_append, each_weaker, count_append}
-use Rattle.spec_protocol.specs.Server.{Server}
-use Rattle.spec_protocol.specs.Cells.{LedgerCell, Cell, Ledger, ledger_at, pending_in, blocks_in}
-use Rattle.spec_protocol.specs.Contents.{Contents, Known, contents, known}
-use Rattle.spec_protocol.specs.Seats.{answering, inside, OpenTransaction, Session, Written, Role, SeatState}
-use Rattle.spec_protocol.specs.LedgerIsLegal.{IsOfCell, LedgerIsLegal}
-use Rattle.spec_protocol.specs.LedgerVisits.{closed_by, all_closed, with_digest, Issues, LacksBlock, next_block}
-use Rattle.spec_protocol.specs.Moves.{at_place, at_moment, sits, marking, InStatement}
-use Rattle.spec_protocol.specs.OpenOnes.{text_at}
-use Rattle.spec_protocol.specs.Parts.{AreTransactions}
-use Rattle.spec_protocol.specs.TranscriptsAgree.{session_moments, moments_of}
-use Rattle.spec_protocol.specs.StandTogether.{History, Stands, StandsAfter}
+use Rattle.law_protocol_steps.specs.Server.{Server}
+use Rattle.law_protocol_steps.specs.Cells.{LedgerCell, Cell, Ledger, ledger_at, pending_in, blocks_in}
+use Rattle.law_protocol_steps.specs.Contents.{Contents, Known, contents, known}
+use Rattle.law_protocol_steps.specs.Seats.{answering, inside, OpenTransaction, Session, Written, Role, SeatState}
+use Rattle.law_protocol_steps.specs.LedgerIsLegal.{IsOfCell, LedgerIsLegal}
+use Rattle.law_protocol_steps.specs.LedgerVisits.{closed_by, all_closed, with_digest, Issues, LacksBlock, next_block}
+use Rattle.law_protocol_steps.specs.Moves.{at_place, at_moment, sits, marking, InStatement}
+use Rattle.law_protocol_steps.specs.OpenOnes.{text_at}
+use Rattle.law_protocol_steps.specs.Parts.{AreTransactions}
+use Rattle.law_protocol_steps.specs.TranscriptsAgree.{session_moments, moments_of}
+use Rattle.law_protocol_steps.specs.StandTogether.{History, Stands, StandsAfter}
 use Rattle.law_protocol_steps.proofs.Closes.{close_stands, next_within}
 use Rattle.law_protocol_steps.proofs.Ids.{Running, running}
 use Rattle.law_protocol_steps.proofs.LedgerVisit.{the_ledger, ledger_after}
 use Rattle.law_protocol_steps.proofs.OneMore.{Acts, agrees_then, agrees_owner, images_stay_each}
 use Rattle.law_protocol_steps.proofs.OpenSeats.{Own, owns_none}
-use Rattle.spec_protocol.proofs.Places.{set_here, set_same, set_again}
+use Rattle.law_protocol_steps.proofs.Places.{set_here, set_same, set_again}
 use Rattle.law_protocol_steps.proofs.PlainAct.{plain_act, plain_act_owner}
 use Rattle.law_protocol_steps.proofs.Turns.{Turns}
 use Rattle.spec_model.specs.Catalog.{Defs}
-use Rattle.spec_protocol.specs.ActsOf.{closings}
-use Rattle.spec_protocol.proofs.LedgerNumbers.{blocks_are, pending_are, pending_after}
+use Rattle.law_protocol_steps.specs.ActsOf.{closings}
+use Rattle.law_protocol_steps.proofs.LedgerNumbers.{blocks_are, pending_are, pending_after}
 
 -- a seat that has no open transaction, before and then, owes nothing
 pub no_turn : (v : Server) (c : Contents) (k : Known) (defs : Defs) (s t : SeatState) → ((z : Session) (u : OpenTransaction) → Own s z u → ⊥) → ((z : Session) (u : OpenTransaction) → Own t z u → ⊥) → Turns v c k defs s t

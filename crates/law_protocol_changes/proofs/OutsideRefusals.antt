@@ -11,10 +11,10 @@ use Rattle.spec_history.specs.Meaning.{Meaning}
 use Rattle.spec_history.specs.Transcripts.{Kind, unread, begin, commit, roll_back, to_savepoint, create, rows, issue, keep, kind_of}
 use Rattle.spec_history.specs.Facts.{failed, facts_inside, facts_outside}
 use Rattle.spec_history.specs.InPlace.{ComesAt, ControlledBy}
-use Rattle.spec_protocol.specs.Answering.{refused_outside}
-use Rattle.spec_protocol.specs.TranscriptsSoFar.{FitsOutside}
+use Rattle.law_protocol_steps.specs.Answering.{refused_outside}
+use Rattle.law_protocol_steps.specs.TranscriptsSoFar.{FitsOutside}
 use Rattle.law_protocol_steps.proofs.InPlaces.{never, comes, outside, memory_refused_outside}
-use Rattle.spec_protocol.specs.ActsOf.{failed_acts}
+use Rattle.law_protocol_steps.specs.ActsOf.{failed_acts}
 use Rattle.spec_history.specs.Acts.{fails}
 
 module _ (q : Meaning) (text : Text) where

@@ -11,8 +11,8 @@ use Rattle.spec_history.specs.Facts.{begun_by, said}
 use Rattle.spec_history.specs.InPlace.{image_by}
 use Rattle.spec_history.specs.Transactions.{End}
 use Rattle.spec_history.specs.Transcripts.{kind_of, rows}
-use Rattle.spec_protocol.specs.TranscriptsSoFar.{EndsOwn, IsSaid, ProgressOwn, image_in, is_begin, shown_inside}
-use Rattle.spec_protocol.specs.Seats.{replied, answering}
+use Rattle.law_protocol_steps.specs.TranscriptsSoFar.{EndsOwn, IsSaid, ProgressOwn, image_in, is_begin, shown_inside}
+use Rattle.law_protocol_steps.specs.Seats.{replied, answering}
 use Rattle.law_protocol_steps.proofs.InPlaces.{NoControl, fits_own}
 
 pub no_control : (r : Reply) → IsPlainReply r → NoControl r

@@ -8,39 +8,39 @@ use Rattle.sql_types.specs.declared.statement.Stmt.TheVariants as stmt
 use Rattle.spec_model.specs.Catalog.{Defs, Tables}
 use Rattle.spec_model.specs.Create.{index_check}
 use Rattle.spec_model.specs.ChangeSets.{change_set, create_index_change_set}
-use Rattle.spec_protocol.specs.LocksCover.{IsRepliedTo, IsGotAt, LookedAt}
+use Rattle.law_protocol_steps.specs.LocksCover.{IsRepliedTo, IsGotAt, LookedAt}
 use Rattle.law_protocol_steps.proofs.VisitActs.{ActsAt, done_act}
 use Rattle.std.proofs.Common.{Bool, List, Option, Some, [], ap, append-nil, false, map, refl, sym, true, ℕ, ◌++◌, ◌∙◌, ◌∷◌, ◌≡◌, None}
-use Rattle.spec_protocol.specs.Cells.{Cell}
-use Rattle.spec_protocol.specs.Contents.{Contents, HasAlone, Known, contents, known}
+use Rattle.law_protocol_steps.specs.Cells.{Cell}
+use Rattle.law_protocol_steps.specs.Contents.{Contents, HasAlone, Known, contents, known}
 use Rattle.spec_history.specs.Lists.{Each, Text}
-use Rattle.spec_protocol.specs.TablesAreSerial.{HasActed}
-use Rattle.spec_protocol.specs.RequestsIn.{Holds, requests_in}
+use Rattle.law_protocol_steps.specs.TablesAreSerial.{HasActed}
+use Rattle.law_protocol_steps.specs.RequestsIn.{Holds, requests_in}
 use Rattle.law_protocol_steps.proofs.PlainPlaces.{IsBare, all_counted}
 use Rattle.law_frame.proofs.PlainRefusals.{IsPlainReply}
 use Rattle.law_protocol_steps.proofs.AloneTurns.{alone_own, Keeps, alone_stands, keeps_turn, alone_after}
 use Rattle.spec_model.specs.Catalog.{NamedPart, defs_of}
-use Rattle.spec_protocol.specs.Seats.{OpenTransaction, SeatState, Session, session, StatementProgress, found, inside}
+use Rattle.law_protocol_steps.specs.Seats.{OpenTransaction, SeatState, Session, session, StatementProgress, found, inside}
 use Rattle.sql_types.specs.declared.reply.Reply.{Reply}
-use Rattle.spec_protocol.specs.Server.{Server}
-use Rattle.spec_protocol.specs.StandTogether.{History, Stands, StandsAfter}
+use Rattle.law_protocol_steps.specs.Server.{Server}
+use Rattle.law_protocol_steps.specs.StandTogether.{History, Stands, StandsAfter}
 use Rattle.spec_model.specs.Script.{State, script, text_step}
 use Rattle.sql_types.specs.declared.version.Version.{Version}
-use Rattle.spec_protocol.specs.Moves.{at_place, sits}
-use Rattle.spec_protocol.specs.OpenScripts.{counted}
-use Rattle.spec_protocol.specs.EventsIn.{events_in}
+use Rattle.law_protocol_steps.specs.Moves.{at_place, sits}
+use Rattle.law_protocol_steps.specs.OpenScripts.{counted}
+use Rattle.law_protocol_steps.specs.EventsIn.{events_in}
 use lib.ListN.{get_elem?}
 use Rattle.law_protocol_changes.proofs.PlainReplies.{inside_said, is_said, kept_none, no_control, none_begun, none_kept, not_begun}
 use Rattle.law_protocol_steps.proofs.SaidMore.{X, its_counter, its_savepoints, its_trees, its_versions, keeps_bare, trees_over}
 use Rattle.spec_history.specs.Transcripts.{kind_of, rows}
-use Rattle.spec_protocol.specs.OpenOnes.{lines_at, text_at}
+use Rattle.law_protocol_steps.specs.OpenOnes.{lines_at, text_at}
 use Rattle.law_frame.proofs.Definitions.{nothing_done, opened_keep_defs}
 use Rattle.spec_model.specs.Replies.{reply_text}
 use mathlib.Core.Option.{some}
-use Rattle.spec_protocol.specs.Doing.{stage_after, with_line, with_reply}
+use Rattle.law_protocol_steps.specs.Doing.{stage_after, with_line, with_reply}
 use Rattle.spec_model.specs.Touched.{touched}
 use Rattle.spec_history.specs.Transactions.{unfixed}
-use Rattle.spec_protocol.specs.ActsOf.{done_acts}
+use Rattle.law_protocol_steps.specs.ActsOf.{done_acts}
 
 bare_after : (b : Bool) (text : Text) (r : Reply) → IsBare (inside text (stage_after b r))
 bare_after true text r = tt

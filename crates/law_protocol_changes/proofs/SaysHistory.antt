@@ -13,13 +13,13 @@ use Rattle.spec_history.specs.Sessions.{SessionTransaction, SessionState, script
 use Rattle.spec_history.specs.Worlds.{first, run}
 use Rattle.spec_history.specs.Guards.{OnlyOne}
 use Rattle.spec_history.proofs.Trace.{each_weaker}
-use Rattle.spec_protocol.specs.Server.{Server}
-use Rattle.spec_protocol.specs.Cells.{LedgerCell}
-use Rattle.spec_protocol.specs.Seats.{OpenTransaction, StatementProgress, inside, Session, Written, Role, session, SeatState}
-use Rattle.spec_protocol.specs.OpenOnes.{text_at, last_line, texts_so_far}
-use Rattle.spec_protocol.specs.Moves.{saying, at_place, sits}
-use Rattle.spec_protocol.specs.Parts.{AreTransactions, IsNow, Numbers}
-use Rattle.spec_protocol.specs.TranscriptsAgree.{session_moments, TranscriptsAgree}
+use Rattle.law_protocol_steps.specs.Server.{Server}
+use Rattle.law_protocol_steps.specs.Cells.{LedgerCell}
+use Rattle.law_protocol_steps.specs.Seats.{OpenTransaction, StatementProgress, inside, Session, Written, Role, session, SeatState}
+use Rattle.law_protocol_steps.specs.OpenOnes.{text_at, last_line, texts_so_far}
+use Rattle.law_protocol_steps.specs.Moves.{saying, at_place, sits}
+use Rattle.law_protocol_steps.specs.Parts.{AreTransactions, IsNow, Numbers}
+use Rattle.law_protocol_steps.specs.TranscriptsAgree.{session_moments, TranscriptsAgree}
 use Rattle.law_protocol_steps.proofs.Ids.{InTransaction, in_transaction}
 use Rattle.law_protocol_steps.proofs.OneMore.{Acts, agrees_then, agrees_owner, agrees_parts}
 use Rattle.law_protocol_steps.proofs.GoesOn.{ActsBy}

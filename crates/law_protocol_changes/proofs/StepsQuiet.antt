@@ -16,18 +16,18 @@ use Rattle.spec_history.specs.Transactions.{unfixed, on_some}
 use Rattle.spec_history.specs.Acts.{fails}
 use Rattle.spec_history.specs.Sessions.{SessionTransaction, SessionState, acted, hears}
 use Rattle.spec_history.specs.Worlds.{first, run}
-use Rattle.spec_protocol.specs.Server.{Server}
-use Rattle.spec_protocol.specs.Cells.{Cell}
-use Rattle.spec_protocol.specs.Contents.{Contents, Known, contents, known, HasAlone}
-use Rattle.spec_protocol.specs.TranscriptsSoFar.{EndsLeaving, end_shown, is_begin, image_in, shown_inside, shown_alone, shown_with, FitsOwn, ProgressOpened, Fits}
-use Rattle.spec_protocol.specs.Doing.{stage_refused}
-use Rattle.spec_protocol.specs.LocksCover.{LookedAt, IsGotAt, LookedFirst}
-use Rattle.spec_protocol.specs.Moves.{at_place, sits}
-use Rattle.spec_protocol.specs.OpenOnes.{HasOpen, text_at, last_line, lines_at, texts_so_far}
-use Rattle.spec_protocol.specs.OpenScripts.{counted, counted_in}
-use Rattle.spec_protocol.specs.Parts.{asking_in, asking, AreTransactions}
-use Rattle.spec_protocol.specs.Seats.{OpenTransaction, StatementProgress, begun, found, answering, refused, SessionStatus, between, inside, leaving, Session, session, SeatState}
-use Rattle.spec_protocol.specs.StandTogether.{History, Stands, StandsAfter}
+use Rattle.law_protocol_steps.specs.Server.{Server}
+use Rattle.law_protocol_steps.specs.Cells.{Cell}
+use Rattle.law_protocol_steps.specs.Contents.{Contents, Known, contents, known, HasAlone}
+use Rattle.law_protocol_steps.specs.TranscriptsSoFar.{EndsLeaving, end_shown, is_begin, image_in, shown_inside, shown_alone, shown_with, FitsOwn, ProgressOpened, Fits}
+use Rattle.law_protocol_steps.specs.Doing.{stage_refused}
+use Rattle.law_protocol_steps.specs.LocksCover.{LookedAt, IsGotAt, LookedFirst}
+use Rattle.law_protocol_steps.specs.Moves.{at_place, sits}
+use Rattle.law_protocol_steps.specs.OpenOnes.{HasOpen, text_at, last_line, lines_at, texts_so_far}
+use Rattle.law_protocol_steps.specs.OpenScripts.{counted, counted_in}
+use Rattle.law_protocol_steps.specs.Parts.{asking_in, asking, AreTransactions}
+use Rattle.law_protocol_steps.specs.Seats.{OpenTransaction, StatementProgress, begun, found, answering, refused, SessionStatus, between, inside, leaving, Session, session, SeatState}
+use Rattle.law_protocol_steps.specs.StandTogether.{History, Stands, StandsAfter}
 use Rattle.law_protocol_steps.proofs.AloneTurns.{Keeps, alone_stands, kept, keeps_turn, PlaceOwes, bare, alone_after}
 use Rattle.law_protocol_steps.proofs.AnonymousActs.{IsPlain, plain_acts, plain_owner}
 use Rattle.law_protocol_steps.proofs.TranscriptActs.{GoesFrom, goes_on}
@@ -40,8 +40,8 @@ use Rattle.law_protocol_steps.proofs.OpenSeats.{owns_none}
 use Rattle.law_protocol_changes.proofs.OutsideRefusals.{no_memory_facts}
 use Rattle.law_protocol_steps.proofs.PlainPlaces.{AddsNone, none_added}
 use Rattle.spec_model.specs.Columns.{fits}
-use Rattle.spec_protocol.specs.TablesAreSerial.{HasActed, IsAdding}
-use Rattle.spec_protocol.specs.ActsOf.{failed_acts, failed_in}
+use Rattle.law_protocol_steps.specs.TablesAreSerial.{HasActed, IsAdding}
+use Rattle.law_protocol_steps.specs.ActsOf.{failed_acts, failed_in}
 use Rattle.law_protocol_steps.proofs.GoesOn.{nothing_added, unacted, same_acts}
 
 pub plain_fail : (text : Text) → IsPlain (fails text)
@@ -70,7 +70,7 @@ module _ (v : Server) (cells : List Cell) (seats : List SeatState) {history : Hi
     abbrev y : Reply → Session
     y a = at_place None (inside text (answering a None)) x
 
-    pub outside_stands : (a : Reply) → image_in (answering a None) ≡ 0 → ((n : ℕ) → n + 0 ≡ length x.images → Rattle.spec_protocol.specs.TranscriptsSoFar.FitsOutside v.meaning n text a × (facts_outside v.meaning (kind_of (v.meaning.reads text)) text a None ≡ []))
+    pub outside_stands : (a : Reply) → image_in (answering a None) ≡ 0 → ((n : ℕ) → n + 0 ≡ length x.images → Rattle.law_protocol_steps.specs.TranscriptsSoFar.FitsOutside v.meaning n text a × (facts_outside v.meaning (kind_of (v.meaning.reads text)) text a None ≡ []))
         → Stands v history cells (slice_set seats j (sits s (at_place None (inside text (answering a None)) x)))
     outside_stands a no_image fits = alone_stands v cells seats st j s there _ history
         (no_turn v c k st.catalog.defs s _ (owns_none s x role free) (owns_none (sits s (y a)) (y a) refl refl))
@@ -175,7 +175,7 @@ module _ (v : Server) (cells : List Cell) (seats : List SeatState) {history : Hi
 
       -- one of its own
       pub own_fails : o.explicit ≡ false → shown_alone v.meaning text stage ≡ [] → image_in stage ≡ 0 → shown_alone v.meaning text next ≡ failed text ∷ [] → image_in next ≡ 0
-          → ((n : ℕ) → FitsOwn v.meaning n text (reply.Refused NoMemory) → Rattle.spec_protocol.specs.TranscriptsSoFar.ProgressOwn v.meaning n text next) → StandsAfter v j history (fails text ∷ []) cells (slice_set seats j (sits s z))
+          → ((n : ℕ) → FitsOwn v.meaning n text (reply.Refused NoMemory) → Rattle.law_protocol_steps.specs.TranscriptsSoFar.ProgressOwn v.meaning n text next) → StandsAfter v j history (fails text ∷ []) cells (slice_set seats j (sits s z))
       own_fails own nothing none shows none_then fits = fails_stands (from_at v.meaning x z (inside text stage) (Some o) (failed text ∷ []) at one refl (λ n i f. let g = fits_if v.meaning n text stage o false own f in record {
         shown = (λ i. (shown_with v.meaning (own i) o.id text stage ++ end_shown (open_end i)) ++ failed text ∷ []) ∙ ap (λ (l : List Fact). ((began o.id false ∷ l) ++ []) ++ failed text ∷ []) nothing ∙ ap (λ (l : List Fact). (began o.id false ∷ l) ++ []) (sym shows)
             ∙ (λ i. shown_with v.meaning (sym own i) o.id text next ++ end_shown (sym open_end i));

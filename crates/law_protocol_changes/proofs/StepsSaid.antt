@@ -22,17 +22,17 @@ use Rattle.spec_history.specs.Lists.{Text, Each}
 use Rattle.spec_history.specs.Transcripts.{Kind, to_savepoint, kind_of}
 use Rattle.spec_history.specs.Facts.{said, facts_inside}
 use Rattle.spec_history.specs.Transactions.{unfixed}
-use Rattle.spec_protocol.specs.Server.{Server}
-use Rattle.spec_protocol.specs.Cells.{Cell, catalog_at}
-use Rattle.spec_protocol.specs.Contents.{contents, known}
-use Rattle.spec_protocol.specs.Answering.{refused_inside, savepoints_from}
-use Rattle.spec_protocol.specs.TranscriptsSoFar.{is_begin, image_in, ProgressOpened, shown_inside}
-use Rattle.spec_protocol.specs.Doing.{stage_after, done, with_line}
-use Rattle.spec_protocol.specs.Moves.{saying, with_undo_state, at_place, sits, InStatement, then_at}
-use Rattle.spec_protocol.specs.Seats.{OpenSavepoint, OpenTransaction, begun, answering, inside, Session, session, SeatState}
-use Rattle.spec_protocol.specs.StandTogether.{History, Stands, StandsAfter}
-use Rattle.spec_protocol.specs.TreesAreOfEvents.{AreOpenSavepoints}
-use Rattle.spec_protocol.specs.RequestsIn.{of_catalog, of_cell, requests_at, requests_in, Holds}
+use Rattle.law_protocol_steps.specs.Server.{Server}
+use Rattle.law_protocol_steps.specs.Cells.{Cell, catalog_at}
+use Rattle.law_protocol_steps.specs.Contents.{contents, known}
+use Rattle.law_protocol_steps.specs.Answering.{refused_inside, savepoints_from}
+use Rattle.law_protocol_steps.specs.TranscriptsSoFar.{is_begin, image_in, ProgressOpened, shown_inside}
+use Rattle.law_protocol_steps.specs.Doing.{stage_after, done, with_line}
+use Rattle.law_protocol_steps.specs.Moves.{saying, with_undo_state, at_place, sits, InStatement, then_at}
+use Rattle.law_protocol_steps.specs.Seats.{OpenSavepoint, OpenTransaction, begun, answering, inside, Session, session, SeatState}
+use Rattle.law_protocol_steps.specs.StandTogether.{History, Stands, StandsAfter}
+use Rattle.law_protocol_steps.specs.TreesAreOfEvents.{AreOpenSavepoints}
+use Rattle.law_protocol_steps.specs.RequestsIn.{of_catalog, of_cell, requests_at, requests_in, Holds}
 use Rattle.law_protocol_steps.proofs.TranscriptActs.{GoesFrom}
 use Rattle.law_protocol_steps.proofs.TranscriptProgress.{from_at, at_opened, savepoint_fits, refused_fits}
 use Rattle.law_protocol_steps.proofs.SaidMore.{X, its_counter, its_trees_there, its_savepoints, said_stands}

@@ -26,7 +26,7 @@ use Rattle.law_protocol_changes.proofs.StepsSaid.{done_is, refused_there, saved,
 use Rattle.law_protocol_ledger.proofs.StepsTake.{taken_none, taken_some, answered_none, answered_some}
 use Rattle.spec_history.specs.Acts.{SessionAct}
 use Rattle.spec_protocol.specs.ActsOf.{failed_in, alone_acts}
-use Rattle.law_protocol_steps.proofs.GoesOn.{unacted}
+use Rattle.law_protocol_changes.proofs.GoesOn.{unacted}
 use Rattle.spec_history.specs.Acts as act
 
 module _ (v : Server) (cells : List Cell) (seats : List SeatState) {history : History} (st : Stands v history cells seats) (j : ℕ) (s : SeatState) (there : get_elem? seats j ≡ some s) where

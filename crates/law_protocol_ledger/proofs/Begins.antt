@@ -21,8 +21,8 @@ use Rattle.spec_protocol.specs.Alone.{new_session}
 use Rattle.spec_protocol.specs.Moves.{sits}
 use Rattle.spec_protocol.specs.Parts.{Numbers, all_of, IsNow, IsOver, WasOver, Past, Now}
 use Rattle.spec_protocol.specs.TranscriptsAgree.{session_moments, moments_of, IsMoment, AreImages, MarksWithin, SeatAgrees, TranscriptsAgree}
-use Rattle.law_protocol_steps.proofs.AnonymousActs.{IsPlain, same_items, same_next, same_issued}
-use Rattle.law_protocol_steps.proofs.OneMore.{by_each, good_more, world_more, else_same, now_acted, of_else, of_now, over_stays, past_stays, past_images_stay, seat_stays}
+use Rattle.law_protocol_changes.proofs.AnonymousActs.{IsPlain, same_items, same_next, same_issued}
+use Rattle.law_protocol_changes.proofs.OneMore.{by_each, good_more, world_more, else_same, now_acted, of_else, of_now, over_stays, past_stays, past_images_stay, seat_stays}
 use Rattle.spec_protocol.proofs.Places.{at_set, set_here, set_else}
 
 -- the numbers of a seat are of sessions that began

@@ -23,8 +23,8 @@ use Rattle.spec_protocol.specs.Seats.{OpenTransaction, Session, SeatState}
 use Rattle.spec_protocol.specs.OpenOnes.{HasOpen}
 use Rattle.spec_protocol.specs.RequestsIn.{of_catalog, of_cell, requests_in, Holds}
 use Rattle.spec_protocol.specs.LocksAgree.{LocksAgree}
-use Rattle.law_protocol_steps.proofs.Ids.{each_in}
-use Rattle.law_protocol_steps.proofs.OthersAgree.{AllLocked}
+use Rattle.law_protocol_changes.proofs.Ids.{each_in}
+use Rattle.law_protocol_changes.proofs.OthersAgree.{AllLocked}
 
 -- ---- who wants nothing in the catalog does nothing
 

@@ -49,31 +49,31 @@ use Rattle.spec_protocol.specs.TranscriptsAgree.{TranscriptsAgree}
 use Rattle.spec_history.specs.Facts.{said, placed}
 use Rattle.spec_protocol.specs.OpenOnes.{last_line}
 use Rattle.spec_protocol.specs.TranscriptsSoFar.{Fits, FitsWith, FitsOwn, IsSaid}
-use Rattle.law_protocol_steps.proofs.TranscriptActs.{GoesFrom}
-use Rattle.law_protocol_steps.proofs.TranscriptProgress.{from_at, fits_if, at_said, at_own_end, made_fits}
+use Rattle.law_protocol_changes.proofs.TranscriptActs.{GoesFrom}
+use Rattle.law_protocol_changes.proofs.TranscriptProgress.{from_at, fits_if, at_said, at_own_end, made_fits}
 use Rattle.spec_protocol.specs.StandTogether.{History, Stands, StandsAfter}
 use Rattle.spec_protocol.specs.Moves.{saying, ending, at_place, at_moment, sits, marking, InStatement}
 use Rattle.spec_protocol.specs.LedgerVisits.{Commits, is_read_only, with_item, CommitsNow, entry_of_trees}
-use Rattle.law_protocol_steps.proofs.CommitsLedger.{its_script, its_touched, next_item, commit_is_legal}
+use Rattle.law_protocol_changes.proofs.CommitsLedger.{its_script, its_touched, next_item, commit_is_legal}
 use Rattle.spec_model.specs.Agreement.{columns_at}
 use Rattle.spec_model.specs.ScriptRequests.{text_requests}
 use Rattle.law_protocol_ledger.proofs.CommittedMore.{IsWithin, committed_more, each_all, all_in, all_pass, unchanged}
-use Rattle.law_protocol_steps.proofs.Ids.{below, differ, drawn, others, has_not, outside}
-use Rattle.law_protocol_steps.proofs.JournalMore.{serial_more}
+use Rattle.law_protocol_changes.proofs.Ids.{below, differ, drawn, others, has_not, outside}
+use Rattle.law_protocol_changes.proofs.JournalMore.{serial_more}
 use Rattle.law_protocol_ledger.proofs.KnownMore.{has_own, has_other, upto_all, none_of_id}
 use Rattle.law_protocol_ledger.proofs.CommitsHistory.{commit_by}
-use Rattle.law_protocol_steps.proofs.LedgerKept.{same_contents, are_cells}
-use Rattle.law_protocol_steps.proofs.LedgerVisit.{the_ledger}
+use Rattle.law_protocol_changes.proofs.LedgerKept.{same_contents, are_cells}
+use Rattle.law_protocol_changes.proofs.LedgerVisit.{the_ledger}
 use Rattle.spec_protocol.proofs.Places.{set_here, set_again}
 use Rattle.law_protocol_changes.proofs.SaysHistory.{told}
-use Rattle.law_protocol_steps.proofs.OpenSeats.{Own, was_open}
-use Rattle.law_protocol_steps.proofs.OthersScripts.{sound_for, locked, script_stays, savepoints_stay, each_map}
+use Rattle.law_protocol_changes.proofs.OpenSeats.{Own, was_open}
+use Rattle.law_protocol_changes.proofs.OthersScripts.{sound_for, locked, script_stays, savepoints_stay, each_map}
 use Rattle.spec_protocol.specs.RowsAgree.{RowsAgree, GoesBackTo, IsExplicitAt}
 use Rattle.sql_types.specs.declared.table.TableDef.{TableDef}
 use Rattle.spec_model.specs.ChangeSets.{as_before, in_place, defined, change_set, Definition, new}
 use Rattle.law_protocol_ledger.proofs.CommitRows.{sound_left, undone_end}
-use Rattle.law_protocol_steps.proofs.CommitsLedger.{counts}
-use Rattle.law_protocol_steps.proofs.OfCells.{HasLooked, looked_now, looked_so}
+use Rattle.law_protocol_changes.proofs.CommitsLedger.{counts}
+use Rattle.law_protocol_changes.proofs.OfCells.{HasLooked, looked_now, looked_so}
 use Rattle.spec_protocol.specs.TreesAreOfEvents.{HasItsTrees}
 use Rattle.spec_protocol.specs.TablesAreSerial.{IsUnderWay}
 use Rattle.spec_protocol.specs.LocksAgree.{SeatHas}
@@ -82,7 +82,7 @@ use Rattle.sql_types.specs.declared.lock.Hold.{Hold}
 use Rattle.spec_model.specs.Keys.{Key, of_key, live_by_key}
 use Rattle.sql_types.specs.declared.lock.Mode.{Mode}
 use Rattle.sql_types.specs.declared.lock.LockRequest.{LockRequest}
-use Rattle.law_protocol_steps.proofs.CatalogAlone.{alone}
+use Rattle.law_protocol_changes.proofs.CatalogAlone.{alone}
 use Rattle.law_frame.proofs.ByKeys.{by_keys}
 use Rattle.law_protocol_ledger.proofs.CreatedTables.{created_tables, effect_defs, users_stay, Makes, index_later, made_by, makes_index, makes_none, makes_table, no_requests, same_request}
 use Rattle.spec_model.specs.Effect.{effect}
@@ -92,15 +92,15 @@ use Rattle.law_frame.proofs.UndoneVersions.{nothing_undone}
 use Rattle.law_protocol_changes.proofs.ChangedRows.{rising_undone, undone_of_key}
 use Rattle.spec_model.specs.Locks.{whole}
 use Rattle.sql_value.specs.declared.column.ColumnDef.{ColumnDef}
-use Rattle.law_protocol_steps.proofs.DefsAfter.{IndexMade, else_redefined, found_id, here_redefined, index_made, kept_append, new_append}
+use Rattle.law_protocol_changes.proofs.DefsAfter.{IndexMade, else_redefined, found_id, here_redefined, index_made, kept_append, new_append}
 use Rattle.law_journal.proofs.DefLists.{defs_append, defs_redefined, redef}
-use Rattle.law_protocol_steps.proofs.SeatsAfter.{one_session, Goes, each_open, open_else, open_here}
+use Rattle.law_protocol_changes.proofs.SeatsAfter.{one_session, Goes, each_open, open_else, open_here}
 use Rattle.std.specs.List.{AllByRecursion}
 use Rattle.law_protocol_changes.proofs.StepsSaid.{none_requested}
 use Rattle.law_protocol_ledger.proofs.CommitsStand.{commits_stand}
 use Rattle.law_protocol_ledger.proofs.NoneWanting.{none_wanting}
 use Rattle.spec_protocol.specs.ActsOf.{commit_acts}
-use Rattle.law_protocol_steps.proofs.GoesOn.{Owned, each_so, ActsBy, then_more}
+use Rattle.law_protocol_changes.proofs.GoesOn.{Owned, each_so, ActsBy, then_more}
 use Rattle.spec_history.specs.Acts as act
 use Rattle.sql_types.specs.declared.entry.TxEntry.{TxEntry}
 

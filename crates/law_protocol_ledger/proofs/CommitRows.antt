@@ -7,7 +7,7 @@ use Rattle.spec_protocol.specs.Contents.{Contents, HasAlone, Known, contents, kn
 use Rattle.law_frame.proofs.UndoneWhole.{CreatesNot, undone_at}
 use Rattle.spec_model.specs.Catalog.{Defs, Tables, defs_of, versions_of}
 use Rattle.spec_history.specs.Lists.{Each, In, Text}
-use Rattle.law_protocol_steps.proofs.Excluded.{HasNoX, HasX, has_x_or_not}
+use Rattle.law_protocol_changes.proofs.Excluded.{HasNoX, HasX, has_x_or_not}
 use Rattle.spec_protocol.specs.OpenOnes.{HasOpen, script_end, texts_so_far}
 use Rattle.spec_protocol.specs.RequestsIn.{Holds, of_cell, requests_at, requests_in}
 use Rattle.spec_protocol.specs.RowsAgree.{IsFree, RowsAgree, key_rows}
@@ -21,28 +21,28 @@ use Rattle.sql_types.specs.declared.statement.Stmt.{Stmt}
 use Rattle.sql_types.specs.declared.version.Version.{Version}
 use Rattle.sql_types.specs.declared.lock.LockRequest.{LockRequest}
 use Rattle.sql_types.specs.declared.lock.Item.TheVariants.{Whole}
-use Rattle.law_protocol_steps.proofs.Ids.{below, differ, others}
+use Rattle.law_protocol_changes.proofs.Ids.{below, differ, others}
 use Rattle.std.proofs.lemmas.Bool.{cases_eq}
 use Rattle.spec_model.specs.Locks.{cell_requests, whole}
 use Rattle.spec_model.specs.Agreement.{columns_at, requests_of}
 use Rattle.spec_protocol.specs.OpenScripts.{counted}
 use Rattle.spec_model.specs.Reach.{creates, lets_change}
 use Rattle.law_frame.proofs.SameTouched.{filter_both}
-use Rattle.law_protocol_steps.proofs.OthersScripts.{is_short, locked, sound_for}
+use Rattle.law_protocol_changes.proofs.OthersScripts.{is_short, locked, sound_for}
 use Rattle.spec_model.specs.Touched.{is_touched, touched}
-use Rattle.law_protocol_steps.proofs.ScriptLeaves.{kept_and_undone, key_left, none_requested_by}
+use Rattle.law_protocol_changes.proofs.ScriptLeaves.{kept_and_undone, key_left, none_requested_by}
 use Rattle.law_frame.proofs.LegalSound.{legal_sound}
 use Rattle.law_protocol_changes.proofs.Apart.{none_besides}
-use Rattle.law_protocol_steps.proofs.AssignsId.{others_in_journal}
+use Rattle.law_protocol_changes.proofs.AssignsId.{others_in_journal}
 use Rattle.law_frame.proofs.OtherTransactions.{others_sound}
 use Rattle.law_frame.proofs.AtTable.{rising_at}
 use Rattle.law_protocol_changes.proofs.ChangedRows.{rising_filter, undone_of_key}
 use Rattle.law_protocol_ledger.proofs.CommittedMore.{same_by_undo}
-use Rattle.law_protocol_steps.proofs.OthersScripts.{same_end}
+use Rattle.law_protocol_changes.proofs.OthersScripts.{same_end}
 use Rattle.spec_model.specs.ScriptRequests.{text_requests}
 use Rattle.spec_model.specs.Undo.{undone, versions_undone}
 use Rattle.spec_history.specs.Transactions.{unfixed}
-use Rattle.law_protocol_steps.proofs.Taken.{whole_alone}
+use Rattle.law_protocol_changes.proofs.Taken.{whole_alone}
 use Rattle.sql_types.specs.declared.lock.Mode.TheVariants.{X}
 
 module _ (v : Server) (cells : List Cell) (seats : List SeatState) {history : History} (st : Stands v history cells seats) (j : ℕ) (x : Session) (o : OpenTransaction) (has : HasOpen seats j x o) (open_end : o.end ≡ unfixed)

@@ -13,8 +13,8 @@ use Rattle.spec_history.specs.Lists.{Text, Each, In}
 use Rattle.spec_history.specs.Serial.{texts_of, replies_of, ScriptReplays}
 use Rattle.spec_history.specs.Serial as whole
 use Rattle.spec_history.specs.Facts.{placed}
-use Rattle.law_protocol_steps.proofs.TranscriptActs.{GoesFrom, goes_on}
-use Rattle.law_protocol_steps.proofs.Heard.{heard_still}
+use Rattle.law_protocol_changes.proofs.TranscriptActs.{GoesFrom, goes_on}
+use Rattle.law_protocol_changes.proofs.Heard.{heard_still}
 use Rattle.spec_history.specs.Transactions.{unfixed, committed, on_some}
 use Rattle.spec_history.specs.Transcripts.{Transcript}
 use Rattle.spec_history.specs.Journals.{times}
@@ -32,10 +32,10 @@ use Rattle.spec_protocol.specs.Moves.{ending, at_place, at_moment, sits, marking
 use Rattle.spec_protocol.specs.LedgerVisits.{with_item, entry_of_trees}
 use Rattle.spec_protocol.specs.Parts.{asking, AreTransactions, IsNow}
 use Rattle.spec_protocol.specs.TranscriptsAgree.{session_moments, moments_of, TranscriptsAgree}
-use Rattle.law_protocol_steps.proofs.Ids.{InTransaction, in_transaction}
-use Rattle.law_protocol_steps.proofs.JournalMore.{same_serial}
-use Rattle.law_protocol_steps.proofs.OneMore.{Acts, agrees_then, agrees_owner, images_stay_each}
-use Rattle.law_protocol_steps.proofs.GoesOn.{Owned, one_number}
+use Rattle.law_protocol_changes.proofs.Ids.{InTransaction, in_transaction}
+use Rattle.law_protocol_changes.proofs.JournalMore.{same_serial}
+use Rattle.law_protocol_changes.proofs.OneMore.{Acts, agrees_then, agrees_owner, images_stay_each}
+use Rattle.law_protocol_changes.proofs.GoesOn.{Owned, one_number}
 use Rattle.sql_types.specs.declared.entry.TxEntry.{TxEntry}
 
 some_there : {A : Type 0} (xs : List A) → xs ≢ [] → 0 < length xs

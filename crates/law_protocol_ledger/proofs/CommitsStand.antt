@@ -50,14 +50,14 @@ use Rattle.spec_history.specs.Facts.{said, placed}
 use Rattle.spec_protocol.specs.Parts.{asking}
 use Rattle.spec_protocol.specs.OpenOnes.{last_line}
 use Rattle.spec_protocol.specs.TranscriptsSoFar.{Fits, FitsWith, FitsOwn, IsSaid}
-use Rattle.law_protocol_steps.proofs.TranscriptActs.{GoesFrom}
-use Rattle.law_protocol_steps.proofs.TranscriptProgress.{GoesAt, from_at, fits_if, at_commit, at_said, at_own_end, made_fits}
+use Rattle.law_protocol_changes.proofs.TranscriptActs.{GoesFrom}
+use Rattle.law_protocol_changes.proofs.TranscriptProgress.{GoesAt, from_at, fits_if, at_commit, at_said, at_own_end, made_fits}
 use Rattle.spec_protocol.specs.StandTogether.{History, Stands, StandsAfter}
 use Rattle.spec_protocol.specs.Moves.{saying, ending, at_place, at_moment, sits, marking, InStatement}
 use Rattle.spec_protocol.specs.LedgerVisits.{Commits, is_read_only, with_item, CommitsNow, entry_of_trees}
 use Rattle.law_protocol_ledger.proofs.CatalogLocks.{RequestsCatalog, requests_or_not, does_nothing, nobody_alone}
-use Rattle.law_protocol_steps.proofs.CommitsLedger.{its_script, its_touched, some_event, next_item, commit_is_legal}
-use Rattle.law_protocol_steps.proofs.FreshIds.{events_of_touched}
+use Rattle.law_protocol_changes.proofs.CommitsLedger.{its_script, its_touched, some_event, next_item, commit_is_legal}
+use Rattle.law_protocol_changes.proofs.FreshIds.{events_of_touched}
 use Rattle.law_protocol_ledger.proofs.QuietOnes.{none_at_all}
 use Rattle.spec_model.specs.Agreement.{IdsFrom}
 use Rattle.spec_model.specs.Events.{all_events}
@@ -65,27 +65,27 @@ use Rattle.spec_model.specs.ScriptRequests.{text_requests}
 use Rattle.law_frame.proofs.SameTouched.{untouched_at}
 use Rattle.spec_protocol.specs.EventsIn.{events_in}
 use Rattle.law_protocol_ledger.proofs.CommittedMore.{IsWithin, committed_more, each_all, all_in}
-use Rattle.law_protocol_steps.proofs.AssignsId.{at_own}
-use Rattle.law_protocol_steps.proofs.Ids.{below, drawn, others, has_not}
-use Rattle.law_protocol_steps.proofs.JournalMore.{serial_more}
+use Rattle.law_protocol_changes.proofs.AssignsId.{at_own}
+use Rattle.law_protocol_changes.proofs.Ids.{below, drawn, others, has_not}
+use Rattle.law_protocol_changes.proofs.JournalMore.{serial_more}
 use Rattle.law_protocol_ledger.proofs.KnownMore.{has_own, has_other, had_not, upto_within, upto_past, upto_all, none_of_id}
 use Rattle.law_protocol_ledger.proofs.KnownTurns.{Says, tables_more, scripts_more, trees_more, cover_more}
 use Rattle.law_protocol_ledger.proofs.CommitsHistory.{commit_act, commit_by}
-use Rattle.law_protocol_steps.proofs.LedgerKept.{same_contents, are_cells}
-use Rattle.law_protocol_steps.proofs.LedgerVisit.{the_ledger}
+use Rattle.law_protocol_changes.proofs.LedgerKept.{same_contents, are_cells}
+use Rattle.law_protocol_changes.proofs.LedgerVisit.{the_ledger}
 use Rattle.spec_protocol.proofs.Places.{set_here, set_again}
 use Rattle.law_protocol_changes.proofs.SaysHistory.{told}
-use Rattle.law_protocol_steps.proofs.OpenSeats.{Own, was_open}
-use Rattle.law_protocol_steps.proofs.OthersScripts.{is_short, sound_for, locked, script_stays, savepoints_stay}
-use Rattle.law_protocol_steps.proofs.Turns.{MayHoldLock, StillStands, Owes, rows_turn, Turns, tables_turn, scripts_turn, trees_turn, agree_turn, cover_turn}
+use Rattle.law_protocol_changes.proofs.OpenSeats.{Own, was_open}
+use Rattle.law_protocol_changes.proofs.OthersScripts.{is_short, sound_for, locked, script_stays, savepoints_stay}
+use Rattle.law_protocol_changes.proofs.Turns.{MayHoldLock, StillStands, Owes, rows_turn, Turns, tables_turn, scripts_turn, trees_turn, agree_turn, cover_turn}
 use Rattle.spec_protocol.specs.RowsAgree.{RowsAgree}
 use Rattle.sql_types.specs.declared.table.TableDef.{TableDef}
 use Rattle.spec_model.specs.ChangeSets.{as_before, in_place}
 use Rattle.law_protocol_changes.proofs.SaidThere.{same_replied}
 use Rattle.law_protocol_ledger.proofs.CommitRows.{rows_then, sound_left, undone_end}
-use Rattle.law_protocol_steps.proofs.CommitsLedger.{counts}
+use Rattle.law_protocol_changes.proofs.CommitsLedger.{counts}
 use Rattle.spec_protocol.specs.ActsOf.{commit_acts}
-use Rattle.law_protocol_steps.proofs.GoesOn.{Owned, each_so, ActsBy, then_more}
+use Rattle.law_protocol_changes.proofs.GoesOn.{Owned, each_so, ActsBy, then_more}
 use Rattle.spec_history.specs.Acts as act
 use Rattle.sql_types.specs.declared.entry.TxEntry.{TxEntry}
 

@@ -13,7 +13,7 @@ use Rattle.sql_types.specs.declared.table.TableDef.{TableDef}
 use Rattle.spec_history.specs.Lists.{Text}
 use Rattle.spec_protocol.specs.Cells.{catalog_at, cell_of}
 use Rattle.spec_model.specs.Locks.{catalog_request, cell_requests}
-use Rattle.law_protocol_steps.proofs.NewLine.{changed_else}
+use Rattle.law_protocol_changes.proofs.NewLine.{changed_else}
 use Rattle.law_frame.proofs.Definitions.{changes_keep_defs}
 use Rattle.spec_model.specs.Create.{create_check, index_check, with_index}
 use Rattle.law_journal.proofs.Created.{created}

@@ -11,8 +11,8 @@ use Rattle.spec_history.specs.Lists.{Text, In}
 use Rattle.spec_history.specs.Serial.{texts_of, replies_of}
 use Rattle.spec_history.specs.Serial as whole
 use Rattle.spec_history.specs.Facts.{passed, failed}
-use Rattle.law_protocol_steps.proofs.TranscriptActs.{GoesFrom, goes_on}
-use Rattle.law_protocol_steps.proofs.Heard.{heard_answer, heard_now, heard_still}
+use Rattle.law_protocol_changes.proofs.TranscriptActs.{GoesFrom, goes_on}
+use Rattle.law_protocol_changes.proofs.Heard.{heard_answer, heard_now, heard_still}
 use Rattle.spec_history.specs.Transactions.{unfixed, ended, on_some}
 use Rattle.spec_history.specs.Acts.{ends, fails, Act, by}
 use Rattle.spec_history.specs.Sessions.{SessionTransaction, SessionState, fixes, hears, acted}
@@ -29,12 +29,12 @@ use Rattle.spec_history.specs.Acts.{SessionAct}
 use Rattle.spec_history.specs.Worlds.{World, step}
 use Rattle.spec_protocol.specs.Seats.{Written, Role}
 use Rattle.spec_protocol.specs.TranscriptsAgree.{session_moments}
-use Rattle.law_protocol_steps.proofs.OneMore.{acted_all, by_each, all_agree_then, owner_is}
+use Rattle.law_protocol_changes.proofs.OneMore.{acted_all, by_each, all_agree_then, owner_is}
 use Rattle.spec_protocol.specs.TranscriptsAgree.{TranscriptsAgree}
-use Rattle.law_protocol_steps.proofs.Ids.{InTransaction, in_transaction}
-use Rattle.law_protocol_steps.proofs.JournalMore.{same_serial}
-use Rattle.law_protocol_steps.proofs.PlainAct.{plain_act, plain_act_owner}
-use Rattle.law_protocol_steps.proofs.GoesOn.{Owned, one_number}
+use Rattle.law_protocol_changes.proofs.Ids.{InTransaction, in_transaction}
+use Rattle.law_protocol_changes.proofs.JournalMore.{same_serial}
+use Rattle.law_protocol_changes.proofs.PlainAct.{plain_act, plain_act_owner}
+use Rattle.law_protocol_changes.proofs.GoesOn.{Owned, one_number}
 
 module _ (v : Server) (c : LedgerCell) (seats : List SeatState) (h : List Act) (agree : TranscriptsAgree v h c seats) (j : ℕ) (s : SeatState) (there : get_elem? seats j ≡ some s)
     (x : Session) (role : s.role ≡ session x) (o : OpenTransaction) (open_one : x.open_one ≡ Some o) (open_end : o.end ≡ unfixed) where

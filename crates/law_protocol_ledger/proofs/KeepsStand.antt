@@ -11,7 +11,7 @@ use Rattle.spec_history.specs.Transcripts.{kind_of, Kind, keep}
 use Rattle.sql_types.specs.declared.statement.Stmt.TheVariants as stmt
 use Rattle.spec_history.specs.Sessions.{acted}
 use Rattle.spec_protocol.specs.Seats.{begun, KeptImage, SessionStatus}
-use Rattle.law_protocol_steps.proofs.TranscriptActs.{goes_on, GoesFrom}
+use Rattle.law_protocol_changes.proofs.TranscriptActs.{goes_on, GoesFrom}
 use Rattle.spec_history.specs.Lists.{In}
 use Rattle.spec_history.specs.Acts.{keeps}
 use Rattle.spec_history.specs.Sessions.{SessionState}
@@ -26,16 +26,16 @@ use Rattle.spec_protocol.specs.OpenOnes.{text_at}
 use Rattle.spec_protocol.specs.Parts.{AreTransactions}
 use Rattle.spec_protocol.specs.TranscriptsAgree.{session_moments, moments_of, IsImage}
 use Rattle.spec_protocol.specs.StandTogether.{History, Stands, StandsAfter}
-use Rattle.law_protocol_steps.proofs.Ids.{Running, running}
-use Rattle.law_protocol_steps.proofs.LedgerVisit.{the_ledger}
-use Rattle.law_protocol_steps.proofs.OneMore.{Acts, agrees_then, agrees_owner}
-use Rattle.law_protocol_steps.proofs.OpenSeats.{owns_none}
+use Rattle.law_protocol_changes.proofs.Ids.{Running, running}
+use Rattle.law_protocol_changes.proofs.LedgerVisit.{the_ledger}
+use Rattle.law_protocol_changes.proofs.OneMore.{Acts, agrees_then, agrees_owner}
+use Rattle.law_protocol_changes.proofs.OpenSeats.{owns_none}
 use Rattle.spec_history.specs.InPlace.{ComesAt}
 use Rattle.spec_protocol.specs.TranscriptsSoFar.{FitsOutside, image_at, open_before, shown_at}
 use Rattle.spec_protocol.specs.ImageVisits.{KeepsImage}
-use Rattle.law_protocol_steps.proofs.AloneTurns.{alone_after}
+use Rattle.law_protocol_changes.proofs.AloneTurns.{alone_after}
 use Rattle.std.proofs.lemmas.Bool.{ne_eqb}
-use Rattle.law_protocol_steps.proofs.InPlaces.{never, outside}
+use Rattle.law_protocol_changes.proofs.InPlaces.{never, outside}
 use Rattle.law_protocol_changes.proofs.DigestsStand.{no_turn, same_none}
 
 take_all : (xs : List JournalItem) → take (length xs) xs ≡ xs

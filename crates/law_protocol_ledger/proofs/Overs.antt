@@ -22,11 +22,11 @@ use Rattle.spec_protocol.specs.Answering.{written_of}
 use Rattle.spec_protocol.specs.Alone.{over}
 use Rattle.spec_protocol.specs.Parts.{Numbers, all_of, IsPast, IsOver, WasOver, Past, Now}
 use Rattle.spec_protocol.specs.TranscriptsAgree.{session_moments, moments_of, IsMoment, image_of, AreImages, ImagesOfPast, ImagesNow, MarksWithin, SeatAgrees, TranscriptsAgree}
-use Rattle.law_protocol_steps.proofs.AnonymousActs.{IsPlain, same_items, same_next, same_issued, no_images, no_marks}
-use Rattle.law_protocol_steps.proofs.Ids.{each_in}
-use Rattle.law_protocol_steps.proofs.OneMore.{acted_all, by_each, good_more, world_more, else_same, now_acted, of_else, of_now, over_stays, each_was_over, past_stays, past_images_stay, seat_stays, differ_front}
+use Rattle.law_protocol_changes.proofs.AnonymousActs.{IsPlain, same_items, same_next, same_issued, no_images, no_marks}
+use Rattle.law_protocol_changes.proofs.Ids.{each_in}
+use Rattle.law_protocol_changes.proofs.OneMore.{acted_all, by_each, good_more, world_more, else_same, now_acted, of_else, of_now, over_stays, each_was_over, past_stays, past_images_stay, seat_stays, differ_front}
 use Rattle.spec_protocol.proofs.Places.{at_set, set_here, set_else}
-use Rattle.law_protocol_steps.proofs.PlainAct.{KeepsAll}
+use Rattle.law_protocol_changes.proofs.PlainAct.{KeepsAll}
 
 past_snoc : (h : List Act) (ns : List ℕ) (xs : List Written) (n : ℕ) (x : Written) → Past h ns xs → IsPast h n x → Past h (ns ++ n ∷ []) (xs ++ x ∷ [])
 past_snoc h [] [] n x p e = (e, tt)

@@ -14,7 +14,7 @@ use Rattle.spec_protocol.specs.Server.{Server}
 use Rattle.spec_protocol.specs.EventsIn.{events_in}
 use Rattle.spec_protocol.specs.LedgerVisits.{is_empty}
 use Rattle.spec_protocol.specs.TreesAreOfEvents.{AreTrees}
-use Rattle.law_protocol_steps.proofs.Ids.{each_in}
+use Rattle.law_protocol_changes.proofs.Ids.{each_in}
 use Rattle.format_event.specs.Leaf.{event_bytes}
 
 is_nil : (xs : List Text) → is_empty xs ≡ true → xs ≡ []

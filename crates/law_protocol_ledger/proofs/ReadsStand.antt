@@ -39,28 +39,28 @@ use Rattle.spec_history.specs.Facts.{said, failed, passed}
 use Rattle.spec_protocol.specs.Parts.{asking}
 use Rattle.spec_protocol.specs.Seats.{StatementProgress, begun, replied, made}
 use Rattle.spec_protocol.specs.TranscriptsSoFar.{image_in, shown_alone}
-use Rattle.law_protocol_steps.proofs.TranscriptActs.{GoesFrom}
-use Rattle.law_protocol_steps.proofs.TranscriptProgress.{from_at, fits_if, at_read_only_commit, at_roll_back, at_leaving, at_said, at_own_end, at_fail_end}
+use Rattle.law_protocol_changes.proofs.TranscriptActs.{GoesFrom}
+use Rattle.law_protocol_changes.proofs.TranscriptProgress.{from_at, fits_if, at_read_only_commit, at_roll_back, at_leaving, at_said, at_own_end, at_fail_end}
 use Rattle.spec_protocol.specs.StandTogether.{History, Stands, StandsAfter}
 use Rattle.spec_protocol.specs.Moves.{saying, ending, at_place, sits, marking}
 use Rattle.spec_protocol.specs.LedgerVisits.{is_read_only, Ends, commits_nothing, rolls_back, leaves, did_nothing, was_refused, lacks_memory, lacks_index, ReadsPoint}
-use Rattle.law_protocol_steps.proofs.AssignsId.{at_own, others_in_journal}
+use Rattle.law_protocol_changes.proofs.AssignsId.{at_own, others_in_journal}
 use Rattle.law_protocol_ledger.proofs.EndsHistory.{ends_act, fails_ends_act, ends_by}
-use Rattle.law_protocol_steps.proofs.FreshIds.{events_of_touched}
-use Rattle.law_protocol_steps.proofs.Ids.{below, others}
-use Rattle.law_protocol_steps.proofs.LedgerVisit.{the_ledger, ledger_after}
-use Rattle.law_protocol_steps.proofs.OpenSeats.{Own}
-use Rattle.law_protocol_steps.proofs.OthersScripts.{sound_for}
+use Rattle.law_protocol_changes.proofs.FreshIds.{events_of_touched}
+use Rattle.law_protocol_changes.proofs.Ids.{below, others}
+use Rattle.law_protocol_changes.proofs.LedgerVisit.{the_ledger, ledger_after}
+use Rattle.law_protocol_changes.proofs.OpenSeats.{Own}
+use Rattle.law_protocol_changes.proofs.OthersScripts.{sound_for}
 use Rattle.spec_protocol.proofs.Places.{set_here, set_again}
 use Rattle.law_protocol_ledger.proofs.QuietOnes.{no_events, none_at_all}
 use Rattle.law_protocol_changes.proofs.SaysHistory.{told}
-use Rattle.law_protocol_steps.proofs.Turns.{MayHoldLock, StillStands, Owes, Turns}
+use Rattle.law_protocol_changes.proofs.Turns.{MayHoldLock, StillStands, Owes, Turns}
 use Rattle.spec_protocol.specs.RowsAgree.{GoesBackTo, IsExplicitAt}
 use Rattle.spec_protocol.specs.TablesAreSerial.{HasActed, HasAdded}
-use Rattle.law_protocol_steps.proofs.PlainPlaces.{IsBare, not_back, not_dropping, of_either}
-use Rattle.law_protocol_steps.proofs.AloneTurns.{bare}
+use Rattle.law_protocol_changes.proofs.PlainPlaces.{IsBare, not_back, not_dropping, of_either}
+use Rattle.law_protocol_changes.proofs.AloneTurns.{bare}
 use Rattle.spec_protocol.specs.ActsOf.{end_acts}
-use Rattle.law_protocol_steps.proofs.GoesOn.{Owned, ActsBy, then_more}
+use Rattle.law_protocol_changes.proofs.GoesOn.{Owned, ActsBy, then_more}
 use Rattle.spec_history.specs.Acts as act
 
 -- ---- lists

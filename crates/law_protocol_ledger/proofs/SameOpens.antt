@@ -12,7 +12,7 @@ use Rattle.spec_protocol.specs.OpenScripts.{OpenScripts}
 use Rattle.spec_protocol.specs.LocksCover.{Belongs, LocksCover}
 use Rattle.spec_protocol.specs.LocksAgree.{SeatHas, LocksAgree}
 use Rattle.spec_protocol.specs.TreesAreOfEvents.{TreesAreOfEvents}
-use Rattle.law_protocol_steps.proofs.Turns.{StillCreates, definitions_stand, stands_as}
+use Rattle.law_protocol_changes.proofs.Turns.{StillCreates, definitions_stand, stands_as}
 use Rattle.spec_protocol.specs.RowsAgree.{RowsAgree}
 use Rattle.sql_types.specs.declared.statement.Stmt.{Stmt}
 

@@ -39,30 +39,30 @@ use Rattle.spec_protocol.specs.Seats.{OpenSavepoint, OpenTransaction, begun, goi
 use Rattle.spec_protocol.specs.StandTogether.{History, Stands, StandsAfter}
 use Rattle.spec_protocol.specs.TreesAreOfEvents.{IsOpenSavepoint, AreOpenSavepoints}
 use Rattle.spec_protocol.specs.RequestsIn.{requests_in, Holds}
-use Rattle.law_protocol_steps.proofs.AloneTurns.{alone_stands, kept, keeps_turn, StillAt, bare, alone_after}
-use Rattle.law_protocol_steps.proofs.AnonymousActs.{plain_acts}
-use Rattle.law_protocol_steps.proofs.TranscriptActs.{goes_on}
-use Rattle.law_protocol_steps.proofs.TranscriptProgress.{from_at, at_opened, savepoint_fits}
-use Rattle.law_protocol_steps.proofs.FreshIds.{events_of_touched, IsNotOf, each_filter_not, made_before, none_of_touched, undone_nothing}
-use Rattle.law_protocol_steps.proofs.Heard.{heard_still}
-use Rattle.law_protocol_steps.proofs.Ids.{InTransaction, in_transaction}
-use Rattle.law_protocol_steps.proofs.OthersScripts.{sound_for}
-use Rattle.law_protocol_steps.proofs.SaidMore.{trees_over, X, its_versions, its_counter, its_savepoints, keeps_said, state_is}
+use Rattle.law_protocol_changes.proofs.AloneTurns.{alone_stands, kept, keeps_turn, StillAt, bare, alone_after}
+use Rattle.law_protocol_changes.proofs.AnonymousActs.{plain_acts}
+use Rattle.law_protocol_changes.proofs.TranscriptActs.{goes_on}
+use Rattle.law_protocol_changes.proofs.TranscriptProgress.{from_at, at_opened, savepoint_fits}
+use Rattle.law_protocol_changes.proofs.FreshIds.{events_of_touched, IsNotOf, each_filter_not, made_before, none_of_touched, undone_nothing}
+use Rattle.law_protocol_changes.proofs.Heard.{heard_still}
+use Rattle.law_protocol_changes.proofs.Ids.{InTransaction, in_transaction}
+use Rattle.law_protocol_changes.proofs.OthersScripts.{sound_for}
+use Rattle.law_protocol_changes.proofs.SaidMore.{trees_over, X, its_versions, its_counter, its_savepoints, keeps_said, state_is}
 use Rattle.law_protocol_changes.proofs.SaysHistory.{says_act, says_owner}
-use Rattle.law_protocol_steps.proofs.ScriptMore.{step_is, back_one}
+use Rattle.law_protocol_changes.proofs.ScriptMore.{step_is, back_one}
 use Rattle.law_protocol_changes.proofs.StepsSaid.{none_requested, back_requests, same_back}
 use Rattle.law_protocol_ledger.proofs.Visited.{touched_undone, nothing_there}
-use Rattle.law_protocol_steps.proofs.PlainPlaces.{AddsNone, none_added}
+use Rattle.law_protocol_changes.proofs.PlainPlaces.{AddsNone, none_added}
 use Rattle.spec_protocol.specs.TablesAreSerial.{IsAdding}
 use Rattle.spec_model.specs.Keys.{Key, same_key, version_key}
 use Rattle.spec_model.specs.Runs.{MadeBefore}
-use Rattle.law_protocol_steps.proofs.Turns.{Owes}
+use Rattle.law_protocol_changes.proofs.Turns.{Owes}
 use Rattle.spec_model.specs.Agreement.{columns_at}
 use Rattle.spec_protocol.specs.RowsAgree.{key_rows}
 use Rattle.spec_model.specs.Reach.{lets_change}
 use Rattle.law_frame.proofs.Definitions.{opened_keep_defs}
 use Rattle.law_protocol_changes.proofs.ChangedRows.{undone_before, undone_of_key}
-use Rattle.law_protocol_steps.proofs.GoesOn.{nothing_added}
+use Rattle.law_protocol_changes.proofs.GoesOn.{nothing_added}
 use Rattle.spec_history.specs.Acts.{says}
 
 -- the savepoint of a frame

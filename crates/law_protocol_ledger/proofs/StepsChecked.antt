@@ -47,18 +47,18 @@ use Rattle.spec_protocol.specs.Parts.{IsHeard, AreTransactions, IsNow}
 use Rattle.spec_protocol.specs.Seats.{OpenTransaction, found, replied, answering, SessionStatus, inside, Session, session, SeatState}
 use Rattle.spec_protocol.specs.StandTogether.{History, Stands, StandsAfter}
 use Rattle.spec_protocol.specs.RequestsIn.{of_catalog, requests_at, requests_in, Holds}
-use Rattle.law_protocol_steps.proofs.AloneTurns.{alone_stands, keeps_turn}
-use Rattle.law_protocol_steps.proofs.AnonymousActs.{plain_acts}
-use Rattle.law_protocol_steps.proofs.TranscriptActs.{goes_on}
-use Rattle.law_protocol_steps.proofs.TranscriptProgress.{from_at, fits_if, if_fits, at_opened}
-use Rattle.law_protocol_steps.proofs.Ids.{InTransaction, in_transaction}
-use Rattle.law_protocol_steps.proofs.InPlaces.{NoControl, within, controlled_inside, fits_own}
+use Rattle.law_protocol_changes.proofs.AloneTurns.{alone_stands, keeps_turn}
+use Rattle.law_protocol_changes.proofs.AnonymousActs.{plain_acts}
+use Rattle.law_protocol_changes.proofs.TranscriptActs.{goes_on}
+use Rattle.law_protocol_changes.proofs.TranscriptProgress.{from_at, fits_if, if_fits, at_opened}
+use Rattle.law_protocol_changes.proofs.Ids.{InTransaction, in_transaction}
+use Rattle.law_protocol_changes.proofs.InPlaces.{NoControl, within, controlled_inside, fits_own}
 use Rattle.law_frame.proofs.PlainRefusals.{IsPlain, IsPlainReply, effect_reply}
-use Rattle.law_protocol_steps.proofs.SaidMore.{X, its_versions, its_counter, its_trees, its_savepoints, keeps_bare, said_stands}
-use Rattle.law_protocol_steps.proofs.ScriptMore.{step_is}
+use Rattle.law_protocol_changes.proofs.SaidMore.{X, its_versions, its_counter, its_trees, its_savepoints, keeps_bare, said_stands}
+use Rattle.law_protocol_changes.proofs.ScriptMore.{step_is}
 use Rattle.law_protocol_changes.proofs.StepsSaid.{done_is}
 use Rattle.spec_protocol.specs.ActsOf.{checked_acts}
-use Rattle.law_protocol_steps.proofs.GoesOn.{nothing_added, unacted}
+use Rattle.law_protocol_changes.proofs.GoesOn.{nothing_added, unacted}
 use Rattle.spec_history.specs.Acts.{says}
 
 -- ---- the check over the found definition alone

@@ -27,16 +27,16 @@ use Rattle.spec_protocol.specs.OpenOnes.{HasOpen, text_at}
 use Rattle.spec_protocol.specs.Parts.{asking, AreTransactions}
 use Rattle.spec_protocol.specs.Seats.{OpenTransaction, answering, between, inside, leaving, idle, Session, session, SeatState}
 use Rattle.spec_protocol.specs.StandTogether.{History, Stands, StandsAfter}
-use Rattle.law_protocol_steps.proofs.AloneTurns.{alone_after}
-use Rattle.law_protocol_steps.proofs.AnonymousActs.{IsPlain, at_after, plain_acts, plain_owner}
+use Rattle.law_protocol_changes.proofs.AloneTurns.{alone_after}
+use Rattle.law_protocol_changes.proofs.AnonymousActs.{IsPlain, at_after, plain_acts, plain_owner}
 use Rattle.law_protocol_changes.proofs.DigestsStand.{no_turn}
 use Rattle.law_protocol_ledger.proofs.Entries.{open_snoc, Pays, line_is, pays_end_at, pays_leaving}
-use Rattle.law_protocol_steps.proofs.Heard.{heard_all}
-use Rattle.law_protocol_steps.proofs.Ids.{each_in, Running, running, InTransaction, in_transaction}
-use Rattle.law_protocol_steps.proofs.OpenSeats.{Own, owns_none, owns_one, one_open}
+use Rattle.law_protocol_changes.proofs.Heard.{heard_all}
+use Rattle.law_protocol_changes.proofs.Ids.{each_in, Running, running, InTransaction, in_transaction}
+use Rattle.law_protocol_changes.proofs.OpenSeats.{Own, owns_none, owns_one, one_open}
 use Rattle.law_protocol_ledger.proofs.Overs.{over_agrees, over_owner}
 use Rattle.law_protocol_ledger.proofs.StepsTake.{plain_answer, paid, written}
-use Rattle.law_protocol_steps.proofs.Turns.{Turns}
+use Rattle.law_protocol_changes.proofs.Turns.{Turns}
 
 pub plain_free : IsPlain releases_locks
 plain_free = record { items = λ x. refl; ids = refl; issued = refl; marks = refl; images = refl }

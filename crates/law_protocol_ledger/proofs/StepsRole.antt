@@ -15,10 +15,10 @@ use Rattle.spec_protocol.specs.Parts.{all_of, Now}
 use Rattle.spec_protocol.specs.Seats.{OpenTransaction, Session, Written, Role, idle, session, builder, SeatState}
 use Rattle.spec_protocol.specs.StandTogether.{History, Stands, StandsAfter}
 use Rattle.spec_protocol.specs.TranscriptsAgree.{session_moments, moments_of, IsMoment, ImagesNow, SeatAgrees, TranscriptsAgree}
-use Rattle.law_protocol_steps.proofs.AloneTurns.{alone_stands, alone_after}
+use Rattle.law_protocol_changes.proofs.AloneTurns.{alone_stands, alone_after}
 use Rattle.law_protocol_ledger.proofs.Begins.{begin_agrees, begin_owner}
 use Rattle.law_protocol_changes.proofs.DigestsStand.{no_turn}
-use Rattle.law_protocol_steps.proofs.OpenSeats.{Own}
+use Rattle.law_protocol_changes.proofs.OpenSeats.{Own}
 use Rattle.spec_protocol.proofs.Places.{at_set, set_here, set_else}
 
 -- a role without a session

@@ -25,16 +25,16 @@ use Rattle.spec_protocol.specs.OpenScripts.{counted}
 use Rattle.spec_protocol.specs.Parts.{asking, AreTransactions}
 use Rattle.spec_protocol.specs.Seats.{OpenTransaction, begun, answering, SessionStatus, between, inside, Session, session, SeatState}
 use Rattle.spec_protocol.specs.StandTogether.{History, Stands, StandsAfter}
-use Rattle.law_protocol_steps.proofs.AloneTurns.{kept, keeps_turn, bare, alone_after}
-use Rattle.law_protocol_steps.proofs.AnonymousActs.{IsPlain, plain_acts, plain_owner}
-use Rattle.law_protocol_steps.proofs.TranscriptActs.{goes_on}
-use Rattle.law_protocol_steps.proofs.TranscriptProgress.{from_at, if_fits}
+use Rattle.law_protocol_changes.proofs.AloneTurns.{kept, keeps_turn, bare, alone_after}
+use Rattle.law_protocol_changes.proofs.AnonymousActs.{IsPlain, plain_acts, plain_owner}
+use Rattle.law_protocol_changes.proofs.TranscriptActs.{goes_on}
+use Rattle.law_protocol_changes.proofs.TranscriptProgress.{from_at, if_fits}
 use Rattle.law_protocol_changes.proofs.DigestsStand.{no_turn}
 use Rattle.law_protocol_ledger.proofs.Entries.{open_snoc, images_snoc, Pays, pays_outside, pays_at}
-use Rattle.law_protocol_steps.proofs.Heard.{heard_still}
-use Rattle.law_protocol_steps.proofs.Ids.{Running, running, InTransaction, in_transaction}
-use Rattle.law_protocol_steps.proofs.OpenSeats.{owns_none}
-use Rattle.law_protocol_steps.proofs.PlainPlaces.{AddsNone}
+use Rattle.law_protocol_changes.proofs.Heard.{heard_still}
+use Rattle.law_protocol_changes.proofs.Ids.{Running, running, InTransaction, in_transaction}
+use Rattle.law_protocol_changes.proofs.OpenSeats.{owns_none}
+use Rattle.law_protocol_changes.proofs.PlainPlaces.{AddsNone}
 use Rattle.spec_history.proofs.Rising.{images}
 
 -- an act that adds nothing

@@ -22,10 +22,10 @@ use Rattle.spec_protocol.specs.LocksCover.{LiesUnder, EndLiesUnder, IsUnderLocks
 use Rattle.spec_protocol.specs.OpenOnes.{HasOpen}
 use Rattle.spec_protocol.specs.Seats.{OpenTransaction, Session, SeatState}
 use Rattle.spec_protocol.specs.StandTogether.{History, Stands}
-use Rattle.law_protocol_steps.proofs.FreshIds.{EndIsNotOf, IsNotOf, none_touched, none_touched_in}
-use Rattle.law_protocol_steps.proofs.Ids.{outside, has_not}
-use Rattle.law_protocol_steps.proofs.OpenSeats.{one_open}
-use Rattle.law_protocol_steps.proofs.OthersScripts.{sound_for}
+use Rattle.law_protocol_changes.proofs.FreshIds.{EndIsNotOf, IsNotOf, none_touched, none_touched_in}
+use Rattle.law_protocol_changes.proofs.Ids.{outside, has_not}
+use Rattle.law_protocol_changes.proofs.OpenSeats.{one_open}
+use Rattle.law_protocol_changes.proofs.OthersScripts.{sound_for}
 
 -- ---- undo by number
 

@@ -50,3 +50,6 @@ pub mod TranscriptActs
 pub mod TranscriptProgress
 pub mod Turns
 pub mod VisitActs
+pub use Rattle.spec_protocol.proofs.LedgerNumbers
+pub use Rattle.spec_protocol.proofs.Places
+pub use Rattle.spec_protocol.proofs.Counting

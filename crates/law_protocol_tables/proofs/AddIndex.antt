@@ -28,23 +28,23 @@ use Rattle.spec_protocol.specs.TablesAreSerial.{HasAdded, IsAdding, IsSortedProj
 use Rattle.spec_protocol.specs.RowsAgree.{IsExplicitAt}
 use Rattle.spec_protocol.specs.LocksCover.{IsAfter}
 use Rattle.spec_protocol.specs.StandTogether.{History, Stands}
-use Rattle.law_protocol_steps.proofs.AfterSet.{set_here, set_else}
-use Rattle.law_protocol_steps.proofs.SeatsAfter.{open_here, each_open}
-use Rattle.law_protocol_steps.proofs.CellsAfter.{table_changed}
-use Rattle.law_protocol_steps.proofs.CatalogAlone.{alone}
-use Rattle.law_protocol_steps.proofs.DefsAfter.{found_id, IndexMade, index_made}
-use Rattle.law_protocol_steps.proofs.SeatIds.{one_seat, outside}
-use Rattle.law_protocol_steps.proofs.Looks.{put_there, put_keeps}
-use Rattle.law_protocol_steps.proofs.RowsFor.{sound}
-use Rattle.law_protocol_steps.proofs.SameOne.{IsSame, same_end}
-use Rattle.law_protocol_steps.proofs.Takes.{tables_now, Takes, covered, agree, rows, scripts, trees, same_rows, looked_stays, stayed, definitions_after, creator_after, indexes_after}
-use Rattle.law_protocol_steps.proofs.TakesInTable.{IsAtPlace, table_place, cell_at}
-use Rattle.law_protocol_steps.proofs.OfCells.{Creates, HasLooked, HoldsInCatalog, IsGotAt, IsIndexed, StandsAs, TableStands, committed, in_journal, looked_now, table_there}
+use Rattle.law_protocol_changes.proofs.AfterSet.{set_here, set_else}
+use Rattle.law_protocol_changes.proofs.SeatsAfter.{open_here, each_open}
+use Rattle.law_protocol_changes.proofs.CellsAfter.{table_changed}
+use Rattle.law_protocol_changes.proofs.CatalogAlone.{alone}
+use Rattle.law_protocol_changes.proofs.DefsAfter.{found_id, IndexMade, index_made}
+use Rattle.law_protocol_changes.proofs.SeatIds.{one_seat, outside}
+use Rattle.law_protocol_changes.proofs.Looks.{put_there, put_keeps}
+use Rattle.law_protocol_changes.proofs.RowsFor.{sound}
+use Rattle.law_protocol_changes.proofs.SameOne.{IsSame, same_end}
+use Rattle.law_protocol_changes.proofs.Takes.{tables_now, Takes, covered, agree, rows, scripts, trees, same_rows, looked_stays, stayed, definitions_after, creator_after, indexes_after}
+use Rattle.law_protocol_changes.proofs.TakesInTable.{IsAtPlace, table_place, cell_at}
+use Rattle.law_protocol_changes.proofs.OfCells.{Creates, HasLooked, HoldsInCatalog, IsGotAt, IsIndexed, StandsAs, TableStands, committed, in_journal, looked_now, table_there}
 use Rattle.spec_protocol.specs.TranscriptsSoFar.{FitsWith, shown_with}
 use Rattle.spec_protocol.specs.Contents.{HasAlone, contents, table_found}
-use Rattle.law_protocol_steps.proofs.VisitActs.{stage_act}
+use Rattle.law_protocol_changes.proofs.VisitActs.{stage_act}
 use Rattle.spec_model.specs.Holds.{holds_after}
-use Rattle.law_protocol_steps.proofs.Taken.{taken}
+use Rattle.law_protocol_changes.proofs.Taken.{taken}
 
 new_ordinals : (cols : List ColumnDef) (vs : List Version) (is : List IndexDef) → map (λ q. q.ordinals) (map (new_index cols vs) is) ≡ ordinals_of is
 new_ordinals cols vs [] = refl

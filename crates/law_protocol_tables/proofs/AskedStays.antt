@@ -17,8 +17,8 @@ use Rattle.spec_protocol.specs.Seats.{SeatState}
 use Rattle.spec_protocol.specs.LocksCover.{LocksCover}
 use Rattle.spec_protocol.specs.LocksWereAsked.{IsAskedFor, LocksWereAsked, WasAsked}
 use Rattle.spec_protocol.specs.TranscriptsAgree.{TranscriptsAgree}
-use Rattle.law_protocol_steps.proofs.Ids.{in_transaction, apart}
-use Rattle.law_protocol_steps.proofs.OneMore.{acted_all, by_each, run_else, run_now}
+use Rattle.law_protocol_changes.proofs.Ids.{in_transaction, apart}
+use Rattle.law_protocol_changes.proofs.OneMore.{acted_all, by_each, run_else, run_now}
 
 -- ---- a session whose transaction is open after acts that draw no id
 

@@ -19,14 +19,14 @@ use Rattle.spec_protocol.specs.Doing.{events_from}
 use Rattle.spec_protocol.specs.Moves.{sits}
 use Rattle.spec_protocol.specs.TreesAreOfEvents.{AreOpenSavepoints}
 use Rattle.spec_protocol.specs.StandTogether.{History, Stands}
-use Rattle.law_protocol_steps.proofs.SeatsAfter.{each_open}
+use Rattle.law_protocol_changes.proofs.SeatsAfter.{each_open}
 use Rattle.spec_protocol.proofs.NewEvents.{come_last}
 use Rattle.law_protocol_changes.proofs.Grown.{grown_trees}
-use Rattle.law_protocol_steps.proofs.SameOne.{no_change, trees_same}
+use Rattle.law_protocol_changes.proofs.SameOne.{no_change, trees_same}
 use Rattle.law_protocol_changes.proofs.ChangesAt as ch
 use Rattle.law_protocol_changes.proofs.ChangeKeeps as keeps
-use Rattle.law_protocol_steps.proofs.OfCells.{HasItsTrees, TreesAreOfEvents, events_counted}
-use Rattle.law_protocol_steps.proofs.FreshIds.{events_of_touched}
+use Rattle.law_protocol_changes.proofs.OfCells.{HasItsTrees, TreesAreOfEvents, events_counted}
+use Rattle.law_protocol_changes.proofs.FreshIds.{events_of_touched}
 
 module _ (v : Server) (cells : List Cell) (seats : List SeatState) {history : History} (S : Stands v history cells seats) (j : ℕ) (s : SeatState) (x : Session) (o : OpenTransaction) (text : Text) (named : NamedPart) (fresh : Bool)
     (i : ℕ) (c : TableCell) (row : RowStmt) (changes : List Change) (count : ℕ) (K : ch.Changing v cells seats S j s x o text named fresh i c row changes count) where

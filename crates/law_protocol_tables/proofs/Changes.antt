@@ -1,5 +1,5 @@
 -- INSERT, UPDATE and DELETE in a table's cell: locks are taken, rows are changed, trees grow.
-use Rattle.law_protocol_steps.proofs.ActedFor.{StandsBy}
+use Rattle.law_protocol_changes.proofs.ActedFor.{StandsBy}
 use Rattle.std.proofs.Common.{◌≡◌, ◌≢◌, ◌⊎◌, ℕ, ◌+◌, Bool, false, List, [], ◌∷◌, map, length, set, Option, Some, None, Ok, refl, sym, ap, ap₂, ◌∙◌, subst, inl, inr, ⊎_elim, arith, ◌++◌, true}
 use Rattle.std.proofs.lemmas.Bool.{ne_eqb, eq-eqb}
 use Rattle.std.specs.Prelude.{not, if◌then◌else◌}
@@ -35,24 +35,24 @@ use Rattle.spec_protocol.specs.Seats.{OpenTransaction, found, SessionStatus, ins
 use Rattle.spec_protocol.specs.OpenOnes.{HasOpen}
 use Rattle.spec_protocol.specs.Moves.{visiting, noting, sits}
 use Rattle.spec_protocol.specs.RequestsIn.{of_catalog, of_cell, requests_at, requests_in}
-use Rattle.law_protocol_steps.proofs.Taken.{AreFree}
+use Rattle.law_protocol_changes.proofs.Taken.{AreFree}
 use Rattle.spec_protocol.specs.TableVisits.{reordered, ChangesRows}
 use Rattle.spec_protocol.specs.LocksCover.{name_of, IsNamed, HasIntent}
 use Rattle.spec_protocol.specs.StandTogether.{History, Stands}
-use Rattle.law_protocol_steps.proofs.AfterSet.{set_here, set_twice, each_at, all_at}
-use Rattle.law_protocol_steps.proofs.CellsAfter.{held_here}
-use Rattle.law_protocol_steps.proofs.Excluded.{HasX, HasNoX, has_x_or_not, excluded}
-use Rattle.law_protocol_steps.proofs.Taken.{taken_comes, taken_holds}
+use Rattle.law_protocol_changes.proofs.AfterSet.{set_here, set_twice, each_at, all_at}
+use Rattle.law_protocol_changes.proofs.CellsAfter.{held_here}
+use Rattle.law_protocol_changes.proofs.Excluded.{HasX, HasNoX, has_x_or_not, excluded}
+use Rattle.law_protocol_changes.proofs.Taken.{taken_comes, taken_holds}
 use Rattle.law_journal.specs.Serial.{place_in}
 use Rattle.spec_protocol.specs.OpenOnes.{texts_so_far, script_end}
 use Rattle.spec_protocol.specs.Cells.{holds_at}
-use Rattle.law_protocol_steps.proofs.Defined.{IsDefined, is_defined}
+use Rattle.law_protocol_changes.proofs.Defined.{IsDefined, is_defined}
 use Rattle.law_protocol_tables.proofs.KeptNow.{KeptRows, kept_script}
 use Rattle.law_protocol_tables.proofs.LiveByKey.{ByKey, kept_by_key}
-use Rattle.law_protocol_steps.proofs.RowsFor.{sound, elsewhere}
-use Rattle.law_protocol_steps.proofs.NewLine.{same_check, has_found}
-use Rattle.law_protocol_steps.proofs.Takes.{tables_now}
-use Rattle.law_protocol_steps.proofs.TakesInTable as take
+use Rattle.law_protocol_changes.proofs.RowsFor.{sound, elsewhere}
+use Rattle.law_protocol_changes.proofs.NewLine.{same_check, has_found}
+use Rattle.law_protocol_changes.proofs.Takes.{tables_now}
+use Rattle.law_protocol_changes.proofs.TakesInTable as take
 use Rattle.law_protocol_changes.proofs.ChangesAt.{Changing}
 use Rattle.law_protocol_changes.proofs.ChangesAt as ch
 use Rattle.law_protocol_changes.proofs.ChangeKeeps.{changes_there, indexes_then}
@@ -62,8 +62,8 @@ use Rattle.spec_model.specs.Rows.{live}
 use Rattle.sql_value.specs.declared.column.ColumnDef.{ColumnDef}
 use Rattle.spec_protocol.specs.Doing.{grown, events_from, done}
 use Rattle.sql_types.specs.declared.version.Version.{Version}
-use Rattle.law_protocol_steps.proofs.OfCells.{AreIndexes, HasLooked, IsGotAt, StandsAs, TableStands, in_journal, looked_now}
-use Rattle.law_protocol_steps.proofs.TakenLocks.{all_free}
+use Rattle.law_protocol_changes.proofs.OfCells.{AreIndexes, HasLooked, IsGotAt, StandsAs, TableStands, in_journal, looked_now}
+use Rattle.law_protocol_changes.proofs.TakenLocks.{all_free}
 use Rattle.spec_protocol.specs.Contents.{table_found}
 use Rattle.spec_protocol.specs.ActsOf.{done_acts}
 

@@ -21,8 +21,8 @@ use Rattle.spec_protocol.specs.Cells.{Cell}
 use Rattle.spec_protocol.specs.Seats.{OpenTransaction, Session, SeatState}
 use Rattle.spec_protocol.specs.OpenOnes.{HasOpen}
 use Rattle.spec_protocol.specs.StandTogether.{History, Stands}
-use Rattle.law_protocol_steps.proofs.Ids as ids
-use Rattle.law_protocol_steps.proofs.OfCells.{in_journal}
+use Rattle.law_protocol_changes.proofs.Ids as ids
+use Rattle.law_protocol_changes.proofs.OfCells.{in_journal}
 
 -- a transaction with this end has its id among those of the journal, or not
 abbrev pub Placing : End → ℕ → List ℕ → Type 0

@@ -32,16 +32,16 @@ use Rattle.spec_protocol.specs.RequestsIn.{requests_in, Holds, of_catalog}
 use Rattle.spec_protocol.specs.TablesAreSerial.{HasActed, def_at, ordinals_of, IsAdding, IsCarried}
 use Rattle.spec_protocol.specs.LocksCover.{KeepsLocks, Belongs, HasIntent, LookedFirst, IsDropping}
 use Rattle.spec_protocol.specs.StandTogether.{History, Stands}
-use Rattle.law_protocol_steps.proofs.AfterSet.{set_here, set_else}
-use Rattle.law_protocol_steps.proofs.SeatsAfter.{Goes, one_session, open_else, each_open}
-use Rattle.law_protocol_steps.proofs.CellsAfter.{held_here, holds_here, holds_else}
-use Rattle.law_protocol_steps.proofs.SameOne.{no_change}
+use Rattle.law_protocol_changes.proofs.AfterSet.{set_here, set_else}
+use Rattle.law_protocol_changes.proofs.SeatsAfter.{Goes, one_session, open_else, each_open}
+use Rattle.law_protocol_changes.proofs.CellsAfter.{held_here, holds_here, holds_else}
+use Rattle.law_protocol_changes.proofs.SameOne.{no_change}
 use Rattle.law_protocol_changes.proofs.ChangedRows.{was_in}
-use Rattle.law_protocol_steps.proofs.Takes.{tables_now}
+use Rattle.law_protocol_changes.proofs.Takes.{tables_now}
 use Rattle.sql_types.specs.declared.lock.LockRequest.{LockRequest}
 use Rattle.spec_model.specs.Reach.{lets_change}
 use Rattle.spec_protocol.specs.Cells.{CatalogCell, Catalog, versions_in}
-use Rattle.law_protocol_steps.proofs.CellsAfter.{catalog_changed}
+use Rattle.law_protocol_changes.proofs.CellsAfter.{catalog_changed}
 use Rattle.law_protocol_changes.proofs.ChangedRows.{in_passed}
 use Rattle.law_protocol_changes.proofs.ChangeKeeps.{passes}
 use Rattle.spec_protocol.specs.RowsAgree.{GoesBackTo, IsExplicitAt}
@@ -52,18 +52,18 @@ use Rattle.spec_protocol.specs.OpenOnes.{lines_at}
 use Rattle.spec_model.specs.Reach.{has_key, is_exclusive}
 use Rattle.spec_model.specs.Script.{ScriptEnd}
 use Rattle.spec_history.specs.Transactions.{listed}
-use Rattle.law_protocol_steps.proofs.SameOne.{IsSame, same_end, script_stays, trees_stay}
-use Rattle.law_protocol_steps.proofs.CellsAfter.{versions_kept}
+use Rattle.law_protocol_changes.proofs.SameOne.{IsSame, same_end, script_stays, trees_stay}
+use Rattle.law_protocol_changes.proofs.CellsAfter.{versions_kept}
 use Rattle.sql_types.specs.declared.lock.Mode.TheVariants as mode
 use Rattle.law_protocol_changes.proofs.ChangeKeeps.{passes}
 use Rattle.std.proofs.Common.{append-nil}
-use Rattle.law_protocol_steps.proofs.OfCells.{LookedAt, AreDefinitions, AreIndexes, Creates, EndLiesUnder, GoesBack, HasItsTrees, HasLock, HoldsInCatalog, IsGotAt, IsIndexed, IsOfItsScript, IsUnderLocks, IsUnderWay, LiesUnder, LocksAgree, LocksCover, RowsAgree, SeatHas, StandsAs, RequestsNone, committed, in_journal, looked_now, looked_so, table_there}
+use Rattle.law_protocol_changes.proofs.OfCells.{LookedAt, AreDefinitions, AreIndexes, Creates, EndLiesUnder, GoesBack, HasItsTrees, HasLock, HoldsInCatalog, IsGotAt, IsIndexed, IsOfItsScript, IsUnderLocks, IsUnderWay, LiesUnder, LocksAgree, LocksCover, RowsAgree, SeatHas, StandsAs, RequestsNone, committed, in_journal, looked_now, looked_so, table_there}
 use Rattle.spec_protocol.specs.TranscriptsSoFar.{FitsWith, shown_with}
 use Rattle.spec_protocol.specs.Contents.{HasAlone, contents, table_found}
-use Rattle.law_protocol_steps.proofs.GotMore.{got_at_more}
-use Rattle.law_protocol_steps.proofs.SeatIds.{one_seat}
-use Rattle.law_protocol_steps.proofs.Taken.{released_is}
-use Rattle.law_protocol_steps.proofs.VisitActs.{stage_act}
+use Rattle.law_protocol_changes.proofs.GotMore.{got_at_more}
+use Rattle.law_protocol_changes.proofs.SeatIds.{one_seat}
+use Rattle.law_protocol_changes.proofs.Taken.{released_is}
+use Rattle.law_protocol_changes.proofs.VisitActs.{stage_act}
 use Rattle.spec_model.specs.ScriptRequests.{text_requests}
 
 listed_is : (u : Text) (q : Option Text) → In u (listed q) → q ≡ Some u

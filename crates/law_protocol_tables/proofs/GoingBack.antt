@@ -9,7 +9,7 @@ use Rattle.spec_protocol.specs.Seats.{going_back, inside, SeatState}
 use Rattle.spec_protocol.specs.Moves.{releasing, at_place, sits}
 use Rattle.spec_protocol.specs.UndoVisits.{UndoesTo, ReleasesTable}
 use Rattle.spec_protocol.specs.StandTogether.{History, Stands}
-use Rattle.law_protocol_steps.proofs.TakesInTable.{table_place, cell_at}
+use Rattle.law_protocol_changes.proofs.TakesInTable.{table_place, cell_at}
 use Rattle.law_protocol_tables.proofs.UndoesStand.{undoes_stand}
 use Rattle.law_protocol_tables.proofs.ReleasesStand.{releases_stand}
 

@@ -13,9 +13,9 @@ use Rattle.spec_protocol.specs.Contents.{contents}
 use Rattle.spec_protocol.specs.Seats.{SeatState}
 use Rattle.spec_protocol.specs.LocksWereAsked.{IsAskedFor}
 use Rattle.spec_protocol.specs.StandTogether.{History, LocksAskedFor, Stands, StandsAfter}
-use Rattle.law_protocol_steps.proofs.ActedFor.{sessions_at}
+use Rattle.law_protocol_changes.proofs.ActedFor.{sessions_at}
 use Rattle.law_protocol_tables.proofs.AskedStays.{AssignsNoId, for_lock, locks_stay}
-use Rattle.law_protocol_steps.proofs.CellsAfter.{each_holds, held_here}
+use Rattle.law_protocol_changes.proofs.CellsAfter.{each_holds, held_here}
 
 -- the definitions of the journal
 abbrev pub defs_at : {v : Server} {h : History} {cells : List Cell} {seats : List SeatState} → Stands v h cells seats → Defs

@@ -11,7 +11,7 @@ use Rattle.law_journal.specs.Fits.{Fits}
 use Rattle.law_journal.specs.Kept.{EndedBefore, Apart, AllApart}
 use Rattle.spec_history.specs.Lists.{Each, In}
 use Rattle.spec_protocol.specs.TablesAreSerial.{KeysDiffer}
-use Rattle.law_protocol_steps.proofs.AfterSet.{each_at, all_at}
+use Rattle.law_protocol_changes.proofs.AfterSet.{each_at, all_at}
 use Rattle.law_protocol_changes.proofs.ChangedRows.{filters_turned, in_passed, was_in, of_its_key}
 use Rattle.law_protocol_tables.proofs.KeptNow.{KeptRows}
 

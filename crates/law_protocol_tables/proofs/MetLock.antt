@@ -29,8 +29,8 @@ use Rattle.spec_protocol.specs.RequestsIn.{of_catalog, of_cell}
 use Rattle.spec_protocol.specs.LocksCover.{Belongs, HasLock, LocksCover}
 use Rattle.spec_protocol.specs.LocksWereAsked.{IsRequested, IsAskedFor, LocksWereAsked}
 use Rattle.spec_protocol.specs.TranscriptsAgree.{TranscriptsAgree}
-use Rattle.law_protocol_steps.proofs.Ids.{InTransaction, in_transaction, apart}
-use Rattle.law_protocol_steps.proofs.JournalMore.{same_serial}
+use Rattle.law_protocol_changes.proofs.Ids.{InTransaction, in_transaction, apart}
+use Rattle.law_protocol_changes.proofs.JournalMore.{same_serial}
 
 -- ---- the tables after so many transactions are those of the model
 

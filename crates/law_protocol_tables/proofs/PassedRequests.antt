@@ -19,7 +19,7 @@ use Rattle.spec_history.specs.Lists.{Text, In}
 use Rattle.spec_protocol.specs.Answering.{error_of, refused_by_check}
 use Rattle.spec_protocol.specs.LocksCover.{name_of}
 use Rattle.spec_protocol.specs.TableVisits.{requests_here}
-use Rattle.law_protocol_steps.proofs.NewLine.{found_alone, same_check}
+use Rattle.law_protocol_changes.proofs.NewLine.{found_alone, same_check}
 use Rattle.law_protocol_tables.proofs.RowsVisits.{same_query}
 
 passed : {A : Type 0} (m : Checked A) (def : TableDef) → error_of (and_then m (λ a. Ok def)) ≡ None → and_then m (λ a. Ok def) ≡ Ok def

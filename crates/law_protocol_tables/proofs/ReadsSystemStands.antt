@@ -1,13 +1,13 @@
 -- SELECT on a system table, answered in the catalog: cells and seats stand together.
-use Rattle.law_protocol_steps.proofs.ActedFor.{StandsBy, first_by}
+use Rattle.law_protocol_changes.proofs.ActedFor.{StandsBy, first_by}
 use Rattle.sql_types.specs.declared.lock.Mode.TheVariants.{S}
 use Rattle.sql_types.specs.declared.table.Part.TheVariants.{System}
 use Rattle.sql_types.specs.declared.statement.Stmt.TheVariants as stmt
-use Rattle.law_protocol_steps.proofs.SaidMore as more
+use Rattle.law_protocol_changes.proofs.SaidMore as more
 use Rattle.law_protocol_changes.proofs.SaidThere as say
-use Rattle.law_protocol_steps.proofs.Looks as look
+use Rattle.law_protocol_changes.proofs.Looks as look
 use Rattle.spec_protocol.specs.CatalogVisits.{Looks, ReadsSystem}
-use Rattle.law_protocol_steps.proofs.Taken.{AreFree, taken_comes}
+use Rattle.law_protocol_changes.proofs.Taken.{AreFree, taken_comes}
 use Rattle.std.proofs.Common.{Bool, Err, List, Ok, Option, Some, [], ap, append-nil, arith, false, inl, map, refl, set, subst, suc, sym, true, zero, ℕ, ⊎_elim, ◌++◌, ◌∙◌, ◌∷◌, ◌≡◌, ◌≢◌, ◌≤◌}
 use Rattle.spec_protocol.specs.Cells.{Catalog, CatalogCell, Cell, catalog_at, cell_of, holds_at, versions_at, versions_in}
 use Rattle.spec_model.specs.Refusals.{Checked}
@@ -16,7 +16,7 @@ use Rattle.spec_history.specs.Lists.{Each, In, Text}
 use Rattle.spec_protocol.specs.OpenOnes.{HasOpen, script_so_far}
 use Rattle.sql_types.specs.declared.lock.Hold.{Hold}
 use Rattle.spec_protocol.specs.RequestsIn.{Holds, of_catalog, of_cell, requests_in}
-use Rattle.law_protocol_steps.proofs.OfCells.{HoldsInCatalog, looked_now}
+use Rattle.law_protocol_changes.proofs.OfCells.{HoldsInCatalog, looked_now}
 use Rattle.spec_model.specs.Agreement.{IdsFrom}
 use Rattle.law_frame.proofs.PlainRefusals.{IsPlainReply, effect_reply}
 use Rattle.sql_types.specs.declared.journal.JournalItem.{JournalItem}
@@ -28,19 +28,19 @@ use Rattle.spec_protocol.specs.Server.{Server}
 use Rattle.spec_protocol.specs.StandTogether.{History, Stands, StandsAfter}
 use Rattle.spec_model.specs.Script.{State, by_effect, by_statement, script}
 use Rattle.sql_types.specs.declared.statement.Stmt.{Stmt}
-use Rattle.law_protocol_steps.proofs.RowsFor.{agree_on, sound}
-use Rattle.law_protocol_steps.proofs.AfterSet.{all_at, each_at, set_here, set_twice}
-use Rattle.law_protocol_steps.proofs.TakenLocks.{all_free}
+use Rattle.law_protocol_changes.proofs.RowsFor.{agree_on, sound}
+use Rattle.law_protocol_changes.proofs.AfterSet.{all_at, each_at, set_here, set_twice}
+use Rattle.law_protocol_changes.proofs.TakenLocks.{all_free}
 use Rattle.spec_protocol.specs.Moves.{at_place, sits, then_at, visiting}
 use Rattle.spec_model.specs.Locks.{catalog_request, cell_requests, query_cell_requests, query_requests, requests_conflict, whole}
 use Rattle.spec_protocol.specs.Contents.{contents}
 use Rattle.spec_history.proofs.Trace.{each_append}
 use Rattle.spec_model.specs.Effect.{effect, shown, query_effect, query_rows}
 use Rattle.std.proofs.lemmas.Bool.{eqb-true}
-use Rattle.law_protocol_steps.proofs.Excluded.{excluded}
+use Rattle.law_protocol_changes.proofs.Excluded.{excluded}
 use Rattle.law_frame.proofs.NamedPart.{found_is_system, found_is_listed, query_passed}
 use lib.ListN.{get_elem?}
-use Rattle.law_protocol_steps.proofs.CellsAfter.{held_here, were_here}
+use Rattle.law_protocol_changes.proofs.CellsAfter.{held_here, were_here}
 use Rattle.spec_model.specs.Holds.{holds_after, holds_any}
 use Rattle.std.specs.Prelude.{if◌then◌else◌, not, ◌==◌}
 use Rattle.spec_history.specs.Transcripts.{kind_of}
@@ -48,12 +48,12 @@ use Rattle.spec_protocol.specs.LocksCover.{name_of}
 use Rattle.spec_model.specs.Query.{query_check}
 use Rattle.spec_protocol.specs.Doing.{rows_reply, with_reply, stage_after}
 use mathlib.Core.Option.{some}
-use Rattle.law_protocol_steps.proofs.ScriptMore.{step_is}
-use Rattle.law_protocol_steps.proofs.Takes.{tables_now}
+use Rattle.law_protocol_changes.proofs.ScriptMore.{step_is}
+use Rattle.law_protocol_changes.proofs.Takes.{tables_now}
 use Rattle.spec_model.specs.ScriptRequests.{text_requests}
 use Rattle.spec_protocol.specs.ActsOf.{done_acts}
 use Rattle.spec_history.specs.Acts.{by}
-use Rattle.law_protocol_steps.proofs.GoesOn.{one_number}
+use Rattle.law_protocol_changes.proofs.GoesOn.{one_number}
 use Rattle.spec_history.specs.Acts as act
 
 module _ (v : Server) (cells : List Cell) (seats : List SeatState) {history : History} (stands_before : Stands v history cells seats) (j : ℕ) (s : SeatState) (there : get_elem? seats j ≡ some s) (c d : CatalogCell) (t : SeatState) (out : get_elem? cells catalog_at ≡ some (Catalog c)) (L : ReadsSystem v c s d t) where

@@ -26,19 +26,19 @@ use Rattle.spec_protocol.specs.OpenScripts.{counted}
 use Rattle.spec_protocol.specs.Moves.{releasing, at_place, sits}
 use Rattle.spec_protocol.specs.RowsAgree.{GoesBackTo, IsExplicitAt}
 use Rattle.spec_protocol.specs.StandTogether.{History, Stands}
-use Rattle.law_protocol_steps.proofs.SeatsAfter.{Goes, each_open}
-use Rattle.law_protocol_steps.proofs.CellsAfter.{held_here, holds_here, holds_else, versions_here, were_here, versions_else}
+use Rattle.law_protocol_changes.proofs.SeatsAfter.{Goes, each_open}
+use Rattle.law_protocol_changes.proofs.CellsAfter.{held_here, holds_here, holds_else, versions_here, were_here, versions_else}
 use Rattle.law_protocol_changes.proofs.ChangedRows.{in_passed, was_in, undone_of_key, rising_undone, undone_untouched, IsCounted, all_count, some_undone, counted_is, undone_before}
-use Rattle.law_protocol_steps.proofs.Excluded.{HasX, HasNoX, has_x_or_not}
+use Rattle.law_protocol_changes.proofs.Excluded.{HasX, HasNoX, has_x_or_not}
 use Rattle.law_protocol_changes.proofs.ChangesAt.{user_cell}
 use Rattle.law_protocol_changes.proofs.ChangeKeeps.{untouched, passes}
-use Rattle.law_protocol_steps.proofs.Takes.{tables_now}
-use Rattle.law_protocol_steps.proofs.TakesInTable.{IsAtPlace, table_place, cell_at, users}
-use Rattle.law_protocol_steps.proofs.OfCells.{IsFree, RowsAgree, in_journal}
+use Rattle.law_protocol_changes.proofs.Takes.{tables_now}
+use Rattle.law_protocol_changes.proofs.TakesInTable.{IsAtPlace, table_place, cell_at, users}
+use Rattle.law_protocol_changes.proofs.OfCells.{IsFree, RowsAgree, in_journal}
 use Rattle.law_protocol_changes.proofs.Apart.{x_apart}
-use Rattle.law_protocol_steps.proofs.Ids.{others}
+use Rattle.law_protocol_changes.proofs.Ids.{others}
 use Rattle.spec_model.specs.Holds.{released}
-use Rattle.law_protocol_steps.proofs.Taken.{released_is}
+use Rattle.law_protocol_changes.proofs.Taken.{released_is}
 
 -- what is left of the versions, by whether the transaction is committed
 abbrev pub left_by : Bool → ℕ → List Version → List Version

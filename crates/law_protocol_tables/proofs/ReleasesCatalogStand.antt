@@ -36,18 +36,18 @@ use Rattle.spec_protocol.specs.RequestsIn.{requests_in, Holds, of_catalog}
 use Rattle.spec_protocol.specs.TablesAreSerial.{def_at, ordinals_of, IsAdding, IsCarried}
 use Rattle.spec_protocol.specs.LocksCover.{KeepsLocks, Belongs, HasIntent, LookedFirst, IsDropping}
 use Rattle.spec_protocol.specs.StandTogether.{History, Stands}
-use Rattle.law_protocol_steps.proofs.AfterSet.{set_here, set_else, each_at, all_at}
-use Rattle.law_protocol_steps.proofs.SeatsAfter.{Goes, one_session, open_here, open_else, each_open}
-use Rattle.law_protocol_steps.proofs.CellsAfter.{held_here, holds_here, holds_else}
-use Rattle.law_protocol_steps.proofs.SameOne.{no_change}
-use Rattle.law_protocol_steps.proofs.Excluded.{HasX, HasNoX, has_x_or_not}
-use Rattle.law_protocol_steps.proofs.SeatIds.{one_seat, outside}
+use Rattle.law_protocol_changes.proofs.AfterSet.{set_here, set_else, each_at, all_at}
+use Rattle.law_protocol_changes.proofs.SeatsAfter.{Goes, one_session, open_here, open_else, each_open}
+use Rattle.law_protocol_changes.proofs.CellsAfter.{held_here, holds_here, holds_else}
+use Rattle.law_protocol_changes.proofs.SameOne.{no_change}
+use Rattle.law_protocol_changes.proofs.Excluded.{HasX, HasNoX, has_x_or_not}
+use Rattle.law_protocol_changes.proofs.SeatIds.{one_seat, outside}
 use Rattle.law_protocol_tables.proofs.FixedOnes.{is_placed}
-use Rattle.law_protocol_steps.proofs.DefsAfter.{found_id}
+use Rattle.law_protocol_changes.proofs.DefsAfter.{found_id}
 use Rattle.law_protocol_changes.proofs.ChangedRows.{undone_of_key, rising_undone, undone_untouched, undone_before, touched_agree, IsCounted, all_count, some_undone, counted_is, was_in}
 use Rattle.law_protocol_changes.proofs.ChangeKeeps.{untouched, at_in}
-use Rattle.law_protocol_steps.proofs.Takes.{tables_now}
-use Rattle.law_protocol_steps.proofs.TakesInTable.{table_place, cell_at}
+use Rattle.law_protocol_changes.proofs.Takes.{tables_now}
+use Rattle.law_protocol_changes.proofs.TakesInTable.{table_place, cell_at}
 use Rattle.sql_types.specs.declared.lock.LockRequest.{LockRequest}
 use Rattle.spec_model.specs.Reach.{lets_change}
 use Rattle.law_protocol_changes.proofs.CommittedRows.{committed_undone}
@@ -55,7 +55,7 @@ use Rattle.law_protocol_tables.proofs.Releases.{left_by}
 use Rattle.law_protocol_tables.proofs.FixedOnes.{is_committed}
 use Rattle.spec_protocol.specs.UndoVisits.{catalog_left, defs_before, creator_left, ReleasesCatalog}
 use Rattle.spec_protocol.specs.Cells.{CatalogCell, Catalog, versions_in}
-use Rattle.law_protocol_steps.proofs.CellsAfter.{catalog_changed, versions_here, were_here, versions_else}
+use Rattle.law_protocol_changes.proofs.CellsAfter.{catalog_changed, versions_here, were_here, versions_else}
 use Rattle.law_protocol_changes.proofs.ChangedRows.{in_passed}
 use Rattle.law_protocol_changes.proofs.ChangeKeeps.{passes}
 use Rattle.law_protocol_changes.proofs.Creating.{others_keep}
@@ -64,18 +64,18 @@ use Rattle.spec_model.specs.SystemTables.{tables_id}
 use Rattle.law_frame.proofs.UndoneVersions.{nothing_undone}
 use Rattle.law_protocol_tables.proofs.UndoneTwice.{WasIn, was_undone}
 use Rattle.spec_history.specs.Transactions as en
-use Rattle.law_protocol_steps.proofs.SameOne.{trees_from}
-use Rattle.law_protocol_steps.proofs.OfCells.{AreDefinitions, AreIndexes, Creates, EndLiesUnder, GoesBack, HasItsTrees, HasLock, HoldsInCatalog, IsFree, IsGotAt, IsIndexed, IsOfItsScript, IsUnderLocks, IsUnderWay, LiesUnder, LocksAgree, LocksCover, OpenScripts, RowsAgree, SeatHas, StandsAs, TreesAreOfEvents, RequestsNone, committed, events_counted, in_journal, LookedAt, looked_now, looked_so, table_there}
+use Rattle.law_protocol_changes.proofs.SameOne.{trees_from}
+use Rattle.law_protocol_changes.proofs.OfCells.{AreDefinitions, AreIndexes, Creates, EndLiesUnder, GoesBack, HasItsTrees, HasLock, HoldsInCatalog, IsFree, IsGotAt, IsIndexed, IsOfItsScript, IsUnderLocks, IsUnderWay, LiesUnder, LocksAgree, LocksCover, OpenScripts, RowsAgree, SeatHas, StandsAs, TreesAreOfEvents, RequestsNone, committed, events_counted, in_journal, LookedAt, looked_now, looked_so, table_there}
 use Rattle.law_protocol_changes.proofs.Apart.{x_apart}
 use Rattle.spec_protocol.specs.Contents.{HasAlone, contents, table_found}
-use Rattle.law_protocol_steps.proofs.FreshIds.{events_of_touched}
-use Rattle.law_protocol_steps.proofs.GotMore.{got_at_more}
-use Rattle.law_protocol_steps.proofs.Ids.{others}
+use Rattle.law_protocol_changes.proofs.FreshIds.{events_of_touched}
+use Rattle.law_protocol_changes.proofs.GotMore.{got_at_more}
+use Rattle.law_protocol_changes.proofs.Ids.{others}
 use Rattle.spec_model.specs.Holds.{released}
-use Rattle.law_protocol_steps.proofs.Taken.{released_is}
+use Rattle.law_protocol_changes.proofs.Taken.{released_is}
 use Rattle.spec_model.specs.ScriptRequests.{text_requests}
 use Rattle.spec_model.specs.Touched.{touched}
-use Rattle.law_protocol_steps.proofs.VisitActs.{unmoved}
+use Rattle.law_protocol_changes.proofs.VisitActs.{unmoved}
 
 rows_left : (e : End) (tx id : ℕ) (c : CatalogCell) → versions_in id (Catalog (catalog_left e tx c)) ≡ left_by (is_committed e) tx (versions_in id (Catalog c))
 rows_left (en.committed n) tx id c = refl

@@ -42,34 +42,34 @@ use Rattle.spec_protocol.specs.UndoVisits.{undone_unless, refused_def, without_l
 use Rattle.spec_protocol.specs.TablesAreSerial.{HasActed, def_at, ordinals_of, HasAdded, IsAdding, IsCarried}
 use Rattle.spec_protocol.specs.LocksCover.{KeepsLocks, Belongs, HasIntent, LookedFirst, IsDropping, IsAfter}
 use Rattle.spec_protocol.specs.StandTogether.{History, Stands}
-use Rattle.law_protocol_steps.proofs.AfterSet.{set_here, set_else, each_at, all_at}
-use Rattle.law_protocol_steps.proofs.SeatsAfter.{Goes, one_session, open_here, open_else, each_open}
-use Rattle.law_protocol_steps.proofs.CellsAfter.{holds_else, table_changed}
-use Rattle.law_protocol_steps.proofs.SameOne.{no_change, trees_same}
-use Rattle.law_protocol_steps.proofs.Excluded.{HasX, HasNoX, has_x_or_not}
-use Rattle.law_protocol_steps.proofs.SeatIds.{one_seat, outside}
+use Rattle.law_protocol_changes.proofs.AfterSet.{set_here, set_else, each_at, all_at}
+use Rattle.law_protocol_changes.proofs.SeatsAfter.{Goes, one_session, open_here, open_else, each_open}
+use Rattle.law_protocol_changes.proofs.CellsAfter.{holds_else, table_changed}
+use Rattle.law_protocol_changes.proofs.SameOne.{no_change, trees_same}
+use Rattle.law_protocol_changes.proofs.Excluded.{HasX, HasNoX, has_x_or_not}
+use Rattle.law_protocol_changes.proofs.SeatIds.{one_seat, outside}
 use Rattle.law_protocol_tables.proofs.FixedOnes.{is_placed}
 use Rattle.law_protocol_tables.proofs.Formed.{Formed, Left, is_committed, left_unless, dropped_as, sorted_less, last_dropped}
-use Rattle.law_protocol_steps.proofs.DefsAfter.{found_id, found_columns, IndexMade, index_made}
+use Rattle.law_protocol_changes.proofs.DefsAfter.{found_id, found_columns, IndexMade, index_made}
 use Rattle.law_protocol_tables.proofs.KeptNow.{KeptRows, kept_serial}
 use Rattle.law_protocol_tables.proofs.LiveByKey.{ByKey, kept_by_key}
 use Rattle.law_protocol_changes.proofs.ChangedRows.{undone_of_key, rising_undone, undone_untouched, undone_before, touched_agree, IsCounted, all_count, some_undone, counted_is, was_in}
 use Rattle.law_protocol_changes.proofs.ChangeKeeps.{untouched, at_in, absent_others}
-use Rattle.law_protocol_steps.proofs.Takes.{tables_now}
+use Rattle.law_protocol_changes.proofs.Takes.{tables_now}
 use Rattle.law_protocol_tables.proofs.Releases.{left_by, ReleasesTableLocks}
 use Rattle.law_protocol_tables.proofs.Releases as rel
-use Rattle.law_protocol_steps.proofs.VisitActs.{unmoved}
-use Rattle.law_protocol_steps.proofs.TakesInTable.{table_place, cell_at}
+use Rattle.law_protocol_changes.proofs.VisitActs.{unmoved}
+use Rattle.law_protocol_changes.proofs.TakesInTable.{table_place, cell_at}
 use Rattle.sql_types.specs.declared.lock.LockRequest.{LockRequest}
 use Rattle.spec_model.specs.Reach.{lets_change}
-use Rattle.law_protocol_steps.proofs.CatalogAlone.{none_besides, alone}
+use Rattle.law_protocol_changes.proofs.CatalogAlone.{none_besides, alone}
 use Rattle.law_protocol_changes.proofs.CommittedRows.{committed_undone}
 use Rattle.law_frame.proofs.LegalSound.{legal_sound}
-use Rattle.law_protocol_steps.proofs.OfCells.{LookedAt, AreDefinitions, AreIndexes, Creates, EndLiesUnder, GoesBack, HasItsTrees, HasLock, HasLooked, HoldsInCatalog, IsGotAt, IsIndexed, IsOfItsScript, IsUnderLocks, IsUnderWay, LiesUnder, LocksAgree, LocksCover, OpenScripts, SeatHas, StandsAs, TreesAreOfEvents, RequestsNone, committed, events_counted, in_journal, looked_now, looked_so, table_there}
+use Rattle.law_protocol_changes.proofs.OfCells.{LookedAt, AreDefinitions, AreIndexes, Creates, EndLiesUnder, GoesBack, HasItsTrees, HasLock, HasLooked, HoldsInCatalog, IsGotAt, IsIndexed, IsOfItsScript, IsUnderLocks, IsUnderWay, LiesUnder, LocksAgree, LocksCover, OpenScripts, SeatHas, StandsAs, TreesAreOfEvents, RequestsNone, committed, events_counted, in_journal, looked_now, looked_so, table_there}
 use Rattle.law_protocol_changes.proofs.Apart.{x_apart}
 use Rattle.spec_protocol.specs.Contents.{HasAlone, contents, table_found}
-use Rattle.law_protocol_steps.proofs.FreshIds.{events_of_touched}
-use Rattle.law_protocol_steps.proofs.GotMore.{got_at_more}
+use Rattle.law_protocol_changes.proofs.FreshIds.{events_of_touched}
+use Rattle.law_protocol_changes.proofs.GotMore.{got_at_more}
 use Rattle.spec_model.specs.Holds.{released}
 use Rattle.spec_model.specs.ScriptRequests.{text_requests}
 use Rattle.spec_model.specs.Touched.{touched}

@@ -1,25 +1,25 @@
 -- A statement of rows that is done in its table's cell, and changes none of its rows: cells and seats stand together.
-use Rattle.law_protocol_steps.proofs.ActedFor.{StandsBy}
+use Rattle.law_protocol_changes.proofs.ActedFor.{StandsBy}
 use Rattle.std.proofs.Common.{subst₂, Bool, List, None, Option, Some, [], ap, append-nil, arith, false, inl, inr, map, refl, set, subst, sym, true, ℕ, ⊎_elim, ◌++◌, ◌∙◌, ◌∷◌, ◌≡◌, ◌≢◌, ◌≤◌, ◌⊎◌, Err, Ok}
 use Rattle.sql_types.specs.declared.lock.Mode.TheVariants.{IS, IX, S, X}
 use Rattle.sql_types.specs.declared.lock.Item.TheVariants.{Whole}
 use Rattle.sql_types.specs.declared.table.Part.TheVariants.{Base, History, View, System}
-use Rattle.law_protocol_steps.proofs.SaidMore as more
+use Rattle.law_protocol_changes.proofs.SaidMore as more
 use Rattle.law_protocol_changes.proofs.SaidThere as say
-use Rattle.law_protocol_steps.proofs.TakesInTable as take
+use Rattle.law_protocol_changes.proofs.TakesInTable as take
 use Rattle.spec_model.specs.Effect as effects
 use Rattle.sql_types.specs.declared.statement.RowStmt.TheVariants.{Insert, Update, Delete}
 use Rattle.sql_types.specs.declared.reply.Reply.TheVariants as reply
 use Rattle.sql_types.specs.declared.statement.Stmt.TheVariants as stmt
 use Rattle.sql_value.specs.declared.refusal.Refusal.TheVariants.{NoSuchTable}
 use Rattle.spec_model.specs.Agreement.{AgreeOnAll, columns_at}
-use Rattle.law_protocol_steps.proofs.Taken.{AreFree, taken_comes, taken_holds}
+use Rattle.law_protocol_changes.proofs.Taken.{AreFree, taken_comes, taken_holds}
 use Rattle.spec_protocol.specs.Cells.{Cell, Rows, TableCell, catalog_at, cell_of, holds_at}
 use Rattle.sql_value.specs.declared.column.ColumnDef.{ColumnDef}
 use Rattle.spec_model.specs.Catalog.{Defs, NamedPart, Tables, defs_of, find_part, versions_of}
 use Rattle.spec_history.specs.Lists.{Each, In, Text}
 use Rattle.spec_protocol.specs.LocksCover.{HasIntent, IsNamed, name_of, table_of}
-use Rattle.law_protocol_steps.proofs.OfCells.{HasLooked, HoldsInCatalog, IsGotAt, in_journal, looked_now}
+use Rattle.law_protocol_changes.proofs.OfCells.{HasLooked, HoldsInCatalog, IsGotAt, in_journal, looked_now}
 use Rattle.spec_protocol.specs.OpenOnes.{HasOpen, script_end, script_so_far}
 use Rattle.sql_types.specs.declared.lock.Hold.{Hold}
 use Rattle.spec_protocol.specs.RequestsIn.{Holds, of_catalog, of_cell, requests_in}
@@ -36,27 +36,27 @@ use Rattle.spec_protocol.specs.StandTogether.{Stands}
 use Rattle.sql_types.specs.declared.statement.Stmt.{Stmt}
 use Rattle.sql_types.specs.declared.version.Version.{Version}
 use Rattle.sql_types.specs.declared.lock.LockRequest.{LockRequest}
-use Rattle.law_protocol_steps.proofs.RowsFor.{agree_on, sound}
-use Rattle.law_protocol_steps.proofs.AfterSet.{all_at, each_at, set_here, set_twice}
-use Rattle.law_protocol_steps.proofs.TakenLocks.{all_free}
+use Rattle.law_protocol_changes.proofs.RowsFor.{agree_on, sound}
+use Rattle.law_protocol_changes.proofs.AfterSet.{all_at, each_at, set_here, set_twice}
+use Rattle.law_protocol_changes.proofs.TakenLocks.{all_free}
 use Rattle.spec_protocol.specs.Moves.{at_place, sits, visiting}
 use Rattle.spec_model.specs.Locks.{by_key_or_whole, query_requests, requests_conflict, whole, cell_requests, query_cell_requests, row_cell_requests, row_requests}
 use Rattle.spec_protocol.specs.Contents.{contents}
 use Rattle.spec_protocol.specs.Doing.{done, stage_after, with_reply, rows_reply}
 use Rattle.spec_history.proofs.Trace.{each_append}
 use Rattle.std.proofs.lemmas.Bool.{eqb-true}
-use Rattle.law_protocol_steps.proofs.Excluded.{excluded}
+use Rattle.law_protocol_changes.proofs.Excluded.{excluded}
 use Rattle.spec_model.specs.InTheWay.{first_conflict}
 use Rattle.law_frame.proofs.NamedPart.{found_is_listed, found_is_system}
 use lib.ListN.{get_elem?}
-use Rattle.law_protocol_steps.proofs.CellsAfter.{held_here, were_here}
+use Rattle.law_protocol_changes.proofs.CellsAfter.{held_here, were_here}
 use Rattle.spec_model.specs.Holds.{holds_after}
 use Rattle.std.specs.Prelude.{if◌then◌else◌, not, ◌==◌}
 use Rattle.spec_model.specs.Where.{key_fixed}
 use Rattle.spec_history.specs.Transcripts.{kind_of, rows}
 use mathlib.Core.Option.{some}
-use Rattle.law_protocol_steps.proofs.ScriptMore.{step_is}
-use Rattle.law_protocol_steps.proofs.Takes.{tables_now}
+use Rattle.law_protocol_changes.proofs.ScriptMore.{step_is}
+use Rattle.law_protocol_changes.proofs.Takes.{tables_now}
 use Rattle.spec_model.specs.ScriptRequests.{text_requests}
 use Rattle.spec_protocol.specs.TableVisits.{Found, with_holds, ReadsRows, RefusesRows}
 use Rattle.spec_model.specs.Refusals.{Checked, and_then, or_refused}
@@ -64,7 +64,7 @@ use Rattle.spec_model.specs.Rows.{Row}
 use Rattle.sql_types.specs.declared.statement.RowStmt.{RowStmt}
 use Rattle.spec_model.specs.Parts.{columns_of}
 use Rattle.spec_model.specs.Effect.{effect, shown, query_effect, query_rows, row_effect}
-use Rattle.law_protocol_steps.proofs.NewLine.{found_alone, same_check}
+use Rattle.law_protocol_changes.proofs.NewLine.{found_alone, same_check}
 use Rattle.spec_model.specs.Query.{query_check, select_check}
 use Rattle.spec_model.specs.Changes.{row_changes}
 use Rattle.spec_model.specs.Checks.{row_statement_check}

@@ -13,18 +13,18 @@ use Rattle.spec_model.specs.Catalog.{Tables, NamedPart, defs_of}
 use Rattle.spec_model.specs.InTheWay.{Conflict, first_conflict}
 use Rattle.spec_model.specs.Journals.{serial}
 use Rattle.spec_model.specs.Locks.{catalog_request}
-use Rattle.law_protocol_steps.proofs.AloneTurns.{Keeps, alone_after, kept, keeps_turn, PlaceOwes, bare}
-use Rattle.law_protocol_steps.proofs.AfterSet.{set_same}
+use Rattle.law_protocol_changes.proofs.AloneTurns.{Keeps, alone_after, kept, keeps_turn, PlaceOwes, bare}
+use Rattle.law_protocol_changes.proofs.AfterSet.{set_same}
 use Rattle.law_protocol_tables.proofs.Barring.{Bars, first_bars}
-use Rattle.law_protocol_steps.proofs.CellsAfter.{held_here}
-use Rattle.law_protocol_steps.proofs.AnonymousActs.{IsPlain, plain_acts, plain_owner}
-use Rattle.law_protocol_steps.proofs.TranscriptActs.{GoesFrom, goes_on}
-use Rattle.law_protocol_steps.proofs.TranscriptProgress.{from_at, GoesAt}
+use Rattle.law_protocol_changes.proofs.CellsAfter.{held_here}
+use Rattle.law_protocol_changes.proofs.AnonymousActs.{IsPlain, plain_acts, plain_owner}
+use Rattle.law_protocol_changes.proofs.TranscriptActs.{GoesFrom, goes_on}
+use Rattle.law_protocol_changes.proofs.TranscriptProgress.{from_at, GoesAt}
 use Rattle.law_protocol_tables.proofs.TranscriptVisits.{at_met, at_own_met}
-use Rattle.law_protocol_steps.proofs.Ids.{InTransaction, in_transaction}
+use Rattle.law_protocol_changes.proofs.Ids.{InTransaction, in_transaction}
 use Rattle.law_protocol_tables.proofs.MetLock.{meets_it}
 use Rattle.law_protocol_tables.proofs.VisitsAsked.{wanted_there}
-use Rattle.law_protocol_steps.proofs.PlainPlaces.{AddsNone, none_added}
+use Rattle.law_protocol_changes.proofs.PlainPlaces.{AddsNone, none_added}
 use Rattle.spec_protocol.specs.CatalogVisits.{StopsInCatalog}
 use Rattle.spec_protocol.specs.Cells.{Catalog, CatalogCell, Cell, Rows, TableCell, catalog_at}
 use Rattle.spec_protocol.specs.Contents.{Contents, Known, contents, known, HasAlone}

@@ -11,7 +11,7 @@ use Rattle.spec_protocol.specs.Server.{Server}
 use Rattle.spec_protocol.specs.StandTogether.{History, Stands, StandsAfter}
 use lib.ListN.{get_elem?}
 use Rattle.law_protocol_changes.proofs.StepsQuiet.{no_memory_stands, no_memory_then_stands}
-use Rattle.law_protocol_steps.proofs.AfterSet.{set_same}
+use Rattle.law_protocol_changes.proofs.AfterSet.{set_same}
 use mathlib.Core.Option.{some}
 use Rattle.spec_protocol.specs.Doing.{stage_refused}
 use Rattle.spec_protocol.specs.Moves.{then_at}

@@ -14,9 +14,9 @@ use Rattle.spec_protocol.specs.TranscriptsSoFar.{end_shown, is_begin, image_in, 
 use Rattle.spec_protocol.specs.Doing.{stage_refused}
 use Rattle.spec_protocol.specs.Moves.{keeping, at_place}
 use Rattle.spec_protocol.specs.Seats.{OpenTransaction, StatementProgress, begun, answering, refused, inside, Session}
-use Rattle.law_protocol_steps.proofs.TranscriptActs.{GoesFrom}
-use Rattle.law_protocol_steps.proofs.TranscriptProgress.{GoesAt, fits_if, if_fits, at_opened}
-use Rattle.law_protocol_steps.proofs.InPlaces.{NoControl, never, outside, within, controlled_inside, fits_own}
+use Rattle.law_protocol_changes.proofs.TranscriptActs.{GoesFrom}
+use Rattle.law_protocol_changes.proofs.TranscriptProgress.{GoesAt, fits_if, if_fits, at_opened}
+use Rattle.law_protocol_changes.proofs.InPlaces.{NoControl, never, outside, within, controlled_inside, fits_own}
 
 locked_plain : (holder : ℕ) → NoControl (reply.Refused (Locked holder))
 locked_plain holder = record { not_syntax_error = λ e. cc; not_no_transaction = λ e. cc; not_already_in = λ e. cc; not_forbidden_in = λ e. cc }

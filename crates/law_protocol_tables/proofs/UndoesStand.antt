@@ -35,16 +35,16 @@ use Rattle.spec_protocol.specs.RequestsIn.{requests_in, Holds, of_catalog}
 use Rattle.spec_protocol.specs.TablesAreSerial.{HasActed, def_at, ordinals_of, IsAdding, IsCarried}
 use Rattle.spec_protocol.specs.LocksCover.{KeepsLocks, Belongs, HasIntent, LookedFirst, IsDropping}
 use Rattle.spec_protocol.specs.StandTogether.{History, Stands}
-use Rattle.law_protocol_steps.proofs.AfterSet.{set_here, set_else, each_at, all_at}
-use Rattle.law_protocol_steps.proofs.SeatsAfter.{Goes, one_session, open_here, open_else, each_open}
-use Rattle.law_protocol_steps.proofs.CellsAfter.{held_here, table_changed}
-use Rattle.law_protocol_steps.proofs.SameOne.{no_change, trees_same}
-use Rattle.law_protocol_steps.proofs.Excluded.{HasX, HasNoX, has_x_or_not}
-use Rattle.law_protocol_steps.proofs.SeatIds.{one_seat, outside}
+use Rattle.law_protocol_changes.proofs.AfterSet.{set_here, set_else, each_at, all_at}
+use Rattle.law_protocol_changes.proofs.SeatsAfter.{Goes, one_session, open_here, open_else, each_open}
+use Rattle.law_protocol_changes.proofs.CellsAfter.{held_here, table_changed}
+use Rattle.law_protocol_changes.proofs.SameOne.{no_change, trees_same}
+use Rattle.law_protocol_changes.proofs.Excluded.{HasX, HasNoX, has_x_or_not}
+use Rattle.law_protocol_changes.proofs.SeatIds.{one_seat, outside}
 use Rattle.law_protocol_tables.proofs.LiveByKey.{ByKey, kept_by_key}
 use Rattle.law_protocol_changes.proofs.ChangedRows.{undone_of_key, rising_undone, undone_untouched, undone_before, touched_agree, IsCounted, all_count, some_undone, counted_is}
 use Rattle.law_protocol_changes.proofs.ChangeKeeps.{untouched}
-use Rattle.law_protocol_steps.proofs.Takes.{tables_now}
+use Rattle.law_protocol_changes.proofs.Takes.{tables_now}
 use Rattle.spec_model.specs.Reach.{lets_change}
 use Rattle.law_protocol_changes.proofs.CommittedRows.{committed_undone}
 use Rattle.spec_protocol.specs.Seats.{OpenTransaction, made, going_back, SessionStatus, inside, Session, session, SeatState}
@@ -56,25 +56,25 @@ use Rattle.law_frame.proofs.Definitions.{opened_keep_defs}
 use Rattle.law_frame.proofs.UndoneVersions.{nothing_undone}
 use Rattle.law_frame.proofs.Alls.{all_weaker}
 use Rattle.law_protocol_changes.proofs.ChangedRows.{later}
-use Rattle.law_protocol_steps.proofs.CellsAfter.{each_holds, versions_here, were_here, versions_else}
+use Rattle.law_protocol_changes.proofs.CellsAfter.{each_holds, versions_here, were_here, versions_else}
 use Rattle.law_protocol_changes.proofs.ChangesAt.{user_cell}
 use Rattle.law_protocol_tables.proofs.Formed.{Formed, formed_undone, same_ordinals}
 use Rattle.law_protocol_tables.proofs.KeptNow.{KeptRows, kept_script}
-use Rattle.law_protocol_steps.proofs.DefsAfter.{found_columns}
-use Rattle.law_protocol_steps.proofs.RowsFor.{elsewhere}
+use Rattle.law_protocol_changes.proofs.DefsAfter.{found_columns}
+use Rattle.law_protocol_changes.proofs.RowsFor.{elsewhere}
 use Rattle.law_protocol_tables.proofs.UndoneTwice.{undone_twice, was_undone}
-use Rattle.law_protocol_steps.proofs.TakesInTable.{IsAtPlace, table_place, cell_at, users}
+use Rattle.law_protocol_changes.proofs.TakesInTable.{IsAtPlace, table_place, cell_at, users}
 use Rattle.spec_model.specs.Replies.{reply_text}
 use Rattle.spec_protocol.specs.TreesAreOfEvents.{AreOpenSavepoints}
 use Rattle.law_protocol_tables.proofs.Formed.{nothing_undone_to}
-use Rattle.law_protocol_steps.proofs.OfCells.{LookedAt, AreDefinitions, AreIndexes, Creates, EndLiesUnder, GoesBack, HasItsTrees, HasLock, HoldsInCatalog, IsFree, IsGotAt, IsIndexed, IsOfItsScript, IsUnderLocks, IsUnderWay, LiesUnder, LocksAgree, LocksCover, OpenScripts, RowsAgree, SeatHas, StandsAs, TreesAreOfEvents, RequestsNone, committed, events_counted, in_journal, looked_now, looked_so, table_there}
+use Rattle.law_protocol_changes.proofs.OfCells.{LookedAt, AreDefinitions, AreIndexes, Creates, EndLiesUnder, GoesBack, HasItsTrees, HasLock, HoldsInCatalog, IsFree, IsGotAt, IsIndexed, IsOfItsScript, IsUnderLocks, IsUnderWay, LiesUnder, LocksAgree, LocksCover, OpenScripts, RowsAgree, SeatHas, StandsAs, TreesAreOfEvents, RequestsNone, committed, events_counted, in_journal, looked_now, looked_so, table_there}
 use Rattle.law_protocol_changes.proofs.Apart.{x_apart}
 use Rattle.spec_protocol.specs.TranscriptsSoFar.{FitsWith, shown_with}
 use Rattle.spec_protocol.specs.Contents.{HasAlone, contents, table_found}
-use Rattle.law_protocol_steps.proofs.FreshIds.{events_of_touched}
-use Rattle.law_protocol_steps.proofs.GotMore.{got_at_more}
-use Rattle.law_protocol_steps.proofs.Ids.{others}
-use Rattle.law_protocol_steps.proofs.VisitActs.{stage_act}
+use Rattle.law_protocol_changes.proofs.FreshIds.{events_of_touched}
+use Rattle.law_protocol_changes.proofs.GotMore.{got_at_more}
+use Rattle.law_protocol_changes.proofs.Ids.{others}
+use Rattle.law_protocol_changes.proofs.VisitActs.{stage_act}
 use Rattle.spec_model.specs.ScriptRequests.{text_requests}
 use Rattle.spec_model.specs.Touched.{touched}
 

@@ -27,13 +27,13 @@ use Rattle.spec_protocol.specs.Seats.{OpenTransaction, SeatState, Session, found
 use Rattle.spec_protocol.specs.StandTogether.{History, LocksAskedFor, Stands, StandsAfter}
 use Rattle.spec_protocol.specs.TableVisits.{Found, requests_here}
 use Rattle.spec_protocol.specs.RequestsIn.{of_cell}
-use Rattle.law_protocol_steps.proofs.ActedFor.{StandsBy, by_any, sessions_at}
-use Rattle.law_protocol_steps.proofs.AfterSet.{set_else}
+use Rattle.law_protocol_changes.proofs.ActedFor.{StandsBy, by_any, sessions_at}
+use Rattle.law_protocol_changes.proofs.AfterSet.{set_else}
 use Rattle.law_protocol_tables.proofs.AskedStays.{AssignsNoId}
 use Rattle.law_protocol_tables.proofs.KeepsAsked.{defs_at, new_locks, same_ledger, stay_asked}
 use Rattle.law_protocol_tables.proofs.PassedRequests.{requests_found}
-use Rattle.law_protocol_steps.proofs.Taken.{taken_comes}
-use Rattle.law_protocol_steps.proofs.TakesInTable.{IsAtPlace, cell_at, table_place}
+use Rattle.law_protocol_changes.proofs.Taken.{taken_comes}
+use Rattle.law_protocol_changes.proofs.TakesInTable.{IsAtPlace, cell_at, table_place}
 
 -- ---- locks that are taken
 

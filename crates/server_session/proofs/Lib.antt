@@ -5,5 +5,5 @@ pub mod Reversed
 pub mod Savepoints
 pub mod Sitting
 pub use Rattle.spec_ledger.proofs.Adding
-pub use Rattle.spec_protocol.proofs.LedgerNumbers
-pub use Rattle.spec_protocol.proofs.Roots
+pub use Rattle.store_tx.proofs.LedgerNumbers
+pub use Rattle.store_tx.proofs.Roots

@@ -11,7 +11,7 @@ use Rattle.server_session.specs.Alone.{no_memory, IsUnfixed}
 use Rattle.server_session.specs.Cells.{Ledger, LedgerCell, catalog_at, ledger_at}
 use Rattle.server_session.specs.Moves.{at_place, sits}
 use Rattle.server_session.specs.Seats.{OpenTransaction, inside, begun, answering, Session}
-use Rattle.law_protocol_steps.proofs.LedgerVisit.{lies_there}
+use Rattle.store_ledger.proofs.LedgerVisit.{lies_there}
 use Rattle.store_ledger.specs.HashedCell.{HashedCell, KeepsHash}
 use Rattle.server_session.specs.IsEnd.{IsEnd}
 use Rattle.server_visit_ledger.specs.LedgerSeen.{ledger_seen}

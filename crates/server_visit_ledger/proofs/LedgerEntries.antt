@@ -31,10 +31,10 @@ use Rattle.server_session.specs.OpenScripts.{events_counted}
 use Rattle.server_session.specs.Seats.{OpenTransaction, SeatState}
 use Rattle.server_session.specs.Server.{Server}
 use Rattle.server_session.specs.StandTogether.{History, Stands}
-use Rattle.law_protocol_steps.proofs.CommitsLedger as commits
-use Rattle.law_protocol_steps.proofs.EntryRoots.{same_roots}
-use Rattle.law_protocol_steps.proofs.JournalMore.{legal_more}
-use Rattle.law_protocol_steps.proofs.SaidMore.{trees_over}
+use Rattle.store_ledger.proofs.CommitsLedger as commits
+use Rattle.store_ledger.proofs.EntryRoots.{same_roots}
+use Rattle.store_ledger.proofs.JournalMore.{legal_more}
+use Rattle.store_ledger.proofs.SaidMore.{trees_over}
 use Rattle.server_session.specs.Roots.{Root}
 use Rattle.store_ledger.specs.Commits.{new_entry}
 

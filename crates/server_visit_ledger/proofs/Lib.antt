@@ -4,3 +4,5 @@ pub mod LedgerCommits
 pub mod LedgerEnds
 pub mod LedgerEntries
 pub mod LedgerIssues
+pub use Rattle.server_session.proofs.Alone
+pub use Rattle.server_session.proofs.Sitting

@@ -8,5 +8,8 @@ mod ledger_issue;
 mod ledger_work;
 mod visits;
 
+pub use server_session::{
+    Answering, CATALOG, ControlPoint, LEDGER, Seat, ServedCell, Stage, cell_of,
+};
 pub use store_ledger::LedgerCell;
 pub use visits::visit_ledger;

@@ -10,21 +10,21 @@ use Rattle.sql_types.specs.declared.version.Version.{Version}
 use Rattle.spec_model.specs.Journals.{serial, IsLegal}
 use Rattle.spec_model.specs.Script.{Reading}
 use Rattle.sql_parse.specs.Text.{statement_of}
-use Rattle.server_session.specs.Ledger.{ledger_of}
+use Rattle.server_visit_ledger.specs.Ledger.{ledger_of}
 use Rattle.format_image.specs.Image.{image_of}
 use Rattle.format_image.specs.ImageBytes.{image_bytes}
 use Rattle.store_image.specs.Room.{FitsImageFormat}
-use Rattle.server_session.specs.Cells.{AreCells, Catalog, CatalogCell, Cell, Ledger, LedgerCell, cell_count, cell_of, versions_at, versions_found, versions_in}
-use Rattle.server_session.specs.Seats.{SeatState}
-use Rattle.server_session.specs.Server.{Server}
-use Rattle.server_session.specs.Serves.{Serves}
-use Rattle.server_session.specs.StandTogether.{History, Stands}
+use Rattle.server_visit_ledger.specs.Cells.{AreCells, Catalog, CatalogCell, Cell, Ledger, LedgerCell, cell_count, cell_of, versions_at, versions_found, versions_in}
+use Rattle.server_visit_ledger.specs.Seats.{SeatState}
+use Rattle.server_visit_ledger.specs.Server.{Server}
+use Rattle.server_visit_ledger.specs.Serves.{Serves}
+use Rattle.server_visit_ledger.specs.StandTogether.{History, Stands}
 use Rattle.store_image.proofs.CellsShow.{same_image, same_tables}
 use Rattle.store_image.specs.CellsImage.{cells_image}
 use Rattle.store_image.specs.Leads.{LeadsThere}
 use Rattle.server_visits.specs.Images.{AreImageBytes, CellsStand, JournalFitsFormat}
-use Rattle.server_session.specs.KeptCell.{KeptCell}
-use Rattle.server_session.specs.VisitedCells.{table_cell}
+use Rattle.server_visit_ledger.specs.KeptCell.{KeptCell}
+use Rattle.server_visit_ledger.specs.VisitedCells.{table_cell}
 
 abbrev pub cells_of : List KeptCell → List Cell
 cells_of all = map (λ c. c.cell) all

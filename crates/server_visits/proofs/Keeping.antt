@@ -10,36 +10,36 @@ use Rattle.sql_types.specs.declared.reply.Reply.TheVariants as reply
 use Rattle.sql_types.specs.declared.statement.Stmt.{Stmt}
 use Rattle.sql_types.specs.declared.statement.Stmt.TheVariants as stmt
 use Rattle.spec_model.specs.Journals.{tx_count}
-use Rattle.server_session.specs.Lists.{Text, Each, In}
-use Rattle.server_session.specs.Alone.{none, IsUnfixed}
-use Rattle.server_session.specs.Cells.{Cell, Ledger, LedgerCell, ledger_at}
-use Rattle.server_session.specs.AnonymousActs.{did, alones_acts}
-use Rattle.server_session.specs.Follows.{alones_lines}
-use Rattle.server_session.specs.ImageVisits.{KeepsImage}
-use Rattle.server_session.specs.Moves.{at_place, keeping, marking, sits}
-use Rattle.server_session.specs.Seats.{OpenTransaction, inside, answering, KeptImage, Session, SeatState}
-use Rattle.server_session.specs.Server.{journal_image}
-use Rattle.server_session.specs.Visits.{keep, nothing}
+use Rattle.server_visit_ledger.specs.Lists.{Text, Each, In}
+use Rattle.server_visit_ledger.specs.Alone.{none, IsUnfixed}
+use Rattle.server_visit_ledger.specs.Cells.{Cell, Ledger, LedgerCell, ledger_at}
+use Rattle.server_visit_ledger.specs.AnonymousActs.{did, alones_acts}
+use Rattle.server_visit_ledger.specs.Follows.{alones_lines}
+use Rattle.server_visit_ledger.specs.ImageVisits.{KeepsImage}
+use Rattle.server_visit_ledger.specs.Moves.{at_place, keeping, marking, sits}
+use Rattle.server_visit_ledger.specs.Seats.{OpenTransaction, inside, answering, KeptImage, Session, SeatState}
+use Rattle.server_visit_ledger.specs.Server.{journal_image}
+use Rattle.server_visit_ledger.specs.Visits.{keep, nothing}
 use Rattle.law_protocol_steps.proofs.CellsOut.{out_lies}
 use Rattle.store_image.proofs.CellsShow.{same_bytes}
 use Rattle.server_visits.specs.Images.{AreImageBytes, CellsStand}
-use Rattle.server_session.specs.KeptCell.{KeptCell}
-use Rattle.server_session.specs.Needs.{point_need, stage_need, end_need, answer_need, back_need, cell_or_done, visits_left, point_visits}
-use Rattle.server_session.specs.ControlPoints.{IsBegunAt, KeepsStatement, IsSamePhase}
-use Rattle.server_session.specs.Sits.{Sits, Runs, HasScript, HasScriptCapacity, OfStmt}
-use Rattle.server_session.specs.Steps.{Steps, StepsAlone, AmongAll, AllOut, VisitedAll, VisitsAll, items_of, items_in, image_in}
-use Rattle.server_session.specs.SessionOutput.{IsPlainAnonymousAct, plainly}
+use Rattle.server_visit_ledger.specs.KeptCell.{KeptCell}
+use Rattle.server_visit_ledger.specs.Needs.{point_need, stage_need, end_need, answer_need, back_need, cell_or_done, visits_left, point_visits}
+use Rattle.server_visit_ledger.specs.ControlPoints.{IsBegunAt, KeepsStatement, IsSamePhase}
+use Rattle.server_visit_ledger.specs.Sits.{Sits, Runs, HasScript, HasScriptCapacity, OfStmt}
+use Rattle.server_visit_ledger.specs.Steps.{Steps, StepsAlone, AmongAll, AllOut, VisitedAll, VisitsAll, items_of, items_in, image_in}
+use Rattle.server_visit_ledger.specs.SessionOutput.{IsPlainAnonymousAct, plainly}
 use Rattle.sql_types.specs.declared.end_line.EndLine.{EndLine}
-use Rattle.server_session.specs.declared.need.NextVisit.TheVariants as need
-use Rattle.server_session.specs.declared.running.Running.{Running}
-use Rattle.server_session.specs.declared.seat.Seat.{Seat}
-use Rattle.server_session.specs.declared.stage.Answering.{Answering}
-use Rattle.server_session.specs.declared.stage.ControlPoint.{ControlPoint}
-use Rattle.server_session.specs.declared.stage.ControlPoint.TheVariants.{Between, Inside, Leaving, Over}
-use Rattle.server_session.specs.declared.stage.Stage.{Stage}
-use Rattle.server_session.specs.declared.stage.Stage.TheVariants.{Begun, AssigningId, Committing, RollingBack, Issuing, Keeping, Looking, Found, Made, LacksIndex, GoingBack, Replied, GivingBack, Answering as Answered}
-use Rattle.server_session.proofs.Alone.{then_seat, holds_at_point, lacking}
-use Rattle.server_session.proofs.Sitting.{stmt_found, in_statement, lacks_so, plain_anonymous_acts}
+use Rattle.server_visit_ledger.specs.NextVisit.TheVariants as need
+use Rattle.server_visit_ledger.specs.Running.{Running}
+use Rattle.server_visit_ledger.specs.Seat.{Seat}
+use Rattle.server_visit_ledger.specs.Answering.{Answering}
+use Rattle.server_visit_ledger.specs.ControlPoint.{ControlPoint}
+use Rattle.server_visit_ledger.specs.ControlPoint.TheVariants.{Between, Inside, Leaving, Over}
+use Rattle.server_visit_ledger.specs.Stage.{Stage}
+use Rattle.server_visit_ledger.specs.Stage.TheVariants.{Begun, AssigningId, Committing, RollingBack, Issuing, Keeping, Looking, Found, Made, LacksIndex, GoingBack, Replied, GivingBack, Answering as Answered}
+use Rattle.server_visit_ledger.proofs.Alone.{then_seat, holds_at_point, lacking}
+use Rattle.server_visit_ledger.proofs.Sitting.{stmt_found, in_statement, lacks_so, plain_anonymous_acts}
 
 -- ---- who needs all cells
 

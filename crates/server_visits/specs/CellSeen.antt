@@ -1,7 +1,7 @@
 -- What contracts see of any cell.
 use Rattle.server_visits.specs.declared.cell.Kind.{Kind}
 use Rattle.server_visits.specs.declared.cell.Kind.TheVariants as kind
-use Rattle.server_session.specs.KeptCell.{KeptCell, catalog_seen, rows_seen}
+use Rattle.server_visit_ledger.specs.KeptCell.{KeptCell, catalog_seen, rows_seen}
 use Rattle.server_visit_ledger.specs.LedgerSeen.{ledger_seen}
 
 abbrev pub cell_seen : Kind → KeptCell

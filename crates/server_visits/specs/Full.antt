@@ -1,7 +1,7 @@
 -- The closing of a block: of a full one, or of what is pending.
 use Rattle.std.specs.Prelude.{ℕ, ◌≡◌, ◌≤◌, ◌<◌, ◌⊎◌, List}
-use Rattle.server_session.specs.Cells.{Cell, Ledger, LedgerCell, pending_in}
-use Rattle.server_session.specs.LedgerVisits.{closed_by, next_block}
+use Rattle.server_visit_ledger.specs.Cells.{Cell, Ledger, LedgerCell, pending_in}
+use Rattle.server_visit_ledger.specs.LedgerVisits.{closed_by, next_block}
 
 -- this is the ledger's cell
 abbrev pub IsLedger : Cell → Type 0

@@ -1,16 +1,16 @@
 -- The image of all cells.
 use Rattle.std.specs.Prelude.{ℕ, ◌≡◌, List, length, map}
-use Rattle.server_session.specs.Lists.{Text}
+use Rattle.server_visit_ledger.specs.Lists.{Text}
 use Rattle.format_image.specs.ImageBytes.{image_bytes}
 use Rattle.store_image.specs.Room.{FitsImageFormat}
 use Rattle.sql_parse.specs.Text.{statement_of}
 use Rattle.store_image.specs.CellsImage.{cells_image}
-use Rattle.server_session.specs.Serves.{Serves}
-use Rattle.server_session.specs.Cells.{CatalogCell, LedgerCell, AreCells}
-use Rattle.server_session.specs.Seats.{SeatState}
-use Rattle.server_session.specs.Server.{Server}
-use Rattle.server_session.specs.StandTogether.{StandTogether}
-use Rattle.server_session.specs.KeptCell.{KeptCell}
+use Rattle.server_visit_ledger.specs.Serves.{Serves}
+use Rattle.server_visit_ledger.specs.Cells.{CatalogCell, LedgerCell, AreCells}
+use Rattle.server_visit_ledger.specs.Seats.{SeatState}
+use Rattle.server_visit_ledger.specs.Server.{Server}
+use Rattle.server_visit_ledger.specs.StandTogether.{StandTogether}
+use Rattle.server_visit_ledger.specs.KeptCell.{KeptCell}
 
 -- the cells stand together with some seats, in a server whose hashes have 32 bytes
 pub record CellsStand (all : List KeptCell) : Type 0 where

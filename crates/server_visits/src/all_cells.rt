@@ -3,15 +3,14 @@
 ghost use Rattle.std.specs.Prelude.{◌≡◌, IfOk, OnOk, map};
 ghost use mathlib.Core.Option.{some};
 ghost use lib.ListN.{get_elem?};
-ghost use Rattle.server_session.specs.Cells.{catalog_at, ledger_at, versions_at, versions_in, AreCells};
-ghost use Rattle.server_session.specs.Cells.{Catalog, CatalogCell as SpecCatalog, Ledger, LedgerCell as SpecLedger};
+ghost use Rattle.server_visit_ledger.specs.Cells.{catalog_at, ledger_at, versions_at, versions_in, AreCells};
+ghost use Rattle.server_visit_ledger.specs.Cells.{Catalog, CatalogCell as SpecCatalog, Ledger, LedgerCell as SpecLedger};
 ghost use Rattle.server_visits.specs.Images.{AreImageBytes, CellsStand, JournalFitsFormat};
 
 use crate::cell::{Cell, Kind};
 use base_types::{Blob, Memory, TableId, TxId};
-use server_session::{CATALOG, LEDGER, cell_of};
 use server_visit_catalog::CatalogCell;
-use server_visit_ledger::LedgerCell;
+use server_visit_ledger::{CATALOG, LEDGER, LedgerCell, cell_of};
 use sql_types::{TableDef, Version};
 use std::alloc::Global;
 use std::marker::Model;

@@ -1,7 +1,7 @@
 //! The cells that seats visit.
 
 ghost use Rattle.std.specs.Prelude.{◌≡◌};
-ghost use Rattle.server_session.specs.KeptCell.{catalog_seen, rows_seen};
+ghost use Rattle.server_visit_ledger.specs.KeptCell.{catalog_seen, rows_seen};
 ghost use Rattle.server_visit_ledger.specs.LedgerSeen.{ledger_seen};
 
 use server_visit_catalog::CatalogCell;
@@ -24,7 +24,7 @@ pub struct Cell {
 }
 
 impl Model for Cell {
-    ghost use Rattle.server_session.specs.KeptCell.{KeptCell};
+    ghost use Rattle.server_visit_ledger.specs.KeptCell.{KeptCell};
     ghost use Rattle.server_visits.specs.CellSeen.{cell_seen};
 
     ghost Value = { KeptCell };

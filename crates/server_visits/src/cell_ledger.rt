@@ -2,9 +2,9 @@
 
 ghost use Rattle.std.specs.Prelude.{◌≡◌, length, OnErr, OnOk};
 ghost use Rattle.server_visits.specs.Full.{ClosesFull, ClosesPending, IsLedger};
-ghost use Rattle.server_session.specs.KeptCell.{Keeps};
+ghost use Rattle.server_visit_ledger.specs.KeptCell.{Keeps};
 ghost use Rattle.server_visit_ledger.specs.LedgerSeen.{ledger_seen};
-ghost use Rattle.server_session.specs.Steps.{items_of};
+ghost use Rattle.server_visit_ledger.specs.Steps.{items_of};
 
 use crate::cell::{Cell, Kind};
 use base_merkle::Hash32;

@@ -2,15 +2,15 @@
 
 ghost use Rattle.std.specs.Prelude.{◌≡◌, ◌<◌};
 ghost use Rattle.server_visits.specs.Images.{AreImageBytes};
-ghost use Rattle.server_session.specs.Needs.{visits_left};
-ghost use Rattle.server_session.specs.ControlPoints.{KeepsStatement};
-ghost use Rattle.server_session.specs.Steps.{AmongAll, items_in, KeepsImage};
+ghost use Rattle.server_visit_ledger.specs.Needs.{visits_left};
+ghost use Rattle.server_visit_ledger.specs.ControlPoints.{KeepsStatement};
+ghost use Rattle.server_visit_ledger.specs.Steps.{AmongAll, items_in, KeepsImage};
 
 use crate::all_cells::image_bytes_of;
 use crate::cell::Cell;
 use base_merkle::Hash32;
 use base_types::{Blob, Memory};
-use server_session::{Answering, ControlPoint, LEDGER, Seat, Stage};
+use server_visit_ledger::{Answering, ControlPoint, LEDGER, Seat, Stage};
 use sql_types::Reply;
 use sql_value::Refusal;
 use std::alloc::Global;

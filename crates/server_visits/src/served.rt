@@ -1,10 +1,10 @@
 //! The cells that seats visit are cells of a server.
 
 use crate::cell::Cell;
-use server_session::ServedCell;
+use server_visit_ledger::ServedCell;
 
 impl ServedCell for Cell {
-    ghost use Rattle.server_session.specs.KeptCell.{Keeps};
+    ghost use Rattle.server_visit_ledger.specs.KeptCell.{Keeps};
 
     ghost cell = { λ c. c.cell };
 

@@ -1,13 +1,12 @@
 //! The visits of a seat.
 
-ghost use Rattle.server_session.specs.ControlPoints.{KeepsStatement};
-ghost use Rattle.server_session.specs.Steps.{Among, ComesOn, Visits};
+ghost use Rattle.server_visit_ledger.specs.ControlPoints.{KeepsStatement};
+ghost use Rattle.server_visit_ledger.specs.Steps.{Among, ComesOn, Visits};
 
 use crate::cell::{Cell, Kind};
 use base_merkle::Hash32;
-use server_session::Seat;
 use server_visit_catalog::visit_catalog;
-use server_visit_ledger::visit_ledger;
+use server_visit_ledger::{Seat, visit_ledger};
 use server_visit_table::visit_rows;
 use std::alloc::Global;
 

@@ -2,17 +2,17 @@
 use Rattle.std.proofs.Common.{◌≡◌, ◌≢◌, ◌⊎◌, ℕ, zero, suc, ◌+◌, Bool, true, false, List, [], ◌∷◌, ◌++◌, Option, Some, None, refl, sym, ap, ◌∙◌, subst, ⊎_elim, inl, inr, arith, append-nil, add-zero}
 use Rattle.std.specs.Prelude.{◌==◌, if◌then◌else◌}
 use Rattle.std.proofs.lemmas.Bool.{eq-eqb, ne_eqb, cases_eq}
-use Rattle.sql_value.specs.declared.refusal.Refusal.TheVariants.{Locked, SyntaxError, NoTransaction, NothingCommitted, NoMemory}
+use Rattle.sql_types.specs.Refusal.TheVariants.{Locked, SyntaxError, NoTransaction, NothingCommitted, NoMemory}
 use Rattle.sql_types.specs.declared.reply.Reply.{Reply}
 use Rattle.sql_types.specs.declared.reply.Reply.TheVariants as reply
 use Rattle.sql_types.specs.declared.statement.Stmt.{Stmt}
 use Rattle.sql_types.specs.declared.statement.Stmt.TheVariants as stmt
 use Rattle.sql_types.specs.declared.journal.JournalItem.{JournalItem}
 use Rattle.sql_types.specs.declared.journal.JournalItem.TheVariants.{Close}
-use Rattle.spec_model.specs.Catalog.{Defs}
-use Rattle.spec_model.specs.InTheWay.{first_conflict}
-use Rattle.spec_model.specs.Journals.{tx_count}
-use Rattle.spec_model.specs.Locks.{cell_requests}
+use Rattle.law_frame.specs.Catalog.{Defs}
+use Rattle.law_frame.specs.InTheWay.{first_conflict}
+use Rattle.law_frame.specs.Journals.{tx_count}
+use Rattle.law_frame.specs.Locks.{cell_requests}
 use Rattle.spec_history.specs.Lists.{Text}
 use Rattle.spec_history.specs.Meaning.{Meaning}
 use Rattle.spec_history.specs.Real.{requests_catalog, requests_cell}

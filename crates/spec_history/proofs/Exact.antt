@@ -1,12 +1,12 @@
 -- Where one session is alone, no lock is in the way, so each reply but E20 is exact.
 use Rattle.std.proofs.Common.{◌≡◌, ◌≢◌, ℕ, ◌+◌, List, [], ◌∷◌, Option, Some, None, refl, sym, ap, ◌∙◌, subst}
-use Rattle.sql_value.specs.declared.refusal.Refusal.TheVariants.{Locked}
+use Rattle.sql_types.specs.Refusal.TheVariants.{Locked}
 use Rattle.sql_types.specs.declared.lock.LockRequest.{LockRequest}
 use Rattle.sql_types.specs.declared.reply.Reply.TheVariants as reply
 use Rattle.sql_types.specs.declared.journal.JournalItem.{JournalItem}
-use Rattle.spec_model.specs.Catalog.{Defs}
-use Rattle.spec_model.specs.InTheWay.{Conflict, barrier, first_conflict}
-use Rattle.spec_model.specs.Locks.{CellRequests}
+use Rattle.law_frame.specs.Catalog.{Defs}
+use Rattle.law_frame.specs.InTheWay.{Conflict, barrier, first_conflict}
+use Rattle.law_frame.specs.Locks.{CellRequests}
 use Rattle.std.specs.Prelude.{Bool}
 use Rattle.spec_history.specs.Lists.{Text, Each}
 use Rattle.spec_history.specs.Meaning.{Meaning}

@@ -4,11 +4,11 @@ use Rattle.std.specs.List.{AllByRecursion}
 use Rattle.sql_types.specs.declared.event.Event.{Event}
 use Rattle.sql_types.specs.declared.journal.JournalItem.{JournalItem}
 use Rattle.sql_types.specs.declared.journal.JournalItem.TheVariants.{Tx, Close}
-use Rattle.spec_model.specs.Catalog.{Tables}
-use Rattle.spec_model.specs.Journals as model
-use Rattle.spec_model.specs.Journals.{Line, tx_count, closed, IsOther}
-use Rattle.spec_model.specs.Script.{Reading, script}
-use Rattle.spec_model.specs.SystemTables.{first_tables}
+use Rattle.law_frame.specs.Catalog.{Tables}
+use Rattle.law_frame.specs.Journals as model
+use Rattle.law_frame.specs.Journals.{Line, tx_count, closed, IsOther}
+use Rattle.law_frame.specs.Script.{Reading, script}
+use Rattle.law_frame.specs.SystemTables.{first_tables}
 use Rattle.law_frame.proofs.Alls.{all_append}
 use Rattle.law_frame.proofs.LegalRules.{count_append, closed_append}
 use Rattle.law_frame.proofs.LegalSound.{first_part, last_one}

@@ -4,7 +4,7 @@ use Rattle.std.specs.Prelude.{if◌then◌else◌, ◌==◌}
 use Rattle.std.proofs.lemmas.Bool.{eqb-true}
 use Rattle.sql_types.specs.declared.journal.JournalItem.{JournalItem}
 use Rattle.sql_types.specs.declared.journal.JournalItem.TheVariants.{Tx, Close}
-use Rattle.spec_model.specs.Journals.{tx_count}
+use Rattle.law_frame.specs.Journals.{tx_count}
 use Rattle.spec_history.specs.Lists.{Text}
 use Rattle.spec_history.specs.Meaning.{Meaning}
 use Rattle.spec_history.specs.Transactions.{End, unfixed, committed, ended, Transaction, on_some, listed}

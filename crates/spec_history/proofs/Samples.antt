@@ -12,8 +12,8 @@ use Rattle.spec_history.specs.Guards.{Good}
 use Rattle.spec_history.specs.Histories.{SessionsBelow, IsWhole, IsIdle, OneAtATime, EndsComeLast, pending, ClosesInStep}
 use Rattle.spec_history.specs.ByLocks.{LocksDecide}
 use Rattle.spec_history.specs.ExactRefusals.{in_the_way}
-use Rattle.spec_model.specs.InTheWay.{barrier, first_conflict}
-use Rattle.spec_model.specs.Locks.{conflict, same_item}
+use Rattle.law_frame.specs.InTheWay.{barrier, first_conflict}
+use Rattle.law_frame.specs.Locks.{conflict, same_item}
 use Rattle.spec_history.proofs.Exact.{nobody_in_the_way}
 use Rattle.spec_history.specs.Sample.{meaning, database, row, creating, setup_runs, locks, opens, is_refused, is_committed, is_issued, history, input, transcripts}
 

@@ -1,16 +1,16 @@
 -- In step order, E20 comes exactly where a lock is in the way, unless it is NoMemory.
 use Rattle.std.specs.Prelude.{ℕ, zero, suc, ◌≡◌, ◌⊎◌, ◌+◌, ◌==◌, if◌then◌else◌, Bool, List, [], ◌∷◌, ◌++◌, map, flat_map, length, Option, Some, None}
-use Rattle.sql_value.specs.declared.refusal.Refusal.TheVariants.{Locked, NoMemory}
+use Rattle.sql_types.specs.Refusal.TheVariants.{Locked, NoMemory}
 use Rattle.sql_types.specs.declared.lock.Hold.{Hold}
 use Rattle.sql_types.specs.declared.lock.Mode.{Mode}
 use Rattle.sql_types.specs.declared.lock.LockRequest.{LockRequest}
 use Rattle.sql_types.specs.declared.reply.Reply.{Reply}
 use Rattle.sql_types.specs.declared.reply.Reply.TheVariants as reply
 use Rattle.sql_types.specs.declared.journal.JournalItem.{JournalItem}
-use Rattle.spec_model.specs.Catalog.{Defs}
-use Rattle.spec_model.specs.Holds.{hold}
-use Rattle.spec_model.specs.InTheWay.{Conflict, first_conflict}
-use Rattle.spec_model.specs.Locks.{CellRequests, whole}
+use Rattle.law_frame.specs.Catalog.{Defs}
+use Rattle.law_frame.specs.Holds.{hold}
+use Rattle.law_frame.specs.InTheWay.{Conflict, first_conflict}
+use Rattle.law_frame.specs.Locks.{CellRequests, whole}
 use Rattle.spec_history.specs.Inputs.{InputLine}
 use Rattle.spec_history.specs.Lists.{Text}
 use Rattle.spec_history.specs.Meaning.{Meaning}

@@ -1,8 +1,8 @@
 -- Where end lines and refusals may stand: rules on one entry, by whether a transaction that BEGIN opened is
 -- open.
 use Rattle.std.specs.Prelude.{ℕ, ◌≡◌, ◌⊎◌, ◌+◌, ◌==◌, ◌&&◌, Bool, true, false, List, [], ◌∷◌, Option, Some, None}
-use Rattle.sql_value.specs.declared.refusal.Refusal.{Refusal}
-use Rattle.sql_value.specs.declared.refusal.Refusal.TheVariants.{SyntaxError, NoTransaction, AlreadyInTransaction, LimitExceeded, ForbiddenInTransaction, NothingCommitted, NoMemory}
+use Rattle.sql_types.specs.Refusal.{Refusal}
+use Rattle.sql_types.specs.Refusal.TheVariants.{SyntaxError, NoTransaction, AlreadyInTransaction, LimitExceeded, ForbiddenInTransaction, NothingCommitted, NoMemory}
 use Rattle.sql_types.specs.declared.reply.Reply.{Reply}
 use Rattle.sql_types.specs.declared.reply.Reply.TheVariants as reply
 use Rattle.spec_history.specs.Meaning.{Meaning}

@@ -24,3 +24,8 @@ pub mod StepOrder
 pub mod Transactions
 pub mod Transcripts
 pub mod Worlds
+pub use Rattle.sql_types.specs.declared.entry.BlockRecord
+pub use Rattle.sql_types.specs.declared.event.Event
+pub use Rattle.sql_types.specs.declared.journal.JournalItem
+pub use Rattle.sql_types.specs.declared.version.Table
+pub use Rattle.sql_types.specs.declared.entry.TxEntry

@@ -1,8 +1,8 @@
 -- A small history: setup commits, one session commits in a transaction that BEGIN opened, another meets its
 -- lock and is issued a digest.
 use Rattle.std.specs.Prelude.{◌==◌, if◌then◌else◌, true, false, List, [], ◌∷◌, ◌++◌, map, length, Option, Some, None, refl}
-use Rattle.sql_value.specs.declared.refusal.Refusal.TheVariants.{Locked}
-use Rattle.sql_value.specs.declared.column.TableKind.TheVariants.{Updatable}
+use Rattle.sql_types.specs.Refusal.TheVariants.{Locked}
+use Rattle.sql_types.specs.TableKind.TheVariants.{Updatable}
 use Rattle.sql_types.specs.declared.statement.Stmt.{Stmt}
 use Rattle.sql_types.specs.declared.statement.Stmt.TheVariants as stmt
 use Rattle.sql_types.specs.declared.statement.SelectList.TheVariants as what

@@ -1,9 +1,9 @@
 -- What one more item adds to the ledger of a journal.
 use Rattle.std.proofs.Common.{◌≡◌, ◌<◌, ℕ, zero, suc, ◌+◌, refl, ap, sym, subst, ◌∙◌, List, [], ◌∷◌, ◌++◌, length, arith, append_assoc, append-nil}
-use Rattle.sql_types.specs.declared.entry.BlockRecord.{BlockRecord}
-use Rattle.sql_types.specs.declared.entry.TxEntry.{TxEntry}
-use Rattle.sql_types.specs.declared.journal.JournalItem.{JournalItem}
-use Rattle.sql_types.specs.declared.journal.JournalItem.TheVariants.{Tx, Close}
+use Rattle.spec_model.specs.BlockRecord.{BlockRecord}
+use Rattle.spec_model.specs.TxEntry.{TxEntry}
+use Rattle.spec_model.specs.JournalItem.{JournalItem}
+use Rattle.spec_model.specs.JournalItem.TheVariants.{Tx, Close}
 use Rattle.spec_model.specs.Catalog.{Tables}
 use Rattle.spec_model.specs.Journals.{after_item, serial_from, serial}
 use Rattle.spec_model.specs.Script.{Reading}

@@ -2,10 +2,10 @@
 use Rattle.std.proofs.Common.{◌≡◌, ℕ, zero, suc, ◌+◌, refl, ap, sym, subst, ◌∙◌, List, [], ◌∷◌, ◌++◌, length, map, take, drop, arith, append_assoc, append-nil}
 use Rattle.std.proofs.Math.Seq.{take-append_seam, drop-append_seam}
 use Rattle.std.proofs.lemmas.List.{length-append}
-use Rattle.sql_types.specs.declared.entry.BlockRecord.{BlockRecord}
-use Rattle.sql_types.specs.declared.entry.TxEntry.{TxEntry}
-use Rattle.sql_types.specs.declared.journal.JournalItem.{JournalItem}
-use Rattle.sql_types.specs.declared.journal.JournalItem.TheVariants.{Tx, Close}
+use Rattle.spec_model.specs.BlockRecord.{BlockRecord}
+use Rattle.spec_model.specs.TxEntry.{TxEntry}
+use Rattle.spec_model.specs.JournalItem.{JournalItem}
+use Rattle.spec_model.specs.JournalItem.TheVariants.{Tx, Close}
 use Rattle.spec_model.specs.Catalog.{Tables}
 use Rattle.spec_model.specs.Journals.{after_item}
 use Rattle.spec_model.specs.Script.{Reading}

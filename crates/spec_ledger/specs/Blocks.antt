@@ -2,9 +2,9 @@
 use Rattle.std.specs.Prelude.{ℕ, List, [], ◌∷◌, map, length, drop, replicate}
 use Rattle.format_entry.specs.Entry.{entry_bytes}
 use Rattle.format_entry.specs.Record.{record_bytes}
-use Rattle.base_merkle.specs.TreeHash.{tree_hash}
-use Rattle.sql_types.specs.declared.entry.BlockRecord.{BlockRecord}
-use Rattle.sql_types.specs.declared.entry.TxEntry.{TxEntry}
+use Rattle.format_entry.specs.TreeHash.{tree_hash}
+use Rattle.spec_model.specs.BlockRecord.{BlockRecord}
+use Rattle.spec_model.specs.TxEntry.{TxEntry}
 
 -- what stands for the hash of a block that isn't there: 32 zero bytes
 abbrev pub no_hash : List ℕ

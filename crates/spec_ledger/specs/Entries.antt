@@ -2,9 +2,9 @@
 use Rattle.std.specs.Prelude.{ℕ, ◌+◌, ◌==◌, not, Bool, List, [], ◌∷◌, map, length}
 use Rattle.std.specs.List.{filter}
 use Rattle.format_event.specs.Leaf.{event_bytes}
-use Rattle.base_merkle.specs.TreeHash.{tree_hash}
-use Rattle.sql_types.specs.declared.entry.TxEntry.{TxEntry}
-use Rattle.sql_types.specs.declared.version.Table.{Table}
+use Rattle.format_entry.specs.TreeHash.{tree_hash}
+use Rattle.spec_model.specs.TxEntry.{TxEntry}
+use Rattle.spec_model.specs.Table.{Table}
 use Rattle.spec_model.specs.Catalog.{Tables}
 use Rattle.spec_model.specs.Events.{events_of}
 

@@ -1,9 +1,9 @@
 -- The entries and blocks to which a journal leads, one item after another.
 use Rattle.std.specs.Prelude.{ℕ, ◌+◌, List, [], ◌∷◌, ◌++◌, length, take, drop}
-use Rattle.sql_types.specs.declared.entry.BlockRecord.{BlockRecord}
-use Rattle.sql_types.specs.declared.entry.TxEntry.{TxEntry}
-use Rattle.sql_types.specs.declared.journal.JournalItem.{JournalItem}
-use Rattle.sql_types.specs.declared.journal.JournalItem.TheVariants.{Tx, Close}
+use Rattle.spec_model.specs.BlockRecord.{BlockRecord}
+use Rattle.spec_model.specs.TxEntry.{TxEntry}
+use Rattle.spec_model.specs.JournalItem.{JournalItem}
+use Rattle.spec_model.specs.JournalItem.TheVariants.{Tx, Close}
 use Rattle.spec_model.specs.Catalog.{Tables}
 use Rattle.spec_model.specs.Journals.{after_item}
 use Rattle.spec_model.specs.Script.{Reading}

@@ -1,7 +1,7 @@
 -- How entries fall into blocks.
 use Rattle.std.specs.Prelude.{ℕ, ◌+◌, ◌≡◌, List, [], ◌∷◌, ◌++◌, take, drop}
-use Rattle.sql_types.specs.declared.entry.BlockRecord.{BlockRecord}
-use Rattle.sql_types.specs.declared.entry.TxEntry.{TxEntry}
+use Rattle.spec_model.specs.BlockRecord.{BlockRecord}
+use Rattle.spec_model.specs.TxEntry.{TxEntry}
 use Rattle.spec_ledger.specs.Entries.{placed}
 use Rattle.spec_ledger.specs.Blocks.{block_of, record_hash}
 

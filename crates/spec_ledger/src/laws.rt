@@ -1,8 +1,8 @@
 //! Laws of the entries and blocks of a journal.
 
 ghost use Rattle.std.specs.Prelude.{ℕ, ◌≡◌, Bool, List, [], ◌∷◌, ◌++◌, map};
-ghost use Rattle.sql_types.specs.declared.journal.JournalItem.{JournalItem};
-ghost use Rattle.sql_types.specs.declared.journal.JournalItem.TheVariants.{Tx, Close};
+ghost use Rattle.spec_model.specs.JournalItem.{JournalItem};
+ghost use Rattle.spec_model.specs.JournalItem.TheVariants.{Tx, Close};
 ghost use Rattle.spec_model.specs.Journals.{Line, serial};
 ghost use Rattle.spec_model.specs.Script.{Reading};
 ghost use Rattle.spec_ledger.specs.Entries.{entry_of};

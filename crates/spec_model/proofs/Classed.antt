@@ -2,23 +2,23 @@
 use Rattle.std.proofs.Common.{◌≡◌, ℕ, zero, suc, List, [], ◌∷◌, refl, subst, arith, rules}
 use Rattle.std.proofs.lemmas.Grind.{common_steps}
 use Rattle.std.specs.Prelude.{Bool, true, false, if◌then◌else◌, Option, Some, None, Ok, Err, option_and_then, slice_get}
-use Rattle.sql_value.specs.declared.value.Value.{Value}
-use Rattle.sql_value.specs.declared.value.Value.TheVariants as val
-use Rattle.sql_value.specs.declared.sql_type.SqlType.{SqlType}
-use Rattle.sql_value.specs.declared.column.ColumnDef.{ColumnDef}
-use Rattle.sql_value.specs.Stored.{is_stored}
-use Rattle.sql_value.specs.declared.refusal.Refusal.TheVariants.{NoSuchColumn, TypeMismatch}
-use Rattle.sql_value.specs.declared.expr.Class.{Class}
-use Rattle.sql_value.specs.declared.expr.Class.TheVariants.{Text}
-use Rattle.sql_value.specs.declared.expr.Expr.{Expr}
-use Rattle.sql_value.specs.declared.expr.Op.{Op}
-use Rattle.sql_value.specs.declared.expr.Op.TheVariants as op
+use Rattle.sql_types.specs.Value.{Value}
+use Rattle.sql_types.specs.Value.TheVariants as val
+use Rattle.sql_types.specs.SqlType.{SqlType}
+use Rattle.sql_types.specs.ColumnDef.{ColumnDef}
+use Rattle.sql_types.specs.Stored.{is_stored}
+use Rattle.sql_types.specs.Refusal.TheVariants.{NoSuchColumn, TypeMismatch}
+use Rattle.sql_types.specs.Class.{Class}
+use Rattle.sql_types.specs.Class.TheVariants.{Text}
+use Rattle.sql_types.specs.Expr.{Expr}
+use Rattle.sql_types.specs.Op.{Op}
+use Rattle.sql_types.specs.Op.TheVariants as op
 use Rattle.sql_types.specs.declared.outcome.Outcome.{Outcome}
 use Rattle.sql_types.specs.declared.outcome.Outcome.TheVariants as out
 use Rattle.spec_model.specs.Refusals.{Checked, and_then, or_refused}
 use Rattle.spec_model.specs.Numbers.{sum_of, difference_of, product_of, negative_of}
 use Rattle.spec_model.specs.Columns.{fits, place_of}
-use Rattle.sql_value.specs.Tree.{Tree, literal, column, minus, not, is_null, binary, tree}
+use Rattle.sql_types.specs.Tree.{Tree, literal, column, minus, not, is_null, binary, tree}
 use Rattle.spec_model.specs.Days.{written_day}
 use Rattle.spec_model.specs.Classes as cl
 use Rattle.spec_model.specs.Evaluation as me

@@ -2,14 +2,14 @@
 use Rattle.std.proofs.Common.{◌≡◌, ℕ, List, refl, arith, rules, inl, inr}
 use Rattle.std.proofs.lemmas.Grind.{common_steps}
 use Rattle.std.specs.Prelude.{Bool, true, false, ◌&&◌, if◌then◌else◌, ◌↔◌, ◌⊎◌, Option, Some, None, Ok, Err, option_and_then, slice_get, is_some}
-use Rattle.sql_value.specs.declared.column.ColumnDef.{ColumnDef}
-use Rattle.sql_value.specs.declared.refusal.Refusal.{Refusal}
-use Rattle.sql_value.specs.declared.refusal.Refusal.TheVariants.{NoSuchColumn, TypeMismatch}
-use Rattle.sql_value.specs.declared.expr.Class.{Class}
-use Rattle.sql_value.specs.declared.expr.Expr.{Expr}
-use Rattle.sql_value.specs.declared.expr.Op.{Op}
-use Rattle.sql_value.specs.declared.expr.Op.TheVariants as op
-use Rattle.sql_value.specs.Tree.{Tree, literal, column, minus, not, is_null, binary, tree}
+use Rattle.sql_types.specs.ColumnDef.{ColumnDef}
+use Rattle.sql_types.specs.Refusal.{Refusal}
+use Rattle.sql_types.specs.Refusal.TheVariants.{NoSuchColumn, TypeMismatch}
+use Rattle.sql_types.specs.Class.{Class}
+use Rattle.sql_types.specs.Expr.{Expr}
+use Rattle.sql_types.specs.Op.{Op}
+use Rattle.sql_types.specs.Op.TheVariants as op
+use Rattle.sql_types.specs.Tree.{Tree, literal, column, minus, not, is_null, binary, tree}
 use Rattle.spec_model.specs.Refusals.{Checked, and_then, or_refused}
 use Rattle.spec_model.specs.Columns.{place_of, column_of}
 use Rattle.spec_model.specs.Days.{written_day}

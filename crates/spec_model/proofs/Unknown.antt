@@ -2,13 +2,13 @@
 use Rattle.std.proofs.Common.{◌≡◌, ℕ, List, refl, arith, rules}
 use Rattle.std.proofs.lemmas.Grind.{common_steps}
 use Rattle.std.specs.Prelude.{Option, None, Ok}
-use Rattle.sql_value.specs.declared.value.Value.{Value}
-use Rattle.sql_value.specs.declared.value.Value.TheVariants as val
-use Rattle.sql_value.specs.declared.column.ColumnDef.{ColumnDef}
-use Rattle.sql_value.specs.declared.expr.Op.{Op}
+use Rattle.sql_types.specs.Value.{Value}
+use Rattle.sql_types.specs.Value.TheVariants as val
+use Rattle.sql_types.specs.ColumnDef.{ColumnDef}
+use Rattle.sql_types.specs.Op.{Op}
 use Rattle.sql_types.specs.declared.outcome.Outcome.{Outcome}
 use Rattle.sql_types.specs.declared.outcome.Outcome.TheVariants as out
-use Rattle.sql_value.specs.Tree.{Tree, literal, column, minus, not, is_null, binary}
+use Rattle.sql_types.specs.Tree.{Tree, literal, column, minus, not, is_null, binary}
 use Rattle.spec_model.specs.Days.{written_day}
 use Rattle.spec_model.specs.Evaluation as me
 use Rattle.spec_model.specs.Operators.{IsComparison}

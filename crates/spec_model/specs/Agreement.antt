@@ -1,7 +1,7 @@
 -- When two states agree on what a statement wants: all that a statement may rely on.
 use Rattle.std.specs.Prelude.{ℕ, ◌+◌, ◌==◌, ◌≡◌, Bool, if◌then◌else◌, List, [], ◌∷◌, Option, Some, None}
 use Rattle.std.specs.List.{AllByRecursion}
-use Rattle.sql_value.specs.declared.column.ColumnDef.{ColumnDef}
+use Rattle.sql_types.specs.ColumnDef.{ColumnDef}
 use Rattle.sql_types.specs.declared.lock.Mode.{Mode}
 use Rattle.sql_types.specs.declared.lock.Mode.TheVariants.{IS, IX, S, X}
 use Rattle.sql_types.specs.declared.lock.Item.{Item}

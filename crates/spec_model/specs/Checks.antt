@@ -1,18 +1,18 @@
 -- What is checked of INSERT, UPDATE and DELETE before any row is looked at.
 use Rattle.std.specs.Prelude.{ℕ, ◌==◌, ◌&&◌, not, nat_lt, Bool, true, false, if◌then◌else◌, List, [], map, length, Option, Some, None, is_some, Ok, Err}
 use Rattle.std.specs.List.{list_any, list_all, filter_map, zip}
-use Rattle.sql_value.specs.declared.value.Value.{Value}
-use Rattle.sql_value.specs.declared.column.ColumnDef.{ColumnDef}
-use Rattle.sql_value.specs.declared.column.TableKind.{TableKind}
-use Rattle.sql_value.specs.declared.column.TableKind.TheVariants.{AppendOnly, Updatable}
-use Rattle.sql_value.specs.declared.sql_type.SqlType.{SqlType}
-use Rattle.sql_value.specs.declared.sql_type.SqlType.TheVariants as t
-use Rattle.sql_value.specs.declared.refusal.Refusal.{Refusal}
-use Rattle.sql_value.specs.declared.refusal.Refusal.TheVariants.{NoSuchTable, NameConflict, NoSuchColumn, TypeMismatch, AppendOnlyTable, ReadOnlyTable, KeyNotUpdatable, LimitExceeded, ValueCountMismatch}
-use Rattle.sql_value.specs.declared.expr.Class.{Class}
-use Rattle.sql_value.specs.declared.expr.Class.TheVariants.{Whole, Dec, Text, Bytes, Date, Null, Truth}
-use Rattle.sql_value.specs.declared.expr.Expr.{Expr}
-use Rattle.sql_value.specs.Tree.{Tree, literal, tree}
+use Rattle.sql_types.specs.Value.{Value}
+use Rattle.sql_types.specs.ColumnDef.{ColumnDef}
+use Rattle.sql_types.specs.TableKind.{TableKind}
+use Rattle.sql_types.specs.TableKind.TheVariants.{AppendOnly, Updatable}
+use Rattle.sql_types.specs.SqlType.{SqlType}
+use Rattle.sql_types.specs.SqlType.TheVariants as t
+use Rattle.sql_types.specs.Refusal.{Refusal}
+use Rattle.sql_types.specs.Refusal.TheVariants.{NoSuchTable, NameConflict, NoSuchColumn, TypeMismatch, AppendOnlyTable, ReadOnlyTable, KeyNotUpdatable, LimitExceeded, ValueCountMismatch}
+use Rattle.sql_types.specs.Class.{Class}
+use Rattle.sql_types.specs.Class.TheVariants.{Whole, Dec, Text, Bytes, Date, Null, Truth}
+use Rattle.sql_types.specs.Expr.{Expr}
+use Rattle.sql_types.specs.Tree.{Tree, literal, tree}
 use Rattle.sql_types.specs.declared.table.TableDef.{TableDef}
 use Rattle.sql_types.specs.declared.table.Part.{Part}
 use Rattle.sql_types.specs.declared.table.Part.TheVariants.{Base}

@@ -1,18 +1,18 @@
 -- Classes: what kind of value an expression gives, as far as its columns and literals tell.
 use Rattle.std.specs.Prelude.{ℕ, ◌+◌, max, ◌==◌, nat_le, ◌&&◌, Bool, true, if◌then◌else◌, List, Option, Some, Ok, Err, is_some}
-use Rattle.sql_value.specs.declared.value.Value.{Value}
-use Rattle.sql_value.specs.declared.value.Value.TheVariants as val
-use Rattle.sql_value.specs.declared.sql_type.SqlType.{SqlType}
-use Rattle.sql_value.specs.declared.sql_type.SqlType.TheVariants as t
-use Rattle.sql_value.specs.declared.column.ColumnDef.{ColumnDef}
-use Rattle.sql_value.specs.declared.refusal.Refusal.TheVariants.{NoSuchColumn, TypeMismatch}
-use Rattle.sql_value.specs.declared.expr.Class.{Class}
-use Rattle.sql_value.specs.declared.expr.Class.TheVariants.{Whole, Dec, Text, Bytes, Date, Null, Truth}
-use Rattle.sql_value.specs.declared.expr.Op.{Op}
-use Rattle.sql_value.specs.declared.expr.Op.TheVariants as op
-use Rattle.sql_value.specs.declared.expr.Expr.{Expr}
-use Rattle.sql_value.specs.Stored.{is_in_range}
-use Rattle.sql_value.specs.Tree.{Tree, literal, column, minus, not, is_null, binary, tree}
+use Rattle.sql_types.specs.Value.{Value}
+use Rattle.sql_types.specs.Value.TheVariants as val
+use Rattle.sql_types.specs.SqlType.{SqlType}
+use Rattle.sql_types.specs.SqlType.TheVariants as t
+use Rattle.sql_types.specs.ColumnDef.{ColumnDef}
+use Rattle.sql_types.specs.Refusal.TheVariants.{NoSuchColumn, TypeMismatch}
+use Rattle.sql_types.specs.Class.{Class}
+use Rattle.sql_types.specs.Class.TheVariants.{Whole, Dec, Text, Bytes, Date, Null, Truth}
+use Rattle.sql_types.specs.Op.{Op}
+use Rattle.sql_types.specs.Op.TheVariants as op
+use Rattle.sql_types.specs.Expr.{Expr}
+use Rattle.sql_types.specs.Stored.{is_in_range}
+use Rattle.sql_types.specs.Tree.{Tree, literal, column, minus, not, is_null, binary, tree}
 use Rattle.spec_model.specs.Refusals.{Checked, and_then, or_refused}
 use Rattle.spec_model.specs.Columns.{place_of, column_of}
 use Rattle.spec_model.specs.Days.{written_day}

@@ -1,6 +1,6 @@
 -- The effect of one table statement: the tables after, the counter of events after, and the reply.
 use Rattle.std.specs.Prelude.{ℕ, ◌+◌, ◌==◌, if◌then◌else◌, List, [], ◌∷◌, ◌++◌, map, length, Ok, Err}
-use Rattle.sql_value.specs.declared.refusal.Refusal.{Refusal}
+use Rattle.sql_types.specs.Refusal.{Refusal}
 use Rattle.sql_types.specs.declared.statement.Stmt.{Stmt}
 use Rattle.sql_types.specs.declared.statement.Stmt.TheVariants as s
 use Rattle.sql_types.specs.declared.statement.RowStmt.{RowStmt}

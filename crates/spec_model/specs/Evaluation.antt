@@ -3,17 +3,17 @@ use Rattle.std.specs.Prelude.{ℕ, ℤ, Bool, true, false, ◌==◌, if◌then�
 use Rattle.std.specs.Prelude as bool
 use Rattle.std.specs.declared.cmp.Ordering.{Ordering}
 use Rattle.std.specs.Ordering.{is_eq, is_lt, is_gt, is_le, is_ge}
-use Rattle.sql_value.specs.declared.value.Value.{Value}
-use Rattle.sql_value.specs.declared.value.Value.TheVariants as val
-use Rattle.sql_value.specs.declared.column.ColumnDef.{ColumnDef}
-use Rattle.sql_value.specs.declared.refusal.Refusal.TheVariants.{TypeMismatch}
-use Rattle.sql_value.specs.declared.expr.Op.{Op}
-use Rattle.sql_value.specs.declared.expr.Op.TheVariants as op
-use Rattle.sql_value.specs.declared.expr.Expr.{Expr}
+use Rattle.sql_types.specs.Value.{Value}
+use Rattle.sql_types.specs.Value.TheVariants as val
+use Rattle.sql_types.specs.ColumnDef.{ColumnDef}
+use Rattle.sql_types.specs.Refusal.TheVariants.{TypeMismatch}
+use Rattle.sql_types.specs.Op.{Op}
+use Rattle.sql_types.specs.Op.TheVariants as op
+use Rattle.sql_types.specs.Expr.{Expr}
 use Rattle.sql_types.specs.declared.outcome.Outcome.{Outcome}
 use Rattle.sql_types.specs.declared.outcome.Outcome.TheVariants as out
-use Rattle.sql_value.specs.Order.{value_cmp, kind}
-use Rattle.sql_value.specs.Tree.{Tree, literal, column, minus, not, is_null, binary, tree}
+use Rattle.sql_types.specs.Order.{value_cmp, kind}
+use Rattle.sql_types.specs.Tree.{Tree, literal, column, minus, not, is_null, binary, tree}
 use Rattle.spec_model.specs.Refusals.{Checked, and_then, or_refused}
 use Rattle.spec_model.specs.Columns.{value_of}
 use Rattle.spec_model.specs.Days.{written_day}

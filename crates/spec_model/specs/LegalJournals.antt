@@ -1,7 +1,7 @@
 -- A legal journal: one that a server could have made.
 use Rattle.std.specs.Prelude.{◌≡◌, true}
 use Rattle.std.specs.List.{AllByRecursion}
-use Rattle.sql_value.specs.DatabaseName.{is_database_name}
+use Rattle.sql_types.specs.DatabaseName.{is_database_name}
 use Rattle.sql_types.specs.declared.journal.Journal.{Journal}
 use Rattle.sql_types.specs.JournalRules.{ItemRules}
 use Rattle.spec_model.specs.Journals.{IsLegal}

@@ -1,9 +1,9 @@
 -- Arithmetic on exact numbers, v in units of 10^-s. What reaches 10^38 in size is NumberOutOfRange.
 use Rattle.std.specs.Prelude.{ℕ, ℤ, ◌+◌, ◌-◌, max, ◌+ℤ◌, ◌-ℤ◌, ◌*ℤ◌, neg_ℤ, nat_le, ◌&&◌, if◌then◌else◌, Ok, Err}
-use Rattle.sql_value.specs.declared.value.Value.{Value}
-use Rattle.sql_value.specs.declared.value.Value.TheVariants.{Num}
-use Rattle.sql_value.specs.declared.refusal.Refusal.TheVariants.{TypeMismatch, NumberOutOfRange}
-use Rattle.sql_value.specs.Number.{raised, has_digits}
+use Rattle.sql_types.specs.Value.{Value}
+use Rattle.sql_types.specs.Value.TheVariants.{Num}
+use Rattle.sql_types.specs.Refusal.TheVariants.{TypeMismatch, NumberOutOfRange}
+use Rattle.sql_types.specs.Number.{raised, has_digits}
 use Rattle.spec_model.specs.Refusals.{Checked}
 
 -- a result

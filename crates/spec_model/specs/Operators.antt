@@ -1,7 +1,7 @@
 -- The operators of two operands, by what they do.
 use Rattle.std.specs.Prelude.{⊤}
-use Rattle.sql_value.specs.declared.expr.Op.{Op}
-use Rattle.sql_value.specs.declared.expr.Op.TheVariants.{Add, Sub, Mul, Eq, Ne, Lt, Le, Gt, Ge, And, Or}
+use Rattle.sql_types.specs.Op.{Op}
+use Rattle.sql_types.specs.Op.TheVariants.{Add, Sub, Mul, Eq, Ne, Lt, Le, Gt, Ge, And, Or}
 
 -- +, - and *
 abbrev pub IsArithmetic : Op → Type 0

@@ -1,9 +1,9 @@
 -- Outcomes of a class.
 use Rattle.std.specs.Prelude.{◌≡◌, Ok, Err, ⊤}
-use Rattle.sql_value.specs.declared.value.Value.TheVariants as val
-use Rattle.sql_value.specs.declared.refusal.Refusal.TheVariants.{NumberOutOfRange}
-use Rattle.sql_value.specs.declared.expr.Class.{Class}
-use Rattle.sql_value.specs.declared.expr.Class.TheVariants.{Whole, Dec, Text, Bytes, Date, Truth}
+use Rattle.sql_types.specs.Value.TheVariants as val
+use Rattle.sql_types.specs.Refusal.TheVariants.{NumberOutOfRange}
+use Rattle.sql_types.specs.Class.{Class}
+use Rattle.sql_types.specs.Class.TheVariants.{Whole, Dec, Text, Bytes, Date, Truth}
 use Rattle.sql_types.specs.declared.outcome.Outcome.{Outcome}
 use Rattle.sql_types.specs.declared.outcome.Outcome.TheVariants as out
 use Rattle.spec_model.specs.Evaluation.{Answer}

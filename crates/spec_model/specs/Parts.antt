@@ -1,9 +1,9 @@
 -- The parts of a table: its columns and its rows as each part shows them.
 use Rattle.std.specs.Prelude.{ℕ, false, List, [], ◌∷◌, ◌++◌, map, flat_map, length, codes, Option, Some, None}
-use Rattle.sql_value.specs.declared.value.Value.TheVariants.{Text}
-use Rattle.sql_value.specs.declared.column.ColumnDef.{ColumnDef}
-use Rattle.sql_value.specs.declared.sql_type.SqlType.{SqlType}
-use Rattle.sql_value.specs.declared.sql_type.SqlType.TheVariants.{Int, BigInt, NVarChar}
+use Rattle.sql_types.specs.Value.TheVariants.{Text}
+use Rattle.sql_types.specs.ColumnDef.{ColumnDef}
+use Rattle.sql_types.specs.SqlType.{SqlType}
+use Rattle.sql_types.specs.SqlType.TheVariants.{Int, BigInt, NVarChar}
 use Rattle.sql_types.specs.declared.table.TableDef.{TableDef}
 use Rattle.sql_types.specs.declared.table.Part.{Part}
 use Rattle.sql_types.specs.declared.table.Part.TheVariants.{Base, History, View, System}

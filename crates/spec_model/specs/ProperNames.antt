@@ -1,8 +1,8 @@
 -- Names as an image may have them.
 use Rattle.std.specs.Prelude.{ℕ, ◌==◌, ◌&&◌, not, nat_le, Bool, List, length}
 use Rattle.std.specs.List.{list_all}
-use Rattle.sql_value.specs.declared.column.TableKind.{TableKind}
-use Rattle.sql_value.specs.declared.column.TableKind.TheVariants.{AppendOnly, Updatable}
+use Rattle.sql_types.specs.TableKind.{TableKind}
+use Rattle.sql_types.specs.TableKind.TheVariants.{AppendOnly, Updatable}
 use Rattle.spec_model.specs.Create.{is_long}
 
 -- a byte that may stand in a name, from a blank to `~`, without the brackets

@@ -4,13 +4,13 @@ use Rattle.std.specs.List.{list_all}
 use Rattle.std.specs.declared.cmp.Ordering.{Ordering}
 use Rattle.std.specs.declared.cmp.Ordering.TheVariants.{Equal}
 use Rattle.std.specs.Ordering.{ordering_then}
-use Rattle.sql_value.specs.declared.value.Value.{Value}
-use Rattle.sql_value.specs.declared.value.Value.TheVariants.{Null, Num}
-use Rattle.sql_value.specs.declared.column.ColumnDef.{ColumnDef}
-use Rattle.sql_value.specs.declared.refusal.Refusal.TheVariants.{NoSuchTable, NoSuchColumn, TypeMismatch}
-use Rattle.sql_value.specs.declared.expr.Class.{Class}
-use Rattle.sql_value.specs.declared.expr.Class.TheVariants.{Whole, Dec}
-use Rattle.sql_value.specs.Order.{value_cmp}
+use Rattle.sql_types.specs.Value.{Value}
+use Rattle.sql_types.specs.Value.TheVariants.{Null, Num}
+use Rattle.sql_types.specs.ColumnDef.{ColumnDef}
+use Rattle.sql_types.specs.Refusal.TheVariants.{NoSuchTable, NoSuchColumn, TypeMismatch}
+use Rattle.sql_types.specs.Class.{Class}
+use Rattle.sql_types.specs.Class.TheVariants.{Whole, Dec}
+use Rattle.sql_types.specs.Order.{value_cmp}
 use Rattle.sql_types.specs.declared.statement.Select.{Select}
 use Rattle.sql_types.specs.declared.statement.SelectList.{SelectList}
 use Rattle.sql_types.specs.declared.statement.SelectList.TheVariants.{All, Columns, Aggs}

@@ -1,7 +1,7 @@
 -- Answers: a value, or why there is none.
 use Rattle.std.specs.Prelude.{Result, Ok, Err, Option, Some, None, ◌≡◌, ◌≢◌}
-use Rattle.sql_value.specs.declared.refusal.Refusal.{Refusal}
-use Rattle.sql_value.specs.declared.refusal.Refusal.TheVariants.{NoMemory}
+use Rattle.sql_types.specs.Refusal.{Refusal}
+use Rattle.sql_types.specs.Refusal.TheVariants.{NoMemory}
 
 -- a value, or the refusal that a statement gets in its place
 abbrev pub Checked : Type 0 → Type 0

@@ -3,10 +3,10 @@ use Rattle.std.specs.Prelude.{ℕ, ◌+◌, ◌/◌, ◌%◌, List, [], ◌∷�
 use Rattle.std.specs.List.{join_with_byte}
 use Rattle.std.specs.Fmt.{decimal}
 use Rattle.hex.specs.Hex.{encode_upper}
-use Rattle.sql_value.specs.declared.refusal.Refusal.{Refusal}
-use Rattle.sql_value.specs.declared.refusal.Refusal.TheVariants.{Locked}
-use Rattle.sql_value.specs.Refusal.{code_of}
-use Rattle.sql_value.specs.Printed.{printed}
+use Rattle.sql_types.specs.Refusal.{Refusal}
+use Rattle.sql_types.specs.Refusal.TheVariants.{Locked}
+use Rattle.sql_types.specs.Refusal.{code_of}
+use Rattle.sql_types.specs.Printed.{printed}
 use Rattle.sql_types.specs.declared.reply.Reply.{Reply}
 use Rattle.sql_types.specs.declared.reply.Reply.TheVariants as r
 use Rattle.spec_model.specs.Rows.{Row}

@@ -3,9 +3,9 @@ use Rattle.std.specs.Prelude.{ℕ, pos, ◌==◌, ◌&&◌, Bool, if◌then◌el
 use Rattle.std.specs.List.{filter}
 use Rattle.std.specs.declared.cmp.Ordering.{Ordering}
 use Rattle.std.specs.Ordering.{nat_cmp, ordering_then}
-use Rattle.sql_value.specs.declared.value.Value.{Value}
-use Rattle.sql_value.specs.declared.value.Value.TheVariants.{Null, Num}
-use Rattle.sql_value.specs.declared.column.ColumnDef.{ColumnDef}
+use Rattle.sql_types.specs.Value.{Value}
+use Rattle.sql_types.specs.Value.TheVariants.{Null, Num}
+use Rattle.sql_types.specs.ColumnDef.{ColumnDef}
 use Rattle.sql_types.specs.declared.version.TypedValue.{TypedValue}
 use Rattle.sql_types.specs.declared.version.Version.{Version}
 use Rattle.spec_model.specs.Lists.{inserted}

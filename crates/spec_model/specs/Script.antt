@@ -1,8 +1,8 @@
 -- What the texts of a transaction do one after another, with a copy of all tables for each savepoint.
 use Rattle.std.specs.Prelude.{ℕ, nat_lt, Bool, true, false, if◌then◌else◌, List, [], ◌∷◌, length, Option, Some, None}
 use Rattle.std.specs.Str.{bytes_eq}
-use Rattle.sql_value.specs.declared.refusal.Refusal.{Refusal}
-use Rattle.sql_value.specs.declared.refusal.Refusal.TheVariants.{SyntaxError, NoTransaction, AlreadyInTransaction, NoSuchSavepoint, LimitExceeded, ForbiddenInTransaction}
+use Rattle.sql_types.specs.Refusal.{Refusal}
+use Rattle.sql_types.specs.Refusal.TheVariants.{SyntaxError, NoTransaction, AlreadyInTransaction, NoSuchSavepoint, LimitExceeded, ForbiddenInTransaction}
 use Rattle.sql_types.specs.declared.statement.Stmt.{Stmt}
 use Rattle.sql_types.specs.declared.statement.Stmt.TheVariants as s
 use Rattle.sql_types.specs.declared.reply.Reply.{Reply}

@@ -1,16 +1,16 @@
 -- The tables of the system: their definitions, and the rows that they have of each table and index.
 use Rattle.std.specs.Prelude.{ℕ, ◌+◌, ◌*◌, Bool, true, false, List, [], ◌∷◌, map, codes}
-use Rattle.sql_value.specs.declared.value.Value.{Value}
-use Rattle.sql_value.specs.declared.value.Value.TheVariants.{Null, Text}
-use Rattle.sql_value.specs.declared.column.ColumnDef.{ColumnDef}
-use Rattle.sql_value.specs.declared.column.TableKind.{TableKind}
-use Rattle.sql_value.specs.declared.column.TableKind.TheVariants.{AppendOnly, Updatable}
-use Rattle.sql_value.specs.declared.sql_type.SqlType.{SqlType}
-use Rattle.sql_value.specs.declared.sql_type.SqlType.TheVariants.{Bit, Int, NVarChar}
+use Rattle.sql_types.specs.Value.{Value}
+use Rattle.sql_types.specs.Value.TheVariants.{Null, Text}
+use Rattle.sql_types.specs.ColumnDef.{ColumnDef}
+use Rattle.sql_types.specs.TableKind.{TableKind}
+use Rattle.sql_types.specs.TableKind.TheVariants.{AppendOnly, Updatable}
+use Rattle.sql_types.specs.SqlType.{SqlType}
+use Rattle.sql_types.specs.SqlType.TheVariants.{Bit, Int, NVarChar}
 use Rattle.sql_types.specs.declared.table.TableDef.{TableDef}
 use Rattle.sql_types.specs.declared.table.IndexDef.{IndexDef}
 use Rattle.sql_types.specs.declared.version.Table.{Table}
-use Rattle.sql_value.specs.TypeCodes.{type_code, first_parameter, second_parameter}
+use Rattle.sql_types.specs.TypeCodes.{type_code, first_parameter, second_parameter}
 use Rattle.spec_model.specs.Lists.{numbered}
 use Rattle.spec_model.specs.Rows.{Row, number}
 

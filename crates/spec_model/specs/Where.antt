@@ -2,15 +2,15 @@
 use Rattle.std.specs.Prelude.{ℕ, Bool, true, false, if◌then◌else◌, List, [], ◌∷◌, ◌++◌, map, Option, Some, None, Ok, Err}
 use Rattle.std.specs.Str.{bytes_eq}
 use Rattle.std.specs.Ordering.{is_eq}
-use Rattle.sql_value.specs.declared.value.Value.{Value}
-use Rattle.sql_value.specs.declared.value.Value.TheVariants as val
-use Rattle.sql_value.specs.declared.column.ColumnDef.{ColumnDef}
-use Rattle.sql_value.specs.declared.refusal.Refusal.TheVariants.{TypeMismatch}
-use Rattle.sql_value.specs.declared.expr.Op.TheVariants as op
-use Rattle.sql_value.specs.declared.expr.Expr.{Expr}
-use Rattle.sql_value.specs.Order.{value_cmp}
-use Rattle.sql_value.specs.Conversion.{Converted, conversion_of}
-use Rattle.sql_value.specs.Tree.{Tree, literal, column, binary, tree}
+use Rattle.sql_types.specs.Value.{Value}
+use Rattle.sql_types.specs.Value.TheVariants as val
+use Rattle.sql_types.specs.ColumnDef.{ColumnDef}
+use Rattle.sql_types.specs.Refusal.TheVariants.{TypeMismatch}
+use Rattle.sql_types.specs.Op.TheVariants as op
+use Rattle.sql_types.specs.Expr.{Expr}
+use Rattle.sql_types.specs.Order.{value_cmp}
+use Rattle.sql_types.specs.Conversion.{Converted, conversion_of}
+use Rattle.sql_types.specs.Tree.{Tree, literal, column, binary, tree}
 use Rattle.sql_types.specs.declared.outcome.Outcome.{Outcome}
 use Rattle.sql_types.specs.declared.outcome.Outcome.TheVariants as out
 use Rattle.spec_model.specs.Refusals.{Checked, and_then}

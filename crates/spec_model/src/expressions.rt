@@ -1,17 +1,17 @@
 //! Laws of the meaning of expressions.
 
 ghost use Rattle.std.specs.Prelude.{◌≡◌, ◌↔◌, ◌⊎◌, ◌-◌, min, max, false, true, List, Ok, Err, None};
-ghost use Rattle.sql_value.specs.declared.value.Value.{Value};
-ghost use Rattle.sql_value.specs.declared.value.Value.TheVariants.{Null};
-ghost use Rattle.sql_value.specs.declared.column.ColumnDef.{ColumnDef};
-ghost use Rattle.sql_value.specs.declared.refusal.Refusal.{Refusal};
-ghost use Rattle.sql_value.specs.declared.refusal.Refusal.TheVariants.{NoSuchColumn, TypeMismatch};
-ghost use Rattle.sql_value.specs.declared.expr.Class.{Class};
-ghost use Rattle.sql_value.specs.declared.expr.Op.{Op};
-ghost use Rattle.sql_value.specs.declared.expr.Expr.{Expr};
+ghost use Rattle.sql_types.specs.Value.{Value};
+ghost use Rattle.sql_types.specs.Value.TheVariants.{Null};
+ghost use Rattle.sql_types.specs.ColumnDef.{ColumnDef};
+ghost use Rattle.sql_types.specs.Refusal.{Refusal};
+ghost use Rattle.sql_types.specs.Refusal.TheVariants.{NoSuchColumn, TypeMismatch};
+ghost use Rattle.sql_types.specs.Class.{Class};
+ghost use Rattle.sql_types.specs.Op.{Op};
+ghost use Rattle.sql_types.specs.Expr.{Expr};
 ghost use Rattle.sql_types.specs.declared.outcome.Outcome.{Outcome};
 ghost use Rattle.sql_types.specs.declared.outcome.Outcome.TheVariants as out;
-ghost use Rattle.sql_value.specs.Tree.{Tree, tree, binary};
+ghost use Rattle.sql_types.specs.Tree.{Tree, tree, binary};
 ghost use Rattle.spec_model.specs.Columns.{fits};
 ghost use Rattle.spec_model.specs.Classes.{class, class_of, names_columns};
 ghost use Rattle.spec_model.specs.Evaluation.{meaning, meaning_of};

@@ -7,3 +7,4 @@ pub use expressions::{
     classes_foretell_outcomes, comparison_with_null_is_unknown, missing_columns_come_first,
     truths_are_kleenes,
 };
+pub use sql_types::{EventId, Key, Part, Row, TableDef, TypedValue, Version};

@@ -5,8 +5,8 @@ use Rattle.std.specs.Str.{bytes_eq}
 use Rattle.std.specs.Prelude.{option_and_then, option_map, position}
 use Rattle.sql_value.specs.declared.sql_type.SqlType.{SqlType}
 use Rattle.sql_value.specs.declared.column.ColumnDef.{ColumnDef}
-use Rattle.sql_types.specs.declared.table.Part.{Part}
-use Rattle.sql_types.specs.declared.table.Part.TheVariants.{Base, System}
+use Rattle.spec_model.specs.Part.{Part}
+use Rattle.spec_model.specs.Part.TheVariants.{Base, System}
 use Rattle.spec_model.specs.Columns.{place_of, column_of}
 use Rattle.spec_model.specs.Lists.{or_else}
 use Rattle.spec_model.specs.Parts.{added, added_column, start_columns}

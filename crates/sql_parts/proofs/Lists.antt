@@ -4,7 +4,7 @@ use Rattle.std.proofs.lemmas.Option.{unwrap_or-slice_get}
 use Rattle.std.proofs.Math.ListN.{get_or-map}
 use Rattle.std.proofs.Common.{ap, sym, ◌∙◌}
 use Rattle.sql_value.specs.declared.value.Value.TheVariants.{Null}
-use Rattle.sql_types.specs.declared.version.TypedValue.{TypedValue}
+use Rattle.spec_model.specs.TypedValue.{TypedValue}
 use Rattle.spec_model.specs.Rows.{Row, value_or_null}
 use Rattle.spec_model.specs.Keys.{value_at}
 

@@ -2,7 +2,7 @@
 use Rattle.std.specs.Prelude.{ℕ, List, map}
 use Rattle.std.specs.declared.cmp.Ordering.{Ordering}
 use Rattle.sql_value.specs.declared.column.ColumnDef.{ColumnDef}
-use Rattle.sql_types.specs.declared.version.Version.{Version}
+use Rattle.spec_model.specs.Version.{Version}
 use Rattle.spec_model.specs.Rows.{Row}
 use Rattle.spec_model.specs.Keys.{Key, Placed, key_cmp, value_at, version_key}
 use Rattle.spec_model.specs.Parts.{ViewRow}

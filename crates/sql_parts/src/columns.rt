@@ -7,7 +7,7 @@ ghost use Rattle.spec_model.specs.Columns as spec;
 ghost use Rattle.spec_model.specs.Parts.{added, added_column, columns_of, shown_of};
 
 use base_types::Name;
-use sql_types::{Part, TableDef};
+use spec_model::{Part, TableDef};
 use sql_value::{ColumnDef, SqlType};
 use std::marker::Model;
 

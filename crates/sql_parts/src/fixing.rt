@@ -10,8 +10,8 @@ ghost use Rattle.sql_parts.specs.Fixed.{fixed_in};
 use crate::keyed::KeyedTable;
 use crate::keys::key_columns;
 use base_types::{Items, Memory, Name};
+use spec_model::Key;
 use sql_scalar::to_column;
-use sql_types::Key;
 use sql_value::{ColumnDef, Expr, Op, Value, ValueErr, compare};
 use std::alloc::Global;
 

@@ -1,15 +1,15 @@
 //! Who has the versions of a table, and finds those that stand.
 
 ghost use Rattle.std.specs.Prelude.{◌≡◌, List, IfOk, map};
-ghost use Rattle.sql_types.specs.declared.table.TableDef.{TableDef as AnyTable};
-ghost use Rattle.sql_types.specs.declared.version.Version.{Version as AnyVersion};
+ghost use Rattle.spec_model.specs.TableDef.{TableDef as AnyTable};
+ghost use Rattle.spec_model.specs.Version.{Version as AnyVersion};
 ghost use Rattle.spec_model.specs.Keys as spec;
 
 use crate::keyed::KeyedTable;
 use crate::keys::same_key;
 use crate::live::live_by_key;
 use base_types::Memory;
-use sql_types::{Key, Row, Version};
+use spec_model::{Key, Row, Version};
 use std::alloc::Global;
 
 /// The versions of a table, with a way to find those that stand: a list in no order of keys is gone through,

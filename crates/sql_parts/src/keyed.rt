@@ -3,7 +3,7 @@
 ghost use Rattle.std.specs.Prelude.{◌≡◌};
 ghost use Rattle.spec_model.specs.Keys.{key_places};
 
-use sql_types::TableDef;
+use spec_model::TableDef;
 use sql_value::ColumnDef;
 use std::marker::Model;
 
@@ -17,7 +17,7 @@ pub struct KeyedTable<'a> {
 
 impl<'a> Model for KeyedTable<'a> {
     ghost use Rattle.std.specs.Prelude.{◌≡◌};
-    ghost use Rattle.sql_types.specs.declared.table.TableDef.{TableDef};
+    ghost use Rattle.spec_model.specs.TableDef.{TableDef};
     ghost use Rattle.spec_model.specs.Keys.{key_places};
 
     ghost Value = { TableDef };

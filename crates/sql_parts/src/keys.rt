@@ -13,7 +13,7 @@ use crate::keyed::KeyedTable;
 use crate::order::sort_by_position;
 use crate::values::{Valued, copy_or_null};
 use base_types::{Items, Memory};
-use sql_types::{Key, Row};
+use spec_model::{Key, Row};
 use sql_value::{ColumnDef, Value, compare};
 use std::alloc::Global;
 use std::cmp::Ordering;

@@ -8,7 +8,7 @@ use crate::keyed::KeyedTable;
 use crate::keys::has_key;
 use crate::order::sort_by_key;
 use base_types::Memory;
-use sql_types::{Key, Version};
+use spec_model::{Key, Version};
 use sql_value::Value;
 use std::alloc::Global;
 

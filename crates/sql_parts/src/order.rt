@@ -9,7 +9,7 @@ ghost use Rattle.spec_model.specs.Rows.{event_cmp};
 use crate::keyed::KeyedTable;
 use crate::keys::compare_by_key;
 use base_types::Memory;
-use sql_types::{EventId, Row, Version};
+use spec_model::{EventId, Row, Version};
 use sql_value::ColumnDef;
 
 /// Sorts columns, each with its place, by their positions in the key.

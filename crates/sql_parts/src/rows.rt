@@ -12,7 +12,7 @@ use crate::live::live_by_key;
 use crate::order::sort_by_event;
 use crate::values::{add_values, number};
 use base_types::{Items, Memory, Text};
-use sql_types::{EventId, Key, Part, Row, Version};
+use spec_model::{EventId, Key, Part, Row, Version};
 use sql_value::Value;
 use std::alloc::Global;
 

@@ -8,7 +8,7 @@ ghost use Rattle.spec_model.specs.Rows as spec;
 ghost use Rattle.spec_model.specs.Keys.{value_at as spec_value_at};
 
 use base_types::{Items, Memory};
-use sql_types::{Row, TypedValue, Version};
+use spec_model::{Row, TypedValue, Version};
 use sql_value::{ColumnDef, Value};
 use std::alloc::Global;
 

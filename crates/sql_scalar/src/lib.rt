@@ -19,4 +19,5 @@ pub use laws::{
 };
 pub use literal::read_literal;
 pub use printing::{print, print_literal};
+pub use sql_value::{SqlType, Value, type_parts};
 pub use stored::fits;

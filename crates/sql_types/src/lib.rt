@@ -25,6 +25,7 @@ pub use journal::{Journal, JournalItem, MAX_BLOCK, Script};
 pub use lock::{Hold, Item, Key, LockRequest, Mode};
 pub use outcome::Outcome;
 pub use reply::Reply;
+pub use sql_value::{ColumnDef, SqlType, TableKind};
 pub use statement::{Agg, CreateIndex, CreateTable, RowStmt, Select, SelectList, Stmt};
 pub use table::{IndexDef, Part, TableDef};
 pub use version::{EventId, Row, Table, TypedValue, Version};

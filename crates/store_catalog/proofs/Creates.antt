@@ -24,8 +24,8 @@ use Rattle.spec_protocol.specs.Cells.{CatalogCell, Creator}
 use Rattle.spec_protocol.specs.Doing.{events_from, grown}
 use Rattle.spec_protocol.specs.Moves.{noting}
 use Rattle.spec_protocol.specs.Seats.{OpenTransaction}
-use Rattle.store_tx.specs.Represents.{Represents}
-use Rattle.store_tx.specs.declared.context.TxCtx.{TxCtx}
+use Rattle.store_table.specs.Represents.{Represents}
+use Rattle.store_table.specs.TxCtx.{TxCtx}
 use Rattle.store_catalog.specs.Calls.{HasIndex, HasTable}
 use Rattle.store_catalog.specs.Noted.{with_leaves}
 use Rattle.store_catalog.specs.WorkedOut.{AreNew}

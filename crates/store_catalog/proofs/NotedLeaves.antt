@@ -8,11 +8,11 @@ use Rattle.spec_model.specs.SystemTables.{columns_id, tables_id}
 use Rattle.spec_protocol.specs.Doing.{grown}
 use Rattle.spec_protocol.specs.Moves.{noting}
 use Rattle.spec_protocol.specs.Seats.{Tree, OpenTransaction}
-use Rattle.store_tx.specs.Leaves.{leaves_in, with_leaf}
-use Rattle.store_tx.specs.Represents.{Represents, IsOpen, MayNote}
-use Rattle.store_tx.specs.Trees.{tree_of, IsTree}
-use Rattle.store_tx.specs.declared.context.TxCtx.{TxCtx}
-use Rattle.store_tx.proofs.Leaves.{leaf_here, leaf_elsewhere}
+use Rattle.store_table.specs.Leaves.{leaves_in, with_leaf}
+use Rattle.store_table.specs.Represents.{Represents, IsOpen, MayNote}
+use Rattle.store_table.specs.Trees.{tree_of, IsTree}
+use Rattle.store_table.specs.TxCtx.{TxCtx}
+use Rattle.store_table.proofs.Leaves.{leaf_here, leaf_elsewhere}
 use Rattle.store_catalog.specs.Noted.{with_leaves, MayNoteBoth, MayNoteMany}
 
 -- ---- the first of some leaves

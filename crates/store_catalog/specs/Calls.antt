@@ -18,8 +18,8 @@ use Rattle.spec_protocol.specs.Doing.{grown, events_from}
 use Rattle.spec_protocol.specs.Moves.{noting}
 use Rattle.spec_protocol.specs.Seats.{OpenTransaction}
 use Rattle.spec_protocol.specs.UndoVisits.{defs_before, creator_left}
-use Rattle.store_tx.specs.Represents.{Represents}
-use Rattle.store_tx.specs.declared.context.TxCtx.{TxCtx}
+use Rattle.store_table.specs.Represents.{Represents}
+use Rattle.store_table.specs.TxCtx.{TxCtx}
 
 -- ---- locks
 

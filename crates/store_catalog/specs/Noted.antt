@@ -2,9 +2,9 @@
 use Rattle.std.specs.Prelude.{ℕ, ◌<◌, ◌+◌, ◌^◌, List, [], ◌∷◌}
 use Rattle.spec_model.specs.SystemTables.{columns_id, tables_id}
 use Rattle.spec_protocol.specs.Seats.{Tree, OpenTransaction}
-use Rattle.store_tx.specs.Leaves.{with_leaf}
-use Rattle.store_tx.specs.Represents.{Represents, IsOpen}
-use Rattle.store_tx.specs.declared.context.TxCtx.{TxCtx}
+use Rattle.store_table.specs.Leaves.{with_leaf}
+use Rattle.store_table.specs.Represents.{Represents, IsOpen}
+use Rattle.store_table.specs.TxCtx.{TxCtx}
 
 -- the leaves come at the end of the table's tree
 abbrev pub with_leaves : ℕ → List (List ℕ) → List Tree → List Tree

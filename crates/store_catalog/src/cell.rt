@@ -17,7 +17,7 @@ ghost use Rattle.spec_protocol.specs.CatalogVisits.{with_holds};
 ghost use Rattle.spec_protocol.specs.Cells.{first_catalog, versions_in, Catalog};
 ghost use Rattle.spec_protocol.specs.Doing.{Stopped};
 ghost use Rattle.spec_protocol.specs.Seats.{OpenTransaction};
-ghost use Rattle.store_tx.specs.Represents.{Represents};
+ghost use Rattle.store_table.specs.Represents.{Represents};
 ghost use Rattle.store_catalog.specs.Calls.{left, undone, IndexMade, LocksTaken, MayCreate, TableMade};
 
 use crate::creating::{COLUMNS, NewIndex, NewTable, TABLES, work_out_index, work_out_table};
@@ -36,8 +36,7 @@ use std::alloc::Global;
 use std::marker::Model;
 use std::mem;
 use store_locks::{LockList, LockRequest};
-use store_table::VersionStore;
-use store_tx::TxCtx;
+use store_table::{TxCtx, VersionStore};
 
 /// The definitions of all tables with who changed them, the versions of the two tables of the system, and the
 /// locks of the catalog. Contracts see the cell of which the laws on visits speak.

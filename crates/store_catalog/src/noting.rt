@@ -4,13 +4,13 @@ ghost use Rattle.std.specs.Prelude.{ℕ, ◌+◌, length, OnOk};
 ghost use Rattle.spec_model.specs.SystemTables.{columns_id, tables_id};
 ghost use Rattle.spec_protocol.specs.Moves.{noting};
 ghost use Rattle.spec_protocol.specs.Seats.{OpenTransaction};
-ghost use Rattle.store_tx.specs.Represents.{IsOpen, Represents};
+ghost use Rattle.store_table.specs.Represents.{IsOpen, Represents};
 ghost use Rattle.store_catalog.specs.Noted.{with_leaves, MayNoteBoth, MayNoteMany};
 
 use crate::creating::{COLUMNS, TABLES};
 use base_merkle::Hash32;
 use base_types::{Blob, Memory, TableId};
-use store_tx::TxCtx;
+use store_table::TxCtx;
 
 /// Adds the leaves to the tree of the table, and counts each as an event. Takes no memory.
 pub(crate) fn note_all<H: Hash32>(ctx: &mut TxCtx<H>, table: TableId, leaves: &[Blob])

@@ -2,10 +2,10 @@
 use Rattle.std.proofs.Common.{◌≡◌, ◌≤◌, ◌<◌, ℕ, zero, suc, ◌+◌, ◌-◌, Bool, true, false, List, [], ◌∷◌, refl, ap, sym, subst, ◌∙◌, arith}
 use Rattle.std.specs.Prelude.{nat_le, if◌then◌else◌}
 use Rattle.std.proofs.lemmas.Bool.{leb-true, leb-false}
-use Rattle.spec_protocol.specs.Cells.{LedgerCell, pending_in}
-use Rattle.spec_protocol.specs.LedgerIsLegal.{LedgerIsLegal}
-use Rattle.spec_protocol.specs.LedgerVisits.{closed_by, all_closed, next_block}
-use Rattle.spec_protocol.specs.Server.{Server}
+use Rattle.law_protocol_steps.specs.Cells.{LedgerCell, pending_in}
+use Rattle.law_protocol_steps.specs.LedgerIsLegal.{LedgerIsLegal}
+use Rattle.law_protocol_steps.specs.LedgerVisits.{closed_by, all_closed, next_block}
+use Rattle.law_protocol_steps.specs.Server.{Server}
 use Rattle.law_protocol_steps.proofs.Closes.{closing_is_legal, next_within}
 use Rattle.std.proofs.lemmas.List.{length-drop}
 use Rattle.std.specs.Prelude.{length, drop}

@@ -5,8 +5,8 @@ use Rattle.sql_types.specs.declared.journal.JournalItem.{JournalItem}
 use Rattle.sql_types.specs.declared.journal.JournalItem.TheVariants.{Close}
 use Rattle.spec_model.specs.Journals.{tx_count}
 use Rattle.spec_ledger.specs.Ledger.{Ledger, closes}
-use Rattle.spec_protocol.specs.Cells.{LedgerCell, pending_in}
-use Rattle.spec_protocol.specs.LedgerVisits.{all_closed, closed_by, with_digest}
+use Rattle.law_protocol_steps.specs.Cells.{LedgerCell, pending_in}
+use Rattle.law_protocol_steps.specs.LedgerVisits.{all_closed, closed_by, with_digest}
 use Rattle.store_ledger.specs.HashedCell.{IsCounted}
 use Rattle.store_ledger.specs.Issues.{IsOfNewest, IsIssued}
 use Rattle.store_ledger.specs.declared.cell.IssuedDigest.{IssuedDigest}

@@ -5,7 +5,7 @@ use Rattle.sql_types.specs.declared.entry.BlockRecord.{BlockRecord}
 use Rattle.sql_types.specs.declared.entry.TxEntry.{TxEntry}
 use Rattle.spec_model.specs.Journals.{tx_count}
 use Rattle.spec_ledger.specs.Blocks.{no_hash, last_hash}
-use Rattle.spec_protocol.specs.Cells.{LedgerCell, pending_in}
+use Rattle.law_protocol_steps.specs.Cells.{LedgerCell, pending_in}
 use Rattle.store_ledger.specs.HashedCell.{IsCounted}
 use Rattle.store_ledger.specs.Issues.{IsOfNewest}
 

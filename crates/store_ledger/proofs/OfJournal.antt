@@ -16,15 +16,15 @@ use Rattle.spec_history.specs.Journals.{blocks, in_blocks, times}
 use Rattle.spec_history.specs.Lists.{Text}
 use Rattle.spec_history.proofs.Grows.{blocks_all}
 use Rattle.spec_ledger.specs.Blocks.{no_hash, record_hash, last_hash, hash_at}
-use Rattle.spec_protocol.specs.Digests.{or_zero, digest_of}
+use Rattle.law_protocol_steps.specs.Digests.{or_zero, digest_of}
 use Rattle.spec_ledger.specs.Entries.{entry_of, at_place, placed}
 use Rattle.spec_ledger.specs.Ledger.{Ledger, empty_ledger, recorded, ledger_from, entries_of, block_hash}
-use Rattle.spec_protocol.proofs.Counting.{closed_counted}
-use Rattle.spec_protocol.specs.Cells.{LedgerCell, pending_in}
-use Rattle.spec_protocol.specs.LedgerIsLegal.{LedgerIsLegal}
-use Rattle.spec_protocol.specs.LedgerVisits.{all_closed}
-use Rattle.spec_protocol.specs.Server.{Server}
-use Rattle.spec_protocol.proofs.LedgerNumbers.{blocks_are}
+use Rattle.law_protocol_steps.proofs.Counting.{closed_counted}
+use Rattle.law_protocol_steps.specs.Cells.{LedgerCell, pending_in}
+use Rattle.law_protocol_steps.specs.LedgerIsLegal.{LedgerIsLegal}
+use Rattle.law_protocol_steps.specs.LedgerVisits.{all_closed}
+use Rattle.law_protocol_steps.specs.Server.{Server}
+use Rattle.law_protocol_steps.proofs.LedgerNumbers.{blocks_are}
 use Rattle.store_ledger.specs.declared.cell.IssuedDigest.{IssuedDigest}
 use Rattle.store_ledger.specs.Issues.{IsOfNewest, IsIssued}
 use Rattle.store_ledger.proofs.Closings.{one_closed, closings_are_legal}

@@ -5,7 +5,7 @@ use Rattle.spec_model.specs.Limits.{max_block}
 use Rattle.spec_model.specs.Journals.{tx_count}
 use Rattle.spec_ledger.specs.Blocks.{no_hash, last_hash}
 use Rattle.spec_ledger.specs.Ledger.{Ledger}
-use Rattle.spec_protocol.specs.Cells.{LedgerCell}
+use Rattle.law_protocol_steps.specs.Cells.{LedgerCell}
 
 pub record HashedCell : Type 0 where
   pub cell : LedgerCell

@@ -1,8 +1,8 @@
 -- What issuing a digest does to the ledger's cell.
 use Rattle.std.specs.Prelude.{ℕ, ◌≡◌, ◌+◌, ◌-◌, List, Some, length, map, slice_get}
 use Rattle.spec_ledger.specs.Blocks.{no_hash, last_hash}
-use Rattle.spec_protocol.specs.Cells.{LedgerCell, pending_in, blocks_in}
-use Rattle.spec_protocol.specs.LedgerVisits.{all_closed, with_digest}
+use Rattle.law_protocol_steps.specs.Cells.{LedgerCell, pending_in, blocks_in}
+use Rattle.law_protocol_steps.specs.LedgerVisits.{all_closed, with_digest}
 use Rattle.sql_types.specs.declared.digest.Digest.{Digest}
 use Rattle.store_ledger.specs.declared.cell.IssuedDigest.{IssuedDigest}
 

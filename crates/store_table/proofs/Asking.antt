@@ -14,9 +14,9 @@ use Rattle.store_locks.specs.Asked.{asked, refused_or, IsMeant}
 use Rattle.store_locks.specs.declared.lock_err.LockErr.{LockErr}
 use Rattle.store_locks.specs.declared.lock_err.LockErr.TheVariants as lock
 use Rattle.store_locks.proofs.Steps.{back_restores}
-use Rattle.spec_protocol.specs.Cells.{TableCell}
-use Rattle.spec_protocol.specs.Doing.{Stopped, blocked}
-use Rattle.spec_protocol.specs.TableVisits.{with_holds}
+use Rattle.store_tx.specs.Cells.{TableCell}
+use Rattle.store_tx.specs.Doing.{Stopped, blocked}
+use Rattle.store_tx.specs.TableVisits.{with_holds}
 use Rattle.store_table.specs.Calls.{IsLeft, IsStopped, LocksTaken}
 use Rattle.store_table.specs.Stopping.{granted_or_err, table_err_of}
 use Rattle.store_table.specs.declared.stop.TableErr.{TableErr}

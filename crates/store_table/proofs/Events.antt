@@ -23,9 +23,9 @@ use Rattle.law_frame.proofs.Alls.{all_weaker}
 use Rattle.law_frame.proofs.SameKeys.{IsAlone, each_alone, not_less, one_start}
 use Rattle.law_frame.proofs.Sounds.{before_changed, rising_changed}
 use Rattle.law_frame.proofs.UndoneVersions.{Undoes}
-use Rattle.spec_protocol.specs.Doing.{events_from}
-use Rattle.spec_protocol.specs.EventsIn.{events_in}
-use Rattle.spec_protocol.proofs.NewEvents.{come_last}
+use Rattle.store_tx.specs.Doing.{events_from}
+use Rattle.store_tx.specs.EventsIn.{events_in}
+use Rattle.store_tx.proofs.NewEvents.{come_last}
 use Rattle.store_table.specs.Made.{new_version, end_of, event_of, events_made, LiveFits, IsMade}
 use Rattle.store_table.specs.Orders.{version_at, started_by}
 use Rattle.store_table.proofs.OneMore.{sorted_passing}

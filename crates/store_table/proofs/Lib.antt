@@ -24,3 +24,4 @@ pub mod UndoSteps
 pub mod Undone
 pub mod Whole
 pub mod Written
+pub use Rattle.store_tx.proofs.Leaves

@@ -5,9 +5,9 @@ use Rattle.std.proofs.lemmas.List.{append-nil, append_assoc, take_all}
 use Rattle.std.specs.Prelude.{◌==◌, if◌then◌else◌}
 use Rattle.sql_types.specs.declared.event.Event.{Event}
 use Rattle.format_event.specs.Leaf.{event_bytes}
-use Rattle.spec_protocol.specs.Doing.{grown}
-use Rattle.spec_protocol.specs.Moves.{noting}
-use Rattle.spec_protocol.specs.Seats.{OpenTransaction, Tree}
+use Rattle.store_tx.specs.Doing.{grown}
+use Rattle.store_tx.specs.Moves.{noting}
+use Rattle.store_tx.specs.Seats.{OpenTransaction, Tree}
 use Rattle.store_tx.specs.Leaves.{leaves_in, with_leaf}
 use Rattle.store_tx.specs.Represents.{IsOpen, MayNote, Represents}
 use Rattle.store_tx.specs.Trees.{tree_of, IsTree}

@@ -10,12 +10,12 @@ use Rattle.sql_types.specs.declared.version.Version.{Version}
 use Rattle.spec_model.specs.Changes.{changed_all}
 use Rattle.spec_model.specs.Holds.{holds_after}
 use Rattle.spec_model.specs.InTheWay.{first_conflict}
-use Rattle.spec_protocol.specs.Cells.{TableCell, Index}
-use Rattle.spec_protocol.specs.Doing.{grown, events_from}
-use Rattle.spec_protocol.specs.Moves.{noting}
-use Rattle.spec_protocol.specs.Seats.{OpenTransaction}
-use Rattle.spec_protocol.specs.TablesAreSerial.{index_order, ordinals_of}
-use Rattle.spec_protocol.specs.TableVisits.{new_index, with_holds, with_indexes, with_versions}
+use Rattle.store_tx.specs.Cells.{TableCell, Index}
+use Rattle.store_tx.specs.Doing.{grown, events_from}
+use Rattle.store_tx.specs.Moves.{noting}
+use Rattle.store_tx.specs.Seats.{OpenTransaction}
+use Rattle.store_tx.specs.TablesAreSerial.{index_order, ordinals_of}
+use Rattle.store_tx.specs.TableVisits.{new_index, with_holds, with_indexes, with_versions}
 use Rattle.store_tx.specs.Represents.{Represents}
 use Rattle.store_tx.specs.declared.context.TxCtx.{TxCtx}
 use Rattle.store_table.specs.Calls.{LocksTaken, RowsChanged, RowsWritten}

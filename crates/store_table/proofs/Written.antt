@@ -11,9 +11,9 @@ use Rattle.spec_model.specs.Checks.{row_statement_check}
 use Rattle.spec_model.specs.Runs.{MadeBefore, Rising}
 use Rattle.law_journal.specs.Fits.{Fits}
 use Rattle.format_event.specs.Leaf.{event_bytes}
-use Rattle.spec_protocol.specs.Doing.{events_from, grown}
-use Rattle.spec_protocol.specs.Moves.{noting}
-use Rattle.spec_protocol.specs.Seats.{OpenTransaction}
+use Rattle.store_tx.specs.Doing.{events_from, grown}
+use Rattle.store_tx.specs.Moves.{noting}
+use Rattle.store_tx.specs.Seats.{OpenTransaction}
 use Rattle.store_tx.specs.Represents.{IsOpen, Represents}
 use Rattle.store_tx.specs.declared.context.TxCtx.{TxCtx}
 use Rattle.store_table.specs.Calls.{HasWritten, MayChange, RowsWritten}

@@ -18,12 +18,12 @@ use Rattle.spec_model.specs.Rows.{Row}
 use Rattle.spec_model.specs.Runs.{MadeBefore}
 use Rattle.spec_history.specs.Lists.{Each}
 use Rattle.law_journal.specs.Fits.{Fits}
-use Rattle.spec_protocol.specs.Cells.{TableCell}
-use Rattle.spec_protocol.specs.Doing.{grown, events_from, Stopped}
-use Rattle.spec_protocol.specs.Moves.{noting}
-use Rattle.spec_protocol.specs.Seats.{OpenTransaction}
-use Rattle.spec_protocol.specs.TableVisits.{with_holds, with_versions}
-use Rattle.spec_protocol.specs.TablesAreSerial.{ordinals_of}
+use Rattle.store_tx.specs.Cells.{TableCell}
+use Rattle.store_tx.specs.Doing.{grown, events_from, Stopped}
+use Rattle.store_tx.specs.Moves.{noting}
+use Rattle.store_tx.specs.Seats.{OpenTransaction}
+use Rattle.store_tx.specs.TableVisits.{with_holds, with_versions}
+use Rattle.store_tx.specs.TablesAreSerial.{ordinals_of}
 use Rattle.store_tx.specs.Represents.{Represents}
 use Rattle.store_tx.specs.declared.context.TxCtx.{TxCtx}
 use Rattle.store_table.specs.Orders.{version_at}

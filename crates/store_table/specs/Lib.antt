@@ -6,3 +6,7 @@ pub mod Orders
 pub mod Stopping
 pub mod Stored
 pub mod Undoing
+pub use Rattle.store_tx.specs.Leaves
+pub use Rattle.store_tx.specs.Represents
+pub use Rattle.store_tx.specs.Trees
+pub use Rattle.store_tx.specs.declared.context.TxCtx

@@ -12,7 +12,7 @@ use Rattle.spec_model.specs.Events.{start_event, end_event}
 use Rattle.spec_model.specs.Rows.{EventId}
 use Rattle.law_journal.specs.Fits.{Fits}
 use Rattle.format_event.specs.Leaf.{event_bytes}
-use Rattle.spec_protocol.specs.Seats.{OpenTransaction, Tree}
+use Rattle.store_tx.specs.Seats.{OpenTransaction, Tree}
 use Rattle.store_tx.specs.Leaves.{with_leaf}
 use Rattle.store_tx.specs.Represents.{IsOpen, Represents}
 use Rattle.store_tx.specs.declared.context.TxCtx.{TxCtx}

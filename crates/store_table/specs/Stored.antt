@@ -6,10 +6,10 @@ use Rattle.sql_value.specs.declared.column.ColumnDef.{ColumnDef}
 use Rattle.sql_types.specs.declared.version.Version.{Version}
 use Rattle.spec_model.specs.Rows.{EventId, live}
 use Rattle.spec_model.specs.Keys.{key_cmp, live_by_key}
-pub use Rattle.spec_protocol.specs.Cells.{Index}
-pub use Rattle.spec_protocol.specs.TablesAreSerial.{projected, index_order}
-pub use Rattle.spec_protocol.specs.TableVisits.{reordered}
-pub use Rattle.spec_protocol.specs.UndoVisits.{without_last}
+pub use Rattle.store_tx.specs.Cells.{Index}
+pub use Rattle.store_tx.specs.TablesAreSerial.{projected, index_order}
+pub use Rattle.store_tx.specs.TableVisits.{reordered}
+pub use Rattle.store_tx.specs.UndoVisits.{without_last}
 
 pub record Stored : Type 0 where
   pub columns : List ColumnDef

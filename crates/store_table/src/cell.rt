@@ -3,9 +3,9 @@
 ghost use Rattle.std.specs.Prelude.{◌≡◌, ◌≤◌, ◌<◌, ◌∷◌, [], IfErr, IfOk, Ok, OnErr, OnOk, Some, length};
 ghost use Rattle.sql_types.specs.declared.version.Version.{Version as SpecVersion};
 ghost use Rattle.spec_model.specs.Checks.{row_statement_check};
-ghost use Rattle.spec_protocol.specs.Seats.{OpenTransaction};
-ghost use Rattle.spec_protocol.specs.TableVisits.{with_indexes};
-ghost use Rattle.spec_protocol.specs.UndoVisits.{index_dropped, undone_to, unlocked};
+ghost use Rattle.store_tx.specs.Seats.{OpenTransaction};
+ghost use Rattle.store_tx.specs.TableVisits.{with_indexes};
+ghost use Rattle.store_tx.specs.UndoVisits.{index_dropped, undone_to, unlocked};
 ghost use Rattle.store_tx.specs.Represents.{Represents};
 ghost use Rattle.store_table.specs.Calls.{HasFit, IsLeft, IsPlace, IsStopped, IsTable, LacksLast, LocksTaken, MayChange, NoneChanged, NoneRead, RowsChanged, RowsRead};
 ghost use Rattle.store_table.specs.Orders.{version_at};
@@ -33,7 +33,7 @@ pub struct TableCell {
 }
 
 impl Model for TableCell {
-    ghost use Rattle.spec_protocol.specs.Cells.{TableCell};
+    ghost use Rattle.store_tx.specs.Cells.{TableCell};
 
     ghost Value = { TableCell };
 

@@ -30,4 +30,5 @@ pub use laws::{
 };
 pub use sql_types::{EventId, TypedValue, Version};
 pub use stop::TableErr;
+pub use store_tx::TxCtx;
 pub use version_store::VersionStore;

@@ -1,8 +1,8 @@
 //! The leaves of events are noted in the context of their transaction.
 
 ghost use Rattle.std.specs.Prelude.{◌≡◌, ◌<◌, ◌+◌, ◌^◌, length};
-ghost use Rattle.spec_protocol.specs.Moves.{noting};
-ghost use Rattle.spec_protocol.specs.Seats.{OpenTransaction};
+ghost use Rattle.store_tx.specs.Moves.{noting};
+ghost use Rattle.store_tx.specs.Seats.{OpenTransaction};
 ghost use Rattle.store_tx.specs.Represents.{IsOpen, Represents};
 ghost use Rattle.store_table.specs.Made.{MayNoteAll, with_leaves};
 

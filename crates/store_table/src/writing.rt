@@ -7,7 +7,7 @@ ghost use Rattle.law_journal.specs.Fits.{Fits};
 ghost use Rattle.spec_model.specs.Changes.{row_changes};
 ghost use Rattle.spec_model.specs.Checks.{row_statement_check};
 ghost use Rattle.spec_model.specs.Limits.{max_columns};
-ghost use Rattle.spec_protocol.specs.Seats.{OpenTransaction};
+ghost use Rattle.store_tx.specs.Seats.{OpenTransaction};
 ghost use Rattle.store_tx.specs.Represents.{IsOpen, Represents};
 ghost use Rattle.store_table.specs.Calls.{MayChange, RowsWritten};
 ghost use Rattle.store_table.specs.Stored.{with_versions};

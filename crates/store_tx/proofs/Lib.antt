@@ -6,3 +6,6 @@ pub mod Represented
 pub mod RootsMade
 pub mod Sorting
 pub mod Trees
+pub use Rattle.spec_protocol.proofs.LedgerNumbers
+pub use Rattle.spec_protocol.proofs.Roots
+pub use Rattle.spec_protocol.proofs.NewEvents

@@ -1,4 +1,4 @@
-use Rattle.base_types.proofs.Names.{session_short}
+use Rattle.base_fields.proofs.Names.{session_short}
 use Rattle.format_entry.proofs.writing.put_head.Goals as goal
 
 pub put_short-requires : goal.put_short-requires

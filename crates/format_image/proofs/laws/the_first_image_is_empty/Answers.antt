@@ -1,7 +1,7 @@
 use Rattle.std.proofs.Common.{refl}
 use Rattle.base_fields.specs.Fields.{u16_field, u32_field, u64_field}
-use Rattle.spec_model.specs.Journals.{serial_from}
-use Rattle.spec_model.specs.SystemTables.{first_tables}
+use Rattle.spec_ledger.specs.Journals.{serial_from}
+use Rattle.spec_ledger.specs.SystemTables.{first_tables}
 use Rattle.spec_ledger.specs.Ledger.{ledger_from}
 use Rattle.format_image.specs.Image.{image_of}
 use Rattle.format_image.specs.ImageBytes.{image_bytes}

@@ -1,4 +1,4 @@
-use Rattle.spec_model.specs.Journals.{cut}
+use Rattle.law_frame.specs.Journals.{cut}
 use Rattle.law_journal.proofs.Serials.{legal_tables, cut_legal}
 use Rattle.law_journal.proofs.laws.cuts_of_legal_journals_are_legal.Goals as goal
 

@@ -5,8 +5,8 @@ use lib.ListN.{get_elem?}
 use Rattle.spec_protocol.specs.Cells.{Ledger}
 use Rattle.spec_history.specs.Acts.{assigns_id}
 use Rattle.spec_protocol.specs.StandTogether.{StandsAfter}
-use Rattle.law_protocol_steps.proofs.LedgerVisit.{lies_there}
-use Rattle.law_protocol_steps.proofs.AssignsId.{assigns_id_stands}
+use Rattle.law_protocol_changes.proofs.LedgerVisit.{lies_there}
+use Rattle.law_protocol_changes.proofs.AssignsId.{assigns_id_stands}
 use Rattle.law_protocol_ledger.proofs.ledger_visits.assigning_an_id_keeps_standing.Goals as goal
 
 pub returns : goal.returns

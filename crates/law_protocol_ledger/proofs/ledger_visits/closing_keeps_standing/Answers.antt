@@ -5,8 +5,8 @@ use lib.ListN.{get_elem?}
 use Rattle.spec_protocol.specs.Cells.{Ledger}
 use Rattle.spec_history.specs.Acts.{closes}
 use Rattle.spec_protocol.specs.StandTogether.{Stands}
-use Rattle.law_protocol_steps.proofs.LedgerVisit.{lies_there}
-use Rattle.law_protocol_steps.proofs.Closes.{closes_stand}
+use Rattle.law_protocol_changes.proofs.LedgerVisit.{lies_there}
+use Rattle.law_protocol_changes.proofs.Closes.{closes_stand}
 use Rattle.law_protocol_ledger.proofs.ledger_visits.closing_keeps_standing.Goals as goal
 
 pub returns : goal.returns

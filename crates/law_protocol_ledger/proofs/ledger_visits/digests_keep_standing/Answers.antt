@@ -7,7 +7,7 @@ use Rattle.spec_model.specs.Journals.{tx_count}
 use Rattle.spec_history.specs.Acts.{issues, lacks}
 use Rattle.spec_protocol.specs.ActsOf.{closings}
 use Rattle.spec_protocol.specs.StandTogether.{StandsAfter}
-use Rattle.law_protocol_steps.proofs.LedgerVisit.{lies_there}
+use Rattle.law_protocol_changes.proofs.LedgerVisit.{lies_there}
 use Rattle.law_protocol_changes.proofs.DigestsStand.{issues_stand, lacks_stand}
 use Rattle.law_protocol_ledger.proofs.ledger_visits.digests_keep_standing.Goals as goal
 

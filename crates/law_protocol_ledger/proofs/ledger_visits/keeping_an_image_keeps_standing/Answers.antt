@@ -1,5 +1,5 @@
 use Rattle.law_protocol_ledger.proofs.KeepsStand.{keeps_stand}
-use Rattle.law_protocol_steps.proofs.CellsOut.{out_lies}
+use Rattle.law_protocol_changes.proofs.CellsOut.{out_lies}
 use Rattle.law_protocol_ledger.proofs.ledger_visits.keeping_an_image_keeps_standing.Goals as goal
 
 pub returns : goal.returns

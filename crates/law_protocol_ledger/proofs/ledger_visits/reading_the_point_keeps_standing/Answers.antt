@@ -6,7 +6,7 @@ use Rattle.spec_protocol.specs.Cells.{Ledger}
 use Rattle.spec_model.specs.Journals.{tx_count}
 use Rattle.spec_protocol.specs.ActsOf.{end_acts}
 use Rattle.spec_protocol.specs.StandTogether.{StandsAfter}
-use Rattle.law_protocol_steps.proofs.LedgerVisit.{lies_there}
+use Rattle.law_protocol_changes.proofs.LedgerVisit.{lies_there}
 use Rattle.law_protocol_ledger.proofs.ReadsStand.{reads_stand}
 use Rattle.law_protocol_ledger.proofs.ledger_visits.reading_the_point_keeps_standing.Goals as goal
 

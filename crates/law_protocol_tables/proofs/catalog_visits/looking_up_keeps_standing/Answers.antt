@@ -1,5 +1,5 @@
-use Rattle.law_protocol_steps.proofs.ActedFor.{by_any}
-use Rattle.law_protocol_steps.proofs.Looks.{looks_up}
+use Rattle.law_protocol_changes.proofs.ActedFor.{by_any}
+use Rattle.law_protocol_changes.proofs.Looks.{looks_up}
 use Rattle.law_protocol_tables.proofs.catalog_visits.looking_up_keeps_standing.Goals as goal
 
 pub returns : goal.returns

@@ -1,4 +1,4 @@
-use Rattle.law_protocol_steps.proofs.ActedFor.{by_any}
+use Rattle.law_protocol_changes.proofs.ActedFor.{by_any}
 use Rattle.law_protocol_tables.proofs.ReadsSystemStands.{reads_system}
 use Rattle.law_protocol_tables.proofs.catalog_visits.reading_a_system_table_keeps_standing.Goals as goal
 

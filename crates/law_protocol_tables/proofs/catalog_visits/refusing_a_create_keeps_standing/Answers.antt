@@ -1,4 +1,4 @@
-use Rattle.law_protocol_steps.proofs.ActedFor.{by_any}
+use Rattle.law_protocol_changes.proofs.ActedFor.{by_any}
 use Rattle.law_protocol_changes.proofs.CreateVisits.{refuses_create}
 use Rattle.law_protocol_tables.proofs.catalog_visits.refusing_a_create_keeps_standing.Goals as goal
 

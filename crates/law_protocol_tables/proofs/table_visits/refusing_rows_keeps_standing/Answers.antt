@@ -1,4 +1,4 @@
-use Rattle.law_protocol_steps.proofs.ActedFor.{by_any}
+use Rattle.law_protocol_changes.proofs.ActedFor.{by_any}
 use Rattle.law_protocol_tables.proofs.RowsVisits.{refuses_rows}
 use Rattle.law_protocol_tables.proofs.table_visits.refusing_rows_keeps_standing.Goals as goal
 

@@ -1,5 +1,5 @@
 use Rattle.std.proofs.Common.{ℕ, Some, sym, subst}
-use Rattle.server_session.specs.Steps.{VisitedAll, image_in, items_in}
+use Rattle.server_visit_ledger.specs.Steps.{VisitedAll, image_in, items_in}
 use Rattle.server_visits.proofs.Keeping.{image_seat, keeps_image}
 use Rattle.server_visits.proofs.image_visit.keep.Goals as goal
 

@@ -1,5 +1,5 @@
 use Rattle.std.proofs.Common.{rules}
-use Rattle.server_session.proofs.Sitting.{visits_same}
+use Rattle.server_visit_ledger.proofs.Sitting.{visits_same}
 use Rattle.server_visits.proofs.visits.visit.Goals as goal
 use Rattle.server_visits.proofs.visits.visit.Goals.{in-Catalog, in-Ledger, in-Rows}
 

@@ -1,4 +1,4 @@
-use Rattle.sql_types.specs.declared.journal.JournalItem.TheVariants.{Tx, Close}
+use Rattle.spec_model.specs.JournalItem.TheVariants.{Tx, Close}
 use Rattle.spec_ledger.proofs.Adding.{one_more}
 use Rattle.spec_ledger.proofs.laws.items_add_to_the_ledger.Goals as goal
 

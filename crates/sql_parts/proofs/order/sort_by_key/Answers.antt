@@ -3,7 +3,7 @@ use Rattle.std.proofs.lemmas.List.Sorted.{ranks_by}
 use Rattle.std.proofs.lemmas.Fn.{always_returns_same}
 use Rattle.std.specs.Cmp.{on_total}
 use Rattle.sql_value.specs.declared.column.ColumnDef.{ColumnDef}
-use Rattle.sql_types.specs.declared.version.Version.{Version}
+use Rattle.spec_model.specs.Version.{Version}
 use Rattle.spec_model.specs.Keys.{Key, key_cmp, version_key}
 use Rattle.sql_parts.proofs.Orders.{key_total}
 use Rattle.sql_parts.proofs.Sorting.{sorted_by}

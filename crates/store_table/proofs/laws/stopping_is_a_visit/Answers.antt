@@ -1,4 +1,4 @@
-use Rattle.spec_protocol.specs.Doing.{no_memory}
+use Rattle.store_tx.specs.Doing.{no_memory}
 use Rattle.store_table.proofs.laws.stopping_is_a_visit.Goals as goal
 
 pub returns : goal.returns

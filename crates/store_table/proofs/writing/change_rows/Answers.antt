@@ -1,6 +1,6 @@
 use Rattle.std.proofs.Common.{◌+◌, ap, arith, subst, length, List, ℕ}
-use Rattle.spec_protocol.specs.Moves.{noting}
-use Rattle.spec_protocol.specs.Seats.{OpenTransaction}
+use Rattle.store_tx.specs.Moves.{noting}
+use Rattle.store_tx.specs.Seats.{OpenTransaction}
 use Rattle.store_tx.specs.Represents.{Represents}
 use Rattle.store_table.specs.Made.{with_leaves}
 use Rattle.store_table.proofs.Written.{rows_written, may_note_all, leaves_count}

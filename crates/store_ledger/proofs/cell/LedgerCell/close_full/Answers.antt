@@ -1,5 +1,5 @@
 use Rattle.std.proofs.Common.{◌∙◌, ◌≤◌, suc, arith, ap}
-use Rattle.spec_protocol.specs.Cells.{pending_in}
+use Rattle.law_protocol_steps.specs.Cells.{pending_in}
 use Rattle.store_ledger.specs.HashedCell.{HashedCell}
 use Rattle.store_ledger.proofs.Closings.{smaller, some_stay, count_stays, one_further, rest_stays}
 use Rattle.store_ledger.proofs.cell.LedgerCell.close_full.Goals as goal

@@ -1,7 +1,7 @@
 use Rattle.std.proofs.Common.{◌≡◌, ◌≤◌, ℕ}
 use Rattle.spec_model.specs.Journals.{tx_count}
-use Rattle.spec_protocol.specs.Cells.{pending_in}
-use Rattle.spec_protocol.specs.LedgerVisits.{all_closed}
+use Rattle.law_protocol_steps.specs.Cells.{pending_in}
+use Rattle.law_protocol_steps.specs.LedgerVisits.{all_closed}
 use Rattle.store_ledger.specs.HashedCell.{KeepsHash}
 use Rattle.store_ledger.proofs.cell.LedgerCell.close_full.Given as goal
 

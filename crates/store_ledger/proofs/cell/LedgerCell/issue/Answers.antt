@@ -2,7 +2,7 @@ use Rattle.std.proofs.Common.{rules, ◌≤◌, List, ap, refl, sym, subst}
 use Rattle.store_blocks.specs.LedgerChain.{HashedLedger}
 use Rattle.sql_types.specs.declared.digest.Digest.{Digest}
 use Rattle.spec_model.specs.Journals.{tx_count}
-use Rattle.spec_protocol.specs.Cells.{LedgerCell, pending_in}
+use Rattle.law_protocol_steps.specs.Cells.{LedgerCell, pending_in}
 use Rattle.store_ledger.specs.HashedCell.{HashedCell}
 use Rattle.store_ledger.specs.Issues.{IsIssued, IsOfNewest}
 use Rattle.store_ledger.proofs.Issuing.{count_is_kept, issued_then, now_with, rest_is_counted, with_issued}

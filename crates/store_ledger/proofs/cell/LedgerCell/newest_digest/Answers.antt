@@ -1,6 +1,6 @@
 use Rattle.std.proofs.Common.{◌≤◌, ◌≡◌, length, sym, subst, ◌-◌, ◌∙◌}
 use Rattle.spec_model.specs.Journals.{tx_count}
-use Rattle.spec_protocol.specs.Cells.{LedgerCell, pending_in}
+use Rattle.law_protocol_steps.specs.Cells.{LedgerCell, pending_in}
 use Rattle.store_ledger.specs.HashedCell.{HashedCell, KeepsHash}
 use Rattle.store_ledger.specs.Issues.{IsOfNewest}
 use Rattle.store_ledger.proofs.Newest.{newest}

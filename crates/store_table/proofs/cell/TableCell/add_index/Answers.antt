@@ -2,7 +2,7 @@ use Rattle.std.proofs.Common.{◌≡◌, ◌∙◌, ◌∷◌, ◌++◌, ◌-◌
 use Rattle.std.proofs.lemmas.Result.{on_ok_weaker}
 use Rattle.std.specs.Option.{option_copied}
 use Rattle.sql_types.specs.declared.table.IndexDef.{IndexDef}
-use Rattle.spec_protocol.specs.TablesAreSerial.{ordinals_of}
+use Rattle.store_tx.specs.TablesAreSerial.{ordinals_of}
 use Rattle.store_table.specs.Stored.{Stored}
 use Rattle.store_table.proofs.Whole.{index_added, last_index, seen}
 use Rattle.store_table.proofs.cell.TableCell.add_index.Goals as goal

@@ -3,7 +3,7 @@ use Rattle.sql_value.specs.declared.refusal.Refusal.{Refusal}
 use Rattle.sql_types.specs.declared.version.Version.{Version}
 use Rattle.spec_model.specs.Changes.{row_changes}
 use Rattle.std.specs.Prelude.{Err, length}
-use Rattle.spec_protocol.specs.Cells.{TableCell}
+use Rattle.store_tx.specs.Cells.{TableCell}
 use Rattle.store_table.specs.Calls.{IsStopped, LocksTaken}
 use Rattle.store_table.specs.Stored.{Stored}
 use Rattle.store_table.proofs.Asking.{held_within, left}

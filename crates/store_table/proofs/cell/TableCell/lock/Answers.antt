@@ -3,8 +3,8 @@ use Rattle.std.specs.Prelude.{Result, IfErr, OnErr, OnOk}
 use Rattle.sql_types.specs.declared.lock.Hold.{Hold}
 use Rattle.spec_model.specs.Holds.{holds_after}
 use Rattle.store_locks.specs.Asked.{asked, IsMeant}
-use Rattle.spec_protocol.specs.Cells.{TableCell}
-use Rattle.spec_protocol.specs.TableVisits.{with_holds}
+use Rattle.store_tx.specs.Cells.{TableCell}
+use Rattle.store_tx.specs.TableVisits.{with_holds}
 use Rattle.store_table.specs.Calls.{IsStopped, LocksTaken}
 use Rattle.store_table.specs.declared.stop.TableErr.{TableErr}
 use Rattle.store_table.proofs.Asking.{taken, stopped}

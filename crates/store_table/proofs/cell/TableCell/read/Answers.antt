@@ -1,6 +1,6 @@
 use Rattle.std.proofs.Common.{arith, ap}
 use Rattle.std.specs.Prelude.{length}
-use Rattle.spec_protocol.specs.Cells.{TableCell}
+use Rattle.store_tx.specs.Cells.{TableCell}
 use Rattle.store_table.proofs.Asking.{held_within}
 use Rattle.store_table.proofs.cell.TableCell.read.Goals as goal
 

@@ -1,0 +1,1 @@
+pub use Rattle.sql_value.proofs.Storing
