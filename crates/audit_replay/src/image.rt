@@ -1,4 +1,4 @@
-//! The image of books and tables.
+//! The image of a ledger chain and tables.
 
 ghost use Rattle.std.specs.Prelude.{◌≡◌, IfOk};
 ghost use Rattle.audit_replay.specs.Reached.{image_from};
@@ -9,7 +9,7 @@ use sql_types::{Image, Table};
 use std::alloc::Global;
 use store_blocks::LedgerChain;
 
-/// The image of a database with these books and tables. The versions are moved.
+/// The image of a database with this ledger chain and these tables. The versions are moved.
 pub(crate) fn image_of(
     alloc: Global,
     database: &Name,

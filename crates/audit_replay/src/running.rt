@@ -24,7 +24,7 @@ use store_blocks::LedgerChain;
 #[derive(Clone, Copy, Debug, PartialEq, Eq)]
 pub enum ReplayErr {
     /// This statement of this item, both counted from 0, is the first whose kept reply isn't the one that the
-    /// plain machine gives; or it is the number of the item's statements, where all replies agree and no
+    /// serial machine gives; or it is the number of the item's statements, where all replies agree and no
     /// event is left.
     Differs { item: u64, statement: u64 },
     /// There is no more memory.
@@ -42,7 +42,7 @@ impl From<Memory> for ReplayErr {
     }
 }
 
-/// Runs a journal again on the plain machine. Where it is legal the answer is its image: the one of the
+/// Runs a journal again on the serial machine. Where it is legal the answer is its image: the one of the
 /// tables to which its transactions lead, with their entries and the blocks that it closed, and the image has
 /// a spelling. It costs what the machine costs, the hashes of each event, entry and block, and for each
 /// transaction a look at each version of each table.

@@ -1,4 +1,4 @@
-//! Rows of the tables of the system, compared with what definitions want of them.
+//! Rows of the tables of the system, compared with the rows that encode definitions.
 
 ghost use Rattle.std.specs.Prelude.{◌≡◌, ◌<◌, ◌^◌, ◌==◌, ◌+◌, ◌*◌, ◌∷◌, [], pos, length, map, IfOk};
 ghost use Rattle.std.specs.List.{list_all, list_any};

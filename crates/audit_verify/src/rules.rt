@@ -1,4 +1,4 @@
-//! Whether a definition may be spelled by rows of the two tables of the system.
+//! Whether a definition is encodable as rows of the two tables of the system.
 
 ghost use Rattle.std.specs.Prelude.{◌≡◌, ◌<◌, ◌^◌, ◌==◌, ◌&&◌, not, IfOk};
 ghost use Rattle.std.specs.List.{list_all, list_any, range_with_len};

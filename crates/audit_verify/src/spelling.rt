@@ -1,4 +1,4 @@
-//! Whether the rows of the two tables of the system spell the definitions of all others.
+//! Whether the rows of the two tables of the system encode the definitions of all others.
 
 ghost use Rattle.std.specs.Prelude.{◌≡◌, ◌∷◌, ◌++◌, [], pos, IfOk, OnOk, map, filter, filter_map};
 ghost use Rattle.std.specs.List.{AllByRecursion};
@@ -20,7 +20,7 @@ use spec_verify::Place;
 use sql_types::{TableDef, Version};
 use std::alloc::Global;
 
-/// The least table that is defined otherwise than its rows spell it.
+/// The least table that is defined otherwise than its rows encode it.
 pub fn definition_fault(alloc: Global, image: &Image) -> Result<Option<Place>, Memory>
     requires first { AllByRecursion HasSmallId (base_in image.now.tables 0) }
     requires second { AllByRecursion HasSmallId (base_in image.now.tables 1) }
@@ -66,7 +66,7 @@ fn table_place(id: Option<i64>) -> Option<Place>
     }
 }
 
-/// The ids of the definitions that the rows spell. Takes room for 32 ids at most, since no two definitions of
+/// The ids of the definitions that the rows encode. Takes room for 32 ids at most, since no two definitions of
 /// an image have one id.
 fn ids_encoded(
     alloc: Global,
@@ -100,7 +100,7 @@ fn add_if_encoded(
     Ok(())
 }
 
-/// Whether the rows spell the definition. Its own rules come first: they let through the ids from 3 to 34,
+/// Whether the rows encode the definition. Its own rules come first: they let through the ids from 3 to 34,
 /// and the rows are gone through for those alone.
 fn is_encoded(
     alloc: Global,

@@ -11,7 +11,7 @@ use base_fields::{Blob, ReadError, Text, i128_at, u32_at};
 use sql_scalar::{SqlType, Value};
 use std::alloc::Global;
 
-/// The value of this type that the bytes spell. Whether it is in the range of the type is tested elsewhere.
+/// The value of this type that the bytes encode. Whether it is in the range of the type is tested elsewhere.
 #[tactic(auto, unfolding(crate::specs::LeafReading::value_of))]
 pub fn value_of(alloc: Global, ty: SqlType, bytes: &[u8]) -> Result<Value, ReadError>
     requires { second_parameter ty < 256 }

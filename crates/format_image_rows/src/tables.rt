@@ -36,7 +36,7 @@ pub(crate) fn table_rows(alloc: Global, table: Table) -> Result<StoredTable, Mem
     Ok(StoredTable { def, rows })
 }
 
-/// Adds the versions that stand to the base, and those that have ended to the history.
+/// Adds the live versions to the base, and those that have ended to the history.
 fn part(
     versions: Vec<Version>,
     base: &mut Vec<Version>,

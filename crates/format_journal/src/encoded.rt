@@ -1,4 +1,4 @@
-//! The texts of a journal that a program has in memory have a spelling.
+//! The texts of a journal that a program has in memory are encodable.
 
 ghost use Rattle.std.specs.List.{AllByRecursion};
 ghost use Rattle.format_journal.specs.Rules.{HasTexts, IsStatement, IsText};

@@ -10,7 +10,7 @@ use crate::line::Line;
 use base_types::Memory;
 use std::alloc::Global;
 
-/// As many sessions as an input has at most; the setup of a plan doesn't count.
+/// As many sessions as an input has at most; the setup doesn't count.
 pub const MAX_SESSIONS: usize = 64;
 
 /// Whether two names are one.

@@ -20,7 +20,7 @@ pub struct RunSections<'a> {
     pub sessions: Vec<Section<'a>>,
 }
 
-/// The plan that the input says. Where a line lacks its form, the first such line is named instead. It copies
+/// The run sections that the input says. Where a line lacks its form, the first such line is named instead. It copies
 /// nothing of the input; each line is read at most three times, and the name of each session is sought among
 /// those before it by a search in their order.
 pub fn read_run_sections<'a>(alloc: Global, input: &'a [u8]) -> Result<RunSections<'a>, SectionsErr>
@@ -44,7 +44,7 @@ pub fn read_run_sections<'a>(alloc: Global, input: &'a [u8]) -> Result<RunSectio
     Ok(RunSections { setup, sessions })
 }
 
-/// Whether a plan has more than 64 sessions, the setup aside.
+/// Whether the input has more than 64 sessions, the setup aside.
 pub fn has_many_sessions(all_sections: &RunSections<'_>) -> bool
     ensures { result ≡ nat_lt max_sessions (length (run_sections_view all_sections.now).sessions) }
 {

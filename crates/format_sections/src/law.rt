@@ -23,7 +23,7 @@ pub fn sections_law()
     ensures count { (lines : List Kind) → length (sessions_of lines) ≡ length (names_of lines) }
 {}
 
-/// Where each line has its form, the statements of the plan are all that the lines are, in their order.
+/// Where each line has its form, the statements of the run sections are all that the lines are, in their order.
 pub fn statements_law()
     ensures { (lines : List Kind) → first_lacking [] lines ≡ None
         → statements_of_sections (run_sections_of lines) ≡ texts_of lines }

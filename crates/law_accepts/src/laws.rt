@@ -88,7 +88,7 @@ pub fn honest_versions_hold()
         → IsLegal reads items → version_fault (image_of h reads database items) ≡ None }
 {}
 
-/// The rows of the system's tables in a legal journal's image spell its definitions, where each statement
+/// The rows of the system's tables in a legal journal's image encode its definitions, where each statement
 /// that is read is one that the grammar may have written.
 pub fn honest_definitions_hold()
     ensures { (h : List ℕ → List ℕ) (reads : Reading) (database : List ℕ) (items : List JournalItem)

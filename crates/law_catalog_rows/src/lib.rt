@@ -1,4 +1,4 @@
-//! What the system tables spell: the definitions that their rows make.
+//! What the system tables encode: the definitions that their rows make.
 #![tactic(auto)]
 
 mod laws;

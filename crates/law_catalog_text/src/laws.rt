@@ -1,4 +1,4 @@
-//! What is spelled by the system tables of a journal whose statements the grammar gives.
+//! What is encoded by the system tables of a journal whose statements the grammar gives.
 
 ghost use Rattle.std.specs.Prelude.{ℕ, List};
 ghost use Rattle.sql_types.specs.declared.journal.JournalItem.{JournalItem};
@@ -24,8 +24,8 @@ pub fn readings_of_the_grammar_give_written()
 }
 
 /// Where each statement that is read is one of the grammar, as with the parser's reading, the rows that stand
-/// in the system tables of a legal journal, at each cut, spell exactly the definitions of all other tables,
-/// and no fault is found in the spelling.
+/// in the system tables of a legal journal, at each cut, encode exactly the definitions of all other tables,
+/// and no fault is found in the encoding.
 pub fn journals_of_the_grammar_encode_definitions()
     ensures spelled { (reads : Reading) (items : List JournalItem) (m : ℕ)
         → KeepsToTheGrammar reads → IsLegal reads items → AreEncodedByRows (serial reads (cut items m)) }

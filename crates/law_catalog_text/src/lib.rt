@@ -1,4 +1,4 @@
-//! The grammar's part of the spelling of definitions.
+//! The grammar's part of the encoding of definitions.
 #![tactic(auto)]
 
 mod laws;

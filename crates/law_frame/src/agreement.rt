@@ -13,15 +13,15 @@ ghost use Rattle.spec_model.specs.Agreement.{AgreeFor, IdsFrom, columns_at, requ
 ghost use Rattle.spec_model.specs.Reach.{reaches, reaches_table};
 ghost use Rattle.spec_model.specs.Runs.{Rising, Sound};
 
-/// A statement does what its plan says: its starts and ends in order, numbered from the counter, and its
-/// definition; and it replies what its plan says.
+/// A statement does what its change set says: its starts and ends in order, numbered from the counter, and its
+/// definition; and it replies what its change set says.
 pub fn effects_are_change_sets_carried_out()
     ensures { (T : Tables) (tx seq : ℕ) (stmt : Stmt)
         → effect T tx seq stmt ≡ carried_out T tx seq (change_set T stmt) }
 {}
 
-/// Over two states that agree on all that a statement wants, the first with its tables' ids in order, it has
-/// one plan: the same starts and ends, the same definition and the same reply. With `effects_are_change_sets_carried_out` the counter
+/// Over two states that agree on all that a statement requests, the first with its tables' ids in order, it has
+/// one change set: the same starts and ends, the same definition and the same reply. With `effects_are_change_sets_carried_out` the counter
 /// after it is the same too.
 pub fn agreeing_states_give_one_change_set()
     ensures change_set { (T U : Tables) (stmt : Stmt) → IdsFrom 1 (defs_of T)
@@ -34,8 +34,8 @@ pub fn agreeing_states_give_one_change_set()
         → (effect T tx seq stmt).seq ≡ (effect U tx seq stmt).seq }
 {}
 
-/// Where a statement wants no X on the rows of a key of sound tables, their versions are those from before; and
-/// where it wants none on anything of a table, all versions of the table are.
+/// Where a statement requests no X on the rows of a key of sound tables, their versions are those from before; and
+/// where it requests none on anything of a table, all versions of the table are.
 pub fn statements_leave_what_they_dont_request()
     ensures keys { (T : Tables) (tx seq id : ℕ) (key : Key) (stmt : Stmt) → Sound tx seq T
         → reaches id key (requests_of (defs_of T) false stmt) ≡ false

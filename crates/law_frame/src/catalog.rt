@@ -33,7 +33,7 @@ pub fn explicit_scripts_leave_definitions()
         → AllByRecursion (λ c. defs_of c.tables ≡ defs_of T) (script reads true T tx texts).state.saved }
 {}
 
-/// A statement that wants something in a table's cell doesn't create, and shares the catalog.
+/// A statement that requests a lock in a table's cell doesn't create, and shares the catalog.
 pub fn cell_requests_share_the_catalog()
     ensures creates { (defs : Defs) (stmt : Stmt) (c : ℕ × List LockRequest) → cell_requests defs stmt ≡ Some c
         → creates stmt ≡ false }
@@ -42,8 +42,8 @@ pub fn cell_requests_share_the_catalog()
         → catalog_request explicit stmt ≡ Some S }
 {}
 
-/// Who creates wants the catalog alone, which conflicts with each mode. In a transaction that BEGIN
-/// opened nobody creates.
+/// Who creates requests the catalog in X, which conflicts with each mode. In an explicit transaction
+/// nobody creates.
 pub fn creates_request_the_catalog_alone()
     ensures requests { (stmt : Stmt) → creates stmt ≡ true → catalog_request false stmt ≡ Some X }
     ensures conflicts { (m : Mode) → (conflict X m ≡ true) × (conflict m X ≡ true) }
@@ -57,7 +57,7 @@ pub fn no_texts_do_nothing()
         → script reads explicit T tx [] ≡ record { state = start T; replies = [] } }
 {}
 
-/// Statements clash whose wants in the catalog conflict, and those with wants on one item of one
+/// Statements clash whose requests in the catalog conflict, and those with requests on one item of one
 /// table that conflict.
 pub fn conflicting_requests_clash()
     ensures catalog { (defs : Defs) (o p : Bool) (a b : Stmt) (v w : Mode) → catalog_request o a ≡ Some v

@@ -1,5 +1,5 @@
-//! Laws of whole scripts: over two states that agree on all that its statements want, a script does the same,
-//! and it leaves alone what they don't want.
+//! Laws of whole scripts: over two states that agree on all that its statements request, a script does the same,
+//! and it leaves alone what they don't request.
 
 ghost use Rattle.std.specs.Prelude.{ℕ, ◌≡◌, Bool, true, false, List, [], ◌∷◌, ◌++◌, length, Some};
 ghost use Rattle.std.specs.List.{AllByRecursion};
@@ -15,7 +15,7 @@ ghost use Rattle.spec_model.specs.Script.{Reading, script};
 ghost use Rattle.spec_model.specs.ScriptRequests.{text_requests, script_requests, script_changes};
 
 /// The tables after a script of a transaction that BEGIN opened are those before it with the starts and ends
-/// that stand, in order and numbered from 0, and the counter is their number.
+/// that remain, in order and numbered from 0, and the counter is their number.
 pub fn explicit_scripts_are_their_changes()
     ensures tables { (reads : Reading) (T : Tables) (tx : ℕ) (texts : List (List ℕ))
         → (script reads true T tx texts).state.tables
@@ -24,9 +24,9 @@ pub fn explicit_scripts_are_their_changes()
         → length (script_changes reads true T tx texts) ≡ (script reads true T tx texts).state.seq }
 {}
 
-/// Over two sound states that agree on all that its statements want, and on some wants more, a script of a
-/// transaction that BEGIN opened, its savepoints and the ways back to them included, has the same replies,
-/// the same counter and the same starts and ends; and the states after it agree on all of these wants.
+/// Over two sound states that agree on all that its statements request, and on some requests more, a script of an
+/// explicit transaction, its savepoints and the ways back to them included, has the same replies,
+/// the same counter and the same starts and ends; and the states after it agree on all of these requests.
 pub fn explicit_scripts_over_agreeing_states_are_one()
     ensures replies { (reads : Reading) (T U : Tables) (tx : ℕ) (texts : List (List ℕ)) (more : List LockRequests)
         → Sound tx 0 T → Sound tx 0 U
@@ -48,8 +48,8 @@ pub fn explicit_scripts_over_agreeing_states_are_one()
         (more ++ script_requests reads (defs_of T) true texts) }
 {}
 
-/// Where none of its statements wants X on the rows of a key, a script of a transaction that BEGIN opened
-/// leaves their versions; and where none wants it on anything of a table, all versions of the table.
+/// Where none of its statements requests X on the rows of a key, a script of an explicit transaction
+/// leaves their versions; and where none requests it on anything of a table, all versions of the table.
 pub fn opened_scripts_leave_what_they_dont_request()
     ensures keys { (reads : Reading) (T : Tables) (tx id : ℕ) (key : Key) (texts : List (List ℕ))
         → Sound tx 0 T
@@ -61,7 +61,7 @@ pub fn opened_scripts_leave_what_they_dont_request()
         → versions_of (script reads true T tx texts).state.tables id ≡ versions_of T id }
 {}
 
-/// Over two states that agree on all that it wants, a statement that is a transaction of its own has the same
+/// Over two states that agree on all that it requests, a statement that is a transaction of its own has the same
 /// reply, the same counter and the same starts and ends. If it doesn't create, the states after it agree on
 /// what they agreed on; and if it does, they have the same catalog.
 pub fn statements_alone_over_agreeing_states_are_one()
@@ -88,8 +88,8 @@ pub fn statements_alone_over_agreeing_states_are_one()
         (script reads false U tx (text ∷ [])).state.tables }
 {}
 
-/// Over sound tables, what doesn't clash with a statement leaves all that the statement wants: a script of a
-/// transaction that BEGIN opened, and a statement that is a transaction of its own.
+/// Over sound tables, what doesn't clash with a statement leaves all that the statement requests: a script of an
+/// explicit transaction, and a statement that is a transaction of its own.
 pub fn what_doesnt_clash_leaves_what_is_requested()
     ensures script { (reads : Reading) (T : Tables) (tx : ℕ) (texts : List (List ℕ)) (stmt : Stmt)
         (explicit : Bool) → Sound tx 0 T

@@ -12,13 +12,13 @@ ghost use Rattle.format_image.specs.Image.{image_of};
 ghost use Rattle.format_image.specs.ImageBytes.{IsImage};
 ghost use Rattle.law_image.specs.Room.{FitsImageFormat};
 
-/// Each definition that rows may spell has a spelling in bytes.
+/// Each definition that rows can encode is encodable in bytes.
 pub fn encoded_definitions_are_encodable()
     ensures { (def : TableDef) → is_encodable_def def ≡ true → IsDef def }
 {}
 
 /// Where each statement that is read is one that the grammar may have written, the image of a legal
-/// journal has a spelling, as far as its counts, its numbers and its texts have room in the format.
+/// journal is encodable, as far as its counts, its numbers and its texts fit the format.
 pub fn legal_images_are_encodable()
     ensures { (h : List ℕ → List ℕ) (reads : Reading) (database : List ℕ) (items : List JournalItem)
         → ReadsWritten reads → IsLegal reads items → FitsImageFormat h reads database items

@@ -1,4 +1,4 @@
-//! The law that the image of a legal journal has a spelling.
+//! The law that the image of a legal journal is encodable.
 #![tactic(auto)]
 
 mod laws;

@@ -64,7 +64,7 @@ pub fn transcripts_agree_so_far()
         → (s : Stands v history cells seats) → AgreeSoFar v.meaning s.ledger.database (run first history) }
 {}
 
-/// Each transaction of the journal has the name of the session that drew its id.
+/// Each transaction of the journal has the name of the session to which its id was assigned.
 pub fn the_journal_has_its_sessions_names()
     ensures { (v : Server) (history : History) (cells : List Cell) (seats : List SeatState)
         → (s : Stands v history cells seats) → Each (HasItsName history) s.ledger.items }
@@ -97,7 +97,7 @@ pub fn transcripts_agree_at_the_end()
         → Agree v.meaning s.ledger.database input setup X s.ledger.items s.ledger.issued)) }
 {}
 
-/// What agrees agrees in any order of its sessions; and they can be put into the order of any plan that has
+/// What agrees agrees in any order of its sessions; and they can be put into any session order that has
 /// each of their names once.
 pub fn agreement_is_of_any_order()
     ensures any { (q : Meaning) (database : Text) (input : List InputSession) (setup : Option ℕ)
@@ -109,7 +109,7 @@ pub fn agreement_is_of_any_order()
         → length input ≡ length X → IsSessionOrder names X → InOrderOf names input X }
 {}
 
-/// So the transcripts that the seats wrote agree, numbered in the order of a plan of their names, once no
+/// So the transcripts that the seats wrote agree, numbered in a session order of their names, once no
 /// session runs.
 pub fn transcripts_agree_in_a_session_order()
     ensures { (v : Server) (history : History) (cells : List Cell) (seats : List SeatState)
@@ -130,7 +130,7 @@ pub fn what_seats_knew_tells_setup()
 {}
 
 /// Each visit keeps them standing together, and so does each step that a seat takes by itself: what the
-/// history gains with it is done by sessions of that seat, each lock was asked for and is wanted still, and
+/// history gains with it is done by sessions of that seat, each lock was asked for and is requested still, and
 /// locks decide in it where it takes one statement after another.
 pub fn one_step_keeps_standing()
     ensures visits { (v : Server) (history : History) (cells : List Cell) (seats : List SeatState)
@@ -237,8 +237,8 @@ pub fn locks_that_decide_keep_step_order()
         → KeepsStepOrder v history seats s.ledger.items }
 {}
 
-/// Whether sessions end behind the last statement, and blocks are closed in step, the deeds of a history
-/// tell: where one does so, so does each with the same deeds.
+/// Whether sessions end behind the last statement, and blocks are closed in step, the anonymous acts of a history
+/// tell: where one does so, so does each with the same anonymous acts.
 pub fn anonymous_acts_tell_ends_and_closings()
     ensures ends { (h g : History) → map anonymous_act h ≡ map anonymous_act g → EndsComeLast first h → EndsComeLast first g }
     ensures closings { (h g : History) → map anonymous_act h ≡ map anonymous_act g → (N : ℕ) (due : Due)

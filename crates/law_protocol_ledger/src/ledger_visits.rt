@@ -14,7 +14,7 @@ ghost use Rattle.spec_protocol.specs.AllowedVisit.{OutsAreIn};
 ghost use Rattle.spec_protocol.specs.ImageVisits.{KeepsImage};
 ghost use Rattle.spec_protocol.specs.StandTogether.{History, Stands, StandsAfter};
 
-/// Drawing an id does.
+/// Assigning an id does.
 pub fn assigning_an_id_keeps_standing()
     ensures { (v : Server) (history : History) (cells : List Cell) (seats : List SeatState)
         → Stands v history cells seats

@@ -1,4 +1,4 @@
-//! How courses begin, go on and end, and what they come to.
+//! How sequential runs begin, go on and end, and what they come to.
 
 ghost use Rattle.std.specs.Prelude.{◌≡◌, ◌≤◌, ◌<◌, ◌++◌, ℕ, true, List, [], ◌∷◌, map, None, slice_set};
 ghost use mathlib.Core.Option.{some};
@@ -40,14 +40,14 @@ ghost use Rattle.law_sequential.specs.Outcome.{Outcome, IsClosedThere};
 ghost use Rattle.law_sequential.specs.SessionOutput.{HasEnded, RunAgrees};
 ghost use Rattle.law_sequential.specs.Wrote.{Wrote, transcripts_in};
 
-/// With the first cells and the first seat a course begins, in which nothing has happened.
+/// With the first cells and the first seat a sequential run begins, in which nothing has happened.
 pub fn sequential_runs_begin()
     ensures { (v : Server) (database : Text) (size : ℕ) → 1 ≤ size → size ≤ max_block
         → SequentialRun v database size running [] [] (first_cells database size)
         (first_seat (first_cells database size) ∷ []) }
 {}
 
-/// A course goes on with each step that one seat takes while all others are between statements, where nothing
+/// A sequential run goes on with each step that one seat takes while all others are between statements, where nothing
 /// is done that the phase has no place for and blocks are closed in step: with what a seat does alone, which
 /// closes none, and with its visits, where a block is closed by itself only if one is full, and a commit, a
 /// digest and an image come only if none is.
@@ -87,7 +87,7 @@ pub fn sequential_runs_go_on()
         → SequentialRun v database size phase names lines (slice_set cells i d) (slice_set seats j t) }
 {}
 
-/// Steps that take up no statement have no such deed.
+/// Steps that take up no statement have no such anonymous act.
 pub fn no_lines_take_no_statement()
     ensures alone { (v : Server) (s t : SeatState) (steps : Alones v s t) → alones_lines steps ≡ []
         → Each IsNoStatement (map did (alones_acts steps)) }
@@ -127,7 +127,7 @@ pub fn sessions_end()
 {}
 
 /// Once all sessions are over, the transcripts that the seats wrote agree with the ledger's cell, as the
-/// transcripts of the sessions and lines of this course; they keep the order of the lines; and the images are
+/// transcripts of the sessions and lines of this sequential run; they keep the order of the lines; and the images are
 /// those that they show.
 pub fn sequential_runs_reach_their_outcome()
     ensures { (v : Server) (database : Text) (size : ℕ) (phase : Phase) (names : List Text)

@@ -1,4 +1,4 @@
-//! The course of a server that runs one statement after another, and what it comes to once all its sessions
+//! The sequential run of a server that runs one statement after another, and what it comes to once all its sessions
 //! are over: definitions and laws.
 #![tactic(auto)]
 

@@ -1,4 +1,4 @@
-//! Courses by their sessions: how they go on, and that they end.
+//! Sequential runs by their sessions: how they go on, and that they end.
 
 ghost use Rattle.std.specs.Prelude.{◌≡◌, ◌≤◌, ◌<◌, ◌^◌, ◌++◌, ℕ, suc, List, [], ◌∷◌, map, slice_set};
 ghost use mathlib.Core.Option.{some};
@@ -35,8 +35,8 @@ pub fn sessions_stand()
         (states ++ sits (split c.parent 1) (new_session name (split c.parent 1)) ∷ []) }
 {}
 
-/// Where the course goes on with one seat, whose session has shown this then, sessions stand. All other seats
-/// are quiet where all other sessions are.
+/// Where the sequential run goes on with one seat, whose session has shown this then, sessions stand. All other seats
+/// are inactive where all other sessions are.
 pub fn sessions_go_on()
     ensures one { (v : Server) (database : Text) (size : ℕ) (phase then_phase : Phase)
         (lines then_lines : List InputLine) (moments later : List ℕ) (told : List SessionOutput)

@@ -1,4 +1,4 @@
-//! Sessions side by side: a plan is halved, and the seat is split between the halves.
+//! Sessions side by side: the run sections are halved, and the seat is split between the halves.
 
 ghost use Rattle.std.specs.Prelude.{◌≡◌, ◌+◌, ◌++◌, ◌∷◌, ◌≤◌, ◌<◌, ◌^◌, [], length, All, IfOk, true};
 ghost use Rattle.std.specs.Thread.{IsSend, IsSync};

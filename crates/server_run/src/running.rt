@@ -1,4 +1,4 @@
-//! The run of a plan.
+//! The run of the sections of an input.
 
 ghost use Rattle.std.specs.Prelude.{◌≡◌, ◌∷◌, ◌≤◌, ◌<◌, ◌^◌, List, All, IfOk, codes, true};
 ghost use Rattle.std.specs.List.{IsDistinct};
@@ -30,7 +30,7 @@ use std::sync::Wait;
 use std::thread::Threads;
 use store_ledger::issued_digests_are_of_the_journal;
 
-/// How many statements the plan has.
+/// How many statements the run sections have.
 fn statement_count(all_sections: &RunSections<'_>) -> u32
     requires { size_of (run_sections_view all_sections.now) < 2 ^ 31 }
     ensures { result < 2 ^ 31 }
@@ -42,12 +42,12 @@ fn statement_count(all_sections: &RunSections<'_>) -> u32
     count as u32
 }
 
-/// Runs the plan on an empty database: the setup to its end, as the session `setup`, and then all sessions
+/// Runs the sections on an empty database: the setup to its end, as the session `setup`, and then all sessions
 /// side by side, each in a thread of its own, while a builder closes blocks. What is written and saved of it
 /// agrees with what was answered, however the turns of sessions and builder fall.
 ///
 /// The gate is passed by each session behind each of its statements and at its end, and by the builder behind
-/// each of its visits, one for each statement of the plan and one more; and a thread says there which cell it
+/// each of its visits, one for each statement of the sections and one more; and a thread says there which cell it
 /// is inside of. Want of memory in any thread is answered once all threads have ended.
 pub fn run_all<H: Hash32, C: Clock, G: Gate, R: Threads + Wait + Sync>(
     rt: &R,
@@ -87,7 +87,7 @@ pub fn run_all<H: Hash32, C: Clock, G: Gate, R: Threads + Wait + Sync>(
     Ok(ran)
 }
 
-/// Runs the plan as `run_all` does, and closes the ledger behind the run: all that is pending gets into
+/// Runs the sections as `run_all` does, and closes the ledger behind the run: all that is pending gets into
 /// blocks, and where there is a transaction the digest of the newest block is issued, as the last of the
 /// digests. It is in no transcript.
 pub fn run_and_close<H: Hash32, C: Clock, G: Gate, R: Threads + Wait + Sync>(

@@ -161,7 +161,7 @@ fn run_beside<'a, K: Serving + Send + Sync, H: Hash32, C: Clock, G: Gate, R: Thr
     Ok((place, ends))
 }
 
-/// Runs the plan over the cells of a database without transactions, as many visits of the builder beside it.
+/// Runs the sections over the cells of a database without transactions, as many visits of the builder beside it.
 pub(crate) fn run_over<
     K: Serving + Send + Sync,
     H: Hash32,

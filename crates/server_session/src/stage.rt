@@ -1,4 +1,4 @@
-//! Where a seat stands.
+//! The stage of a seat in its statement.
 
 use sql_types::{Part, Reply, TableDef};
 use sql_value::Refusal;
@@ -20,7 +20,7 @@ pub enum ControlPoint {
 pub enum Stage {
     /// It is taken up, and nothing else is done.
     Begun,
-    /// It draws the id of a transaction: for BEGIN, or else for one of its own.
+    /// It assigns the id of a transaction: for BEGIN, or else for one of its own.
     AssigningId {
         explicit: bool,
     },

@@ -1,4 +1,4 @@
-//! The id of a transaction, drawn in the ledger's cell.
+//! The id of a transaction, assigned in the ledger's cell.
 
 ghost use Rattle.std.specs.Prelude.{◌≡◌, ◌<◌, [], true, IfOk, vec_capacity};
 ghost use Rattle.server_visit_ledger.specs.Drew.{Drew};
@@ -17,7 +17,7 @@ use sql_value::Refusal;
 use std::alloc::Global;
 use store_ledger::LedgerCell;
 
-/// Draws an id for BEGIN, or else for a transaction of the statement's own. Without one, or without
+/// Assigns an id for BEGIN, or else for a transaction of the statement's own. Without one, or without
 /// memory, the statement is refused with NoMemory.
 pub(crate) fn assign_id<H: Hash32>(
     seat: &mut Seat<H>,

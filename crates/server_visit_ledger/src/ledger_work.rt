@@ -10,7 +10,7 @@ use sql_value::Refusal;
 /// What a seat does that needs the ledger's cell.
 #[derive(Clone, Copy, Debug, PartialEq, Eq)]
 pub(crate) enum LedgerWork {
-    /// It draws the id of a transaction: for BEGIN, or else for one of its own.
+    /// It assigns the id of a transaction: for BEGIN, or else for one of its own.
     AssignId { explicit: bool },
     /// It commits its transaction.
     Commit,

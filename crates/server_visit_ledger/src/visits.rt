@@ -14,7 +14,7 @@ use server_session::Seat;
 use std::alloc::Global;
 use store_ledger::LedgerCell;
 
-/// A visit of the ledger's cell: an id is drawn, the end of a transaction is fixed, or a digest is
+/// A visit of the ledger's cell: an id is assigned, the end of a transaction is fixed, or a digest is
 /// issued.
 pub fn visit_ledger<H: Hash32>(seat: &mut Seat<H>, alloc: Global, ledger: &mut LedgerCell)
     requires { Among H.digest seat.old (ledger_seen ledger.old) }

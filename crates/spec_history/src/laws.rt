@@ -37,7 +37,7 @@ pub fn histories_agree_so_far()
         → AgreeSoFar q database (run first history) }
 {}
 
-/// In the journal of a good history each transaction has the name of the session that drew its id.
+/// In the journal of a good history each transaction has the name of the session to which its id was assigned.
 pub fn the_journal_has_the_names_of_its_sessions()
     ensures { (q : Meaning) (database : Text) (history : List Act) → Good q database first history
         → Each (HasItsName history) (run first history).items }

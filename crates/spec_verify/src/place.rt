@@ -23,7 +23,7 @@ pub enum Invariant {
     V5,
     /// Each version fits its table and follows the one before it.
     V6,
-    /// The rows of the system's tables spell the definitions.
+    /// The rows of the system's tables encode the definitions.
     V7,
     /// The rows of each index are those of the base, sorted.
     V8,

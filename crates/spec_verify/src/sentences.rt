@@ -78,8 +78,8 @@ pub fn the_least_wrong_version_is_named()
         (λ x p. p ≡ at.Event x.0.def.id x.1.start.0 x.1.start.1) (versions_of_image i) (version_fault i) }
 {}
 
-/// No table is named where rows of the system's tables spell each definition, and are about no other
-/// table; and else the least, by its id, of which no definition is spelled.
+/// No table is named where rows of the system's tables encode each definition, and are about no other
+/// table; and else the least, by its id, of which no definition is encoded.
 pub fn the_least_wrong_definition_is_named()
     ensures { (i : Image)
         → TellsLeast int_cmp (IsEncodedAt i) (λ id p. p ≡ at.Table id) (ids_of_tables i)
@@ -87,7 +87,7 @@ pub fn the_least_wrong_definition_is_named()
 {}
 
 /// Of an image whose definitions rise by id, and of which no version is at fault, no definition is named
-/// exactly where the base rows of the system's two tables spell the definitions: they are the rows of these
+/// exactly where the base rows of the system's two tables encode the definitions: they are the rows of these
 /// and no others, in any order, each definition keeps to the rules, and no name of a table is taken.
 pub fn definitions_hold_where_rows_encode_them()
     ensures { (i : Image) → ids_rise 2 i.defs ≡ true → version_fault i ≡ None

@@ -21,7 +21,7 @@ use std::alloc::Global;
 /// NullNotAllowed, TypeMismatch, NumberOutOfRange and ValueTooLong of its values, and then DuplicateKey where a row of its key stands or was inserted before it;
 /// for UPDATE and DELETE those of the condition for all rows in key order, and then those of the new values.
 /// NoMemory for want of memory. Nothing is changed. INSERT compares each row with all versions; the others look at
-/// each version once, and sort those that stand.
+/// each version once, and sort the live ones.
 pub fn row_changes(
     alloc: Global,
     table: &KeyedTable,
@@ -33,9 +33,9 @@ pub fn row_changes(
     row_changes_of(alloc, table, &versions, stmt)
 }
 
-/// The same, where the versions that stand are found as `versions` finds them. INSERT of n rows looks each up
+/// The same, where the live versions are found as `versions` finds them. INSERT of n rows looks each up
 /// there once, and by halving among the n; UPDATE and DELETE look at the versions of the key that the
-/// condition fixes, or at all that stand.
+/// condition fixes, or at all live ones.
 #[tactic(auto, unfolding(spec_model::specs::Changes::row_changes))]
 pub fn row_changes_of<R: LiveVersions>(
     alloc: Global,

@@ -16,7 +16,7 @@ use sql_types::Row;
 use sql_value::{ColumnDef, Refusal, Value};
 use std::alloc::Global;
 
-/// Whether a row of the row's key stands, or is among those before it, where its key has this place.
+/// Whether a live row has the row's key, or one among those before it, where its key has this place.
 #[tactic(auto, unfolding(spec_model::specs::Changes::is_duplicate))]
 fn is_duplicate<R: LiveVersions>(
     table: &KeyedTable,
@@ -34,7 +34,7 @@ fn is_duplicate<R: LiveVersions>(
     versions.has_key_of(table, row) || before.has_key_of(table, place, row)
 }
 
-/// Adds a row to those before it, where none of its key stands or is among them.
+/// Adds a row to those before it, where no live row nor one of these has its key.
 fn add_row<R: LiveVersions>(
     table: &KeyedTable,
     versions: &R,
@@ -70,9 +70,9 @@ fn kept_as_listed(
     kept_row(alloc, columns, row)
 }
 
-/// The rows of VALUES as they are kept, in written order. A row is refused with DuplicateKey where one of its key
-/// stands, or is among those before it. Of n rows each is looked up once where `versions` finds those that
-/// stand, and once by halving among those before it.
+/// The rows of VALUES as they are kept, in written order. A row is refused with DuplicateKey where a live row has
+/// its key, or one before it. Of n rows each is looked up once where `versions` finds the live ones,
+/// and once by halving among those before it.
 #[tactic(auto, unfolding(spec_model::specs::Changes::inserted_rows))]
 pub fn inserted_rows<R: LiveVersions>(
     alloc: Global,

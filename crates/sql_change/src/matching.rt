@@ -13,7 +13,7 @@ use sql_types::{Part, Version};
 use sql_value::{Expr, Refusal};
 use std::alloc::Global;
 
-/// The versions that stand and that the condition takes, in key order. None is copied.
+/// The live versions that the condition takes, in key order. None is copied.
 #[tactic(auto, unfolding(spec_model::specs::Changes::versions_matched))]
 pub fn versions_matched<'a, R: LiveVersions>(
     alloc: Global,

@@ -1,4 +1,4 @@
-//! What INSERT wants.
+//! The lock requests of INSERT.
 
 ghost use Rattle.std.specs.Prelude.{◌≡◌, ◌∷◌, IfOk, List, map, unwrap_or};
 ghost use Rattle.std.specs.Option.{option_copied};

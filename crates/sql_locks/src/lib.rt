@@ -1,4 +1,4 @@
-//! The locks that statements want in the cell of a table.
+//! The locks that statements request in the cell of a table.
 #![tactic(auto)]
 
 mod inserted;

@@ -1,4 +1,4 @@
-//! What SELECT wants.
+//! The lock requests of SELECT.
 
 ghost use Rattle.std.specs.Prelude.{◌≡◌, IfOk};
 ghost use Rattle.spec_model.specs.Locks as spec;
@@ -9,7 +9,7 @@ use sql_parts::{KeyedTable, key_fixed};
 use sql_types::{LockRequest, Mode, Part, Select};
 use std::alloc::Global;
 
-/// What a SELECT on a part of a table wants in the table's cell: where the condition fixes the key of the base
+/// What a SELECT on a part of a table requests in the table's cell: where the condition fixes the key of the base
 /// table, an intent on the table and S on the key, and else S on the table. A system table is read in the
 /// catalog alone.
 #[tactic(auto, unfolding(spec_model::specs::Locks::query_requests))]

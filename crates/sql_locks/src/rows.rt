@@ -1,4 +1,4 @@
-//! What INSERT, UPDATE and DELETE want.
+//! The lock requests of INSERT, UPDATE and DELETE.
 
 ghost use Rattle.std.specs.Prelude.{◌≡◌, IfOk};
 ghost use Rattle.spec_model.specs.Locks as spec;
@@ -44,7 +44,7 @@ pub(crate) fn by_key_or_whole(
     }
 }
 
-/// What an INSERT, UPDATE or DELETE wants in the table's cell: X on each key that it may change and an intent
+/// What an INSERT, UPDATE or DELETE requests in the table's cell: X on each key that it may change and an intent
 /// on the table, where these keys are known before any row is read, and else X on the table. UPDATE and DELETE
 /// know the key that their condition fixes; INSERT those of its rows, where all their values for the key convert
 /// and none of these is NULL.

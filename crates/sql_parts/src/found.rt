@@ -1,4 +1,4 @@
-//! Who has the versions of a table, and finds those that stand.
+//! Who has the versions of a table, and finds the live ones.
 
 ghost use Rattle.std.specs.Prelude.{◌≡◌, List, IfOk, map};
 ghost use Rattle.spec_model.specs.TableDef.{TableDef as AnyTable};
@@ -12,7 +12,7 @@ use base_types::Memory;
 use spec_model::{Key, Row, Version};
 use std::alloc::Global;
 
-/// The versions of a table, with a way to find those that stand: a list in no order of keys is gone through,
+/// The versions of a table, with a way to find the live ones: a list in no order of keys is gone through,
 /// and who keeps the order of the keys finds a key by halving.
 pub trait LiveVersions {
     /// The versions, by their starts.
@@ -25,7 +25,7 @@ pub trait LiveVersions {
     fn all(&self) -> &[Version]
         ensures { result.now ≡ versions self.now };
 
-    /// Whether a version of the row's key stands.
+    /// Whether a live version has the row's key.
     fn has_key_of(&self, table: &KeyedTable, row: &Row) -> bool
         requires { are_of self.now table.now }
         ensures { result ≡ spec.has_live_row table.now.columns (spec.key_of table.now.columns row.now)
@@ -67,7 +67,7 @@ impl<'a> LiveVersions for &'a [Version] {
     }
 }
 
-/// Whether a version of the row's key stands.
+/// Whether a live version has the row's key.
 #[tactic(auto, unfolding(spec_model::specs::Keys::has_live_row))]
 fn has_live_row(table: &KeyedTable, versions: &[Version], row: &Row) -> bool
     ensures { result ≡ spec.has_live_row table.now.columns (spec.key_of table.now.columns row.now) versions.now }

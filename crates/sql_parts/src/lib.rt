@@ -1,5 +1,5 @@
-//! The columns of a table's parts, the keys of its rows, the rows as each part shows them, and how the versions
-//! that stand are found.
+//! The columns of a table's parts, the keys of its rows, the rows as each part shows them, and how the live
+//! versions are found.
 #![tactic(auto)]
 
 mod columns;

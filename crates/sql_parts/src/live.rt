@@ -1,4 +1,4 @@
-//! The versions that stand, in key order.
+//! The live versions, in key order.
 
 ghost use Rattle.std.specs.Prelude.{◌≡◌, IfOk, map};
 ghost use Rattle.spec_model.specs.Rows.{live};

@@ -1,4 +1,4 @@
-//! The plain machine: runs scripts one after another on whole lists, without locks, indexes or trees.
+//! The serial machine: runs scripts one after another on whole lists, without locks, indexes or trees.
 #![tactic(auto)]
 
 mod again;

@@ -1,4 +1,4 @@
-//! The plain machine.
+//! The serial machine.
 
 ghost use Rattle.std.specs.Prelude.{ℕ, ◌≡◌, ◌≢◌, IfOk, OnOk, Some, None, if◌then◌else◌};
 ghost use Rattle.spec_model.specs.Events.{all_events as events_left};
@@ -95,7 +95,7 @@ impl SerialMachine {
     }
 
     /// Takes the script's next statement and answers it. Costs a look at each version of the table that it
-    /// names, and for SELECT, UPDATE and DELETE a sort of those that stand.
+    /// names, and for SELECT, UPDATE and DELETE a sort of the live ones.
     pub fn answer(&mut self, alloc: Global, stmt: &Stmt) -> Result<Reply, Memory>
         requires begun { self.old.script ≢ None }
         requires order { InOrder self.old }

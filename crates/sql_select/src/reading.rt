@@ -15,7 +15,7 @@ use sql_types::{Key, Part, Row, Select, Version};
 use sql_value::{Expr, Refusal};
 use std::alloc::Global;
 
-/// What a SELECT shows of a part of a table, where its versions that stand are found as `versions` finds
+/// What a SELECT shows of a part of a table, where its live versions are found as `versions` finds
 /// them: of a base table those of the key that the condition fixes, or else all. Refused as `query_rows`
 /// of `spec_model` refuses, or for want of memory.
 #[tactic(auto, unfolding(spec_model::specs::Effect::query_rows, spec_model::specs::Query::selected))]
@@ -59,7 +59,7 @@ fn part_taken<R: LiveVersions>(
     }
 }
 
-/// The rows that stand and that a condition takes, by key: those of one key, or all.
+/// The live rows that a condition takes, by key: those of one key, or all.
 fn live_rows_taken<R: LiveVersions>(
     alloc: Global,
     table: &KeyedTable,

@@ -1,4 +1,4 @@
-//! The books of a database.
+//! The ledger chain of a database: its closed blocks, what is pending, and the last hash.
 
 ghost use Rattle.std.specs.Prelude.{ℕ, ◌≡◌, ◌≤◌, ◌+◌, ◌++◌, List, length, OnOk, OnErr};
 ghost use Rattle.format_entry.specs.Entry.{IsEntry};

@@ -104,9 +104,9 @@ impl CatalogCell {
         })
     }
 
-    /// Takes all that the transaction wants, or nothing, and answers whether it had no lock here before.
-    /// Where another transaction's lock is in the way of a want, `Locked` names the least holder for the
-    /// first such want.
+    /// Takes all that the transaction requests, or nothing, and answers whether it had no lock here before.
+    /// Where another transaction's lock blocks a request, `Locked` names the least holder for the
+    /// first such request.
     pub fn lock(&mut self, tx: TxId, requests: &[LockRequest]) -> Result<bool, Refusal>
         ensures ok { IfOk result (λ fresh. LocksTaken self.old tx requests.now fresh self.new) }
         ensures stopped { IfErr result (λ e. Stopped self.old.holds tx requests.now (reply.Refused e)) }

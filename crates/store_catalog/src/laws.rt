@@ -87,7 +87,7 @@ pub fn refusing_a_create_is_a_visit()
         → visits.RefusesCreate v c s d t }
 {}
 
-/// Not to get the lock that a statement wants is the visit that stops.
+/// Not to get the lock that a statement requests is the visit that stops.
 pub fn stopping_is_a_visit()
     ensures { (v : Server) (c : SpecCell) (s t : SeatState) (o : OpenTransaction) (at : InOpenTransaction v s o)
         (e : Refusal) → at.stands.stage ≡ begun

@@ -32,7 +32,7 @@ pub struct IssuedDigest {
     pub hash: [u8; 32],
 }
 
-/// The journal of a database with its entries, blocks and digests, and the id that is drawn next.
+/// The journal of a database with its entries, blocks and digests, and the id that is assigned next.
 /// Contracts see the cell of which the laws on visits speak, and the hash of its last block.
 #[derive(Drop)]
 pub struct LedgerCell {
@@ -100,7 +100,7 @@ impl LedgerCell {
         self.block_size
     }
 
-    /// The id that is drawn next.
+    /// The id that is assigned next.
     pub fn next_id(&self) -> TxId
         ensures id { result ≡ self.now.cell.next }
         ensures most { result ≤ 2 ^ 63 }
@@ -108,7 +108,7 @@ impl LedgerCell {
         self.next
     }
 
-    /// Draws the next id. Takes no memory.
+    /// Assigns the next id. Takes no memory.
     pub fn begin(&mut self) -> TxId
         requires { is_tx_id self.old.cell.next ≡ true }
         ensures id { result ≡ self.old.cell.next }

@@ -1,4 +1,4 @@
-//! What stands against a want, and what answers it, among the holds at some places.
+//! What blocks a request, and what answers it, among the holds at some places.
 
 ghost use Rattle.std.specs.Prelude.{◌≡◌, ◌<◌, All, length};
 ghost use Rattle.std.specs.List.{list_any};
@@ -11,7 +11,7 @@ use crate::mode::{conflicts, rank};
 use base_types::TxId;
 use sql_types::{Hold, LockRequest, Mode};
 
-/// The least holder that bars the want.
+/// The least holder that blocks the request.
 #[tactic(auto, using(crate::proofs::Barriers::barrier_none, crate::proofs::Barriers::blocked_more, crate::proofs::Barriers::passed_more))]
 pub fn barrier(
     holds: &[Hold],
@@ -56,7 +56,7 @@ fn bars(tx: TxId, request: &LockRequest, hold: &Hold) -> bool
         && conflicts(request.mode, hold.request.mode)
 }
 
-/// Whether one of the holds is the transaction's, on the item that it wants and in the same mode.
+/// Whether one of the holds is the transaction's, on the item that it requests and in the same mode.
 #[tactic(auto, using(crate::proofs::Barriers::none_answers, crate::proofs::Barriers::answers_more, crate::proofs::Barriers::answers_there))]
 pub fn already_holds(holds: &[Hold], places: &[usize], tx: TxId, request: &LockRequest) -> bool
     requires { All (λ place. place < length holds.now) places.now }

@@ -13,8 +13,8 @@ pub fn back_undoes_an_ask()
         → take (length holds) (holds_after holds tx requests) ≡ holds }
 {}
 
-/// The holder that is named bars the want, and no holder that does precedes it; none is named exactly where
-/// none bars it.
+/// The holder that is named blocks the request, and no holder that does precedes it; none is named exactly where
+/// none blocks it.
 pub fn least_holder_is_named()
     ensures named { (holds : List Hold) (tx : ℕ) (request : LockRequest) (a : Holder) → barrier holds tx request ≡ Some a
         → Any (λ h. (bars tx request h ≡ true) × (holder_of h ≡ a)) holds }

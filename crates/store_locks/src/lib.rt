@@ -1,4 +1,4 @@
-//! The locks of one cell: who holds what, and which wants are refused because of it.
+//! The locks of one cell: who holds what, and which requests are refused because of it.
 #![tactic(auto)]
 
 mod conflict;

@@ -53,12 +53,12 @@ impl LockList {
         }
     }
 
-    /// Grants the transaction all that it wants, or nothing: what it doesn't hold yet comes behind what is
+    /// Grants the transaction all that it requests, or nothing: what it doesn't hold yet comes behind what is
     /// held. The answer is whether it held nothing before. `Locked` where another transaction holds something
-    /// that conflicts; the first such want decides, and the holder is the least transaction, with the least
+    /// that conflicts; the first such request decides, and the holder is the least transaction, with the least
     /// of its modes that conflict. After an error nothing has changed.
     ///
-    /// For each want this looks at the locks on its item alone, which it finds by halving, and at the
+    /// For each request this looks at the locks on its item alone, which it finds by halving, and at the
     /// transactions that hold something. A lock that is new moves the places, a word each, of those on items
     /// behind its own.
     pub fn ask(&mut self, tx: TxId, requests: &[LockRequest]) -> Result<bool, LockErr>

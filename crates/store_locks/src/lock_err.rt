@@ -6,7 +6,7 @@ ghost use Rattle.store_locks.specs.declared.lock_err.LockErr.TheVariants.{Memory
 use base_types::TxId;
 use sql_types::{Item, Mode};
 
-/// Why the wants of a transaction aren't taken.
+/// Why the requests of a transaction aren't granted.
 #[derive(Debug, Drop)]
 pub enum LockErr {
     /// Another transaction holds `item` in a mode that conflicts.

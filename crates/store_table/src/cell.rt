@@ -81,13 +81,13 @@ impl TableCell {
     }
 
     /// INSERT, UPDATE or DELETE, which passes all that is checked before any row: the transaction takes all
-    /// that it wants, each row is changed, and the context gets the leaves of the starts and ends; the answer
+    /// that it requests, each row is changed, and the context gets the leaves of the starts and ends; the answer
     /// is the number of rows. Or no row is changed: `Refused` by the first refusal of the rows, and then the
-    /// locks stay; `Locked` with the least holder for the first want that is barred, or `Memory`, and then
+    /// locks stay; `Locked` with the least holder for the first request that is blocked, or `Memory`, and then
     /// the cell is as it was. The context is then of the same transaction as before.
     ///
     /// INSERT looks each row's key up by halving; UPDATE and DELETE look at the row of the key that the
-    /// condition fixes, or at all that stand. Each change finds its version by a guess and halving, and its
+    /// condition fixes, or at all live ones. Each change finds its version by a guess and halving, and its
     /// place in each order by halving.
     #[tactic(auto, using(crate::proofs::Whole::changed_under, crate::proofs::Asking::left, crate::proofs::Asking::stopped_so, crate::proofs::Asking::fewer))]
     pub fn change<H: Hash32>(
@@ -145,12 +145,12 @@ impl TableCell {
         }
     }
 
-    /// SELECT on a part of the table: the transaction takes all that it wants, and the answer is the rows
+    /// SELECT on a part of the table: the transaction takes all that it requests, and the answer is the rows
     /// that are shown. Or none is: `Refused` by the first refusal of the rows, and then the locks stay;
-    /// `Locked` with the least holder for the first want that is barred, or `Memory`, and then the cell is as
+    /// `Locked` with the least holder for the first request that is blocked, or `Memory`, and then the cell is as
     /// it was.
     ///
-    /// It looks at the row of the key that the condition fixes, or at all that stand, or at all versions.
+    /// It looks at the row of the key that the condition fixes, or at all live ones, or at all versions.
     #[tactic(auto, using(crate::proofs::Asking::left, crate::proofs::Asking::stopped_so, crate::proofs::Asking::fewer))]
     pub fn read(
         &mut self,

@@ -14,7 +14,7 @@ use sql_types::Version;
 use std::alloc::Global;
 use store_order::Starts;
 
-/// The ordinals of the columns of an index, and the starts of the versions that stand, sorted by these
+/// The ordinals of the columns of an index, and the starts of the live versions, sorted by these
 /// columns, then by key, and then by start. An index without columns is the key order.
 #[derive(Debug, Drop)]
 pub struct Index {

@@ -1,4 +1,4 @@
-//! How a statement finds the versions of a table that stand.
+//! How a statement finds the live versions of a table.
 
 ghost use Rattle.std.specs.Prelude.{◌≡◌, ◌⊎◌, []};
 

@@ -24,7 +24,7 @@ pub struct Orders {
     pub indexes: Vec<Index>,
 }
 
-/// Puts a version that stands in its place in the key order and in each index. Takes no memory.
+/// Puts a live version in its place in the key order and in each index. Takes no memory.
 pub fn add_live(orders: &mut Orders, key: &[usize], versions: &[Version], version: &Version)
     requires rising { Rising versions.now }
     requires are_indexed { IndexesAreOf key.now versions.now orders.old }

@@ -371,7 +371,7 @@ impl VersionStore {
         leaves_of(alloc, table, tx, seq, changes, &self.versions)
     }
 
-    /// Whether a version with the key of the row stands, by halving.
+    /// Whether a live version has the key of the row, by halving.
     pub fn has_key_of_row(&self, row: &Row) -> bool
         ensures { result ≡ keys.has_live_row self.now.stored.columns (keys.key_of self.now.stored.columns row.now)
             self.now.stored.versions }
@@ -379,7 +379,7 @@ impl VersionStore {
         key_exists(&self.key, &self.versions, &self.orders.key_order.order, row)
     }
 
-    /// The versions that stand, in key order: those of one key, or all. The place of the key is found by
+    /// The live versions, in key order: those of one key, or all. The place of the key is found by
     /// halving, each version by a guess and halving, and none is copied.
     pub fn live_by_key(&self, alloc: Global, key: &Option<Key>) -> Result<Vec<&Version>, Memory>
         ensures { IfOk result (λ found. map (λ v. v.now) found.items

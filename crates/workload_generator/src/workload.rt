@@ -38,7 +38,7 @@ fn statements_of(alloc: Global, table: u8, rows: u32) -> Result<Vec<String>, Mem
     Ok(texts)
 }
 
-/// The texts as parts of a plan, which copies none.
+/// The texts as statements of the run sections, which copies none.
 fn borrowed<'a>(alloc: Global, texts: &'a [String]) -> Result<Vec<&'a str>, Memory>
     ensures { IfOk result (λ strs. map (λ t. t.now) strs.items ≡ map string_bytes texts.entry.now) }
 {
@@ -75,7 +75,7 @@ impl Workload {
         Ok(Workload { setup, sessions })
     }
 
-    /// The plan that the texts say. It copies none of them.
+    /// The run sections that the texts say. It copies none of them.
     pub fn all_sections<'a>(&'a self, alloc: Global) -> Result<RunSections<'a>, Memory>
         ensures { IfOk result (λ all_sections. run_sections_view all_sections ≡ sections_said self.entry.now) }
     {
