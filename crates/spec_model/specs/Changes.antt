@@ -9,7 +9,7 @@ use Rattle.sql_types.specs.ColumnDef.{ColumnDef}
 use Rattle.sql_types.specs.Refusal.TheVariants.{TypeMismatch, NullNotAllowed, DuplicateKey}
 use Rattle.sql_types.specs.Expr.{Expr}
 use Rattle.sql_types.specs.Conversion.{Converted, conversion_of}
-use Rattle.sql_types.specs.Refusal.{refusal_of}
+use Rattle.sql_types.specs.RefusalCodes.{refusal_of}
 use Rattle.sql_types.specs.declared.outcome.Outcome.{Outcome}
 use Rattle.sql_types.specs.declared.outcome.Outcome.TheVariants as out
 pub use Rattle.sql_types.specs.declared.change.Change.{Change}

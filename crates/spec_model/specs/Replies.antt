@@ -5,7 +5,7 @@ use Rattle.std.specs.Fmt.{decimal}
 use Rattle.hex.specs.Hex.{encode_upper}
 use Rattle.sql_types.specs.Refusal.{Refusal}
 use Rattle.sql_types.specs.Refusal.TheVariants.{Locked}
-use Rattle.sql_types.specs.Refusal.{code_of}
+use Rattle.sql_types.specs.RefusalCodes.{code_of}
 use Rattle.sql_types.specs.Printed.{printed}
 use Rattle.sql_types.specs.declared.reply.Reply.{Reply}
 use Rattle.sql_types.specs.declared.reply.Reply.TheVariants as r

@@ -1,4 +1,5 @@
 pub mod JournalRules
+pub mod RefusalCodes
 pub use Rattle.sql_value.specs.declared.expr.Class
 pub use Rattle.sql_value.specs.declared.column.ColumnDef
 pub use Rattle.sql_value.specs.Conversion
