@@ -4,12 +4,12 @@ use Rattle.sql_types.specs.declared.digest.HeldDigest.{HeldDigest}
 use Rattle.sql_types.specs.declared.image.Image.{Image}
 use Rattle.format_image.specs.ImageBytes.{IsImage}
 use Rattle.spec_model.specs.Lists.{or_else}
-use Rattle.spec_verify.specs.declared.place.Place.TheVariants as at
-use Rattle.spec_verify.specs.declared.place.Verdict.TheVariants.{Yes}
-use Rattle.spec_verify.specs.Blocks.{digest_holds, digest_fault}
-use Rattle.spec_verify.specs.First.{unless}
-use Rattle.spec_verify.specs.Verdict.{image_verdict}
-use Rattle.spec_verify.proofs.AllHold.{yes_exactly}
+use Rattle.law_verify.specs.Place.TheVariants as at
+use Rattle.law_verify.specs.Verdict.TheVariants.{Yes}
+use Rattle.law_verify.specs.Blocks.{digest_holds, digest_fault}
+use Rattle.law_verify.specs.First.{unless}
+use Rattle.law_verify.specs.ImageVerdict.{image_verdict}
+use Rattle.law_verify.proofs.AllHold.{yes_exactly}
 use Rattle.audit_extract.specs.Meets.{Meets}
 use Rattle.audit_extract.proofs.Heads.{none_first, passes}
 

@@ -10,7 +10,7 @@ use Rattle.base_merkle.specs.TreeHash.{tree_hash}
 use Rattle.spec_model.specs.Catalog.{Tables}
 use Rattle.spec_model.specs.Events.{events_of}
 use Rattle.spec_ledger.specs.Entries.{has_events, leaves_of, root_in, roots_of}
-use Rattle.spec_verify.specs.Covered.{TableEvents, told_in, CoveredEntry, covered_entry}
+use Rattle.law_verify.specs.Covered.{TableEvents, told_in, CoveredEntry, covered_entry}
 use Rattle.audit_extract.specs.declared.leaves.Leaf.{Leaf}
 use Rattle.audit_extract.specs.Leaves.{tree_of, IsRooted, HasRoots, SameTree, SameTrees}
 use Rattle.audit_extract.proofs.ImageLeaves.{IsFound, EventsFit}

@@ -9,8 +9,8 @@ use Rattle.sql_types.specs.declared.entry.TxEntry.{TxEntry}
 use Rattle.sql_types.specs.declared.image.Image.{Image}
 use Rattle.spec_ledger.specs.Blocks.{no_hash}
 use Rattle.format_image.specs.Tables.{tables_in}
-use Rattle.spec_verify.specs.Blocks.{entries_before}
-use Rattle.spec_verify.specs.Covered.{covered_entry, covered_of}
+use Rattle.law_verify.specs.Blocks.{entries_before}
+use Rattle.law_verify.specs.Covered.{covered_entry, covered_of}
 use Rattle.audit_extract.specs.declared.found.ImageComparison.{ImageComparison}
 use Rattle.audit_extract.specs.declared.found.ImageComparison.TheVariants as found
 use Rattle.audit_extract.specs.declared.leaves.Leaf.{Leaf}

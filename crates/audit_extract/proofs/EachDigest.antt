@@ -14,11 +14,11 @@ use Rattle.format_image.specs.ImageBytes.{image_bytes, IsImage}
 use Rattle.format_image.specs.ImageReading.{image_at}
 use Rattle.format_image.specs.Tables.{tables_in}
 use Rattle.format_image.proofs.ImageExact.{found_of}
-use Rattle.spec_verify.specs.declared.place.Verdict.TheVariants.{Yes}
-use Rattle.spec_verify.specs.Blocks.{entries_before}
-use Rattle.spec_verify.specs.Bytes.{verdict_read, verdict_of}
-use Rattle.spec_verify.specs.Covered.{covered_entry, covered_of}
-use Rattle.spec_verify.specs.Verdict.{image_verdict}
+use Rattle.law_verify.specs.Verdict.TheVariants.{Yes}
+use Rattle.law_verify.specs.Blocks.{entries_before}
+use Rattle.law_verify.specs.Bytes.{verdict_read, verdict_of}
+use Rattle.law_verify.specs.Covered.{covered_entry, covered_of}
+use Rattle.law_verify.specs.ImageVerdict.{image_verdict}
 use Rattle.audit_extract.specs.declared.found.ImageComparison.{ImageComparison}
 use Rattle.audit_extract.specs.declared.found.ImageComparison.TheVariants as found
 use Rattle.audit_extract.specs.Each.{AgreeOnEach, HasCollision, OneHistory, last_from, last_of}

@@ -6,7 +6,7 @@ use Rattle.base_fields.proofs.Fronts.{fronts}
 use Rattle.base_merkle.specs.TreeHash.{tree_hash, split_of}
 use Rattle.base_merkle.proofs.Trees.{tree_hash_two}
 use Rattle.base_merkle.proofs.Split.{split_is, split_of_is}
-use Rattle.spec_verify.specs.Collision.{Collides}
+use Rattle.law_verify.specs.Collision.{Collides}
 use Rattle.audit_extract.specs.Hashed.{hashed}
 
 -- ---- the largest power of two below a number

@@ -19,9 +19,9 @@ use Rattle.spec_ledger.specs.Entries.{at_place, placed}
 use Rattle.spec_ledger.specs.Blocks.{no_hash, block_of, record_hash, first_or_no_hash}
 use Rattle.spec_ledger.specs.Parts.{by_sizes, IsBlockOf}
 use Rattle.format_image.specs.ImageBytes.{IsImage, sizes_of}
-use Rattle.spec_verify.specs.First.{unless, first_from}
-use Rattle.spec_verify.specs.Blocks.{entries_before, entries_in, hash_before, link_holds, block_holds, chain_fault, block_fault}
-use Rattle.spec_verify.specs.declared.place.Place.{Place}
+use Rattle.law_verify.specs.First.{unless, first_from}
+use Rattle.law_verify.specs.Blocks.{entries_before, entries_in, hash_before, link_holds, block_holds, chain_fault, block_fault}
+use Rattle.law_verify.specs.Place.{Place}
 use Rattle.base_fields.proofs.Fronts.{fronts}
 use Rattle.audit_extract.proofs.Lists.{cons_is}
 

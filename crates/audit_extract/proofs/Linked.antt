@@ -11,9 +11,9 @@ use Rattle.sql_types.specs.declared.image.Image.{Image}
 use Rattle.format_entry.specs.Record.{record_bytes, IsRecord}
 use Rattle.format_entry.proofs.RecordExact.{equal_records}
 use Rattle.spec_ledger.specs.Blocks.{hash_at, first_or_no_hash}
-use Rattle.spec_verify.specs.Blocks.{hash_before, digest_holds, digest_fault}
-use Rattle.spec_verify.specs.Collision.{Collides}
-use Rattle.spec_verify.specs.First.{unless}
+use Rattle.law_verify.specs.Blocks.{hash_before, digest_holds, digest_fault}
+use Rattle.law_verify.specs.Collision.{Collides}
+use Rattle.law_verify.specs.First.{unless}
 use Rattle.audit_extract.specs.Meets.{Meets}
 use Rattle.audit_extract.specs.Parts.{blocks_to}
 use Rattle.audit_extract.proofs.Heads.{both_true, passes, none_both, link_at}

@@ -13,7 +13,7 @@ use Rattle.spec_ledger.specs.Blocks.{no_hash, block_of, record_hash}
 use Rattle.spec_ledger.specs.Entries.{placed}
 use Rattle.spec_ledger.specs.Parts.{IsBlockOf}
 use Rattle.format_image.specs.ImageBytes.{IsPlaceless}
-use Rattle.spec_verify.specs.Blocks.{entries_before}
+use Rattle.law_verify.specs.Blocks.{entries_before}
 use Rattle.audit_extract.specs.Meets.{Meets}
 use Rattle.audit_extract.specs.Parts.{blocks_to, entries_to}
 use Rattle.base_fields.proofs.Fronts.{fronts}

@@ -20,8 +20,8 @@ use Rattle.spec_ledger.specs.Blocks.{first_or_no_hash}
 use Rattle.spec_ledger.specs.Entries.{has_events, leaves_of, root_in, roots_of}
 use Rattle.law_frame.proofs.Alls.{all_filter}
 use Rattle.format_image.specs.Tables.{tables_in}
-use Rattle.spec_verify.specs.Blocks.{hash_before}
-use Rattle.spec_verify.specs.Covered.{TableEvents, told_in, CoveredEntry, covered_entry, covered_of}
+use Rattle.law_verify.specs.Blocks.{hash_before}
+use Rattle.law_verify.specs.Covered.{TableEvents, told_in, CoveredEntry, covered_entry, covered_of}
 use Rattle.audit_extract.specs.Each.{HasCollision}
 use Rattle.audit_extract.specs.Hashed.{hashed}
 use Rattle.audit_extract.specs.Meets.{Meets}

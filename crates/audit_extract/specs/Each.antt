@@ -4,8 +4,8 @@ use Rattle.std.specs.List.{AllByRecursion}
 use Rattle.sql_types.specs.declared.digest.HeldDigest.{HeldDigest}
 use Rattle.sql_types.specs.declared.image.Image.{Image}
 use Rattle.format_image.specs.ImageBytes.{image_bytes, IsImage}
-use Rattle.spec_verify.specs.Collision.{Collides}
-use Rattle.spec_verify.specs.Covered.{covered_of}
+use Rattle.law_verify.specs.Collision.{Collides}
+use Rattle.law_verify.specs.Covered.{covered_of}
 
 -- all that each of the digests covers is the same in both
 abbrev pub AgreeOnEach : Image → Image → List HeldDigest → Type 0

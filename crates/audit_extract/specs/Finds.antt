@@ -1,6 +1,6 @@
 -- What a search for a difference finds.
 use Rattle.std.specs.Prelude.{ℕ, List}
-use Rattle.spec_verify.specs.Collision.{Collides}
+use Rattle.law_verify.specs.Collision.{Collides}
 use Rattle.audit_extract.specs.declared.found.ImageComparison.{ImageComparison}
 use Rattle.audit_extract.specs.declared.found.ImageComparison.TheVariants as found
 

@@ -3,8 +3,8 @@ use Rattle.std.specs.Prelude.{ℕ, ◌≡◌, List, [], ◌∷◌, None}
 use Rattle.format_image.specs.ImageBytes.{IsImage}
 use Rattle.sql_types.specs.declared.digest.HeldDigest.{HeldDigest}
 use Rattle.sql_types.specs.declared.image.Image.{Image}
-use Rattle.spec_verify.specs.Blocks.{digest_fault, chain_fault, block_fault}
-use Rattle.spec_verify.specs.Entries.{id_fault, root_fault}
+use Rattle.law_verify.specs.Blocks.{digest_fault, chain_fault, block_fault}
+use Rattle.law_verify.specs.Entries.{id_fault, root_fault}
 
 -- it has a spelling, the digest is of a block of it, and its blocks, ids and roots are those of its entries
 -- and events:

@@ -3,7 +3,7 @@ use Rattle.std.specs.Prelude.{ℕ, ◌+◌, List, take}
 use Rattle.sql_types.specs.declared.entry.BlockRecord.{BlockRecord}
 use Rattle.sql_types.specs.declared.entry.TxEntry.{TxEntry}
 use Rattle.sql_types.specs.declared.image.Image.{Image}
-use Rattle.spec_verify.specs.Blocks.{entries_before}
+use Rattle.law_verify.specs.Blocks.{entries_before}
 
 -- blocks 0 to b
 abbrev pub blocks_to : Image → ℕ → List BlockRecord

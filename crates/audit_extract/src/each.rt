@@ -2,8 +2,8 @@
 
 ghost use Rattle.std.specs.Prelude.{◌≡◌, IfOk, option_map};
 ghost use Rattle.format_image.specs.ImageBytes.{IsImage};
-ghost use Rattle.spec_verify.specs.declared.place.Verdict.TheVariants.{Yes};
-ghost use Rattle.spec_verify.specs.Verdict.{image_verdict};
+ghost use Rattle.law_verify.specs.Verdict.TheVariants.{Yes};
+ghost use Rattle.law_verify.specs.ImageVerdict.{image_verdict};
 ghost use Rattle.audit_extract.specs.Each.{AgreeOnEach, last_from, last_of};
 ghost use Rattle.audit_extract.specs.Finds.{Finds};
 

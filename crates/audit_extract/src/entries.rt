@@ -4,8 +4,8 @@
 ghost use Rattle.std.specs.Prelude.{◌≡◌, ◌≤◌, ◌<◌, ◌+◌, IsSorted, IfOk, length};
 ghost use Rattle.std.specs.List.{AllByRecursion, sum_by};
 ghost use Rattle.base_merkle.specs.TreeHash.{tree_hash};
-ghost use Rattle.spec_verify.specs.Blocks.{entries_before};
-ghost use Rattle.spec_verify.specs.Covered.{covered_of};
+ghost use Rattle.law_verify.specs.Blocks.{entries_before};
+ghost use Rattle.law_verify.specs.Covered.{covered_of};
 ghost use Rattle.audit_extract.specs.Finds.{Finds};
 ghost use Rattle.audit_extract.specs.Leaves.{HasRoots, IsRooted, SameTree, SameTrees, leaf_cmp, tree_of};
 ghost use Rattle.audit_extract.specs.Meets.{Meets};

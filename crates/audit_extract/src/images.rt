@@ -1,7 +1,7 @@
 //! Two images that meet one digest.
 
 ghost use Rattle.std.specs.Prelude.{◌≡◌, IfOk};
-ghost use Rattle.spec_verify.specs.Covered.{covered_of};
+ghost use Rattle.law_verify.specs.Covered.{covered_of};
 ghost use Rattle.audit_extract.specs.Finds.{Finds};
 ghost use Rattle.audit_extract.specs.Meets.{Meets};
 

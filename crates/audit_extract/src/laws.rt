@@ -5,10 +5,10 @@ ghost use Rattle.base_fields.specs.Exact.{IsBytes};
 ghost use Rattle.format_image.specs.ImageBytes.{IsImage};
 ghost use Rattle.sql_types.specs.declared.digest.HeldDigest.{HeldDigest};
 ghost use Rattle.sql_types.specs.declared.image.Image.{Image};
-ghost use Rattle.spec_verify.specs.declared.place.Verdict.TheVariants.{Yes};
-ghost use Rattle.spec_verify.specs.Bytes.{verdict_of};
-ghost use Rattle.spec_verify.specs.Covered.{covered_of};
-ghost use Rattle.spec_verify.specs.Verdict.{image_verdict};
+ghost use Rattle.law_verify.specs.Verdict.TheVariants.{Yes};
+ghost use Rattle.law_verify.specs.Bytes.{verdict_of};
+ghost use Rattle.law_verify.specs.Covered.{covered_of};
+ghost use Rattle.law_verify.specs.ImageVerdict.{image_verdict};
 ghost use Rattle.audit_extract.specs.Each.{OneHistory};
 ghost use Rattle.audit_extract.specs.Meets.{Meets};
 

@@ -2,7 +2,7 @@
 
 ghost use Rattle.std.specs.Prelude.{◌≡◌, ◌≢◌, ◌<◌, ◌≤◌, ◌^◌, true, false, length, take, drop, IfOk};
 ghost use Rattle.base_merkle.specs.TreeHash.{tree_hash, split_of};
-ghost use Rattle.spec_verify.specs.Collision.{Collides};
+ghost use Rattle.law_verify.specs.Collision.{Collides};
 ghost use Rattle.audit_extract.specs.Hashed.{hashed};
 ghost use Rattle.audit_extract.specs.Finds.{Finds};
 

@@ -13,11 +13,11 @@ use Rattle.format_image.specs.Tables.{defs_in, tables_in}
 use Rattle.law_catalog_rows.specs.Least.{least, lesser_of}
 use Rattle.spec_verify.specs.declared.place.Place.{Place}
 use Rattle.spec_verify.specs.Entries.{TableEvent, event_place, least_event, root_fault, table_event_cmp}
-use Rattle.spec_verify.specs.Groups.{Found, found_cmp}
+use Rattle.law_verify.specs.Groups.{Found, found_cmp}
 use Rattle.spec_verify.specs.Indexes.{first_table, index_fault, table_fault}
 use Rattle.spec_verify.specs.Versions.{bad_versions, version_fault}
-use Rattle.spec_verify.proofs.Leasts.{least_split}
-use Rattle.spec_verify.proofs.ToldEntries.{table_event_total}
+use Rattle.law_verify.proofs.Leasts.{least_split}
+use Rattle.law_verify.proofs.ToldEntries.{table_event_total}
 use Rattle.audit_verify.specs.declared.groups.Fault.{Fault}
 use Rattle.audit_verify.specs.declared.groups.GroupFaults.{GroupFaults}
 use Rattle.audit_verify.specs.declared.shown.ImageTable.{ImageTable}

@@ -32,3 +32,4 @@ pub mod Tables
 pub mod VerdictParts
 pub mod WorstParts
 pub mod WrongRoots
+pub use Rattle.law_verify.proofs.Judged

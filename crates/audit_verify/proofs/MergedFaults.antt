@@ -15,8 +15,8 @@ use Rattle.spec_verify.specs.declared.place.Place.{Place}
 use Rattle.spec_verify.specs.declared.place.Place.TheVariants as at
 use Rattle.spec_verify.specs.Entries.{are_numbered, root_place, entry_fault, root_fault}
 use Rattle.spec_verify.specs.First.{unless, first_from}
-use Rattle.spec_verify.specs.Groups.{Found, found_at, first_found, found_cmp}
-use Rattle.spec_verify.proofs.Merged.{first_of_groups}
+use Rattle.law_verify.specs.Groups.{Found, found_at, first_found, found_cmp}
+use Rattle.law_verify.proofs.Merged.{first_of_groups}
 use Rattle.audit_verify.specs.declared.groups.Fault.{Fault}
 use Rattle.audit_verify.specs.declared.groups.Fault.TheVariants.{Numbers, Root}
 use Rattle.audit_verify.specs.Groups.{wrong_in, wrong_root, strange, left_of, left_over, fault_cmp, as_fault, merged, id_at, place_of, fault_place}

@@ -22,9 +22,9 @@ use Rattle.format_image.specs.ImageBytes.{IsImage, AreTables}
 use Rattle.format_image.specs.Tables.{table_in, tables_with, defs_in}
 use Rattle.format_event.proofs.TypeLaws.{and_parts}
 use Rattle.law_catalog_rows.specs.Differs.{table_of}
-use Rattle.spec_verify.specs.Sentences.{VersionHolds, TableVersion, versions_of_image}
+use Rattle.law_verify.specs.Sentences.{VersionHolds, TableVersion, versions_of_image}
 use Rattle.spec_verify.specs.Versions.{has_columns, version_fault}
-use Rattle.spec_verify.proofs.ToldVersions.{versions_told}
+use Rattle.law_verify.proofs.ToldVersions.{versions_told}
 use Rattle.audit_definitions.specs.DefinitionRows.{HasSmallId, base_in}
 
 abbrev IsSmall : ℤ → Type 0

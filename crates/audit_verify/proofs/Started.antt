@@ -11,8 +11,8 @@ use Rattle.sql_types.specs.declared.version.Version.{Version}
 use Rattle.spec_model.specs.Events.{version_events}
 use Rattle.spec_model.specs.Lists.{or_else}
 use Rattle.format_image.specs.Tables.{tables_in}
-use Rattle.spec_verify.proofs.Leasts.{least_is, IsLeast}
-use Rattle.spec_verify.proofs.ToldEntries.{table_event_total}
+use Rattle.law_verify.proofs.Leasts.{least_is, IsLeast}
+use Rattle.law_verify.proofs.ToldEntries.{table_event_total}
 use Rattle.spec_verify.specs.Entries.{TableEvent, table_event_cmp, event_place, has_id, events_in, strangers, repeated_id, least_event, id_fault}
 use Rattle.law_catalog_rows.specs.Least.{least}
 use Rattle.audit_verify.specs.declared.shown.ImageTable.{ImageTable}

@@ -20,7 +20,7 @@ use Rattle.base_merkle.specs.TreeHash.{tree_hash}
 use Rattle.spec_model.specs.Catalog.{Tables}
 use Rattle.law_catalog_rows.specs.Least.{least, lesser_of}
 use Rattle.spec_verify.specs.Entries.{TableRoot, root_at, same_root, other_roots}
-use Rattle.spec_verify.proofs.Leasts.{IsLeast, least_is, least_split}
+use Rattle.law_verify.proofs.Leasts.{IsLeast, least_is, least_split}
 use Rattle.audit_verify.specs.Groups.{is_table, own_root, is_wrong, wrong_in, strange}
 use Rattle.audit_verify.specs.ImageTable.{IdsRise}
 

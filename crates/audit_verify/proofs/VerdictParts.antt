@@ -8,7 +8,7 @@ use Rattle.spec_verify.specs.declared.place.Verdict.{Verdict}
 use Rattle.spec_verify.specs.declared.place.Verdict.TheVariants.{Yes}
 use Rattle.spec_verify.specs.Blocks.{block_fault, chain_fault, digest_fault}
 use Rattle.spec_verify.specs.Entries.{id_fault, root_fault}
-use Rattle.spec_verify.specs.Verdict.{failed_or, image_verdict}
+use Rattle.spec_verify.specs.ImageVerdict.{failed_or, image_verdict}
 use Rattle.audit_verify.specs.Verdict.{blocks_tried, rows_tried, tables_tried}
 
 abbrev then : Option Place → Option Place → Option Place → Verdict → Verdict

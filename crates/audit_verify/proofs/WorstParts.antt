@@ -17,7 +17,7 @@ use Rattle.sql_types.specs.declared.version.Version.{Version}
 use Rattle.format_image.specs.Tables.{table_in}
 use Rattle.spec_model.specs.Lists.{sorted}
 use Rattle.law_catalog_rows.specs.Least.{lesser, least_from}
-use Rattle.spec_verify.proofs.ToldEntries.{table_event_total}
+use Rattle.law_verify.proofs.ToldEntries.{table_event_total}
 use Rattle.spec_verify.specs.Entries.{TableEvent, table_event_cmp}
 use Rattle.spec_verify.specs.Order.{shares_key, is_in_order}
 use Rattle.spec_verify.specs.Versions.{has_columns, with_columns, version_holds, bad_versions}

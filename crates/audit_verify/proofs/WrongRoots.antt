@@ -16,7 +16,7 @@ use Rattle.format_image.specs.ImageBytes.{IsImage}
 use Rattle.format_image.specs.Tables.{tables_in}
 use Rattle.law_catalog_rows.specs.Least.{least}
 use Rattle.spec_verify.specs.Entries.{TableRoot, root_at, same_root}
-use Rattle.spec_verify.specs.Groups.{first_found}
+use Rattle.law_verify.specs.Groups.{first_found}
 use Rattle.audit_verify.specs.declared.marks.Mark.{Mark}
 use Rattle.audit_verify.specs.declared.shown.ImageTable.{ImageTable}
 use Rattle.audit_verify.specs.Groups.{group_of, is_table, wrong_in, wrong_root}

@@ -19,7 +19,7 @@ use Rattle.spec_verify.specs.declared.place.Place.TheVariants as at
 use Rattle.spec_verify.specs.Entries.{TableEvent, TableRoot, are_numbered, event_place, least_event, root_at, same_root, table_event_cmp}
 use Rattle.spec_verify.specs.Indexes.{first_table}
 use Rattle.spec_verify.specs.Versions.{bad_versions}
-use Rattle.spec_verify.specs.Groups.{Found, first_found, found_cmp}
+use Rattle.law_verify.specs.Groups.{Found, first_found, found_cmp}
 use Rattle.audit_verify.specs.declared.groups.Fault.{Fault}
 use Rattle.audit_verify.specs.declared.groups.Fault.TheVariants.{Numbers, Root}
 use Rattle.audit_verify.specs.declared.groups.GroupFaults.{GroupFaults}

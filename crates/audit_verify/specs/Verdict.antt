@@ -10,7 +10,7 @@ use Rattle.spec_verify.specs.Entries.{id_fault, root_fault}
 use Rattle.spec_verify.specs.Versions.{version_fault}
 use Rattle.spec_verify.specs.Definitions.{definition_fault}
 use Rattle.spec_verify.specs.Indexes.{index_fault}
-use Rattle.spec_verify.specs.Verdict.{first_failed}
+use Rattle.spec_verify.specs.ImageVerdict.{first_failed}
 
 abbrev pub blocks_tried : (List ℕ → List ℕ) → Image → List HeldDigest → Verdict
 blocks_tried h i digests =

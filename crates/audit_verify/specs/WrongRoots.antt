@@ -6,7 +6,7 @@ use Rattle.sql_types.specs.declared.entry.TxEntry.{TxEntry}
 use Rattle.spec_model.specs.Catalog.{Tables}
 use Rattle.law_catalog_rows.specs.Least.{least}
 use Rattle.spec_verify.specs.Entries.{TableRoot, root_at, same_root}
-use Rattle.spec_verify.specs.Groups.{Found, first_found}
+use Rattle.law_verify.specs.Groups.{Found, first_found}
 use Rattle.audit_verify.specs.declared.marks.Mark.{Mark}
 use Rattle.audit_verify.specs.declared.shown.ImageTable.{ImageTable}
 use Rattle.audit_verify.specs.Groups.{is_table}

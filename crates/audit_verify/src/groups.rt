@@ -11,7 +11,7 @@ ghost use Rattle.format_image.specs.Tables.{tables_in};
 ghost use Rattle.spec_model.specs.Catalog.{Tables};
 ghost use Rattle.law_catalog_rows.specs.Least.{least, lesser_of};
 ghost use Rattle.spec_verify.specs.Entries.{id_fault, root_at, root_fault, same_root};
-ghost use Rattle.spec_verify.specs.Groups.{found_cmp};
+ghost use Rattle.law_verify.specs.Groups.{found_cmp};
 ghost use Rattle.audit_verify.specs.Groups as spec;
 ghost use Rattle.audit_verify.specs.WrongRoots as told;
 ghost use Rattle.audit_verify.specs.Indexes.{HasFewIndexes, first_among};

@@ -5,7 +5,7 @@ ghost use Rattle.std.specs.Ordering.{nat_cmp};
 ghost use Rattle.spec_model.specs.Lists.{or_else};
 ghost use Rattle.law_catalog_rows.specs.Least.{lesser_of};
 ghost use Rattle.spec_verify.specs.Entries.{table_event_cmp};
-ghost use Rattle.spec_verify.specs.Groups.{found_cmp};
+ghost use Rattle.law_verify.specs.Groups.{found_cmp};
 ghost use Rattle.audit_verify.specs.Groups as spec;
 
 use crate::groups::{Fault, GroupFaults};

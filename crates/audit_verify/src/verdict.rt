@@ -2,7 +2,7 @@
 
 ghost use Rattle.std.specs.Prelude.{◌≡◌, IfOk};
 ghost use Rattle.format_image.specs.ImageBytes.{IsImage};
-ghost use Rattle.spec_verify.specs.Verdict.{image_verdict};
+ghost use Rattle.spec_verify.specs.ImageVerdict.{image_verdict};
 ghost use Rattle.audit_verify.specs.Verdict.{blocks_tried, tables_tried};
 
 use crate::blocks::{block_fault, chain_fault, digest_fault};

@@ -7,7 +7,7 @@ ghost use Rattle.format_image.specs.ImageBytes.{IsImage};
 ghost use Rattle.spec_verify.specs.Bytes.{verdict_of};
 ghost use Rattle.spec_verify.specs.Entries.{id_fault as id_fault_of};
 ghost use Rattle.spec_verify.specs.Indexes.{index_fault};
-ghost use Rattle.spec_verify.specs.Verdict.{image_verdict};
+ghost use Rattle.spec_verify.specs.ImageVerdict.{image_verdict};
 ghost use Rattle.spec_verify.specs.Versions.{version_fault};
 ghost use Rattle.audit_verify.specs.Groups as spec;
 ghost use Rattle.audit_verify.specs.Verdict.{rows_tried, tables_tried};

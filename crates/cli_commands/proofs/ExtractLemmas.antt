@@ -5,7 +5,7 @@ use Rattle.sql_types.specs.declared.digest.HeldDigest.{HeldDigest}
 use Rattle.sql_types.specs.declared.image.Image.{Image}
 use Rattle.spec_verify.specs.declared.place.Verdict.TheVariants.{Yes}
 use Rattle.spec_verify.specs.Bytes.{verdict_of}
-use Rattle.spec_verify.proofs.Judged.{of_image}
+use Rattle.audit_verify.proofs.Judged.{of_image}
 use Rattle.cli_commands.specs.declared.status.Status.{Status}
 use Rattle.cli_commands.specs.Extract.{IsTried, LacksExhibits}
 use Rattle.cli_commands.specs.Names.{IsInVault, LacksName, image_limit, digests_limit}

@@ -11,7 +11,7 @@ use Rattle.spec_verify.specs.declared.place.Verdict.{Verdict}
 use Rattle.spec_verify.specs.declared.place.Verdict.TheVariants.{Yes}
 use Rattle.spec_verify.specs.Bytes.{verdict_of}
 use Rattle.spec_verify.specs.Line.{verdict_line}
-use Rattle.spec_verify.specs.Verdict.{image_verdict}
+use Rattle.spec_verify.specs.ImageVerdict.{image_verdict}
 use Rattle.audit_extract.specs.declared.found.ImageComparison.{ImageComparison}
 use Rattle.audit_extract.specs.declared.found.ImageComparison.TheVariants.{Same, Collision}
 use Rattle.audit_extract.specs.Each.{AgreeOnEach}

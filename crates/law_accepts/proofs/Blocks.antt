@@ -14,9 +14,9 @@ use Rattle.spec_ledger.specs.Ledger.{ledger_of, blocks_of, block_hash}
 use Rattle.law_blocks.proofs.Staying.{blocks_counted}
 use Rattle.spec_ledger.proofs.Parting.{parted}
 use Rattle.format_image.specs.Image.{image_of}
-use Rattle.spec_verify.specs.declared.place.Place.TheVariants as at
-use Rattle.spec_verify.specs.First.{unless, first_from}
-use Rattle.spec_verify.specs.Blocks.{digest_holds, digest_fault, hash_before, link_holds, chain_fault}
+use Rattle.law_verify.specs.Place.TheVariants as at
+use Rattle.law_verify.specs.First.{unless, first_from}
+use Rattle.law_verify.specs.Blocks.{digest_holds, digest_fault, hash_before, link_holds, chain_fault}
 use Rattle.law_accepts.specs.Held.{IsHeld, AllHeld}
 use Rattle.law_accepts.proofs.Firsts.{same_bytes, both, passes, neither, nothing_first}
 

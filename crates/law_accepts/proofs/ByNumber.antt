@@ -8,7 +8,7 @@ use Rattle.std.proofs.lemmas.Bool.Decides.{nat_tests}
 use Rattle.std.proofs.lemmas.List.{length-map}
 use Rattle.sql_types.specs.declared.event.Event.{Event}
 use Rattle.spec_model.specs.Lists.{inserted, sorted}
-use Rattle.spec_verify.specs.Entries.{are_numbered}
+use Rattle.law_verify.specs.Entries.{are_numbered}
 use Rattle.law_accepts.proofs.Firsts.{both}
 
 -- ---- how many have a number

@@ -9,7 +9,7 @@ use Rattle.law_catalog_rows.specs.Written.{ReadsWritten}
 use Rattle.law_catalog_rows.proofs.Journals.{legal_passes}
 use Rattle.format_image.specs.Image.{user_defs, image_of}
 use Rattle.format_image.specs.Rows.{table_rows}
-use Rattle.spec_verify.specs.Definitions.{table_place, base_rows, definition_fault}
+use Rattle.law_verify.specs.Definitions.{table_place, base_rows, definition_fault}
 
 spelled : (T : Tables) → EncodingHolds T → table_place (encoding_fault (base_rows (map table_rows T) 0) (base_rows (map table_rows T) 1) (user_defs T)) ≡ None
 unfolding table_rows

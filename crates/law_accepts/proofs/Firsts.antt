@@ -4,8 +4,8 @@ use Rattle.std.specs.List.{AllByRecursion}
 use Rattle.std.proofs.lemmas.Slice.Eq.{bytes_eq-Decides}
 use Rattle.std.specs.Prelude.{◌&&◌}
 use Rattle.spec_model.specs.Lists.{or_else}
-use Rattle.spec_verify.specs.declared.place.Place.{Place}
-use Rattle.spec_verify.specs.First.{unless, first_from}
+use Rattle.law_verify.specs.Place.{Place}
+use Rattle.law_verify.specs.First.{unless, first_from}
 
 pub same_bytes : (a b : List ℕ) → a ≡ b → bytes_eq a b ≡ true
 same_bytes a b e = (bytes_eq-Decides a b).1 e

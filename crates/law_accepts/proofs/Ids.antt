@@ -27,10 +27,10 @@ use Rattle.spec_ledger.proofs.Adding.{one_more}
 use Rattle.format_image.specs.Image.{image_of}
 use Rattle.format_image.specs.Rows.{ended_ones}
 use Rattle.format_image.specs.Tables.{tables_in}
-use Rattle.spec_verify.specs.declared.place.Place.TheVariants as at
-use Rattle.spec_verify.specs.First.{unless, first_from}
-use Rattle.spec_verify.specs.Entries.{has_id, TableEvent, least_event, events_in, strangers, id_fault}
-use Rattle.spec_verify.specs.Order.{position_of}
+use Rattle.law_verify.specs.Place.TheVariants as at
+use Rattle.law_verify.specs.First.{unless, first_from}
+use Rattle.law_verify.specs.Entries.{has_id, TableEvent, least_event, events_in, strangers, id_fault}
+use Rattle.law_verify.specs.Order.{position_of}
 use Rattle.law_accepts.proofs.Along.{along}
 use Rattle.law_accepts.proofs.Firsts.{passes, neither}
 use Rattle.law_accepts.proofs.Shown.{in_parts, tables_shown}

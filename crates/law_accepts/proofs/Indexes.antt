@@ -19,10 +19,10 @@ use Rattle.spec_model.specs.Rows.{live}
 use Rattle.spec_model.specs.Script.{Reading}
 use Rattle.format_image.specs.Image.{image_of}
 use Rattle.format_image.specs.Rows.{Stored, index_rows, table_rows}
-use Rattle.spec_verify.specs.declared.place.Place.TheVariants as at
-use Rattle.spec_verify.specs.First.{unless, first_from}
-use Rattle.spec_verify.specs.Indexes.{same_value, same_row, same_rows, index_holds, table_fault, first_table, index_fault}
-use Rattle.spec_verify.specs.Versions.{same_type}
+use Rattle.law_verify.specs.Place.TheVariants as at
+use Rattle.law_verify.specs.First.{unless, first_from}
+use Rattle.law_verify.specs.Indexes.{same_value, same_row, same_rows, index_holds, table_fault, first_table, index_fault}
+use Rattle.law_verify.specs.Versions.{same_type}
 use Rattle.law_accepts.proofs.Firsts.{both, passes, neither}
 use Rattle.law_accepts.proofs.Shown.{defs_shown}
 

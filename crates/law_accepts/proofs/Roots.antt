@@ -24,9 +24,9 @@ use Rattle.spec_ledger.specs.Ledger.{Ledger, recorded, ledger_from, ledger_of, e
 use Rattle.spec_ledger.proofs.Adding.{serial_more, one_more}
 use Rattle.format_image.specs.Image.{image_of}
 use Rattle.format_image.specs.Tables.{tables_in}
-use Rattle.spec_verify.specs.declared.place.Place.TheVariants as at
+use Rattle.law_verify.specs.Place.TheVariants as at
 use Rattle.law_catalog_rows.specs.Least.{least}
-use Rattle.spec_verify.specs.Entries.{are_numbered, TableRoot, root_at, same_root, other_roots, root_place, entry_fault, root_fault}
+use Rattle.law_verify.specs.Entries.{are_numbered, TableRoot, root_at, same_root, other_roots, root_place, entry_fault, root_fault}
 use Rattle.law_accepts.proofs.Along.{along}
 use Rattle.law_accepts.proofs.Begins.{begins}
 use Rattle.law_accepts.proofs.ByNumber.{are_all_numbered}

@@ -24,9 +24,9 @@ use Rattle.spec_ledger.proofs.Adding.{one_more}
 use Rattle.law_blocks.proofs.Counting.{entries_counted, closed_counted}
 use Rattle.spec_ledger.proofs.Parting.{parted}
 use Rattle.format_image.specs.Image.{image_of}
-use Rattle.spec_verify.specs.declared.place.Place.TheVariants as at
-use Rattle.spec_verify.specs.First.{unless, first_from}
-use Rattle.spec_verify.specs.Blocks.{entries_before, entries_in, block_holds, block_fault}
+use Rattle.law_verify.specs.Place.TheVariants as at
+use Rattle.law_verify.specs.First.{unless, first_from}
+use Rattle.law_verify.specs.Blocks.{entries_before, entries_in, block_holds, block_fault}
 use Rattle.law_accepts.proofs.Along.{along}
 use Rattle.law_accepts.proofs.Blocks.{behind}
 use Rattle.law_accepts.proofs.Firsts.{same_bytes, both, passes, neither}

@@ -29,9 +29,9 @@ use Rattle.law_journal.proofs.Serials.{legal_tables, legal_keeps_rows}
 use Rattle.spec_ledger.specs.Ledger.{entries_of}
 use Rattle.format_image.specs.Image.{image_of}
 use Rattle.format_image.specs.Rows.{Stored, ended_ones}
-use Rattle.spec_verify.specs.Entries.{least_event}
-use Rattle.spec_verify.specs.Order.{position_of, is_before, is_earlier, later_of, latest, ends_before, ends_well, follows, before, is_in_order, shares_key}
-use Rattle.spec_verify.specs.Versions.{same_type, is_of, has_columns, respects_not_null, with_columns, version_holds, bad_versions, version_fault}
+use Rattle.law_verify.specs.Entries.{least_event}
+use Rattle.law_verify.specs.Order.{position_of, is_before, is_earlier, later_of, latest, ends_before, ends_well, follows, before, is_in_order, shares_key}
+use Rattle.law_verify.specs.Versions.{same_type, is_of, has_columns, respects_not_null, with_columns, version_holds, bad_versions, version_fault}
 use Rattle.law_accepts.proofs.Firsts.{both}
 use Rattle.law_accepts.proofs.Ids.{none_left, same_place}
 use Rattle.law_accepts.proofs.Indexes.{own_type}

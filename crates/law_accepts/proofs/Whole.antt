@@ -18,11 +18,11 @@ use Rattle.spec_ledger.specs.Ledger.{block_hash}
 use Rattle.law_blocks.proofs.Staying.{hash_stays}
 use Rattle.format_image.specs.Image.{image_of, image_of_cut}
 use Rattle.format_image.specs.ImageBytes.{image_bytes, IsImage}
-use Rattle.spec_verify.specs.declared.place.Verdict.TheVariants.{Yes}
-use Rattle.spec_verify.specs.Bytes.{verdict_of}
-use Rattle.spec_verify.specs.Verdict.{AllHold}
-use Rattle.spec_verify.proofs.AllHold.{yes_exactly}
-use Rattle.spec_verify.proofs.Judged.{of_image}
+use Rattle.law_verify.specs.Verdict.TheVariants.{Yes}
+use Rattle.law_verify.specs.Bytes.{verdict_of}
+use Rattle.law_verify.specs.ImageVerdict.{AllHold}
+use Rattle.law_verify.proofs.AllHold.{yes_exactly}
+use Rattle.law_verify.proofs.Judged.{of_image}
 use Rattle.law_accepts.specs.Held.{held, IsHeld, AllHeld}
 use Rattle.law_accepts.proofs.Blocks.{digests_hold, chain_holds}
 use Rattle.law_accepts.proofs.Definitions.{definitions_hold}

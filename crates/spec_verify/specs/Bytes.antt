@@ -8,7 +8,7 @@ use Rattle.spec_verify.specs.declared.place.Invariant.TheVariants.{V0}
 use Rattle.spec_verify.specs.declared.place.Place.TheVariants.{Whole}
 use Rattle.spec_verify.specs.declared.place.Verdict.{Verdict}
 use Rattle.spec_verify.specs.declared.place.Verdict.TheVariants.{No}
-use Rattle.spec_verify.specs.Verdict.{image_verdict}
+use Rattle.spec_verify.specs.ImageVerdict.{image_verdict}
 
 module _ (h : List ℕ → List ℕ) (digests : List HeldDigest) where
   -- of the image that the bytes are, if they are one

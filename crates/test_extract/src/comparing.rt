@@ -3,7 +3,7 @@
 ghost use Rattle.std.specs.Prelude.{◌≡◌, None, IfOk};
 ghost use Rattle.format_image.specs.ImageBytes.{IsImage};
 ghost use Rattle.spec_verify.specs.declared.place.Verdict.TheVariants.{Yes};
-ghost use Rattle.spec_verify.specs.Verdict.{image_verdict};
+ghost use Rattle.spec_verify.specs.ImageVerdict.{image_verdict};
 
 use crate::fault::Fault;
 use audit_extract::{ImageComparison, extract_each};

@@ -1,2 +1,4 @@
 mod Wanted
 mod Worked
+mod WorkedImages
+mod WorkedImageBytes

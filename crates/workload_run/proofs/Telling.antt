@@ -24,7 +24,7 @@ use Rattle.law_image.specs.Room.{FitsImageFormat}
 use Rattle.spec_verify.specs.declared.place.Verdict.{Verdict}
 use Rattle.spec_verify.specs.declared.place.Verdict.TheVariants.{Yes}
 use Rattle.spec_verify.specs.Bytes.{verdict_of}
-use Rattle.spec_verify.proofs.Judged.{of_image}
+use Rattle.audit_verify.proofs.Judged.{of_image}
 use Rattle.server_run.specs.Held.{held}
 use Rattle.server_run.specs.Agreed.{CameTo, RunResult, last_image_bytes}
 use Rattle.server_run.specs.SessionOutput.{IsMeaning}

@@ -9,7 +9,7 @@ use Rattle.sql_parse.specs.Text.{statement_of}
 use Rattle.format_image.specs.Image.{image_of}
 use Rattle.spec_verify.specs.declared.place.Verdict.TheVariants.{Yes}
 use Rattle.spec_verify.specs.Bytes.{verdict_of}
-use Rattle.spec_verify.specs.Verdict.{image_verdict}
+use Rattle.spec_verify.specs.ImageVerdict.{image_verdict}
 use Rattle.server_run.specs.Held.{held}
 use Rattle.server_run.specs.Agreed.{last_image_bytes}
 use Rattle.law_workload.specs.Turns.{inserted_total}

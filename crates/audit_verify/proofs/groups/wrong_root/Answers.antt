@@ -1,6 +1,6 @@
 use Rattle.std.proofs.Common.{ℕ, sym, ap, ◌∙◌, map}
 use Rattle.sql_types.specs.declared.entry.TxEntry.{TxEntry}
-use Rattle.spec_verify.specs.Groups.{found_at}
+use Rattle.law_verify.specs.Groups.{found_at}
 use Rattle.audit_verify.specs.ImageTable.{table_of}
 use Rattle.audit_verify.specs.WrongRoots.{wrong_by_marks}
 use Rattle.audit_definitions.proofs.Walks.{first_skip, first_is_here}

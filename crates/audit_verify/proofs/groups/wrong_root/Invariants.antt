@@ -1,7 +1,7 @@
 use Rattle.std.proofs.Common.{ℕ, ◌≡◌, drop, map}
 use Rattle.sql_types.specs.declared.entry.TxEntry.{TxEntry}
 use Rattle.spec_verify.specs.First.{first, first_from}
-use Rattle.spec_verify.specs.Groups.{found_at}
+use Rattle.law_verify.specs.Groups.{found_at}
 use Rattle.audit_verify.specs.ImageTable.{table_of}
 use Rattle.audit_verify.specs.WrongRoots.{wrong_by_marks}
 use Rattle.audit_verify.proofs.groups.wrong_root.Given as goal

@@ -1,7 +1,7 @@
 use Rattle.std.proofs.Common.{ℕ, ◌≡◌, drop, map}
 use Rattle.sql_types.specs.declared.entry.TxEntry.{TxEntry}
 use Rattle.spec_verify.specs.First.{first, first_from}
-use Rattle.spec_verify.specs.Groups.{found_at}
+use Rattle.law_verify.specs.Groups.{found_at}
 use Rattle.audit_verify.specs.Groups.{left_of}
 use Rattle.audit_verify.specs.ImageTable.{table_of}
 use Rattle.audit_verify.proofs.leftover.first_left.Given as goal

@@ -1,6 +1,6 @@
 use Rattle.std.proofs.Common.{sym, ap, ◌∙◌, arith}
 use Rattle.spec_verify.specs.Bytes.{verdict_of}
-use Rattle.spec_verify.proofs.Judged.{of_image, of_none}
+use Rattle.audit_verify.proofs.Judged.{of_image, of_none}
 use Rattle.cli_commands.proofs.extract.accepted.Goals as goal
 
 pub returns-in_default : goal.returns-in_default

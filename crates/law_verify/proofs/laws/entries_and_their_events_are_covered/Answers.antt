@@ -1,0 +1,5 @@
+use Rattle.law_verify.proofs.CoveredSo.{covered_exactly}
+use Rattle.law_verify.proofs.laws.entries_and_their_events_are_covered.Goals as goal
+
+pub returns : goal.returns
+returns c = covered_exactly

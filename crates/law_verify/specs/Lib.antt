@@ -1,0 +1,16 @@
+pub mod Groups
+pub mod Sentences
+pub mod Told
+pub use Rattle.spec_verify.specs.Blocks
+pub use Rattle.spec_verify.specs.Bytes
+pub use Rattle.spec_verify.specs.Collision
+pub use Rattle.spec_verify.specs.Covered
+pub use Rattle.spec_verify.specs.Entries
+pub use Rattle.spec_verify.specs.First
+pub use Rattle.spec_verify.specs.ImageVerdict
+pub use Rattle.spec_verify.specs.declared.place.Place
+pub use Rattle.spec_verify.specs.declared.place.Verdict
+pub use Rattle.spec_verify.specs.Definitions
+pub use Rattle.spec_verify.specs.Indexes
+pub use Rattle.spec_verify.specs.Order
+pub use Rattle.spec_verify.specs.Versions
