@@ -13,7 +13,7 @@ use Rattle.spec_history.specs.Journals.{blocks}
 use Rattle.spec_history.specs.Meaning.{Meaning}
 use Rattle.law_journal.proofs.Serials.{cut_legal}
 use Rattle.law_catalog_rows.specs.Written.{ReadsWritten}
-use Rattle.law_blocks.specs.Digests.{digest_of}
+use Rattle.law_blocks.specs.BlockDigests.{digest_of}
 use Rattle.spec_ledger.specs.Ledger.{block_hash}
 use Rattle.law_blocks.proofs.Staying.{hash_stays}
 use Rattle.format_image.specs.Image.{image_of, image_of_cut}

@@ -12,7 +12,7 @@ ghost use Rattle.spec_history.specs.Journals.{blocks};
 ghost use Rattle.spec_history.specs.Meaning.{Meaning};
 ghost use Rattle.sql_parse.specs.Text.{statement_of};
 ghost use Rattle.law_catalog_rows.specs.Written.{ReadsWritten};
-ghost use Rattle.law_blocks.specs.Digests.{digest_of};
+ghost use Rattle.law_blocks.specs.BlockDigests.{digest_of};
 ghost use Rattle.spec_ledger.specs.Ledger.{block_hash};
 ghost use Rattle.format_image.specs.Image.{image_of, image_of_cut};
 ghost use Rattle.format_image.specs.ImageBytes.{image_bytes, IsImage};

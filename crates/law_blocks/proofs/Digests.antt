@@ -12,7 +12,7 @@ use Rattle.spec_history.specs.Journals.{blocks, in_blocks, times}
 use Rattle.spec_history.specs.Meaning.{Meaning}
 use Rattle.spec_history.proofs.Grows.{closed_append}
 use Rattle.spec_history.proofs.Trace.{count_append}
-use Rattle.law_blocks.specs.Digests.{or_zero, digest_of}
+use Rattle.law_blocks.specs.BlockDigests.{or_zero, digest_of}
 use Rattle.spec_ledger.specs.Ledger.{block_hash}
 
 in_blocks_most : (n : ℕ) (J : List JournalItem) → in_blocks n J ≤ closed J

@@ -2,9 +2,9 @@ pub mod Counting
 pub mod Digests
 pub mod Roots
 pub mod Staying
-pub use Rattle.spec_history.proofs.Alls
-pub use Rattle.spec_history.proofs.LeftRows
-pub use Rattle.spec_history.proofs.SameKeys
-pub use Rattle.spec_history.proofs.UndoneVersions
+pub use Rattle.law_frame.proofs.Alls
+pub use Rattle.law_frame.proofs.LeftRows
+pub use Rattle.law_frame.proofs.SameKeys
+pub use Rattle.law_frame.proofs.UndoneVersions
 pub use Rattle.spec_ledger.proofs.Adding
 pub use Rattle.spec_ledger.proofs.Parting

@@ -14,7 +14,7 @@ use Rattle.spec_ledger.specs.Events.{events_of, all_events}
 use Rattle.spec_ledger.specs.Journals.{Line, IsOther, IsNext, IsLegalFrom, IsLegal, after_item, serial_from, serial}
 use Rattle.spec_ledger.specs.Script.{Reading}
 use Rattle.spec_ledger.specs.SystemTables.{first_tables}
-use Rattle.spec_history.proofs.LegalSound.{legal_sound}
+use Rattle.law_frame.proofs.LegalSound.{legal_sound}
 use Rattle.spec_ledger.proofs.Adding.{serial_more}
 use Rattle.spec_ledger.specs.Entries.{has_events, root_in, roots_of}
 

@@ -11,7 +11,7 @@ ghost use Rattle.spec_history.specs.Journals.{blocks};
 ghost use Rattle.spec_history.specs.Digests.{IsDigest};
 ghost use Rattle.spec_history.specs.Meaning.{Meaning};
 ghost use Rattle.spec_history.specs.Real.{Hashing};
-ghost use Rattle.law_blocks.specs.Digests.{digest_of};
+ghost use Rattle.law_blocks.specs.BlockDigests.{digest_of};
 ghost use Rattle.spec_ledger.specs.Entry.{tables_rise};
 ghost use Rattle.spec_ledger.specs.Entries.{entry_of};
 ghost use Rattle.spec_ledger.specs.Ledger.{ledger_of, blocks_of, entries_of, block_hash};

@@ -4,7 +4,7 @@ use Rattle.sql_types.specs.declared.digest.Digest.{Digest}
 use Rattle.spec_history.specs.Inputs.{InputSession}
 use Rattle.spec_history.specs.Journals.{times}
 use Rattle.spec_history.specs.Lists.{Text, Each, In}
-use Rattle.spec_history.proofs.Settles.{in_left, in_right}
+use Rattle.law_history.proofs.Settles.{in_left, in_right}
 use Rattle.spec_history.proofs.Trace.{each_append, each_weaker}
 use Rattle.spec_protocol.specs.Seats.{Written}
 use Rattle.law_protocol_steps.proofs.AfterSet.{all_at, each_at}

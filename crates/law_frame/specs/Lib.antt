@@ -1,6 +1,5 @@
 pub use Rattle.spec_model.specs.Catalog
 pub use Rattle.spec_model.specs.Events
-pub use Rattle.spec_model.specs.Holds
 pub use Rattle.spec_model.specs.InTheWay
 pub use Rattle.spec_model.specs.Journals
 pub use Rattle.spec_model.specs.Limits

@@ -10,7 +10,7 @@ use Rattle.sql_types.specs.declared.version.TypedValue.{TypedValue}
 use Rattle.sql_types.specs.declared.version.Version.{Version}
 use Rattle.spec_model.specs.Journals.{serial, tx_count}
 use Rattle.spec_model.specs.Script.{Reading}
-use Rattle.spec_history.specs.Journals.{blocks}
+use Rattle.law_blocks.specs.Journals.{blocks}
 
 -- NULL, or a value that is UTF-8 where it is a text
 abbrev pub IsUtf8Text : Option TypedValue → Type 0

@@ -14,7 +14,7 @@ use Rattle.spec_history.specs.Serial as serials
 use Rattle.spec_history.specs.Sessions.{SessionTransaction, SessionState, fresh, scripts, viewed}
 use Rattle.spec_history.specs.Transactions.{Transaction, on_some, unfixed}
 use Rattle.spec_history.specs.Worlds.{World, first, run, step, tables}
-use Rattle.spec_history.proofs.Cuts.{run_append}
+use Rattle.law_protocol_steps.proofs.Cuts.{run_append}
 use Rattle.law_protocol_steps.specs.Server.{Server}
 use Rattle.law_protocol_steps.specs.Cells.{Cell, catalog_at, holds_at}
 use Rattle.law_protocol_steps.specs.AnonymousActs.{AnonymousAct, did, anonymous_act}

@@ -24,7 +24,7 @@ use Rattle.spec_history.specs.Transactions.{unfixed}
 use Rattle.spec_history.specs.Transcripts.{Kind, unread, begin, commit, roll_back, to_savepoint, create, rows, issue, keep, kind_of}
 use Rattle.spec_history.specs.Worlds.{first, run, tables}
 use Rattle.spec_history.specs.ExactRefusals.{held_beside, in_the_way}
-use Rattle.spec_history.proofs.Settles.{in_left, in_right}
+use Rattle.law_protocol_steps.proofs.Settles.{in_left, in_right}
 use Rattle.law_protocol_steps.specs.Server.{Server}
 use Rattle.law_protocol_steps.specs.ActsOf.{closings, done_acts, checked_acts, end_acts, failed_acts, failed_in, alone_acts}
 use Rattle.law_protocol_steps.specs.Alone.{Alone}

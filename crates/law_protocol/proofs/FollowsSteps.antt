@@ -12,8 +12,8 @@ use Rattle.spec_history.specs.Sessions.{SessionState, runs, gone, unborn, acted}
 use Rattle.spec_history.specs.Transactions.{listed}
 use Rattle.spec_history.specs.Transcripts.{Transcript}
 use Rattle.spec_history.specs.Worlds.{World, first, run, step}
-use Rattle.spec_history.proofs.Cuts.{good_append, run_append}
-use Rattle.spec_history.proofs.Settles.{in_append, in_right}
+use Rattle.law_protocol_steps.proofs.Cuts.{good_append, run_append}
+use Rattle.law_protocol_steps.proofs.Settles.{in_append, in_right}
 use Rattle.spec_history.proofs.Trace.{each_weaker}
 use Rattle.spec_model.specs.Journals.{tx_count}
 use Rattle.law_protocol_steps.specs.ActsOf.{alone_acts}

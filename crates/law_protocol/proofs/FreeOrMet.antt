@@ -20,7 +20,7 @@ use Rattle.spec_history.specs.Real.{requests_catalog, requests_cell}
 use Rattle.spec_history.specs.Serial as serials
 use Rattle.spec_history.specs.Sessions.{SessionTransaction}
 use Rattle.spec_history.specs.Worlds.{World, first, run, tables}
-use Rattle.spec_history.proofs.Settles.{in_left, in_right}
+use Rattle.law_protocol_steps.proofs.Settles.{in_left, in_right}
 use Rattle.law_protocol_steps.specs.Server.{Server}
 use Rattle.law_protocol_steps.specs.Cells.{Cell, catalog_at, cell_of}
 use Rattle.law_protocol_steps.specs.Contents.{Contents, contents}

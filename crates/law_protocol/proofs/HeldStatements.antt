@@ -11,7 +11,7 @@ use Rattle.spec_model.specs.Locks.{requests_conflict}
 use Rattle.spec_history.specs.ExactRefusals.{HeldStatement, held_by, held_beside, holder_named}
 use Rattle.spec_history.specs.Lists.{In}
 use Rattle.spec_history.specs.Transactions.{Transaction}
-use Rattle.spec_history.proofs.Settles.{in_append, in_left, in_right}
+use Rattle.law_protocol_steps.proofs.Settles.{in_append, in_left, in_right}
 use Rattle.law_protocol_steps.specs.RequestsIn.{Holds}
 use Rattle.law_protocol.proofs.LeastHolder.{BlockedBy, BarsToo, none_first, same_first}
 use Rattle.law_protocol_steps.proofs.NoClashes.{like_requests}

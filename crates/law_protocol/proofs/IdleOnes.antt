@@ -13,8 +13,8 @@ use Rattle.spec_history.specs.Sessions.{SessionTransaction, viewed}
 use Rattle.spec_history.specs.Worlds.{first, run}
 use Rattle.spec_history.specs.Guards.{Good}
 use Rattle.spec_history.specs.Histories.{IsIdle}
-use Rattle.spec_history.proofs.TransactionLogs.{has_book}
-use Rattle.spec_history.proofs.TranscriptsSoFar.{told}
+use Rattle.law_protocol_steps.proofs.TransactionLogs.{has_book}
+use Rattle.law_protocol_steps.proofs.TranscriptsSoFar.{told}
 
 abbrev open_all : Option Transaction → List Fact → Option Transaction
 open_all o [] = o

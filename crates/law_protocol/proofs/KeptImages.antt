@@ -9,7 +9,7 @@ use Rattle.spec_history.specs.Facts.{Fact, facts, facts_of}
 use Rattle.spec_history.specs.Sessions.{gone, transcript_of}
 use Rattle.spec_history.specs.Transcripts.{Transcript}
 use Rattle.spec_history.specs.Worlds.{first, run}
-use Rattle.spec_history.proofs.TranscriptsSoFar.{told}
+use Rattle.law_protocol_steps.proofs.TranscriptsSoFar.{told}
 use Rattle.law_protocol_steps.specs.AtTheEnd.{HasItsImages, image_items}
 use Rattle.law_protocol_steps.specs.Cells.{Cell}
 use Rattle.law_protocol_steps.specs.Parts.{Past}

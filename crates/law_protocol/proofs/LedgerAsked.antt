@@ -11,7 +11,7 @@ use Rattle.spec_history.specs.Lists.{Each, In}
 use Rattle.spec_history.specs.Acts.{SessionAct, by, closes, assigns_id}
 use Rattle.spec_history.specs.Sessions.{SessionState}
 use Rattle.spec_history.specs.Worlds.{World, first, run, step}
-use Rattle.spec_history.proofs.Cuts.{good_append, run_append}
+use Rattle.law_protocol_steps.proofs.Cuts.{good_append, run_append}
 use Rattle.law_protocol_steps.specs.Server.{Server}
 use Rattle.law_protocol_steps.specs.ActsOf.{closings}
 use Rattle.law_protocol_steps.specs.Cells.{Cell, Ledger, LedgerCell, ledger_at, holds_at, pending_in}

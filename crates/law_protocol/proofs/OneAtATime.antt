@@ -14,9 +14,9 @@ use Rattle.spec_history.specs.Transactions.{End, unfixed, listed}
 use Rattle.sql_types.specs.declared.reply.Reply.{Reply}
 use Rattle.spec_history.specs.Transcripts.{EndLine, committed_at, ended_after, statement, end_of_session}
 use Rattle.spec_history.specs.Worlds.{World, first, run, step}
-use Rattle.spec_history.proofs.Cuts.{good_append, run_append}
-use Rattle.spec_history.proofs.Settles.{in_append, in_right}
-use Rattle.spec_history.proofs.Setup.{silent}
+use Rattle.law_protocol_steps.proofs.Cuts.{good_append, run_append}
+use Rattle.law_protocol_steps.proofs.Settles.{in_append, in_right}
+use Rattle.law_protocol_steps.proofs.Setup.{silent}
 use Rattle.law_protocol_steps.specs.Cells.{Cell}
 use Rattle.law_protocol_steps.specs.AnonymousActs.{AnonymousAct, did, anonymous_act}
 use Rattle.law_protocol_steps.specs.InactiveExcept.{IsInactive, InactiveExcept}

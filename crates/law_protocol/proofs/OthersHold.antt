@@ -19,7 +19,7 @@ use Rattle.spec_history.specs.Real.{requests_catalog, requests_cell}
 use Rattle.spec_history.specs.Sessions.{SessionTransaction, SessionState, view, viewed}
 use Rattle.spec_history.specs.Transactions.{Transaction, listed, unfixed}
 use Rattle.spec_history.specs.Worlds.{World, first, run}
-use Rattle.spec_history.proofs.Settles.{in_append, in_left}
+use Rattle.law_protocol_steps.proofs.Settles.{in_append, in_left}
 use Rattle.law_protocol_steps.specs.Server.{Server}
 use Rattle.law_protocol_steps.specs.Cells.{Cell, catalog_at}
 use Rattle.law_protocol_steps.specs.Contents.{Contents, contents}

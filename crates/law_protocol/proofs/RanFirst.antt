@@ -11,10 +11,10 @@ use Rattle.spec_history.specs.Sessions.{Phase, unborn, runs, gone, SessionState,
 use Rattle.spec_history.specs.Transactions.{listed}
 use Rattle.spec_history.specs.Transcripts.{Transcript}
 use Rattle.spec_history.specs.Worlds.{World, first, step, run}
-use Rattle.spec_history.proofs.Agreed.{there_is}
-use Rattle.spec_history.proofs.Cuts.{good_append, run_append}
-use Rattle.spec_history.proofs.Settles.{in_append}
-use Rattle.spec_history.proofs.Setup.{silent}
+use Rattle.law_protocol_steps.proofs.Agreed.{there_is}
+use Rattle.law_protocol_steps.proofs.Cuts.{good_append, run_append}
+use Rattle.law_protocol_steps.proofs.Settles.{in_append}
+use Rattle.law_protocol_steps.proofs.Setup.{silent}
 use Rattle.law_protocol_steps.specs.AtTheEnd.{AllRest, AreWritten, SessionsDiffer, WasKnown}
 use Rattle.law_protocol_steps.specs.Cells.{Cell}
 use Rattle.law_protocol_steps.specs.Parts.{Numbers, BeganAfter, WasOver, Past, IsPast}

@@ -5,7 +5,7 @@ use Rattle.spec_history.specs.Sessions.{gone, runs, unborn, transcript_of}
 use Rattle.spec_history.specs.Transactions.{listed}
 use Rattle.spec_history.specs.Transcripts.{Transcript}
 use Rattle.spec_history.specs.Worlds.{first, run}
-use Rattle.spec_history.proofs.Settles.{in_append, in_left, in_right}
+use Rattle.law_protocol_steps.proofs.Settles.{in_append, in_left, in_right}
 use Rattle.law_protocol_steps.specs.Alone.{Alone, Alones, none, more}
 use Rattle.law_protocol_steps.specs.Alone as alone
 use Rattle.spec_history.specs.Transcripts.{end_of_session}

@@ -3,8 +3,8 @@ use Rattle.std.proofs.Common.{List, [], length, None, subst}
 use Rattle.spec_history.specs.ExactRefusals.{StepOrder}
 use Rattle.spec_history.specs.Histories.{IsWhole, SessionsBelow, lines_of, rows_of}
 use Rattle.spec_history.specs.Worlds.{first}
-use Rattle.spec_history.proofs.ByLocks.{exact_refusals}
-use Rattle.spec_history.proofs.Ordered as ordered
+use Rattle.law_protocol_steps.proofs.ByLocks.{exact_refusals}
+use Rattle.law_protocol_steps.proofs.Ordered as ordered
 use Rattle.law_protocol_steps.specs.Cells.{Cell}
 use Rattle.law_protocol_steps.specs.LocksDecideIn.{LocksDecideIn}
 use Rattle.law_protocol_steps.specs.Seats.{SeatState}

@@ -52,7 +52,7 @@ use Rattle.law_protocol_steps.specs.Follows.{Follows, alone_lines, alones_lines,
 use Rattle.law_protocol.proofs.FollowsMore.{follows_append}
 use Rattle.law_protocol.proofs.FollowsSteps.{visit_follows}
 use Rattle.spec_history.specs.Worlds.{World, first, run}
-use Rattle.spec_history.proofs.Cuts.{run_append}
+use Rattle.law_protocol_steps.proofs.Cuts.{run_append}
 use Rattle.law_protocol_steps.specs.InactiveExcept.{InactiveExcept}
 use Rattle.law_protocol_steps.specs.OneByOne.{IsOneAlone, OneByOne}
 use Rattle.law_protocol_steps.proofs.ByLocksMore.{alone_append}

@@ -14,8 +14,8 @@ use Rattle.spec_history.specs.Sessions.{SessionState, gone, unborn, transcript_o
 use Rattle.spec_history.specs.Transactions.{listed}
 use Rattle.spec_history.specs.Transcripts.{Transcript}
 use Rattle.spec_history.specs.Worlds.{first, run}
-use Rattle.spec_history.proofs.Agreed.{agrees}
-use Rattle.spec_history.proofs.Settles.{in_append}
+use Rattle.law_protocol_steps.proofs.Agreed.{agrees}
+use Rattle.law_protocol_steps.proofs.Settles.{in_append}
 use Rattle.law_protocol_steps.specs.AtTheEnd.{AllRest, IsWritten, AreWritten, NamesDiffer, SessionsDiffer, WroteAt}
 use Rattle.law_protocol_steps.specs.Cells.{Cell}
 use Rattle.law_protocol_steps.specs.Parts.{Numbers, Past}

@@ -21,7 +21,7 @@ use Rattle.spec_history.specs.Digests.{Digest, IsDigest}
 use Rattle.spec_history.specs.Acts.{issues, lacks, closes}
 use Rattle.spec_history.specs.Sessions.{SessionTransaction, SessionState}
 use Rattle.spec_history.specs.Worlds.{first, run}
-use Rattle.spec_history.proofs.Settles.{in_append, in_left, in_right}
+use Rattle.law_protocol_steps.proofs.Settles.{in_append, in_left, in_right}
 use Rattle.spec_history.proofs.Trace.{each_append, each_weaker, count_append}
 use Rattle.law_protocol_steps.specs.Server.{Server}
 use Rattle.law_protocol_steps.specs.Cells.{LedgerCell, Cell, Ledger, ledger_at, pending_in, blocks_in}

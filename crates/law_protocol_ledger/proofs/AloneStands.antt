@@ -6,8 +6,8 @@ use Rattle.sql_types.specs.declared.reply.Reply.{Reply}
 use Rattle.sql_types.specs.declared.reply.Reply.TheVariants as reply
 use Rattle.sql_value.specs.declared.refusal.Refusal.TheVariants.{NoMemory}
 use Rattle.sql_types.specs.declared.statement.Stmt.{Stmt}
-use Rattle.spec_history.specs.Lists.{Text}
-use Rattle.spec_history.specs.Transcripts.{kind_of, statement}
+use Rattle.law_history.specs.Lists.{Text}
+use Rattle.law_history.specs.Transcripts.{kind_of, statement}
 use Rattle.spec_protocol.specs.Server.{Server}
 use Rattle.spec_protocol.specs.Cells.{Cell}
 use Rattle.spec_protocol.specs.Alone.{Alone, begins, builds, rests, takes, leaves, stops, refused_in, refused_out, refused_checked, no_memory, no_memory_then, saves, has_too_many, goes_back, has_no_savepoint, is_back, answers, answers_end, has_left, IsUnfixed, GoesOn}
@@ -24,10 +24,10 @@ use Rattle.law_protocol_changes.proofs.StepsQuiet.{outside_stands, leaves_stands
 use Rattle.law_protocol_ledger.proofs.StepsRole.{role_stands, begin_stands}
 use Rattle.law_protocol_changes.proofs.StepsSaid.{done_is, refused_there, saved, too_many, no_savepoint}
 use Rattle.law_protocol_ledger.proofs.StepsTake.{taken_none, taken_some, answered_none, answered_some}
-use Rattle.spec_history.specs.Acts.{SessionAct}
+use Rattle.law_history.specs.Acts.{SessionAct}
 use Rattle.spec_protocol.specs.ActsOf.{failed_in, alone_acts}
 use Rattle.law_protocol_changes.proofs.GoesOn.{unacted}
-use Rattle.spec_history.specs.Acts as act
+use Rattle.law_history.specs.Acts as act
 
 module _ (v : Server) (cells : List Cell) (seats : List SeatState) {history : History} (st : Stands v history cells seats) (j : ℕ) (s : SeatState) (there : get_elem? seats j ≡ some s) where
   abbrev Then : List SessionAct → SeatState → Type 0

@@ -15,7 +15,7 @@ use Rattle.spec_model.specs.ScriptRequests.{text_requests, script_requests}
 use Rattle.law_frame.proofs.Definitions.{cell_requests_share}
 use Rattle.law_frame.proofs.LeftScripts.{script_leaves_table}
 use Rattle.law_frame.proofs.SameEnds.{IsShort}
-use Rattle.spec_history.specs.Lists.{Text, Each, In}
+use Rattle.law_history.specs.Lists.{Text, Each, In}
 use Rattle.spec_protocol.specs.Server.{Server}
 use Rattle.spec_protocol.specs.Cells.{catalog_at}
 use Rattle.spec_protocol.specs.Contents.{Contents}

@@ -27,12 +27,12 @@ use Rattle.spec_model.specs.Touched.{touched}
 use Rattle.spec_model.specs.Undo.{versions_undone}
 use Rattle.law_frame.proofs.AtTable.{rising_at, before_at}
 use Rattle.law_frame.proofs.LegalSound.{legal_sound}
-use Rattle.spec_history.specs.Lists.{Text, Each, In}
-use Rattle.spec_history.specs.Journals.{ids_of}
-use Rattle.spec_history.specs.Refusals.{EndsAt}
-use Rattle.spec_history.specs.Transactions.{unfixed, committed}
-use Rattle.spec_history.specs.Acts.{SessionAct, by}
-use Rattle.spec_history.proofs.Trace.{each_weaker}
+use Rattle.law_history.specs.Lists.{Text, Each, In}
+use Rattle.law_history.specs.Journals.{ids_of}
+use Rattle.law_history.specs.Refusals.{EndsAt}
+use Rattle.law_history.specs.Transactions.{unfixed, committed}
+use Rattle.law_history.specs.Acts.{SessionAct, by}
+use Rattle.law_history.proofs.Trace.{each_weaker}
 use Rattle.spec_protocol.specs.Server.{Server}
 use Rattle.spec_protocol.specs.Cells.{LedgerCell, Cell, Ledger, ledger_at, catalog_at, cell_of, Index, TableCell}
 use Rattle.spec_protocol.specs.CommittedTxs.{end_committed, committed as committed_at}
@@ -46,7 +46,7 @@ use Rattle.spec_protocol.specs.LocksCover.{KeepsLocks, IsGot, IsGotAt, LocksCove
 use Rattle.spec_protocol.specs.TreesAreOfEvents.{AreOpenSavepoints, TreesAreOfEvents}
 use Rattle.spec_protocol.specs.LocksAgree.{LocksAgree}
 use Rattle.spec_protocol.specs.TranscriptsAgree.{TranscriptsAgree}
-use Rattle.spec_history.specs.Facts.{said, placed}
+use Rattle.law_history.specs.Facts.{said, placed}
 use Rattle.spec_protocol.specs.OpenOnes.{last_line}
 use Rattle.spec_protocol.specs.TranscriptsSoFar.{Fits, FitsWith, FitsOwn, IsSaid}
 use Rattle.law_protocol_changes.proofs.TranscriptActs.{GoesFrom}
@@ -101,7 +101,7 @@ use Rattle.law_protocol_ledger.proofs.CommitsStand.{commits_stand}
 use Rattle.law_protocol_ledger.proofs.NoneWanting.{none_wanting}
 use Rattle.spec_protocol.specs.ActsOf.{commit_acts}
 use Rattle.law_protocol_changes.proofs.GoesOn.{Owned, each_so, ActsBy, then_more}
-use Rattle.spec_history.specs.Acts as act
+use Rattle.law_history.specs.Acts as act
 use Rattle.sql_types.specs.declared.entry.TxEntry.{TxEntry}
 
 first_looked : (place : SessionStatus) → LookedFirst place → HasLooked place

@@ -6,7 +6,7 @@ use Rattle.spec_protocol.specs.Cells.{Cell, catalog_at, cell_of}
 use Rattle.spec_protocol.specs.Contents.{Contents, HasAlone, Known, contents, known}
 use Rattle.law_frame.proofs.UndoneWhole.{CreatesNot, undone_at}
 use Rattle.spec_model.specs.Catalog.{Defs, Tables, defs_of, versions_of}
-use Rattle.spec_history.specs.Lists.{Each, In, Text}
+use Rattle.law_history.specs.Lists.{Each, In, Text}
 use Rattle.law_protocol_changes.proofs.Excluded.{HasNoX, HasX, has_x_or_not}
 use Rattle.spec_protocol.specs.OpenOnes.{HasOpen, script_end, texts_so_far}
 use Rattle.spec_protocol.specs.RequestsIn.{Holds, of_cell, requests_at, requests_in}
@@ -41,7 +41,7 @@ use Rattle.law_protocol_ledger.proofs.CommittedMore.{same_by_undo}
 use Rattle.law_protocol_changes.proofs.OthersScripts.{same_end}
 use Rattle.spec_model.specs.ScriptRequests.{text_requests}
 use Rattle.spec_model.specs.Undo.{undone, versions_undone}
-use Rattle.spec_history.specs.Transactions.{unfixed}
+use Rattle.law_history.specs.Transactions.{unfixed}
 use Rattle.law_protocol_changes.proofs.Taken.{whole_alone}
 use Rattle.sql_types.specs.declared.lock.Mode.TheVariants.{X}
 

@@ -9,21 +9,21 @@ use Rattle.spec_model.specs.Catalog.{Tables, defs_of}
 use Rattle.spec_model.specs.Events.{all_events}
 use Rattle.spec_model.specs.Journals.{tx_count, serial, AgreesWith}
 use Rattle.spec_model.specs.Script.{script}
-use Rattle.spec_history.specs.Lists.{Text, Each, In}
-use Rattle.spec_history.specs.Serial.{texts_of, replies_of, ScriptReplays}
-use Rattle.spec_history.specs.Serial as whole
-use Rattle.spec_history.specs.Facts.{placed}
+use Rattle.law_history.specs.Lists.{Text, Each, In}
+use Rattle.law_history.specs.Serial.{texts_of, replies_of, ScriptReplays}
+use Rattle.law_history.specs.Serial as whole
+use Rattle.law_history.specs.Facts.{placed}
 use Rattle.law_protocol_changes.proofs.TranscriptActs.{GoesFrom, goes_on}
 use Rattle.law_protocol_changes.proofs.Heard.{heard_still}
-use Rattle.spec_history.specs.Transactions.{unfixed, committed, on_some}
-use Rattle.spec_history.specs.Transcripts.{Transcript}
-use Rattle.spec_history.specs.Journals.{times}
-use Rattle.spec_history.specs.Acts.{commits, Act, by}
-use Rattle.spec_history.specs.Sessions.{SessionTransaction, SessionState, fixes, acted}
-use Rattle.spec_history.specs.Worlds.{first, run, item_of, tables}
-use Rattle.spec_history.specs.Guards.{Commits, NoTable}
-use Rattle.spec_history.proofs.Settles.{in_append, in_left, in_right}
-use Rattle.spec_history.proofs.Trace.{count_append}
+use Rattle.law_history.specs.Transactions.{unfixed, committed, on_some}
+use Rattle.law_history.specs.Transcripts.{Transcript}
+use Rattle.law_history.specs.Journals.{times}
+use Rattle.law_history.specs.Acts.{commits, Act, by}
+use Rattle.law_history.specs.Sessions.{SessionTransaction, SessionState, fixes, acted}
+use Rattle.law_history.specs.Worlds.{first, run, item_of, tables}
+use Rattle.law_history.specs.Guards.{Commits, NoTable}
+use Rattle.law_history.proofs.Settles.{in_append, in_left, in_right}
+use Rattle.law_history.proofs.Trace.{count_append}
 use Rattle.spec_protocol.specs.Server.{Server}
 use Rattle.spec_protocol.specs.Cells.{LedgerCell}
 use Rattle.spec_protocol.specs.Seats.{OpenTransaction, answering, inside, Session, Written, Role, session, SeatState}

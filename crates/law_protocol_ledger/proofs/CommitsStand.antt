@@ -26,12 +26,12 @@ use Rattle.law_frame.proofs.LegalSound.{legal_sound}
 use Rattle.law_frame.proofs.SameEnds.{IsShort}
 use Rattle.law_frame.proofs.UndoneTables.{none_undone}
 use Rattle.law_frame.proofs.UndoneWhole.{CreatesNot, opened_undone, one_undone, undone_at}
-use Rattle.spec_history.specs.Lists.{Text, Each, In}
-use Rattle.spec_history.specs.Journals.{ids_of}
-use Rattle.spec_history.specs.Refusals.{EndsAt}
-use Rattle.spec_history.specs.Transactions.{unfixed, committed}
-use Rattle.spec_history.specs.Acts.{SessionAct, by}
-use Rattle.spec_history.proofs.Trace.{each_weaker}
+use Rattle.law_history.specs.Lists.{Text, Each, In}
+use Rattle.law_history.specs.Journals.{ids_of}
+use Rattle.law_history.specs.Refusals.{EndsAt}
+use Rattle.law_history.specs.Transactions.{unfixed, committed}
+use Rattle.law_history.specs.Acts.{SessionAct, by}
+use Rattle.law_history.proofs.Trace.{each_weaker}
 use Rattle.spec_protocol.specs.Server.{Server}
 use Rattle.spec_protocol.specs.Cells.{LedgerCell, Cell, Ledger, ledger_at}
 use Rattle.spec_protocol.specs.CommittedTxs.{end_committed, committed as committed_at}
@@ -45,8 +45,8 @@ use Rattle.spec_protocol.specs.LocksCover.{KeepsLocks, IsNamed, IsGot, IsGotAt, 
 use Rattle.spec_protocol.specs.TreesAreOfEvents.{AreOpenSavepoints, TreesAreOfEvents}
 use Rattle.spec_protocol.specs.LocksAgree.{LocksAgree}
 use Rattle.spec_protocol.specs.TranscriptsAgree.{TranscriptsAgree}
-use Rattle.spec_history.specs.Transcripts.{kind_of}
-use Rattle.spec_history.specs.Facts.{said, placed}
+use Rattle.law_history.specs.Transcripts.{kind_of}
+use Rattle.law_history.specs.Facts.{said, placed}
 use Rattle.spec_protocol.specs.Parts.{asking}
 use Rattle.spec_protocol.specs.OpenOnes.{last_line}
 use Rattle.spec_protocol.specs.TranscriptsSoFar.{Fits, FitsWith, FitsOwn, IsSaid}
@@ -86,7 +86,7 @@ use Rattle.law_protocol_ledger.proofs.CommitRows.{rows_then, sound_left, undone_
 use Rattle.law_protocol_changes.proofs.CommitsLedger.{counts}
 use Rattle.spec_protocol.specs.ActsOf.{commit_acts}
 use Rattle.law_protocol_changes.proofs.GoesOn.{Owned, each_so, ActsBy, then_more}
-use Rattle.spec_history.specs.Acts as act
+use Rattle.law_history.specs.Acts as act
 use Rattle.sql_types.specs.declared.entry.TxEntry.{TxEntry}
 
 in_texts : (a : Text) (xs ys : List Line) (zs : List Text) → In a (map (λ l. l.0) xs ++ zs) → In a (map (λ l. l.0) (xs ++ ys) ++ zs)

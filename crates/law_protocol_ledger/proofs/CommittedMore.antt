@@ -9,8 +9,8 @@ use Rattle.law_frame.proofs.Alls.{all_filter}
 use Rattle.law_frame.proofs.ByTest.{by_test}
 use Rattle.law_frame.proofs.SameKeys.{IsAlone, each_alone}
 use Rattle.law_frame.proofs.SameTouched.{filter_both, rising_filter}
-use Rattle.spec_history.specs.Lists.{Each, In}
-use Rattle.spec_history.proofs.Trace.{each_weaker}
+use Rattle.law_history.specs.Lists.{Each, In}
+use Rattle.law_history.proofs.Trace.{each_weaker}
 use Rattle.spec_protocol.specs.CommittedTxs.{end_committed, with_committed_end, committed}
 use Rattle.std.specs.List.{AllByRecursion, filter, list_any}
 use Rattle.std.specs.declared.cmp.Ordering.TheVariants.{Less}

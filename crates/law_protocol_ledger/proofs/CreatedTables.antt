@@ -10,7 +10,7 @@ use Rattle.spec_protocol.specs.Server.{Server}
 use Rattle.spec_model.specs.Script.{State, Step, by_statement, script, start}
 use Rattle.sql_types.specs.declared.statement.Stmt.{Stmt}
 use Rattle.sql_types.specs.declared.table.TableDef.{TableDef}
-use Rattle.spec_history.specs.Lists.{Text}
+use Rattle.law_history.specs.Lists.{Text}
 use Rattle.spec_protocol.specs.Cells.{catalog_at, cell_of}
 use Rattle.spec_model.specs.Locks.{catalog_request, cell_requests}
 use Rattle.law_protocol_changes.proofs.NewLine.{changed_else}
@@ -25,7 +25,7 @@ use Rattle.law_protocol_changes.proofs.CreateVisits.{not_columns, not_tables}
 use Rattle.law_protocol_changes.proofs.Creating.{one_text, step_is}
 use Rattle.law_frame.proofs.ChangeSets.{carries_change_set_out}
 use Rattle.spec_model.specs.ScriptRequests.{text_requests}
-use Rattle.spec_history.specs.Real.{requests_catalog}
+use Rattle.law_history.specs.Real.{requests_catalog}
 
 -- a definition depends on the definitions alone
 same_defined : (d : Definition) (U T : Tables) → defs_of U ≡ defs_of T → defs_of (defined d U) ≡ defs_of (defined d T)

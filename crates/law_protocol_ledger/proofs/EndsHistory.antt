@@ -7,17 +7,17 @@ use Rattle.spec_model.specs.Events.{all_events}
 use Rattle.spec_model.specs.Journals.{tx_count, serial}
 use Rattle.spec_model.specs.Replies.{reply_text}
 use Rattle.spec_model.specs.Script.{script}
-use Rattle.spec_history.specs.Lists.{Text, In}
-use Rattle.spec_history.specs.Serial.{texts_of, replies_of}
-use Rattle.spec_history.specs.Serial as whole
-use Rattle.spec_history.specs.Facts.{passed, failed}
+use Rattle.law_history.specs.Lists.{Text, In}
+use Rattle.law_history.specs.Serial.{texts_of, replies_of}
+use Rattle.law_history.specs.Serial as whole
+use Rattle.law_history.specs.Facts.{passed, failed}
 use Rattle.law_protocol_changes.proofs.TranscriptActs.{GoesFrom, goes_on}
 use Rattle.law_protocol_changes.proofs.Heard.{heard_answer, heard_now, heard_still}
-use Rattle.spec_history.specs.Transactions.{unfixed, ended, on_some}
-use Rattle.spec_history.specs.Acts.{ends, fails, Act, by}
-use Rattle.spec_history.specs.Sessions.{SessionTransaction, SessionState, fixes, hears, acted}
-use Rattle.spec_history.specs.Worlds.{first, run, tables}
-use Rattle.spec_history.specs.Guards.{HasOpenTransaction, Ends}
+use Rattle.law_history.specs.Transactions.{unfixed, ended, on_some}
+use Rattle.law_history.specs.Acts.{ends, fails, Act, by}
+use Rattle.law_history.specs.Sessions.{SessionTransaction, SessionState, fixes, hears, acted}
+use Rattle.law_history.specs.Worlds.{first, run, tables}
+use Rattle.law_history.specs.Guards.{HasOpenTransaction, Ends}
 use Rattle.spec_protocol.specs.Server.{Server}
 use Rattle.spec_protocol.specs.Cells.{LedgerCell}
 use Rattle.spec_protocol.specs.Seats.{SessionStatus, OpenTransaction, Session, session, SeatState}
@@ -25,8 +25,8 @@ use Rattle.spec_protocol.specs.OpenOnes.{text_at}
 use Rattle.spec_protocol.specs.Moves.{ending, at_place, sits, marking}
 use Rattle.spec_protocol.specs.Parts.{asking, AreTransactions, IsNow}
 use Rattle.std.proofs.lemmas.Bool.{eq-eqb}
-use Rattle.spec_history.specs.Acts.{SessionAct}
-use Rattle.spec_history.specs.Worlds.{World, step}
+use Rattle.law_history.specs.Acts.{SessionAct}
+use Rattle.law_history.specs.Worlds.{World, step}
 use Rattle.spec_protocol.specs.Seats.{Written, Role}
 use Rattle.spec_protocol.specs.TranscriptsAgree.{session_moments}
 use Rattle.law_protocol_changes.proofs.OneMore.{acted_all, by_each, all_agree_then, owner_is}

@@ -2,13 +2,13 @@
 use Rattle.std.proofs.Common.{◌≡◌, ℕ, Bool, true, false, List, [], ◌∷◌, None, refl, sym, ◌∙◌, append-nil}
 use Rattle.std.proofs.lemmas.Bool.{eq-eqb}
 use Rattle.std.specs.Prelude.{◌==◌, if◌then◌else◌}
-use Rattle.spec_history.specs.Lists.{Text}
-use Rattle.spec_history.specs.Meaning.{Meaning}
-use Rattle.spec_history.specs.Acts.{SessionAct, starts, takes, assigns_id, looks, says, fails, meets, commits, ends, releases_locks, issues, keeps, lacks, answers, stops, Act, by, closes, of}
-use Rattle.spec_history.specs.Sessions.{gone, phase_by, acted}
-use Rattle.spec_history.specs.Guards.{AtRest, IsEnabled, Good}
-use Rattle.spec_history.specs.Worlds.{World, first, step, run}
-use Rattle.spec_history.proofs.Setup.{silent}
+use Rattle.law_history.specs.Lists.{Text}
+use Rattle.law_history.specs.Meaning.{Meaning}
+use Rattle.law_history.specs.Acts.{SessionAct, starts, takes, assigns_id, looks, says, fails, meets, commits, ends, releases_locks, issues, keeps, lacks, answers, stops, Act, by, closes, of}
+use Rattle.law_history.specs.Sessions.{gone, phase_by, acted}
+use Rattle.law_history.specs.Guards.{AtRest, IsEnabled, Good}
+use Rattle.law_history.specs.Worlds.{World, first, step, run}
+use Rattle.law_history.proofs.Setup.{silent}
 
 abbrev GoneRest : World → Type 0
 GoneRest w = (n : ℕ) → (w.at n).phase ≡ gone → AtRest (w.at n)

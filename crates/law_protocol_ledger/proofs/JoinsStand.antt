@@ -5,11 +5,11 @@ use Rattle.std.proofs.lemmas.Grind.{flat_map-append}
 use Rattle.std.specs.Prelude.{◌==◌, if◌then◌else◌}
 use mathlib.Core.Option.{some, some-injective}
 use lib.ListN.{get_elem?}
-use Rattle.spec_history.specs.Lists.{Each, In}
-use Rattle.spec_history.specs.Serial.{Differ}
-use Rattle.spec_history.specs.Transactions.{listed}
-use Rattle.spec_history.specs.Acts.{Act, of, marked}
-use Rattle.spec_history.proofs.Trace.{each_append, each_weaker}
+use Rattle.law_history.specs.Lists.{Each, In}
+use Rattle.law_history.specs.Serial.{Differ}
+use Rattle.law_history.specs.Transactions.{listed}
+use Rattle.law_history.specs.Acts.{Act, of, marked}
+use Rattle.law_history.proofs.Trace.{each_append, each_weaker}
 use Rattle.spec_protocol.specs.Server.{Server}
 use Rattle.spec_protocol.specs.Cells.{LedgerCell, Cell}
 use Rattle.spec_protocol.specs.Contents.{contents, known}

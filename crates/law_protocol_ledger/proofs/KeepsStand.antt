@@ -6,17 +6,17 @@ use Rattle.sql_value.specs.declared.refusal.Refusal.TheVariants.{SyntaxError, No
 use Rattle.sql_types.specs.declared.journal.JournalItem.{JournalItem}
 use Rattle.sql_types.specs.declared.reply.Reply.TheVariants as reply
 use Rattle.spec_model.specs.Journals.{tx_count}
-use Rattle.spec_history.specs.Facts.{facts_outside, image}
-use Rattle.spec_history.specs.Transcripts.{kind_of, Kind, keep}
+use Rattle.law_history.specs.Facts.{facts_outside, image}
+use Rattle.law_history.specs.Transcripts.{kind_of, Kind, keep}
 use Rattle.sql_types.specs.declared.statement.Stmt.TheVariants as stmt
-use Rattle.spec_history.specs.Sessions.{acted}
+use Rattle.law_history.specs.Sessions.{acted}
 use Rattle.spec_protocol.specs.Seats.{begun, KeptImage, SessionStatus}
 use Rattle.law_protocol_changes.proofs.TranscriptActs.{goes_on, GoesFrom}
-use Rattle.spec_history.specs.Lists.{In}
-use Rattle.spec_history.specs.Acts.{keeps}
-use Rattle.spec_history.specs.Sessions.{SessionState}
-use Rattle.spec_history.specs.Worlds.{first, run}
-use Rattle.spec_history.proofs.Trace.{each_append}
+use Rattle.law_history.specs.Lists.{In}
+use Rattle.law_history.specs.Acts.{keeps}
+use Rattle.law_history.specs.Sessions.{SessionState}
+use Rattle.law_history.specs.Worlds.{first, run}
+use Rattle.law_history.proofs.Trace.{each_append}
 use Rattle.spec_protocol.specs.Server.{Server, journal_image}
 use Rattle.spec_protocol.specs.Cells.{LedgerCell, Cell, Ledger, ledger_at}
 use Rattle.spec_protocol.specs.Contents.{contents, known}
@@ -30,7 +30,7 @@ use Rattle.law_protocol_changes.proofs.Ids.{Running, running}
 use Rattle.law_protocol_changes.proofs.LedgerVisit.{the_ledger}
 use Rattle.law_protocol_changes.proofs.OneMore.{Acts, agrees_then, agrees_owner}
 use Rattle.law_protocol_changes.proofs.OpenSeats.{owns_none}
-use Rattle.spec_history.specs.InPlace.{ComesAt}
+use Rattle.law_history.specs.InPlace.{ComesAt}
 use Rattle.spec_protocol.specs.TranscriptsSoFar.{FitsOutside, image_at, open_before, shown_at}
 use Rattle.spec_protocol.specs.ImageVisits.{KeepsImage}
 use Rattle.law_protocol_changes.proofs.AloneTurns.{alone_after}

@@ -8,9 +8,9 @@ use Rattle.spec_model.specs.Rows.{EventId}
 use Rattle.spec_model.specs.Catalog.{Defs, defs_of, versions_of}
 use Rattle.spec_model.specs.Agreement.{columns_at}
 use Rattle.spec_model.specs.Reach.{lets_change}
-use Rattle.spec_history.specs.Lists.{Each}
-use Rattle.spec_history.specs.Transactions.{unfixed}
-use Rattle.spec_history.proofs.Trace.{each_weaker}
+use Rattle.law_history.specs.Lists.{Each}
+use Rattle.law_history.specs.Transactions.{unfixed}
+use Rattle.law_history.proofs.Trace.{each_weaker}
 use Rattle.spec_protocol.specs.Server.{Server}
 use Rattle.spec_protocol.specs.Cells.{TableCell, catalog_at, Creator}
 use Rattle.spec_protocol.specs.Contents.{Contents, Known, HasAlone}

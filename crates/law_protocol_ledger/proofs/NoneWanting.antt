@@ -3,14 +3,14 @@ use Rattle.std.proofs.Common.{◌≡◌, ◌≢◌, ◌<◌, ℕ, Bool, true, fa
 use Rattle.std.proofs.lemmas.Bool.{cases_lt}
 use mathlib.Core.Option.{some}
 use lib.ListN.{get_elem?}
-use Rattle.spec_history.specs.Acts.{Act}
-use Rattle.spec_history.specs.Guards.{NoTable}
-use Rattle.spec_history.specs.Lists.{Each, In}
-use Rattle.spec_history.specs.Sessions.{SessionTransaction, SessionState, gone}
-use Rattle.spec_history.specs.Transactions.{listed, unfixed}
-use Rattle.spec_history.specs.Worlds.{first, run}
-use Rattle.spec_history.proofs.Settles.{in_append}
-use Rattle.spec_history.proofs.Trace.{each_weaker}
+use Rattle.law_history.specs.Acts.{Act}
+use Rattle.law_history.specs.Guards.{NoTable}
+use Rattle.law_history.specs.Lists.{Each, In}
+use Rattle.law_history.specs.Sessions.{SessionTransaction, SessionState, gone}
+use Rattle.law_history.specs.Transactions.{listed, unfixed}
+use Rattle.law_history.specs.Worlds.{first, run}
+use Rattle.law_history.proofs.Settles.{in_append}
+use Rattle.law_history.proofs.Trace.{each_weaker}
 use Rattle.spec_protocol.specs.Server.{Server}
 use Rattle.spec_protocol.specs.Cells.{LedgerCell}
 use Rattle.spec_protocol.specs.Seats.{OpenTransaction, Role, session, Session, SeatState, Written}

@@ -5,16 +5,16 @@ use Rattle.std.proofs.lemmas.Grind.{flat_map-append}
 use Rattle.std.specs.Prelude.{◌==◌, if◌then◌else◌}
 use mathlib.Core.Option.{some, some-injective}
 use lib.ListN.{get_elem?}
-use Rattle.spec_history.specs.Lists.{Each, In}
-use Rattle.spec_history.specs.Serial.{Differ}
-use Rattle.spec_history.specs.Facts.{Shows}
-use Rattle.spec_history.specs.Transactions.{listed}
-use Rattle.spec_history.specs.Acts.{SessionAct, Act, of, marked}
-use Rattle.spec_history.specs.Sessions.{SessionState, unborn, runs, gone, fresh, transcript_of}
-use Rattle.spec_history.specs.Worlds.{World, first, run}
-use Rattle.spec_history.specs.Guards.{Good}
-use Rattle.spec_history.proofs.Trace.{each_append, each_weaker}
-use Rattle.spec_history.proofs.Settles.{in_right}
+use Rattle.law_history.specs.Lists.{Each, In}
+use Rattle.law_history.specs.Serial.{Differ}
+use Rattle.law_history.specs.Facts.{Shows}
+use Rattle.law_history.specs.Transactions.{listed}
+use Rattle.law_history.specs.Acts.{SessionAct, Act, of, marked}
+use Rattle.law_history.specs.Sessions.{SessionState, unborn, runs, gone, fresh, transcript_of}
+use Rattle.law_history.specs.Worlds.{World, first, run}
+use Rattle.law_history.specs.Guards.{Good}
+use Rattle.law_history.proofs.Trace.{each_append, each_weaker}
+use Rattle.law_history.proofs.Settles.{in_right}
 use Rattle.spec_protocol.specs.Server.{Server}
 use Rattle.spec_protocol.specs.Cells.{LedgerCell}
 use Rattle.spec_protocol.specs.Seats.{Session, Written, Role, session, SeatState}

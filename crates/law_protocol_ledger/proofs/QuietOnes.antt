@@ -8,7 +8,7 @@ use Rattle.spec_model.specs.Agreement.{IdsFrom}
 use Rattle.spec_model.specs.Catalog.{Tables, defs_of, versions_of}
 use Rattle.spec_model.specs.Events.{events_of, all_events}
 use Rattle.law_frame.proofs.UndoneTables.{own_versions}
-use Rattle.spec_history.specs.Lists.{Text, Each, In}
+use Rattle.law_history.specs.Lists.{Text, Each, In}
 use Rattle.spec_protocol.specs.Seats.{Tree}
 use Rattle.spec_protocol.specs.Server.{Server}
 use Rattle.spec_protocol.specs.EventsIn.{events_in}

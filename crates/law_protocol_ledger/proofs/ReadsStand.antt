@@ -18,10 +18,10 @@ use Rattle.law_frame.proofs.Definitions.{nothing_done}
 use Rattle.law_frame.proofs.NoEvents as before
 use Rattle.law_frame.proofs.OtherTransactions.{others_sound}
 use Rattle.law_frame.proofs.LegalSound.{legal_sound}
-use Rattle.spec_history.specs.Lists.{Text, Each, In}
-use Rattle.spec_history.specs.Refusals.{EndsAt}
-use Rattle.spec_history.specs.Transactions.{unfixed, ended}
-use Rattle.spec_history.specs.Acts.{SessionAct, by}
+use Rattle.law_history.specs.Lists.{Text, Each, In}
+use Rattle.law_history.specs.Refusals.{EndsAt}
+use Rattle.law_history.specs.Transactions.{unfixed, ended}
+use Rattle.law_history.specs.Acts.{SessionAct, by}
 use Rattle.spec_protocol.specs.Server.{Server}
 use Rattle.spec_protocol.specs.Cells.{LedgerCell, Cell, Ledger, ledger_at, catalog_at}
 use Rattle.spec_protocol.specs.Contents.{Contents, Known, contents, known, HasAlone}
@@ -34,8 +34,8 @@ use Rattle.spec_protocol.specs.LocksCover.{KeepsLocks, HasLock, IsGotAt, IsDropp
 use Rattle.spec_protocol.specs.TranscriptsAgree.{TranscriptsAgree}
 use Rattle.sql_types.specs.declared.statement.Stmt.{Stmt}
 use Rattle.sql_types.specs.declared.table.TableDef.{TableDef}
-use Rattle.spec_history.specs.Transcripts.{kind_of}
-use Rattle.spec_history.specs.Facts.{said, failed, passed}
+use Rattle.law_history.specs.Transcripts.{kind_of}
+use Rattle.law_history.specs.Facts.{said, failed, passed}
 use Rattle.spec_protocol.specs.Parts.{asking}
 use Rattle.spec_protocol.specs.Seats.{StatementProgress, begun, replied, made}
 use Rattle.spec_protocol.specs.TranscriptsSoFar.{image_in, shown_alone}
@@ -61,7 +61,7 @@ use Rattle.law_protocol_changes.proofs.PlainPlaces.{IsBare, not_back, not_droppi
 use Rattle.law_protocol_changes.proofs.AloneTurns.{bare}
 use Rattle.spec_protocol.specs.ActsOf.{end_acts}
 use Rattle.law_protocol_changes.proofs.GoesOn.{Owned, ActsBy, then_more}
-use Rattle.spec_history.specs.Acts as act
+use Rattle.law_history.specs.Acts as act
 
 -- ---- lists
 

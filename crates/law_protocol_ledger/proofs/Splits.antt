@@ -4,9 +4,9 @@ use Rattle.std.proofs.lemmas.Bool.{eq-eqb, ne_eqb}
 use Rattle.std.specs.Prelude.{◌==◌, if◌then◌else◌}
 use mathlib.Core.Option.{some, some-injective, some-ne-none}
 use lib.ListN.{get_elem?}
-use Rattle.spec_history.specs.Lists.{Each, In}
-use Rattle.spec_history.specs.Acts.{Act}
-use Rattle.spec_history.proofs.Trace.{each_append, each_weaker}
+use Rattle.law_history.specs.Lists.{Each, In}
+use Rattle.law_history.specs.Acts.{Act}
+use Rattle.law_history.proofs.Trace.{each_append, each_weaker}
 use Rattle.spec_protocol.specs.Server.{Server}
 use Rattle.spec_protocol.specs.Cells.{LedgerCell, Cell}
 use Rattle.spec_protocol.specs.Contents.{contents, known}

@@ -16,13 +16,13 @@ use Rattle.spec_model.specs.Touched.{touched}
 use Rattle.spec_model.specs.Undo.{versions_undone, undone}
 use Rattle.law_frame.proofs.UndoneScripts.{copies_undone}
 use Rattle.law_frame.proofs.UndoneWhole.{undone_at}
-use Rattle.spec_history.specs.Lists.{Text, Each, In}
-use Rattle.spec_history.specs.Transcripts.{Kind, to_savepoint, kind_of}
-use Rattle.spec_history.specs.Facts.{said}
-use Rattle.spec_history.specs.Transactions.{unfixed}
-use Rattle.spec_history.specs.Sessions.{SessionTransaction, SessionState}
-use Rattle.spec_history.specs.Worlds.{first, run}
-use Rattle.spec_history.proofs.Trace.{each_weaker}
+use Rattle.law_history.specs.Lists.{Text, Each, In}
+use Rattle.law_history.specs.Transcripts.{Kind, to_savepoint, kind_of}
+use Rattle.law_history.specs.Facts.{said}
+use Rattle.law_history.specs.Transactions.{unfixed}
+use Rattle.law_history.specs.Sessions.{SessionTransaction, SessionState}
+use Rattle.law_history.specs.Worlds.{first, run}
+use Rattle.law_history.proofs.Trace.{each_weaker}
 use Rattle.spec_protocol.specs.Server.{Server}
 use Rattle.sql_types.specs.declared.lock.Hold.{Hold}
 use Rattle.spec_protocol.specs.Cells.{Cell, cell_of}
@@ -63,7 +63,7 @@ use Rattle.spec_model.specs.Reach.{lets_change}
 use Rattle.law_frame.proofs.Definitions.{opened_keep_defs}
 use Rattle.law_protocol_changes.proofs.ChangedRows.{undone_before, undone_of_key}
 use Rattle.law_protocol_changes.proofs.GoesOn.{nothing_added}
-use Rattle.spec_history.specs.Acts.{says}
+use Rattle.law_history.specs.Acts.{says}
 
 -- the savepoint of a frame
 record BackAt (v : Server) (id : ℕ) (f : OpenSavepoint) (fs : List OpenSavepoint) (ks : List Saved) : Type 0 where

@@ -25,15 +25,15 @@ use Rattle.spec_model.specs.Replies.{reply_text}
 use Rattle.spec_model.specs.Script.{State, by_statement, script}
 use Rattle.spec_model.specs.ScriptRequests.{text_requests}
 use Rattle.law_frame.proofs.Definitions.{opened_keep_defs, nothing_done}
-use Rattle.spec_history.specs.Lists.{Text, Each, In}
-use Rattle.spec_history.specs.Meaning.{Meaning}
-use Rattle.spec_history.specs.Transcripts.{Kind, rows, kind_of}
-use Rattle.spec_history.specs.Facts.{said, answer_facts}
-use Rattle.spec_history.specs.Transactions.{unfixed}
-use Rattle.spec_history.specs.Sessions.{SessionTransaction, SessionState}
-use Rattle.spec_history.specs.Worlds.{first, run}
-use Rattle.spec_history.specs.Guards.{IsAnswered}
-use Rattle.spec_history.proofs.Trace.{each_weaker}
+use Rattle.law_history.specs.Lists.{Text, Each, In}
+use Rattle.law_history.specs.Meaning.{Meaning}
+use Rattle.law_history.specs.Transcripts.{Kind, rows, kind_of}
+use Rattle.law_history.specs.Facts.{said, answer_facts}
+use Rattle.law_history.specs.Transactions.{unfixed}
+use Rattle.law_history.specs.Sessions.{SessionTransaction, SessionState}
+use Rattle.law_history.specs.Worlds.{first, run}
+use Rattle.law_history.specs.Guards.{IsAnswered}
+use Rattle.law_history.proofs.Trace.{each_weaker}
 use Rattle.spec_protocol.specs.Server.{Server}
 use Rattle.spec_protocol.specs.Cells.{Cell, catalog_at}
 use Rattle.spec_protocol.specs.Contents.{Contents, Known, contents, known, HasAlone}
@@ -59,7 +59,7 @@ use Rattle.law_protocol_changes.proofs.ScriptMore.{step_is}
 use Rattle.law_protocol_changes.proofs.StepsSaid.{done_is}
 use Rattle.spec_protocol.specs.ActsOf.{checked_acts}
 use Rattle.law_protocol_changes.proofs.GoesOn.{nothing_added, unacted}
-use Rattle.spec_history.specs.Acts.{says}
+use Rattle.law_history.specs.Acts.{says}
 
 -- ---- the check over the found definition alone
 

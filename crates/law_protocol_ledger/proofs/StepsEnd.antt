@@ -8,14 +8,14 @@ use Rattle.sql_types.specs.declared.reply.Reply.{Reply}
 use Rattle.sql_types.specs.declared.table.TableDef.{TableDef}
 use Rattle.sql_types.specs.declared.lock.Mode.TheVariants.{X}
 use Rattle.spec_model.specs.Locks.{whole}
-use Rattle.spec_history.specs.Lists.{Text, In}
-use Rattle.spec_history.specs.Transcripts.{EndLine, Entry, statement, end_of_session, Transcript}
-use Rattle.spec_history.specs.Facts.{Fact, over, open_after, open_at_end}
-use Rattle.spec_history.specs.Transactions.{End, unfixed, committed, ended}
-use Rattle.spec_history.specs.Acts.{releases_locks, answers, stops, by}
-use Rattle.spec_history.specs.Sessions.{SessionTransaction, SessionState, acted}
-use Rattle.spec_history.specs.Worlds.{World, first, run, step}
-use Rattle.spec_history.specs.Guards.{Fixed, images_of, Answers, AtRest, ReleasesLocks}
+use Rattle.law_history.specs.Lists.{Text, In}
+use Rattle.law_history.specs.Transcripts.{EndLine, Entry, statement, end_of_session, Transcript}
+use Rattle.law_history.specs.Facts.{Fact, over, open_after, open_at_end}
+use Rattle.law_history.specs.Transactions.{End, unfixed, committed, ended}
+use Rattle.law_history.specs.Acts.{releases_locks, answers, stops, by}
+use Rattle.law_history.specs.Sessions.{SessionTransaction, SessionState, acted}
+use Rattle.law_history.specs.Worlds.{World, first, run, step}
+use Rattle.law_history.specs.Guards.{Fixed, images_of, Answers, AtRest, ReleasesLocks}
 use Rattle.spec_protocol.specs.Server.{Server}
 use Rattle.spec_protocol.specs.Cells.{Cell, catalog_at}
 use Rattle.spec_protocol.specs.Contents.{Contents, Known, contents, known}

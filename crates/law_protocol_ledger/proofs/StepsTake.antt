@@ -4,16 +4,16 @@ use Rattle.std.specs.Prelude.{if◌then◌else◌}
 use mathlib.Core.Option.{some}
 use lib.ListN.{get_elem?}
 use Rattle.sql_types.specs.declared.reply.Reply.{Reply}
-use Rattle.spec_history.specs.Lists.{Text, Each, In}
-use Rattle.spec_history.specs.Transcripts.{Entry, statement, Transcript, kind_of, statements}
-use Rattle.spec_history.specs.Facts.{Fact, entry_facts, open_after, open_at_end}
-use Rattle.spec_history.specs.InPlace.{image_by, images_after}
-use Rattle.spec_history.specs.Transactions.{End, unfixed}
-use Rattle.spec_history.specs.Acts.{takes, answers}
-use Rattle.spec_history.specs.Sessions.{SessionTransaction, TranscriptSoFar, SessionState, runs, acted}
-use Rattle.spec_history.specs.Worlds.{first, run}
-use Rattle.spec_history.specs.Guards.{IsStatement, images_of, Answers}
-use Rattle.spec_history.proofs.Trace.{each_append}
+use Rattle.law_history.specs.Lists.{Text, Each, In}
+use Rattle.law_history.specs.Transcripts.{Entry, statement, Transcript, kind_of, statements}
+use Rattle.law_history.specs.Facts.{Fact, entry_facts, open_after, open_at_end}
+use Rattle.law_history.specs.InPlace.{image_by, images_after}
+use Rattle.law_history.specs.Transactions.{End, unfixed}
+use Rattle.law_history.specs.Acts.{takes, answers}
+use Rattle.law_history.specs.Sessions.{SessionTransaction, TranscriptSoFar, SessionState, runs, acted}
+use Rattle.law_history.specs.Worlds.{first, run}
+use Rattle.law_history.specs.Guards.{IsStatement, images_of, Answers}
+use Rattle.law_history.proofs.Trace.{each_append}
 use Rattle.spec_protocol.specs.Server.{Server}
 use Rattle.spec_protocol.specs.Cells.{Cell}
 use Rattle.spec_protocol.specs.Contents.{contents, known}
@@ -35,7 +35,7 @@ use Rattle.law_protocol_changes.proofs.Heard.{heard_still}
 use Rattle.law_protocol_changes.proofs.Ids.{Running, running, InTransaction, in_transaction}
 use Rattle.law_protocol_changes.proofs.OpenSeats.{owns_none}
 use Rattle.law_protocol_changes.proofs.PlainPlaces.{AddsNone}
-use Rattle.spec_history.proofs.Rising.{images}
+use Rattle.law_history.proofs.Rising.{images}
 
 -- an act that adds nothing
 pub plain_take : (text : Text) → IsPlain (takes text)
@@ -52,14 +52,14 @@ no_transaction (Some d) x y e = absurd e
 
 module _ (v : Server) (sess : SessionState) (x y : Session) (e : Entry) (then_open : Option ℕ) (pending : List Fact) where
   -- the transcript has this pending
-  pub paid : sess.phase ≡ runs → Each IsStatement sess.so_far.entries → Rattle.spec_history.specs.Guards.Answered sess.so_far.under e → (before : Option ℕ) → open_at_end None sess.so_far.entries ≡ before → sess.so_far.pending ≡ pending
+  pub paid : sess.phase ≡ runs → Each IsStatement sess.so_far.entries → Rattle.law_history.specs.Guards.Answered sess.so_far.under e → (before : Option ℕ) → open_at_end None sess.so_far.entries ≡ before → sess.so_far.pending ≡ pending
       → Pays v.meaning (images_of 0 sess.so_far.entries) before pending e then_open → Answers v.meaning sess e
   paid running statements answered before explicit shows p = record {
     running = running;
     none_ended = statements;
     answered = answered;
     shows = shows ∙ p.shows ∙ ap (λ (o : Option ℕ). entry_facts v.meaning o e) (sym explicit);
-    in_place = subst (λ (o : Option ℕ). Rattle.spec_history.specs.InPlace.InPlace v.meaning o (images_of 0 sess.so_far.entries) e) (sym explicit) p.in_place;
+    in_place = subst (λ (o : Option ℕ). Rattle.law_history.specs.InPlace.InPlace v.meaning o (images_of 0 sess.so_far.entries) e) (sym explicit) p.in_place;
   }
 
   -- and after the entry

@@ -12,9 +12,9 @@ use Rattle.spec_model.specs.Touched.{ends_by, is_touched, touched}
 use Rattle.spec_model.specs.Undo.{is_undone, end_left, end_undone, versions_undone}
 use Rattle.law_frame.proofs.NoClash.{system_texts}
 use Rattle.law_frame.proofs.LeftScripts.{script_leaves_table}
-use Rattle.spec_history.specs.Lists.{Text, In}
-use Rattle.spec_history.specs.Transactions.{unfixed}
-use Rattle.spec_history.proofs.Trace.{each_weaker}
+use Rattle.law_history.specs.Lists.{Text, In}
+use Rattle.law_history.specs.Transactions.{unfixed}
+use Rattle.law_history.proofs.Trace.{each_weaker}
 use Rattle.spec_protocol.specs.Server.{Server}
 use Rattle.spec_protocol.specs.Cells.{Cell, cell_of}
 use Rattle.spec_protocol.specs.Contents.{Contents, Known, contents, known}

@@ -4,7 +4,7 @@ ghost use Rattle.std.specs.Prelude.{◌≡◌, ◌+◌, ◌++◌, ℕ, Bool, Lis
 ghost use mathlib.Core.Option.{some};
 ghost use lib.ListN.{get_elem?};
 ghost use Rattle.spec_model.specs.Journals.{tx_count};
-ghost use Rattle.spec_history.specs.Acts.{assigns_id, closes, issues, keeps, lacks};
+ghost use Rattle.law_history.specs.Acts.{assigns_id, closes, issues, keeps, lacks};
 ghost use Rattle.spec_protocol.specs.ActsOf.{closings, commit_acts, end_acts};
 ghost use Rattle.spec_protocol.specs.Server.{Server};
 ghost use Rattle.spec_protocol.specs.Cells.{Cell, Ledger, LedgerCell, pending_in};

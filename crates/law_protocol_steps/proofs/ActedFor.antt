@@ -3,13 +3,13 @@ use Rattle.std.proofs.Common.{◌≡◌, ℕ, Bool, true, false, List, [], ◌�
 use Rattle.sql_types.specs.declared.reply.Reply.{Reply}
 use Rattle.spec_model.specs.Journals.{Line}
 use Rattle.spec_model.specs.Replies.{reply_text}
-use Rattle.spec_history.specs.Lists.{Text, Each}
-use Rattle.spec_history.specs.Guards.{Good}
-use Rattle.spec_history.specs.Transactions.{on_some}
-use Rattle.spec_history.specs.Acts.{SessionAct, by, looks, says}
-use Rattle.spec_history.specs.Sessions.{SessionTransaction, SessionState, asks, scripts}
-use Rattle.spec_history.specs.Worlds.{World, first, run, step}
-use Rattle.spec_history.proofs.Cuts.{good_append, run_append}
+use Rattle.law_history.specs.Lists.{Text, Each}
+use Rattle.law_history.specs.Guards.{Good}
+use Rattle.law_history.specs.Transactions.{on_some}
+use Rattle.law_history.specs.Acts.{SessionAct, by, looks, says}
+use Rattle.law_history.specs.Sessions.{SessionTransaction, SessionState, asks, scripts}
+use Rattle.law_history.specs.Worlds.{World, first, run, step}
+use Rattle.law_history.proofs.Cuts.{good_append, run_append}
 use Rattle.spec_protocol.specs.Server.{Server}
 use Rattle.spec_protocol.specs.Cells.{Cell}
 use Rattle.spec_protocol.specs.Seats.{OpenTransaction, SeatState, Session}
@@ -21,7 +21,7 @@ use Rattle.law_protocol_steps.proofs.OneMore.{by_each}
 use Rattle.law_protocol_steps.proofs.AnonymousActs.{at_after}
 use Rattle.law_protocol_steps.proofs.GoesOn.{each_so, one_number}
 use Rattle.law_protocol_steps.proofs.Ids.{InTransaction}
-use Rattle.spec_history.specs.Meaning.{Meaning}
+use Rattle.law_history.specs.Meaning.{Meaning}
 use Rattle.spec_protocol.specs.Parts.{Numbers}
 
 -- the sessions of a history

@@ -8,10 +8,10 @@ use Rattle.spec_model.specs.Journals.{Line}
 use Rattle.spec_model.specs.Replies.{reply_text}
 use Rattle.spec_model.specs.Script.{script}
 use Rattle.spec_model.specs.Touched.{touched}
-use Rattle.spec_history.specs.Lists.{Text, Each, In}
-use Rattle.spec_history.specs.Refusals.{EndsAt}
-use Rattle.spec_history.specs.Transactions.{unfixed}
-use Rattle.spec_history.specs.Acts.{Act, SessionAct, by}
+use Rattle.law_history.specs.Lists.{Text, Each, In}
+use Rattle.law_history.specs.Refusals.{EndsAt}
+use Rattle.law_history.specs.Transactions.{unfixed}
+use Rattle.law_history.specs.Acts.{Act, SessionAct, by}
 use Rattle.spec_protocol.specs.Server.{Server}
 use Rattle.spec_protocol.specs.Cells.{Cell, catalog_at}
 use Rattle.spec_protocol.specs.Contents.{Contents, Known, contents, known, HasAlone}
@@ -34,7 +34,7 @@ use Rattle.spec_protocol.specs.RowsAgree.{GoesBackTo, IsExplicitAt, key_rows}
 use Rattle.spec_protocol.specs.TablesAreSerial.{HasActed, IsAdding, IsCarried, IsIndexed}
 use Rattle.spec_model.specs.Runs.{MadeBefore}
 use Rattle.sql_types.specs.declared.table.TableDef.{TableDef}
-use Rattle.spec_history.specs.Worlds.{tables}
+use Rattle.law_history.specs.Worlds.{tables}
 
 -- the transaction with this script
 abbrev pub with_script : List Line → OpenTransaction → OpenTransaction

@@ -1,12 +1,12 @@
 -- What a transaction asked for stays asked for by whatever happens, until it holds nothing any more.
 use Rattle.std.proofs.Common.{◌≡◌, ◌≢◌, ℕ, Bool, List, [], ◌∷◌, Option, Some, None, refl, sym, ap, ◌∙◌, inr, ⊎_elim}
 use Rattle.std.proofs.lemmas.Bool.{cases_eq}
-use Rattle.spec_history.specs.Lists.{Text, Each, In}
-use Rattle.spec_history.specs.Meaning.{Meaning}
-use Rattle.spec_history.specs.Acts.{SessionAct, starts, takes, assigns_id, looks, says, fails, meets, commits, ends, releases_locks, issues, keeps, lacks, answers, stops, by, closes}
-use Rattle.spec_history.specs.Sessions.{SessionTransaction, SessionState, transaction_by}
-use Rattle.spec_history.specs.Worlds.{World, step, run}
-use Rattle.spec_history.specs.Guards.{IsEnabledFor, Good}
+use Rattle.law_history.specs.Lists.{Text, Each, In}
+use Rattle.law_history.specs.Meaning.{Meaning}
+use Rattle.law_history.specs.Acts.{SessionAct, starts, takes, assigns_id, looks, says, fails, meets, commits, ends, releases_locks, issues, keeps, lacks, answers, stops, by, closes}
+use Rattle.law_history.specs.Sessions.{SessionTransaction, SessionState, transaction_by}
+use Rattle.law_history.specs.Worlds.{World, step, run}
+use Rattle.law_history.specs.Guards.{IsEnabledFor, Good}
 use Rattle.spec_protocol.specs.LocksWereAsked.{WasAsked}
 use Rattle.law_protocol_steps.proofs.AnonymousActs.{at_after}
 use Rattle.law_protocol_steps.proofs.OneMore.{by_each, run_else}

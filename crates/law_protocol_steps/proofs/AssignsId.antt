@@ -8,20 +8,20 @@ use Rattle.spec_model.specs.Catalog.{Tables, defs_of, versions_of}
 use Rattle.spec_model.specs.Journals.{tx_count}
 use Rattle.spec_model.specs.Script.{script_from}
 use Rattle.law_frame.proofs.LegalSound.{legal_sound}
-use Rattle.spec_history.specs.Lists.{Text, Each, In}
-use Rattle.spec_history.specs.Journals.{ids_of}
-use Rattle.spec_history.specs.Refusals.{EndsAt}
-use Rattle.spec_history.specs.Digests.{Digest}
-use Rattle.spec_history.specs.Facts.{began}
-use Rattle.spec_history.specs.Transactions.{unfixed}
-use Rattle.spec_history.specs.Transcripts.{kind_of}
+use Rattle.law_history.specs.Lists.{Text, Each, In}
+use Rattle.law_history.specs.Journals.{ids_of}
+use Rattle.law_history.specs.Refusals.{EndsAt}
+use Rattle.law_history.specs.Digests.{Digest}
+use Rattle.law_history.specs.Facts.{began}
+use Rattle.law_history.specs.Transactions.{unfixed}
+use Rattle.law_history.specs.Transcripts.{kind_of}
 use Rattle.spec_protocol.specs.TranscriptsSoFar.{EndsOwn}
 use Rattle.law_protocol_steps.proofs.TranscriptActs.{GoesFrom, goes_on}
 use Rattle.law_protocol_steps.proofs.TranscriptProgress.{from_at, at_begin, at_draw, runs_own}
-use Rattle.spec_history.specs.Acts.{assigns_id}
-use Rattle.spec_history.specs.Sessions.{SessionTransaction, SessionState, acted}
-use Rattle.spec_history.specs.Worlds.{first}
-use Rattle.spec_history.proofs.Trace.{each_weaker}
+use Rattle.law_history.specs.Acts.{assigns_id}
+use Rattle.law_history.specs.Sessions.{SessionTransaction, SessionState, acted}
+use Rattle.law_history.specs.Worlds.{first}
+use Rattle.law_history.proofs.Trace.{each_weaker}
 use Rattle.spec_protocol.specs.Server.{Server}
 use Rattle.sql_types.specs.declared.lock.Hold.{Hold}
 use Rattle.spec_protocol.specs.Cells.{LedgerCell, Cell, Ledger, ledger_at, cell_of}
@@ -210,7 +210,7 @@ module _ (v : Server) (cells : List Cell) (seats : List SeatState) {history : Hi
       run = running v history ledger seats st.transcripts_agree j s p.x there p.role
 
       abbrev sess : SessionState
-      sess = (Rattle.spec_history.specs.Worlds.run first history).at run.number
+      sess = (Rattle.law_history.specs.Worlds.run first history).at run.number
 
       no_transaction : (z : Option SessionTransaction) → AreTransactions z p.x None → z ≡ None
       no_transaction None e = refl

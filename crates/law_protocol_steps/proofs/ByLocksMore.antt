@@ -1,11 +1,11 @@
 -- Histories in which locks decide, in two parts.
 use Rattle.std.proofs.Common.{ℕ, List, [], ◌∷◌, ◌++◌, sym, subst, append_assoc}
-use Rattle.spec_history.specs.Acts.{Act, by, closes}
-use Rattle.spec_history.specs.ByLocks.{LocksDecide}
-use Rattle.spec_history.specs.Histories.{OneAtATime, SessionsBelow}
-use Rattle.spec_history.specs.Meaning.{Meaning}
-use Rattle.spec_history.specs.Worlds.{World, first, run, step}
-use Rattle.spec_history.proofs.Cuts.{run_append}
+use Rattle.law_history.specs.Acts.{Act, by, closes}
+use Rattle.law_history.specs.ByLocks.{LocksDecide}
+use Rattle.law_history.specs.Histories.{OneAtATime, SessionsBelow}
+use Rattle.law_history.specs.Meaning.{Meaning}
+use Rattle.law_history.specs.Worlds.{World, first, run, step}
+use Rattle.law_history.proofs.Cuts.{run_append}
 use Rattle.spec_protocol.specs.LocksDecideIn.{LocksDecideIn}
 use Rattle.spec_protocol.specs.Server.{Server}
 

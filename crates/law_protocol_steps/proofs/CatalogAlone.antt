@@ -5,7 +5,7 @@ use Rattle.sql_types.specs.declared.lock.Mode.{Mode}
 use Rattle.sql_types.specs.declared.lock.Mode.TheVariants as mode
 use Rattle.sql_types.specs.declared.lock.LockRequest.{LockRequest}
 use Rattle.spec_model.specs.Locks.{whole, same_item, conflict, requests_conflict}
-use Rattle.spec_history.specs.Lists.{In}
+use Rattle.law_history.specs.Lists.{In}
 use Rattle.spec_protocol.specs.Server.{Server}
 use Rattle.sql_types.specs.declared.lock.Hold.{Hold}
 use Rattle.spec_protocol.specs.Cells.{Cell, holds_at, catalog_at}

@@ -3,7 +3,7 @@ use Rattle.std.proofs.Common.{◌≡◌, ℕ, zero, suc, List, refl, sym, ◌∙
 use mathlib.Core.Option.{some}
 use lib.ListN.{get_elem?}
 use Rattle.spec_model.specs.Holds.{released}
-use Rattle.spec_history.specs.Transactions.{End, unfixed, committed, ended}
+use Rattle.law_history.specs.Transactions.{End, unfixed, committed, ended}
 use Rattle.spec_protocol.specs.Cells.{AreCells, CatalogCell, Cell, Catalog, Ledger, LedgerCell, Rows, catalog_at}
 use Rattle.spec_protocol.specs.UndoVisits.{catalog_left}
 

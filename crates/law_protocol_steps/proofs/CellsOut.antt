@@ -2,7 +2,7 @@
 use Rattle.std.proofs.Common.{◌≡◌, ℕ, List, [], ◌∷◌, subst, ⊎_elim}
 use mathlib.Core.Option.{some}
 use lib.ListN.{get_elem?}
-use Rattle.spec_history.specs.Lists.{In}
+use Rattle.law_history.specs.Lists.{In}
 use Rattle.spec_protocol.specs.Cells.{Cell}
 use Rattle.spec_protocol.specs.AllowedVisit.{OutsAreIn}
 

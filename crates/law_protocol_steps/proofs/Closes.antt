@@ -9,17 +9,17 @@ use Rattle.spec_model.specs.Catalog.{Tables}
 use Rattle.spec_model.specs.Journals.{tx_count, closed, upto, serial_from, after_item}
 use Rattle.spec_model.specs.Script.{Reading}
 use Rattle.spec_model.specs.SystemTables.{first_tables}
-use Rattle.spec_history.specs.Lists.{Each}
-use Rattle.spec_history.specs.Journals.{times}
-use Rattle.spec_history.specs.Facts.{Shows}
-use Rattle.spec_history.specs.Transcripts.{Transcript}
-use Rattle.spec_history.specs.Digests.{Digest}
-use Rattle.spec_history.specs.Acts.{SessionAct, Act, closes, of, marked}
-use Rattle.spec_history.specs.Sessions.{SessionState, transcript_of}
-use Rattle.spec_history.specs.Worlds.{World, first, step, run}
-use Rattle.spec_history.proofs.Cuts.{run_append, of_append}
-use Rattle.spec_history.proofs.Trace.{each_append, each_weaker, count_append}
-use Rattle.spec_history.proofs.Grows.{blocks_append, digest_stays}
+use Rattle.law_history.specs.Lists.{Each}
+use Rattle.law_history.specs.Journals.{times}
+use Rattle.law_history.specs.Facts.{Shows}
+use Rattle.law_history.specs.Transcripts.{Transcript}
+use Rattle.law_history.specs.Digests.{Digest}
+use Rattle.law_history.specs.Acts.{SessionAct, Act, closes, of, marked}
+use Rattle.law_history.specs.Sessions.{SessionState, transcript_of}
+use Rattle.law_history.specs.Worlds.{World, first, step, run}
+use Rattle.law_history.proofs.Cuts.{run_append, of_append}
+use Rattle.law_history.proofs.Trace.{each_append, each_weaker, count_append}
+use Rattle.law_history.proofs.Grows.{blocks_append, digest_stays}
 use Rattle.spec_protocol.specs.Server.{Server}
 use Rattle.spec_protocol.specs.Cells.{LedgerCell, Cell, Ledger, ledger_at, pending_in}
 use Rattle.spec_protocol.specs.Contents.{Contents, Known, contents, known, has_id}

@@ -13,11 +13,11 @@ use Rattle.sql_types.specs.declared.statement.Stmt.TheVariants as stmt
 use Rattle.spec_model.specs.Catalog.{Tables, versions_of, defs_of}
 use Rattle.spec_model.specs.Events.{all_events}
 use Rattle.spec_model.specs.Journals.{Line, IsNext, serial}
-use Rattle.spec_history.specs.Lists.{Text, In}
-use Rattle.spec_history.specs.Transactions.{unfixed}
-use Rattle.spec_history.specs.Digests.{Digest}
-use Rattle.spec_history.proofs.Trace.{each_append, each_weaker}
-use Rattle.spec_history.proofs.Grows.{blocks_append, digest_stays}
+use Rattle.law_history.specs.Lists.{Text, In}
+use Rattle.law_history.specs.Transactions.{unfixed}
+use Rattle.law_history.specs.Digests.{Digest}
+use Rattle.law_history.proofs.Trace.{each_append, each_weaker}
+use Rattle.law_history.proofs.Grows.{blocks_append, digest_stays}
 use Rattle.spec_protocol.specs.Server.{Server}
 use Rattle.spec_protocol.specs.Cells.{LedgerCell, Cell}
 use Rattle.spec_protocol.specs.Contents.{Contents, Known, contents, known}

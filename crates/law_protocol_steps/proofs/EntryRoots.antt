@@ -19,9 +19,9 @@ use Rattle.base_merkle.specs.TreeHash.{tree_hash}
 use Rattle.spec_protocol.specs.Entry.{rise_above, tables_rise}
 use Rattle.spec_protocol.specs.Entries.{has_events, root_in, roots_of}
 use Rattle.spec_protocol.proofs.Roots.{roots_rise}
-use Rattle.spec_history.specs.Lists.{Text, Each, In}
-use Rattle.spec_history.specs.Serial.{Differ}
-use Rattle.spec_history.proofs.Trace.{each_weaker}
+use Rattle.law_history.specs.Lists.{Text, Each, In}
+use Rattle.law_history.specs.Serial.{Differ}
+use Rattle.law_history.proofs.Trace.{each_weaker}
 use Rattle.spec_protocol.specs.EventsIn.{events_in}
 use Rattle.spec_protocol.specs.LedgerVisits.{is_empty, by_table, with_leaves, root_of_tree}
 use Rattle.spec_protocol.specs.Seats.{Tree}

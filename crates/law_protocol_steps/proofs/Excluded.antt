@@ -13,7 +13,7 @@ use Rattle.spec_model.specs.Locks.{conflict, same_item, requests_conflict}
 use Rattle.spec_model.specs.Reach.{has_key, is_exclusive, lets_change}
 use Rattle.law_frame.proofs.SameKeys.{same_key_as, same_itself, and_true}
 use Rattle.law_frame.proofs.NoClash.{Relies}
-use Rattle.spec_history.specs.Lists.{Each, In}
+use Rattle.law_history.specs.Lists.{Each, In}
 use Rattle.sql_types.specs.declared.lock.Hold.{Hold}
 use Rattle.spec_protocol.specs.RequestsIn.{Holds}
 use Rattle.law_protocol_steps.proofs.Taken.{AreFree}

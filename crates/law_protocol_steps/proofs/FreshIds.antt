@@ -11,8 +11,8 @@ use Rattle.spec_model.specs.Rows.{EventId}
 use Rattle.spec_model.specs.Catalog.{Tables, versions_of}
 use Rattle.spec_model.specs.Events.{end_events, version_events}
 use Rattle.spec_model.specs.Runs.{IsBefore, EndsBefore, MadeBefore, SoundTable, Sound}
-use Rattle.spec_history.specs.Lists.{Each}
-use Rattle.spec_history.proofs.Trace.{each_append, each_weaker}
+use Rattle.law_history.specs.Lists.{Each}
+use Rattle.law_history.proofs.Trace.{each_append, each_weaker}
 use Rattle.spec_model.specs.Touched.{ends_by, is_touched, touched}
 use Rattle.spec_protocol.specs.EventsIn.{events_in}
 use Rattle.spec_model.specs.Undo.{end_left, end_undone, is_undone, versions_undone}

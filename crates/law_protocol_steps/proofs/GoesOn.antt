@@ -2,12 +2,12 @@
 use Rattle.std.proofs.Common.{◌≡◌, ℕ, List, [], ◌++◌, map, Option, Some, refl, sym, ap, ◌∙◌, subst, append-nil, append_assoc, ◌∷◌, ap₂, inl}
 use mathlib.Core.Option.{some}
 use lib.ListN.{get_elem?}
-use Rattle.spec_history.specs.Lists.{Each, In}
-use Rattle.spec_history.specs.Transactions.{listed}
-use Rattle.spec_history.proofs.Settles.{in_right}
+use Rattle.law_history.specs.Lists.{Each, In}
+use Rattle.law_history.specs.Transactions.{listed}
+use Rattle.law_history.proofs.Settles.{in_right}
 use Rattle.spec_protocol.specs.Parts.{all_of}
 use Rattle.law_protocol_steps.proofs.Ids.{each_in}
-use Rattle.spec_history.specs.Acts.{SessionAct, Act, by, closes}
+use Rattle.law_history.specs.Acts.{SessionAct, Act, by, closes}
 use Rattle.spec_protocol.specs.Server.{Server}
 use Rattle.spec_protocol.specs.Contents.{contents}
 use Rattle.spec_protocol.specs.LocksAreRequested.{LocksAreRequested}

@@ -2,7 +2,7 @@
 use Rattle.std.proofs.Common.{◌≡◌, ℕ, zero, suc, List, slice_set, refl, sym, ◌∙◌, subst₂, map, ◌++◌}
 use mathlib.Core.Option.{some, some-injective}
 use lib.ListN.{get_elem?}
-use Rattle.spec_history.specs.Acts.{Act, SessionAct, by}
+use Rattle.law_history.specs.Acts.{Act, SessionAct, by}
 use Rattle.spec_protocol.specs.Server.{Server}
 use Rattle.spec_protocol.specs.Cells.{CatalogCell, LedgerCell, Cell, Catalog, Ledger, Rows, AreCells, ledger_at}
 use Rattle.spec_protocol.specs.Contents.{Contents, Known, contents, known}
@@ -19,7 +19,7 @@ use Rattle.law_protocol_steps.proofs.GoesOn.{each_so}
 use Rattle.law_protocol_steps.proofs.LedgerKept.{same_contents, are_cells}
 use Rattle.law_protocol_steps.proofs.Turns.{Turns, tables_turn, scripts_turn, trees_turn, agree_turn, cover_turn, rows_turn}
 use Rattle.spec_protocol.specs.RowsAgree.{RowsAgree}
-use Rattle.spec_history.proofs.Legal.{legal}
+use Rattle.law_history.proofs.Legal.{legal}
 
 same_cell : (c d : LedgerCell) → Ledger c ≡ Ledger d → c ≡ d
 same_cell c d e = cc

@@ -53,3 +53,16 @@ pub mod VisitActs
 pub use Rattle.spec_protocol.proofs.LedgerNumbers
 pub use Rattle.spec_protocol.proofs.Places
 pub use Rattle.spec_protocol.proofs.Counting
+pub use Rattle.law_history.proofs.Settles
+pub use Rattle.law_history.proofs.Agreed
+pub use Rattle.law_history.proofs.Alone
+pub use Rattle.law_history.proofs.ByLocks
+pub use Rattle.law_history.proofs.Cuts
+pub use Rattle.law_history.proofs.IdsAssigned
+pub use Rattle.law_history.proofs.Legal
+pub use Rattle.law_history.proofs.Names
+pub use Rattle.law_history.proofs.Ordered
+pub use Rattle.law_history.proofs.Setup
+pub use Rattle.law_history.proofs.SoFar
+pub use Rattle.law_history.proofs.TransactionLogs
+pub use Rattle.law_history.proofs.TranscriptsSoFar

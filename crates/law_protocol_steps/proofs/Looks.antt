@@ -16,9 +16,9 @@ use Rattle.spec_model.specs.Journals.{Line}
 use Rattle.spec_model.specs.Locks.{catalog_request, conflict, same_item, whole, requests_conflict}
 use Rattle.spec_model.specs.Reach.{creates, lets_change}
 use Rattle.spec_model.specs.ScriptRequests.{text_requests}
-use Rattle.spec_history.specs.Lists.{Text, Each, In}
-use Rattle.spec_history.proofs.Trace.{each_weaker}
-use Rattle.spec_history.proofs.Refused.{each_left}
+use Rattle.law_history.specs.Lists.{Text, Each, In}
+use Rattle.law_history.proofs.Trace.{each_weaker}
+use Rattle.law_history.proofs.Refused.{each_left}
 use Rattle.spec_protocol.specs.Server.{Server}
 use Rattle.sql_types.specs.declared.lock.Hold.{Hold}
 use Rattle.spec_protocol.specs.Cells.{CatalogCell, TableCell, Cell, Catalog, Rows, holds_at, versions_in, catalog_at}
@@ -41,15 +41,15 @@ use Rattle.law_protocol_steps.proofs.SameOne.{IsSame}
 use Rattle.law_protocol_steps.proofs.SeatIds.{one_seat}
 use Rattle.law_protocol_steps.proofs.Takes.{tables_now, Takes, came, lock_came, covered, agree, rows, scripts, trees, tables}
 use Rattle.law_protocol_steps.proofs.OfCells.{Creates, HasLock, IsGotAt, IsUnderWay, RequestsNone, in_journal}
-use Rattle.spec_history.specs.Guards.{IsAnswered}
+use Rattle.law_history.specs.Guards.{IsAnswered}
 use Rattle.spec_protocol.specs.TranscriptsAgree.{TranscriptsAgree}
 use Rattle.law_protocol_steps.proofs.TakenLocks.{all_free}
 use Rattle.law_protocol_steps.proofs.VisitActs.{asks_act, asks_owner, asks_number}
 use Rattle.law_protocol_steps.proofs.TranscriptProgress.{at_found, from_at, shares_rows}
-use Rattle.spec_history.specs.Transcripts.{kind_of}
-use Rattle.spec_history.specs.Acts.{looks}
-use Rattle.spec_history.specs.Transcripts as told
-use Rattle.spec_history.specs.Acts.{by}
+use Rattle.law_history.specs.Transcripts.{kind_of}
+use Rattle.law_history.specs.Acts.{looks}
+use Rattle.law_history.specs.Transcripts as told
+use Rattle.law_history.specs.Acts.{by}
 use Rattle.law_protocol_steps.proofs.VisitActs.{g}
 
 -- ---- cells visited

@@ -13,7 +13,7 @@ use Rattle.spec_model.specs.Catalog.{Defs}
 use Rattle.spec_model.specs.Locks.{CellRequests, whole, conflict, same_item, requests_conflict, some_conflict, cells_clash, catalog_clash, catalog_request, cell_requests, clash}
 use Rattle.spec_model.specs.Agreement.{LockRequests, requests_of}
 use Rattle.law_frame.proofs.SameKeys.{same_key_as, same_itself}
-use Rattle.spec_history.specs.Lists.{Each}
+use Rattle.law_history.specs.Lists.{Each}
 use Rattle.spec_protocol.specs.Cells.{catalog_at, cell_of}
 use Rattle.spec_protocol.specs.Contents.{Contents}
 use Rattle.spec_protocol.specs.Seats.{OpenTransaction, Session, SeatState}

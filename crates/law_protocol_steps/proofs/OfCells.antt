@@ -20,7 +20,7 @@ use Rattle.spec_protocol.specs.TablesAreSerial as tables
 use Rattle.spec_protocol.specs.LocksCover as cover
 use Rattle.spec_protocol.specs.LocksAgree as agree
 use Rattle.spec_protocol.specs.TreesAreOfEvents as trees
-use Rattle.spec_history.specs.Lists.{Each, Text}
+use Rattle.law_history.specs.Lists.{Each, Text}
 use Rattle.spec_protocol.specs.RequestsIn.{Holds, of_catalog}
 use Rattle.spec_protocol.specs.OpenOnes.{text_at}
 use Rattle.spec_model.specs.ScriptRequests.{text_requests}

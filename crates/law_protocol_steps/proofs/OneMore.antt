@@ -9,22 +9,22 @@ use lib.ListN.{get_elem?}
 use Rattle.sql_types.specs.declared.journal.JournalItem.{JournalItem}
 use Rattle.sql_types.specs.declared.journal.JournalItem.TheVariants.{Tx, Close}
 use Rattle.spec_model.specs.Journals.{tx_count, cut}
-use Rattle.spec_history.specs.Lists.{Text, Each, In}
-use Rattle.spec_history.specs.Journals.{times}
-use Rattle.spec_history.specs.Meaning.{Meaning}
-use Rattle.spec_history.specs.Facts.{Shows}
-use Rattle.spec_history.specs.Serial.{Differ}
-use Rattle.spec_history.specs.Transcripts.{Transcript}
-use Rattle.spec_history.specs.Transactions.{listed}
-use Rattle.spec_history.specs.Digests.{Digest}
-use Rattle.spec_history.specs.Acts.{SessionAct, Act, by, of, marked}
-use Rattle.spec_history.specs.Sessions.{SessionState, unborn, runs, gone, fresh, acted, transcript_of}
-use Rattle.spec_history.specs.Worlds.{World, first, step, run, items_by, ids_by, issued_by}
-use Rattle.spec_history.specs.Guards.{IsEnabled, Good}
-use Rattle.spec_history.proofs.Cuts.{run_append, of_append, good_append}
-use Rattle.spec_history.proofs.Trace.{each_append, each_weaker, count_append}
-use Rattle.spec_history.proofs.Settles.{in_right}
-use Rattle.spec_history.proofs.Setup.{silent}
+use Rattle.law_history.specs.Lists.{Text, Each, In}
+use Rattle.law_history.specs.Journals.{times}
+use Rattle.law_history.specs.Meaning.{Meaning}
+use Rattle.law_history.specs.Facts.{Shows}
+use Rattle.law_history.specs.Serial.{Differ}
+use Rattle.law_history.specs.Transcripts.{Transcript}
+use Rattle.law_history.specs.Transactions.{listed}
+use Rattle.law_history.specs.Digests.{Digest}
+use Rattle.law_history.specs.Acts.{SessionAct, Act, by, of, marked}
+use Rattle.law_history.specs.Sessions.{SessionState, unborn, runs, gone, fresh, acted, transcript_of}
+use Rattle.law_history.specs.Worlds.{World, first, step, run, items_by, ids_by, issued_by}
+use Rattle.law_history.specs.Guards.{IsEnabled, Good}
+use Rattle.law_history.proofs.Cuts.{run_append, of_append, good_append}
+use Rattle.law_history.proofs.Trace.{each_append, each_weaker, count_append}
+use Rattle.law_history.proofs.Settles.{in_right}
+use Rattle.law_history.proofs.Setup.{silent}
 use Rattle.spec_protocol.specs.Server.{Server, journal_image}
 use Rattle.spec_protocol.specs.Cells.{LedgerCell}
 use Rattle.spec_protocol.specs.Seats.{KeptImage, Session, Written, Role, idle, session, builder, SeatState}

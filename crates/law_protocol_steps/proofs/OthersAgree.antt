@@ -19,7 +19,7 @@ use Rattle.law_frame.proofs.Beside.{beside}
 use Rattle.law_frame.proofs.BesideOne.{beside_one}
 use Rattle.law_frame.proofs.Definitions.{nothing_done}
 use Rattle.law_frame.proofs.SameEnds.{IsShort}
-use Rattle.spec_history.specs.Lists.{Text, Each}
+use Rattle.law_history.specs.Lists.{Text, Each}
 use Rattle.spec_protocol.specs.Server.{Server}
 use Rattle.spec_protocol.specs.Contents.{Contents}
 use Rattle.spec_protocol.specs.Seats.{OpenTransaction, Session, SeatState}

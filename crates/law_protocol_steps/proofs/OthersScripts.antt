@@ -9,8 +9,8 @@ use Rattle.spec_model.specs.Script.{Saved}
 use Rattle.law_frame.proofs.LegalSound.{legal_sound}
 use Rattle.law_frame.proofs.OtherTransactions.{others_sound}
 use Rattle.law_frame.proofs.SameEnds.{SameSaved, AllSaved, SameEnds, IsShort, same_ends}
-use Rattle.spec_history.specs.Lists.{Text, Each, In}
-use Rattle.spec_history.specs.Transactions.{unfixed}
+use Rattle.law_history.specs.Lists.{Text, Each, In}
+use Rattle.law_history.specs.Transactions.{unfixed}
 use Rattle.spec_protocol.specs.Server.{Server}
 use Rattle.spec_protocol.specs.Cells.{catalog_at, Cell}
 use Rattle.spec_protocol.specs.Contents.{Contents, Known, contents, known}

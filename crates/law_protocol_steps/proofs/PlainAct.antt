@@ -5,13 +5,13 @@ use mathlib.Core.Option.{some}
 use lib.ListN.{get_elem?}
 use Rattle.sql_types.specs.declared.journal.JournalItem.{JournalItem}
 use Rattle.spec_model.specs.Journals.{tx_count}
-use Rattle.spec_history.specs.Lists.{Each, In}
-use Rattle.spec_history.specs.Digests.{Digest}
-use Rattle.spec_history.specs.Acts.{SessionAct, Act, by, marked}
-use Rattle.spec_history.specs.Journals.{times}
-use Rattle.spec_history.specs.Sessions.{SessionState, acted}
-use Rattle.spec_history.specs.Worlds.{first, run, items_by, ids_by, issued_by}
-use Rattle.spec_history.specs.Guards.{IsEnabled}
+use Rattle.law_history.specs.Lists.{Each, In}
+use Rattle.law_history.specs.Digests.{Digest}
+use Rattle.law_history.specs.Acts.{SessionAct, Act, by, marked}
+use Rattle.law_history.specs.Journals.{times}
+use Rattle.law_history.specs.Sessions.{SessionState, acted}
+use Rattle.law_history.specs.Worlds.{first, run, items_by, ids_by, issued_by}
+use Rattle.law_history.specs.Guards.{IsEnabled}
 use Rattle.spec_protocol.specs.Server.{Server}
 use Rattle.spec_protocol.specs.Cells.{LedgerCell}
 use Rattle.spec_protocol.specs.Seats.{KeptImage, Session, Written, Role, session, SeatState}

@@ -22,8 +22,8 @@ use Rattle.law_frame.proofs.Definitions.{nothing_done}
 use Rattle.law_frame.proofs.NoClash.{Relies}
 use Rattle.law_frame.proofs.SameKeys.{same_itself}
 use Rattle.law_frame.proofs.UndoneScripts.{script_sound}
-use Rattle.spec_history.specs.Lists.{Text, In}
-use Rattle.spec_history.specs.Transactions.{unfixed}
+use Rattle.law_history.specs.Lists.{Text, In}
+use Rattle.law_history.specs.Transactions.{unfixed}
 use Rattle.spec_protocol.specs.Server.{Server}
 use Rattle.sql_types.specs.declared.lock.Hold.{Hold}
 use Rattle.spec_protocol.specs.Cells.{Cell, holds_at, versions_at, cell_of}

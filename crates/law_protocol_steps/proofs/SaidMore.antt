@@ -11,14 +11,14 @@ use Rattle.spec_model.specs.Journals.{Line}
 use Rattle.spec_model.specs.Replies.{reply_text}
 use Rattle.spec_model.specs.Script.{ScriptEnd, State, start, script, text_step}
 use Rattle.spec_model.specs.Touched.{touched}
-use Rattle.spec_history.specs.Lists.{Text, Each, In}
-use Rattle.spec_history.specs.Facts.{said}
-use Rattle.spec_history.specs.Transactions.{unfixed, on_some}
-use Rattle.spec_history.specs.Acts.{says, by}
-use Rattle.spec_history.specs.Sessions.{SessionTransaction, SessionState, acted, scripts}
-use Rattle.spec_history.specs.Worlds.{first, run}
-use Rattle.spec_history.specs.Guards.{OnlyOne}
-use Rattle.spec_history.proofs.Trace.{each_append, each_weaker}
+use Rattle.law_history.specs.Lists.{Text, Each, In}
+use Rattle.law_history.specs.Facts.{said}
+use Rattle.law_history.specs.Transactions.{unfixed, on_some}
+use Rattle.law_history.specs.Acts.{says, by}
+use Rattle.law_history.specs.Sessions.{SessionTransaction, SessionState, acted, scripts}
+use Rattle.law_history.specs.Worlds.{first, run}
+use Rattle.law_history.specs.Guards.{OnlyOne}
+use Rattle.law_history.proofs.Trace.{each_append, each_weaker}
 use Rattle.spec_protocol.specs.Server.{Server}
 use Rattle.spec_protocol.specs.Cells.{Cell, catalog_at}
 use Rattle.spec_protocol.specs.Contents.{Contents, Known, contents, known, HasAlone}

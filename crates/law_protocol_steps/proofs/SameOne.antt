@@ -6,7 +6,7 @@ use Rattle.spec_model.specs.Catalog.{Tables, versions_of}
 use Rattle.spec_model.specs.Journals.{Line, serial}
 use Rattle.spec_model.specs.Replies.{reply_text}
 use Rattle.spec_model.specs.Script.{ScriptEnd, script}
-use Rattle.spec_history.specs.Lists.{Each, In}
+use Rattle.law_history.specs.Lists.{Each, In}
 use Rattle.spec_protocol.specs.Server.{Server}
 use Rattle.spec_protocol.specs.Cells.{LedgerCell, Cell, versions_at}
 use Rattle.spec_protocol.specs.Seats.{Tree, OpenSavepoint, OpenTransaction, Session}

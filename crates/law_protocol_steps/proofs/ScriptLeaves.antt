@@ -4,7 +4,7 @@ use Rattle.std.specs.List.{AllByRecursion, list_any}
 use Rattle.spec_model.specs.Locks.{CellRequests, whole}
 use Rattle.law_frame.proofs.UndoneWhole.{CreatesNot, one_undone, opened_undone}
 use Rattle.spec_model.specs.Catalog.{Defs, Tables, defs_of, versions_of}
-use Rattle.spec_history.specs.Lists.{Each, Text}
+use Rattle.law_history.specs.Lists.{Each, Text}
 use Rattle.law_protocol_steps.proofs.Excluded.{HasNoX, held_reach, none_reach}
 use Rattle.sql_types.specs.declared.lock.Hold.{Hold}
 use Rattle.spec_protocol.specs.Cells.{catalog_at, cell_of}

@@ -9,7 +9,7 @@ use Rattle.spec_protocol.specs.Server.{Server}
 use Rattle.spec_protocol.specs.StandTogether.{History, Stands}
 use Rattle.std.proofs.lemmas.Bool.{cases_eq}
 use Rattle.law_protocol_steps.proofs.Ids.{has_not}
-use Rattle.spec_history.specs.Transactions.{unfixed}
+use Rattle.law_history.specs.Transactions.{unfixed}
 
 module _ (v : Server) (cells : List Cell) (seats : List SeatState) {history : History} (S : Stands v history cells seats) where
   pub one_seat : (j k : ℕ) (x y : Session) (o p : OpenTransaction) → HasOpen seats j x o → HasOpen seats k y p → o.id ≡ p.id → j ≡ k

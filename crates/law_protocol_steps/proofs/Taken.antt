@@ -11,8 +11,8 @@ use Rattle.sql_types.specs.declared.lock.LockRequest.{LockRequest}
 use Rattle.spec_model.specs.Keys.{Key, same_key}
 use Rattle.spec_model.specs.Locks.{conflict, same_item, requests_conflict}
 use Rattle.law_frame.proofs.SameKeys.{same_key_as, same_itself, and_true}
-use Rattle.spec_history.specs.Lists.{Each, In}
-use Rattle.spec_history.proofs.Settles.{in_append, in_left, in_right}
+use Rattle.law_history.specs.Lists.{Each, In}
+use Rattle.law_history.proofs.Settles.{in_append, in_left, in_right}
 use Rattle.sql_types.specs.declared.lock.Hold.{Hold}
 use Rattle.spec_protocol.specs.RequestsIn.{Holds}
 use Rattle.spec_model.specs.Holds.{answers, released}

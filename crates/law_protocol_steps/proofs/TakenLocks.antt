@@ -12,7 +12,7 @@ use Rattle.sql_types.specs.declared.lock.LockRequest.{LockRequest}
 use Rattle.spec_model.specs.Locks.{whole, same_item, requests_conflict}
 use Rattle.spec_model.specs.Holds.{same_mode, answers, holds_request, with_request, holds_after}
 use Rattle.spec_model.specs.InTheWay.{Holder, holder_of, bars, lesser, least_with, least, barrier, conflict_or, first_conflict}
-use Rattle.spec_history.specs.Lists.{Each}
+use Rattle.law_history.specs.Lists.{Each}
 use Rattle.spec_protocol.specs.RequestsIn.{Holds}
 
 -- ---- a lock that is held

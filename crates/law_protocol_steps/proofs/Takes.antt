@@ -22,10 +22,10 @@ use Rattle.spec_model.specs.Reach.{lets_change}
 use Rattle.spec_model.specs.Runs.{Rising, MadeBefore}
 use Rattle.spec_model.specs.Script.{ScriptEnd}
 use Rattle.spec_model.specs.Undo.{versions_undone}
-use Rattle.spec_history.specs.Lists.{Text, Each, In}
-use Rattle.spec_history.specs.Refusals.{EndsAt}
-use Rattle.spec_history.specs.Transactions.{End, unfixed}
-use Rattle.spec_history.proofs.Trace.{each_weaker}
+use Rattle.law_history.specs.Lists.{Text, Each, In}
+use Rattle.law_history.specs.Refusals.{EndsAt}
+use Rattle.law_history.specs.Transactions.{End, unfixed}
+use Rattle.law_history.proofs.Trace.{each_weaker}
 use Rattle.spec_protocol.specs.Server.{Server}
 use Rattle.sql_types.specs.declared.lock.Hold.{Hold}
 use Rattle.spec_protocol.specs.Cells.{Creator, CatalogCell, TableCell, Cell, Rows, holds_in, holds_at, versions_in, versions_at, catalog_at, cell_of}

@@ -20,8 +20,8 @@ use Rattle.law_frame.proofs.AtTable.{before_at}
 use Rattle.law_frame.proofs.NoClash.{Relies}
 use Rattle.law_frame.proofs.SameKeys.{and_true}
 use Rattle.law_frame.proofs.UndoneVersions.{nothing_undone}
-use Rattle.spec_history.specs.Lists.{Text, In}
-use Rattle.spec_history.specs.Transactions.{unfixed}
+use Rattle.law_history.specs.Lists.{Text, In}
+use Rattle.law_history.specs.Transactions.{unfixed}
 use Rattle.spec_protocol.specs.Server.{Server}
 use Rattle.sql_types.specs.declared.lock.Hold.{Hold}
 use Rattle.spec_protocol.specs.Cells.{CatalogCell, LedgerCell, TableCell, Cell, Catalog, Ledger, Rows, holds_at, versions_at, catalog_at, cell_of, AreCells}
@@ -47,7 +47,7 @@ use Rattle.law_protocol_steps.proofs.OfCells.{HasLock, HasLooked, HoldsInCatalog
 use Rattle.spec_protocol.specs.TranscriptsAgree.{TranscriptsAgree}
 use Rattle.law_protocol_steps.proofs.TranscriptProgress.{from_at}
 use Rattle.law_protocol_steps.proofs.VisitActs.{still_act}
-use Rattle.spec_history.specs.Facts.{Fact}
+use Rattle.law_history.specs.Facts.{Fact}
 use Rattle.spec_protocol.specs.TranscriptsSoFar.{FitsWith, end_shown, shown_with}
 
 -- ---- the place of a table's cell

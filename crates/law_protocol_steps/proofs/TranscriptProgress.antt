@@ -11,12 +11,12 @@ use Rattle.sql_types.specs.declared.statement.Stmt.TheVariants as stmt
 use Rattle.sql_types.specs.declared.lock.Mode.TheVariants.{S}
 use Rattle.spec_model.specs.Locks.{catalog_request}
 use Rattle.spec_model.specs.ScriptRequests.{runs}
-use Rattle.spec_history.specs.Lists.{Text}
-use Rattle.spec_history.specs.Meaning.{Meaning}
-use Rattle.spec_history.specs.Transcripts.{committed_at, ended_after, statement, Kind, unread, begin, commit, roll_back, to_savepoint, create, rows, issue, keep, kind_of}
-use Rattle.spec_history.specs.Facts.{Fact, began, said, failed, placed, passed, digest, no_digest, answer_facts, facts_inside, facts_outside}
-use Rattle.spec_history.specs.InPlace.{InPlace, ControlledBy, ComesAt, ThirdImage, EndsInside, ReadOnlyEnd, needs_none, is_begin as in_place_begin}
-use Rattle.spec_history.specs.Transactions.{End, unfixed, committed, ended}
+use Rattle.law_history.specs.Lists.{Text}
+use Rattle.law_history.specs.Meaning.{Meaning}
+use Rattle.law_history.specs.Transcripts.{committed_at, ended_after, statement, Kind, unread, begin, commit, roll_back, to_savepoint, create, rows, issue, keep, kind_of}
+use Rattle.law_history.specs.Facts.{Fact, began, said, failed, placed, passed, digest, no_digest, answer_facts, facts_inside, facts_outside}
+use Rattle.law_history.specs.InPlace.{InPlace, ControlledBy, ComesAt, ThirdImage, EndsInside, ReadOnlyEnd, needs_none, is_begin as in_place_begin}
+use Rattle.law_history.specs.Transactions.{End, unfixed, committed, ended}
 use Rattle.spec_protocol.specs.Answering.{refused_inside}
 use Rattle.spec_protocol.specs.Seats.{OpenTransaction, StatementProgress, begun, found, made, answering, SessionStatus, inside, leaving, Session}
 use Rattle.spec_protocol.specs.Moves.{new_transaction, ending, saying}

@@ -2,18 +2,18 @@
 use Rattle.std.proofs.Common.{◌≡◌, ℕ, Bool, true, false, List, [], ◌∷◌, ◌++◌, Option, Some, None, refl, sym, ap, ◌∙◌, subst, inl, inr, ⊎_elim, append-nil, map, slice_set}
 use Rattle.spec_protocol.specs.Parts.{AreTransactions, IsTransaction, IsHeard, IsNow, asking_in, Numbers}
 use Rattle.spec_protocol.specs.Cells.{Cell, LedgerCell}
-use Rattle.spec_history.specs.Sessions.{SessionTransaction, SessionState, acted, asks}
+use Rattle.law_history.specs.Sessions.{SessionTransaction, SessionState, acted, asks}
 use Rattle.law_protocol_steps.proofs.Ids.{InTransaction}
-use Rattle.spec_history.specs.Lists.{Each, In, Text}
+use Rattle.law_history.specs.Lists.{Each, In, Text}
 use Rattle.spec_protocol.specs.TranscriptsSoFar.{EndsOwn, IsSaid, end_shown, image_in, is_begin, shown_alone, shown_inside, shown_with, FitsOpened, EndsLeaving, Fits, FitsWith, open_before, shown_at}
-use Rattle.spec_history.specs.Acts.{looks, SessionAct, by}
-use Rattle.spec_history.specs.Facts.{Fact, began, begun_by, said}
+use Rattle.law_history.specs.Acts.{looks, SessionAct, by}
+use Rattle.law_history.specs.Facts.{Fact, began, begun_by, said}
 use Rattle.law_protocol_steps.proofs.TranscriptActs.{GoesFrom, goes_on}
 use Rattle.spec_protocol.specs.OpenOnes.{HasOpen, last_line, lines_at, text_at, texts_so_far}
-use Rattle.spec_history.specs.Guards.{IsAnswered, OnlyOne}
+use Rattle.law_history.specs.Guards.{IsAnswered, OnlyOne}
 use Rattle.law_protocol_steps.proofs.AnonymousActs.{IsPlain, plain_acts, plain_owner, plain_parts}
 use Rattle.law_protocol_steps.proofs.PlainAct.{KeepsAll}
-use Rattle.spec_history.specs.Transcripts.{Kind, kind_of, statement}
+use Rattle.law_history.specs.Transcripts.{Kind, kind_of, statement}
 use Rattle.spec_model.specs.Journals.{Line}
 use Rattle.law_protocol_steps.proofs.InPlaces.{NoControl, controlled_inside, fits_own, within}
 use Rattle.spec_protocol.specs.Seats.{OpenTransaction, SeatState, Session, StatementProgress, answering, inside, replied, session, SessionStatus, between, leaving}
@@ -25,22 +25,22 @@ use Rattle.sql_types.specs.declared.version.Version.{Version}
 use Rattle.law_protocol_steps.proofs.TranscriptProgress.{at_opened, fits_if, from_at, if_fits}
 use Rattle.spec_protocol.specs.Moves.{at_place, sits}
 use Rattle.spec_protocol.specs.OpenScripts.{counted_in}
-use Rattle.spec_history.specs.Worlds.{first, run}
+use Rattle.law_history.specs.Worlds.{first, run}
 use lib.ListN.{get_elem?}
 use Rattle.std.specs.Prelude.{if◌then◌else◌}
-use Rattle.spec_history.specs.InPlace.{image_by, InPlace}
+use Rattle.law_history.specs.InPlace.{image_by, InPlace}
 use Rattle.sql_value.specs.Order.{kind}
-use Rattle.spec_history.specs.Transactions.{on_some, unfixed, End}
+use Rattle.law_history.specs.Transactions.{on_some, unfixed, End}
 use Rattle.spec_model.specs.Replies.{reply_text}
 use Rattle.law_protocol_steps.proofs.SaidMore.{said_by}
 use mathlib.Core.Option.{some}
 use Rattle.spec_protocol.specs.Doing.{stage_after, with_line}
-use Rattle.spec_history.specs.Transcripts.{rows}
-use Rattle.spec_history.specs.Acts.{by}
+use Rattle.law_history.specs.Transcripts.{rows}
+use Rattle.law_history.specs.Acts.{by}
 use Rattle.law_protocol_steps.proofs.Ids.{in_transaction}
-use Rattle.spec_history.proofs.Trace.{each_weaker}
+use Rattle.law_history.proofs.Trace.{each_weaker}
 use Rattle.sql_types.specs.declared.reply.Reply.TheVariants as reply
-use Rattle.spec_history.specs.Meaning.{Meaning}
+use Rattle.law_history.specs.Meaning.{Meaning}
 use Rattle.spec_protocol.specs.ActsOf.{done_acts}
 use Rattle.law_protocol_steps.proofs.GoesOn.{nothing_added}
 

@@ -22,7 +22,7 @@ pub use Rattle.spec_protocol.specs.TablesAreSerial
 pub use Rattle.spec_protocol.specs.TranscriptsAgree
 pub use Rattle.spec_protocol.specs.TranscriptsSoFar
 pub use Rattle.spec_protocol.specs.TreesAreOfEvents
-pub use Rattle.spec_protocol.specs.Digests
+pub use Rattle.spec_protocol.specs.BlockDigests
 pub use Rattle.spec_protocol.specs.AllowedVisit
 pub use Rattle.spec_protocol.specs.Alone
 pub use Rattle.spec_protocol.specs.AnonymousActs

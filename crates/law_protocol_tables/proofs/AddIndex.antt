@@ -15,8 +15,8 @@ use Rattle.spec_model.specs.Catalog.{Tables, defs_of}
 use Rattle.spec_model.specs.Locks.{whole}
 use Rattle.spec_model.specs.ChangeSets.{change_set, defined}
 use Rattle.spec_model.specs.Script.{ScriptEnd}
-use Rattle.spec_history.specs.Lists.{Text, Each, In}
-use Rattle.spec_history.specs.Transactions.{unfixed}
+use Rattle.law_history.specs.Lists.{Text, Each, In}
+use Rattle.law_history.specs.Transactions.{unfixed}
 use Rattle.spec_protocol.specs.Server.{Server}
 use Rattle.spec_protocol.specs.Cells.{TableCell, Cell, Rows, catalog_at, cell_of, AreCells}
 use Rattle.spec_protocol.specs.Seats.{OpenTransaction, made, SessionStatus, inside, Session, SeatState}

@@ -3,13 +3,13 @@ use Rattle.std.proofs.Common.{◌≡◌, ◌≢◌, ◌⊎◌, ℕ, Bool, List, 
 use Rattle.std.proofs.lemmas.Bool.{cases_eq}
 use Rattle.sql_types.specs.declared.lock.Hold.{Hold}
 use Rattle.spec_model.specs.Catalog.{Defs, defs_of}
-use Rattle.spec_history.specs.Lists.{Text, Each, In}
-use Rattle.spec_history.specs.Transactions.{on_some}
-use Rattle.spec_history.specs.Acts.{SessionAct, starts, takes, assigns_id, looks, says, fails, meets, commits, ends, releases_locks, issues, keeps, lacks, answers, stops, Act}
-use Rattle.spec_history.specs.Sessions.{SessionTransaction, SessionState, acted, transaction_by}
-use Rattle.spec_history.specs.Worlds.{World, first, run}
-use Rattle.spec_history.proofs.Cuts.{run_append}
-use Rattle.spec_history.proofs.Legal.{IdsApart}
+use Rattle.law_history.specs.Lists.{Text, Each, In}
+use Rattle.law_history.specs.Transactions.{on_some}
+use Rattle.law_history.specs.Acts.{SessionAct, starts, takes, assigns_id, looks, says, fails, meets, commits, ends, releases_locks, issues, keeps, lacks, answers, stops, Act}
+use Rattle.law_history.specs.Sessions.{SessionTransaction, SessionState, acted, transaction_by}
+use Rattle.law_history.specs.Worlds.{World, first, run}
+use Rattle.law_history.proofs.Cuts.{run_append}
+use Rattle.law_history.proofs.Legal.{IdsApart}
 use Rattle.spec_protocol.specs.Server.{Server}
 use Rattle.spec_protocol.specs.Cells.{LedgerCell}
 use Rattle.spec_protocol.specs.Contents.{Contents, known}

@@ -7,7 +7,7 @@ use Rattle.sql_types.specs.declared.lock.Hold.{Hold}
 use Rattle.sql_types.specs.declared.lock.LockRequest.{LockRequest}
 use Rattle.spec_model.specs.Locks.{requests_conflict}
 use Rattle.spec_model.specs.InTheWay.{Conflict, Holder, barrier, bars, conflict_or, first_conflict, holder_of, least_with, precedes}
-use Rattle.spec_history.specs.Lists.{In}
+use Rattle.law_history.specs.Lists.{In}
 
 -- this holder's lock conflicts with a want
 pub record Bars (holds : List Hold) (id : ℕ) (requests : List LockRequest) (holder : ℕ) : Type 0 where

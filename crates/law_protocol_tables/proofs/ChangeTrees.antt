@@ -7,8 +7,8 @@ use Rattle.spec_model.specs.Catalog.{NamedPart}
 use Rattle.spec_model.specs.Changes.{Change}
 use Rattle.spec_model.specs.Script.{ScriptEnd}
 use Rattle.law_frame.proofs.UndoneVersions.{row_undoes}
-use Rattle.spec_history.specs.Lists.{Text}
-use Rattle.spec_history.specs.Transactions.{unfixed}
+use Rattle.law_history.specs.Lists.{Text}
+use Rattle.law_history.specs.Transactions.{unfixed}
 use Rattle.spec_protocol.specs.Server.{Server}
 use Rattle.spec_protocol.specs.Cells.{TableCell, Cell, cell_of, versions_at}
 use Rattle.spec_protocol.specs.Seats.{OpenTransaction, Session, SeatState}

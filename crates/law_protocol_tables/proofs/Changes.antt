@@ -27,7 +27,7 @@ use Rattle.spec_model.specs.ScriptRequests.{text_requests}
 use Rattle.law_frame.proofs.AgreeAfter.{has_table}
 use Rattle.law_frame.proofs.NamedPart.{found_is_listed}
 use Rattle.law_journal.specs.Fits.{Fits}
-use Rattle.spec_history.specs.Lists.{Text, Each, In}
+use Rattle.law_history.specs.Lists.{Text, Each, In}
 use Rattle.spec_protocol.specs.Server.{Server}
 use Rattle.sql_types.specs.declared.lock.Hold.{Hold}
 use Rattle.spec_protocol.specs.Cells.{Index, TableCell, Cell, Rows, catalog_at, cell_of}

@@ -5,17 +5,17 @@ use Rattle.std.specs.Prelude.{◌==◌, ◌||◌}
 use Rattle.std.specs.List.{list_any}
 use Rattle.sql_types.specs.declared.journal.JournalItem.{JournalItem}
 use Rattle.sql_types.specs.declared.journal.JournalItem.TheVariants.{Close}
-use Rattle.spec_history.specs.Lists.{Text, Each, In}
-use Rattle.spec_history.specs.Journals.{ids_of}
-use Rattle.spec_history.specs.Meaning.{Meaning}
-use Rattle.spec_history.specs.Transactions.{End, unfixed, committed, ended, on_some}
-use Rattle.spec_history.specs.Acts.{SessionAct, assigns_id, looks, says, fails, meets, commits, ends, releases_locks, Act, by, closes}
-use Rattle.spec_history.specs.Sessions.{SessionTransaction, drawn, asks, hears, scripts, fixes, transaction_by}
-use Rattle.spec_history.specs.Worlds.{World, first, run, step, items_by, item_of}
-use Rattle.spec_history.specs.Guards.{IsEnabled, Good}
-use Rattle.spec_history.proofs.Legal.{IdsApart, apart_by, apart_close, ids_append, was_there}
-use Rattle.spec_history.proofs.Settles.{in_left, in_right}
-use Rattle.spec_history.proofs.Trace.{each_append}
+use Rattle.law_history.specs.Lists.{Text, Each, In}
+use Rattle.law_history.specs.Journals.{ids_of}
+use Rattle.law_history.specs.Meaning.{Meaning}
+use Rattle.law_history.specs.Transactions.{End, unfixed, committed, ended, on_some}
+use Rattle.law_history.specs.Acts.{SessionAct, assigns_id, looks, says, fails, meets, commits, ends, releases_locks, Act, by, closes}
+use Rattle.law_history.specs.Sessions.{SessionTransaction, drawn, asks, hears, scripts, fixes, transaction_by}
+use Rattle.law_history.specs.Worlds.{World, first, run, step, items_by, item_of}
+use Rattle.law_history.specs.Guards.{IsEnabled, Good}
+use Rattle.law_history.proofs.Legal.{IdsApart, apart_by, apart_close, ids_append, was_there}
+use Rattle.law_history.proofs.Settles.{in_left, in_right}
+use Rattle.law_history.proofs.Trace.{each_append}
 use Rattle.spec_protocol.specs.Server.{Server}
 use Rattle.spec_protocol.specs.Cells.{Cell}
 use Rattle.spec_protocol.specs.Seats.{OpenTransaction, Session, SeatState}

@@ -17,10 +17,10 @@ use Rattle.spec_model.specs.Agreement.{columns_at}
 use Rattle.spec_model.specs.ChangeSets.{change_set, defined}
 use Rattle.spec_model.specs.Runs.{Rising, MadeBefore}
 use Rattle.spec_model.specs.Undo.{versions_undone}
-use Rattle.spec_history.specs.Lists.{Text, Each, In}
-use Rattle.spec_history.specs.Refusals.{EndsAt}
-use Rattle.spec_history.specs.Transactions.{unfixed}
-use Rattle.spec_history.proofs.Trace.{each_weaker}
+use Rattle.law_history.specs.Lists.{Text, Each, In}
+use Rattle.law_history.specs.Refusals.{EndsAt}
+use Rattle.law_history.specs.Transactions.{unfixed}
+use Rattle.law_history.proofs.Trace.{each_weaker}
 use Rattle.spec_protocol.specs.Server.{Server}
 use Rattle.sql_types.specs.declared.lock.Hold.{Hold}
 use Rattle.spec_protocol.specs.Cells.{Creator, TableCell, Cell, Rows, holds_at, versions_at, catalog_at, cell_of}
@@ -51,7 +51,7 @@ use Rattle.spec_protocol.specs.CatalogVisits.{ReleasesCatalogLock}
 use Rattle.spec_protocol.specs.OpenOnes.{lines_at}
 use Rattle.spec_model.specs.Reach.{has_key, is_exclusive}
 use Rattle.spec_model.specs.Script.{ScriptEnd}
-use Rattle.spec_history.specs.Transactions.{listed}
+use Rattle.law_history.specs.Transactions.{listed}
 use Rattle.law_protocol_changes.proofs.SameOne.{IsSame, same_end, script_stays, trees_stay}
 use Rattle.law_protocol_changes.proofs.CellsAfter.{versions_kept}
 use Rattle.sql_types.specs.declared.lock.Mode.TheVariants as mode

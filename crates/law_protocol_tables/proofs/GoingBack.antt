@@ -2,7 +2,7 @@
 use Rattle.std.proofs.Common.{◌≡◌, ℕ, ◌∷◌, List, set, Some, sym, ap, ◌∙◌, subst}
 use mathlib.Core.Option.{some}
 use lib.ListN.{get_elem?}
-use Rattle.spec_history.specs.Lists.{In}
+use Rattle.law_history.specs.Lists.{In}
 use Rattle.spec_protocol.specs.Server.{Server}
 use Rattle.spec_protocol.specs.Cells.{TableCell, Cell, Rows, cell_of}
 use Rattle.spec_protocol.specs.Seats.{going_back, inside, SeatState}

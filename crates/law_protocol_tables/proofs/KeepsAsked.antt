@@ -5,8 +5,8 @@ use lib.ListN.{get_elem?}
 use Rattle.sql_types.specs.declared.lock.Hold.{Hold}
 use Rattle.spec_model.specs.Catalog.{Defs, defs_of}
 use Rattle.spec_model.specs.Journals.{serial}
-use Rattle.spec_history.specs.Lists.{Each, In}
-use Rattle.spec_history.specs.Acts.{SessionAct, by}
+use Rattle.law_history.specs.Lists.{Each, In}
+use Rattle.law_history.specs.Acts.{SessionAct, by}
 use Rattle.spec_protocol.specs.Server.{Server}
 use Rattle.spec_protocol.specs.Cells.{Cell, Ledger, ledger_at, holds_at, holds_in}
 use Rattle.spec_protocol.specs.Contents.{contents}

@@ -9,7 +9,7 @@ use Rattle.spec_model.specs.Keys.{Key, of_key, same_key, version_key}
 use Rattle.law_frame.proofs.SameKeys.{same_key_as, same_itself}
 use Rattle.law_journal.specs.Fits.{Fits}
 use Rattle.law_journal.specs.Kept.{EndedBefore, Apart, AllApart}
-use Rattle.spec_history.specs.Lists.{Each, In}
+use Rattle.law_history.specs.Lists.{Each, In}
 use Rattle.spec_protocol.specs.TablesAreSerial.{KeysDiffer}
 use Rattle.law_protocol_changes.proofs.AfterSet.{each_at, all_at}
 use Rattle.law_protocol_changes.proofs.ChangedRows.{filters_turned, in_passed, was_in, of_its_key}

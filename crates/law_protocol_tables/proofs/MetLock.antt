@@ -11,15 +11,15 @@ use Rattle.sql_types.specs.declared.lock.LockRequest.{LockRequest}
 use Rattle.spec_model.specs.Catalog.{Defs, Tables, defs_of}
 use Rattle.spec_model.specs.Journals.{after_item, serial, serial_from, upto}
 use Rattle.spec_model.specs.Locks.{CellRequests, catalog_clash, cells_clash, same_item, requests_conflict}
-use Rattle.spec_history.specs.Lists.{Text, Some_of, In}
-use Rattle.spec_history.specs.Real.{requests_catalog, requests_cell}
-use Rattle.spec_history.specs.Acts.{Act}
-use Rattle.spec_history.specs.Refusals.{EndsAt, Clashes}
-use Rattle.spec_history.specs.Serial as history
-use Rattle.spec_history.specs.Transactions.{End, unfixed, committed, ended}
-use Rattle.spec_history.specs.Sessions.{SessionTransaction}
-use Rattle.spec_history.specs.Worlds.{World, first, run}
-use Rattle.spec_history.specs.Guards.{Meets, tables_at_end}
+use Rattle.law_history.specs.Lists.{Text, Some_of, In}
+use Rattle.law_history.specs.Real.{requests_catalog, requests_cell}
+use Rattle.law_history.specs.Acts.{Act}
+use Rattle.law_history.specs.Refusals.{EndsAt, Clashes}
+use Rattle.law_history.specs.Serial as history
+use Rattle.law_history.specs.Transactions.{End, unfixed, committed, ended}
+use Rattle.law_history.specs.Sessions.{SessionTransaction}
+use Rattle.law_history.specs.Worlds.{World, first, run}
+use Rattle.law_history.specs.Guards.{Meets, tables_at_end}
 use Rattle.spec_protocol.specs.Server.{Server}
 use Rattle.spec_protocol.specs.Cells.{LedgerCell, catalog_at, cell_of}
 use Rattle.spec_protocol.specs.Contents.{Contents, known}

@@ -15,7 +15,7 @@ use Rattle.spec_model.specs.Locks.{cell_requests, query_cell_requests, row_cell_
 use Rattle.spec_model.specs.Parts.{columns_of}
 use Rattle.spec_model.specs.Query.{query_check, select_check}
 use Rattle.spec_model.specs.Refusals.{Checked, and_then, or_refused}
-use Rattle.spec_history.specs.Lists.{Text, In}
+use Rattle.law_history.specs.Lists.{Text, In}
 use Rattle.spec_protocol.specs.Answering.{error_of, refused_by_check}
 use Rattle.spec_protocol.specs.LocksCover.{name_of}
 use Rattle.spec_protocol.specs.TableVisits.{requests_here}

@@ -12,7 +12,7 @@ use Rattle.std.proofs.Common.{Bool, Err, List, Ok, Option, Some, [], ap, append-
 use Rattle.spec_protocol.specs.Cells.{Catalog, CatalogCell, Cell, catalog_at, cell_of, holds_at, versions_at, versions_in}
 use Rattle.spec_model.specs.Refusals.{Checked}
 use Rattle.spec_model.specs.Catalog.{Defs, Tables, defs_of, find_part, versions_of}
-use Rattle.spec_history.specs.Lists.{Each, In, Text}
+use Rattle.law_history.specs.Lists.{Each, In, Text}
 use Rattle.spec_protocol.specs.OpenOnes.{HasOpen, script_so_far}
 use Rattle.sql_types.specs.declared.lock.Hold.{Hold}
 use Rattle.spec_protocol.specs.RequestsIn.{Holds, of_catalog, of_cell, requests_in}
@@ -34,7 +34,7 @@ use Rattle.law_protocol_changes.proofs.TakenLocks.{all_free}
 use Rattle.spec_protocol.specs.Moves.{at_place, sits, then_at, visiting}
 use Rattle.spec_model.specs.Locks.{catalog_request, cell_requests, query_cell_requests, query_requests, requests_conflict, whole}
 use Rattle.spec_protocol.specs.Contents.{contents}
-use Rattle.spec_history.proofs.Trace.{each_append}
+use Rattle.law_history.proofs.Trace.{each_append}
 use Rattle.spec_model.specs.Effect.{effect, shown, query_effect, query_rows}
 use Rattle.std.proofs.lemmas.Bool.{eqb-true}
 use Rattle.law_protocol_changes.proofs.Excluded.{excluded}
@@ -43,7 +43,7 @@ use lib.ListN.{get_elem?}
 use Rattle.law_protocol_changes.proofs.CellsAfter.{held_here, were_here}
 use Rattle.spec_model.specs.Holds.{holds_after, holds_any}
 use Rattle.std.specs.Prelude.{if◌then◌else◌, not, ◌==◌}
-use Rattle.spec_history.specs.Transcripts.{kind_of}
+use Rattle.law_history.specs.Transcripts.{kind_of}
 use Rattle.spec_protocol.specs.LocksCover.{name_of}
 use Rattle.spec_model.specs.Query.{query_check}
 use Rattle.spec_protocol.specs.Doing.{rows_reply, with_reply, stage_after}
@@ -52,9 +52,9 @@ use Rattle.law_protocol_changes.proofs.ScriptMore.{step_is}
 use Rattle.law_protocol_changes.proofs.Takes.{tables_now}
 use Rattle.spec_model.specs.ScriptRequests.{text_requests}
 use Rattle.spec_protocol.specs.ActsOf.{done_acts}
-use Rattle.spec_history.specs.Acts.{by}
+use Rattle.law_history.specs.Acts.{by}
 use Rattle.law_protocol_changes.proofs.GoesOn.{one_number}
-use Rattle.spec_history.specs.Acts as act
+use Rattle.law_history.specs.Acts as act
 
 module _ (v : Server) (cells : List Cell) (seats : List SeatState) {history : History} (stands_before : Stands v history cells seats) (j : ℕ) (s : SeatState) (there : get_elem? seats j ≡ some s) (c d : CatalogCell) (t : SeatState) (out : get_elem? cells catalog_at ≡ some (Catalog c)) (L : ReadsSystem v c s d t) where
   abbrev o : OpenTransaction

@@ -15,8 +15,8 @@ use Rattle.spec_model.specs.Reach.{lets_change}
 use Rattle.spec_model.specs.Runs.{Rising, MadeBefore}
 use Rattle.spec_model.specs.Undo.{versions_undone}
 use Rattle.law_frame.proofs.UndoneVersions.{nothing_undone}
-use Rattle.spec_history.specs.Lists.{In}
-use Rattle.spec_history.specs.Transactions.{unfixed}
+use Rattle.law_history.specs.Lists.{In}
+use Rattle.law_history.specs.Transactions.{unfixed}
 use Rattle.spec_protocol.specs.Server.{Server}
 use Rattle.sql_types.specs.declared.lock.Hold.{Hold}
 use Rattle.spec_protocol.specs.Cells.{TableCell, Cell, Rows, holds_at, versions_at, cell_of}

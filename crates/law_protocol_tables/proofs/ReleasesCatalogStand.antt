@@ -20,10 +20,10 @@ use Rattle.spec_model.specs.Agreement.{columns_at}
 use Rattle.spec_model.specs.ChangeSets.{change_set, defined}
 use Rattle.spec_model.specs.Runs.{Rising, EndsBefore, MadeBefore}
 use Rattle.spec_model.specs.Undo.{versions_undone}
-use Rattle.spec_history.specs.Lists.{Each, In}
-use Rattle.spec_history.specs.Refusals.{EndsAt}
-use Rattle.spec_history.specs.Transactions.{End, unfixed}
-use Rattle.spec_history.proofs.Trace.{each_weaker}
+use Rattle.law_history.specs.Lists.{Each, In}
+use Rattle.law_history.specs.Refusals.{EndsAt}
+use Rattle.law_history.specs.Transactions.{End, unfixed}
+use Rattle.law_history.proofs.Trace.{each_weaker}
 use Rattle.spec_protocol.specs.Server.{Server}
 use Rattle.sql_types.specs.declared.lock.Hold.{Hold}
 use Rattle.spec_protocol.specs.Cells.{Creator, TableCell, Cell, Rows, holds_at, versions_at, catalog_at, cell_of}
@@ -63,7 +63,7 @@ use Rattle.spec_protocol.specs.RowsAgree.{GoesBackTo, IsExplicitAt}
 use Rattle.spec_model.specs.SystemTables.{tables_id}
 use Rattle.law_frame.proofs.UndoneVersions.{nothing_undone}
 use Rattle.law_protocol_tables.proofs.UndoneTwice.{WasIn, was_undone}
-use Rattle.spec_history.specs.Transactions as en
+use Rattle.law_history.specs.Transactions as en
 use Rattle.law_protocol_changes.proofs.SameOne.{trees_from}
 use Rattle.law_protocol_changes.proofs.OfCells.{AreDefinitions, AreIndexes, Creates, EndLiesUnder, GoesBack, HasItsTrees, HasLock, HoldsInCatalog, IsFree, IsGotAt, IsIndexed, IsOfItsScript, IsUnderLocks, IsUnderWay, LiesUnder, LocksAgree, LocksCover, OpenScripts, RowsAgree, SeatHas, StandsAs, TreesAreOfEvents, RequestsNone, committed, events_counted, in_journal, LookedAt, looked_now, looked_so, table_there}
 use Rattle.law_protocol_changes.proofs.Apart.{x_apart}

@@ -17,7 +17,7 @@ use Rattle.law_protocol_changes.proofs.Taken.{AreFree, taken_comes, taken_holds}
 use Rattle.spec_protocol.specs.Cells.{Cell, Rows, TableCell, catalog_at, cell_of, holds_at}
 use Rattle.sql_value.specs.declared.column.ColumnDef.{ColumnDef}
 use Rattle.spec_model.specs.Catalog.{Defs, NamedPart, Tables, defs_of, find_part, versions_of}
-use Rattle.spec_history.specs.Lists.{Each, In, Text}
+use Rattle.law_history.specs.Lists.{Each, In, Text}
 use Rattle.spec_protocol.specs.LocksCover.{HasIntent, IsNamed, name_of, table_of}
 use Rattle.law_protocol_changes.proofs.OfCells.{HasLooked, HoldsInCatalog, IsGotAt, in_journal, looked_now}
 use Rattle.spec_protocol.specs.OpenOnes.{HasOpen, script_end, script_so_far}
@@ -43,7 +43,7 @@ use Rattle.spec_protocol.specs.Moves.{at_place, sits, visiting}
 use Rattle.spec_model.specs.Locks.{by_key_or_whole, query_requests, requests_conflict, whole, cell_requests, query_cell_requests, row_cell_requests, row_requests}
 use Rattle.spec_protocol.specs.Contents.{contents}
 use Rattle.spec_protocol.specs.Doing.{done, stage_after, with_reply, rows_reply}
-use Rattle.spec_history.proofs.Trace.{each_append}
+use Rattle.law_history.proofs.Trace.{each_append}
 use Rattle.std.proofs.lemmas.Bool.{eqb-true}
 use Rattle.law_protocol_changes.proofs.Excluded.{excluded}
 use Rattle.spec_model.specs.InTheWay.{first_conflict}
@@ -53,7 +53,7 @@ use Rattle.law_protocol_changes.proofs.CellsAfter.{held_here, were_here}
 use Rattle.spec_model.specs.Holds.{holds_after}
 use Rattle.std.specs.Prelude.{if◌then◌else◌, not, ◌==◌}
 use Rattle.spec_model.specs.Where.{key_fixed}
-use Rattle.spec_history.specs.Transcripts.{kind_of, rows}
+use Rattle.law_history.specs.Transcripts.{kind_of, rows}
 use mathlib.Core.Option.{some}
 use Rattle.law_protocol_changes.proofs.ScriptMore.{step_is}
 use Rattle.law_protocol_changes.proofs.Takes.{tables_now}
@@ -71,7 +71,7 @@ use Rattle.spec_model.specs.Checks.{row_statement_check}
 use Rattle.law_protocol_tables.proofs.Changes.{rows_announced}
 use Rattle.law_frame.proofs.SameChangeSet.{same_changes, rows_by_requests}
 use Rattle.spec_protocol.specs.ActsOf.{done_acts}
-use Rattle.spec_history.specs.Acts.{Act}
+use Rattle.law_history.specs.Acts.{Act}
 
 abbrev Announces : List LockRequest → Type 0
 Announces ws = (w : LockRequest) → In w ws → (u : LockRequest) × In u ws × (u.item ≡ Whole)

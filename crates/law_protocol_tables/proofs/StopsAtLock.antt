@@ -1,14 +1,14 @@
 -- A visit that meets a lock of another transaction: its cell stays, and cells and seats stand together.
-use Rattle.spec_history.proofs.Trace.{each_weaker}
-use Rattle.spec_history.specs.Acts.{meets}
-use Rattle.spec_history.specs.Facts.{met}
-use Rattle.spec_history.specs.Guards.{IsAnswered, Meets}
-use Rattle.spec_history.specs.Lists.{Text, Each, In}
-use Rattle.spec_history.specs.Real.{requests_catalog}
-use Rattle.spec_history.specs.Sessions.{SessionTransaction, SessionState, acted, hears}
-use Rattle.spec_history.specs.Transactions.{unfixed, on_some}
-use Rattle.spec_history.specs.Transcripts.{Kind, rows, kind_of}
-use Rattle.spec_history.specs.Worlds.{first, run}
+use Rattle.law_history.proofs.Trace.{each_weaker}
+use Rattle.law_history.specs.Acts.{meets}
+use Rattle.law_history.specs.Facts.{met}
+use Rattle.law_history.specs.Guards.{IsAnswered, Meets}
+use Rattle.law_history.specs.Lists.{Text, Each, In}
+use Rattle.law_history.specs.Real.{requests_catalog}
+use Rattle.law_history.specs.Sessions.{SessionTransaction, SessionState, acted, hears}
+use Rattle.law_history.specs.Transactions.{unfixed, on_some}
+use Rattle.law_history.specs.Transcripts.{Kind, rows, kind_of}
+use Rattle.law_history.specs.Worlds.{first, run}
 use Rattle.spec_model.specs.Catalog.{Tables, NamedPart, defs_of}
 use Rattle.spec_model.specs.InTheWay.{Conflict, first_conflict}
 use Rattle.spec_model.specs.Journals.{serial}

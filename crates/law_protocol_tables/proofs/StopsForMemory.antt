@@ -16,7 +16,7 @@ use mathlib.Core.Option.{some}
 use Rattle.spec_protocol.specs.Doing.{stage_refused}
 use Rattle.spec_protocol.specs.Moves.{then_at}
 use Rattle.spec_protocol.specs.ActsOf.{failed_in}
-use Rattle.spec_history.specs.Acts.{fails}
+use Rattle.law_history.specs.Acts.{fails}
 
 module _ (v : Server) (cells : List Cell) (seats : List SeatState) {history : History} (st : Stands v history cells seats) (j : ℕ) (s : SeatState) (there : get_elem? seats j ≡ some s) where
   pub stops_in_catalog : (c d : CatalogCell) (t : SeatState) → get_elem? cells catalog_at ≡ some (Catalog c) → (w : StopsInCatalog v c s t) → w.r ≡ reply.Refused NoMemory → d ≡ c → StandsAfter v j history (failed_in v.meaning (Some w.o) w.at.stands.text) (set cells catalog_at (Catalog d)) (set seats j t)

@@ -4,12 +4,12 @@ use Rattle.std.proofs.lemmas.Bool.{ne_eqb}
 use Rattle.std.specs.Prelude.{if◌then◌else◌}
 use Rattle.sql_value.specs.declared.refusal.Refusal.TheVariants.{Locked, SyntaxError, NoTransaction, AlreadyInTransaction, LimitExceeded, ForbiddenInTransaction}
 use Rattle.sql_types.specs.declared.reply.Reply.TheVariants as reply
-use Rattle.spec_history.specs.Lists.{Text}
-use Rattle.spec_history.specs.Meaning.{Meaning}
-use Rattle.spec_history.specs.Transcripts.{Kind, rows, keep, kind_of}
-use Rattle.spec_history.specs.Facts.{Fact, began, met, image, facts_outside}
-use Rattle.spec_history.specs.InPlace.{ComesAt}
-use Rattle.spec_history.specs.Transactions.{unfixed}
+use Rattle.law_history.specs.Lists.{Text}
+use Rattle.law_history.specs.Meaning.{Meaning}
+use Rattle.law_history.specs.Transcripts.{Kind, rows, keep, kind_of}
+use Rattle.law_history.specs.Facts.{Fact, began, met, image, facts_outside}
+use Rattle.law_history.specs.InPlace.{ComesAt}
+use Rattle.law_history.specs.Transactions.{unfixed}
 use Rattle.spec_protocol.specs.TranscriptsSoFar.{end_shown, is_begin, image_in, image_at, shown_inside, shown_alone, shown_with, shown_at, open_before, Fits}
 use Rattle.spec_protocol.specs.Doing.{stage_refused}
 use Rattle.spec_protocol.specs.Moves.{keeping, at_place}

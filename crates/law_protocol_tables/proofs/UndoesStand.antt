@@ -19,10 +19,10 @@ use Rattle.spec_model.specs.Agreement.{columns_at}
 use Rattle.spec_model.specs.ChangeSets.{change_set, defined}
 use Rattle.spec_model.specs.Runs.{Rising, MadeBefore}
 use Rattle.spec_model.specs.Undo.{versions_undone}
-use Rattle.spec_history.specs.Lists.{Text, Each, In}
-use Rattle.spec_history.specs.Refusals.{EndsAt}
-use Rattle.spec_history.specs.Transactions.{unfixed}
-use Rattle.spec_history.proofs.Trace.{each_weaker}
+use Rattle.law_history.specs.Lists.{Text, Each, In}
+use Rattle.law_history.specs.Refusals.{EndsAt}
+use Rattle.law_history.specs.Transactions.{unfixed}
+use Rattle.law_history.proofs.Trace.{each_weaker}
 use Rattle.law_journal.specs.Serial.{place_in}
 use Rattle.spec_protocol.specs.Server.{Server}
 use Rattle.sql_types.specs.declared.lock.Hold.{Hold}

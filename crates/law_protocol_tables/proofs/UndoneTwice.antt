@@ -5,7 +5,7 @@ use Rattle.std.specs.Prelude.{◌==◌, ◌&&◌, not, nat_le, if◌then◌else�
 use Rattle.std.specs.List.{filter}
 use Rattle.sql_types.specs.declared.version.Version.{Version}
 use Rattle.spec_model.specs.Rows.{EventId}
-use Rattle.spec_history.specs.Lists.{In}
+use Rattle.law_history.specs.Lists.{In}
 use Rattle.law_protocol_changes.proofs.ChangedRows.{was_in}
 use Rattle.spec_model.specs.Undo.{is_undone, end_left, end_undone, versions_undone}
 

@@ -12,10 +12,10 @@ use Rattle.spec_model.specs.Catalog.{Defs, NamedPart, Tables, defs_of}
 use Rattle.spec_model.specs.Holds.{holds_after, released}
 use Rattle.spec_model.specs.Journals.{serial}
 use Rattle.spec_model.specs.Locks.{CellRequests}
-use Rattle.spec_history.specs.Lists.{Text, Each, In}
-use Rattle.spec_history.specs.Real.{requests_cell}
-use Rattle.spec_history.specs.Acts.{SessionAct, by}
-use Rattle.spec_history.specs.Sessions.{SessionState}
+use Rattle.law_history.specs.Lists.{Text, Each, In}
+use Rattle.law_history.specs.Real.{requests_cell}
+use Rattle.law_history.specs.Acts.{SessionAct, by}
+use Rattle.law_history.specs.Sessions.{SessionState}
 use Rattle.spec_protocol.specs.Server.{Server}
 use Rattle.spec_protocol.specs.Answering.{refused_by_check}
 use Rattle.spec_protocol.specs.Cells.{Cell, LedgerCell, Rows, TableCell, cell_of, holds_in, ledger_at}

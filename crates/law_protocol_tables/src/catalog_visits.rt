@@ -5,7 +5,7 @@ ghost use mathlib.Core.Option.{some};
 ghost use lib.ListN.{get_elem?};
 ghost use Rattle.sql_types.specs.declared.table.Part.TheVariants.{System};
 ghost use Rattle.spec_model.specs.Effect.{query_rows};
-ghost use Rattle.spec_history.specs.Acts.{looks, meets};
+ghost use Rattle.law_history.specs.Acts.{looks, meets};
 ghost use Rattle.spec_protocol.specs.ActsOf.{done_acts, failed_in};
 ghost use Rattle.spec_protocol.specs.Doing.{rows_reply};
 ghost use Rattle.spec_protocol.specs.Server.{Server};

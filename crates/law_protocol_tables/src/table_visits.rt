@@ -4,7 +4,7 @@ ghost use Rattle.std.specs.Prelude.{◌≡◌, ℕ, true, List, [], ◌∷◌, s
 ghost use mathlib.Core.Option.{some};
 ghost use lib.ListN.{get_elem?};
 ghost use Rattle.spec_model.specs.Effect.{query_rows};
-ghost use Rattle.spec_history.specs.Acts.{fails, meets};
+ghost use Rattle.law_history.specs.Acts.{fails, meets};
 ghost use Rattle.spec_protocol.specs.ActsOf.{done_acts};
 ghost use Rattle.spec_protocol.specs.Doing.{rows_reply};
 ghost use Rattle.spec_protocol.specs.Server.{Server};

@@ -5,11 +5,11 @@ use Rattle.sql_types.specs.declared.lock.Hold.{Hold}
 use Rattle.sql_types.specs.declared.lock.LockRequest.{LockRequest}
 use Rattle.sql_types.specs.declared.reply.Reply.{Reply}
 use Rattle.spec_model.specs.Journals.{Line}
-use Rattle.spec_history.specs.Acts.{SessionAct, starts, takes, fails, commits, issues, answers, stops, by}
-use Rattle.spec_history.specs.Histories.{Due, pending, full_or, WaitsForNone}
-use Rattle.spec_history.specs.Lists.{Text, Each}
-use Rattle.spec_history.specs.Meaning.{Meaning}
-use Rattle.spec_history.specs.Transcripts.{Kind, unread, begin, commit, roll_back, to_savepoint, create, rows, issue, keep, kind_of}
+use Rattle.law_history.specs.Acts.{SessionAct, starts, takes, fails, commits, issues, answers, stops, by}
+use Rattle.law_history.specs.Histories.{Due, pending, full_or, WaitsForNone}
+use Rattle.law_history.specs.Lists.{Text, Each}
+use Rattle.law_history.specs.Meaning.{Meaning}
+use Rattle.law_history.specs.Transcripts.{Kind, unread, begin, commit, roll_back, to_savepoint, create, rows, issue, keep, kind_of}
 use Rattle.spec_protocol.specs.ActsOf.{done_acts, checked_acts, end_acts, failed_acts, failed_in, alone_acts}
 use Rattle.spec_protocol.specs.Alone.{Alone, Alones, none, more}
 use Rattle.spec_protocol.specs.Alone as alone

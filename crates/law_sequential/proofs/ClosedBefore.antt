@@ -5,11 +5,11 @@ use Rattle.std.proofs.lemmas.Bool.{cases_lt, eqb-true}
 use Rattle.sql_types.specs.declared.journal.JournalItem.{JournalItem}
 use Rattle.sql_types.specs.declared.journal.JournalItem.TheVariants.{Tx, Close}
 use Rattle.spec_model.specs.Journals.{closed}
-use Rattle.spec_history.specs.Facts.{Fact, began, said, failed, met, placed, passed, over, digest, image, no_digest}
-use Rattle.spec_history.specs.Journals.{blocks, in_blocks}
-use Rattle.spec_history.specs.Lists.{Each}
-use Rattle.spec_history.specs.Serial.{ClosesPending}
-use Rattle.spec_history.specs.StepOrder.{Counted, When, TakesClose, ItemsInOrder}
+use Rattle.law_history.specs.Facts.{Fact, began, said, failed, met, placed, passed, over, digest, image, no_digest}
+use Rattle.law_history.specs.Journals.{blocks, in_blocks}
+use Rattle.law_history.specs.Lists.{Each}
+use Rattle.law_history.specs.Serial.{ClosesPending}
+use Rattle.law_history.specs.StepOrder.{Counted, When, TakesClose, ItemsInOrder}
 use Rattle.law_sequential.specs.Outcome.{IsClosedThere}
 
 -- ---- blocks of parts of a journal

@@ -1,8 +1,8 @@
 -- Deeds that close blocks in step, put together; and what they tell of a history.
 use Rattle.std.proofs.Common.{◌≡◌, ℕ, suc, List, [], ◌∷◌, ◌++◌, map, sym, subst}
 use Rattle.std.specs.Prelude.{◌==◌}
-use Rattle.spec_history.specs.Acts.{SessionAct, commits, issues, Act, by, closes}
-use Rattle.spec_history.specs.Histories.{ClosesInStep, Due, pending, full, digest_next, full_or}
+use Rattle.law_history.specs.Acts.{SessionAct, commits, issues, Act, by, closes}
+use Rattle.law_history.specs.Histories.{ClosesInStep, Due, pending, full, digest_next, full_or}
 use Rattle.spec_protocol.specs.AnonymousActs.{AnonymousAct, did, closed, anonymous_act}
 use Rattle.law_sequential.specs.InStep.{InStep}
 

@@ -1,12 +1,12 @@
 -- What the deeds of a history tell of the ends of its sessions.
 use Rattle.std.proofs.Common.{◌≡◌, ℕ, List, [], ◌∷◌, ◌++◌, map, refl, sym, ap₂, subst}
-use Rattle.spec_history.specs.Acts.{SessionAct, takes, answers, Act, by, closes}
-use Rattle.spec_history.specs.Histories.{EndsComeLast, line_by, lines_of}
-use Rattle.spec_history.specs.Inputs.{InputLine}
-use Rattle.spec_history.specs.Lists.{Each}
-use Rattle.spec_history.specs.Sessions.{SessionState}
-use Rattle.spec_history.specs.Transcripts.{end_of_session}
-use Rattle.spec_history.specs.Worlds.{World, step}
+use Rattle.law_history.specs.Acts.{SessionAct, takes, answers, Act, by, closes}
+use Rattle.law_history.specs.Histories.{EndsComeLast, line_by, lines_of}
+use Rattle.law_history.specs.Inputs.{InputLine}
+use Rattle.law_history.specs.Lists.{Each}
+use Rattle.law_history.specs.Sessions.{SessionState}
+use Rattle.law_history.specs.Transcripts.{end_of_session}
+use Rattle.law_history.specs.Worlds.{World, step}
 use Rattle.spec_protocol.specs.AnonymousActs.{AnonymousAct, did, anonymous_act}
 use Rattle.law_sequential.specs.EndsLast.{IsNoEnd, IsNoStatement}
 

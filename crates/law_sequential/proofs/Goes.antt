@@ -5,11 +5,11 @@ use Rattle.std.proofs.lemmas.Bool.{ne_eqb}
 use mathlib.Core.Option.{some, none, some-injective}
 use lib.ListN.{get_elem?}
 use Rattle.spec_model.specs.Limits.{max_block}
-use Rattle.spec_history.specs.Acts.{SessionAct, starts, takes, answers, stops}
-use Rattle.spec_history.specs.Histories.{pending, full_or}
-use Rattle.spec_history.specs.Inputs.{InputLine}
-use Rattle.spec_history.specs.Lists.{Text, Each}
-use Rattle.spec_history.proofs.Trace.{each_append, each_weaker}
+use Rattle.law_history.specs.Acts.{SessionAct, starts, takes, answers, stops}
+use Rattle.law_history.specs.Histories.{pending, full_or}
+use Rattle.law_history.specs.Inputs.{InputLine}
+use Rattle.law_history.specs.Lists.{Text, Each}
+use Rattle.law_history.proofs.Trace.{each_append, each_weaker}
 use Rattle.spec_protocol.specs.Alone.{Alone, Alones, none, more}
 use Rattle.spec_protocol.specs.Alone as alone
 use Rattle.spec_protocol.specs.ActsOf.{alone_acts}

@@ -5,9 +5,9 @@ use Rattle.std.proofs.lemmas.Bool.{le-leb, ne_eqb, eq-eqb, leb-true}
 use Rattle.sql_types.specs.declared.entry.TxEntry.{TxEntry}
 use Rattle.sql_types.specs.declared.journal.JournalItem.{JournalItem}
 use Rattle.spec_model.specs.Journals.{Line}
-use Rattle.spec_history.specs.Acts.{SessionAct, says, commits, issues, Act, closes}
-use Rattle.spec_history.specs.Digests.{Digest}
-use Rattle.spec_history.specs.Histories.{Due, pending, full, full_or}
+use Rattle.law_history.specs.Acts.{SessionAct, says, commits, issues, Act, closes}
+use Rattle.law_history.specs.Digests.{Digest}
+use Rattle.law_history.specs.Histories.{Due, pending, full, full_or}
 use Rattle.spec_protocol.specs.ActsOf.{closings}
 use Rattle.spec_protocol.specs.Cells.{LedgerCell, pending_in}
 use Rattle.spec_protocol.specs.AnonymousActs.{did, closed, anonymous_act}

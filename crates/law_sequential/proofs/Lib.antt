@@ -18,3 +18,4 @@ pub use Rattle.law_protocol.proofs.RanFirst
 pub use Rattle.law_protocol.proofs.Reorders
 pub use Rattle.law_protocol.proofs.StepsAlone
 pub use Rattle.law_protocol.proofs.TheEnd
+pub use Rattle.law_history.proofs.Refused

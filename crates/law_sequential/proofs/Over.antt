@@ -2,13 +2,13 @@
 use Rattle.std.proofs.Common.{◌≡◌, ◌≢◌, ℕ, zero, suc, ◌<◌, List, [], ◌∷◌, Option, None, refl, sym, ap, subst, subst₂, ◌∙◌, append-nil, inl, inr, ⊎_elim}
 use mathlib.Core.Option.{some, none, some-injective}
 use lib.ListN.{get_elem?}
-use Rattle.spec_history.specs.Agree.{Agree}
-use Rattle.spec_history.specs.ExactRefusals.{StepOrder}
-use Rattle.spec_history.specs.Histories.{ClosesInStep, EndsComeLast, SetupRan, pending}
-use Rattle.spec_history.specs.Inputs.{InputLine, InputSession, sessions_in}
-use Rattle.spec_history.specs.Lists.{Text, Each, Some_of, At, In}
-use Rattle.spec_history.specs.Transcripts.{Transcript, statements}
-use Rattle.spec_history.specs.Worlds.{first}
+use Rattle.law_history.specs.Agree.{Agree}
+use Rattle.law_history.specs.ExactRefusals.{StepOrder}
+use Rattle.law_history.specs.Histories.{ClosesInStep, EndsComeLast, SetupRan, pending}
+use Rattle.law_history.specs.Inputs.{InputLine, InputSession, sessions_in}
+use Rattle.law_history.specs.Lists.{Text, Each, Some_of, At, In}
+use Rattle.law_history.specs.Transcripts.{Transcript, statements}
+use Rattle.law_history.specs.Worlds.{first}
 use Rattle.spec_protocol.specs.AtTheEnd.{AllRest, AreWritten, HasItsImages, NamesDiffer, SessionsDiffer}
 use Rattle.spec_protocol.specs.Cells.{Cell, LedgerCell, pending_in}
 use Rattle.spec_protocol.specs.AnonymousActs.{AnonymousAct, steps_anonymous_acts}

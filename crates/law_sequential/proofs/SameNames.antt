@@ -3,8 +3,8 @@ use Rattle.std.proofs.Common.{◌≡◌, ◌≢◌, true, false, true≢false, �
 use Rattle.std.specs.List.{IsDistinct, AllByRecursion}
 use Rattle.std.specs.Str.{bytes_eq}
 use Rattle.std.proofs.lemmas.Slice.Eq.{bytes_eq-Decides}
-use Rattle.spec_history.specs.Lists.{Text, Each, At, In}
-use Rattle.spec_history.specs.Transcripts.{Transcript}
+use Rattle.law_history.specs.Lists.{Text, Each, At, In}
+use Rattle.law_history.specs.Transcripts.{Transcript}
 use Rattle.spec_protocol.specs.Reordered.{NamesApart}
 
 -- each of these names once

@@ -2,11 +2,11 @@
 use Rattle.std.proofs.Common.{◌≡◌, ◌⊎◌, ◌<◌, ℕ, suc, List, [], ◌∷◌, ◌++◌, map, slice_set, refl, sym, ap, ap₂, subst, ◌∙◌, append-nil, inl, inr, ⊎_elim}
 use mathlib.Core.Option.{some, some-injective}
 use lib.ListN.{get_elem?}
-use Rattle.spec_history.specs.Inputs.{InputLine}
-use Rattle.spec_history.specs.Acts.{SessionAct, issues}
-use Rattle.spec_history.specs.Lists.{Text, Each, In, Some_of}
-use Rattle.spec_history.specs.Transcripts.{Entry, Transcript}
-use Rattle.spec_history.proofs.Trace.{each_append}
+use Rattle.law_history.specs.Inputs.{InputLine}
+use Rattle.law_history.specs.Acts.{SessionAct, issues}
+use Rattle.law_history.specs.Lists.{Text, Each, In, Some_of}
+use Rattle.law_history.specs.Transcripts.{Entry, Transcript}
+use Rattle.law_history.proofs.Trace.{each_append}
 use Rattle.spec_protocol.specs.Alone.{Alones}
 use Rattle.spec_protocol.specs.Cells.{Cell, Ledger, LedgerCell, ledger_at, pending_in}
 use Rattle.spec_protocol.specs.AnonymousActs.{AnonymousAct, did, closed, alones_acts, may_anonymous_acts, visit_anonymous_acts}

@@ -11,16 +11,16 @@ use Rattle.sql_types.specs.declared.journal.JournalItem.{JournalItem}
 use Rattle.spec_model.specs.Journals.{cut}
 use Rattle.spec_model.specs.LegalJournals.{IsLegalJournal}
 use Rattle.spec_model.specs.Script.{Reading}
-use Rattle.spec_history.specs.Agree.{Agree}
-use Rattle.spec_history.specs.ExactRefusals.{StepOrder}
-use Rattle.spec_history.specs.Facts.{facts_of}
-use Rattle.spec_history.specs.Inputs.{InputLine, sessions_in}
-use Rattle.spec_history.specs.Journals.{times}
-use Rattle.spec_history.specs.Lists.{Text, Each, At, In}
-use Rattle.spec_history.specs.Meaning.{Meaning}
-use Rattle.spec_history.specs.Transcripts.{Transcript}
-use Rattle.spec_history.proofs.Real.{real, is_real}
-use Rattle.spec_history.proofs.Trace.{each_append, each_weaker}
+use Rattle.law_history.specs.Agree.{Agree}
+use Rattle.law_history.specs.ExactRefusals.{StepOrder}
+use Rattle.law_history.specs.Facts.{facts_of}
+use Rattle.law_history.specs.Inputs.{InputLine, sessions_in}
+use Rattle.law_history.specs.Journals.{times}
+use Rattle.law_history.specs.Lists.{Text, Each, At, In}
+use Rattle.law_history.specs.Meaning.{Meaning}
+use Rattle.law_history.specs.Transcripts.{Transcript}
+use Rattle.law_history.proofs.Real.{real, is_real}
+use Rattle.law_history.proofs.Trace.{each_append, each_weaker}
 use Rattle.format_image.specs.Image.{image_of}
 use Rattle.format_image.specs.ImageBytes.{image_bytes}
 use Rattle.spec_protocol.proofs.Staying.{hashing}

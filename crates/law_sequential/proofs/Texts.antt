@@ -4,11 +4,11 @@ use Rattle.std.specs.Prelude.{◌==◌, if◌then◌else◌}
 use Rattle.std.specs.Str.{bytes_eq}
 use Rattle.std.proofs.lemmas.Bool.{eqb-true, eq-eqb}
 use Rattle.std.proofs.lemmas.Slice.Eq.{bytes_eq-Decides}
-use Rattle.spec_history.specs.Agree.{AreStatements}
-use Rattle.spec_history.specs.Inputs.{InputLine, InputSession, texts_of_session, sessions_in}
-use Rattle.spec_history.specs.Lists.{Text, Each, At}
-use Rattle.spec_history.specs.StepOrder.{Row, entries_of, IsStatementOf, IsEnd, EndsOne, RowsInOrder}
-use Rattle.spec_history.specs.Transcripts.{Entry, statement, end_of_session, Transcript, statements}
+use Rattle.law_history.specs.Agree.{AreStatements}
+use Rattle.law_history.specs.Inputs.{InputLine, InputSession, texts_of_session, sessions_in}
+use Rattle.law_history.specs.Lists.{Text, Each, At}
+use Rattle.law_history.specs.StepOrder.{Row, entries_of, IsStatementOf, IsEnd, EndsOne, RowsInOrder}
+use Rattle.law_history.specs.Transcripts.{Entry, statement, end_of_session, Transcript, statements}
 
 -- of two of these transcripts, the names of their sessions differ
 abbrev Differ : List Transcript → Type 0

@@ -5,9 +5,9 @@ use mathlib.Core.Option.{some, some-injective}
 use lib.ListN.{get_elem?}
 use Rattle.sql_types.specs.declared.journal.JournalItem.TheVariants.{Tx}
 use Rattle.spec_model.specs.Journals.{tx_count}
-use Rattle.spec_history.specs.Acts.{commits, issues, keeps}
-use Rattle.spec_history.specs.Histories.{Due, full_or}
-use Rattle.spec_history.specs.Lists.{Each}
+use Rattle.law_history.specs.Acts.{commits, issues, keeps}
+use Rattle.law_history.specs.Histories.{Due, full_or}
+use Rattle.law_history.specs.Lists.{Each}
 use Rattle.spec_protocol.specs.Cells.{CatalogCell, LedgerCell, TableCell, Cell, Catalog, Ledger, Rows, AreCells, ledger_at, pending_in}
 use Rattle.spec_protocol.specs.AnonymousActs.{AnonymousAct, did, closed, visit_anonymous_acts}
 use Rattle.spec_protocol.specs.LedgerVisits.{entry_of_trees}

@@ -1,8 +1,8 @@
 -- Entries (end) that are written behind the last statement.
 use Rattle.std.specs.Prelude.{◌≡◌, ◌++◌, List}
-use Rattle.spec_history.specs.Acts.{takes, answers}
-use Rattle.spec_history.specs.Lists.{Each}
-use Rattle.spec_history.specs.Transcripts.{end_of_session}
+use Rattle.law_history.specs.Acts.{takes, answers}
+use Rattle.law_history.specs.Lists.{Each}
+use Rattle.law_history.specs.Transcripts.{end_of_session}
 use Rattle.spec_protocol.specs.AnonymousActs.{AnonymousAct, did}
 
 -- statements are taken up, and then entries (end) are written

@@ -1,9 +1,9 @@
 -- Deeds that close blocks in step: a full block before anything that it has to come before, and what is
 -- pending for a digest.
 use Rattle.std.specs.Prelude.{ℕ, suc, ◌≡◌, ◌≤◌, ◌<◌, ◌==◌, List, [], ◌∷◌}
-use Rattle.spec_history.specs.Acts.{commits, issues}
-use Rattle.spec_history.specs.Lists.{Some_of}
-use Rattle.spec_history.specs.Histories.{Due, pending, full, digest_next, full_or, WaitsForNone}
+use Rattle.law_history.specs.Acts.{commits, issues}
+use Rattle.law_history.specs.Lists.{Some_of}
+use Rattle.law_history.specs.Histories.{Due, pending, full, digest_next, full_or, WaitsForNone}
 use Rattle.spec_protocol.specs.Cells.{LedgerCell, pending_in}
 use Rattle.spec_protocol.specs.AnonymousActs.{AnonymousAct, did, closed}
 use Rattle.spec_protocol.specs.Visits.{Visit, close, commit, issue, keep}

@@ -2,12 +2,12 @@
 use Rattle.std.specs.Prelude.{ℕ, ◌<◌, List, None}
 use Rattle.sql_types.specs.declared.journal.JournalItem.{JournalItem}
 use Rattle.spec_model.specs.Journals.{IsLegal, cut}
-use Rattle.spec_history.specs.Agree.{Agree}
-use Rattle.spec_history.specs.ExactRefusals.{StepOrder}
-use Rattle.spec_history.specs.Facts.{Fact, digest}
-use Rattle.spec_history.specs.Inputs.{InputLine, sessions_in}
-use Rattle.spec_history.specs.Journals.{blocks}
-use Rattle.spec_history.specs.Lists.{Text, Each}
+use Rattle.law_history.specs.Agree.{Agree}
+use Rattle.law_history.specs.ExactRefusals.{StepOrder}
+use Rattle.law_history.specs.Facts.{Fact, digest}
+use Rattle.law_history.specs.Inputs.{InputLine, sessions_in}
+use Rattle.law_history.specs.Journals.{blocks}
+use Rattle.law_history.specs.Lists.{Text, Each}
 use Rattle.spec_protocol.specs.AtTheEnd.{HasItsImages}
 use Rattle.spec_protocol.specs.Cells.{LedgerCell}
 use Rattle.spec_protocol.specs.Seats.{Written}

@@ -4,10 +4,10 @@ use Rattle.std.specs.Prelude.{ℕ, ◌≡◌, ◌≤◌, List, [], ◌∷◌}
 use mathlib.Core.Option.{some}
 use lib.ListN.{get_elem?}
 use Rattle.spec_model.specs.Limits.{max_block}
-use Rattle.spec_history.specs.Acts.{SessionAct, starts, takes, answers, stops}
-use Rattle.spec_history.specs.Histories.{pending}
-use Rattle.spec_history.specs.Inputs.{InputLine}
-use Rattle.spec_history.specs.Lists.{Text, Each}
+use Rattle.law_history.specs.Acts.{SessionAct, starts, takes, answers, stops}
+use Rattle.law_history.specs.Histories.{pending}
+use Rattle.law_history.specs.Inputs.{InputLine}
+use Rattle.law_history.specs.Lists.{Text, Each}
 use Rattle.spec_protocol.specs.Cells.{Cell, Ledger, LedgerCell, first_cells, ledger_at}
 use Rattle.spec_protocol.specs.AnonymousActs.{alones_acts, steps_anonymous_acts}
 use Rattle.spec_protocol.specs.Follows.{names_begun, steps_lines}

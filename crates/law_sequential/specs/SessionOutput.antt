@@ -3,14 +3,14 @@ use Rattle.std.specs.Prelude.{ℕ, ◌≡◌, ◌≤◌, ◌<◌, ◌^◌, List,
 use Rattle.sql_types.specs.declared.digest.Digest.{Digest}
 use Rattle.sql_types.specs.declared.journal.JournalItem.{JournalItem}
 use Rattle.spec_model.specs.Script.{Reading}
-use Rattle.spec_history.specs.Agree.{Agree}
-use Rattle.spec_history.specs.ExactRefusals.{StepOrder}
-use Rattle.spec_history.specs.Facts.{facts_of}
-use Rattle.spec_history.specs.Inputs.{InputLine, sessions_in}
-use Rattle.spec_history.specs.Lists.{Text, Each, In}
-use Rattle.spec_history.specs.Meaning.{Meaning}
-use Rattle.spec_history.specs.Real.{Hashing, IsReal}
-use Rattle.spec_history.specs.Transcripts.{Transcript}
+use Rattle.law_history.specs.Agree.{Agree}
+use Rattle.law_history.specs.ExactRefusals.{StepOrder}
+use Rattle.law_history.specs.Facts.{facts_of}
+use Rattle.law_history.specs.Inputs.{InputLine, sessions_in}
+use Rattle.law_history.specs.Lists.{Text, Each, In}
+use Rattle.law_history.specs.Meaning.{Meaning}
+use Rattle.law_history.specs.Real.{Hashing, IsReal}
+use Rattle.law_history.specs.Transcripts.{Transcript}
 use Rattle.format_image.specs.Image.{image_of_cut}
 use Rattle.format_image.specs.ImageBytes.{image_bytes}
 use Rattle.spec_ledger.specs.Ledger.{block_hash}

@@ -2,9 +2,9 @@
 use Rattle.std.specs.Prelude.{ℕ, ◌≡◌, ◌≢◌, ◌⊎◌, ◌++◌, true, List, [], ◌∷◌, map}
 use mathlib.Core.Option.{some}
 use lib.ListN.{get_elem?}
-use Rattle.spec_history.specs.Inputs.{InputLine}
-use Rattle.spec_history.specs.Lists.{Text, Each, In}
-use Rattle.spec_history.specs.Transcripts.{Entry, Transcript}
+use Rattle.law_history.specs.Inputs.{InputLine}
+use Rattle.law_history.specs.Lists.{Text, Each, In}
+use Rattle.law_history.specs.Transcripts.{Entry, Transcript}
 use Rattle.spec_protocol.specs.Cells.{Cell}
 use Rattle.spec_protocol.specs.InactiveExcept.{IsInactive}
 use Rattle.spec_protocol.specs.Seats.{KeptImage, Session, idle, session, SeatState, Written}

@@ -1,6 +1,6 @@
 -- What seats wrote whose sessions are all over: the first one nothing, and each other one transcript.
 use Rattle.std.specs.Prelude.{◌≡◌, List, [], ◌∷◌, map}
-use Rattle.spec_history.specs.Transcripts.{Transcript}
+use Rattle.law_history.specs.Transcripts.{Transcript}
 use Rattle.spec_protocol.specs.Seats.{SeatState, Written, IsAtRest}
 
 -- its session is over, and this is what it wrote

@@ -4,9 +4,9 @@ ghost use Rattle.std.specs.Prelude.{◌≡◌, ◌≤◌, ◌<◌, ◌^◌, ◌+
 ghost use mathlib.Core.Option.{some};
 ghost use lib.ListN.{get_elem?};
 ghost use Rattle.spec_model.specs.Limits.{max_block};
-ghost use Rattle.spec_history.specs.Inputs.{InputLine};
-ghost use Rattle.spec_history.specs.Lists.{Text, Each, In};
-ghost use Rattle.spec_history.specs.Transcripts.{Entry};
+ghost use Rattle.law_history.specs.Inputs.{InputLine};
+ghost use Rattle.law_history.specs.Lists.{Text, Each, In};
+ghost use Rattle.law_history.specs.Transcripts.{Entry};
 ghost use Rattle.spec_protocol.specs.Alone.{Alones, new_session};
 ghost use Rattle.spec_protocol.specs.Cells.{Cell, Ledger, LedgerCell, first_cells, ledger_at, pending_in};
 ghost use Rattle.spec_protocol.specs.AnonymousActs.{did, alones_acts, may_anonymous_acts};

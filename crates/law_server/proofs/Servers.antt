@@ -1,7 +1,7 @@
 -- There is a server that reads and hashes so.
 use Rattle.std.proofs.Common.{refl, List, ℕ}
 use Rattle.spec_model.specs.Script.{Reading}
-use Rattle.spec_history.proofs.Real.{real, is_real}
+use Rattle.law_history.proofs.Real.{real, is_real}
 use Rattle.law_blocks.proofs.Staying.{hashing}
 use Rattle.spec_protocol.specs.Server.{Server}
 use Rattle.spec_protocol.specs.Serves.{Serves}

@@ -6,7 +6,7 @@ use Rattle.spec_history.specs.Agree.{Placed, committed_ones}
 use Rattle.spec_history.specs.Facts.{facts, facts_of, entry_facts, open_after}
 use Rattle.spec_history.specs.Transactions.{Transaction, TransactionLog, listed, read_facts, transactions}
 use Rattle.spec_history.specs.Transcripts.{Entry, statement, end_of_session, Transcript, statements, kind_of}
-use Rattle.spec_history.proofs.TransactionLogs.{read_append}
+use Rattle.law_history.proofs.TransactionLogs.{read_append}
 use Rattle.law_workload.proofs.Entries.{IsOwn, IsOf, AtMostOne, closed_book, one_entry, session_end}
 
 -- some statements in their order are these transactions, at most one of each

@@ -2,7 +2,7 @@
 use Rattle.std.proofs.Common.{refl, ℕ, List, []}
 use Rattle.std.specs.Prelude.{None}
 use Rattle.spec_model.specs.Script.{Reading}
-use Rattle.spec_history.proofs.Real.{real, is_real}
+use Rattle.law_history.proofs.Real.{real, is_real}
 use Rattle.law_blocks.proofs.Staying.{hashing}
 use Rattle.spec_protocol.specs.Server.{Server}
 use Rattle.server_board.specs.ServedDatabase.{ServedDatabase}

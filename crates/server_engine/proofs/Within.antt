@@ -2,7 +2,7 @@
 use Rattle.std.proofs.Common.{◌≡◌, ◌<◌, ℕ, zero, suc, Bool, true, false, List, [], ◌∷◌, Option, Some, None, reverse, subst, arith}
 use Rattle.std.specs.Prelude.{slice_get, if◌then◌else◌, ◌==◌}
 use Rattle.spec_history.specs.Lists.{Each}
-use Rattle.spec_history.proofs.Refused.{each_right}
+use Rattle.law_sequential.proofs.Refused.{each_right}
 use Rattle.spec_protocol.specs.Cells.{catalog_at, cell_count}
 use Rattle.spec_protocol.specs.Seats.{OpenTransaction, SeatState}
 use Rattle.server_session.specs.Needs.{need_of, point_need, cell_or_done, end_need, answer_need, leaving_need, back_need}

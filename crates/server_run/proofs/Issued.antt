@@ -17,7 +17,7 @@ use Rattle.spec_history.proofs.Trace.{each_append, each_weaker}
 use Rattle.format_image.specs.Image.{image_of, image_of_cut}
 use Rattle.format_image.specs.ImageBytes.{image_bytes}
 use Rattle.law_image.specs.Room.{FitsImageFormat}
-use Rattle.law_blocks.specs.Digests.{digest_of}
+use Rattle.law_blocks.specs.BlockDigests.{digest_of}
 use Rattle.spec_ledger.specs.Ledger.{block_hash}
 use Rattle.sql_parse.specs.Text.{statement_of}
 use Rattle.spec_verify.specs.declared.place.Verdict.TheVariants.{Yes}

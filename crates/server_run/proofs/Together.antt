@@ -2,7 +2,7 @@
 use Rattle.std.proofs.Common.{◌≡◌, ℕ, List, [], ◌∷◌, ◌++◌, map, sym, ap, ap₂, subst, ◌∙◌, append_assoc, append-nil, ⊎_elim}
 use Rattle.spec_history.specs.Lists.{Text, In}
 use Rattle.spec_history.specs.Transcripts.{Transcript}
-use Rattle.spec_history.proofs.Settles.{in_append, in_left, in_right}
+use Rattle.law_history.proofs.Settles.{in_append, in_left, in_right}
 use Rattle.spec_history.proofs.Trace.{each_append, each_weaker}
 use Rattle.format_sections.specs.declared.section.Section.{Section}
 use Rattle.spec_protocol.specs.Seats.{idle, IsAtRest, joined, kept, split, Role, SeatState, Written}

@@ -6,7 +6,7 @@ use lib.ListN.{get_elem?}
 use Rattle.base_board.specs.Boards.{AllElse}
 use Rattle.spec_history.specs.Lists.{Text, In}
 use Rattle.spec_history.specs.Transcripts.{Transcript}
-use Rattle.spec_history.proofs.Settles.{in_right}
+use Rattle.law_history.proofs.Settles.{in_right}
 use Rattle.spec_history.proofs.Trace.{each_weaker}
 use Rattle.format_sections.specs.declared.section.Section.{Section}
 use Rattle.server_session.specs.KeptCell.{KeptCell, Keeps}

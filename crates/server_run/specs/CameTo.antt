@@ -11,7 +11,7 @@ use Rattle.spec_history.specs.Lists.{Text}
 use Rattle.spec_history.specs.Transcripts.{Transcript}
 use Rattle.format_journal.specs.Rules.{IsJournal}
 use Rattle.law_image.specs.Room.{FitsImageFormat}
-use Rattle.law_blocks.specs.Digests.{digest_of}
+use Rattle.law_blocks.specs.BlockDigests.{digest_of}
 use Rattle.spec_verify.specs.declared.place.Verdict.TheVariants.{Yes}
 use Rattle.spec_verify.specs.Bytes.{verdict_of}
 use Rattle.law_concurrent.specs.Held.{held}

@@ -8,11 +8,11 @@ use Rattle.sql_types.specs.declared.reply.Reply.TheVariants as reply
 use Rattle.sql_types.specs.declared.statement.Stmt.{Stmt}
 use Rattle.std.specs.Prelude.{if◌then◌else◌}
 use Rattle.spec_model.specs.Journals.{Line}
-use Rattle.spec_history.specs.Acts.{fails}
-use Rattle.spec_history.specs.Inputs.{InputLine}
-use Rattle.spec_history.specs.Lists.{Text, Each}
-use Rattle.spec_history.specs.Meaning.{Meaning}
-use Rattle.spec_history.specs.Transcripts.{Kind, unread, begin, commit, roll_back, to_savepoint, create, rows, issue, keep, kind_of}
+use Rattle.store_tx.specs.Acts.{fails}
+use Rattle.store_tx.specs.Inputs.{InputLine}
+use Rattle.store_tx.specs.Lists.{Text, Each}
+use Rattle.store_tx.specs.Meaning.{Meaning}
+use Rattle.store_tx.specs.Transcripts.{Kind, unread, begin, commit, roll_back, to_savepoint, create, rows, issue, keep, kind_of}
 use Rattle.store_tx.specs.ActsOf.{alone_acts, failed_acts, failed_in}
 use Rattle.store_tx.specs.Alone.{Alone, begins, takes, no_memory, Alones, none, more, new_session, GoesOn, IsUnfixed}
 use Rattle.store_tx.specs.AnonymousActs.{alones_acts}

@@ -15,7 +15,7 @@ use Rattle.sql_parse.specs.Text.{statement_of}
 use Rattle.spec_model.specs.Replies.{reply_text}
 use Rattle.spec_model.specs.Script.{Reading}
 use Rattle.spec_model.specs.ScriptRequests.{runs}
-use Rattle.spec_history.specs.Lists.{Text}
+use Rattle.store_tx.specs.Lists.{Text}
 use Rattle.store_tx.specs.Alone.{refused_in, refused_out, no_memory, saves, has_too_many, goes_back, has_no_savepoint, is_back, none, more, GoesOn, tables_visited}
 use Rattle.store_tx.specs.Answering.{savepoints_from, refused_inside, refused_outside}
 use Rattle.store_tx.specs.Doing.{with_reply, stage_after}

@@ -5,16 +5,16 @@ use Rattle.std.specs.Option.{is_some}
 use Rattle.std.proofs.lemmas.List.{append-nil, map-append, reverse-append}
 use Rattle.sql_types.specs.declared.reply.Reply.{Reply}
 use Rattle.sql_types.specs.declared.table.TableDef.{TableDef}
-use Rattle.spec_history.specs.Lists.{Text, Each, In}
-use Rattle.spec_history.specs.Transactions.{End, unfixed, committed, ended}
-use Rattle.spec_history.specs.Transcripts.{Entry, statement, end_of_session}
-use Rattle.spec_history.specs.Transcripts as transcripts
+use Rattle.store_tx.specs.Lists.{Text, Each, In}
+use Rattle.store_tx.specs.Transactions.{End, unfixed, committed, ended}
+use Rattle.store_tx.specs.Transcripts.{Entry, statement, end_of_session}
+use Rattle.store_tx.specs.Transcripts as transcripts
 use Rattle.store_tx.specs.Alone.{leaves, stops, answers, answers_end, has_left, none, GoesOn, IsReleased, over}
 use Rattle.store_tx.specs.Answering.{with_entry, written_of, end_line}
 use Rattle.store_tx.specs.Moves.{at_place, sits}
 use Rattle.store_tx.specs.Seats.{OpenTransaction, inside, answering, between, leaving, Session, session, SeatState}
 use Rattle.store_tx.specs.Represents.{Represents}
-use Rattle.spec_history.specs.EndSeen.{end_seen, line_seen}
+use Rattle.store_tx.specs.EndSeen.{end_seen, line_seen}
 use Rattle.server_session.specs.IsEnd.{IsEnd}
 use Rattle.server_session.specs.Needs.{answer_need, end_need, point_need, need_of, cell_or_done}
 use Rattle.server_session.specs.ControlPoints.{IsBetween, IsBetweenAt, IsLeavingAt}

@@ -5,7 +5,7 @@ use Rattle.std.proofs.lemmas.Bool.{cases_lt}
 use Rattle.sql_value.specs.declared.refusal.Refusal.{Refusal}
 use Rattle.sql_value.specs.declared.refusal.Refusal.TheVariants.{NoSuchSavepoint, LimitExceeded, NoMemory}
 use Rattle.spec_model.specs.Limits.{max_savepoints}
-use Rattle.spec_history.specs.Lists.{Text}
+use Rattle.store_tx.specs.Lists.{Text}
 use Rattle.store_tx.specs.Answering.{savepoints_from}
 use Rattle.store_tx.specs.Moves.{with_undo_state}
 use Rattle.store_tx.specs.Seats.{OpenSavepoint, OpenTransaction}

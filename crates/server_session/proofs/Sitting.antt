@@ -10,9 +10,9 @@ use Rattle.sql_parse.specs.Text.{statement_of}
 use Rattle.spec_model.specs.Journals.{Line}
 use Rattle.spec_model.specs.Replies.{reply_text}
 use Rattle.spec_model.specs.Script.{Reading}
-use Rattle.spec_history.specs.Acts.{SessionAct}
-use Rattle.spec_history.specs.Lists.{Each}
-use Rattle.spec_history.specs.Transactions.{unfixed}
+use Rattle.store_tx.specs.Acts.{SessionAct}
+use Rattle.store_tx.specs.Lists.{Each}
+use Rattle.store_tx.specs.Transactions.{unfixed}
 use Rattle.store_tx.specs.Alone.{Alones, none, no_memory, IsUnfixed}
 use Rattle.store_tx.specs.Cells.{Cell}
 use Rattle.store_tx.specs.AnonymousActs.{did, alones_acts, visit_anonymous_acts}

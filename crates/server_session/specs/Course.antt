@@ -8,7 +8,7 @@ use Rattle.sql_types.specs.declared.statement.Stmt.{Stmt}
 use Rattle.sql_types.specs.declared.statement.Stmt.TheVariants as stmt
 use Rattle.sql_parse.specs.Text.{statement_of}
 use Rattle.spec_model.specs.Limits.{max_savepoints}
-use Rattle.spec_history.specs.Lists.{Text}
+use Rattle.store_tx.specs.Lists.{Text}
 use Rattle.store_tx.specs.Answering.{savepoints_from, refused_inside, refused_outside}
 use Rattle.store_tx.specs.Moves.{with_undo_state}
 use Rattle.store_tx.specs.Seats.{OpenSavepoint, OpenTransaction}

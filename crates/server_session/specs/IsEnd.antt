@@ -2,8 +2,8 @@
 use Rattle.std.specs.Prelude.{ℕ, ◌≡◌, Option, Some, None}
 use Rattle.sql_types.specs.declared.end_line.EndLine.{EndLine}
 use Rattle.sql_types.specs.declared.end_line.EndLine.TheVariants.{Committed, Ended}
-use Rattle.spec_history.specs.Transactions as fixed
-use Rattle.spec_history.specs.Transactions.{unfixed, committed, ended}
+use Rattle.store_tx.specs.Transactions as fixed
+use Rattle.store_tx.specs.Transactions.{unfixed, committed, ended}
 
 -- the line is that of this end of the transaction with this id
 abbrev pub IsEnd : ℕ → Option EndLine → fixed.End → Type 0

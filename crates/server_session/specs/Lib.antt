@@ -10,10 +10,10 @@ pub mod Sits
 pub mod Stages
 pub mod Steps
 pub mod VisitedCells
-pub use Rattle.spec_history.specs.Acts
-pub use Rattle.spec_history.specs.Lists
-pub use Rattle.spec_history.specs.Serial
-pub use Rattle.spec_history.specs.Transactions
+pub use Rattle.store_tx.specs.Acts
+pub use Rattle.store_tx.specs.Lists
+pub use Rattle.store_tx.specs.Serial
+pub use Rattle.store_tx.specs.Transactions
 pub use Rattle.spec_ledger.specs.Blocks
 pub use Rattle.spec_ledger.specs.Entries
 pub use Rattle.spec_ledger.specs.Ledger

@@ -1,7 +1,7 @@
 -- What stays behind an answer, and how a session comes to its end.
 use Rattle.std.specs.Prelude.{ℕ, ◌≡◌, ◌<◌, ◌++◌, Bool, true, false, List, [], ◌∷◌, length, vec_capacity, Option, Some, None}
 use Rattle.sql_types.specs.declared.reply.Reply.{Reply}
-use Rattle.spec_history.specs.Lists.{Text}
+use Rattle.store_tx.specs.Lists.{Text}
 use Rattle.store_tx.specs.Seats.{SeatState}
 use Rattle.server_session.specs.Needs.{leaving_need}
 use Rattle.server_session.specs.ControlPoints.{IsBetween, IsLeaving}

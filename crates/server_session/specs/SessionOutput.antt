@@ -1,9 +1,9 @@
 -- What steps tell of themselves: what sessions did, and what the transcripts, images and moments gained.
 use Rattle.std.specs.Prelude.{ℕ, zero, suc, ◌≡◌, ◌<◌, ◌+◌, ◌++◌, List, [], ◌∷◌}
-use Rattle.spec_history.specs.Acts.{SessionAct, starts, commits, issues, answers}
-use Rattle.spec_history.specs.Digests.{Digest}
-use Rattle.spec_history.specs.Lists.{Each}
-use Rattle.spec_history.specs.Transcripts.{Entry, end_of_session}
+use Rattle.store_tx.specs.Acts.{SessionAct, starts, commits, issues, answers}
+use Rattle.store_tx.specs.Digests.{Digest}
+use Rattle.store_tx.specs.Lists.{Each}
+use Rattle.store_tx.specs.Transcripts.{Entry, end_of_session}
 use Rattle.store_tx.specs.Cells.{Cell, Ledger, pending_in}
 use Rattle.store_tx.specs.AnonymousActs.{AnonymousAct, did, closed}
 use Rattle.store_tx.specs.Seats.{KeptImage, Session, session, SeatState}

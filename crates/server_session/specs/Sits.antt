@@ -12,8 +12,8 @@ use Rattle.sql_parse.specs.Text.{statement_of}
 use Rattle.spec_model.specs.Journals.{Line}
 use Rattle.spec_model.specs.Replies.{reply_text}
 use Rattle.spec_model.specs.ScriptRequests.{runs}
-use Rattle.spec_history.specs.Lists.{Text}
-use Rattle.spec_history.specs.Transactions.{unfixed}
+use Rattle.store_tx.specs.Lists.{Text}
+use Rattle.store_tx.specs.Transactions.{unfixed}
 use Rattle.store_tx.specs.Alone.{GoesOn}
 use Rattle.store_tx.specs.Answering.{refused_by_check}
 use Rattle.store_tx.specs.LedgerVisits.{AssignsIdFor}

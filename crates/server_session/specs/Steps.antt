@@ -4,9 +4,9 @@ use mathlib.Core.Option.{some}
 use lib.ListN.{get_elem?}
 use Rattle.sql_types.specs.declared.journal.JournalItem.{JournalItem}
 use Rattle.sql_parse.specs.Text.{statement_of}
-use Rattle.spec_history.specs.Inputs.{InputLine}
-use Rattle.spec_history.specs.Lists.{Text, Each, In}
-use Rattle.spec_history.specs.Transcripts.{Entry, EndLine, statement, end_of_session}
+use Rattle.store_tx.specs.Inputs.{InputLine}
+use Rattle.store_tx.specs.Lists.{Text, Each, In}
+use Rattle.store_tx.specs.Transcripts.{Entry, EndLine, statement, end_of_session}
 use Rattle.store_tx.specs.ActsOf.{alone_acts}
 use Rattle.store_tx.specs.Alone.{Alone, Alones, new_session}
 use Rattle.store_tx.specs.Cells.{Cell, cell_count, Ledger}
@@ -18,7 +18,7 @@ use Rattle.store_tx.specs.Seats.{Session, Written, idle, session, SeatState}
 use Rattle.store_tx.specs.Server.{Server}
 use Rattle.store_tx.specs.StandTogether.{StandTogether}
 use Rattle.store_tx.specs.Serves.{Serves}
-use Rattle.spec_history.specs.EndSeen.{line_seen}
+use Rattle.store_tx.specs.EndSeen.{line_seen}
 use Rattle.server_session.specs.KeptCell.{KeptCell, Keeps}
 use Rattle.server_session.specs.Needs.{need_of, visits_left}
 use Rattle.server_session.specs.Sits.{Sits}

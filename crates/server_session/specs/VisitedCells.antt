@@ -1,7 +1,7 @@
 -- The cells in which a transaction may have locks.
 use Rattle.std.specs.Prelude.{ℕ, ◌≡◌, ◌<◌, ◌≤◌, ◌-◌, ◌==◌, nat_le, if◌then◌else◌, List, [], ◌∷◌, slice_get, Option, Some, None}
 use Rattle.std.specs.List.{filter}
-use Rattle.spec_history.specs.Lists.{In}
+use Rattle.store_tx.specs.Lists.{In}
 use Rattle.store_tx.specs.Cells.{catalog_at, cell_count}
 
 pub record VisitedCells : Type 0 where

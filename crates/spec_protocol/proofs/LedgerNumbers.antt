@@ -3,7 +3,7 @@ use Rattle.std.proofs.Common.{◌≡◌, ℕ, suc, ◌+◌, ◌-◌, List, [], �
 use Rattle.std.proofs.lemmas.List.{length-drop}
 use Rattle.sql_types.specs.declared.entry.TxEntry.{TxEntry}
 use Rattle.spec_model.specs.Journals.{tx_count, closed}
-use Rattle.spec_history.specs.Journals.{blocks}
+use Rattle.law_blocks.specs.Journals.{blocks}
 use Rattle.law_blocks.specs.Entries.{placed}
 use Rattle.law_blocks.specs.Ledger.{Ledger, ledger_of}
 use Rattle.law_blocks.proofs.Staying.{blocks_counted}

@@ -5,10 +5,10 @@ use Rattle.sql_types.specs.declared.reply.Reply.{Reply}
 use Rattle.sql_types.specs.declared.reply.Reply.TheVariants as reply
 use Rattle.spec_model.specs.Journals.{Line}
 use Rattle.spec_model.specs.Replies.{reply_text}
-use Rattle.spec_history.specs.Lists.{Text}
-use Rattle.spec_history.specs.Meaning.{Meaning}
-use Rattle.spec_history.specs.Transcripts.{Kind, unread, begin, commit, roll_back, to_savepoint, create, rows, issue, keep, kind_of, statement, end_of_session}
-use Rattle.spec_history.specs.Acts.{SessionAct, starts, takes, looks, says, fails, commits, ends, releases_locks, answers, stops, Act, closes}
+use Rattle.law_blocks.specs.Lists.{Text}
+use Rattle.law_blocks.specs.Meaning.{Meaning}
+use Rattle.law_blocks.specs.Transcripts.{Kind, unread, begin, commit, roll_back, to_savepoint, create, rows, issue, keep, kind_of, statement, end_of_session}
+use Rattle.law_blocks.specs.Acts.{SessionAct, starts, takes, looks, says, fails, commits, ends, releases_locks, answers, stops, Act, closes}
 use Rattle.spec_protocol.specs.Server.{Server}
 use Rattle.spec_protocol.specs.Cells.{LedgerCell, pending_in}
 use Rattle.spec_protocol.specs.Seats.{OpenTransaction, SessionStatus, Session, SeatState}

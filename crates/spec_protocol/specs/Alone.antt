@@ -10,9 +10,9 @@ use Rattle.sql_types.specs.declared.table.TableDef.{TableDef}
 use Rattle.spec_model.specs.Limits.{max_savepoints}
 use Rattle.spec_model.specs.Replies.{reply_text}
 use Rattle.spec_model.specs.Catalog.{NamedPart}
-use Rattle.spec_history.specs.Lists.{Text, Each, In}
-use Rattle.spec_history.specs.Transcripts.{EndLine, statement, end_of_session}
-use Rattle.spec_history.specs.Transactions.{unfixed}
+use Rattle.law_blocks.specs.Lists.{Text, Each, In}
+use Rattle.law_blocks.specs.Transcripts.{EndLine, statement, end_of_session}
+use Rattle.law_blocks.specs.Transactions.{unfixed}
 use Rattle.spec_protocol.specs.Server.{Server}
 use Rattle.spec_protocol.specs.Seats.{OpenSavepoint, OpenTransaction, begun, found, going_back, answering, SessionStatus, between, inside, leaving, Session, Role, idle, session, builder, SeatState}
 use Rattle.spec_protocol.specs.Moves.{saying, with_undo_state, at_place, sits, InOpenTransaction, then_at}

@@ -8,8 +8,8 @@ use Rattle.sql_types.specs.declared.reply.Reply.TheVariants.{Changed, Refused}
 use Rattle.spec_model.specs.Effect.{query_rows}
 use Rattle.spec_model.specs.Journals.{tx_count}
 use Rattle.sql_types.specs.declared.table.Part.TheVariants.{System}
-use Rattle.spec_history.specs.Lists.{Text}
-use Rattle.spec_history.specs.Acts.{SessionAct, assigns_id, looks, fails, meets, issues, keeps, lacks, Act, by, closes}
+use Rattle.law_blocks.specs.Lists.{Text}
+use Rattle.law_blocks.specs.Acts.{SessionAct, assigns_id, looks, fails, meets, issues, keeps, lacks, Act, by, closes}
 use Rattle.spec_protocol.specs.Server.{Server}
 use Rattle.spec_protocol.specs.ActsOf.{alone_acts, closings, commit_acts, done_acts, end_acts, failed_in}
 use Rattle.spec_protocol.specs.Alone.{Alones, none, more}

@@ -9,9 +9,9 @@ use Rattle.spec_model.specs.Refusals.{Checked}
 use Rattle.spec_model.specs.Catalog.{Defs, NamedPart}
 use Rattle.spec_model.specs.Checks.{row_statement_check}
 use Rattle.spec_model.specs.Query.{query_check}
-use Rattle.spec_history.specs.Lists.{Text}
-use Rattle.spec_history.specs.Transcripts.{EndLine, committed_at, ended_after, Entry}
-use Rattle.spec_history.specs.Transactions.{End, unfixed, committed, ended}
+use Rattle.law_blocks.specs.Lists.{Text}
+use Rattle.law_blocks.specs.Transcripts.{EndLine, committed_at, ended_after, Entry}
+use Rattle.law_blocks.specs.Transactions.{End, unfixed, committed, ended}
 use Rattle.spec_protocol.specs.Seats.{OpenSavepoint, OpenTransaction, SessionStatus, Session, Written}
 
 -- ---- refusals

@@ -2,14 +2,14 @@
 use Rattle.std.specs.Prelude.{ℕ, ◌≡◌, ◌≢◌, ◌⊎◌, ◌<◌, ◌≤◌, List, [], ◌∷◌, map, flat_map, length}
 use mathlib.Core.Option.{some}
 use lib.ListN.{get_elem?}
-use Rattle.spec_history.specs.Inputs.{InputSession}
-use Rattle.spec_history.specs.Lists.{Each, Some_of, At, In}
-use Rattle.spec_history.specs.Transcripts.{Transcript}
-use Rattle.spec_history.specs.Acts.{of}
-use Rattle.spec_history.specs.Facts.{Fact, image, facts_of}
-use Rattle.spec_history.specs.Histories.{AreOf}
-use Rattle.spec_history.specs.Sessions.{gone, fresh}
-use Rattle.spec_history.specs.Worlds.{first, run}
+use Rattle.law_blocks.specs.Inputs.{InputSession}
+use Rattle.law_blocks.specs.Lists.{Each, Some_of, At, In}
+use Rattle.law_blocks.specs.Transcripts.{Transcript}
+use Rattle.law_blocks.specs.Acts.{of}
+use Rattle.law_blocks.specs.Facts.{Fact, image, facts_of}
+use Rattle.law_blocks.specs.Histories.{AreOf}
+use Rattle.law_blocks.specs.Sessions.{gone, fresh}
+use Rattle.law_blocks.specs.Worlds.{first, run}
 use Rattle.spec_protocol.specs.Cells.{LedgerCell}
 use Rattle.spec_protocol.specs.Seats.{SeatState, Written, IsAtRest}
 use Rattle.spec_protocol.specs.Server.{Server}

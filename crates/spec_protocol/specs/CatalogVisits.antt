@@ -19,7 +19,7 @@ use Rattle.spec_model.specs.Query.{query_check}
 use Rattle.spec_model.specs.SystemTables.{tables_id, columns_id, column_rows}
 use Rattle.spec_model.specs.Create.{create_check, index_check, with_index}
 use Rattle.spec_model.specs.Effect.{query_rows, table_start, column_starts, index_starts}
-use Rattle.spec_history.specs.Lists.{Text}
+use Rattle.law_blocks.specs.Lists.{Text}
 use Rattle.spec_model.specs.Holds.{released}
 use Rattle.spec_protocol.specs.Server.{Server}
 use Rattle.sql_types.specs.declared.lock.Hold.{Hold}

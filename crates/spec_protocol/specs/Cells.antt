@@ -9,8 +9,8 @@ use Rattle.sql_value.specs.declared.column.ColumnDef.{ColumnDef}
 use Rattle.spec_model.specs.Rows.{EventId}
 use Rattle.spec_model.specs.Catalog.{Defs, Tables}
 use Rattle.spec_model.specs.SystemTables.{tables_id, columns_id, tables_def, columns_def}
-use Rattle.spec_history.specs.Lists.{Text}
-use Rattle.spec_history.specs.Digests.{Digest}
+use Rattle.law_blocks.specs.Lists.{Text}
+use Rattle.law_blocks.specs.Digests.{Digest}
 use Rattle.sql_types.specs.declared.lock.Hold.{Hold}
 use Rattle.law_blocks.specs.Ledger as of_journal
 

@@ -11,8 +11,8 @@ use Rattle.spec_model.specs.Catalog.{Tables}
 use Rattle.spec_model.specs.Journals.{upto, serial}
 use Rattle.spec_model.specs.Script.{Reading}
 use Rattle.spec_model.specs.Locks.{whole}
-use Rattle.spec_history.specs.Lists.{In}
-use Rattle.spec_history.specs.Journals.{ids_of}
+use Rattle.law_blocks.specs.Lists.{In}
+use Rattle.law_blocks.specs.Journals.{ids_of}
 use Rattle.sql_types.specs.declared.lock.Hold.{Hold}
 use Rattle.spec_protocol.specs.Cells.{TableCell, Cell, Rows, holds_at, versions_at, catalog_at}
 

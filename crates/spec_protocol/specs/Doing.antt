@@ -11,7 +11,7 @@ use Rattle.spec_model.specs.Journals.{Line}
 use Rattle.spec_model.specs.Refusals.{Checked}
 use Rattle.spec_model.specs.Rows.{Row}
 use Rattle.spec_model.specs.Replies.{reply_text}
-use Rattle.spec_history.specs.Lists.{Text}
+use Rattle.law_blocks.specs.Lists.{Text}
 use Rattle.spec_protocol.specs.Server.{Server}
 use Rattle.sql_types.specs.declared.lock.Hold.{Hold}
 use Rattle.spec_protocol.specs.Seats.{Tree, OpenTransaction, StatementProgress, replied, answering, refused, SeatState}

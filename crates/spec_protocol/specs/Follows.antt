@@ -1,12 +1,12 @@
 -- Which statements steps take up, with the names of their sessions; and that sessions begin in the order of
 -- their numbers.
 use Rattle.std.specs.Prelude.{ℕ, ◌≡◌, ◌≢◌, ◌<◌, ◌++◌, List, [], ◌∷◌}
-use Rattle.spec_history.specs.Acts.{SessionAct, starts, Act, by, closes}
-use Rattle.spec_history.specs.Histories.{lines_of}
-use Rattle.spec_history.specs.Inputs.{InputLine}
-use Rattle.spec_history.specs.Lists.{Text}
-use Rattle.spec_history.specs.Sessions.{unborn}
-use Rattle.spec_history.specs.Worlds.{World, step}
+use Rattle.law_blocks.specs.Acts.{SessionAct, starts, Act, by, closes}
+use Rattle.law_blocks.specs.Histories.{lines_of}
+use Rattle.law_blocks.specs.Inputs.{InputLine}
+use Rattle.law_blocks.specs.Lists.{Text}
+use Rattle.law_blocks.specs.Sessions.{unborn}
+use Rattle.law_blocks.specs.Worlds.{World, step}
 use Rattle.spec_protocol.specs.Alone.{Alone, Alones, none, more}
 use Rattle.spec_protocol.specs.Alone as alone
 use Rattle.spec_protocol.specs.Cells.{Cell}

@@ -3,7 +3,7 @@ use Rattle.std.specs.Prelude.{ℕ, ◌≡◌, ◌<◌, List, length, None}
 use Rattle.sql_types.specs.declared.reply.Reply.TheVariants as reply
 use Rattle.sql_types.specs.declared.statement.Stmt.TheVariants as stmt
 use Rattle.spec_model.specs.Journals.{tx_count}
-use Rattle.spec_history.specs.Lists.{In}
+use Rattle.law_blocks.specs.Lists.{In}
 use Rattle.spec_protocol.specs.Server.{Server, journal_image}
 use Rattle.spec_protocol.specs.Cells.{LedgerCell, Cell, Ledger, cell_count, ledger_at}
 use Rattle.spec_protocol.specs.Seats.{begun, answering, inside, SeatState}

@@ -6,7 +6,7 @@ use Rattle.base_types.specs.DatabaseName.{is_database_name}
 use Rattle.base_types.specs.Moment.{is_moment}
 use Rattle.base_types.specs.SessionName.{is_session_name}
 use Rattle.sql_types.specs.declared.journal.Journal.{Journal}
-use Rattle.spec_history.specs.Lists.{Each}
+use Rattle.law_blocks.specs.Lists.{Each}
 use Rattle.spec_protocol.specs.Cells.{LedgerCell}
 use Rattle.spec_protocol.specs.SeatNames.{names_of}
 use Rattle.spec_protocol.specs.Seats.{SeatState}

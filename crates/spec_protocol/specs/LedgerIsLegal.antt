@@ -4,9 +4,9 @@ use Rattle.sql_types.specs.declared.journal.JournalItem.{JournalItem}
 use Rattle.sql_types.specs.declared.journal.JournalItem.TheVariants.{Tx, Close}
 use Rattle.spec_model.specs.Limits.{max_block}
 use Rattle.spec_model.specs.Journals.{IsLegal}
-use Rattle.spec_history.specs.Lists.{Each}
-use Rattle.spec_history.specs.Journals.{blocks}
-use Rattle.spec_history.specs.Digests.{Digest, IsDigest}
+use Rattle.law_blocks.specs.Lists.{Each}
+use Rattle.law_blocks.specs.Journals.{blocks}
+use Rattle.law_blocks.specs.Digests.{Digest, IsDigest}
 use Rattle.spec_protocol.specs.Server.{Server}
 use Rattle.spec_protocol.specs.Cells.{LedgerCell}
 use Rattle.law_blocks.specs.Ledger.{ledger_of}

@@ -11,9 +11,9 @@ use Rattle.sql_types.specs.declared.statement.Stmt.TheVariants as stmt
 use Rattle.sql_types.specs.declared.table.TableDef.{TableDef}
 use Rattle.spec_model.specs.Journals.{Line, tx_count}
 use Rattle.spec_model.specs.ScriptRequests.{runs}
-use Rattle.spec_history.specs.Lists.{Text}
-use Rattle.spec_history.specs.Transactions.{unfixed, committed, ended}
-use Rattle.spec_history.specs.Digests.{Digest, IsDigest}
+use Rattle.law_blocks.specs.Lists.{Text}
+use Rattle.law_blocks.specs.Transactions.{unfixed, committed, ended}
+use Rattle.law_blocks.specs.Digests.{Digest, IsDigest}
 use Rattle.spec_protocol.specs.Server.{Server}
 use Rattle.spec_protocol.specs.Cells.{LedgerCell, pending_in, blocks_in}
 use Rattle.spec_protocol.specs.Seats.{Tree, OpenTransaction, StatementProgress, begun, made, replied, answering, SessionStatus, inside, leaving, Session, session, SeatState}

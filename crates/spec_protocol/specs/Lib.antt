@@ -43,7 +43,7 @@ pub mod TreesAreOfEvents
 pub mod UndoVisits
 pub mod Visits
 pub mod RequestsIn
-pub use Rattle.law_blocks.specs.Digests
+pub use Rattle.law_blocks.specs.BlockDigests
 pub use Rattle.law_blocks.specs.Entries
 pub use Rattle.law_blocks.specs.Ledger
 pub use Rattle.law_blocks.specs.Entry

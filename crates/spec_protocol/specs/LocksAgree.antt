@@ -2,7 +2,7 @@
 use Rattle.std.specs.Prelude.{ℕ, ◌≡◌, ◌≢◌, false, List}
 use Rattle.sql_types.specs.declared.lock.Hold.{Hold}
 use Rattle.spec_model.specs.Locks.{requests_conflict}
-use Rattle.spec_history.specs.Lists.{In}
+use Rattle.law_blocks.specs.Lists.{In}
 use Rattle.spec_protocol.specs.Contents.{Contents}
 use Rattle.spec_protocol.specs.Seats.{OpenTransaction, Session, SeatState}
 use Rattle.spec_protocol.specs.OpenOnes.{HasOpen}

@@ -2,9 +2,9 @@
 -- way. In a table's cell it is so by what was asked for.
 use Rattle.std.specs.Prelude.{ℕ, ◌≡◌, ◌⊎◌, true, List, Some}
 use Rattle.sql_types.specs.declared.lock.Mode.TheVariants.{S}
-use Rattle.spec_history.specs.Lists.{Some_of}
-use Rattle.spec_history.specs.Real.{requests_catalog}
-use Rattle.spec_history.specs.Transactions.{unfixed}
+use Rattle.law_blocks.specs.Lists.{Some_of}
+use Rattle.law_blocks.specs.Real.{requests_catalog}
+use Rattle.law_blocks.specs.Transactions.{unfixed}
 use Rattle.spec_protocol.specs.Server.{Server}
 use Rattle.spec_protocol.specs.Cells.{catalog_at}
 use Rattle.spec_protocol.specs.Contents.{Contents}

@@ -15,9 +15,9 @@ use Rattle.sql_types.specs.declared.lock.Mode.TheVariants.{IX, S, X}
 use Rattle.sql_types.specs.declared.lock.Item.TheVariants.{Whole}
 use Rattle.spec_model.specs.ChangeSets.{change_set, as_before, in_place}
 use Rattle.spec_model.specs.Reach.{lets_change}
-use Rattle.spec_history.specs.Lists.{Text, Each, In}
-use Rattle.spec_history.specs.Transactions.{unfixed}
-use Rattle.spec_history.specs.Refusals.{EndsAt}
+use Rattle.law_blocks.specs.Lists.{Text, Each, In}
+use Rattle.law_blocks.specs.Transactions.{unfixed}
+use Rattle.law_blocks.specs.Refusals.{EndsAt}
 use Rattle.spec_protocol.specs.Server.{Server}
 use Rattle.sql_types.specs.declared.lock.Hold.{Hold}
 use Rattle.spec_protocol.specs.Cells.{catalog_at, cell_of}

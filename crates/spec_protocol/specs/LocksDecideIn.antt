@@ -1,9 +1,9 @@
 -- Where the history takes one statement after another, locks decide in what comes behind it.
 use Rattle.std.specs.Prelude.{ℕ, ◌++◌, List}
-use Rattle.spec_history.specs.Acts.{Act}
-use Rattle.spec_history.specs.ByLocks.{LocksDecide}
-use Rattle.spec_history.specs.Histories.{OneAtATime, SessionsBelow}
-use Rattle.spec_history.specs.Worlds.{first, run}
+use Rattle.law_blocks.specs.Acts.{Act}
+use Rattle.law_blocks.specs.ByLocks.{LocksDecide}
+use Rattle.law_blocks.specs.Histories.{OneAtATime, SessionsBelow}
+use Rattle.law_blocks.specs.Worlds.{first, run}
 use Rattle.spec_protocol.specs.Server.{Server}
 
 -- for any number of sessions that bounds those which act

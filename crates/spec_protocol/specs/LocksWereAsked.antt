@@ -3,11 +3,11 @@ use Rattle.std.specs.Prelude.{ℕ, zero, suc, ◌≡◌, Bool, true, List, Some}
 use Rattle.sql_types.specs.declared.lock.Hold.{Hold}
 use Rattle.sql_types.specs.declared.lock.LockRequest.{LockRequest}
 use Rattle.spec_model.specs.Catalog.{Defs, defs_of}
-use Rattle.spec_history.specs.Lists.{Text, In}
-use Rattle.spec_history.specs.Real.{requests_catalog, requests_cell}
-use Rattle.spec_history.specs.Acts.{Act}
-use Rattle.spec_history.specs.Sessions.{SessionTransaction, SessionState}
-use Rattle.spec_history.specs.Worlds.{first, run}
+use Rattle.law_blocks.specs.Lists.{Text, In}
+use Rattle.law_blocks.specs.Real.{requests_catalog, requests_cell}
+use Rattle.law_blocks.specs.Acts.{Act}
+use Rattle.law_blocks.specs.Sessions.{SessionTransaction, SessionState}
+use Rattle.law_blocks.specs.Worlds.{first, run}
 use Rattle.spec_protocol.specs.Server.{Server}
 use Rattle.spec_protocol.specs.Contents.{Contents, Known}
 use Rattle.spec_protocol.specs.RequestsIn.{of_catalog, of_cell}

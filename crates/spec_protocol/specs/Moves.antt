@@ -3,8 +3,8 @@ use Rattle.std.specs.Prelude.{ℕ, ◌≡◌, ◌++◌, ◌==◌, Bool, if◌the
 use Rattle.std.specs.List.{list_any}
 use Rattle.sql_types.specs.declared.statement.Stmt.{Stmt}
 use Rattle.spec_model.specs.Journals.{Line}
-use Rattle.spec_history.specs.Lists.{Text}
-use Rattle.spec_history.specs.Transactions.{End, unfixed}
+use Rattle.law_blocks.specs.Lists.{Text}
+use Rattle.law_blocks.specs.Transactions.{End, unfixed}
 use Rattle.spec_protocol.specs.Server.{Server}
 use Rattle.spec_protocol.specs.Seats.{Tree, OpenSavepoint, OpenTransaction, StatementProgress, SessionStatus, inside, KeptImage, Session, session, SeatState}
 

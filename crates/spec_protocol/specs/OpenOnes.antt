@@ -7,7 +7,7 @@ use Rattle.spec_model.specs.Journals.{Line}
 use Rattle.spec_model.specs.Replies.{reply_text}
 use Rattle.spec_model.specs.Catalog.{Tables}
 use Rattle.spec_model.specs.Script.{ScriptEnd, script}
-use Rattle.spec_history.specs.Lists.{Text}
+use Rattle.law_blocks.specs.Lists.{Text}
 use Rattle.spec_protocol.specs.Server.{Server}
 use Rattle.spec_protocol.specs.Seats.{OpenTransaction, StatementProgress, made, going_back, replied, SessionStatus, between, inside, leaving, Session, session, SeatState}
 

@@ -6,7 +6,7 @@ use Rattle.sql_types.specs.declared.event.Event.{Event}
 use Rattle.spec_model.specs.Replies.{reply_text}
 use Rattle.spec_model.specs.Catalog.{Tables, versions_of}
 use Rattle.spec_model.specs.Undo.{versions_undone}
-use Rattle.spec_history.specs.Transactions.{unfixed}
+use Rattle.law_blocks.specs.Transactions.{unfixed}
 use Rattle.spec_protocol.specs.Server.{Server}
 use Rattle.spec_protocol.specs.Cells.{cell_of}
 use Rattle.spec_protocol.specs.Contents.{Contents, Known}

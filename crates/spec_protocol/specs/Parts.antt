@@ -1,14 +1,14 @@
 -- Whose part of a history is whose: each session of the history is that of one seat.
 use Rattle.std.specs.Prelude.{ℕ, ◌≡◌, ◌⊎◌, ◌++◌, Bool, true, false, List, [], ◌∷◌, Option, Some, None}
-use Rattle.spec_history.specs.Lists.{Text, Each, In}
-use Rattle.spec_history.specs.Meaning.{Meaning}
-use Rattle.spec_history.specs.Guards.{IsAnswered}
-use Rattle.spec_history.specs.Serial.{Differ}
-use Rattle.spec_history.specs.Transactions.{unfixed, listed}
-use Rattle.spec_history.specs.Acts.{Act, of}
-use Rattle.spec_history.specs.Transcripts.{Transcript}
-use Rattle.spec_history.specs.Sessions.{SessionTransaction, SessionState, runs, gone, transcript_of}
-use Rattle.spec_history.specs.Worlds.{first, run}
+use Rattle.law_blocks.specs.Lists.{Text, Each, In}
+use Rattle.law_blocks.specs.Meaning.{Meaning}
+use Rattle.law_blocks.specs.Guards.{IsAnswered}
+use Rattle.law_blocks.specs.Serial.{Differ}
+use Rattle.law_blocks.specs.Transactions.{unfixed, listed}
+use Rattle.law_blocks.specs.Acts.{Act, of}
+use Rattle.law_blocks.specs.Transcripts.{Transcript}
+use Rattle.law_blocks.specs.Sessions.{SessionTransaction, SessionState, runs, gone, transcript_of}
+use Rattle.law_blocks.specs.Worlds.{first, run}
 use Rattle.spec_protocol.specs.TranscriptsSoFar.{IsTranscript}
 use Rattle.spec_protocol.specs.Seats.{OpenTransaction, StatementProgress, found, made, replied, SessionStatus, inside, Session, Written, Role, idle, session, builder, SeatState}
 use Rattle.spec_protocol.specs.OpenOnes.{text_at, texts_so_far}

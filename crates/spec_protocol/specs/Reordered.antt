@@ -1,8 +1,8 @@
 -- The same sessions, numbered in another order.
 use Rattle.std.specs.Prelude.{ℕ, zero, suc, ◌≡◌, ◌≢◌, ◌<◌, List, [], ◌∷◌, length, map, Option, Some, None}
-use Rattle.spec_history.specs.Inputs.{InputSession}
-use Rattle.spec_history.specs.Lists.{Text, Each, Some_of, At}
-use Rattle.spec_history.specs.Transcripts.{Transcript}
+use Rattle.law_blocks.specs.Inputs.{InputSession}
+use Rattle.law_blocks.specs.Lists.{Text, Each, Some_of, At}
+use Rattle.law_blocks.specs.Transcripts.{Transcript}
 
 -- the elements at places n and n + 1 change places
 abbrev pub swapped : {A : Type 0} → ℕ → List A → List A

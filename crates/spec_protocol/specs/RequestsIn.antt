@@ -7,7 +7,7 @@ use Rattle.spec_model.specs.Catalog.{Defs}
 use Rattle.spec_model.specs.Locks.{CellRequests, whole, same_item}
 use Rattle.spec_model.specs.Agreement.{LockRequests}
 use Rattle.spec_model.specs.ScriptRequests.{text_requests}
-use Rattle.spec_history.specs.Lists.{Text, In}
+use Rattle.law_blocks.specs.Lists.{Text, In}
 use Rattle.spec_protocol.specs.Server.{Server}
 use Rattle.spec_protocol.specs.Cells.{catalog_at, cell_of}
 

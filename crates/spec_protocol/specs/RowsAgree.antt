@@ -10,8 +10,8 @@ use Rattle.spec_model.specs.Agreement.{columns_at}
 use Rattle.spec_model.specs.Reach.{lets_change}
 use Rattle.spec_model.specs.Runs.{MadeBefore, Rising}
 use Rattle.spec_model.specs.Undo.{versions_undone}
-use Rattle.spec_history.specs.Lists.{In}
-use Rattle.spec_history.specs.Transactions.{unfixed}
+use Rattle.law_blocks.specs.Lists.{In}
+use Rattle.law_blocks.specs.Transactions.{unfixed}
 use Rattle.spec_protocol.specs.Server.{Server}
 use Rattle.sql_types.specs.declared.lock.Hold.{Hold}
 use Rattle.spec_protocol.specs.Cells.{cell_of}

@@ -2,7 +2,7 @@
 use Rattle.std.specs.Prelude.{ℕ, ◌≡◌, ◌≢◌, ◌++◌, List, [], ◌∷◌, map}
 use mathlib.Core.Option.{some}
 use lib.ListN.{get_elem?}
-use Rattle.spec_history.specs.Lists.{Text, In}
+use Rattle.law_blocks.specs.Lists.{Text, In}
 use Rattle.spec_protocol.specs.Seats.{Role, session, SeatState}
 
 abbrev pub session_names : Role → List Text

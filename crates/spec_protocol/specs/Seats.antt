@@ -4,9 +4,9 @@ use Rattle.sql_types.specs.declared.reply.Reply.{Reply}
 use Rattle.sql_types.specs.declared.table.TableDef.{TableDef}
 use Rattle.spec_model.specs.Journals.{Line}
 use Rattle.spec_model.specs.Catalog.{NamedPart}
-use Rattle.spec_history.specs.Lists.{Text}
-use Rattle.spec_history.specs.Transcripts.{Transcript}
-use Rattle.spec_history.specs.Transactions.{End}
+use Rattle.law_blocks.specs.Lists.{Text}
+use Rattle.law_blocks.specs.Transcripts.{Transcript}
+use Rattle.law_blocks.specs.Transactions.{End}
 
 -- ---- a transaction of a session
 

@@ -2,9 +2,9 @@
 use Rattle.std.specs.Prelude.{ℕ, ◌≡◌, List}
 use Rattle.sql_types.specs.declared.journal.JournalItem.{JournalItem}
 use Rattle.spec_model.specs.Script.{Reading}
-use Rattle.spec_history.specs.Lists.{Text}
-use Rattle.spec_history.specs.Meaning.{Meaning}
-use Rattle.spec_history.specs.Real.{Hashing, IsReal}
+use Rattle.law_blocks.specs.Lists.{Text}
+use Rattle.law_blocks.specs.Meaning.{Meaning}
+use Rattle.law_blocks.specs.Real.{Hashing, IsReal}
 use Rattle.law_blocks.specs.Ledger.{block_hash}
 use Rattle.format_image.specs.Image.{image_of}
 use Rattle.format_image.specs.ImageBytes.{image_bytes}

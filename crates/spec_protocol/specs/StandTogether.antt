@@ -1,9 +1,9 @@
 -- When cells and seats stand together.
 use Rattle.std.specs.Prelude.{ℕ, ◌≡◌, ◌++◌, List, map}
-use Rattle.spec_history.specs.Lists.{Each}
-use Rattle.spec_history.specs.Acts.{SessionAct, Act, by, closes}
-use Rattle.spec_history.specs.Inputs.{InputLine}
-use Rattle.spec_history.specs.Worlds.{first, run}
+use Rattle.law_blocks.specs.Lists.{Each}
+use Rattle.law_blocks.specs.Acts.{SessionAct, Act, by, closes}
+use Rattle.law_blocks.specs.Inputs.{InputLine}
+use Rattle.law_blocks.specs.Worlds.{first, run}
 use Rattle.spec_protocol.specs.Server.{Server}
 use Rattle.spec_protocol.specs.AnonymousActs.{AnonymousAct, anonymous_act}
 use Rattle.spec_protocol.specs.Follows.{Follows}

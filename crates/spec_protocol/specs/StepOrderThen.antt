@@ -1,11 +1,11 @@
 -- Step order at the end, where the history takes one statement after another.
 use Rattle.std.specs.Prelude.{ℕ, List}
 use Rattle.sql_types.specs.declared.journal.JournalItem.{JournalItem}
-use Rattle.spec_history.specs.ExactRefusals.{StepOrder}
-use Rattle.spec_history.specs.Histories.{ClosesInStep, EndsComeLast, OneAtATime, lines_of, pending}
-use Rattle.spec_history.specs.Inputs.{InputSession}
-use Rattle.spec_history.specs.Transcripts.{Transcript}
-use Rattle.spec_history.specs.Worlds.{first}
+use Rattle.law_blocks.specs.ExactRefusals.{StepOrder}
+use Rattle.law_blocks.specs.Histories.{ClosesInStep, EndsComeLast, OneAtATime, lines_of, pending}
+use Rattle.law_blocks.specs.Inputs.{InputSession}
+use Rattle.law_blocks.specs.Transcripts.{Transcript}
+use Rattle.law_blocks.specs.Worlds.{first}
 use Rattle.spec_protocol.specs.AtTheEnd.{AreWritten, SessionsDiffer}
 use Rattle.spec_protocol.specs.Seats.{SeatState}
 use Rattle.spec_protocol.specs.Server.{Server}

@@ -13,8 +13,8 @@ use Rattle.spec_model.specs.Catalog.{Defs, Tables, defs_of, versions_of}
 use Rattle.spec_model.specs.ChangeSets.{change_set, defined}
 use Rattle.spec_model.specs.Reach.{creates}
 use Rattle.law_journal.specs.Fits.{Fits}
-use Rattle.spec_history.specs.Lists.{Text, Each, In}
-use Rattle.spec_history.specs.Transactions.{unfixed}
+use Rattle.law_blocks.specs.Lists.{Text, Each, In}
+use Rattle.law_blocks.specs.Transactions.{unfixed}
 use Rattle.spec_protocol.specs.Server.{Server}
 use Rattle.spec_protocol.specs.Cells.{Creator, Index, TableCell, cell_of}
 use Rattle.spec_protocol.specs.Contents.{Contents, Known, HasAlone}

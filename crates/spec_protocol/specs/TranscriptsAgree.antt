@@ -3,13 +3,13 @@ use Rattle.std.specs.Prelude.{ℕ, ◌≡◌, ◌<◌, ◌≤◌, ◌++◌, true
 use mathlib.Core.Option.{some}
 use lib.ListN.{get_elem?}
 use Rattle.spec_model.specs.Journals.{tx_count, cut}
-use Rattle.spec_history.specs.Lists.{Each, In}
-use Rattle.spec_history.specs.Journals.{times}
-use Rattle.spec_history.specs.Facts.{Shows}
-use Rattle.spec_history.specs.Acts.{SessionAct, keeps, Act, of, marked}
-use Rattle.spec_history.specs.Sessions.{fresh}
-use Rattle.spec_history.specs.Worlds.{first, run}
-use Rattle.spec_history.specs.Guards.{Good}
+use Rattle.law_blocks.specs.Lists.{Each, In}
+use Rattle.law_blocks.specs.Journals.{times}
+use Rattle.law_blocks.specs.Facts.{Shows}
+use Rattle.law_blocks.specs.Acts.{SessionAct, keeps, Act, of, marked}
+use Rattle.law_blocks.specs.Sessions.{fresh}
+use Rattle.law_blocks.specs.Worlds.{first, run}
+use Rattle.law_blocks.specs.Guards.{Good}
 use Rattle.spec_protocol.specs.Server.{Server, journal_image}
 use Rattle.spec_protocol.specs.Cells.{LedgerCell}
 use Rattle.spec_protocol.specs.Seats.{KeptImage, Role, session, Written, SeatState}

@@ -3,14 +3,14 @@
 use Rattle.std.specs.Prelude.{ℕ, ◌≡◌, ◌+◌, ◌++◌, Bool, true, false, if◌then◌else◌, List, [], ◌∷◌, length, Option, Some, None}
 use Rattle.sql_types.specs.declared.reply.Reply.{Reply}
 use Rattle.sql_types.specs.declared.reply.Reply.TheVariants as reply
-use Rattle.spec_history.specs.Lists.{Text, Each}
-use Rattle.spec_history.specs.Meaning.{Meaning}
-use Rattle.spec_history.specs.Transcripts.{EndLine, committed_at, ended_after, statement, Kind, commit, roll_back, to_savepoint, create, rows, kind_of}
-use Rattle.spec_history.specs.Facts.{Fact, began, said, placed, passed, answer_facts, facts_inside, facts_outside, begun_by, open_at_end}
-use Rattle.spec_history.specs.Transactions.{End, unfixed, committed, ended}
-use Rattle.spec_history.specs.InPlace.{InPlace, image_by}
-use Rattle.spec_history.specs.Sessions.{TranscriptSoFar}
-use Rattle.spec_history.specs.Guards.{IsStatement, images_of}
+use Rattle.law_blocks.specs.Lists.{Text, Each}
+use Rattle.law_blocks.specs.Meaning.{Meaning}
+use Rattle.law_blocks.specs.Transcripts.{EndLine, committed_at, ended_after, statement, Kind, commit, roll_back, to_savepoint, create, rows, kind_of}
+use Rattle.law_blocks.specs.Facts.{Fact, began, said, placed, passed, answer_facts, facts_inside, facts_outside, begun_by, open_at_end}
+use Rattle.law_blocks.specs.Transactions.{End, unfixed, committed, ended}
+use Rattle.law_blocks.specs.InPlace.{InPlace, image_by}
+use Rattle.law_blocks.specs.Sessions.{TranscriptSoFar}
+use Rattle.law_blocks.specs.Guards.{IsStatement, images_of}
 use Rattle.spec_protocol.specs.Seats.{OpenTransaction, StatementProgress, found, going_back, replied, answering, refused, SessionStatus, between, inside, leaving, Session}
 
 abbrev pub end_shown : End → List Fact

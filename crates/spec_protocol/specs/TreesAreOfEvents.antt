@@ -3,9 +3,9 @@ use Rattle.std.specs.Prelude.{ℕ, ◌≡◌, ◌≢◌, ◌≤◌, List, [], �
 use Rattle.sql_types.specs.declared.event.Event.{Event}
 use Rattle.spec_model.specs.Catalog.{versions_of}
 use Rattle.spec_model.specs.Script.{Saved}
-use Rattle.spec_history.specs.Lists.{Each}
-use Rattle.spec_history.specs.Serial.{Differ}
-use Rattle.spec_history.specs.Transactions.{unfixed}
+use Rattle.law_blocks.specs.Lists.{Each}
+use Rattle.law_blocks.specs.Serial.{Differ}
+use Rattle.law_blocks.specs.Transactions.{unfixed}
 use Rattle.spec_protocol.specs.Server.{Server}
 use Rattle.spec_protocol.specs.Contents.{Contents, Known}
 use Rattle.spec_protocol.specs.Seats.{Tree, OpenSavepoint, OpenTransaction, Session, SeatState}

@@ -3,8 +3,8 @@ use Rattle.std.specs.Prelude.{ℕ, ◌≡◌, ◌≢◌, ◌⊎◌, ◌==◌, no
 use Rattle.sql_types.specs.declared.table.TableDef.{TableDef}
 use Rattle.spec_model.specs.Catalog.{Defs}
 use Rattle.spec_model.specs.Undo.{versions_undone}
-use Rattle.spec_history.specs.Lists.{Each, In}
-use Rattle.spec_history.specs.Transactions.{End, unfixed, committed}
+use Rattle.law_blocks.specs.Lists.{Each, In}
+use Rattle.law_blocks.specs.Transactions.{End, unfixed, committed}
 use Rattle.spec_model.specs.Holds.{released}
 use Rattle.spec_protocol.specs.Server.{Server}
 use Rattle.spec_protocol.specs.Cells.{Creator, CatalogCell, Index, TableCell, catalog_at, cell_of}

@@ -16,7 +16,7 @@ use Rattle.spec_history.specs.Journals.{blocks, in_blocks, times}
 use Rattle.spec_history.specs.Lists.{Text}
 use Rattle.spec_history.proofs.Grows.{blocks_all}
 use Rattle.spec_ledger.specs.Blocks.{no_hash, record_hash, last_hash, hash_at}
-use Rattle.law_protocol_steps.specs.Digests.{or_zero, digest_of}
+use Rattle.law_protocol_steps.specs.BlockDigests.{or_zero, digest_of}
 use Rattle.spec_ledger.specs.Entries.{entry_of, at_place, placed}
 use Rattle.spec_ledger.specs.Ledger.{Ledger, empty_ledger, recorded, ledger_from, entries_of, block_hash}
 use Rattle.law_protocol_steps.proofs.Counting.{closed_counted}

@@ -5,7 +5,7 @@ ghost use Rattle.sql_types.specs.declared.reply.Reply.TheVariants as reply;
 ghost use Rattle.sql_types.specs.declared.statement.Stmt.TheVariants as stmt;
 ghost use Rattle.spec_model.specs.Journals.{tx_count};
 ghost use Rattle.spec_history.specs.Digests.{IsDigest};
-ghost use Rattle.law_protocol_steps.specs.Digests.{digest_of};
+ghost use Rattle.law_protocol_steps.specs.BlockDigests.{digest_of};
 ghost use Rattle.law_protocol_steps.specs.Cells.{LedgerCell as SpecCell, pending_in};
 ghost use Rattle.law_protocol_steps.specs.LedgerIsLegal.{LedgerIsLegal};
 ghost use Rattle.law_protocol_steps.specs.LedgerVisits.{closed_by, all_closed, next_block, Closes, Issues};

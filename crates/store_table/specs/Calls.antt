@@ -16,7 +16,7 @@ use Rattle.spec_model.specs.InTheWay.{first_conflict}
 use Rattle.spec_model.specs.Limits.{max_columns}
 use Rattle.spec_model.specs.Rows.{Row}
 use Rattle.spec_model.specs.Runs.{MadeBefore}
-use Rattle.spec_history.specs.Lists.{Each}
+use Rattle.store_tx.specs.Lists.{Each}
 use Rattle.law_journal.specs.Fits.{Fits}
 use Rattle.store_tx.specs.Cells.{TableCell}
 use Rattle.store_tx.specs.Doing.{grown, events_from, Stopped}

@@ -11,7 +11,7 @@ ghost use Rattle.sql_types.specs.declared.statement.RowStmt.{RowStmt};
 ghost use Rattle.sql_types.specs.declared.statement.Select.{Select};
 ghost use Rattle.sql_types.specs.declared.statement.Stmt.TheVariants as stmt;
 ghost use Rattle.sql_types.specs.declared.table.TableDef.{TableDef};
-ghost use Rattle.spec_history.specs.Transactions.{committed, ended};
+ghost use Rattle.store_tx.specs.Transactions.{committed, ended};
 ghost use Rattle.spec_model.specs.Catalog.{NamedPart};
 ghost use Rattle.spec_model.specs.Changes.{Change, changed_all, row_changes};
 ghost use Rattle.spec_model.specs.Checks.{row_statement_check};

@@ -2,7 +2,7 @@
 
 ghost use Rattle.std.specs.Prelude.{◌≡◌, ◌≢◌, ◌≤◌, ◌⊎◌, ◌∷◌, [], IfErr, IfOk, Err, Ok, length};
 ghost use Rattle.sql_value.specs.declared.refusal.Refusal.TheVariants.{NoMemory};
-ghost use Rattle.spec_history.specs.Lists.{Each};
+ghost use Rattle.store_tx.specs.Lists.{Each};
 ghost use Rattle.law_journal.specs.Fits.{Fits};
 ghost use Rattle.spec_model.specs.Changes as spec;
 ghost use Rattle.spec_model.specs.Checks.{row_statement_check};

@@ -2,7 +2,7 @@
 
 ghost use Rattle.std.specs.Prelude.{◌≡◌, ◌≢◌, ◌≤◌, ◌⊎◌, ◌∷◌, [], Err, IfErr, IfOk, OnErr, OnOk, Ok, length};
 ghost use Rattle.sql_value.specs.declared.refusal.Refusal.TheVariants.{NoMemory};
-ghost use Rattle.spec_history.specs.Lists.{Each};
+ghost use Rattle.store_tx.specs.Lists.{Each};
 ghost use Rattle.law_journal.specs.Fits.{Fits};
 ghost use Rattle.spec_model.specs.Changes.{row_changes};
 ghost use Rattle.spec_model.specs.Checks.{row_statement_check};

@@ -30,3 +30,12 @@ pub use Rattle.spec_protocol.specs.TableVisits
 pub use Rattle.spec_protocol.specs.TablesAreSerial
 pub use Rattle.spec_protocol.specs.UndoVisits
 pub use Rattle.spec_protocol.specs.Visits
+pub use Rattle.spec_history.specs.Acts
+pub use Rattle.spec_history.specs.Digests
+pub use Rattle.spec_history.specs.EndSeen
+pub use Rattle.spec_history.specs.Inputs
+pub use Rattle.spec_history.specs.Lists
+pub use Rattle.spec_history.specs.Meaning
+pub use Rattle.spec_history.specs.Serial
+pub use Rattle.spec_history.specs.Transactions
+pub use Rattle.spec_history.specs.Transcripts

@@ -3,7 +3,7 @@ use Rattle.std.specs.Prelude.{slice_set}
 use mathlib.Core.Option.{some}
 use lib.ListN.{get_elem?}
 use Rattle.spec_protocol.specs.Cells.{Ledger}
-use Rattle.spec_history.specs.Acts.{closes}
+use Rattle.law_history.specs.Acts.{closes}
 use Rattle.spec_protocol.specs.StandTogether.{Stands}
 use Rattle.law_protocol_changes.proofs.LedgerVisit.{lies_there}
 use Rattle.law_protocol_changes.proofs.Closes.{closes_stand}

@@ -4,7 +4,7 @@ use mathlib.Core.Option.{some}
 use lib.ListN.{get_elem?}
 use Rattle.spec_protocol.specs.Cells.{Ledger, pending_in}
 use Rattle.spec_model.specs.Journals.{tx_count}
-use Rattle.spec_history.specs.Acts.{issues, lacks}
+use Rattle.law_history.specs.Acts.{issues, lacks}
 use Rattle.spec_protocol.specs.ActsOf.{closings}
 use Rattle.spec_protocol.specs.StandTogether.{StandsAfter}
 use Rattle.law_protocol_changes.proofs.LedgerVisit.{lies_there}

@@ -1,7 +1,7 @@
 use Rattle.std.specs.Prelude.{List}
 use Rattle.std.proofs.Common.{subst}
-use Rattle.spec_history.specs.Facts.{Fact}
-use Rattle.spec_history.specs.StepOrder.{Counted, ItemsInOrder}
+use Rattle.law_history.specs.Facts.{Fact}
+use Rattle.law_history.specs.StepOrder.{Counted, ItemsInOrder}
 use Rattle.law_sequential.proofs.ClosedBefore.{closed_before}
 use Rattle.law_sequential.proofs.laws.digests_before_an_image_are_closed_in_it.Goals as goal
 
