@@ -1,13 +1,13 @@
-pub mod Accepted
-pub mod Agreeing
-pub mod Covering
-pub mod EachDigest
-pub mod Groups
-pub mod Halves
-pub mod Heads
-pub mod ImageLeaves
-pub mod Linked
+mod Accepted
+mod Agreeing
+mod Covering
+mod EachDigest
+mod Groups
+mod Halves
+mod Heads
+mod ImageLeaves
+mod Linked
 mod Lists
-pub mod Parted
-pub mod Rooted
-pub mod Unbroken
+mod Parted
+mod Rooted
+mod Unbroken

@@ -1,3 +1,3 @@
-pub mod Roots
-pub mod Rules
-pub mod Steps
+mod Roots
+mod Rules
+mod Steps

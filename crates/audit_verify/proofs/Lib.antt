@@ -1,40 +1,40 @@
-pub mod Bad
-pub mod Counts
-pub mod EntryPlaces
-pub mod EventIds
-pub mod FirstValues
-pub mod Fitting
-pub mod GroupParts
-pub mod Grouped
-pub mod GroupsMerge
-pub mod IdsAt
-pub mod InRows
-pub mod LeafOrder
-pub mod EntryPositions
-pub mod EntryRoots
-pub mod Folds
-pub mod InRuns
-pub mod LeastParts
-pub mod LeftParts
-pub mod MergedFaults
-pub mod Leaves
-pub mod Neighbours
-pub mod Owned
-pub mod Places
-pub mod RuleGroups
-pub mod Searches
-pub mod Runs
-pub mod Small
-pub mod Sortings
-pub mod Encoded
-pub mod Started
-pub mod StoredRows
-pub mod Strangers
-pub mod TableFaults
-pub mod TableRoots
-pub mod Tables
-pub mod VerdictParts
-pub mod Verdicts
-pub mod Walks
-pub mod WorstParts
-pub mod WrongRoots
+mod Bad
+mod Counts
+mod EntryPlaces
+mod EventIds
+mod FirstValues
+mod Fitting
+mod GroupParts
+mod Grouped
+mod GroupsMerge
+mod IdsAt
+mod InRows
+mod LeafOrder
+mod EntryPositions
+mod EntryRoots
+mod Folds
+mod InRuns
+mod LeastParts
+mod LeftParts
+mod MergedFaults
+mod Leaves
+mod Neighbours
+mod Owned
+mod Places
+mod RuleGroups
+mod Searches
+mod Runs
+mod Small
+mod Sortings
+mod Encoded
+mod Started
+mod StoredRows
+mod Strangers
+mod TableFaults
+mod TableRoots
+mod Tables
+mod VerdictParts
+mod Verdicts
+mod Walks
+mod WorstParts
+mod WrongRoots

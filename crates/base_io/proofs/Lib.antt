@@ -1,2 +1,2 @@
-pub mod Moved
-pub mod Places
+mod Moved
+mod Places

@@ -1,10 +1,10 @@
-pub mod AnswerLemmas
-pub mod CallLemmas
-pub mod ExtractLemmas
-pub mod FilesLemmas
-pub mod GetLemmas
-pub mod ReplayLemmas
-pub mod SavedLemmas
-pub mod TransferLemmas
-pub mod WordsLemmas
+mod AnswerLemmas
+mod CallLemmas
+mod ExtractLemmas
+mod FilesLemmas
+mod GetLemmas
+mod ReplayLemmas
+mod SavedLemmas
+mod TransferLemmas
+mod WordsLemmas
 mod ReportLemmas

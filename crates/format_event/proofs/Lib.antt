@@ -6,4 +6,4 @@ mod Texts
 pub mod TypeLaws
 pub mod TypedExact
 mod ValueLaws
-pub mod Told
+mod Told

@@ -1,8 +1,8 @@
-pub mod AnyRows
-pub mod DefExact
-pub mod Each
+mod AnyRows
+mod DefExact
+mod Each
 pub mod ImageExact
-pub mod Places
-pub mod ProperNames
-pub mod RowExact
-pub mod Walking
+mod Places
+mod ProperNames
+mod RowExact
+mod Walking

@@ -1,4 +1,4 @@
-pub mod Joined
-pub mod Orders
-pub mod UserDefs
+mod Joined
+mod Orders
+mod UserDefs
 pub use Rattle.law_image.proofs.Entries

@@ -1,16 +1,16 @@
-pub mod Along
-pub mod Begins
-pub mod Blocks
-pub mod ByNumber
-pub mod Definitions
-pub mod Events
-pub mod Firsts
-pub mod Ids
-pub mod Indexes
-pub mod RoomOfCuts
-pub mod Roots
-pub mod Shown
-pub mod Sizes
-pub mod Stay
-pub mod Versions
-pub mod Whole
+mod Along
+mod Begins
+mod Blocks
+mod ByNumber
+mod Definitions
+mod Events
+mod Firsts
+mod Ids
+mod Indexes
+mod RoomOfCuts
+mod Roots
+mod Shown
+mod Sizes
+mod Stay
+mod Versions
+mod Whole

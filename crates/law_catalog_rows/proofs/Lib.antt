@@ -1,17 +1,17 @@
-pub mod About
-pub mod Defs
-pub mod FormedAfter
-pub mod Forms
+mod About
+mod Defs
+mod FormedAfter
+mod Forms
 pub mod Journals
 pub mod KeptByJournals
-pub mod KeyCounted
-pub mod KeyPositions
-pub mod LiveRows
-pub mod MayBe
-pub mod NewNames
-pub mod Orders
-pub mod Ordinals
+mod KeyCounted
+mod KeyPositions
+mod LiveRows
+mod MayBe
+mod NewNames
+mod Orders
+mod Ordinals
 pub mod Passing
-pub mod RowsAfter
-pub mod ChangedTables
-pub mod WrittenAfter
+mod RowsAfter
+mod ChangedTables
+mod WrittenAfter

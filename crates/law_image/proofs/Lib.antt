@@ -1,4 +1,4 @@
-pub mod Defs
+mod Defs
 pub mod Entries
-pub mod Images
-pub mod Rows
+mod Images
+mod Rows

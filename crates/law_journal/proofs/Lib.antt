@@ -1,4 +1,4 @@
-pub mod AppendOnly
+mod AppendOnly
 pub mod Counts
 pub mod Created
 pub mod DefLists
@@ -6,10 +6,10 @@ pub mod Here
 pub mod Keeping
 pub mod Lift
 pub mod NewRows
-pub mod NumberKeys
+mod NumberKeys
 pub mod Order
-pub mod Refusals
-pub mod RowChanges
+mod Refusals
+mod RowChanges
 pub mod Scripts
 pub mod Serials
 pub mod Statements
@@ -17,7 +17,7 @@ pub mod SystemKeys
 pub mod SystemRows
 pub mod Tables
 pub mod Taken
-pub mod Units
+mod Units
 pub mod Values
 pub use Rattle.law_frame.proofs.Alls
 pub use Rattle.law_frame.proofs.BaseTables

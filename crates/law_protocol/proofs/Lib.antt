@@ -1,29 +1,29 @@
 pub mod AlonesKeep
 pub mod Beginning
 pub mod BegunNames
-pub mod CommitAsked
-pub mod Decides
-pub mod DecidesSteps
-pub mod AnonymousActsTell
-pub mod AssignNoId
-pub mod FollowsMore
-pub mod FollowsSteps
-pub mod FreeOrMet
-pub mod HeldStatements
-pub mod IdleOnes
+mod CommitAsked
+mod Decides
+mod DecidesSteps
+mod AnonymousActsTell
+mod AssignNoId
+mod FollowsMore
+mod FollowsSteps
+mod FreeOrMet
+mod HeldStatements
+mod IdleOnes
 pub mod JournalKept
 pub mod KeepsRequested
 pub mod KeptImages
-pub mod LeastHolder
-pub mod LedgerAsked
-pub mod LedgerBase
+mod LeastHolder
+mod LedgerAsked
+mod LedgerBase
 pub mod OneAtATime
 pub mod OneSeat
-pub mod OthersHold
+mod OthersHold
 pub mod InSessionOrder
 pub mod RanFirst
 pub mod Reorders
-pub mod SeatNames
+mod SeatNames
 pub mod SinceFirst
 pub mod StepOrderKept
 pub mod StepsAlone

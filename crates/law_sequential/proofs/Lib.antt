@@ -1,16 +1,16 @@
-pub mod Calm
-pub mod ClosedBefore
-pub mod Closes
-pub mod Ends
+mod Calm
+mod ClosedBefore
+mod Closes
+mod Ends
 pub mod Goes
-pub mod LedgerInStep
-pub mod Over
+mod LedgerInStep
+mod Over
 pub mod SameNames
 pub mod SeatOn
 pub mod SessionsStand
-pub mod Texts
+mod Texts
 pub mod SessionOutput
-pub mod VisitInStep
+mod VisitInStep
 pub use Rattle.law_protocol.proofs.JournalKept
 pub use Rattle.law_protocol.proofs.KeptImages
 pub use Rattle.law_protocol.proofs.InSessionOrder

@@ -1,14 +1,14 @@
-pub mod AllCells
+mod AllCells
 pub mod Calls
 pub mod AnonymousActs
-pub mod Ends
+mod Ends
 pub mod FirstCells
 pub mod Holding
 pub mod Midways
-pub mod OneServer
+mod OneServer
 pub mod Pairs
-pub mod Pending
-pub mod Texts
+mod Pending
+mod Texts
 pub mod Turns
 pub mod Within
 pub use Rattle.law_sequential.proofs.SameNames

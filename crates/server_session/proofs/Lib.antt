@@ -1,8 +1,8 @@
 pub mod Alone
-pub mod Course
+mod Course
 pub mod Ending
-pub mod Reversed
-pub mod Savepoints
+mod Reversed
+mod Savepoints
 pub mod Sitting
 pub use Rattle.spec_ledger.proofs.Adding
 pub use Rattle.store_tx.proofs.LedgerNumbers

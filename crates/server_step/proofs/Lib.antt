@@ -1,9 +1,9 @@
-pub mod Comes
-pub mod Ends
-pub mod Joins
-pub mod Named
-pub mod Nexts
-pub mod OneList
-pub mod Places
-pub mod Steps
-pub mod Whole
+mod Comes
+mod Ends
+mod Joins
+mod Named
+mod Nexts
+mod OneList
+mod Places
+mod Steps
+mod Whole

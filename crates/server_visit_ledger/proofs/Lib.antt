@@ -1,8 +1,8 @@
-pub mod Ledger
-pub mod LedgerAssigns
-pub mod LedgerCommits
-pub mod LedgerEnds
-pub mod LedgerEntries
-pub mod LedgerIssues
+mod Ledger
+mod LedgerAssigns
+mod LedgerCommits
+mod LedgerEnds
+mod LedgerEntries
+mod LedgerIssues
 pub use Rattle.server_session.proofs.Alone
 pub use Rattle.server_session.proofs.Sitting

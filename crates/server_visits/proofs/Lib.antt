@@ -1,3 +1,3 @@
 pub mod ImagesOfCells
-pub mod Keeping
+mod Keeping
 pub use Rattle.store_image.proofs.Servers

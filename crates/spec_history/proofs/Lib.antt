@@ -2,37 +2,37 @@ pub mod Agreed
 pub mod Alone
 pub mod TransactionLogs
 pub mod ByLocks
-pub mod Clash
-pub mod Closing
+mod Clash
+mod Closing
 pub mod Cuts
 pub mod TranscriptsSoFar
 pub mod IdsAssigned
-pub mod Exact
-pub mod Finding
-pub mod Follow
+mod Exact
+mod Finding
+mod Follow
 pub mod Grows
-pub mod Issued
-pub mod Items
-pub mod Lacks
+mod Issued
+mod Items
+mod Lacks
 pub mod Legal
-pub mod Legality
-pub mod Lines
+mod Legality
+mod Lines
 pub mod Names
-pub mod Order
+mod Order
 pub mod Ordered
-pub mod Owners
-pub mod Placed
+mod Owners
+mod Placed
 pub mod Real
 pub mod Refused
 pub mod Rising
-pub mod Rows
-pub mod Samples
+mod Rows
+mod Samples
 pub mod Settles
 pub mod Setup
-pub mod Signs
+mod Signs
 pub mod SoFar
-pub mod Stable
-pub mod Theirs
+mod Stable
+mod Theirs
 pub mod Trace
 pub use Rattle.law_frame.proofs.Alls
 pub use Rattle.law_frame.proofs.LeftRows

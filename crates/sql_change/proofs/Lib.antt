@@ -1,2 +1,2 @@
-pub mod KeyOrder
-pub mod Matched
+mod KeyOrder
+mod Matched

@@ -1,2 +1,2 @@
-pub mod Lists
-pub mod NewTables
+mod Lists
+mod NewTables

@@ -1,9 +1,9 @@
-pub mod AddedColumns
+mod AddedColumns
 pub mod Fixed
 pub mod InTurn
-pub mod Lists
+mod Lists
 pub mod Orders
-pub mod Positions
+mod Positions
 pub mod Refusals
 pub mod Sorting
 pub mod Zipped

@@ -1,3 +1,3 @@
-pub mod FromTaken
-pub mod Projections
-pub mod SortKeys
+mod FromTaken
+mod Projections
+mod SortKeys

@@ -1,1 +1,1 @@
-pub mod Started
+mod Started

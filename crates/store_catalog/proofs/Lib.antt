@@ -1,12 +1,12 @@
-pub mod Asking
-pub mod Carrying
-pub mod Creates
-pub mod DefsKept
-pub mod Entering
-pub mod Fitting
-pub mod Leaves
-pub mod NewRows
-pub mod NotedLeaves
-pub mod Shown
-pub mod Taking
-pub mod Visits
+mod Asking
+mod Carrying
+mod Creates
+mod DefsKept
+mod Entering
+mod Fitting
+mod Leaves
+mod NewRows
+mod NotedLeaves
+mod Shown
+mod Taking
+mod Visits

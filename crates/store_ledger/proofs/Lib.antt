@@ -1,7 +1,7 @@
 pub mod Closings
-pub mod Counted
-pub mod Issuing
-pub mod Newest
+mod Counted
+mod Issuing
+mod Newest
 pub mod OfJournal
 pub use Rattle.law_protocol_steps.proofs.CommitsLedger
 pub use Rattle.law_protocol_steps.proofs.EntryRoots
