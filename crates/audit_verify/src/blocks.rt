@@ -18,7 +18,11 @@ use std::alloc::Global;
 
 /// The first digest that isn't of a block of the image.
 #[tactic(auto, unfolding(spec_verify::specs::Blocks::digest_fault))]
-pub fn digest_fault<H: Hash32>(hasher: H, image: &Image, digests: &[HeldDigest]) -> Option<Place>
+pub(crate) fn digest_fault<H: Hash32>(
+    hasher: H,
+    image: &Image,
+    digests: &[HeldDigest],
+) -> Option<Place>
     ensures { result ≡ spec.digest_fault (H.digest hasher) image.now digests.now }
 {
     for (k, digest) in digests.iter().enumerate() {
@@ -48,7 +52,7 @@ fn block_at(blocks: &[BlockRecord], at: usize) -> &BlockRecord
 
 /// The first block that isn't linked to the one before it.
 #[tactic(auto, unfolding(spec_verify::specs::Blocks::chain_fault))]
-pub fn chain_fault<H: Hash32>(hasher: H, image: &Image) -> Option<Place>
+pub(crate) fn chain_fault<H: Hash32>(hasher: H, image: &Image) -> Option<Place>
     ensures { result ≡ spec.chain_fault (H.digest hasher) image.now }
 {
     let mut before = no_hash();
@@ -70,7 +74,7 @@ fn no_hash() -> [u8; 32]
 /// The first block that hasn't the size or the root of its entries.
 /// The entries are hashed in order, each once.
 #[tactic(auto, unfolding(spec_verify::specs::Blocks::block_fault))]
-pub fn block_fault<H: Hash32>(
+pub(crate) fn block_fault<H: Hash32>(
     alloc: Global,
     hasher: H,
     image: &Image,

@@ -9,7 +9,7 @@ use sql_types::TypedValue;
 use sql_value::{ColumnDef, SqlType, type_parts};
 
 /// Whether two types have one code and one set of parameters.
-pub fn same_type(a: SqlType, b: SqlType) -> bool
+pub(crate) fn same_type(a: SqlType, b: SqlType) -> bool
     ensures { result ≡ spec.same_type a b }
 {
     let (a_code, a_first, a_second) = type_parts(a);
@@ -27,7 +27,7 @@ fn is_of(column: &ColumnDef, value: &Option<TypedValue>) -> bool
 }
 
 /// Whether the row has a value of each column's type, and nothing more.
-pub fn has_columns(columns: &[ColumnDef], row: &[Option<TypedValue>]) -> bool
+pub(crate) fn has_columns(columns: &[ColumnDef], row: &[Option<TypedValue>]) -> bool
     ensures { result ≡ spec.has_columns columns.now row.now }
 {
     let mut columns = columns;
@@ -48,7 +48,7 @@ pub fn has_columns(columns: &[ColumnDef], row: &[Option<TypedValue>]) -> bool
 }
 
 /// Whether the row has NULL only where the column may be NULL.
-pub fn respects_not_null(columns: &[ColumnDef], row: &[Option<TypedValue>]) -> bool
+pub(crate) fn respects_not_null(columns: &[ColumnDef], row: &[Option<TypedValue>]) -> bool
     ensures { result ≡ spec.respects_not_null columns.now row.now }
 {
     let mut columns = columns;

@@ -30,7 +30,7 @@ impl<'a> Entries<'a> {
     }
 
     /// The place of the first entry with this id, if one has it. Takes an ordered search.
-    pub fn position(&self, id: TxId) -> Option<usize>
+    pub(crate) fn position(&self, id: TxId) -> Option<usize>
         requires { AreFound self.now }
         ensures { result ≡ first_with self.now.all.now id }
     {
@@ -41,7 +41,7 @@ impl<'a> Entries<'a> {
     }
 
     /// Whether one has this id.
-    pub fn has(&self, id: TxId) -> bool
+    pub(crate) fn has(&self, id: TxId) -> bool
         requires { AreFound self.now }
         ensures { result ≡ has_id self.now.all.now id }
     {
@@ -49,7 +49,7 @@ impl<'a> Entries<'a> {
     }
 
     /// Whether one before place k has this id.
-    pub fn has_before(&self, k: usize, id: TxId) -> bool
+    pub(crate) fn has_before(&self, k: usize, id: TxId) -> bool
         requires { AreFound self.now }
         ensures { result ≡ has_id (take k self.now.all.now) id }
     {

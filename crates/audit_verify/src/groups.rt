@@ -143,7 +143,7 @@ fn index_in_group(
 
 /// The place of the first entry whose roots, but for those of other tables, differ from the roots over its own
 /// marks; and the least table in which they do.
-pub fn wrong_root<H: Hash32>(
+pub(crate) fn wrong_root<H: Hash32>(
     alloc: Global,
     hasher: H,
     entries: &[TxEntry],
@@ -205,7 +205,7 @@ fn least_in_tables(tables: &[ImageTable], a: &[TableRoot], b: &[TableRoot]) -> O
 }
 
 /// Whether one of the tables has this id.
-pub fn is_shown(tables: &[ImageTable], id: TableId) -> bool
+pub(crate) fn is_shown(tables: &[ImageTable], id: TableId) -> bool
     ensures { result ≡ told.is_shown tables.now id }
 {
     tables.iter().any(|table| table.def.id == id)

@@ -106,7 +106,7 @@ fn is_about(id: TableId, version: &Version) -> bool
 }
 
 /// The rows about the table.
-pub fn system_rows_of<'a>(
+pub(crate) fn system_rows_of<'a>(
     alloc: Global,
     versions: &'a [Version],
     id: TableId,
@@ -167,7 +167,7 @@ fn table_row(def: &TableDef) -> [ExpectedValue<'_>; 6]
 }
 
 /// Whether there is one row, which is that of the definition.
-pub fn has_table_row(rows: &[&Version], def: &TableDef) -> bool
+pub(crate) fn has_table_row(rows: &[&Version], def: &TableDef) -> bool
     ensures { result ≡ are_rows (rows_seen rows.now) (system.table_row def.now ∷ []) }
 {
     rows.len() == 1 && has_row(rows, &table_row(def))
@@ -299,7 +299,7 @@ fn are_so_many(count: usize, def: &TableDef) -> bool
 
 /// Whether the rows are those of the columns and of the indexes of the definition.
 #[tactic(auto, unfolding(law_catalog_rows::specs::Encoded::item_rows))]
-pub fn has_item_rows(rows: &[&Version], def: &TableDef) -> bool
+pub(crate) fn has_item_rows(rows: &[&Version], def: &TableDef) -> bool
     ensures { result ≡ are_rows (rows_seen rows.now) (item_rows def.now) }
 {
     are_so_many(rows.len(), def) && has_column_rows(rows, def) && has_index_rows(rows, def)

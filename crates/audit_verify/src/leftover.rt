@@ -21,7 +21,7 @@ use std::alloc::Global;
 
 /// The place, from 0, of the first entry whose events aren't numbered without a gap over all these tables, or
 /// that has a root for none of them; and which of the two it is. Sorts the ids of their starts and ends.
-pub fn left_over(
+pub(crate) fn left_over(
     alloc: Global,
     entries: &[TxEntry],
     tables: &[ImageTable],

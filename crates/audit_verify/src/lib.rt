@@ -27,7 +27,5 @@ mod versions;
 mod workers;
 
 pub use groups::{Fault, GroupFaults, group_faults, root_fault_is_merged, roots_of_groups_merge};
-pub use spec_verify::{Invariant, Place, Verdict};
-pub use sql_types::HeldDigest;
 pub use verdict::verify_image;
-pub use workers::{verify, verify_image_with_workers};
+pub use workers::verify;

@@ -32,7 +32,10 @@ pub struct Mark<'a> {
 
 /// The starts and ends of all versions of these tables: by the transaction, then by the table, then by
 /// number. Takes the time of sorting them. The only error is want of memory.
-pub fn sorted_marks<'a>(alloc: Global, tables: &[ImageTable<'a>]) -> Result<Vec<Mark<'a>>, Memory>
+pub(crate) fn sorted_marks<'a>(
+    alloc: Global,
+    tables: &[ImageTable<'a>],
+) -> Result<Vec<Mark<'a>>, Memory>
     requires { All HaveEncodableValues tables.now }
     ensures { IfOk result (λ marks. AreMarks (map table_of tables.now) marks.items) }
 {
@@ -130,7 +133,7 @@ fn compare_marks(a: &Mark, b: &Mark) -> Ordering
 }
 
 /// Those of a transaction, which stand together. Takes two ordered searches.
-pub fn run_of<'m, 'a>(marks: &'m [Mark<'a>], tx: TxId) -> &'m [Mark<'a>]
+pub(crate) fn run_of<'m, 'a>(marks: &'m [Mark<'a>], tx: TxId) -> &'m [Mark<'a>]
     requires { IsNonDecreasingBy tx_of marks.now }
     ensures { result.now ≡ filter (λ m. tx_of m == tx) marks.now }
 {
@@ -142,7 +145,7 @@ pub fn run_of<'m, 'a>(marks: &'m [Mark<'a>], tx: TxId) -> &'m [Mark<'a>]
 }
 
 /// The first of these as far as they are of the table, and the others.
-pub fn first_group<'m, 'a>(
+pub(crate) fn first_group<'m, 'a>(
     marks: &'m [Mark<'a>],
     table: TableId,
 ) -> (&'m [Mark<'a>], &'m [Mark<'a>])
@@ -155,7 +158,7 @@ pub fn first_group<'m, 'a>(
 }
 
 /// Appends the leaf of a start or an end. The only error is want of memory.
-pub fn put_leaf(mark: &Mark, out: &mut Vec<u8>) -> Result<(), Memory>
+pub(crate) fn put_leaf(mark: &Mark, out: &mut Vec<u8>) -> Result<(), Memory>
     requires { AreValues mark.now.version.now.values }
     ensures { OnOk result (out.new.items ≡ out.old.items ++ event_bytes (event_of mark.now)) }
 {

@@ -16,7 +16,7 @@ use sql_types::TxEntry;
 use std::cmp::Ordering;
 
 /// What two groups find together, of which the first has the tables that come first.
-pub fn both(first: GroupFaults, second: GroupFaults) -> GroupFaults
+pub(crate) fn both(first: GroupFaults, second: GroupFaults) -> GroupFaults
     ensures root { result.root ≡ lesser_of (found_cmp nat_cmp) first.root second.root }
     ensures version { result.version ≡ spec.lesser_version first.version second.version }
     ensures index { result.index ≡ spec.if_none result.version (or_else first.index second.index) }
@@ -79,7 +79,7 @@ fn lesser_event(a: Option<TableEvent>, b: Option<TableEvent>) -> Option<TableEve
 }
 
 /// The place of the lesser of what is left and of what the groups find.
-pub fn root_place(
+pub(crate) fn root_place(
     entries: &[TxEntry],
     left: Option<(u64, Fault)>,
     root: Option<(u64, TableId)>,

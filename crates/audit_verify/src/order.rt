@@ -45,7 +45,7 @@ pub struct EarlierVersions {
 }
 
 /// The versions that have the table's columns, by key, and those of a key by start. Sorts them once.
-pub fn ranked_versions<'a>(
+pub(crate) fn ranked_versions<'a>(
     alloc: Global,
     positions: &Positions,
     table: &KeyedTable,
@@ -170,7 +170,7 @@ fn openness(end: Option<Rank>) -> u8
 }
 
 /// The least start so far, and of the versions that don't stand in order among those of their key.
-pub fn least_out_of_order(
+pub(crate) fn least_out_of_order(
     table: &KeyedTable,
     ranked: &[VersionWithRanks],
     worst: Option<TableEvent>,

@@ -37,7 +37,7 @@ impl<'a> Model for Positions<'a> {
 
 impl<'a> Positions<'a> {
     /// Sorts the ids of the entries once.
-    pub fn of(alloc: Global, entries: &'a [TxEntry]) -> Result<Positions<'a>, Memory>
+    pub(crate) fn of(alloc: Global, entries: &'a [TxEntry]) -> Result<Positions<'a>, Memory>
         ensures { IfOk result (λ positions. positions ≡ entries.now) }
     {
         let mut by_id = placed_ids(alloc, entries)?;
@@ -46,14 +46,14 @@ impl<'a> Positions<'a> {
     }
 
     /// How many entries stand before the first with this id, found by halving; all, where it has none.
-    pub fn position_of(&self, id: TxId) -> usize
+    pub(crate) fn position_of(&self, id: TxId) -> usize
         ensures { result ≡ position_of self.now id }
     {
         place_among(&self.by_id, id, self.entries.len())
     }
 
     /// The rank of a start or an end.
-    pub fn rank_of(&self, event: EventId) -> Rank
+    pub(crate) fn rank_of(&self, event: EventId) -> Rank
         ensures { result ≡ spec.rank_of self.now event }
     {
         (self.position_of(event.0), event.1)

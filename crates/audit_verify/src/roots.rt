@@ -27,7 +27,7 @@ pub type TableRoot = (TableId, [u8; 32]);
 
 /// The first entry whose events aren't numbered without a gap, or that has other roots than theirs.
 /// The starts and ends of all versions are sorted once, and each leaf is hashed once.
-pub fn root_fault<H: Hash32>(
+pub(crate) fn root_fault<H: Hash32>(
     alloc: Global,
     hasher: H,
     image: &Image,
@@ -62,7 +62,7 @@ fn first_fault<H: Hash32>(
 
 /// Room that is used for one entry after another.
 #[derive(Drop)]
-pub struct ScratchSpace {
+pub(crate) struct ScratchSpace {
     pub numbers: Vec<u64>,
     pub roots: Vec<TableRoot>,
     pub leaf: Vec<u8>,
@@ -117,7 +117,7 @@ fn put_numbers(marks: &[Mark], numbers: &mut Vec<u64>) -> Result<(), Memory>
 
 /// The root over the leaves of each table, in place of those that were there.
 /// The buffer has the last leaf then, whatever it had before.
-pub fn put_roots<H: Hash32>(
+pub(crate) fn put_roots<H: Hash32>(
     hasher: H,
     marks: &[Mark],
     leaf: &mut Vec<u8>,
@@ -184,7 +184,7 @@ fn least_other(a: &[TableRoot], b: &[TableRoot]) -> Option<TableId>
     least_among(a, b, b, best)
 }
 
-pub fn least_among(
+pub(crate) fn least_among(
     a: &[TableRoot],
     b: &[TableRoot],
     roots: &[TableRoot],
@@ -203,7 +203,7 @@ pub fn least_among(
     best
 }
 
-pub fn lesser(best: Option<TableId>, table: TableId) -> Option<TableId>
+pub(crate) fn lesser(best: Option<TableId>, table: TableId) -> Option<TableId>
     ensures { result ≡ lesser nat_cmp best table }
 {
     match best {
@@ -212,7 +212,7 @@ pub fn lesser(best: Option<TableId>, table: TableId) -> Option<TableId>
     }
 }
 
-pub fn same_root(a: Option<[u8; 32]>, b: Option<[u8; 32]>) -> bool
+pub(crate) fn same_root(a: Option<[u8; 32]>, b: Option<[u8; 32]>) -> bool
     ensures { result ≡ spec.same_root a b }
 {
     match (a, b) {
@@ -222,7 +222,7 @@ pub fn same_root(a: Option<[u8; 32]>, b: Option<[u8; 32]>) -> bool
     }
 }
 
-pub fn root_at(roots: &[TableRoot], table: TableId) -> Option<[u8; 32]>
+pub(crate) fn root_at(roots: &[TableRoot], table: TableId) -> Option<[u8; 32]>
     ensures { result ≡ spec.root_at roots.now table }
 {
     for root in roots {

@@ -15,7 +15,7 @@ use sql_value::ColumnDef;
 use std::alloc::Global;
 
 /// Whether the definition keeps to the rules by itself.
-pub fn is_encodable_def(alloc: Global, def: &TableDef) -> Result<bool, Memory>
+pub(crate) fn is_encodable_def(alloc: Global, def: &TableDef) -> Result<bool, Memory>
     ensures { IfOk result (λ may. may ≡ spec.is_encodable_def def.now) }
 {
     let columns = def.columns.as_slice();

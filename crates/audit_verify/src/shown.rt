@@ -19,7 +19,7 @@ pub struct ImageTable<'a> {
 }
 
 /// The tables of the image: the two of the system, which come first, and those that it defines.
-pub fn shown_tables<'a>(
+pub(crate) fn shown_tables<'a>(
     alloc: Global,
     system: &'a [Table],
     image: &'a Image,

@@ -21,7 +21,7 @@ use sql_types::{TableDef, Version};
 use std::alloc::Global;
 
 /// The least table that is defined otherwise than its rows encode it.
-pub fn definition_fault(alloc: Global, image: &Image) -> Result<Option<Place>, Memory>
+pub(crate) fn definition_fault(alloc: Global, image: &Image) -> Result<Option<Place>, Memory>
     requires first { AllByRecursion HasSmallId (base_in image.now.tables 0) }
     requires second { AllByRecursion HasSmallId (base_in image.now.tables 1) }
     ensures { IfOk result (λ place. place ≡ verdict.definition_fault image.now) }

@@ -26,7 +26,7 @@ use std::alloc::Global;
 /// The start of the least version that its table may not have, where each start has its entry. Sorts the ids
 /// of the entries, and the versions of each table by key and start, and goes through them once.
 #[tactic(auto, unfolding(spec_verify::specs::Versions::version_fault))]
-pub fn version_fault(
+pub(crate) fn version_fault(
     alloc: Global,
     image: &Image,
     tables: &[ImageTable],
@@ -41,7 +41,7 @@ pub fn version_fault(
 }
 
 /// The start of the least version that its table may not have, if there is one.
-pub fn least_invalid_version(
+pub(crate) fn least_invalid_version(
     alloc: Global,
     positions: &Positions,
     tables: &[ImageTable],

@@ -53,7 +53,7 @@ pub fn verify<H: Hash32, R: Threads + Sync>(
 }
 
 /// The verdict on an image that has a spelling, as `verify_image` gives it, by so many threads.
-pub fn verify_image_with_workers<H: Hash32, R: Threads + Sync>(
+pub(crate) fn verify_image_with_workers<H: Hash32, R: Threads + Sync>(
     rt: &R,
     alloc: Global,
     hasher: H,

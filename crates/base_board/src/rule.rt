@@ -23,13 +23,13 @@ pub(crate) type TableSeat<W> = Seat<
 
 /// What the rule is told once, when the table is made: the cells at the start and the number of parts.
 #[derive(Drop)]
-pub struct InitialBoard<C> {
+pub(crate) struct InitialBoard<C> {
     pub cells: Snapshot<Vec<C>>,
     pub parts: u64,
 }
 
 /// The rule itself, `Stands` for the world `W`.
-pub struct BoardRule<W> {
+pub(crate) struct BoardRule<W> {
     world: PhantomData<W>,
 }
 

@@ -97,7 +97,7 @@ pub fn wide_at(bytes: &[u8]) -> Option<(&[u8], &[u8])>
 }
 
 /// So many bytes.
-pub fn taken(n: usize, bytes: &[u8]) -> Option<(&[u8], &[u8])>
+pub(crate) fn taken(n: usize, bytes: &[u8]) -> Option<(&[u8], &[u8])>
     ensures front { option_map (λ x. (x.0.now, x.1.now)) result ≡ taken n bytes.now }
     ensures length { IfSome result (λ x. length x.0.now ≡ n) }
 {

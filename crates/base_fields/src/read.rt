@@ -71,7 +71,7 @@ pub fn wide_at(bytes: &[u8]) -> Result<(&[u8], &[u8]), ReadError>
 }
 
 /// So many bytes.
-pub fn taken(n: usize, bytes: &[u8]) -> Result<(&[u8], &[u8]), ReadError>
+pub(crate) fn taken(n: usize, bytes: &[u8]) -> Result<(&[u8], &[u8]), ReadError>
     ensures { Finds (λ x. (x.0.now, x.1.now)) result (taken n bytes.now) }
 {
     front::taken(n, bytes).ok_or(ReadError::Malformed)

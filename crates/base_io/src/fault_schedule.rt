@@ -35,7 +35,7 @@ impl FaultInjector {
     }
 
     /// Counts a call, and says whether it is to fail.
-    pub fn is_next_failing(&mut self) -> bool
+    pub(crate) fn is_next_failing(&mut self) -> bool
         ensures answer { IsTrue result ↔ Contains self.old.fails (counted self.old.calls) }
         ensures counts { self.new ≡ called self.old }
     {
@@ -44,7 +44,7 @@ impl FaultInjector {
     }
 
     /// Counts a failure of the call that was counted last.
-    pub fn note_failure(&mut self)
+    pub(crate) fn note_failure(&mut self)
         ensures counts { self.new ≡ failed_once self.old }
         ensures later { self.old.failed ≤ self.new.failed }
         ensures rises { Rises self.old.failed self.new.failed }

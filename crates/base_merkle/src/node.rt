@@ -12,14 +12,14 @@ pub struct Node {
 }
 
 /// The hash of a leaf: a zero byte stands before it, so that no leaf reads as a node.
-pub fn leaf_hash<H: Hash32>(hasher: H, leaf: &[u8]) -> [u8; 32]
+pub(crate) fn leaf_hash<H: Hash32>(hasher: H, leaf: &[u8]) -> [u8; 32]
     ensures { result ≡ H.digest hasher (0 ∷ leaf.now) }
 {
     hasher.hash(&[0], leaf)
 }
 
 /// The hash of two nodes: a one byte stands before them.
-pub fn node_hash<H: Hash32>(hasher: H, left: &[u8; 32], right: &[u8; 32]) -> [u8; 32]
+pub(crate) fn node_hash<H: Hash32>(hasher: H, left: &[u8; 32], right: &[u8; 32]) -> [u8; 32]
     ensures { result ≡ H.digest hasher (1 ∷ left.now ++ right.now) }
 {
     let mut head = [1u8; 33];

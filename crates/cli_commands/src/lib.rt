@@ -19,6 +19,5 @@ mod verify;
 mod words;
 
 pub use cli_words::USAGE;
-pub use format_journal::{Journal, JournalItem, Script, write_journal};
 pub use status::Status;
 pub use top::ledgerd;

@@ -60,7 +60,7 @@ impl Status {
     }
 
     /// What it says, without its place. It is empty where the command did its work, or said No.
-    pub fn text(self) -> &'static str
+    pub(crate) fn text(self) -> &'static str
         ensures { result.now ≡ text_of self }
     {
         match self {

@@ -11,7 +11,7 @@ use base_io::{Failed, Sink, Source};
 use std::alloc::Global;
 
 /// The most bytes that an input may have: 4 MiB.
-pub const INPUT_LIMIT: usize = 4194304;
+pub(crate) const INPUT_LIMIT: usize = 4194304;
 
 /// Bytes that are asked for at once.
 const PIECE: usize = 4096;

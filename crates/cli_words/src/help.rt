@@ -19,7 +19,7 @@ pub const VERSION: &str = "ledgerd 0.1.0
 ";
 
 /// Help on all commands.
-pub const HELP: &str =
+pub(crate) const HELP: &str =
     "ledgerd runs statements over ledger tables in memory, and verifies images of them.
 
   ledgerd step --save NAME                 runs statements of sessions and saves what is left
@@ -40,7 +40,8 @@ Example, from the top of the repository:
 ";
 
 /// Help on `step`.
-pub const STEP_HELP: &str = "ledgerd step --save NAME [--block-size N] [--clock T] [--database D]
+pub(crate) const STEP_HELP: &str =
+    "ledgerd step --save NAME [--block-size N] [--clock T] [--database D]
 
 Runs the statements of standard input, `session: statement` on each line, one after another, and prints what
 each was answered. It puts in the current folder NAME-m.img for each number m that a SAVE IMAGE answered, the
@@ -54,7 +55,8 @@ Example, from the top of the repository:
 ";
 
 /// Help on `run`.
-pub const RUN_HELP: &str = "ledgerd run --save NAME [--block-size N] [--clock T] [--database D]
+pub(crate) const RUN_HELP: &str =
+    "ledgerd run --save NAME [--block-size N] [--clock T] [--database D]
 
 Runs the sections of standard input and prints what their statements were answered. The lines behind
 `-- setup`, the first section, are run first, in their order; then those behind each `-- session S`, each of
@@ -67,7 +69,7 @@ Example, from the top of the repository; it puts seats.img, seats.digests and se
 ";
 
 /// Help on `verify`.
-pub const VERIFY_HELP: &str = "ledgerd verify IMAGE DIGESTS [--workers W]
+pub(crate) const VERIFY_HELP: &str = "ledgerd verify IMAGE DIGESTS [--workers W]
 
 Prints `Yes` where the image IMAGE and the digests DIGESTS hold together, and ends with status 0. Where they
 don't it prints `No`, the first invariant that fails and its place, and ends with status 1.
@@ -79,7 +81,7 @@ Example, from the top of the repository:
 ";
 
 /// Help on `extract`.
-pub const EXTRACT_HELP: &str = "ledgerd extract HONEST SUSPECT DIGESTS
+pub(crate) const EXTRACT_HELP: &str = "ledgerd extract HONEST SUSPECT DIGESTS
 
 Verifies the images HONEST and SUSPECT with the digests DIGESTS, and prints the verdict on the first of them
 that isn't accepted. Where both are, it prints `Same` and ends with status 0 if all that the digests cover is
@@ -91,7 +93,7 @@ Example, from the top of the repository:
 ";
 
 /// Help on `replay`.
-pub const REPLAY_HELP: &str = "ledgerd replay JOURNAL --save NAME
+pub(crate) const REPLAY_HELP: &str = "ledgerd replay JOURNAL --save NAME
 
 Runs the journal in the file JOURNAL again, as `step` and `run` save one, and prints how many transactions it
 has. Where each statement is answered as the journal keeps it, it puts NAME.img, the journal's image, and
@@ -102,7 +104,7 @@ Example, from the top of the repository, behind that of `step`:
 ";
 
 /// Help on `gen`.
-pub const GEN_HELP: &str = "ledgerd gen COUNT
+pub(crate) const GEN_HELP: &str = "ledgerd gen COUNT
 
 Runs four sessions side by side, each of which inserts COUNT rows into a table of its own and changes every
 tenth; then closes the ledger, issues a digest and verifies the image with it. It prints how many transactions

@@ -10,5 +10,4 @@ mod value_reading;
 pub use laws::equal_leaves_are_of_equal_events;
 pub use leaf::{put_type, write_event};
 pub use reading::{read_event, type_at};
-pub use sql_types::{Event, EventField};
 pub use typed::{put_typed, typed_at};

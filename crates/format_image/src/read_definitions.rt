@@ -16,7 +16,7 @@ use std::alloc::Global;
 
 /// The definitions of the tables of users, by strictly rising id from 3.
 #[tactic(auto, unfolding(crate::specs::ImageReading::defs_at))]
-pub fn defs_at(alloc: Global, bytes: &[u8]) -> Result<(Items<TableDef>, &[u8]), ReadError>
+pub(crate) fn defs_at(alloc: Global, bytes: &[u8]) -> Result<(Items<TableDef>, &[u8]), ReadError>
     ensures { ReadsAs (λ x. (x.0, x.1.now)) result (defs_at bytes.now) }
 {
     let (count, rest) = u32_at(bytes)?;

@@ -11,7 +11,7 @@ use spec_ledger::put_type;
 use sql_types::{ColumnDef, IndexDef, TableDef, TableKind};
 
 /// Appends how many definitions there are, and these.
-pub fn put_defs(defs: &[TableDef], out: &mut Vec<u8>) -> Result<(), Memory>
+pub(crate) fn put_defs(defs: &[TableDef], out: &mut Vec<u8>) -> Result<(), Memory>
     requires count { length defs.now < 2 ^ 32 }
     requires each { All IsDef defs.now }
     ensures { OnOk result (out.new.items ≡ out.old.items ++ defs_bytes defs.now) }

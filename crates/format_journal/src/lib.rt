@@ -10,5 +10,5 @@ mod writing;
 pub use encoded::texts_are_encodable;
 pub use laws::equal_bytes_are_of_equal_journals;
 pub use reading::read_journal;
-pub use sql_types::{Journal, JournalItem, Script};
+pub use sql_types::Journal;
 pub use writing::write_journal;

@@ -6,5 +6,3 @@ mod room;
 
 pub use laws::events_of_legal_journals_have_leaves;
 pub use room::{have_room, is_text};
-pub use sql_types::Event;
-pub use sql_value::Value;

@@ -18,7 +18,6 @@ pub use needing::{CATALOG, LEDGER, cell_of, not_catalog};
 pub use running::Running;
 pub use seat::{Answer, Seat};
 pub use served_cell::ServedCell;
-pub use sql_types::EndLine;
 pub use stage::{Answering, ControlPoint, Stage};
 pub use store_tx::TxCtx;
 pub use visited::VisitedCellList;

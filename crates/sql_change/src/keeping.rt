@@ -19,7 +19,7 @@ use std::alloc::Global;
 /// conversion to the column's type decides, with TypeMismatch for a value of another kind, NumberOutOfRange for a number out of
 /// range and ValueTooLong for what is too long.
 #[tactic(auto, unfolding(spec_model::specs::Changes::kept))]
-pub fn kept(column: &ColumnDef, value: Value) -> Result<Value, Refusal>
+pub(crate) fn kept(column: &ColumnDef, value: Value) -> Result<Value, Refusal>
     ensures { result ≡ spec.kept column.now value }
 {
     match value {
@@ -32,7 +32,7 @@ pub fn kept(column: &ColumnDef, value: Value) -> Result<Value, Refusal>
 /// What the columns keep of a row, each of its own value, from the first to the last: the first that keeps
 /// nothing decides the refusal. NoMemory for want of memory.
 #[tactic(auto, unfolding(spec_model::specs::Changes::kept_row))]
-pub fn kept_row(alloc: Global, columns: &[ColumnDef], row: Row) -> Result<Row, Refusal>
+pub(crate) fn kept_row(alloc: Global, columns: &[ColumnDef], row: Row) -> Result<Row, Refusal>
     ensures { MatchesUnlessOom (spec.kept_row columns.now row) result }
 {
     kept_each(alloc, columns, row)
@@ -72,7 +72,7 @@ pub fn value_named<'a>(names: &[Name], row: &'a [Value], name: &Name) -> Option<
 /// The values of a row of VALUES in the order of the columns, copied: as they are where no columns are
 /// listed, and else NULL where a column isn't listed. Looks through the listed columns once for each column.
 #[tactic(auto, unfolding(spec_model::specs::Changes::arranged))]
-pub fn arranged(
+pub(crate) fn arranged(
     alloc: Global,
     columns: &[ColumnDef],
     names: &Option<Items<Name>>,

@@ -9,5 +9,4 @@ mod matching;
 mod setting;
 
 pub use changes::{row_changes, row_changes_of};
-pub use keeping::{arranged, kept, kept_row, value_named};
-pub use sql_types::{Change, Row, RowStmt, TableDef, Version};
+pub use keeping::value_named;

@@ -81,7 +81,7 @@ fn is_ledger_name(name: &Name) -> bool
 }
 
 /// Whether a new name is too long.
-pub fn is_long(name: &Name) -> bool
+pub(crate) fn is_long(name: &Name) -> bool
     ensures { result ≡ spec.is_long name.now }
 {
     name.bytes().len() > MOST_NAME_BYTES

@@ -14,4 +14,3 @@ pub use indexing::new_index;
 pub use names::part_named;
 pub use rows::{check_stmt, table_of};
 pub use selecting::check_select;
-pub use sql_types::{CreateIndex, CreateTable, IndexDef, Part, RowStmt, Select, TableDef};

@@ -52,14 +52,14 @@ fn any_named<T: Named>(items: &[T], name: &Name) -> bool
 
 /// Whether one of these has the name.
 #[tactic(auto, using(crate::proofs::Lists::any_map))]
-pub fn has_name<T: Named>(items: &[T], name: &Name) -> bool
+pub(crate) fn has_name<T: Named>(items: &[T], name: &Name) -> bool
     ensures { result ≡ spec.has_name (map T.named items.now) name.now }
 {
     any_named(items, name)
 }
 
 /// Whether some name stands twice. Each is compared with those behind it.
-pub fn repeats<T: Named>(items: &[T]) -> bool
+pub(crate) fn repeats<T: Named>(items: &[T]) -> bool
     ensures { result ≡ spec.repeats (map T.named items.now) }
 {
     for at in 0..items.len() {
@@ -86,7 +86,7 @@ pub fn part_named(def: &TableDef, name: &Name) -> Option<Part>
 }
 
 /// Whether the name is this one; what has no name is found by none.
-pub fn is_named(own: &Name, name: &Name) -> bool
+pub(crate) fn is_named(own: &Name, name: &Name) -> bool
     ensures { result ≡ catalog.is_named own.now name.now }
 {
     !own.bytes().is_empty() && *own == *name

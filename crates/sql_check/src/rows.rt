@@ -21,7 +21,7 @@ use std::alloc::Global;
 const MOST_ROWS: usize = 1000;
 
 /// Refuses where a check fails.
-pub fn refuse_if(fails: bool, refusal: Refusal) -> Result<(), Refusal>
+pub(crate) fn refuse_if(fails: bool, refusal: Refusal) -> Result<(), Refusal>
     ensures { result ≡ spec.refused_if fails refusal (Ok tt) }
 {
     if fails { Err(refusal) } else { Ok(()) }
@@ -145,7 +145,7 @@ fn have_values(rows: &[Row], count: usize) -> bool
 }
 
 /// Whether all these columns are declared.
-pub fn are_declared(columns: &[ColumnDef], names: &[Name]) -> bool
+pub(crate) fn are_declared(columns: &[ColumnDef], names: &[Name]) -> bool
     ensures { result ≡ list_all (spec.is_declared columns.now) names.now }
 {
     names.iter().all(|name| place_of(columns, name).is_some())

@@ -241,7 +241,7 @@ fn item_step(alloc: Global, c: &mut Cursor<'_>, draft: Draft) -> Result<Draft, P
 
 /// The columns and the key, behind those that were found.
 #[tactic(auto, unfolding(crate::specs::Input::fold, crate::specs::Input::fold_from))]
-pub fn items(alloc: Global, c: &mut Cursor<'_>, mut found: Draft) -> Result<Draft, ParseErr>
+pub(crate) fn items(alloc: Global, c: &mut Cursor<'_>, mut found: Draft) -> Result<Draft, ParseErr>
     ensures { ParsesUnlessOom (spec.items found c.old) result c.new }
 {
     for _turn in 0..c.tokens_left() {
@@ -254,7 +254,7 @@ pub fn items(alloc: Global, c: &mut Cursor<'_>, mut found: Draft) -> Result<Draf
 }
 
 /// No columns, and no key.
-pub fn no_items(alloc: Global) -> Draft
+pub(crate) fn no_items(alloc: Global) -> Draft
     ensures { result ≡ spec.no_items }
 {
     Draft {

@@ -9,7 +9,7 @@ use crate::tag::{Tag, same_tag};
 use std::marker::Model;
 
 /// How many operators and operands one expression may have.
-pub const MAX_PARTS: u16 = 256;
+pub(crate) const MAX_PARTS: u16 = 256;
 
 /// A token: what it is to the grammar, and how it is written.
 #[derive(Clone, Copy)]
@@ -45,7 +45,7 @@ impl<'a> Cursor<'a> {
 
     /// What comes next.
     #[tactic(auto, unfolding(crate::specs::Input::tag))]
-    pub fn peek(&self) -> Tag
+    pub(crate) fn peek(&self) -> Tag
         ensures { result ≡ spec.tag self.now }
     {
         match self.pieces {
@@ -71,7 +71,7 @@ impl<'a> Cursor<'a> {
 
     /// Whether a token of the tag comes next.
     #[tactic(auto, unfolding(crate::specs::Input::sees))]
-    pub fn sees(&self, tag: Tag) -> bool
+    pub(crate) fn sees(&self, tag: Tag) -> bool
         ensures { result ≡ spec.sees tag self.now }
     {
         match self.pieces {
@@ -82,7 +82,7 @@ impl<'a> Cursor<'a> {
 
     /// Whether a `(` stands behind the next token.
     #[tactic(auto, unfolding(crate::specs::Input::calls))]
-    pub fn calls(&self) -> bool
+    pub(crate) fn calls(&self) -> bool
         ensures { result ≡ spec.calls self.now }
     {
         match self.pieces {
@@ -93,7 +93,7 @@ impl<'a> Cursor<'a> {
 
     /// Takes the token if it has the tag.
     #[tactic(auto, unfolding(crate::specs::Input::after))]
-    pub fn eat(&mut self, tag: Tag) -> bool
+    pub(crate) fn eat(&mut self, tag: Tag) -> bool
         ensures found { result ≡ spec.sees tag self.old }
         ensures after { self.new ≡ spec.after tag self.old }
     {
@@ -106,7 +106,7 @@ impl<'a> Cursor<'a> {
 
     /// Takes the token, which must have the tag.
     #[tactic(auto, unfolding(crate::specs::Input::expect))]
-    pub fn expect(&mut self, tag: Tag) -> Result<(), ParseErr>
+    pub(crate) fn expect(&mut self, tag: Tag) -> Result<(), ParseErr>
         ensures { ParsesUnlessOom (spec.expect tag self.old) result self.new }
     {
         if self.sees(tag) {
@@ -119,7 +119,7 @@ impl<'a> Cursor<'a> {
 
     /// How many tokens are left.
     #[tactic(auto, unfolding(crate::specs::Input::tokens_left))]
-    pub fn tokens_left(&self) -> usize
+    pub(crate) fn tokens_left(&self) -> usize
         ensures { result ≡ spec.tokens_left self.now }
     {
         self.pieces.len()
@@ -142,7 +142,7 @@ impl<'a> Cursor<'a> {
 
     /// Counts an operator or an operand.
     #[tactic(auto, unfolding(crate::specs::Input::spend))]
-    pub fn spend(&mut self) -> Result<(), ParseErr>
+    pub(crate) fn spend(&mut self) -> Result<(), ParseErr>
         ensures { ParsesUnlessOom (spec.spend self.old) result self.new }
     {
         if self.left == 0 {
@@ -153,7 +153,7 @@ impl<'a> Cursor<'a> {
     }
 
     /// Takes each token of the tag that comes next, and counts it.
-    pub fn repeated(&mut self, tag: Tag) -> Result<u16, ParseErr>
+    pub(crate) fn repeated(&mut self, tag: Tag) -> Result<u16, ParseErr>
         ensures { ParsesUnlessOom (spec.repeated tag self.old) result self.new }
     {
         let before = self.left;

@@ -14,7 +14,7 @@ use sql_value::{Expr, Op};
 use std::alloc::Global;
 
 /// How deep parentheses may nest.
-pub const MAX_NESTING: u16 = 256;
+pub(crate) const MAX_NESTING: u16 = 256;
 
 /// The rules whose operators group from the left.
 #[derive(Clone, Copy, Debug)]
@@ -189,7 +189,7 @@ fn not(alloc: Global, c: &mut Cursor<'_>, depth: u16) -> Result<Expr, ParseErr>
 
 /// An expression.
 #[tactic(auto, unfolding(crate::specs::Expr::whole, crate::specs::Expr::level))]
-pub fn whole(alloc: Global, c: &mut Cursor<'_>) -> Result<Expr, ParseErr>
+pub(crate) fn whole(alloc: Global, c: &mut Cursor<'_>) -> Result<Expr, ParseErr>
     ensures { ParsesUnlessOom (spec.whole c.old) result c.new }
 {
     c.begin();

@@ -24,5 +24,5 @@ pub use grammar::parsing_keeps_to_the_grammar;
 pub use law::printing_is_read_back;
 pub use parse_err::ParseErr;
 pub use print_stmt::print;
-pub use sql_types::{Agg, CreateIndex, CreateTable, RowStmt, Select, SelectList, Stmt};
+pub use sql_types::{Select, Stmt};
 pub use text::parse;

@@ -120,7 +120,7 @@ impl Page {
     }
 
     /// What is written.
-    pub fn into_text(self) -> Vec<u8>
+    pub(crate) fn into_text(self) -> Vec<u8>
         ensures { result.items ≡ self.text }
     {
         let Page { text, .. } = self;
@@ -148,7 +148,7 @@ impl Page {
     }
 
     /// Writes a sign or a reserved word.
-    pub fn key(&mut self, tag: Tag) -> Result<(), Memory>
+    pub(crate) fn key(&mut self, tag: Tag) -> Result<(), Memory>
         ensures { OnOk result (self.new ≡ spec.put self.old (printed.key tag)) }
     {
         self.begin(tag)?;

@@ -76,7 +76,7 @@ pub enum Tag {
 }
 
 /// The reserved words.
-pub const RESERVED: [(&[u8], Tag); 42] = [
+pub(crate) const RESERVED: [(&[u8], Tag); 42] = [
     (b"add", Tag::Add),
     (b"alter", Tag::Alter),
     (b"and", Tag::And),
@@ -122,7 +122,7 @@ pub const RESERVED: [(&[u8], Tag); 42] = [
 ];
 
 /// The signs.
-pub const SIGNS: [(&[u8], Tag); 15] = [
+pub(crate) const SIGNS: [(&[u8], Tag); 15] = [
     (b"(", Tag::Open),
     (b")", Tag::Close),
     (b",", Tag::Comma),
@@ -140,14 +140,14 @@ pub const SIGNS: [(&[u8], Tag); 15] = [
     (b"!=", Tag::NotEqual),
 ];
 
-pub fn same_tag(a: Tag, b: Tag) -> bool
+pub(crate) fn same_tag(a: Tag, b: Tag) -> bool
     ensures value { result ≡ spec.same_tag a b }
     ensures same { result ≡ true → a ≡ b }
 {
     a == b
 }
 
-pub fn same_word(a: &[u8], b: &[u8]) -> bool
+pub(crate) fn same_word(a: &[u8], b: &[u8]) -> bool
     ensures { result ≡ str_eq_ignore_ascii_case a.now b.now }
 {
     a.eq_ignore_ascii_case(b)
@@ -166,7 +166,7 @@ fn lookup(mut table: &[(&[u8], Tag)], word: &[u8], other: Tag) -> Tag
 }
 
 #[tactic(auto, unfolding(crate::specs::Tags::tag_of))]
-pub fn tag_of(kind: Kind, word: &[u8]) -> Tag
+pub(crate) fn tag_of(kind: Kind, word: &[u8]) -> Tag
     ensures { result ≡ spec.tag_of kind word.now }
 {
     match kind {

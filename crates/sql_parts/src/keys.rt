@@ -57,7 +57,10 @@ fn places_of(alloc: Global, placed: &[(usize, &ColumnDef)]) -> Result<Vec<usize>
 }
 
 /// The columns of the primary key, by key position.
-pub fn key_columns<'a>(alloc: Global, table: &KeyedTable<'a>) -> Result<Vec<&'a ColumnDef>, Memory>
+pub(crate) fn key_columns<'a>(
+    alloc: Global,
+    table: &KeyedTable<'a>,
+) -> Result<Vec<&'a ColumnDef>, Memory>
     ensures { IfOk result (λ found. map (λ c. c.now) found.items ≡ spec.key_columns table.now.columns) }
 {
     columns_at(alloc, table.columns(), table.key())
@@ -88,7 +91,7 @@ fn columns_at<'a>(
 
 /// The key of a row of the table, copied.
 #[tactic(auto, unfolding(spec_model::specs::Keys::key_of))]
-pub fn key_of(alloc: Global, table: &KeyedTable, row: &Row) -> Result<Key, Memory>
+pub(crate) fn key_of(alloc: Global, table: &KeyedTable, row: &Row) -> Result<Key, Memory>
     ensures { IfOk result (λ key. key ≡ spec.key_of table.now.columns row.now) }
 {
     let places = table.key();
@@ -171,7 +174,7 @@ pub fn same_key<A: Valued, B: Valued>(table: &KeyedTable, a: &A, b: &B) -> bool
 
 /// Whether a row or a version of the table has this key.
 #[tactic(auto, unfolding(crate::specs::Places::key_at, spec_model::specs::Keys::key_of, spec_model::specs::Keys::same_key))]
-pub fn has_key<A: Valued>(table: &KeyedTable, a: &A, key: &[Value]) -> bool
+pub(crate) fn has_key<A: Valued>(table: &KeyedTable, a: &A, key: &[Value]) -> bool
     ensures { result ≡ spec.same_key (spec.key_of table.now.columns (A.values a.now)) key.now }
 {
     compare_to_key(table.key(), a, key).is_eq()

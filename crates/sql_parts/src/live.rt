@@ -14,7 +14,7 @@ use std::alloc::Global;
 
 /// The versions without an end, in key order: those of one key, or all. Looks at each version once.
 #[tactic(auto, unfolding(spec_model::specs::Keys::live_by_key))]
-pub fn live_by_key<'a>(
+pub(crate) fn live_by_key<'a>(
     alloc: Global,
     table: &KeyedTable,
     key: &Option<Key>,

@@ -49,7 +49,7 @@ pub fn base_row(alloc: Global, version: &Version) -> Result<Row, Memory>
 }
 
 /// The values of a version, with its start and this end.
-pub fn history_row(alloc: Global, version: &Version, end: EventId) -> Result<Row, Memory>
+pub(crate) fn history_row(alloc: Global, version: &Version, end: EventId) -> Result<Row, Memory>
     ensures { IfOk result (λ row. row ≡ spec.history_row version.now end) }
 {
     let mut row = Vec::new(alloc);

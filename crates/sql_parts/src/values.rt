@@ -74,7 +74,7 @@ pub fn copy_or_null(value: Option<&Value>) -> Result<Value, Memory>
 }
 
 /// Adds copies of a version's values to a row.
-pub fn add_values(version: &Version, row: &mut Vec<Value>) -> Result<(), Memory>
+pub(crate) fn add_values(version: &Version, row: &mut Vec<Value>) -> Result<(), Memory>
     ensures { OnOk result (row.new.items ≡ row.old.items ++ spec.values_of version.now) }
 {
     for value in version.values.as_slice() {
@@ -84,7 +84,7 @@ pub fn add_values(version: &Version, row: &mut Vec<Value>) -> Result<(), Memory>
 }
 
 /// The values of a version, copied.
-pub fn values_of(alloc: Global, version: &Version) -> Result<Row, Memory>
+pub(crate) fn values_of(alloc: Global, version: &Version) -> Result<Row, Memory>
     ensures { IfOk result (λ row. row ≡ spec.values_of version.now) }
 {
     let mut row = Vec::with_capacity(alloc, version.values.len())?;

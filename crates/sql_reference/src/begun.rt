@@ -62,7 +62,7 @@ impl RunningScript {
 
     /// Answers a statement of the script. After want of memory the tables may be anything.
     #[tactic(auto, using(crate::proofs::Answered::refused))]
-    pub fn answer(
+    pub(crate) fn answer(
         &mut self,
         alloc: Global,
         tables: &mut Vec<Table>,
@@ -294,7 +294,7 @@ impl RunningScript {
 
     /// Gives back the tables before the script. Looks at each version once, and takes no memory.
     #[tactic(auto, unfolding(crate::specs::Seen::before), using(crate::proofs::Answered::undone_room))]
-    pub fn take_back(self, alloc: Global, tables: &mut Vec<Table>)
+    pub(crate) fn take_back(self, alloc: Global, tables: &mut Vec<Table>)
         requires { HasPlaces self.defs tables.old.items }
         ensures { tables.new.items ≡ before tables.old.items self }
     {

@@ -84,7 +84,7 @@ impl SerialMachine {
     /// Begins the script of a transaction, which BEGIN opened or not, over the tables so far. Takes no
     /// memory.
     #[tactic(auto, using(crate::proofs::Running::begins, crate::proofs::Ready::rest_steady))]
-    pub fn begin(&mut self, alloc: Global, explicit: bool, tx: TxId)
+    pub(crate) fn begin(&mut self, alloc: Global, explicit: bool, tx: TxId)
         requires rests { self.old.script ≡ None }
         requires order { InOrder self.old }
         requires new { IsNew tx self.old.tables }
@@ -96,7 +96,7 @@ impl SerialMachine {
 
     /// Takes the script's next statement and answers it. Costs a look at each version of the table that it
     /// names, and for SELECT, UPDATE and DELETE a sort of the live ones.
-    pub fn answer(&mut self, alloc: Global, stmt: &Stmt) -> Result<Reply, Memory>
+    pub(crate) fn answer(&mut self, alloc: Global, stmt: &Stmt) -> Result<Reply, Memory>
         requires begun { self.old.script ≢ None }
         requires order { InOrder self.old }
         ensures reply { (x : Running) → self.old.script ≡ Some x
@@ -132,7 +132,7 @@ impl SerialMachine {
     }
 
     /// Takes the script's next text and answers the text of its reply; SyntaxError where it is no statement.
-    pub fn execute(&mut self, alloc: Global, text: &str) -> Result<Text, Memory>
+    pub(crate) fn execute(&mut self, alloc: Global, text: &str) -> Result<Text, Memory>
         requires begun { self.old.script ≢ None }
         requires order { InOrder self.old }
         ensures reply { (x : Running) → self.old.script ≡ Some x
@@ -149,7 +149,7 @@ impl SerialMachine {
     /// those after the script where it is to be kept, and else those before it. Looks at each version once or
     /// twice.
     #[tactic(auto, unfolding(crate::specs::Seen::state_of), using(crate::proofs::Ended::short))]
-    pub fn end(&mut self, alloc: Global, keep: bool) -> Result<Items<Event>, Memory>
+    pub(crate) fn end(&mut self, alloc: Global, keep: bool) -> Result<Items<Event>, Memory>
         requires begun { self.old.script ≢ None }
         requires order { InOrder self.old }
         ensures events { (x : Running) → self.old.script ≡ Some x

@@ -10,7 +10,7 @@ use jiff::civil::{Date, date};
 use sql_value::CivilDate;
 
 /// The day 9999-12-31.
-pub const LAST_DAY: u32 = 3_652_058;
+pub(crate) const LAST_DAY: u32 = 3_652_058;
 
 /// The number that two digits write.
 fn two_digits(a: u8, b: u8) -> Option<u8>
@@ -82,7 +82,7 @@ fn date_of(day: u32) -> Date
 }
 
 /// The year, month and day of a day's date.
-pub fn civil_of(day: u32) -> CivilDate
+pub(crate) fn civil_of(day: u32) -> CivilDate
     requires { day ≤ spec.last_day }
     ensures value { result ≡ spec.date_of day }
     ensures small { (result.year < 10000) × (result.month < 100) × (result.day < 100) }
@@ -103,7 +103,7 @@ fn digit(n: u16) -> u8
 }
 
 /// A date as `YYYY-MM-DD`.
-pub fn date_digits(c: CivilDate) -> [u8; 10]
+pub(crate) fn date_digits(c: CivilDate) -> [u8; 10]
     requires { (c.year < 10000) × (c.month < 100) × (c.day < 100) }
     ensures { result ≡ spec.date_text c }
 {

@@ -75,7 +75,7 @@ fn sorted_rows(keys: &[SortKey], mut rows: Vec<Row>) -> Result<Vec<Row>, Memory>
 }
 
 /// The rows by the columns of ORDER BY; those that are equal in all of them keep their order.
-pub fn ordered(
+pub(crate) fn ordered(
     alloc: Global,
     columns: &Columns,
     order: &[(Name, bool)],

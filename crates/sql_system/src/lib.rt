@@ -6,5 +6,4 @@ mod system;
 mod system_rows;
 
 pub use copying::copy_def;
-pub use sql_types::{Change, IndexDef, Table, TableDef};
 pub use system::{column_starts, first_tables, index_starts, table_start};

@@ -42,7 +42,7 @@ fn history_value(alloc: Global, kind: TableKind, name: &Name) -> Result<Value, M
 
 /// The row of a new table.
 #[tactic(auto, unfolding(spec_model::specs::SystemTables::table_row))]
-pub fn table_row(alloc: Global, def: &TableDef) -> Result<Row, Memory>
+pub(crate) fn table_row(alloc: Global, def: &TableDef) -> Result<Row, Memory>
     ensures { IfOk result (λ row. row ≡ spec.table_row def.now) }
 {
     let id = number(def.id.into());
@@ -71,7 +71,7 @@ fn ordinal(place: usize) -> Value
 }
 
 /// The row of the column at this place, counted from 0, of a new table.
-pub fn column_row(
+pub(crate) fn column_row(
     alloc: Global,
     id: TableId,
     place: usize,
@@ -104,7 +104,7 @@ fn index_item(others: usize, place: usize) -> Value
 }
 
 /// The row of the part at this place, counted from 0, of a new index of the table.
-pub fn index_row(
+pub(crate) fn index_row(
     alloc: Global,
     def: &TableDef,
     name: &Name,

@@ -6,4 +6,3 @@ mod placing;
 mod root;
 
 pub use ledger_chain::LedgerChain;
-pub use sql_types::{BlockRecord, TxEntry};

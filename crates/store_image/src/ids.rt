@@ -29,7 +29,7 @@ impl Model for CommittedTxs {
 
 impl CommittedTxs {
     /// The transactions of a journal. Takes the time of sorting their ids. The only error is want of memory.
-    pub fn of(alloc: Global, items: &[JournalItem]) -> Result<CommittedTxs, Memory>
+    pub(crate) fn of(alloc: Global, items: &[JournalItem]) -> Result<CommittedTxs, Memory>
         ensures { IfOk result (λ c. (id : ℕ) → list_any (λ n. n == id) c ≡ has_id items.now id) }
     {
         let mut ids = ids_in(alloc, items)?;
@@ -38,7 +38,7 @@ impl CommittedTxs {
     }
 
     /// Whether it is one of them. Takes an ordered search.
-    pub fn has(&self, id: TxId) -> bool
+    pub(crate) fn has(&self, id: TxId) -> bool
         ensures { result ≡ list_any (λ n. n == id) self.now }
     {
         self.ids.binary_search(&id).is_ok()

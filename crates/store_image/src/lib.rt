@@ -12,4 +12,3 @@ mod versions;
 pub use ids::CommittedTxs;
 pub use image::image_bytes_of_cells;
 pub use shown::ShownCells;
-pub use versions::committed_versions;

@@ -12,7 +12,7 @@ use std::alloc::Global;
 /// Copies of the versions whose start is committed, without ends that aren't. Takes an ordered search for
 /// each start and end. The only error is want of memory.
 #[tactic(auto, using(crate::proofs::Kept::all_kept))]
-pub fn committed_versions(
+pub(crate) fn committed_versions(
     alloc: Global,
     known: &CommittedTxs,
     versions: &[Version],

@@ -35,7 +35,7 @@ impl Entry {
     }
 
     /// The lead. No clause says which: the place that it leads to is a guess.
-    pub fn lead(&self) -> Lead {
+    pub(crate) fn lead(&self) -> Lead {
         self.lead
     }
 }

@@ -62,7 +62,7 @@ impl Piece {
     }
 
     /// Whether the first start has a lead below this one.
-    pub fn begins_below(&self, lead: Lead) -> bool {
+    pub(crate) fn begins_below(&self, lead: Lead) -> bool {
         match self.first {
             Some(first) => first < lead,
             None => false,
@@ -70,7 +70,7 @@ impl Piece {
     }
 
     /// How many leads are below this one, if leads rise.
-    pub fn leads_below(&self, lead: Lead) -> usize
+    pub(crate) fn leads_below(&self, lead: Lead) -> usize
         ensures { result ≤ PIECE }
     {
         self.starts.partition_point(|entry| entry.lead() < lead)

@@ -16,7 +16,7 @@ use std::alloc::Global;
 use store_order::Starts;
 
 /// The index of these versions by the columns with these ordinals, with room for so many starts.
-pub fn new_index(
+pub(crate) fn new_index(
     alloc: Global,
     ordinals: &[u16],
     key: &[usize],

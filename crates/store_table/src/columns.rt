@@ -7,7 +7,7 @@ use sql_value::ColumnDef;
 use std::alloc::Global;
 
 /// Equal columns.
-pub fn copy_columns(alloc: Global, columns: &[ColumnDef]) -> Result<Items<ColumnDef>, Memory>
+pub(crate) fn copy_columns(alloc: Global, columns: &[ColumnDef]) -> Result<Items<ColumnDef>, Memory>
     ensures { IfOk result (λ copy. copy ≡ columns.now) }
 {
     let mut copy = Vec::with_capacity(alloc, columns.len())?;

@@ -13,13 +13,13 @@ use store_order::Starts;
 
 /// A stretch of an order: the place of its first start, and the one behind its last.
 #[derive(Clone, Copy, Debug)]
-pub struct OrderRange {
+pub(crate) struct OrderRange {
     pub first: usize,
     pub behind: usize,
 }
 
 /// The versions of the starts in a stretch of an order, each found by a guess and halving.
-pub fn versions_of<'a>(
+pub(crate) fn versions_of<'a>(
     alloc: Global,
     versions: &'a [Version],
     order: &Starts,

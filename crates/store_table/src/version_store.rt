@@ -97,7 +97,7 @@ impl VersionStore {
     }
 
     /// The places of the key's columns among the columns.
-    pub fn key_places(&self) -> &[usize]
+    pub(crate) fn key_places(&self) -> &[usize]
         ensures { result.now ≡ keys.key_places self.now.stored.columns }
     {
         &self.key
@@ -112,7 +112,7 @@ impl VersionStore {
 
     /// The columns of the table are these, where there are no versions yet. Where there are they have to be
     /// the same. For want of memory nothing changes.
-    pub fn set_columns(&mut self, alloc: Global, columns: &[ColumnDef]) -> Result<(), Memory>
+    pub(crate) fn set_columns(&mut self, alloc: Global, columns: &[ColumnDef]) -> Result<(), Memory>
         requires { (self.old.stored.versions ≡ []) ⊎ (self.old.stored.columns ≡ columns.now) }
         ensures ok { OnOk result (self.new.stored
             ≡ with_versions columns.now self.old.stored.versions self.old.stored) }
@@ -228,7 +228,7 @@ impl VersionStore {
     }
 
     /// Key order and indexes follow the versions.
-    pub fn orders_follow(&self)
+    pub(crate) fn orders_follow(&self)
         ensures { self.now.stored
             ≡ with_versions self.now.stored.columns self.now.stored.versions self.now.stored }
     {
@@ -236,7 +236,7 @@ impl VersionStore {
     }
 
     /// The versions rise by their starts.
-    pub fn versions_rise(&self)
+    pub(crate) fn versions_rise(&self)
         ensures { Rising self.now.stored.versions }
     {
         let _ = &self.versions;
@@ -372,7 +372,7 @@ impl VersionStore {
     }
 
     /// Whether a live version has the key of the row, by halving.
-    pub fn has_key_of_row(&self, row: &Row) -> bool
+    pub(crate) fn has_key_of_row(&self, row: &Row) -> bool
         ensures { result ≡ keys.has_live_row self.now.stored.columns (keys.key_of self.now.stored.columns row.now)
             self.now.stored.versions }
     {
@@ -381,7 +381,11 @@ impl VersionStore {
 
     /// The live versions, in key order: those of one key, or all. The place of the key is found by
     /// halving, each version by a guess and halving, and none is copied.
-    pub fn live_by_key(&self, alloc: Global, key: &Option<Key>) -> Result<Vec<&Version>, Memory>
+    pub(crate) fn live_by_key(
+        &self,
+        alloc: Global,
+        key: &Option<Key>,
+    ) -> Result<Vec<&Version>, Memory>
         ensures { IfOk result (λ found. map (λ v. v.now) found.items
             ≡ keys.live_by_key self.now.stored.columns key.now self.now.stored.versions) }
     {
@@ -408,7 +412,7 @@ impl VersionStore {
 
     /// How many rows the index with this number, from 0, has below that of the version which this event
     /// started. By halving, and takes no memory.
-    pub fn index_place(&self, index: usize, start: EventId) -> usize
+    pub(crate) fn index_place(&self, index: usize, start: EventId) -> usize
         requires index { index < length self.now.stored.indexes }
         requires version { (v : SpecVersion) × (orders.version_at start self.now.stored.versions ≡ Some v) }
         ensures { (i : SpecIndex) (v : SpecVersion) → slice_get self.now.stored.indexes index ≡ Some i

@@ -23,7 +23,7 @@ const MOST_EVENTS: u64 = 1 << 63;
 
 /// The changes of a statement, the leaves of their events, and the number of rows that it replies.
 #[derive(Drop)]
-pub struct StatementChanges {
+pub(crate) struct StatementChanges {
     pub changes: Items<Change>,
     pub leaves: Vec<Blob>,
     pub count: u64,
@@ -31,7 +31,7 @@ pub struct StatementChanges {
 
 /// What the statement is to do, as the events of the transaction that have the numbers from `seq` on; or why
 /// it is refused. NoMemory for want of memory, or where the numbers have no room.
-pub fn work_out(
+pub(crate) fn work_out(
     alloc: Global,
     store: &VersionStore,
     tx: TxId,
