@@ -83,15 +83,6 @@ pub(crate) fn add_values(version: &Version, row: &mut Vec<Value>) -> Result<(), 
     Ok(())
 }
 
-/// The values of a version, copied.
-pub(crate) fn values_of(alloc: Global, version: &Version) -> Result<Row, Memory>
-    ensures { IfOk result (λ row. row ≡ spec.values_of version.now) }
-{
-    let mut row = Vec::with_capacity(alloc, version.values.len())?;
-    add_values(version, &mut row)?;
-    Ok(Items::from_vec(row))
-}
-
 fn stored_value(column: &ColumnDef, value: Value) -> Option<TypedValue>
     ensures { result ≡ spec.stored_value column.now value }
 {

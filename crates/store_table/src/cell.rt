@@ -223,7 +223,7 @@ impl TableCell {
 
     /// How many rows the index with this number, from 0, has below that of the version which this event
     /// started. By halving, and takes no memory.
-    pub(crate) fn index_place(&self, index: usize, start: EventId) -> usize
+    pub fn index_place(&self, index: usize, start: EventId) -> usize
         requires index { index < length self.now.indexes }
         requires version { (v : SpecVersion) × (version_at start self.now.versions ≡ Some v) }
         ensures { IsPlace self.now index start result }

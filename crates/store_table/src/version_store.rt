@@ -412,7 +412,7 @@ impl VersionStore {
 
     /// How many rows the index with this number, from 0, has below that of the version which this event
     /// started. By halving, and takes no memory.
-    pub(crate) fn index_place(&self, index: usize, start: EventId) -> usize
+    pub fn index_place(&self, index: usize, start: EventId) -> usize
         requires index { index < length self.now.stored.indexes }
         requires version { (v : SpecVersion) × (orders.version_at start self.now.stored.versions ≡ Some v) }
         ensures { (i : SpecIndex) (v : SpecVersion) → slice_get self.now.stored.indexes index ≡ Some i
