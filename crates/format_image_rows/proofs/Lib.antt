@@ -1,4 +1,3 @@
 mod Joined
 mod Orders
 mod UserDefs
-pub use Rattle.law_image.proofs.Entries
