@@ -16,7 +16,7 @@ use Rattle.format_sections.specs.RunSections.{RunSections}
 use Rattle.spec_protocol.specs.Seats.{KeptImage}
 use Rattle.server_result.specs.Images.{AreKept, ItemsRise}
 use Rattle.server_result.specs.declared.ran.RunOutcome.{RunOutcome as Output}
-use Rattle.cli_words.specs.Commands.{Settings}
+use Rattle.cli_words.specs.Settings.{Settings}
 use Rattle.cli_commands.specs.declared.files.File.{File}
 use Rattle.cli_commands.specs.declared.status.Status.{Status}
 use Rattle.cli_commands.specs.Answer.{HasPut, HasWritten, Saves}

@@ -20,7 +20,7 @@ use Rattle.server_result.specs.declared.ran.RunOutcome.{RunOutcome as Output}
 use Rattle.workload_run.specs.Agreed.{RunResult}
 use Rattle.workload_run.specs.CameTo as all
 use Rattle.workload_run.specs.CameTo.{IsOf}
-use Rattle.cli_words.specs.Commands.{Settings}
+use Rattle.cli_words.specs.Settings.{Settings}
 use Rattle.cli_commands.specs.declared.files.File.{File}
 use Rattle.cli_commands.specs.Input.{InputForm, Says}
 

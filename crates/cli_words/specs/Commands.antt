@@ -1,28 +1,13 @@
 -- What the words after the program's name say.
-use Rattle.std.specs.Prelude.{ℕ, ◌≡◌, ◌≤◌, Bool, true, false, ◌||◌, List, [], ◌∷◌, codes, Option, Some, None, IfSome, if◌then◌else◌, bytes_eq, find, option_map}
+use Rattle.std.specs.Prelude.{ℕ, ◌≤◌, Bool, false, ◌||◌, List, [], ◌∷◌, codes, Option, Some, None, if◌then◌else◌, bytes_eq, find, option_map}
 use Rattle.std.specs.List.{list_any}
-use Rattle.base_types.specs.DatabaseName.{is_database_name}
 use Rattle.base_types.specs.declared.moment.TheConstants.{MAX_TICKS}
+use Rattle.server_settings.specs.Settings.{Settings, AreInRange}
 use Rattle.cli_words.specs.declared.subcommand.Subcommand.{Subcommand}
 use Rattle.cli_words.specs.declared.subcommand.Subcommand.TheVariants as which
 use Rattle.cli_words.specs.Forms.{file_name, database_name, number_in, or_default, if_given}
 use Rattle.cli_words.specs.Line.{Text, Use, uses_of, ◌>>=◌}
 use Rattle.cli_words.specs.Subcommands.{named, operands_of, options_of}
-
--- how statements are run
-pub record Settings : Type 0 where
-  -- the most transactions of a block
-  pub block_size : ℕ
-  -- the moment that each statement has, where one is given
-  pub clock : Option ℕ
-  pub database : Text
-
--- they have their ranges and their form
-pub record AreInRange (how : Settings) : Type 0 where
-  pub least : 1 ≤ how.block_size
-  pub most : how.block_size ≤ 100000
-  pub clock : IfSome how.clock (λ ticks. ticks ≤ MAX_TICKS)
-  pub database : is_database_name how.database ≡ true
 
 pub data Command : Type 0 where
   -- the name that the files are saved under

@@ -6,3 +6,4 @@ pub mod Line
 pub mod Shapes
 pub mod Subcommands
 pub mod Views
+pub use Rattle.server_settings.specs.Settings

@@ -1,11 +1,8 @@
 -- The types of the code, as the definitions see them.
-use Rattle.cli_words.specs.Commands.{Settings, Command, Step, Run, Verify, Extract, Replay, Gen, Help, Version}
-use Rattle.server_result.specs.declared.settings.Settings as code
+use Rattle.server_settings.specs.Settings.{settings_view}
+use Rattle.cli_words.specs.Commands.{Command, Step, Run, Verify, Extract, Replay, Gen, Help, Version}
 use Rattle.cli_words.specs.declared.command.Command as coded
 use Rattle.cli_words.specs.declared.command.Command.TheVariants as words
-
-abbrev pub settings_view : code.Settings → Settings
-settings_view s = record { block_size = s.block_size; clock = s.clock; database = s.database.now }
 
 abbrev pub command_view : coded.Command → Command
 command_view (words.Step save settings) = Step save.now (settings_view settings)

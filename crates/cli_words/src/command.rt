@@ -4,14 +4,15 @@ ghost use Rattle.std.specs.List.{list_any};
 ghost use Rattle.std.specs.Str.{bytes_eq};
 ghost use Rattle.clap.specs.Words.{found_of, first_value};
 ghost use Rattle.cli_words.specs.Commands as spec;
-ghost use Rattle.cli_words.specs.Views.{settings_view, command_view};
+ghost use Rattle.server_settings.specs.Settings.{settings_view};
+ghost use Rattle.cli_words.specs.Views.{command_view};
 
 use crate::forms::{database_or_default, file_name, number_if_given, number_or, small_number_in};
 use crate::line::read_line;
 use crate::subcommand::Subcommand;
 use base_types::{MAX_TICKS, Memory};
 use clap::ArgMatches;
-use server_result::Settings;
+use server_settings::Settings;
 use std::alloc::Global;
 
 /// A command, and what it is given.

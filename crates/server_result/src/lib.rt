@@ -4,13 +4,12 @@
 mod images;
 mod moments;
 mod ran;
-mod settings;
 mod spelled;
 mod texts;
 
 pub use images::add_images;
 pub use moments::moment;
 pub use ran::RunOutcome;
-pub use settings::Settings;
+pub use server_settings::Settings;
 pub use spelled::is_encodable;
 pub use texts::push_texts;

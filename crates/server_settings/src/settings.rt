@@ -1,6 +1,6 @@
-//! How the lines of an input are run.
+//! How the statements of a run are run.
 
-/// How the lines of an input are run.
+/// How the statements of a run are run.
 #[derive(Clone, Copy)]
 pub struct Settings<'a> {
     /// The most transactions of a block, 1 to 100,000.
