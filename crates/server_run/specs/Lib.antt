@@ -1,3 +1,4 @@
+pub mod AtBoard
 pub mod Agreed
 pub mod CameTo
 pub mod Closing

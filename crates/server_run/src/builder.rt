@@ -1,10 +1,10 @@
 //! The builder, which closes blocks while sessions run.
 
-ghost use Rattle.std.specs.Prelude.{◌≡◌, ◌≤◌, ◌^◌, []};
-ghost use Rattle.base_board.specs.Boards.{board_cells, seat_state, seat_parts, seat_out, HasSeat, IsSameSeat};
+ghost use Rattle.std.specs.Prelude.{◌≡◌, ◌≤◌, ◌^◌};
+ghost use Rattle.base_board.specs.Boards.{seat_state};
 ghost use Rattle.sql_parse.specs.Text.{statement_of};
 ghost use Rattle.spec_protocol.specs.Serves.{Serves};
-ghost use Rattle.spec_protocol.specs.Cells.{cell_count};
+ghost use Rattle.server_run.specs.AtBoard.{IsFree, IsFreed};
 
 use crate::shared::{Cells, LEDGER, ThreadSeat};
 use base_io::Gate;
@@ -25,11 +25,9 @@ fn close_pending<K: Serving, H: Hash32, R: Wait>(
     board: &Cells<K>,
     place: &mut ThreadSeat<K>,
 )
-    requires board { HasSeat board.now place.old × (board_cells board.now ≡ cell_count) }
-    requires out { seat_out place.old ≡ [] }
+    requires free { IsFree board.now place.old }
     requires serves { Serves (H.digest hasher) statement_of K.database.server }
-    ensures place { IsSameSeat place.old place.new × (seat_parts place.new ≡ seat_parts place.old)
-        × (seat_out place.new ≡ []) }
+    ensures place { IsFreed place.old place.new }
     ensures state { seat_state place.new ≡ seat_state place.old }
 {
     let mut held = board.take(rt, place, LEDGER);
@@ -51,11 +49,9 @@ pub(crate) fn builder_job<K: Serving, H: Hash32, G: Gate, R: Wait>(
     place: &mut ThreadSeat<K>,
     visits: u32,
 )
-    requires board { HasSeat board.now place.old × (board_cells board.now ≡ cell_count) }
-    requires out { seat_out place.old ≡ [] }
+    requires free { IsFree board.now place.old }
     requires serves { Serves (H.digest hasher) statement_of K.database.server }
-    ensures place { IsSameSeat place.old place.new × (seat_parts place.new ≡ seat_parts place.old)
-        × (seat_out place.new ≡ []) }
+    ensures place { IsFreed place.old place.new }
     ensures state { seat_state place.new ≡ seat_state place.old }
 {
     for visit in 0..visits {

@@ -2,12 +2,12 @@
 
 ghost use Rattle.std.specs.Prelude.{◌≡◌, ◌+◌, ◌++◌, ◌∷◌, ◌≤◌, ◌<◌, ◌^◌, [], length, All, IfOk, true};
 ghost use Rattle.std.specs.Thread.{IsSend, IsSync};
-ghost use Rattle.base_board.specs.Boards.{board_cells, seat_state, seat_parts, seat_out, HasSeat, IsSameSeat};
+ghost use Rattle.base_board.specs.Boards.{seat_state, seat_parts, seat_out, HasSeat};
 ghost use Rattle.sql_parse.specs.Text.{statement_of};
 ghost use Rattle.spec_protocol.specs.Serves.{Serves};
-ghost use Rattle.spec_protocol.specs.Cells.{cell_count};
 ghost use Rattle.spec_protocol.specs.Seats.{IsAtRest};
 ghost use Rattle.server_result.specs.Moments.{said_with};
+ghost use Rattle.server_run.specs.AtBoard.{IsFree, IsGivenBack};
 ghost use Rattle.server_run.specs.FinishedRun.{AreRunnable, AreUnited};
 ghost use Rattle.server_run.specs.Seated.{IsIdle};
 ghost use Rattle.server_run.specs.Wrote.{HaveWritten};
@@ -40,13 +40,11 @@ fn run_one<'a, K: Serving, H: Hash32, C: Clock, G: Gate, R: Wait>(
     mut place: ThreadSeat<K>,
     section: &Section<'a>,
 ) -> PartResult<K>
-    requires board { HasSeat board.now place × (board_cells board.now ≡ cell_count) }
-    requires out { seat_out place ≡ [] }
+    requires free { IsFree board.now place }
     requires idle { IsIdle (seat_state place) }
     requires serves { Serves (H.digest hasher) statement_of K.database.server }
     requires runnable { AreRunnable (section.now ∷ []) }
-    ensures place { IfOk result (λ r. HasSeat board.now r.0 × (seat_parts r.0 ≡ seat_parts place)
-        × (seat_out r.0 ≡ [])) }
+    ensures place { IfOk result (λ r. IsGivenBack board.now place r.0) }
     ensures wrote { IfOk result (λ r. HaveWritten (said_with moment (C.says clock.now)) (section.now ∷ [])
         r.1.items (seat_state place) (seat_state r.0)) }
 {
@@ -109,15 +107,13 @@ pub(crate) fn run_part<
     mut place: ThreadSeat<K>,
     sections: &[Section<'a>],
 ) -> PartResult<K>
-    requires board { HasSeat board.now place × (board_cells board.now ≡ cell_count) }
-    requires out { seat_out place ≡ [] }
+    requires free { IsFree board.now place }
     requires idle { IsIdle (seat_state place) }
     requires serves { Serves (H.digest hasher) statement_of K.database.server }
     requires runnable { AreRunnable sections.now }
     requires parts { length sections.now ≤ seat_parts place }
     requires numbers { from + length sections.now < 2 ^ 32 }
-    ensures place { IfOk result (λ r. HasSeat board.now r.0 × (seat_parts r.0 ≡ seat_parts place)
-        × (seat_out r.0 ≡ [])) }
+    ensures place { IfOk result (λ r. IsGivenBack board.now place r.0) }
     ensures wrote { IfOk result (λ r. HaveWritten (said_with moment (C.says clock.now)) sections.now
         r.1.items (seat_state place) (seat_state r.0)) }
 {
@@ -138,15 +134,13 @@ pub(crate) fn run_part<
         move || -> PartResult<K>
             requires sync { IsSync R.row × IsSync H.row × IsSync C.row × IsSync G.row × IsSync K.row
                 × IsSend H.row × IsSend K.row }
-            requires board { HasSeat board.now place × (board_cells board.now ≡ cell_count) }
-            requires out { seat_out place ≡ [] }
+            requires free { IsFree board.now place }
             requires idle { IsIdle (seat_state place) }
             requires serves { Serves (H.digest hasher) statement_of K.database.server }
             requires runnable { AreRunnable left.now }
             requires parts { length left.now ≤ seat_parts place }
             requires numbers { from + length left.now < 2 ^ 32 }
-            ensures place { IfOk result (λ r. HasSeat board.entry.now r.0
-                × (seat_parts r.0 ≡ seat_parts place) × (seat_out r.0 ≡ [])) }
+            ensures place { IfOk result (λ r. IsGivenBack board.entry.now place r.0) }
             ensures wrote { IfOk result (λ r. HaveWritten (said_with moment (C.says clock.entry.now))
                 left.entry.now r.1.items (seat_state place) (seat_state r.0)) }
         {
@@ -157,15 +151,13 @@ pub(crate) fn run_part<
         move || -> PartResult<K>
             requires sync { IsSync R.row × IsSync H.row × IsSync C.row × IsSync G.row × IsSync K.row
                 × IsSend H.row × IsSend K.row }
-            requires board { HasSeat board.now other × (board_cells board.now ≡ cell_count) }
-            requires out { seat_out other ≡ [] }
+            requires free { IsFree board.now other }
             requires idle { IsIdle (seat_state other) }
             requires serves { Serves (H.digest hasher) statement_of K.database.server }
             requires runnable { AreRunnable right.now }
             requires parts { length right.now ≤ seat_parts other }
             requires numbers { middle + length right.now < 2 ^ 32 }
-            ensures place { IfOk result (λ r. HasSeat board.entry.now r.0
-                × (seat_parts r.0 ≡ seat_parts other) × (seat_out r.0 ≡ [])) }
+            ensures place { IfOk result (λ r. IsGivenBack board.entry.now other r.0) }
             ensures wrote { IfOk result (λ r. HaveWritten (said_with moment (C.says clock.entry.now))
                 right.entry.now r.1.items (seat_state other) (seat_state r.0)) }
         {

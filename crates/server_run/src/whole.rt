@@ -1,15 +1,15 @@
 //! A whole run: the setup, and then all sessions side by side with the builder.
 
-ghost use Rattle.std.specs.Prelude.{◌≡◌, ◌+◌, ◌++◌, ◌∷◌, ◌≤◌, ◌<◌, ◌^◌, [], length, IfOk, true};
+ghost use Rattle.std.specs.Prelude.{◌≡◌, ◌+◌, ◌++◌, ◌∷◌, ◌≤◌, ◌<◌, ◌^◌, length, IfOk, true};
 ghost use Rattle.std.specs.Thread.{IsSend, IsSync};
-ghost use Rattle.base_board.specs.Boards.{board_cells, seat_state, seat_parts, seat_out, HasSeat, IsSameSeat};
+ghost use Rattle.base_board.specs.Boards.{seat_state, seat_parts};
 ghost use Rattle.server_engine.specs.FirstCells.{first_kept};
 ghost use Rattle.sql_parse.specs.Text.{statement_of};
 ghost use Rattle.spec_protocol.specs.Serves.{Serves};
-ghost use Rattle.spec_protocol.specs.Cells.{cell_count};
 ghost use Rattle.spec_protocol.specs.Seats.{split};
 ghost use Rattle.server_result.specs.Moments.{said_with};
 ghost use Rattle.sql_types.specs.declared.journal.TheConstants.{MAX_BLOCK};
+ghost use Rattle.server_run.specs.AtBoard.{IsFree, IsFreed, IsGivenBack};
 ghost use Rattle.server_run.specs.FinishedRun.{AreRunnable, HasFinished, setup_name};
 ghost use Rattle.server_run.specs.Seated.{IsIdle, known_by, texts_in};
 ghost use Rattle.server_run.specs.Wrote.{HasWritten, HaveWritten};
@@ -51,14 +51,12 @@ fn run_setup<K: Serving, H: Hash32, C: Clock, R: Wait>(
     place: &mut ThreadSeat<K>,
     statements: &[&str],
 ) -> Result<SessionEnd, Memory>
-    requires board { HasSeat board.now place.old × (board_cells board.now ≡ cell_count) }
-    requires out { seat_out place.old ≡ [] }
+    requires free { IsFree board.now place.old }
     requires idle { IsIdle (seat_state place.old) }
     requires serves { Serves (H.digest hasher) statement_of K.database.server }
     requires parts { 1 < seat_parts place.old }
     requires few { length statements.now < 2 ^ 32 }
-    ensures place { IfOk result (λ _. IsSameSeat place.old place.new
-        × (seat_parts place.new ≡ seat_parts place.old) × (seat_out place.new ≡ [])) }
+    ensures place { IfOk result (λ _. IsFreed place.old place.new) }
     ensures idle { IfOk result (λ _. IsIdle (seat_state place.new)) }
     ensures wrote { IfOk result (λ end. HasWritten (said_with moment (C.says clock.now)) setup_name
         (texts_in statements.now) end (known_by (split (seat_state place.old) 1))
@@ -88,11 +86,9 @@ fn build<K: Serving, H: Hash32, G: Gate, R: Wait>(
     mut place: ThreadSeat<K>,
     visits: u32,
 ) -> ThreadSeat<K>
-    requires board { HasSeat board.now place × (board_cells board.now ≡ cell_count) }
-    requires out { seat_out place ≡ [] }
+    requires free { IsFree board.now place }
     requires serves { Serves (H.digest hasher) statement_of K.database.server }
-    ensures place { HasSeat board.now result × (seat_parts result ≡ seat_parts place)
-        × (seat_out result ≡ []) }
+    ensures place { IsGivenBack board.now place result }
     ensures state { seat_state result ≡ seat_state place }
 {
     builder_job(rt, alloc, hasher, gate, number, board, &mut place, visits);
@@ -112,15 +108,13 @@ fn run_beside<'a, K: Serving + Send + Sync, H: Hash32, C: Clock, G: Gate, R: Thr
     sections: &[Section<'a>],
     visits: u32,
 ) -> PartResult<K>
-    requires board { HasSeat board.now place × (board_cells board.now ≡ cell_count) }
-    requires out { seat_out place ≡ [] }
+    requires free { IsFree board.now place }
     requires idle { IsIdle (seat_state place) }
     requires serves { Serves (H.digest hasher) statement_of K.database.server }
     requires runnable { AreRunnable sections.now }
     requires parts { length sections.now + 1 < seat_parts place }
     requires numbers { length sections.now < 2 ^ 32 }
-    ensures place { IfOk result (λ r. HasSeat board.now r.0 × (seat_parts r.0 ≡ seat_parts place)
-        × (seat_out r.0 ≡ [])) }
+    ensures place { IfOk result (λ r. IsGivenBack board.now place r.0) }
     ensures wrote { IfOk result (λ r. HaveWritten (said_with moment (C.says clock.now)) sections.now
         r.1.items (seat_state place) (seat_state r.0)) }
 {
@@ -131,15 +125,13 @@ fn run_beside<'a, K: Serving + Send + Sync, H: Hash32, C: Clock, G: Gate, R: Thr
         move || -> PartResult<K>
             requires sync { IsSync R.row × IsSync H.row × IsSync C.row × IsSync G.row × IsSync K.row
                 × IsSend H.row × IsSend K.row }
-            requires board { HasSeat board.now place × (board_cells board.now ≡ cell_count) }
-            requires out { seat_out place ≡ [] }
+            requires free { IsFree board.now place }
             requires idle { IsIdle (seat_state place) }
             requires serves { Serves (H.digest hasher) statement_of K.database.server }
             requires runnable { AreRunnable sections.now }
             requires parts { length sections.now ≤ seat_parts place }
             requires numbers { length sections.now < 2 ^ 32 }
-            ensures place { IfOk result (λ r. HasSeat board.entry.now r.0
-                × (seat_parts r.0 ≡ seat_parts place) × (seat_out r.0 ≡ [])) }
+            ensures place { IfOk result (λ r. IsGivenBack board.entry.now place r.0) }
             ensures wrote { IfOk result (λ r. HaveWritten (said_with moment (C.says clock.entry.now))
                 sections.entry.now r.1.items (seat_state place) (seat_state r.0)) }
         {
@@ -149,11 +141,9 @@ fn run_beside<'a, K: Serving + Send + Sync, H: Hash32, C: Clock, G: Gate, R: Thr
         },
         move || -> ThreadSeat<K>
             requires sync { IsSync R.row × IsSync H.row × IsSync G.row × IsSync K.row × IsSend H.row × IsSend K.row }
-            requires board { HasSeat board.now builder × (board_cells board.now ≡ cell_count) }
-            requires out { seat_out builder ≡ [] }
+            requires free { IsFree board.now builder }
             requires serves { Serves (H.digest hasher) statement_of K.database.server }
-            ensures place { HasSeat board.entry.now result × (seat_parts result ≡ seat_parts builder)
-                × (seat_out result ≡ []) }
+            ensures place { IsGivenBack board.entry.now builder result }
             ensures state { seat_state result ≡ seat_state builder }
         { build(rt, alloc, hasher, gate, number, board, builder, visits) },
     );
