@@ -1,6 +1,5 @@
 //! The last visit of a session, which tells the board that it is over.
 
-ghost use Rattle.std.specs.Prelude.{◌≡◌};
 ghost use Rattle.base_board.specs.Boards.{seat_state};
 ghost use Rattle.server_run.specs.AtBoard.{IsFree, IsFreed};
 ghost use Rattle.server_run.specs.Seated.{known_by, says_in, texts_in};
