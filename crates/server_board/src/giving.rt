@@ -8,8 +8,9 @@ ghost use Rattle.base_board.specs.Outs.{IsLastOut, all_out, rest};
 ghost use Rattle.spec_protocol.specs.Seats.{SeatState};
 ghost use Rattle.server_board.specs.ServedDatabase.{MayVisitServed};
 
-use crate::world::{LedgerWorld, SeatKnowledge, ServedCell, Serving};
+use crate::world::{LedgerWorld, SeatKnowledge, Serving};
 use base_board::{AfterVisit, Board, BoardSeat, HeldCell};
+use server_session::ServedCell;
 
 /// Gives a cell back, as `Board::give` does. What `P.after` says may also speak of `about`, which is for the
 /// proof alone.

@@ -2,9 +2,9 @@
 //! cells of a database.
 #![tactic(auto)]
 
-mod cells;
 mod giving;
 mod world;
 
 pub use giving::{give_all_with, give_with};
-pub use world::{LedgerWorld, SeatKnowledge, ServedCell, Serving};
+pub use server_session::ServedCell;
+pub use world::{LedgerWorld, SeatKnowledge, Serving};

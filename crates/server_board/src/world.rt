@@ -1,20 +1,10 @@
 //! The world of a server's cells.
 
-ghost use Rattle.std.specs.Prelude.{ℕ, List};
-ghost use Rattle.spec_protocol.specs.Cells.{Cell};
 ghost use Rattle.server_board.specs.ServedDatabase.{ServedDatabase};
 
 use base_board::{AfterVisit, World};
+use server_session::ServedCell;
 use std::marker::{Brand, Model, PhantomData};
-
-/// A cell of a server, whatever else lies in it.
-pub trait ServedCell: Drop {
-    /// The cell of which the laws on visits speak.
-    ghost cell: { Self → Cell };
-
-    /// It keeps what was worked out ahead with this hash.
-    ghost keeps: { (List ℕ → List ℕ) → Self → Type 0 };
-}
 
 /// The database of which a board's cells are, and its server.
 ///

@@ -10,7 +10,7 @@ use Rattle.spec_history.specs.Lists.{Text, Each}
 use Rattle.spec_history.specs.Transcripts.{Transcript}
 use Rattle.format_image.specs.Image.{image_of}
 use Rattle.format_image.specs.ImageBytes.{image_bytes}
-use Rattle.server_session.specs.Room.{FitsImageFormat}
+use Rattle.server_visits.specs.Room.{FitsImageFormat}
 use Rattle.sql_parse.specs.Text.{statement_of}
 use Rattle.spec_protocol.specs.Alone.{new_session}
 use Rattle.spec_protocol.specs.Cells.{Cell, Ledger, LedgerCell, ledger_at, pending_in}
@@ -25,15 +25,15 @@ use Rattle.law_sequential.specs.Sessions.{SessionOutput, told_nothing, SessionsS
 use Rattle.law_sequential.specs.SessionOutput.{HasEnded}
 use Rattle.law_sequential.proofs.Goes.{since, ledger_is}
 use Rattle.law_sequential.proofs.SessionsStand.{sessions_stand_first, one_session_more, sessions_have_ended}
-use Rattle.server_session.specs.Full.{IsLedger}
-use Rattle.server_session.specs.Images.{AreImageBytes, CellsStand, JournalFitsFormat}
+use Rattle.server_visits.specs.Full.{IsLedger}
+use Rattle.server_visits.specs.Images.{AreImageBytes, CellsStand, JournalFitsFormat}
 use Rattle.server_session.specs.KeptCell.{KeptCell}
 use Rattle.server_session.specs.ControlPoints.{IsBetween, IsOver}
 use Rattle.server_session.specs.Sits.{Sits, Runs}
 use Rattle.server_session.specs.Steps.{Begins}
 use Rattle.server_session.specs.declared.running.Running.{Running}
 use Rattle.server_session.specs.declared.seat.Seat.{Seat}
-use Rattle.server_session.proofs.AllCells.{bytes_are_the_journals}
+use Rattle.server_visits.proofs.ImagesOfCells.{bytes_are_the_journals}
 use Rattle.server_engine.specs.CoreInput.{CoreInput, nothing_asked, with_session}
 use Rattle.server_engine.specs.FirstCells.{first_kept}
 use Rattle.server_engine.specs.Parts.{HasLeft}
@@ -48,7 +48,7 @@ use Rattle.server_engine.proofs.Midways.{found_is}
 use Rattle.server_engine.proofs.OneServer as one
 use Rattle.server_engine.proofs.OneServer.{not_over, quiet_state}
 use Rattle.server_engine.proofs.Pairs.{Behind, all_there, as_long, behind, both_last, each_last, each_there, near, same_seen, seen_at, seen_last, seen_of}
-use Rattle.server_session.proofs.Servers.{some_server}
+use Rattle.server_visits.proofs.Servers.{some_server}
 use Rattle.server_engine.proofs.Turns.{stand_at_end}
 
 -- ---- the beginning

@@ -15,7 +15,7 @@ use Rattle.spec_protocol.specs.Serves.{Serves}
 use Rattle.law_sequential.specs.EndsLast.{Phase, running, ending, InPhase}
 use Rattle.law_sequential.specs.Sessions.{SessionOutput, names_told, told_with}
 use Rattle.format_transcript.specs.TranscriptText.{entry_text}
-use Rattle.server_session.specs.Full.{ClosesFull}
+use Rattle.server_visits.specs.Full.{ClosesFull}
 use Rattle.server_session.specs.KeptCell.{KeptCell, Keeps}
 use Rattle.server_session.specs.Needs.{need_of}
 use Rattle.server_session.specs.ControlPoints.{IsOver, KeepsStatement}
@@ -35,7 +35,7 @@ use Rattle.server_engine.proofs.OneServer as one
 use Rattle.server_engine.proofs.OneServer.{it_sits}
 use Rattle.server_engine.proofs.Pairs.{Beside, beside, Seen, seen_at, seen_of, seen_set, both_set, each_set, each_there}
 use Rattle.server_engine.proofs.Pending.{one_more_at, fewer_at}
-use Rattle.server_session.proofs.Servers.{some_server}
+use Rattle.server_visits.proofs.Servers.{some_server}
 use Rattle.server_engine.proofs.Texts.{text_more}
 
 -- the session with another seat

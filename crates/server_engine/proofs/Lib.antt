@@ -13,3 +13,4 @@ pub mod Turns
 pub mod Within
 pub use Rattle.law_sequential.proofs.SameNames
 pub use Rattle.law_sequential.proofs.SessionOutput
+pub use Rattle.server_visits.proofs.ImagesOfCells

@@ -24,7 +24,7 @@ use Rattle.law_sequential.specs.Sessions.{SessionOutput, told_with, Runs, IsOver
 use Rattle.law_sequential.proofs.Goes.{since, ledger_is, sized, all_silent}
 use Rattle.law_sequential.proofs.SeatOn.{alone_on, over_now, visit_on, close_on}
 use Rattle.law_sequential.proofs.SessionsStand.{ShownAt, shown_at}
-use Rattle.server_session.specs.Full.{ClosesOne}
+use Rattle.server_visits.specs.Full.{ClosesOne}
 use Rattle.server_session.specs.KeptCell.{KeptCell, Keeps}
 use Rattle.server_session.specs.Needs.{need_of}
 use Rattle.server_session.specs.ControlPoints.{IsBetween, IsBetweenAt, IsOver, IsOverAt}

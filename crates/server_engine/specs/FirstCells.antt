@@ -3,7 +3,8 @@ use Rattle.std.specs.Prelude.{ℕ, zero, suc, List, [], ◌∷◌}
 use Rattle.spec_history.specs.Lists.{Text}
 use Rattle.spec_ledger.specs.Blocks.{no_hash}
 use Rattle.spec_protocol.specs.Cells.{first_catalog, first_ledger}
-use Rattle.server_session.specs.KeptCell.{KeptCell, catalog_seen, ledger_seen, rows_seen}
+use Rattle.server_session.specs.KeptCell.{KeptCell, catalog_seen, rows_seen}
+use Rattle.server_visits.specs.LedgerSeen.{ledger_seen}
 
 -- a table's cell
 abbrev pub empty_kept : ℕ → KeptCell

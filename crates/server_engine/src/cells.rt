@@ -5,7 +5,7 @@ ghost use Rattle.sql_types.specs.declared.journal.TheConstants.{MAX_BLOCK};
 ghost use Rattle.server_engine.specs.FirstCells.{first_kept};
 
 use base_types::{Memory, Name};
-use server_session::{CatalogCell, Cell, LedgerCell, TableCell};
+use server_visits::{CatalogCell, Cell, LedgerCell, TableCell};
 use std::alloc::Global;
 
 /// The first id of a user's table, and the one behind the last.

@@ -14,4 +14,5 @@ pub use law_sequential::{
 };
 pub use one_thread::Core;
 pub use parts::Parts;
+pub use server_visits::{Cell, image_bytes_of, visit, visit_all};
 pub use session::{Session, new_session};

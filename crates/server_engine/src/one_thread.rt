@@ -18,7 +18,7 @@ use crate::session::{Session, new_session};
 use crate::visits::LEDGER;
 use base_merkle::Hash32;
 use base_types::{Memory, Name, Text};
-use server_session::{Cell, image_bytes_of};
+use server_visits::{Cell, image_bytes_of};
 use std::alloc::Global;
 
 /// The cells of a database, and sessions that run over them one statement after another. After want of memory

@@ -14,7 +14,8 @@ ghost use Rattle.server_engine.specs.Written.{AnswersStatement, KeepsSessionImag
 use base_merkle::Hash32;
 use base_types::{Blob, Items, Memory, Name, Text};
 use format_transcript::{push_end, push_statement};
-use server_session::{Answer, Cell, Seat};
+use server_session::{Answer, Seat};
+use server_visits::{Cell, visit_all};
 use std::alloc::Global;
 
 /// A session with what it has shown.
@@ -87,7 +88,7 @@ impl<H: Hash32> Session<H> {
         ensures kept { OnOk result (KeepsSessionImage H.digest cells.now self.old self.new) }
         ensures comes_on { visits_left self.new.seat < visits_left self.old.seat }
     {
-        if let Some(bytes) = self.seat.visit_all(alloc, cells) {
+        if let Some(bytes) = visit_all(&mut self.seat, alloc, cells) {
             self.images.push((items, bytes))?;
         }
         Ok(())

@@ -9,6 +9,7 @@ use crate::one_thread::Core;
 use base_merkle::Hash32;
 use base_types::Memory;
 use server_session::NextVisit;
+use server_visits::visit;
 use std::alloc::Global;
 
 /// The number of the ledger's cell.
@@ -59,7 +60,7 @@ impl<H: Hash32> Core<H> {
         ensures less { LessWork session self.old self.new }
     {
         let seat = &mut self.sessions[session].seat;
-        seat.visit(alloc, &mut self.cells[cell]);
+        visit(seat, alloc, &mut self.cells[cell]);
     }
 
     // Visits all cells.

@@ -4,7 +4,7 @@ use Rattle.std.specs.Prelude.{OnErr, OnOk}
 use mathlib.Core.Option.{some}
 use lib.ListN.{get_elem?}
 use Rattle.spec_model.specs.Script.{Reading}
-use Rattle.server_session.specs.Full.{ClosesPending}
+use Rattle.server_engine.specs.Full.{ClosesPending}
 use Rattle.server_session.specs.KeptCell.{KeptCell, Keeps}
 use Rattle.spec_protocol.specs.Serves.{Serves}
 use Rattle.spec_protocol.specs.Alone.{none}

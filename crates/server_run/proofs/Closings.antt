@@ -12,7 +12,7 @@ use Rattle.spec_protocol.specs.LedgerVisits.{closed_by, next_block}
 use Rattle.spec_protocol.specs.Seats.{SeatState}
 use Rattle.spec_protocol.proofs.LedgerNumbers.{pending_after}
 use Rattle.spec_protocol.proofs.Places.{set_here, set_same}
-use Rattle.server_session.specs.Full.{ClosesNext, ClosesPending, IsLedger}
+use Rattle.server_engine.specs.Full.{ClosesNext, ClosesPending, IsLedger}
 use Rattle.server_session.specs.KeptCell.{KeptCell, Keeps}
 use Rattle.server_session.specs.Steps.{items_of}
 use Rattle.server_session.specs.SessionOutput.{pending_of, size_of}

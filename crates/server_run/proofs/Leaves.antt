@@ -35,8 +35,8 @@ use Rattle.server_engine.proofs.SameNames.{names_apart}
 use Rattle.server_engine.specs.SessionOutput.{IsImageOf}
 use Rattle.server_engine.specs.Wrote.{transcripts_in}
 use Rattle.server_engine.proofs.SessionOutput.{some_meaning}
-use Rattle.server_session.specs.Images.{CellsStand}
-use Rattle.server_session.proofs.AllCells.{bytes_are_the_journals}
+use Rattle.server_engine.specs.Images.{CellsStand}
+use Rattle.server_engine.proofs.ImagesOfCells.{bytes_are_the_journals}
 use Rattle.server_board.specs.Laws.{one_ledger}
 use Rattle.server_board.specs.ServedDatabase.{IsOf as IsOfDatabase, ServedDatabase}
 use Rattle.server_result.specs.Images.{AreKept, with_each}

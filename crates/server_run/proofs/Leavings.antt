@@ -5,7 +5,8 @@ use Rattle.spec_protocol.specs.Cells.{LedgerCell, ledger_at, pending_in}
 use Rattle.spec_protocol.specs.LedgerVisits.{with_digest}
 use Rattle.store_ledger.specs.HashedCell.{HashedCell}
 use Rattle.store_ledger.proofs.Closings.{none_closed}
-use Rattle.server_session.specs.KeptCell.{KeptCell, ledger_seen}
+use Rattle.server_session.specs.KeptCell.{KeptCell}
+use Rattle.server_engine.specs.LedgerSeen.{ledger_seen}
 use Rattle.server_engine.specs.Standing.{pending_found}
 use Rattle.server_engine.proofs.Pairs.{seen_at}
 use Rattle.server_run.specs.Closing.{IssuesLast, pending_there}

@@ -4,8 +4,8 @@ use Rattle.std.proofs.lemmas.List.{length-map}
 use mathlib.Core.Option.{some, some-injective}
 use lib.ListN.{get_elem?}
 use Rattle.spec_protocol.specs.Cells.{Ledger, ledger_at}
-use Rattle.server_session.specs.Full.{IsLedger}
-use Rattle.server_session.specs.Images.{CellsStand}
+use Rattle.server_engine.specs.Full.{IsLedger}
+use Rattle.server_engine.specs.Images.{CellsStand}
 use Rattle.server_session.specs.KeptCell.{KeptCell}
 use Rattle.server_engine.proofs.Pairs.{seen_at}
 

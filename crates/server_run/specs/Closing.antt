@@ -10,7 +10,7 @@ use Rattle.spec_protocol.specs.Seats.{SeatState}
 use Rattle.store_ledger.specs.Issues.{IsIssued}
 use Rattle.store_ledger.specs.declared.cell.IssuedDigest.{IssuedDigest}
 use Rattle.spec_protocol.specs.Serves.{Serves}
-use Rattle.server_session.specs.Full.{ClosesPending, IsLedger}
+use Rattle.server_engine.specs.Full.{ClosesPending, IsLedger}
 use Rattle.server_session.specs.KeptCell.{KeptCell, Keeps}
 use Rattle.server_session.specs.SessionOutput.{pending_of, size_of}
 use Rattle.server_board.specs.ServedDatabase.{ServedDatabase, StandsOn}

@@ -3,8 +3,8 @@ use Rattle.std.specs.Prelude.{ℕ, ◌≡◌, ◌≤◌, ◌^◌, ◌++◌, List
 use mathlib.Core.Option.{some}
 use lib.ListN.{get_elem?}
 use Rattle.sql_types.specs.declared.digest.Digest.{Digest}
-use Rattle.server_session.specs.Images.{AreImageBytes, CellsStand, JournalFitsFormat}
-use Rattle.server_session.specs.KeptCell.{ledger_seen}
+use Rattle.server_engine.specs.Images.{AreImageBytes, CellsStand, JournalFitsFormat}
+use Rattle.server_engine.specs.LedgerSeen.{ledger_seen}
 use Rattle.spec_protocol.specs.Cells.{Ledger, LedgerCell, ledger_at}
 use Rattle.server_result.specs.Images.{with_each}
 use Rattle.server_result.specs.Joined.{joined_each}

@@ -11,7 +11,7 @@ use base_io::Gate;
 use base_merkle::Hash32;
 use base_types::Memory;
 use server_board::{Serving, give_with};
-use server_session::Cell;
+use server_engine::Cell;
 use std::alloc::Global;
 use std::marker::Brand;
 use std::sync::Wait;

@@ -8,7 +8,7 @@ ghost use Rattle.server_run.specs.Closing.{AreServed, ClosesThere, HasLedger, Is
 use crate::shared::LEDGER;
 use base_merkle::Hash32;
 use base_types::Memory;
-use server_session::Cell;
+use server_engine::Cell;
 use std::alloc::Global;
 use store_ledger::{DigestErr, LedgerCell};
 

@@ -4,7 +4,7 @@ ghost use Rattle.std.specs.Prelude.{◌≡◌, ◌≤◌, ◌++◌, ◌∷◌, �
 ghost use Rattle.std.specs.List.{fold};
 ghost use Rattle.server_result.specs.Images.{with_each, with_images};
 ghost use Rattle.server_result.specs.Joined.{joined_each};
-ghost use Rattle.server_session.specs.Images.{CellsStand};
+ghost use Rattle.server_engine.specs.Images.{CellsStand};
 ghost use Rattle.server_run.specs.Closing.{HasLedger, pending_there};
 ghost use Rattle.server_run.specs.Saved.{HasIssued, HasSaved, IsLeaving, run_outcome_of};
 
@@ -14,8 +14,8 @@ use crate::whole::FinishedRun;
 use crate::worker::SessionEnd;
 use base_merkle::Hash32;
 use base_types::{Blob, Items, Memory, Text};
+use server_engine::image_bytes_of;
 use server_result::{RunOutcome, add_images, push_texts};
-use server_session::image_bytes_of;
 use std::alloc::Global;
 use store_ledger::LedgerCell;
 

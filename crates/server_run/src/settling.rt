@@ -11,7 +11,7 @@ use crate::worker::Worker;
 use base_io::Clock;
 use base_merkle::Hash32;
 use server_board::{Serving, give_with};
-use server_session::Cell;
+use server_engine::Cell;
 use std::marker::Brand;
 use std::sync::Wait;
 

@@ -2,7 +2,7 @@
 
 use base_board::{Board, BoardSeat};
 use server_board::LedgerWorld;
-use server_session::Cell;
+use server_engine::Cell;
 
 /// The board of all cells.
 pub(crate) type Cells<K> = Board<LedgerWorld<K, Cell>>;

@@ -17,7 +17,7 @@ use base_io::Clock;
 use base_merkle::Hash32;
 use base_types::{Blob, Memory};
 use server_board::{Serving, give_all_with};
-use server_session::Cell;
+use server_engine::Cell;
 use std::alloc::Global;
 use std::marker::Brand;
 use std::sync::Wait;
@@ -58,7 +58,10 @@ pub(crate) fn visit_all<'a, K: Serving, H: Hash32, C: Clock, R: Wait>(
 {
     let cells = board.take_all(rt, alloc, place)?;
     let items = cells[LEDGER].item_count() as u64;
-    worker.image = image_with(items, worker.session.seat.visit_all(alloc, &cells));
+    worker.image = image_with(
+        items,
+        server_engine::visit_all(&mut worker.session.seat, alloc, &cells),
+    );
     give_all_with::<K, Cell, Brand, Worker<'a, H, C>>(board, place, cells, worker);
     worker.store_image()
 }

@@ -18,7 +18,8 @@ use base_io::{Clock, Gate};
 use base_merkle::Hash32;
 use base_types::Memory;
 use server_board::{Serving, give_with};
-use server_session::{Cell, NextVisit};
+use server_engine::{Cell, visit};
+use server_session::NextVisit;
 use std::alloc::Global;
 use std::marker::Brand;
 use std::sync::Wait;
@@ -48,7 +49,7 @@ fn visit_cell<'a, K: Serving, H: Hash32, C: Clock, G: Gate, R: Wait>(
     ensures image { worker.new.image ≡ worker.old.image }
 {
     let mut held = board.take(rt, place, cell);
-    worker.session.seat.visit(alloc, &mut held.cell);
+    visit(&mut worker.session.seat, alloc, &mut held.cell);
     gate.inside(cell as u32);
     give_with::<K, Cell, Brand, Worker<'a, H, C>>(board, place, cell, held, worker);
 }

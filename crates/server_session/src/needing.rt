@@ -11,13 +11,13 @@ use base_merkle::Hash32;
 use base_types::TableId;
 
 /// The number of the catalog's cell.
-pub(crate) const CATALOG: usize = 0;
+pub const CATALOG: usize = 0;
 
 /// The number of the ledger's cell.
-pub(crate) const LEDGER: usize = 1;
+pub const LEDGER: usize = 1;
 
-// The cell of the table with this id; the tables of the system lie in the catalog.
-pub(crate) fn cell_of(id: TableId) -> usize
+/// The cell of the table with this id; the tables of the system lie in the catalog.
+pub fn cell_of(id: TableId) -> usize
     ensures { result ≡ visited.table_cell id }
 {
     if id <= 2 { CATALOG } else { id as usize - 1 }
@@ -33,7 +33,7 @@ fn cell_or_done(cell: Option<usize>) -> NextVisit
 }
 
 /// A cell that is visited on the way back to a savepoint, where there is one.
-pub(crate) fn not_catalog(cell: Option<usize>) -> Option<usize>
+pub fn not_catalog(cell: Option<usize>) -> Option<usize>
     ensures { result ≡ visited.not_catalog cell }
 {
     match cell {

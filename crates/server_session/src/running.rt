@@ -8,7 +8,7 @@ use store_tx::TxCtx;
 
 /// The transaction of a session, until it has released all its locks.
 #[derive(Drop)]
-pub(crate) struct Running<H: Hash32> {
+pub struct Running<H: Hash32> {
     pub context: TxCtx<H>,
     /// The statements that belong to it for certain, with their replies.
     pub script: Vec<(Text, Reply)>,

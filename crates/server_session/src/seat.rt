@@ -24,16 +24,16 @@ use std::alloc::Global;
 /// A session as its thread has it: its transaction, and the statement under way.
 #[derive(Drop)]
 pub struct Seat<H: Hash32> {
-    pub(crate) hasher: H,
-    pub(crate) name: Name,
+    pub hasher: H,
+    pub name: Name,
     /// When the statement was taken up.
-    pub(crate) started: u64,
+    pub started: u64,
     /// How many images it kept.
-    pub(crate) images: usize,
-    pub(crate) text: Text,
-    pub(crate) stmt: Option<Stmt>,
-    pub(crate) running: Option<Running<H>>,
-    pub(crate) point: ControlPoint,
+    pub images: usize,
+    pub text: Text,
+    pub stmt: Option<Stmt>,
+    pub running: Option<Running<H>>,
+    pub point: ControlPoint,
 }
 
 /// What a statement is answered.

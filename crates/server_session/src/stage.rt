@@ -5,7 +5,7 @@ use sql_value::Refusal;
 
 /// Where a seat stands between two visits.
 #[derive(Drop)]
-pub(crate) enum ControlPoint {
+pub enum ControlPoint {
     /// In no statement.
     Between,
     Inside(Stage),
@@ -17,7 +17,7 @@ pub(crate) enum ControlPoint {
 
 /// How far a statement came, by what it does next.
 #[derive(Drop)]
-pub(crate) enum Stage {
+pub enum Stage {
     /// It is taken up, and nothing else is done.
     Begun,
     /// It draws the id of a transaction: for BEGIN, or else for one of its own.
@@ -65,7 +65,7 @@ pub(crate) enum Stage {
 
 /// A reply that is certain.
 #[derive(Drop)]
-pub(crate) struct Answering {
+pub struct Answering {
     pub reply: Reply,
     /// Whether it belongs to the script of the transaction.
     pub said: bool,

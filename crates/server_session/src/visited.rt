@@ -10,7 +10,7 @@ use std::marker::Model;
 /// The numbers of the cells in which a transaction may have locks, in the order of its first visits.
 /// Contracts see the newest first.
 #[derive(Drop)]
-pub(crate) struct VisitedCellList {
+pub struct VisitedCellList {
     cells: Vec<usize>,
 }
 

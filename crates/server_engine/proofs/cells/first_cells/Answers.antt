@@ -1,7 +1,8 @@
 use Rattle.std.proofs.Common.{◌≡◌, ◌-◌, ◌∷◌, ◌++◌, [], ap, ◌∙◌, arith}
 use Rattle.spec_ledger.specs.Blocks.{no_hash}
 use Rattle.spec_protocol.specs.Cells.{first_catalog, first_ledger}
-use Rattle.server_session.specs.KeptCell.{KeptCell, catalog_seen, ledger_seen, rows_seen}
+use Rattle.server_session.specs.KeptCell.{KeptCell, catalog_seen, rows_seen}
+use Rattle.server_visits.specs.LedgerSeen.{ledger_seen}
 use Rattle.server_engine.specs.FirstCells.{all_empty}
 use Rattle.server_engine.proofs.FirstCells.{next_empty}
 use Rattle.server_engine.proofs.cells.first_cells.Goals as goal

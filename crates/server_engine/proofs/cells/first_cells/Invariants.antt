@@ -1,7 +1,8 @@
 use Rattle.std.proofs.Common.{◌≡◌, ◌-◌, ◌∷◌}
 use Rattle.spec_ledger.specs.Blocks.{no_hash}
 use Rattle.spec_protocol.specs.Cells.{first_catalog, first_ledger}
-use Rattle.server_session.specs.KeptCell.{catalog_seen, ledger_seen}
+use Rattle.server_session.specs.KeptCell.{catalog_seen}
+use Rattle.server_visits.specs.LedgerSeen.{ledger_seen}
 use Rattle.server_engine.specs.FirstCells.{all_empty}
 use Rattle.server_engine.proofs.cells.first_cells.Given as goal
 

@@ -1,7 +1,7 @@
 use Rattle.std.proofs.Common.{◌∷◌, ◌∙◌, List, map, sym, ap, subst, arith}
 use mathlib.Core.Option.{some}
 use Rattle.spec_protocol.specs.Cells.{ledger_at}
-use Rattle.server_session.specs.Images.{AreImageBytes, CellsStand, JournalFitsFormat}
+use Rattle.server_engine.specs.Images.{AreImageBytes, CellsStand, JournalFitsFormat}
 use Rattle.server_session.specs.KeptCell.{KeptCell}
 use Rattle.server_engine.proofs.Pairs.{index_there}
 use Rattle.server_result.specs.Joined.{joined_each}

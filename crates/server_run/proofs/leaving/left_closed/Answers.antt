@@ -1,5 +1,5 @@
 use Rattle.std.proofs.Common.{sym, subst}
-use Rattle.server_session.specs.KeptCell.{ledger_seen}
+use Rattle.server_engine.specs.LedgerSeen.{ledger_seen}
 use Rattle.server_run.specs.Saved.{HasIssued}
 use Rattle.server_run.proofs.Leavings.{issued_of}
 use Rattle.server_run.proofs.leaving.left_closed.Goals as goal

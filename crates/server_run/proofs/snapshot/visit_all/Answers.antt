@@ -36,11 +36,11 @@ give_all_with-requires-clause-visit g c = λ i cell out first here.
     let ahead = subst (λ t. IsAhead g.H.Hash32.digest g.C.Clock.says g.K.Serving.database.server z t) (sym taken.seat.1)
     r.ahead in
     let count = taken.out.1 ∙ r.board.1 in
-    let visits = kept_is g.H.Hash32.digest z.session.seat c.visit_all.new.self c.deref.result.now cells c.visit_all.result
+    let visits = kept_is g.H.Hash32.digest z.session.seat c.visit_all.new.seat c.deref.result.now cells c.visit_all.result
     c.index.result.now c.item_count-items.result c.image_with.result c.deref.ensures.value (omega (arith, count))
     c.index.ensures c.item_count-items.ensures c.image_with.ensures c.visit_all.ensures.visits in
     image_may g.H.Hash32.digest g.C.Clock.says g.K.Serving.database z.job r.serves z.session z.taken z.image image s ahead cells
-    stand.0 stand.1 stand.2 stand.3 r.needs c.visit_all.new.self c.image_with.result visits c.visit_all.ensures.stays count
+    stand.0 stand.1 stand.2 stand.3 r.needs c.visit_all.new.seat c.image_with.result visits c.visit_all.ensures.stays count
     (seat_out c.take_all.new.seat) taken.out.0 i cell out first here
 
 pub give_all_with-requires-clause-nothing : goal.give_all_with-requires-clause-nothing
@@ -55,5 +55,5 @@ returns-clause-ahead g c = on_ok_weaker c.store_image.result (λ stored.
     let t = seat_state c.give_all_with.new.place in
     stored v t
     (ahead_there g.H.Hash32.digest g.C.Clock.says v
-    (at z.job (seated z.session c.visit_all.new.self) z.taken c.image_with.result) (seat_state c.take_all.new.seat) t
+    (at z.job (seated z.session c.visit_all.new.seat) z.taken c.image_with.result) (seat_state c.take_all.new.seat) t
     c.give_all_with.ensures.state.0)) c.store_image.ensures.ahead

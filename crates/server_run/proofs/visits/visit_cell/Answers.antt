@@ -58,12 +58,12 @@ give_with-requires-clause-may g c =
     let out_is = one_out out _ c.args.cell held taken.out r.idle in
     let here = out_lies stand.0 out _ c.args.cell held taken.out stand.5 in
     visit_may g.H.Hash32.digest g.C.Clock.says g.K.Serving.database z.job r.serves z.session z.taken z.image s ahead stand.0
-    stand.1 stand.2 stand.3 stand.4 c.args.cell r.needs held c.visit.new.cell here c.visit.new.self c.visit.ensures.visits
+    stand.1 stand.2 stand.3 stand.4 c.args.cell r.needs held c.visit.new.cell here c.visit.new.seat c.visit.ensures.visits
     c.visit.ensures.stays out out_is
 
 pub returns-clause-ahead : goal.returns-clause-ahead
 returns-clause-ahead g c =
     let z = c.args.worker.now in
     ahead_there g.H.Hash32.digest g.C.Clock.says g.K.Serving.database.server
-    (at z.job (seated z.session c.visit.new.self) z.taken z.image) (seat_state c.take-held.new.seat)
+    (at z.job (seated z.session c.visit.new.seat) z.taken z.image) (seat_state c.take-held.new.seat)
     (seat_state c.give_with.new.place) c.give_with.ensures.seat.1

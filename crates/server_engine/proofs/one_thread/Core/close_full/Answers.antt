@@ -1,6 +1,6 @@
 use Rattle.std.proofs.Common.{refl, sym, subst, arith}
 use Rattle.spec_protocol.specs.Cells.{ledger_at}
-use Rattle.server_session.specs.Full.{ClosesFull}
+use Rattle.server_visits.specs.Full.{ClosesFull}
 use Rattle.server_session.specs.KeptCell.{Keeps}
 use Rattle.server_engine.proofs.Midways.{ledger_near, keeps_hash, close_midway, close_less}
 use Rattle.server_engine.proofs.Pairs.{index_there}

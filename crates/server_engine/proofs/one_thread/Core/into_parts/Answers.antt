@@ -2,10 +2,10 @@ use Rattle.std.proofs.Common.{◌≤◌, ◌^◌, ◌∙◌, refl, sym, ap, subs
 use mathlib.Core.Option.{some}
 use Rattle.sql_parse.specs.Text.{statement_of}
 use Rattle.spec_protocol.specs.Cells.{ledger_at}
-use Rattle.server_session.specs.Images.{AreImageBytes, CellsStand}
+use Rattle.server_visits.specs.Images.{AreImageBytes, CellsStand}
 use Rattle.server_engine.proofs.Ends.{all_ended, cells_stand, has_left, image_is, ledger_within, room_is, room_over, second_is_ledger}
 use Rattle.server_engine.proofs.Pairs.{index_there}
-use Rattle.server_session.proofs.Servers.{some_server}
+use Rattle.server_visits.proofs.Servers.{some_server}
 use Rattle.server_engine.proofs.one_thread.Core.into_parts.Goals as goal
 
 pub swap_remove-requires : goal.swap_remove-requires

@@ -3,7 +3,7 @@ use Rattle.sql_parse.specs.Text.{statement_of}
 use Rattle.server_session.specs.Steps.{Begins}
 use Rattle.server_engine.proofs.Calls.{last_open, last_others}
 use Rattle.server_engine.proofs.Ends.{session_count, session_stands}
-use Rattle.server_session.proofs.Servers.{some_server}
+use Rattle.server_visits.proofs.Servers.{some_server}
 use Rattle.server_engine.proofs.one_thread.Core.open_session.Goals as goal
 
 pub returns-clause-stands : goal.returns-clause-stands

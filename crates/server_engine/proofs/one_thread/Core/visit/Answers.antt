@@ -44,13 +44,13 @@ returns-clause-midway g c = λ h a m below.
     let needs = midway_at c.args.self.now c.args.session g.H.Hash32.digest r.h r.a r.midway
     (λ u. need_of u.seat ≡ need.Cell c.args.cell) r.needs y there in
     visit_midway g.H.Hash32.digest h a c.args.session c.args.self.now m y there below _ refl c.args.cell needs x c.visit.new.cell here
-    c.visit.new.self c.visit.ensures.visits c.visit.ensures.stays refl refl
+    c.visit.new.seat c.visit.ensures.visits c.visit.ensures.stays refl refl
 
 pub returns-clause-turned : goal.returns-clause-turned
 returns-clause-turned g c =
     let r = c.requires in record {
       y = c.index_mut.result.now;
-      z = seated c.index_mut.result.now c.visit.new.self;
+      z = seated c.index_mut.result.now c.visit.new.seat;
       there = index_there c.args.self.now.sessions.items c.args.session c.index_mut.result.now
           (midway_near c.args.self.now c.args.session g.H.Hash32.digest r.h r.a r.midway) c.index_mut.ensures.value;
       are = refl;
@@ -69,4 +69,4 @@ returns-clause-less g c =
     let needs = midway_at c.args.self.now c.args.session g.H.Hash32.digest r.h r.a r.midway
     (λ u. need_of u.seat ≡ need.Cell c.args.cell) r.needs y there in
     visit_less g.H.Hash32.digest r.h r.a c.args.session c.args.self.now r.midway y there r.below c.args.cell needs x
-    c.visit.new.cell here c.visit.new.self c.visit.ensures.visits c.visit.ensures.comes_on
+    c.visit.new.cell here c.visit.new.seat c.visit.ensures.visits c.visit.ensures.comes_on
