@@ -6,5 +6,4 @@ pub mod GetLemmas
 pub mod ReplayLemmas
 pub mod SavedLemmas
 pub mod TransferLemmas
-pub mod WordsLemmas
 mod ReportLemmas

@@ -11,6 +11,8 @@ use Rattle.server_step.specs.SessionOutput.{IsImageOf}
 use Rattle.spec_history.specs.Lists.{Each, Some_of, In}
 use Rattle.spec_history.proofs.Trace.{each_weaker}
 use Rattle.format_journal.specs.Journal.{journal_bytes}
+use Rattle.format_lines.specs.Line.{Statement}
+use Rattle.format_sections.specs.RunSections.{RunSections}
 use Rattle.spec_protocol.specs.Seats.{KeptImage}
 use Rattle.server_result.specs.Images.{AreKept, ItemsRise}
 use Rattle.server_result.specs.declared.ran.RunOutcome.{RunOutcome as Output}
@@ -19,7 +21,7 @@ use Rattle.cli_commands.specs.declared.files.File.{File}
 use Rattle.cli_commands.specs.declared.status.Status.{Status}
 use Rattle.cli_commands.specs.Answer.{HasPut, HasWritten, Saves}
 use Rattle.cli_commands.specs.Files.{names_after, TellsLeft, TellsHeld, FirstArePut, put_held}
-use Rattle.cli_commands.specs.Run.{cut_name, cut_file, image_name, image_file, digests_name, digests_file, journal_name, saved_files, IsRun, IsRunOfAll, IsSavable, AreSaved}
+use Rattle.cli_commands.specs.Run.{cut_name, cut_file, image_name, image_file, digests_name, digests_file, journal_name, saved_files, LinesComeTo, SectionsComeTo, IsSavable, AreSaved}
 use Rattle.cli_commands.proofs.AnswerLemmas.{put_is, written_is}
 
 -- ---- files of different names
@@ -149,9 +151,9 @@ numbers_small h database J kept images few are saved =
 
 -- ---- what a run left can be saved
 
-module _ (h : List ℕ → List ℕ) (how : Settings) (clock : ℕ → Type 0) (bytes : List ℕ) (o : Output) where
-  pub lines_savable : IsRun h how clock bytes o → IsSavable o
-  lines_savable is =
+module _ (h : List ℕ → List ℕ) (how : Settings) (clock : ℕ → Type 0) (o : Output) where
+  pub lines_savable : (statements : List Statement) → LinesComeTo h how clock statements o → IsSavable o
+  lines_savable statements is =
       let few : length is.run.J.items < 2 ^ 64 = subst (λ (J : Journal). length J.items < 2 ^ 64) is.is.journal is.is.journal_is_encodable.count in
       let same : is.run.images ≡ o.images = sym is.is.images in
       record {
@@ -161,8 +163,8 @@ module _ (h : List ℕ → List ℕ) (how : Settings) (clock : ℕ → Type 0) (
         rise = subst ItemsRise same is.came.saved.rise;
       }
 
-  pub sections_savable : IsRunOfAll h how clock bytes o → IsSavable o
-  sections_savable is =
+  pub sections_savable : (all_sections : RunSections) → SectionsComeTo h how clock all_sections o → IsSavable o
+  sections_savable all_sections is =
       let few : length is.left.J.items < 2 ^ 64 = subst (λ (J : Journal). length J.items < 2 ^ 64) is.is.journal is.is.journal_is_encodable.count in
       record {
         journal = is.is.journal_is_encodable;

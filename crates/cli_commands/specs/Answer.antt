@@ -7,22 +7,12 @@ use Rattle.base_io.specs.Outside.{TellsTaken}
 use Rattle.format_digest.specs.Reading.{IsRead}
 use Rattle.format_digest.specs.Writing.{IsFile, held_form}
 use Rattle.spec_history.specs.Lists.{Each}
-use Rattle.format_lines.specs.Line.{Statement}
-use Rattle.format_lines.specs.Sessions.{sessions_of}
-use Rattle.format_sections.specs.RunSections.{RunSections}
 use Rattle.format_journal.specs.Rules.{IsJournal}
-use Rattle.server_step.specs.Came.{Run, CameTo}
-use Rattle.server_result.specs.Moments.{said_with}
-use Rattle.server_step.specs.RunOutcome.{IsRunOutcome}
 use Rattle.server_result.specs.declared.ran.RunOutcome.{RunOutcome as Output}
-use Rattle.workload_run.specs.Agreed.{RunResult}
-use Rattle.workload_run.specs.CameTo as all
-use Rattle.workload_run.specs.CameTo.{IsOf}
-use Rattle.cli_words.specs.Commands.{Settings}
 use Rattle.cli_commands.specs.declared.status.Status.{Status}
 use Rattle.cli_commands.specs.declared.status.Status.TheVariants.{Done, Limit, SourceFault, SinkFault, VaultFault, Form, Memory}
 use Rattle.cli_commands.specs.declared.files.File.{File}
-use Rattle.cli_commands.specs.Input.{InputForm, line_form, section_form, Says, IsInput, IsBeyond, LacksForm}
+use Rattle.cli_commands.specs.Input.{InputForm, Says, IsInput, IsBeyond, LacksForm}
 use Rattle.cli_commands.specs.Files.{FirstArePut, StopsOpen, TellsHeld}
 use Rattle.cli_commands.specs.Run.{saved_files}
 use Rattle.cli_commands.specs.Transfer.{input_limit, TellsPart}
@@ -81,31 +71,16 @@ pub record Saves (ended : Status) (save : List ℕ) (o : Output)
   pub are_in_vault : ended ≡ Done → Each (λ f. TellsHeld names_old names_new f.name f.bytes)
       (saved_files save o digests)
 
--- The lines were within their limits and were run. The output has, of what they came to, the text, the images
--- by rising number of items, that of the whole journal, the journal and the digests; this was put and written
--- of it.
-pub record RunOutcome (ended : Status) (h : List ℕ → List ℕ) (save : List ℕ) (how : Settings)
-    (input : Option (List ℕ)) (clock : ℕ → Type 0)
+-- The input, which has this form, was within its limits and was run. The output has, of what it came to, the
+-- text, the images by rising number of items, that of the whole journal, the journal and the digests; this was
+-- put and written of it.
+pub record RanAndSaved {A : Type 0} (ended : Status) (form : InputForm A) (comes_to : A → Output → Type 0)
+    (save : List ℕ) (input : Option (List ℕ))
     (names_old names_new : Option Names) (taken_old taken_new : Option (List ℕ)) : Type 0 where
-  pub statements : List Statement
-  pub run : Run
+  pub said : A
   pub output : Output
-  pub within : IfSome input (λ bytes. Says line_form bytes statements)
-  pub came : CameTo h how.database how.block_size (said_with how.clock clock) statements run
-  pub is : IsRunOutcome h (sessions_of statements) run output
-  pub saved : Saves ended save output names_old names_new taken_old taken_new
-
--- The sections were within their limits, and their sessions were run side by side; the same was put and
--- written of what they came to.
-pub record SectionsOutcome (ended : Status) (h : List ℕ → List ℕ) (save : List ℕ) (how : Settings)
-    (input : Option (List ℕ)) (clock : ℕ → Type 0)
-    (names_old names_new : Option Names) (taken_old taken_new : Option (List ℕ)) : Type 0 where
-  pub all_sections : RunSections
-  pub left : RunResult
-  pub output : Output
-  pub within : IfSome input (λ bytes. Says section_form bytes all_sections)
-  pub came : all.CameTo h how.database how.block_size (said_with how.clock clock) all_sections left
-  pub is : IsOf h left output
+  pub within : IfSome input (λ bytes. Says form bytes said)
+  pub came : comes_to said output
   pub saved : Saves ended save output names_old names_new taken_old taken_new
 
 -- by the status, the input was run, or neither vault nor sink was called

@@ -6,11 +6,11 @@ use Rattle.base_io.specs.declared.failed.Failed.{Failed}
 use Rattle.base_io.specs.declared.vault.VaultErr.{VaultErr}
 use Rattle.base_io.specs.declared.vault.VaultErr.TheVariants as refused
 use Rattle.base_io.specs.History.{EndsAt}
+use Rattle.cli_words.specs.Commands.{Command, Step, Run, Verify, Extract, Replay, Gen, Help, Version}
 use Rattle.cli_commands.specs.declared.status.Status.{Status}
 use Rattle.cli_commands.specs.declared.status.Status.TheVariants.{Done, No, Words, Limit, SourceFault, SinkFault, VaultFault, Missing, Memory}
 use Rattle.cli_commands.specs.declared.transfer.ReadErr.{ReadErr}
 use Rattle.cli_commands.specs.declared.transfer.ReadErr.TheVariants as reading
-use Rattle.cli_commands.specs.Words.{Command, Step, Run, Verify, Replay, Extract, Gen, Tell}
 
 -- a read that gave bytes, or a write that took some
 abbrev pub Moved : Result ℕ Failed → Type 0
@@ -83,11 +83,12 @@ abbrev pub AreCalls : Option Command → Status → List (Result ⊤ VaultErr) �
 AreCalls None status answers = answers ≡ []
 AreCalls (Some (Step save how)) status answers = ArePuts status answers
 AreCalls (Some (Run save how)) status answers = ArePuts status answers
-AreCalls (Some (Verify image digests)) status answers = AreGets 2 status answers
+AreCalls (Some (Verify image digests workers)) status answers = AreGets 2 status answers
 AreCalls (Some (Replay journal save)) status answers = AreGetsAndPuts 1 status answers
 AreCalls (Some (Extract honest suspect digests)) status answers = AreGets 3 status answers
 AreCalls (Some (Gen count)) status answers = answers ≡ []
-AreCalls (Some (Tell text)) status answers = answers ≡ []
+AreCalls (Some (Help which)) status answers = answers ≡ []
+AreCalls (Some Version) status answers = answers ≡ []
 
 -- the writes up to a fault, or to one that took nothing
 abbrev pub StopsWriting : List (Result ℕ Failed) → Type 0

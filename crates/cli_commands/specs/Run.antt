@@ -22,7 +22,7 @@ use Rattle.workload_run.specs.CameTo as all
 use Rattle.workload_run.specs.CameTo.{IsOf}
 use Rattle.cli_words.specs.Commands.{Settings}
 use Rattle.cli_commands.specs.declared.files.File.{File}
-use Rattle.cli_commands.specs.Input.{line_form, section_form, Says}
+use Rattle.cli_commands.specs.Input.{InputForm, Says}
 
 -- ---- files
 
@@ -64,23 +64,26 @@ saved_files save o digests = map (cut_file save) o.images
 
 -- ---- the run
 
--- this is written and saved of what the lines came to by these settings, where the clock says such moments
-pub record IsRun (h : List ℕ → List ℕ) (how : Settings) (clock : ℕ → Type 0) (bytes : List ℕ)
-    (o : Output) : Type 0 where
-  pub statements : List Statement
+-- The lines came to this by these settings, where the clock says such moments.
+pub record LinesComeTo (h : List ℕ → List ℕ) (how : Settings) (clock : ℕ → Type 0)
+    (statements : List Statement) (o : Output) : Type 0 where
   pub run : Run
-  pub within : Says line_form bytes statements
   pub came : CameTo h how.database how.block_size (said_with how.clock clock) statements run
   pub is : IsRunOutcome h (sessions_of statements) run o
 
--- and of what the sections came to, whose sessions were run side by side
-pub record IsRunOfAll (h : List ℕ → List ℕ) (how : Settings) (clock : ℕ → Type 0) (bytes : List ℕ)
-    (o : Output) : Type 0 where
-  pub all_sections : RunSections
+-- The same of sections, whose sessions were run side by side.
+pub record SectionsComeTo (h : List ℕ → List ℕ) (how : Settings) (clock : ℕ → Type 0)
+    (all_sections : RunSections) (o : Output) : Type 0 where
   pub left : RunResult
-  pub within : Says section_form bytes all_sections
   pub came : all.CameTo h how.database how.block_size (said_with how.clock clock) all_sections left
   pub is : IsOf h left o
+
+-- What the input says, which has this form and its limits, came to this.
+pub record IsRun {A : Type 0} (form : InputForm A) (comes_to : A → Output → Type 0) (bytes : List ℕ)
+    (o : Output) : Type 0 where
+  pub said : A
+  pub within : Says form bytes said
+  pub came : comes_to said o
 
 -- It has a spelling, and no two of its images are of one number of items, which 8 bytes can tell.
 pub record IsSavable (o : Output) : Type 0 where

@@ -58,7 +58,7 @@ pub(crate) fn generate<H: Hash32, K: Sink, R: Threads + Wait + Sync>(
     rt: &R,
     alloc: Global,
     h: H,
-    count: u64,
+    count: u32,
     sink: &mut K,
 ) -> Status
     requires { count ≤ 10000 }
@@ -71,7 +71,7 @@ pub(crate) fn generate<H: Hash32, K: Sink, R: Threads + Wait + Sync>(
     ensures unfailed { Unfailed result ⊤ ⊤
         ((K.faults sink.new ≡ K.faults sink.old) × (K.stalls sink.new ≡ K.stalls sink.old)) }
 {
-    match generated(rt, alloc, h, count as u32) {
+    match generated(rt, alloc, h, count) {
         Ok(text) => tell(&text, sink),
         Err(Memory) => Status::Memory,
     }

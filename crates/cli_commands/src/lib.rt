@@ -8,15 +8,12 @@ mod names;
 mod replay;
 mod run;
 mod saved;
-mod sections;
-mod side_by_side;
 mod status;
 mod step;
 mod tell;
 mod top;
 mod transfer;
 mod verify;
-mod words;
 
 pub use cli_words::USAGE;
 pub use format_journal::{Journal, JournalItem, Script, write_journal};

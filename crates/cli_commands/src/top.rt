@@ -4,15 +4,17 @@ ghost use Rattle.std.specs.Prelude.{◌≡◌, ◌⊎◌, map, string_bytes, Non
 ghost use Rattle.sha2.specs.Sha256.{sha256};
 ghost use Rattle.base_io.specs.Count.{Rises};
 ghost use Rattle.base_io.specs.History.{Since};
-ghost use Rattle.cli_commands.specs.Words.{command_words, OfStep, OfRun, OfVerify, OfReplay, OfExtract, OfGen};
-ghost use Rattle.cli_commands.specs.Words.{OfTell};
+ghost use Rattle.cli_words.specs.Commands.{command_of};
+ghost use Rattle.cli_commands.specs.Words.{OfStep, OfRun, OfVerify, OfReplay, OfExtract, OfGen, OfTell};
 ghost use Rattle.cli_commands.specs.Words.{reads_input, puts_files};
-ghost use Rattle.cli_commands.specs.Answer.{HasRead, RunOutcome, SectionsOutcome, RunOutcomeOrIdle, Unfailed};
+ghost use Rattle.cli_commands.specs.Answer.{HasRead, RanAndSaved, RunOutcomeOrIdle, Unfailed};
 ghost use Rattle.cli_commands.specs.Calls.{AreReads, AreCalls, AreWrites};
 ghost use Rattle.cli_commands.specs.Cause.{HasCause};
 ghost use Rattle.cli_commands.specs.Extract.{Extracts};
 ghost use Rattle.cli_commands.specs.Generated.{HasGenerated};
+ghost use Rattle.cli_commands.specs.Input.{line_form, section_form};
 ghost use Rattle.cli_commands.specs.Replay.{SavesReplay, ReplayedOrIdle, PutsAccepted};
+ghost use Rattle.cli_commands.specs.Run.{LinesComeTo, SectionsComeTo};
 ghost use Rattle.cli_commands.specs.Tell.{HasTold};
 ghost use Rattle.cli_commands.specs.Verify.{SaysVerdict, SaidOrIdle};
 
@@ -20,14 +22,14 @@ use crate::Status;
 use crate::extract::extract;
 use crate::generate::generate;
 use crate::replay::replay;
-use crate::side_by_side::run_side_by_side;
+use crate::run::run_side_by_side;
 use crate::step::step;
 use crate::tell::tell;
 use crate::verify::verify;
-use crate::words::{Request, read_command};
 use base_io::{Clock, Gate, Sink, Source, Vault};
 use base_merkle::Sha256Hash;
 use base_types::Memory;
+use cli_words::{Command, VERSION, help_text, read_command};
 use std::alloc::Global;
 use std::sync::Wait;
 use std::thread::Threads;
@@ -105,7 +107,7 @@ pub fn ledgerd<S: Source, K: Sink, V: Vault, C: Clock, G: Gate, R: Threads + Wai
     gate: &G,
 ) -> Status
     // Each status has its cause.
-    ensures cause { HasCause result sha256 (command_words (map string_bytes words.now))
+    ensures cause { HasCause result sha256 (command_of (map string_bytes words.now))
         (S.left source.old) (V.names vault.old)
         (Rises (S.faults source.old) (S.faults source.new))
         (Rises (V.faults vault.old) (V.faults vault.new))
@@ -113,70 +115,70 @@ pub fn ledgerd<S: Source, K: Sink, V: Vault, C: Clock, G: Gate, R: Threads + Wai
 
     // Where the words say no command, nothing is touched. Only `step` and `run` read the input; these two
     // and `replay` put files.
-    ensures words { command_words (map string_bytes words.now) ≡ None
+    ensures words { command_of (map string_bytes words.now) ≡ None
         → (source.new ≡ source.old) × (vault.new ≡ vault.old) × (sink.new ≡ sink.old) }
-    ensures unread { reads_input (command_words (map string_bytes words.now)) ≡ false
+    ensures unread { reads_input (command_of (map string_bytes words.now)) ≡ false
         → source.new ≡ source.old }
-    ensures unput { puts_files (command_words (map string_bytes words.now)) ≡ false
+    ensures unput { puts_files (command_of (map string_bytes words.now)) ≡ false
         → V.names vault.new ≡ V.names vault.old }
 
     // `step`: what is read, by the status; and what is put and written of a run whose transcripts, journal,
     // digests and images agree.
-    ensures read { OfStep (command_words (map string_bytes words.now))
+    ensures read { OfStep (command_of (map string_bytes words.now))
         (λ save settings. IfSome (S.left source.old) (λ input. HasRead result input (S.left source.new))) }
-    ensures ran { OfStep (command_words (map string_bytes words.now)) (λ save settings. RunOutcomeOrIdle result
-        (RunOutcome result sha256 save settings (S.left source.old) (C.says clock.now)
+    ensures ran { OfStep (command_of (map string_bytes words.now)) (λ save settings. RunOutcomeOrIdle result
+        (RanAndSaved result line_form (LinesComeTo sha256 settings (C.says clock.now)) save (S.left source.old)
         (V.names vault.old) (V.names vault.new) (K.taken sink.old) (K.taken sink.new))
         ((vault.new ≡ vault.old) × (sink.new ≡ sink.old))) }
 
     // `run`: the same of sections whose sessions were run side by side.
-    ensures read_sections { OfRun (command_words (map string_bytes words.now))
+    ensures read_sections { OfRun (command_of (map string_bytes words.now))
         (λ save settings. IfSome (S.left source.old) (λ input. HasRead result input (S.left source.new))) }
-    ensures ran_all { OfRun (command_words (map string_bytes words.now)) (λ save settings. RunOutcomeOrIdle result
-        (SectionsOutcome result sha256 save settings (S.left source.old) (C.says clock.now)
+    ensures ran_all { OfRun (command_of (map string_bytes words.now)) (λ save settings. RunOutcomeOrIdle result
+        (RanAndSaved result section_form (SectionsComeTo sha256 settings (C.says clock.now)) save (S.left source.old)
         (V.names vault.old) (V.names vault.new) (K.taken sink.old) (K.taken sink.new))
         ((vault.new ≡ vault.old) × (sink.new ≡ sink.old))) }
 
     // `verify`: the line of the verdict on what stands under the names, by the status.
-    ensures verified { OfVerify (command_words (map string_bytes words.now))
+    ensures verified { OfVerify (command_of (map string_bytes words.now))
         (λ image digests. SaidOrIdle result
         (SaysVerdict result sha256 image digests
         (V.names vault.old) (K.taken sink.old) (K.taken sink.new)) (sink.new ≡ sink.old)) }
 
     // `extract`: the lines of what is found of the two images under the names, by the status.
-    ensures extracts { OfExtract (command_words (map string_bytes words.now))
+    ensures extracts { OfExtract (command_of (map string_bytes words.now))
         (λ honest suspect digests. SaidOrIdle result
         (Extracts result sha256 honest suspect digests
         (V.names vault.old) (K.taken sink.old) (K.taken sink.new)) (sink.new ≡ sink.old)) }
 
     // `gen`: the lines of what is counted of a run of the workload, which are those that are expected.
-    ensures generated { OfGen (command_words (map string_bytes words.now))
+    ensures generated { OfGen (command_of (map string_bytes words.now))
         (λ count. SaidOrIdle result
         (HasGenerated result sha256 count (K.taken sink.old) (K.taken sink.new)) (sink.new ≡ sink.old)) }
 
     // Help and the version: the text, by the status.
-    ensures told { OfTell (command_words (map string_bytes words.now))
+    ensures told { OfTell (command_of (map string_bytes words.now))
         (λ text. SaidOrIdle result
         (HasTold result text (K.taken sink.old) (K.taken sink.new)) (sink.new ≡ sink.old)) }
 
     // `replay`: what is put and written of the legal journal under the name, by the status; and the image
     // that is put is accepted with any digests of the journal's blocks.
-    ensures replayed { OfReplay (command_words (map string_bytes words.now))
+    ensures replayed { OfReplay (command_of (map string_bytes words.now))
         (λ journal save. ReplayedOrIdle result
         (SavesReplay result sha256 journal save
         (V.names vault.old) (V.names vault.new) (K.taken sink.old) (K.taken sink.new))
         ((V.names vault.new ≡ V.names vault.old) × (sink.new ≡ sink.old))) }
-    ensures accepted { OfReplay (command_words (map string_bytes words.now))
+    ensures accepted { OfReplay (command_of (map string_bytes words.now))
         (λ journal save. result ≡ Status.Done
         → PutsAccepted sha256 journal save (V.names vault.old) (V.names vault.new)) }
 
     // The first fault or stall is the last call: nothing is tried again, and nothing is read behind the end.
-    ensures reads { OfStep (command_words (map string_bytes words.now))
+    ensures reads { OfStep (command_of (map string_bytes words.now))
         (λ save settings. Since (S.history source.old) (S.history source.new) (AreReads result)) }
-    ensures reads_sections { OfRun (command_words (map string_bytes words.now))
+    ensures reads_sections { OfRun (command_of (map string_bytes words.now))
         (λ save settings. Since (S.history source.old) (S.history source.new) (AreReads result)) }
     ensures calls { Since (V.history vault.old) (V.history vault.new)
-        (AreCalls (command_words (map string_bytes words.now)) result) }
+        (AreCalls (command_of (map string_bytes words.now)) result) }
     ensures writes { Since (K.history sink.old) (K.history sink.new) (AreWrites result) }
     ensures unfailed { Unfailed result (S.faults source.new ≡ S.faults source.old)
         (V.faults vault.new ≡ V.faults vault.old)
@@ -193,30 +195,31 @@ pub fn ledgerd<S: Source, K: Sink, V: Vault, C: Clock, G: Gate, R: Threads + Wai
         Err(Memory) => return Status::Memory,
     };
     match command {
-        Request::Step { save, settings } => {
+        Command::Step { save, settings } => {
             step(
                 alloc, Sha256Hash, save, settings, source, sink, vault, clock,
             )
         }
-        Request::Run { save, settings } => {
+        Command::Run { save, settings } => {
             run_side_by_side(
                 rt, alloc, Sha256Hash, save, settings, source, sink, vault, clock, gate,
             )
         }
-        Request::Verify {
+        Command::Verify {
             image,
             digests,
             workers,
-        } => { verify(rt, alloc, Sha256Hash, image, digests, workers, sink, vault) }
-        Request::Replay { journal, save } => {
-            replay(alloc, Sha256Hash, journal, save, sink, vault)
-        }
-        Request::Extract {
+        } => verify(rt, alloc, Sha256Hash, image, digests, workers, sink, vault),
+        Command::Extract {
             honest,
             suspect,
             digests,
         } => extract(alloc, Sha256Hash, honest, suspect, digests, sink, vault),
-        Request::Gen { count } => generate(rt, alloc, Sha256Hash, count, sink),
-        Request::Tell { text } => tell(text, sink),
+        Command::Replay { journal, save } => {
+            replay(alloc, Sha256Hash, journal, save, sink, vault)
+        }
+        Command::Gen { count } => generate(rt, alloc, Sha256Hash, count, sink),
+        Command::Help(which) => tell(help_text(which), sink),
+        Command::Version => tell(VERSION, sink),
     }
 }

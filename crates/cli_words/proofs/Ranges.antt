@@ -1,15 +1,17 @@
--- The settings that words say have their ranges and their form.
-use Rattle.std.proofs.Common.{ℕ, ◌≡◌, ◌≤◌, arith, Bool, true, false, List, [], ◌∷◌, Option, Some, None, refl, subst, codes}
+-- The values of a command that words say have their ranges.
+use Rattle.std.proofs.Common.{ℕ, ◌≡◌, ◌≤◌, arith, Bool, true, false, List, [], ◌∷◌, Option, Some, None, refl, sym, subst, codes}
 use Rattle.std.specs.Prelude.{◌&&◌, ◌||◌, IfSome, if◌then◌else◌, nat_le, option_map}
 use Rattle.std.specs.Str.{bytes_eq}
 use Rattle.std.proofs.lemmas.Bool.Decides.{nat_tests}
 use Rattle.base_types.specs.DatabaseName.{is_database_name}
 use Rattle.base_types.specs.declared.moment.TheConstants.{MAX_TICKS}
-use Rattle.cli_words.specs.Commands.{Settings, AreInRange, Command, Step, Run, Verify, Extract, Replay, Gen, given, settings, meaning_of, has_dashes, arguments_of, asks_help, alone, behind, command_of}
+use Rattle.cli_words.specs.Commands.{Settings, AreInRange, IsInRange, Command, Step, Run, Verify, Extract, Replay, Gen, given, settings, meaning_of, has_dashes, arguments_of, asks_help, alone, behind, command_of}
 use Rattle.cli_words.specs.Commands as said
 use Rattle.cli_words.specs.Forms.{is_number, number_from, number_in, database_name, file_name, or_default, if_given}
 use Rattle.cli_words.specs.Line.{Text, uses_of, ◌>>=◌}
 use Rattle.cli_words.specs.Subcommands.{named, operands_of, options_of}
+use Rattle.cli_words.specs.Views.{command_view}
+use Rattle.cli_words.specs.declared.command.Command as coded
 use Rattle.cli_words.specs.declared.subcommand.Subcommand.{Subcommand}
 use Rattle.cli_words.specs.declared.subcommand.Subcommand.TheVariants as which
 
@@ -93,91 +95,81 @@ in_range value how e =
 
 -- ---- commands
 
--- so it is in a command that has settings, or a count
-abbrev pub HasRange : Command → Type 0
-HasRange (Step save how) = AreInRange how
-HasRange (Run save how) = AreInRange how
-HasRange (Gen count) = (1 ≤ count) × (count ≤ 10000)
-HasRange _ = Unit {0}
-
-some_range : (c d : Command) → c ≡ d → HasRange c → HasRange d
-some_range c d e range = subst (λ x. HasRange x) e range
+some_range : (c d : Command) → c ≡ d → IsInRange c → IsInRange d
+some_range c d e range = subst (λ x. IsInRange x) e range
 
 -- behind a step that may fail
 every : {A B : Type 0} (o : Option A) (f : A → Option B) (P : B → Type 0) → ((a : A) → o ≡ Some a → (b : B) → f a ≡ Some b → P b) → (b : B) → (o >>= f) ≡ Some b → P b
 every None f P h b e = absurd cc
 every (Some a) f P h b e = h a refl b e
 
-is_some : (c d : Command) → HasRange c → Some c ≡ Some d → HasRange d
+is_some : (c d : Command) → IsInRange c → Some c ≡ Some d → IsInRange d
 is_some c d range e = some_range c d (inner c d e) range
 
-has_range : (w : Subcommand) (value : Text → Option Text) (c : Command) → meaning_of w value ≡ Some c → HasRange c
+has_range : (w : Subcommand) (value : Text → Option Text) (c : Command) → meaning_of w value ≡ Some c → IsInRange c
 unfolding meaning_of
 has_range which.Step value =
-    every (value (codes "save") >>= file_name) (λ save. settings value >>= λ how. Some (Step save how)) HasRange
-    (λ save is. every (settings value) (λ how. Some (Step save how)) HasRange (λ how said d. is_some (Step save how) d (in_range value how said)))
+    every (value (codes "save") >>= file_name) (λ save. settings value >>= λ how. Some (Step save how)) IsInRange
+    (λ save is. every (settings value) (λ how. Some (Step save how)) IsInRange (λ how said d. is_some (Step save how) d (in_range value how said)))
 has_range which.Run value =
-    every (value (codes "save") >>= file_name) (λ save. settings value >>= λ how. Some (Run save how)) HasRange
-    (λ save is. every (settings value) (λ how. Some (Run save how)) HasRange (λ how said d. is_some (Run save how) d (in_range value how said)))
+    every (value (codes "save") >>= file_name) (λ save. settings value >>= λ how. Some (Run save how)) IsInRange
+    (λ save is. every (settings value) (λ how. Some (Run save how)) IsInRange (λ how said d. is_some (Run save how) d (in_range value how said)))
 has_range which.Verify value =
-    every (value (codes "IMAGE") >>= file_name) (λ image. value (codes "DIGESTS") >>= file_name >>= λ digests. or_default 1 (number_in 1 16) (value (codes "workers")) >>= λ workers. Some (Verify image digests workers)) HasRange
-    (λ image is. every (value (codes "DIGESTS") >>= file_name) (λ digests. or_default 1 (number_in 1 16) (value (codes "workers")) >>= λ workers. Some (Verify image digests workers)) HasRange
-    (λ digests are. every (or_default 1 (number_in 1 16) (value (codes "workers"))) (λ workers. Some (Verify image digests workers)) HasRange
-    (λ workers work d. is_some (Verify image digests workers) d tt)))
+    every (value (codes "IMAGE") >>= file_name) (λ image. value (codes "DIGESTS") >>= file_name >>= λ digests. or_default 1 (number_in 1 16) (value (codes "workers")) >>= λ workers. Some (Verify image digests workers)) IsInRange
+    (λ image is. every (value (codes "DIGESTS") >>= file_name) (λ digests. or_default 1 (number_in 1 16) (value (codes "workers")) >>= λ workers. Some (Verify image digests workers)) IsInRange
+    (λ digests are. every (or_default 1 (number_in 1 16) (value (codes "workers"))) (λ workers. Some (Verify image digests workers)) IsInRange
+    (λ workers work d. let within = or_within 1 1 16 (record { least = omega arith; most = omega arith }) (value (codes "workers")) workers work in
+    is_some (Verify image digests workers) d (within.least, within.most))))
 has_range which.Extract value =
-    every (value (codes "HONEST") >>= file_name) (λ honest. value (codes "SUSPECT") >>= file_name >>= λ suspect. value (codes "DIGESTS") >>= file_name >>= λ digests. Some (Extract honest suspect digests)) HasRange
-    (λ honest is. every (value (codes "SUSPECT") >>= file_name) (λ suspect. value (codes "DIGESTS") >>= file_name >>= λ digests. Some (Extract honest suspect digests)) HasRange
-    (λ suspect also. every (value (codes "DIGESTS") >>= file_name) (λ digests. Some (Extract honest suspect digests)) HasRange
+    every (value (codes "HONEST") >>= file_name) (λ honest. value (codes "SUSPECT") >>= file_name >>= λ suspect. value (codes "DIGESTS") >>= file_name >>= λ digests. Some (Extract honest suspect digests)) IsInRange
+    (λ honest is. every (value (codes "SUSPECT") >>= file_name) (λ suspect. value (codes "DIGESTS") >>= file_name >>= λ digests. Some (Extract honest suspect digests)) IsInRange
+    (λ suspect also. every (value (codes "DIGESTS") >>= file_name) (λ digests. Some (Extract honest suspect digests)) IsInRange
     (λ digests are d. is_some (Extract honest suspect digests) d tt)))
 has_range which.Replay value =
-    every (value (codes "JOURNAL") >>= file_name) (λ journal. value (codes "save") >>= file_name >>= λ save. Some (Replay journal save)) HasRange
-    (λ journal is. every (value (codes "save") >>= file_name) (λ save. Some (Replay journal save)) HasRange
+    every (value (codes "JOURNAL") >>= file_name) (λ journal. value (codes "save") >>= file_name >>= λ save. Some (Replay journal save)) IsInRange
+    (λ journal is. every (value (codes "save") >>= file_name) (λ save. Some (Replay journal save)) IsInRange
     (λ save also d. is_some (Replay journal save) d tt))
 has_range which.Gen value =
-    every (value (codes "COUNT") >>= number_in 1 10000) (λ count. Some (Gen count)) HasRange
+    every (value (codes "COUNT") >>= number_in 1 10000) (λ count. Some (Gen count)) IsInRange
     (λ count is d. let b = bound (value (codes "COUNT")) (number_in 1 10000) count is in
     let within = number_within 1 10000 b.value count b.rest in is_some (Gen count) d (within.least, within.most))
 
-arguments_range : (w : Subcommand) (words : List Text) (c : Command) → arguments_of w words ≡ Some c → HasRange c
+arguments_range : (w : Subcommand) (words : List Text) (c : Command) → arguments_of w words ≡ Some c → IsInRange c
 unfolding arguments_of
 arguments_range w words c e = go (has_dashes words) e
   where
-    go : (b : Bool) → (if b then None else uses_of (options_of w) (operands_of w) words >>= λ uses. meaning_of w (given uses)) ≡ Some c → HasRange c
+    go : (b : Bool) → (if b then None else uses_of (options_of w) (operands_of w) words >>= λ uses. meaning_of w (given uses)) ≡ Some c → IsInRange c
     go true f = absurd cc
     go false f =
         let a = bound (uses_of (options_of w) (operands_of w) words) (λ uses. meaning_of w (given uses)) c f in
         has_range w (given a.value) c a.rest
 
-helped : (b : Bool) (w : Subcommand) (o : Option Command) (c : Command) → ((d : Command) → o ≡ Some d → HasRange d)
-    → (if b then Some (said.Help (Some w)) else o) ≡ Some c → HasRange c
+helped : (b : Bool) (w : Subcommand) (o : Option Command) (c : Command) → ((d : Command) → o ≡ Some d → IsInRange d)
+    → (if b then Some (said.Help (Some w)) else o) ≡ Some c → IsInRange c
 helped true w o c range e = some_range _ c (inner _ c e) tt
 helped false w o c range e = range c e
 
-alone_range : (word : Text) (c : Command) → alone word ≡ Some c → HasRange c
+alone_range : (word : Text) (c : Command) → alone word ≡ Some c → IsInRange c
 unfolding alone
 alone_range word c e =
     go (bytes_eq word (codes "--help") || bytes_eq word (codes "-h")) (bytes_eq word (codes "--version") || bytes_eq word (codes "-V")) e
   where
-    go : (a b : Bool) → (if a then Some (said.Help None) else if b then Some said.Version else None) ≡ Some c → HasRange c
+    go : (a b : Bool) → (if a then Some (said.Help None) else if b then Some said.Version else None) ≡ Some c → IsInRange c
     go true b f = some_range _ c (inner _ c f) tt
     go false true f = some_range _ c (inner _ c f) tt
     go false false f = absurd cc
 
-behind_range : (o : Option Subcommand) (word : Text) (words : List Text) (c : Command) → behind o word words ≡ Some c → HasRange c
+behind_range : (o : Option Subcommand) (word : Text) (words : List Text) (c : Command) → behind o word words ≡ Some c → IsInRange c
 behind_range (Some w) word words c e = helped (asks_help words) w (arguments_of w words) c (arguments_range w words) e
 behind_range None word [] c e = alone_range word c e
 behind_range None word (x ∷ xs) c e = absurd cc
 
-command_range : (words : List Text) (c : Command) → command_of words ≡ Some c → HasRange c
+pub command_range : (words : List Text) (c : Command) → command_of words ≡ Some c → IsInRange c
 unfolding command_of
 command_range [] c e = absurd cc
 command_range (word ∷ words) c e = behind_range (named word) word words c e
 
-pub step_in_range : (words : List Text) (save : Text) (how : Settings) → command_of words ≡ Some (Step save how) → AreInRange how
-step_in_range words save how e = command_range words (Step save how) e
-
-pub run_in_range : (words : List Text) (save : Text) (how : Settings) → command_of words ≡ Some (Run save how) → AreInRange how
-run_in_range words save how e = command_range words (Run save how) e
-
-pub count_in_range : (words : List Text) (count : ℕ) → command_of words ≡ Some (Gen count) → (1 ≤ count) × (count ≤ 10000)
-count_in_range words count e = command_range words (Gen count) e
+-- the same of a command of the code
+pub view_range : (words : List Text) (c : Option coded.Command) → option_map command_view c ≡ command_of words → IfSome c (λ command. IsInRange (command_view command))
+view_range words None e = tt
+view_range words (Some command) e = command_range words (command_view command) (sym e)

@@ -39,6 +39,14 @@ pub data Command : Type 0 where
   Help : Option Subcommand → Command
   Version : Command
 
+-- its values have their ranges
+abbrev pub IsInRange : Command → Type 0
+IsInRange (Step save how) = AreInRange how
+IsInRange (Run save how) = AreInRange how
+IsInRange (Verify image digests workers) = (1 ≤ workers) × (workers ≤ 16)
+IsInRange (Gen count) = (1 ≤ count) × (count ≤ 10000)
+IsInRange _ = Unit {0}
+
 -- what was given under a name
 abbrev pub given : List Use → Text → Option Text
 given uses name = option_map (λ u. u.1) (find (λ u. bytes_eq u.0 name) uses)

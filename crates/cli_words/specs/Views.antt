@@ -1,6 +1,6 @@
 -- The types of the code, as the definitions see them.
 use Rattle.cli_words.specs.Commands.{Settings, Command, Step, Run, Verify, Extract, Replay, Gen, Help, Version}
-use Rattle.cli_words.specs.declared.command.Settings as code
+use Rattle.server_result.specs.declared.settings.Settings as code
 use Rattle.cli_words.specs.declared.command.Command as coded
 use Rattle.cli_words.specs.declared.command.Command.TheVariants as words
 

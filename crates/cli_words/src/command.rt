@@ -1,28 +1,18 @@
 // The command that the words say.
-ghost use Rattle.std.specs.Prelude.{◌≡◌, IfOk, map, drop, codes, string_bytes, option_map, option_copied};
+ghost use Rattle.std.specs.Prelude.{◌≡◌, IfOk, IfSome, map, drop, codes, string_bytes, option_map, option_copied};
 ghost use Rattle.std.specs.List.{list_any};
 ghost use Rattle.std.specs.Str.{bytes_eq};
 ghost use Rattle.clap.specs.Words.{found_of, first_value};
 ghost use Rattle.cli_words.specs.Commands as spec;
 ghost use Rattle.cli_words.specs.Views.{settings_view, command_view};
 
-use crate::forms::{database_or_default, file_name, number_if_given, number_in, number_or};
+use crate::forms::{database_or_default, file_name, number_if_given, number_or, small_number_in};
 use crate::line::read_line;
 use crate::subcommand::Subcommand;
 use base_types::{MAX_TICKS, Memory};
 use clap::ArgMatches;
+use server_result::Settings;
 use std::alloc::Global;
-
-/// How statements are run.
-#[derive(Clone, Copy)]
-pub struct Settings<'a> {
-    /// The most transactions of a block, 1 to 100,000.
-    pub block_size: u64,
-    /// The moment that each statement has, in ticks; where there is none, the clock says it.
-    pub clock: Option<u64>,
-    /// The name of the database.
-    pub database: &'a str,
-}
 
 /// A command, and what it is given.
 #[derive(Clone, Copy)]
@@ -45,8 +35,8 @@ pub enum Command<'a> {
         image: &'a str,
         /// The name of the digests that it is held against.
         digests: &'a str,
-        /// How many workers look at it, 1 to 16.
-        workers: u64,
+        /// How many threads look at it at most, 1 to 16.
+        workers: u32,
     },
     /// Says what two images are to each other.
     Extract {
@@ -64,9 +54,10 @@ pub enum Command<'a> {
         /// The name that the files are saved under.
         save: &'a str,
     },
-    /// Runs and verifies a workload of this size, 1 to 10,000.
+    /// Runs and verifies a workload.
     Gen {
-        count: u64,
+        /// How many rows each of its tables has, 1 to 10,000.
+        count: u32,
     },
     /// Prints help on one command, or on all.
     Help(Option<Subcommand>),
@@ -153,7 +144,7 @@ fn gen_of<'a>(matches: &ArgMatches<'a>) -> Option<Command<'a>>
     ensures { option_map command_view result
         ≡ spec.meaning_of Subcommand.Gen (first_value (found_of matches.now)) }
 {
-    let count = number_in(1, 10_000, matches.get_str("COUNT")?)?;
+    let count = small_number_in(1, 10_000, matches.get_str("COUNT")?)?;
     Some(Command::Gen { count })
 }
 
@@ -218,9 +209,9 @@ fn alone<'a>(word: &str) -> Option<Command<'a>>
     }
 }
 
-/// The command that the words say; none exactly where they have no command's form.
+/// The command that the words say.
 #[tactic(auto, unfolding(crate::specs::Commands::command_of))]
-pub fn read_command<'a>(alloc: Global, words: &'a [String]) -> Result<Option<Command<'a>>, Memory>
+fn command_of<'a>(alloc: Global, words: &'a [String]) -> Result<Option<Command<'a>>, Memory>
     ensures { IfOk result (λ c. option_map command_view c
         ≡ spec.command_of (map string_bytes words.entry.now)) }
 {
@@ -241,4 +232,14 @@ pub fn read_command<'a>(alloc: Global, words: &'a [String]) -> Result<Option<Com
             None
         }),
     }
+}
+
+/// The command that the words say, whose values have their ranges; none exactly where they have no command's
+/// form.
+pub fn read_command<'a>(alloc: Global, words: &'a [String]) -> Result<Option<Command<'a>>, Memory>
+    ensures said { IfOk result (λ c. option_map command_view c
+        ≡ spec.command_of (map string_bytes words.entry.now)) }
+    ensures in_range { IfOk result (λ c. IfSome c (λ command. spec.IsInRange (command_view command))) }
+{
+    command_of(alloc, words)
 }

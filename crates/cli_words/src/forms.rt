@@ -1,5 +1,5 @@
 // The forms of values.
-ghost use Rattle.std.specs.Prelude.{◌≡◌, ◌≤◌, codes, length, true, option_copied};
+ghost use Rattle.std.specs.Prelude.{◌≡◌, ◌≤◌, codes, length, true, option_copied, IfSome};
 ghost use Rattle.std.specs.List.{list_all};
 ghost use Rattle.std.specs.Char.{is_ascii_digit};
 ghost use Rattle.base_types.specs.DatabaseName.{is_database_byte, starts_as_name};
@@ -98,7 +98,8 @@ fn number_of(digits: &[u8]) -> u64
 /// The number of the text, where it is one from `low` to `high`.
 #[tactic(auto, unfolding(crate::specs::Forms::number_in, crate::specs::Forms::is_number))]
 pub(crate) fn number_in(low: u64, high: u64, text: &str) -> Option<u64>
-    ensures { result ≡ number_in low high text.now }
+    ensures is { result ≡ number_in low high text.now }
+    ensures most { IfSome result (λ n. n ≤ high) }
 {
     let digits = text.as_bytes();
     if !is_number(digits) {
@@ -108,12 +109,20 @@ pub(crate) fn number_in(low: u64, high: u64, text: &str) -> Option<u64>
     if low <= n && n <= high { Some(n) } else { None }
 }
 
+/// The same of a number of 32 bits.
+pub(crate) fn small_number_in(low: u32, high: u32, text: &str) -> Option<u32>
+    ensures { result ≡ number_in low high text.now }
+{
+    let n = number_in(low as u64, high as u64, text)?;
+    Some(n as u32)
+}
+
 /// The number, or `default` where none is given.
-pub(crate) fn number_or(default: u64, low: u64, high: u64, text: Option<&str>) -> Option<u64>
+pub(crate) fn number_or(default: u32, low: u32, high: u32, text: Option<&str>) -> Option<u32>
     ensures { result ≡ or_default default (number_in low high) (option_copied text.entry) }
 {
     match text {
-        Some(text) => number_in(low, high, text),
+        Some(text) => small_number_in(low, high, text),
         None => Some(default),
     }
 }

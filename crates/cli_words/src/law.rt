@@ -1,7 +1,7 @@
 // Which words are accepted, in spelled form.
-ghost use Rattle.std.specs.Prelude.{◌≡◌, ◌≤◌, ℕ, List, Some};
+ghost use Rattle.std.specs.Prelude.{◌≡◌, List, Some};
 ghost use Rattle.cli_words.specs.Arguments.{Says};
-ghost use Rattle.cli_words.specs.Commands.{AreInRange, Command, Gen, Run, Settings, Step, arguments_of, command_of};
+ghost use Rattle.cli_words.specs.Commands.{Command, IsInRange, arguments_of, command_of};
 ghost use Rattle.cli_words.specs.Line.{Text};
 ghost use Rattle.cli_words.specs.declared.subcommand.Subcommand.{Subcommand};
 
@@ -13,12 +13,7 @@ pub fn words_law()
         → arguments_of which words ≡ Some command → Says which words command }
 {}
 
-/// The settings that words say have their ranges and their form, and so has the count of `gen`.
+/// The values of a command that words say have their ranges, and the settings of a run their form.
 pub fn settings_are_in_range()
-    ensures step { (words : List Text) (save : Text) (how : Settings)
-        → command_of words ≡ Some (Step save how) → AreInRange how }
-    ensures run { (words : List Text) (save : Text) (how : Settings)
-        → command_of words ≡ Some (Run save how) → AreInRange how }
-    ensures count { (words : List Text) (count : ℕ)
-        → command_of words ≡ Some (Gen count) → (1 ≤ count) × (count ≤ 10000) }
+    ensures { (words : List Text) (command : Command) → command_of words ≡ Some command → IsInRange command }
 {}

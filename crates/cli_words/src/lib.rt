@@ -8,7 +8,7 @@ mod law;
 mod line;
 mod subcommand;
 
-pub use command::{Command, Settings, read_command};
+pub use command::{Command, read_command};
 pub use help::{HELP, USAGE, VERSION, help_text};
 pub use law::{settings_are_in_range, words_law};
 pub use subcommand::Subcommand;

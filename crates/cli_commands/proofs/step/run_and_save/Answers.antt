@@ -5,11 +5,9 @@ pub returns-clause-ran : goal.returns-clause-ran
 returns-clause-ran g c =
     let is = c.in-Ok.ensures.run in
     ran_within c.save_and_write.result _ _ _ (λ saved. record {
-      statements = is.statements;
-      run = is.run;
+      said = is.said;
       output = c.in-Ok.ran;
       within = is.within;
       came = is.came;
-      is = is.is;
       saved = saved;
     }) c.save_and_write.ensures.saved

@@ -12,12 +12,10 @@ returns-clause-read g c = read_told line_form c.run_and_save.result _ _ _ _ _ c.
 pub returns-clause-ran : goal.returns-clause-ran
 returns-clause-ran g c =
     ran_within c.run_and_save.result _ _ _ (λ ran. record {
-      statements = ran.statements;
-      run = ran.run;
+      said = ran.said;
       output = ran.output;
       within = bytes_came _ _ c.in-Ok.input _ _ c.in-Ok.ensures.came c.deref.ensures.value ran.within;
       came = ran.came;
-      is = ran.is;
       saved = ran.saved;
     }) c.run_and_save.ensures.ran
 

@@ -1,15 +1,13 @@
 use Rattle.cli_commands.proofs.AnswerLemmas.{ran_within}
-use Rattle.cli_commands.proofs.side_by_side.run_and_save.Goals as goal
+use Rattle.cli_commands.proofs.run.run_and_save.Goals as goal
 
 pub returns-clause-ran : goal.returns-clause-ran
 returns-clause-ran g c =
     let is = c.in-Ok.ensures.run in
     ran_within c.save_and_write.result _ _ _ (λ saved. record {
-      all_sections = is.all_sections;
-      left = is.left;
+      said = is.said;
       output = c.in-Ok.ran;
       within = is.within;
       came = is.came;
-      is = is.is;
       saved = saved;
     }) c.save_and_write.ensures.saved
