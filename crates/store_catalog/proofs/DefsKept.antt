@@ -8,11 +8,12 @@ use Rattle.sql_types.specs.declared.table.TableDef.{TableDef}
 use Rattle.sql_types.specs.declared.table.Part.{Part}
 use Rattle.spec_model.specs.Agreement.{IdsFrom}
 use Rattle.spec_model.specs.Catalog.{Defs, NamedPart, part_named, or_in, find_part}
-use Rattle.spec_model.specs.SystemTables.{columns_def, tables_def}
 use Rattle.law_frame.proofs.Alls.{all_append}
 use Rattle.law_journal.proofs.Created.{Created}
 use Rattle.spec_protocol.specs.CatalogVisits.{replaced_def}
 use Rattle.store_catalog.specs.Definitions.{AreFormed}
+use Rattle.store_catalog.specs.Names.{MayReplace}
+use Rattle.store_catalog.proofs.Named.{may_come_back}
 
 -- ---- one more
 
@@ -71,13 +72,13 @@ formed_in_place defs p new h is few = record {
 }
 
 -- the definitions after and before
-pub formed_instead : (defs after : Defs) (p : ℕ) (new old : TableDef) → after ≡ slice_set defs p new → old ≡ get_or defs p old → AreFormed defs → new.id ≡ p + 1 → p < length defs → length new.columns ≤ 64
-    → AreFormed after × (AreFormed (slice_set after p old) × (p < length after))
-formed_instead defs after p new old is at h id within few = (
+pub formed_instead : (defs after : Defs) (p : ℕ) (new old : TableDef) → after ≡ slice_set defs p new → old ≡ get_or defs p old → AreFormed defs → new.id ≡ p + 1 → MayReplace defs p new → length new.columns ≤ 64
+    → AreFormed after × (AreFormed (slice_set after p old) × MayReplace after p old)
+formed_instead defs after p new old is at h id may few = (
   subst AreFormed (sym is) (formed_in_place defs p new h id few),
   (
     subst AreFormed (sym (ap (λ (ds : Defs). slice_set ds p old) is ∙ before_in_place defs p new old at)) h,
-    omega (arith, within, length_set defs p new, ap (λ (ds : Defs). length ds) is),
+    subst (λ (ds : Defs). MayReplace ds p old) (sym is) (may_come_back defs p new old may at),
   ),
 )
 
@@ -139,5 +140,3 @@ pub found_all : (P : TableDef → Type 0) (defs : Defs) (name : List ℕ) (x : N
 unfolding find_part
 found_all P [] name x e h = cc
 found_all P (def ∷ defs) name x e h = all_by_part P def (part_named def name) (find_part defs name) x e h.0 (λ k. found_all P defs name x k h.1)
-
--- ---- the definitions of the tables of the system

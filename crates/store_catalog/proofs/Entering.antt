@@ -1,5 +1,5 @@
 -- What a CREATE needs of the cell and of the context before it changes them.
-use Rattle.std.proofs.Common.{◌≡◌, ◌≤◌, ◌<◌, ℕ, ◌+◌, ◌-◌, ◌^◌, sym, ap, ap₂, subst, ◌∙◌, List, [], ◌∷◌, ◌++◌, length, get_or, take, Option, Some, arith}
+use Rattle.std.proofs.Common.{◌≡◌, ◌≤◌, ◌<◌, ℕ, ◌+◌, ◌-◌, ◌^◌, refl, sym, ap, ap₂, subst, ◌∙◌, List, [], ◌∷◌, ◌++◌, length, get_or, take, Option, Some, arith}
 use Rattle.std.specs.Prelude.{slice_set}
 use Rattle.std.specs.List.{AllByRecursion}
 use Rattle.sql_types.specs.declared.change.Change.{Change}
@@ -16,6 +16,7 @@ use Rattle.law_journal.proofs.Created.{Created, created}
 use Rattle.spec_protocol.specs.CatalogVisits.{replaced_def}
 use Rattle.spec_protocol.specs.Cells.{CatalogCell, Creator}
 use Rattle.store_catalog.specs.Definitions.{AreFormed}
+use Rattle.store_catalog.specs.Names.{HaveSameNames, MayReplace}
 use Rattle.store_catalog.specs.WorkedOut.{IsNewIndex, IsNewTable}
 use Rattle.store_catalog.specs.declared.creating.NewIndex.{NewIndex}
 use Rattle.store_catalog.specs.declared.creating.NewTable.{NewTable}
@@ -68,6 +69,18 @@ module _ (c : CatalogCell) (tx seq : ℕ) (create : CreateIndex) (new : NewIndex
 
   pub new_id : new.def.id ≡ new.place + 1
   new_id = ap (λ (d : TableDef). d.id) changes_worked_out.now ∙ changes_worked_out.place
+
+  pub may_replace : MayReplace c.defs new.place new.def
+  may_replace = record {
+    within = changes_worked_out.within;
+    same_names = λ d. subst (λ (e : TableDef). HaveSameNames e new.def) (sym (there d)) (subst (HaveSameNames changes_worked_out.def) (sym changes_worked_out.now) (record { id = refl; name = refl; history = refl; view = refl }));
+  }
+    where
+      at_place : of.has_listing.place ≡ new.place
+      at_place = omega (arith, of.has_listing.id, changes_worked_out.place)
+
+      there : (d : TableDef) → get_or c.defs new.place d ≡ changes_worked_out.def
+      there d = subst (λ (n : ℕ). get_or c.defs n d ≡ changes_worked_out.def) at_place (of.has_listing.there d)
 
   pub new_few : length new.def.columns ≤ 64
   new_few = subst (λ (d : TableDef). length d.columns ≤ 64) (sym changes_worked_out.now) changes_worked_out.few

@@ -5,6 +5,7 @@ pub mod DefsKept
 pub mod Entering
 pub mod Fitting
 pub mod Leaves
+pub mod Named
 pub mod NewRows
 pub mod NotedLeaves
 pub mod Shown

@@ -1,11 +1,12 @@
 -- The definitions, and how a change of them is taken back.
-use Rattle.std.specs.Prelude.{ℕ, ◌<◌, ◌≤◌, ◌+◌, ◌-◌, ◌==◌, Bool, false, length, take, slice_set, Option, Some, None}
+use Rattle.std.specs.Prelude.{ℕ, ◌≤◌, ◌+◌, ◌-◌, ◌==◌, Bool, false, length, take, slice_set, Option, Some, None}
 use Rattle.std.specs.List.{AllByRecursion}
 use Rattle.spec_model.specs.Agreement.{IdsFrom}
 use Rattle.spec_model.specs.Catalog.{Defs}
 use Rattle.spec_model.specs.Create.{system_tables}
 use Rattle.spec_model.specs.Limits.{max_columns, max_tables}
 use Rattle.spec_protocol.specs.Cells as cells
+use Rattle.store_catalog.specs.Names.{MayReplace}
 use Rattle.store_catalog.specs.declared.definitions.Creator.{Creator}
 use Rattle.store_catalog.specs.declared.definitions.ReplacedDef.{ReplacedDef}
 
@@ -25,7 +26,7 @@ before defs (Some r) = slice_set defs r.place r.def
 
 abbrev pub IsPlace : Defs → Option ReplacedDef → Type 0
 IsPlace defs None = Unit {0}
-IsPlace defs (Some r) = r.place < length defs
+IsPlace defs (Some r) = MayReplace defs r.place r.def
 
 -- the transaction made it, and hasn't released the catalog
 abbrev pub is_creator : ℕ → Option Creator → Bool

@@ -1,6 +1,7 @@
 pub mod Calls
 pub mod Definitions
+pub mod Names
 pub mod Noted
-pub mod WorkedOut
 pub mod Refusals
 pub mod Rows
+pub mod WorkedOut

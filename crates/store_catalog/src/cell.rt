@@ -1,7 +1,6 @@
 //! The catalog's cell.
 
-ghost use Rattle.std.specs.Prelude.{◌≡◌, ◌≢◌, ◌<◌, Err, IfErr, IfOk, IfSome, Ok, OnErr, OnOk, Some, length};
-ghost use Rattle.std.specs.Prelude.{option_map, vec_capacity};
+ghost use Rattle.std.specs.Prelude.{◌≡◌, ◌≢◌, Err, IfErr, IfOk, IfSome, Ok, OnErr, OnOk, Some, option_map};
 ghost use Rattle.sql_types.specs.declared.reply.Reply.TheVariants as reply;
 ghost use Rattle.sql_types.specs.declared.table.Part.TheVariants.{System};
 ghost use Rattle.sql_types.specs.declared.table.TableDef.{TableDef};
@@ -22,8 +21,8 @@ ghost use Rattle.store_catalog.specs.Calls.{left, undone, IndexMade, LocksTaken,
 
 use crate::creating::{COLUMNS, NewIndex, NewTable, TABLES, work_out_index, work_out_table};
 use crate::definitions::{Creator, ReplacedDef, copy_before, copy_defs, keep_change, undo_change};
-use crate::finding::find;
 use crate::locks::or_refusal;
+use crate::named_defs::NamedDefs;
 use crate::noting::{note_all, note_both, open_both};
 use crate::reading::show;
 use crate::rows::carry_out;
@@ -34,7 +33,6 @@ use sql_types::{CreateIndex, CreateTable, Part, Row, Select, TableDef, Version};
 use sql_value::Refusal;
 use std::alloc::Global;
 use std::marker::Model;
-use std::mem;
 use store_locks::{LockList, LockRequest};
 use store_table::VersionStore;
 use store_tx::TxCtx;
@@ -43,7 +41,7 @@ use store_tx::TxCtx;
 /// locks of the catalog. Contracts see the cell of which the laws on visits speak.
 #[derive(Drop)]
 pub struct CatalogCell {
-    defs: Vec<TableDef>,
+    defs: NamedDefs,
     creator: Option<Creator>,
     tables: VersionStore,
     columns: VersionStore,
@@ -57,31 +55,27 @@ impl Model for CatalogCell {
     ghost Value = { CatalogCell };
 
     ghost view = { λ c. record {
-      defs = c.defs.items;
-      creator = creator_seen c.defs.items c.creator;
+      defs = c.defs;
+      creator = creator_seen c.defs c.creator;
       tables = c.tables.stored.versions;
       columns = c.columns.stored.versions;
       holds = c.locks;
     } };
 
-    ghost invariant = { λ c. AreFormed c.defs.items × MayTakeBack c.defs.items c.creator };
+    ghost invariant = { λ c. AreFormed c.defs × MayTakeBack c.defs c.creator };
 }
 
-// Makes room for a definition, for a row in the table of tables, and for so many in that of columns.
+// Makes room for a row in the table of tables, and for so many in that of columns.
 fn reserve(
-    defs: &mut Vec<TableDef>,
     tables: &mut VersionStore,
     columns: &mut VersionStore,
     count: usize,
 ) -> Result<(), Memory>
-    ensures defs { defs.new.items ≡ defs.old.items }
     ensures tables { tables.new.stored ≡ tables.old.stored }
     ensures columns { columns.new.stored ≡ columns.old.stored }
-    ensures for_def { OnOk result (length defs.new.items < vec_capacity defs.new) }
     ensures for_row { OnOk result (tables.new.room ≡ 1) }
     ensures for_rows { OnOk result (columns.new.room ≡ count) }
 {
-    defs.reserve(1)?;
     tables.reserve(1)?;
     columns.reserve(count)
 }
@@ -96,8 +90,11 @@ impl CatalogCell {
         let mut system = first_tables(alloc)?;
         let columns = system.pop().unwrap();
         let tables = system.pop().unwrap();
+        let mut defs = NamedDefs::new(alloc);
+        defs.push(alloc, tables.def)?;
+        defs.push(alloc, columns.def)?;
         Ok(CatalogCell {
-            defs: Vec::from_array(alloc, [tables.def, columns.def])?,
+            defs,
             creator: None,
             tables: VersionStore::new(alloc),
             columns: VersionStore::new(alloc),
@@ -120,7 +117,7 @@ impl CatalogCell {
     pub fn look(&self, name: &Name) -> Option<(&TableDef, Part)>
         ensures { option_map (λ p. (p.0.now, p.1)) result ≡ find_part self.now.defs name.now }
     {
-        find(&self.defs, name)
+        self.defs.find(name)
     }
 
     /// The rows that a SELECT on a system table shows. It is refused as its checks say, or for want of
@@ -162,7 +159,7 @@ impl CatalogCell {
     pub fn copy_defs(&self, alloc: Global) -> Result<Vec<TableDef>, Memory>
         ensures { IfOk result (λ copies. copies.items ≡ self.now.defs) }
     {
-        copy_defs(alloc, &self.defs)
+        copy_defs(alloc, self.defs.as_slice())
     }
 
     /// Copies of the definitions as they were before the creator changed them, where there is one.
@@ -170,8 +167,8 @@ impl CatalogCell {
         ensures { IfOk result (λ copies. IfSome self.now.creator (λ c. copies.items ≡ c.before)) }
     {
         match &self.creator {
-            Some(creator) => copy_before(alloc, &self.defs, &creator.replaced),
-            None => copy_defs(alloc, &self.defs),
+            Some(creator) => copy_before(alloc, self.defs.as_slice(), &creator.replaced),
+            None => copy_defs(alloc, self.defs.as_slice()),
         }
     }
 
@@ -195,11 +192,11 @@ impl CatalogCell {
         let NewTable { def, first, second } = work_out_table(alloc, &self.defs, tx, seq, create)?;
         open_both(ctx)?;
         let count = second.starts.len();
-        reserve(&mut self.defs, &mut self.tables, &mut self.columns, count)?;
+        reserve(&mut self.tables, &mut self.columns, count)?;
+        self.defs.push(alloc, def)?;
         note_both(ctx, first.leaves.as_slice(), second.leaves.as_slice());
         carry_out(&mut self.tables, tx, seq, first.starts);
         carry_out(&mut self.columns, tx, seq + 1, second.starts);
-        self.defs.push_reserved(def);
         self.creator = Some(Creator { tx, replaced: None });
         Ok(())
     }
@@ -233,7 +230,7 @@ impl CatalogCell {
         self.columns.reserve(rows.starts.len())?;
         note_all(ctx, COLUMNS, rows.leaves.as_slice());
         carry_out(&mut self.columns, tx, seq, rows.starts);
-        let def = mem::replace(&mut self.defs[place], def);
+        let def = self.defs.replace(place, def);
         let replaced = Some(ReplacedDef { place, def });
         self.creator = Some(Creator { tx, replaced });
         Ok(answer)

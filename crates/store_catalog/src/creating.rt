@@ -7,7 +7,7 @@ ghost use Rattle.spec_model.specs.Refusals.{MatchesUnlessOom};
 ghost use Rattle.store_catalog.specs.Definitions.{AreFormed};
 ghost use Rattle.store_catalog.specs.WorkedOut.{IsNewIndex, IsNewTable};
 
-use crate::finding::find;
+use crate::named_defs::NamedDefs;
 use crate::rows::{NewRows, new_rows};
 use base_types::{Memory, TableId, TxId};
 use sql_check::{new_index, new_table};
@@ -49,22 +49,18 @@ fn refs_of(alloc: Global, defs: &[TableDef]) -> Result<Vec<&TableDef>, Memory>
     Ok(refs)
 }
 
-fn checked_table(
-    alloc: Global,
-    defs: &[TableDef],
-    create: &CreateTable,
-) -> Result<TableDef, Refusal>
+fn checked_table(alloc: Global, defs: &NamedDefs, create: &CreateTable) -> Result<TableDef, Refusal>
     requires { length defs.now ≤ 34 }
     ensures { MatchesUnlessOom (create_check defs.now create.now) result }
 {
-    let refs = refs_of(alloc, defs)?;
+    let refs = refs_of(alloc, defs.as_slice())?;
     new_table(alloc, &refs, create)
 }
 
 /// The checks of CREATE TABLE, and all that it adds, its events numbered from `seq` on.
 pub(crate) fn work_out_table(
     alloc: Global,
-    defs: &[TableDef],
+    defs: &NamedDefs,
     tx: TxId,
     seq: u64,
     create: &CreateTable,
@@ -93,7 +89,7 @@ fn add_index(alloc: Global, def: &TableDef, index: IndexDef) -> Result<TableDef,
 #[tactic(auto, unfolding(spec_model::specs::Create::index_check))]
 pub(crate) fn work_out_index(
     alloc: Global,
-    defs: &[TableDef],
+    defs: &NamedDefs,
     tx: TxId,
     seq: u64,
     create: &CreateIndex,
@@ -102,7 +98,7 @@ pub(crate) fn work_out_index(
     ensures { MatchResult result (IsNewIndex defs.now tx seq create.now)
         (λ e. e ≢ NoMemory → index_check defs.now create.now ≡ Err e) }
 {
-    let Some((def, part)) = find(defs, &create.table) else {
+    let Some((def, part)) = defs.find(&create.table) else {
         return Err(Refusal::NoSuchTable);
     };
     let index = new_index(alloc, def, part, create)?;

@@ -5,6 +5,7 @@ ghost use Rattle.spec_model.specs.Catalog.{Defs};
 ghost use Rattle.spec_protocol.specs.UndoVisits.{creator_left, defs_before};
 ghost use Rattle.store_catalog.specs.Definitions.{before, creator_seen, is_creator, AreFormed, IsPlace, MayTakeBack};
 
+use crate::named_defs::NamedDefs;
 use base_types::{Memory, TxId};
 use sql_system::copy_def;
 use sql_types::TableDef;
@@ -65,26 +66,26 @@ fn is_creator(creator: &Option<Creator>, tx: TxId) -> bool
     }
 }
 
-fn take_back(defs: &mut Vec<TableDef>, replaced: Option<ReplacedDef>)
-    requires { IsPlace defs.old.items replaced }
-    ensures { defs.new.items ≡ before defs.old.items replaced }
+fn take_back(defs: &mut NamedDefs, replaced: Option<ReplacedDef>)
+    requires { IsPlace defs.old replaced }
+    ensures { defs.new ≡ before defs.old replaced }
 {
     match replaced {
-        Some(ReplacedDef { place, def }) => defs[place] = def,
-        None => {
-            defs.pop();
+        Some(ReplacedDef { place, def }) => {
+            defs.replace(place, def);
         }
+        None => defs.pop(),
     }
 }
 
 /// Takes the change back, where it is the transaction's. Takes no memory.
-pub(crate) fn undo_change(defs: &mut Vec<TableDef>, creator: &mut Option<Creator>, tx: TxId)
-    requires { MayTakeBack defs.old.items creator.old }
-    ensures defs { defs.new.items ≡ defs_before tx (creator_seen defs.old.items creator.old) defs.old.items }
-    ensures creator { creator_seen defs.new.items creator.new
-        ≡ creator_left tx (creator_seen defs.old.items creator.old) }
-    ensures formed { AreFormed defs.old.items → AreFormed defs.new.items }
-    ensures back { MayTakeBack defs.new.items creator.new }
+pub(crate) fn undo_change(defs: &mut NamedDefs, creator: &mut Option<Creator>, tx: TxId)
+    requires { MayTakeBack defs.old creator.old }
+    ensures defs { defs.new ≡ defs_before tx (creator_seen defs.old creator.old) defs.old }
+    ensures creator { creator_seen defs.new creator.new
+        ≡ creator_left tx (creator_seen defs.old creator.old) }
+    ensures formed { AreFormed defs.old → AreFormed defs.new }
+    ensures back { MayTakeBack defs.new creator.new }
 {
     if !is_creator(creator, tx) {
         return;

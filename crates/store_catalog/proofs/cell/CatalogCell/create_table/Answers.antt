@@ -1,30 +1,29 @@
-use Rattle.std.proofs.Common.{◌≡◌, ◌++◌, ◌∷◌, [], refl, sym, ap, subst, ◌∙◌, List, length, arith}
+use Rattle.std.proofs.Common.{◌≡◌, refl, sym, ap, subst, ◌∙◌, List, length, arith}
 use Rattle.std.specs.Prelude.{Some, None}
 use Rattle.sql_types.specs.declared.change.Change.{Change}
-use Rattle.spec_model.specs.Catalog.{Defs}
 use Rattle.spec_model.specs.SystemTables.{columns_id}
 use Rattle.law_journal.proofs.Created.{created}
 use Rattle.spec_protocol.specs.Cells.{CatalogCell}
 use Rattle.store_table.specs.Stored.{Stored}
 use Rattle.store_catalog.specs.Calls.{TableMade}
-use Rattle.store_catalog.specs.Definitions.{AreFormed, MayTakeBack, creator_seen}
-use Rattle.store_catalog.specs.WorkedOut.{IsNewTable}
+use Rattle.store_catalog.specs.Definitions.{creator_seen}
 use Rattle.store_catalog.proofs.Creates.{has_table, made_before}
 use Rattle.store_catalog.proofs.DefsKept.{formed_after}
 use Rattle.store_catalog.proofs.Entering.{entered, leaves_room}
+use Rattle.store_catalog.proofs.Named.{new_names}
 use Rattle.store_catalog.proofs.NewRows.{all_later}
 use Rattle.store_catalog.proofs.cell.CatalogCell.create_table.Goals as goal
 
-pub work_out_table-requires : goal.work_out_table-requires
-work_out_table-requires g c = subst AreFormed (sym c.deref.ensures.value) c.self.invariant.0
+pub push-requires : goal.push-requires
+push-requires g c = new_names c.self.inside.defs c.args.create.now c.in_ok-def.field-0.def c.in_ok-def.ensures.passes
 
 pub note_both-requires-after_bounds : goal.note_both-requires-after_bounds
 note_both-requires-after_bounds g c κs within =
     let m = c.requires in
     let s = c.self.inside in
     let new = c.in_ok-def.field-0 in
-    let cell : CatalogCell = record { defs = s.defs.items; creator = creator_seen s.defs.items s.creator; tables = s.tables.stored.versions; columns = s.columns.stored.versions; holds = s.locks } in
-    let changes_worked_out = subst (λ (ds : Defs). IsNewTable ds c.id-tx.result c.seq-seq.result c.args.create.now new) c.deref.ensures.value c.in_ok-def.ensures in
+    let cell : CatalogCell = record { defs = s.defs; creator = creator_seen s.defs s.creator; tables = s.tables.stored.versions; columns = s.columns.stored.versions; holds = s.locks } in
+    let changes_worked_out = c.in_ok-def.ensures in
     record {
       h = m.h;
       o = m.o;
@@ -62,16 +61,11 @@ carry_out-requires-2 g c =
       numbers = omega (arith, second, c.in_ok-def.ensures.second.room);
     }
 
-pub invariant_of-self : goal.invariant_of-self
-invariant_of-self g c = subst (λ (ds : Defs). AreFormed ds × MayTakeBack ds c.self.inside.creator) (sym c.reserve.ensures.defs) c.self.invariant
-
 pub invariant_of-self-2 : goal.invariant_of-self-2
 invariant_of-self-2 g c =
     let s = c.self.inside in
     let new = c.in_ok-def.field-0 in
-    let changes_worked_out = subst (λ (ds : Defs). IsNewTable ds c.id-tx.result c.seq-seq.result c.args.create.now new) c.deref.ensures.value c.in_ok-def.ensures in
-    let both = formed_after s.defs.items c.push_reserved.new.self.items new.def (c.push_reserved.ensures.items ∙ ap (λ (ds : Defs). ds ++ new.def ∷ []) c.reserve.ensures.defs)
-    c.self.invariant.0 (created s.defs.items c.args.create.now new.def changes_worked_out.passes) in
+    let both = formed_after s.defs c.push.new.self new.def c.in_ok-push.ensures.ok c.self.invariant.0 (created s.defs c.args.create.now new.def c.in_ok-def.ensures.passes) in
     (both.0, (both.1, tt))
 
 pub returns-clause-ok : goal.returns-clause-ok
@@ -85,14 +79,14 @@ returns-clause-ok g c =
     let create = c.args.create.now in
     let fl = c.as_slice.result.now in
     let sl = c.as_slice-2.result.now in
-    let ds = c.push_reserved.new.self.items in
-    let cell : CatalogCell = record { defs = s.defs.items; creator = creator_seen s.defs.items s.creator; tables = s.tables.stored.versions; columns = s.columns.stored.versions; holds = s.locks } in
+    let ds = c.push.new.self in
+    let cell : CatalogCell = record { defs = s.defs; creator = creator_seen s.defs s.creator; tables = s.tables.stored.versions; columns = s.columns.stored.versions; holds = s.locks } in
     let after : CatalogCell = record { defs = ds; creator = creator_seen ds (Some (record { tx = tx; replaced = None })); tables = c.carry_out.new.rows.stored.versions; columns = c.carry_out-2.new.rows.stored.versions; holds = s.locks } in
-    let changes_worked_out = subst (λ (xs : Defs). IsNewTable xs tx seq create new) c.deref.ensures.value c.in_ok-def.ensures in
+    let changes_worked_out = c.in_ok-def.ensures in
     let old_tables = made_before m.o.id m.o.seq tx seq c.args.self.now.tables cell.tables (sym (c.id-tx.ensures m.h m.o m.is)) (sym (c.seq-seq.ensures m.h m.o m.is)) (sym (ap (λ (x : CatalogCell). x.tables) c.self.view_is)) m.tables in
     let old_columns = made_before m.o.id m.o.seq tx seq c.args.self.now.columns cell.columns (sym (c.id-tx.ensures m.h m.o m.is)) (sym (c.seq-seq.ensures m.h m.o m.is)) (sym (ap (λ (x : CatalogCell). x.columns) c.self.view_is)) m.columns in
     let e = entered cell tx seq create new changes_worked_out fl sl c.as_slice.ensures c.as_slice-2.ensures after c.reserve.new.tables.stored.versions c.reserve.new.columns.stored.versions old_tables old_columns
-    (c.push_reserved.ensures.items ∙ ap (λ (xs : Defs). xs ++ new.def ∷ []) c.reserve.ensures.defs) refl
+    c.in_ok-push.ensures.ok refl
     (ap (λ (t : Stored). t.versions) c.reserve.ensures.tables) (ap (λ (t : Stored). t.versions) c.reserve.ensures.columns) c.carry_out.ensures c.carry_out-2.ensures refl in
     subst (λ (x : CatalogCell). TableMade digest x c.args.ctx.now create after c.note_both.new.ctx) c.self.view_is
     (record {

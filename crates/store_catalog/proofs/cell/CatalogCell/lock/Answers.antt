@@ -17,8 +17,8 @@ pub returns-clause-ok : goal.returns-clause-ok
 returns-clause-ok c =
     let holds = ap (λ (x : CatalogCell). x.holds) c.self.view_is in
     let after : CatalogCell = record {
-      defs = c.self.inside.defs.items;
-      creator = creator_seen c.self.inside.defs.items c.self.inside.creator;
+      defs = c.self.inside.defs;
+      creator = creator_seen c.self.inside.defs c.self.inside.creator;
       tables = c.self.inside.tables.stored.versions;
       columns = c.self.inside.columns.stored.versions;
       holds = c.ask.new.self;

@@ -12,8 +12,8 @@ invariant_of-self c = (c.undo_change.ensures.formed c.self.invariant.0, c.undo_c
 pub returns : goal.returns
 returns c =
     let s = c.self.inside in
-    let ds = c.undo_change.new.defs.items in
-    let cell : CatalogCell = record { defs = s.defs.items; creator = creator_seen s.defs.items s.creator; tables = s.tables.stored.versions; columns = s.columns.stored.versions; holds = s.locks } in
+    let ds = c.undo_change.new.defs in
+    let cell : CatalogCell = record { defs = s.defs; creator = creator_seen s.defs s.creator; tables = s.tables.stored.versions; columns = s.columns.stored.versions; holds = s.locks } in
     let after : CatalogCell = record { defs = ds; creator = creator_seen ds c.undo_change.new.creator; tables = c.undo.new.self.stored.versions; columns = c.undo-2.new.self.stored.versions; holds = s.locks } in
     subst (λ (x : CatalogCell). after ≡ undone c.args.tx x) c.self.view_is
     (same_cell after (undone c.args.tx cell) c.undo_change.ensures.defs c.undo_change.ensures.creator
