@@ -1,8 +1,6 @@
 pub mod Bad
-pub mod Counts
 pub mod EntryPlaces
 pub mod EventIds
-pub mod FirstValues
 pub mod Fitting
 pub mod GroupParts
 pub mod Grouped
@@ -21,12 +19,10 @@ pub mod Leaves
 pub mod Neighbours
 pub mod Owned
 pub mod Places
-pub mod RuleGroups
 pub mod Searches
 pub mod Runs
 pub mod Small
 pub mod Sortings
-pub mod Encoded
 pub mod Started
 pub mod StoredRows
 pub mod Strangers
@@ -34,7 +30,5 @@ pub mod TableFaults
 pub mod TableRoots
 pub mod Tables
 pub mod VerdictParts
-pub mod Verdicts
-pub mod Walks
 pub mod WorstParts
 pub mod WrongRoots

@@ -5,7 +5,7 @@ use Rattle.spec_model.specs.Events.{version_events}
 use Rattle.audit_verify.specs.declared.shown.ImageTable.{ImageTable}
 use Rattle.audit_verify.specs.Marks.{events_shown}
 use Rattle.audit_verify.specs.ImageTable.{def_of, rows_of}
-use Rattle.audit_verify.proofs.Walks.{from_here}
+use Rattle.audit_definitions.proofs.Walks.{from_here}
 
 pub events_of_parts : (s : ImageTable) → flat_map (version_events (def_of s).id) (rows_of s).base ++ flat_map (version_events (def_of s).id) (rows_of s).history ≡ events_shown s
 events_of_parts s = sym (flat_map-append (version_events (def_of s).id) (rows_of s).base (rows_of s).history)

@@ -25,7 +25,7 @@ use Rattle.law_catalog_rows.specs.Differs.{table_of}
 use Rattle.spec_verify.specs.Sentences.{VersionHolds, TableVersion, versions_of_image}
 use Rattle.spec_verify.specs.Versions.{has_columns, version_fault}
 use Rattle.spec_verify.proofs.ToldVersions.{versions_told}
-use Rattle.audit_verify.specs.DefinitionRows.{HasSmallId, base_in}
+use Rattle.audit_definitions.specs.DefinitionRows.{HasSmallId, base_in}
 
 abbrev IsSmall : ℤ → Type 0
 IsSmall n = FitsSigned w64 n

@@ -15,7 +15,7 @@ use Rattle.audit_verify.specs.declared.shown.ImageTable.{ImageTable}
 use Rattle.audit_verify.specs.Ids.{is_stranger, strangers_of, strangers_in}
 use Rattle.audit_verify.specs.ImageTable.{def_of, rows_of, table_of, AreImageTables}
 use Rattle.audit_verify.proofs.Tables.{are_tables}
-use Rattle.audit_verify.proofs.Walks.{filter_parts, map_parts, over_map, one_tested, least_append}
+use Rattle.audit_definitions.proofs.Walks.{filter_parts, map_parts, over_map, one_tested, least_append}
 
 abbrev as_event : Event → TableEvent
 as_event e = (e.table, (e.tx, e.seq))

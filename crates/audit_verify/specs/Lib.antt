@@ -5,14 +5,11 @@ pub mod Ids
 pub mod Indexes
 pub mod Marks
 pub mod Numbered
-pub mod Numbers
 pub mod Order
 pub mod Positions
 pub mod Roots
-pub mod Rules
 pub mod Runs
 pub mod ImageTable
-pub mod DefinitionRows
 pub mod Versions
 pub mod WrongRoots
 pub mod Verdict

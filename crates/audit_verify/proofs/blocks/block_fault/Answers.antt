@@ -4,7 +4,7 @@ use Rattle.spec_verify.specs.declared.place.Place.TheVariants as at
 use Rattle.spec_verify.specs.Blocks.{block_holds}
 use Rattle.spec_verify.specs.First.{unless}
 use Rattle.audit_verify.proofs.Fitting.{entries_more}
-use Rattle.audit_verify.proofs.Walks.{first_next}
+use Rattle.audit_definitions.proofs.Walks.{first_next}
 use Rattle.audit_verify.proofs.blocks.block_fault.Goals as goal
 
 pub loop-b-preserved : goal.loop-b-preserved

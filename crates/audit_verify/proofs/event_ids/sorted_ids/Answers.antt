@@ -3,7 +3,7 @@ use Rattle.spec_model.specs.Lists.{sorted}
 use Rattle.spec_model.specs.Rows.{EventId, event_cmp}
 use Rattle.audit_verify.specs.EventIds.{ids_in, ids_shown}
 use Rattle.audit_verify.specs.ImageTable.{table_of}
-use Rattle.audit_verify.proofs.Walks.{over_map}
+use Rattle.audit_definitions.proofs.Walks.{over_map}
 use Rattle.audit_verify.proofs.event_ids.sorted_ids.Goals as goal
 
 pub returns : goal.returns

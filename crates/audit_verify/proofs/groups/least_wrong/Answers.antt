@@ -5,7 +5,7 @@ use Rattle.law_catalog_rows.specs.Least.{least, least_from}
 use Rattle.spec_verify.specs.Entries.{TableRoot, same_root, root_at}
 use Rattle.audit_verify.specs.Groups.{is_table}
 use Rattle.audit_verify.specs.ImageTable.{table_of}
-use Rattle.audit_verify.proofs.Walks.{least_append}
+use Rattle.audit_definitions.proofs.Walks.{least_append}
 use Rattle.audit_verify.proofs.WrongRoots.{shown_is}
 use Rattle.audit_verify.proofs.groups.least_wrong.Goals as goal
 

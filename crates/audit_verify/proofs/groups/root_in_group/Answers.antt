@@ -5,7 +5,7 @@ use Rattle.audit_verify.specs.declared.marks.Mark.{Mark}
 use Rattle.audit_verify.specs.Marks.{tx_of, HasValues}
 use Rattle.audit_verify.specs.ImageTable.{table_of}
 use Rattle.audit_verify.specs.WrongRoots.{wrong_told}
-use Rattle.audit_verify.proofs.Verdicts.{same_ok}
+use Rattle.audit_definitions.proofs.Verdicts.{same_ok}
 use Rattle.audit_verify.proofs.WrongRoots.{told_is}
 use Rattle.audit_verify.proofs.groups.root_in_group.Goals as goal
 

@@ -7,7 +7,7 @@ use Rattle.spec_verify.specs.Versions.{bad_versions}
 use Rattle.audit_verify.specs.declared.shown.ImageTable.{ImageTable}
 use Rattle.audit_verify.specs.Order.{AreStarted}
 use Rattle.audit_verify.specs.ImageTable.{table_of}
-use Rattle.audit_verify.proofs.Walks.{over_map}
+use Rattle.audit_definitions.proofs.Walks.{over_map}
 use Rattle.audit_verify.proofs.groups.version_in_group.Goals as goal
 
 pub least_invalid_version-requires : goal.least_invalid_version-requires

@@ -3,7 +3,7 @@ use Rattle.sql_types.specs.declared.entry.TxEntry.{TxEntry}
 use Rattle.spec_verify.specs.Groups.{found_at}
 use Rattle.audit_verify.specs.ImageTable.{table_of}
 use Rattle.audit_verify.specs.WrongRoots.{wrong_by_marks}
-use Rattle.audit_verify.proofs.Walks.{first_skip, first_is_here}
+use Rattle.audit_definitions.proofs.Walks.{first_skip, first_is_here}
 use Rattle.audit_verify.proofs.groups.wrong_root.Goals as goal
 
 pub returns-in-Some : goal.returns-in-Some

@@ -1,5 +1,5 @@
 use Rattle.audit_verify.proofs.Tables.{first_is, have_few_indexes}
-use Rattle.audit_verify.proofs.Verdicts.{same_ok}
+use Rattle.audit_definitions.proofs.Verdicts.{same_ok}
 use Rattle.audit_verify.proofs.indexes.index_fault.Goals as goal
 
 pub fault_among-requires : goal.fault_among-requires

@@ -2,7 +2,7 @@ use Rattle.std.proofs.Common.{ap, ◌∙◌, map}
 use Rattle.format_image.specs.Rows.{stored_cmp}
 use Rattle.spec_model.specs.Lists.{sorted}
 use Rattle.audit_verify.specs.Indexes.{row_at}
-use Rattle.audit_verify.proofs.Walks.{seen}
+use Rattle.audit_definitions.proofs.Walks.{seen}
 use Rattle.audit_verify.proofs.indexes.sorted_versions.Goals as goal
 
 pub returns : goal.returns

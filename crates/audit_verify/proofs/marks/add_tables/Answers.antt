@@ -1,7 +1,7 @@
 use Rattle.std.proofs.Common.{arith}
 use Rattle.audit_verify.specs.Marks.{HaveEncodableValues, events_shown}
 use Rattle.audit_verify.proofs.Owned.{part_next}
-use Rattle.audit_verify.proofs.Walks.{all_at}
+use Rattle.audit_definitions.proofs.Walks.{all_at}
 use Rattle.audit_verify.proofs.marks.add_tables.Goals as goal
 
 pub add_table-requires : goal.add_table-requires

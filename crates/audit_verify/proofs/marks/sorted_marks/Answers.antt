@@ -4,7 +4,7 @@ use Rattle.spec_model.specs.Lists.{sorted}
 use Rattle.audit_verify.specs.declared.marks.Mark.{Mark}
 use Rattle.audit_verify.specs.Marks.{event_of, events_in, events_shown, leaf_cmp, HasValues}
 use Rattle.audit_verify.specs.ImageTable.{table_of}
-use Rattle.audit_verify.proofs.Walks.{over_map}
+use Rattle.audit_definitions.proofs.Walks.{over_map}
 use Rattle.audit_verify.proofs.marks.sorted_marks.Goals as goal
 
 pub returns : goal.returns

@@ -1,7 +1,7 @@
 use Rattle.std.proofs.Common.{ℕ, sym, ◌∙◌}
 use Rattle.sql_types.specs.declared.entry.TxEntry.{TxEntry}
 use Rattle.audit_verify.specs.Roots.{fault_of, run_in}
-use Rattle.audit_verify.proofs.Walks.{first_skip, first_is_here}
+use Rattle.audit_definitions.proofs.Walks.{first_skip, first_is_here}
 use Rattle.audit_verify.proofs.roots.first_fault.Goals as goal
 
 pub returns-in-Some : goal.returns-in-Some

@@ -3,7 +3,7 @@ use Rattle.std.specs.Prelude.{not}
 use Rattle.std.specs.Ordering.{nat_cmp}
 use Rattle.law_catalog_rows.specs.Least.{least_from}
 use Rattle.spec_verify.specs.Entries.{TableRoot, same_root, root_at}
-use Rattle.audit_verify.proofs.Walks.{least_filtered}
+use Rattle.audit_definitions.proofs.Walks.{least_filtered}
 use Rattle.audit_verify.proofs.roots.least_other.Goals as goal
 
 pub returns : goal.returns

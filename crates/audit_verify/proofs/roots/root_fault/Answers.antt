@@ -5,7 +5,7 @@ use Rattle.audit_verify.specs.Marks.{tx_of, HasValues}
 use Rattle.audit_verify.specs.Roots.{first_fault}
 use Rattle.audit_verify.proofs.EntryRoots.{root_fault_is}
 use Rattle.audit_verify.proofs.Tables.{are_spelled}
-use Rattle.audit_verify.proofs.Verdicts.{same_ok}
+use Rattle.audit_definitions.proofs.Verdicts.{same_ok}
 use Rattle.audit_verify.proofs.roots.root_fault.Goals as goal
 
 pub sorted_marks-requires : goal.sorted_marks-requires

@@ -1,7 +1,7 @@
 use Rattle.std.proofs.Common.{sym, ap, ◌∙◌, arith}
 use Rattle.spec_verify.specs.Bytes.{verdict_of}
 use Rattle.spec_verify.proofs.Judged.{of_image, of_none}
-use Rattle.audit_verify.proofs.Verdicts.{same_ok}
+use Rattle.audit_definitions.proofs.Verdicts.{same_ok}
 use Rattle.audit_verify.proofs.workers.verify.Goals as goal
 
 pub returns-in-Some : goal.returns-in-Some

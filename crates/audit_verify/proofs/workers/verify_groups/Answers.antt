@@ -1,7 +1,7 @@
 use Rattle.std.proofs.Common.{sym, ◌∙◌}
 use Rattle.audit_verify.proofs.GroupsMerge.{all_versions, all_indexes, all_roots}
 use Rattle.audit_verify.proofs.VerdictParts.{after_ids}
-use Rattle.audit_verify.proofs.Verdicts.{same_ok}
+use Rattle.audit_definitions.proofs.Verdicts.{same_ok}
 use Rattle.audit_verify.proofs.workers.verify_groups.Goals as goal
 
 pub verdict_on-requires-clause-version : goal.verdict_on-requires-clause-version

@@ -1,6 +1,6 @@
 use Rattle.std.proofs.Common.{sym, ◌∙◌}
 use Rattle.audit_verify.proofs.VerdictParts.{first_decides, second_decides}
-use Rattle.audit_verify.proofs.Verdicts.{same_ok}
+use Rattle.audit_definitions.proofs.Verdicts.{same_ok}
 use Rattle.audit_verify.proofs.workers.verify_image_with_workers.Goals as goal
 
 pub returns-in-Yes : goal.returns-in-Yes
