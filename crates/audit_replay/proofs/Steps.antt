@@ -34,7 +34,7 @@ use Rattle.store_blocks.specs.LedgerChain.{HashedLedger, KeepsHash}
 use Rattle.format_image.specs.Image.{image_of}
 use Rattle.law_image.proofs.Entries.{roots_are, few_roots}
 use Rattle.law_events.proofs.Leaves.{all_leaves}
-use Rattle.sql_parse.specs.Text.{statement_of}
+use Rattle.spec_syntax.specs.Text.{statement_of}
 use Rattle.sql_reference.specs.Machine.{Machine, at_rest}
 use Rattle.sql_reference.specs.Order.{IsNew, IsNewItem, InOrder}
 use Rattle.sql_reference.specs.RunEnd.{run_end}

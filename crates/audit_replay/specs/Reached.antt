@@ -8,7 +8,7 @@ use Rattle.sql_types.specs.JournalRules.{ItemRules, TxRules, is_block_size, ids_
 use Rattle.spec_model.specs.Catalog.{Tables}
 use Rattle.spec_model.specs.Events.{events_of}
 use Rattle.spec_model.specs.Journals.{IsLegal, IsOther, closed, tx_count, serial}
-use Rattle.sql_parse.specs.Text.{statement_of}
+use Rattle.spec_syntax.specs.Text.{statement_of}
 use Rattle.law_events.specs.Room.{FitsLeaf}
 use Rattle.spec_ledger.specs.Ledger.{Ledger, ledger_of}
 use Rattle.store_blocks.specs.LedgerChain.{HashedLedger, KeepsHash}

@@ -2,7 +2,7 @@
 
 ghost use Rattle.std.specs.Prelude.{◌≡◌, ◌++◌, ◌∷◌, [], IfOk};
 ghost use Rattle.spec_model.specs.Journals.{serial};
-ghost use Rattle.sql_parse.specs.Text.{statement_of};
+ghost use Rattle.spec_syntax.specs.Text.{statement_of};
 ghost use Rattle.sql_reference.specs.RunEnd.{run_end};
 ghost use Rattle.audit_replay.specs.Reached.{MayFollow, Reached};
 

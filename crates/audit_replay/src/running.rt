@@ -3,7 +3,7 @@
 ghost use Rattle.std.specs.Prelude.{◌≡◌, IfErr, IfOk, OnOk};
 ghost use Rattle.spec_model.specs.LegalJournals.{IsLegalJournal};
 ghost use Rattle.format_journal.specs.Rules.{IsJournal};
-ghost use Rattle.sql_parse.specs.Text.{statement_of};
+ghost use Rattle.spec_syntax.specs.Text.{statement_of};
 ghost use Rattle.format_image.specs.Image.{image_of as spec_image_of};
 ghost use Rattle.format_image.specs.ImageBytes.{IsImage};
 ghost use Rattle.audit_replay.specs.Reached.{DiffersAt};

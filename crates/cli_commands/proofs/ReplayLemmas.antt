@@ -18,7 +18,7 @@ use Rattle.spec_model.specs.Journals.{cut, tx_count, after_item, serial_from, se
 use Rattle.spec_model.specs.LegalJournals.{IsLegalJournal}
 use Rattle.spec_model.specs.Script.{Reading, script}
 use Rattle.spec_model.specs.SystemTables.{first_tables}
-use Rattle.sql_parse.specs.Text.{statement_of}
+use Rattle.spec_syntax.specs.Text.{statement_of}
 use Rattle.law_blocks.proofs.Counting.{entries_counted}
 use Rattle.format_image.specs.Image.{image_of, image_of_cut}
 use Rattle.format_image.specs.ImageBytes.{image_bytes, IsImage}

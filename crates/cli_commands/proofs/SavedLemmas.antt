@@ -6,7 +6,7 @@ use Rattle.std.proofs.lemmas.List.{append_cancel_left, append_cancel_right, take
 use Rattle.std.proofs.lemmas.Slice.Eq.{bytes_eq-Decides}
 use Rattle.base_io.specs.Store.{Bytes, Names}
 use Rattle.sql_types.specs.declared.journal.Journal.{Journal}
-use Rattle.sql_parse.specs.Text.{statement_of}
+use Rattle.spec_syntax.specs.Text.{statement_of}
 use Rattle.server_step.specs.SessionOutput.{IsImageOf}
 use Rattle.spec_history.specs.Lists.{Each, Some_of, In}
 use Rattle.spec_history.proofs.Trace.{each_weaker}

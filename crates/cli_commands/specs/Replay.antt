@@ -7,7 +7,7 @@ use Rattle.sql_types.specs.declared.image.Image.{Image}
 use Rattle.sql_types.specs.declared.journal.Journal.{Journal}
 use Rattle.spec_model.specs.Journals.{tx_count}
 use Rattle.spec_model.specs.LegalJournals.{IsLegalJournal}
-use Rattle.sql_parse.specs.Text.{statement_of}
+use Rattle.spec_syntax.specs.Text.{statement_of}
 use Rattle.format_journal.specs.Journal.{journal_bytes}
 use Rattle.format_journal.specs.Rules.{IsJournal}
 use Rattle.format_image.specs.Image.{image_of}

@@ -4,7 +4,7 @@ ghost use Rattle.std.specs.Prelude.{⊤, ◌≡◌, ◌⊎◌, length, string_by
 ghost use Rattle.base_io.specs.Count.{Rises};
 ghost use Rattle.base_io.specs.History.{Since};
 ghost use Rattle.spec_model.specs.LegalJournals.{IsLegalJournal};
-ghost use Rattle.sql_parse.specs.Text.{statement_of};
+ghost use Rattle.spec_syntax.specs.Text.{statement_of};
 ghost use Rattle.format_journal.specs.Rules.{IsJournal};
 ghost use Rattle.format_image.specs.Image.{image_of};
 ghost use Rattle.format_image.specs.ImageBytes.{image_bytes, IsImage};

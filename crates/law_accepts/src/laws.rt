@@ -10,7 +10,7 @@ ghost use Rattle.spec_model.specs.Script.{Reading};
 ghost use Rattle.spec_history.specs.Digests.{Digest, IsDigest};
 ghost use Rattle.spec_history.specs.Journals.{blocks};
 ghost use Rattle.spec_history.specs.Meaning.{Meaning};
-ghost use Rattle.sql_parse.specs.Text.{statement_of};
+ghost use Rattle.spec_syntax.specs.Text.{statement_of};
 ghost use Rattle.law_catalog_rows.specs.Written.{ReadsWritten};
 ghost use Rattle.law_blocks.specs.Digests.{digest_of};
 ghost use Rattle.spec_ledger.specs.Ledger.{block_hash};

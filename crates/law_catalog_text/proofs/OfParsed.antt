@@ -6,7 +6,7 @@ use Rattle.sql_value.specs.declared.column.TableKind.{TableKind}
 use Rattle.sql_value.specs.declared.column.TableKind.TheVariants.{AppendOnly, Updatable}
 use Rattle.sql_types.specs.declared.statement.Stmt.{Stmt}
 use Rattle.sql_types.specs.declared.statement.Stmt.TheVariants as s
-use Rattle.sql_parse.specs.Parsed.{IsName, Each, OneOrMore, Maybe, IsColumn, IsHistory, IsParsed}
+use Rattle.law_syntax.specs.Parsed.{IsName, Each, OneOrMore, Maybe, IsColumn, IsHistory, IsParsed}
 use Rattle.law_catalog_rows.specs.Written.{IsWritten, IfWritten, StatementWritten}
 
 name_written : (n : List ℕ) → IsName n → IsWritten n

@@ -4,14 +4,14 @@ ghost use Rattle.std.specs.Prelude.{ℕ, List};
 ghost use Rattle.sql_types.specs.declared.journal.JournalItem.{JournalItem};
 ghost use Rattle.spec_model.specs.Journals.{cut, serial, IsLegal};
 ghost use Rattle.spec_model.specs.Script.{Reading};
-ghost use Rattle.sql_parse.specs.Text.{statement_of};
+ghost use Rattle.law_syntax.specs.Text.{statement_of};
 ghost use Rattle.law_catalog_rows.specs.Differs.{EncodingHolds};
 ghost use Rattle.law_catalog_rows.specs.Encoded.{AreEncodedByRows};
 ghost use Rattle.law_catalog_rows.specs.Written.{ReadsWritten};
 ghost use Rattle.law_catalog_text.specs.Readings.{KeepsToTheGrammar};
 
 use law_catalog_rows::legal_journals_encode_definitions;
-use sql_parse::{parsing_keeps_to_the_grammar, printing_is_read_back};
+use law_syntax::{parsing_keeps_to_the_grammar, printing_is_read_back};
 
 /// Each table and each index that a statement of the grammar makes has a name with bytes that may stand in
 /// names, a column, and where it is a table a key. The parser's reading keeps to the grammar.

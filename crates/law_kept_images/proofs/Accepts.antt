@@ -11,7 +11,7 @@ use Rattle.spec_history.specs.Journals.{blocks}
 use Rattle.spec_history.specs.Lists.{Text, Each, In}
 use Rattle.spec_history.specs.Meaning.{Meaning}
 use Rattle.spec_history.specs.Transcripts.{Transcript}
-use Rattle.sql_parse.specs.Text.{statement_of}
+use Rattle.spec_syntax.specs.Text.{statement_of}
 use Rattle.format_image.specs.Image.{image_of, image_of_cut}
 use Rattle.format_image.specs.ImageBytes.{image_bytes}
 use Rattle.spec_ledger.specs.Ledger.{block_hash}

@@ -5,7 +5,7 @@ use Rattle.sql_types.specs.declared.journal.JournalItem.{JournalItem}
 use Rattle.spec_model.specs.Journals.{cut}
 use Rattle.spec_history.specs.Journals.{blocks}
 use Rattle.spec_history.specs.Lists.{Text, Each, In}
-use Rattle.sql_parse.specs.Text.{statement_of}
+use Rattle.spec_syntax.specs.Text.{statement_of}
 use Rattle.format_image.specs.Image.{image_of_cut}
 use Rattle.format_image.specs.ImageBytes.{IsImage}
 use Rattle.spec_verify.specs.declared.place.Verdict.TheVariants.{Yes}

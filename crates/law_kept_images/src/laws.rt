@@ -7,7 +7,7 @@ ghost use Rattle.spec_model.specs.LegalJournals.{IsLegalJournal};
 ghost use Rattle.spec_history.specs.Inputs.{InputLine};
 ghost use Rattle.spec_history.specs.Lists.{Text, Each};
 ghost use Rattle.spec_history.specs.Transcripts.{Transcript};
-ghost use Rattle.sql_parse.specs.Text.{statement_of};
+ghost use Rattle.spec_syntax.specs.Text.{statement_of};
 ghost use Rattle.format_image.specs.Image.{image_of};
 ghost use Rattle.format_image.specs.ImageBytes.{image_bytes};
 ghost use Rattle.law_accepts.specs.Room.{FitsImageFormat};

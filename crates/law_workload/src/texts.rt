@@ -1,10 +1,10 @@
 // The texts of the workload, as statements.
 ghost use Rattle.std.specs.Prelude.{◌≡◌, ◌≤◌, ◌<◌, ◌^◌, ℕ, Some};
 ghost use Rattle.workload_generator.specs.Workload.{create_text, insert_text, update_text};
-ghost use Rattle.sql_parse.specs.Text.{statement_of};
+ghost use Rattle.spec_syntax.specs.Text.{statement_of};
 ghost use Rattle.law_workload.specs.Statements.{create_statement, insert_statement, update_statement};
 
-use sql_parse::parsing_keeps_to_the_grammar;
+use law_syntax::parsing_keeps_to_the_grammar;
 use sql_scalar::literals_are_read_back;
 
 /// Each text of the workload is the statement that it looks like: one that makes a table, one that inserts a

@@ -5,7 +5,7 @@ use mathlib.Core.Option.{some, some-injective}
 use lib.ListN.{get_elem?}
 use Rattle.spec_history.specs.Lists.{Text, Each, In}
 use Rattle.spec_history.specs.Transcripts.{Entry}
-use Rattle.sql_parse.specs.Text.{statement_of}
+use Rattle.spec_syntax.specs.Text.{statement_of}
 use Rattle.spec_protocol.specs.Cells.{Cell, Ledger, AreCells, cell_count, ledger_at}
 use Rattle.spec_protocol.specs.AnonymousActs.{did, alones_acts}
 use Rattle.spec_protocol.specs.Seats.{KeptImage, SeatState}

@@ -6,7 +6,7 @@ use mathlib.Core.Option.{some, some-injective}
 use lib.ListN.{get_elem?}
 use Rattle.spec_history.specs.Inputs.{InputLine}
 use Rattle.spec_history.specs.Lists.{Text, Each, In}
-use Rattle.sql_parse.specs.Text.{statement_of}
+use Rattle.spec_syntax.specs.Text.{statement_of}
 use Rattle.spec_protocol.specs.ActsOf.{alone_acts}
 use Rattle.spec_protocol.specs.Alone.{Alones, none as no_steps, more as then_step}
 use Rattle.spec_protocol.specs.Cells.{Cell, Ledger, LedgerCell, AreCells, ledger_at, pending_in}

@@ -4,7 +4,7 @@ use Rattle.spec_history.specs.Transcripts.{Transcript}
 use Rattle.format_image.specs.Image.{image_of}
 use Rattle.format_image.specs.ImageBytes.{image_bytes}
 use Rattle.server_visits.specs.Room.{FitsImageFormat}
-use Rattle.sql_parse.specs.Text.{statement_of}
+use Rattle.spec_syntax.specs.Text.{statement_of}
 use Rattle.spec_protocol.specs.Server.{Server}
 use Rattle.spec_protocol.specs.Serves.{Serves}
 use Rattle.law_sequential.specs.SessionOutput.{HasEnded}

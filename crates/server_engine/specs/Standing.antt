@@ -5,7 +5,7 @@ use mathlib.Core.Option.{Option, some, none}
 use lib.ListN.{get_elem?}
 use Rattle.spec_history.specs.Lists.{Text, Each, In}
 use Rattle.spec_history.specs.Transcripts.{Transcript}
-use Rattle.sql_parse.specs.Text.{statement_of}
+use Rattle.spec_syntax.specs.Text.{statement_of}
 use Rattle.spec_protocol.specs.Cells.{Cell, ledger_at}
 use Rattle.spec_protocol.specs.Seats.{idle, SeatState}
 use Rattle.spec_protocol.specs.Server.{Server}

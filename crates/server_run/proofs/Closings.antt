@@ -6,7 +6,7 @@ use Rattle.std.proofs.lemmas.List.{length-map}
 use mathlib.Core.Option.{some, some-injective}
 use lib.ListN.{get_elem?}
 use Rattle.sql_types.specs.declared.journal.JournalItem.TheVariants.{Close}
-use Rattle.sql_parse.specs.Text.{statement_of}
+use Rattle.spec_syntax.specs.Text.{statement_of}
 use Rattle.spec_protocol.specs.Cells.{Cell, Catalog, Ledger, Rows, LedgerCell, ledger_at, pending_in}
 use Rattle.spec_protocol.specs.LedgerVisits.{closed_by, next_block}
 use Rattle.spec_protocol.specs.Seats.{SeatState}

@@ -19,7 +19,7 @@ use Rattle.format_image.specs.ImageBytes.{image_bytes}
 use Rattle.law_image.specs.Room.{FitsImageFormat}
 use Rattle.law_blocks.specs.Digests.{digest_of}
 use Rattle.spec_ledger.specs.Ledger.{block_hash}
-use Rattle.sql_parse.specs.Text.{statement_of}
+use Rattle.spec_syntax.specs.Text.{statement_of}
 use Rattle.spec_verify.specs.declared.place.Verdict.TheVariants.{Yes}
 use Rattle.spec_verify.specs.Bytes.{verdict_of}
 use Rattle.law_concurrent.specs.Held.{AllHeld, IsHeld, held}

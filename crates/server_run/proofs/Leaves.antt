@@ -19,7 +19,7 @@ use Rattle.format_image.specs.ImageBytes.{image_bytes}
 use Rattle.law_image.specs.Room.{FitsImageFormat}
 use Rattle.format_journal.specs.Rules.{IsJournal}
 use Rattle.format_digest.specs.Writing.{HasMoments}
-use Rattle.sql_parse.specs.Text.{statement_of}
+use Rattle.spec_syntax.specs.Text.{statement_of}
 use Rattle.format_sections.specs.RunSections.{run_sections_view, section_view, session_names}
 use Rattle.format_sections.specs.declared.all_sections.RunSections.{RunSections}
 use Rattle.format_sections.specs.declared.section.Section.{Section}

@@ -3,7 +3,7 @@ use Rattle.std.proofs.Common.{◌≡◌, ℕ, List, [], ◌∷◌, ◌++◌, Opt
 use Rattle.std.specs.Borrow.{Bor}
 use Rattle.spec_history.specs.Lists.{Text, Each}
 use Rattle.spec_history.specs.Transcripts.{Entry, EndLine, statements}
-use Rattle.sql_parse.specs.Text.{statement_of}
+use Rattle.spec_syntax.specs.Text.{statement_of}
 use Rattle.format_transcript.specs.TranscriptText.{entry_text}
 use Rattle.spec_protocol.specs.Serves.{Serves}
 use Rattle.spec_protocol.specs.Alone.{more}

@@ -5,7 +5,7 @@ use lib.ListN.{get_elem?}
 use Rattle.base_board.specs.Outs as board
 use Rattle.std.specs.Prelude.{slice_index_or}
 use Rattle.spec_history.specs.Lists.{Text, In}
-use Rattle.sql_parse.specs.Text.{statement_of}
+use Rattle.spec_syntax.specs.Text.{statement_of}
 use Rattle.spec_protocol.specs.Serves.{Serves}
 use Rattle.spec_protocol.specs.Cells.{Cell, cell_count}
 use Rattle.spec_protocol.specs.AllowedVisit.{AllowedVisit}

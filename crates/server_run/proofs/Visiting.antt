@@ -6,7 +6,7 @@ use Rattle.base_board.specs.Outs as board
 use Rattle.spec_history.specs.Lists.{Text}
 use Rattle.spec_history.specs.Transcripts.{Entry, statements}
 use Rattle.spec_history.proofs.Trace.{each_weaker}
-use Rattle.sql_parse.specs.Text.{statement_of}
+use Rattle.spec_syntax.specs.Text.{statement_of}
 use Rattle.spec_protocol.specs.Serves.{Serves}
 use Rattle.spec_protocol.specs.Alone.{none}
 use Rattle.spec_protocol.specs.Cells.{cell_count}

@@ -15,7 +15,7 @@ use Rattle.law_blocks.specs.Digests.{digest_of}
 use Rattle.spec_verify.specs.declared.place.Verdict.TheVariants.{Yes}
 use Rattle.spec_verify.specs.Bytes.{verdict_of}
 use Rattle.law_concurrent.specs.Held.{held}
-use Rattle.sql_parse.specs.Text.{statement_of}
+use Rattle.spec_syntax.specs.Text.{statement_of}
 use Rattle.format_sections.specs.RunSections.{RunSections, Section}
 use Rattle.server_result.specs.Images.{AreKept}
 use Rattle.server_result.specs.Moments.{IsMoment}

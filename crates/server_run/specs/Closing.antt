@@ -4,7 +4,7 @@ use mathlib.Core.Option.{some}
 use lib.ListN.{get_elem?}
 use Rattle.sql_types.specs.declared.digest.Digest.{Digest}
 use Rattle.spec_model.specs.Journals.{tx_count}
-use Rattle.sql_parse.specs.Text.{statement_of}
+use Rattle.spec_syntax.specs.Text.{statement_of}
 use Rattle.spec_protocol.specs.Cells.{LedgerCell, ledger_at}
 use Rattle.spec_protocol.specs.Seats.{SeatState}
 use Rattle.store_ledger.specs.Issues.{IsIssued}

@@ -3,7 +3,7 @@
 ghost use Rattle.std.specs.Prelude.{◌≡◌, ◌+◌, ◌++◌, ◌∷◌, ◌≤◌, ◌<◌, ◌^◌, [], length, All, IfOk, true};
 ghost use Rattle.std.specs.Thread.{IsSend, IsSync};
 ghost use Rattle.base_board.specs.Boards.{board_cells, seat_state, seat_parts, seat_out, HasSeat, IsSameSeat};
-ghost use Rattle.sql_parse.specs.Text.{statement_of};
+ghost use Rattle.spec_syntax.specs.Text.{statement_of};
 ghost use Rattle.spec_protocol.specs.Serves.{Serves};
 ghost use Rattle.spec_protocol.specs.Cells.{cell_count};
 ghost use Rattle.spec_protocol.specs.Seats.{IsAtRest};

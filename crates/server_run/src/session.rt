@@ -3,7 +3,7 @@
 ghost use Rattle.std.specs.Prelude.{◌≡◌, ◌+◌, ◌<◌, ◌^◌, [], length, IfOk, None, OnOk, true};
 ghost use Rattle.base_board.specs.Boards.{board_cells, seat_state, seat_parts, seat_out, HasSeat, IsSameSeat};
 ghost use Rattle.base_types.specs.SessionName.{is_session_name};
-ghost use Rattle.sql_parse.specs.Text.{statement_of};
+ghost use Rattle.spec_syntax.specs.Text.{statement_of};
 ghost use Rattle.server_session.specs.ControlPoints.{IsBetween};
 ghost use Rattle.spec_protocol.specs.Serves.{Serves};
 ghost use Rattle.spec_protocol.specs.Cells.{cell_count};

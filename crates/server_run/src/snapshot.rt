@@ -2,7 +2,7 @@
 
 ghost use Rattle.std.specs.Prelude.{◌≡◌, [], None, OnOk};
 ghost use Rattle.base_board.specs.Boards.{board_cells, seat_state, seat_parts, seat_out, HasSeat, IsSameSeat};
-ghost use Rattle.sql_parse.specs.Text.{statement_of};
+ghost use Rattle.spec_syntax.specs.Text.{statement_of};
 ghost use Rattle.server_session.specs.Needs.{need_of};
 ghost use Rattle.server_session.specs.ControlPoints.{KeepsStatement};
 ghost use Rattle.server_session.specs.Steps.{image_in};

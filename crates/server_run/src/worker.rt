@@ -4,7 +4,7 @@ ghost use Rattle.std.specs.Prelude.{◌≡◌, ◌+◌, ◌<◌, true, length, I
 ghost use mathlib.Core.Option.{some};
 ghost use lib.ListN.{get_elem?};
 ghost use Rattle.base_types.specs.SessionName.{is_session_name};
-ghost use Rattle.sql_parse.specs.Text.{statement_of};
+ghost use Rattle.spec_syntax.specs.Text.{statement_of};
 ghost use Rattle.server_session.specs.Needs.{need_of};
 ghost use Rattle.server_session.specs.ControlPoints.{IsAnswering, IsBetween, IsUnderWay};
 ghost use Rattle.server_session.specs.Rest.{IsFinishing, MayEndSession};

@@ -19,7 +19,7 @@ use Rattle.spec_history.proofs.Trace.{each_weaker}
 use Rattle.format_image.specs.Image.{image_of, image_of_cut}
 use Rattle.format_image.specs.ImageBytes.{image_bytes}
 use Rattle.law_image.specs.Room.{FitsImageFormat}
-use Rattle.sql_parse.specs.Text.{statement_of}
+use Rattle.spec_syntax.specs.Text.{statement_of}
 use Rattle.spec_verify.specs.declared.place.Verdict.TheVariants.{Yes}
 use Rattle.spec_verify.specs.Bytes.{verdict_of}
 use Rattle.law_kept_images.specs.Held.{held}

@@ -5,7 +5,7 @@ use Rattle.sql_types.specs.declared.journal.Journal.{Journal}
 use Rattle.sql_types.specs.declared.digest.Digest.{Digest}
 use Rattle.format_image.specs.Image.{image_of}
 use Rattle.format_image.specs.ImageBytes.{image_bytes}
-use Rattle.sql_parse.specs.Text.{statement_of}
+use Rattle.spec_syntax.specs.Text.{statement_of}
 use Rattle.format_journal.specs.Rules.{IsJournal}
 use Rattle.format_digest.specs.Writing.{HasMoments}
 use Rattle.format_lines.specs.Sessions.{sessions_of}

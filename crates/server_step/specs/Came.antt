@@ -7,7 +7,7 @@ use Rattle.spec_history.specs.Journals.{times}
 use Rattle.spec_history.specs.Lists.{Text, Each}
 use Rattle.spec_history.specs.StepOrder.{Row}
 use Rattle.spec_history.specs.Transcripts.{Transcript}
-use Rattle.sql_parse.specs.Text.{statement_of}
+use Rattle.spec_syntax.specs.Text.{statement_of}
 use Rattle.spec_verify.specs.declared.place.Verdict.TheVariants.{Yes}
 use Rattle.spec_verify.specs.Bytes.{verdict_of}
 use Rattle.law_kept_images.specs.Held.{held}

@@ -3,7 +3,7 @@ use Rattle.std.specs.Prelude.{ℕ, ◌≡◌, List, length, map}
 use Rattle.server_session.specs.Lists.{Text}
 use Rattle.format_image.specs.ImageBytes.{image_bytes}
 use Rattle.store_image.specs.Room.{FitsImageFormat}
-use Rattle.sql_parse.specs.Text.{statement_of}
+use Rattle.spec_syntax.specs.Text.{statement_of}
 use Rattle.store_image.specs.CellsImage.{cells_image}
 use Rattle.server_session.specs.Serves.{Serves}
 use Rattle.server_session.specs.Cells.{CatalogCell, LedgerCell, AreCells}

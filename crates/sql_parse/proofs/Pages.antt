@@ -1,7 +1,7 @@
 -- Tokens that are written one after another.
 use Rattle.std.proofs.Common.{◌≡◌, List, [], ◌∷◌, ◌++◌, refl}
-use Rattle.sql_parse.specs.Input.{Sym}
-use Rattle.sql_parse.specs.Page.{Page, put, write}
+use Rattle.spec_syntax.specs.Input.{Sym}
+use Rattle.spec_syntax.specs.Page.{Page, put, write}
 
 pub write_append : (p : Page) (xs ys : List Sym) → write p (xs ++ ys) ≡ write (write p xs) ys
 write_append p [] ys = refl

@@ -1,14 +1,1 @@
-pub mod Tags
-pub mod Input
-pub mod Expr
-pub mod Words
-pub mod Row
-pub mod Select
-pub mod Ledger
-pub mod Table
-pub mod Stmt
-pub mod Text
-pub mod Page
-pub mod Printed
-pub mod PrintedStmt
-pub mod Parsed
+pub use Rattle.spec_syntax.specs.Text

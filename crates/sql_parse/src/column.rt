@@ -2,47 +2,23 @@
 
 ghost use Rattle.std.specs.Prelude.{◌≡◌, ◌+◌, ◌*◌, ◌^◌, ◌≤◌, length};
 ghost use Rattle.sql_value.specs.Literal.{digits_after};
-ghost use Rattle.sql_parse.specs.Input.{ParsesUnlessOom, ConvertsUnlessOom};
-ghost use Rattle.sql_parse.specs.Table as spec;
+ghost use Rattle.spec_syntax.specs.Input.{ParsesUnlessOom, ConvertsUnlessOom};
+ghost use Rattle.spec_syntax.specs.Table as spec;
 
-use crate::ParseErr;
 use crate::cursor::Cursor;
 use crate::name::name;
 use crate::row::name_list;
-use crate::tag::Tag;
-use crate::word::{TypeName, type_word};
+use crate::word::type_word;
 use base_types::{Items, Name};
+use spec_syntax::{Column, Draft, Item, ParseErr, Tag, TypeName};
 use sql_value::SqlType;
 use std::alloc::Global;
 
 /// The most digits that stand in a type.
 const MOST_DIGITS: usize = 9;
 
-/// A column as it is written.
-#[derive(Debug, Drop)]
-pub struct Column {
-    pub name: Name,
-    pub ty: SqlType,
-    /// Whether NULL or NOT NULL is written.
-    pub nullable: Option<bool>,
-}
-
-/// What stands between two commas of a CREATE TABLE.
-#[derive(Debug, Drop)]
-pub enum Item {
-    Column { column: Column, is_key: bool },
-    Key(Items<Name>),
-}
-
-/// The columns and the primary key so far.
-#[derive(Debug, Drop)]
-pub struct Draft {
-    pub columns: Items<Column>,
-    pub key: Option<Items<Name>>,
-}
-
 /// The number that digits write, at most nine of them.
-#[tactic(auto, unfolding(crate::specs::Table::digits_of))]
+#[tactic(auto, unfolding(spec_syntax::specs::Table::digits_of))]
 fn digits_of(text: &[u8]) -> Option<u32>
     ensures { result ≡ spec.digits_of text.now }
 {
@@ -66,7 +42,7 @@ fn number_of(text: &[u8]) -> Option<u32>
     Some(number)
 }
 
-#[tactic(auto, unfolding(crate::specs::Table::digits))]
+#[tactic(auto, unfolding(spec_syntax::specs::Table::digits))]
 fn digits(c: &mut Cursor<'_>) -> Result<u32, ParseErr>
     ensures { ParsesUnlessOom (spec.digits c.old) result c.new }
 {
@@ -76,7 +52,7 @@ fn digits(c: &mut Cursor<'_>) -> Result<u32, ParseErr>
     }
 }
 
-#[tactic(auto, unfolding(crate::specs::Table::size))]
+#[tactic(auto, unfolding(spec_syntax::specs::Table::size))]
 fn size(c: &mut Cursor<'_>) -> Result<u32, ParseErr>
     ensures { ParsesUnlessOom (spec.size c.old) result c.new }
 {
@@ -86,14 +62,14 @@ fn size(c: &mut Cursor<'_>) -> Result<u32, ParseErr>
     Ok(found)
 }
 
-#[tactic(auto, unfolding(crate::specs::Table::scale))]
+#[tactic(auto, unfolding(spec_syntax::specs::Table::scale))]
 fn scale(c: &mut Cursor<'_>) -> Result<u32, ParseErr>
     ensures { ParsesUnlessOom (spec.scale c.old) result c.new }
 {
     if c.eat(Tag::Comma) { digits(c) } else { Ok(0) }
 }
 
-#[tactic(auto, unfolding(crate::specs::Table::decimal))]
+#[tactic(auto, unfolding(spec_syntax::specs::Table::decimal))]
 fn decimal(c: &mut Cursor<'_>) -> Result<SqlType, ParseErr>
     ensures { ParsesUnlessOom (spec.decimal c.old) result c.new }
 {
@@ -106,7 +82,7 @@ fn decimal(c: &mut Cursor<'_>) -> Result<SqlType, ParseErr>
     Ok(SqlType::Decimal { p, s })
 }
 
-#[tactic(auto, unfolding(crate::specs::Table::sql_type))]
+#[tactic(auto, unfolding(spec_syntax::specs::Table::sql_type))]
 fn sql_type(c: &mut Cursor<'_>) -> Result<SqlType, ParseErr>
     ensures { ParsesUnlessOom (spec.sql_type c.old) result c.new }
 {
@@ -122,7 +98,7 @@ fn sql_type(c: &mut Cursor<'_>) -> Result<SqlType, ParseErr>
 }
 
 /// Whether NULL or NOT NULL is written.
-#[tactic(auto, unfolding(crate::specs::Table::nullable))]
+#[tactic(auto, unfolding(spec_syntax::specs::Table::nullable))]
 fn nullable(c: &mut Cursor<'_>) -> Result<Option<bool>, ParseErr>
     ensures { ParsesUnlessOom (spec.nullable c.old) result c.new }
 {
@@ -141,7 +117,7 @@ fn nullable(c: &mut Cursor<'_>) -> Result<Option<bool>, ParseErr>
 }
 
 /// Whether PRIMARY KEY is written.
-#[tactic(auto, unfolding(crate::specs::Table::is_key))]
+#[tactic(auto, unfolding(spec_syntax::specs::Table::is_key))]
 fn is_key(c: &mut Cursor<'_>) -> Result<bool, ParseErr>
     ensures { ParsesUnlessOom (spec.is_key c.old) result c.new }
 {
@@ -153,7 +129,7 @@ fn is_key(c: &mut Cursor<'_>) -> Result<bool, ParseErr>
     Ok(true)
 }
 
-#[tactic(auto, unfolding(crate::specs::Table::column))]
+#[tactic(auto, unfolding(spec_syntax::specs::Table::column))]
 fn one_column(alloc: Global, c: &mut Cursor<'_>) -> Result<Item, ParseErr>
     ensures { ParsesUnlessOom (spec.column c.old) result c.new }
 {
@@ -166,7 +142,7 @@ fn one_column(alloc: Global, c: &mut Cursor<'_>) -> Result<Item, ParseErr>
 }
 
 /// What stands behind PRIMARY.
-#[tactic(auto, unfolding(crate::specs::Table::key))]
+#[tactic(auto, unfolding(spec_syntax::specs::Table::key))]
 fn key(alloc: Global, c: &mut Cursor<'_>) -> Result<Item, ParseErr>
     ensures { ParsesUnlessOom (spec.key c.old) result c.new }
 {
@@ -175,7 +151,7 @@ fn key(alloc: Global, c: &mut Cursor<'_>) -> Result<Item, ParseErr>
     Ok(Item::Key(name_list(alloc, c)?))
 }
 
-#[tactic(auto, unfolding(crate::specs::Table::one_item))]
+#[tactic(auto, unfolding(spec_syntax::specs::Table::one_item))]
 fn one_item(alloc: Global, c: &mut Cursor<'_>) -> Result<Item, ParseErr>
     ensures { ParsesUnlessOom (spec.one_item c.old) result c.new }
 {
@@ -231,7 +207,7 @@ fn with_item(alloc: Global, draft: Draft, item: Item) -> Result<Draft, ParseErr>
     }
 }
 
-#[tactic(auto, unfolding(crate::specs::Table::item_step))]
+#[tactic(auto, unfolding(spec_syntax::specs::Table::item_step))]
 fn item_step(alloc: Global, c: &mut Cursor<'_>, draft: Draft) -> Result<Draft, ParseErr>
     ensures { ParsesUnlessOom (spec.item_step draft c.old) result c.new }
 {
@@ -240,7 +216,7 @@ fn item_step(alloc: Global, c: &mut Cursor<'_>, draft: Draft) -> Result<Draft, P
 }
 
 /// The columns and the key, behind those that were found.
-#[tactic(auto, unfolding(crate::specs::Input::fold, crate::specs::Input::fold_from))]
+#[tactic(auto, unfolding(spec_syntax::specs::Input::fold, spec_syntax::specs::Input::fold_from))]
 pub fn items(alloc: Global, c: &mut Cursor<'_>, mut found: Draft) -> Result<Draft, ParseErr>
     ensures { ParsesUnlessOom (spec.items found c.old) result c.new }
 {

@@ -1,22 +1,14 @@
 //! A cursor over the tokens of a text.
 
 ghost use Rattle.std.specs.Prelude.{◌≡◌, ◌<◌, ◌≤◌, ◌+◌, ◌^◌, length, OnOk};
-ghost use Rattle.sql_parse.specs.Input as spec;
-ghost use Rattle.sql_parse.specs.Input.{ParsesUnlessOom};
+ghost use Rattle.spec_syntax.specs.Input as spec;
+ghost use Rattle.spec_syntax.specs.Input.{ParsesUnlessOom};
 
-use crate::ParseErr;
-use crate::tag::{Tag, same_tag};
+use spec_syntax::{ParseErr, Piece, Tag, same_tag};
 use std::marker::Model;
 
 /// How many operators and operands one expression may have.
 pub const MAX_PARTS: u16 = 256;
-
-/// A token: what it is to the grammar, and how it is written.
-#[derive(Clone, Copy)]
-pub struct Piece<'a> {
-    pub tag: Tag,
-    pub text: &'a str,
-}
 
 /// The tokens from here on, and how many operators and operands the expression may still have.
 #[derive(Drop)]
@@ -26,7 +18,7 @@ pub struct Cursor<'a> {
 }
 
 impl<'a> Model for Cursor<'a> {
-    ghost use Rattle.sql_parse.specs.Input.{Input};
+    ghost use Rattle.spec_syntax.specs.Input.{Input};
 
     ghost Value = { Input };
 
@@ -44,7 +36,7 @@ impl<'a> Cursor<'a> {
     }
 
     /// What comes next.
-    #[tactic(auto, unfolding(crate::specs::Input::tag))]
+    #[tactic(auto, unfolding(spec_syntax::specs::Input::tag))]
     pub fn peek(&self) -> Tag
         ensures { result ≡ spec.tag self.now }
     {
@@ -55,7 +47,7 @@ impl<'a> Cursor<'a> {
     }
 
     /// Takes the token, and answers its text.
-    #[tactic(auto, unfolding(crate::specs::Input::text, crate::specs::Input::next))]
+    #[tactic(auto, unfolding(spec_syntax::specs::Input::text, spec_syntax::specs::Input::next))]
     pub fn take(&mut self) -> &'a str
         ensures text { result.now ≡ spec.text self.old }
         ensures next { self.new ≡ spec.next self.old }
@@ -70,7 +62,7 @@ impl<'a> Cursor<'a> {
     }
 
     /// Whether a token of the tag comes next.
-    #[tactic(auto, unfolding(crate::specs::Input::sees))]
+    #[tactic(auto, unfolding(spec_syntax::specs::Input::sees))]
     pub fn sees(&self, tag: Tag) -> bool
         ensures { result ≡ spec.sees tag self.now }
     {
@@ -81,7 +73,7 @@ impl<'a> Cursor<'a> {
     }
 
     /// Whether a `(` stands behind the next token.
-    #[tactic(auto, unfolding(crate::specs::Input::calls))]
+    #[tactic(auto, unfolding(spec_syntax::specs::Input::calls))]
     pub fn calls(&self) -> bool
         ensures { result ≡ spec.calls self.now }
     {
@@ -92,7 +84,7 @@ impl<'a> Cursor<'a> {
     }
 
     /// Takes the token if it has the tag.
-    #[tactic(auto, unfolding(crate::specs::Input::after))]
+    #[tactic(auto, unfolding(spec_syntax::specs::Input::after))]
     pub fn eat(&mut self, tag: Tag) -> bool
         ensures found { result ≡ spec.sees tag self.old }
         ensures after { self.new ≡ spec.after tag self.old }
@@ -105,7 +97,7 @@ impl<'a> Cursor<'a> {
     }
 
     /// Takes the token, which must have the tag.
-    #[tactic(auto, unfolding(crate::specs::Input::expect))]
+    #[tactic(auto, unfolding(spec_syntax::specs::Input::expect))]
     pub fn expect(&mut self, tag: Tag) -> Result<(), ParseErr>
         ensures { ParsesUnlessOom (spec.expect tag self.old) result self.new }
     {
@@ -118,7 +110,7 @@ impl<'a> Cursor<'a> {
     }
 
     /// How many tokens are left.
-    #[tactic(auto, unfolding(crate::specs::Input::tokens_left))]
+    #[tactic(auto, unfolding(spec_syntax::specs::Input::tokens_left))]
     pub fn tokens_left(&self) -> usize
         ensures { result ≡ spec.tokens_left self.now }
     {
@@ -133,7 +125,7 @@ impl<'a> Cursor<'a> {
     }
 
     /// Begins an expression.
-    #[tactic(auto, unfolding(crate::specs::Input::begin))]
+    #[tactic(auto, unfolding(spec_syntax::specs::Input::begin))]
     pub fn begin(&mut self)
         ensures { self.new ≡ spec.begin self.old }
     {
@@ -141,7 +133,7 @@ impl<'a> Cursor<'a> {
     }
 
     /// Counts an operator or an operand.
-    #[tactic(auto, unfolding(crate::specs::Input::spend))]
+    #[tactic(auto, unfolding(spec_syntax::specs::Input::spend))]
     pub fn spend(&mut self) -> Result<(), ParseErr>
         ensures { ParsesUnlessOom (spec.spend self.old) result self.new }
     {

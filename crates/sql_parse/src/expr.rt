@@ -2,28 +2,18 @@
 
 ghost use Rattle.std.specs.Prelude.{◌≡◌, ◌≤◌, IfOk};
 ghost use Rattle.sql_value.specs.declared.expr.Expr.TheVariants as expr;
-ghost use Rattle.sql_parse.specs.Input.{ParsesUnlessOom};
-ghost use Rattle.sql_parse.specs.Expr as spec;
+ghost use Rattle.spec_syntax.specs.Input.{ParsesUnlessOom};
+ghost use Rattle.spec_syntax.specs.Expr as spec;
 
-use crate::ParseErr;
 use crate::cursor::Cursor;
 use crate::name::leaf;
-use crate::tag::Tag;
 use base_types::{Boxed, Memory};
+use spec_syntax::{Level, ParseErr, Tag};
 use sql_value::{Expr, Op};
 use std::alloc::Global;
 
 /// How deep parentheses may nest.
 pub const MAX_NESTING: u16 = 256;
-
-/// The rules whose operators group from the left.
-#[derive(Clone, Copy, Debug)]
-enum Level {
-    Or,
-    And,
-    Sum,
-    Product,
-}
 
 fn operator(level: Level, tag: Tag) -> Option<Op>
     ensures { result ≡ spec.operator level tag }
@@ -79,7 +69,7 @@ fn complement(alloc: Global, a: Expr) -> Result<Expr, Memory>
     Ok(Expr::Not(Boxed::new(alloc, a)?))
 }
 
-#[tactic(auto, unfolding(crate::specs::Expr::prim, crate::specs::Expr::expr, crate::specs::Expr::level))]
+#[tactic(auto, unfolding(spec_syntax::specs::Expr::prim, spec_syntax::specs::Expr::expr, spec_syntax::specs::Expr::level))]
 #[cycle(rules)]
 fn prim(alloc: Global, c: &mut Cursor<'_>, depth: u16) -> Result<Expr, ParseErr>
     ensures { ParsesUnlessOom (spec.prim (spec.expr depth) c.old) result c.new }
@@ -114,7 +104,7 @@ fn complements(alloc: Global, count: u16, mut e: Expr) -> Result<Expr, Memory>
     Ok(e)
 }
 
-#[tactic(auto, unfolding(crate::specs::Expr::unary))]
+#[tactic(auto, unfolding(spec_syntax::specs::Expr::unary))]
 #[cycle(rules)]
 fn unary(alloc: Global, c: &mut Cursor<'_>, depth: u16) -> Result<Expr, ParseErr>
     ensures { ParsesUnlessOom (spec.unary (spec.expr depth) c.old) result c.new }
@@ -124,7 +114,7 @@ fn unary(alloc: Global, c: &mut Cursor<'_>, depth: u16) -> Result<Expr, ParseErr
     Ok(negations(alloc, signs, inner)?)
 }
 
-#[tactic(auto, unfolding(crate::specs::Expr::operand, crate::specs::Expr::level))]
+#[tactic(auto, unfolding(spec_syntax::specs::Expr::operand, spec_syntax::specs::Expr::level))]
 #[cycle(rules)]
 fn operand(alloc: Global, c: &mut Cursor<'_>, depth: u16, level: Level) -> Result<Expr, ParseErr>
     ensures { ParsesUnlessOom (spec.operand (spec.expr depth) level c.old) result c.new }
@@ -137,7 +127,7 @@ fn operand(alloc: Global, c: &mut Cursor<'_>, depth: u16, level: Level) -> Resul
     }
 }
 
-#[tactic(auto, unfolding(crate::specs::Expr::more))]
+#[tactic(auto, unfolding(spec_syntax::specs::Expr::more))]
 #[cycle(rules)]
 fn grouped(alloc: Global, c: &mut Cursor<'_>, depth: u16, level: Level) -> Result<Expr, ParseErr>
     ensures { ParsesUnlessOom (spec.level (spec.expr depth) level c.old) result c.new }
@@ -156,7 +146,7 @@ fn grouped(alloc: Global, c: &mut Cursor<'_>, depth: u16, level: Level) -> Resul
 }
 
 /// What may follow the first side of a comparison.
-#[tactic(auto, unfolding(crate::specs::Expr::cmp, crate::specs::Expr::level))]
+#[tactic(auto, unfolding(spec_syntax::specs::Expr::cmp, spec_syntax::specs::Expr::level))]
 #[cycle(rules)]
 fn cmp(alloc: Global, c: &mut Cursor<'_>, depth: u16) -> Result<Expr, ParseErr>
     ensures { ParsesUnlessOom (spec.cmp (spec.expr depth) c.old) result c.new }
@@ -177,7 +167,7 @@ fn cmp(alloc: Global, c: &mut Cursor<'_>, depth: u16) -> Result<Expr, ParseErr>
     Ok(is_null(alloc, left, negated)?)
 }
 
-#[tactic(auto, unfolding(crate::specs::Expr::not))]
+#[tactic(auto, unfolding(spec_syntax::specs::Expr::not))]
 #[cycle(rules)]
 fn not(alloc: Global, c: &mut Cursor<'_>, depth: u16) -> Result<Expr, ParseErr>
     ensures { ParsesUnlessOom (spec.not (spec.expr depth) c.old) result c.new }
@@ -188,7 +178,7 @@ fn not(alloc: Global, c: &mut Cursor<'_>, depth: u16) -> Result<Expr, ParseErr>
 }
 
 /// An expression.
-#[tactic(auto, unfolding(crate::specs::Expr::whole, crate::specs::Expr::level))]
+#[tactic(auto, unfolding(spec_syntax::specs::Expr::whole, spec_syntax::specs::Expr::level))]
 pub fn whole(alloc: Global, c: &mut Cursor<'_>) -> Result<Expr, ParseErr>
     ensures { ParsesUnlessOom (spec.whole c.old) result c.new }
 {

@@ -1,39 +1,16 @@
 //! What a CREATE TABLE says of the ledger: a function for each rule.
 
 ghost use Rattle.std.specs.Prelude.{◌≡◌};
-ghost use Rattle.sql_parse.specs.Input.{ParsesUnlessOom, ConvertsUnlessOom};
-ghost use Rattle.sql_parse.specs.Ledger as spec;
+ghost use Rattle.spec_syntax.specs.Input.{ParsesUnlessOom, ConvertsUnlessOom};
+ghost use Rattle.spec_syntax.specs.Ledger as spec;
 
-use crate::ParseErr;
 use crate::cursor::Cursor;
 use crate::name::name;
-use crate::tag::Tag;
-use crate::word::{OptionName, option_word};
+use crate::word::option_word;
 use base_types::Name;
+use spec_syntax::{Choice, Choices, Ledger, OptionName, ParseErr, Tag};
 use sql_value::TableKind;
 use std::alloc::Global;
-
-/// Whether the rows may change, and the names of the history table and the view, where they are written.
-#[derive(Debug, Drop)]
-pub struct Ledger {
-    pub kind: TableKind,
-    pub history: Option<Name>,
-    pub view: Option<Name>,
-}
-
-/// What is chosen for the ledger.
-#[derive(Debug, Drop)]
-struct Choices {
-    append_only: bool,
-    view: Option<Name>,
-}
-
-/// One of the choices.
-#[derive(Debug, Drop)]
-enum Choice {
-    AppendOnly,
-    View(Name),
-}
 
 fn same_option(a: OptionName, b: OptionName) -> bool
     ensures { result ≡ spec.same_option a b }
@@ -42,7 +19,7 @@ fn same_option(a: OptionName, b: OptionName) -> bool
 }
 
 /// The word of this option.
-#[tactic(auto, unfolding(crate::specs::Ledger::the_option))]
+#[tactic(auto, unfolding(spec_syntax::specs::Ledger::the_option))]
 fn the_option(c: &mut Cursor<'_>, wanted: OptionName) -> Result<(), ParseErr>
     ensures { ParsesUnlessOom (spec.the_option wanted c.old) result c.new }
 {
@@ -53,7 +30,7 @@ fn the_option(c: &mut Cursor<'_>, wanted: OptionName) -> Result<(), ParseErr>
     }
 }
 
-#[tactic(auto, unfolding(crate::specs::Ledger::one_choice))]
+#[tactic(auto, unfolding(spec_syntax::specs::Ledger::one_choice))]
 fn one_choice(alloc: Global, c: &mut Cursor<'_>) -> Result<Choice, ParseErr>
     ensures { ParsesUnlessOom (spec.one_choice c.old) result c.new }
 {
@@ -89,7 +66,7 @@ fn with_choice(found: Choices, chosen: Choice) -> Result<Choices, ParseErr>
     }
 }
 
-#[tactic(auto, unfolding(crate::specs::Ledger::choice_step))]
+#[tactic(auto, unfolding(spec_syntax::specs::Ledger::choice_step))]
 fn choice_step(alloc: Global, c: &mut Cursor<'_>, found: Choices) -> Result<Choices, ParseErr>
     ensures { ParsesUnlessOom (spec.choice_step found c.old) result c.new }
 {
@@ -97,7 +74,7 @@ fn choice_step(alloc: Global, c: &mut Cursor<'_>, found: Choices) -> Result<Choi
     with_choice(found, chosen)
 }
 
-#[tactic(auto, unfolding(crate::specs::Input::fold, crate::specs::Input::fold_from))]
+#[tactic(auto, unfolding(spec_syntax::specs::Input::fold, spec_syntax::specs::Input::fold_from))]
 fn all_choices(alloc: Global, c: &mut Cursor<'_>, mut found: Choices) -> Result<Choices, ParseErr>
     ensures { ParsesUnlessOom (spec.choices found c.old) result c.new }
 {
@@ -120,7 +97,7 @@ fn no_choices() -> Choices
 }
 
 /// What stands behind LEDGER.
-#[tactic(auto, unfolding(crate::specs::Ledger::chosen))]
+#[tactic(auto, unfolding(spec_syntax::specs::Ledger::chosen))]
 fn chosen(alloc: Global, c: &mut Cursor<'_>) -> Result<Choices, ParseErr>
     ensures { ParsesUnlessOom (spec.chosen c.old) result c.new }
 {
@@ -135,7 +112,7 @@ fn chosen(alloc: Global, c: &mut Cursor<'_>) -> Result<Choices, ParseErr>
 }
 
 /// What stands behind SYSTEM_VERSIONING.
-#[tactic(auto, unfolding(crate::specs::Ledger::versions))]
+#[tactic(auto, unfolding(spec_syntax::specs::Ledger::versions))]
 fn versions(alloc: Global, c: &mut Cursor<'_>) -> Result<Option<Name>, ParseErr>
     ensures { ParsesUnlessOom (spec.versions c.old) result c.new }
 {
@@ -188,7 +165,7 @@ fn alone(found: Choices) -> Ledger
     }
 }
 
-#[tactic(auto, unfolding(crate::specs::Ledger::ledger))]
+#[tactic(auto, unfolding(spec_syntax::specs::Ledger::ledger))]
 fn ledger_options(alloc: Global, c: &mut Cursor<'_>) -> Result<Ledger, ParseErr>
     ensures { ParsesUnlessOom (spec.ledger c.old) result c.new }
 {
@@ -214,7 +191,7 @@ fn ledger_options(alloc: Global, c: &mut Cursor<'_>) -> Result<Ledger, ParseErr>
 }
 
 /// WITH and what it says, if it comes next.
-#[tactic(auto, unfolding(crate::specs::Ledger::ledger_part))]
+#[tactic(auto, unfolding(spec_syntax::specs::Ledger::ledger_part))]
 pub fn ledger_part(alloc: Global, c: &mut Cursor<'_>) -> Result<Ledger, ParseErr>
     ensures { ParsesUnlessOom (spec.ledger_part c.old) result c.new }
 {

@@ -2,15 +2,14 @@
 
 ghost use Rattle.std.specs.Prelude.{◌≡◌, IfOk};
 ghost use Rattle.std.specs.Option.{option_copied};
-ghost use Rattle.sql_parse.specs.Input.{ParsesUnlessOom, ParsesTextUnlessOom, ConvertsUnlessOom};
+ghost use Rattle.spec_syntax.specs.Input.{ParsesUnlessOom, ParsesTextUnlessOom, ConvertsUnlessOom};
 ghost use Rattle.sql_value.specs.Literal.{literal_of};
 ghost use Rattle.sql_value.specs.Literals.{IsLiteral};
-ghost use Rattle.sql_parse.specs.Expr as spec;
+ghost use Rattle.spec_syntax.specs.Expr as spec;
 
-use crate::ParseErr;
 use crate::cursor::Cursor;
-use crate::tag::Tag;
 use base_types::Name;
+use spec_syntax::{ParseErr, Tag};
 use sql_scalar::{literals_are_read_back, read_literal};
 use sql_value::{Expr, LitErr, Value};
 use std::alloc::Global;
@@ -28,7 +27,7 @@ fn before_close(text: &str) -> Option<&str>
 }
 
 /// What stands between the brackets.
-#[tactic(auto, unfolding(crate::specs::Expr::inside))]
+#[tactic(auto, unfolding(spec_syntax::specs::Expr::inside))]
 fn inside(text: &str) -> Option<&str>
     ensures { option_copied result ≡ spec.inside text.now }
 {
@@ -36,7 +35,7 @@ fn inside(text: &str) -> Option<&str>
 }
 
 /// The text of a name, bare or in brackets.
-#[tactic(auto, unfolding(crate::specs::Expr::name))]
+#[tactic(auto, unfolding(spec_syntax::specs::Expr::name))]
 pub fn name_text<'a>(c: &mut Cursor<'a>) -> Result<&'a str, ParseErr>
     ensures { ParsesTextUnlessOom (spec.name c.old) result c.new }
 {
@@ -71,7 +70,7 @@ fn literal_value(alloc: Global, text: &str) -> Result<Value, ParseErr>
 }
 
 /// A number without a sign, a text, bytes or NULL.
-#[tactic(auto, unfolding(crate::specs::Expr::literal))]
+#[tactic(auto, unfolding(spec_syntax::specs::Expr::literal))]
 pub fn literal(alloc: Global, c: &mut Cursor<'_>) -> Result<Value, ParseErr>
     ensures value { ParsesUnlessOom (spec.literal c.old) result c.new }
     ensures literal { IfOk result IsLiteral }
@@ -83,7 +82,7 @@ pub fn literal(alloc: Global, c: &mut Cursor<'_>) -> Result<Value, ParseErr>
 }
 
 /// A literal or the name of a column.
-#[tactic(auto, unfolding(crate::specs::Expr::leaf))]
+#[tactic(auto, unfolding(spec_syntax::specs::Expr::leaf))]
 pub fn leaf(alloc: Global, c: &mut Cursor<'_>) -> Result<Expr, ParseErr>
     ensures { ParsesUnlessOom (spec.leaf c.old) result c.new }
 {

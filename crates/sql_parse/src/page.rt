@@ -1,13 +1,13 @@
 //! How tokens are written.
 
 ghost use Rattle.std.specs.Prelude.{◌≡◌, ◌∷◌, [], ◌++◌, List, ℕ, OnOk};
-ghost use Rattle.sql_parse.specs.Input.{Sym};
-ghost use Rattle.sql_parse.specs.Page as spec;
-ghost use Rattle.sql_parse.specs.Printed as printed;
+ghost use Rattle.spec_syntax.specs.Input.{Sym};
+ghost use Rattle.spec_syntax.specs.Page as spec;
+ghost use Rattle.spec_syntax.specs.Printed as printed;
 
-use crate::tag::Tag;
 use base_types::{Memory, Name};
 use itoa::Buffer;
+use spec_syntax::Tag;
 use sql_scalar::print_literal;
 use sql_value::Value;
 use std::alloc::Global;
@@ -23,7 +23,7 @@ pub struct Page {
 }
 
 impl Model for Page {
-    ghost use Rattle.sql_parse.specs.Page as spec;
+    ghost use Rattle.spec_syntax.specs.Page as spec;
 
     ghost Value = { spec.Page };
 
@@ -45,7 +45,7 @@ fn touches(tag: Tag) -> bool
 }
 
 /// How a sign or a reserved word is printed.
-#[tactic(auto, unfolding(crate::specs::Printed::spelling))]
+#[tactic(auto, unfolding(spec_syntax::specs::Printed::spelling))]
 fn spelling(tag: Tag) -> &'static str
     ensures { result.now ≡ printed.spelling tag }
 {
@@ -128,7 +128,7 @@ impl Page {
     }
 
     /// Writes what stands before a token.
-    #[tactic(auto, unfolding(crate::specs::Page::begin))]
+    #[tactic(auto, unfolding(spec_syntax::specs::Page::begin))]
     fn begin(&mut self, tag: Tag) -> Result<(), Memory>
         ensures { OnOk result (self.new ≡ spec.begin self.old tag) }
     {
@@ -139,7 +139,7 @@ impl Page {
         Ok(())
     }
 
-    #[tactic(auto, unfolding(crate::specs::Page::append))]
+    #[tactic(auto, unfolding(spec_syntax::specs::Page::append))]
     fn append(&mut self, word: &str) -> Result<(), Memory>
         ensures { OnOk result (self.new ≡ spec.append self.old word.now) }
     {
@@ -172,7 +172,7 @@ impl Page {
     }
 
     /// Writes a name in brackets.
-    #[tactic(auto, unfolding(crate::specs::Page::append))]
+    #[tactic(auto, unfolding(spec_syntax::specs::Page::append))]
     pub fn name(&mut self, name: &Name) -> Result<(), Memory>
         ensures { OnOk result (self.new ≡ spec.put self.old (printed.name name.now)) }
     {
@@ -183,7 +183,7 @@ impl Page {
     }
 
     /// Writes a literal, a negative number with its sign directly before it.
-    #[tactic(auto, unfolding(crate::specs::Page::append))]
+    #[tactic(auto, unfolding(spec_syntax::specs::Page::append))]
     pub fn literal(&mut self, v: &Value) -> Result<(), Memory>
         ensures { OnOk result (self.new ≡ spec.put self.old (printed.literal_sym v.now)) }
     {

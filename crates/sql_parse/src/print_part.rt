@@ -2,14 +2,14 @@
 
 ghost use Rattle.std.specs.Prelude.{◌≡◌, ◌∷◌, [], List, OnOk};
 ghost use Rattle.sql_value.specs.Tree.{tree};
-ghost use Rattle.sql_parse.specs.Input.{Sym};
-ghost use Rattle.sql_parse.specs.Page.{write};
-ghost use Rattle.sql_parse.specs.Printed as part;
-ghost use Rattle.sql_parse.specs.PrintedStmt as spec;
+ghost use Rattle.spec_syntax.specs.Input.{Sym};
+ghost use Rattle.spec_syntax.specs.Page.{write};
+ghost use Rattle.spec_syntax.specs.Printed as part;
+ghost use Rattle.spec_syntax.specs.PrintedStmt as spec;
 
 use crate::page::Page;
-use crate::tag::Tag;
 use base_types::{Items, Memory, Name, first_of};
+use spec_syntax::Tag;
 use sql_types::Agg;
 use sql_value::{ColumnDef, Expr, Op, SqlType, Value};
 
@@ -22,7 +22,7 @@ pub trait Print {
 }
 
 /// Items, each with a comma before it.
-#[tactic(auto, unfolding(crate::specs::Printed::rest_listed), using(crate::proofs::Pages::write_append))]
+#[tactic(auto, unfolding(spec_syntax::specs::Printed::rest_listed), using(crate::proofs::Pages::write_append))]
 fn put_rest<T: Print>(page: &mut Page, items: &[T]) -> Result<(), Memory>
     ensures { OnOk result (page.new ≡ write page.old (part.rest_listed T.tokens items.now)) }
 {
@@ -36,7 +36,7 @@ fn put_rest<T: Print>(page: &mut Page, items: &[T]) -> Result<(), Memory>
 }
 
 /// Items with commas between.
-#[tactic(auto, unfolding(crate::specs::Printed::listed), using(crate::proofs::Pages::write_append))]
+#[tactic(auto, unfolding(spec_syntax::specs::Printed::listed), using(crate::proofs::Pages::write_append))]
 pub fn put_list<T: Print>(page: &mut Page, items: &[T]) -> Result<(), Memory>
     ensures { OnOk result (page.new ≡ write page.old (part.listed T.tokens items.now)) }
 {
@@ -196,7 +196,7 @@ impl Print for (Name, bool) {
     }
 }
 
-#[tactic(auto, unfolding(crate::specs::PrintedStmt::sql_type))]
+#[tactic(auto, unfolding(spec_syntax::specs::PrintedStmt::sql_type))]
 fn put_type(page: &mut Page, ty: SqlType) -> Result<(), Memory>
     ensures { OnOk result (page.new ≡ write page.old (spec.sql_type ty)) }
 {
@@ -232,7 +232,7 @@ fn put_size(page: &mut Page, n: u32) -> Result<(), Memory>
     page.key(Tag::Close)
 }
 
-#[tactic(auto, unfolding(crate::specs::PrintedStmt::nullable))]
+#[tactic(auto, unfolding(spec_syntax::specs::PrintedStmt::nullable))]
 fn put_nullable(page: &mut Page, nullable: bool) -> Result<(), Memory>
     ensures { OnOk result (page.new ≡ write page.old (spec.nullable nullable)) }
 {
@@ -245,7 +245,7 @@ fn put_nullable(page: &mut Page, nullable: bool) -> Result<(), Memory>
 impl Print for ColumnDef {
     ghost tokens = { spec.column };
 
-    #[tactic(auto, unfolding(crate::specs::PrintedStmt::column), using(crate::proofs::Pages::write_append))]
+    #[tactic(auto, unfolding(spec_syntax::specs::PrintedStmt::column), using(crate::proofs::Pages::write_append))]
     fn print(&self, page: &mut Page) -> Result<(), Memory> {
         page.name(&self.name)?;
         put_type(page, self.ty)?;

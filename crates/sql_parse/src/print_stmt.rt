@@ -1,14 +1,14 @@
 //! Writing statements: a function for each form.
 
 ghost use Rattle.std.specs.Prelude.{◌≡◌, IfOk, OnOk};
-ghost use Rattle.sql_parse.specs.Page.{write};
-ghost use Rattle.sql_parse.specs.PrintedStmt as spec;
-ghost use Rattle.sql_parse.specs.PrintedStmt.{printed};
+ghost use Rattle.spec_syntax.specs.Page.{write};
+ghost use Rattle.spec_syntax.specs.PrintedStmt as spec;
+ghost use Rattle.spec_syntax.specs.PrintedStmt.{printed};
 
 use crate::page::Page;
 use crate::print_part::{Print, put_enclosed, put_expr, put_list};
-use crate::tag::Tag;
 use base_types::{Items, Memory, Name};
+use spec_syntax::Tag;
 use sql_types::{CreateIndex, CreateTable, RowStmt, Select, SelectList, Stmt};
 use sql_value::{Expr, TableKind};
 use std::alloc::Global;
@@ -79,7 +79,7 @@ fn put_updatable(page: &mut Page, table: &CreateTable) -> Result<(), Memory>
     put_own_view(page, &table.view)
 }
 
-#[tactic(auto, unfolding(crate::specs::PrintedStmt::choices), using(crate::proofs::Pages::write_append))]
+#[tactic(auto, unfolding(spec_syntax::specs::PrintedStmt::choices), using(crate::proofs::Pages::write_append))]
 fn put_choices(page: &mut Page, view: &Option<Name>) -> Result<(), Memory>
     ensures { OnOk result (page.new ≡ write page.old (spec.choices view.now)) }
 {
@@ -101,7 +101,7 @@ fn put_append_only(page: &mut Page, table: &CreateTable) -> Result<(), Memory>
 }
 
 /// What a table says of the ledger.
-#[tactic(auto, unfolding(crate::specs::PrintedStmt::ledger))]
+#[tactic(auto, unfolding(spec_syntax::specs::PrintedStmt::ledger))]
 fn put_ledger(page: &mut Page, table: &CreateTable) -> Result<(), Memory>
     ensures { OnOk result (page.new
         ≡ write page.old (spec.ledger table.now.kind table.now.history table.now.view)) }
@@ -124,7 +124,7 @@ fn put_columns(page: &mut Page, table: &CreateTable) -> Result<(), Memory>
     put_enclosed(page, table.key.as_slice())
 }
 
-#[tactic(auto, unfolding(crate::specs::PrintedStmt::create_table), using(crate::proofs::Pages::write_append))]
+#[tactic(auto, unfolding(spec_syntax::specs::PrintedStmt::create_table), using(crate::proofs::Pages::write_append))]
 fn put_create_table(page: &mut Page, table: &CreateTable) -> Result<(), Memory>
     ensures { OnOk result (page.new ≡ write page.old (spec.create_table table.now)) }
 {
@@ -140,7 +140,7 @@ fn put_create_table(page: &mut Page, table: &CreateTable) -> Result<(), Memory>
     page.key(Tag::Close)
 }
 
-#[tactic(auto, unfolding(crate::specs::PrintedStmt::create_index), using(crate::proofs::Pages::write_append))]
+#[tactic(auto, unfolding(spec_syntax::specs::PrintedStmt::create_index), using(crate::proofs::Pages::write_append))]
 fn put_create_index(page: &mut Page, index: &CreateIndex) -> Result<(), Memory>
     ensures { OnOk result (page.new ≡ write page.old (spec.create_index index.now)) }
 {
@@ -173,7 +173,7 @@ fn put_names(page: &mut Page, columns: &Option<Items<Name>>) -> Result<(), Memor
     }
 }
 
-#[tactic(auto, unfolding(crate::specs::PrintedStmt::change), using(crate::proofs::Pages::write_append))]
+#[tactic(auto, unfolding(spec_syntax::specs::PrintedStmt::change), using(crate::proofs::Pages::write_append))]
 fn put_change(page: &mut Page, change: &RowStmt) -> Result<(), Memory>
     ensures { OnOk result (page.new ≡ write page.old (spec.change change.now)) }
 {
@@ -228,7 +228,7 @@ fn put_order(page: &mut Page, order: &[(Name, bool)]) -> Result<(), Memory>
     put_list(page, order)
 }
 
-#[tactic(auto, unfolding(crate::specs::PrintedStmt::select), using(crate::proofs::Pages::write_append))]
+#[tactic(auto, unfolding(spec_syntax::specs::PrintedStmt::select), using(crate::proofs::Pages::write_append))]
 fn put_select(page: &mut Page, select: &Select) -> Result<(), Memory>
     ensures { OnOk result (page.new ≡ write page.old (spec.select select.now)) }
 {
@@ -240,7 +240,7 @@ fn put_select(page: &mut Page, select: &Select) -> Result<(), Memory>
     put_order(page, select.order.as_slice())
 }
 
-#[tactic(auto, unfolding(crate::specs::PrintedStmt::rollback))]
+#[tactic(auto, unfolding(spec_syntax::specs::PrintedStmt::rollback))]
 fn put_rollback(page: &mut Page, savepoint: &Option<Name>) -> Result<(), Memory>
     ensures { OnOk result (page.new ≡ write page.old (spec.rollback savepoint.now)) }
 {
@@ -252,7 +252,7 @@ fn put_rollback(page: &mut Page, savepoint: &Option<Name>) -> Result<(), Memory>
     }
 }
 
-#[tactic(auto, unfolding(crate::specs::PrintedStmt::tokens))]
+#[tactic(auto, unfolding(spec_syntax::specs::PrintedStmt::tokens))]
 fn put_stmt(page: &mut Page, s: &Stmt) -> Result<(), Memory>
     ensures { OnOk result (page.new ≡ write page.old (spec.tokens s.now)) }
 {
@@ -290,7 +290,7 @@ fn put_stmt(page: &mut Page, s: &Stmt) -> Result<(), Memory>
 /// behind `(` and none before `)` and `,`, and parentheses round each operator's whole expression. Words that
 /// change nothing are written, save `;`, `sys.`, NONCLUSTERED and CLUSTERED. It takes time linear in the text.
 /// Its calls nest no deeper than the expressions.
-#[tactic(auto, unfolding(crate::specs::PrintedStmt::printed, crate::specs::Page::spelled))]
+#[tactic(auto, unfolding(spec_syntax::specs::PrintedStmt::printed, spec_syntax::specs::Page::spelled))]
 pub fn print(alloc: Global, s: &Stmt) -> Result<Vec<u8>, Memory>
     ensures { IfOk result (λ text. text.items ≡ printed s.now) }
 {

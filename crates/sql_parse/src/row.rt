@@ -2,21 +2,20 @@
 
 ghost use Rattle.std.specs.Prelude.{◌≡◌, IfOk};
 ghost use Rattle.sql_value.specs.Literals.{IsLiteral};
-ghost use Rattle.sql_parse.specs.Input.{ParsesUnlessOom};
-ghost use Rattle.sql_parse.specs.Row as spec;
+ghost use Rattle.spec_syntax.specs.Input.{ParsesUnlessOom};
+ghost use Rattle.spec_syntax.specs.Row as spec;
 
-use crate::ParseErr;
 use crate::cursor::Cursor;
 use crate::expr::whole;
 use crate::name::{literal, name};
-use crate::tag::Tag;
 use base_types::{Items, Name};
+use spec_syntax::{ParseErr, Tag};
 use sql_types::RowStmt;
 use sql_value::{Expr, Value};
 use std::alloc::Global;
 
 /// Names with commas between.
-#[tactic(auto, unfolding(crate::specs::Input::list, crate::specs::Input::list_from))]
+#[tactic(auto, unfolding(spec_syntax::specs::Input::list, spec_syntax::specs::Input::list_from))]
 pub fn names(alloc: Global, c: &mut Cursor<'_>) -> Result<Items<Name>, ParseErr>
     ensures { ParsesUnlessOom (spec.names c.old) result c.new }
 {
@@ -31,7 +30,7 @@ pub fn names(alloc: Global, c: &mut Cursor<'_>) -> Result<Items<Name>, ParseErr>
 }
 
 /// Names in parentheses.
-#[tactic(auto, unfolding(crate::specs::Row::name_list))]
+#[tactic(auto, unfolding(spec_syntax::specs::Row::name_list))]
 pub fn name_list(alloc: Global, c: &mut Cursor<'_>) -> Result<Items<Name>, ParseErr>
     ensures { ParsesUnlessOom (spec.name_list c.old) result c.new }
 {
@@ -41,7 +40,7 @@ pub fn name_list(alloc: Global, c: &mut Cursor<'_>) -> Result<Items<Name>, Parse
     Ok(found)
 }
 
-#[tactic(auto, unfolding(crate::specs::Row::number))]
+#[tactic(auto, unfolding(spec_syntax::specs::Row::number))]
 fn number(alloc: Global, c: &mut Cursor<'_>) -> Result<Value, ParseErr>
     ensures value { ParsesUnlessOom (spec.number c.old) result c.new }
     ensures literal { IfOk result IsLiteral }
@@ -63,7 +62,7 @@ fn negated(value: Value) -> Value
     }
 }
 
-#[tactic(auto, unfolding(crate::specs::Row::value))]
+#[tactic(auto, unfolding(spec_syntax::specs::Row::value))]
 fn value(alloc: Global, c: &mut Cursor<'_>) -> Result<Value, ParseErr>
     ensures { ParsesUnlessOom (spec.value c.old) result c.new }
 {
@@ -80,7 +79,7 @@ fn value(alloc: Global, c: &mut Cursor<'_>) -> Result<Value, ParseErr>
     }
 }
 
-#[tactic(auto, unfolding(crate::specs::Input::list, crate::specs::Input::list_from))]
+#[tactic(auto, unfolding(spec_syntax::specs::Input::list, spec_syntax::specs::Input::list_from))]
 fn values(alloc: Global, c: &mut Cursor<'_>) -> Result<Items<Value>, ParseErr>
     ensures { ParsesUnlessOom (spec.values c.old) result c.new }
 {
@@ -94,7 +93,7 @@ fn values(alloc: Global, c: &mut Cursor<'_>) -> Result<Items<Value>, ParseErr>
     Err(ParseErr::Syntax)
 }
 
-#[tactic(auto, unfolding(crate::specs::Row::row))]
+#[tactic(auto, unfolding(spec_syntax::specs::Row::row))]
 fn row(alloc: Global, c: &mut Cursor<'_>) -> Result<Items<Value>, ParseErr>
     ensures { ParsesUnlessOom (spec.row c.old) result c.new }
 {
@@ -104,7 +103,7 @@ fn row(alloc: Global, c: &mut Cursor<'_>) -> Result<Items<Value>, ParseErr>
     Ok(found)
 }
 
-#[tactic(auto, unfolding(crate::specs::Input::list, crate::specs::Input::list_from))]
+#[tactic(auto, unfolding(spec_syntax::specs::Input::list, spec_syntax::specs::Input::list_from))]
 fn rows(alloc: Global, c: &mut Cursor<'_>) -> Result<Items<Items<Value>>, ParseErr>
     ensures { ParsesUnlessOom (spec.rows c.old) result c.new }
 {
@@ -118,7 +117,7 @@ fn rows(alloc: Global, c: &mut Cursor<'_>) -> Result<Items<Items<Value>>, ParseE
     Err(ParseErr::Syntax)
 }
 
-#[tactic(auto, unfolding(crate::specs::Row::columns))]
+#[tactic(auto, unfolding(spec_syntax::specs::Row::columns))]
 fn columns(alloc: Global, c: &mut Cursor<'_>) -> Result<Option<Items<Name>>, ParseErr>
     ensures { ParsesUnlessOom (spec.columns c.old) result c.new }
 {
@@ -131,7 +130,7 @@ fn columns(alloc: Global, c: &mut Cursor<'_>) -> Result<Option<Items<Name>>, Par
 }
 
 /// What stands behind INSERT.
-#[tactic(auto, unfolding(crate::specs::Row::insert))]
+#[tactic(auto, unfolding(spec_syntax::specs::Row::insert))]
 pub fn insert(alloc: Global, c: &mut Cursor<'_>) -> Result<RowStmt, ParseErr>
     ensures { ParsesUnlessOom (spec.insert c.old) result c.new }
 {
@@ -148,7 +147,7 @@ pub fn insert(alloc: Global, c: &mut Cursor<'_>) -> Result<RowStmt, ParseErr>
 }
 
 /// WHERE and its condition, if it comes next.
-#[tactic(auto, unfolding(crate::specs::Row::filter))]
+#[tactic(auto, unfolding(spec_syntax::specs::Row::filter))]
 pub fn filter(alloc: Global, c: &mut Cursor<'_>) -> Result<Option<Expr>, ParseErr>
     ensures { ParsesUnlessOom (spec.filter c.old) result c.new }
 {
@@ -158,7 +157,7 @@ pub fn filter(alloc: Global, c: &mut Cursor<'_>) -> Result<Option<Expr>, ParseEr
     Ok(Some(whole(alloc, c)?))
 }
 
-#[tactic(auto, unfolding(crate::specs::Row::assignment))]
+#[tactic(auto, unfolding(spec_syntax::specs::Row::assignment))]
 fn assignment(alloc: Global, c: &mut Cursor<'_>) -> Result<(Name, Expr), ParseErr>
     ensures { ParsesUnlessOom (spec.assignment c.old) result c.new }
 {
@@ -168,7 +167,7 @@ fn assignment(alloc: Global, c: &mut Cursor<'_>) -> Result<(Name, Expr), ParseEr
     Ok((column, to))
 }
 
-#[tactic(auto, unfolding(crate::specs::Input::list, crate::specs::Input::list_from))]
+#[tactic(auto, unfolding(spec_syntax::specs::Input::list, spec_syntax::specs::Input::list_from))]
 fn assignments(alloc: Global, c: &mut Cursor<'_>) -> Result<Items<(Name, Expr)>, ParseErr>
     ensures { ParsesUnlessOom (spec.assignments c.old) result c.new }
 {
@@ -183,7 +182,7 @@ fn assignments(alloc: Global, c: &mut Cursor<'_>) -> Result<Items<(Name, Expr)>,
 }
 
 /// What stands behind UPDATE.
-#[tactic(auto, unfolding(crate::specs::Row::update))]
+#[tactic(auto, unfolding(spec_syntax::specs::Row::update))]
 pub fn update(alloc: Global, c: &mut Cursor<'_>) -> Result<RowStmt, ParseErr>
     ensures { ParsesUnlessOom (spec.update c.old) result c.new }
 {
@@ -195,7 +194,7 @@ pub fn update(alloc: Global, c: &mut Cursor<'_>) -> Result<RowStmt, ParseErr>
 }
 
 /// What stands behind DELETE.
-#[tactic(auto, unfolding(crate::specs::Row::delete))]
+#[tactic(auto, unfolding(spec_syntax::specs::Row::delete))]
 pub fn delete(alloc: Global, c: &mut Cursor<'_>) -> Result<RowStmt, ParseErr>
     ensures { ParsesUnlessOom (spec.delete c.old) result c.new }
 {

@@ -1,20 +1,19 @@
 //! SELECT: a function for each rule.
 
 ghost use Rattle.std.specs.Prelude.{◌≡◌};
-ghost use Rattle.sql_parse.specs.Input.{ParsesUnlessOom};
-ghost use Rattle.sql_parse.specs.Select as spec;
+ghost use Rattle.spec_syntax.specs.Input.{ParsesUnlessOom};
+ghost use Rattle.spec_syntax.specs.Select as spec;
 
-use crate::ParseErr;
 use crate::cursor::Cursor;
 use crate::name::name;
 use crate::row::{filter, names};
-use crate::tag::Tag;
-use crate::word::{CallName, call_word};
+use crate::word::call_word;
 use base_types::{Items, Name};
+use spec_syntax::{CallName, ParseErr, Tag};
 use sql_types::{Agg, Select, SelectList};
 use std::alloc::Global;
 
-#[tactic(auto, unfolding(crate::specs::Select::agg))]
+#[tactic(auto, unfolding(spec_syntax::specs::Select::agg))]
 fn agg(alloc: Global, c: &mut Cursor<'_>) -> Result<Agg, ParseErr>
     ensures { ParsesUnlessOom (spec.agg c.old) result c.new }
 {
@@ -39,7 +38,7 @@ fn called(alloc: Global, c: &mut Cursor<'_>, word: CallName) -> Result<Agg, Pars
     }
 }
 
-#[tactic(auto, unfolding(crate::specs::Input::list, crate::specs::Input::list_from))]
+#[tactic(auto, unfolding(spec_syntax::specs::Input::list, spec_syntax::specs::Input::list_from))]
 fn aggs(alloc: Global, c: &mut Cursor<'_>) -> Result<Items<Agg>, ParseErr>
     ensures { ParsesUnlessOom (spec.aggs c.old) result c.new }
 {
@@ -53,7 +52,7 @@ fn aggs(alloc: Global, c: &mut Cursor<'_>) -> Result<Items<Agg>, ParseErr>
     Err(ParseErr::Syntax)
 }
 
-#[tactic(auto, unfolding(crate::specs::Select::what))]
+#[tactic(auto, unfolding(spec_syntax::specs::Select::what))]
 fn what(alloc: Global, c: &mut Cursor<'_>) -> Result<SelectList, ParseErr>
     ensures { ParsesUnlessOom (spec.what c.old) result c.new }
 {
@@ -67,7 +66,7 @@ fn what(alloc: Global, c: &mut Cursor<'_>) -> Result<SelectList, ParseErr>
 }
 
 /// Whether the order falls.
-#[tactic(auto, unfolding(crate::specs::Select::falls))]
+#[tactic(auto, unfolding(spec_syntax::specs::Select::falls))]
 fn falls(c: &mut Cursor<'_>) -> Result<bool, ParseErr>
     ensures { ParsesUnlessOom (spec.falls c.old) result c.new }
 {
@@ -77,7 +76,7 @@ fn falls(c: &mut Cursor<'_>) -> Result<bool, ParseErr>
     Ok(c.eat(Tag::Desc))
 }
 
-#[tactic(auto, unfolding(crate::specs::Select::sort))]
+#[tactic(auto, unfolding(spec_syntax::specs::Select::sort))]
 fn sort(alloc: Global, c: &mut Cursor<'_>) -> Result<(Name, bool), ParseErr>
     ensures { ParsesUnlessOom (spec.sort c.old) result c.new }
 {
@@ -86,7 +85,7 @@ fn sort(alloc: Global, c: &mut Cursor<'_>) -> Result<(Name, bool), ParseErr>
     Ok((column, down))
 }
 
-#[tactic(auto, unfolding(crate::specs::Input::list, crate::specs::Input::list_from))]
+#[tactic(auto, unfolding(spec_syntax::specs::Input::list, spec_syntax::specs::Input::list_from))]
 fn sorts(alloc: Global, c: &mut Cursor<'_>) -> Result<Items<(Name, bool)>, ParseErr>
     ensures { ParsesUnlessOom (spec.sorts c.old) result c.new }
 {
@@ -100,7 +99,7 @@ fn sorts(alloc: Global, c: &mut Cursor<'_>) -> Result<Items<(Name, bool)>, Parse
     Err(ParseErr::Syntax)
 }
 
-#[tactic(auto, unfolding(crate::specs::Select::order))]
+#[tactic(auto, unfolding(spec_syntax::specs::Select::order))]
 fn order(alloc: Global, c: &mut Cursor<'_>) -> Result<Items<(Name, bool)>, ParseErr>
     ensures { ParsesUnlessOom (spec.order c.old) result c.new }
 {
@@ -126,7 +125,7 @@ fn order_of(
 }
 
 /// What stands behind SELECT.
-#[tactic(auto, unfolding(crate::specs::Select::select))]
+#[tactic(auto, unfolding(spec_syntax::specs::Select::select))]
 pub fn select(alloc: Global, c: &mut Cursor<'_>) -> Result<Select, ParseErr>
     ensures { ParsesUnlessOom (spec.select c.old) result c.new }
 {

@@ -1,21 +1,20 @@
 //! Statements: a function for each rule.
 
 ghost use Rattle.std.specs.Prelude.{◌≡◌};
-ghost use Rattle.sql_parse.specs.Input.{ParsesUnlessOom, ConvertsUnlessOom};
-ghost use Rattle.sql_parse.specs.Stmt as spec;
+ghost use Rattle.spec_syntax.specs.Input.{ParsesUnlessOom, ConvertsUnlessOom};
+ghost use Rattle.spec_syntax.specs.Stmt as spec;
 
-use crate::ParseErr;
 use crate::cursor::Cursor;
 use crate::name::name;
 use crate::row::{delete, insert, update};
 use crate::select::select;
 use crate::table::{create_index, create_table};
-use crate::tag::Tag;
-use crate::word::{CallName, call_word};
+use crate::word::call_word;
+use spec_syntax::{CallName, ParseErr, Tag};
 use sql_types::Stmt;
 use std::alloc::Global;
 
-#[tactic(auto, unfolding(crate::specs::Stmt::create))]
+#[tactic(auto, unfolding(spec_syntax::specs::Stmt::create))]
 fn create(alloc: Global, c: &mut Cursor<'_>) -> Result<Stmt, ParseErr>
     ensures { ParsesUnlessOom (spec.create c.old) result c.new }
 {
@@ -38,7 +37,7 @@ fn create(alloc: Global, c: &mut Cursor<'_>) -> Result<Stmt, ParseErr>
 }
 
 /// Whether TRAN or TRANSACTION is written.
-#[tactic(auto, unfolding(crate::specs::Stmt::tran_may))]
+#[tactic(auto, unfolding(spec_syntax::specs::Stmt::tran_may))]
 fn tran_may(c: &mut Cursor<'_>) -> Result<bool, ParseErr>
     ensures { ParsesUnlessOom (spec.tran_may c.old) result c.new }
 {
@@ -48,7 +47,7 @@ fn tran_may(c: &mut Cursor<'_>) -> Result<bool, ParseErr>
     Ok(c.eat(Tag::Transaction))
 }
 
-#[tactic(auto, unfolding(crate::specs::Stmt::begin))]
+#[tactic(auto, unfolding(spec_syntax::specs::Stmt::begin))]
 fn begin(c: &mut Cursor<'_>) -> Result<Stmt, ParseErr>
     ensures { ParsesUnlessOom (spec.begin c.old) result c.new }
 {
@@ -59,7 +58,7 @@ fn begin(c: &mut Cursor<'_>) -> Result<Stmt, ParseErr>
     }
 }
 
-#[tactic(auto, unfolding(crate::specs::Stmt::commit))]
+#[tactic(auto, unfolding(spec_syntax::specs::Stmt::commit))]
 fn commit(c: &mut Cursor<'_>) -> Result<Stmt, ParseErr>
     ensures { ParsesUnlessOom (spec.commit c.old) result c.new }
 {
@@ -67,7 +66,7 @@ fn commit(c: &mut Cursor<'_>) -> Result<Stmt, ParseErr>
     Ok(Stmt::Commit)
 }
 
-#[tactic(auto, unfolding(crate::specs::Stmt::save))]
+#[tactic(auto, unfolding(spec_syntax::specs::Stmt::save))]
 fn save(alloc: Global, c: &mut Cursor<'_>) -> Result<Stmt, ParseErr>
     ensures { ParsesUnlessOom (spec.save c.old) result c.new }
 {
@@ -80,7 +79,7 @@ fn save(alloc: Global, c: &mut Cursor<'_>) -> Result<Stmt, ParseErr>
     }
 }
 
-#[tactic(auto, unfolding(crate::specs::Stmt::rollback))]
+#[tactic(auto, unfolding(spec_syntax::specs::Stmt::rollback))]
 fn rollback(alloc: Global, c: &mut Cursor<'_>) -> Result<Stmt, ParseErr>
     ensures { ParsesUnlessOom (spec.rollback c.old) result c.new }
 {
@@ -102,7 +101,7 @@ fn digest_of(word: CallName) -> Result<Stmt, ParseErr>
     }
 }
 
-#[tactic(auto, unfolding(crate::specs::Stmt::execute))]
+#[tactic(auto, unfolding(spec_syntax::specs::Stmt::execute))]
 fn execute(c: &mut Cursor<'_>) -> Result<Stmt, ParseErr>
     ensures { ParsesUnlessOom (spec.execute c.old) result c.new }
 {
@@ -115,7 +114,7 @@ fn execute(c: &mut Cursor<'_>) -> Result<Stmt, ParseErr>
     }
 }
 
-#[tactic(auto, unfolding(crate::specs::Stmt::body))]
+#[tactic(auto, unfolding(spec_syntax::specs::Stmt::body))]
 fn body(alloc: Global, c: &mut Cursor<'_>) -> Result<Stmt, ParseErr>
     ensures { ParsesUnlessOom (spec.body c.old) result c.new }
 {
@@ -165,7 +164,7 @@ fn body(alloc: Global, c: &mut Cursor<'_>) -> Result<Stmt, ParseErr>
 }
 
 /// A statement, and nothing behind it.
-#[tactic(auto, unfolding(crate::specs::Stmt::statement))]
+#[tactic(auto, unfolding(spec_syntax::specs::Stmt::statement))]
 pub fn statement(alloc: Global, c: &mut Cursor<'_>) -> Result<Stmt, ParseErr>
     ensures { ParsesUnlessOom (spec.statement c.old) result c.new }
 {

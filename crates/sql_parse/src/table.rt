@@ -1,17 +1,16 @@
 //! CREATE TABLE and CREATE INDEX: a function for each rule.
 
 ghost use Rattle.std.specs.Prelude.{◌≡◌, map, IfOk};
-ghost use Rattle.sql_parse.specs.Input.{ParsesUnlessOom, ConvertsUnlessOom};
-ghost use Rattle.sql_parse.specs.Table as spec;
+ghost use Rattle.spec_syntax.specs.Input.{ParsesUnlessOom, ConvertsUnlessOom};
+ghost use Rattle.spec_syntax.specs.Table as spec;
 
-use crate::ParseErr;
-use crate::column::{Column, items, no_items};
+use crate::column::{items, no_items};
 use crate::cursor::Cursor;
-use crate::ledger::{Ledger, ledger_part};
+use crate::ledger::ledger_part;
 use crate::name::name;
 use crate::row::name_list;
-use crate::tag::Tag;
 use base_types::{Items, Memory, Name, first_of};
+use spec_syntax::{Column, Ledger, ParseErr, Tag};
 use sql_types::{CreateIndex, CreateTable};
 use sql_value::ColumnDef;
 use std::alloc::Global;
@@ -98,7 +97,7 @@ fn table_of(
 }
 
 /// What stands behind CREATE TABLE.
-#[tactic(auto, unfolding(crate::specs::Table::create_table))]
+#[tactic(auto, unfolding(spec_syntax::specs::Table::create_table))]
 pub fn create_table(alloc: Global, c: &mut Cursor<'_>) -> Result<CreateTable, ParseErr>
     ensures { ParsesUnlessOom (spec.create_table c.old) result c.new }
 {
@@ -111,7 +110,7 @@ pub fn create_table(alloc: Global, c: &mut Cursor<'_>) -> Result<CreateTable, Pa
 }
 
 /// What stands behind CREATE INDEX.
-#[tactic(auto, unfolding(crate::specs::Table::create_index))]
+#[tactic(auto, unfolding(spec_syntax::specs::Table::create_index))]
 pub fn create_index(alloc: Global, c: &mut Cursor<'_>) -> Result<CreateIndex, ParseErr>
     ensures { ParsesUnlessOom (spec.create_index c.old) result c.new }
 {

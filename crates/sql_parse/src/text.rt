@@ -3,22 +3,21 @@
 ghost use Rattle.std.specs.Prelude.{◌≡◌, Err, IfOk, All, map};
 ghost use Rattle.sql_lex.specs.Spans.{IsSpan};
 ghost use Rattle.sql_types.specs.declared.statement.Stmt.{Stmt};
-ghost use Rattle.spec_grammar.specs.Statements.{IsStatement};
-ghost use Rattle.sql_parse.specs.declared.parse_err.ParseErr.TheVariants as parse_err;
-ghost use Rattle.sql_parse.specs.Input.{ConvertsUnlessOom, syms};
-ghost use Rattle.sql_parse.specs.Stmt.{statement_of_tokens};
-ghost use Rattle.sql_parse.specs.Text.{sym_of, statement_of};
+ghost use Rattle.law_syntax.specs.Statements.{IsStatement};
+ghost use Rattle.spec_syntax.specs.declared.parse_err.ParseErr.TheVariants as parse_err;
+ghost use Rattle.spec_syntax.specs.Input.{ConvertsUnlessOom, syms};
+ghost use Rattle.spec_syntax.specs.Stmt.{statement_of_tokens};
+ghost use Rattle.spec_syntax.specs.Text.{sym_of, statement_of};
 
-use crate::ParseErr;
-use crate::cursor::{Cursor, Piece};
+use crate::cursor::Cursor;
 use crate::stmt::statement;
-use crate::tag::tag_of;
 use base_types::{Items, Memory};
+use spec_syntax::{ParseErr, Piece, tag_of};
 use sql_lex::{LexErr, Token, tokens};
 use sql_types::Stmt;
 use std::alloc::Global;
 
-#[tactic(auto, unfolding(crate::specs::Text::sym_of))]
+#[tactic(auto, unfolding(spec_syntax::specs::Text::sym_of))]
 fn piece<'a>(text: &'a str, token: &Token) -> Piece<'a>
     requires { IsSpan text.now token.now }
     ensures { (result.tag, result.text.now) ≡ sym_of text.now token.now }
@@ -50,7 +49,7 @@ fn read(alloc: Global, text: &str, tokens: &[Token]) -> Result<Stmt, ParseErr>
     statement(alloc, &mut Cursor::new(all.as_slice()))
 }
 
-#[tactic(auto, unfolding(crate::specs::Text::statement_of))]
+#[tactic(auto, unfolding(spec_syntax::specs::Text::statement_of))]
 fn read_text(alloc: Global, text: &str) -> Result<Stmt, ParseErr>
     ensures { ConvertsUnlessOom (statement_of text.now) result }
 {

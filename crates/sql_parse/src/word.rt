@@ -2,45 +2,12 @@
 
 ghost use Rattle.std.specs.Prelude.{◌≡◌};
 ghost use Rattle.std.specs.Str.{str_eq_ignore_ascii_case};
-ghost use Rattle.sql_parse.specs.Input.{ParsesUnlessOom};
-ghost use Rattle.sql_parse.specs.Words as spec;
+ghost use Rattle.spec_syntax.specs.Input.{ParsesUnlessOom};
+ghost use Rattle.spec_syntax.specs.Words as spec;
 
-use crate::ParseErr;
 use crate::cursor::Cursor;
 use crate::name::name_text;
-use crate::tag::Tag;
-
-/// The name of a type.
-#[derive(Clone, Copy, Debug, PartialEq, Eq)]
-pub enum TypeName {
-    Bit,
-    Int,
-    BigInt,
-    Date,
-    Decimal,
-    NVarChar,
-    VarBinary,
-}
-
-/// The name of an option of a table.
-#[derive(Clone, Copy, Debug, PartialEq, Eq)]
-pub enum OptionName {
-    Ledger,
-    SystemVersioning,
-    HistoryTable,
-    LedgerView,
-    AppendOnly,
-}
-
-/// What is called, what stands before its point, or the image that is saved.
-#[derive(Clone, Copy, Debug, PartialEq, Eq)]
-pub enum CallName {
-    Count,
-    Sum,
-    Sys,
-    Digest,
-    Image,
-}
+use spec_syntax::{CallName, OptionName, ParseErr, Tag, TypeName};
 
 fn is(word: &str, known: &str) -> bool
     ensures { result ≡ spec.is word.now known.now }
@@ -48,7 +15,7 @@ fn is(word: &str, known: &str) -> bool
     word.eq_ignore_ascii_case(known)
 }
 
-#[tactic(auto, unfolding(crate::specs::Words::type_name))]
+#[tactic(auto, unfolding(spec_syntax::specs::Words::type_name))]
 fn type_name(word: &str) -> Option<TypeName>
     ensures { result ≡ spec.type_name word.now }
 {
@@ -71,7 +38,7 @@ fn type_name(word: &str) -> Option<TypeName>
     }
 }
 
-#[tactic(auto, unfolding(crate::specs::Words::option_name))]
+#[tactic(auto, unfolding(spec_syntax::specs::Words::option_name))]
 fn option_name(word: &str) -> Option<OptionName>
     ensures { result ≡ spec.option_name word.now }
 {
@@ -90,7 +57,7 @@ fn option_name(word: &str) -> Option<OptionName>
     }
 }
 
-#[tactic(auto, unfolding(crate::specs::Words::call_name))]
+#[tactic(auto, unfolding(spec_syntax::specs::Words::call_name))]
 fn call_name(word: &str) -> Option<CallName>
     ensures { result ≡ spec.call_name word.now }
 {
@@ -110,7 +77,7 @@ fn call_name(word: &str) -> Option<CallName>
 }
 
 /// A type's name, which may stand in brackets.
-#[tactic(auto, unfolding(crate::specs::Words::type_word))]
+#[tactic(auto, unfolding(spec_syntax::specs::Words::type_word))]
 pub fn type_word(c: &mut Cursor<'_>) -> Result<TypeName, ParseErr>
     ensures { ParsesUnlessOom (spec.type_word c.old) result c.new }
 {
@@ -118,7 +85,7 @@ pub fn type_word(c: &mut Cursor<'_>) -> Result<TypeName, ParseErr>
 }
 
 /// An option's name, which may stand in brackets.
-#[tactic(auto, unfolding(crate::specs::Words::option_word))]
+#[tactic(auto, unfolding(spec_syntax::specs::Words::option_word))]
 pub fn option_word(c: &mut Cursor<'_>) -> Result<OptionName, ParseErr>
     ensures { ParsesUnlessOom (spec.option_word c.old) result c.new }
 {
@@ -126,7 +93,7 @@ pub fn option_word(c: &mut Cursor<'_>) -> Result<OptionName, ParseErr>
 }
 
 /// A word of a call, which stands bare.
-#[tactic(auto, unfolding(crate::specs::Words::call_word))]
+#[tactic(auto, unfolding(spec_syntax::specs::Words::call_word))]
 pub fn call_word(c: &mut Cursor<'_>) -> Result<CallName, ParseErr>
     ensures { ParsesUnlessOom (spec.call_word c.old) result c.new }
 {

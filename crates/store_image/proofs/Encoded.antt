@@ -8,7 +8,7 @@ use Rattle.sql_types.specs.declared.entry.TxEntry.{TxEntry}
 use Rattle.sql_types.specs.declared.image.Image.{Image}
 use Rattle.spec_model.specs.Catalog.{Tables}
 use Rattle.spec_model.specs.Journals.{serial}
-use Rattle.sql_parse.specs.Text.{statement_of}
+use Rattle.spec_syntax.specs.Text.{statement_of}
 use Rattle.spec_ledger.specs.Ledger.{Ledger}
 use Rattle.law_blocks.proofs.Staying.{blocks_counted}
 use Rattle.law_blocks.proofs.Counting.{entries_counted}

@@ -3,7 +3,7 @@ use Rattle.std.specs.Prelude.{ℕ, ◌≡◌, ◌++◌, not, Bool, false, List, 
 use Rattle.sql_types.specs.declared.image.Image.{Image}
 use Rattle.spec_model.specs.Catalog.{Tables}
 use Rattle.spec_model.specs.Journals.{serial, IsLegal}
-use Rattle.sql_parse.specs.Text.{statement_of}
+use Rattle.spec_syntax.specs.Text.{statement_of}
 use Rattle.spec_ledger.specs.Ledger.{ledger_of}
 use Rattle.format_image.specs.Image.{user_defs}
 use Rattle.format_image.specs.Rows.{table_rows}

@@ -3,7 +3,7 @@
 ghost use Rattle.std.specs.Prelude.{◌≡◌, ℕ, List, IfOk, OnOk};
 ghost use Rattle.format_image.specs.ImageBytes.{image_bytes};
 ghost use Rattle.format_image_rows.specs.Room.{FitsImageFormat};
-ghost use Rattle.sql_parse.specs.Text.{statement_of};
+ghost use Rattle.spec_syntax.specs.Text.{statement_of};
 ghost use Rattle.law_server.specs.CellsImage.{cells_image};
 ghost use Rattle.store_image.specs.Leads.{image_with, LeadsThere};
 

@@ -5,8 +5,9 @@ use crate::page::Page;
 use crate::texts::{split_at_bar, text_of};
 use base_types::Boxed;
 use format_lines::{InputErr, Line, read_lines, session_names};
+use spec_syntax::ParseErr;
 use sql_lex::{Kind, LexErr, Token, tokens};
-use sql_parse::{ParseErr, parse, print};
+use sql_parse::{parse, print};
 use sql_types::{RowStmt, Select, SelectList, Stmt};
 use std::alloc::Global;
 

@@ -4,16 +4,16 @@ use Rattle.sql_lex.specs.Longest.{longest}
 use Rattle.sql_lex.specs.IsToken.{kind_of}
 use Rattle.sql_types.specs.declared.statement.Stmt.{Stmt}
 use Rattle.spec_grammar.specs.Statements.{IsStatement}
-use Rattle.sql_parse.specs.Tags.{same_tag, tag_of}
-use Rattle.sql_parse.specs.Input as i
-use Rattle.sql_parse.specs.Words as w
-use Rattle.sql_parse.specs.Expr as e
-use Rattle.sql_parse.specs.Row as r
-use Rattle.sql_parse.specs.Select as s
-use Rattle.sql_parse.specs.Table as b
-use Rattle.sql_parse.specs.Ledger as l
-use Rattle.sql_parse.specs.Stmt as y
-use Rattle.sql_parse.specs.Text.{sym_of, statement_of}
+use Rattle.spec_syntax.specs.Tags.{same_tag, tag_of}
+use Rattle.spec_syntax.specs.Input as i
+use Rattle.spec_syntax.specs.Words as w
+use Rattle.spec_syntax.specs.Expr as e
+use Rattle.spec_syntax.specs.Row as r
+use Rattle.spec_syntax.specs.Select as s
+use Rattle.spec_syntax.specs.Table as b
+use Rattle.spec_syntax.specs.Ledger as l
+use Rattle.spec_syntax.specs.Stmt as y
+use Rattle.spec_syntax.specs.Text.{sym_of, statement_of}
 
 -- where none is read, there is none
 pub none : (text : List ℕ) → statement_of text ≡ None → ((s : Stmt) → IsStatement text s → statement_of text ≡ Some s) → (s : Stmt) → IsStatement text s → ⊥

@@ -5,7 +5,7 @@ ghost use Rattle.sql_types.specs.declared.statement.Stmt.{Stmt};
 ghost use Rattle.spec_grammar.specs.Statements.{IsStatement};
 ghost use Rattle.test_grammar.specs.Samples as sample;
 
-use sql_parse::parsing_keeps_to_the_grammar;
+use law_syntax::parsing_keeps_to_the_grammar;
 
 /// Words in any case, with and without what may be left out. NOT binds tighter than AND, AND than OR, and
 /// operators of one level group from the left. A sign in VALUES belongs to its number. Words of types and

@@ -14,7 +14,7 @@ use Rattle.spec_history.specs.Agree.{Agree}
 use Rattle.spec_history.specs.Lists.{Text}
 use Rattle.spec_history.specs.Meaning.{Meaning}
 use Rattle.spec_history.specs.Transcripts.{Transcript}
-use Rattle.sql_parse.specs.Text.{statement_of}
+use Rattle.spec_syntax.specs.Text.{statement_of}
 use Rattle.law_catalog_rows.specs.Written.{ReadsWritten}
 use Rattle.law_blocks.proofs.Counting.{entries_counted}
 use Rattle.format_image.specs.Image.{image_of}

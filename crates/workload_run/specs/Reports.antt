@@ -5,7 +5,7 @@ use Rattle.sql_types.specs.declared.digest.HeldDigest.{HeldDigest}
 use Rattle.sql_types.specs.declared.image.Image.{Image}
 use Rattle.sql_types.specs.declared.journal.Journal.{Journal}
 use Rattle.spec_model.specs.Journals.{tx_count}
-use Rattle.sql_parse.specs.Text.{statement_of}
+use Rattle.spec_syntax.specs.Text.{statement_of}
 use Rattle.format_image.specs.Image.{image_of}
 use Rattle.spec_verify.specs.declared.place.Verdict.TheVariants.{Yes}
 use Rattle.spec_verify.specs.Bytes.{verdict_of}

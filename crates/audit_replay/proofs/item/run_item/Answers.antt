@@ -1,6 +1,6 @@
 use Rattle.std.proofs.Common.{sym, subst, ◌++◌, ◌∷◌, []}
 use Rattle.spec_model.specs.Journals.{serial}
-use Rattle.sql_parse.specs.Text.{statement_of}
+use Rattle.spec_syntax.specs.Text.{statement_of}
 use Rattle.sql_apply.specs.Short.{AreShort}
 use Rattle.audit_replay.specs.Reached.{HaveLeaves, Reached}
 use Rattle.audit_replay.proofs.Steps.{new_item, enough, closes_one, close_end, closing_follows, short_then, leaves_then, entry_then, reached_then}

@@ -2,7 +2,7 @@ use Rattle.std.proofs.Common.{◌≡◌, ◌<◌, ◌^◌, get_or, ap, ◌∙◌
 use Rattle.std.proofs.lemmas.List.{take-append-drop, length-take, take_all}
 use Rattle.std.proofs.Math.Seq.{drop-cons}
 use Rattle.spec_model.specs.Journals.{IsLegal}
-use Rattle.sql_parse.specs.Text.{statement_of}
+use Rattle.spec_syntax.specs.Text.{statement_of}
 use Rattle.format_image.specs.Image.{image_of}
 use Rattle.audit_replay.specs.Reached.{KeepRules, image_from}
 use Rattle.std.specs.List.{AllByRecursion}

@@ -1,5 +1,5 @@
 use Rattle.spec_model.specs.Journals.{cut}
-use Rattle.sql_parse.specs.Text.{statement_of}
+use Rattle.spec_syntax.specs.Text.{statement_of}
 use Rattle.law_journal.proofs.Serials.{cut_legal}
 use Rattle.law_accepts.proofs.RoomOfCuts.{room_of_cut}
 use Rattle.law_accepts.proofs.Whole.{verifies}

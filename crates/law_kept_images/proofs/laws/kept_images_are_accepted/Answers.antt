@@ -1,7 +1,7 @@
 use Rattle.law_sequential.specs.SessionOutput.{IsImageOf}
 use Rattle.spec_history.specs.Lists.{Each}
 use Rattle.spec_history.proofs.Trace.{each_weaker}
-use Rattle.sql_parse.specs.Text.{statement_of}
+use Rattle.spec_syntax.specs.Text.{statement_of}
 use Rattle.spec_protocol.specs.Seats.{KeptImage}
 use Rattle.std.specs.Prelude.{List, length}
 use Rattle.law_kept_images.specs.Accepted.{IsAccepted, IsAcceptedIfEncodable}

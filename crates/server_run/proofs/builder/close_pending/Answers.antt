@@ -1,7 +1,7 @@
 use Rattle.std.proofs.Common.{◌∷◌, ◌∙◌, ℕ, List, refl, sym, ap, subst}
 use Rattle.base_board.specs.Boards.{seat_state}
 use Rattle.base_board.specs.Outs.{OutsAreIn}
-use Rattle.sql_parse.specs.Text.{statement_of}
+use Rattle.spec_syntax.specs.Text.{statement_of}
 use Rattle.server_session.specs.KeptCell.{KeptCell, Keeps}
 use Rattle.spec_protocol.specs.Cells.{ledger_at}
 use Rattle.server_board.specs.ServedDatabase.{MayVisitServed}

@@ -1,5 +1,5 @@
 use Rattle.std.proofs.Common.{arith, refl}
-use Rattle.sql_parse.specs.Text.{statement_of}
+use Rattle.spec_syntax.specs.Text.{statement_of}
 use Rattle.format_sections.specs.RunSections.{run_sections_view}
 use Rattle.law_server.proofs.Servers.{some_server}
 use Rattle.server_result.specs.Moments.{IsMoment, said_with}

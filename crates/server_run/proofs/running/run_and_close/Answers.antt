@@ -1,6 +1,6 @@
 use Rattle.std.proofs.Common.{◌≡◌, ℕ, List, arith, refl, sym, subst}
 use Rattle.spec_model.specs.LegalJournals.{IsLegalJournal}
-use Rattle.sql_parse.specs.Text.{statement_of}
+use Rattle.spec_syntax.specs.Text.{statement_of}
 use Rattle.format_sections.specs.RunSections.{run_sections_view}
 use Rattle.format_sections.specs.declared.all_sections.RunSections.{RunSections}
 use Rattle.law_server.proofs.Servers.{some_server}

@@ -1,4 +1,4 @@
-use Rattle.sql_parse.specs.Text.{statement_of}
+use Rattle.spec_syntax.specs.Text.{statement_of}
 use Rattle.law_server.proofs.Servers.{some_server}
 use Rattle.server_run.proofs.running.run_and_close.Given as goal
 

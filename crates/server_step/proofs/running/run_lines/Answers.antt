@@ -1,6 +1,6 @@
 use Rattle.std.proofs.Common.{List, ℕ, map, Bor}
 use Rattle.std.specs.List.{AllByRecursion}
-use Rattle.sql_parse.specs.Text.{statement_of}
+use Rattle.spec_syntax.specs.Text.{statement_of}
 use Rattle.server_engine.proofs.SessionOutput.{some_meaning}
 use Rattle.law_server.proofs.Servers.{some_server}
 use Rattle.format_digest.specs.Writing.{HasMoments}

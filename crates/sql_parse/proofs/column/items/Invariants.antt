@@ -1,6 +1,6 @@
 use Rattle.std.proofs.Common.{◌≡◌, ◌-◌}
-use Rattle.sql_parse.specs.Input.{fold, fold_from}
-use Rattle.sql_parse.specs.Table.{item_step}
+use Rattle.spec_syntax.specs.Input.{fold, fold_from}
+use Rattle.spec_syntax.specs.Table.{item_step}
 use Rattle.sql_parse.proofs.column.items.Given as goal
 
 abbrev pub invariant-loop-turn : goal.invariant-loop-turn

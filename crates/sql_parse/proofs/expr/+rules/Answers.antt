@@ -1,8 +1,8 @@
 use Rattle.std.proofs.Common.{rules, arith}
 use Rattle.std.proofs.lemmas.Grind.{common_steps}
-use Rattle.sql_parse.specs.Expr.{more, operator, operand, expr, level}
-use Rattle.sql_parse.proofs.Repeats.{hands_on}
-use Rattle.sql_parse.proofs.Levels.{one_more, starts, refused_first}
+use Rattle.spec_syntax.specs.Expr.{more, operator, operand, expr, level}
+use Rattle.law_syntax.proofs.Repeats.{hands_on}
+use Rattle.law_syntax.proofs.Levels.{one_more, starts, refused_first}
 use Rattle.sql_parse.proofs.expr.+rules.Goals as goal
 
 pub grouped-returns-in_err-left : goal.grouped-returns-in_err-left

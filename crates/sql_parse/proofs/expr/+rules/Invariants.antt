@@ -1,6 +1,6 @@
 use Rattle.std.proofs.Common.{◌≡◌, ◌+◌, ◌-◌, ◌*◌}
-use Rattle.sql_parse.specs.Expr as spec
-use Rattle.sql_parse.proofs.Levels.{rank}
+use Rattle.spec_syntax.specs.Expr as spec
+use Rattle.law_syntax.proofs.Levels.{rank}
 use Rattle.sql_parse.proofs.expr.+rules.Given as goal
 
 abbrev pub decreases-prim : goal.decreases-prim

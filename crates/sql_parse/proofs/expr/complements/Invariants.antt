@@ -1,6 +1,6 @@
 use Rattle.std.proofs.Common.{◌≡◌}
 use Rattle.sql_value.specs.declared.expr.Expr.TheVariants.{Not}
-use Rattle.sql_parse.specs.Expr.{times}
+use Rattle.spec_syntax.specs.Expr.{times}
 use Rattle.sql_parse.proofs.expr.complements.Given as goal
 
 abbrev pub invariant-loop-turn : goal.invariant-loop-turn

@@ -1,5 +1,5 @@
 use Rattle.std.proofs.Common.{rules}
-use Rattle.sql_parse.specs.Ledger.{same_option}
+use Rattle.spec_syntax.specs.Ledger.{same_option}
 use Rattle.sql_parse.proofs.ledger.same_option.Goals as goal
 
 pub returns : goal.returns

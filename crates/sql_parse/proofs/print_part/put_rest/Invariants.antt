@@ -1,6 +1,6 @@
 use Rattle.std.proofs.Common.{◌≡◌, length}
-use Rattle.sql_parse.specs.Page.{write}
-use Rattle.sql_parse.specs.Printed as part
+use Rattle.spec_syntax.specs.Page.{write}
+use Rattle.spec_syntax.specs.Printed as part
 use Rattle.sql_parse.proofs.print_part.put_rest.Given as goal
 
 abbrev pub invariant-loop-item : goal.invariant-loop-item

@@ -1,8 +1,8 @@
 use Rattle.std.proofs.Common.{rules, arith}
 use Rattle.std.proofs.lemmas.Grind.{common_steps}
-use Rattle.sql_parse.specs.Input.{list_from}
-use Rattle.sql_parse.specs.Expr.{name}
-use Rattle.sql_parse.proofs.Levels.{one_more}
+use Rattle.spec_syntax.specs.Input.{list_from}
+use Rattle.spec_syntax.specs.Expr.{name}
+use Rattle.law_syntax.proofs.Levels.{one_more}
 use Rattle.sql_parse.proofs.row.names.Goals as goal
 
 pub loop-turn-preserved : goal.loop-turn-preserved

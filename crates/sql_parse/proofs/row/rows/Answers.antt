@@ -1,8 +1,8 @@
 use Rattle.std.proofs.Common.{rules, arith}
 use Rattle.std.proofs.lemmas.Grind.{common_steps}
-use Rattle.sql_parse.specs.Input.{list_from}
-use Rattle.sql_parse.specs.Row.{row}
-use Rattle.sql_parse.proofs.Levels.{one_more}
+use Rattle.spec_syntax.specs.Input.{list_from}
+use Rattle.spec_syntax.specs.Row.{row}
+use Rattle.law_syntax.proofs.Levels.{one_more}
 use Rattle.sql_parse.proofs.row.rows.Goals as goal
 
 pub loop-turn-preserved : goal.loop-turn-preserved

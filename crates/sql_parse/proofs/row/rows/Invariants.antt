@@ -1,6 +1,6 @@
 use Rattle.std.proofs.Common.{◌≡◌, ◌-◌}
-use Rattle.sql_parse.specs.Input.{list, list_from}
-use Rattle.sql_parse.specs.Row.{row}
+use Rattle.spec_syntax.specs.Input.{list, list_from}
+use Rattle.spec_syntax.specs.Row.{row}
 use Rattle.sql_parse.proofs.row.rows.Given as goal
 
 abbrev pub invariant-loop-turn : goal.invariant-loop-turn

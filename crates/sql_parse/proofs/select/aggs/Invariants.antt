@@ -1,6 +1,6 @@
 use Rattle.std.proofs.Common.{◌≡◌, ◌-◌}
-use Rattle.sql_parse.specs.Input.{list, list_from}
-use Rattle.sql_parse.specs.Select.{agg}
+use Rattle.spec_syntax.specs.Input.{list, list_from}
+use Rattle.spec_syntax.specs.Select.{agg}
 use Rattle.sql_parse.proofs.select.aggs.Given as goal
 
 abbrev pub invariant-loop-turn : goal.invariant-loop-turn

@@ -1,5 +1,5 @@
 use Rattle.std.proofs.Common.{◌≡◌, map}
-use Rattle.sql_parse.specs.Table.{column_def}
+use Rattle.spec_syntax.specs.Table.{column_def}
 use Rattle.sql_parse.proofs.table.column_defs.Given as goal
 
 abbrev pub invariant-loop-column : goal.invariant-loop-column

@@ -1,5 +1,5 @@
 use Rattle.std.proofs.Common.{◌≡◌, length}
-use Rattle.sql_parse.specs.Table.{is_in}
+use Rattle.spec_syntax.specs.Table.{is_in}
 use Rattle.sql_parse.proofs.table.is_in.Given as goal
 
 abbrev pub invariant-loop-first : goal.invariant-loop-first

@@ -1,4 +1,4 @@
-use Rattle.sql_parse.proofs.StmtComplete.{found_is, refused_is}
+use Rattle.law_syntax.proofs.StmtComplete.{found_is, refused_is}
 use Rattle.sql_parse.proofs.text.parse.Goals as goal
 
 pub returns-clause-found : goal.returns-clause-found

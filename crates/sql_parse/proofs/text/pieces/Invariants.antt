@@ -1,6 +1,6 @@
 use Rattle.std.proofs.Common.{◌≡◌, map, take}
-use Rattle.sql_parse.specs.Input.{syms}
-use Rattle.sql_parse.specs.Text.{sym_of}
+use Rattle.spec_syntax.specs.Input.{syms}
+use Rattle.spec_syntax.specs.Text.{sym_of}
 use Rattle.sql_parse.proofs.text.pieces.Given as goal
 
 abbrev pub invariant-loop-token : goal.invariant-loop-token

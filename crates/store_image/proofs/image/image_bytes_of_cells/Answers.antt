@@ -1,5 +1,5 @@
 use Rattle.std.proofs.Common.{arith, refl}
-use Rattle.sql_parse.specs.Text.{statement_of}
+use Rattle.spec_syntax.specs.Text.{statement_of}
 use Rattle.store_image.proofs.Encoded.{has_room, is_encodable}
 use Rattle.store_image.proofs.image.image_bytes_of_cells.Goals as goal
 

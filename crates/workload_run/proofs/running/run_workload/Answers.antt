@@ -1,5 +1,5 @@
 use Rattle.std.proofs.Common.{◌≡◌, ◌∙◌, ap, arith, map, subst}
-use Rattle.sql_parse.specs.Text.{statement_of}
+use Rattle.spec_syntax.specs.Text.{statement_of}
 use Rattle.server_result.specs.Moments.{IsMoment}
 use Rattle.server_run.specs.Held.{held}
 use Rattle.workload_run.specs.Reports.{expected, TellsOfImage}

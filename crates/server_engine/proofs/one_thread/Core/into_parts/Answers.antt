@@ -1,6 +1,6 @@
 use Rattle.std.proofs.Common.{◌≤◌, ◌^◌, ◌∙◌, refl, sym, ap, subst, arith}
 use mathlib.Core.Option.{some}
-use Rattle.sql_parse.specs.Text.{statement_of}
+use Rattle.spec_syntax.specs.Text.{statement_of}
 use Rattle.spec_protocol.specs.Cells.{ledger_at}
 use Rattle.server_visits.specs.Images.{AreImageBytes, CellsStand}
 use Rattle.server_engine.proofs.Ends.{all_ended, cells_stand, has_left, image_is, ledger_within, room_is, room_over, second_is_ledger}

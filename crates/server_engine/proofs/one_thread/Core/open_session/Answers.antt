@@ -1,5 +1,5 @@
 use Rattle.std.proofs.Common.{◌≡◌, refl, subst, length, arith}
-use Rattle.sql_parse.specs.Text.{statement_of}
+use Rattle.spec_syntax.specs.Text.{statement_of}
 use Rattle.server_session.specs.Steps.{Begins}
 use Rattle.server_engine.proofs.Calls.{last_open, last_others}
 use Rattle.server_engine.proofs.Ends.{session_count, session_stands}

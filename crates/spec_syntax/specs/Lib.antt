@@ -1,0 +1,14 @@
+pub mod Tags
+pub mod Input
+pub mod Expr
+pub mod Words
+pub mod Row
+pub mod Select
+pub mod Ledger
+pub mod Table
+pub mod Stmt
+pub mod Text
+pub mod Page
+pub mod Printed
+pub mod PrintedStmt
+pub mod Parsed
