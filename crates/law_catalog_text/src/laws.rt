@@ -11,7 +11,8 @@ ghost use Rattle.law_catalog_rows.specs.Written.{ReadsWritten};
 ghost use Rattle.law_catalog_text.specs.Readings.{KeepsToTheGrammar};
 
 use law_catalog_rows::legal_journals_encode_definitions;
-use law_syntax::{parsing_keeps_to_the_grammar, printing_is_read_back};
+use law_printing::printing_is_read_back;
+use law_syntax::parsing_keeps_to_the_grammar;
 
 /// Each table and each index that a statement of the grammar makes has a name with bytes that may stand in
 /// names, a column, and where it is a table a key. The parser's reading keeps to the grammar.

@@ -20,8 +20,8 @@ use Rattle.spec_syntax.specs.declared.level.Level.TheVariants as l
 use Rattle.spec_syntax.specs.Tags.{same_tag, tag_of}
 use Rattle.spec_syntax.specs.Input.{Input, Sym, Outcome, Parser, and_then, ◌>>=◌, ◌>>◌, ◌<$>◌, pure, peek, take_text, tag, tag_at, text, next, sees, after, eat, expect, spend, repeated, repeated_at, begin, required, max_parts}
 use Rattle.spec_syntax.specs.Expr.{operator, comparison, name, literal, literal_by, inside, leaf, leaf_by, times, more, more_by, prim, unary, product, sum, cmp, cmp_by, not, level, operand, expr, whole, max_nesting}
-use Rattle.law_syntax.proofs.Repeats.{at_}
-use Rattle.law_syntax.proofs.Names.{closed}
+use Rattle.law_printing.proofs.Repeats.{at_}
+use Rattle.law_printing.proofs.Names.{closed}
 use Rattle.law_syntax.proofs.Levels.{starts}
 use Rattle.sql_value.proofs.Trees.{of_literal, of_column, of_minus, of_not, of_is_null, of_binary}
 use Rattle.law_syntax.proofs.Terminals as w

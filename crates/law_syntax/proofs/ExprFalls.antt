@@ -11,8 +11,8 @@ use Rattle.spec_syntax.specs.declared.level.Level.TheVariants as l
 use Rattle.spec_syntax.specs.Tags.{same_tag}
 use Rattle.spec_syntax.specs.Input.{Input, Sym, Outcome, Parser, and_then, ◌>>=◌, ◌>>◌, pure, peek, take_text, next, sees, eat, expect, spend, repeated, repeated_at, one_more}
 use Rattle.spec_syntax.specs.Expr.{operator, comparison, name, literal, leaf, leaf_by, times, more, more_by, grouped, prim, unary, product, sum, cmp, cmp_by, not, and, or, level, operand, expr}
-use Rattle.law_syntax.proofs.Repeats.{at_}
-use Rattle.law_syntax.proofs.KeptExprs.{LeftIs, name_left, literal_left, after_left}
+use Rattle.law_printing.proofs.Repeats.{at_}
+use Rattle.law_printing.proofs.KeptExprs.{LeftIs, name_left, literal_left, after_left}
 
 abbrev pub FallsTo : {A : Type 0} → ℕ → Outcome A → Type 0
 FallsTo n None = ⊤

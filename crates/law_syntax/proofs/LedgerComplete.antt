@@ -27,7 +27,7 @@ use Rattle.spec_syntax.specs.Expr.{name}
 use Rattle.spec_syntax.specs.Row as r
 use Rattle.spec_syntax.specs.Table as b
 use Rattle.spec_syntax.specs.Ledger as p
-use Rattle.law_syntax.proofs.Repeats.{at_}
+use Rattle.law_printing.proofs.Repeats.{at_}
 use Rattle.law_syntax.proofs.Terminals as w
 use Rattle.law_syntax.proofs.ExprComplete.{syms, One, one}
 use Rattle.law_syntax.proofs.ParsesTo.{ParsesTo, then_parses, flow, give_at, go, pure_parses, expects_parses, either_one, either_none, name_parses, one_other, one_tag, closes}

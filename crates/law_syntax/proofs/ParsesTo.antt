@@ -6,7 +6,7 @@ use Rattle.spec_syntax.specs.declared.tag.Tag.TheVariants as t
 use Rattle.spec_syntax.specs.Tags.{same_tag}
 use Rattle.spec_syntax.specs.Input.{Sym, Outcome, Parser, and_then, ◌>>=◌, ◌>>◌, pure, tag_at, next, sees, after, eat, expect, list, list_from, tokens_left}
 use Rattle.spec_syntax.specs.Expr.{name}
-use Rattle.law_syntax.proofs.Repeats.{at_}
+use Rattle.law_printing.proofs.Repeats.{at_}
 use Rattle.law_syntax.proofs.Terminals as w
 use Rattle.law_syntax.proofs.Terminals.{Terminal}
 use Rattle.law_syntax.proofs.ExprComplete.{syms, syms_join, One, one, name_token}

@@ -27,7 +27,7 @@ use Rattle.spec_syntax.specs.Words.{call_word, call_name}
 use Rattle.spec_syntax.specs.Expr.{name, literal, whole}
 use Rattle.spec_syntax.specs.Row as r
 use Rattle.spec_syntax.specs.Select as s
-use Rattle.law_syntax.proofs.Repeats.{at_}
+use Rattle.law_printing.proofs.Repeats.{at_}
 use Rattle.law_syntax.proofs.Terminals as w
 use Rattle.law_syntax.proofs.Terminals.{lower_same, word_tag}
 use Rattle.law_syntax.proofs.RowSound.{spelled_call}

@@ -14,7 +14,7 @@ use Rattle.spec_syntax.specs.Tags.{same_tag, tag_of}
 use Rattle.spec_syntax.specs.Input.{Input, Outcome, Parser, and_then, ◌>>=◌, pure, tag, text as word_at, next, required, sees, after, eat, expect, list, list_from, tokens_left}
 use Rattle.spec_syntax.specs.Expr.{name, name_by, literal, literal_by, inside, before_close}
 use Rattle.spec_syntax.specs.Row as r
-use Rattle.law_syntax.proofs.Names.{ends}
+use Rattle.law_printing.proofs.Names.{ends}
 use Rattle.law_syntax.proofs.Terminals.{Terminal, from, null_, comma_}
 use Rattle.law_syntax.proofs.Leaves.{is_free, is_bracketed, is_number, is_text, is_bytes, null_value}
 use denote.Enum.Bare.{same_true}

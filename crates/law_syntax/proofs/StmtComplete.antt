@@ -27,7 +27,7 @@ use Rattle.spec_syntax.specs.Select.{select}
 use Rattle.spec_syntax.specs.Table as b
 use Rattle.spec_syntax.specs.Stmt as y
 use Rattle.spec_syntax.specs.Text.{of_scan, statement_of}
-use Rattle.law_syntax.proofs.Repeats.{at_}
+use Rattle.law_printing.proofs.Repeats.{at_}
 use Rattle.law_syntax.proofs.Terminals as w
 use Rattle.law_syntax.proofs.Steps.{the_same}
 use Rattle.law_syntax.proofs.ExprComplete.{syms, syms_join, One, one, name_token}

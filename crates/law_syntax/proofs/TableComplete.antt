@@ -27,7 +27,7 @@ use Rattle.spec_syntax.specs.Expr.{name}
 use Rattle.spec_syntax.specs.Row as r
 use Rattle.spec_syntax.specs.Table as b
 use Rattle.spec_syntax.specs.Ledger as p
-use Rattle.law_syntax.proofs.Repeats.{at_}
+use Rattle.law_printing.proofs.Repeats.{at_}
 use Rattle.law_syntax.proofs.Terminals as w
 use Rattle.law_syntax.proofs.Terminals.{lower_same}
 use Rattle.law_syntax.proofs.TableSound.{spelled_type, spelled_option, defined_, nullable_same}

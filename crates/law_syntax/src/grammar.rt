@@ -6,7 +6,7 @@ ghost use Rattle.spec_grammar.specs.Statements.{IsStatement};
 ghost use Rattle.spec_syntax.specs.PrintedStmt.{printed};
 ghost use Rattle.spec_syntax.specs.Text.{statement_of};
 
-use crate::law::printing_is_read_back;
+use law_printing::printing_is_read_back;
 
 /// The parser reads the statements of the grammar and nothing else. A text is one statement at most, and
 /// what is printed of a statement is that statement.

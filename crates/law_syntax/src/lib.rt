@@ -1,8 +1,6 @@
-//! Laws of reading and printing statements: they keep to the grammar, and to each other.
+//! The law of reading: what is read is a statement of the grammar, and each of these is read.
 #![tactic(auto)]
 
 mod grammar;
-mod law;
 
 pub use grammar::parsing_keeps_to_the_grammar;
-pub use law::printing_is_read_back;

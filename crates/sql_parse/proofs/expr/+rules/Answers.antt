@@ -1,7 +1,7 @@
 use Rattle.std.proofs.Common.{rules, arith}
 use Rattle.std.proofs.lemmas.Grind.{common_steps}
 use Rattle.spec_syntax.specs.Expr.{more, operator, operand, expr, level}
-use Rattle.law_syntax.proofs.Repeats.{hands_on}
+use Rattle.law_printing.proofs.Repeats.{hands_on}
 use Rattle.law_syntax.proofs.Levels.{one_more, starts, refused_first}
 use Rattle.sql_parse.proofs.expr.+rules.Goals as goal
 

@@ -1,6 +1,6 @@
 use Rattle.std.proofs.Common.{arith}
 use Rattle.std.proofs.lemmas.Str.Pattern.{strip_prefix_char}
-use Rattle.law_syntax.proofs.Names.{opened}
+use Rattle.law_printing.proofs.Names.{opened}
 use Rattle.sql_parse.proofs.name.after_open.Goals as goal
 
 pub returns : goal.returns

@@ -1,6 +1,6 @@
 use Rattle.std.proofs.Common.{arith}
 use Rattle.std.proofs.lemmas.Str.Pattern.{strip_suffix_char}
-use Rattle.law_syntax.proofs.Names.{shut}
+use Rattle.law_printing.proofs.Names.{shut}
 use Rattle.sql_parse.proofs.name.before_close.Goals as goal
 
 pub returns : goal.returns

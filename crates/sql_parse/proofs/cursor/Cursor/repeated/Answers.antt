@@ -1,7 +1,7 @@
 use Rattle.std.proofs.Common.{◌≡◌, ◌-◌, true, false, Some, None, rules, arith, sym, ap, ◌∙◌}
 use Rattle.std.proofs.lemmas.Grind.{common_steps}
 use Rattle.spec_syntax.specs.Input.{repeated, repeated_at, sees, spend}
-use Rattle.law_syntax.proofs.Repeats.{turn, refused, ended, stays, falls, hands_on}
+use Rattle.law_printing.proofs.Repeats.{turn, refused, ended, stays, falls, hands_on}
 use Rattle.sql_parse.proofs.cursor.Cursor.repeated.Goals as goal
 
 pub returns-in_err-spend : goal.returns-in_err-spend

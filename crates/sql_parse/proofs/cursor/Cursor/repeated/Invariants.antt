@@ -1,6 +1,6 @@
 use Rattle.std.proofs.Common.{◌≡◌, ◌-◌, ◌≤◌}
 use Rattle.spec_syntax.specs.Input.{repeated_at}
-use Rattle.law_syntax.proofs.Repeats.{adds}
+use Rattle.law_printing.proofs.Repeats.{adds}
 use Rattle.sql_parse.proofs.cursor.Cursor.repeated.Given as goal
 
 abbrev pub invariant-loop-tag : goal.invariant-loop-tag

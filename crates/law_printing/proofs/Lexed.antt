@@ -3,7 +3,7 @@ use Rattle.std.proofs.Common.{◌≡◌, ℕ, Bool, true, false, cond, List, [],
 use Rattle.spec_syntax.specs.declared.tag.Tag.{Tag}
 use Rattle.spec_syntax.specs.Input.{Sym}
 use Rattle.spec_syntax.specs.Page.{Page, blank, opens, touches, begin, append, put, write, no_page, spelled}
-use Rattle.law_syntax.proofs.Cut.{cut, prepend}
+use Rattle.law_printing.proofs.Cut.{cut, prepend}
 
 -- what may stand behind a token
 pub data Stop : List ℕ → Type 0 where

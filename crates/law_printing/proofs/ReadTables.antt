@@ -22,11 +22,11 @@ use Rattle.spec_syntax.specs.Printed as p
 use Rattle.spec_syntax.specs.Printed.{key, word, digits, enclosed, listed, rest_listed}
 use Rattle.spec_syntax.specs.PrintedStmt as s
 use Rattle.spec_syntax.specs.Parsed.{IsName, IsSize, IsType, IsColumn, Each, OneOrMore}
-use Rattle.law_syntax.proofs.Repeats.{at_}
-use Rattle.law_syntax.proofs.ReadTrees.{name_read}
-use Rattle.law_syntax.proofs.Sizes.{size_read}
-use Rattle.law_syntax.proofs.Gets.{Gets, then_gets, map_gets}
-use Rattle.law_syntax.proofs.ReadParts.{name_list_gets}
+use Rattle.law_printing.proofs.Repeats.{at_}
+use Rattle.law_printing.proofs.ReadTrees.{name_read}
+use Rattle.law_printing.proofs.Sizes.{size_read}
+use Rattle.law_printing.proofs.Gets.{Gets, then_gets, map_gets}
+use Rattle.law_printing.proofs.ReadParts.{name_list_gets}
 
 -- ---- types
 

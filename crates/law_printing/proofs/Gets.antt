@@ -6,7 +6,7 @@ use Rattle.spec_syntax.specs.Tags.{same_tag}
 use Rattle.spec_syntax.specs.Input.{Input, Sym, Outcome, Parser, and_then, tag, next, sees, after, tokens_left, list, list_from}
 use Rattle.spec_syntax.specs.Printed.{key, listed, rest_listed}
 use Rattle.spec_syntax.specs.Parsed.{Each, OneOrMore}
-use Rattle.law_syntax.proofs.Repeats.{at_, left_}
+use Rattle.law_printing.proofs.Repeats.{at_, left_}
 
 abbrev pub Gets : {A : Type 0} → Outcome A → A → List Sym → Type 0
 Gets None a rest = ⊥

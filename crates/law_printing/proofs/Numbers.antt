@@ -10,9 +10,9 @@ use Rattle.sql_lex.specs.Front.{front, number, bytes}
 use Rattle.sql_lex.proofs.Found.{front_is}
 use Rattle.spec_syntax.specs.declared.tag.Tag.TheVariants as t
 use Rattle.spec_syntax.specs.Tags.{tag_of}
-use Rattle.law_syntax.proofs.Cut.{cut_token}
-use Rattle.law_syntax.proofs.Lexed.{Stop, by_stop, One}
-use Rattle.law_syntax.proofs.Tokens.{run_len}
+use Rattle.law_printing.proofs.Cut.{cut_token}
+use Rattle.law_printing.proofs.Lexed.{Stop, by_stop, One}
+use Rattle.law_printing.proofs.Tokens.{run_len}
 
 abbrev pub AreDigits : List ℕ → Type 0
 AreDigits ds = list_all is_ascii_digit ds ≡ true

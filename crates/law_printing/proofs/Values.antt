@@ -20,11 +20,11 @@ use Rattle.spec_syntax.specs.Tags.{tag_of}
 use Rattle.spec_syntax.specs.Input.{Sym}
 use Rattle.spec_syntax.specs.Printed.{key, spelling, digits, literal_sym}
 use Rattle.spec_syntax.specs.Parsed.{IsUnsigned, IsSize}
-use Rattle.law_syntax.proofs.Cut.{cut, cut_token, prepend}
-use Rattle.law_syntax.proofs.Lexed.{One}
-use Rattle.law_syntax.proofs.Tokens.{null_}
-use Rattle.law_syntax.proofs.Numbers.{AreDigits, pointed_text, one_number}
-use Rattle.law_syntax.proofs.Quoted.{one_text, one_bytes}
+use Rattle.law_printing.proofs.Cut.{cut, cut_token, prepend}
+use Rattle.law_printing.proofs.Lexed.{One}
+use Rattle.law_printing.proofs.Tokens.{null_}
+use Rattle.law_printing.proofs.Numbers.{AreDigits, pointed_text, one_number}
+use Rattle.law_printing.proofs.Quoted.{one_text, one_bytes}
 
 all_append : (a b : List ℕ) → AreDigits a → AreDigits b → AreDigits (a ++ b)
 all_append [] b g h = h

@@ -17,10 +17,10 @@ use Rattle.spec_syntax.specs.Printed as p
 use Rattle.spec_syntax.specs.Printed.{key, word, enclosed, listed}
 use Rattle.spec_syntax.specs.PrintedStmt as s
 use Rattle.spec_syntax.specs.Parsed.{IsName, IsColumn, IsHistory, IsTable, Each, OneOrMore}
-use Rattle.law_syntax.proofs.Repeats.{at_}
-use Rattle.law_syntax.proofs.ReadTrees.{name_read}
-use Rattle.law_syntax.proofs.Gets.{Gets, then_gets}
-use Rattle.law_syntax.proofs.ReadTables.{drafted, items_gets, option_read, the_read, versions_read, chosen_own, chosen_more}
+use Rattle.law_printing.proofs.Repeats.{at_}
+use Rattle.law_printing.proofs.ReadTrees.{name_read}
+use Rattle.law_printing.proofs.Gets.{Gets, then_gets}
+use Rattle.law_printing.proofs.ReadTables.{drafted, items_gets, option_read, the_read, versions_read, chosen_own, chosen_more}
 
 abbrev Part : TableKind → Option (List ℕ) → Option (List ℕ) → Ledger
 Part kind h v = record { kind = kind; history = h; view = v }

@@ -14,8 +14,8 @@ use Rattle.spec_syntax.specs.declared.tag.Tag.TheVariants as t
 use Rattle.spec_syntax.specs.Tags.{tag_of}
 use Rattle.spec_syntax.specs.Page.{opens, touches}
 use Rattle.spec_syntax.specs.Printed.{key, spelling, word}
-use Rattle.law_syntax.proofs.Cut.{cut, cut_token, prepend}
-use Rattle.law_syntax.proofs.Lexed.{Stop, at_close, at_comma, by_stop, After, One}
+use Rattle.law_printing.proofs.Cut.{cut, cut_token, prepend}
+use Rattle.law_printing.proofs.Lexed.{Stop, at_close, at_comma, by_stop, After, One}
 
 -- a run of bytes that pass a test, before one that does not
 pub run_len : (p : ℕ → Bool) (n rest : List ℕ) → list_all p n ≡ true → prefix_len p rest ≡ 0 → prefix_len p (n ++ rest) ≡ length n

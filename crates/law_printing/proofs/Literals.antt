@@ -9,9 +9,9 @@ use Rattle.sql_lex.specs.Front.{front}
 use Rattle.sql_lex.proofs.Found.{front_is}
 use Rattle.spec_syntax.specs.Tags.{tag_of}
 use Rattle.spec_syntax.specs.Printed.{name}
-use Rattle.law_syntax.proofs.Cut.{cut_token}
-use Rattle.law_syntax.proofs.Lexed.{One}
-use Rattle.law_syntax.proofs.Tokens.{run_len}
+use Rattle.law_printing.proofs.Cut.{cut_token}
+use Rattle.law_printing.proofs.Lexed.{One}
+use Rattle.law_printing.proofs.Tokens.{run_len}
 
 -- ---- names
 

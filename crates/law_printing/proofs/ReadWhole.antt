@@ -15,9 +15,9 @@ use Rattle.spec_syntax.specs.Expr.{operator, comparison, prim, unary, product, s
 use Rattle.spec_syntax.specs.Printed as p
 use Rattle.spec_syntax.specs.Printed.{key, enclosed, op_tag}
 use Rattle.spec_syntax.specs.Parsed.{IsTree, count}
-use Rattle.law_syntax.proofs.Repeats.{at_}
-use Rattle.law_syntax.proofs.ReadExpr.{untree, spent, grouped_binary, unary_minus, not_none, not_not, cmp_ends, cmp_binary, Operand, as_unary, as_product, as_sum, as_and, as_or}
-use Rattle.law_syntax.proofs.ReadTrees.{Written, count_some, no_tag, literal_read, column_read, enclosed_read, Shut, up_cmp, up_or, up_and, up_not, up_sum, up_product, up_unary}
+use Rattle.law_printing.proofs.Repeats.{at_}
+use Rattle.law_printing.proofs.ReadExpr.{untree, spent, grouped_binary, unary_minus, not_none, not_not, cmp_ends, cmp_binary, Operand, as_unary, as_product, as_sum, as_and, as_or}
+use Rattle.law_printing.proofs.ReadTrees.{Written, count_some, no_tag, literal_read, column_read, enclosed_read, Shut, up_cmp, up_or, up_and, up_not, up_sum, up_product, up_unary}
 
 module _ (inner : Parser Expr) where
   -- a printed operand

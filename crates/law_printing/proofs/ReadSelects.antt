@@ -18,11 +18,11 @@ use Rattle.spec_syntax.specs.Printed as p
 use Rattle.spec_syntax.specs.Printed.{key, word, enclosed, listed, rest_listed}
 use Rattle.spec_syntax.specs.PrintedStmt as s
 use Rattle.spec_syntax.specs.Parsed.{IsName, IsAgg, IsWhat, IsSort, IsOrder, IsSelect, IsIndex, Each, OneOrMore}
-use Rattle.law_syntax.proofs.Repeats.{at_, left_}
-use Rattle.law_syntax.proofs.ReadTrees.{Written, name_read}
-use Rattle.law_syntax.proofs.Gets.{Gets, gets, then_gets, map_gets, NoComma, ItemReads, list_gets}
-use Rattle.law_syntax.proofs.ReadParts.{Untreed, AnyEnds, Any, some_of, names_gets, name_list_gets, filter_gets}
-use Rattle.law_syntax.proofs.ReadRows.{no_comma_end}
+use Rattle.law_printing.proofs.Repeats.{at_, left_}
+use Rattle.law_printing.proofs.ReadTrees.{Written, name_read}
+use Rattle.law_printing.proofs.Gets.{Gets, gets, then_gets, map_gets, NoComma, ItemReads, list_gets}
+use Rattle.law_printing.proofs.ReadParts.{Untreed, AnyEnds, Any, some_of, names_gets, name_list_gets, filter_gets}
+use Rattle.law_printing.proofs.ReadRows.{no_comma_end}
 
 -- ---- what is shown
 

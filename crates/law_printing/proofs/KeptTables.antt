@@ -30,8 +30,8 @@ use Rattle.spec_syntax.specs.Ledger as g
 use Rattle.spec_syntax.specs.Table as b
 use Rattle.spec_syntax.specs.Parsed.{IsName, IsSize, IsType, IsColumn, IsHistory, IsTable, Each, OneOrMore, Maybe}
 use Rattle.sql_scalar.proofs.Digits.{one_digit, small_digit}
-use Rattle.law_syntax.proofs.Kept.{AreSyms, Holds, Always, then_keeps, map_keeps, required_keeps, next_ok, after_ok, expect_keeps, if_keeps, name_keeps}
-use Rattle.law_syntax.proofs.KeptStmts.{name_list_keeps, always}
+use Rattle.law_printing.proofs.Kept.{AreSyms, Holds, Always, then_keeps, map_keeps, required_keeps, next_ok, after_ok, expect_keeps, if_keeps, name_keeps}
+use Rattle.law_printing.proofs.KeptStmts.{name_list_keeps, always}
 
 -- ---- sizes and types
 

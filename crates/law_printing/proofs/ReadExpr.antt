@@ -11,7 +11,7 @@ use Rattle.spec_syntax.specs.declared.level.Level.TheVariants as l
 use Rattle.spec_syntax.specs.Input.{Input, Sym, Parser, tag, next, sees, spend, repeated}
 use Rattle.spec_syntax.specs.Expr as e
 use Rattle.spec_syntax.specs.Expr.{operator, comparison, more, grouped, prim, unary, product, sum, cmp, and, or}
-use Rattle.law_syntax.proofs.Repeats.{at_, left_}
+use Rattle.law_printing.proofs.Repeats.{at_, left_}
 use Rattle.sql_value.proofs.Trees.{of_literal, of_column, of_minus, of_not, of_is_null, of_binary}
 
 -- the expression of a tree

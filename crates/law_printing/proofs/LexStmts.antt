@@ -33,15 +33,15 @@ use Rattle.spec_syntax.specs.Printed as p
 use Rattle.spec_syntax.specs.Printed.{key, word, enclosed, listed, rest_listed}
 use Rattle.spec_syntax.specs.PrintedStmt as s
 use Rattle.spec_syntax.specs.Parsed.{IsName, IsTree, IsExpr, IsType, IsColumn, IsHistory, IsTable, IsIndex, IsAssignment, IsChange, IsAgg, IsWhat, IsSort, IsOrder, IsSelect, IsParsed, Each, OneOrMore, Maybe}
-use Rattle.law_syntax.proofs.Cut.{statement_of_cut}
-use Rattle.law_syntax.proofs.Lexed.{One, Lexed, none, more, joined, spelled_cut}
-use Rattle.law_syntax.proofs.Tokens as k
-use Rattle.law_syntax.proofs.Literals.{one_name}
-use Rattle.law_syntax.proofs.Values.{one_digits, one_literal, one_negative}
-use Rattle.law_syntax.proofs.ReadTrees.{Written}
-use Rattle.law_syntax.proofs.ReadParts.{Untreed}
-use Rattle.law_syntax.proofs.ReadRows.{value_syms, row_syms, change_syms}
-use Rattle.law_syntax.proofs.ReadStmts.{stmt_syms, syms_read}
+use Rattle.law_printing.proofs.Cut.{statement_of_cut}
+use Rattle.law_printing.proofs.Lexed.{One, Lexed, none, more, joined, spelled_cut}
+use Rattle.law_printing.proofs.Tokens as k
+use Rattle.law_printing.proofs.Literals.{one_name}
+use Rattle.law_printing.proofs.Values.{one_digits, one_literal, one_negative}
+use Rattle.law_printing.proofs.ReadTrees.{Written}
+use Rattle.law_printing.proofs.ReadParts.{Untreed}
+use Rattle.law_printing.proofs.ReadRows.{value_syms, row_syms, change_syms}
+use Rattle.law_printing.proofs.ReadStmts.{stmt_syms, syms_read}
 
 then_ : {a : Sym} {ss ts : List Sym} → One a (a ∷ []) → Lexed ss ts → Lexed (a ∷ ss) (a ∷ ts)
 then_ one rest = more one rest

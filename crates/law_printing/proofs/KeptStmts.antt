@@ -19,8 +19,8 @@ use Rattle.spec_syntax.specs.Row as r
 use Rattle.spec_syntax.specs.Select as g
 use Rattle.spec_syntax.specs.Table as b
 use Rattle.spec_syntax.specs.Parsed.{IsName, IsExpr, IsAssignment, IsChange, IsAgg, IsWhat, IsSort, IsOrder, IsSelect, IsIndex, Each, OneOrMore, Maybe}
-use Rattle.law_syntax.proofs.Kept.{AreSyms, Holds, Always, then_keeps, map_keeps, weak, required_keeps, next_ok, after_ok, expect_keeps, if_keeps, name_keeps, Literal, IsRead, literal_keeps, list_keeps}
-use Rattle.law_syntax.proofs.KeptExprs.{whole_keeps}
+use Rattle.law_printing.proofs.Kept.{AreSyms, Holds, Always, then_keeps, map_keeps, weak, required_keeps, next_ok, after_ok, expect_keeps, if_keeps, name_keeps, Literal, IsRead, literal_keeps, list_keeps}
+use Rattle.law_printing.proofs.KeptExprs.{whole_keeps}
 
 pub names_keep : (i : Input) → AreSyms i.rest → Holds (OneOrMore IsName) (list name i)
 names_keep i ok = list_keeps IsName name name_keeps i ok

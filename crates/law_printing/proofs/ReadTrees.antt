@@ -18,9 +18,9 @@ use Rattle.spec_syntax.specs.Expr.{operator, prim, unary, product, sum, cmp, and
 use Rattle.spec_syntax.specs.Printed as p
 use Rattle.spec_syntax.specs.Printed.{key, enclosed}
 use Rattle.spec_syntax.specs.Parsed.{count}
-use Rattle.law_syntax.proofs.Names.{closed}
-use Rattle.law_syntax.proofs.Repeats.{at_}
-use Rattle.law_syntax.proofs.ReadExpr.{spent, grouped_ends, not_none, cmp_ends, as_sum, as_and, as_or}
+use Rattle.law_printing.proofs.Names.{closed}
+use Rattle.law_printing.proofs.Repeats.{at_}
+use Rattle.law_printing.proofs.ReadExpr.{spent, grouped_ends, not_none, cmp_ends, as_sum, as_and, as_or}
 
 -- what is written of a literal is read as the value
 abbrev pub Written : Type 0

@@ -11,11 +11,11 @@ use Rattle.spec_syntax.specs.Printed as p
 use Rattle.spec_syntax.specs.Printed.{key, listed}
 use Rattle.spec_syntax.specs.PrintedStmt as s
 use Rattle.spec_syntax.specs.Parsed.{IsName, IsExpr, Each, OneOrMore, Maybe}
-use Rattle.law_syntax.proofs.Repeats.{at_, left_}
-use Rattle.law_syntax.proofs.ReadExpr.{untree}
-use Rattle.law_syntax.proofs.ReadTrees.{Written, name_read}
-use Rattle.law_syntax.proofs.ReadWhole.{Ends, whole_read}
-use Rattle.law_syntax.proofs.Gets.{Gets, gets, then_gets, map_gets, NoComma, ItemReads, list_gets}
+use Rattle.law_printing.proofs.Repeats.{at_, left_}
+use Rattle.law_printing.proofs.ReadExpr.{untree}
+use Rattle.law_printing.proofs.ReadTrees.{Written, name_read}
+use Rattle.law_printing.proofs.ReadWhole.{Ends, whole_read}
+use Rattle.law_printing.proofs.Gets.{Gets, gets, then_gets, map_gets, NoComma, ItemReads, list_gets}
 
 -- expressions of one tree are one expression
 abbrev pub Untreed : Type 0

@@ -10,7 +10,7 @@ use Rattle.spec_syntax.specs.Input.{Input, Sym, Outcome, Parser, and_then, requi
 use Rattle.spec_syntax.specs.Expr as e
 use Rattle.spec_syntax.specs.Expr.{inside, name}
 use Rattle.spec_syntax.specs.Parsed.{IsName, IsUnsigned, Each, OneOrMore, Maybe}
-use Rattle.law_syntax.proofs.Repeats.{at_}
+use Rattle.law_printing.proofs.Repeats.{at_}
 
 -- what holds of each token of a text
 pub record IsSym (s : Sym) : Type 0 where

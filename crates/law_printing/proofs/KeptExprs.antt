@@ -15,9 +15,9 @@ use Rattle.spec_syntax.specs.Input.{Input, Sym, Outcome, Parser, and_then, requi
 use Rattle.spec_syntax.specs.Expr as e
 use Rattle.spec_syntax.specs.Expr.{operator, comparison, name, times, more, more_by, grouped, leaf, leaf_by, prim, unary, product, sum, cmp, cmp_by, and, or, whole, max_nesting}
 use Rattle.spec_syntax.specs.Parsed.{IsName, IsTree, IsExpr, count}
-use Rattle.law_syntax.proofs.Repeats.{at_}
+use Rattle.law_printing.proofs.Repeats.{at_}
 use Rattle.sql_value.proofs.Trees.{of_literal, of_column, of_minus, of_not, of_is_null, of_binary}
-use Rattle.law_syntax.proofs.Kept.{AreSyms, Holds, Literal, IsRead, name_keeps, literal_keeps, next_ok, after_ok}
+use Rattle.law_printing.proofs.Kept.{AreSyms, Holds, Literal, IsRead, name_keeps, literal_keeps, next_ok, after_ok}
 
 -- the expression is well-formed, and it was counted
 abbrev pub Spent : ℕ → Outcome Expr → Type 0

@@ -17,11 +17,11 @@ use Rattle.spec_syntax.specs.Stmt as y
 use Rattle.spec_syntax.specs.Stmt.{statement, statement_of_tokens}
 use Rattle.spec_syntax.specs.Text.{statement_of}
 use Rattle.spec_syntax.specs.Parsed.{IsName, IsChange, IsSelect, IsTable, IsIndex, IsParsed, Maybe}
-use Rattle.law_syntax.proofs.Cut.{cut, statement_of_cut}
-use Rattle.law_syntax.proofs.Kept.{AreSyms, Holds, Always, then_keeps, map_keeps, required_keeps, next_ok, after_ok, expect_keeps, if_keeps, name_keeps, Literal}
-use Rattle.law_syntax.proofs.KeptTokens.{AllSyms, cut_syms}
-use Rattle.law_syntax.proofs.KeptStmts.{call_keeps, insert_keeps, update_keeps, delete_keeps, select_keeps, index_keeps}
-use Rattle.law_syntax.proofs.KeptTables.{table_keeps}
+use Rattle.law_printing.proofs.Cut.{cut, statement_of_cut}
+use Rattle.law_printing.proofs.Kept.{AreSyms, Holds, Always, then_keeps, map_keeps, required_keeps, next_ok, after_ok, expect_keeps, if_keeps, name_keeps, Literal}
+use Rattle.law_printing.proofs.KeptTokens.{AllSyms, cut_syms}
+use Rattle.law_printing.proofs.KeptStmts.{call_keeps, insert_keeps, update_keeps, delete_keeps, select_keeps, index_keeps}
+use Rattle.law_printing.proofs.KeptTables.{table_keeps}
 
 index_is : (i : Input) → AreSyms i.rest → Holds IsParsed (and_then (b.create_index i) (λ x j. Some (stmt.Index x, j)))
 index_is i ok = map_keeps IsIndex IsParsed stmt.Index (b.create_index i) (index_keeps i ok) (λ x is. is)

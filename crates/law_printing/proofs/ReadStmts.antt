@@ -21,13 +21,13 @@ use Rattle.spec_syntax.specs.Printed as p
 use Rattle.spec_syntax.specs.Printed.{key}
 use Rattle.spec_syntax.specs.PrintedStmt as s
 use Rattle.spec_syntax.specs.Parsed.{IsChange, IsSelect, IsTable, IsIndex, IsParsed}
-use Rattle.law_syntax.proofs.Repeats.{at_}
-use Rattle.law_syntax.proofs.ReadTrees.{Written, name_read}
-use Rattle.law_syntax.proofs.Gets.{Gets, then_gets, map_gets}
-use Rattle.law_syntax.proofs.ReadParts.{Untreed}
-use Rattle.law_syntax.proofs.ReadRows.{change_syms, behind_columns, update_gets, delete_gets}
-use Rattle.law_syntax.proofs.ReadSelects.{select_gets, index_gets}
-use Rattle.law_syntax.proofs.ReadCreates.{table_gets}
+use Rattle.law_printing.proofs.Repeats.{at_}
+use Rattle.law_printing.proofs.ReadTrees.{Written, name_read}
+use Rattle.law_printing.proofs.Gets.{Gets, then_gets, map_gets}
+use Rattle.law_printing.proofs.ReadParts.{Untreed}
+use Rattle.law_printing.proofs.ReadRows.{change_syms, behind_columns, update_gets, delete_gets}
+use Rattle.law_printing.proofs.ReadSelects.{select_gets, index_gets}
+use Rattle.law_printing.proofs.ReadCreates.{table_gets}
 
 -- the tokens of a printed statement, of which the signs of values are some
 abbrev pub stmt_syms : Stmt → List Sym

@@ -18,10 +18,10 @@ use Rattle.spec_syntax.specs.Printed as p
 use Rattle.spec_syntax.specs.Printed.{key, enclosed, listed}
 use Rattle.spec_syntax.specs.PrintedStmt as s
 use Rattle.spec_syntax.specs.Parsed.{IsName, IsExpr, IsAssignment, OneOrMore, Maybe}
-use Rattle.law_syntax.proofs.Repeats.{at_}
-use Rattle.law_syntax.proofs.ReadTrees.{Written, name_read}
-use Rattle.law_syntax.proofs.Gets.{Gets, gets, then_gets, NoComma, ItemReads, list_gets}
-use Rattle.law_syntax.proofs.ReadParts.{Untreed, AnyEnds, Any, expr_gets, some_of, names_gets, no_comma_close, filter_gets}
+use Rattle.law_printing.proofs.Repeats.{at_}
+use Rattle.law_printing.proofs.ReadTrees.{Written, name_read}
+use Rattle.law_printing.proofs.Gets.{Gets, gets, then_gets, NoComma, ItemReads, list_gets}
+use Rattle.law_printing.proofs.ReadParts.{Untreed, AnyEnds, Any, expr_gets, some_of, names_gets, no_comma_close, filter_gets}
 
 -- the tokens of a value, of which a sign is one
 abbrev pub value_syms : Value → List Sym

@@ -21,9 +21,9 @@ use Rattle.spec_syntax.specs.Tags.{tag_of, lookup}
 use Rattle.spec_syntax.specs.Input.{Sym}
 use Rattle.spec_syntax.specs.Expr.{inside, before_close}
 use Rattle.spec_syntax.specs.Parsed.{IsName, IsUnsigned}
-use Rattle.law_syntax.proofs.Signs.{literal_unsigned, minus_alone}
-use Rattle.law_syntax.proofs.Cut.{cut, goes, prepend, sym_at}
-use Rattle.law_syntax.proofs.Kept.{IsSym, AreSyms}
+use Rattle.law_printing.proofs.Signs.{literal_unsigned, minus_alone}
+use Rattle.law_printing.proofs.Cut.{cut, goes, prepend, sym_at}
+use Rattle.law_printing.proofs.Kept.{IsSym, AreSyms}
 
 -- no token in brackets begins otherwise
 not_open : (b : ℕ) (w n : List ℕ) → (b == 91) ≡ false → inside (b ∷ w) ≡ Some n → ⊥

@@ -1,8 +1,8 @@
 use Rattle.sql_value.specs.Tree.{tree}
-use Rattle.law_syntax.proofs.ReadExpr.{untree, tree_untree}
-use Rattle.law_syntax.proofs.LexStmts.{printed_read}
-use Rattle.law_syntax.proofs.KeptBodies.{parsed as is_parsed}
-use Rattle.law_syntax.proofs.law.printing_is_read_back.Goals as goal
+use Rattle.law_printing.proofs.ReadExpr.{untree, tree_untree}
+use Rattle.law_printing.proofs.LexStmts.{printed_read}
+use Rattle.law_printing.proofs.KeptBodies.{parsed as is_parsed}
+use Rattle.law_printing.proofs.law.printing_is_read_back.Goals as goal
 
 pub returns-clause-again : goal.returns-clause-again
 returns-clause-again c =
