@@ -21,14 +21,14 @@ use Rattle.spec_protocol.specs.Seats.{IsAtRest, Role, session, SeatState, Writte
 use Rattle.spec_protocol.specs.Server.{Server}
 use Rattle.spec_protocol.specs.StandTogether.{History, Stands}
 use Rattle.spec_protocol.specs.TranscriptsAgree.{IsMoment, moments_of, session_moments}
-use Rattle.law_sequential.proofs.JournalKept.{legal_journal}
-use Rattle.law_sequential.proofs.KeptImages.{have_images}
-use Rattle.law_sequential.proofs.InSessionOrder.{in_order_of}
-use Rattle.law_sequential.proofs.RanFirst.{ran_first}
-use Rattle.law_sequential.proofs.Reorders.{reordered_agrees, sessions_long}
-use Rattle.law_sequential.proofs.TheEnd as the_end
-use Rattle.law_sequential.specs.Wrote.{transcripts_in}
-use Rattle.law_sequential.proofs.SameNames.{differ, same_list}
+use Rattle.law_kept_images.proofs.JournalKept.{legal_journal}
+use Rattle.law_kept_images.proofs.KeptImages.{have_images}
+use Rattle.law_kept_images.proofs.InSessionOrder.{in_order_of}
+use Rattle.law_kept_images.proofs.RanFirst.{ran_first}
+use Rattle.law_kept_images.proofs.Reorders.{reordered_agrees, sessions_long}
+use Rattle.law_kept_images.proofs.TheEnd as the_end
+use Rattle.law_kept_images.specs.Wrote.{transcripts_in}
+use Rattle.law_kept_images.proofs.SameNames.{differ, same_list}
 use Rattle.law_concurrent.specs.Joined.{IsJoined, KnewThatOver}
 use Rattle.law_concurrent.specs.Together.{AreFormed, IsMomentOf, RanTogether, names_in, session_in}
 use Rattle.law_concurrent.proofs.SameTranscripts.{all_in, apart_by_place, at_of, each_both, each_flat, each_map, each_named, each_of, each_within, in_at, in_either, in_some, in_transcripts, inputs_are, named_in, no_longer, transcript_at}

@@ -2,7 +2,7 @@
 use Rattle.std.proofs.Common.{ℕ, List, sym, ◌∙◌}
 use Rattle.spec_model.specs.Script.{Reading}
 use Rattle.spec_history.specs.Meaning.{Meaning}
-use Rattle.law_sequential.specs.SessionOutput.{IsMeaning}
+use Rattle.law_kept_images.specs.SessionOutput.{IsMeaning}
 use Rattle.law_concurrent.proofs.SameMeanings.{Same}
 
 pub same : (h : List ℕ → List ℕ) (reads : Reading) (q r : Meaning) → IsMeaning h reads q → IsMeaning h reads r → Same q r

@@ -7,8 +7,8 @@ use Rattle.spec_history.specs.Transcripts.{Transcript}
 use Rattle.spec_protocol.specs.AtTheEnd.{SessionsDiffer}
 use Rattle.spec_protocol.specs.Reordered.{NamesApart}
 use Rattle.spec_protocol.specs.Seats.{Written}
-use Rattle.law_sequential.specs.Wrote.{transcripts_in}
-use Rattle.law_sequential.proofs.SameNames.{its_name, not_in}
+use Rattle.law_kept_images.specs.Wrote.{transcripts_in}
+use Rattle.law_kept_images.proofs.SameNames.{its_name, not_in}
 use Rattle.law_concurrent.specs.Together.{names_in, session_in}
 
 -- ---- places

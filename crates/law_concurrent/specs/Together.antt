@@ -15,7 +15,7 @@ use Rattle.spec_protocol.specs.JournalForms.{journal_in}
 use Rattle.spec_protocol.specs.LedgerIsLegal.{FitsBlock}
 use Rattle.spec_protocol.specs.Seats.{Written}
 use Rattle.spec_protocol.specs.Server.{Server}
-use Rattle.law_sequential.specs.Wrote.{transcripts_in}
+use Rattle.law_kept_images.specs.Wrote.{transcripts_in}
 
 abbrev pub names_in : List Transcript → List (List ℕ)
 names_in X = map (λ x. x.session) X

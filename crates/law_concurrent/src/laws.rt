@@ -16,8 +16,8 @@ ghost use Rattle.spec_protocol.specs.Cells.{Cell, Ledger, LedgerCell, ledger_at}
 ghost use Rattle.spec_protocol.specs.Reordered.{NamesApart};
 ghost use Rattle.spec_protocol.specs.Seats.{Written};
 ghost use Rattle.spec_protocol.specs.Server.{Server};
-ghost use Rattle.law_sequential.specs.SessionOutput.{IsMeaning};
-ghost use Rattle.law_sequential.specs.Wrote.{transcripts_in};
+ghost use Rattle.law_kept_images.specs.SessionOutput.{IsMeaning};
+ghost use Rattle.law_kept_images.specs.Wrote.{transcripts_in};
 ghost use Rattle.law_concurrent.specs.CameTo.{CameTo, RunResult};
 ghost use Rattle.law_concurrent.specs.Joined.{IsJoined, KnewThatOver};
 ghost use Rattle.law_concurrent.specs.Threads.{HasJoined};
