@@ -1,5 +1,5 @@
 -- The checks of a new table's definition are those of what is written of it.
-use Rattle.std.proofs.Common.{◌≡◌, ◌∙◌, ℕ, suc, refl, sym, ap, arith, Bool, true, false, List, [], ◌∷◌, ◌++◌, map, length, Some, None, Ok, Err, Bor}
+use Rattle.std.proofs.Common.{◌≡◌, ◌∙◌, ℕ, suc, refl, sym, ap, arith, Bool, true, false, List, [], ◌∷◌, ◌++◌, map, length, Some, None, Ok, Err, Option}
 use Rattle.std.proofs.lemmas.Grind.{common_steps}
 use Rattle.std.specs.Prelude.{cond, ◌≤◌, ◌+◌, ◌==◌, ◌&&◌, ◌||◌, not, nat_lt, nat_le, if◌then◌else◌, is_some}
 use Rattle.std.specs.List.{list_all, list_any, filter, position_or_len}
@@ -12,7 +12,7 @@ use Rattle.sql_types.specs.declared.table.Part.TheVariants.{History, View}
 use Rattle.sql_types.specs.declared.statement.CreateTable.{CreateTable}
 use Rattle.spec_model.specs.Lists.{has_name, repeats}
 use Rattle.spec_model.specs.Limits.{max_columns, max_key_columns, max_tables}
-use Rattle.spec_model.specs.Catalog.{is_named, own_part}
+use Rattle.spec_model.specs.Catalog.{Defs, NamedPart, find_part, is_named, or_in, own_part, part_named}
 use Rattle.sql_value.specs.declared.refusal.Refusal.{Refusal}
 use Rattle.sql_value.specs.declared.refusal.Refusal.TheVariants.{NameConflict, NoSuchColumn, NullNotAllowed, LimitExceeded}
 use Rattle.spec_model.specs.Refusals.{Checked, MatchesUnlessOom, and_then}
@@ -40,7 +40,7 @@ found false true r own = refl
 found false false true own = refl
 found false false false own = refl
 
-pub has_part : (def : TableDef) (n : List ℕ) → has_name (table_names def) n ≡ new.has_part def n
+has_part : (def : TableDef) (n : List ℕ) → has_name (table_names def) n ≡ is_some (part_named def n)
 has_part def n = named_once def.name def.history def.view n ∙ sym (found (is_named def.name n) (is_named def.history n) (is_named def.view n) (own_part def))
 
 or_assoc : (a b c : Bool) → ((a || b) || c) ≡ (a || (b || c))
@@ -51,12 +51,18 @@ any_append : {A : Type 0} (p : A → Bool) (xs ys : List A) → list_any p (xs +
 any_append p [] ys = refl
 any_append p (x ∷ xs) ys = ap (λ b. p x || b) (any_append p xs ys) ∙ sym (or_assoc (p x) (list_any p xs) (list_any p ys))
 
-pub is_used : (defs : List TableDef) (n : List ℕ) → has_name (all_names defs) n ≡ new.is_used defs n
+some_or_later : (part : Option Part) (def : TableDef) (rest : Option NamedPart) → (is_some part || is_some rest) ≡ is_some (or_in part def rest)
+some_or_later (Some part) def rest = refl
+some_or_later None def rest = refl
+
+is_used : (defs : Defs) (n : List ℕ) → has_name (all_names defs) n ≡ new.is_used defs n
+unfolding find_part
 is_used [] n = refl
 is_used (d ∷ ds) n =
     any_append (λ m. bytes_eq m n) (table_names d) (all_names ds)
     ∙ ap (λ b. b || has_name (all_names ds) n) (has_part d n)
-    ∙ ap (λ b. new.has_part d n || b) (is_used ds n)
+    ∙ ap (λ b. is_some (part_named d n) || b) (is_used ds n)
+    ∙ some_or_later (part_named d n) d (find_part ds n)
 
 -- ---- the three names
 
@@ -114,14 +120,13 @@ none_empty (x ∷ a) [] (z ∷ c) = refl
 none_empty (x ∷ a) (y ∷ b) [] = refl
 none_empty (x ∷ a) (y ∷ b) (z ∷ c) = refl
 
-nobody : (ds : List TableDef) → new.is_used ds [] ≡ false
-nobody [] = refl
-nobody (d ∷ ds) = rw (sym (has_part d []) ∙ none_empty d.name d.history d.view, nobody ds) refl
+unnamed : (defs : Defs) → has_name (all_names defs) [] ≡ false
+unnamed [] = refl
+unnamed (d ∷ ds) =
+    any_append (λ m. bytes_eq m []) (table_names d) (all_names ds)
+    ∙ (λ i. none_empty d.name d.history d.view i || unnamed ds i)
 
-unnamed : (defs : List TableDef) → has_name (all_names defs) [] ≡ false
-unnamed defs = is_used defs [] ∙ nobody defs
-
-pub used : (defs : List TableDef) (a b c : List ℕ) → list_any (has_name (all_names defs)) (filter is_name (a ∷ b ∷ c ∷ [])) ≡ new.names_used defs a b c
+pub used : (defs : Defs) (a b c : List ℕ) → list_any (has_name (all_names defs)) (filter is_name (a ∷ b ∷ c ∷ [])) ≡ new.names_used defs a b c
 unfolding new.names_used
 used defs a b c =
     any_kept (has_name (all_names defs)) a b c (unnamed defs)
@@ -193,7 +198,7 @@ grouped : (p n k l : Bool) → (((p || n) || k) || l) ≡ (p || ((n || k) || l))
 grouped true n k l = refl
 grouped false n k l = refl
 
-module _ (defs : List TableDef) (id : ℕ) (c : CreateTable) where
+module _ (defs : Defs) (id : ℕ) (c : CreateTable) where
   pub bad_name : has_bad_name defs (table_def id c) c.key
       ≡ ((new.names_repeat c.name (history_of c.kind id c.history) (view_of c.name c.view)
       || new.names_used defs c.name (history_of c.kind id c.history) (view_of c.name c.view)) || new.columns_bad c.columns c.key)
@@ -227,7 +232,7 @@ passed true e r d = refl
 passed false e r d = refl
 
 -- a new table is checked, and then has its definition
-pub created : (defs : List TableDef) (c : CreateTable) → create_check defs c
+pub created : (defs : Defs) (c : CreateTable) → create_check defs c
     ≡ and_then (new.new_check defs c (history_of c.kind (next_id defs) c.history) (view_of c.name c.view)) (λ u. Ok (table_def (next_id defs) c))
 unfolding create_check new.new_check
 created defs c =
@@ -257,7 +262,7 @@ not_over false false false k n l o r u h = refl
 at_most : (n : ℕ) → nat_lt max_key_columns n ≡ false → n ≤ max_key_columns
 at_most n h = grind (arith, common_steps)
 
-pub few_key : (defs : List TableDef) (c : CreateTable) (h v : List ℕ) (u : Unit {0}) → new.new_check defs c h v ≡ Ok u → length c.key ≤ max_key_columns
+pub few_key : (defs : Defs) (c : CreateTable) (h v : List ℕ) (u : Unit {0}) → new.new_check defs c h v ≡ Ok u → length c.key ≤ max_key_columns
 unfolding new.new_check new.counts_over
 few_key defs c h v u e =
     at_most (length c.key) (not_over ((new.names_repeat c.name h v || new.names_used defs c.name h v) || new.columns_bad c.columns c.key)
@@ -267,26 +272,22 @@ few_key defs c h v u e =
 
 -- ---- as code has it
 
-length_seen : (ds : List (Bor TableDef)) → length (map (λ d. d.now) ds) ≡ length ds
-length_seen [] = refl
-length_seen (d ∷ ds) = ap suc (length_seen ds)
-
-module _ (ds : List (Bor TableDef)) (c : CreateTable) (h v : List ℕ) (is_history : h ≡ history_of c.kind (length ds + 1) c.history) (is_view : v ≡ view_of c.name c.view) where
-  by_check : create_check (map (λ d. d.now) ds) c ≡ and_then (new.new_check (map (λ d. d.now) ds) c h v) (λ u. Ok (table_def (length ds + 1) c))
+module _ (defs : Defs) (c : CreateTable) (count : ℕ) (h v : List ℕ) (counted : count ≡ length defs) (is_history : h ≡ history_of c.kind (count + 1) c.history) (is_view : v ≡ view_of c.name c.view) where
+  by_check : create_check defs c ≡ and_then (new.new_check defs c h v) (λ u. Ok (table_def (count + 1) c))
   by_check =
-      created (map (λ d. d.now) ds) c
-      ∙ (λ i. and_then (new.new_check (map (λ d. d.now) ds) c (history_of c.kind (length_seen ds i + 1) c.history) (view_of c.name c.view)) (λ u. Ok (table_def (length_seen ds i + 1) c)))
-      ∙ (λ i. and_then (new.new_check (map (λ d. d.now) ds) c (sym is_history i) (sym is_view i)) (λ u. Ok (table_def (length ds + 1) c)))
+      created defs c
+      ∙ (λ i. and_then (new.new_check defs c (history_of c.kind (sym counted i + 1) c.history) (view_of c.name c.view)) (λ u. Ok (table_def (sym counted i + 1) c)))
+      ∙ (λ i. and_then (new.new_check defs c (sym is_history i) (sym is_view i)) (λ u. Ok (table_def (count + 1) c)))
 
-  pub refused : (e : Refusal) → new.new_check (map (λ d. d.now) ds) c h v ≡ Err e → create_check (map (λ d. d.now) ds) c ≡ Err e
-  refused e is = by_check ∙ ap (λ r. and_then r (λ u. Ok (table_def (length ds + 1) c))) is
+  pub refused : (e : Refusal) → new.new_check defs c h v ≡ Err e → create_check defs c ≡ Err e
+  refused e is = by_check ∙ ap (λ r. and_then r (λ u. Ok (table_def (count + 1) c))) is
 
-  pub refused_gives : (e : Refusal) (r : Checked TableDef) → r ≡ Err e → new.new_check (map (λ d. d.now) ds) c h v ≡ Err e → MatchesUnlessOom (create_check (map (λ d. d.now) ds) c) r
-  refused_gives e r is_err is = gives_itself (create_check (map (λ d. d.now) ds) c) r (refused e is ∙ sym is_err)
+  pub refused_gives : (e : Refusal) (r : Checked TableDef) → r ≡ Err e → new.new_check defs c h v ≡ Err e → MatchesUnlessOom (create_check defs c) r
+  refused_gives e r is_err is = gives_itself (create_check defs c) r (refused e is ∙ sym is_err)
 
-  pub made : (u : Unit {0}) → new.new_check (map (λ d. d.now) ds) c h v ≡ Ok u
-      → create_check (map (λ d. d.now) ds) c ≡ Ok (record { id = length ds + 1; name = c.name; kind = c.kind; history = h; view = v; columns = map (keyed c.key) c.columns; indexes = [] })
+  pub made : (u : Unit {0}) → new.new_check defs c h v ≡ Ok u
+      → create_check defs c ≡ Ok (record { id = count + 1; name = c.name; kind = c.kind; history = h; view = v; columns = map (keyed c.key) c.columns; indexes = [] })
   unfolding table_def
   made u is =
-      by_check ∙ ap (λ r. and_then r (λ x. Ok (table_def (length ds + 1) c))) is
-      ∙ (λ i. Ok (record { id = length ds + 1; name = c.name; kind = c.kind; history = sym is_history i; view = sym is_view i; columns = map (keyed c.key) c.columns; indexes = [] }))
+      by_check ∙ ap (λ r. and_then r (λ x. Ok (table_def (count + 1) c))) is
+      ∙ (λ i. Ok (record { id = count + 1; name = c.name; kind = c.kind; history = sym is_history i; view = sym is_view i; columns = map (keyed c.key) c.columns; indexes = [] }))

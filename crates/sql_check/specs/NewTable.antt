@@ -3,30 +3,25 @@ use Rattle.std.specs.Prelude.{ℕ, ◌+◌, ◌&&◌, ◌||◌, not, nat_lt, nat
 use Rattle.std.specs.List.{list_all, list_any}
 use Rattle.sql_value.specs.declared.column.ColumnDef.{ColumnDef}
 use Rattle.sql_value.specs.Stored.{is_in_range}
-use Rattle.sql_types.specs.declared.table.TableDef.{TableDef}
 use Rattle.sql_types.specs.declared.statement.CreateTable.{CreateTable}
 use Rattle.sql_value.specs.declared.refusal.Refusal.TheVariants.{NameConflict, NoSuchColumn, NullNotAllowed, LimitExceeded}
 use Rattle.spec_model.specs.Refusals.{Checked}
 use Rattle.spec_model.specs.Checks.{refused_if, is_declared}
 use Rattle.spec_model.specs.Limits.{max_columns, max_key_columns, max_tables}
 use Rattle.spec_model.specs.Lists.{has_name, repeats}
-use Rattle.spec_model.specs.Catalog.{is_named, part_named}
+use Rattle.spec_model.specs.Catalog.{Defs, find_part, is_named}
 use Rattle.spec_model.specs.Create.{names_of, is_long, is_ledger_name, system_tables}
 
--- the name stands for a part of this table
-abbrev pub has_part : TableDef → List ℕ → Bool
-has_part def name = is_some (part_named def name)
-
--- for a part of some table
-abbrev pub is_used : List TableDef → List ℕ → Bool
-is_used defs name = list_any (λ def. has_part def name) defs
+-- the name stands for something
+abbrev pub is_used : Defs → List ℕ → Bool
+is_used defs name = is_some (find_part defs name)
 
 -- two of the names are one
 unfoldable pub names_repeat : List ℕ → List ℕ → List ℕ → Bool
 names_repeat name history view = is_named history name || is_named view name || is_named view history
 
 -- one of the names stands for something
-unfoldable pub names_used : List TableDef → List ℕ → List ℕ → List ℕ → Bool
+unfoldable pub names_used : Defs → List ℕ → List ℕ → List ℕ → Bool
 names_used defs name history view = is_used defs name || is_used defs history || is_used defs view
 
 unfoldable pub names_long : List ℕ → List ℕ → List ℕ → Bool
@@ -38,7 +33,7 @@ columns_bad columns key =
     repeats (names_of columns) || repeats key || list_any (λ c. is_ledger_name c.name) columns
 
 -- too many columns, key columns or tables, or a type outside its range
-unfoldable pub counts_over : List TableDef → List ColumnDef → List (List ℕ) → Bool
+unfoldable pub counts_over : Defs → List ColumnDef → List (List ℕ) → Bool
 counts_over defs columns key =
     nat_lt max_columns (length columns) || nat_lt max_key_columns (length key)
     || nat_le (max_tables + system_tables) (length defs)
@@ -52,7 +47,7 @@ unfoldable pub key_null : List ColumnDef → List (List ℕ) → Bool
 key_null columns key = list_any (λ c. c.nullable && has_name key c.name) columns
 
 -- NameConflict, LimitExceeded, NoSuchColumn and NullNotAllowed of a new table with this history and view
-unfoldable pub new_check : List TableDef → CreateTable → List ℕ → List ℕ → Checked (Unit {0})
+unfoldable pub new_check : Defs → CreateTable → List ℕ → List ℕ → Checked (Unit {0})
 new_check defs c history view =
     refused_if
     ((names_repeat c.name history view || names_used defs c.name history view)

@@ -4,12 +4,13 @@ ghost use Rattle.std.specs.Prelude.{◌≡◌, ◌<◌, ◌≤◌, ◌-◌, ◌^
 ghost use Rattle.std.specs.Str.{bytes_eq};
 ghost use Rattle.std.specs.List.{list_any};
 ghost use Rattle.sql_value.specs.Stored.{is_in_range};
+ghost use Rattle.spec_model.specs.Catalog.{Defs};
 ghost use Rattle.spec_model.specs.Refusals.{MatchesUnlessOom};
 ghost use Rattle.spec_model.specs.Lists as lists;
 ghost use Rattle.spec_model.specs.Create as spec;
 ghost use Rattle.sql_check.specs.NewTable as new;
 
-use crate::names::{has_name, is_named, part_named, repeats};
+use crate::names::{has_name, is_named, repeats};
 use crate::rows::{are_declared, refuse_if};
 use base_types::{Items, Memory, Name, TableId};
 use sql_types::{CreateTable, TableDef};
@@ -30,6 +31,19 @@ const MOST_NAME_BYTES: usize = 128;
 
 /// With what the names of columns that are added begin.
 const ADDED: &str = "ledger_";
+
+/// The definitions of all tables, as CREATE TABLE asks for them.
+pub trait Definitions {
+    ghost defs: { Self → Defs };
+
+    /// How many there are.
+    fn count(&self) -> usize
+        ensures { result ≡ length (defs self.now) };
+
+    /// Whether some table has the name, for itself, its history or its view.
+    fn is_used(&self, name: &Name) -> bool
+        ensures { result ≡ new.is_used (defs self.now) name.now };
+}
 
 /// The name of a table's history, which an append-only table doesn't have.
 fn history_name(
@@ -64,13 +78,6 @@ fn view_name(alloc: Global, table: &Name, written: &Option<Name>) -> Result<Name
     }
 }
 
-/// Whether some table has the name, for itself, its history or its view.
-fn is_used(defs: &[&TableDef], name: &Name) -> bool
-    ensures { result ≡ list_any (λ def. new.has_part def.now name.now) defs.now }
-{
-    defs.iter().any(|def| part_named(def, name).is_some())
-}
-
 /// Whether the name begins as those of added columns do, in any case.
 fn is_ledger_name(name: &Name) -> bool
     ensures { result ≡ spec.is_ledger_name name.now }
@@ -96,11 +103,11 @@ fn names_repeat(name: &Name, history: &Name, view: &Name) -> bool
 }
 
 /// Whether one of a table's names stands for something already.
-#[tactic(auto, unfolding(crate::specs::NewTable::names_used), using(crate::proofs::Lists::any_map))]
-fn names_used(defs: &[&TableDef], name: &Name, history: &Name, view: &Name) -> bool
-    ensures { result ≡ new.names_used (map (λ d. d.now) defs.now) name.now history.now view.now }
+#[tactic(auto, unfolding(crate::specs::NewTable::names_used))]
+fn names_used<D: Definitions>(defs: &D, name: &Name, history: &Name, view: &Name) -> bool
+    ensures { result ≡ new.names_used (D.defs defs.now) name.now history.now view.now }
 {
-    is_used(defs, name) || is_used(defs, history) || is_used(defs, view)
+    defs.is_used(name) || defs.is_used(history) || defs.is_used(view)
 }
 
 #[tactic(auto, unfolding(crate::specs::NewTable::names_long))]
@@ -139,12 +146,12 @@ fn any_out_of_range(columns: &[ColumnDef]) -> bool
 
 /// Whether there are too many columns, columns of the key or tables, or a type is out of its range.
 #[tactic(auto, unfolding(crate::specs::NewTable::counts_over))]
-fn counts_over(defs: &[&TableDef], columns: &[ColumnDef], key: &[Name]) -> bool
-    ensures { result ≡ new.counts_over (map (λ d. d.now) defs.now) columns.now key.now }
+fn counts_over<D: Definitions>(defs: &D, columns: &[ColumnDef], key: &[Name]) -> bool
+    ensures { result ≡ new.counts_over (D.defs defs.now) columns.now key.now }
 {
     columns.len() > MOST_COLUMNS
         || key.len() > MOST_KEY_COLUMNS
-        || defs.len() >= MOST_TABLES
+        || defs.count() >= MOST_TABLES
         || any_out_of_range(columns)
 }
 
@@ -199,13 +206,13 @@ fn keyed(alloc: Global, columns: &[ColumnDef], key: &[Name]) -> Result<Items<Col
 
 /// The checks of a new table with this history and this view.
 #[tactic(auto, unfolding(crate::specs::NewTable::new_check))]
-fn check_new(
-    defs: &[&TableDef],
+fn check_new<D: Definitions>(
+    defs: &D,
     c: &CreateTable,
     history: &Name,
     view: &Name,
 ) -> Result<(), Refusal>
-    ensures { result ≡ new.new_check (map (λ d. d.now) defs.now) c.now history.now view.now }
+    ensures { result ≡ new.new_check (D.defs defs.now) c.now history.now view.now }
 {
     let (columns, key) = (c.columns.as_slice(), c.key.as_slice());
     refuse_if(has_bad_name(defs, c, history, view), Refusal::NameConflict)?;
@@ -217,10 +224,10 @@ fn check_new(
     refuse_if(key_null(columns, key), Refusal::NullNotAllowed)
 }
 
-fn has_bad_name(defs: &[&TableDef], c: &CreateTable, history: &Name, view: &Name) -> bool
+fn has_bad_name<D: Definitions>(defs: &D, c: &CreateTable, history: &Name, view: &Name) -> bool
     ensures { result
         ≡ ((new.names_repeat c.now.name history.now view.now
-        || new.names_used (map (λ d. d.now) defs.now) c.now.name history.now view.now)
+        || new.names_used (D.defs defs.now) c.now.name history.now view.now)
         || new.columns_bad c.now.columns c.now.key) }
 {
     names_repeat(&c.name, history, view)
@@ -228,9 +235,9 @@ fn has_bad_name(defs: &[&TableDef], c: &CreateTable, history: &Name, view: &Name
         || columns_bad(c.columns.as_slice(), c.key.as_slice())
 }
 
-fn exceeds_limit(defs: &[&TableDef], c: &CreateTable, history: &Name, view: &Name) -> bool
+fn exceeds_limit<D: Definitions>(defs: &D, c: &CreateTable, history: &Name, view: &Name) -> bool
     ensures { result
-        ≡ ((new.counts_over (map (λ d. d.now) defs.now) c.now.columns c.now.key
+        ≡ ((new.counts_over (D.defs defs.now) c.now.columns c.now.key
         || new.names_long c.now.name history.now view.now) || new.columns_long c.now.columns) }
 {
     counts_over(defs, c.columns.as_slice(), c.key.as_slice())
@@ -241,11 +248,15 @@ fn exceeds_limit(defs: &[&TableDef], c: &CreateTable, history: &Name, view: &Nam
 /// The definition of a new table beside those that are there, which are fewer than 2^32 - 1: NameConflict, LimitExceeded, NoSuchColumn
 /// and NullNotAllowed, in this order, or NoMemory for want of memory. Its id is one more than their number.
 #[tactic(auto, using(crate::proofs::NewTables::refused_gives, crate::proofs::NewTables::made, crate::proofs::NewTables::few_key))]
-pub fn new_table(alloc: Global, defs: &[&TableDef], c: &CreateTable) -> Result<TableDef, Refusal>
-    requires { length defs.now < 2 ^ 32 - 1 }
-    ensures { MatchesUnlessOom (spec.create_check (map (λ d. d.now) defs.now) c.now) result }
+pub fn new_table<D: Definitions>(
+    alloc: Global,
+    defs: &D,
+    c: &CreateTable,
+) -> Result<TableDef, Refusal>
+    requires { length (D.defs defs.now) < 2 ^ 32 - 1 }
+    ensures { MatchesUnlessOom (spec.create_check (D.defs defs.now) c.now) result }
 {
-    let id = (defs.len() + 1) as TableId;
+    let id = (defs.count() + 1) as TableId;
     let history = history_name(alloc, c.kind, id, &c.history)?;
     let view = view_name(alloc, &c.name, &c.view)?;
     check_new(defs, c, &history, &view)?;

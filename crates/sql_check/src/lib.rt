@@ -9,9 +9,9 @@ mod names;
 mod rows;
 mod selecting;
 
-pub use creating::new_table;
+pub use creating::{Definitions, new_table};
 pub use indexing::new_index;
-pub use names::part_named;
+pub use names::{own_part, part_named};
 pub use rows::{check_stmt, table_of};
 pub use selecting::check_select;
 pub use sql_types::{CreateIndex, CreateTable, IndexDef, Part, RowStmt, Select, TableDef};

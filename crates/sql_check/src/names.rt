@@ -92,7 +92,8 @@ pub fn is_named(own: &Name, name: &Name) -> bool
     !own.bytes().is_empty() && *own == *name
 }
 
-fn own_part(def: &TableDef) -> Part
+/// The part of a table that its own name stands for.
+pub fn own_part(def: &TableDef) -> Part
     ensures { result ≡ catalog.own_part def.now }
 {
     if def.id <= 2 {

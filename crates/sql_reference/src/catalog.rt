@@ -1,13 +1,12 @@
 //! What names stand for among the tables.
 
-ghost use Rattle.std.specs.Prelude.{ℕ, ◌≡◌, ◌≤◌, IfOk, IfSome, map, option_map};
+ghost use Rattle.std.specs.Prelude.{ℕ, ◌≡◌, ◌≤◌, IfSome, option_map};
 ghost use Rattle.spec_model.specs.Agreement.{IdsFrom};
 ghost use Rattle.spec_model.specs.Catalog as spec;
 
-use base_types::{Memory, Name};
-use sql_check::part_named;
-use sql_types::{Part, Table, TableDef};
-use std::alloc::Global;
+use base_types::Name;
+use sql_check::{Definitions, part_named};
+use sql_types::{Part, Table};
 
 /// The table, and the part of it, that a name stands for.
 #[tactic(auto, unfolding(spec_model::specs::Catalog::find_part))]
@@ -27,13 +26,20 @@ pub(crate) fn find<'a>(tables: &'a [Table], name: &Name) -> Option<(&'a Table, P
     }
 }
 
-/// The definitions of the tables.
-pub(crate) fn defs_of<'a>(alloc: Global, tables: &'a [Table]) -> Result<Vec<&'a TableDef>, Memory>
-    ensures { IfOk result (λ defs. map (λ d. d.now) defs.items ≡ spec.defs_of tables.now) }
-{
-    let mut defs = Vec::with_capacity(alloc, tables.len())?;
-    for table in tables {
-        defs.push(&table.def)?;
+/// The definitions of some tables.
+#[derive(Drop)]
+pub(crate) struct DefsOf<'a> {
+    pub tables: &'a [Table],
+}
+
+impl<'a> Definitions for DefsOf<'a> {
+    ghost defs = { λ d. spec.defs_of d.tables.now };
+
+    fn count(&self) -> usize {
+        self.tables.len()
     }
-    Ok(defs)
+
+    fn is_used(&self, name: &Name) -> bool {
+        find(self.tables, name).is_some()
+    }
 }

@@ -12,7 +12,7 @@ ghost use Rattle.spec_model.specs.Refusals.{MatchesUnlessOom};
 ghost use Rattle.spec_model.specs.Runs.{Sound};
 ghost use Rattle.sql_reference.specs.StatementResult.{MatchesEffectUnlessOom, IsReady};
 
-use crate::catalog::{defs_of, find};
+use crate::catalog::{DefsOf, find};
 use crate::effect::{StatementResult, counted};
 use base_types::{Items, Memory, TableId, TxId};
 use sql_apply::change_table;
@@ -63,8 +63,7 @@ fn work_out_table(alloc: Global, tables: &[Table], c: &CreateTable) -> Result<Ta
     requires { length (defs_of tables.now) < 2 ^ 32 - 1 }
     ensures { MatchesUnlessOom (create_check (defs_of tables.now) c.now) result }
 {
-    let defs = defs_of(alloc, tables)?;
-    new_table(alloc, &defs, c)
+    new_table(alloc, &DefsOf { tables }, c)
 }
 
 /// CREATE TABLE: the rows of the system tables, and then the new table, without versions.

@@ -1,6 +1,6 @@
 //! CREATE TABLE and CREATE INDEX before anything is changed: their checks, and all that takes memory.
 
-ghost use Rattle.std.specs.Prelude.{◌≡◌, ◌≢◌, ◌≤◌, IfOk, MatchResult, Err, length, map};
+ghost use Rattle.std.specs.Prelude.{◌≡◌, ◌≢◌, IfOk, MatchResult, Err};
 ghost use Rattle.sql_value.specs.declared.refusal.Refusal.TheVariants.{NoMemory};
 ghost use Rattle.spec_model.specs.Create.{create_check, index_check, with_index};
 ghost use Rattle.spec_model.specs.Refusals.{MatchesUnlessOom};
@@ -39,24 +39,6 @@ pub(crate) struct NewIndex {
     pub rows: NewRows,
 }
 
-fn refs_of(alloc: Global, defs: &[TableDef]) -> Result<Vec<&TableDef>, Memory>
-    ensures { IfOk result (λ refs. map (λ d. d.now) refs.items ≡ defs.now) }
-{
-    let mut refs = Vec::with_capacity(alloc, defs.len())?;
-    for def in defs {
-        refs.push(def)?;
-    }
-    Ok(refs)
-}
-
-fn checked_table(alloc: Global, defs: &NamedDefs, create: &CreateTable) -> Result<TableDef, Refusal>
-    requires { length defs.now ≤ 34 }
-    ensures { MatchesUnlessOom (create_check defs.now create.now) result }
-{
-    let refs = refs_of(alloc, defs.as_slice())?;
-    new_table(alloc, &refs, create)
-}
-
 /// The checks of CREATE TABLE, and all that it adds, its events numbered from `seq` on.
 pub(crate) fn work_out_table(
     alloc: Global,
@@ -69,7 +51,7 @@ pub(crate) fn work_out_table(
     ensures { MatchResult result (IsNewTable defs.now tx seq create.now)
         (λ e. e ≢ NoMemory → create_check defs.now create.now ≡ Err e) }
 {
-    let def = checked_table(alloc, defs, create)?;
+    let def = new_table(alloc, defs, create)?;
     let in_tables = table_start(alloc, &def)?;
     let in_columns = column_starts(alloc, &def)?;
     let first = new_rows(alloc, TABLES, tx, seq, in_tables)?;

@@ -4,11 +4,12 @@ ghost use Rattle.std.specs.Prelude.{ℕ, ◌≡◌, ◌≤◌, ◌<◌, ◌-◌,
 ghost use Rattle.std.specs.Str.{bytes_eq};
 ghost use Rattle.indexmap.specs.IndexMap.{insert_all};
 ghost use Rattle.sql_types.specs.declared.table.Part.{Part as SpecPart};
-ghost use Rattle.spec_model.specs.Catalog.{find_part, own_part as spec_own_part};
+ghost use Rattle.spec_model.specs.Catalog.{find_part};
 ghost use Rattle.store_catalog.specs.Names.{leading, names_at, HasNewNames, MayReplace};
 
 use base_types::{Memory, Name};
 use indexmap::IndexMap;
+use sql_check::{Definitions, own_part};
 use sql_types::{Part, TableDef};
 use std::alloc::Global;
 use std::marker::Model;
@@ -39,16 +40,6 @@ impl Model for NamedDefs {
     ghost view = { λ d. d.defs.items };
 
     ghost invariant = { λ d. d.names.entries ≡ names_from 0 d.defs.items };
-}
-
-fn own_part(def: &TableDef) -> Part
-    ensures { result ≡ spec_own_part def.now }
-{
-    if def.id <= 2 {
-        Part::System
-    } else {
-        Part::Base
-    }
 }
 
 // Adds a name that leads to this part of the table at this place; what is empty is no name.
@@ -152,5 +143,17 @@ impl NamedDefs {
         ensures before { result ≡ get_or self.old place result }
     {
         mem::replace(&mut self.defs[place], def)
+    }
+}
+
+impl Definitions for NamedDefs {
+    ghost defs = { λ d. d };
+
+    fn count(&self) -> usize {
+        self.defs.len()
+    }
+
+    fn is_used(&self, name: &Name) -> bool {
+        self.find(name).is_some()
     }
 }
