@@ -1,28 +1,24 @@
 -- The leaves of an image: those of a transaction in a table are the bytes of its events there, and each event has a leaf.
-use Rattle.std.proofs.Common.{◌≡◌, ◌≢◌, ◌≤◌, ◌<◌, ◌+◌, ◌^◌, ℕ, zero, suc, Bool, true, false, cond, List, [], ◌∷◌, ◌++◌, length, get_or, map, flat_map, filter, Option, Some, None, refl, arith, sym, ◌∙◌, ap, subst, append-nil, append_assoc, IsSorted}
-use Rattle.std.specs.Prelude.{◌&&◌, ◌==◌, IfSome, is_some}
+use Rattle.std.proofs.Common.{◌≡◌, ◌≢◌, ◌≤◌, ◌<◌, ◌^◌, ℕ, zero, suc, Bool, true, false, cond, List, [], ◌∷◌, ◌++◌, length, get_or, map, flat_map, filter, Option, Some, None, refl, arith, sym, ◌∙◌, ap, subst, append-nil, append_assoc, IsSorted}
+use Rattle.std.specs.Prelude.{◌&&◌, ◌==◌, IfSome}
 use Rattle.std.specs.List.{AllByRecursion}
 use Rattle.std.specs.List.Sorted.{IsStable}
 use Rattle.std.specs.Ordering.{nat_cmp}
-use Rattle.std.proofs.lemmas.Bool.{eq-eqb, ne_eqb, lt-ltb}
+use Rattle.std.proofs.lemmas.Bool.{eq-eqb, ne_eqb}
 use Rattle.std.proofs.lemmas.List.Elements.{filter-append}
-use Rattle.base_fields.specs.Fields.{u16_field}
 use Rattle.sql_types.specs.declared.event.Event.{Event}
-use Rattle.sql_types.specs.declared.event.EventField.{EventField}
 use Rattle.sql_types.specs.declared.image.Image.{Image}
 use Rattle.sql_types.specs.declared.image.TableRows.{TableRows}
 use Rattle.sql_types.specs.declared.table.IndexDef.{IndexDef}
 use Rattle.sql_types.specs.declared.table.TableDef.{TableDef}
 use Rattle.sql_types.specs.declared.version.Table.{Table}
-use Rattle.sql_types.specs.declared.version.TypedValue.{TypedValue}
 use Rattle.sql_types.specs.declared.version.Version.{Version}
-use Rattle.format_event.specs.Leaf.{event_bytes, start_bytes, column_bytes, columns_bytes, has_value, HasLeaf, IsEvent, IsField, IsStart, rise_from}
-use Rattle.format_event.specs.TypedBytes.{IsTyped}
-use Rattle.format_event.proofs.Leaves.{leaf_again}
+use Rattle.format_event.specs.Leaf.{event_bytes, HasLeaf}
+use Rattle.format_event.proofs.Values.{has_leaf}
 use Rattle.law_frame.proofs.Alls.{all_append, all_filter, all_sorted, all_weaker}
 use Rattle.spec_model.specs.Catalog.{Defs, Tables}
-use Rattle.spec_model.specs.Events.{fields_at, fields_of, start_event, end_event, end_events, version_events, events_of}
-use Rattle.spec_model.specs.Lists.{sorted, numbered}
+use Rattle.spec_model.specs.Events.{end_events, version_events, events_of}
+use Rattle.spec_model.specs.Lists.{sorted}
 use Rattle.spec_model.specs.Rows.{EventId}
 use Rattle.spec_model.specs.SystemTables.{tables_def, columns_def}
 use Rattle.spec_ledger.specs.Entries.{leaves_of}
@@ -30,10 +26,10 @@ use Rattle.sql_parts.proofs.Sorting.{sorted-map}
 use Rattle.format_image.specs.DefBytes.{IsDef}
 use Rattle.format_image.specs.ImageBytes.{IsImage, AreTables}
 use Rattle.format_image.specs.Rows.{Stored}
-use Rattle.format_image.specs.RowBytes.{IsValue, AreValues, AreIndexes, AreRows, IsPair, IsBaseRow, IsHistoryRow, IsEnd, IsTable}
+use Rattle.format_image.specs.RowBytes.{AreValues, AreIndexes, AreRows, IsPair, IsBaseRow, IsHistoryRow, IsEnd, IsTable}
 use Rattle.format_image.specs.Tables.{tables_in, tables_with, table_in, defs_in}
 use Rattle.audit_extract.specs.declared.leaves.Leaf.{Leaf}
-use Rattle.audit_extract.specs.Leaves.{event_from, head_of, told_bytes, leaf_of, table_leaves, all_leaves, leaf_cmp, is_of, bytes_of, tree_of}
+use Rattle.audit_extract.specs.Leaves.{leaf_of, table_leaves, all_leaves, leaf_cmp, is_of, bytes_of, tree_of}
 use Rattle.audit_extract.proofs.Groups.{by_seq, group_sorted}
 use Rattle.audit_extract.proofs.Lists.{all_two}
 use Rattle.audit_extract.proofs.Rooted.{Above, tables_above}
@@ -125,73 +121,7 @@ pub all_found : (i : Image) (ys : List Leaf) → IsImage i → IsSorted leaf_cmp
 all_found i ys is up stable tx =
     all_weaker (InTable tx (tables_in i)) (IsFound tx ys) (found_in tx (tables_in i) ys up stable) (tables_in i) (each_table tx 0 (tables_in i) (tables_above i.defs i.tables is.ids))
 
--- ---- the bytes of a version's event
-
-field_is : (n : ℕ) (t : TypedValue) → n < 2 ^ 16 → IsTyped t → IsField (record { ordinal = n; ty = t.ty; value = t.value })
-field_is n t lt is = record { ordinal = lt; told = is.told; stored = is.stored; text = is.text }
-
-fields_fit : (n : ℕ) (values : List (Option TypedValue)) → n + length values ≤ 2 ^ 16 → AllByRecursion IsValue values → AllByRecursion IsField (flat_map fields_at (numbered n values))
-fields_fit n [] le all = tt
-fields_fit n (None ∷ vs) le all = fields_fit (n + 1) vs (omega arith) all.1
-fields_fit n (Some t ∷ vs) le all = (field_is n t (omega arith) all.0, fields_fit (n + 1) vs (omega arith) all.1)
-
-fields_rise : (n last : ℕ) (values : List (Option TypedValue)) → last < n → rise_from last (flat_map fields_at (numbered n values)) ≡ true
-fields_rise n last [] lt = refl
-fields_rise n last (None ∷ vs) lt = fields_rise (n + 1) last vs (omega arith)
-fields_rise n last (Some t ∷ vs) lt = rw (lt-ltb last n lt) (fields_rise (n + 1) n vs (omega arith))
-
--- so many as aren't NULL
-pub fields_count : (n : ℕ) (values : List (Option TypedValue)) → length (flat_map fields_at (numbered n values)) ≡ length (filter is_some values)
-fields_count n [] = refl
-fields_count n (None ∷ vs) = fields_count (n + 1) vs
-fields_count n (Some t ∷ vs) = ap suc (fields_count (n + 1) vs)
-
-pub few_some : (values : List (Option TypedValue)) → length (filter is_some values) ≤ length values
-few_some [] = omega arith
-few_some (None ∷ vs) = let l = few_some vs in omega arith
-few_some (Some t ∷ vs) = let l = few_some vs in omega arith
-
-event_fits : (table op : ℕ) (id : EventId) (start : Option EventId) (values : List (Option TypedValue)) → table < 2 ^ 32 → IsPair id → IsStart op start → AreValues values
-    → IsEvent (event_from table op id start values)
-event_fits table op id start values small pair starts are =
-    let count = fields_count 1 values in
-    let few = few_some values in
-    let short = are.0 in
-    record {
-      table = small;
-      start = starts;
-      tx = pair.0;
-      seq = pair.1;
-      count = omega arith;
-      columns = fields_fit 1 values (omega arith) are.1;
-      rise = fields_rise 1 0 values (omega arith);
-    }
-
-told : (fs : List EventField) → AllByRecursion IsField fs → filter has_value fs ≡ fs
-told [] all = refl
-told (f ∷ fs) all = rw (all.0.told, told fs all.1) refl
-
-pub values_told : (values : List (Option TypedValue)) → AreValues values → filter has_value (fields_of values) ≡ fields_of values
-values_told values are = let short = are.0 in told (fields_of values) (fields_fit 1 values (omega arith) are.1)
-
--- the leaf is the head, the start, and the values that aren't NULL
-pub leaf_is : (table op : ℕ) (id : EventId) (start : Option EventId) (values : List (Option TypedValue)) → AreValues values
-    → event_bytes (event_from table op id start values) ≡ head_of table op id ++ (start_bytes start ++ told_bytes values)
-unfolding event_bytes
-leaf_is table op id start values are =
-    ap (λ (fs : List EventField). head_of table op id ++ (start_bytes start ++ columns_bytes fs)) (values_told values are)
-    ∙ ap (λ (n : ℕ). head_of table op id ++ (start_bytes start ++ (u16_field n ++ flat_map column_bytes (fields_of values)))) (fields_count 1 values)
-
-pub leaf_written : (table op : ℕ) (id : EventId) (start : Option EventId) (values : List (Option TypedValue)) (old new bytes : List ℕ) → AreValues values
-    → old ≡ [] → new ≡ old ++ (head_of table op id ++ (start_bytes start ++ told_bytes values)) → bytes ≡ new
-    → record { group = (id.0, table); seq = id.1; bytes = bytes } ≡ leaf_of (event_from table op id start values)
-leaf_written table op id start values old new bytes are empty written made =
-    let leaf_with : List ℕ → Leaf = λ b. record { group = (id.0, table); seq = id.1; bytes = b } in
-    ap leaf_with
-    (made ∙ written ∙ ap (λ (l : List ℕ). l ++ (head_of table op id ++ (start_bytes start ++ told_bytes values))) empty ∙ sym (leaf_is table op id start values are))
-
-pub told_fits : (values : List (Option TypedValue)) (n : ℕ) → AreValues values → n ≡ length (filter is_some values) → n < 2 ^ 16
-told_fits values n are is = let few = few_some values in let short = are.0 in omega arith
+-- ---- the bytes at a place
 
 -- where the bytes at one place differ, so do the lists
 pub bytes_at : (a b : List Leaf) (i : ℕ) (x y : Leaf) → i < length a → i < length b → x ≡ get_or a i x → y ≡ get_or b i y → x.bytes ≢ y.bytes → bytes_of a ≢ bytes_of b
@@ -215,13 +145,13 @@ pub record IsVersion (v : Version) : Type 0 where
 
 version_fits : (id : ℕ) (v : Version) → id < 2 ^ 32 → IsVersion v → AllByRecursion HasLeaf (version_events id v)
 version_fits id v small fits = (
-  leaf_again (start_event id v) (event_fits id 1 v.start None v.values small fits.start refl fits.values),
+  has_leaf id v.start None v.values small fits.start tt fits.values,
   ends v.end fits.end,
 )
   where
     ends : (end : Option EventId) → IfSome end IsPair → AllByRecursion HasLeaf (end_events id v end)
     ends None pair = tt
-    ends (Some e) pair = (leaf_again (end_event id v e) (event_fits id 2 e (Some v.start) v.values small pair (refl, fits.start) fits.values), tt)
+    ends (Some e) pair = (has_leaf id e (Some v.start) v.values small pair fits.start fits.values, tt)
 
 base_version : (v : Version) → IsBaseRow v → IsVersion v
 base_version v is = record { start = is.start; end = subst (λ (o : Option EventId). IfSome o IsPair) (sym is.end) tt; values = is.values }

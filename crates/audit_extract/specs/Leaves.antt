@@ -1,37 +1,22 @@
 -- The leaves of an image: one for each start and each end of a version, with the transaction and the table
 -- that it is of.
-use Rattle.std.specs.Prelude.{ℕ, ◌≡◌, Bool, List, ◌++◌, map, flat_map, length, Option, is_some}
+use Rattle.std.specs.Prelude.{ℕ, ◌≡◌, Bool, List, map, flat_map}
 use Rattle.std.specs.List.{filter, AllByRecursion}
 use Rattle.std.specs.declared.cmp.Ordering.{Ordering}
 use Rattle.std.specs.Ordering.{nat_cmp, ordering_then, is_lt, is_gt}
-use Rattle.base_fields.specs.Fields.{u8_field, u16_field, u32_field, u64_field}
 use Rattle.base_merkle.specs.TreeHash.{tree_hash}
-use Rattle.format_event.specs.Leaf.{column_bytes, event_bytes}
+use Rattle.format_event.specs.Leaf.{event_bytes}
 use Rattle.sql_types.specs.declared.entry.TxEntry.{TxEntry}
 use Rattle.sql_types.specs.declared.event.Event.{Event}
 use Rattle.sql_types.specs.declared.version.Table.{Table}
-use Rattle.sql_types.specs.declared.version.TypedValue.{TypedValue}
 use Rattle.spec_model.specs.Catalog.{Tables}
-use Rattle.spec_model.specs.Events.{fields_of, version_events}
-use Rattle.spec_model.specs.Rows.{EventId, event_cmp, same_event}
+use Rattle.spec_model.specs.Events.{version_events}
+use Rattle.spec_model.specs.Rows.{event_cmp, same_event}
 use Rattle.audit_extract.specs.declared.leaves.Leaf.{Leaf}
 
 -- a transaction and a table
 abbrev pub Group : Type 0
 Group = ℕ × ℕ
-
--- the start (1) or end (2) of a version with these values
-abbrev pub event_from : ℕ → ℕ → EventId → Option EventId → List (Option TypedValue) → Event
-event_from table op id start values =
-    record { table = table; op = op; tx = id.0; seq = id.1; start = start; columns = fields_of values }
-
--- its head
-abbrev pub head_of : ℕ → ℕ → EventId → List ℕ
-head_of table op id = u8_field 1 ++ (u32_field table ++ (u8_field op ++ (u64_field id.0 ++ u64_field id.1)))
-
--- how many of its values aren't NULL, and these
-abbrev pub told_bytes : List (Option TypedValue) → List ℕ
-told_bytes values = u16_field (length (filter is_some values)) ++ flat_map column_bytes (fields_of values)
 
 abbrev pub leaf_of : Event → Leaf
 leaf_of e = record { group = (e.tx, e.table); seq = e.seq; bytes = event_bytes e }

@@ -1,20 +1,19 @@
 //! The leaves of an image, sorted so that those of a transaction in a table stand together.
 
-ghost use Rattle.std.specs.Prelude.{◌≡◌, ◌++◌, ◌∷◌, ◌<◌, ◌^◌, All, ◌≢◌, IsSorted, IfOk, OnOk, true, false, is_some, length, map, flat_map, filter};
+ghost use Rattle.std.specs.Prelude.{◌≡◌, ◌++◌, ◌∷◌, All, ◌≢◌, IsSorted, IfOk, OnOk, true, false, map, flat_map, filter};
 ghost use Rattle.std.specs.List.Sorted.{IsStable};
-ghost use Rattle.format_event.specs.Leaf.{start_bytes, column_bytes};
-ghost use Rattle.spec_model.specs.Events.{fields_at, fields_of, version_events};
+ghost use Rattle.format_event.specs.EventRef.{event_of};
+ghost use Rattle.spec_model.specs.Events.{version_events};
 ghost use Rattle.spec_model.specs.SystemTables.{tables_def, columns_def};
 ghost use Rattle.format_image.specs.ImageBytes.{IsImage, AreTables};
-ghost use Rattle.format_image.specs.RowBytes.{AreRows, AreValues, IsValue};
+ghost use Rattle.format_image.specs.RowBytes.{AreRows, AreValues};
 ghost use Rattle.format_image.specs.Tables.{tables_in, tables_with};
-ghost use Rattle.audit_extract.specs.Leaves.{all_leaves, bytes_of, comes_after, comes_before, event_from, head_of, is_of, leaf_cmp, leaf_of, told_bytes};
+ghost use Rattle.audit_extract.specs.Leaves.{all_leaves, bytes_of, comes_after, comes_before, is_of, leaf_cmp, leaf_of};
 
 use crate::trees::is_equal;
-use base_fields::{put_u8, put_u16, put_u32, put_u64};
 use base_types::{Blob, Memory, TableId, TxId, first_of};
-use format_event::put_typed;
-use sql_types::{EventId, Image, TableDef, TableRows, TypedValue, Version};
+use format_event::{EventRef, write_leaf};
+use sql_types::{Image, TableDef, TableRows, Version};
 use std::alloc::Global;
 use std::cmp::Ordering;
 
@@ -155,114 +154,36 @@ fn add_version(
         (leaves.new.items ≡ leaves.old.items ++ map leaf_of (version_events table version.now)) }
 {
     let values = version.values.as_slice();
-    leaves.push(event_leaf(alloc, table, 1, version.start, None, values)?)?;
-    if let Some(end) = version.end {
-        leaves.push(event_leaf(alloc, table, 2, end, Some(version.start), values)?)?;
+    let start = EventRef {
+        id: version.start,
+        ends: None,
+        values,
+        table,
+    };
+    leaves.push(event_leaf(alloc, &start)?)?;
+    if let Some(id) = version.end {
+        let end = EventRef {
+            id,
+            ends: Some(version.start),
+            values,
+            table,
+        };
+        leaves.push(event_leaf(alloc, &end)?)?;
     }
     Ok(())
 }
 
-// The leaf of an event, written from the values of its version where they lie.
-fn event_leaf(
-    alloc: Global,
-    table: TableId,
-    op: u8,
-    event: EventId,
-    start: Option<EventId>,
-    values: &[Option<TypedValue>],
-) -> Result<Leaf, Memory>
-    requires { AreValues values.now }
-    ensures { IfOk result (λ leaf. leaf ≡ leaf_of (event_from table op event start values.now)) }
+fn event_leaf(alloc: Global, event: &EventRef) -> Result<Leaf, Memory>
+    requires { AreValues event.now.values.now }
+    ensures { IfOk result (λ leaf. leaf ≡ leaf_of (event_of event.now)) }
 {
     let mut bytes = Vec::new(alloc);
-    put_event(table, op, event, start, values, &mut bytes)?;
+    write_leaf(event, &mut bytes)?;
     Ok(Leaf {
-        group: (event.0, table),
-        seq: event.1,
+        group: (event.id.0, event.table),
+        seq: event.id.1,
         bytes: Blob::from_vec(bytes),
     })
-}
-
-fn put_event(
-    table: TableId,
-    op: u8,
-    event: EventId,
-    start: Option<EventId>,
-    values: &[Option<TypedValue>],
-    out: &mut Vec<u8>,
-) -> Result<(), Memory>
-    requires { AreValues values.now }
-    ensures { OnOk result (out.new.items ≡ out.old.items
-        ++ (head_of table op event ++ (start_bytes start ++ told_bytes values.now))) }
-{
-    put_head(table, op, event, out)?;
-    put_start(start, out)?;
-    put_told(values, out)
-}
-
-fn put_head(table: TableId, op: u8, event: EventId, out: &mut Vec<u8>) -> Result<(), Memory>
-    ensures { OnOk result (out.new.items ≡ out.old.items ++ head_of table op event) }
-{
-    put_u8(out, 1)?;
-    put_u32(out, table)?;
-    put_u8(out, op)?;
-    put_u64(out, event.0)?;
-    put_u64(out, event.1)
-}
-
-fn put_start(start: Option<EventId>, out: &mut Vec<u8>) -> Result<(), Memory>
-    ensures { OnOk result (out.new.items ≡ out.old.items ++ start_bytes start) }
-{
-    match start {
-        None => Ok(()),
-        Some(event) => {
-            put_u64(out, event.0)?;
-            put_u64(out, event.1)
-        }
-    }
-}
-
-// How many values aren't NULL, and these.
-fn put_told(values: &[Option<TypedValue>], out: &mut Vec<u8>) -> Result<(), Memory>
-    requires { AreValues values.now }
-    ensures { OnOk result (out.new.items ≡ out.old.items ++ told_bytes values.now) }
-{
-    put_u16(out, told_of(values) as u16)?;
-    put_fields(values, out)
-}
-
-fn told_of(values: &[Option<TypedValue>]) -> usize
-    ensures { result ≡ length (filter is_some values.now) }
-{
-    values.iter().filter(|value| value.is_some()).count()
-}
-
-fn put_fields(values: &[Option<TypedValue>], out: &mut Vec<u8>) -> Result<(), Memory>
-    requires { AreValues values.now }
-    ensures { OnOk result (out.new.items ≡ out.old.items ++ flat_map column_bytes (fields_of values.now)) }
-{
-    let mut place: u16 = 0;
-    let mut rest = values;
-    while let [value, more @ ..] = rest {
-        put_field(place + 1, value, out)?;
-        place += 1;
-        rest = more;
-    }
-    Ok(())
-}
-
-fn put_field(ordinal: u16, value: &Option<TypedValue>, out: &mut Vec<u8>) -> Result<(), Memory>
-    requires { IsValue value.now }
-    ensures { OnOk result
-        (out.new.items ≡ out.old.items ++ flat_map column_bytes (fields_at (ordinal, value.now))) }
-{
-    match value {
-        None => Ok(()),
-        Some(typed) => {
-            put_u16(out, ordinal)?;
-            put_typed(typed, out)
-        }
-    }
 }
 
 /// Those of a transaction in a table.

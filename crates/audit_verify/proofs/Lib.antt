@@ -15,7 +15,6 @@ pub mod InRuns
 pub mod LeastParts
 pub mod LeftParts
 pub mod MergedFaults
-pub mod Leaves
 pub mod Neighbours
 pub mod Owned
 pub mod Places

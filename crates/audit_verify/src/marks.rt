@@ -1,21 +1,20 @@
 //! The starts and ends of versions, in the order of their leaves, and the leaves.
 
-ghost use Rattle.std.specs.Prelude.{All, ◌≡◌, ◌==◌, ◌≤◌, ◌++◌, IfOk, OnOk, length, map, flat_map};
+ghost use Rattle.std.specs.Prelude.{All, ◌≡◌, ◌==◌, ◌++◌, IfOk, OnOk, map, flat_map};
 ghost use Rattle.std.specs.List.{filter};
 ghost use Rattle.std.specs.List.Sorted.{IsNonDecreasingBy};
 ghost use Rattle.format_image.specs.RowBytes.{AreValues};
-ghost use Rattle.spec_model.specs.Events.{fields_of, version_events};
+ghost use Rattle.spec_model.specs.Events.{version_events};
 ghost use Rattle.spec_model.specs.Lists.{sorted};
-ghost use Rattle.format_event.specs.Leaf.{event_bytes, head_bytes, start_bytes, columns_bytes, column_bytes};
-ghost use Rattle.base_fields.specs.Fields.{u8_field, u32_field, u64_field};
+ghost use Rattle.format_event.specs.EventRef as leaves;
+ghost use Rattle.format_event.specs.Leaf.{event_bytes};
 ghost use Rattle.audit_verify.specs.Marks.{event_of, tx_of, number_of, leaf_cmp, events_shown, AreMarks, HaveEncodableValues, HasEncodableValues, HasValues, StartsOther};
 ghost use Rattle.audit_verify.specs.ImageTable.{table_of};
 
 use crate::shown::ImageTable;
-use base_fields::{put_u16, put_u64};
 use base_types::{Memory, TableId, TxId};
-use format_event::put_typed;
-use sql_types::{EventId, TypedValue, Version};
+use format_event::{EventRef, write_leaf};
+use sql_types::{EventId, Version};
 use std::alloc::Global;
 use std::cmp::Ordering;
 
@@ -159,78 +158,21 @@ pub fn put_leaf(mark: &Mark, out: &mut Vec<u8>) -> Result<(), Memory>
     requires { AreValues mark.now.version.now.values }
     ensures { OnOk result (out.new.items ≡ out.old.items ++ event_bytes (event_of mark.now)) }
 {
-    put_head(mark, out)?;
-    put_start(mark, out)?;
-    put_columns(mark.version.values.as_slice(), out)
+    write_leaf(&event_at(mark), out)
 }
 
-fn put_head(mark: &Mark, out: &mut Vec<u8>) -> Result<(), Memory>
-    ensures { OnOk result (out.new.items ≡ out.old.items ++ head_bytes (event_of mark.now)) }
+fn event_at<'a>(mark: &Mark<'a>) -> EventRef<'a>
+    ensures event { leaves.event_of result ≡ event_of mark.now }
+    ensures values { result.values.now ≡ mark.now.version.now.values }
 {
-    let head = match mark.is_end {
-        false => head_of(mark.table, 1, mark.event),
-        true => head_of(mark.table, 2, mark.event),
+    let ends = match mark.is_end {
+        false => None,
+        true => Some(mark.version.start),
     };
-    out.extend_from_slice(&head)?;
-    Ok(())
-}
-
-// One array, so that the head is appended at once.
-#[tactic(auto, unfolding(base_fields::specs::Fields::u32_field, base_fields::specs::Fields::u64_field))]
-fn head_of(table: TableId, op: u8, event: EventId) -> [u8; 22]
-    ensures { result ≡ u8_field 1
-        ++ (u32_field table ++ (u8_field op ++ (u64_field event.0 ++ u64_field event.1))) }
-{
-    let [a, b, c, d] = table.to_be_bytes();
-    let [x0, x1, x2, x3, x4, x5, x6, x7] = event.0.to_be_bytes();
-    let [y0, y1, y2, y3, y4, y5, y6, y7] = event.1.to_be_bytes();
-    [
-        1, a, b, c, d, op, x0, x1, x2, x3, x4, x5, x6, x7, y0, y1, y2, y3, y4, y5, y6, y7,
-    ]
-}
-
-// The start of the version that an end ends.
-fn put_start(mark: &Mark, out: &mut Vec<u8>) -> Result<(), Memory>
-    ensures { OnOk result (out.new.items ≡ out.old.items ++ start_bytes (event_of mark.now).start) }
-{
-    if mark.is_end {
-        put_u64(out, mark.version.start.0)?;
-        put_u64(out, mark.version.start.1)?;
+    EventRef {
+        id: mark.event,
+        ends,
+        values: mark.version.values.as_slice(),
+        table: mark.table,
     }
-    Ok(())
-}
-
-// How many of the values aren't NULL, and these, each with its ordinal.
-fn put_columns(values: &[Option<TypedValue>], out: &mut Vec<u8>) -> Result<(), Memory>
-    requires { AreValues values.now }
-    ensures { OnOk result (out.new.items ≡ out.old.items ++ columns_bytes (fields_of values.now)) }
-{
-    put_u16(out, told_of(values) as u16)?;
-    put_each(values, out)
-}
-
-fn told_of(values: &[Option<TypedValue>]) -> usize
-    ensures count { result ≡ length (fields_of values.now) }
-    ensures bound { result ≤ length values.now }
-{
-    let mut told = 0;
-    for value in values {
-        if value.is_some() {
-            told += 1;
-        }
-    }
-    told
-}
-
-fn put_each(values: &[Option<TypedValue>], out: &mut Vec<u8>) -> Result<(), Memory>
-    requires { AreValues values.now }
-    ensures { OnOk result (out.new.items ≡ out.old.items ++ flat_map column_bytes (fields_of values.now)) }
-{
-    for (place, value) in values.iter().enumerate() {
-        if let Some(typed) = value {
-            put_u16(out, (place + 1) as u16)?;
-            put_typed(typed, out)?;
-        }
-    }
-    Ok(())
 }

@@ -6,4 +6,5 @@ mod Texts
 pub mod TypeLaws
 pub mod TypedExact
 mod ValueLaws
+pub mod Values
 pub mod Told

@@ -71,8 +71,11 @@ abbrev pub columns_bytes : List EventField → List ℕ
 columns_bytes columns = u16_field (length columns) ++ flat_map column_bytes columns
 
 -- the number of the format, the table, start or end, the transaction and the number in it
+abbrev pub head_of : ℕ → ℕ → ℕ × ℕ → List ℕ
+head_of table op id = u8_field 1 ++ (u32_field table ++ (u8_field op ++ (u64_field id.0 ++ u64_field id.1)))
+
 abbrev pub head_bytes : Event → List ℕ
-head_bytes e = u8_field 1 ++ (u32_field e.table ++ (u8_field e.op ++ (u64_field e.tx ++ u64_field e.seq)))
+head_bytes e = head_of e.table e.op (e.tx, e.seq)
 
 -- the head, for an end the start, and the columns
 abbrev pub encoded : Event → List ℕ

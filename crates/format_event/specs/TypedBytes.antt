@@ -1,5 +1,6 @@
 -- A value with its type: its one spelling in bytes, and reading it.
-use Rattle.std.specs.Prelude.{◌≡◌, true, List, ℕ, ◌++◌, Option, Some, None, if◌then◌else◌}
+use Rattle.std.specs.Prelude.{◌≡◌, ◌<◌, ◌^◌, true, List, ℕ, ◌++◌, length, Option, Some, None, IfSome, if◌then◌else◌}
+use Rattle.std.specs.List.{AllByRecursion}
 use Rattle.base_fields.specs.Fields.{long_field}
 use Rattle.base_fields.specs.Readers.{Reader, ◌>>=◌, long_at, both, decoded}
 use Rattle.sql_value.specs.declared.sql_type.SqlType.{SqlType}
@@ -17,6 +18,18 @@ pub record IsTyped (t : TypedValue) : Type 0 where
   pub told : is_told t.value ≡ true
   pub stored : is_stored t.value t.ty ≡ true
   pub text : is_text t.value ≡ true
+
+-- NULL, or such a value
+abbrev pub IsValue : Option TypedValue → Type 0
+IsValue v = IfSome v IsTyped
+
+-- values of a row that have a spelling
+abbrev pub AreValues : List (Option TypedValue) → Type 0
+AreValues row = (length row < 2 ^ 16) × AllByRecursion IsValue row
+
+-- NULL, or a value that is UTF-8 where it is a text
+abbrev pub IsUtf8Text : Option TypedValue → Type 0
+IsUtf8Text v = IfSome v (λ t. is_text t.value ≡ true)
 
 -- the value, if the bytes spell one that the type stores
 abbrev pub typed_of : SqlType × List ℕ → Option TypedValue

@@ -3,11 +3,11 @@
 ghost use Rattle.std.specs.Prelude.{◌≡◌, ◌<◌, ◌^◌, ◌++◌, All, FitsSigned, take, length, filter, flat_map, OnOk, OnErr};
 ghost use Rattle.std.specs.Int.{w8, w32, w64};
 ghost use Rattle.base_fields.specs.Fields.{long_field, u32_field, signed_field, i128_field};
-ghost use Rattle.format_event.specs.Leaf.{event_bytes, encoded, head_bytes, without_nulls, columns_bytes, column_bytes, start_bytes, type_bytes, value_bytes, number_bytes, first_parameter, second_parameter, has_value, is_told, HasLeaf, IsField, IsFieldOrNull, FitsBytes, FitsNumber};
+ghost use Rattle.format_event.specs.Leaf.{event_bytes, encoded, head_of, without_nulls, columns_bytes, column_bytes, start_bytes, type_bytes, value_bytes, number_bytes, first_parameter, second_parameter, has_value, is_told, HasLeaf, IsField, IsFieldOrNull, FitsBytes, FitsNumber};
 
 use base_fields::{put_long, put_u8, put_u16, put_u32, put_u64};
-use base_types::Memory;
-use sql_types::{Event, EventField};
+use base_types::{Memory, TableId};
+use sql_types::{Event, EventField, EventId};
 use sql_value::{SqlType, Value, type_parts};
 
 /// Appends the leaf of an event, which leaves its NULL columns out. The event is to have one: its values are
@@ -32,34 +32,34 @@ fn put_parts(e: &Event, out: &mut Vec<u8>) -> Result<(), Memory>
     ensures ok { OnOk result (out.new.items ≡ out.old.items ++ encoded (without_nulls e.now)) }
     ensures grows { take (length out.old.items) out.new.items ≡ out.old.items }
 {
-    put_head(e, out)?;
+    put_head(e.table, e.op, (e.tx, e.seq), out)?;
     put_start(e.start, out)?;
     put_columns(e.columns.as_slice(), out)
 }
 
-fn put_head(e: &Event, out: &mut Vec<u8>) -> Result<(), Memory>
-    ensures ok { OnOk result (out.new.items ≡ out.old.items ++ head_bytes e.now) }
+pub(crate) fn put_head(table: TableId, op: u8, id: EventId, out: &mut Vec<u8>) -> Result<(), Memory>
+    ensures ok { OnOk result (out.new.items ≡ out.old.items ++ head_of table op id) }
     ensures grows { take (length out.old.items) out.new.items ≡ out.old.items }
 {
-    out.extend_from_slice(&head_of(e))?;
+    out.extend_from_slice(&head_of(table, op, id))?;
     Ok(())
 }
 
 // One array, so that the head is appended at once.
 #[tactic(auto, unfolding(base_fields::specs::Fields::u32_field, base_fields::specs::Fields::u64_field))]
-fn head_of(e: &Event) -> [u8; 22]
-    ensures { result ≡ head_bytes e.now }
+fn head_of(table: TableId, op: u8, id: EventId) -> [u8; 22]
+    ensures { result ≡ head_of table op id }
 {
-    let [a, b, c, d] = e.table.to_be_bytes();
-    let [x0, x1, x2, x3, x4, x5, x6, x7] = e.tx.to_be_bytes();
-    let [y0, y1, y2, y3, y4, y5, y6, y7] = e.seq.to_be_bytes();
+    let [a, b, c, d] = table.to_be_bytes();
+    let [x0, x1, x2, x3, x4, x5, x6, x7] = id.0.to_be_bytes();
+    let [y0, y1, y2, y3, y4, y5, y6, y7] = id.1.to_be_bytes();
     [
-        1, a, b, c, d, e.op, x0, x1, x2, x3, x4, x5, x6, x7, y0, y1, y2, y3, y4, y5, y6, y7,
+        1, a, b, c, d, op, x0, x1, x2, x3, x4, x5, x6, x7, y0, y1, y2, y3, y4, y5, y6, y7,
     ]
 }
 
 // The start of the version that an end ends.
-fn put_start(start: Option<(u64, u64)>, out: &mut Vec<u8>) -> Result<(), Memory>
+pub(crate) fn put_start(start: Option<EventId>, out: &mut Vec<u8>) -> Result<(), Memory>
     ensures ok { OnOk result (out.new.items ≡ out.old.items ++ start_bytes start) }
     ensures grows { take (length out.old.items) out.new.items ≡ out.old.items }
 {

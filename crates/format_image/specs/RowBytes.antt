@@ -1,8 +1,9 @@
 -- The rows of a table: their one spelling in bytes.
-use Rattle.std.specs.Prelude.{ℕ, ◌≡◌, ◌<◌, ◌^◌, ◌==◌, ◌&&◌, ◌||◌, nat_lt, Bool, true, List, [], ◌∷◌, ◌++◌, length, flat_map, Option, Some, None, IfSome}
+use Rattle.std.specs.Prelude.{ℕ, ◌≡◌, ◌<◌, ◌^◌, ◌==◌, ◌&&◌, ◌||◌, nat_lt, Bool, true, List, [], ◌∷◌, ◌++◌, length, flat_map, Option, Some, None}
 use Rattle.std.specs.List.{AllByRecursion}
 use Rattle.base_fields.specs.Fields.{u8_field, u16_field, u64_field}
-use Rattle.format_event.specs.TypedBytes.{typed_bytes, IsTyped}
+use Rattle.format_event.specs.TypedBytes.{typed_bytes}
+pub use Rattle.format_event.specs.TypedBytes.{IsValue, AreValues}
 use Rattle.sql_types.specs.declared.image.TableRows.{TableRows}
 use Rattle.sql_types.specs.declared.table.IndexDef.{IndexDef}
 use Rattle.sql_types.specs.declared.table.TableDef.{TableDef}
@@ -21,13 +22,6 @@ value_bytes (Some t) = u8_field 1 ++ typed_bytes t
 -- the count of the values in 2 bytes, and each of them
 abbrev pub values_bytes : Stored → List ℕ
 values_bytes row = u16_field (length row) ++ flat_map value_bytes row
-
-abbrev pub IsValue : Option TypedValue → Type 0
-IsValue v = IfSome v IsTyped
-
--- values that have a spelling
-abbrev pub AreValues : Stored → Type 0
-AreValues row = (length row < 2 ^ 16) × AllByRecursion IsValue row
 
 -- ---- versions
 

@@ -3,28 +3,10 @@
 
 ghost use Rattle.std.specs.Prelude.{◌<◌, ◌^◌, IfSome};
 ghost use Rattle.std.specs.List.{AllByRecursion};
-ghost use Rattle.law_image.specs.Room.{IsUtf8Text, VersionFitsFormat, TableFitsFormat};
+ghost use Rattle.law_image.specs.Room.{VersionFitsFormat, TableFitsFormat};
 
-use law_events::is_text;
-use sql_types::{EventId, Table, TypedValue, Version};
-
-/// Does nothing: it is there for its contract.
-fn is_utf8_text(value: &Option<TypedValue>)
-    ensures { IsUtf8Text value.now }
-{
-    if let Some(typed) = value {
-        is_text(&typed.value);
-    }
-}
-
-/// Does nothing: it is there for its contract.
-fn are_utf8_texts(values: &[Option<TypedValue>])
-    ensures { AllByRecursion IsUtf8Text values.now }
-{
-    for value in values {
-        is_utf8_text(value);
-    }
-}
+use law_events::are_utf8_texts;
+use sql_types::{EventId, Table, Version};
 
 /// Does nothing: it is there for its contract.
 fn end_has_room(end: Option<EventId>)

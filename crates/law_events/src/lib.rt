@@ -5,6 +5,6 @@ mod laws;
 mod room;
 
 pub use laws::events_of_legal_journals_have_leaves;
-pub use room::{have_room, is_text};
+pub use room::{are_utf8_texts, have_room};
 pub use sql_types::Event;
 pub use sql_value::Value;

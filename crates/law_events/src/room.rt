@@ -3,18 +3,37 @@
 ghost use Rattle.std.specs.Prelude.{◌≡◌, true, IfSome};
 ghost use Rattle.std.specs.List.{AllByRecursion};
 ghost use Rattle.format_event.specs.Leaf.{is_text};
+ghost use Rattle.format_event.specs.TypedBytes.{IsUtf8Text};
 ghost use Rattle.law_events.specs.Room.{IsSmall, AreTexts, FitsLeafFormat};
 
 use base_types::TxId;
-use sql_types::{Event, EventField};
+use sql_types::{Event, EventField, TypedValue};
 use sql_value::Value;
 
 /// Does nothing: it is there for its contract.
-pub fn is_text(value: &Value)
+fn is_text(value: &Value)
     ensures { is_text value.now ≡ true }
 {
     if let Value::Text(text) = value {
         text.as_str();
+    }
+}
+
+/// Does nothing: it is there for its contract.
+fn is_utf8_text(value: &Option<TypedValue>)
+    ensures { IsUtf8Text value.now }
+{
+    if let Some(typed) = value {
+        is_text(&typed.value);
+    }
+}
+
+/// The texts among values are UTF-8. Does nothing: it is there for its contract.
+pub fn are_utf8_texts(values: &[Option<TypedValue>])
+    ensures { AllByRecursion IsUtf8Text values.now }
+{
+    for value in values {
+        is_utf8_text(value);
     }
 }
 

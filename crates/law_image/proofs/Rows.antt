@@ -12,6 +12,7 @@ use Rattle.sql_value.specs.declared.value.Value.{Value}
 use Rattle.sql_value.specs.declared.value.Value.TheVariants.{Null, Num, Text, Bytes, Date}
 use Rattle.sql_value.specs.Stored.{is_stored}
 use Rattle.format_event.specs.Leaf.{is_told}
+use Rattle.format_event.specs.TypedBytes.{IsUtf8Text}
 use Rattle.sql_types.specs.JournalRules.{ItemRules}
 use Rattle.sql_types.specs.declared.journal.JournalItem.{JournalItem}
 use Rattle.sql_types.specs.declared.journal.JournalItem.TheVariants.{Tx, Close}
@@ -30,7 +31,7 @@ use Rattle.law_journal.specs.Kept.{IsEarlier}
 use Rattle.law_journal.specs.Serial.{place_in, HasTx, IsOf}
 use Rattle.format_image.specs.RowBytes.{IsValue, AreValues, IsPair, IsBaseRow, IsEnd, IsHistoryRow, comes_after, rise_after, starts_rise, AreBaseRows, AreHistoryRows, AreIndexRows, AreIndexes, IsTable}
 use Rattle.format_image.specs.Rows.{Stored, stored_at, index_ordinals, index_row, stored_cmp, index_rows, ended_ones, table_rows}
-use Rattle.law_image.specs.Room.{IsUtf8Text, VersionFitsFormat, TableFitsFormat}
+use Rattle.law_image.specs.Room.{VersionFitsFormat, TableFitsFormat}
 use Rattle.law_image.proofs.Defs.{last}
 use Rattle.law_image.proofs.Entries.{few_filtered, length_mapped}
 

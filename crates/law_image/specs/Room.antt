@@ -1,20 +1,15 @@
 -- Journals whose image has room in the format: what no number of the definitions limits.
-use Rattle.std.specs.Prelude.{ℕ, ◌≡◌, ◌<◌, ◌^◌, true, List, length, Option, IfSome}
+use Rattle.std.specs.Prelude.{ℕ, ◌≡◌, ◌<◌, ◌^◌, true, List, length, IfSome}
 use Rattle.std.specs.List.{AllByRecursion}
 use Rattle.base_types.specs.DatabaseName.{is_database_name}
-use Rattle.format_event.specs.Leaf.{is_text}
+pub use Rattle.format_event.specs.TypedBytes.{IsUtf8Text}
 use Rattle.sql_types.specs.JournalRules.{ItemRules}
 use Rattle.sql_types.specs.declared.journal.JournalItem.{JournalItem}
 use Rattle.sql_types.specs.declared.version.Table.{Table}
-use Rattle.sql_types.specs.declared.version.TypedValue.{TypedValue}
 use Rattle.sql_types.specs.declared.version.Version.{Version}
 use Rattle.spec_model.specs.Journals.{serial, tx_count}
 use Rattle.spec_model.specs.Script.{Reading}
 use Rattle.spec_history.specs.Journals.{blocks}
-
--- NULL, or a value that is UTF-8 where it is a text
-abbrev pub IsUtf8Text : Option TypedValue → Type 0
-IsUtf8Text value = IfSome value (λ t. is_text t.value ≡ true)
 
 -- 8 bytes can tell the number of its start, and of its end if it has one, and its texts are UTF-8
 pub record VersionFitsFormat (v : Version) : Type 0 where

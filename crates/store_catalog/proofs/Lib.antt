@@ -4,7 +4,6 @@ pub mod Creates
 pub mod DefsKept
 pub mod Entering
 pub mod Fitting
-pub mod Leaves
 pub mod Named
 pub mod NewRows
 pub mod NotedLeaves

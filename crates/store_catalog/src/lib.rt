@@ -5,7 +5,6 @@
 mod cell;
 mod creating;
 mod definitions;
-mod events;
 mod laws;
 mod locks;
 mod named_defs;

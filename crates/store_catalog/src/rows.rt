@@ -1,19 +1,17 @@
 //! Rows that start in a table of the system.
 
-ghost use Rattle.std.specs.Prelude.{◌≡◌, ◌≤◌, ◌+◌, ◌<◌, ◌^◌, IfOk, OnOk, length, map};
+ghost use Rattle.std.specs.Prelude.{◌≡◌, ◌≤◌, ◌+◌, ◌++◌, ◌<◌, ◌^◌, IfOk, OnOk, length, map};
 ghost use Rattle.std.specs.List.{AllByRecursion};
-ghost use Rattle.format_event.specs.Leaf.{event_bytes, HasLeaf};
+ghost use Rattle.format_event.specs.Leaf.{event_bytes};
 ghost use Rattle.spec_model.specs.Changes.{changed, changed_all};
 ghost use Rattle.spec_model.specs.Runs.{MadeBefore};
-ghost use Rattle.store_catalog.specs.Rows.{starts_of, IsRow};
+ghost use Rattle.store_catalog.specs.Rows.{start_as, starts_of, IsRow};
 
-use crate::events::starts_of;
 use base_types::{Blob, Items, Memory, TableId, TxId};
-use format_event::write_event;
-use law_events::have_room;
-use sql_types::{Change, Event, EventId};
+use format_event::EventRef;
+use sql_types::{Change, EventId};
 use std::alloc::Global;
-use store_table::VersionStore;
+use store_table::{VersionStore, leaf_of};
 
 /// Starts of rows in a table, and the leaves of these events.
 #[derive(Drop)]
@@ -36,9 +34,7 @@ pub(crate) fn new_rows(
     ensures room { OnOk result (seq + length starts < 2 ^ 63) }
 {
     have_numbers(seq, starts.len())?;
-    let events = starts_of(alloc, table, tx, seq, starts.as_slice())?;
-    have_room(&events);
-    let leaves = leaves_of(alloc, &events)?;
+    let leaves = leaves_of(alloc, table, tx, seq, starts.as_slice())?;
     Ok(NewRows { starts, leaves })
 }
 
@@ -51,24 +47,48 @@ fn have_numbers(seq: u64, count: usize) -> Result<(), Memory>
     }
 }
 
-fn leaves_of(alloc: Global, events: &[Event]) -> Result<Items<Blob>, Memory>
-    requires { AllByRecursion HasLeaf events.now }
-    ensures { IfOk result (λ leaves. leaves ≡ map event_bytes events.now) }
+/// The leaves of the starts among changes of a table that are numbered from `seq` on.
+fn leaves_of(
+    alloc: Global,
+    table: TableId,
+    tx: TxId,
+    seq: u64,
+    changes: &[Change],
+) -> Result<Items<Blob>, Memory>
+    requires rows { AllByRecursion IsRow changes.now }
+    requires room { seq + length changes.now < 2 ^ 63 }
+    ensures { IfOk result (λ leaves. leaves ≡ map event_bytes (starts_of table tx seq changes.now)) }
 {
-    let mut leaves = Vec::with_capacity(alloc, events.len())?;
-    for event in events {
-        leaves.push(leaf_of(alloc, event)?)?;
+    let mut leaves = Vec::with_capacity(alloc, changes.len())?;
+    let mut number = seq;
+    for change in changes {
+        add_leaf(alloc, table, (tx, number), change, &mut leaves)?;
+        number += 1;
     }
     Ok(Items::from_vec(leaves))
 }
 
-fn leaf_of(alloc: Global, event: &Event) -> Result<Blob, Memory>
-    requires { HasLeaf event.now }
-    ensures { IfOk result (λ leaf. leaf ≡ event_bytes event.now) }
+fn add_leaf(
+    alloc: Global,
+    table: TableId,
+    id: EventId,
+    change: &Change,
+    leaves: &mut Vec<Blob>,
+) -> Result<(), Memory>
+    requires { IsRow change.now }
+    ensures { OnOk result
+        (leaves.new.items ≡ leaves.old.items ++ map event_bytes (start_as table id change.now)) }
 {
-    let mut bytes = Vec::new(alloc);
-    write_event(event, &mut bytes)?;
-    Ok(Blob::from_vec(bytes))
+    if let Change::Starts(values) = change {
+        let start = EventRef {
+            id,
+            ends: None,
+            values: values.as_slice(),
+            table,
+        };
+        leaves.push(leaf_of(alloc, &start)?)?;
+    }
+    Ok(())
 }
 
 /// Carries out the changes, one after another, as the events of the transaction that have the numbers from

@@ -1,59 +1,12 @@
 -- The leaves of changes, one after another.
-use Rattle.std.proofs.Common.{◌≡◌, ◌<◌, ◌≤◌, ◌+◌, ◌-◌, ◌^◌, ℕ, zero, suc, refl, sym, ap, ap₂, subst, ◌∙◌, List, [], ◌∷◌, ◌++◌, length, map, drop, get_or, Option, Some, None, arith}
+use Rattle.std.proofs.Common.{◌≡◌, ◌<◌, ◌≤◌, ◌+◌, ℕ, zero, suc, refl, sym, ap, ap₂, subst, ◌∙◌, List, [], ◌∷◌, ◌++◌, length, map, drop, get_or, arith}
 use Rattle.std.proofs.lemmas.List.{append_assoc, append-nil}
 use Rattle.std.specs.List.{AllByRecursion}
-use Rattle.sql_value.specs.declared.column.ColumnDef.{ColumnDef}
 use Rattle.sql_types.specs.declared.event.Event.{Event}
-use Rattle.sql_types.specs.declared.event.EventField.{EventField}
-use Rattle.sql_types.specs.declared.version.TypedValue.{TypedValue}
 use Rattle.sql_types.specs.declared.version.Version.{Version}
 use Rattle.spec_model.specs.Changes.{Change}
-use Rattle.spec_model.specs.Events.{start_event, end_event, fields_of}
-use Rattle.spec_model.specs.Limits.{max_columns}
-use Rattle.spec_model.specs.Rows.{EventId}
-use Rattle.law_journal.specs.Fits.{Fits}
-use Rattle.law_events.specs.Room.{FitsLeaf}
-use Rattle.law_events.proofs.Leaves.{leaf_of}
 use Rattle.format_event.specs.Leaf.{event_bytes}
-use Rattle.store_table.specs.Made.{event_of, events_made, new_version}
-
-fits_long : (columns : List ColumnDef) (values : List (Option TypedValue)) → Fits columns values → length values ≡ length columns
-fits_long [] [] h = refl
-fits_long [] (v ∷ vs) h = absurd h
-fits_long (c ∷ cs) [] h = absurd h
-fits_long (c ∷ cs) (v ∷ vs) h = ap suc (fits_long cs vs h.1)
-
--- ---- of values that fit at most as many columns as there may be
-
-abbrev pub FitsSome : List (Option TypedValue) → Type 0
-FitsSome values = (columns : List ColumnDef) × (length columns ≤ max_columns) × Fits columns values
-
-pub short : (values : List (Option TypedValue)) → FitsSome values → length values < 2 ^ 16 - 1
-short values h =
-    let few : length h.0 ≤ 64 = h.1 in
-    omega (arith, few, fits_long h.0 values h.2)
-
-pub start_fits : (table : ℕ) (at : EventId) (values : List (Option TypedValue)) (fields : List EventField) → FitsSome values → fields ≡ fields_of values
-    → FitsLeaf (record { table = table; op = 1; tx = at.0; seq = at.1; start = None; columns = fields })
-start_fits table at values fields h is =
-    subst (λ (fs : List EventField). FitsLeaf (record { table = table; op = 1; tx = at.0; seq = at.1; start = None; columns = fs })) (sym is)
-    (leaf_of h.0 h.1 table 1 at.0 at.1 None values (λ small. refl) h.2)
-
-pub end_fits : (table : ℕ) (at : EventId) (v : Version) (fields : List EventField) → FitsSome v.values → fields ≡ fields_of v.values
-    → FitsLeaf (record { table = table; op = 2; tx = at.0; seq = at.1; start = Some v.start; columns = fields })
-end_fits table at v fields h is =
-    subst (λ (fs : List EventField). FitsLeaf (record { table = table; op = 2; tx = at.0; seq = at.1; start = Some v.start; columns = fs })) (sym is)
-    (leaf_of h.0 h.1 table 2 at.0 at.1 (Some v.start) v.values (λ small. (refl, small)) h.2)
-
-pub start_bytes_are : (table : ℕ) (at : EventId) (values : List (Option TypedValue)) (fields : List EventField) → fields ≡ fields_of values
-    → event_bytes (record { table = table; op = 1; tx = at.0; seq = at.1; start = None; columns = fields }) ≡ event_bytes (start_event table (new_version at values))
-start_bytes_are table at values fields is = ap (λ (fs : List EventField). event_bytes (record { table = table; op = 1; tx = at.0; seq = at.1; start = None; columns = fs })) is
-
-pub end_bytes_are : (table : ℕ) (at : EventId) (v : Version) (fields : List EventField) → fields ≡ fields_of v.values
-    → event_bytes (record { table = table; op = 2; tx = at.0; seq = at.1; start = Some v.start; columns = fields }) ≡ event_bytes (end_event table v at)
-end_bytes_are table at v fields is = ap (λ (fs : List EventField). event_bytes (record { table = table; op = 2; tx = at.0; seq = at.1; start = Some v.start; columns = fs })) is
-
--- ---- one after another
+use Rattle.store_table.specs.Made.{event_of, events_made}
 
 pub at_place : {A : Type 0} (P : A → Type 0) (xs : List A) (k : ℕ) (x : A) → k < length xs → x ≡ get_or xs k x → AllByRecursion P xs → P x
 at_place P [] k x inside is h = absurd (omega (arith, inside))

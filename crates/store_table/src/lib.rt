@@ -28,6 +28,7 @@ pub use laws::{
     adding_an_index_is_a_visit, changing_is_a_visit, reading_is_a_visit, refusing_is_a_visit,
     releasing_is_a_visit, stopping_is_a_visit, undoing_is_a_visit,
 };
+pub use leaves::leaf_of;
 pub use sql_types::{EventId, TypedValue, Version};
 pub use stop::TableErr;
 pub use version_store::VersionStore;
