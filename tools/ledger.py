@@ -68,9 +68,13 @@ class Record(NamedTuple):
     size: int
     previous: bytes
 
+    def bytes(self) -> bytes:
+        """Section "Block record"."""
+        return number(self.id, 8) + self.root + number(self.size, 8) + self.previous
+
     def hash(self) -> bytes:
         """The hash of the block."""
-        return sha256(number(self.id, 8) + self.root + number(self.size, 8) + self.previous)
+        return sha256(self.bytes())
 
 
 class Entry(NamedTuple):
