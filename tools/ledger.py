@@ -343,19 +343,17 @@ def read_definition(source: Reader, least: int) -> Definition:
 def system_definitions() -> list[Definition]:
     """Section "The system's tables"."""
     whole, name, bit = Type(INT), Type(NVARCHAR, 128), Type(BIT)
-    tables = (
-        Column("table_id", whole, 0, 1), Column("change", whole, 0, 2), Column("name", name, 0, 0),
-        Column("kind", whole, 0, 0), Column("history_name", name, 1, 0), Column("view_name", name, 0, 0),
-    )
-    columns = (
-        Column("table_id", whole, 0, 1), Column("item", whole, 0, 2), Column("change", whole, 0, 3),
-        Column("name", name, 0, 0), Column("type_code", whole, 0, 0), Column("p", whole, 0, 0),
-        Column("s", whole, 0, 0), Column("nullable", bit, 0, 0), Column("key_position", whole, 0, 0),
-    )
-    return [
-        Definition(TABLES, APPEND_ONLY, "sys_ledger_tables", "", "", tables),
-        Definition(COLUMNS, APPEND_ONLY, "sys_ledger_columns", "", "", columns),
-    ]
+    tables = (("table_id", whole), ("change", whole), ("name", name), ("kind", whole), ("history_name", name),
+              ("view_name", name))
+    columns = (("table_id", whole), ("item", whole), ("change", whole), ("name", name), ("type_code", whole),
+               ("p", whole), ("s", whole), ("nullable", bit), ("key_position", whole))
+
+    def defined(id: int, table: str, parts: tuple, key: int) -> Definition:
+        places = [*range(1, key + 1), *[0] * len(parts)]
+        found = (Column(*part, part[0] == "history_name", place) for part, place in zip(parts, places))
+        return Definition(id, APPEND_ONLY, table, "", "", tuple(found))
+
+    return [defined(TABLES, "sys_ledger_tables", tables, 2), defined(COLUMNS, "sys_ledger_columns", columns, 3)]
 
 
 def read_rows(source: Reader, indexes: int) -> Rows:

@@ -299,13 +299,17 @@ def has_old_name(it: Definition, tables: dict[int, list[Values]]) -> bool:
 def index_fault(image: Image, _: list[Digest]) -> Place:
     """V8: an index has the base rows, cut down to its columns and then the key's, and sorted."""
     for definition in image.definitions:
-        rows = image.rows[definition.id]
-        for group, index in enumerate(definition.indexes):
-            places = [ordinal - 1 for ordinal in index.ordinals] + definition.key()
-            wanted = [picked(version, places) for version in rows.base]
-            if rows.indexes[group] != sorted(wanted, key=lambda row: [order(value) for value in row]):
+        for group, found in enumerate(image.rows[definition.id].indexes):
+            if found != index_rows(image, definition, group):
                 return f"table {definition.id} index {group + 1}"
     return None
+
+
+def index_rows(image: Image, definition: Definition, group: int) -> list[Values]:
+    """The rows that an index should have."""
+    places = [ordinal - 1 for ordinal in definition.indexes[group].ordinals] + definition.key()
+    rows = [picked(version, places) for version in image.rows[definition.id].base]
+    return sorted(rows, key=lambda row: [order(value) for value in row])
 
 
 def order(value: Optional[Value]) -> tuple:
