@@ -15,6 +15,7 @@ Ends with status 1 where the bytes are neither, and 2 where the words are none o
 import datetime
 import json
 import re
+import signal
 import sys
 from typing import Iterator, Optional
 
@@ -302,4 +303,5 @@ def main(words: list[str]) -> int:
 
 
 if __name__ == "__main__":
+    signal.signal(signal.SIGPIPE, signal.SIG_DFL)
     sys.exit(main(sys.argv[1:]))
