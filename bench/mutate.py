@@ -5,9 +5,9 @@
 
 Half of the images have a few of their bytes changed, and some digest files too. The other half are forged: values,
 rows, columns, entries or blocks are altered, and of what stands above the change (index rows, the system's rows, roots,
-blocks, digests) some is made anew by docs/FORMATS.md. PROGRAM is a built ledgerd; 10,000 images take some minutes. Before
-the last line stands how often each invariant was named; the last line is 'N of M agree', and the status 1 where N isn't
-M. What disagrees is kept in FOLDER.
+blocks, digests) some is made anew by docs/FORMATS.md. PROGRAM is a built ledgerd; 10,000 images take some minutes. The
+last line is 'N of M agree', behind how often each invariant was named, and the status 1 where N isn't M. What disagrees
+is kept in FOLDER.
 """
 
 import argparse
