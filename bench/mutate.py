@@ -73,7 +73,7 @@ def with_other_bytes(data: bytes, choice: random.Random) -> bytes:
     if how < 0.04:
         del found[place]
     elif how < 0.08:
-        found.insert(place, choice.randrange(256))
+        found.insert(choice.choice((place, len(found))), choice.randrange(256))
     elif how < 0.1:
         del found[place:]
     else:
