@@ -79,11 +79,14 @@ module _ (J : List JournalItem) (m : ℕ) where
 
 module _ (h : List ℕ → List ℕ) (reads : Reading) (q : Meaning) (database : Text) (J : List JournalItem) (m : ℕ) (hashes : (K : List JournalItem) (b : ℕ) → q.block_hash K b ≡ block_hash h reads K b) where
   one_held : (g : Fact) → ShowsHash q J g → HasBlock J m g → Each (IsHeld h reads database (cut J m)) (digest_shown database g)
-  one_held (digest b hash) s l = (record {
-    of = refl;
-    closed = l;
-    hash = s.1 ∙ ap (λ (K : List JournalItem). q.block_hash K b) (sym (take-append-drop m J)) ∙ q.hash_stays (take m J) (drop m J) b l ∙ hashes (take m J) b;
-  }, tt)
+  one_held (digest b hash) s l = (
+    record {
+      of = refl;
+      closed = l;
+      hash = s.1 ∙ ap (λ (K : List JournalItem). q.block_hash K b) (sym (take-append-drop m J)) ∙ q.hash_stays (take m J) (drop m J) b l ∙ hashes (take m J) b;
+    },
+    tt,
+  )
   one_held g s l = tt
 
   shown_held : (fs : List SessionFact) → Each (λ f. ShowsHash q J f.1) fs → Each (λ f. HasBlock J m f.1) fs → Each (IsHeld h reads database (cut J m)) (digests_shown database fs)
