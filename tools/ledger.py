@@ -7,8 +7,7 @@ import hashlib
 import re
 from typing import NamedTuple, Optional
 
-MAX_ID = 2**63 - 1
-MAX_TICKS = 2534023007999999999
+MAX_ID, MAX_TICKS = 2**63 - 1, 2534023007999999999
 MAX_BLOCK_ENTRIES = 100_000
 TABLES, COLUMNS, FIRST_USER_TABLE = 1, 2, 3
 APPEND_ONLY, UPDATABLE = 1, 2
@@ -18,8 +17,7 @@ class Malformed(Exception):
     """Bytes that lack the form of their section."""
 
 
-def need(condition: bool, what: str = "") -> None:
-    """Refuses bytes that lack their form."""
+def need(condition: bool, what: str) -> None:
     if not condition:
         raise Malformed(what)
 
