@@ -8,6 +8,7 @@ use crate::side::Side;
 use audit_extract::split_of;
 
 /// The half of a tree in which a place stands: its place there, of how many, and where the other half is.
+#[derive(Clone, Copy)]
 pub(crate) struct Half {
     pub place: usize,
     pub count: usize,
