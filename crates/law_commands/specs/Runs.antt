@@ -7,7 +7,7 @@ use Rattle.format_lines.specs.Line.{Statement}
 use Rattle.format_lines.specs.Sessions.{sessions_of}
 use Rattle.format_sections.specs.RunSections.{RunSections, Section}
 use Rattle.server_result.specs.declared.ran.RunOutcome.{RunOutcome as Output}
-use Rattle.law_headline.specs.Before.{InOneOrder, InOrderOfOne}
+use Rattle.law_headline.specs.Before.{InOneOrder, InOrderOfLines}
 use Rattle.law_headline.specs.Headline.{Headline, Saved}
 
 abbrev pub saved_of : List Transcript → Output → Saved
@@ -28,9 +28,9 @@ input_of all_sections =
 abbrev pub LinesKeepHeadline : (List ℕ → List ℕ) → ℕ → List Statement → List Transcript → Output → Type 0
 LinesKeepHeadline h size statements X o =
     Headline h (sessions_in (lines_of statements) (sessions_of statements)) None
-    (InOneOrder size (lines_of statements) X o.journal.items) (saved_of X o)
+    (InOrderOfLines size (lines_of statements) X o.journal.items) (saved_of X o)
 
 -- and so every image that `run` saved
 abbrev pub SectionsKeepHeadline : (List ℕ → List ℕ) → RunSections → List Transcript → Output → Type 0
 SectionsKeepHeadline h all_sections X o =
-    Headline h (input_of all_sections) (Some 0) (InOrderOfOne X) (saved_of X o)
+    Headline h (input_of all_sections) (Some 0) (InOneOrder X o.journal.items) (saved_of X o)

@@ -65,8 +65,8 @@ pub record Saved : Type 0 where
 -- Every saved image is that of its committed transactions run by one thread in ledger order with the replies
 -- given, and `verify` says Yes of it with every digest issued before; and whatever `verify` says Yes of with
 -- those digests has the same covered transactions and row versions, or two different strings of bytes have one
--- hash. The input has these sessions, one of which may be a setup, and of these facts it is known that they
--- came in this order.
+-- hash. The input has these sessions, one of which may be a setup; the order is that in which the facts of all
+-- transcripts were shown.
 pub record Headline (h : List ℕ → List ℕ) (input : List InputSession) (setup : Option ℕ)
     (InOrder : Meaning → List Fact → Type 0) (s : Saved) : Type 0 where
   -- the journal has the transactions that the transcripts show as committed, with the replies given
@@ -78,7 +78,9 @@ pub record Headline (h : List ℕ → List ℕ) (input : List InputSession) (set
   pub every_image : Each (IsSaved h s.J s.G) (s.images ++ last_image h s.J ∷ [])
   -- that of the whole journal by all digests at once
   pub all_digests : IsBoundBy h (image_of h statement_of s.J.database s.J.items) (map held s.G)
-  -- and the digests of an image's blocks are all that came before the image
+  -- All that was shown came in some order; and of the digests that were issued, each that came before an image in
+  -- it is one of a block of the image.
+  pub in_order : (q : Meaning) → IsMeaning h statement_of q → (facts : List Fact) × InOrder q facts
   pub issued_before : (q : Meaning) → IsMeaning h statement_of q → (facts : List Fact) → InOrder q facts
       → (d : Digest) → In d s.G → (items : ℕ) → ComesBefore d.block items facts
       → d.block < blocks (cut s.J.items items)

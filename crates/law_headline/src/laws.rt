@@ -21,7 +21,7 @@ ghost use Rattle.law_kept_images.specs.SessionOutput.{RunAgrees};
 ghost use Rattle.law_concurrent.specs.CameTo.{CameTo, RunResult};
 ghost use Rattle.server_result.specs.Images.{AreKept};
 ghost use Rattle.server_result.specs.Moments.{IsMoment, said_with};
-ghost use Rattle.law_headline.specs.Before.{InOneOrder, InOrderOfOne};
+ghost use Rattle.law_headline.specs.Before.{InOneOrder, InOrderOfLines};
 ghost use Rattle.law_headline.specs.Headline.{Headline, IsBoundBy, image_at};
 
 use base_io::Clock;
@@ -69,13 +69,13 @@ pub fn saved_images_are_serial_and_tamper_evident<C: Clock>()
         → RunAgrees h statement_of J.database size names lines X kept J.items G
         → IsLegalJournal statement_of J → FitsImageFormat h statement_of J.database J.items
         → AreKept kept images
-        → Headline h (sessions_in lines names) None (InOneOrder size lines X J.items)
+        → Headline h (sessions_in lines names) None (InOrderOfLines size lines X J.items)
         (record { X = X; images = images; J = J; G = G }) }
     ensures side_by_side { (h : List ℕ → List ℕ) (database : Text) (size : ℕ) (given : Option ℕ) (clock : C)
         (input : List InputSession) (left : RunResult) (images : List KeptImage)
         → CameTo h database size (IsMoment (said_with given (C.says clock))) input left
         → FitsImageFormat h statement_of left.J.database left.J.items → AreKept left.kept images
-        → Headline h input (Some 0) (InOrderOfOne left.X)
+        → Headline h input (Some 0) (InOneOrder left.X left.J.items)
         (record { X = left.X; images = images; J = left.J; G = left.G }) }
 {
     accepted_images_are_bound();

@@ -1,17 +1,19 @@
-use Rattle.std.specs.Prelude.{ℕ, ◌<◌, List, length, Some}
-use Rattle.std.proofs.Common.{subst, sym, arith}
+use Rattle.std.specs.Prelude.{ℕ, ◌<◌, List, length, None, Some}
+use Rattle.std.proofs.Common.{refl, subst, sym, arith}
 use Rattle.std.proofs.lemmas.List.{take_all}
 use Rattle.sql_types.specs.declared.journal.JournalItem.{JournalItem}
 use Rattle.spec_history.specs.Agree.{Agree}
 use Rattle.spec_history.specs.Journals.{blocks}
 use Rattle.spec_history.specs.Lists.{Text, Each}
 use Rattle.spec_history.specs.Meaning.{Meaning}
+use Rattle.spec_history.specs.StepOrder.{rows_facts}
+use Rattle.law_order.specs.OneOrder.{facts_in_order}
 use Rattle.spec_syntax.specs.Text.{statement_of}
 use Rattle.law_kept_images.specs.Accepted.{IsAccepted, IsOfCut}
 use Rattle.law_kept_images.specs.SessionOutput.{IsImageOf, IsMeaning}
 use Rattle.law_kept_images.specs.LastImage.{last_image}
 use Rattle.law_kept_images.proofs.Accepts.{all_closed, each_in}
-use Rattle.law_headline.proofs.Before.{closed_in_one_order, closed_in_order_of_one}
+use Rattle.law_headline.proofs.Before.{closed_in_one_order, closed_in_order_of_lines}
 use Rattle.law_headline.proofs.Saved.{all_saved, whole_bound}
 use Rattle.law_headline.proofs.laws.saved_images_are_serial_and_tamper_evident.Goals as goal
 
@@ -30,9 +32,10 @@ returns g c =
             (accepted.room h J.database size names lines X kept J.items G run legal room)
             (accepted.whole h J.database size names lines X kept J.items G run legal room);
         all_digests = whole_bound bound encodable written h J G legal room (accepted.all h J.database size names lines X kept J.items G run legal room);
+        in_order = λ q real. let o = run.in_order q real in (rows_facts q (λ s. None) o.rows, record { rows = o.rows; order = o.order; are = refl });
         issued_before = λ q real facts order d is items comes.
             let closed = each_in (IsOfCut J.items (length J.items) G) G d (all_closed h J.database size names lines X kept J.items G run) is in
-            closed_in_one_order c.digests_before_an_image_are_closed_in_it.ensures q size lines X J.items (run.agree q real).journal_is_theirs.legal
+            closed_in_order_of_lines c.digests_before_an_image_are_closed_in_it.ensures q size lines X J.items (run.agree q real).journal_is_theirs.legal
                 facts order d.block items comes
                 (subst (λ (K : List JournalItem). d.block < blocks K) (take_all (length J.items) J.items (omega arith)) closed.1);
       };
@@ -50,7 +53,8 @@ returns g c =
                 (subst (λ (D : Text). Each (λ ks. Each (IsAccepted h D J.items G) ks) left.kept) named came.accepted)
                 (subst (λ (D : Text). IsAccepted h D J.items G (last_image h J)) named came.last_accepted);
             all_digests = whole_bound bound encodable written h J G came.legal room came.all_accepted;
+            in_order = λ q real. let o = came.in_order q real in (facts_in_order o.order, record { order = o.order; is = o.is; are = refl });
             issued_before = λ q real facts order d is items comes.
-                closed_in_order_of_one J.items q left.X (came.agree q real).marks_never_fall facts order d.block items comes;
+                closed_in_one_order J.items q left.X facts order d.block items comes;
           };
     }
