@@ -1,0 +1,110 @@
+//! The way from a leaf up to the root.
+
+ghost use Rattle.std.specs.Prelude.{◌≡◌, ◌<◌, ◌^◌, [], ◌∷◌, ◌++◌, length, IfOk};
+ghost use Rattle.std.specs.Option.{MatchOption, option_map};
+ghost use Rattle.audit_paths.specs.Path.{audit_path, node_of, root_over, root_under};
+
+use crate::nodes::{leaf_hash, node_hash};
+use crate::side::Side;
+use audit_extract::{split_of, tree_halves, tree_root};
+use base_merkle::Hash32;
+use base_types::{Blob, Items, Memory};
+use std::alloc::Global;
+
+/// The audit path of a place, counted from 0, in some leaves (RFC 6962, section 2.1.1): from the leaf up, the
+/// tree hash of the other half at each split.
+pub fn audit_path<H: Hash32>(
+    alloc: Global,
+    h: H,
+    place: usize,
+    leaves: &[Blob],
+) -> Result<Items<[u8; 32]>, Memory>
+    requires { length leaves.now < 2 ^ 63 }
+    ensures { IfOk result (λ path. path ≡ audit_path (H.digest h) place leaves.now) }
+{
+    if leaves.len() < 2 {
+        return Ok(Items::new(alloc));
+    }
+    let (front, back) = tree_halves(leaves);
+    if place < front.len() {
+        let mut path = audit_path(alloc, h, place, front)?;
+        path.push(tree_root(h, back))?;
+        Ok(path)
+    } else {
+        let mut path = audit_path(alloc, h, place - front.len(), back)?;
+        path.push(tree_root(h, front))?;
+        Ok(path)
+    }
+}
+
+/// The root that a path gives for a leaf at a place of so many, or None where the path has another length than
+/// such a tree gives there. It takes no memory.
+///
+/// RFC 9162, section 2.1.3.2, checks the same by the bits of the place and of the last place, from the leaf up;
+/// here the tree is parted from the root down, as both documents define the path. Both take the same hashes in
+/// the same order and refuse a path that is too short or too long.
+pub fn root_under<H: Hash32>(
+    h: H,
+    path: &[[u8; 32]],
+    place: usize,
+    count: usize,
+    leaf: &[u8],
+) -> Option<[u8; 32]>
+    requires { count < 2 ^ 63 }
+    ensures { result ≡ root_under (H.digest h) path.now place count leaf.now }
+{
+    match parted(path) {
+        None => {
+            if count < 2 {
+                Some(leaf_hash(h, leaf))
+            } else {
+                None
+            }
+        }
+        Some((before, last)) => {
+            if count < 2 {
+                return None;
+            }
+            let front = split_of(count);
+            if place < front {
+                let half = root_under(h, before, place, front, leaf);
+                above(h, half, Side::Right, last)
+            } else {
+                let half = root_under(h, before, place - front, count - front, leaf);
+                above(h, half, Side::Left, last)
+            }
+        }
+    }
+}
+
+// All hashes but the last, and the last, if there is one.
+fn parted(path: &[[u8; 32]]) -> Option<(&[[u8; 32]], &[u8; 32])>
+    ensures { MatchOption result (path.now ≡ []) (λ p. path.now ≡ p.0.now ++ p.1.now ∷ []) }
+{
+    if path.is_empty() {
+        return None;
+    }
+    let (before, end) = path.split_at(path.len() - 1);
+    Some((before, &end[0]))
+}
+
+// The hash of the node that has this half, if there is one, and on this side another.
+fn above<H: Hash32>(h: H, half: Option<[u8; 32]>, side: Side, other: &[u8; 32]) -> Option<[u8; 32]>
+    ensures { result ≡ option_map (λ r. H.digest h (node_of (side, other.now) r)) half }
+{
+    match half {
+        Some(hash) => Some(node_hash(h, &hash, side, other)),
+        None => None,
+    }
+}
+
+/// The root that some steps give for a leaf.
+pub fn root_over<H: Hash32>(h: H, leaf: &[u8], steps: &[(Side, [u8; 32])]) -> [u8; 32]
+    ensures { result ≡ root_over (H.digest h) leaf.now steps.now }
+{
+    let mut hash = leaf_hash(h, leaf);
+    for step in steps {
+        hash = node_hash(h, &hash, step.0, &step.1);
+    }
+    hash
+}

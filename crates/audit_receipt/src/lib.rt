@@ -1,0 +1,16 @@
+//! Receipts: one transaction shown under a digest without the image, checked and made, and two of one place
+//! settled.
+#![tactic(auto)]
+
+mod check;
+mod make;
+mod receipt_err;
+mod settle;
+mod settled;
+
+pub use check::check_receipt;
+pub use format_receipt::Receipt;
+pub use make::make_receipt;
+pub use receipt_err::ReceiptErr;
+pub use settle::settle;
+pub use settled::Settled;
