@@ -42,11 +42,14 @@ LacksReceiptForm status.Receipt bytes = SpellsNone bytes
 LacksReceiptForm status.Memory bytes = Unit {0}
 LacksReceiptForm _ bytes = ⊥
 
--- the block of the last of these records
+-- the block of the last of these records, or this one where there is none
+abbrev pub last_block_from : ℕ → List BlockRecord → ℕ
+last_block_from block [] = block
+last_block_from block (r ∷ rs) = last_block_from r.id rs
+
+-- the block of the last of some records; a receipt has one at least
 abbrev pub last_block : List BlockRecord → ℕ
-last_block [] = 0
-last_block (r ∷ []) = r.id
-last_block (r ∷ s ∷ ss) = last_block (s ∷ ss)
+last_block records = last_block_from 0 records
 
 -- the first digest of this block
 abbrev pub first_of_block : ℕ → List HeldDigest → Option HeldDigest

@@ -23,7 +23,7 @@ use Rattle.cli_commands.specs.Answer.{HasPut, HasWritten}
 use Rattle.cli_commands.specs.Evidence.{StandUnder}
 use Rattle.cli_commands.specs.Files.{TellsHeld}
 use Rattle.cli_commands.specs.Names.{image_limit}
-use Rattle.cli_commands.specs.Verify.{AreRefused, IsJudged, LacksVerdict, HasSaid}
+use Rattle.cli_commands.specs.Verify.{AreRefused, IsJudged, IsVerdictOn, LacksVerdict, HasSaid}
 
 -- ---- what is shown
 
@@ -66,7 +66,7 @@ pub record LacksEntry (h : List ℕ → List ℕ) (tx : ℕ) (bytes file : List 
 -- the verdict, which isn't Yes, or the receipt
 abbrev pub IsShownOn : (List ℕ → List ℕ) → ℕ → List ℕ → List ℕ → Shown → Type 0
 IsShownOn h tx bytes file (Refused verdict) =
-    (verdict ≡ Yes → ⊥) × ((held : List HeldDigest) × IsRead file (Ok held) × (verdict ≡ verdict_of h held bytes))
+    (verdict ≡ Yes → ⊥) × IsVerdictOn h bytes file verdict
 IsShownOn h tx bytes file (Made r) = IsReceiptOn h tx bytes file r
 
 -- why neither is found
