@@ -2,6 +2,7 @@
 use Rattle.std.specs.Prelude.{⊤}
 use Rattle.std.proofs.Common.{◌≡◌, ◌≤◌, ◌<◌, ◌∙◌, ℕ, List, [], ◌∷◌, length, Bool, true, cond, bytes_eq, Option, Some, None, Result, Ok, Err, ◌⊎◌, refl, sym, ap, subst, inl, inr, arith}
 use Rattle.std.specs.List.{slice_get}
+use Rattle.std.proofs.lemmas.List.Elements.{All-nil}
 use Rattle.std.proofs.lemmas.Slice.Eq.{bytes_eq-Decides}
 use Rattle.base_io.specs.declared.failed.Failed.{Failed}
 use Rattle.base_io.specs.History.{Since}
@@ -25,16 +26,16 @@ use Rattle.cli_commands.specs.declared.receipt.Shown.TheVariants as shown
 use Rattle.cli_commands.specs.declared.status.Status.{Status}
 use Rattle.cli_commands.specs.declared.status.Status.TheVariants.{Done, No, Words, Limit, SourceFault, SinkFault, VaultFault, Missing, Digests, Journal, Form, Memory, NoEntry, Receipt}
 use Rattle.cli_commands.specs.Answer.{HasPut, HasWritten, EndsBy, Unfailed}
-use Rattle.cli_commands.specs.Calls.{AreGets, ArePuts, AreGetsAndPuts, AreWrites, Behind, Gave}
+use Rattle.cli_commands.specs.Calls.{KeptFile, AreGets, ArePuts, AreGetsAndPuts, AreWrites, Behind, Gave}
 use Rattle.cli_commands.specs.Files.{TellsLeft, TellsHeld, FirstArePut, put_held}
 use Rattle.cli_commands.specs.Names.{image_limit}
 use Rattle.cli_commands.specs.Evidence.{StandUnder}
 use Rattle.cli_commands.specs.Receipt.{IsReceiptUnder, HasNoneUnder, IsShown, IsShownOn, LacksReceipt, HasReceipt, ReceiptCause, receipt_name, receipt_file, receipt_text, Receipted, EndsRefusing, SaysNo, ReceiptedOrIdle, PutsReceipt}
-use Rattle.cli_commands.specs.Verify.{IsJudged}
+use Rattle.cli_commands.specs.Verify.{HasSaid, IsJudged}
 use Rattle.cli_commands.proofs.CallLemmas.{since_none, since_weaker}
 use Rattle.cli_commands.proofs.GetLemmas.{Answers}
 use Rattle.cli_commands.proofs.HeldLemmas.{last_fits}
-use Rattle.cli_commands.proofs.ReplayLemmas.{by_end}
+use Rattle.cli_commands.proofs.ReplayLemmas.{by_end, gets_then}
 
 -- ---- what an image gives
 
@@ -126,20 +127,76 @@ module _ (status : Status) (vault sink : Type 0) (ends : EndsBy status vault sin
   pub made_by : (receipted said idle : Type 0) → receipted → ReceiptedOrIdle status receipted said idle
   made_by receipted said idle r = by_end (λ s. ReceiptedOrIdle s receipted said idle) vault sink r (λ fault. inl r) (λ fault. inl r) (inl r) status ends
 
--- a verdict that isn't Yes
+-- ---- the file stands
+
+one_tells : (file : File) (old new : Option Names) → TellsLeft (put_held file ∷ []) old new → TellsHeld old new file.name file.bytes
+one_tells file None new told = tt
+one_tells file (Some old) None told = absurd told
+one_tells file (Some old) (Some new) told =
+    let same : bytes_eq file.name file.name ≡ true = (bytes_eq-Decides file.name file.name).1 refl in
+    told file.name ∙ ap (λ x. cond x (Bytes file.bytes) (old file.name)) same
+
+module _ (h : List ℕ → List ℕ) (image digests : List ℕ) (tx : ℕ) (save : List ℕ) (before old new : Option Names) (has : HasReceipt h image digests tx before) where
+  pub receipted_is : (status : Status) (taken now : Option (List ℕ)) → old ≡ before → HasPut status (receipt_file save has.r ∷ []) old new
+      → HasWritten status (receipt_text has.r) taken now → Receipted status h image digests tx save before new taken now
+  receipted_is status taken now same put written = record {
+    has = has;
+    put = subst (λ (o : Option Names). HasPut status (receipt_file save has.r ∷ []) o new) same put;
+    written = written;
+  }
+
+  pub puts_receipt : (status : Status) → status ≡ Done → old ≡ before → HasPut status (receipt_file save has.r ∷ []) old new → PutsReceipt h image digests tx save before new
+  puts_receipt status done same put =
+      let all : FirstArePut (receipt_file save has.r ∷ []) 1 old new = subst (λ (s : Status). HasPut s (receipt_file save has.r ∷ []) old new) done put in record {
+        has = has;
+        put = subst (λ (o : Option Names). TellsHeld o new (receipt_name save) (receipt_bytes has.r)) same (one_tells (receipt_file save has.r) old new all);
+      }
+
+-- ---- a verdict that isn't Yes
+
 module _ (verdict : Verdict) (sink : Type 0) (taken now : Option (List ℕ)) (same : Type 0) where
-  pub by_refusing : (P : Status → Type 0) → P No → (sink → P SinkFault) → P Memory → (status : Status) → EndsRefusing status verdict sink taken now same → P status
-  by_refusing P no_ faulty short No ends = no_
-  by_refusing P no_ faulty short SinkFault ends = faulty ends.0
-  by_refusing P no_ faulty short Memory ends = short
-  by_refusing P no_ faulty short Done ends = absurd ends
-  by_refusing P no_ faulty short Words ends = absurd ends
-  by_refusing P no_ faulty short Limit ends = absurd ends
-  by_refusing P no_ faulty short SourceFault ends = absurd ends
-  by_refusing P no_ faulty short VaultFault ends = absurd ends
-  by_refusing P no_ faulty short (Missing which) ends = absurd ends
-  by_refusing P no_ faulty short (Digests index) ends = absurd ends
-  by_refusing P no_ faulty short (Journal at) ends = absurd ends
-  by_refusing P no_ faulty short (Form line) ends = absurd ends
-  by_refusing P no_ faulty short NoEntry ends = absurd ends
-  by_refusing P no_ faulty short Receipt ends = absurd ends
+  by_refusing : (P : Status → Type 0) → (HasSaid No verdict taken now → P No) → (sink → HasSaid SinkFault verdict taken now → P SinkFault) → (same → P Memory)
+      → (status : Status) → EndsRefusing status verdict sink taken now same → P status
+  by_refusing P said faulty short No ends = said ends
+  by_refusing P said faulty short SinkFault ends = faulty ends.0 ends.1
+  by_refusing P said faulty short Memory ends = short ends
+  by_refusing P said faulty short Done ends = absurd ends
+  by_refusing P said faulty short Words ends = absurd ends
+  by_refusing P said faulty short Limit ends = absurd ends
+  by_refusing P said faulty short SourceFault ends = absurd ends
+  by_refusing P said faulty short VaultFault ends = absurd ends
+  by_refusing P said faulty short (Missing which) ends = absurd ends
+  by_refusing P said faulty short (Digests index) ends = absurd ends
+  by_refusing P said faulty short (Journal at) ends = absurd ends
+  by_refusing P said faulty short (Form line) ends = absurd ends
+  by_refusing P said faulty short NoEntry ends = absurd ends
+  by_refusing P said faulty short Receipt ends = absurd ends
+
+  module _ (status : Status) (ends : EndsRefusing status verdict sink taken now same) where
+    module _ (h : List ℕ → List ℕ) (image digests : List ℕ) (names : Option Names) (other : verdict ≡ Yes → ⊥) (judged : IsJudged h image digests names verdict) where
+      pub cause_refusing : (tx : ℕ) (vault : Type 0) → ReceiptCause status h image digests tx names vault sink
+      cause_refusing tx vault =
+          by_refusing (λ s. ReceiptCause s h image digests tx names vault sink) (λ said. (verdict, other, judged)) (λ fault said. fault) (λ is. tt) status ends
+
+      pub said_refusing : (receipted : Type 0) (new : Option Names) → new ≡ names
+          → ReceiptedOrIdle status receipted (SaysNo status h image digests names new taken now) ((new ≡ names) × same)
+      said_refusing receipted new unput =
+          by_refusing (λ s. ReceiptedOrIdle s receipted (SaysNo s h image digests names new taken now) ((new ≡ names) × same))
+          (λ said. record { verdict = verdict; not_accepted = other; judged = judged; said = said; same = unput })
+          (λ fault said. inr (record { verdict = verdict; not_accepted = other; judged = judged; said = said; same = unput }))
+          (λ is. inr (unput, is)) status ends
+
+    pub not_done_refusing : (P : Type 0) → status ≡ Done → P
+    not_done_refusing P = by_refusing (λ s. s ≡ Done → P) (λ said is. absurd cc) (λ fault said is. absurd cc) (λ is also. absurd cc) status ends
+
+    pub unwritten_refusing : (status ≡ Done → ⊥) → (status ≡ No → ⊥) → (status ≡ SinkFault → ⊥) → same
+    unwritten_refusing =
+        by_refusing (λ s. (s ≡ Done → ⊥) → (s ≡ No → ⊥) → (s ≡ SinkFault → ⊥) → same)
+        (λ said a b c. absurd (b refl)) (λ fault said a b c. absurd (c refl)) (λ is a b c. is) status ends
+
+    pub calls_refusing : (old mid : Answers → Type 0) → Since old mid (Gave 2) → Since old mid (AreGetsAndPuts 2 status)
+    calls_refusing old mid gave =
+        by_refusing (λ s. Since old mid (AreGetsAndPuts 2 s)) (λ said. gave)
+        (λ fault said. gets_then old mid mid 2 (ArePuts SinkFault) gave (since_none mid (ArePuts SinkFault) (All-nil KeptFile)))
+        (λ is. since_weaker old mid (Gave 2) (AreGetsAndPuts 2 Memory) (λ answers all. inl (inl all.0, omega (arith, all.1))) gave)
+        status ends

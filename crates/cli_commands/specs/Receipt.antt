@@ -135,7 +135,7 @@ EndsRefusing _ verdict sink old new idle = ⊥
 pub record SaysNo (ended : Status) (h : List ℕ → List ℕ) (image digests : List ℕ)
     (names_old names_new : Option Names) (taken_old taken_new : Option (List ℕ)) : Type 0 where
   pub verdict : Verdict
-  pub no : verdict ≡ Yes → ⊥
+  pub not_accepted : verdict ≡ Yes → ⊥
   pub judged : IsJudged h image digests names_old verdict
   pub said : HasSaid ended verdict taken_old taken_new
   pub same : names_new ≡ names_old
