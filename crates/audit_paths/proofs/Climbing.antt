@@ -15,7 +15,7 @@ behind_first a b x y e = cc
 
 module _ (h : List ℕ → List ℕ) (sized : (bytes : List ℕ) → length (h bytes) ≡ 32) where
   -- nodes of the same bytes have the same halves
-  halves_of : (s : Side) (p q a b : List ℕ) → length p ≡ length q → length a ≡ length b → node_of (s, p) a ≡ node_of (s, q) b → (a ≡ b) × (p ≡ q)
+  pub halves_of : (s : Side) (p q a b : List ℕ) → length p ≡ length q → length a ≡ length b → node_of (s, p) a ≡ node_of (s, q) b → (a ≡ b) × (p ≡ q)
   halves_of other.Right p q a b lp la e = fronts a b p q la (behind_first 1 1 (a ++ p) (b ++ q) e)
   halves_of other.Left p q a b lp la e = let r = fronts p q a b lp (behind_first 1 1 (p ++ a) (q ++ b) e) in (r.1, r.0)
 

@@ -86,13 +86,13 @@ sides_few m zero few = refl
 sides_few m (suc zero) few = refl
 sides_few m (suc (suc n)) few = absurd (omega (arith, few))
 
-sides_front : (h : List ℕ → List ℕ) (m n : ℕ) → 2 ≤ n → m < split_of n → sides_of m n ≡ sides_of m (split_of n) ++ other.Right ∷ []
+pub sides_front : (h : List ℕ → List ℕ) (m n : ℕ) → 2 ≤ n → m < split_of n → sides_of m n ≡ sides_of m (split_of n) ++ other.Right ∷ []
 sides_front h m zero more lt = absurd (omega (arith, more))
 sides_front h m (suc n) more lt =
     let s = split_is (suc n) more in
     sides_left h n m (suc n) more lt ∙ ap (λ (l : List Side). l ++ other.Right ∷ []) (sides_depth n (split_of (suc n)) m (split_of (suc n)) (omega (arith, s.below)) (omega arith))
 
-sides_back : (h : List ℕ → List ℕ) (m n : ℕ) → 2 ≤ n → split_of n ≤ m → sides_of m n ≡ sides_of (m - split_of n) (n - split_of n) ++ other.Left ∷ []
+pub sides_back : (h : List ℕ → List ℕ) (m n : ℕ) → 2 ≤ n → split_of n ≤ m → sides_of m n ≡ sides_of (m - split_of n) (n - split_of n) ++ other.Left ∷ []
 sides_back h m zero more le = absurd (omega (arith, more))
 sides_back h m (suc n) more le =
     let s = split_is (suc n) more in
@@ -136,16 +136,11 @@ under_few_none h ps p m n leaf few =
     let no : eqb (length (ps ++ p ∷ [])) 0 ≡ false = ne_eqb (length (ps ++ p ∷ [])) 0 (λ e. absurd (omega (arith, e, l))) in
     ap (λ (sides : List Side). under_by h leaf sides (ps ++ p ∷ [])) (sides_few m n few) ∙ rw no refl
 
-pub under_front : (h : List ℕ → List ℕ) (ps : List (List ℕ)) (p : List ℕ) (m n : ℕ) (leaf : List ℕ) → 2 ≤ n → m < split_of n
-    → root_under h (ps ++ p ∷ []) m n leaf ≡ option_map (λ r. h (1 ∷ r ++ p)) (root_under h ps m (split_of n) leaf)
+-- one step more, to the half in which the place stands
+pub under_step : (h : List ℕ → List ℕ) (ps : List (List ℕ)) (p : List ℕ) (s : Side) (m n j k : ℕ) (leaf : List ℕ) → sides_of m n ≡ sides_of j k ++ s ∷ []
+    → root_under h (ps ++ p ∷ []) m n leaf ≡ option_map (λ r. h (node_of (s, p) r)) (root_under h ps j k leaf)
 unfolding root_under
-under_front h ps p m n leaf more lt = ap (λ (sides : List Side). under_by h leaf sides (ps ++ p ∷ [])) (sides_front h m n more lt) ∙ one_step h leaf (sides_of m (split_of n)) other.Right ps p
-
-pub under_back : (h : List ℕ → List ℕ) (ps : List (List ℕ)) (p : List ℕ) (m n : ℕ) (leaf : List ℕ) → 2 ≤ n → split_of n ≤ m
-    → root_under h (ps ++ p ∷ []) m n leaf ≡ option_map (λ r. h (1 ∷ p ++ r)) (root_under h ps (m - split_of n) (n - split_of n) leaf)
-unfolding root_under
-under_back h ps p m n leaf more le =
-    ap (λ (sides : List Side). under_by h leaf sides (ps ++ p ∷ [])) (sides_back h m n more le) ∙ one_step h leaf (sides_of (m - split_of n) (n - split_of n)) other.Left ps p
+under_step h ps p s m n j k leaf e = ap (λ (sides : List Side). under_by h leaf sides (ps ++ p ∷ [])) e ∙ one_step h leaf (sides_of j k) s ps p
 
 pub under_none : (h : List ℕ → List ℕ) (m n : ℕ) (leaf : List ℕ) → 2 ≤ n → root_under h [] m n leaf ≡ None
 unfolding root_under
@@ -161,47 +156,56 @@ under_none h m n leaf more = by (nat_lt m (split_of n)) refl
     by true t = ap (λ (sides : List Side). under_by h leaf sides []) (sides_front h m n more (ltb-true m (split_of n) t)) ∙ none_with (sides_of m (split_of n)) other.Right
     by false t = ap (λ (sides : List Side). under_by h leaf sides []) (sides_back h m n more (ltb-false m (split_of n) t)) ∙ none_with (sides_of (m - split_of n) (n - split_of n)) other.Left
 
--- ---- how many leaves halves have
-
-pub halves_count : (all front back : List (List ℕ)) → 2 ≤ length all → front ≡ take (split_of (length all)) all → back ≡ drop (split_of (length all)) all
-    → (length front ≡ split_of (length all)) × ((length front < length all) × (length back < length all))
-halves_count all front back more is_front is_back =
-    let s = split_is (length all) more in
-    let l = length-take (split_of (length all)) all in
-    let f = front_length all more in
-    let b = back_length all more in
-    let f_is = ap length is_front in
-    let b_is = ap length is_back in
-    (omega (arith, l, f_is, s.below), (omega (arith, f, f_is), omega (arith, b, b_is)))
+-- a leaf alone leads to its hash
+pub under_leaf : (h : List ℕ → List ℕ) (path : List (List ℕ)) (m n : ℕ) (leaf root : List ℕ) → n < 2 → root_under h path m n leaf ≡ Some root → h (0 ∷ leaf) ≡ root
+unfolding root_under
+under_leaf h path m n leaf root few e =
+    some_if (eqb (length path) 0) (h (0 ∷ leaf)) root (ap (λ (sides : List Side). under_by h leaf sides path) (sym (sides_few m n few)) ∙ e)
+  where
+    some_if : (b : Bool) (x y : List ℕ) → (if b then Some x else None) ≡ Some y → x ≡ y
+    some_if true x y same = cc
+    some_if false x y same = cc
 
 -- ---- for the code
 
+front_count : (all front : List (List ℕ)) → 2 ≤ length all → front ≡ take (split_of (length all)) all → length front ≡ split_of (length all)
+front_count all front more is_front =
+    let s = split_is (length all) more in
+    let l = length-take (split_of (length all)) all in
+    let f = ap length is_front in
+    omega (arith, l, f, s.below)
+
+pub front_shorter : (all front : List (List ℕ)) → 2 ≤ length all → front ≡ take (split_of (length all)) all → length front < length all
+front_shorter all front more is_front = rw is_front (front_length all more)
+
+pub back_shorter : (all back : List (List ℕ)) → 2 ≤ length all → back ≡ drop (split_of (length all)) all → length back < length all
+back_shorter all back more is_back = rw is_back (back_length all more)
+
+pub split_below : (n k : ℕ) → 2 ≤ n → k ≡ split_of n → (1 ≤ k) × (k < n)
+split_below n k more is =
+    let s = split_is n more in
+    let some : 1 ≤ 2 ^ s.height = one-le-pow s.height 2 (lit< tt) in
+    (omega (arith, s.power, some, is), omega (arith, s.below, is))
+
 pub made_front : (h : List ℕ → List ℕ) (all front back path made : List (List ℕ)) (root : List ℕ) (m : ℕ) → 2 ≤ length all → front ≡ take (split_of (length all)) all → back ≡ drop (split_of (length all)) all
-    → length front ≡ split_of (length all) → m < length front → path ≡ audit_path h m front → root ≡ tree_hash h back → made ≡ path ++ root ∷ [] → made ≡ audit_path h m all
-made_front h all front back path made root m more is_front is_back count lt is_path is_root is_made =
+    → m < length front → path ≡ audit_path h m front → root ≡ tree_hash h back → made ≡ path ++ root ∷ [] → made ≡ audit_path h m all
+made_front h all front back path made root m more is_front is_back lt is_path is_root is_made =
+    let count = front_count all front more is_front in
     is_made
     ∙ ap (λ (p : List (List ℕ)). p ++ root ∷ []) (is_path ∙ ap (audit_path h m) is_front)
     ∙ ap (λ (r : List ℕ). audit_path h m (take (split_of (length all)) all) ++ r ∷ []) (is_root ∙ ap (tree_hash h) is_back)
     ∙ sym (path_front h m all more (omega (arith, count, lt)))
 
 pub made_back : (h : List ℕ → List ℕ) (all front back path made : List (List ℕ)) (root : List ℕ) (m : ℕ) → 2 ≤ length all → front ≡ take (split_of (length all)) all → back ≡ drop (split_of (length all)) all
-    → length front ≡ split_of (length all) → length front ≤ m → path ≡ audit_path h (m - length front) back → root ≡ tree_hash h front → made ≡ path ++ root ∷ [] → made ≡ audit_path h m all
-made_back h all front back path made root m more is_front is_back count le is_path is_root is_made =
+    → length front ≤ m → path ≡ audit_path h (m - length front) back → root ≡ tree_hash h front → made ≡ path ++ root ∷ [] → made ≡ audit_path h m all
+made_back h all front back path made root m more is_front is_back le is_path is_root is_made =
+    let count = front_count all front more is_front in
     is_made
     ∙ ap (λ (p : List (List ℕ)). p ++ root ∷ []) (is_path ∙ ap (λ (n : ℕ). audit_path h (m - n) back) count ∙ ap (audit_path h (m - split_of (length all))) is_back)
     ∙ ap (λ (r : List ℕ). audit_path h (m - split_of (length all)) (drop (split_of (length all)) all) ++ r ∷ []) (is_root ∙ ap (tree_hash h) is_front)
     ∙ sym (path_back h m all more (omega (arith, count, le)))
 
-pub climbs_front : (h : List ℕ → List ℕ) (path before : List (List ℕ)) (last : List ℕ) (m n k : ℕ) (leaf : List ℕ) (half : Option (List ℕ)) → path ≡ before ++ last ∷ [] → 2 ≤ n → k ≡ split_of n → m < k
-    → half ≡ root_under h before m k leaf → option_map (λ r. h (1 ∷ r ++ last)) half ≡ root_under h path m n leaf
-climbs_front h path before last m n k leaf half is more is_k lt is_half =
-    ap (option_map (λ r. h (1 ∷ r ++ last))) (is_half ∙ ap (λ (j : ℕ). root_under h before m j leaf) is_k)
-    ∙ sym (under_front h before last m n leaf more (omega (arith, lt, is_k)))
-    ∙ ap (λ (p : List (List ℕ)). root_under h p m n leaf) (sym is)
-
-pub climbs_back : (h : List ℕ → List ℕ) (path before : List (List ℕ)) (last : List ℕ) (m n k : ℕ) (leaf : List ℕ) (half : Option (List ℕ)) → path ≡ before ++ last ∷ [] → 2 ≤ n → k ≡ split_of n → k ≤ m
-    → half ≡ root_under h before (m - k) (n - k) leaf → option_map (λ r. h (1 ∷ last ++ r)) half ≡ root_under h path m n leaf
-climbs_back h path before last m n k leaf half is more is_k le is_half =
-    ap (option_map (λ r. h (1 ∷ last ++ r))) (is_half ∙ ap (λ (j : ℕ). root_under h before (m - j) (n - j) leaf) is_k)
-    ∙ sym (under_back h before last m n leaf more (omega (arith, le, is_k)))
-    ∙ ap (λ (p : List (List ℕ)). root_under h p m n leaf) (sym is)
+pub climbs : (h : List ℕ → List ℕ) (path below : List (List ℕ)) (other : List ℕ) (s : Side) (m n j k : ℕ) (leaf : List ℕ) (half : Option (List ℕ)) → path ≡ below ++ other ∷ []
+    → sides_of m n ≡ sides_of j k ++ s ∷ [] → half ≡ root_under h below j k leaf → option_map (λ r. h (node_of (s, other) r)) half ≡ root_under h path m n leaf
+climbs h path below other s m n j k leaf half is sides is_half =
+    ap (option_map (λ r. h (node_of (s, other) r))) is_half ∙ sym (under_step h below other s m n j k leaf sides) ∙ ap (λ (p : List (List ℕ)). root_under h p m n leaf) (sym is)

@@ -59,6 +59,12 @@ unfoldable pub root_under : (List ℕ → List ℕ) → List (List ℕ) → ℕ 
 root_under h path m n leaf =
     if eqb (length path) (length (sides_of m n)) then Some (root_over h leaf (zip (sides_of m n) path)) else None
 
+-- two leaves with their paths have one root at place m of n
+pub record HaveOneRoot (h : List ℕ → List ℕ) (m n : ℕ) (a : List ℕ) (p : List (List ℕ)) (b : List ℕ) (q : List (List ℕ)) : Type 0 where
+  pub root : List ℕ
+  pub first : root_under h p m n a ≡ Some root
+  pub second : root_under h q m n b ≡ Some root
+
 -- each hash of a path has 32 bytes
 abbrev pub AreHashes : List (List ℕ) → Type 0
 AreHashes path = AllByRecursion (λ (p : List ℕ). length p ≡ 32) path

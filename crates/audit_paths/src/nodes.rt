@@ -9,14 +9,14 @@ use base_types::{Blob, Memory};
 use std::alloc::Global;
 
 /// The hash of a leaf.
-pub fn leaf_hash<H: Hash32>(h: H, leaf: &[u8]) -> [u8; 32]
+pub(crate) fn leaf_hash<H: Hash32>(h: H, leaf: &[u8]) -> [u8; 32]
     ensures { result ≡ H.digest h (0 ∷ leaf.now) }
 {
     h.hash(&[0], leaf)
 }
 
 /// The hash of the node that has one half and on this side the other.
-pub fn node_hash<H: Hash32>(h: H, half: &[u8; 32], side: Side, other: &[u8; 32]) -> [u8; 32]
+pub(crate) fn node_hash<H: Hash32>(h: H, half: &[u8; 32], side: Side, other: &[u8; 32]) -> [u8; 32]
     ensures { result ≡ H.digest h (node_of (side, other.now) half.now) }
 {
     match side {
@@ -34,7 +34,7 @@ fn joined_hash<H: Hash32>(h: H, left: &[u8; 32], right: &[u8; 32]) -> [u8; 32]
 }
 
 /// The bytes whose hash is that of a leaf.
-pub fn leaf_bytes(alloc: Global, leaf: &[u8]) -> Result<Blob, Memory>
+pub(crate) fn leaf_bytes(alloc: Global, leaf: &[u8]) -> Result<Blob, Memory>
     ensures { IfOk result (λ bytes. bytes ≡ 0 ∷ leaf.now) }
 {
     let mut bytes = Vec::new(alloc);
@@ -44,7 +44,7 @@ pub fn leaf_bytes(alloc: Global, leaf: &[u8]) -> Result<Blob, Memory>
 }
 
 /// The bytes whose hash is that of the node that has one half and on this side the other.
-pub fn node_bytes(
+pub(crate) fn node_bytes(
     alloc: Global,
     half: &[u8; 32],
     side: Side,

@@ -1,12 +1,13 @@
 //! The way from a leaf up to the root.
 
-ghost use Rattle.std.specs.Prelude.{◌≡◌, ◌<◌, ◌^◌, [], ◌∷◌, ◌++◌, length, IfOk};
+ghost use Rattle.std.specs.Prelude.{◌≡◌, ◌≢◌, ◌<◌, ◌^◌, [], ◌∷◌, ◌++◌, length, IfOk};
 ghost use Rattle.std.specs.Option.{MatchOption, option_map};
 ghost use Rattle.audit_paths.specs.Path.{audit_path, node_of, root_over, root_under};
 
+use crate::half::half_of;
 use crate::nodes::{leaf_hash, node_hash};
 use crate::side::Side;
-use audit_extract::{split_of, tree_halves, tree_root};
+use audit_extract::{tree_halves, tree_root};
 use base_merkle::Hash32;
 use base_types::{Blob, Items, Memory};
 use std::alloc::Global;
@@ -40,9 +41,9 @@ pub fn audit_path<H: Hash32>(
 /// The root that a path gives for a leaf at a place of so many, or None where the path has another length than
 /// such a tree gives there. It takes no memory.
 ///
-/// RFC 9162, section 2.1.3.2, checks the same by the bits of the place and of the last place, from the leaf up;
+/// RFC 9162, section 2.1.3.2, checks the same from the leaf up, by the bits of the place and of the last place;
 /// here the tree is parted from the root down, as both documents define the path. Both take the same hashes in
-/// the same order and refuse a path that is too short or too long.
+/// the same order, and refuse a path that is too short or too long.
 pub fn root_under<H: Hash32>(
     h: H,
     path: &[[u8; 32]],
@@ -53,7 +54,7 @@ pub fn root_under<H: Hash32>(
     requires { count < 2 ^ 63 }
     ensures { result ≡ root_under (H.digest h) path.now place count leaf.now }
 {
-    match parted(path) {
+    match last_parted(path) {
         None => {
             if count < 2 {
                 Some(leaf_hash(h, leaf))
@@ -61,31 +62,34 @@ pub fn root_under<H: Hash32>(
                 None
             }
         }
-        Some((before, last)) => {
+        Some((below, other)) => {
             if count < 2 {
                 return None;
             }
-            let front = split_of(count);
-            if place < front {
-                let half = root_under(h, before, place, front, leaf);
-                above(h, half, Side::Right, last)
-            } else {
-                let half = root_under(h, before, place - front, count - front, leaf);
-                above(h, half, Side::Left, last)
-            }
+            let half = half_of(place, count);
+            let hash = root_under(h, below, half.place, half.count, leaf);
+            above(h, hash, half.other, other)
         }
     }
 }
 
 // All hashes but the last, and the last, if there is one.
-fn parted(path: &[[u8; 32]]) -> Option<(&[[u8; 32]], &[u8; 32])>
+fn last_parted(path: &[[u8; 32]]) -> Option<(&[[u8; 32]], &[u8; 32])>
     ensures { MatchOption result (path.now ≡ []) (λ p. path.now ≡ p.0.now ++ p.1.now ∷ []) }
 {
     if path.is_empty() {
         return None;
     }
-    let (before, end) = path.split_at(path.len() - 1);
-    Some((before, &end[0]))
+    Some(parted(path))
+}
+
+/// All hashes but the last, and the last.
+pub(crate) fn parted(path: &[[u8; 32]]) -> (&[[u8; 32]], &[u8; 32])
+    requires { path.now ≢ [] }
+    ensures { path.now ≡ result.0.now ++ result.1.now ∷ [] }
+{
+    let (below, end) = path.split_at(path.len() - 1);
+    (below, &end[0])
 }
 
 // The hash of the node that has this half, if there is one, and on this side another.

@@ -8,10 +8,11 @@ ghost use Rattle.format_receipt.specs.Receipts.{IsReceipt};
 ghost use Rattle.audit_receipt.specs.Accepted.{Accepted};
 ghost use Rattle.audit_receipt.specs.Tests.{are_linked, is_root, keeps_hash, lead_to, stands_in};
 
+use crate::leaves::entry_leaf;
 use audit_paths::root_under;
 use base_merkle::Hash32;
 use base_types::{Memory, first_of};
-use format_entry::{block_hash, write_entry};
+use format_entry::block_hash;
 use format_receipt::Receipt;
 use sql_types::{BlockRecord, HeldDigest, MAX_BLOCK, TxEntry};
 use std::alloc::Global;
@@ -143,11 +144,11 @@ fn stands_in<H: Hash32>(
             if first.size > MAX_BLOCK as u64 || e.ordinal >= first.size {
                 return Ok(false);
             }
-            let mut leaf = Vec::new(alloc);
-            write_entry(e, &mut leaf)?;
+            let leaf = entry_leaf(alloc, e)?;
+            let (place, count) = (e.ordinal as usize, first.size as usize);
             Ok(is_root(
                 &first.root,
-                &root_under(h, path, e.ordinal as usize, first.size as usize, &leaf),
+                &root_under(h, path, place, count, leaf.bytes()),
             ))
         }
     }

@@ -3,6 +3,7 @@
 #![tactic(auto)]
 
 mod check;
+mod leaves;
 mod make;
 mod receipt_err;
 mod settle;

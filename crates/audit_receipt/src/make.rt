@@ -11,11 +11,11 @@ ghost use Rattle.audit_paths.specs.Path.{audit_path};
 ghost use Rattle.audit_receipt.specs.declared.receipt_err.ReceiptErr.TheVariants as errors;
 ghost use Rattle.audit_receipt.specs.Made.{HasNone, IsMade, entry_of, part_at, receipt_of};
 
+use crate::leaves::entry_leaves;
 use crate::receipt_err::ReceiptErr;
 use audit_paths::audit_path;
 use base_merkle::Hash32;
-use base_types::{Blob, Items, Memory, TxId, first_of};
-use format_entry::write_entry;
+use base_types::{Items, Memory, TxId, first_of};
 use format_receipt::Receipt;
 use sql_types::{BlockRecord, Image, TxEntry};
 use std::alloc::Global;
@@ -125,28 +125,8 @@ fn path_in<H: Hash32>(
     requires { All IsEntry part.now }
     ensures { IfOk result (λ path. path ≡ audit_path (H.digest h) place (map entry_bytes part.now)) }
 {
-    let leaves = leaves_of(alloc, part)?;
+    let leaves = entry_leaves(alloc, part)?;
     audit_path(alloc, h, place as usize, &leaves)
-}
-
-fn leaves_of(alloc: Global, entries: &[TxEntry]) -> Result<Vec<Blob>, Memory>
-    requires { All IsEntry entries.now }
-    ensures { IfOk result (λ leaves. leaves.items ≡ map entry_bytes entries.now) }
-{
-    let mut leaves = Vec::new(alloc);
-    for entry in entries {
-        leaves.push(leaf_of(alloc, entry)?)?;
-    }
-    Ok(leaves)
-}
-
-fn leaf_of(alloc: Global, entry: &TxEntry) -> Result<Blob, Memory>
-    requires { IsEntry entry.now }
-    ensures { IfOk result (λ leaf. leaf ≡ entry_bytes entry.now) }
-{
-    let mut bytes = Vec::new(alloc);
-    write_entry(entry, &mut bytes)?;
-    Ok(Blob::from_vec(bytes))
 }
 
 fn records_from(

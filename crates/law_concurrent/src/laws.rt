@@ -26,6 +26,7 @@ ghost use Rattle.law_concurrent.specs.Together.{RanTogether, names_in};
 use law_kept_images::{
     digests_are_held_where_their_blocks_are_closed, images_of_legal_journals_verify,
 };
+use law_order::histories_are_in_one_order;
 
 /// Once all seats were joined into one, what it wrote is that of a run of all sessions together: in whatever
 /// order their visits came, the transcripts agree with the ledger's cell in the order in which the seat has
@@ -35,7 +36,9 @@ pub fn runs_of_joined_seats_agree()
         → KnewThatOver w ws → NamesApart (names_in (transcripts_in (w ∷ ws)))
         → (ledger : LedgerCell) → get_elem? cells ledger_at ≡ some (Ledger ledger)
         → RanTogether v (w ∷ ws) ledger }
-{}
+{
+    histories_are_in_one_order();
+}
 
 /// Any two meanings that statements have by one grammar, where blocks are hashed with one hash, are one: what
 /// agrees by the rules of agreement with the first does with the second, and a transcript shows the same
