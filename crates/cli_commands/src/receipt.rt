@@ -12,13 +12,12 @@ ghost use Rattle.cli_commands.specs.Receipt.{IsReceiptUnder, LacksUnder, IsShown
 ghost use Rattle.cli_commands.specs.Receipt.{ReceiptCause, receipt_file, receipt_text, Receipted, EndsRefusing, SaysNo};
 ghost use Rattle.cli_commands.specs.Receipt.{ReceiptedOrIdle, PutsReceipt};
 
-use crate::Status;
 use crate::extract::accepted;
 use crate::files::{File, put_and_write};
 use crate::saved::file;
 use crate::transfer::write_all;
-use crate::verify;
 use crate::verify::{read_evidence, read_held};
+use crate::{Status, verify};
 use audit_extract::last_of;
 use audit_receipt::{ReceiptErr, make_receipt};
 use base_io::{Failed, Sink, Vault};

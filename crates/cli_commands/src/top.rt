@@ -265,11 +265,7 @@ pub fn ledgerd<S: Source, K: Sink, V: Vault, C: Clock, G: Gate, R: Threads + Wai
             digests,
             tx,
             save,
-        } => {
-            receipt(
-                alloc, Sha256Hash, image, digests, tx, save, sink, vault,
-            )
-        }
+        } => { receipt(alloc, Sha256Hash, image, digests, tx, save, sink, vault) }
         Command::Check { receipt, digests } => {
             check(alloc, Sha256Hash, receipt, digests, sink, vault)
         }

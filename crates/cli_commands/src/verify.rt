@@ -29,7 +29,11 @@ pub(crate) struct Evidence {
 }
 
 /// Reads what stands under the two names, the image's first.
-pub(crate) fn read_evidence<V: Vault>(vault: &mut V, image: &str, digests: &str) -> Result<Evidence, Status>
+pub(crate) fn read_evidence<V: Vault>(
+    vault: &mut V,
+    image: &str,
+    digests: &str,
+) -> Result<Evidence, Status>
     ensures are { IfOk result (λ read. IfSome (V.names vault.old)
         (λ names. IsEvidence image.now digests.now names read.image.items read.digests.items)) }
     ensures lacks { IfErr result (λ status. LacksEvidence status image.now digests.now (V.names vault.old)) }

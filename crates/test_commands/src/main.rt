@@ -121,8 +121,7 @@ fn answer(rt: &impl Machine, setting: CommandSetup, line: &str) -> io::Result<()
             println!(rt; "{refused} of {all}")
         }
         Some(("damage", _)) => {
-            let (cut, changed, all) =
-                count_damages(rt, alloc, &mut FolderVault::new(*rt), &words)?;
+            let (cut, changed, all) = count_damages(rt, alloc, &mut FolderVault::new(*rt), &words)?;
             println!(rt; "{cut} of {all}, {changed} of {all}")
         }
         Some(("same", _)) => {
