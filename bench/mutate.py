@@ -3,10 +3,10 @@
 
     bench/mutate.py PROGRAM [--count N] [--seed S] [--keep FOLDER]
 
-Half of the images have a few of their bytes changed. The other half are forged: values, rows, columns, entries or
-blocks are altered, and of what stands above the change (index rows, the system's rows, roots, blocks, digests) some is
-made anew by docs/FORMATS.md. PROGRAM is a built ledgerd; 10,000 images take some minutes. Before the last line stands
-how often each invariant was named; the last line is 'N of M agree', and the status 1 where N isn't M. What disagrees
+Half of the images have a few of their bytes changed, and some digest files too. The other half are forged: values,
+rows, columns, entries or blocks are altered, and of what stands above the change (index rows, the system's rows, roots,
+blocks, digests) some is made anew by docs/FORMATS.md. PROGRAM is a built ledgerd; 10,000 images take some minutes. The
+last line is 'N of M agree', behind how often each invariant was named, and the status 1 where N isn't M. What disagrees
 is kept in FOLDER.
 """
 
@@ -73,7 +73,7 @@ def with_other_bytes(data: bytes, choice: random.Random) -> bytes:
     if how < 0.04:
         del found[place]
     elif how < 0.08:
-        found.insert(place, choice.randrange(256))
+        found.insert(choice.choice((place, len(found))), choice.randrange(256))
     elif how < 0.1:
         del found[place:]
     else:
@@ -134,6 +134,8 @@ def main() -> int:
                     digests = digests_of(forged)
             if choice.random() < 0.1:
                 digests = b"[]"
+            elif choice.random() < 0.1:
+                digests = with_other_bytes(digests, choice)
             for name, content in (("x.img", data), ("x.digests", digests)):
                 with open(name, "wb") as file:
                     file.write(content)

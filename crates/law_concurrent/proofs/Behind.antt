@@ -1,10 +1,9 @@
 -- Images are accepted with the digests that stand before them in the order.
-use Rattle.std.proofs.Common.{◌≡◌, ◌<◌, ℕ, zero, suc, Bool, true, false, List, [], ◌∷◌, ◌++◌, drop, Option, refl, sym, ap, subst, ◌∙◌, inl, inr, ⊎_elim}
+use Rattle.std.proofs.Common.{◌≡◌, ◌<◌, ℕ, suc, Bool, true, false, List, [], ◌∷◌, ◌++◌, drop, Option, refl, sym, ap, subst, ◌∙◌, inl, inr}
 use Rattle.std.specs.Prelude.{if◌then◌else◌, take}
 use Rattle.std.specs.Str.{bytes_eq}
 use Rattle.std.proofs.lemmas.List.{take-append-drop}
 use Rattle.std.proofs.lemmas.Slice.Eq.{bytes_eq-Decides}
-use Rattle.sql_types.specs.declared.digest.HeldDigest.{HeldDigest}
 use Rattle.sql_types.specs.declared.journal.JournalItem.{JournalItem}
 use Rattle.spec_model.specs.Journals.{cut}
 use Rattle.spec_model.specs.Script.{Reading}
@@ -79,11 +78,14 @@ module _ (J : List JournalItem) (m : ℕ) where
 
 module _ (h : List ℕ → List ℕ) (reads : Reading) (q : Meaning) (database : Text) (J : List JournalItem) (m : ℕ) (hashes : (K : List JournalItem) (b : ℕ) → q.block_hash K b ≡ block_hash h reads K b) where
   one_held : (g : Fact) → ShowsHash q J g → HasBlock J m g → Each (IsHeld h reads database (cut J m)) (digest_shown database g)
-  one_held (digest b hash) s l = (record {
-    of = refl;
-    closed = l;
-    hash = s.1 ∙ ap (λ (K : List JournalItem). q.block_hash K b) (sym (take-append-drop m J)) ∙ q.hash_stays (take m J) (drop m J) b l ∙ hashes (take m J) b;
-  }, tt)
+  one_held (digest b hash) s l = (
+    record {
+      of = refl;
+      closed = l;
+      hash = s.1 ∙ ap (λ (K : List JournalItem). q.block_hash K b) (sym (take-append-drop m J)) ∙ q.hash_stays (take m J) (drop m J) b l ∙ hashes (take m J) b;
+    },
+    tt,
+  )
   one_held g s l = tt
 
   shown_held : (fs : List SessionFact) → Each (λ f. ShowsHash q J f.1) fs → Each (λ f. HasBlock J m f.1) fs → Each (IsHeld h reads database (cut J m)) (digests_shown database fs)
