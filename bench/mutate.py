@@ -140,7 +140,8 @@ def main() -> int:
                 with open(name, "wb") as file:
                     file.write(content)
             ours, theirs = judged_by_tool("x.img", "x.digests"), judged_by_program(program, "x.img", "x.digests")
-            said[" ".join(theirs[1].split()[:2]) + (" forged" if count % 2 == 0 else " bytes")] += 1
+            line = " ".join(theirs[1].split()[:2]) or "refused"
+            said[line + (" forged" if count % 2 == 0 else " bytes")] += 1
             if ours == theirs:
                 agreed += 1
                 continue
