@@ -16,12 +16,12 @@ parted-requires-in-halves g c =
     some_left (g.H.Hash32.digest c.args.h) c.halves.place c.halves.count c.args.b.0.now kept.roots.root c.halves.b_path.now c.halves-test.true kept.roots.second
 
 pub bytes_above-requires-clause-root : goal.bytes_above-requires-clause-root
-bytes_above-requires-clause-root g c =
+bytes_above-requires-clause-root g c κs within =
     left_there (g.H.Hash32.digest c.args.h) c.halves.place c.halves.count c.half_of-half.result.place c.half_of-half.result.count c.half_of-half.result.other c.args.a.0.now c.args.b.0.now c.halves.a_path.now c.halves.b_path.now
     c.parted.result.0.now c.parted-in-halves.result.0.now c.parted.result.1.now c.parted-in-halves.result.1.now c.half_of-half.ensures.sides c.halves.invariant c.parted.ensures c.parted-in-halves.ensures
 
 pub bytes_above-requires-in-halves-clause-root : goal.bytes_above-requires-in-halves-clause-root
-bytes_above-requires-in-halves-clause-root g c =
+bytes_above-requires-in-halves-clause-root g c κs within =
     right_there (g.H.Hash32.digest c.args.h) c.halves.place c.halves.count c.half_of-half.result.place c.half_of-half.result.count c.half_of-half.result.other c.args.a.0.now c.args.b.0.now c.halves.a_path.now c.halves.b_path.now
     c.parted.result.0.now c.parted-in-halves.result.0.now c.parted.result.1.now c.parted-in-halves.result.1.now c.half_of-half.ensures.sides c.halves.invariant c.parted.ensures c.parted-in-halves.ensures
 
