@@ -39,26 +39,26 @@ module _ (h : List ℕ → List ℕ) (names : Names) (honest suspect digests byt
       let read = subst (λ (f : List ℕ). IsRead f (Ok j.on.0)) file j.on.1 in
       let one = read_once x.digests_are.file j.on.0 held read x.digests_are.read in
       comparison h held bytes other x.accepted accepted finding
-          (subst (λ (ds : List HeldDigest). IsFoundWith h ds bytes other finding) one
-          (subst (λ (a : List ℕ). IsFoundWith h j.on.0 a other finding) same
-          (subst (λ (b : List ℕ). IsFoundWith h j.on.0 j.a b finding) second j.on.2)))
+      (subst (λ (ds : List HeldDigest). IsFoundWith h ds bytes other finding) one
+      (subst (λ (a : List ℕ). IsFoundWith h j.on.0 a other finding) same
+      (subst (λ (b : List ℕ). IsFoundWith h j.on.0 j.a b finding) second j.on.2)))
 
   within : LacksExhibits Limit honest suspect digests (Some names) → ⊥
   within lacks = ⊎_elim
       (λ l. not_too_long names honest bytes image_limit x.image_is.there x.image_is.fits l)
       (λ more. ⊎_elim
-          (λ l. not_too_long names suspect other image_limit y.there y.fits l.2)
-          (λ l. not_too_long names digests x.digests_are.file digests_limit x.digests_are.there x.digests_are.fits l.3)
-          more)
+      (λ l. not_too_long names suspect other image_limit y.there y.fits l.2)
+      (λ l. not_too_long names digests x.digests_are.file digests_limit x.digests_are.there x.digests_are.fits l.3)
+      more)
       lacks
 
   stands : (which : ℕ) → LacksExhibits (Missing which) honest suspect digests (Some names) → ⊥
   stands which lacks = ⊎_elim
       (λ l. not_missing names honest bytes x.image_is.there l.1)
       (λ more. ⊎_elim
-          (λ l. not_missing names suspect other y.there l.2.1)
-          (λ l. not_missing names digests x.digests_are.file x.digests_are.there l.3.1)
-          more)
+      (λ l. not_missing names suspect other y.there l.2.1)
+      (λ l. not_missing names digests x.digests_are.file x.digests_are.there l.3.1)
+      more)
       lacks
 
   is_file : (index : Option ℕ) → HoldsNoDigests (Digests index) honest suspect digests (Some names) → ⊥

@@ -57,7 +57,7 @@ module _ (h : List ℕ → List ℕ) (input : List InputSession) (setup : Option
         };
         kept = λ k is fits name digests holds closed.
             let saved = each_of (IsSaved h o.journal o.digests) o.images k
-                (each_front (IsSaved h o.journal o.digests) o.images (last_image h o.journal ∷ []) x.every_image) is in
+            (each_front (IsSaved h o.journal o.digests) o.images (last_image h o.journal ∷ []) x.every_image) is in
             record {
               image_is = record { there = each_made Stands (cut_file save) o.images k first is; fits = fits };
               digests_are = holds;

@@ -32,8 +32,8 @@ pub closed_in_order_of_lines : AreClosedBefore → (q : Meaning) (size : ℕ) (l
     → block < blocks J → block < blocks (cut J items)
 closed_in_order_of_lines law q size lines X J legal facts o block items c within =
     each_at (IsClosedThere J items) c.before (digest block c.hash) c.between
-        (law q size lines X J o.rows legal o.order (c.before ++ digest block c.hash ∷ c.between) c.after items (sym o.are ∙ c.is))
-        within
+    (law q size lines X J o.rows legal o.order (c.before ++ digest block c.hash ∷ c.between) c.after items (sym o.are ∙ c.is))
+    within
 
 -- ---- side by side
 

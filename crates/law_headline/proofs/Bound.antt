@@ -1,6 +1,5 @@
 -- What is accepted with the digests with which an image is accepted.
 use Rattle.std.proofs.Common.{◌≡◌, ℕ, List, length, sym, ap, ◌∙◌}
-use Rattle.base_fields.specs.Exact.{IsBytes}
 use Rattle.sql_types.specs.declared.digest.HeldDigest.{HeldDigest}
 use Rattle.sql_types.specs.declared.image.Image.{Image}
 use Rattle.sql_types.specs.declared.journal.Journal.{Journal}
@@ -52,4 +51,4 @@ pub cut_is_image : AreEncodable → ReadsWritten statement_of → (h : List ℕ 
     → FitsImageFormat h statement_of J.database J.items → (m : ℕ) → IsImage (image_at h J m)
 cut_is_image encodable written h J legal room m =
     encodable h statement_of J.database (cut J.items m) written (cut_legal statement_of J.items m legal.legal)
-        (room_of_cut h statement_of J.database J.items m legal.legal room)
+    (room_of_cut h statement_of J.database J.items m legal.legal room)

@@ -55,10 +55,10 @@ module _ (bound : AreBound) (encodable : AreEncodable) (written : ReadsWritten s
       → Accepts (last_image h J) → Each (IsSaved h J G) (images ++ last_image h J ∷ [])
   all_saved kept images are is accepts last = each_append (IsSaved h J G) images (last_image h J ∷ [])
       (each_weaker (λ k. Some_of (λ ks. In k ks) kept) (IsSaved h J G)
-          (λ k some. is_saved k (in_some IsOf kept k is some) (in_some Accepts kept k accepts some)) images are.no_others)
+      (λ k some. is_saved k (in_some IsOf kept k is some) (in_some Accepts kept k accepts some)) images are.no_others)
       (is_saved (last_image h J) is_last last, tt)
 
   pub whole_bound : verdict_of h (map held G) (last_image_bytes h J) ≡ Yes → IsBoundBy h (image_of h statement_of J.database J.items) (map held G)
   whole_bound accepted = subst (λ i. IsBoundBy h i (map held G)) (sym whole)
       (bound h (image_at h J (length J.items)) (map held G) room.hash (cut_is_image encodable written h J legal room (length J.items))
-          (sym (ap (λ i. verdict_of h (map held G) (image_bytes i)) whole) ∙ accepted))
+      (sym (ap (λ i. verdict_of h (map held G) (image_bytes i)) whole) ∙ accepted))

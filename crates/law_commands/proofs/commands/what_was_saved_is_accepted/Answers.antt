@@ -14,15 +14,15 @@ returns-clause-step g c = λ h how clock save input old new taken_old taken_new 
     let came = ran.came in
     let lines = lines_of ran.said in
     exhibits h (sessions_in lines (sessions_of ran.said)) None (InOrderOfLines how.block_size lines came.run.X ran.output.journal.items) came.run.X ran.output
-        (c.saved_files_keep_the_headline.ensures.step h how clock ran.said ran.output came) new save ran.saved.digests
-        (came.is.image ∙ ap (last_image_bytes h) (sym came.is.journal)) (ran.saved.are_in_vault refl) ran.saved.digests_read_back
+    (c.saved_files_keep_the_headline.ensures.step h how clock ran.said ran.output came) new save ran.saved.digests
+    (came.is.image ∙ ap (last_image_bytes h) (sym came.is.journal)) (ran.saved.are_in_vault refl) ran.saved.digests_read_back
 
 pub returns-clause-run : goal.returns-clause-run
 returns-clause-run g c = λ h how clock save input old new taken_old taken_new ran.
     let came = ran.came in
     exhibits h (input_of ran.said) (Some 0) (InOneOrder came.left.X ran.output.journal.items) came.left.X ran.output
-        (c.saved_files_keep_the_headline.ensures.run h how clock ran.said ran.output came) new save ran.saved.digests
-        (came.is.image ∙ ap (last_image_bytes h) (sym came.is.journal)) (ran.saved.are_in_vault refl) ran.saved.digests_read_back
+    (c.saved_files_keep_the_headline.ensures.run h how clock ran.said ran.output came) new save ran.saved.digests
+    (came.is.image ∙ ap (last_image_bytes h) (sym came.is.journal)) (ran.saved.are_in_vault refl) ran.saved.digests_read_back
 
 pub returns-clause-replay : goal.returns-clause-replay
 returns-clause-replay g c = λ h journal save old new puts fits name digests holds closed. record {

@@ -1,4 +1,4 @@
-use Rattle.std.specs.Prelude.{ℕ, ◌<◌, List, length, None, Some}
+use Rattle.std.specs.Prelude.{◌<◌, List, length, None, Some}
 use Rattle.std.proofs.Common.{refl, subst, sym, arith}
 use Rattle.std.proofs.lemmas.List.{take_all}
 use Rattle.sql_types.specs.declared.journal.JournalItem.{JournalItem}
@@ -36,15 +36,15 @@ returns g c =
         issued_before = λ q real facts order d is items comes.
             let closed = each_in (IsOfCut J.items (length J.items) G) G d (all_closed h J.database size names lines X kept J.items G run) is in
             closed_in_order_of_lines c.digests_before_an_image_are_closed_in_it.ensures q size lines X J.items (run.agree q real).journal_is_theirs.legal
-                facts order d.block items comes
-                (subst (λ (K : List JournalItem). d.block < blocks K) (take_all (length J.items) J.items (omega arith)) closed.1);
+            facts order d.block items comes
+            (subst (λ (K : List JournalItem). d.block < blocks K) (take_all (length J.items) J.items (omega arith)) closed.1);
       };
       side_by_side = λ h database size given clock input left images came room are.
           let J = left.J in
           let G = left.G in
           let named = sym came.of_database in
           let agree : (q : Meaning) → IsMeaning h statement_of q → Agree q J.database input (Some 0) left.X J.items G =
-              λ q real. subst (λ (D : Text). Agree q D input (Some 0) left.X J.items G) named (came.agree q real) in
+          λ q real. subst (λ (D : Text). Agree q D input (Some 0) left.X J.items G) named (came.agree q real) in
           record {
             replies_given = agree;
             by_one_thread = came.legal;
