@@ -1,5 +1,6 @@
 """Forges images: alters one at random, and makes some of what stands above the change anew by docs/FORMATS.md."""
 
+import collections
 import contextlib
 import random
 
@@ -261,6 +262,8 @@ class Forger:
     # --- What is made anew above it
 
     def mend(self) -> None:
+        if self.choice.random() < 0.6:
+            self.mend_numbers()
         if self.choice.random() < 0.95:
             for rows in self.image.rows.values():
                 rows.base.sort(key=lambda it: it.start)
@@ -274,6 +277,19 @@ class Forger:
             self.mend_roots()
         if self.choice.random() < 0.9:
             self.mend_blocks()
+
+    def mend_numbers(self) -> None:
+        """The events of each transaction are numbered from 0, in the order in which they were numbered."""
+        events = collections.defaultdict(list)
+        for rows in self.image.rows.values():
+            for part in (rows.base, rows.history):
+                for place, it in enumerate(part):
+                    events[it.start.transaction].append((it.start.number, part, place, "start"))
+                    if it.end is not None:
+                        events[it.end.transaction].append((it.end.number, part, place, "end"))
+        for transaction, own in events.items():
+            for count, (_, part, place, field) in enumerate(sorted(own, key=lambda event: event[0])):
+                part[place] = part[place]._replace(**{field: EventId(transaction, count)})
 
     def mend_system_rows(self) -> None:
         """The system's rows are those of the definitions, with the starts that stood there, and new ones behind."""

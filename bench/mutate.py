@@ -5,9 +5,9 @@
 
 Half of the images have a few of their bytes changed, and some digest files too. The other half are forged: values,
 rows, columns, entries or blocks are altered, and of what stands above the change (index rows, the system's rows, roots,
-blocks, digests) some is made anew by docs/FORMATS.md. PROGRAM is a built ledgerd; 10,000 images take some minutes. Before
-the last line stands how often each invariant was named; the last line is 'N of M agree', and the status 1 where N isn't
-M. What disagrees is kept in FOLDER.
+blocks, digests) some is made anew by docs/FORMATS.md. PROGRAM is a built ledgerd; 10,000 images take some minutes. The
+last line is 'N of M agree', behind how often each invariant was named, and the status 1 where N isn't M. What disagrees
+is kept in FOLDER.
 """
 
 import argparse
@@ -73,7 +73,7 @@ def with_other_bytes(data: bytes, choice: random.Random) -> bytes:
     if how < 0.04:
         del found[place]
     elif how < 0.08:
-        found.insert(place, choice.randrange(256))
+        found.insert(choice.choice((place, len(found))), choice.randrange(256))
     elif how < 0.1:
         del found[place:]
     else:
@@ -140,7 +140,8 @@ def main() -> int:
                 with open(name, "wb") as file:
                     file.write(content)
             ours, theirs = judged_by_tool("x.img", "x.digests"), judged_by_program(program, "x.img", "x.digests")
-            said[" ".join(theirs[1].split()[:2]) + (" forged" if count % 2 == 0 else " bytes")] += 1
+            line = " ".join(theirs[1].split()[:2]) or "refused"
+            said[line + (" forged" if count % 2 == 0 else " bytes")] += 1
             if ours == theirs:
                 agreed += 1
                 continue

@@ -5,9 +5,7 @@
 
 Writes `Yes` (status 0) or `No receipt` (1), and on standard error what the receipt shows or lacks. The status is
 15 where the bytes have no receipt's form, 8 where the digests can't be read, 7 where a file can't. This file stands
-alone. The form is `LGRC`, 1 version (1), `short` database, `long` entry, 1 count (at most 17) of hashes of 32 bytes,
-which lead from the entry to the root of its block, and 8 count (at least 1) of block records, from the entry's block to
-that of the digest; entry and record are those of docs/FORMATS.md, the hashes an audit path of RFC 6962, section 2.1.1.
+alone, and is written from docs/FORMATS.md alone (section "Receipt").
 """
 
 import hashlib

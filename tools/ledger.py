@@ -7,8 +7,7 @@ import hashlib
 import re
 from typing import NamedTuple, Optional
 
-MAX_ID = 2**63 - 1
-MAX_TICKS = 2534023007999999999
+MAX_ID, MAX_TICKS = 2**63 - 1, 2534023007999999999
 MAX_BLOCK_ENTRIES = 100_000
 TABLES, COLUMNS, FIRST_USER_TABLE = 1, 2, 3
 APPEND_ONLY, UPDATABLE = 1, 2
@@ -18,8 +17,7 @@ class Malformed(Exception):
     """Bytes that lack the form of their section."""
 
 
-def need(condition: bool, what: str = "") -> None:
-    """Refuses bytes that lack their form."""
+def need(condition: bool, what: str) -> None:
     if not condition:
         raise Malformed(what)
 
@@ -234,6 +232,7 @@ def decoded(data: bytes) -> str:
 DATABASE = r"[A-Za-z0-9][A-Za-z0-9_.-]{0,63}"
 SESSION = r"[A-Za-z0-9_]{1,32}"
 NAME = r"[ -Z\\^-~]{1,128}"
+NOTHING = r"()"
 
 
 # --- Values (section "Leaf") -----------------------------------------------------------------------------------------
@@ -328,7 +327,8 @@ def placed(entries: list[Entry], blocks: list[Record]) -> list[Entry]:
 
 def read_definition(source: Reader, least: int) -> Definition:
     id, kind = source.number(4, least), source.number(1, APPEND_ONLY, UPDATABLE)
-    name, history, view = source.text(2, NAME), source.text(2, NAME if kind == UPDATABLE else "|"), source.text(2, NAME)
+    name = source.text(2, NAME)
+    history, view = source.text(2, NAME if kind == UPDATABLE else NOTHING), source.text(2, NAME)
     columns = tuple(
         Column(source.text(2, NAME), read_type(source), source.number(1, 0, 1), source.number(1))
         for _ in range(source.number(2))

@@ -9,7 +9,7 @@ use Rattle.base_merkle.proofs.Split.{split_is}
 use Rattle.audit_extract.proofs.Halves.{front_length, back_length}
 use Rattle.audit_paths.specs.declared.side.Side.{Side}
 use Rattle.audit_paths.specs.declared.side.Side.TheVariants as other
-use Rattle.audit_paths.specs.Path.{path_within, audit_path, sides_within, sides_of, Step, node_of, climbed, root_over, root_under}
+use Rattle.audit_paths.specs.Path.{path_within, audit_path, sides_within, sides_of, node_of, climbed, root_over, root_under}
 use Rattle.audit_paths.proofs.Leading.{path_left, path_right, sides_left, sides_right, zip_one_more, climbed_one_more}
 
 -- ---- how often may be parted doesn't matter, if it is enough
@@ -86,19 +86,26 @@ sides_few m zero few = refl
 sides_few m (suc zero) few = refl
 sides_few m (suc (suc n)) few = absurd (omega (arith, few))
 
-pub sides_front : (h : List ℕ → List ℕ) (m n : ℕ) → 2 ≤ n → m < split_of n → sides_of m n ≡ sides_of m (split_of n) ++ other.Right ∷ []
-sides_front h m zero more lt = absurd (omega (arith, more))
-sides_front h m (suc n) more lt =
+sides_front : (m n : ℕ) → 2 ≤ n → m < split_of n → sides_of m n ≡ sides_of m (split_of n) ++ other.Right ∷ []
+sides_front m zero more lt = absurd (omega (arith, more))
+sides_front m (suc n) more lt =
     let s = split_is (suc n) more in
-    sides_left h n m (suc n) more lt ∙ ap (λ (l : List Side). l ++ other.Right ∷ []) (sides_depth n (split_of (suc n)) m (split_of (suc n)) (omega (arith, s.below)) (omega arith))
+    sides_left n m (suc n) more lt ∙ ap (λ (l : List Side). l ++ other.Right ∷ []) (sides_depth n (split_of (suc n)) m (split_of (suc n)) (omega (arith, s.below)) (omega arith))
 
-pub sides_back : (h : List ℕ → List ℕ) (m n : ℕ) → 2 ≤ n → split_of n ≤ m → sides_of m n ≡ sides_of (m - split_of n) (n - split_of n) ++ other.Left ∷ []
-sides_back h m zero more le = absurd (omega (arith, more))
-sides_back h m (suc n) more le =
+sides_back : (m n : ℕ) → 2 ≤ n → split_of n ≤ m → sides_of m n ≡ sides_of (m - split_of n) (n - split_of n) ++ other.Left ∷ []
+sides_back m zero more le = absurd (omega (arith, more))
+sides_back m (suc n) more le =
     let s = split_is (suc n) more in
     let some : 1 ≤ 2 ^ s.height = one-le-pow s.height 2 (lit< tt) in
-    sides_right h n m (suc n) more le
+    sides_right n m (suc n) more le
     ∙ ap (λ (l : List Side). l ++ other.Left ∷ []) (sides_depth n (suc n - split_of (suc n)) (m - split_of (suc n)) (suc n - split_of (suc n)) (omega (arith, s.power, some)) (omega arith))
+
+-- by the front half's count k
+pub half_front : (m n k : ℕ) → 2 ≤ n → k ≡ split_of n → m < k → sides_of m n ≡ sides_of m k ++ other.Right ∷ []
+half_front m n k more is lt = sides_front m n more (omega (arith, lt, is)) ∙ ap (λ (j : ℕ). sides_of m j ++ other.Right ∷ []) (sym is)
+
+pub half_back : (m n k : ℕ) → 2 ≤ n → k ≡ split_of n → k ≤ m → sides_of m n ≡ sides_of (m - k) (n - k) ++ other.Left ∷ []
+half_back m n k more is le = sides_back m n more (omega (arith, le, is)) ∙ ap (λ (j : ℕ). sides_of (m - j) (n - j) ++ other.Left ∷ []) (sym is)
 
 -- ---- the root under a path
 
@@ -153,8 +160,8 @@ under_none h m n leaf more = by (nat_lt m (split_of n)) refl
         rw no refl
 
     by : (b : Bool) → nat_lt m (split_of n) ≡ b → under_by h leaf (sides_of m n) [] ≡ None
-    by true t = ap (λ (sides : List Side). under_by h leaf sides []) (sides_front h m n more (ltb-true m (split_of n) t)) ∙ none_with (sides_of m (split_of n)) other.Right
-    by false t = ap (λ (sides : List Side). under_by h leaf sides []) (sides_back h m n more (ltb-false m (split_of n) t)) ∙ none_with (sides_of (m - split_of n) (n - split_of n)) other.Left
+    by true t = ap (λ (sides : List Side). under_by h leaf sides []) (sides_front m n more (ltb-true m (split_of n) t)) ∙ none_with (sides_of m (split_of n)) other.Right
+    by false t = ap (λ (sides : List Side). under_by h leaf sides []) (sides_back m n more (ltb-false m (split_of n) t)) ∙ none_with (sides_of (m - split_of n) (n - split_of n)) other.Left
 
 -- a leaf alone leads to its hash
 pub under_leaf : (h : List ℕ → List ℕ) (path : List (List ℕ)) (m n : ℕ) (leaf root : List ℕ) → n < 2 → root_under h path m n leaf ≡ Some root → h (0 ∷ leaf) ≡ root

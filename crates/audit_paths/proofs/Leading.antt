@@ -39,6 +39,14 @@ get_left (suc k) (suc m) (y ∷ xs) x le e =
     let same : suc m - suc k ≡ m - k = omega arith in
     subst (λ (n : ℕ). slice_get (drop k xs) n ≡ Some x) (sym same) (get_left k m xs x (omega (arith, le)) e)
 
+-- ---- one split of the sides
+
+pub sides_left : (depth m n : ℕ) → 2 ≤ n → m < split_of n → sides_within (suc depth) m n ≡ sides_within depth m (split_of n) ++ other.Right ∷ []
+sides_left depth m n more lt = rw (le-ltb n 2 more, lt-ltb m (split_of n) lt) refl
+
+pub sides_right : (depth m n : ℕ) → 2 ≤ n → split_of n ≤ m → sides_within (suc depth) m n ≡ sides_within depth (m - split_of n) (n - split_of n) ++ other.Left ∷ []
+sides_right depth m n more le = rw (le-ltb n 2 more, le-ltb m (split_of n) le) refl
+
 -- ---- the way up
 
 module _ (h : List ℕ → List ℕ) where
@@ -56,12 +64,6 @@ module _ (h : List ℕ → List ℕ) where
   pub path_right : (depth m : ℕ) (leaves : List (List ℕ)) → 2 ≤ length leaves → split_of (length leaves) ≤ m
       → path_within h (suc depth) m leaves ≡ path_within h depth (m - split_of (length leaves)) (drop (split_of (length leaves)) leaves) ++ tree_hash h (take (split_of (length leaves)) leaves) ∷ []
   path_right depth m leaves more le = rw (le-ltb (length leaves) 2 more, le-ltb m (split_of (length leaves)) le) refl
-
-  pub sides_left : (depth m n : ℕ) → 2 ≤ n → m < split_of n → sides_within (suc depth) m n ≡ sides_within depth m (split_of n) ++ other.Right ∷ []
-  sides_left depth m n more lt = rw (le-ltb n 2 more, lt-ltb m (split_of n) lt) refl
-
-  pub sides_right : (depth m n : ℕ) → 2 ≤ n → split_of n ≤ m → sides_within (suc depth) m n ≡ sides_within depth (m - split_of n) (n - split_of n) ++ other.Left ∷ []
-  sides_right depth m n more le = rw (le-ltb n 2 more, le-ltb m (split_of n) le) refl
 
   one_longer : {A B : Type 0} (xs : List A) (ys : List B) (x : A) (y : B) → length xs ≡ length ys → length (xs ++ x ∷ []) ≡ length (ys ++ y ∷ [])
   one_longer xs ys x y e = length-append xs (x ∷ []) ∙ ap (λ (n : ℕ). n + 1) e ∙ sym (length-append ys (y ∷ []))

@@ -1,6 +1,6 @@
 //! A collision in the ways of two leaves to one root.
 
-ghost use Rattle.std.specs.Prelude.{◌≡◌, ◌≢◌, ◌≤◌, ◌<◌, ◌^◌, true, false, Some, IsSome, IfOk};
+ghost use Rattle.std.specs.Prelude.{◌≡◌, ◌≢◌, ◌<◌, ◌^◌, true, false, Some, IsSome, IfOk};
 ghost use Rattle.std.specs.Option.{option_map};
 ghost use Rattle.spec_verify.specs.Collision.{Collides};
 ghost use Rattle.audit_paths.specs.Path.{AreHashes, HaveOneRoot, node_of, root_under};

@@ -1,7 +1,8 @@
 //! The way from a leaf up to the root.
 
-ghost use Rattle.std.specs.Prelude.{◌≡◌, ◌≢◌, ◌<◌, ◌^◌, [], ◌∷◌, ◌++◌, length, IfOk};
+ghost use Rattle.std.specs.Prelude.{◌≡◌, ◌≢◌, ◌≤◌, ◌<◌, ◌^◌, [], ◌∷◌, ◌++◌, length, take, drop, IfOk};
 ghost use Rattle.std.specs.Option.{MatchOption, option_map};
+ghost use Rattle.base_merkle.specs.TreeHash.{split_of};
 ghost use Rattle.audit_paths.specs.Path.{audit_path, node_of, root_over, root_under};
 
 use crate::half::half_of;
@@ -26,7 +27,7 @@ pub fn audit_path<H: Hash32>(
     if leaves.len() < 2 {
         return Ok(Items::new(alloc));
     }
-    let (front, back) = tree_halves(leaves);
+    let (front, back) = halves(leaves);
     if place < front.len() {
         let mut path = audit_path(alloc, h, place, front)?;
         path.push(tree_root(h, back))?;
@@ -36,6 +37,18 @@ pub fn audit_path<H: Hash32>(
         path.push(tree_root(h, front))?;
         Ok(path)
     }
+}
+
+// The two halves of two leaves and more, each with fewer leaves.
+fn halves(leaves: &[Blob]) -> (&[Blob], &[Blob])
+    requires few { length leaves.now < 2 ^ 63 }
+    requires more { 2 ≤ length leaves.now }
+    ensures front { result.0.now ≡ take (split_of (length leaves.now)) leaves.now }
+    ensures back { result.1.now ≡ drop (split_of (length leaves.now)) leaves.now }
+    ensures front_shorter { length result.0.now < length leaves.now }
+    ensures back_shorter { length result.1.now < length leaves.now }
+{
+    tree_halves(leaves)
 }
 
 /// The root that a path gives for a leaf at a place of so many, or None where the path has another length than

@@ -1,5 +1,5 @@
 -- The tests decide what is accepted.
-use Rattle.std.proofs.Common.{◌≡◌, ◌≢◌, ◌≤◌, ◌<◌, ◌+◌, ℕ, zero, suc, Bool, true, false, nat_lt, List, [], ◌∷◌, length, take, drop, Option, Some, None, refl, arith, sym, ◌∙◌, ap, subst}
+use Rattle.std.proofs.Common.{◌≡◌, ◌+◌, ℕ, suc, Bool, true, false, nat_lt, List, [], ◌∷◌, length, drop, Option, Some, None, refl, arith, sym, ◌∙◌, ap, subst}
 use Rattle.std.specs.Prelude.{◌==◌, ◌&&◌, nat_le, bytes_eq}
 use Rattle.std.specs.Bool.{Decides}
 use Rattle.std.proofs.lemmas.Bool.{eqb-true, eq-eqb, leb-true, le-leb, ltb-true, lt-ltb}
@@ -13,7 +13,7 @@ use Rattle.spec_model.specs.Limits.{max_block}
 use Rattle.spec_ledger.specs.Blocks.{no_hash, record_hash, last_hash}
 use Rattle.audit_paths.specs.Path.{root_under}
 use Rattle.format_receipt.specs.declared.receipt.Receipt.{Receipt}
-use Rattle.audit_receipt.specs.Accepted.{KeepsHashOf, AreLinked, LeadTo, StandsIn, Accepted}
+use Rattle.audit_receipt.specs.Accepted.{AreLinked, LeadTo, StandsIn, Accepted}
 use Rattle.audit_receipt.specs.Tests.{keeps_hash, is_root, are_linked, lead_to, stands_in, is_accepted}
 use Rattle.audit_receipt.proofs.Chains.{last_of_taken}
 

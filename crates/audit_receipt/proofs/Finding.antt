@@ -1,7 +1,7 @@
 -- What the first entry of a transaction tells.
-use Rattle.std.proofs.Common.{◌≡◌, ◌≢◌, ◌≤◌, ◌<◌, ℕ, zero, suc, Bool, true, false, List, [], ◌∷◌, length, All, Option, Some, None, refl, arith, sym, ◌∙◌, ap, subst}
+use Rattle.std.proofs.Common.{◌≡◌, ◌≤◌, ◌<◌, ℕ, zero, suc, Bool, true, false, List, [], ◌∷◌, Some, None, refl, ◌∙◌, ap, subst}
 use Rattle.std.specs.Prelude.{◌==◌, ◌&&◌, nat_le, if◌then◌else◌}
-use Rattle.std.specs.List.{AllByRecursion, slice_get}
+use Rattle.std.specs.List.{slice_get}
 use Rattle.std.proofs.lemmas.Bool.{eqb-true, eq-eqb, leb-true, leb-false}
 use Rattle.sql_types.specs.declared.entry.TxEntry.{TxEntry}
 use Rattle.audit_receipt.specs.Made.{entry_of}

@@ -1,5 +1,5 @@
 -- Two lists of records that lead from one block to one digest, from the last record down; and two receipts.
-use Rattle.std.proofs.Common.{◌≡◌, ◌≢◌, ◌≤◌, ◌<◌, ◌+◌, ◌-◌, ◌^◌, ℕ, zero, suc, List, [], ◌∷◌, length, take, drop, Some, refl, arith, sym, ◌∙◌, ap, subst, length-drop}
+use Rattle.std.proofs.Common.{◌≡◌, ◌≢◌, ◌≤◌, ◌<◌, ◌+◌, ◌-◌, ◌^◌, ℕ, zero, suc, List, [], ◌∷◌, length, take, drop, Some, refl, arith, sym, ◌∙◌, ap, subst}
 use Rattle.std.specs.List.{AllByRecursion}
 use Rattle.std.proofs.lemmas.List.{take_all}
 use Rattle.format_entry.specs.Entry.{entry_bytes, IsEntry}
@@ -13,8 +13,7 @@ use Rattle.spec_ledger.specs.Blocks.{no_hash, record_hash, last_hash}
 use Rattle.spec_verify.specs.Collision.{Collides}
 use Rattle.audit_extract.proofs.Lists.{cons_is, all_left}
 use Rattle.audit_paths.specs.Path.{root_under, HaveOneRoot}
-use Rattle.format_receipt.specs.declared.receipt.Receipt.{Receipt}
-use Rattle.audit_receipt.specs.Accepted.{AreLinked, LeadTo, StandsIn, Accepted}
+use Rattle.audit_receipt.specs.Accepted.{AreLinked, LeadTo, StandsIn}
 use Rattle.audit_receipt.proofs.Chains.{last_of_taken}
 
 -- ---- records
@@ -99,6 +98,13 @@ module _ (h : List ℕ → List ℕ) where
           second = subst (λ (m : ℕ). root_under h q m r.size (entry_bytes f) ≡ Some r.root) (sym o) y.2;
         };
       }
+
+  -- the first record, as the code takes it
+  pub ready : (e f : TxEntry) (p q : List (List ℕ)) (xs ys : List BlockRecord) (size : ℕ) → xs ≡ ys → e.ordinal ≡ f.ordinal → StandsIn h e p xs → StandsIn h f q ys
+      → ((r : BlockRecord) (rs : List BlockRecord) → xs ≡ r ∷ rs → size ≡ r.size) → OneBlock e.ordinal size e f p q
+  ready e f p q [] ys size same o x y size_is = absurd x
+  ready e f p q (r ∷ rs) ys size same o x y size_is =
+      subst (λ (n : ℕ). OneBlock e.ordinal n e f p q) (sym (size_is r rs refl)) (one_block e f p q r rs o x (subst (StandsIn h f q) (sym same) y))
 
 pub entries_differ : (e f : TxEntry) (x y : List ℕ) → x ≡ entry_bytes e → y ≡ entry_bytes f → x ≢ y → e ≢ f
 entries_differ e f x y x_is y_is ne = λ same. ne (x_is ∙ ap entry_bytes same ∙ sym y_is)

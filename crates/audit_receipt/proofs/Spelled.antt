@@ -1,24 +1,21 @@
 -- What is made of an image has a spelling.
-use Rattle.std.proofs.Common.{◌≡◌, ◌≢◌, ◌≤◌, ◌<◌, ◌+◌, ◌-◌, ◌*◌, ◌^◌, ℕ, zero, suc, Bool, true, false, nat_lt, List, [], ◌∷◌, ◌++◌, length, map, take, drop, Some, None, refl, arith, sym, ◌∙◌, ap, subst, lit<, length-take, length-drop, length-append}
+use Rattle.std.proofs.Common.{◌≡◌, ◌≤◌, ◌<◌, ◌+◌, ◌-◌, ◌*◌, ◌^◌, ℕ, zero, suc, Bool, true, false, nat_lt, List, [], ◌∷◌, ◌++◌, length, map, take, drop, Some, None, refl, arith, sym, ◌∙◌, subst, lit<, length-take, length-drop, length-append}
 use Rattle.std.specs.Prelude.{if◌then◌else◌}
 use Rattle.std.specs.List.{AllByRecursion, slice_get}
-use Rattle.std.proofs.Math.Nat.{one-le-pow, pow-le-pow_right}
+use Rattle.std.proofs.Math.Nat.{pow-le-pow_right}
 use Rattle.std.proofs.lemmas.Bool.{lt-ltb, ltb-true, ltb-false}
 use Rattle.std.proofs.lemmas.List.{length-map}
 use Rattle.format_entry.specs.Entry.{entry_bytes, IsEntry}
 use Rattle.format_entry.specs.Record.{IsRecord}
-use Rattle.sql_types.specs.declared.digest.HeldDigest.{HeldDigest}
-use Rattle.sql_types.specs.declared.entry.BlockRecord.{BlockRecord}
 use Rattle.sql_types.specs.declared.entry.TxEntry.{TxEntry}
 use Rattle.sql_types.specs.declared.image.Image.{Image}
-use Rattle.spec_ledger.specs.Blocks.{no_hash, first_or_no_hash}
+use Rattle.spec_ledger.specs.Blocks.{no_hash}
 use Rattle.format_image.specs.ImageBytes.{IsImage}
 use Rattle.base_merkle.specs.TreeHash.{split_of, tree_hash}
 use Rattle.base_merkle.proofs.Split.{split_is}
 use Rattle.spec_verify.specs.Blocks.{chain_fault, block_fault}
-use Rattle.spec_verify.specs.Sentences.{DigestHolds}
 use Rattle.audit_extract.specs.Parts.{blocks_to}
-use Rattle.audit_paths.specs.Path.{path_within, audit_path}
+use Rattle.audit_paths.specs.Path.{path_within}
 use Rattle.audit_paths.proofs.Leading.{path_hashes}
 use Rattle.format_receipt.specs.declared.receipt.Receipt.{Receipt}
 use Rattle.format_receipt.specs.Receipts.{IsReceipt}
@@ -26,7 +23,6 @@ use Rattle.audit_receipt.specs.Made.{entry_of, part_at, receipt_of, IsMade}
 use Rattle.audit_extract.proofs.Lists.{all_left, all_taken}
 use Rattle.audit_receipt.proofs.Found.{HasBlock, block_at, block_fits, each_at, stands, all_heads}
 use Rattle.audit_receipt.proofs.Finding.{found}
-use Rattle.audit_receipt.proofs.Made.{first_taken, parts_lead}
 
 -- ---- a path of few leaves is short
 

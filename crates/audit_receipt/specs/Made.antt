@@ -1,5 +1,5 @@
 -- The receipt that an image gives of an entry.
-use Rattle.std.specs.Prelude.{ℕ, zero, suc, ◌+◌, ◌≡◌, ◌≤◌, ◌<◌, ◌==◌, nat_le, ◌&&◌, if◌then◌else◌, List, [], ◌∷◌, map, take, drop, Option, Some, None}
+use Rattle.std.specs.Prelude.{ℕ, zero, suc, ◌≡◌, ◌≤◌, ◌<◌, ◌==◌, nat_le, ◌&&◌, if◌then◌else◌, List, [], ◌∷◌, map, take, drop, Option, Some, None}
 use Rattle.std.specs.List.{slice_get}
 use Rattle.format_entry.specs.Entry.{entry_bytes}
 use Rattle.sql_types.specs.declared.entry.BlockRecord.{BlockRecord}

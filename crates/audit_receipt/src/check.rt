@@ -145,7 +145,8 @@ fn stands_in<H: Hash32>(
                 return Ok(false);
             }
             let leaf = entry_leaf(alloc, e)?;
-            let (place, count) = (e.ordinal as usize, first.size as usize);
+            let place = e.ordinal as usize;
+            let count = first.size as usize;
             Ok(is_root(
                 &first.root,
                 &root_under(h, path, place, count, leaf.bytes()),

@@ -43,7 +43,8 @@ pub fn settle<H: Hash32>(
     if is_equal(a_leaf.bytes(), b_leaf.bytes()) {
         return Ok(Settled::Same);
     }
-    let (a_records, b_records) = (a.records.as_slice(), b.records.as_slice());
+    let a_records = a.records.as_slice();
+    let b_records = b.records.as_slice();
     if let Some(collision) = find_in_records(
         alloc,
         h,

@@ -10,6 +10,8 @@ pub const USAGE: &str = "usage: ledgerd step --save NAME [--block-size N] [--clo
        ledgerd verify IMAGE DIGESTS [--workers W]
        ledgerd extract HONEST SUSPECT DIGESTS
        ledgerd replay JOURNAL --save NAME
+       ledgerd receipt IMAGE DIGESTS TX --save NAME
+       ledgerd check RECEIPT DIGESTS
        ledgerd gen COUNT
 `./ledgerd --help` says what each does.
 ";
@@ -27,6 +29,9 @@ pub const HELP: &str =
   ledgerd verify IMAGE DIGESTS             says whether an image and digests hold together
   ledgerd extract HONEST SUSPECT DIGESTS   says what two images are to each other
   ledgerd replay JOURNAL --save NAME       runs a journal again and saves its image
+  ledgerd receipt IMAGE DIGESTS TX --save NAME
+                                           makes the receipt of one transaction of an image
+  ledgerd check RECEIPT DIGESTS            says whether a receipt holds with digests
   ledgerd gen COUNT                        runs and verifies a workload, to measure with
   ledgerd COMMAND --help                   says more of one of these
   ledgerd --help, ledgerd -h               prints this text
@@ -101,6 +106,31 @@ Example, from the top of the repository, behind that of `step`:
   ./ledgerd replay shop.journal --save again
 ";
 
+/// Help on `receipt`.
+pub const RECEIPT_HELP: &str = "ledgerd receipt IMAGE DIGESTS TX --save NAME
+
+Verifies the image IMAGE with the digests DIGESTS, and prints the verdict where it is No. Else it puts
+NAME.receipt in the current folder and prints `receipt` with the transaction's block and its place there. The
+receipt shows that the transaction with the id TX is one of those that the digest of the greatest block
+covers; `check` says so to whoever holds that digest, without the image.
+TX is a number from 1 on, as `committed` prints it.
+
+Example, from the top of the repository:
+  (cd examples && ../ledgerd receipt honest.img honest.digests 2 --save payment)
+";
+
+/// Help on `check`.
+pub const CHECK_HELP: &str = "ledgerd check RECEIPT DIGESTS
+
+Prints `Yes` where the receipt RECEIPT holds with the first of the digests DIGESTS that is of its last block,
+and ends with status 0: no image that verifies with this digest has another transaction at this place. Else
+it prints `No receipt` and ends with status 1.
+Both names are those of files in the current folder. It puts no file.
+
+Example, from the top of the repository, behind that of `receipt`:
+  (cd examples && ../ledgerd check payment.receipt honest.digests)
+";
+
 /// Help on `gen`.
 pub const GEN_HELP: &str = "ledgerd gen COUNT
 
@@ -125,5 +155,7 @@ pub fn help_text(which: Option<Subcommand>) -> &'static str
         Some(Subcommand::Extract) => EXTRACT_HELP,
         Some(Subcommand::Replay) => REPLAY_HELP,
         Some(Subcommand::Gen) => GEN_HELP,
+        Some(Subcommand::Receipt) => RECEIPT_HELP,
+        Some(Subcommand::Check) => CHECK_HELP,
     }
 }

@@ -35,7 +35,7 @@ encode_entry e = long_field (entry_bytes e)
 entries_decode : Decodes (Shorter (2 ^ 32)) FitEntry long_field encode_entry (whole entry_at) entry_bytes
 entries_decode = record {
   there = λ e f. only_of (entry_bytes e) e f.0 refl;
-  spelled = λ e f. refl;
+  encoded = λ e f. refl;
   fit_back = λ e f. f.1;
   back = λ bytes e fits small read.
       let t = found_of bytes (Some e) (IsBytes-back (u32_field (length bytes)) bytes fits) (sym read) in
@@ -78,19 +78,19 @@ FitParts x = (is_database_name x.0 ≡ true) × (FitEntry x.1.0 × (FitPath x.1.
 abbrev encode_parts : Parts → List ℕ
 encode_parts x = short_field x.0 ++ (encode_entry x.1.0 ++ (path_bytes x.1.1.0 ++ records_bytes x.1.1.1))
 
-abbrev spelled : Receipt → List ℕ
-spelled r = codes "LGRC" ++ (u8_field 1 ++ (short_field r.database ++ (long_field (entry_bytes r.entry) ++ (path_bytes r.path ++ records_bytes r.records))))
+abbrev encoded : Receipt → List ℕ
+encoded r = codes "LGRC" ++ (u8_field 1 ++ (short_field r.database ++ (long_field (entry_bytes r.entry) ++ (path_bytes r.path ++ records_bytes r.records))))
 
 few_hashes : (path : List (List ℕ)) → length path ≤ max_path → length path < 256
 few_hashes path le = omega (arith, le)
 
-receipt_exact : Exact IsReceipt spelled receipt_at
+receipt_exact : Exact IsReceipt encoded receipt_at
 unfolding receipt_at
-receipt_exact = mapped_exact FitParts IsReceipt (λ (x : Parts). codes "LGRC" ++ (u8_field 1 ++ encode_parts x)) spelled receipt_from parts_of
+receipt_exact = mapped_exact FitParts IsReceipt (λ (x : Parts). codes "LGRC" ++ (u8_field 1 ++ encode_parts x)) encoded receipt_from parts_of
     (after (codes "LGRC") (after (u8_field 1) (both database_at (both entry_behind (both path_at records_at)))))
     (record {
       there = λ r. refl;
-      spelled = λ x. refl;
+      encoded = λ x. refl;
       fit = λ x f. record { database = f.0; entry = f.1.0.0; few = leb-true (length x.1.1.0) max_path f.1.1.0.1; path = f.1.1.0.0.1; some = leb-true 1 (length x.1.1.1) f.1.1.1.1; count = f.1.1.1.0.0; records = f.1.1.1.0.1 };
       fit_back = λ r f. (f.database, ((f.entry, entry_room r.entry f.entry), (((few_hashes r.path f.few, f.path), le-leb (length r.path) max_path f.few), ((f.count, f.records), le-leb 1 (length r.records) f.some))));
     })
@@ -104,18 +104,18 @@ receipt_exact = mapped_exact FitParts IsReceipt (λ (x : Parts). codes "LGRC" ++
 
 -- ---- the bytes
 
-receipt_bytes-is : (r : Receipt) → receipt_bytes r ≡ spelled r
+receipt_bytes-is : (r : Receipt) → receipt_bytes r ≡ encoded r
 unfolding receipt_bytes
 receipt_bytes-is r = refl
 
 pub receipt_found : (bytes : List ℕ) (found : Option Receipt) → IsBytes bytes → found ≡ whole receipt_at bytes → IfSome found (λ r. IsReceipt r × (bytes ≡ receipt_bytes r))
 receipt_found bytes None fits read = tt
 receipt_found bytes (Some r) fits read =
-    let t = whole_sound IsReceipt spelled receipt_at receipt_exact bytes r fits (sym read) in
+    let t = whole_sound IsReceipt encoded receipt_at receipt_exact bytes r fits (sym read) in
     (t.0, t.1 ∙ sym (receipt_bytes-is r))
 
 pub receipt_only : (bytes : List ℕ) (r : Receipt) → IsReceipt r → bytes ≡ receipt_bytes r → whole receipt_at bytes ≡ Some r
-receipt_only bytes r is same = ap (whole receipt_at) (same ∙ receipt_bytes-is r) ∙ whole_complete IsReceipt spelled receipt_at receipt_exact r is
+receipt_only bytes r is same = ap (whole receipt_at) (same ∙ receipt_bytes-is r) ∙ whole_complete IsReceipt encoded receipt_at receipt_exact r is
 
 pub equal_receipts : (r s : Receipt) → IsReceipt r → IsReceipt s → receipt_bytes r ≡ receipt_bytes s → r ≡ s
 equal_receipts r s is js same =

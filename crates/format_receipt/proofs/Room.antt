@@ -1,8 +1,8 @@
 -- The bytes of an entry are few.
-use Rattle.std.proofs.Common.{◌≡◌, ◌≤◌, ◌<◌, ◌+◌, ◌*◌, ◌^◌, ℕ, List, [], ◌∷◌, ◌++◌, length, flat_map, refl, arith, length-append}
+use Rattle.std.proofs.Common.{◌≡◌, ◌<◌, ◌+◌, ◌*◌, ◌^◌, ℕ, List, [], ◌∷◌, ◌++◌, length, flat_map, refl, arith, length-append}
 use Rattle.std.specs.List.{AllByRecursion}
 use Rattle.base_types.proofs.Names.{session_short}
-use Rattle.base_fields.specs.Fields.{u8_field, u16_field, u32_field, u64_field, short_field, hash_field}
+use Rattle.base_fields.specs.Fields.{u16_field, u32_field, u64_field, short_field, hash_field}
 use Rattle.base_fields.proofs.Worth.{length-bytes_high_first}
 use Rattle.sql_types.specs.declared.entry.TxEntry.{TxEntry}
 use Rattle.format_entry.specs.Entry.{TableRoot, root_bytes, roots_bytes, head_bytes, entry_bytes, IsRoot, IsEntry}

@@ -10,7 +10,7 @@ use Rattle.audit_extract.specs.declared.found.ImageComparison.{ImageComparison}
 use Rattle.cli_commands.specs.declared.extract.Finding.{Finding}
 use Rattle.cli_commands.specs.declared.extract.Finding.TheVariants.{Honest, Suspect, Compared}
 use Rattle.cli_commands.specs.declared.status.Status.{Status}
-use Rattle.cli_commands.specs.declared.status.Status.TheVariants.{Done, No, Words, Limit, SourceFault, SinkFault, VaultFault, Missing, Digests, Journal, Form, Memory}
+use Rattle.cli_commands.specs.declared.status.Status.TheVariants.{Done, No, Words, Limit, SourceFault, SinkFault, VaultFault, Missing, Digests, Journal, Form, Memory, NoEntry, Receipt}
 use Rattle.cli_commands.specs.Extract.{AreCompared, ExtractCause, Extracts, HasToldOf, HoldsNoDigests, IsFound, IsFoundWith, LacksExhibits}
 use Rattle.cli_commands.specs.Names.{digests_limit, image_limit}
 use Rattle.cli_commands.specs.Verify.{AreRefused, SaidOrIdle}
@@ -86,6 +86,8 @@ module _ (h : List ℕ → List ℕ) (names : Names) (honest suspect digests byt
   says_which SourceFault f old new cause s = cause
   says_which (Journal at) f old new cause s = cause
   says_which (Form line) f old new cause s = cause
+  says_which NoEntry f old new cause s = cause
+  says_which Receipt f old new cause s = cause
 
 pub extract_says : (h : List ℕ → List ℕ) (names : Names) (honest suspect digests bytes other : List ℕ) (held : List HeldDigest) → IsExhibit h names honest digests bytes held
     → HoldsImage names suspect other → verdict_of h held other ≡ Yes

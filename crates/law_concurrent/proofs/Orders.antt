@@ -1,8 +1,8 @@
 -- What stands in one order does so for the same transcripts in another list, and by another meaning.
-use Rattle.std.proofs.Common.{◌≡◌, ℕ, List, [], ◌∷◌, ◌++◌, Some, refl, sym, ap, subst, ◌∙◌, inl, inr}
+use Rattle.std.proofs.Common.{◌≡◌, ℕ, List, [], ◌∷◌, ◌++◌, Some, refl, sym, subst, ◌∙◌, inl, inr}
 use Rattle.sql_types.specs.declared.journal.JournalItem.{JournalItem}
 use Rattle.spec_history.specs.Facts.{Fact, facts_of}
-use Rattle.spec_history.specs.Lists.{Text, Some_of, At, In}
+use Rattle.spec_history.specs.Lists.{Some_of, At, In}
 use Rattle.spec_history.specs.Meaning.{Meaning}
 use Rattle.spec_history.specs.Transcripts.{Transcript}
 use Rattle.spec_history.proofs.Trace.{each_weaker}

@@ -54,8 +54,9 @@ pub fn statements_have_one_meaning()
 
 /// What is left where all seats of a server were joined into one is that of a run of the input in which
 /// `setup` came first and all other sessions ran side by side: transcripts, images, journal and digests agree
-/// by every meaning that statements have, the journal is a legal one, and each image is accepted with the
-/// digests whose blocks are closed in it. Commits and digests have some of these moments.
+/// by every meaning that statements have, all that the transcripts show stands in one order, the journal is a
+/// legal one, and each image is accepted with the digests whose blocks are closed in it, as those before it in
+/// that order are. Commits and digests have some of these moments.
 pub fn runs_side_by_side_agree()
     ensures { (h : List ℕ → List ℕ) (database : Text) (size : ℕ) (moments : List ℕ)
         (input : List InputSession) (r : RunResult)

@@ -8,7 +8,7 @@ use Rattle.sql_types.specs.declared.digest.HeldDigest.{HeldDigest}
 use Rattle.sql_types.specs.declared.entry.BlockRecord.{BlockRecord}
 use Rattle.sql_types.specs.declared.entry.TxEntry.{TxEntry}
 use Rattle.sql_types.specs.declared.image.Image.{Image}
-use Rattle.spec_ledger.specs.Blocks.{no_hash, first_or_no_hash}
+use Rattle.spec_ledger.specs.Blocks.{no_hash}
 use Rattle.format_image.specs.ImageBytes.{IsImage}
 use Rattle.spec_verify.specs.Blocks.{chain_fault, block_fault}
 use Rattle.spec_verify.specs.Sentences.{DigestHolds}

@@ -1,4 +1,4 @@
-use Rattle.audit_paths.proofs.Finding.{Sought}
+use Rattle.audit_paths.proofs.Descending.{Sought}
 use Rattle.audit_paths.proofs.finding.find_in_paths.Given as goal
 
 abbrev pub invariant-halves : goal.invariant-halves

@@ -1,4 +1,4 @@
-use Rattle.std.proofs.Common.{rules, refl, ◌-◌, arith, length}
+use Rattle.std.proofs.Common.{rules, refl, ◌-◌}
 use Rattle.audit_receipt.proofs.Settling.{level_start, one_less, records_collide}
 use Rattle.audit_receipt.proofs.settle.find_in_records.Goals as goal
 

@@ -1,12 +1,30 @@
 -- Two leaves that lead to one root from one place, from the root down.
-use Rattle.std.proofs.Common.{◌≡◌, ◌≢◌, ◌≤◌, ◌<◌, ◌^◌, ℕ, List, [], ◌∷◌, ◌++◌, length, Option, Some, None, refl, arith, sym, ◌∙◌, ap, subst}
-use Rattle.std.specs.Prelude.{IsSome}
+use Rattle.std.proofs.Common.{◌≡◌, ◌≢◌, ◌≤◌, ◌<◌, ◌^◌, ℕ, Bool, true, false, List, [], ◌∷◌, ◌++◌, length, Option, Some, None, refl, arith, sym, ◌∙◌, ap, subst}
+use Rattle.std.specs.Prelude.{IsSome, eqb, if◌then◌else◌, zip}
 use Rattle.std.specs.Option.{option_map}
 use Rattle.spec_verify.specs.Collision.{Collides}
 use Rattle.audit_paths.specs.declared.side.Side.{Side}
-use Rattle.audit_paths.specs.Path.{sides_of, node_of, root_under, HaveOneRoot, AreHashes}
+use Rattle.audit_paths.specs.Path.{sides_of, Step, node_of, climbed, root_over, root_under, HaveOneRoot, AreHashes}
 use Rattle.audit_paths.proofs.Climbing.{halves_of, behind_first}
 use Rattle.audit_paths.proofs.Equations.{under_step, under_none, under_leaf}
+
+-- ---- a root has 32 bytes
+
+climbed_sized : (h : List ℕ → List ℕ) → ((bytes : List ℕ) → length (h bytes) ≡ 32) → (hash : List ℕ) (steps : List Step) → length hash ≡ 32 → length (climbed h hash steps) ≡ 32
+climbed_sized h sized hash [] e = e
+climbed_sized h sized hash (s ∷ steps) e = climbed_sized h sized (h (node_of s hash)) steps (sized (node_of s hash))
+
+some_if : (b : Bool) (x y : List ℕ) → (if b then Some x else None) ≡ Some y → x ≡ y
+some_if true x y e = cc
+some_if false x y e = cc
+
+under_sized : (h : List ℕ → List ℕ) → ((bytes : List ℕ) → length (h bytes) ≡ 32) → (m n : ℕ) (leaf root : List ℕ) (path : List (List ℕ)) → root_under h path m n leaf ≡ Some root → length root ≡ 32
+unfolding root_under
+under_sized h sized m n leaf root path e =
+    let same = some_if (eqb (length path) (length (sides_of m n))) (root_over h leaf (zip (sides_of m n) path)) root e in
+    sym (ap length same) ∙ climbed_sized h sized (h (0 ∷ leaf)) (zip (sides_of m n) path) (sized (0 ∷ leaf))
+
+-- ---- the search
 
 -- what the search keeps: the two paths that are left, at place m of n
 pub record Sought (h : List ℕ → List ℕ) (m n : ℕ) (a : List ℕ) (p : List (List ℕ)) (b : List ℕ) (q : List (List ℕ)) : Type 0 where
@@ -65,8 +83,10 @@ module _ (h : List ℕ → List ℕ) (s : Side) (j k : ℕ) (a b root : List ℕ
   nodes_collide ne = record { differ = ne; same = ap h one ∙ u.node ∙ sym v.node ∙ sym (ap h two) }
 
   -- where they are the same bytes, both halves have one root
-  pub go_down : ((bytes : List ℕ) → length (h bytes) ≡ 32) → length u.half ≡ 32 → length v.half ≡ 32 → k < 2 ^ 63 → first ≡ second → Sought h j k a p b q
-  go_down sized lu lv few same =
+  pub go_down : ((bytes : List ℕ) → length (h bytes) ≡ 32) → k < 2 ^ 63 → first ≡ second → Sought h j k a p b q
+  go_down sized few same =
+      let lu = under_sized h sized j k a u.half p u.there in
+      let lv = under_sized h sized j k b v.half q v.there in
       let r = halves_of h sized s x y u.half v.half (u.sized ∙ sym v.sized) (lu ∙ sym lv) (sym one ∙ same ∙ two) in
       record {
         few = few;
@@ -81,3 +101,28 @@ leaves_collide h m n a b first second p q one few ne is_first is_second =
       differ = λ e. ne (behind_first 0 0 a b (sym is_first ∙ e ∙ is_second));
       same = ap h is_first ∙ under_leaf h p m n a one.root few one.first ∙ sym (under_leaf h q m n b one.root few one.second) ∙ sym (ap h is_second);
     }
+
+-- ---- one step of it, from what is kept
+
+module _ (h : List ℕ → List ℕ) (m n j k : ℕ) (s : Side) (a b : List ℕ) (p q below_p below_q : List (List ℕ)) (x y : List ℕ) (sides : sides_of m n ≡ sides_of j k ++ s ∷ [])
+    (kept : Sought h m n a p b q) (p_is : p ≡ below_p ++ x ∷ []) (q_is : q ≡ below_q ++ y ∷ []) where
+  pub left : Under h s j k a kept.roots.root below_p x
+  left = under h m n j k s a kept.roots.root p below_p x sides p_is kept.first kept.roots.first
+
+  pub right : Under h s j k b kept.roots.root below_q y
+  right = under h m n j k s b kept.roots.root q below_q y sides q_is kept.second kept.roots.second
+
+  pub left_there : IsSome (root_under h below_p j k a)
+  left_there = is_there (root_under h below_p j k a) left.half left.there
+
+  pub right_there : IsSome (root_under h below_q j k b)
+  right_there = is_there (root_under h below_q j k b) right.half right.there
+
+  module _ (first second : List ℕ) (first_is : Some first ≡ option_map (node_of (s, x)) (root_under h below_p j k a)) (second_is : Some second ≡ option_map (node_of (s, y)) (root_under h below_q j k b)) where
+    pub step_collides : first ≢ second → Collides h first second
+    step_collides ne = nodes_collide h s j k a b kept.roots.root below_p below_q x y first second left right first_is second_is ne
+
+    pub step_down : ((bytes : List ℕ) → length (h bytes) ≡ 32) → k < n → first ≡ second → Sought h j k a below_p b below_q
+    step_down sized lt same =
+        let few = kept.few in
+        go_down h s j k a b kept.roots.root below_p below_q x y first second left right first_is second_is sized (omega (arith, few, lt)) same
