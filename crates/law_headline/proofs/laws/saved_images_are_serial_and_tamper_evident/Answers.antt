@@ -1,4 +1,4 @@
-use Rattle.std.specs.Prelude.{ℕ, ◌<◌, List, length, None, Some}
+use Rattle.std.specs.Prelude.{◌<◌, List, length, None, Some}
 use Rattle.std.proofs.Common.{refl, subst, sym, arith}
 use Rattle.std.proofs.lemmas.List.{take_all}
 use Rattle.sql_types.specs.declared.journal.JournalItem.{JournalItem}
