@@ -19,7 +19,7 @@ mod vault;
 
 pub use clock::{Clock, FixedClock};
 pub use failed::Failed;
-pub use folder_vault::FolderVault;
+pub use folder_vault::{FileCause, FileFailure, FolderVault};
 pub use gate::{Gate, OpenGate};
 pub use machine_clock::MachineClock;
 pub use mem_sink::MemSink;

@@ -3,6 +3,7 @@
 ghost use Rattle.std.specs.Prelude.{⊤, ◌≡◌, None};
 
 use crate::{Failed, Sink};
+use std::io;
 use std::io::Write;
 
 /// Writes to a writer. It tells nothing of what it took.
@@ -11,21 +12,31 @@ pub struct StdoutSink<W: Write + Drop> {
     writer: W,
     failed: u64,
     stalled: u64,
+    failure: Option<io::Error>,
 }
 
 impl<W: Write + Drop> StdoutSink<W> {
-    ghost use Rattle.base_io.specs.Adapters.{writer_faults, writer_stalls};
+    ghost use Rattle.base_io.specs.Adapters.{writer_faults, writer_stalls, writer_failure};
 
     /// A sink over this writer that has neither failed nor stalled so far.
     pub fn new(writer: W) -> StdoutSink<W>
         ensures faults { writer_faults result ≡ 0 }
         ensures stalls { writer_stalls result ≡ 0 }
+        ensures failure { writer_failure result ≡ None }
     {
         StdoutSink {
             writer,
             failed: 0,
             stalled: 0,
+            failure: None,
         }
+    }
+
+    /// What the system said when it failed last, for whom it is to be told.
+    pub fn failure(&self) -> Option<io::Error>
+        ensures { result ≡ writer_failure self.now }
+    {
+        self.failure
     }
 }
 
@@ -48,8 +59,9 @@ impl<W: Write + Drop> Sink for StdoutSink<W> {
                 }
                 Ok(n)
             }
-            Err(_) => {
+            Err(error) => {
                 self.failed = self.failed.saturating_add(1);
+                self.failure = Some(error);
                 Err(Failed)
             }
         }
