@@ -6,7 +6,9 @@ ghost use Rattle.clap.specs.Words.{found_of, first_value};
 ghost use Rattle.cli_words.specs.Commands as spec;
 ghost use Rattle.cli_words.specs.Views.{settings_view, command_view};
 
-use crate::forms::{database_or_default, file_name, number_if_given, number_or, small_number_in};
+use crate::forms::{
+    database_or_default, file_name, number_if_given, number_or, save_name, small_number_in,
+};
 use crate::line::read_line;
 use crate::subcommand::Subcommand;
 use base_types::{MAX_TICKS, Memory};
@@ -84,7 +86,7 @@ fn step_of<'a>(matches: &ArgMatches<'a>) -> Option<Command<'a>>
     ensures { option_map command_view result
         ≡ spec.meaning_of Subcommand.Step (first_value (found_of matches.now)) }
 {
-    let save = file_name(matches.get_str("save")?)?;
+    let save = save_name(matches.get_str("save")?)?;
     let settings = settings_of(matches)?;
     Some(Command::Step { save, settings })
 }
@@ -94,7 +96,7 @@ fn run_of<'a>(matches: &ArgMatches<'a>) -> Option<Command<'a>>
     ensures { option_map command_view result
         ≡ spec.meaning_of Subcommand.Run (first_value (found_of matches.now)) }
 {
-    let save = file_name(matches.get_str("save")?)?;
+    let save = save_name(matches.get_str("save")?)?;
     let settings = settings_of(matches)?;
     Some(Command::Run { save, settings })
 }
@@ -135,7 +137,7 @@ fn replay_of<'a>(matches: &ArgMatches<'a>) -> Option<Command<'a>>
         ≡ spec.meaning_of Subcommand.Replay (first_value (found_of matches.now)) }
 {
     let journal = file_name(matches.get_str("JOURNAL")?)?;
-    let save = file_name(matches.get_str("save")?)?;
+    let save = save_name(matches.get_str("save")?)?;
     Some(Command::Replay { journal, save })
 }
 
@@ -191,7 +193,7 @@ fn asks_help(words: &[String]) -> bool
     ensures { result ≡ spec.asks_help (map string_bytes words.now) }
 {
     match words {
-        [word] => word.as_str() == "--help",
+        [word] => word.as_str() == "--help" || word.as_str() == "-h",
         _ => false,
     }
 }
@@ -200,12 +202,33 @@ fn asks_help(words: &[String]) -> bool
 fn alone<'a>(word: &str) -> Option<Command<'a>>
     ensures { option_map command_view result ≡ spec.alone word.now }
 {
-    if word == "--help" || word == "-h" {
+    if word == "--help" || word == "-h" || word == "help" {
         Some(Command::Help(None))
     } else if word == "--version" || word == "-V" {
         Some(Command::Version)
     } else {
         None
+    }
+}
+
+fn help_on<'a>(word: &str, name: &str) -> Option<Command<'a>>
+    ensures { option_map command_view result ≡ spec.help_on word.now name.now }
+{
+    if word != "help" {
+        return None;
+    }
+    let which = Subcommand::named(name)?;
+    Some(Command::Help(Some(which)))
+}
+
+/// What words say the first of which names no command.
+fn others<'a>(word: &str, rest: &[String]) -> Option<Command<'a>>
+    ensures { option_map command_view result ≡ spec.others word.now (map string_bytes rest.now) }
+{
+    match rest {
+        [] => alone(word),
+        [name] => help_on(word, name.as_str()),
+        _ => None,
     }
 }
 
@@ -226,11 +249,7 @@ fn command_of<'a>(alloc: Global, words: &'a [String]) -> Result<Option<Command<'
                 read_arguments(alloc, which, words)
             }
         }
-        None => Ok(if rest.is_empty() {
-            alone(word.as_str())
-        } else {
-            None
-        }),
+        None => Ok(others(word.as_str(), rest)),
     }
 }
 
