@@ -7,7 +7,7 @@ pub mod Halves
 pub mod Heads
 pub mod ImageLeaves
 pub mod Linked
-mod Lists
+pub mod Lists
 pub mod Parted
 pub mod Rooted
 pub mod Unbroken

@@ -37,7 +37,7 @@ pub fn extract_each<H: Hash32>(
 }
 
 /// The digest of the greatest block, the first of these.
-fn last_of(digests: &[HeldDigest]) -> Option<&HeldDigest>
+pub fn last_of(digests: &[HeldDigest]) -> Option<&HeldDigest>
     ensures { option_map (λ d. d.now) result ≡ last_of digests.now }
 {
     match digests {

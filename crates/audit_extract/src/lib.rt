@@ -12,10 +12,11 @@ mod laws;
 mod leaves;
 mod trees;
 
-pub use each::extract_each;
+pub use each::{extract_each, last_of};
 pub use found::{Collision, ImageComparison};
 pub use images::extract;
 pub use laws::{
     accepted_bytes_have_one_history_or_a_collision, accepted_images_meet_each_digest,
     later_digests_cover_more,
 };
+pub use trees::{split_of, tree_halves, tree_root};

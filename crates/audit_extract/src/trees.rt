@@ -31,8 +31,8 @@ pub(crate) fn find_in_trees<H: Hash32>(
         match compared(alloc, h, a, b)? {
             ImageComparison::Collision(collision) => return Ok(collision),
             ImageComparison::Same => {
-                let (a_front, a_back) = parts(a);
-                let (b_front, b_back) = parts(b);
+                let (a_front, a_back) = tree_halves(a);
+                let (b_front, b_back) = tree_halves(b);
                 if are_same(a_front, b_front) {
                     a = a_back;
                     b = b_back;
@@ -78,17 +78,17 @@ fn hashed_bytes<H: Hash32>(alloc: Global, h: H, leaves: &[Blob]) -> Result<Blob,
             bytes.extend_from_slice(leaf.bytes())?;
         }
         _ => {
-            let (front, back) = parts(leaves);
+            let (front, back) = tree_halves(leaves);
             bytes.push(1)?;
-            bytes.extend_from_slice(&root_of(h, front))?;
-            bytes.extend_from_slice(&root_of(h, back))?;
+            bytes.extend_from_slice(&tree_root(h, front))?;
+            bytes.extend_from_slice(&tree_root(h, back))?;
         }
     }
     Ok(Blob::from_vec(bytes))
 }
 
-// The tree hash of some leaves.
-fn root_of<H: Hash32>(h: H, leaves: &[Blob]) -> [u8; 32]
+/// The tree hash of some leaves (RFC 6962, section 2.1).
+pub fn tree_root<H: Hash32>(h: H, leaves: &[Blob]) -> [u8; 32]
     requires { length leaves.now < 2 ^ 63 }
     ensures { result ≡ tree_hash (H.digest h) leaves.now }
 {
@@ -99,8 +99,8 @@ fn root_of<H: Hash32>(h: H, leaves: &[Blob]) -> [u8; 32]
     tree.root()
 }
 
-// The two halves of two leaves and more.
-fn parts(leaves: &[Blob]) -> (&[Blob], &[Blob])
+/// The two halves of two leaves and more, as the tree parts them.
+pub fn tree_halves(leaves: &[Blob]) -> (&[Blob], &[Blob])
     requires few { length leaves.now < 2 ^ 63 }
     requires more { 2 ≤ length leaves.now }
     ensures front { result.0.now ≡ take (split_of (length leaves.now)) leaves.now }
@@ -109,8 +109,8 @@ fn parts(leaves: &[Blob]) -> (&[Blob], &[Blob])
     leaves.split_at(split_of(leaves.len()))
 }
 
-// The largest power of two below a number.
-fn split_of(n: usize) -> usize
+/// The largest power of two below a number: so many leaves stand in the first half of a tree.
+pub fn split_of(n: usize) -> usize
     requires few { n < 2 ^ 63 }
     requires more { 2 ≤ n }
     ensures { result ≡ split_of n }

@@ -32,7 +32,7 @@ use Rattle.audit_replay.specs.declared.running.ReplayErr.{ReplayErr}
 use Rattle.audit_replay.specs.declared.running.ReplayErr.TheVariants as errors
 use Rattle.cli_commands.specs.declared.files.File.{File}
 use Rattle.cli_commands.specs.declared.status.Status.{Status}
-use Rattle.cli_commands.specs.declared.status.Status.TheVariants.{Done, No, Words, Limit, SourceFault, SinkFault, VaultFault, Missing, Digests, Journal, Form, Memory}
+use Rattle.cli_commands.specs.declared.status.Status.TheVariants.{Done, No, Words, Limit, SourceFault, SinkFault, VaultFault, Missing, Digests, Journal, Form, Memory, NoEntry, Receipt}
 use Rattle.cli_commands.specs.Answer.{HasPut, HasWritten, EndsBy, Unfailed}
 use Rattle.cli_commands.specs.Calls.{Gave, AreGets, ArePuts, Behind, AreGetsAndPuts, AreWrites}
 use Rattle.cli_commands.specs.Files.{TellsLeft, TellsHeld, FirstArePut, put_held}
@@ -137,6 +137,8 @@ by_end P vault sink done faulty failed short Limit ends = absurd ends
 by_end P vault sink done faulty failed short SourceFault ends = absurd ends
 by_end P vault sink done faulty failed short (Missing which) ends = absurd ends
 by_end P vault sink done faulty failed short (Digests index) ends = absurd ends
+by_end P vault sink done faulty failed short NoEntry ends = absurd ends
+by_end P vault sink done faulty failed short Receipt ends = absurd ends
 by_end P vault sink done faulty failed short (Journal at) ends = absurd ends
 by_end P vault sink done faulty failed short (Form line) ends = absurd ends
 
@@ -154,6 +156,8 @@ by_image P bytes refused short SinkFault lacks = absurd lacks
 by_image P bytes refused short VaultFault lacks = absurd lacks
 by_image P bytes refused short (Missing which) lacks = absurd lacks
 by_image P bytes refused short (Digests index) lacks = absurd lacks
+by_image P bytes refused short NoEntry lacks = absurd lacks
+by_image P bytes refused short Receipt lacks = absurd lacks
 by_image P bytes refused short (Form line) lacks = absurd lacks
 
 -- a name that leads to none
@@ -170,6 +174,8 @@ by_name P name names vault long missing refused failed short Words lacks = absur
 by_name P name names vault long missing refused failed short SourceFault lacks = absurd lacks
 by_name P name names vault long missing refused failed short SinkFault lacks = absurd lacks
 by_name P name names vault long missing refused failed short (Digests index) lacks = absurd lacks
+by_name P name names vault long missing refused failed short NoEntry lacks = absurd lacks
+by_name P name names vault long missing refused failed short Receipt lacks = absurd lacks
 by_name P name names vault long missing refused failed short (Form line) lacks = absurd lacks
 
 -- ---- why there is no image
@@ -187,6 +193,8 @@ lacks_legal SinkFault J bytes spelled illegal = absurd illegal
 lacks_legal VaultFault J bytes spelled illegal = absurd illegal
 lacks_legal (Missing which) J bytes spelled illegal = absurd illegal
 lacks_legal (Digests index) J bytes spelled illegal = absurd illegal
+lacks_legal NoEntry J bytes spelled illegal = absurd illegal
+lacks_legal Receipt J bytes spelled illegal = absurd illegal
 lacks_legal (Form line) J bytes spelled illegal = absurd illegal
 
 pub no_image : (result : Result Image Status) (J : JournalOf) (bytes : List ℕ) → IsSpelled J bytes → IfErr result (λ status. IsIllegal status J)
@@ -207,6 +215,8 @@ lacks_journal SinkFault bytes refused = absurd refused
 lacks_journal VaultFault bytes refused = absurd refused
 lacks_journal (Missing which) bytes refused = absurd refused
 lacks_journal (Digests index) bytes refused = absurd refused
+lacks_journal NoEntry bytes refused = absurd refused
+lacks_journal Receipt bytes refused = absurd refused
 lacks_journal (Form line) bytes refused = absurd refused
 
 -- ---- why a name leads to none
@@ -223,6 +233,8 @@ lacks_name Words name names vault lacks fault = absurd lacks
 lacks_name SourceFault name names vault lacks fault = absurd lacks
 lacks_name SinkFault name names vault lacks fault = absurd lacks
 lacks_name (Digests index) name names vault lacks fault = absurd lacks
+lacks_name NoEntry name names vault lacks fault = absurd lacks
+lacks_name Receipt name names vault lacks fault = absurd lacks
 lacks_name (Journal at) name names vault lacks fault = absurd lacks
 lacks_name (Form line) name names vault lacks fault = absurd lacks
 
@@ -253,7 +265,7 @@ gave_short old now gave = since_weaker old now (Gave 1) (AreGetsAndPuts 1 Memory
 -- ---- gets, and puts behind them
 
 module _ (old mid new : Answers → Type 0) (k : ℕ) where
-  gets_then : (are : Answers → Type 0) → Since old mid (Gave k) → Since mid new are → Since old new (Behind k are)
+  pub gets_then : (are : Answers → Type 0) → Since old mid (Gave k) → Since mid new are → Since old new (Behind k are)
   gets_then are gets puts = record {
     answers = gets.answers ++ puts.answers;
     adds = λ earlier had. subst new (append_assoc earlier gets.answers puts.answers) (puts.adds (earlier ++ gets.answers) (gets.adds earlier had));

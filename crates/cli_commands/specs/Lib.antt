@@ -1,11 +1,14 @@
 pub mod Answer
 pub mod Calls
 pub mod Cause
+pub mod Check
+pub mod Evidence
 pub mod Extract
 pub mod Files
 pub mod Generated
 pub mod Input
 pub mod Names
+pub mod Receipt
 pub mod Replay
 pub mod Run
 pub mod Status

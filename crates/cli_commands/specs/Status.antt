@@ -2,7 +2,7 @@
 use Rattle.std.specs.Prelude.{ℕ, List, [], ◌++◌, codes, Some}
 use Rattle.std.specs.Fmt.{decimal}
 use Rattle.cli_commands.specs.declared.status.Status.{Status}
-use Rattle.cli_commands.specs.declared.status.Status.TheVariants.{Done, No, Words, Limit, SourceFault, SinkFault, VaultFault, Missing, Digests, Journal, Form, Memory}
+use Rattle.cli_commands.specs.declared.status.Status.TheVariants.{Done, No, Words, Limit, SourceFault, SinkFault, VaultFault, Missing, Digests, Journal, Form, Memory, NoEntry, Receipt}
 
 abbrev pub code_of : Status → ℕ
 code_of Done = 0
@@ -17,6 +17,8 @@ code_of (Digests index) = 8
 code_of (Journal at) = 9
 code_of (Form line) = 10
 code_of Memory = 12
+code_of NoEntry = 14
+code_of Receipt = 15
 
 abbrev pub text_of : Status → List ℕ
 text_of Done = codes ""
@@ -31,6 +33,8 @@ text_of (Digests index) = codes "the digests were refused"
 text_of (Journal at) = codes "the journal was refused"
 text_of (Form line) = codes "a line has no session"
 text_of Memory = codes "out of memory"
+text_of NoEntry = codes "no such entry"
+text_of Receipt = codes "the receipt was refused"
 
 -- the place that a status has, as it stands behind its text
 abbrev pub place_of : Status → List ℕ

@@ -1,6 +1,6 @@
 -- What is so of the command that words say.
 use Rattle.std.specs.Prelude.{ℕ, Bool, true, false, List, Option, Some}
-use Rattle.cli_words.specs.Commands.{Command, Settings, Step, Run, Verify, Extract, Replay, Gen, Help, Version}
+use Rattle.cli_words.specs.Commands.{Command, Settings, Step, Run, Verify, Extract, Replay, Gen, Receipt, Check, Help, Version}
 use Rattle.cli_words.specs.Help.{help_of}
 use Rattle.cli_words.specs.declared.help.TheConstants.{VERSION}
 
@@ -34,6 +34,17 @@ abbrev pub OfGen : Option Command → (ℕ → Type 0) → Type 0
 OfGen (Some (Gen count)) P = P count
 OfGen words P = Unit {0}
 
+-- what is so of the names and of the transaction that `receipt` is given: an image, digests, its id, and the name
+-- that its receipt is saved under
+abbrev pub OfReceipt : Option Command → (List ℕ → List ℕ → ℕ → List ℕ → Type 0) → Type 0
+OfReceipt (Some (Receipt image digests tx save)) P = P image digests tx save
+OfReceipt words P = Unit {0}
+
+-- what is so of the names that `check` is given
+abbrev pub OfCheck : Option Command → (List ℕ → List ℕ → Type 0) → Type 0
+OfCheck (Some (Check receipt digests)) P = P receipt digests
+OfCheck words P = Unit {0}
+
 -- what is so of the text that is printed: help, or the version
 abbrev pub OfTell : Option Command → (List ℕ → Type 0) → Type 0
 OfTell (Some (Help which)) P = P (help_of which)
@@ -51,4 +62,5 @@ abbrev pub puts_files : Option Command → Bool
 puts_files (Some (Step save how)) = true
 puts_files (Some (Run save how)) = true
 puts_files (Some (Replay journal save)) = true
+puts_files (Some (Receipt image digests tx save)) = true
 puts_files words = false

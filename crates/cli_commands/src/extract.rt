@@ -74,7 +74,7 @@ fn read_exhibits<V: Vault>(
 }
 
 /// The image that some bytes are, where it is accepted with the digests, and else the verdict on them.
-fn accepted<H: Hash32>(
+pub(crate) fn accepted<H: Hash32>(
     alloc: Global,
     h: H,
     bytes: &[u8],

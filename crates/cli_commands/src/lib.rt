@@ -1,10 +1,12 @@
 //! The top call of the server: words and bytes that come in, files and texts that go out.
 #![tactic(auto)]
 
+mod check;
 mod extract;
 mod files;
 mod generate;
 mod names;
+mod receipt;
 mod replay;
 mod run;
 mod saved;

@@ -23,7 +23,8 @@ use server_result::RunOutcome;
 use sql_types::Digest;
 use std::alloc::Global;
 
-fn file(alloc: Global, save: &str, ending: &str, bytes: Blob) -> Result<File, Memory>
+/// The file of some bytes, under a name with this ending.
+pub(crate) fn file(alloc: Global, save: &str, ending: &str, bytes: Blob) -> Result<File, Memory>
     ensures { IfOk result (λ file. file ≡ record { name = save.now ++ ending.now; bytes = bytes }) }
 {
     let name = format!(in alloc; "{save}{ending}")?;

@@ -15,7 +15,8 @@ pub enum Status {
     /// The words have none of the commands' forms.
     Words,
     /// A limit was exceeded: more than 4 MiB came as input, or statements of more than 64 sessions; or more
-    /// than 256 MiB stand under the name of an image or of a journal, or 32 MiB under that of digests.
+    /// than 256 MiB stand under the name of an image or of a journal, 32 MiB under that of digests, or 16 MiB
+    /// under that of a receipt.
     Limit,
     /// Reading the input failed.
     SourceFault,
@@ -36,6 +37,10 @@ pub enum Status {
     Form { line: u64 },
     /// There was no more memory.
     Memory,
+    /// The digests are none, or no entry of the blocks up to their greatest is of the transaction.
+    NoEntry,
+    /// The bytes are no receipt's.
+    Receipt,
 }
 
 impl Status {
@@ -56,6 +61,8 @@ impl Status {
             Status::Journal { .. } => 9,
             Status::Form { .. } => 10,
             Status::Memory => 12,
+            Status::NoEntry => 14,
+            Status::Receipt => 15,
         }
     }
 
@@ -76,6 +83,8 @@ impl Status {
             Status::Journal { .. } => "the journal was refused",
             Status::Form { .. } => "a line has no session",
             Status::Memory => "out of memory",
+            Status::NoEntry => "no such entry",
+            Status::Receipt => "the receipt was refused",
         }
     }
 }

@@ -6,21 +6,26 @@ ghost use Rattle.base_io.specs.Count.{Rises};
 ghost use Rattle.base_io.specs.History.{Since};
 ghost use Rattle.cli_words.specs.Commands.{command_of};
 ghost use Rattle.cli_commands.specs.Words.{OfStep, OfRun, OfVerify, OfReplay, OfExtract, OfGen, OfTell};
+ghost use Rattle.cli_commands.specs.Words.{OfReceipt, OfCheck};
 ghost use Rattle.cli_commands.specs.Words.{reads_input, puts_files};
 ghost use Rattle.cli_commands.specs.Answer.{HasRead, RanAndSaved, RunOutcomeOrIdle, Unfailed};
 ghost use Rattle.cli_commands.specs.Calls.{AreReads, AreCalls, AreWrites};
 ghost use Rattle.cli_commands.specs.Cause.{HasCause};
+ghost use Rattle.cli_commands.specs.Check.{Checks, ShowsEntry};
 ghost use Rattle.cli_commands.specs.Extract.{Extracts};
 ghost use Rattle.cli_commands.specs.Generated.{HasGenerated};
 ghost use Rattle.cli_commands.specs.Input.{line_form, section_form};
+ghost use Rattle.cli_commands.specs.Receipt.{Receipted, SaysNo, ReceiptedOrIdle, PutsReceipt};
 ghost use Rattle.cli_commands.specs.Replay.{SavesReplay, ReplayedOrIdle, PutsAccepted};
 ghost use Rattle.cli_commands.specs.Run.{LinesComeTo, SectionsComeTo};
 ghost use Rattle.cli_commands.specs.Tell.{HasTold};
 ghost use Rattle.cli_commands.specs.Verify.{SaysVerdict, SaidOrIdle};
 
 use crate::Status;
+use crate::check::check;
 use crate::extract::extract;
 use crate::generate::generate;
+use crate::receipt::receipt;
 use crate::replay::replay;
 use crate::run::run_side_by_side;
 use crate::step::step;
@@ -74,6 +79,18 @@ use std::thread::Threads;
 /// on two lines, in hexadecimal digits, two different strings of bytes with one SHA-256: the status is `No`.
 /// It puts nothing and reads no input.
 ///
+/// `receipt IMAGE DIGESTS TX --save NAME` reads what stands under the two names and verifies the image with the
+/// digests. Where the verdict is No it writes the line of the verdict, and the status is `No`. Else it makes the
+/// receipt of the transaction with this id under the digest of the greatest block, the first of these, puts it
+/// under `NAME.receipt`, and writes the block of the transaction's entry and its place there. The receipt is
+/// accepted with the digest. Where there is no digest, or no entry up to its block is of the transaction, the
+/// status is `NoEntry`.
+///
+/// `check RECEIPT DIGESTS` reads what stands under the two names. Where the receipt is accepted with the first
+/// digest that is of its last record's block it writes `Yes`, and the status is `Done`; else `No receipt`, and
+/// the status is `No`. After `Yes` each image that is accepted with this digest has the receipt's entry at its
+/// place, or SHA-256 has a collision. It puts nothing and reads no input.
+///
 /// `gen COUNT` runs a workload of four sessions side by side, each of which inserts so many rows into a table
 /// of its own and adds 1 to every tenth, and writes five lines: how many transactions there are, rows, versions
 /// that have ended, the sum of the rows' values, and the verdict on the image. However the turns of the threads
@@ -96,7 +113,10 @@ use std::thread::Threads;
 /// all files stand and a first part of the text was written. Of `verify` and `extract`, the names are looked
 /// at in the order of the words, each whether it is there and then how long, then the digests, and last the
 /// images: `Digests` comes before `No`. Of `replay`, the name is looked at so, then whether the bytes are
-/// those of a journal, and last whether that is legal; all this before anything is put.
+/// those of a journal, and last whether that is legal; all this before anything is put. Of `receipt`, the names
+/// and the digests are looked at as of `verify`, then the image, and last whether there is such an entry: `No`
+/// comes before `NoEntry`, and all this before anything is put. Of `check`, the names, then whether the bytes are
+/// those of a receipt, and then the digests: `Receipt` comes before `Digests`.
 pub fn ledgerd<S: Source, K: Sink, V: Vault, C: Clock, G: Gate, R: Threads + Wait + Sync>(
     rt: &R,
     alloc: Global,
@@ -114,8 +134,8 @@ pub fn ledgerd<S: Source, K: Sink, V: Vault, C: Clock, G: Gate, R: Threads + Wai
         (Rises (V.faults vault.old) (V.faults vault.new))
         (Rises (K.faults sink.old) (K.faults sink.new) ⊎ Rises (K.stalls sink.old) (K.stalls sink.new)) }
 
-    // Where the words say no command, nothing is touched. Only `step` and `run` read the input; these two
-    // and `replay` put files.
+    // Where the words say no command, nothing is touched. Only `step` and `run` read the input; these two,
+    // `replay` and `receipt` put files.
     ensures words { command_of (map string_bytes words.now) ≡ None
         → (source.new ≡ source.old) × (vault.new ≡ vault.old) × (sink.new ≡ sink.old) }
     ensures unread { reads_input (command_of (map string_bytes words.now)) ≡ false
@@ -173,6 +193,28 @@ pub fn ledgerd<S: Source, K: Sink, V: Vault, C: Clock, G: Gate, R: Threads + Wai
         (λ journal save. result ≡ Status.Done
         → PutsAccepted sha256 journal save (V.names vault.old) (V.names vault.new)) }
 
+    // `receipt`: what is put and written of the receipt, or the line of a verdict that isn't Yes, by the status; and
+    // the receipt that is put is accepted with the digest of the greatest block.
+    ensures receipted { OfReceipt (command_of (map string_bytes words.now))
+        (λ image digests tx save. ReceiptedOrIdle result
+        (Receipted result sha256 image digests tx save
+        (V.names vault.old) (V.names vault.new) (K.taken sink.old) (K.taken sink.new))
+        (SaysNo result sha256 image digests
+        (V.names vault.old) (V.names vault.new) (K.taken sink.old) (K.taken sink.new))
+        ((V.names vault.new ≡ V.names vault.old) × (sink.new ≡ sink.old))) }
+    ensures shown { OfReceipt (command_of (map string_bytes words.now))
+        (λ image digests tx save. result ≡ Status.Done
+        → PutsReceipt sha256 image digests tx save (V.names vault.old) (V.names vault.new)) }
+
+    // `check`: the line of what is said of the receipt under the name, by the status; and after `Yes` each image
+    // that is accepted with the digest has the receipt's entry, or SHA-256 has a collision.
+    ensures checked { OfCheck (command_of (map string_bytes words.now))
+        (λ receipt digests. SaidOrIdle result
+        (Checks result sha256 receipt digests
+        (V.names vault.old) (K.taken sink.old) (K.taken sink.new)) (sink.new ≡ sink.old)) }
+    ensures shows { OfCheck (command_of (map string_bytes words.now))
+        (λ receipt digests. result ≡ Status.Done → ShowsEntry sha256 receipt digests (V.names vault.old)) }
+
     // The first fault or stall is the last call: nothing is tried again, and nothing is read behind the end.
     ensures reads { OfStep (command_of (map string_bytes words.now))
         (λ save settings. Since (S.history source.old) (S.history source.new) (AreReads result)) }
@@ -218,6 +260,15 @@ pub fn ledgerd<S: Source, K: Sink, V: Vault, C: Clock, G: Gate, R: Threads + Wai
         } => extract(alloc, Sha256Hash, honest, suspect, digests, sink, vault),
         Command::Replay { journal, save } => {
             replay(alloc, Sha256Hash, journal, save, sink, vault)
+        }
+        Command::Receipt {
+            image,
+            digests,
+            tx,
+            save,
+        } => { receipt(alloc, Sha256Hash, image, digests, tx, save, sink, vault) }
+        Command::Check { receipt, digests } => {
+            check(alloc, Sha256Hash, receipt, digests, sink, vault)
         }
         Command::Gen { count } => generate(rt, alloc, Sha256Hash, count, sink),
         Command::Help(which) => tell(help_text(which), sink),

@@ -23,13 +23,17 @@ use std::thread::Threads;
 
 /// What stands under the two names.
 #[derive(Drop)]
-struct Evidence {
-    image: Vec<u8>,
-    digests: Vec<u8>,
+pub(crate) struct Evidence {
+    pub image: Vec<u8>,
+    pub digests: Vec<u8>,
 }
 
 /// Reads what stands under the two names, the image's first.
-fn read_evidence<V: Vault>(vault: &mut V, image: &str, digests: &str) -> Result<Evidence, Status>
+pub(crate) fn read_evidence<V: Vault>(
+    vault: &mut V,
+    image: &str,
+    digests: &str,
+) -> Result<Evidence, Status>
     ensures are { IfOk result (λ read. IfSome (V.names vault.old)
         (λ names. IsEvidence image.now digests.now names read.image.items read.digests.items)) }
     ensures lacks { IfErr result (λ status. LacksEvidence status image.now digests.now (V.names vault.old)) }
@@ -106,7 +110,7 @@ fn judge_names<H: Hash32, V: Vault, R: Threads + Sync>(
 }
 
 /// The line that is written of a verdict.
-fn text_of(alloc: Global, verdict: &Verdict) -> Result<String, AllocError>
+pub(crate) fn text_of(alloc: Global, verdict: &Verdict) -> Result<String, AllocError>
     ensures { IfOk result (λ text. string_bytes text ≡ verdict_text verdict.now) }
 {
     format!(in alloc; "{verdict}\n")

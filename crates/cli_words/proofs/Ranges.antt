@@ -5,13 +5,14 @@ use Rattle.std.specs.Str.{bytes_eq}
 use Rattle.std.proofs.lemmas.Bool.Decides.{nat_tests}
 use Rattle.base_types.specs.DatabaseName.{is_database_name}
 use Rattle.base_types.specs.declared.moment.TheConstants.{MAX_TICKS}
-use Rattle.cli_words.specs.Commands.{Settings, AreInRange, IsInRange, Command, Step, Run, Verify, Extract, Replay, Gen, given, settings, meaning_of, has_dashes, arguments_of, asks_help, alone, help_on, others, behind, command_of}
+use Rattle.cli_words.specs.Commands.{Settings, AreInRange, IsInRange, Command, Step, Run, Verify, Extract, Replay, Gen, Receipt, Check, given, settings, meaning_of, has_dashes, arguments_of, asks_help, alone, help_on, others, behind, command_of}
 use Rattle.cli_words.specs.Commands as said
 use Rattle.cli_words.specs.Forms.{is_number, number_from, number_in, database_name, file_name, save_name, or_default, if_given}
 use Rattle.cli_words.specs.Line.{Text, uses_of, ◌>>=◌}
 use Rattle.cli_words.specs.Subcommands.{named, operands_of, options_of}
 use Rattle.cli_words.specs.Views.{command_view}
 use Rattle.cli_words.specs.declared.command.Command as coded
+use Rattle.cli_words.specs.declared.forms.TheConstants.{MAX_TX}
 use Rattle.cli_words.specs.declared.subcommand.Subcommand.{Subcommand}
 use Rattle.cli_words.specs.declared.subcommand.Subcommand.TheVariants as which
 
@@ -133,6 +134,17 @@ has_range which.Gen value =
     every (value (codes "COUNT") >>= number_in 1 10000) (λ count. Some (Gen count)) IsInRange
     (λ count is d. let b = bound (value (codes "COUNT")) (number_in 1 10000) count is in
     let within = number_within 1 10000 b.value count b.rest in is_some (Gen count) d (within.least, within.most))
+has_range which.Receipt value =
+    every (value (codes "IMAGE") >>= file_name) (λ image. value (codes "DIGESTS") >>= file_name >>= λ digests. value (codes "TX") >>= number_in 1 MAX_TX >>= λ tx. value (codes "save") >>= save_name >>= λ save. Some (Receipt image digests tx save)) IsInRange
+    (λ image is. every (value (codes "DIGESTS") >>= file_name) (λ digests. value (codes "TX") >>= number_in 1 MAX_TX >>= λ tx. value (codes "save") >>= save_name >>= λ save. Some (Receipt image digests tx save)) IsInRange
+    (λ digests are. every (value (codes "TX") >>= number_in 1 MAX_TX) (λ tx. value (codes "save") >>= save_name >>= λ save. Some (Receipt image digests tx save)) IsInRange
+    (λ tx said. every (value (codes "save") >>= save_name) (λ save. Some (Receipt image digests tx save)) IsInRange
+    (λ save also d. let b = bound (value (codes "TX")) (number_in 1 MAX_TX) tx said in
+    let within = number_within 1 MAX_TX b.value tx b.rest in is_some (Receipt image digests tx save) d (within.least, within.most)))))
+has_range which.Check value =
+    every (value (codes "RECEIPT") >>= file_name) (λ receipt. value (codes "DIGESTS") >>= file_name >>= λ digests. Some (Check receipt digests)) IsInRange
+    (λ receipt is. every (value (codes "DIGESTS") >>= file_name) (λ digests. Some (Check receipt digests)) IsInRange
+    (λ digests are d. is_some (Check receipt digests) d tt))
 
 arguments_range : (w : Subcommand) (words : List Text) (c : Command) → arguments_of w words ≡ Some c → IsInRange c
 unfolding arguments_of

@@ -73,6 +73,7 @@ readable name saved = record {
   image = longer name (codes ".img") saved (omega arith) refl;
   digests = longer name (codes ".digests") saved (omega arith) refl;
   journal = longer name (codes ".journal") saved (omega arith) refl;
+  receipt = longer name (codes ".receipt") saved (omega arith) refl;
   part = λ items small.
       let ending = part_ending items small in
       let shape = ap (λ (l : List ℕ). l ++ codes ".img") (append_assoc name (codes "-") (decimal items)) ∙ append_assoc name (codes "-" ++ decimal items) (codes ".img") in

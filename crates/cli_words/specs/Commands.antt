@@ -3,6 +3,7 @@ use Rattle.std.specs.Prelude.{ℕ, ◌≡◌, ◌≤◌, Bool, true, false, ◌|
 use Rattle.std.specs.List.{list_any}
 use Rattle.base_types.specs.DatabaseName.{is_database_name}
 use Rattle.base_types.specs.declared.moment.TheConstants.{MAX_TICKS}
+use Rattle.cli_words.specs.declared.forms.TheConstants.{MAX_TX}
 use Rattle.cli_words.specs.declared.subcommand.Subcommand.{Subcommand}
 use Rattle.cli_words.specs.declared.subcommand.Subcommand.TheVariants as which
 use Rattle.cli_words.specs.Forms.{file_name, save_name, database_name, number_in, or_default, if_given}
@@ -35,6 +36,10 @@ pub data Command : Type 0 where
   -- the name of a journal, and the name that its image is saved under
   Replay : Text → Text → Command
   Gen : ℕ → Command
+  -- the names of an image and of digests, the id of a transaction, and the name its receipt is saved under
+  Receipt : Text → Text → ℕ → Text → Command
+  -- the names of a receipt and of digests
+  Check : Text → Text → Command
   -- help on one command, or on all
   Help : Option Subcommand → Command
   Version : Command
@@ -45,6 +50,7 @@ IsInRange (Step save how) = AreInRange how
 IsInRange (Run save how) = AreInRange how
 IsInRange (Verify image digests workers) = (1 ≤ workers) × (workers ≤ 16)
 IsInRange (Gen count) = (1 ≤ count) × (count ≤ 10000)
+IsInRange (Receipt image digests tx save) = (1 ≤ tx) × (tx ≤ MAX_TX)
 IsInRange _ = Unit {0}
 
 -- what was given under a name
@@ -78,6 +84,14 @@ meaning_of which.Replay value = value (codes "JOURNAL") >>= file_name >>= λ jou
     Some (Replay journal save)
 meaning_of which.Gen value = value (codes "COUNT") >>= number_in 1 10000 >>= λ count.
     Some (Gen count)
+meaning_of which.Receipt value = value (codes "IMAGE") >>= file_name >>= λ image.
+    value (codes "DIGESTS") >>= file_name >>= λ digests.
+    value (codes "TX") >>= number_in 1 MAX_TX >>= λ tx.
+    value (codes "save") >>= save_name >>= λ save.
+    Some (Receipt image digests tx save)
+meaning_of which.Check value = value (codes "RECEIPT") >>= file_name >>= λ receipt.
+    value (codes "DIGESTS") >>= file_name >>= λ digests.
+    Some (Check receipt digests)
 
 abbrev pub has_dashes : List Text → Bool
 has_dashes words = list_any (λ w. bytes_eq w (codes "--")) words

@@ -7,7 +7,8 @@ ghost use Rattle.cli_words.specs.Commands as spec;
 ghost use Rattle.cli_words.specs.Views.{settings_view, command_view};
 
 use crate::forms::{
-    database_or_default, file_name, number_if_given, number_or, save_name, small_number_in,
+    MAX_TX, database_or_default, file_name, number_if_given, number_in, number_or, save_name,
+    small_number_in,
 };
 use crate::line::read_line;
 use crate::subcommand::Subcommand;
@@ -60,6 +61,24 @@ pub enum Command<'a> {
     Gen {
         /// How many rows each of its tables has, 1 to 10,000.
         count: u32,
+    },
+    /// Makes the receipt of a transaction and saves it.
+    Receipt {
+        /// The name of the image that has it.
+        image: &'a str,
+        /// The name of the digests that the image is held against.
+        digests: &'a str,
+        /// The transaction's id, 1 to 2^63 - 1.
+        tx: u64,
+        /// The name that the receipt is saved under.
+        save: &'a str,
+    },
+    /// Says whether a receipt holds with digests.
+    Check {
+        /// The name of the receipt.
+        receipt: &'a str,
+        /// The name of the digests that it is held against.
+        digests: &'a str,
     },
     /// Prints help on one command, or on all.
     Help(Option<Subcommand>),
@@ -150,6 +169,33 @@ fn gen_of<'a>(matches: &ArgMatches<'a>) -> Option<Command<'a>>
     Some(Command::Gen { count })
 }
 
+#[tactic(auto, unfolding(crate::specs::Commands::meaning_of))]
+fn receipt_of<'a>(matches: &ArgMatches<'a>) -> Option<Command<'a>>
+    ensures { option_map command_view result
+        ≡ spec.meaning_of Subcommand.Receipt (first_value (found_of matches.now)) }
+{
+    let image = file_name(matches.get_str("IMAGE")?)?;
+    let digests = file_name(matches.get_str("DIGESTS")?)?;
+    let tx = number_in(1, MAX_TX, matches.get_str("TX")?)?;
+    let save = save_name(matches.get_str("save")?)?;
+    Some(Command::Receipt {
+        image,
+        digests,
+        tx,
+        save,
+    })
+}
+
+#[tactic(auto, unfolding(crate::specs::Commands::meaning_of))]
+fn check_of<'a>(matches: &ArgMatches<'a>) -> Option<Command<'a>>
+    ensures { option_map command_view result
+        ≡ spec.meaning_of Subcommand.Check (first_value (found_of matches.now)) }
+{
+    let receipt = file_name(matches.get_str("RECEIPT")?)?;
+    let digests = file_name(matches.get_str("DIGESTS")?)?;
+    Some(Command::Check { receipt, digests })
+}
+
 /// What the values say; none where one of them lacks its form, or isn't there and has to be.
 fn meaning_of<'a>(which: Subcommand, matches: &ArgMatches<'a>) -> Option<Command<'a>>
     ensures { option_map command_view result
@@ -162,6 +208,8 @@ fn meaning_of<'a>(which: Subcommand, matches: &ArgMatches<'a>) -> Option<Command
         Subcommand::Extract => extract_of(matches),
         Subcommand::Replay => replay_of(matches),
         Subcommand::Gen => gen_of(matches),
+        Subcommand::Receipt => receipt_of(matches),
+        Subcommand::Check => check_of(matches),
     }
 }
 

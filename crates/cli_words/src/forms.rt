@@ -8,6 +8,9 @@ ghost use Rattle.cli_words.specs.Forms.{file_name, save_name, database_name, or_
 
 use base_types::is_database_name;
 
+/// The greatest id that a transaction has.
+pub const MAX_TX: u64 = 9_223_372_036_854_775_807;
+
 fn starts_well(name: &[u8]) -> bool
     ensures { result ≡ starts_as_name name.now }
 {

@@ -10,6 +10,8 @@ pub const USAGE: &str = "usage: ledgerd step --save NAME [--block-size N] [--clo
        ledgerd verify IMAGE DIGESTS [--workers W]
        ledgerd extract HONEST SUSPECT DIGESTS
        ledgerd replay JOURNAL --save NAME
+       ledgerd receipt IMAGE DIGESTS TX --save NAME
+       ledgerd check RECEIPT DIGESTS
        ledgerd gen COUNT
 `./ledgerd --help` says what each does.
 ";
@@ -30,6 +32,9 @@ them.
                                 says what two images are to each other
   ledgerd replay JOURNAL --save NAME
                                 runs a journal again and saves its image
+  ledgerd receipt IMAGE DIGESTS TX --save NAME
+                                makes the receipt of a transaction of an image
+  ledgerd check RECEIPT DIGESTS says whether a receipt holds with digests
   ledgerd gen COUNT             runs and verifies a workload, to measure with
   ledgerd COMMAND --help        says more of one of these, as `ledgerd help
                                 COMMAND` and `ledgerd COMMAND -h` do
@@ -42,16 +47,18 @@ saved under, and 1 to 128 in the others. An option and its value are two words,
 or one: `--save NAME` or `--save=NAME`.
 
 Limits: 4 MiB and 64 sessions for an input, 256 MiB for an image or a journal,
-32 MiB for digests.
+32 MiB for digests, 16 MiB for a receipt.
 
 It ends with one of these statuses, and from 2 on standard error says more:
-   0  the work is done; `verify` said Yes and `extract` Same
-   1  `verify` said No; `extract` said it of an image, or shows a collision
+   0  the work is done; `verify` and `check` said Yes, `extract` said Same
+   1  `verify`, `receipt` or `check` said No; `extract` said it of an image, or
+      shows a collision
    2  the words were refused             3  a limit was exceeded
    4  reading the input failed           5  writing the output failed
    6  a file can't be read or put        7  no such file
    8  the digests were refused           9  the journal was refused
   10  a line has no session             12  out of memory
+  14  no such entry                     15  the receipt was refused
 
 Pages, in docs/ of the repository: SQL.md (input, statements and codes),
 AUDIT.md (commands, answers and statuses), FORMATS.md (the bytes of the files).
@@ -162,6 +169,33 @@ Example, from the top of the repository, behind that of `step`:
   ./ledgerd replay shop.journal --save again
 ";
 
+/// Help on `receipt`.
+pub const RECEIPT_HELP: &str = "ledgerd receipt IMAGE DIGESTS TX --save NAME
+
+Verifies the image IMAGE with the digests DIGESTS, and prints the verdict where
+it is No. Else it puts NAME.receipt in the current folder and prints `receipt`
+with the transaction's block and its place there. The receipt shows that the
+transaction with the id TX is one of those that the digest of the greatest block
+covers; `check` says so to whoever holds that digest, without the image.
+TX is a number from 1 on, as `committed` prints it.
+
+Example, from the top of the repository:
+  (cd examples && ../ledgerd receipt honest.img honest.digests 2 --save payment)
+";
+
+/// Help on `check`.
+pub const CHECK_HELP: &str = "ledgerd check RECEIPT DIGESTS
+
+Prints `Yes` where the receipt RECEIPT holds with the first of the digests
+DIGESTS that is of its last block, and ends with status 0: no image that
+verifies with this digest has another transaction at this place. Else it prints
+`No receipt` and ends with status 1.
+Both names are those of files in the current folder. It puts no file.
+
+Example, from the top of the repository, behind that of `receipt`:
+  (cd examples && ../ledgerd check payment.receipt honest.digests)
+";
+
 /// Help on `gen`.
 pub const GEN_HELP: &str = "ledgerd gen COUNT
 
@@ -188,5 +222,7 @@ pub fn help_text(which: Option<Subcommand>) -> &'static str
         Some(Subcommand::Extract) => EXTRACT_HELP,
         Some(Subcommand::Replay) => REPLAY_HELP,
         Some(Subcommand::Gen) => GEN_HELP,
+        Some(Subcommand::Receipt) => RECEIPT_HELP,
+        Some(Subcommand::Check) => CHECK_HELP,
     }
 }

@@ -75,6 +75,32 @@ fn gen_command<'a>(alloc: Global) -> Result<Command<'a>, AllocError>
         .arg(count)
 }
 
+fn receipt_command<'a>(alloc: Global) -> Result<Command<'a>, AllocError>
+    ensures { IfOk result (λ c. app_of c ≡ app_for Subcommand.Receipt) }
+{
+    let image = Arg::new(alloc, "IMAGE");
+    let digests = Arg::new(alloc, "DIGESTS");
+    let tx = Arg::new(alloc, "TX");
+    let save = Arg::new(alloc, "save").long("save");
+    Command::new(alloc, "receipt")
+        .disable_help_flag(true)
+        .arg(image)?
+        .arg(digests)?
+        .arg(tx)?
+        .arg(save)
+}
+
+fn check_command<'a>(alloc: Global) -> Result<Command<'a>, AllocError>
+    ensures { IfOk result (λ c. app_of c ≡ app_for Subcommand.Check) }
+{
+    let receipt = Arg::new(alloc, "RECEIPT");
+    let digests = Arg::new(alloc, "DIGESTS");
+    Command::new(alloc, "check")
+        .disable_help_flag(true)
+        .arg(receipt)?
+        .arg(digests)
+}
+
 /// The command that clap reads. Help is none of its words, so that it never prints.
 fn command_for<'a>(alloc: Global, which: Subcommand) -> Result<Command<'a>, AllocError>
     ensures app { IfOk result (λ c. app_of c ≡ app_for which) }
@@ -87,6 +113,8 @@ fn command_for<'a>(alloc: Global, which: Subcommand) -> Result<Command<'a>, Allo
         Subcommand::Extract => extract_command(alloc),
         Subcommand::Replay => replay_command(alloc),
         Subcommand::Gen => gen_command(alloc),
+        Subcommand::Receipt => receipt_command(alloc),
+        Subcommand::Check => check_command(alloc),
     }
 }
 

@@ -1,6 +1,6 @@
 // Which word was refused and why, for whoever typed it. `read_command` decides what is refused; of words that it
 // refused this says what is wrong with the first that is at fault.
-use crate::forms::{database_name, file_name, number_in, save_name};
+use crate::forms::{MAX_TX, database_name, file_name, number_in, save_name};
 use crate::subcommand::Subcommand;
 use base_types::MAX_TICKS;
 use std::fmt;
@@ -61,6 +61,7 @@ fn form_of(name: &str) -> Form {
         "database" => Form::DatabaseName,
         "workers" => Form::Number(1, 16),
         "COUNT" => Form::Number(1, 10_000),
+        "TX" => Form::Number(1, MAX_TX),
         _ => Form::FileName,
     }
 }
@@ -88,6 +89,11 @@ fn operand_at(which: Subcommand, place: usize) -> Option<&'static str> {
         (Subcommand::Extract, 2) => Some("DIGESTS"),
         (Subcommand::Replay, 0) => Some("JOURNAL"),
         (Subcommand::Gen, 0) => Some("COUNT"),
+        (Subcommand::Receipt, 0) => Some("IMAGE"),
+        (Subcommand::Receipt, 1) => Some("DIGESTS"),
+        (Subcommand::Receipt, 2) => Some("TX"),
+        (Subcommand::Check, 0) => Some("RECEIPT"),
+        (Subcommand::Check, 1) => Some("DIGESTS"),
         _ => None,
     }
 }
@@ -98,8 +104,8 @@ fn has_option(which: Subcommand, name: &str) -> bool {
             matches!(name, "save" | "block-size" | "clock" | "database")
         }
         Subcommand::Verify => name == "workers",
-        Subcommand::Replay => name == "save",
-        Subcommand::Extract | Subcommand::Gen => false,
+        Subcommand::Replay | Subcommand::Receipt => name == "save",
+        Subcommand::Extract | Subcommand::Gen | Subcommand::Check => false,
     }
 }
 

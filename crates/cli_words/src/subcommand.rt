@@ -17,6 +17,10 @@ pub enum Subcommand {
     Replay,
     /// Runs and verifies a workload.
     Gen,
+    /// Makes the receipt of a transaction.
+    Receipt,
+    /// Says whether a receipt holds with digests.
+    Check,
 }
 
 impl Subcommand {
@@ -32,6 +36,8 @@ impl Subcommand {
             "extract" => Some(Subcommand::Extract),
             "replay" => Some(Subcommand::Replay),
             "gen" => Some(Subcommand::Gen),
+            "receipt" => Some(Subcommand::Receipt),
+            "check" => Some(Subcommand::Check),
             _ => None,
         }
     }

@@ -1,5 +1,5 @@
 -- What threads left is a run of the input.
-use Rattle.std.proofs.Common.{◌≡◌, ◌<◌, ℕ, true, List, [], ◌∷◌, length, map, Option, Some, refl, sym, ap, ap₂, subst, subst₂, ◌∙◌, arith}
+use Rattle.std.proofs.Common.{◌≡◌, ◌<◌, ℕ, true, List, [], ◌∷◌, ◌++◌, length, map, Option, Some, ⊎_elim, refl, sym, ap, ap₂, subst, subst₂, ◌∙◌, arith}
 use Rattle.std.proofs.lemmas.List.{take_all}
 use mathlib.Core.Option.{some, some-injective}
 use lib.ListN.{get_elem?}
@@ -13,16 +13,17 @@ use Rattle.sql_types.specs.declared.journal.JournalItem.{JournalItem}
 use Rattle.spec_model.specs.Journals.{cut}
 use Rattle.spec_model.specs.LegalJournals.{IsLegalJournal}
 use Rattle.spec_model.specs.Script.{Reading}
-use Rattle.spec_history.specs.Agree.{Agree}
+use Rattle.spec_history.specs.Agree.{Agree, ShowsHash}
 use Rattle.spec_history.specs.Digests.{IsDigest}
-use Rattle.spec_history.specs.Facts.{facts_of}
+use Rattle.spec_history.specs.Facts.{image, facts_of}
 use Rattle.spec_history.specs.Inputs.{InputSession}
 use Rattle.spec_history.specs.Journals.{blocks, times}
-use Rattle.spec_history.specs.Lists.{Text, Each}
+use Rattle.spec_history.specs.Lists.{Text, Each, Some_of, In}
 use Rattle.spec_history.specs.Meaning.{Meaning}
 use Rattle.spec_history.specs.Real.{IsReal}
 use Rattle.spec_history.specs.Transcripts.{Transcript}
 use Rattle.spec_history.proofs.Trace.{each_weaker}
+use Rattle.law_order.specs.OneOrder.{SessionFact, AreInOneOrder}
 use Rattle.format_image.specs.Image.{image_of_cut}
 use Rattle.format_image.specs.ImageBytes.{image_bytes}
 use Rattle.law_image.specs.Room.{FitsImageFormat}
@@ -45,8 +46,11 @@ use Rattle.law_concurrent.specs.Joined.{IsJoined, KnewThatOver}
 use Rattle.law_concurrent.specs.Together.{AreFormed, IsMomentOf, RanTogether, names_in}
 use Rattle.law_kept_images.specs.LastImage.{journal_of, last_image}
 use Rattle.law_concurrent.specs.CameTo.{CameTo, RunResult}
+use Rattle.law_concurrent.specs.InOrder.{IsAcceptedBehind, RanInOneOrder, digests_shown}
 use Rattle.law_concurrent.specs.Threads.{HasJoined}
+use Rattle.law_concurrent.proofs.Behind.{along, held_before}
 use Rattle.law_concurrent.proofs.Images.{all_images, all_shown, whole_image}
+use Rattle.law_concurrent.proofs.Orders.{by_other}
 use Rattle.law_concurrent.proofs.Sessions.{are_named, is_said, names_are}
 
 -- ---- the laws that are used
@@ -69,6 +73,10 @@ ImagesVerify = (h : List ℕ → List ℕ) (j : Journal) (m : ℕ) (digests : Li
 abbrev pub DigestsAreHeld : Type 0
 DigestsAreHeld = (h : List ℕ → List ℕ) (reads : Reading) (q : Meaning) (database : Text) (items : List JournalItem) (m : ℕ) (d : Digest)
     → ((J : List JournalItem) (b : ℕ) → q.block_hash J b ≡ block_hash h reads J b) → IsDigest q database items d → d.block < blocks (cut items m) → IsHeld h reads database (cut items m) (held d)
+
+kept_is : (P : KeptImage → Type 0) (kept : List (List KeptImage)) (k : KeptImage) → Each (λ ks. Each P ks) kept → Some_of (In k) kept → P k
+kept_is P [] k h i = absurd i
+kept_is P (ks ∷ kept) k h i = ⊎_elim (λ (j : In k ks). each_at P ks k h.0 j) (λ j. kept_is P kept k h.1 j) i
 
 -- ---- what is left
 
@@ -165,9 +173,38 @@ module _ (joined_agree : JoinedAgree) (meanings_agree : MeaningsAgree) (meanings
     last_accepted : IsAccepted h database J G (last_image h (journal_of database J))
     last_accepted = accepted (last_image h (journal_of database J)) (whole_image h statement_of database J)
 
+    -- ---- in one order
+
+    all_hashed : (order : List SessionFact) → AreInOneOrder v.meaning (Some 0) X J order → Each (λ f. ShowsHash v.meaning J f.1) order
+    all_hashed order is = along v.meaning (Some 0) X J order is (ShowsHash v.meaning J) agree.digests_are_the_journals.shown
+
+    its_image : (k : KeptImage) → Some_of (In k) images → IsImageOf h statement_of database J k
+    its_image k i = kept_is (IsImageOf h statement_of database J) images k are_images i
+
+    behind : (order earlier later : List SessionFact) (name : Text) (k : KeptImage) → AreInOneOrder v.meaning (Some 0) X J order → Some_of (In k) images → order ≡ earlier ++ (name, image k.0) ∷ later → IsAcceptedBehind h database earlier k
+    behind order earlier later name k is i e digests all = ap (verdict_of h digests) (its_image k i).bytes ∙ verify h (journal_of database J) k.0 digests legal x.room
+        (each_weaker (λ (d : HeldDigest). In d (digests_shown database earlier)) (IsHeld h statement_of database (cut J k.0))
+        (λ d n. each_at (IsHeld h statement_of database (cut J k.0)) (digests_shown database earlier) d
+        (held_before h statement_of v.meaning database J k.0 (λ K b. meaning.real.block_hash K b ∙ meaning.hashes K b) order earlier later name e (all_hashed order is) is.images) n) digests all)
+
+    in_order : RanInOneOrder h v.meaning database X images J
+    in_order = record {
+      order = together.in_order.order;
+      is = together.in_order.is;
+      accepted = λ earlier later name k i e. behind together.in_order.order earlier later name k together.in_order.is i e;
+    }
+
+    in_order_by : (q : Meaning) → IsMeaning h statement_of q → RanInOneOrder h q database X images J
+    in_order_by q m = record {
+      order = in_order.order;
+      is = by_other v.meaning q (meanings_show h statement_of v.meaning q meaning m) 0 X J in_order.order in_order.is;
+      accepted = in_order.accepted;
+    }
+
     came_to : CameTo h database size IsSaid input (left_of X images (journal_of database J) G)
     came_to = record {
       agree = λ q m. meanings_agree h statement_of v.meaning q meaning m database input (Some 0) X J G agree;
+      in_order = in_order_by;
       legal = legal;
       of_database = refl;
       closings = subst (λ (n : ℕ). Each (FitsBlock n) J) x.of_size together.closings;

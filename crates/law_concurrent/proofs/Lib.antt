@@ -1,7 +1,9 @@
 mod Agrees
+mod Behind
 mod Comes
 mod Images
 mod Meets
+mod Orders
 mod Real
 pub mod Said
 mod SameMeanings

@@ -6,12 +6,17 @@ use native.Mathlib.Decide.{ℕ_discrete}
 use lib.ListN.{get_elem?, length-map}
 use Rattle.base_types.specs.Moment.{is_moment}
 use Rattle.base_types.specs.SessionName.{is_session_name}
+use Rattle.spec_history.specs.Acts.{Act}
 use Rattle.spec_history.specs.Agree.{Agree}
-use Rattle.spec_history.specs.Histories.{SetupRan}
+use Rattle.spec_history.specs.Guards.{Good}
+use Rattle.spec_history.specs.Histories.{IsWhole, SetupRan}
 use Rattle.spec_history.specs.Inputs.{InputSession}
 use Rattle.spec_history.specs.Journals.{times}
 use Rattle.spec_history.specs.Lists.{Text, Each, Some_of, At, In}
+use Rattle.spec_history.specs.Meaning.{Meaning}
 use Rattle.spec_history.specs.Transcripts.{Transcript}
+use Rattle.spec_history.specs.Worlds.{first, run}
+use Rattle.law_order.specs.OneOrder.{HaveOneOrder}
 use Rattle.spec_protocol.specs.AtTheEnd.{AllRest, AreWritten, HasItsImages, NamesDiffer, SessionsDiffer, WasKnown, WroteAt}
 use Rattle.spec_protocol.specs.Cells.{Cell, Ledger, LedgerCell, ledger_at}
 use Rattle.spec_protocol.specs.JournalForms.{HaveForms}
@@ -31,6 +36,7 @@ use Rattle.law_kept_images.specs.Wrote.{transcripts_in}
 use Rattle.law_kept_images.proofs.SameNames.{differ, same_list}
 use Rattle.law_concurrent.specs.Joined.{IsJoined, KnewThatOver}
 use Rattle.law_concurrent.specs.Together.{AreFormed, IsMomentOf, RanTogether, names_in, session_in}
+use Rattle.law_concurrent.proofs.Orders.{of_same}
 use Rattle.law_concurrent.proofs.SameTranscripts.{all_in, apart_by_place, at_of, each_both, each_flat, each_map, each_named, each_of, each_within, in_at, in_either, in_some, in_transcripts, inputs_are, named_in, no_longer, transcript_at}
 
 nameless : (r : Role) → IsAtRest r → session_names r ≡ []
@@ -41,10 +47,15 @@ timeless : (r : Role) → IsAtRest r → session_moments r ≡ []
 timeless (session x) h = absurd h
 timeless r h = refl
 
+-- the law that is used
+abbrev pub AreInOrder : Type 0
+AreInOrder = (q : Meaning) (database : Text) (history : List Act) (input : List InputSession) (setup : Option ℕ) (transcripts : List Transcript)
+    → Good q database first history → IsWhole input setup transcripts history → HaveOneOrder q setup transcripts (run first history).items
+
 same_ledger : (k l : LedgerCell) → Ledger k ≡ Ledger l → k ≡ l
 same_ledger k l e = cc
 
-module _ (v : Server) (cells : List Cell) (w : Written) (ws : List Written) (joined : IsJoined v cells (w ∷ ws)) (knew : KnewThatOver w ws) (apart : NamesApart (names_in (transcripts_in (w ∷ ws)))) where
+module _ (are_in_order : AreInOrder) (v : Server) (cells : List Cell) (w : Written) (ws : List Written) (joined : IsJoined v cells (w ∷ ws)) (knew : KnewThatOver w ws) (apart : NamesApart (names_in (transcripts_in (w ∷ ws)))) where
   abbrev written : List Written
   written = w ∷ ws
 
@@ -148,6 +159,21 @@ module _ (v : Server) (cells : List Cell) (w : Written) (ws : List Written) (joi
       (subst (λ (i : List InputSession). Agree v.meaning st.ledger.database i (Some (o.to first_at.0)) o.then_X st.ledger.items st.ledger.issued)
       (inputs_are o.then_input o.then_X reordered.statements_are_answered) reordered))
 
+  -- ---- one order
+
+  whole : IsWhole input (Some first_at.0) X history
+  whole = record {
+    sessions = are_written.sessions;
+    all = the_end.below (length X) history (λ n l. (are_written.no_others n l).1);
+    names_differ = then_agrees.0;
+    setup_ran = ran;
+  }
+
+  in_order : HaveOneOrder v.meaning (Some 0) T st.ledger.items
+  in_order = let o = are_in_order v.meaning st.ledger.database history input (Some first_at.0) X st.transcripts_agree.good whole in
+      subst (HaveOneOrder v.meaning (Some 0) T) st.transcripts_agree.items
+      (record { order = o.order; is = of_same v.meaning X (run first history).items o.order first_at.0 w.transcript (transcripts_in ws) first_at.1 is_ours is_theirs o.is })
+
   -- ---- images, moments, forms
 
   images : Each (HasItsImages v st.ledger) written
@@ -179,6 +205,7 @@ module _ (v : Server) (cells : List Cell) (w : Written) (ws : List Written) (joi
   ran_together : RanTogether v written st.ledger
   ran_together = record {
     agree = agree;
+    in_order = in_order;
     images = images;
     times = each_of (IsMoment seats) (IsMomentOf written) moment_is (times st.ledger.items) st.transcripts_agree.times;
     made = each_of (λ d. IsMoment seats d.made) (λ d. IsMomentOf written d.made) (λ d m. moment_is d.made m) st.ledger.issued st.transcripts_agree.made;

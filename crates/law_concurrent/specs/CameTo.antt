@@ -20,6 +20,7 @@ use Rattle.spec_protocol.specs.Seats.{KeptImage}
 use Rattle.law_kept_images.specs.SessionOutput.{IsImageOf, IsMeaning}
 use Rattle.law_kept_images.specs.Accepted.{IsAccepted}
 pub use Rattle.law_kept_images.specs.LastImage.{last_image, last_image_bytes}
+use Rattle.law_concurrent.specs.InOrder.{RanInOneOrder}
 
 -- What is left of a run: of `setup`, and then of each session in the order of the plan, its transcript and
 -- the images that it kept; the journal; and the digests.
@@ -36,6 +37,9 @@ pub record CameTo (h : List ℕ → List ℕ) (database : Text) (size : ℕ) (Is
   -- transcripts, journal and digests agree by all rules, with the first session as `setup`
   pub agree : (q : Meaning) → IsMeaning h statement_of q
       → Agree q database input (Some 0) r.X r.J.items r.G
+  -- all that the transcripts show stands in one order, and images are accepted with the digests before them
+  -- in it, of whatever session
+  pub in_order : (q : Meaning) → IsMeaning h statement_of q → RanInOneOrder h q database r.X r.kept r.J.items
   -- the journal is a legal one, of the database, and no block is greater than it may be
   pub legal : IsLegalJournal statement_of r.J
   pub of_database : r.J.database ≡ database

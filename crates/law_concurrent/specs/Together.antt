@@ -9,6 +9,7 @@ use Rattle.spec_history.specs.Inputs.{InputSession}
 use Rattle.spec_history.specs.Journals.{times}
 use Rattle.spec_history.specs.Lists.{Each, Some_of, In}
 use Rattle.spec_history.specs.Transcripts.{Transcript, statements}
+use Rattle.law_order.specs.OneOrder.{HaveOneOrder}
 use Rattle.spec_protocol.specs.AtTheEnd.{HasItsImages}
 use Rattle.spec_protocol.specs.Cells.{LedgerCell}
 use Rattle.spec_protocol.specs.JournalForms.{journal_in}
@@ -41,6 +42,8 @@ pub record RanTogether (v : Server) (written : List Written) (ledger : LedgerCel
   -- they agree by all rules, with the first session as `setup`
   pub agree : Agree v.meaning ledger.database (map session_in (transcripts_in written)) (Some 0)
       (transcripts_in written) ledger.items ledger.issued
+  -- all that they show stands in one order
+  pub in_order : HaveOneOrder v.meaning (Some 0) (transcripts_in written) ledger.items
   -- the images are those that the transcripts show, with the bytes of so many items of the journal
   pub images : Each (HasItsImages v ledger) written
   -- the times of transactions, and those at which digests were made, are moments of the sessions

@@ -26,6 +26,7 @@ ghost use Rattle.law_concurrent.specs.Together.{RanTogether, names_in};
 use law_kept_images::{
     digests_are_held_where_their_blocks_are_closed, images_of_legal_journals_verify,
 };
+use law_order::histories_are_in_one_order;
 
 /// Once all seats were joined into one, what it wrote is that of a run of all sessions together: in whatever
 /// order their visits came, the transcripts agree with the ledger's cell in the order in which the seat has
@@ -35,7 +36,9 @@ pub fn runs_of_joined_seats_agree()
         → KnewThatOver w ws → NamesApart (names_in (transcripts_in (w ∷ ws)))
         → (ledger : LedgerCell) → get_elem? cells ledger_at ≡ some (Ledger ledger)
         → RanTogether v (w ∷ ws) ledger }
-{}
+{
+    histories_are_in_one_order();
+}
 
 /// Any two meanings that statements have by one grammar, where blocks are hashed with one hash, are one: what
 /// agrees by the rules of agreement with the first does with the second, and a transcript shows the same
@@ -51,8 +54,9 @@ pub fn statements_have_one_meaning()
 
 /// What is left where all seats of a server were joined into one is that of a run of the input in which
 /// `setup` came first and all other sessions ran side by side: transcripts, images, journal and digests agree
-/// by every meaning that statements have, the journal is a legal one, and each image is accepted with the
-/// digests whose blocks are closed in it. Commits and digests have some of these moments.
+/// by every meaning that statements have, all that the transcripts show stands in one order, the journal is a
+/// legal one, and each image is accepted with the digests whose blocks are closed in it, as those before it in
+/// that order are. Commits and digests have some of these moments.
 pub fn runs_side_by_side_agree()
     ensures { (h : List ℕ → List ℕ) (database : Text) (size : ℕ) (moments : List ℕ)
         (input : List InputSession) (r : RunResult)

@@ -1,4 +1,5 @@
 pub mod Agreed
+pub mod AtBoard
 pub mod CameTo
 pub mod Closing
 pub mod FinishedRun

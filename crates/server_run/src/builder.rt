@@ -1,12 +1,12 @@
 //! The builder, which closes blocks while sessions run.
 
-ghost use Rattle.std.specs.Prelude.{◌≡◌, ◌≤◌, ◌^◌, []};
-ghost use Rattle.base_board.specs.Boards.{board_cells, seat_state, seat_parts, seat_out, HasSeat, IsSameSeat};
+ghost use Rattle.std.specs.Prelude.{◌≡◌};
+ghost use Rattle.base_board.specs.Boards.{seat_state};
 ghost use Rattle.spec_syntax.specs.Text.{statement_of};
 ghost use Rattle.spec_protocol.specs.Serves.{Serves};
-ghost use Rattle.spec_protocol.specs.Cells.{cell_count};
+ghost use Rattle.server_run.specs.AtBoard.{IsFree, IsFreed};
 
-use crate::shared::{Cells, LEDGER, ThreadSeat};
+use crate::shared::{Cells, LEDGER, Run, ThreadSeat};
 use base_io::Gate;
 use base_merkle::Hash32;
 use base_types::Memory;
@@ -25,11 +25,9 @@ fn close_pending<K: Serving, H: Hash32, R: Wait>(
     board: &Cells<K>,
     place: &mut ThreadSeat<K>,
 )
-    requires board { HasSeat board.now place.old × (board_cells board.now ≡ cell_count) }
-    requires out { seat_out place.old ≡ [] }
+    requires free { IsFree board.now place.old }
     requires serves { Serves (H.digest hasher) statement_of K.database.server }
-    ensures place { IsSameSeat place.old place.new × (seat_parts place.new ≡ seat_parts place.old)
-        × (seat_out place.new ≡ []) }
+    ensures place { IsFreed place.old place.new }
     ensures state { seat_state place.new ≡ seat_state place.old }
 {
     let mut held = board.take(rt, place, LEDGER);
@@ -41,25 +39,19 @@ fn close_pending<K: Serving, H: Hash32, R: Wait>(
 
 /// Visits the ledger's cell so many times, and closes a block at each visit where anything is pending. Behind
 /// each visit the gate is passed, under this number.
-pub(crate) fn builder_job<K: Serving, H: Hash32, G: Gate, R: Wait>(
-    rt: &R,
-    alloc: Global,
-    hasher: H,
-    gate: &G,
+pub(crate) fn builder_job<K: Serving, H: Hash32, C, G: Gate, R: Wait>(
+    run: &Run<'_, K, H, C, G, R>,
     number: u32,
-    board: &Cells<K>,
     place: &mut ThreadSeat<K>,
     visits: u32,
 )
-    requires board { HasSeat board.now place.old × (board_cells board.now ≡ cell_count) }
-    requires out { seat_out place.old ≡ [] }
-    requires serves { Serves (H.digest hasher) statement_of K.database.server }
-    ensures place { IsSameSeat place.old place.new × (seat_parts place.new ≡ seat_parts place.old)
-        × (seat_out place.new ≡ []) }
+    requires free { IsFree run.now.board.now place.old }
+    requires serves { Serves (H.digest run.now.hasher) statement_of K.database.server }
+    ensures place { IsFreed place.old place.new }
     ensures state { seat_state place.new ≡ seat_state place.old }
 {
     for visit in 0..visits {
-        close_pending(rt, alloc, hasher, board, place);
-        gate.pass(number, visit);
+        close_pending(run.rt, run.alloc, run.hasher, run.board, place);
+        run.gate.pass(number, visit);
     }
 }

@@ -1,26 +1,22 @@
 //! Sessions side by side: a plan is halved, and the seat is split between the halves.
 
-ghost use Rattle.std.specs.Prelude.{◌≡◌, ◌+◌, ◌++◌, ◌∷◌, ◌≤◌, ◌<◌, ◌^◌, [], length, All, IfOk, true};
+ghost use Rattle.std.specs.Prelude.{◌≡◌, ◌+◌, ◌++◌, ◌∷◌, ◌≤◌, ◌<◌, ◌^◌, [], length, IfOk};
 ghost use Rattle.std.specs.Thread.{IsSend, IsSync};
-ghost use Rattle.base_board.specs.Boards.{board_cells, seat_state, seat_parts, seat_out, HasSeat, IsSameSeat};
-ghost use Rattle.spec_syntax.specs.Text.{statement_of};
-ghost use Rattle.spec_protocol.specs.Serves.{Serves};
-ghost use Rattle.spec_protocol.specs.Cells.{cell_count};
+ghost use Rattle.base_board.specs.Boards.{seat_state, seat_parts, seat_out, HasSeat};
 ghost use Rattle.spec_protocol.specs.Seats.{IsAtRest};
 ghost use Rattle.server_result.specs.Moments.{said_with};
-ghost use Rattle.server_run.specs.FinishedRun.{AreRunnable, AreUnited};
-ghost use Rattle.server_run.specs.Seated.{IsIdle};
+ghost use Rattle.server_run.specs.AtBoard.{IsGivenBack, MayRun};
+ghost use Rattle.server_run.specs.FinishedRun.{AreUnited};
 ghost use Rattle.server_run.specs.Wrote.{HaveWritten};
 
 use crate::session::session_job;
-use crate::shared::{Cells, ThreadSeat};
+use crate::shared::{Cells, Run, ThreadSeat};
 use crate::worker::{Job, SessionEnd};
 use base_io::{Clock, Gate};
 use base_merkle::Hash32;
 use base_types::Memory;
 use format_sections::Section;
 use server_board::Serving;
-use std::alloc::Global;
 use std::sync::Wait;
 use std::thread::{Threads, join};
 
@@ -29,36 +25,27 @@ pub(crate) type PartResult<K> = Result<(ThreadSeat<K>, Vec<SessionEnd>), Memory>
 
 // One session by this thread, which owns the seat.
 fn run_one<'a, K: Serving, H: Hash32, C: Clock, G: Gate, R: Wait>(
-    rt: &R,
-    alloc: Global,
-    hasher: H,
-    moment: Option<u64>,
-    clock: &C,
-    gate: &G,
+    run: &Run<'_, K, H, C, G, R>,
     number: u32,
-    board: &Cells<K>,
     mut place: ThreadSeat<K>,
     section: &Section<'a>,
 ) -> PartResult<K>
-    requires board { HasSeat board.now place × (board_cells board.now ≡ cell_count) }
-    requires out { seat_out place ≡ [] }
-    requires idle { IsIdle (seat_state place) }
-    requires serves { Serves (H.digest hasher) statement_of K.database.server }
-    requires runnable { AreRunnable (section.now ∷ []) }
-    ensures place { IfOk result (λ r. HasSeat board.now r.0 × (seat_parts r.0 ≡ seat_parts place)
-        × (seat_out r.0 ≡ [])) }
-    ensures wrote { IfOk result (λ r. HaveWritten (said_with moment (C.says clock.now)) (section.now ∷ [])
-        r.1.items (seat_state place) (seat_state r.0)) }
+    requires { MayRun K.database.server (H.digest run.now.hasher) run.now.board.now place (section.now ∷ []) }
+    ensures place { IfOk result (λ r. IsGivenBack run.now.board.now place r.0) }
+    ensures wrote { IfOk result (λ r. HaveWritten (said_with run.now.moment (C.says run.now.clock.now))
+        (section.now ∷ []) r.1.items (seat_state place) (seat_state r.0)) }
 {
     let job = Job {
-        hasher,
+        hasher: run.hasher,
         name: section.name,
         statements: &section.statements,
-        moment,
-        clock,
+        moment: run.moment,
+        clock: run.clock,
     };
-    let end = session_job(rt, alloc, gate, number, board, &mut place, job)?;
-    let mut ends = Vec::new(alloc);
+    let end = session_job(
+        run.rt, run.alloc, run.gate, number, run.board, &mut place, job,
+    )?;
+    let mut ends = Vec::new(run.alloc);
     ends.push(end)?;
     Ok((place, ends))
 }
@@ -98,81 +85,50 @@ pub(crate) fn run_part<
     G: Gate,
     R: Threads + Wait + Sync,
 >(
-    rt: &R,
-    alloc: Global,
-    hasher: H,
-    moment: Option<u64>,
-    clock: &C,
-    gate: &G,
+    run: &Run<'_, K, H, C, G, R>,
     from: u32,
-    board: &Cells<K>,
     mut place: ThreadSeat<K>,
     sections: &[Section<'a>],
 ) -> PartResult<K>
-    requires board { HasSeat board.now place × (board_cells board.now ≡ cell_count) }
-    requires out { seat_out place ≡ [] }
-    requires idle { IsIdle (seat_state place) }
-    requires serves { Serves (H.digest hasher) statement_of K.database.server }
-    requires runnable { AreRunnable sections.now }
+    requires ready { MayRun K.database.server (H.digest run.now.hasher) run.now.board.now place sections.now }
     requires parts { length sections.now ≤ seat_parts place }
     requires numbers { from + length sections.now < 2 ^ 32 }
-    ensures place { IfOk result (λ r. HasSeat board.now r.0 × (seat_parts r.0 ≡ seat_parts place)
-        × (seat_out r.0 ≡ [])) }
-    ensures wrote { IfOk result (λ r. HaveWritten (said_with moment (C.says clock.now)) sections.now
-        r.1.items (seat_state place) (seat_state r.0)) }
+    ensures place { IfOk result (λ r. IsGivenBack run.now.board.now place r.0) }
+    ensures wrote { IfOk result (λ r. HaveWritten (said_with run.now.moment (C.says run.now.clock.now))
+        sections.now r.1.items (seat_state place) (seat_state r.0)) }
 {
     match sections {
-        [] => return Ok((place, Vec::new(alloc))),
-        [section] => {
-            return run_one(
-                rt, alloc, hasher, moment, clock, gate, from, board, place, section,
-            );
-        }
+        [] => return Ok((place, Vec::new(run.alloc))),
+        [section] => return run_one(run, from, place, section),
         _ => {}
     }
     let (left, right) = sections.split_at(sections.len() / 2);
     let middle = from + left.len() as u32;
-    let other = board.split(&mut place, right.len() as u32);
+    let other = run.board.split(&mut place, right.len() as u32);
     let (mine, theirs) = join(
-        rt,
+        run.rt,
         move || -> PartResult<K>
             requires sync { IsSync R.row × IsSync H.row × IsSync C.row × IsSync G.row × IsSync K.row
                 × IsSend H.row × IsSend K.row }
-            requires board { HasSeat board.now place × (board_cells board.now ≡ cell_count) }
-            requires out { seat_out place ≡ [] }
-            requires idle { IsIdle (seat_state place) }
-            requires serves { Serves (H.digest hasher) statement_of K.database.server }
-            requires runnable { AreRunnable left.now }
+            requires ready { MayRun K.database.server (H.digest run.now.hasher) run.now.board.now place left.now }
             requires parts { length left.now ≤ seat_parts place }
             requires numbers { from + length left.now < 2 ^ 32 }
-            ensures place { IfOk result (λ r. HasSeat board.entry.now r.0
-                × (seat_parts r.0 ≡ seat_parts place) × (seat_out r.0 ≡ [])) }
-            ensures wrote { IfOk result (λ r. HaveWritten (said_with moment (C.says clock.entry.now))
+            ensures place { IfOk result (λ r. IsGivenBack run.entry.now.board.now place r.0) }
+            ensures wrote { IfOk result
+                (λ r. HaveWritten (said_with run.entry.now.moment (C.says run.entry.now.clock.now))
                 left.entry.now r.1.items (seat_state place) (seat_state r.0)) }
-        {
-            run_part(
-                rt, alloc, hasher, moment, clock, gate, from, board, place, left,
-            )
-        },
+        { run_part(run, from, place, left) },
         move || -> PartResult<K>
             requires sync { IsSync R.row × IsSync H.row × IsSync C.row × IsSync G.row × IsSync K.row
                 × IsSend H.row × IsSend K.row }
-            requires board { HasSeat board.now other × (board_cells board.now ≡ cell_count) }
-            requires out { seat_out other ≡ [] }
-            requires idle { IsIdle (seat_state other) }
-            requires serves { Serves (H.digest hasher) statement_of K.database.server }
-            requires runnable { AreRunnable right.now }
+            requires ready { MayRun K.database.server (H.digest run.now.hasher) run.now.board.now other right.now }
             requires parts { length right.now ≤ seat_parts other }
             requires numbers { middle + length right.now < 2 ^ 32 }
-            ensures place { IfOk result (λ r. HasSeat board.entry.now r.0
-                × (seat_parts r.0 ≡ seat_parts other) × (seat_out r.0 ≡ [])) }
-            ensures wrote { IfOk result (λ r. HaveWritten (said_with moment (C.says clock.entry.now))
+            ensures place { IfOk result (λ r. IsGivenBack run.entry.now.board.now other r.0) }
+            ensures wrote { IfOk result
+                (λ r. HaveWritten (said_with run.entry.now.moment (C.says run.entry.now.clock.now))
                 right.entry.now r.1.items (seat_state other) (seat_state r.0)) }
-        {
-            run_part(
-                rt, alloc, hasher, moment, clock, gate, middle, board, other, right,
-            )
-        },
+        { run_part(run, middle, other, right) },
     );
-    unite(board, mine, theirs)
+    unite(run.board, mine, theirs)
 }

@@ -1,12 +1,12 @@
 //! A session, from its beginning to its end.
 
-ghost use Rattle.std.specs.Prelude.{◌≡◌, ◌+◌, ◌<◌, ◌^◌, [], length, IfOk, None, OnOk, true};
-ghost use Rattle.base_board.specs.Boards.{board_cells, seat_state, seat_parts, seat_out, HasSeat, IsSameSeat};
+ghost use Rattle.std.specs.Prelude.{◌≡◌, ◌+◌, ◌<◌, ◌^◌, length, IfOk, None, OnOk, true};
+ghost use Rattle.base_board.specs.Boards.{seat_state};
 ghost use Rattle.base_types.specs.SessionName.{is_session_name};
 ghost use Rattle.spec_syntax.specs.Text.{statement_of};
 ghost use Rattle.server_session.specs.ControlPoints.{IsBetween};
 ghost use Rattle.spec_protocol.specs.Serves.{Serves};
-ghost use Rattle.spec_protocol.specs.Cells.{cell_count};
+ghost use Rattle.server_run.specs.AtBoard.{IsFree, IsFreed};
 ghost use Rattle.server_run.specs.Seated.{known_by, says_in, texts_in, IsAhead, IsIdle, HasSameKnowledge};
 ghost use Rattle.server_run.specs.Wrote.{HasWritten, left_of};
 
@@ -31,15 +31,13 @@ fn run_statement<'a, K: Serving, H: Hash32, C: Clock, G: Gate, R: Wait>(
     place: &mut ThreadSeat<K>,
     worker: &mut Worker<'a, H, C>,
 ) -> Result<(), Memory>
-    requires board { HasSeat board.now place.old × (board_cells board.now ≡ cell_count) }
-    requires idle { seat_out place.old ≡ [] }
+    requires free { IsFree board.now place.old }
     requires serves { Serves (H.digest worker.old.job.hasher) statement_of K.database.server }
     requires ahead { IsAhead H.digest C.says K.database.server worker.old (seat_state place.old) }
     requires between { IsBetween worker.old.session.seat }
     requires more { worker.old.taken < length worker.old.job.statements.now }
     requires image { worker.old.image ≡ None }
-    ensures place { OnOk result (IsSameSeat place.old place.new
-        × (seat_parts place.new ≡ seat_parts place.old) × (seat_out place.new ≡ [])) }
+    ensures place { OnOk result (IsFreed place.old place.new) }
     ensures ahead { OnOk result
         (IsAhead H.digest C.says K.database.server worker.new (seat_state place.new)) }
     ensures known { OnOk result (HasSameKnowledge (seat_state place.old) (seat_state place.new)) }
@@ -63,16 +61,14 @@ fn run_statements<'a, K: Serving, H: Hash32, C: Clock, G: Gate, R: Wait>(
     place: &mut ThreadSeat<K>,
     worker: &mut Worker<'a, H, C>,
 ) -> Result<(), Memory>
-    requires board { HasSeat board.now place.old × (board_cells board.now ≡ cell_count) }
-    requires idle { seat_out place.old ≡ [] }
+    requires free { IsFree board.now place.old }
     requires serves { Serves (H.digest worker.old.job.hasher) statement_of K.database.server }
     requires ahead { IsAhead H.digest C.says K.database.server worker.old (seat_state place.old) }
     requires between { IsBetween worker.old.session.seat }
     requires first { worker.old.taken ≡ 0 }
     requires few { length worker.old.job.statements.now < 2 ^ 32 }
     requires image { worker.old.image ≡ None }
-    ensures place { OnOk result (IsSameSeat place.old place.new
-        × (seat_parts place.new ≡ seat_parts place.old) × (seat_out place.new ≡ [])) }
+    ensures place { OnOk result (IsFreed place.old place.new) }
     ensures ahead { OnOk result
         (IsAhead H.digest C.says K.database.server worker.new (seat_state place.new)) }
     ensures known { OnOk result (HasSameKnowledge (seat_state place.old) (seat_state place.new)) }
@@ -97,15 +93,13 @@ fn end_session<'a, K: Serving, H: Hash32, C: Clock, G: Gate, R: Wait>(
     place: &mut ThreadSeat<K>,
     worker: &mut Worker<'a, H, C>,
 ) -> Result<(), Memory>
-    requires board { HasSeat board.now place.old × (board_cells board.now ≡ cell_count) }
-    requires idle { seat_out place.old ≡ [] }
+    requires free { IsFree board.now place.old }
     requires serves { Serves (H.digest worker.old.job.hasher) statement_of K.database.server }
     requires ahead { IsAhead H.digest C.says K.database.server worker.old (seat_state place.old) }
     requires between { IsBetween worker.old.session.seat }
     requires all { worker.old.taken ≡ length worker.old.job.statements.now }
     requires image { worker.old.image ≡ None }
-    ensures place { OnOk result (IsSameSeat place.old place.new
-        × (seat_parts place.new ≡ seat_parts place.old) × (seat_out place.new ≡ [])) }
+    ensures place { OnOk result (IsFreed place.old place.new) }
     ensures wrote { OnOk result (HasWritten (says_in C.says worker.old.job) worker.old.job.name.now
         (texts_in worker.old.job.statements.now) (left_of worker.new) (known_by (seat_state place.old))
         (seat_state place.old).written (seat_state place.new)) }
@@ -127,16 +121,14 @@ fn carry_out<'a, K: Serving, H: Hash32, C: Clock, G: Gate, R: Wait>(
     place: &mut ThreadSeat<K>,
     worker: &mut Worker<'a, H, C>,
 ) -> Result<(), Memory>
-    requires board { HasSeat board.now place.old × (board_cells board.now ≡ cell_count) }
-    requires idle { seat_out place.old ≡ [] }
+    requires free { IsFree board.now place.old }
     requires serves { Serves (H.digest worker.old.job.hasher) statement_of K.database.server }
     requires ahead { IsAhead H.digest C.says K.database.server worker.old (seat_state place.old) }
     requires between { IsBetween worker.old.session.seat }
     requires first { worker.old.taken ≡ 0 }
     requires few { length worker.old.job.statements.now < 2 ^ 32 }
     requires image { worker.old.image ≡ None }
-    ensures place { OnOk result (IsSameSeat place.old place.new
-        × (seat_parts place.new ≡ seat_parts place.old) × (seat_out place.new ≡ [])) }
+    ensures place { OnOk result (IsFreed place.old place.new) }
     ensures wrote { OnOk result (HasWritten (says_in C.says worker.old.job) worker.old.job.name.now
         (texts_in worker.old.job.statements.now) (left_of worker.new) (known_by (seat_state place.old))
         (seat_state place.old).written (seat_state place.new)) }
@@ -171,14 +163,12 @@ pub(crate) fn session_job<'a, K: Serving, H: Hash32, C: Clock, G: Gate, R: Wait>
     place: &mut ThreadSeat<K>,
     job: Job<'a, H, C>,
 ) -> Result<SessionEnd, Memory>
-    requires board { HasSeat board.now place.old × (board_cells board.now ≡ cell_count) }
-    requires out { seat_out place.old ≡ [] }
+    requires free { IsFree board.now place.old }
     requires idle { IsIdle (seat_state place.old) }
     requires serves { Serves (H.digest job.hasher) statement_of K.database.server }
     requires name { is_session_name job.name.now ≡ true }
     requires few { length job.statements.now < 2 ^ 32 }
-    ensures place { OnOk result (IsSameSeat place.old place.new
-        × (seat_parts place.new ≡ seat_parts place.old) × (seat_out place.new ≡ [])) }
+    ensures place { OnOk result (IsFreed place.old place.new) }
     ensures wrote { IfOk result (λ end. HasWritten (says_in C.says job.entry) job.entry.name.now
         (texts_in job.entry.statements.now) end (known_by (seat_state place.old))
         (seat_state place.old).written (seat_state place.new)) }

@@ -1,8 +1,7 @@
 //! The last visit of a session, which tells the board that it is over.
 
-ghost use Rattle.std.specs.Prelude.{◌≡◌, []};
-ghost use Rattle.base_board.specs.Boards.{board_cells, seat_state, seat_parts, seat_out, HasSeat, IsSameSeat};
-ghost use Rattle.spec_protocol.specs.Cells.{cell_count};
+ghost use Rattle.base_board.specs.Boards.{seat_state};
+ghost use Rattle.server_run.specs.AtBoard.{IsFree, IsFreed};
 ghost use Rattle.server_run.specs.Seated.{known_by, says_in, texts_in};
 ghost use Rattle.server_run.specs.Wrote.{HasLeft, HasWritten, left_of};
 
@@ -23,11 +22,9 @@ pub(crate) fn settle<'a, K: Serving, H: Hash32, C: Clock, R: Wait>(
     place: &mut ThreadSeat<K>,
     worker: &Worker<'a, H, C>,
 )
-    requires board { HasSeat board.now place.old × (board_cells board.now ≡ cell_count) }
-    requires idle { seat_out place.old ≡ [] }
+    requires free { IsFree board.now place.old }
     requires left { HasLeft C.says K.database.server worker.now (seat_state place.old) }
-    ensures place { IsSameSeat place.old place.new × (seat_parts place.new ≡ seat_parts place.old)
-        × (seat_out place.new ≡ []) }
+    ensures place { IsFreed place.old place.new }
     ensures wrote { HasWritten (says_in C.says worker.now.job) worker.now.job.name.now
         (texts_in worker.now.job.statements.now) (left_of worker.now) (known_by (seat_state place.old))
         (seat_state place.old).written (seat_state place.new) }

@@ -1,14 +1,14 @@
 //! The visits of a session: each takes one cell of the board, and gives it back.
 
-ghost use Rattle.std.specs.Prelude.{◌≡◌, ◌<◌, [], IfOk, MatchBool, None, OnOk};
-ghost use Rattle.base_board.specs.Boards.{board_cells, seat_state, seat_parts, seat_out, HasSeat, IsSameSeat};
+ghost use Rattle.std.specs.Prelude.{◌≡◌, ◌<◌, IfOk, MatchBool, None, OnOk};
+ghost use Rattle.base_board.specs.Boards.{seat_state};
 ghost use Rattle.server_engine.specs.IsMidway.{WentOn, WentToEnd};
 ghost use Rattle.spec_syntax.specs.Text.{statement_of};
 ghost use Rattle.server_session.specs.Needs.{need_of};
 ghost use Rattle.server_session.specs.ControlPoints.{KeepsStatement};
 ghost use Rattle.server_session.specs.declared.need.NextVisit.TheVariants as need;
 ghost use Rattle.spec_protocol.specs.Serves.{Serves};
-ghost use Rattle.spec_protocol.specs.Cells.{cell_count};
+ghost use Rattle.server_run.specs.AtBoard.{IsFree, IsFreed};
 ghost use Rattle.server_run.specs.Seated.{IsAhead, HasSameKnowledge};
 
 use crate::shared::{Cells, ThreadSeat};
@@ -34,13 +34,11 @@ fn visit_cell<'a, K: Serving, H: Hash32, C: Clock, G: Gate, R: Wait>(
     worker: &mut Worker<'a, H, C>,
     cell: usize,
 )
-    requires board { HasSeat board.now place.old × (board_cells board.now ≡ cell_count) }
-    requires idle { seat_out place.old ≡ [] }
+    requires free { IsFree board.now place.old }
     requires serves { Serves (H.digest worker.old.job.hasher) statement_of K.database.server }
     requires ahead { IsAhead H.digest C.says K.database.server worker.old (seat_state place.old) }
     requires needs { need_of worker.old.session.seat ≡ need.Cell cell }
-    ensures place { IsSameSeat place.old place.new × (seat_parts place.new ≡ seat_parts place.old)
-        × (seat_out place.new ≡ []) }
+    ensures place { IsFreed place.old place.new }
     ensures ahead { IsAhead H.digest C.says K.database.server worker.new (seat_state place.new) }
     ensures known { HasSameKnowledge (seat_state place.old) (seat_state place.new) }
     ensures stays { KeepsStatement worker.old.session.seat worker.new.session.seat }
@@ -63,13 +61,11 @@ fn visit_next<'a, K: Serving, H: Hash32, C: Clock, G: Gate, R: Wait>(
     place: &mut ThreadSeat<K>,
     worker: &mut Worker<'a, H, C>,
 ) -> Result<bool, Memory>
-    requires board { HasSeat board.now place.old × (board_cells board.now ≡ cell_count) }
-    requires idle { seat_out place.old ≡ [] }
+    requires free { IsFree board.now place.old }
     requires serves { Serves (H.digest worker.old.job.hasher) statement_of K.database.server }
     requires ahead { IsAhead H.digest C.says K.database.server worker.old (seat_state place.old) }
     requires image { worker.old.image ≡ None }
-    ensures place { OnOk result (IsSameSeat place.old place.new
-        × (seat_parts place.new ≡ seat_parts place.old) × (seat_out place.new ≡ [])) }
+    ensures place { OnOk result (IsFreed place.old place.new) }
     ensures ahead { OnOk result
         (IsAhead H.digest C.says K.database.server worker.new (seat_state place.new)) }
     ensures known { OnOk result (HasSameKnowledge (seat_state place.old) (seat_state place.new)) }
@@ -102,13 +98,11 @@ pub(crate) fn visit_needed<'a, K: Serving, H: Hash32, C: Clock, G: Gate, R: Wait
     place: &mut ThreadSeat<K>,
     worker: &mut Worker<'a, H, C>,
 ) -> Result<(), Memory>
-    requires board { HasSeat board.now place.old × (board_cells board.now ≡ cell_count) }
-    requires idle { seat_out place.old ≡ [] }
+    requires free { IsFree board.now place.old }
     requires serves { Serves (H.digest worker.old.job.hasher) statement_of K.database.server }
     requires ahead { IsAhead H.digest C.says K.database.server worker.old (seat_state place.old) }
     requires image { worker.old.image ≡ None }
-    ensures place { OnOk result (IsSameSeat place.old place.new
-        × (seat_parts place.new ≡ seat_parts place.old) × (seat_out place.new ≡ [])) }
+    ensures place { OnOk result (IsFreed place.old place.new) }
     ensures ahead { OnOk result
         (IsAhead H.digest C.says K.database.server worker.new (seat_state place.new)) }
     ensures known { OnOk result (HasSameKnowledge (seat_state place.old) (seat_state place.new)) }

@@ -1,15 +1,14 @@
 //! A whole run: the setup, and then all sessions side by side with the builder.
 
-ghost use Rattle.std.specs.Prelude.{◌≡◌, ◌+◌, ◌++◌, ◌∷◌, ◌≤◌, ◌<◌, ◌^◌, [], length, IfOk, true};
+ghost use Rattle.std.specs.Prelude.{◌≡◌, ◌+◌, ◌≤◌, ◌<◌, ◌^◌, [], length, IfOk};
 ghost use Rattle.std.specs.Thread.{IsSend, IsSync};
-ghost use Rattle.base_board.specs.Boards.{board_cells, seat_state, seat_parts, seat_out, HasSeat, IsSameSeat};
-ghost use Rattle.server_engine.specs.FirstCells.{first_kept};
+ghost use Rattle.base_board.specs.Boards.{seat_state, seat_parts};
 ghost use Rattle.spec_syntax.specs.Text.{statement_of};
 ghost use Rattle.spec_protocol.specs.Serves.{Serves};
-ghost use Rattle.spec_protocol.specs.Cells.{cell_count};
 ghost use Rattle.spec_protocol.specs.Seats.{split};
 ghost use Rattle.server_result.specs.Moments.{said_with};
 ghost use Rattle.sql_types.specs.declared.journal.TheConstants.{MAX_BLOCK};
+ghost use Rattle.server_run.specs.AtBoard.{IsFree, IsFreed, IsGivenBack, MayRun};
 ghost use Rattle.server_run.specs.FinishedRun.{AreRunnable, HasFinished, setup_name};
 ghost use Rattle.server_run.specs.Seated.{IsIdle, known_by, texts_in};
 ghost use Rattle.server_run.specs.Wrote.{HasWritten, HaveWritten};
@@ -17,7 +16,7 @@ ghost use Rattle.server_run.specs.Wrote.{HasWritten, HaveWritten};
 use crate::builder::builder_job;
 use crate::parts::{PartResult, run_part};
 use crate::session::session_job;
-use crate::shared::{Cells, ThreadSeat};
+use crate::shared::{Cells, Run, ThreadSeat};
 use crate::worker::{Job, SessionEnd};
 use base_io::{Clock, Gate, OpenGate};
 use base_merkle::Hash32;
@@ -40,124 +39,89 @@ pub(crate) struct FinishedRun {
 }
 
 // Runs the setup to its end, at a seat of its own, which is taken in again. The gate isn't passed.
-fn run_setup<K: Serving, H: Hash32, C: Clock, R: Wait>(
-    rt: &R,
-    alloc: Global,
-    hasher: H,
-    moment: Option<u64>,
-    clock: &C,
-    board: &Cells<K>,
+fn run_setup<K: Serving, H: Hash32, C: Clock, G, R: Wait>(
+    run: &Run<'_, K, H, C, G, R>,
     place: &mut ThreadSeat<K>,
     statements: &[&str],
 ) -> Result<SessionEnd, Memory>
-    requires board { HasSeat board.now place.old × (board_cells board.now ≡ cell_count) }
-    requires out { seat_out place.old ≡ [] }
-    requires idle { IsIdle (seat_state place.old) }
-    requires serves { Serves (H.digest hasher) statement_of K.database.server }
+    requires ready { MayRun K.database.server (H.digest run.now.hasher) run.now.board.now place.old [] }
     requires parts { 1 < seat_parts place.old }
     requires few { length statements.now < 2 ^ 32 }
-    ensures place { IfOk result (λ _. IsSameSeat place.old place.new
-        × (seat_parts place.new ≡ seat_parts place.old) × (seat_out place.new ≡ [])) }
+    ensures place { IfOk result (λ _. IsFreed place.old place.new) }
     ensures idle { IfOk result (λ _. IsIdle (seat_state place.new)) }
-    ensures wrote { IfOk result (λ end. HasWritten (said_with moment (C.says clock.now)) setup_name
+    ensures wrote { IfOk result (λ end. HasWritten (said_with run.now.moment (C.says run.now.clock.now)) setup_name
         (texts_in statements.now) end (known_by (split (seat_state place.old) 1))
         (seat_state place.old).written (seat_state place.new)) }
 {
-    let mut other = board.split(place, 1);
+    let mut other = run.board.split(place, 1);
     let job = Job {
-        hasher,
+        hasher: run.hasher,
         name: "setup",
         statements,
-        moment,
-        clock,
+        moment: run.moment,
+        clock: run.clock,
     };
-    let end = session_job(rt, alloc, &OpenGate, 0, board, &mut other, job)?;
-    board.join(place, other);
+    let end = session_job(run.rt, run.alloc, &OpenGate, 0, run.board, &mut other, job)?;
+    run.board.join(place, other);
     Ok(end)
 }
 
 // The builder by this thread, which owns the seat.
-fn build<K: Serving, H: Hash32, G: Gate, R: Wait>(
-    rt: &R,
-    alloc: Global,
-    hasher: H,
-    gate: &G,
+fn build<K: Serving, H: Hash32, C, G: Gate, R: Wait>(
+    run: &Run<'_, K, H, C, G, R>,
     number: u32,
-    board: &Cells<K>,
     mut place: ThreadSeat<K>,
     visits: u32,
 ) -> ThreadSeat<K>
-    requires board { HasSeat board.now place × (board_cells board.now ≡ cell_count) }
-    requires out { seat_out place ≡ [] }
-    requires serves { Serves (H.digest hasher) statement_of K.database.server }
-    ensures place { HasSeat board.now result × (seat_parts result ≡ seat_parts place)
-        × (seat_out result ≡ []) }
+    requires free { IsFree run.now.board.now place }
+    requires serves { Serves (H.digest run.now.hasher) statement_of K.database.server }
+    ensures place { IsGivenBack run.now.board.now place result }
     ensures state { seat_state result ≡ seat_state place }
 {
-    builder_job(rt, alloc, hasher, gate, number, board, &mut place, visits);
+    builder_job(run, number, &mut place, visits);
     place
 }
 
 // Runs all sessions side by side, and the builder beside them.
 fn run_beside<'a, K: Serving + Send + Sync, H: Hash32, C: Clock, G: Gate, R: Threads + Wait + Sync>(
-    rt: &R,
-    alloc: Global,
-    hasher: H,
-    moment: Option<u64>,
-    clock: &C,
-    gate: &G,
-    board: &Cells<K>,
+    run: &Run<'_, K, H, C, G, R>,
     mut place: ThreadSeat<K>,
     sections: &[Section<'a>],
     visits: u32,
 ) -> PartResult<K>
-    requires board { HasSeat board.now place × (board_cells board.now ≡ cell_count) }
-    requires out { seat_out place ≡ [] }
-    requires idle { IsIdle (seat_state place) }
-    requires serves { Serves (H.digest hasher) statement_of K.database.server }
-    requires runnable { AreRunnable sections.now }
+    requires ready { MayRun K.database.server (H.digest run.now.hasher) run.now.board.now place sections.now }
     requires parts { length sections.now + 1 < seat_parts place }
     requires numbers { length sections.now < 2 ^ 32 }
-    ensures place { IfOk result (λ r. HasSeat board.now r.0 × (seat_parts r.0 ≡ seat_parts place)
-        × (seat_out r.0 ≡ [])) }
-    ensures wrote { IfOk result (λ r. HaveWritten (said_with moment (C.says clock.now)) sections.now
-        r.1.items (seat_state place) (seat_state r.0)) }
+    ensures place { IfOk result (λ r. IsGivenBack run.now.board.now place r.0) }
+    ensures wrote { IfOk result (λ r. HaveWritten (said_with run.now.moment (C.says run.now.clock.now))
+        sections.now r.1.items (seat_state place) (seat_state r.0)) }
 {
-    let builder = board.split(&mut place, 1);
+    let builder = run.board.split(&mut place, 1);
     let number = sections.len() as u32;
     let (part, builder) = join(
-        rt,
+        run.rt,
         move || -> PartResult<K>
             requires sync { IsSync R.row × IsSync H.row × IsSync C.row × IsSync G.row × IsSync K.row
                 × IsSend H.row × IsSend K.row }
-            requires board { HasSeat board.now place × (board_cells board.now ≡ cell_count) }
-            requires out { seat_out place ≡ [] }
-            requires idle { IsIdle (seat_state place) }
-            requires serves { Serves (H.digest hasher) statement_of K.database.server }
-            requires runnable { AreRunnable sections.now }
+            requires ready { MayRun K.database.server (H.digest run.now.hasher) run.now.board.now place sections.now }
             requires parts { length sections.now ≤ seat_parts place }
             requires numbers { length sections.now < 2 ^ 32 }
-            ensures place { IfOk result (λ r. HasSeat board.entry.now r.0
-                × (seat_parts r.0 ≡ seat_parts place) × (seat_out r.0 ≡ [])) }
-            ensures wrote { IfOk result (λ r. HaveWritten (said_with moment (C.says clock.entry.now))
+            ensures place { IfOk result (λ r. IsGivenBack run.entry.now.board.now place r.0) }
+            ensures wrote { IfOk result
+                (λ r. HaveWritten (said_with run.entry.now.moment (C.says run.entry.now.clock.now))
                 sections.entry.now r.1.items (seat_state place) (seat_state r.0)) }
-        {
-            run_part(
-                rt, alloc, hasher, moment, clock, gate, 0, board, place, sections,
-            )
-        },
+        { run_part(run, 0, place, sections) },
         move || -> ThreadSeat<K>
-            requires sync { IsSync R.row × IsSync H.row × IsSync G.row × IsSync K.row × IsSend H.row × IsSend K.row }
-            requires board { HasSeat board.now builder × (board_cells board.now ≡ cell_count) }
-            requires out { seat_out builder ≡ [] }
-            requires serves { Serves (H.digest hasher) statement_of K.database.server }
-            ensures place { HasSeat board.entry.now result × (seat_parts result ≡ seat_parts builder)
-                × (seat_out result ≡ []) }
+            requires sync { IsSync R.row × IsSync H.row × IsSync C.row × IsSync G.row × IsSync K.row
+                × IsSend H.row × IsSend K.row }
+            requires free { IsFree run.now.board.now builder }
+            requires serves { Serves (H.digest run.now.hasher) statement_of K.database.server }
+            ensures place { IsGivenBack run.entry.now.board.now builder result }
             ensures state { seat_state result ≡ seat_state builder }
-        { build(rt, alloc, hasher, gate, number, board, builder, visits) },
+        { build(run, number, builder, visits) },
     );
     let (mut place, ends) = part?;
-    board.join(&mut place, builder);
+    run.board.join(&mut place, builder);
     Ok((place, ends))
 }
 
@@ -192,28 +156,17 @@ pub(crate) fn run_over<
     let database = Name::of_str(alloc, how.database)?;
     let cells = first_cells(alloc, database, how.block_size)?;
     let (board, mut place) = Cells::<K>::new(alloc, cells, all_sections.sessions.len() as u32 + 2)?;
-    let setup = run_setup(
+    let run = Run {
         rt,
         alloc,
         hasher,
-        how.clock,
-        clock,
-        &board,
-        &mut place,
-        &all_sections.setup,
-    )?;
-    let (place, ends) = run_beside(
-        rt,
-        alloc,
-        hasher,
-        how.clock,
+        moment: how.clock,
         clock,
         gate,
-        &board,
-        place,
-        &all_sections.sessions,
-        visits,
-    )?;
+        board: &board,
+    };
+    let setup = run_setup(&run, &mut place, &all_sections.setup)?;
+    let (place, ends) = run_beside(&run, place, &all_sections.sessions, visits)?;
     Ok(FinishedRun {
         cells: board.close_with(place),
         setup,

@@ -5,6 +5,7 @@ use Rattle.sql_types.specs.declared.journal.Journal.{Journal}
 use Rattle.sql_types.specs.declared.digest.Digest.{Digest}
 use Rattle.format_image.specs.Image.{image_of}
 use Rattle.format_image.specs.ImageBytes.{image_bytes}
+use Rattle.law_image.specs.Room.{FitsImageFormat}
 use Rattle.spec_syntax.specs.Text.{statement_of}
 use Rattle.format_journal.specs.Rules.{IsJournal}
 use Rattle.format_digest.specs.Writing.{HasMoments}
@@ -41,5 +42,6 @@ is_ran h database size says ss names p x r same kept spelled moments = record {
   journal = kept.journal;
   digests = kept.digests;
   journal_is_encodable = subst (λ (j : Journal). IsJournal j) (sym kept.journal) spelled;
+  has_room = subst (λ (d : Text). FitsImageFormat h statement_of d p.journal.items) (sym x.left.database) x.left.room;
   digests_have_moments = subst (λ (ds : List Digest). AllByRecursion HasMoments ds) (sym kept.digests) moments;
 }

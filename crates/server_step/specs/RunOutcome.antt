@@ -7,6 +7,8 @@ use Rattle.spec_history.specs.Lists.{Text, Each}
 use Rattle.spec_history.specs.Transcripts.{Transcript}
 use Rattle.format_journal.specs.Rules.{IsJournal}
 use Rattle.format_digest.specs.Writing.{HasMoments}
+use Rattle.law_image.specs.Room.{FitsImageFormat}
+use Rattle.spec_syntax.specs.Text.{statement_of}
 use Rattle.format_lines.specs.Line.{Statement}
 use Rattle.format_lines.specs.Sessions.{sessions_of}
 use Rattle.server_engine.specs.Parts.{HasLeft}
@@ -29,6 +31,8 @@ pub record IsRunOutcome (h : List ℕ → List ℕ) (names : List Text) (run : R
   pub journal : r.journal ≡ run.J
   pub digests : r.digests ≡ run.G
   pub journal_is_encodable : IsJournal r.journal
+  -- the image has room in its format, so that it has a spelling
+  pub has_room : FitsImageFormat h statement_of run.J.database run.J.items
   pub digests_have_moments : AllByRecursion HasMoments r.digests
 
 -- ---- what a core left

@@ -2,10 +2,12 @@
 //! stands. It prints each line behind `> `, then what was written, and then how the call ended. Its stored
 //! run has the files that the commands read; what they put is read by commands behind them.
 //!
-//! A line that begins with `#` says what the lines behind it try, and is printed as it is. Four more commands
+//! A line that begins with `#` says what the lines behind it try, and is printed as it is. Five more commands
 //! are for files alone: `patch <name> <place> <bytes> <other>` puts the bytes of a name under another, with
 //! these in the place of those from the place on, and prints whether it could; `cuts <name>` prints of how
 //! many proper prefixes of a name's bytes `verify` writes `No V0`, and how many prefixes there are;
+//! `damage <name> <digests>` prints of how many proper prefixes of a name's bytes `check` says that they are no
+//! receipt's, and of how many of these bytes that with one bit changed it isn't accepted with the digests;
 //! `same <name> <other>` prints whether the bytes of two names are equal; and `hex <name>` prints the bytes of
 //! a name in hexadecimal digits.
 //!
@@ -17,11 +19,13 @@
 //! are put before, each a call of the vault.
 #![tactic(auto)]
 
+mod damage;
 mod faulty;
 mod files;
 mod machine;
 mod setting;
 
+use crate::damage::count_damages;
 use crate::faulty::run_over_memory;
 use crate::files::{are_same, bytes_under, count_cuts, patch, print_hex};
 use crate::machine::Machine;
@@ -115,6 +119,10 @@ fn answer(rt: &impl Machine, setting: CommandSetup, line: &str) -> io::Result<()
         Some(("cuts", name)) => {
             let (refused, all) = count_cuts(rt, alloc, &mut FolderVault::new(*rt), name)?;
             println!(rt; "{refused} of {all}")
+        }
+        Some(("damage", _)) => {
+            let (cut, changed, all) = count_damages(rt, alloc, &mut FolderVault::new(*rt), &words)?;
+            println!(rt; "{cut} of {all}, {changed} of {all}")
         }
         Some(("same", _)) => {
             let same = are_same(alloc, &mut FolderVault::new(*rt), &words);

@@ -8,7 +8,7 @@ halves-preserved-then-are_same g c =
     let met = g.met.H.Hash32 g.world.𝓛 g.world.𝓜 g.world.𝓡 ((λ s x. x), (λ x. x), (λ x. x), λ x. x) in
     let e = rw c.in-Same.is at c.in_ok-collision.ensures in
     let two = halves d (met.sized c.args.h) c.halves.a.now c.halves.b.now c.halves.invariant.differ e in
-    go_back d c.halves.a.now c.halves.b.now _ _ _ _ c.halves.invariant two c.parts.ensures.front c.parts-in-Same.ensures.front c.parts.ensures.back c.parts-in-Same.ensures.back (c.if-are_same.ensures.same refl)
+    go_back d c.halves.a.now c.halves.b.now _ _ _ _ c.halves.invariant two c.tree_halves.ensures.front c.tree_halves-in-Same.ensures.front c.tree_halves.ensures.back c.tree_halves-in-Same.ensures.back (c.if-are_same.ensures.same refl)
 
 pub halves-preserved : goal.halves-preserved
 halves-preserved g c =
@@ -16,7 +16,7 @@ halves-preserved g c =
     let met = g.met.H.Hash32 g.world.𝓛 g.world.𝓜 g.world.𝓡 ((λ s x. x), (λ x. x), (λ x. x), λ x. x) in
     let e = rw c.in-Same.is at c.in_ok-collision.ensures in
     let two = halves d (met.sized c.args.h) c.halves.a.now c.halves.b.now c.halves.invariant.differ e in
-    go_front d c.halves.a.now c.halves.b.now _ _ c.halves.invariant two c.parts.ensures.front c.parts-in-Same.ensures.front (c.if-are_same.ensures.differ refl)
+    go_front d c.halves.a.now c.halves.b.now _ _ c.halves.invariant two c.tree_halves.ensures.front c.tree_halves-in-Same.ensures.front (c.if-are_same.ensures.differ refl)
 
 pub halves-smaller-then-are_same : goal.halves-smaller-then-are_same
 halves-smaller-then-are_same g c =
@@ -24,7 +24,7 @@ halves-smaller-then-are_same g c =
     let met = g.met.H.Hash32 g.world.𝓛 g.world.𝓜 g.world.𝓡 ((λ s x. x), (λ x. x), (λ x. x), λ x. x) in
     let e = rw c.in-Same.is at c.in_ok-collision.ensures in
     let two = halves d (met.sized c.args.h) c.halves.a.now c.halves.b.now c.halves.invariant.differ e in
-    rw c.parts.ensures.back (back_length c.halves.a.now two.more_a)
+    rw c.tree_halves.ensures.back (back_length c.halves.a.now two.more_a)
 
 pub halves-smaller : goal.halves-smaller
 halves-smaller g c =
@@ -32,4 +32,4 @@ halves-smaller g c =
     let met = g.met.H.Hash32 g.world.𝓛 g.world.𝓜 g.world.𝓡 ((λ s x. x), (λ x. x), (λ x. x), λ x. x) in
     let e = rw c.in-Same.is at c.in_ok-collision.ensures in
     let two = halves d (met.sized c.args.h) c.halves.a.now c.halves.b.now c.halves.invariant.differ e in
-    rw c.parts.ensures.front (front_length c.halves.a.now two.more_a)
+    rw c.tree_halves.ensures.front (front_length c.halves.a.now two.more_a)

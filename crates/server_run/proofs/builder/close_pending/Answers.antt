@@ -21,7 +21,7 @@ give_with-requires-clause-may g c =
     let e = c.close_pending.new.self in
     let state = seat_state c.take-held.new.seat in (
       state,
-      subst (λ (out : List (ℕ × KeptCell)). MayVisitServed (λ (k : KeptCell). k.cell) Keeps g.K.Serving.database state out ledger_at e state) (sym (t.out ∙ ap (λ (out : List (ℕ × KeptCell)). (ledger_at, k) ∷ out) c.requires.out))
+      subst (λ (out : List (ℕ × KeptCell)). MayVisitServed (λ (k : KeptCell). k.cell) Keeps g.K.Serving.database state out ledger_at e state) (sym (t.out ∙ ap (λ (out : List (ℕ × KeptCell)). (ledger_at, k) ∷ out) c.requires.free.2))
           (may_either g.K.Serving.database (g.H.Hash32.digest c.args.hasher) statement_of c.requires.serves k e state c.close_pending.result c.close_pending.ensures.closes c.close_pending.ensures.err c.close_pending.ensures.keeps),
       refl,
     )

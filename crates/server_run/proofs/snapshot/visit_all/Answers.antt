@@ -35,7 +35,7 @@ give_all_with-requires-clause-visit g c = λ i cell out first here.
     let image = r.image in
     let ahead = subst (λ t. IsAhead g.H.Hash32.digest g.C.Clock.says g.K.Serving.database.server z t) (sym taken.seat.1)
     r.ahead in
-    let count = taken.out.1 ∙ r.board.1 in
+    let count = taken.out.1 ∙ r.free.1 in
     let visits = kept_is g.H.Hash32.digest z.session.seat c.visit_all.new.seat c.deref.result.now cells c.visit_all.result
     c.index.result.now c.item_count-items.result c.image_with.result c.deref.ensures.value (omega (arith, count))
     c.index.ensures c.item_count-items.ensures c.image_with.ensures c.visit_all.ensures.visits in

@@ -10,7 +10,7 @@ pub take-held-requires-clause-cell : goal.take-held-requires-clause-cell
 take-held-requires-clause-cell g c =
     let r = c.requires in
     let z = c.args.worker.now in
-    subst (λ n. c.args.cell < n) (sym r.board.1)
+    subst (λ n. c.args.cell < n) (sym r.free.1)
     (near g.H.Hash32.digest g.C.Clock.says g.K.Serving.database z.job r.serves z.session z.taken z.image
     (seat_state c.args.place.now) r.ahead c.args.cell r.needs)
 
@@ -40,7 +40,7 @@ pub give_with-requires-clause-cell : goal.give_with-requires-clause-cell
 give_with-requires-clause-cell g c =
     let r = c.requires in
     let z = c.args.worker.now in
-    subst (λ n. c.args.cell < n) (sym r.board.1)
+    subst (λ n. c.args.cell < n) (sym r.free.1)
     (near g.H.Hash32.digest g.C.Clock.says g.K.Serving.database z.job r.serves z.session z.taken z.image
     (seat_state c.args.place.now) r.ahead c.args.cell r.needs)
 
@@ -55,7 +55,7 @@ give_with-requires-clause-may g c =
     let ahead = subst (λ t. IsAhead g.H.Hash32.digest g.C.Clock.says g.K.Serving.database.server z t) (sym taken.seat.1)
     r.ahead in
     let out = seat_out c.take-held.new.seat in
-    let out_is = one_out out _ c.args.cell held taken.out r.idle in
+    let out_is = one_out out _ c.args.cell held taken.out r.free.2 in
     let here = out_lies stand.0 out _ c.args.cell held taken.out stand.5 in
     visit_may g.H.Hash32.digest g.C.Clock.says g.K.Serving.database z.job r.serves z.session z.taken z.image s ahead stand.0
     stand.1 stand.2 stand.3 stand.4 c.args.cell r.needs held c.visit.new.cell here c.visit.new.seat c.visit.ensures.visits
