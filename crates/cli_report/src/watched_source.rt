@@ -16,7 +16,7 @@ pub struct WatchedSource<S: Source + Drop> {
 impl<S: Source + Drop> WatchedSource<S> {
     /// Nothing was read of the source so far.
     pub fn new(source: S) -> WatchedSource<S>
-        ensures { source_of result ≡ source.entry }
+        ensures { source_of result ≡ source }
     {
         WatchedSource {
             source,
