@@ -1,6 +1,5 @@
 -- What was answered in the run of an input, and what was saved of it.
 use Rattle.std.specs.Prelude.{ℕ, List, ◌∷◌, None, Some, codes, map}
-use Rattle.sql_types.specs.declared.digest.Digest.{Digest}
 use Rattle.spec_history.specs.Inputs.{InputLine, InputSession, sessions_in}
 use Rattle.spec_history.specs.Transcripts.{Transcript}
 use Rattle.format_lines.specs.Line.{Statement}

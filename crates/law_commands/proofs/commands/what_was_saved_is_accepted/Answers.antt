@@ -1,4 +1,4 @@
-use Rattle.std.proofs.Common.{List, None, Some, ap, refl, sym, ◌∙◌}
+use Rattle.std.proofs.Common.{None, Some, ap, refl, sym, ◌∙◌}
 use Rattle.format_lines.specs.Sessions.{sessions_of}
 use Rattle.spec_history.specs.Inputs.{sessions_in}
 use Rattle.law_kept_images.specs.LastImage.{last_image_bytes}

@@ -1,4 +1,4 @@
-use Rattle.std.proofs.Common.{ℕ, List, None, Some, refl, sym, subst}
+use Rattle.std.proofs.Common.{None, Some, refl, sym, subst}
 use Rattle.spec_history.specs.Lists.{Text}
 use Rattle.spec_syntax.specs.Text.{statement_of}
 use Rattle.format_lines.specs.Sessions.{sessions_of}
