@@ -1,3 +1,4 @@
 mod Readings
+mod Sizes
 mod Texts
 mod Values

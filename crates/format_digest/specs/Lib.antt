@@ -1,3 +1,4 @@
 pub mod Moment
 pub mod Reading
+pub mod Size
 pub mod Writing
