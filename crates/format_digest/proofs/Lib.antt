@@ -1,4 +1,3 @@
 mod Readings
-mod Sizes
 mod Texts
 mod Values

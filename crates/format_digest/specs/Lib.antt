@@ -1,4 +1,3 @@
 pub mod Moment
 pub mod Reading
-pub mod Size
 pub mod Writing

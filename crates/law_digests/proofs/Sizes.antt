@@ -21,7 +21,7 @@ use Rattle.jiff_fmt.specs.Text.{pad2, pad4, places, year_text, date_text, time_t
 use Rattle.base_types.specs.DatabaseName.{is_database_name, is_database_byte, starts_as_name}
 use Rattle.sql_types.specs.declared.digest.Digest.{Digest}
 use Rattle.format_digest.specs.Moment.{IsMomentText}
-use Rattle.format_digest.specs.Size.{IsIssued, FitsWhatIsRead}
+use Rattle.law_digests.specs.Size.{IsIssued, FitsWhatIsRead}
 use Rattle.format_digest.specs.Writing.{DigestWithTimes, joined, hash_text, digest_text, digest_texts, file_text, IsShown, AreShown, IsHash, IsFile}
 
 -- ---- bytes that stand for themselves in a string of JSON
