@@ -116,6 +116,7 @@ def check(data: bytes, digests: bytes) -> str:
         held = read_digests(digests)
     except (ValueError, KeyError, TypeError, RecursionError) as error:
         need(False, 8, f"the digests were refused: {error}")
+        raise
 
     ids = [int.from_bytes(record[:8], "big") for record in records]
     size = int.from_bytes(records[0][40:48], "big")
