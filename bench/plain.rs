@@ -468,7 +468,7 @@ impl Locks {
 struct Store {
     // by start
     versions: Vec<Version>,
-    // the starts of those that stand, by key
+    // the starts of the live versions, by key
     order: Vec<Event>,
     // and by the columns of each index
     indexes: Vec<Vec<Event>>,

@@ -3,26 +3,26 @@
 
     refuse.py PROGRAM [--jobs N] [--most BYTES] [--part WORD] [--at K] [NAME ..]
 
-The inputs are those of the stored runs: each `step` of crates/lg_commands/stdin with what it reads, and that of
+The inputs are those of the stored runs: each `step` of crates/test_commands/stdin with what it reads, and that of
 crates/ledgerd, if it has at most BYTES (32,768). One is called by the line of its command there, or by its file, and
 by the comment above. With NAMEs those are taken that have one of them in what they are called.
 
 For each input the calls of malloc and realloc that `step` makes are counted, N of them, and then it is run N times in
 an empty folder, the k-th call being refused. The same is done with `verify` of each image that `step` leaves, with
-`replay` of the journal, and with `extract` of the first and the last image. The lines of `verify`, `replay` and
-`extract` of crates/lg_commands/stdin whose files lie in data/ come behind. A run may end in these ways:
+`replay` of the journal, and with `extract` of the first and the last image. The lines of `verify`, `replay`,
+`extract`, `receipt` and `check` of crates/test_commands/stdin whose files lie in data/ come behind. A run may end in these ways:
 
     12      out of memory is said and nothing else, and no file was put
     files   the same, but the first of the files were put, each with the bytes of the full run
     E30     `step` answered a statement E30. All else, files and transcript, is as where that statement isn't in the
-            input (where it drew an id: as where it is a SELECT on a table of the system), `verify` says Yes of the
-            images, and `replay` of the journal leads to the image and the journal
+            input (where it was assigned an id: as where it is a SELECT on a table of the system), `verify` says Yes
+            of the images, and `replay` of the journal leads to the image and the journal
     full    all is as without a refusal
 
 Any other is unstated; it is told, its folder stays, and the status is 1. A run that takes more than 60 seconds hangs.
 
 --jobs      processes that work side by side (1)
---part      the words to do this for, as step,verify (all four)
+--part      the words to do this for, as step,verify (all six)
 --at        refuses this call alone
 
 refuse.c does the refusing; cc compiles it. It replaces functions of the GNU C library in a program that is linked
@@ -46,9 +46,9 @@ import time
 
 HERE = os.path.dirname(os.path.abspath(__file__))
 CRATES = os.path.join(os.path.dirname(HERE), "crates")
-PARTS = ["step", "verify", "replay", "extract"]
+PARTS = ["step", "verify", "replay", "extract", "receipt", "check"]
 SHOWN = {"step": ["12", "files", "E30", "full"], "verify": ["12", "full"], "replay": ["12", "files", "full"],
-         "extract": ["12", "full"]}
+         "extract": ["12", "full"], "receipt": ["12", "files", "full"], "check": ["12", "full"]}
 MOST_SECONDS = 60
 CHUNK = 64
 LAST_TICK = 2534023007999999999
@@ -88,10 +88,10 @@ def with_moment(words, moment):
 
 
 def commands(most):
-    """Each command of the stored run of lg_commands: its line, the comment above it, its words, and its input; None
+    """Each command of the stored run of test_commands: its line, the comment above it, its words, and its input; None
     where that is longer than `most` or calls of the outside fail."""
     comment, text, moment, fails = "", b"", 0, False
-    for number, line in enumerate(bytes_of("lg_commands", "stdin").rstrip(b"\n").split(b"\n"), 1):
+    for number, line in enumerate(bytes_of("test_commands", "stdin").rstrip(b"\n").split(b"\n"), 1):
         first, _, rest = line.partition(b" ")
         if line.startswith(b"#"):
             comment = rest.decode()
@@ -108,8 +108,8 @@ def commands(most):
             words, name = line.decode().split(" "), None
             if words[0] == "input":
                 name, words = words[1], words[2:]
-                path = os.path.join(CRATES, "lg_commands", "data", name)
-                text = bytes_of("lg_commands", "data", name) if short(path, most) else (most + 1) * b" "
+                path = os.path.join(CRATES, "test_commands", "data", name)
+                text = bytes_of("test_commands", "data", name) if short(path, most) else (most + 1) * b" "
             if words[0] == "step":
                 words = with_moment(words, moment)
             name = os.path.splitext(name)[0] if name else str(number)
@@ -131,17 +131,17 @@ def inputs(most):
 
 
 def lines_on_files(most):
-    """Name and call of each `verify`, `replay` and `extract` whose files lie in data/, each once."""
+    """Name and call of each `verify`, `replay`, `extract`, `receipt` and `check` whose files lie in data/, each once."""
     seen = set()
     for name, comment, words, text in commands(most):
         threads = any(w.startswith("--workers") for w in words)
         if words[0] not in PARTS[1:] or text != b"" or threads or tuple(words) in seen:
             continue
         seen.add(tuple(words))
-        count = {"verify": 3, "replay": 2, "extract": 4}[words[0]]
-        paths = [os.path.join(CRATES, "lg_commands", "data", w) for w in words[1:count]]
+        count = {"verify": 3, "replay": 2, "extract": 4, "receipt": 3, "check": 3}[words[0]]
+        paths = [os.path.join(CRATES, "test_commands", "data", w) for w in words[1:count]]
         if len(words) >= count and all(short(p, most) for p in paths):
-            files = {w: bytes_of("lg_commands", "data", w) for w in words[1:count]}
+            files = {w: bytes_of("test_commands", "data", w) for w in words[1:count]}
             yield f"{name} {' '.join(words)}", Call(words, b"", files)
 
 
@@ -229,12 +229,14 @@ def images_of(save, files):
 
 
 def files_in_order(words, files):
-    """The names of the files that a `step` or a `replay` puts, in their order."""
+    """The names of the files that a `step`, a `replay` or a `receipt` puts, in their order."""
     save = save_of(words)
     if not files:
         return []
     if words[0] == "replay":
         return [save + ".img", save + ".journal"]
+    if words[0] == "receipt":
+        return [save + ".receipt"]
     return images_of(save, files) + [save + ".digests", save + ".journal"]
 
 
@@ -261,13 +263,13 @@ def entries(transcript):
     return found
 
 
-# A SELECT that is always answered where no transaction is open: it draws an id and leaves nothing.
+# A SELECT that is always answered where no transaction is open: it is assigned an id and leaves nothing.
 DRAWS_AN_ID = b"SELECT COUNT(*) FROM sys_ledger_tables"
 
 
 def without(place, call, at, drew):
     """The entries and the files that a `step` leaves without the statement with this number, counted from 0: where it
-    drew an id, with one in its place that draws one and changes nothing."""
+    was assigned an id, with one in its place that is assigned one too and changes nothing."""
     key = (tuple(call.words), call.text, at, drew)
     if key not in place.oracles:
         said = statements(call.text)

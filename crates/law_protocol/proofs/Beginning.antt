@@ -1,34 +1,34 @@
 -- The cells at the beginning and the first seat stand together.
-use Rattle.lg_standing.specs.May.{first_seat}
+use Rattle.spec_protocol.specs.AllowedVisit.{first_seat}
 use Rattle.std.proofs.Common.{◌≡◌, ℕ, zero, suc, ◌+◌, ◌≤◌, Bool, true, false, List, [], ◌∷◌, refl, sym, ap, ◌∙◌, subst, inl, arith, Option, Some, None}
 use Rattle.std.proofs.lemmas.Bool.{ne_eqb}
 use Rattle.std.specs.Prelude.{◌==◌, if◌then◌else◌}
 use mathlib.Core.Option.{some, none}
 use lib.ListN.{get_elem?}
-use Rattle.lg_types.specs.declared.lock.Hold.{Hold}
-use Rattle.lg_types.specs.declared.table.TableDef.{TableDef}
-use Rattle.lg_types.specs.declared.version.Version.{Version}
-use Rattle.lg_model.specs.Catalog.{Defs, versions_of, defs_of}
-use Rattle.lg_model.specs.SystemTables.{tables_id, tables_def, columns_def, first_tables}
-use Rattle.lg_model.specs.Limits.{max_block}
-use Rattle.lg_model.specs.Runs.{Rising}
-use Rattle.lg_model.specs.Journals.{serial_from, serial}
-use Rattle.lg_history.specs.Lists.{Text, Each, In}
-use Rattle.lg_standing.specs.Server.{Server}
-use Rattle.lg_standing.specs.Cells.{TableCell, Cell, Rows, first_catalog, first_ledger, empty_cells, first_cells, holds_in, holds_found, holds_at, versions_in, versions_found, versions_at, cell_of}
-use Rattle.lg_standing.specs.Seats.{OpenTransaction, Session, Role, session, SeatState, idle_seat}
-use Rattle.lg_standing.specs.OpenOnes.{HasOpen}
-use Rattle.lg_standing.specs.Committed.{committed}
-use Rattle.lg_standing.specs.Contents.{Contents, Known, contents, known, table_found}
-use Rattle.lg_standing.specs.TablesAreSerial.{StandsAs, def_at}
-use Rattle.lg_standing.specs.LocksAreWanted.{LocksAreWanted}
-use Rattle.lg_standing.specs.LocksCover.{IsUnderLocks}
-use Rattle.lg_standing.specs.Parts.{Numbers}
-use Rattle.lg_standing.specs.TranscriptsAgree.{SeatAgrees, TranscriptsAgree}
-use Rattle.lg_standing.specs.StandTogether.{LocksAskedFor, Stands}
-use Rattle.lg_model.specs.Agreement.{columns_at}
-use Rattle.lg_model.specs.Keys.{of_key}
-use Rattle.lg_ledger.specs.Ledger.{ledger_from}
+use Rattle.sql_types.specs.declared.lock.Hold.{Hold}
+use Rattle.sql_types.specs.declared.table.TableDef.{TableDef}
+use Rattle.sql_types.specs.declared.version.Version.{Version}
+use Rattle.spec_model.specs.Catalog.{Defs, versions_of, defs_of}
+use Rattle.spec_model.specs.SystemTables.{tables_id, tables_def, columns_def, first_tables}
+use Rattle.spec_model.specs.Limits.{max_block}
+use Rattle.spec_model.specs.Runs.{Rising}
+use Rattle.spec_model.specs.Journals.{serial_from, serial}
+use Rattle.spec_history.specs.Lists.{Text, Each, In}
+use Rattle.spec_protocol.specs.Server.{Server}
+use Rattle.spec_protocol.specs.Cells.{TableCell, Cell, Rows, first_catalog, first_ledger, empty_cells, first_cells, holds_in, holds_found, holds_at, versions_in, versions_found, versions_at, cell_of}
+use Rattle.spec_protocol.specs.Seats.{OpenTransaction, Session, Role, session, SeatState, idle_seat}
+use Rattle.spec_protocol.specs.OpenOnes.{HasOpen}
+use Rattle.spec_protocol.specs.CommittedTxs.{committed}
+use Rattle.spec_protocol.specs.Contents.{Contents, Known, contents, known, table_found}
+use Rattle.spec_protocol.specs.TablesAreSerial.{StandsAs, def_at}
+use Rattle.spec_protocol.specs.LocksAreRequested.{LocksAreRequested}
+use Rattle.spec_protocol.specs.LocksCover.{IsUnderLocks}
+use Rattle.spec_protocol.specs.Parts.{Numbers}
+use Rattle.spec_protocol.specs.TranscriptsAgree.{SeatAgrees, TranscriptsAgree}
+use Rattle.spec_protocol.specs.StandTogether.{LocksAskedFor, Stands}
+use Rattle.spec_model.specs.Agreement.{columns_at}
+use Rattle.spec_model.specs.Keys.{of_key}
+use Rattle.spec_ledger.specs.Ledger.{ledger_from}
 
 -- ---- cells
 
@@ -232,7 +232,7 @@ module _ (database : Text) (size : ℕ) where
         undone = λ id key l h has. absurd (no_lock (cell_of id) h has);
         rising = λ id l. subst Rising (sym (nothing_in database size id (cell_of id))) tt;
         back = λ j x o h. absurd (none_open j x o h);
-        opened = λ j x o h. absurd (none_open j x o h);
+        explicit = λ j x o h. absurd (none_open j x o h);
         before = λ j x o h. absurd (none_open j x o h);
       };
       open_scripts = λ j x o h. absurd (none_open j x o h);
@@ -260,5 +260,5 @@ pub none_asked : (database : Text) (size : ℕ) (v : Server) (st : Stands v [] (
 none_asked database size v st i lock has = absurd (subst (In lock) (held_nowhere database size i) has)
 
 -- and none that anybody wants
-pub none_wanted : (database : Text) (size : ℕ) (v : Server) → LocksAreWanted v (contents (first_cells database size)) (first_seat (first_cells database size) ∷ [])
-none_wanted database size v j x o has opened open_end lock = absurd (subst (In lock.hold) (held_nowhere database size 0) lock.has)
+pub none_requested : (database : Text) (size : ℕ) (v : Server) → LocksAreRequested v (contents (first_cells database size)) (first_seat (first_cells database size) ∷ [])
+none_requested database size v j x o has explicit open_end lock = absurd (subst (In lock.hold) (held_nowhere database size 0) lock.has)

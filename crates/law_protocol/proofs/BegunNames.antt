@@ -1,24 +1,24 @@
 -- Where sessions begin in the order of their numbers, so their names do.
 use Rattle.std.proofs.Common.{◌≡◌, ◌≢◌, ◌⊎◌, ℕ, zero, suc, ◌+◌, ◌<◌, ◌≤◌, List, [], ◌∷◌, ◌++◌, length, map, refl, sym, ap, ap₂, ◌∙◌, subst, append-nil, append_assoc, inl, inr, ⊎_elim, arith}
 use Rattle.std.proofs.lemmas.Bool.{cases_eq, cases_lt, ne_eqb}
-use Rattle.lg_history.specs.Acts.{SessionAct, starts, stops, Act, by, closes}
-use Rattle.lg_history.specs.Guards.{Good, MayHappen}
-use Rattle.lg_history.specs.Histories.{AreOf}
-use Rattle.lg_history.specs.Inputs.{InputSession}
-use Rattle.lg_history.specs.Lists.{Text, At}
-use Rattle.lg_history.specs.Meaning.{Meaning}
-use Rattle.lg_history.specs.Sessions.{SessionState, acted, gone, runs, unborn}
-use Rattle.lg_history.specs.Transcripts.{Transcript}
-use Rattle.lg_history.specs.Worlds.{World, first, run, step}
-use Rattle.lg_history.proofs.Names.{Named, keeps_name}
-use Rattle.lg_standing.specs.AtTheEnd.{AreWritten}
-use Rattle.lg_standing.specs.Cells.{Cell}
-use Rattle.lg_standing.specs.Deeds.{Deed, deed, did}
-use Rattle.lg_standing.specs.Follows.{BeginsNext, BeginInTurn, names_begun}
-use Rattle.lg_standing.specs.Seats.{SeatState}
-use Rattle.lg_standing.specs.Server.{Server}
-use Rattle.lg_standing.specs.StandTogether.{History, Stands}
-use Rattle.law_protocol_steps.proofs.Deeds.{at_after}
+use Rattle.spec_history.specs.Acts.{SessionAct, starts, stops, Act, by, closes}
+use Rattle.spec_history.specs.Guards.{Good, IsEnabled}
+use Rattle.spec_history.specs.Histories.{AreOf}
+use Rattle.spec_history.specs.Inputs.{InputSession}
+use Rattle.spec_history.specs.Lists.{Text, At}
+use Rattle.spec_history.specs.Meaning.{Meaning}
+use Rattle.spec_history.specs.Sessions.{SessionState, acted, gone, runs, unborn}
+use Rattle.spec_history.specs.Transcripts.{Transcript}
+use Rattle.spec_history.specs.Worlds.{World, first, run, step}
+use Rattle.spec_history.proofs.Names.{Named, keeps_name}
+use Rattle.spec_protocol.specs.AtTheEnd.{AreWritten}
+use Rattle.spec_protocol.specs.Cells.{Cell}
+use Rattle.spec_protocol.specs.AnonymousActs.{AnonymousAct, anonymous_act, did}
+use Rattle.spec_protocol.specs.Follows.{BeginsNext, BeginInTurn, names_begun}
+use Rattle.spec_protocol.specs.Seats.{SeatState}
+use Rattle.spec_protocol.specs.Server.{Server}
+use Rattle.spec_protocol.specs.StandTogether.{History, Stands}
+use Rattle.law_protocol_steps.proofs.AnonymousActs.{at_after}
 
 -- ---- lists by place
 
@@ -53,7 +53,7 @@ else_at : (w : World) (n : ℕ) (a : SessionAct) (t : ℕ) → t ≢ n → (step
 else_at w n a t ne = rw (ne_eqb t n ne) refl
 
 module _ (q : Meaning) (db : Text) where
-  begins_then : (w : World) (n : ℕ) (name : Text) (ns : List Text) → MayHappen q db w (by n (starts name)) → BeginsNext w n (starts name) → AreNumbered w.at ns → AreNumbered (step w (by n (starts name))).at (ns ++ name ∷ [])
+  begins_then : (w : World) (n : ℕ) (name : Text) (ns : List Text) → IsEnabled q db w (by n (starts name)) → BeginsNext w n (starts name) → AreNumbered w.at ns → AreNumbered (step w (by n (starts name))).at (ns ++ name ∷ [])
   begins_then w n name ns may next are = record {
     named = λ i other a. ⊎_elim
         (λ (h : At ns i other × (i < length ns)). subst (Named other) (sym (else_at w n (starts name) i (λ e. let l = h.1 in let f = is in absurd (omega (arith, l, e, f))))) (are.named i other h.0))
@@ -76,12 +76,12 @@ module _ (q : Meaning) (db : Text) where
   BeginsNone (starts name) = ⊥
   BeginsNone _ = Unit {0}
 
-  still_unborn : (w : World) (n : ℕ) (a : SessionAct) → BeginsNone a → MayHappen q db w (by n a) → (w.at n).phase ≡ unborn → (acted (w.at n) a).phase ≡ unborn
+  still_unborn : (w : World) (n : ℕ) (a : SessionAct) → BeginsNone a → IsEnabled q db w (by n a) → (w.at n).phase ≡ unborn → (acted (w.at n) a).phase ≡ unborn
   still_unborn w n (starts name) none may e = absurd none
   still_unborn w n stops none may e = let f : runs ≡ unborn = sym may.0 ∙ e in cc
   still_unborn w n a none may e = e
 
-  acts_then : (w : World) (n : ℕ) (a : SessionAct) (ns : List Text) → BeginsNone a → MayHappen q db w (by n a) → AreNumbered w.at ns → AreNumbered (step w (by n a)).at ns
+  acts_then : (w : World) (n : ℕ) (a : SessionAct) (ns : List Text) → BeginsNone a → IsEnabled q db w (by n a) → AreNumbered w.at ns → AreNumbered (step w (by n a)).at ns
   acts_then w n a ns none may are = record {
     named = λ i name at. keeps_name q db name i w (by n a ∷ []) (may, tt) (are.named i name at);
     others = λ i l. ⊎_elim
@@ -91,14 +91,14 @@ module _ (q : Meaning) (db : Text) where
   }
 
   -- one act, then the rest
-  one_then : (w : World) (n : ℕ) (a : SessionAct) (ns : List Text) (ds : List Deed) (at : ℕ → SessionState) → MayHappen q db w (by n a) → BeginsNext w n a → AreNumbered w.at ns
+  one_then : (w : World) (n : ℕ) (a : SessionAct) (ns : List Text) (ds : List AnonymousAct) (at : ℕ → SessionState) → IsEnabled q db w (by n a) → BeginsNext w n a → AreNumbered w.at ns
       → ((ms : List Text) → AreNumbered (step w (by n a)).at ms → AreNumbered at (ms ++ names_begun ds)) → AreNumbered at (ns ++ names_begun (did a ∷ ds))
   one_then w n (starts name) ns ds at may next are rest = subst (AreNumbered at) (append_assoc ns (name ∷ []) (names_begun ds)) (rest (ns ++ name ∷ []) (begins_then w n name ns may next are))
   one_then w n a ns ds at may next are rest = rest ns (acts_then w n a ns tt may are)
 
-  numbered : (w : World) (es : List Act) (ns : List Text) → Good q db w es → BeginInTurn w es → AreNumbered w.at ns → AreNumbered (run w es).at (ns ++ names_begun (map deed es))
+  numbered : (w : World) (es : List Act) (ns : List Text) → Good q db w es → BeginInTurn w es → AreNumbered w.at ns → AreNumbered (run w es).at (ns ++ names_begun (map anonymous_act es))
   numbered w [] ns g t are = subst (AreNumbered w.at) (sym (append-nil ns)) are
-  numbered w (by n a ∷ es) ns g t are = one_then w n a ns (map deed es) (run w (by n a ∷ es)).at g.0 t.0 are (λ ms then. numbered (step w (by n a)) es ms g.1 t.1 then)
+  numbered w (by n a ∷ es) ns g t are = one_then w n a ns (map anonymous_act es) (run w (by n a ∷ es)).at g.0 t.0 are (λ ms then. numbered (step w (by n a)) es ms g.1 t.1 then)
   numbered w (closes k ∷ es) ns g t are = numbered (step w (closes k)) es ns g.1 t (record { named = are.named; others = are.others })
 
 -- ---- transcripts
@@ -113,14 +113,14 @@ names_are at n (s ∷ input) (x ∷ X) (m ∷ ns) a l f = ap₂ (λ (k : Text) (
     (ap (λ (z : Transcript). z.session) a.1 ∙ ap (λ (k : ℕ). (at k).name) (let e : n ≡ n + 0 = omega arith in e) ∙ f zero m refl)
     (names_are at (suc n) input X ns a.3 (omega (arith, l)) (λ i name e. ap (λ (k : ℕ). (at k).name) (let g : suc n + i ≡ n + suc i = omega arith in g) ∙ f (suc i) name e))
 
-pub in_order : (v : Server) {history : History} (cells : List Cell) (seats : List SeatState) (st : Stands v history cells seats) → BeginInTurn first history → (input : List InputSession) (X : List Transcript) → AreWritten history seats input X → map (λ x. x.session) X ≡ names_begun (map deed history)
-in_order v {history} cells seats st turn input X written = names_are (run first history).at 0 input X (names_begun (map deed history)) written.sessions as_many (λ i name a. ap (λ (k : ℕ). ((run first history).at k).name) (let e : 0 + i ≡ i = omega arith in e) ∙ (are.named i name a).1)
+pub in_order : (v : Server) {history : History} (cells : List Cell) (seats : List SeatState) (st : Stands v history cells seats) → BeginInTurn first history → (input : List InputSession) (X : List Transcript) → AreWritten history seats input X → map (λ x. x.session) X ≡ names_begun (map anonymous_act history)
+in_order v {history} cells seats st turn input X written = names_are (run first history).at 0 input X (names_begun (map anonymous_act history)) written.sessions as_many (λ i name a. ap (λ (k : ℕ). ((run first history).at k).name) (let e : 0 + i ≡ i = omega arith in e) ∙ (are.named i name a).1)
   where
-    are : AreNumbered (run first history).at (names_begun (map deed history))
+    are : AreNumbered (run first history).at (names_begun (map anonymous_act history))
     are = numbered v.meaning st.ledger.database first history [] st.transcripts_agree.good turn (record { named = λ i name a. absurd a; others = λ i l. refl })
 
-    as_many : length (names_begun (map deed history)) ≡ length X
+    as_many : length (names_begun (map anonymous_act history)) ≡ length X
     as_many = ⊎_elim
-        (λ (l : length X < length (names_begun (map deed history))). let e = element (names_begun (map deed history)) (length X) l in absurd ((are.named (length X) e.name e.at).0 (ap (λ (z : SessionState). z.phase) (written.no_others (length X) (omega arith)).0)))
-        (λ l. ⊎_elim (λ (k : length (names_begun (map deed history)) < length X). (let f : gone ≡ unborn = sym (written.over (length (names_begun (map deed history))) k) ∙ are.others (length (names_begun (map deed history))) (omega arith) in cc)) (λ k. omega (arith, l, k)) (cases_lt (length (names_begun (map deed history))) (length X)))
-        (cases_lt (length X) (length (names_begun (map deed history))))
+        (λ (l : length X < length (names_begun (map anonymous_act history))). let e = element (names_begun (map anonymous_act history)) (length X) l in absurd ((are.named (length X) e.name e.at).0 (ap (λ (z : SessionState). z.phase) (written.no_others (length X) (omega arith)).0)))
+        (λ l. ⊎_elim (λ (k : length (names_begun (map anonymous_act history)) < length X). (let f : gone ≡ unborn = sym (written.over (length (names_begun (map anonymous_act history))) k) ∙ are.others (length (names_begun (map anonymous_act history))) (omega arith) in cc)) (λ k. omega (arith, l, k)) (cases_lt (length (names_begun (map anonymous_act history))) (length X)))
+        (cases_lt (length X) (length (names_begun (map anonymous_act history))))

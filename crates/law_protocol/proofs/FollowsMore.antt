@@ -1,10 +1,10 @@
 -- Statements that are taken up and sessions that begin, in two parts of a history.
 use Rattle.std.proofs.Common.{◌≡◌, List, [], ◌∷◌, ◌++◌, refl, sym, ap, ap₂, ◌∙◌, append_assoc}
-use Rattle.lg_history.specs.Acts.{Act, by, closes}
-use Rattle.lg_history.specs.Histories.{line_by, lines_of}
-use Rattle.lg_history.specs.Inputs.{InputLine}
-use Rattle.lg_history.specs.Worlds.{World, run, step}
-use Rattle.lg_standing.specs.Follows.{BeginInTurn, Follows}
+use Rattle.spec_history.specs.Acts.{Act, by, closes}
+use Rattle.spec_history.specs.Histories.{line_by, lines_of}
+use Rattle.spec_history.specs.Inputs.{InputLine}
+use Rattle.spec_history.specs.Worlds.{World, run, step}
+use Rattle.spec_protocol.specs.Follows.{BeginInTurn, Follows}
 
 lines_append : (w : World) (es fs : List Act) → lines_of w (es ++ fs) ≡ lines_of w es ++ lines_of (run w es) fs
 lines_append w [] fs = refl

@@ -3,45 +3,45 @@ use Rattle.std.proofs.Common.{◌≡◌, ◌≢◌, ℕ, ◌+◌, ◌<◌, true,
 use Rattle.std.proofs.lemmas.Bool.{ne_eqb}
 use mathlib.Core.Option.{some}
 use lib.ListN.{get_elem?}
-use Rattle.lg_history.specs.Acts.{SessionAct, starts, takes, commits, issues, Act, by, closes}
-use Rattle.lg_history.specs.Guards.{Good}
-use Rattle.lg_history.specs.Histories.{line_by}
-use Rattle.lg_history.specs.Inputs.{InputLine}
-use Rattle.lg_history.specs.Lists.{Text, Each, In}
-use Rattle.lg_history.specs.Sessions.{SessionState, runs, gone, unborn, acted}
-use Rattle.lg_history.specs.Transactions.{listed}
-use Rattle.lg_history.specs.Transcripts.{Transcript}
-use Rattle.lg_history.specs.Worlds.{World, first, run, step}
-use Rattle.lg_history.proofs.Cuts.{good_append, run_append}
-use Rattle.lg_history.proofs.Settles.{in_append, in_right}
-use Rattle.lg_history.proofs.Trace.{each_weaker}
-use Rattle.lg_model.specs.Journals.{tx_count}
-use Rattle.lg_standing.specs.ActsOf.{alone_acts}
-use Rattle.lg_standing.specs.Alone.{Alone}
-use Rattle.lg_standing.specs.Alone as alone
-use Rattle.lg_standing.specs.Cells.{Cell, Catalog, Ledger, Rows, pending_in}
-use Rattle.lg_standing.specs.Deeds.{Deed, did, deed, visit_deeds}
-use Rattle.lg_standing.specs.Follows.{alone_lines, BeginsNext, Follows}
-use Rattle.lg_standing.specs.OpenOnes.{lines_at}
-use Rattle.lg_standing.specs.Seats.{Session, SeatState, session}
-use Rattle.lg_standing.specs.Server.{Server}
-use Rattle.lg_standing.specs.StandTogether.{History, IsOfSeat, Stands, StandsDone}
-use Rattle.lg_standing.specs.TranscriptsAgree.{TranscriptsAgree}
-use Rattle.lg_standing.specs.Visits as visit
-use Rattle.lg_standing.specs.Visits.{Visit, Happens}
+use Rattle.spec_history.specs.Acts.{SessionAct, starts, takes, commits, issues, Act, by, closes}
+use Rattle.spec_history.specs.Guards.{Good}
+use Rattle.spec_history.specs.Histories.{line_by}
+use Rattle.spec_history.specs.Inputs.{InputLine}
+use Rattle.spec_history.specs.Lists.{Text, Each, In}
+use Rattle.spec_history.specs.Sessions.{SessionState, runs, gone, unborn, acted}
+use Rattle.spec_history.specs.Transactions.{listed}
+use Rattle.spec_history.specs.Transcripts.{Transcript}
+use Rattle.spec_history.specs.Worlds.{World, first, run, step}
+use Rattle.spec_history.proofs.Cuts.{good_append, run_append}
+use Rattle.spec_history.proofs.Settles.{in_append, in_right}
+use Rattle.spec_history.proofs.Trace.{each_weaker}
+use Rattle.spec_model.specs.Journals.{tx_count}
+use Rattle.spec_protocol.specs.ActsOf.{alone_acts}
+use Rattle.spec_protocol.specs.Alone.{Alone}
+use Rattle.spec_protocol.specs.Alone as alone
+use Rattle.spec_protocol.specs.Cells.{Cell, Catalog, Ledger, Rows, pending_in}
+use Rattle.spec_protocol.specs.AnonymousActs.{AnonymousAct, did, anonymous_act, visit_anonymous_acts}
+use Rattle.spec_protocol.specs.Follows.{alone_lines, BeginsNext, Follows}
+use Rattle.spec_protocol.specs.OpenOnes.{lines_at}
+use Rattle.spec_protocol.specs.Seats.{Session, SeatState, session}
+use Rattle.spec_protocol.specs.Server.{Server}
+use Rattle.spec_protocol.specs.StandTogether.{History, IsOfSeat, Stands, StandsDone}
+use Rattle.spec_protocol.specs.TranscriptsAgree.{TranscriptsAgree}
+use Rattle.spec_protocol.specs.Visits as visit
+use Rattle.spec_protocol.specs.Visits.{Visit, Happens}
 use Rattle.law_protocol.proofs.Decides.{done_first, nothing_more}
-use Rattle.law_protocol_steps.proofs.Deeds.{at_after}
+use Rattle.law_protocol_steps.proofs.AnonymousActs.{at_after}
 use Rattle.law_protocol_steps.proofs.Ids.{each_in, running}
 use Rattle.law_protocol_ledger.proofs.NoneWanting.{listed_is, past_over}
 use Rattle.law_protocol.proofs.OneAtATime.{IsPlain}
 use Rattle.law_protocol.proofs.OneSeat.{counted}
-use Rattle.lg_standing.proofs.Places.{set_here}
+use Rattle.spec_protocol.proofs.Places.{set_here}
 use Rattle.law_protocol.proofs.SeatNames.{has_begun}
 use Rattle.law_protocol.proofs.StepsAlone.{checked_plain, closings_plain, done_plain, end_plain, failed_in_plain, says_plain, stopped_plain}
 
 -- ---- where no statement is taken up and no session begins
 
-abbrev Neither : Deed → Type 0
+abbrev Neither : AnonymousAct → Type 0
 Neither (did (starts name)) = ⊥
 Neither (did (takes text)) = ⊥
 Neither _ = Unit {0}
@@ -51,13 +51,13 @@ neither_one w n (starts name) p = absurd p
 neither_one w n (takes text) p = absurd p
 neither_one w n a p = (refl, tt)
 
-neither_follows : (w : World) (es : List Act) → Each Neither (map deed es) → Follows w es []
+neither_follows : (w : World) (es : List Act) → Each Neither (map anonymous_act es) → Follows w es []
 neither_follows w [] p = record { lines_are = refl; in_turn = tt }
 neither_follows w (by n a ∷ es) p = let r = neither_follows (step w (by n a)) es p.1 in let o = neither_one w n a p.0 in
     record { lines_are = ap₂ (λ (xs ys : List InputLine). xs ++ ys) o.0 r.lines_are; in_turn = (o.1, r.in_turn) }
 neither_follows w (closes k ∷ es) p = let r = neither_follows (step w (closes k)) es p.1 in record { lines_are = r.lines_are; in_turn = r.in_turn }
 
-plain_neither : (d : Deed) → IsPlain d → Neither d
+plain_neither : (d : AnonymousAct) → IsPlain d → Neither d
 plain_neither (did (starts name)) p = absurd p
 plain_neither (did (takes text)) p = absurd p
 plain_neither d p = tt
@@ -66,7 +66,7 @@ module _ (v : Server) {history : History} {cells : List Cell} {seats : List Seat
   abbrev W : World
   W = run first history
 
-  module _ {deeds : List Deed} {then_cells : List Cell} (t : SeatState) (d : StandsDone v j history deeds then_cells (slice_set seats j t)) where
+  module _ {anonymous_acts : List AnonymousAct} {then_cells : List Cell} (t : SeatState) (d : StandsDone v j history anonymous_acts then_cells (slice_set seats j t)) where
     abbrev then_history : History
     then_history = history ++ d.events
 
@@ -76,7 +76,7 @@ module _ (v : Server) {history : History} {cells : List Cell} {seats : List Seat
     good : Good v.meaning d.stands.ledger.database W d.events
     good = (good_append v.meaning d.stands.ledger.database first history d.events later.good).1
 
-    neither : Each Neither deeds → Follows W d.events []
+    neither : Each Neither anonymous_acts → Follows W d.events []
     neither p = neither_follows W d.events (subst (Each Neither) (sym d.are) p)
 
     module _ (n : ℕ) (a : SessionAct) (is : d.events ≡ by n a ∷ []) where
@@ -123,17 +123,17 @@ module _ (v : Server) {history : History} {cells : List Cell} {seats : List Seat
       (record { lines_are = ap (λ (name : Text). record { session = name; text = text } ∷ []) (its_name t d f.session (takes text) is _ refl g.0.0); in_turn = (tt, tt) })
   alone_follows t (alone.builds present role) d = neither t d tt
   alone_follows t (alone.rests role) d = neither t d tt
-  alone_follows t (alone.leaves x o at one open_end opened) d = neither t d tt
+  alone_follows t (alone.leaves x o at one open_end explicit) d = neither t d tt
   alone_follows t (alone.stops x at free) d = neither t d (tt, tt)
-  alone_follows t (alone.refused_in x o text e at one open_end opened is) d = neither t d (tt, tt)
+  alone_follows t (alone.refused_in x o text e at one open_end explicit is) d = neither t d (tt, tt)
   alone_follows t (alone.refused_out x text e at free is) d = neither t d tt
-  alone_follows t (alone.refused_checked o at named fresh e stage is) d = neither t d (each_weaker IsPlain Neither plain_neither _ (checked_plain o.opened at.stands.text _))
+  alone_follows t (alone.refused_checked o at named fresh e stage is) d = neither t d (each_weaker IsPlain Neither plain_neither _ (checked_plain o.explicit at.stands.text _))
   alone_follows t (alone.no_memory x text at open_end) d = neither t d (each_weaker IsPlain Neither plain_neither _ (failed_in_plain v.meaning x.open_one text))
   alone_follows t (alone.no_memory_then o at named fresh stage) d = neither t d (tt, tt)
-  alone_follows t (alone.saves o at name stage opened is few) d = neither t d (tt, tt)
-  alone_follows t (alone.has_too_many o at name stage opened is full) d = neither t d (tt, tt)
-  alone_follows t (alone.goes_back o at name f fs stage opened is there_is) d = neither t d tt
-  alone_follows t (alone.has_no_savepoint o at name stage opened is never) d = neither t d (tt, tt)
+  alone_follows t (alone.saves o at name stage explicit is few) d = neither t d (tt, tt)
+  alone_follows t (alone.has_too_many o at name stage explicit is full) d = neither t d (tt, tt)
+  alone_follows t (alone.goes_back o at name f fs stage explicit is there_is) d = neither t d tt
+  alone_follows t (alone.has_no_savepoint o at name stage explicit is never) d = neither t d (tt, tt)
   alone_follows t (alone.is_back o at seq stage) d = neither t d (tt, tt)
   alone_follows t (alone.answers x text r at goes) d = neither t d (tt, tt)
   alone_follows t (alone.answers_end x o text r def line at one is released) d = neither t d (tt, (tt, tt))
@@ -141,17 +141,17 @@ module _ (v : Server) {history : History} {cells : List Cell} {seats : List Seat
 
 -- ---- visits
 
-visit_plain : (v : Server) (out : List (ℕ × Cell)) (how : Visit) (a : Cell) (s : SeatState) (b : Cell) (t : SeatState) (h : Happens v out how a s b t) → Each IsPlain (visit_deeds v out how a s b t h)
-visit_plain v out (visit.draw opened) (Ledger a) s (Ledger b) t h = (tt, tt)
+visit_plain : (v : Server) (out : List (ℕ × Cell)) (how : Visit) (a : Cell) (s : SeatState) (b : Cell) (t : SeatState) (h : Happens v out how a s b t) → Each IsPlain (visit_anonymous_acts v out how a s b t h)
+visit_plain v out (visit.assign_id explicit) (Ledger a) s (Ledger b) t h = (tt, tt)
 visit_plain v out visit.look (Catalog a) s (Catalog b) t h = (tt, tt)
-visit_plain v out visit.read_system (Catalog a) s (Catalog b) t h = (tt, done_plain h.o.opened h.at.stands.text true _)
+visit_plain v out visit.read_system (Catalog a) s (Catalog b) t h = (tt, done_plain h.o.explicit h.at.stands.text true _)
 visit_plain v out visit.create_table (Catalog a) s (Catalog b) t h = (tt, tt)
 visit_plain v out visit.create_index (Catalog a) s (Catalog b) t h = (tt, tt)
 visit_plain v out visit.refuse_create (Catalog a) s (Catalog b) t h = (tt, tt)
 visit_plain v out visit.stop_in_catalog (Catalog a) s (Catalog b) t h = stopped_plain h.0.stopped h.0.at.stands.text _ (failed_in_plain v.meaning (Some h.0.o) h.0.at.stands.text)
-visit_plain v out visit.change (Rows a) s (Rows b) t h = done_plain h.o.opened h.at.at.stands.text true _
-visit_plain v out visit.refuse_change (Rows a) s (Rows b) t h = done_plain h.o.opened h.at.at.stands.text true _
-visit_plain v out visit.read (Rows a) s (Rows b) t h = done_plain h.o.opened h.at.at.stands.text true _
+visit_plain v out visit.change (Rows a) s (Rows b) t h = done_plain h.o.explicit h.at.at.stands.text true _
+visit_plain v out visit.refuse_change (Rows a) s (Rows b) t h = done_plain h.o.explicit h.at.at.stands.text true _
+visit_plain v out visit.read (Rows a) s (Rows b) t h = done_plain h.o.explicit h.at.at.stands.text true _
 visit_plain v out visit.stop_in_table (Rows a) s (Rows b) t h = stopped_plain h.0.stopped h.0.at.at.stands.text _ (tt, tt)
 visit_plain v out visit.add_index (Rows a) s (Rows b) t h = tt
 visit_plain v out visit.undo_to (Rows a) s (Rows b) t h = tt
@@ -167,5 +167,5 @@ visit_plain v out visit.keep a s b t h = (tt, tt)
 visit_plain v out visit.nothing a s b t h = tt
 visit_plain v out how a s b t h = absurd h
 
-pub visit_follows : (v : Server) (w : World) (out : List (ℕ × Cell)) (how : Visit) (a : Cell) (s : SeatState) (b : Cell) (t : SeatState) (h : Happens v out how a s b t) (events : List Act) → map deed events ≡ visit_deeds v out how a s b t h → Follows w events []
+pub visit_follows : (v : Server) (w : World) (out : List (ℕ × Cell)) (how : Visit) (a : Cell) (s : SeatState) (b : Cell) (t : SeatState) (h : Happens v out how a s b t) (events : List Act) → map anonymous_act events ≡ visit_anonymous_acts v out how a s b t h → Follows w events []
 visit_follows v w out how a s b t h events are = neither_follows w events (subst (Each Neither) (sym are) (each_weaker IsPlain Neither plain_neither _ (visit_plain v out how a s b t h)))

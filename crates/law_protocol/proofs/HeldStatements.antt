@@ -2,19 +2,19 @@
 use Rattle.std.proofs.Common.{◌≡◌, ◌≢◌, ℕ, zero, suc, ◌<◌, Bool, true, false, List, [], ◌∷◌, map, flat_map, Option, Some, None, refl, sym, ap, ap₂, ◌∙◌, subst, inl, inr, ⊎_elim, arith}
 use Rattle.std.proofs.lemmas.Bool.{eq-eqb, ne_eqb, cases_lt, and_parts}
 use Rattle.std.specs.Prelude.{◌==◌, ◌&&◌, not, if◌then◌else◌}
-use Rattle.lg_types.specs.declared.lock.Hold.{Hold}
-use Rattle.lg_types.specs.declared.lock.Want.{Want}
-use Rattle.lg_model.specs.Holds.{hold}
-use Rattle.lg_model.specs.InTheWay.{bars, first_conflict}
-use Rattle.lg_model.specs.Journals.{Line}
-use Rattle.lg_model.specs.Locks.{wants_conflict}
-use Rattle.lg_history.specs.ExactRefusals.{HeldStatement, held_by, held_beside, holder_named}
-use Rattle.lg_history.specs.Lists.{In}
-use Rattle.lg_history.specs.Transactions.{Transaction}
-use Rattle.lg_history.proofs.Settles.{in_append, in_left, in_right}
-use Rattle.lg_standing.specs.WantsIn.{Holds}
-use Rattle.law_protocol.proofs.LeastHolder.{BarredBy, BarsToo, none_first, same_first}
-use Rattle.law_protocol_steps.proofs.NoClashes.{like_wants}
+use Rattle.sql_types.specs.declared.lock.Hold.{Hold}
+use Rattle.sql_types.specs.declared.lock.LockRequest.{LockRequest}
+use Rattle.spec_model.specs.Holds.{hold}
+use Rattle.spec_model.specs.InTheWay.{bars, first_conflict}
+use Rattle.spec_model.specs.Journals.{Line}
+use Rattle.spec_model.specs.Locks.{requests_conflict}
+use Rattle.spec_history.specs.ExactRefusals.{HeldStatement, held_by, held_beside, holder_named}
+use Rattle.spec_history.specs.Lists.{In}
+use Rattle.spec_history.specs.Transactions.{Transaction}
+use Rattle.spec_history.proofs.Settles.{in_append, in_left, in_right}
+use Rattle.spec_protocol.specs.RequestsIn.{Holds}
+use Rattle.law_protocol.proofs.LeastHolder.{BlockedBy, BarsToo, none_first, same_first}
+use Rattle.law_protocol_steps.proofs.NoClashes.{like_requests}
 use Rattle.law_protocol_steps.proofs.Taken.{itself}
 
 -- ---- members of lists that are made of lists
@@ -55,7 +55,7 @@ module _ {A B : Type 0} where
 -- ---- whose statements count
 
 abbrev pub statement_of : Transaction → Line → HeldStatement
-statement_of u line = record { id = u.id; opened = u.opened; text = line.0 }
+statement_of u line = record { id = u.id; explicit = u.explicit; text = line.0 }
 
 pub record IsHeldAt (s k : ℕ) (f : ℕ → Option Transaction) (h : HeldStatement) : Type 0 where
   pub session : ℕ
@@ -97,57 +97,57 @@ at_held s (suc k) f t l ne u e line i = ⊎_elim
 -- ---- what they hold
 
 -- the locks of these wants of the statements
-abbrev pub holds_of : (HeldStatement → List Want) → List HeldStatement → List Hold
+abbrev pub holds_of : (HeldStatement → List LockRequest) → List HeldStatement → List Hold
 holds_of W hs = flat_map (λ h. map (hold h.id) (W h)) hs
 
 -- a statement wants what a lock is
-pub record IsWantedBy (W : HeldStatement → List Want) (hs : List HeldStatement) (lock : Hold) : Type 0 where
+pub record IsRequestedBy (W : HeldStatement → List LockRequest) (hs : List HeldStatement) (lock : Hold) : Type 0 where
   pub statement : HeldStatement
   pub has : In statement hs
   pub mine : statement.id ≡ lock.tx
-  pub wanted : In lock.want (W statement)
+  pub wanted : In lock.request (W statement)
 
-bars_alike : (id : ℕ) (w : Want) (g h : Hold) → g.tx ≡ h.tx → wants_conflict w g.want ≡ wants_conflict w h.want → bars id w g ≡ bars id w h
+bars_alike : (id : ℕ) (w : LockRequest) (g h : Hold) → g.tx ≡ h.tx → requests_conflict w g.request ≡ requests_conflict w h.request → bars id w g ≡ bars id w h
 bars_alike id w g h e f = ap₂ (λ (n : ℕ) (b : Bool). not (n == id) && b) e f
 
-foreign_by : (id : ℕ) (w : Want) (h : Hold) → bars id w h ≡ true → h.tx ≢ id
-foreign_by id w h e same = let f : not (h.tx == id) ≡ true = (and_parts (not (h.tx == id)) (wants_conflict w h.want) e).0 in let g : (h.tx == id) ≡ true = eq-eqb h.tx id same in let z : not true ≡ true = ap not (sym g) ∙ f in cc
+foreign_by : (id : ℕ) (w : LockRequest) (h : Hold) → bars id w h ≡ true → h.tx ≢ id
+foreign_by id w h e same = let f : not (h.tx == id) ≡ true = (and_parts (not (h.tx == id)) (requests_conflict w h.request) e).0 in let g : (h.tx == id) ≡ true = eq-eqb h.tx id same in let z : not true ≡ true = ap not (sym g) ∙ f in cc
 
-module _ (W : HeldStatement → List Want) (hs : List HeldStatement) (L : List Hold) (id : ℕ) (covered : (h : HeldStatement) → In h hs → (u : Want) → In u (W h) → Holds L h.id u) where
+module _ (W : HeldStatement → List LockRequest) (hs : List HeldStatement) (L : List Hold) (id : ℕ) (covered : (h : HeldStatement) → In h hs → (u : LockRequest) → In u (W h) → Holds L h.id u) where
   -- whoever bars a want by a statement bars it by a lock
-  pub by_locks : (w : Want) → BarsToo (holds_of W hs) L id w
+  pub by_locks : (w : LockRequest) → BarsToo (holds_of W hs) L id w
   by_locks w g i e = of (in_flat (λ h. map (hold h.id) (W h)) hs g i)
     where
-      of : Among (λ (h : HeldStatement). map (hold h.id) (W h)) hs g → BarredBy L id w g.tx
+      of : Among (λ (h : HeldStatement). map (hold h.id) (W h)) hs g → BlockedBy L id w g.tx
       of a = let m = in_map (hold a.of.id) (W a.of) g a.is in let k = covered a.of a.has m.of m.has in record {
         hold = k.hold;
         has = k.has;
         is = k.mine ∙ ap (λ (z : Hold). z.tx) m.is;
         in_way = bars_alike id w k.hold g (k.mine ∙ ap (λ (z : Hold). z.tx) m.is)
-            (like_wants w w k.hold.want m.of (itself id w.item) refl k.item k.mode ∙ ap (λ (z : Hold). wants_conflict w z.want) m.is)
+            (like_requests w w k.hold.request m.of (itself id w.item) refl k.item k.mode ∙ ap (λ (z : Hold). requests_conflict w z.request) m.is)
             ∙ e;
       }
 
   -- where each lock of others is wanted by a statement, the same one is named
-  pub names_same : ((lock : Hold) → In lock L → lock.tx ≢ id → IsWantedBy W hs lock) → (ws : List Want) → holder_named (first_conflict (holds_of W hs) id ws) ≡ holder_named (first_conflict L id ws)
-  names_same wanted ws = same_first (holds_of W hs) L id ws (λ w i. by_locks w) (λ w i. by_wants w)
+  pub names_same : ((lock : Hold) → In lock L → lock.tx ≢ id → IsRequestedBy W hs lock) → (ws : List LockRequest) → holder_named (first_conflict (holds_of W hs) id ws) ≡ holder_named (first_conflict L id ws)
+  names_same wanted ws = same_first (holds_of W hs) L id ws (λ w i. by_locks w) (λ w i. by_requests w)
     where
-      by_wants : (w : Want) → BarsToo L (holds_of W hs) id w
-      by_wants w h i e = let s = wanted h i (foreign_by id w h e) in record {
-        hold = hold s.statement.id h.want;
-        has = flat_in (λ z. map (hold z.id) (W z)) hs s.statement (hold s.statement.id h.want) s.has (map_in (hold s.statement.id) (W s.statement) h.want s.wanted);
+      by_requests : (w : LockRequest) → BarsToo L (holds_of W hs) id w
+      by_requests w h i e = let s = wanted h i (foreign_by id w h e) in record {
+        hold = hold s.statement.id h.request;
+        has = flat_in (λ z. map (hold z.id) (W z)) hs s.statement (hold s.statement.id h.request) s.has (map_in (hold s.statement.id) (W s.statement) h.request s.wanted);
         is = s.mine;
-        in_way = bars_alike id w (hold s.statement.id h.want) h s.mine refl ∙ e;
+        in_way = bars_alike id w (hold s.statement.id h.request) h s.mine refl ∙ e;
       }
 
   -- where the locks of two transactions don't conflict, nobody is in the way of what is locked
-  pub none_in_way : ((a b : Hold) → In a L → In b L → a.tx ≢ b.tx → wants_conflict a.want b.want ≡ false) → (ws : List Want) → ((w : Want) → In w ws → Holds L id w) → first_conflict (holds_of W hs) id ws ≡ None
+  pub none_in_way : ((a b : Hold) → In a L → In b L → a.tx ≢ b.tx → requests_conflict a.request b.request ≡ false) → (ws : List LockRequest) → ((w : LockRequest) → In w ws → Holds L id w) → first_conflict (holds_of W hs) id ws ≡ None
   none_in_way agree ws mine = none_first (holds_of W hs) id ws none
     where
-      none : (w : Want) → In w ws → (g : Hold) → In g (holds_of W hs) → bars id w g ≡ true → ⊥
+      none : (w : LockRequest) → In w ws → (g : Hold) → In g (holds_of W hs) → bars id w g ≡ true → ⊥
       none w i g k e = let b = by_locks w g k e in let m = mine w i in
           let differ : m.hold.tx ≢ b.hold.tx = λ same. foreign_by id w b.hold b.in_way (sym same ∙ m.mine) in
-          let free : wants_conflict m.hold.want b.hold.want ≡ false = agree m.hold b.hold m.has b.has differ in
-          let alike : wants_conflict m.hold.want b.hold.want ≡ wants_conflict w b.hold.want = like_wants m.hold.want w b.hold.want b.hold.want m.item m.mode (itself id b.hold.want.item) refl in
-          let bars_so : wants_conflict w b.hold.want ≡ true = (and_parts (not (b.hold.tx == id)) (wants_conflict w b.hold.want) b.in_way).1 in
+          let free : requests_conflict m.hold.request b.hold.request ≡ false = agree m.hold b.hold m.has b.has differ in
+          let alike : requests_conflict m.hold.request b.hold.request ≡ requests_conflict w b.hold.request = like_requests m.hold.request w b.hold.request b.hold.request m.item m.mode (itself id b.hold.request.item) refl in
+          let bars_so : requests_conflict w b.hold.request ≡ true = (and_parts (not (b.hold.tx == id)) (requests_conflict w b.hold.request) b.in_way).1 in
           let z : true ≡ false = sym bars_so ∙ sym alike ∙ free in cc

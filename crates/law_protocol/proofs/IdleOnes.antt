@@ -1,20 +1,20 @@
 -- The transaction of a session that is in no statement, and has nothing to show, was opened by BEGIN, and its end isn't fixed.
 use Rattle.std.proofs.Common.{◌≡◌, ℕ, Bool, true, false, List, [], ◌∷◌, ◌++◌, Option, Some, None, refl, sym, ap, ◌∙◌, subst, append-nil}
-use Rattle.lg_value.specs.declared.refusal.Refusal.TheVariants.{Locked, E19, E30}
-use Rattle.lg_types.specs.declared.reply.Reply.{Reply}
-use Rattle.lg_types.specs.declared.reply.Reply.TheVariants as reply
-use Rattle.lg_history.specs.Lists.{Text}
-use Rattle.lg_history.specs.Meaning.{Meaning}
-use Rattle.lg_history.specs.Transcripts.{EndLine, committed_at, ended_after, Entry, statement, end_of_session, ended_id, Kind, commit, roll_back, create, rows, kind_of}
-use Rattle.lg_history.specs.Facts.{Fact, end_facts, maybe_end, other_facts, answer_facts, own_facts, facts_inside, facts_outside, entry_facts, open_after, facts}
-use Rattle.lg_history.specs.Transactions.{unfixed, Transaction, Book, new, open_by, noted, read_facts, blank}
-use Rattle.lg_history.specs.Acts.{Act, all_shown, of}
-use Rattle.lg_history.specs.Sessions.{SessionTransaction, viewed}
-use Rattle.lg_history.specs.Worlds.{first, run}
-use Rattle.lg_history.specs.Guards.{Good}
-use Rattle.lg_history.specs.Histories.{IsIdle}
-use Rattle.lg_history.proofs.Books.{has_book}
-use Rattle.lg_history.proofs.TranscriptsSoFar.{told}
+use Rattle.sql_value.specs.declared.refusal.Refusal.TheVariants.{Locked, NothingCommitted, NoMemory}
+use Rattle.sql_types.specs.declared.reply.Reply.{Reply}
+use Rattle.sql_types.specs.declared.reply.Reply.TheVariants as reply
+use Rattle.spec_history.specs.Lists.{Text}
+use Rattle.spec_history.specs.Meaning.{Meaning}
+use Rattle.spec_history.specs.Transcripts.{EndLine, committed_at, ended_after, Entry, statement, end_of_session, ended_id, Kind, commit, roll_back, create, rows, kind_of}
+use Rattle.spec_history.specs.Facts.{Fact, end_facts, maybe_end, other_facts, answer_facts, own_facts, facts_inside, facts_outside, entry_facts, open_after, facts}
+use Rattle.spec_history.specs.Transactions.{unfixed, Transaction, TransactionLog, new, open_by, noted, read_facts, blank}
+use Rattle.spec_history.specs.Acts.{Act, all_shown, of}
+use Rattle.spec_history.specs.Sessions.{SessionTransaction, viewed}
+use Rattle.spec_history.specs.Worlds.{first, run}
+use Rattle.spec_history.specs.Guards.{Good}
+use Rattle.spec_history.specs.Histories.{IsIdle}
+use Rattle.spec_history.proofs.TransactionLogs.{has_book}
+use Rattle.spec_history.proofs.TranscriptsSoFar.{told}
 
 abbrev open_all : Option Transaction → List Fact → Option Transaction
 open_all o [] = o
@@ -24,14 +24,14 @@ open_more : (o : Option Transaction) (gs fs : List Fact) → open_all o (gs ++ f
 open_more o [] fs = refl
 open_more o (g ∷ gs) fs = open_more (open_by o g) gs fs
 
-open_read : (b : Book) (gs : List Fact) → (read_facts b gs).open_one ≡ open_all b.open_one gs
+open_read : (b : TransactionLog) (gs : List Fact) → (read_facts b gs).open_one ≡ open_all b.open_one gs
 open_read b [] = refl
 open_read b (g ∷ gs) = open_read (noted b g) gs
 
 -- none is open, or one that BEGIN opened and that goes on
 abbrev GoesOn : Option Transaction → Type 0
 GoesOn None = Unit {0}
-GoesOn (Some u) = (u.opened ≡ true) × (u.end ≡ unfixed)
+GoesOn (Some u) = (u.explicit ≡ true) × (u.end ≡ unfixed)
 
 over_then : (u : Option Transaction) (back : Bool) (end : EndLine) → GoesOn (open_all u (end_facts back end))
 over_then u back (committed_at id place) = tt
@@ -40,10 +40,10 @@ over_then u back (ended_after id n) = tt
 module _ (q : Meaning) where
   after_answer : (u : Option Transaction) (text : Text) (r : Reply) → GoesOn u → GoesOn (open_all u (answer_facts q text r))
   after_answer None text (reply.Refused (Locked holder)) g = tt
-  after_answer None text (reply.Refused E30) g = tt
+  after_answer None text (reply.Refused NoMemory) g = tt
   after_answer None text r g = tt
   after_answer (Some u) text (reply.Refused (Locked holder)) g = g
-  after_answer (Some u) text (reply.Refused E30) g = g
+  after_answer (Some u) text (reply.Refused NoMemory) g = g
   after_answer (Some u) text r g = g
 
   after_end : (u : Option Transaction) (back : Bool) (end : Option EndLine) → GoesOn u → GoesOn (open_all u (maybe_end back end))
@@ -63,7 +63,7 @@ module _ (q : Meaning) where
   after_other u (reply.Begun id) g = (refl, refl)
   after_other u (reply.Digest block hash) g = g
   after_other u (reply.Image items) g = g
-  after_other u (reply.Refused E19) g = g
+  after_other u (reply.Refused NothingCommitted) g = g
   after_other u r g = g
 
   after_outside : (kind : Kind) (u : Option Transaction) (text : Text) (r : Reply) (end : Option EndLine) → GoesOn u → GoesOn (open_all u (facts_outside q kind text r end))
@@ -88,8 +88,8 @@ module _ (q : Meaning) (db : Text) (h : List Act) (good : Good q db first h) (t 
 
   goes_on : GoesOn (viewed ((run first h).at t).transaction)
   goes_on = subst GoesOn
-      (sym (open_read blank (facts q None ((run first h).at t).so_far.entries)) ∙ ap (λ (gs : List Fact). (read_facts blank gs).open_one) shown_all ∙ ap (λ (b : Book). b.open_one) (has_book q db t first h [] good refl))
+      (sym (open_read blank (facts q None ((run first h).at t).so_far.entries)) ∙ ap (λ (gs : List Fact). (read_facts blank gs).open_one) shown_all ∙ ap (λ (b : TransactionLog). b.open_one) (has_book q db t first h [] good refl))
       (after_entries q None None ((run first h).at t).so_far.entries tt)
 
-  pub idle_goes_on : (d : SessionTransaction) → ((run first h).at t).transaction ≡ Some d → (d.opened ≡ true) × (d.fixed ≡ unfixed)
+  pub idle_goes_on : (d : SessionTransaction) → ((run first h).at t).transaction ≡ Some d → (d.explicit ≡ true) × (d.fixed ≡ unfixed)
   idle_goes_on d e = subst GoesOn (ap viewed e) goes_on

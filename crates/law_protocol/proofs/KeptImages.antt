@@ -3,34 +3,34 @@ use Rattle.std.proofs.Common.{◌≡◌, ℕ, List, [], ◌∷◌, ◌++◌, fla
 use Rattle.std.proofs.lemmas.Grind.{flat_map-append}
 use mathlib.Core.Option.{some}
 use lib.ListN.{get_elem?}
-use Rattle.lg_history.specs.Lists.{Each}
-use Rattle.lg_history.specs.Acts.{SessionAct, starts, takes, draws, looks, says, fails, meets, commits, ends, frees, issues, keeps, lacks, answers, stops, of, shown, all_shown}
-use Rattle.lg_history.specs.Facts.{Fact, facts, facts_of}
-use Rattle.lg_history.specs.Sessions.{gone, transcript_of}
-use Rattle.lg_history.specs.Transcripts.{Transcript}
-use Rattle.lg_history.specs.Worlds.{first, run}
-use Rattle.lg_history.proofs.TranscriptsSoFar.{told}
-use Rattle.lg_standing.specs.AtTheEnd.{HasItsImages, image_items}
-use Rattle.lg_standing.specs.Cells.{Cell}
-use Rattle.lg_standing.specs.Parts.{Past}
-use Rattle.lg_standing.specs.Seats.{SeatState, Written}
-use Rattle.lg_standing.specs.Server.{Server}
-use Rattle.lg_standing.specs.StandTogether.{History, Stands}
-use Rattle.lg_standing.specs.TranscriptsAgree.{ImagesOfPast, image_of}
+use Rattle.spec_history.specs.Lists.{Each}
+use Rattle.spec_history.specs.Acts.{SessionAct, starts, takes, assigns_id, looks, says, fails, meets, commits, ends, releases_locks, issues, keeps, lacks, answers, stops, of, shown, all_shown}
+use Rattle.spec_history.specs.Facts.{Fact, facts, facts_of}
+use Rattle.spec_history.specs.Sessions.{gone, transcript_of}
+use Rattle.spec_history.specs.Transcripts.{Transcript}
+use Rattle.spec_history.specs.Worlds.{first, run}
+use Rattle.spec_history.proofs.TranscriptsSoFar.{told}
+use Rattle.spec_protocol.specs.AtTheEnd.{HasItsImages, image_items}
+use Rattle.spec_protocol.specs.Cells.{Cell}
+use Rattle.spec_protocol.specs.Parts.{Past}
+use Rattle.spec_protocol.specs.Seats.{SeatState, Written}
+use Rattle.spec_protocol.specs.Server.{Server}
+use Rattle.spec_protocol.specs.StandTogether.{History, Stands}
+use Rattle.spec_protocol.specs.TranscriptsAgree.{ImagesOfPast, image_of}
 use Rattle.law_protocol_ledger.proofs.GoneFree.{gone_rests}
 
 -- an act shows the image that it keeps, and no other
 by_act : (a : SessionAct) → image_of a ≡ flat_map image_items (shown a)
 by_act (starts name) = refl
 by_act (takes text) = refl
-by_act (draws id opened) = refl
+by_act (assigns_id id explicit) = refl
 by_act (looks text table) = refl
 by_act (says line) = refl
 by_act (fails text) = refl
 by_act (meets text holder) = refl
 by_act (commits time place) = refl
 by_act (ends n back) = refl
-by_act frees = refl
+by_act releases_locks = refl
 by_act (issues d mark) = refl
 by_act (keeps items mark) = refl
 by_act lacks = refl

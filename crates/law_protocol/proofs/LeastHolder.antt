@@ -3,22 +3,22 @@ use Rattle.std.proofs.Common.{◌≡◌, ℕ, ◌≤◌, Bool, true, false, cond
 use Rattle.std.proofs.lemmas.Bool.{ltb-true, ltb-false, eqb-true, ne_eqb, or_cases, or_parts, and_parts}
 use Rattle.std.specs.Prelude.{◌==◌, ◌&&◌, not, nat_lt, if◌then◌else◌}
 use Rattle.std.specs.List.{filter, fold}
-use Rattle.lg_types.specs.declared.lock.Hold.{Hold}
-use Rattle.lg_types.specs.declared.lock.Item.{Item}
-use Rattle.lg_types.specs.declared.lock.Want.{Want}
-use Rattle.lg_model.specs.Holds.{rank}
-use Rattle.lg_model.specs.InTheWay.{Conflict, Holder, barrier, bars, conflict_or, first_conflict, holder_of, least_with, lesser, precedes}
-use Rattle.lg_model.specs.Locks.{wants_conflict}
-use Rattle.lg_history.specs.ExactRefusals.{holder_named}
-use Rattle.lg_history.specs.Lists.{In}
-use Rattle.law_protocol_tables.proofs.Barring.{barred}
+use Rattle.sql_types.specs.declared.lock.Hold.{Hold}
+use Rattle.sql_types.specs.declared.lock.Item.{Item}
+use Rattle.sql_types.specs.declared.lock.LockRequest.{LockRequest}
+use Rattle.spec_model.specs.Holds.{rank}
+use Rattle.spec_model.specs.InTheWay.{Conflict, Holder, barrier, bars, conflict_or, first_conflict, holder_of, least_with, lesser, precedes}
+use Rattle.spec_model.specs.Locks.{requests_conflict}
+use Rattle.spec_history.specs.ExactRefusals.{holder_named}
+use Rattle.spec_history.specs.Lists.{In}
+use Rattle.law_protocol_tables.proofs.Barring.{blocked}
 
 -- among these locks one of this transaction bars the want
-pub record BarredBy (holds : List Hold) (id : ℕ) (want : Want) (tx : ℕ) : Type 0 where
+pub record BlockedBy (holds : List Hold) (id : ℕ) (request : LockRequest) (tx : ℕ) : Type 0 where
   pub hold : Hold
   pub has : In hold holds
   pub is : hold.tx ≡ tx
-  pub in_way : bars id want hold ≡ true
+  pub in_way : bars id request hold ≡ true
 
 -- ---- the least
 
@@ -60,43 +60,43 @@ one_least (h ∷ hs) a (inr i) best = let w = one_least hs a i (least_with best 
 
 -- ---- who bars a want
 
-module _ (id : ℕ) (want : Want) where
-  in_barring : (hs : List Hold) (h : Hold) → In h hs → bars id want h ≡ true → In (holder_of h) (map holder_of (filter (bars id want) hs))
+module _ (id : ℕ) (request : LockRequest) where
+  in_barring : (hs : List Hold) (h : Hold) → In h hs → bars id request h ≡ true → In (holder_of h) (map holder_of (filter (bars id request) hs))
   in_barring [] h i e = absurd i
-  in_barring (g ∷ hs) h (inl same) e = subst (λ (z : Hold). In (holder_of z) (map holder_of (filter (bars id want) (g ∷ hs)))) same (here (bars id want g) (ap (bars id want) same ∙ e))
+  in_barring (g ∷ hs) h (inl same) e = subst (λ (z : Hold). In (holder_of z) (map holder_of (filter (bars id request) (g ∷ hs)))) same (here (bars id request g) (ap (bars id request) same ∙ e))
     where
-      here : (c : Bool) → c ≡ true → In (holder_of g) (map holder_of (cond c (g ∷ filter (bars id want) hs) (filter (bars id want) hs)))
+      here : (c : Bool) → c ≡ true → In (holder_of g) (map holder_of (cond c (g ∷ filter (bars id request) hs) (filter (bars id request) hs)))
       here true f = inl refl
       here false f = cc
-  in_barring (g ∷ hs) h (inr i) e = later (bars id want g) (in_barring hs h i e)
+  in_barring (g ∷ hs) h (inr i) e = later (bars id request g) (in_barring hs h i e)
     where
-      later : (c : Bool) → In (holder_of h) (map holder_of (filter (bars id want) hs)) → In (holder_of h) (map holder_of (cond c (g ∷ filter (bars id want) hs) (filter (bars id want) hs)))
+      later : (c : Bool) → In (holder_of h) (map holder_of (filter (bars id request) hs)) → In (holder_of h) (map holder_of (cond c (g ∷ filter (bars id request) hs) (filter (bars id request) hs)))
       later true k = inr k
       later false k = k
 
   -- whoever bars it is no less than the barrier
   record Barrier (hs : List Hold) (n : ℕ) : Type 0 where
     holder : Holder
-    is : barrier hs id want ≡ Some holder
+    is : barrier hs id request ≡ Some holder
     least : holder.0 ≤ n
 
-  barrier_least : (hs : List Hold) (h : Hold) → In h hs → bars id want h ≡ true → Barrier hs h.tx
+  barrier_least : (hs : List Hold) (h : Hold) → In h hs → bars id request h ≡ true → Barrier hs h.tx
   unfolding barrier
-  barrier_least hs h i e = let w = one_least (map holder_of (filter (bars id want) hs)) (holder_of h) (in_barring hs h i e) None in record { holder = w.holder; is = w.is; least = w.least }
+  barrier_least hs h i e = let w = one_least (map holder_of (filter (bars id request) hs)) (holder_of h) (in_barring hs h i e) None in record { holder = w.holder; is = w.is; least = w.least }
 
   -- and the barrier bars it
-  barrier_bars : (hs : List Hold) (a : Holder) → barrier hs id want ≡ Some a → BarredBy hs id want a.0
-  barrier_bars hs a e = let b = barred id want hs a e in record {
+  barrier_bars : (hs : List Hold) (a : Holder) → barrier hs id request ≡ Some a → BlockedBy hs id request a.0
+  barrier_bars hs a e = let b = blocked id request hs a e in record {
     hold = b.hold;
     has = b.has;
     is = b.is;
-    in_way = ap₂ (λ (p q : Bool). not p && q) (ne_eqb b.hold.tx id b.foreign) (⊎_elim (λ (f : want ≡ b.want). ap (λ (w : Want). wants_conflict w b.hold.want) f ∙ b.conflicts) (λ (f : ⊥). absurd f) b.wanted);
+    in_way = ap₂ (λ (p q : Bool). not p && q) (ne_eqb b.hold.tx id b.foreign) (⊎_elim (λ (f : request ≡ b.request). ap (λ (w : LockRequest). requests_conflict w b.hold.request) f ∙ b.conflicts) (λ (f : ⊥). absurd f) b.wanted);
   }
 
 -- ---- the first conflict
 
 -- none is named where nobody bars a want
-pub none_first : (hs : List Hold) (id : ℕ) (ws : List Want) → ((w : Want) → In w ws → (h : Hold) → In h hs → bars id w h ≡ true → ⊥) → first_conflict hs id ws ≡ None
+pub none_first : (hs : List Hold) (id : ℕ) (ws : List LockRequest) → ((w : LockRequest) → In w ws → (h : Hold) → In h hs → bars id w h ≡ true → ⊥) → first_conflict hs id ws ≡ None
 unfolding first_conflict
 none_first hs id [] none = refl
 none_first hs id (w ∷ ws) none = by (barrier hs id w) refl (none_first hs id ws (λ u i. none u (inr i)))
@@ -114,11 +114,11 @@ some_same a b e = cc
 
 module _ (L M : List Hold) (id : ℕ) where
   -- whoever bars a want here bars it there
-  abbrev pub BarsToo : Want → Type 0
-  BarsToo w = (h : Hold) → In h L → bars id w h ≡ true → BarredBy M id w h.tx
+  abbrev pub BarsToo : LockRequest → Type 0
+  BarsToo w = (h : Hold) → In h L → bars id w h ≡ true → BlockedBy M id w h.tx
 
 module _ (L M : List Hold) (id : ℕ) where
-  same_barrier : (w : Want) → BarsToo L M id w → BarsToo M L id w → number_of (barrier L id w) ≡ number_of (barrier M id w)
+  same_barrier : (w : LockRequest) → BarsToo L M id w → BarsToo M L id w → number_of (barrier L id w) ≡ number_of (barrier M id w)
   same_barrier w there here = by (barrier L id w) (barrier M id w) refl refl
     where
       no_less : (K N : List Hold) (a b : Holder) → BarsToo K N id w → barrier K id w ≡ Some a → barrier N id w ≡ Some b → b.0 ≤ a.0
@@ -141,7 +141,7 @@ module _ (L M : List Hold) (id : ℕ) where
   one_or (Some a) None i p q e f = cc
   one_or None (Some b) i p q e f = cc
 
-  pub same_first : (ws : List Want) → ((w : Want) → In w ws → BarsToo L M id w) → ((w : Want) → In w ws → BarsToo M L id w) → holder_named (first_conflict L id ws) ≡ holder_named (first_conflict M id ws)
+  pub same_first : (ws : List LockRequest) → ((w : LockRequest) → In w ws → BarsToo L M id w) → ((w : LockRequest) → In w ws → BarsToo M L id w) → holder_named (first_conflict L id ws) ≡ holder_named (first_conflict M id ws)
   unfolding first_conflict
   same_first [] there here = refl
   same_first (w ∷ ws) there here = one_or (barrier L id w) (barrier M id w) w.item (first_conflict L id ws) (first_conflict M id ws) (same_barrier w (there w (inl refl)) (here w (inl refl))) (same_first ws (λ u i. there u (inr i)) (λ u i. here u (inr i)))

@@ -3,26 +3,26 @@ use Rattle.std.proofs.Common.{◌≡◌, ℕ, zero, suc, Bool, true, false, List
 use Rattle.std.specs.Prelude.{if◌then◌else◌, nat_le}
 use mathlib.Core.Option.{some}
 use lib.ListN.{get_elem?}
-use Rattle.lg_types.specs.declared.lock.Hold.{Hold}
-use Rattle.lg_types.specs.declared.journal.JournalItem.TheVariants.{Close}
-use Rattle.lg_model.specs.Catalog.{defs_of}
-use Rattle.lg_model.specs.Journals.{serial}
-use Rattle.lg_history.specs.Lists.{Each, In}
-use Rattle.lg_history.specs.Acts.{SessionAct, by, closes, draws}
-use Rattle.lg_history.specs.Sessions.{SessionState}
-use Rattle.lg_history.specs.Worlds.{World, first, run, step}
-use Rattle.lg_history.proofs.Cuts.{good_append, run_append}
-use Rattle.lg_standing.specs.Server.{Server}
-use Rattle.lg_standing.specs.ActsOf.{closings}
-use Rattle.lg_standing.specs.Cells.{Cell, Ledger, LedgerCell, ledger_at, holds_at, pending_in}
-use Rattle.lg_standing.specs.LedgerVisits.{all_closed, closed_by}
-use Rattle.lg_standing.specs.LocksWereAsked.{IsAskedFor, WasAsked}
-use Rattle.lg_standing.specs.Seats.{SeatState}
-use Rattle.lg_standing.specs.StandTogether.{History, LocksAskedFor, Stands, StandsAfter}
+use Rattle.sql_types.specs.declared.lock.Hold.{Hold}
+use Rattle.sql_types.specs.declared.journal.JournalItem.TheVariants.{Close}
+use Rattle.spec_model.specs.Catalog.{defs_of}
+use Rattle.spec_model.specs.Journals.{serial}
+use Rattle.spec_history.specs.Lists.{Each, In}
+use Rattle.spec_history.specs.Acts.{SessionAct, by, closes, assigns_id}
+use Rattle.spec_history.specs.Sessions.{SessionState}
+use Rattle.spec_history.specs.Worlds.{World, first, run, step}
+use Rattle.spec_history.proofs.Cuts.{good_append, run_append}
+use Rattle.spec_protocol.specs.Server.{Server}
+use Rattle.spec_protocol.specs.ActsOf.{closings}
+use Rattle.spec_protocol.specs.Cells.{Cell, Ledger, LedgerCell, ledger_at, holds_at, pending_in}
+use Rattle.spec_protocol.specs.LedgerVisits.{all_closed, closed_by}
+use Rattle.spec_protocol.specs.LocksWereAsked.{IsAskedFor, WasAsked}
+use Rattle.spec_protocol.specs.Seats.{SeatState}
+use Rattle.spec_protocol.specs.StandTogether.{History, LocksAskedFor, Stands, StandsAfter}
 use Rattle.law_protocol_steps.proofs.ActedFor.{sessions_at}
 use Rattle.law_protocol_steps.proofs.AfterSet.{set_here}
 use Rattle.law_protocol_steps.proofs.AskedMore.{NotFree, asked_by_all}
-use Rattle.law_protocol_tables.proofs.AskedStays.{DrawsNone, for_lock}
+use Rattle.law_protocol_tables.proofs.AskedStays.{AssignsNoId, for_lock}
 use Rattle.law_protocol_steps.proofs.CellsAfter.{each_holds}
 use Rattle.law_protocol_steps.proofs.JournalMore.{serial_more}
 use Rattle.law_protocol_tables.proofs.KeepsAsked.{defs_at, stay_asked, stay_asked_over}
@@ -63,20 +63,20 @@ module _ (v : Server) {history : History} {cells : List Cell} {seats : List Seat
   locks_there i lock = each_holds cells ledger_at (Ledger c) (Ledger d) here (λ n hs. In lock hs → In lock (holds_at cells n)) (λ has. absurd has) (λ n has. has) i
 
   -- it leaves the tables, by acts that draw no id
-  pub in_ledger_asked : {j : ℕ} {acts : List SessionAct} {then_seats : List SeatState} (after : StandsAfter v j history acts (set cells ledger_at (Ledger d)) then_seats) → Each DrawsNone acts → serial v.reads d.items ≡ serial v.reads c.items → LocksAskedFor after.stands
+  pub in_ledger_asked : {j : ℕ} {acts : List SessionAct} {then_seats : List SeatState} (after : StandsAfter v j history acts (set cells ledger_at (Ledger d)) then_seats) → Each AssignsNoId acts → serial v.reads d.items ≡ serial v.reads c.items → LocksAskedFor after.stands
   in_ledger_asked after none same = stay_asked v st asked after none (tables_then after.stands same) (λ i lock has. inl (locks_there i lock has))
 
   -- by whatever acts, where all locks are asked for over the definitions then
-  pub in_ledger_over : {j : ℕ} {acts : List SessionAct} {then_seats : List SeatState} (after : StandsAfter v j history acts (set cells ledger_at (Ledger d)) then_seats) → Each DrawsNone acts
+  pub in_ledger_over : {j : ℕ} {acts : List SessionAct} {then_seats : List SeatState} (after : StandsAfter v j history acts (set cells ledger_at (Ledger d)) then_seats) → Each AssignsNoId acts
       → ((i : ℕ) (lock : Hold) → In lock (holds_at cells i) → IsAskedFor v (sessions_at history) (defs_at after.stands) i lock) → LocksAskedFor after.stands
   in_ledger_over after none were = stay_asked_over v st after none were (λ i lock has. inl (locks_there i lock has))
 
   -- an id is drawn
-  pub drawn_asked : {j : ℕ} (id : ℕ) (opened : Bool) {then_seats : List SeatState} (after : StandsAfter v j history (draws id opened ∷ []) (set cells ledger_at (Ledger d)) then_seats) → serial v.reads d.items ≡ serial v.reads c.items → LocksAskedFor after.stands
-  drawn_asked id opened after same i lock has = for_lock v (sessions_at history) (sessions_at (history ++ by after.session (draws id opened) ∷ [])) _ _ i lock (tables_then after.stands same) (asked i lock (locks_there i lock has))
-      (λ b a w. subst (λ (z : World). WasAsked z.at lock.tx b a) (sym (run_append first history (by after.session (draws id opened) ∷ [])))
-      (asked_by_all v.meaning after.stands.ledger.database (run first history) after.session (draws id opened ∷ []) (tt, tt)
-      (good_append v.meaning after.stands.ledger.database first history (by after.session (draws id opened) ∷ []) after.stands.transcripts_agree.good).1 lock.tx b a w))
+  pub drawn_asked : {j : ℕ} (id : ℕ) (explicit : Bool) {then_seats : List SeatState} (after : StandsAfter v j history (assigns_id id explicit ∷ []) (set cells ledger_at (Ledger d)) then_seats) → serial v.reads d.items ≡ serial v.reads c.items → LocksAskedFor after.stands
+  drawn_asked id explicit after same i lock has = for_lock v (sessions_at history) (sessions_at (history ++ by after.session (assigns_id id explicit) ∷ [])) _ _ i lock (tables_then after.stands same) (asked i lock (locks_there i lock has))
+      (λ b a w. subst (λ (z : World). WasAsked z.at lock.tx b a) (sym (run_append first history (by after.session (assigns_id id explicit) ∷ [])))
+      (asked_by_all v.meaning after.stands.ledger.database (run first history) after.session (assigns_id id explicit ∷ []) (tt, tt)
+      (good_append v.meaning after.stands.ledger.database first history (by after.session (assigns_id id explicit) ∷ []) after.stands.transcripts_agree.good).1 lock.tx b a w))
 
   -- a block is closed
   pub closed_asked : (k : ℕ) {then_seats : List SeatState} (after : Stands v (history ++ closes k ∷ []) (set cells ledger_at (Ledger d)) then_seats) → serial v.reads d.items ≡ serial v.reads c.items → LocksAskedFor after

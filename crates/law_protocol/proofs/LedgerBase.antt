@@ -4,15 +4,15 @@ use Rattle.std.proofs.lemmas.Bool.{cases_eq}
 use Rattle.std.specs.Prelude.{if◌then◌else◌, nat_le}
 use mathlib.Core.Option.{some}
 use lib.ListN.{get_elem?}
-use Rattle.lg_history.specs.Lists.{Text}
-use Rattle.lg_standing.specs.Server.{Server}
-use Rattle.lg_standing.specs.Cells.{Cell, Catalog, Ledger, LedgerCell, Rows, ledger_at, pending_in}
-use Rattle.lg_standing.specs.LedgerVisits.{all_closed, closed_by}
-use Rattle.lg_standing.specs.May.{OutsStand, May}
-use Rattle.lg_standing.specs.Seats.{SeatState}
-use Rattle.lg_standing.specs.StandTogether.{History, Stands}
-use Rattle.lg_standing.specs.Steps.{Step, alone, visits, splits, joins, Steps, none, more}
-use Rattle.lg_standing.specs.Visits.{Visit, draw, commit, read_point, close, issue, lack_block, keep, nothing, Happens}
+use Rattle.spec_history.specs.Lists.{Text}
+use Rattle.spec_protocol.specs.Server.{Server}
+use Rattle.spec_protocol.specs.Cells.{Cell, Catalog, Ledger, LedgerCell, Rows, ledger_at, pending_in}
+use Rattle.spec_protocol.specs.LedgerVisits.{all_closed, closed_by}
+use Rattle.spec_protocol.specs.AllowedVisit.{OutsAreIn, AllowedVisit}
+use Rattle.spec_protocol.specs.Seats.{SeatState}
+use Rattle.spec_protocol.specs.StandTogether.{History, Stands}
+use Rattle.spec_protocol.specs.Steps.{Step, alone, visits, splits, joins, Steps, none, more}
+use Rattle.spec_protocol.specs.Visits.{Visit, assign_id, commit, read_point, close, issue, lack_block, keep, nothing, Happens}
 use Rattle.law_protocol_steps.proofs.AfterSet.{set_else, set_here}
 
 -- the second has the database and the block size of the first
@@ -49,7 +49,7 @@ itself (Rows c) = tt
 visit_base : (v : Server) (out : List (ℕ × Cell)) (visit : Visit) (c d : Cell) (s t : SeatState) → Happens v out visit c s d t → CellBase c d
 visit_base v out visit (Catalog c) d s t h = tt
 visit_base v out visit (Rows c) d s t h = tt
-visit_base v out (draw opened) (Ledger c) (Ledger d) s t h = record { database = ap (λ (l : LedgerCell). l.database) h.cell; block_size = ap (λ (l : LedgerCell). l.block_size) h.cell }
+visit_base v out (assign_id explicit) (Ledger c) (Ledger d) s t h = record { database = ap (λ (l : LedgerCell). l.database) h.cell; block_size = ap (λ (l : LedgerCell). l.block_size) h.cell }
 visit_base v out (commit time) (Ledger c) (Ledger d) s t h = record { database = ap (λ (l : LedgerCell). l.database) h.cell; block_size = ap (λ (l : LedgerCell). l.block_size) h.cell }
 visit_base v out read_point (Ledger c) (Ledger d) s t h = same_base c d h.1
 visit_base v out (close k) (Ledger c) (Ledger d) s t h = record { database = ap (λ (l : LedgerCell). l.database) h.0.cell; block_size = ap (λ (l : LedgerCell). l.block_size) h.0.cell }
@@ -72,14 +72,14 @@ KeepsBase cells then_cells = (l : LedgerCell) → get_elem? cells ledger_at ≡ 
 pub base_kept : (cells : List Cell) → KeepsBase cells cells
 base_kept cells l e = record { then_ledger = l; there = e; same = record { database = refl; block_size = refl } }
 
-pub may_base : (v : Server) (cells : List Cell) (s : SeatState) (out : List (ℕ × Cell)) → OutsStand cells out → (i : ℕ) (c : Cell) (t : SeatState) → May v s out i c t → KeepsBase cells (set cells i c)
+pub may_base : (v : Server) (cells : List Cell) (s : SeatState) (out : List (ℕ × Cell)) → OutsAreIn cells out → (i : ℕ) (c : Cell) (t : SeatState) → AllowedVisit v s out i c t → KeepsBase cells (set cells i c)
 may_base v cells s out outs i c t m l e = ⊎_elim
     (λ (k : i ≡ ledger_at). here k m.old old_there c refl (visit_base v out m.visit m.old c m.begun m.ended m.happens))
     (λ ne. record { then_ledger = l; there = set_else cells i ledger_at c (λ k. ne (sym k)) ∙ e; same = record { database = refl; block_size = refl } })
     (cases_eq i ledger_at)
   where
     old_there : get_elem? cells i ≡ some m.old
-    old_there = (subst (OutsStand cells) m.is_out outs).0
+    old_there = (subst (OutsAreIn cells) m.is_out outs).0
 
     here : i ≡ ledger_at → (old : Cell) → get_elem? cells i ≡ some old → (new : Cell) → new ≡ c → CellBase old new → LedgerThen l (set cells i c)
     here k (Ledger a) at (Ledger d) same base = let is : a ≡ l = (let f : some (Ledger a) ≡ some (Ledger l) = sym at ∙ ap (get_elem? cells) k ∙ e in cc) in record {

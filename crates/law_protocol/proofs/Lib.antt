@@ -4,15 +4,15 @@ pub mod BegunNames
 pub mod CommitAsked
 pub mod Decides
 pub mod DecidesSteps
-pub mod DeedsTell
-pub mod DrawNone
+pub mod AnonymousActsTell
+pub mod AssignNoId
 pub mod FollowsMore
 pub mod FollowsSteps
 pub mod FreeOrMet
 pub mod HeldStatements
 pub mod IdleOnes
 pub mod JournalKept
-pub mod KeepsWanted
+pub mod KeepsRequested
 pub mod KeptImages
 pub mod LeastHolder
 pub mod LedgerAsked
@@ -20,7 +20,7 @@ pub mod LedgerBase
 pub mod OneAtATime
 pub mod OneSeat
 pub mod OthersHold
-pub mod PlanOrder
+pub mod InSessionOrder
 pub mod RanFirst
 pub mod Reorders
 pub mod SeatNames

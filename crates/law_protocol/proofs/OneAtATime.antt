@@ -3,33 +3,33 @@ use Rattle.std.proofs.Common.{◌≡◌, ◌≢◌, ℕ, ◌<◌, List, [], ◌�
 use Rattle.std.proofs.lemmas.Bool.{cases_eq, cases_lt, ne_eqb}
 use mathlib.Core.Option.{some}
 use lib.ListN.{get_elem?}
-use Rattle.lg_history.specs.Acts.{SessionAct, starts, takes, frees, answers, stops, Act, by, closes}
-use Rattle.lg_history.specs.Facts.{entry_facts, open_at_end}
-use Rattle.lg_history.specs.Guards.{Good, Fixed}
-use Rattle.lg_history.specs.Histories.{IsIdle, OneAtATime}
-use Rattle.lg_history.specs.Lists.{Text, Each, In}
-use Rattle.lg_history.specs.Meaning.{Meaning}
-use Rattle.lg_history.specs.Sessions.{SessionState, acted, gone}
-use Rattle.lg_history.specs.Transactions.{End, unfixed, listed}
-use Rattle.lg_types.specs.declared.reply.Reply.{Reply}
-use Rattle.lg_history.specs.Transcripts.{EndLine, committed_at, ended_after, statement, end_of_session}
-use Rattle.lg_history.specs.Worlds.{World, first, run, step}
-use Rattle.lg_history.proofs.Cuts.{good_append, run_append}
-use Rattle.lg_history.proofs.Settles.{in_append, in_right}
-use Rattle.lg_history.proofs.Setup.{silent}
-use Rattle.lg_standing.specs.Cells.{Cell}
-use Rattle.lg_standing.specs.Deeds.{Deed, did, deed}
-use Rattle.lg_standing.specs.QuietElse.{IsQuiet, QuietElse}
-use Rattle.lg_standing.specs.OpenOnes.{text_at}
-use Rattle.lg_standing.specs.Parts.{IsNow, Now}
-use Rattle.lg_standing.specs.Seats.{Place, inside, Stage, Role, session, Session, SeatState}
-use Rattle.lg_standing.specs.Server.{Server}
-use Rattle.lg_standing.specs.StandTogether.{History, IsOfSeat, Stands}
-use Rattle.lg_standing.specs.TranscriptsAgree.{TranscriptsAgree}
-use Rattle.lg_standing.specs.TranscriptsSoFar.{shown_at}
+use Rattle.spec_history.specs.Acts.{SessionAct, starts, takes, releases_locks, answers, stops, Act, by, closes}
+use Rattle.spec_history.specs.Facts.{entry_facts, open_at_end}
+use Rattle.spec_history.specs.Guards.{Good, Fixed}
+use Rattle.spec_history.specs.Histories.{IsIdle, OneAtATime}
+use Rattle.spec_history.specs.Lists.{Text, Each, In}
+use Rattle.spec_history.specs.Meaning.{Meaning}
+use Rattle.spec_history.specs.Sessions.{SessionState, acted, gone}
+use Rattle.spec_history.specs.Transactions.{End, unfixed, listed}
+use Rattle.sql_types.specs.declared.reply.Reply.{Reply}
+use Rattle.spec_history.specs.Transcripts.{EndLine, committed_at, ended_after, statement, end_of_session}
+use Rattle.spec_history.specs.Worlds.{World, first, run, step}
+use Rattle.spec_history.proofs.Cuts.{good_append, run_append}
+use Rattle.spec_history.proofs.Settles.{in_append, in_right}
+use Rattle.spec_history.proofs.Setup.{silent}
+use Rattle.spec_protocol.specs.Cells.{Cell}
+use Rattle.spec_protocol.specs.AnonymousActs.{AnonymousAct, did, anonymous_act}
+use Rattle.spec_protocol.specs.InactiveExcept.{IsInactive, InactiveExcept}
+use Rattle.spec_protocol.specs.OpenOnes.{text_at}
+use Rattle.spec_protocol.specs.Parts.{IsNow, Now}
+use Rattle.spec_protocol.specs.Seats.{SessionStatus, inside, StatementProgress, Role, session, Session, SeatState}
+use Rattle.spec_protocol.specs.Server.{Server}
+use Rattle.spec_protocol.specs.StandTogether.{History, IsOfSeat, Stands}
+use Rattle.spec_protocol.specs.TranscriptsAgree.{TranscriptsAgree}
+use Rattle.spec_protocol.specs.TranscriptsSoFar.{shown_at}
 use Rattle.law_protocol.proofs.Decides.{done_first, nothing_more}
 use Rattle.law_protocol_steps.proofs.AfterSet.{all_at}
-use Rattle.law_protocol_steps.proofs.Deeds.{at_after}
+use Rattle.law_protocol_steps.proofs.AnonymousActs.{at_after}
 use Rattle.law_protocol_ledger.proofs.GoneFree.{gone_rests}
 use Rattle.law_protocol.proofs.IdleOnes.{idle_goes_on}
 use Rattle.law_protocol_steps.proofs.Ids.{Running, each_in, running}
@@ -38,7 +38,7 @@ use Rattle.law_protocol.proofs.OneSeat.{acted_in}
 
 -- ---- acts that leave what is under way
 
-abbrev pub IsPlain : Deed → Type 0
+abbrev pub IsPlain : AnonymousAct → Type 0
 IsPlain (did (starts name)) = ⊥
 IsPlain (did (takes text)) = ⊥
 IsPlain (did (answers entry)) = ⊥
@@ -65,7 +65,7 @@ one_same w n a p t = ⊎_elim
     (λ (ne : t ≢ n). subst (λ (x : SessionState). SameSo x (w.at t)) (sym (else_at w n a t ne)) (refl, refl))
     (cases_eq t n)
 
-all_same : (w : World) (es : List Act) → Each IsPlain (map deed es) → (t : ℕ) → SameSo ((run w es).at t) (w.at t)
+all_same : (w : World) (es : List Act) → Each IsPlain (map anonymous_act es) → (t : ℕ) → SameSo ((run w es).at t) (w.at t)
 all_same w [] p t = (refl, refl)
 all_same w (by n a ∷ es) p t = let r = all_same (step w (by n a)) es p.1 t in let o = one_same w n a p.0 t in (r.0 ∙ o.0, r.1 ∙ o.1)
 all_same w (closes k ∷ es) p t = all_same (step w (closes k)) es p.1 t
@@ -94,7 +94,7 @@ ends_shown q None (ended_after id n) e = cc
 ends_shown q (Some k) (committed_at id place) e = cc
 ends_shown q (Some k) (ended_after id n) e = cc
 
-module _ (v : Server) {history : History} {cells : List Cell} {seats : List SeatState} (st : Stands v history cells seats) (j : ℕ) (s : SeatState) (there : get_elem? seats j ≡ some s) (quiet : QuietElse seats j) where
+module _ (v : Server) {history : History} {cells : List Cell} {seats : List SeatState} (st : Stands v history cells seats) (j : ℕ) (s : SeatState) (there : get_elem? seats j ≡ some s) (quiet : InactiveExcept seats j) where
   abbrev W : World
   W = run first history
 
@@ -104,8 +104,8 @@ module _ (v : Server) {history : History} {cells : List Cell} {seats : List Seat
   at_rest : (x : Session) (n : ℕ) → IsNow v.meaning (W.at n) x → text_at x.place ≡ None → shown_at v.meaning x.place x.open_one ≡ [] → IsIdle (W.at n)
   at_rest x n now none nothing = record { under = now.under ∙ none; shown = now.so_far.pending ∙ nothing }
 
-  by_role : (n : ℕ) (r : Role) → IsQuiet r → Now history v.meaning (Some n) r → IsIdle (W.at n)
-  by_role n (session x) q now = at_rest x n now.0 (ap text_at q) (ap (λ (p : Place). shown_at v.meaning p x.open_one) q)
+  by_role : (n : ℕ) (r : Role) → IsInactive r → Now history v.meaning (Some n) r → IsIdle (W.at n)
+  by_role n (session x) q now = at_rest x n now.0 (ap text_at q) (ap (λ (p : SessionStatus). shown_at v.meaning p x.open_one) q)
   by_role n r q now = absurd now
 
   -- all sessions are idle but perhaps the one that runs at this seat
@@ -122,11 +122,11 @@ module _ (v : Server) {history : History} {cells : List Cell} {seats : List Seat
       (cases_lt n agree.count)
 
   -- one act, where this seat is quiet too
-  pub one_quiet : IsQuiet s.role → (events : List Act) (a : SessionAct) → map deed events ≡ did a ∷ [] → OneAtATime W events
-  one_quiet q events a e = let d = done_first events a [] e in let is = d.is ∙ ap (λ (es : List Act). by d.session a ∷ es) (nothing_more d.rest d.are) in
+  pub one_inactive : IsInactive s.role → (events : List Act) (a : SessionAct) → map anonymous_act events ≡ did a ∷ [] → OneAtATime W events
+  one_inactive q events a e = let d = done_first events a [] e in let is = d.is ∙ ap (λ (es : List Act). by d.session a ∷ es) (nothing_more d.rest d.are) in
       subst (OneAtATime W) (sym is) ((λ t ne. idle_if t (λ own. by_role t s.role q (subst (λ (o : Option ℕ). Now history v.meaning o s.role) own (agree.agree j s there).sessions.now))), tt)
 
-  pub none_does : (events : List Act) → map deed events ≡ [] → OneAtATime W events
+  pub none_does : (events : List Act) → map anonymous_act events ≡ [] → OneAtATime W events
   none_does events e = subst (OneAtATime W) (sym (nothing_more events e)) tt
 
   module _ (x : Session) (role : s.role ≡ session x) where
@@ -140,13 +140,13 @@ module _ (v : Server) {history : History} {cells : List Cell} {seats : List Seat
     else_idle n ne = idle_if n (λ own. absurd (ne (let e : Some n ≡ Some m = sym own ∙ its.is in cc)))
 
     -- one act, where this seat's session is at its end and has nothing to show
-    pub one_leaving : text_at x.place ≡ None → shown_at v.meaning x.place x.open_one ≡ [] → (events : List Act) (a : SessionAct) → map deed events ≡ did a ∷ [] → OneAtATime W events
+    pub one_leaving : text_at x.place ≡ None → shown_at v.meaning x.place x.open_one ≡ [] → (events : List Act) (a : SessionAct) → map anonymous_act events ≡ did a ∷ [] → OneAtATime W events
     one_leaving none nothing events a e = let d = done_first events a [] e in let is = d.is ∙ ap (λ (es : List Act). by d.session a ∷ es) (nothing_more d.rest d.are) in
         subst (OneAtATime W) (sym is) ((λ t ne. idle_if t (λ own. at_rest x t (subst (λ (k : ℕ). IsNow v.meaning (W.at k) x) (let f : Some m ≡ Some t = sym its.is ∙ own in cc) its.now) none nothing)), tt)
 
     -- what it does inside a statement
-    module _ (events : List Act) (plain : Each IsPlain (map deed events)) {then_cells : List Cell} {then_seats : List SeatState} (after : Stands v (history ++ events) then_cells then_seats) (mine : Each (IsOfSeat after.transcripts_agree.owner j) events)
-        (t : SeatState) (there_then : get_elem? then_seats j ≡ some t) (y : Session) (role_then : t.role ≡ session y) (text : Text) (stage : Stage) (place : y.place ≡ inside text stage) where
+    module _ (events : List Act) (plain : Each IsPlain (map anonymous_act events)) {then_cells : List Cell} {then_seats : List SeatState} (after : Stands v (history ++ events) then_cells then_seats) (mine : Each (IsOfSeat after.transcripts_agree.owner j) events)
+        (t : SeatState) (there_then : get_elem? then_seats j ≡ some t) (y : Session) (role_then : t.role ≡ session y) (text : Text) (stage : StatementProgress) (place : y.place ≡ inside text stage) where
       abbrev later : TranscriptsAgree v (history ++ events) after.ledger then_seats
       later = after.transcripts_agree
 
@@ -185,28 +185,28 @@ module _ (v : Server) {history : History} {cells : List Cell} {seats : List Seat
     answerer : (w : World) (n : ℕ) (text : Text) → (w.at n).so_far.under ≡ Some text → ((u : ℕ) → u ≢ m → (w.at u).so_far.under ≡ None) → n ≡ m
     answerer w n text e none = ⊎_elim (λ (g : n ≡ m). g) (λ (ne : n ≢ m). absurd (some_text (w.at n).so_far.under text e (none n ne))) (cases_eq n m)
 
-    freer : (db : Text) (n : ℕ) (es : List Act) → Good v.meaning db W (by n frees ∷ es) → n ≡ m
+    freer : (db : Text) (n : ℕ) (es : List Act) → Good v.meaning db W (by n releases_locks ∷ es) → n ≡ m
     freer db n es g = ⊎_elim (λ (e : n ≡ m). e)
         (λ (ne : n ≢ m). absurd (fixed_not (g.0.mine).fixed g.0.fixed (idle_goes_on v.meaning st.ledger.database history agree.good n (else_idle n ne) g.0.mine g.0.has).1))
         (cases_eq n m)
 
-    pub answers_one : (db : Text) (text : Text) (r : Reply) (line : Option EndLine) (events : List Act) → map deed events ≡ did (answers (statement text r line)) ∷ [] → Good v.meaning db W events → OneAtATime W events
+    pub answers_one : (db : Text) (text : Text) (r : Reply) (line : Option EndLine) (events : List Act) → map anonymous_act events ≡ did (answers (statement text r line)) ∷ [] → Good v.meaning db W events → OneAtATime W events
     answers_one db text r line events e good = let d = done_first events (answers (statement text r line)) [] e in let is = d.is ∙ ap (λ (es : List Act). by d.session (answers (statement text r line)) ∷ es) (nothing_more d.rest d.are) in
         let g = subst (Good v.meaning db W) is good in
         subst (OneAtATime W) (sym is) (by_one m W (by d.session (answers (statement text r line)) ∷ []) (λ u ne. else_idle u ne) (answerer W d.session text g.0.answered (λ u ne. (else_idle u ne).under), tt))
 
-    pub answers_end : (db : Text) (text : Text) (r : Reply) (line : Option EndLine) (events : List Act) → map deed events ≡ did frees ∷ did (answers (statement text r line)) ∷ [] → Good v.meaning db W events → OneAtATime W events
-    answers_end db text r line events e good = let d = done_first events frees (did (answers (statement text r line)) ∷ []) e in let f = done_first d.rest (answers (statement text r line)) [] d.are in
-        let is = d.is ∙ ap (λ (es : List Act). by d.session frees ∷ es) (f.is ∙ ap (λ (es : List Act). by f.session (answers (statement text r line)) ∷ es) (nothing_more f.rest f.are)) in
+    pub answers_end : (db : Text) (text : Text) (r : Reply) (line : Option EndLine) (events : List Act) → map anonymous_act events ≡ did releases_locks ∷ did (answers (statement text r line)) ∷ [] → Good v.meaning db W events → OneAtATime W events
+    answers_end db text r line events e good = let d = done_first events releases_locks (did (answers (statement text r line)) ∷ []) e in let f = done_first d.rest (answers (statement text r line)) [] d.are in
+        let is = d.is ∙ ap (λ (es : List Act). by d.session releases_locks ∷ es) (f.is ∙ ap (λ (es : List Act). by f.session (answers (statement text r line)) ∷ es) (nothing_more f.rest f.are)) in
         let g = subst (Good v.meaning db W) is good in
-        subst (OneAtATime W) (sym is) (by_one m W (by d.session frees ∷ by f.session (answers (statement text r line)) ∷ []) (λ u ne. else_idle u ne)
-        (freer db d.session (by f.session (answers (statement text r line)) ∷ []) g, (answerer W f.session text (sym (one_same W d.session frees tt f.session).0 ∙ g.1.0.answered) (λ u ne. (else_idle u ne).under), tt)))
+        subst (OneAtATime W) (sym is) (by_one m W (by d.session releases_locks ∷ by f.session (answers (statement text r line)) ∷ []) (λ u ne. else_idle u ne)
+        (freer db d.session (by f.session (answers (statement text r line)) ∷ []) g, (answerer W f.session text (sym (one_same W d.session releases_locks tt f.session).0 ∙ g.1.0.answered) (λ u ne. (else_idle u ne).under), tt)))
 
     -- ---- the last acts of a session, which stands at its end
 
-    module _ (db : Text) (line : EndLine) (n1 n2 n3 : ℕ) (g : Good v.meaning db W (by n1 frees ∷ by n2 (answers (end_of_session line)) ∷ by n3 stops ∷ [])) where
+    module _ (db : Text) (line : EndLine) (n1 n2 n3 : ℕ) (g : Good v.meaning db W (by n1 releases_locks ∷ by n2 (answers (end_of_session line)) ∷ by n3 stops ∷ [])) where
       abbrev one : World
-      one = step W (by n1 frees)
+      one = step W (by n1 releases_locks)
 
       abbrev two : World
       two = step one (by n2 (answers (end_of_session line)))
@@ -215,7 +215,7 @@ module _ (v : Server) {history : History} {cells : List Cell} {seats : List Seat
       first_is = freer db n1 (by n2 (answers (end_of_session line)) ∷ by n3 stops ∷ []) g
 
       still_idle : (u : ℕ) → u ≢ m → IsIdle (one.at u)
-      still_idle u ne = subst IsIdle (sym (else_at W n1 frees u (λ e. ne (e ∙ first_is)))) (else_idle u ne)
+      still_idle u ne = subst IsIdle (sym (else_at W n1 releases_locks u (λ e. ne (e ∙ first_is)))) (else_idle u ne)
 
       -- what it shows is an end
       second_is : n2 ≡ m
@@ -229,13 +229,13 @@ module _ (v : Server) {history : History} {cells : List Cell} {seats : List Seat
           (λ (ne : u ≢ n2). subst IsIdle (sym (else_at one n2 (answers (end_of_session line)) u ne)) (still_idle u (λ e. ne (e ∙ sym second_is))))
           (cases_eq u n2)
 
-      last_alone : OneAtATime W (by n1 frees ∷ by n2 (answers (end_of_session line)) ∷ by n3 stops ∷ [])
+      last_alone : OneAtATime W (by n1 releases_locks ∷ by n2 (answers (end_of_session line)) ∷ by n3 stops ∷ [])
       last_alone = (λ u ne. else_idle u (λ e. ne (e ∙ sym first_is)), (λ u ne. still_idle u (λ e. ne (e ∙ sym second_is)), (λ u ne. all_idle u, tt)))
 
-    pub leaves_last : (db : Text) (line : EndLine) (events : List Act) → map deed events ≡ did frees ∷ did (answers (end_of_session line)) ∷ did stops ∷ [] → Good v.meaning db W events → OneAtATime W events
+    pub leaves_last : (db : Text) (line : EndLine) (events : List Act) → map anonymous_act events ≡ did releases_locks ∷ did (answers (end_of_session line)) ∷ did stops ∷ [] → Good v.meaning db W events → OneAtATime W events
     leaves_last db line events e good =
-        let d = done_first events frees (did (answers (end_of_session line)) ∷ did stops ∷ []) e in
+        let d = done_first events releases_locks (did (answers (end_of_session line)) ∷ did stops ∷ []) e in
         let f = done_first d.rest (answers (end_of_session line)) (did stops ∷ []) d.are in
         let h = done_first f.rest stops [] f.are in
-        let is = d.is ∙ ap (λ (es : List Act). by d.session frees ∷ es) (f.is ∙ ap (λ (es : List Act). by f.session (answers (end_of_session line)) ∷ es) (h.is ∙ ap (λ (es : List Act). by h.session stops ∷ es) (nothing_more h.rest h.are))) in
+        let is = d.is ∙ ap (λ (es : List Act). by d.session releases_locks ∷ es) (f.is ∙ ap (λ (es : List Act). by f.session (answers (end_of_session line)) ∷ es) (h.is ∙ ap (λ (es : List Act). by h.session stops ∷ es) (nothing_more h.rest h.are))) in
         subst (OneAtATime W) (sym is) (last_alone db line d.session f.session h.session (subst (Good v.meaning db W) is good))

@@ -4,28 +4,28 @@ use Rattle.std.proofs.lemmas.Bool.{cases_eq, cases_lt, eq-eqb}
 use Rattle.std.specs.Prelude.{◌==◌, if◌then◌else◌, Bool, true, false}
 use mathlib.Core.Option.{some, some-injective}
 use lib.ListN.{get_elem?}
-use Rattle.lg_history.specs.Acts.{SessionAct, Act, by, closes, of}
-use Rattle.lg_history.specs.Inputs.{InputLine}
-use Rattle.lg_history.specs.Lists.{Text, Each, In}
-use Rattle.lg_history.specs.Sessions.{SessionState, unborn}
-use Rattle.lg_history.specs.Worlds.{World, first, run}
-use Rattle.lg_history.proofs.Cuts.{good_append, run_append}
-use Rattle.lg_history.proofs.Names.{Named, keeps_name}
-use Rattle.lg_history.proofs.Settles.{in_right}
-use Rattle.lg_history.proofs.Trace.{each_append, each_weaker}
-use Rattle.lg_standing.specs.Cells.{Cell}
-use Rattle.lg_standing.specs.Contents.{contents}
-use Rattle.lg_standing.specs.Deeds.{Deed}
-use Rattle.lg_standing.specs.Follows.{Follows}
+use Rattle.spec_history.specs.Acts.{SessionAct, Act, by, closes, of}
+use Rattle.spec_history.specs.Inputs.{InputLine}
+use Rattle.spec_history.specs.Lists.{Text, Each, In}
+use Rattle.spec_history.specs.Sessions.{SessionState, unborn}
+use Rattle.spec_history.specs.Worlds.{World, first, run}
+use Rattle.spec_history.proofs.Cuts.{good_append, run_append}
+use Rattle.spec_history.proofs.Names.{Named, keeps_name}
+use Rattle.spec_history.proofs.Settles.{in_right}
+use Rattle.spec_history.proofs.Trace.{each_append, each_weaker}
+use Rattle.spec_protocol.specs.Cells.{Cell}
+use Rattle.spec_protocol.specs.Contents.{contents}
+use Rattle.spec_protocol.specs.AnonymousActs.{AnonymousAct}
+use Rattle.spec_protocol.specs.Follows.{Follows}
 use Rattle.law_protocol.proofs.FollowsMore.{follows_append}
-use Rattle.lg_standing.specs.LocksAreWanted.{LocksAreWanted}
-use Rattle.lg_standing.specs.LocksDecideIn.{LocksDecideIn}
-use Rattle.lg_standing.specs.SeatNames.{OthersDiffer, names_of}
-use Rattle.lg_standing.specs.Seats.{SeatState}
-use Rattle.lg_standing.specs.Server.{Server}
-use Rattle.lg_standing.specs.StandTogether.{History, IsOfSeat, LocksAskedFor, Stands, StandsDone}
-use Rattle.lg_standing.specs.TranscriptsAgree.{TranscriptsAgree}
-use Rattle.lg_history.specs.Histories.{OneAtATime}
+use Rattle.spec_protocol.specs.LocksAreRequested.{LocksAreRequested}
+use Rattle.spec_protocol.specs.LocksDecideIn.{LocksDecideIn}
+use Rattle.spec_protocol.specs.SeatNames.{OthersDiffer, names_of}
+use Rattle.spec_protocol.specs.Seats.{SeatState}
+use Rattle.spec_protocol.specs.Server.{Server}
+use Rattle.spec_protocol.specs.StandTogether.{History, IsOfSeat, LocksAskedFor, Stands, StandsDone}
+use Rattle.spec_protocol.specs.TranscriptsAgree.{TranscriptsAgree}
+use Rattle.spec_history.specs.Histories.{OneAtATime}
 use Rattle.law_protocol_steps.proofs.AfterSet.{all_at}
 use Rattle.law_protocol_steps.proofs.ByLocksMore.{alone_append}
 use Rattle.law_protocol_steps.proofs.GoesOn.{Goes, goes, goes_on, still}
@@ -37,21 +37,21 @@ abbrev pub IsNamedIn : World → List Text → Act → Type 0
 IsNamedIn w names (by n a) = ((w.at n).phase ≢ unborn) × In (w.at n).name names
 IsNamedIn w names (closes k) = Unit {0}
 
-pub record OneSeat (v : Server) (history : History) (deeds : List Deed) (lines : List InputLine) (cells : List Cell) (seats : List SeatState) (names : List Text) (Q : Type 0) : Type 0 where
-  pub goes : Goes v history deeds cells seats
+pub record OneSeat (v : Server) (history : History) (anonymous_acts : List AnonymousAct) (lines : List InputLine) (cells : List Cell) (seats : List SeatState) (names : List Text) (Q : Type 0) : Type 0 where
+  pub goes : Goes v history anonymous_acts cells seats
   -- where this is so, it is done one after another
   pub alone : Q → OneAtATime (run first history) goes.events
   pub named : Each (IsNamedIn (run first (history ++ goes.events)) names) goes.events
   pub follows : Follows (run first history) goes.events lines
 
-pub none_did : (v : Server) {history : History} {cells : List Cell} {seats : List SeatState} (st : Stands v history cells seats) → LocksAskedFor st → LocksAreWanted v (contents cells) seats → (names : List Text) (Q : Type 0) → OneSeat v history [] [] cells seats names Q
+pub none_did : (v : Server) {history : History} {cells : List Cell} {seats : List SeatState} (st : Stands v history cells seats) → LocksAskedFor st → LocksAreRequested v (contents cells) seats → (names : List Text) (Q : Type 0) → OneSeat v history [] [] cells seats names Q
 unfolding still
 none_did v st asked wanted names Q = record { goes = still v st asked wanted; alone = λ q. tt; named = tt; follows = record { lines_are = refl; in_turn = tt } }
 
 -- ---- one after another
 
-pub one_on : (v : Server) {history : History} {deeds more : List Deed} {lines more_lines : List InputLine} {cells then_cells : List Cell} {seats then_seats : List SeatState} {names then_names : List Text} {Q : Type 0} (st : OneSeat v history deeds lines cells seats names Q) → ((name : Text) → In name names → In name then_names)
-    → OneSeat v (history ++ st.goes.events) more more_lines then_cells then_seats then_names Q → OneSeat v history (deeds ++ more) (lines ++ more_lines) then_cells then_seats then_names Q
+pub one_on : (v : Server) {history : History} {anonymous_acts more : List AnonymousAct} {lines more_lines : List InputLine} {cells then_cells : List Cell} {seats then_seats : List SeatState} {names then_names : List Text} {Q : Type 0} (st : OneSeat v history anonymous_acts lines cells seats names Q) → ((name : Text) → In name names → In name then_names)
+    → OneSeat v (history ++ st.goes.events) more more_lines then_cells then_seats then_names Q → OneSeat v history (anonymous_acts ++ more) (lines ++ more_lines) then_cells then_seats then_names Q
 unfolding goes_on
 one_on v {history} {more_lines = more_lines} {names = names} {then_names} st longer last = record {
   follows = follows_append (run first history) st.goes.events last.goes.events st.follows (subst (λ (w : World). Follows w last.goes.events more_lines) (run_append first history st.goes.events) last.follows);
@@ -70,7 +70,7 @@ one_on v {history} {more_lines = more_lines} {names = names} {then_names} st lon
     kept (closes k) h = tt
 
 -- where less is asked of the others
-abbrev pub quieter : {v : Server} {history : History} {deeds : List Deed} {lines : List InputLine} {cells : List Cell} {seats : List SeatState} {names : List Text} {P Q : Type 0} → (Q → P) → OneSeat v history deeds lines cells seats names P → OneSeat v history deeds lines cells seats names Q
+abbrev pub quieter : {v : Server} {history : History} {anonymous_acts : List AnonymousAct} {lines : List InputLine} {cells : List Cell} {seats : List SeatState} {names : List Text} {P Q : Type 0} → (Q → P) → OneSeat v history anonymous_acts lines cells seats names P → OneSeat v history anonymous_acts lines cells seats names Q
 quieter f o = record { goes = o.goes; alone = λ q. o.alone (f q); named = o.named; follows = o.follows }
 
 -- ---- one step
@@ -93,9 +93,9 @@ module _ (v : Server) {history : History} {cells : List Cell} {seats : List Seat
   pub counted : (n : ℕ) (a : SessionAct) → In (by n a) history → n < agree.count
   counted n a i = ⊎_elim (λ (l : n < agree.count). l) (λ l. absurd (acted_in history n a i (agree.no_others n (omega (arith, l))).1)) (cases_lt n agree.count)
 
-pub one_did : (v : Server) {j : ℕ} {history : History} {deeds : List Deed} {cells : List Cell} {seats : List SeatState} (d : StandsDone v j history deeds cells seats) → LocksAreWanted v (contents cells) seats → LocksDecideIn v history d.events → (t : SeatState) → get_elem? seats j ≡ some t → (Q : Type 0) → (Q → OneAtATime (run first history) d.events) → {lines : List InputLine} → Follows (run first history) d.events lines
-    → OneSeat v history deeds lines cells seats (names_of t) Q
-one_did v {j} {history} {deeds} {cells} {seats} d wanted decide t there Q alone follows = record { follows = follows; goes = goes d wanted decide; alone = alone; named = all_at (IsNamedIn (run first (history ++ d.events)) (names_of t)) d.events each }
+pub one_did : (v : Server) {j : ℕ} {history : History} {anonymous_acts : List AnonymousAct} {cells : List Cell} {seats : List SeatState} (d : StandsDone v j history anonymous_acts cells seats) → LocksAreRequested v (contents cells) seats → LocksDecideIn v history d.events → (t : SeatState) → get_elem? seats j ≡ some t → (Q : Type 0) → (Q → OneAtATime (run first history) d.events) → {lines : List InputLine} → Follows (run first history) d.events lines
+    → OneSeat v history anonymous_acts lines cells seats (names_of t) Q
+one_did v {j} {history} {anonymous_acts} {cells} {seats} d wanted decide t there Q alone follows = record { follows = follows; goes = goes d wanted decide; alone = alone; named = all_at (IsNamedIn (run first (history ++ d.events)) (names_of t)) d.events each }
   where
     each : (e : Act) → In e d.events → IsNamedIn (run first (history ++ d.events)) (names_of t) e
     each (closes k) i = tt

@@ -3,35 +3,35 @@ use Rattle.std.proofs.Common.{◌≡◌, ◌≢◌, ◌⊎◌, ℕ, zero, suc, �
 use Rattle.std.proofs.lemmas.Bool.{cases_lt}
 use mathlib.Core.Option.{some}
 use lib.ListN.{get_elem?}
-use Rattle.lg_types.specs.declared.lock.Hold.{Hold}
-use Rattle.lg_types.specs.declared.lock.Mode.{Mode}
-use Rattle.lg_types.specs.declared.lock.Mode.TheVariants.{S}
-use Rattle.lg_types.specs.declared.lock.Want.{Want}
-use Rattle.lg_types.specs.declared.statement.Stmt.{Stmt}
-use Rattle.lg_types.specs.declared.statement.Stmt.TheVariants as stmt
-use Rattle.lg_model.specs.Catalog.{Defs, defs_of}
-use Rattle.lg_model.specs.Journals.{Line, serial}
-use Rattle.lg_model.specs.Locks.{whole}
-use Rattle.lg_history.specs.ExactRefusals.{HeldStatement, held_beside}
-use Rattle.lg_history.specs.Histories.{IsIdle}
-use Rattle.lg_history.specs.Lists.{Text, Each, Some_of, In}
-use Rattle.lg_history.specs.Real.{wants_catalog, wants_cell}
-use Rattle.lg_history.specs.Sessions.{SessionTransaction, SessionState, view, viewed}
-use Rattle.lg_history.specs.Transactions.{Transaction, listed, unfixed}
-use Rattle.lg_history.specs.Worlds.{World, first, run}
-use Rattle.lg_history.proofs.Settles.{in_append, in_left}
-use Rattle.lg_standing.specs.Server.{Server}
-use Rattle.lg_standing.specs.Cells.{Cell, catalog_at}
-use Rattle.lg_standing.specs.Contents.{Contents, contents}
-use Rattle.lg_standing.specs.LocksAreWanted.{LocksAreWanted}
-use Rattle.lg_standing.specs.LocksCover.{Belongs, KeepsLocks, LookedFirst}
-use Rattle.lg_standing.specs.LocksWereAsked.{IsAskedFor, IsWanted}
-use Rattle.lg_standing.specs.OpenOnes.{HasOpen, lines_at, script_so_far, text_at, texts_so_far}
-use Rattle.lg_standing.specs.Parts.{AreTransactions, IsNow, IsTransaction, Now}
-use Rattle.lg_standing.specs.Seats.{OpenTransaction, Place, between, inside, leaving, Role, session, Session, SeatState}
-use Rattle.lg_standing.specs.StandTogether.{History, LocksAskedFor, Stands}
-use Rattle.lg_standing.specs.TranscriptsAgree.{TranscriptsAgree}
-use Rattle.lg_standing.specs.WantsIn.{of_catalog, of_cell, wants_in, Holds}
+use Rattle.sql_types.specs.declared.lock.Hold.{Hold}
+use Rattle.sql_types.specs.declared.lock.Mode.{Mode}
+use Rattle.sql_types.specs.declared.lock.Mode.TheVariants.{S}
+use Rattle.sql_types.specs.declared.lock.LockRequest.{LockRequest}
+use Rattle.sql_types.specs.declared.statement.Stmt.{Stmt}
+use Rattle.sql_types.specs.declared.statement.Stmt.TheVariants as stmt
+use Rattle.spec_model.specs.Catalog.{Defs, defs_of}
+use Rattle.spec_model.specs.Journals.{Line, serial}
+use Rattle.spec_model.specs.Locks.{whole}
+use Rattle.spec_history.specs.ExactRefusals.{HeldStatement, held_beside}
+use Rattle.spec_history.specs.Histories.{IsIdle}
+use Rattle.spec_history.specs.Lists.{Text, Each, Some_of, In}
+use Rattle.spec_history.specs.Real.{requests_catalog, requests_cell}
+use Rattle.spec_history.specs.Sessions.{SessionTransaction, SessionState, view, viewed}
+use Rattle.spec_history.specs.Transactions.{Transaction, listed, unfixed}
+use Rattle.spec_history.specs.Worlds.{World, first, run}
+use Rattle.spec_history.proofs.Settles.{in_append, in_left}
+use Rattle.spec_protocol.specs.Server.{Server}
+use Rattle.spec_protocol.specs.Cells.{Cell, catalog_at}
+use Rattle.spec_protocol.specs.Contents.{Contents, contents}
+use Rattle.spec_protocol.specs.LocksAreRequested.{LocksAreRequested}
+use Rattle.spec_protocol.specs.LocksCover.{Belongs, KeepsLocks, LookedFirst}
+use Rattle.spec_protocol.specs.LocksWereAsked.{IsAskedFor, IsRequested}
+use Rattle.spec_protocol.specs.OpenOnes.{HasOpen, lines_at, script_so_far, text_at, texts_so_far}
+use Rattle.spec_protocol.specs.Parts.{AreTransactions, IsNow, IsTransaction, Now}
+use Rattle.spec_protocol.specs.Seats.{OpenTransaction, SessionStatus, between, inside, leaving, Role, session, Session, SeatState}
+use Rattle.spec_protocol.specs.StandTogether.{History, LocksAskedFor, Stands}
+use Rattle.spec_protocol.specs.TranscriptsAgree.{TranscriptsAgree}
+use Rattle.spec_protocol.specs.RequestsIn.{of_catalog, of_cell, requests_in, Holds}
 use Rattle.law_protocol_ledger.proofs.GoneFree.{gone_free}
 use Rattle.law_protocol.proofs.HeldStatements.{Made, at_held, held_at, in_map, statement_of}
 use Rattle.law_protocol.proofs.IdleOnes.{idle_goes_on}
@@ -41,12 +41,12 @@ use Rattle.law_protocol_ledger.proofs.NoneWanting.{listed_is, past_over}
 
 -- ---- places between statements
 
-pub no_lines : (p : Place) → text_at p ≡ None → lines_at p ≡ []
+pub no_lines : (p : SessionStatus) → text_at p ≡ None → lines_at p ≡ []
 no_lines between e = refl
 no_lines (inside text stage) e = cc
 no_lines leaving e = refl
 
-not_looking : (p : Place) → text_at p ≡ None → LookedFirst p → ⊥
+not_looking : (p : SessionStatus) → text_at p ≡ None → LookedFirst p → ⊥
 not_looking between e f = f
 not_looking (inside text stage) e f = cc
 not_looking leaving e f = f
@@ -76,7 +76,7 @@ found_in P (x ∷ xs) (inl p) = record { one = x; has = inl refl; is = p }
 found_in P (x ∷ xs) (inr h) = let w = found_in P xs h in record { one = w.one; has = inr w.has; is = w.is }
 
 -- in a transaction that BEGIN opened a statement wants S in the catalog, if anything
-shares_only : (s : Option Stmt) (w : Want) → In w (of_catalog (wants_catalog true s)) → whole S ≡ w
+shares_only : (s : Option Stmt) (w : LockRequest) → In w (of_catalog (requests_catalog true s)) → whole S ≡ w
 shares_only None w i = absurd i
 shares_only (Some (stmt.Create c)) w i = absurd i
 shares_only (Some (stmt.Index c)) w i = absurd i
@@ -147,7 +147,7 @@ module _ (v : Server) {history : History} {cells : List Cell} {seats : List Seat
       pub session : ℕ
       pub transaction : SessionTransaction
       pub seat : AtSeat session transaction
-      pub goes_on : (transaction.opened ≡ true) × (transaction.fixed ≡ unfixed)
+      pub goes_on : (transaction.explicit ≡ true) × (transaction.fixed ≡ unfixed)
       pub line : Line
       pub has : In line transaction.script
       pub is : statement_of (view transaction) line ≡ h
@@ -167,27 +167,27 @@ module _ (v : Server) {history : History} {cells : List Cell} {seats : List Seat
     nothing_released o i e = (λ k. subst (In i) e k, λ k. subst (In catalog_at) e k)
 
     -- what they want is locked
-    pub covered : (h : HeldStatement) → IsOthers h → (i : ℕ) (u : Want) → In u (wants_in v D h.opened i h.text) → Holds (c.holds i) h.id u
-    covered h w i = subst (λ (z : HeldStatement). (u : Want) → In u (wants_in v D z.opened i z.text) → Holds (c.holds i) z.id u) w.is its
+    pub covered : (h : HeldStatement) → IsOthers h → (i : ℕ) (u : LockRequest) → In u (requests_in v D h.explicit i h.text) → Holds (c.holds i) h.id u
+    covered h w i = subst (λ (z : HeldStatement). (u : LockRequest) → In u (requests_in v D z.explicit i z.text) → Holds (c.holds i) z.id u) w.is its
       where
         keeps : KeepsLocks w.seat.o i
         keeps = nothing_released w.seat.o i (st.locks_cover.unreleased w.seat.j w.seat.x w.seat.o w.seat.has (sym w.seat.is.end ∙ w.goes_on.1))
 
-        its : (u : Want) → In u (wants_in v D w.transaction.opened i w.line.0) → Holds (c.holds i) w.transaction.id u
+        its : (u : LockRequest) → In u (requests_in v D w.transaction.explicit i w.line.0) → Holds (c.holds i) w.transaction.id u
         its u k = subst (λ (id : ℕ). Holds (c.holds i) id u) (sym w.seat.is.id)
-            (each_in (Holds (c.holds i) w.seat.o.id) (wants_in v D w.seat.o.opened i w.line.0) u
-            (each_in (λ l. Each (Holds (c.holds i) w.seat.o.id) (wants_in v D w.seat.o.opened i l.0)) (script_so_far w.seat.x w.seat.o) w.line (st.locks_cover.cover w.seat.j w.seat.x w.seat.o w.seat.has i keeps)
+            (each_in (Holds (c.holds i) w.seat.o.id) (requests_in v D w.seat.o.explicit i w.line.0) u
+            (each_in (λ l. Each (Holds (c.holds i) w.seat.o.id) (requests_in v D w.seat.o.explicit i l.0)) (script_so_far w.seat.x w.seat.o) w.line (st.locks_cover.cover w.seat.j w.seat.x w.seat.o w.seat.has i keeps)
             (in_left w.line w.seat.o.script (lines_at w.seat.x.place) (subst (In w.line) w.seat.is.script w.has)))
-            (subst (λ (b : Bool). In u (wants_in v D b i w.line.0)) w.seat.is.opened k))
+            (subst (λ (b : Bool). In u (requests_in v D b i w.line.0)) w.seat.is.explicit k))
 
     -- and what is locked they want
-    module _ (asked : LocksAskedFor st) (are_wanted : LocksAreWanted v c seats) (k : ℕ) (below : (t : ℕ) (d : SessionTransaction) → (W.at t).transaction ≡ Some d → t < k)
+    module _ (asked : LocksAskedFor st) (are_requested : LocksAreRequested v c seats) (k : ℕ) (below : (t : ℕ) (d : SessionTransaction) → (W.at t).transaction ≡ Some d → t < k)
         (id : ℕ) (mine : (d : SessionTransaction) → (W.at n).transaction ≡ Some d → d.id ≡ id) where
       pub record IsTheirs (i : ℕ) (lock : Hold) : Type 0 where
         pub statement : HeldStatement
         pub has : In statement (beside k)
         pub tx : statement.id ≡ lock.tx
-        pub wanted : IsWanted v D statement.opened i (statement.text, true) lock.want
+        pub wanted : IsRequested v D statement.explicit i (statement.text, true) lock.request
 
       module _ (i : ℕ) (lock : Hold) (there : In lock (c.holds i)) (foreign : lock.tx ≢ id) where
         abbrev was : IsAskedFor v W.at D i lock
@@ -202,7 +202,7 @@ module _ (v : Server) {history : History} {cells : List Cell} {seats : List Seat
         not_mine : t ≢ n
         not_mine e = foreign (sym was.asked.is ∙ mine d (sym (ap (λ (m : ℕ). (W.at m).transaction) e) ∙ was.asked.has))
 
-        goes_on : (d.opened ≡ true) × (d.fixed ≡ unfixed)
+        goes_on : (d.explicit ≡ true) × (d.fixed ≡ unfixed)
         goes_on = idle_goes_on v.meaning st.ledger.database history agree.good t (idle t not_mine) d was.asked.has
 
         abbrev theirs : Belongs seats i lock
@@ -224,19 +224,19 @@ module _ (v : Server) {history : History} {cells : List Cell} {seats : List Seat
         of_line : (line : Line) → In line o.script → In (statement_of (view d) line) (beside k)
         of_line line has = at_held n k (λ m. viewed (W.at m).transaction) t (below t d was.asked.has) not_mine (view d) (ap viewed was.asked.has) line (subst (In line) (sym is.script) has)
 
-        by_script : (m : ℕ) → i ≡ m → IsWanted v D was.opened m was.statement lock.want → IsTheirs m lock
+        by_script : (m : ℕ) → i ≡ m → IsRequested v D was.explicit m was.statement lock.request → IsTheirs m lock
         by_script zero e wanted = ⊎_elim
-            (λ (some : Some_of (λ l. wants_catalog true (v.reads l.0) ≡ Some S) o.script). let f = found_in (λ l. wants_catalog true (v.reads l.0) ≡ Some S) o.script some in record {
+            (λ (some : Some_of (λ l. requests_catalog true (v.reads l.0) ≡ Some S) o.script). let f = found_in (λ l. requests_catalog true (v.reads l.0) ≡ Some S) o.script some in record {
               statement = statement_of (view d) f.one;
               has = of_line f.one f.has;
               tx = was.asked.is;
-              wanted = subst (λ (mode : Option Mode). In lock.want (of_catalog mode)) (sym (ap (λ (b : Bool). wants_catalog b (v.reads f.one.0)) goes_on.0 ∙ f.is)) (inl shares);
+              wanted = subst (λ (mode : Option Mode). In lock.request (of_catalog mode)) (sym (ap (λ (b : Bool). requests_catalog b (v.reads f.one.0)) goes_on.0 ∙ f.is)) (inl shares);
             })
             (λ (first_look : LookedFirst x.place). absurd (not_looking x.place between_lines first_look))
-            (are_wanted theirs.j x o theirs.has (sym is.opened ∙ goes_on.0) (sym is.end ∙ goes_on.1) (record { hold = lock; has = subst (λ (m : ℕ). In lock (c.holds m)) e there; mine = sym theirs.mine }))
+            (are_requested theirs.j x o theirs.has (sym is.explicit ∙ goes_on.0) (sym is.end ∙ goes_on.1) (record { hold = lock; has = subst (λ (m : ℕ). In lock (c.holds m)) e there; mine = sym theirs.mine }))
           where
-            shares : whole S ≡ lock.want
-            shares = shares_only (v.reads was.statement.0) lock.want (subst (λ (b : Bool). In lock.want (of_catalog (wants_catalog b (v.reads was.statement.0)))) (sym was.asked.by_begin ∙ goes_on.0) wanted)
+            shares : whole S ≡ lock.request
+            shares = shares_only (v.reads was.statement.0) lock.request (subst (λ (b : Bool). In lock.request (of_catalog (requests_catalog b (v.reads was.statement.0)))) (sym was.asked.by_begin ∙ goes_on.0) wanted)
         by_script (suc m) e wanted = said (in_map (λ l. l.0) (o.script ++ lines_at x.place) was.statement.0 (each_in (λ a. a.1 ≡ true → In a.0 (texts_so_far x o)) d.asked was.statement (is.asked (sym is.end ∙ goes_on.1)) was.asked.asked wanted.0))
           where
             in_script : (line : Line) → In line o.script ⊎ In line (lines_at x.place) → In line o.script
@@ -248,7 +248,7 @@ module _ (v : Server) {history : History} {cells : List Cell} {seats : List Seat
               statement = statement_of (view d) a.of;
               has = of_line a.of (in_script a.of (in_append a.of o.script (lines_at x.place) a.has));
               tx = was.asked.is;
-              wanted = (refl, subst (λ (text : Text). In lock.want (of_cell (suc m) (wants_cell D (v.reads text)))) (sym a.is) wanted.1);
+              wanted = (refl, subst (λ (text : Text). In lock.request (of_cell (suc m) (requests_cell D (v.reads text)))) (sym a.is) wanted.1);
             }
 
         pub is_theirs : IsTheirs i lock

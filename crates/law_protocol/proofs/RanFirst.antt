@@ -2,25 +2,25 @@
 use Rattle.std.proofs.Common.{◌≡◌, ◌≢◌, ◌⊎◌, ℕ, zero, suc, ◌<◌, Bool, true, false, List, [], ◌∷◌, ◌++◌, length, Option, None, refl, sym, ap, ◌∙◌, subst, ⊎_elim, arith, append-nil}
 use Rattle.std.specs.Prelude.{◌==◌, if◌then◌else◌}
 use Rattle.std.proofs.lemmas.Bool.{cases_lt, cases_eq}
-use Rattle.lg_history.specs.Inputs.{InputSession}
-use Rattle.lg_history.specs.Lists.{Each, At, In}
-use Rattle.lg_history.specs.Acts.{SessionAct, Act, by, closes, of}
-use Rattle.lg_history.specs.Guards.{Good}
-use Rattle.lg_history.specs.Histories.{RanBefore}
-use Rattle.lg_history.specs.Sessions.{Phase, unborn, runs, gone, SessionState, transcript_of}
-use Rattle.lg_history.specs.Transactions.{listed}
-use Rattle.lg_history.specs.Transcripts.{Transcript}
-use Rattle.lg_history.specs.Worlds.{World, first, step, run}
-use Rattle.lg_history.proofs.Agreed.{there_is}
-use Rattle.lg_history.proofs.Cuts.{good_append, run_append}
-use Rattle.lg_history.proofs.Settles.{in_append}
-use Rattle.lg_history.proofs.Setup.{silent}
-use Rattle.lg_standing.specs.AtTheEnd.{AllRest, AreWritten, SessionsDiffer, WasKnown}
-use Rattle.lg_standing.specs.Cells.{Cell}
-use Rattle.lg_standing.specs.Parts.{Numbers, BeganAfter, WasOver, Past, IsPast}
-use Rattle.lg_standing.specs.Seats.{SeatState, Written}
-use Rattle.lg_standing.specs.Server.{Server}
-use Rattle.lg_standing.specs.StandTogether.{History, Stands}
+use Rattle.spec_history.specs.Inputs.{InputSession}
+use Rattle.spec_history.specs.Lists.{Each, At, In}
+use Rattle.spec_history.specs.Acts.{SessionAct, Act, by, closes, of}
+use Rattle.spec_history.specs.Guards.{Good}
+use Rattle.spec_history.specs.Histories.{RanBefore}
+use Rattle.spec_history.specs.Sessions.{Phase, unborn, runs, gone, SessionState, transcript_of}
+use Rattle.spec_history.specs.Transactions.{listed}
+use Rattle.spec_history.specs.Transcripts.{Transcript}
+use Rattle.spec_history.specs.Worlds.{World, first, step, run}
+use Rattle.spec_history.proofs.Agreed.{there_is}
+use Rattle.spec_history.proofs.Cuts.{good_append, run_append}
+use Rattle.spec_history.proofs.Settles.{in_append}
+use Rattle.spec_history.proofs.Setup.{silent}
+use Rattle.spec_protocol.specs.AtTheEnd.{AllRest, AreWritten, SessionsDiffer, WasKnown}
+use Rattle.spec_protocol.specs.Cells.{Cell}
+use Rattle.spec_protocol.specs.Parts.{Numbers, BeganAfter, WasOver, Past, IsPast}
+use Rattle.spec_protocol.specs.Seats.{SeatState, Written}
+use Rattle.spec_protocol.specs.Server.{Server}
+use Rattle.spec_protocol.specs.StandTogether.{History, Stands}
 use Rattle.law_protocol_steps.proofs.Ids.{each_in}
 use Rattle.law_protocol_ledger.proofs.JoinsStand.{rests_none}
 

@@ -1,18 +1,18 @@
 -- What agrees agrees in any order of its sessions.
 use Rattle.std.proofs.Common.{◌≡◌, ◌≢◌, ℕ, zero, suc, ◌+◌, ◌<◌, ◌≤◌, List, [], ◌∷◌, length, map, Option, Some, None, refl, sym, ap, ◌∙◌, subst, inl, inr, arith}
-use Rattle.lg_types.specs.declared.journal.JournalItem.{JournalItem}
-use Rattle.lg_types.specs.declared.journal.JournalItem.TheVariants.{Tx, Close}
-use Rattle.lg_history.specs.Agree.{Agree, AreStatements, IdsDrawnOnce, IsOneOfTheirs, StatementsInOrder}
-use Rattle.lg_history.specs.Digests.{Digest}
-use Rattle.lg_history.specs.Facts.{id_of, facts_of}
-use Rattle.lg_history.specs.Histories.{AreOf}
-use Rattle.lg_history.specs.Sessions.{SessionState}
-use Rattle.lg_history.specs.Inputs.{InputSession}
-use Rattle.lg_history.specs.Lists.{Text, Each, Some_of, At, sum}
-use Rattle.lg_history.specs.Meaning.{Meaning}
-use Rattle.lg_history.specs.Transcripts.{Transcript}
-use Rattle.lg_history.proofs.Trace.{each_weaker}
-use Rattle.lg_standing.specs.Reordered.{moved, Reordered, as_is, swaps, swapped, turned}
+use Rattle.sql_types.specs.declared.journal.JournalItem.{JournalItem}
+use Rattle.sql_types.specs.declared.journal.JournalItem.TheVariants.{Tx, Close}
+use Rattle.spec_history.specs.Agree.{Agree, AreStatements, IdsAssignedOnce, IsOneOfTheirs, StatementsInOrder}
+use Rattle.spec_history.specs.Digests.{Digest}
+use Rattle.spec_history.specs.Facts.{id_of, facts_of}
+use Rattle.spec_history.specs.Histories.{AreOf}
+use Rattle.spec_history.specs.Sessions.{SessionState}
+use Rattle.spec_history.specs.Inputs.{InputSession}
+use Rattle.spec_history.specs.Lists.{Text, Each, Some_of, At, sum}
+use Rattle.spec_history.specs.Meaning.{Meaning}
+use Rattle.spec_history.specs.Transcripts.{Transcript}
+use Rattle.spec_history.proofs.Trace.{each_weaker}
+use Rattle.spec_protocol.specs.Reordered.{moved, Reordered, as_is, swaps, swapped, turned}
 
 -- ---- places
 
@@ -114,7 +114,7 @@ module _ (q : Meaning) (database : Text) (input : List InputSession) (setup : Op
 
   theirs : (J : List JournalItem) → Each (IsOneOfTheirs input) J → Each (IsOneOfTheirs (swapped n input)) J
   theirs [] h = tt
-  theirs (Tx id session time opened script ∷ is) h = (still_some (λ s. s.name ≡ session) n input h.0, theirs is h.1)
+  theirs (Tx id session time explicit script ∷ is) h = (still_some (λ s. s.name ≡ session) n input h.0, theirs is h.1)
   theirs (Close k ∷ is) h = (tt, theirs is h.1)
 
   -- where `setup` comes to stand, as it was
@@ -124,14 +124,14 @@ module _ (q : Meaning) (database : Text) (input : List InputSession) (setup : Op
   apart : (i u : ℕ) → i ≢ u → to i ≢ to u
   apart i u ne e = ne (turned_one n i u e)
 
-  abbrev ids : IdsDrawnOnce q X
-  ids = agree.ids_are_drawn_once
+  abbrev ids : IdsAssignedOnce q X
+  ids = agree.ids_are_assigned_once
 
   pub swap_agrees : Agree q database (swapped n input) (moved (turned n) setup) (swapped n X) J G
   swap_agrees = record {
     statements_are_answered = are_statements (swapped n input) (swapped n X) (as_long n input ∙ as_many input X agree.statements_are_answered ∙ sym (as_long n X))
         (λ i s x a b. statements_at input X agree.statements_are_answered (to i) s x (at_before n input i s short_input a) (was i x b));
-    ids_are_drawn_once = record {
+    ids_are_assigned_once = record {
       k = ids.k;
       session = λ id. to (ids.session id);
       one = λ i x a. each_weaker
@@ -164,7 +164,7 @@ module _ (q : Meaning) (database : Text) (input : List InputSession) (setup : Op
     };
     lock_refusals_name_holders = λ s x text holder earlier later a e. let r = agree.lock_refusals_name_holders (to s) x text holder earlier later (was s x a) e in record {
       mine = r.mine;
-      opened = r.opened;
+      explicit = r.explicit;
       within = r.within;
       other = to r.other;
       differs = λ same. r.differs (turned_is n r.other s same);
@@ -185,13 +185,13 @@ module _ (q : Meaning) (database : Text) (input : List InputSession) (setup : Op
       next_of_holder = r.next_of_holder;
     };
     control_is_refused_in_place = λ i x a. agree.control_is_refused_in_place (to i) x (was i x a);
-    else_e30 = λ i x a. agree.else_e30 (to i) x (was i x a);
+    else_no_memory = λ i x a. agree.else_no_memory (to i) x (was i x a);
   }
 
 -- each stands where the function says
-pub stand_there : (input : List InputSession) (X : List Transcript) (then_input : List InputSession) (then_X : List Transcript) (to : ℕ → ℕ) → Reordered input X then_input then_X to → (u : ℕ) (x : Transcript) → At X u x → At then_X (to u) x
-stand_there input X _ _ _ as_is u x a = a
-stand_there input X _ _ _ (swaps n {then_input} {then_X} {to} r short) u x a = at_then n then_X (to u) x short (stand_there input X then_input then_X to r u x a)
+pub each_is_placed : (input : List InputSession) (X : List Transcript) (then_input : List InputSession) (then_X : List Transcript) (to : ℕ → ℕ) → Reordered input X then_input then_X to → (u : ℕ) (x : Transcript) → At X u x → At then_X (to u) x
+each_is_placed input X _ _ _ as_is u x a = a
+each_is_placed input X _ _ _ (swaps n {then_input} {then_X} {to} r short) u x a = at_then n then_X (to u) x short (each_is_placed input X then_input then_X to r u x a)
 
 moved_none : (setup : Option ℕ) → moved (λ i. i) setup ≡ setup
 moved_none None = refl

@@ -1,24 +1,24 @@
 -- Whose sessions have which names: a seat keeps those of its sessions, whatever it does.
 use Rattle.std.proofs.Common.{◌≡◌, ◌≢◌, ℕ, ◌<◌, List, [], ◌∷◌, ◌++◌, map, Option, Some, None, refl, sym, ap, ap₂, ◌∙◌, subst, inl, inr, ⊎_elim}
-use Rattle.lg_history.specs.Lists.{Text, Some_of, In}
-use Rattle.lg_history.specs.Sessions.{gone, runs, unborn, transcript_of}
-use Rattle.lg_history.specs.Transactions.{listed}
-use Rattle.lg_history.specs.Transcripts.{Transcript}
-use Rattle.lg_history.specs.Worlds.{first, run}
-use Rattle.lg_history.proofs.Settles.{in_append, in_left, in_right}
-use Rattle.lg_standing.specs.Alone.{Alone, Alones, none, more}
-use Rattle.lg_standing.specs.Alone as alone
-use Rattle.lg_history.specs.Transcripts.{end_of_session}
-use Rattle.lg_standing.specs.Answering.{with_entry, written_of}
-use Rattle.lg_standing.specs.Cells.{Cell, Catalog, Ledger, LedgerCell, Rows}
-use Rattle.lg_standing.specs.Parts.{Now}
-use Rattle.lg_standing.specs.SeatNames.{names_of, session_names}
-use Rattle.lg_standing.specs.Seats.{Role, between, idle, builder, session, Session, SeatState, Written}
-use Rattle.lg_standing.specs.Server.{Server}
-use Rattle.lg_standing.specs.StandTogether.{History}
-use Rattle.lg_standing.specs.TranscriptsAgree.{TranscriptsAgree}
-use Rattle.lg_standing.specs.Visits.{Visit, Happens}
-use Rattle.lg_standing.specs.Visits as visit
+use Rattle.spec_history.specs.Lists.{Text, Some_of, In}
+use Rattle.spec_history.specs.Sessions.{gone, runs, unborn, transcript_of}
+use Rattle.spec_history.specs.Transactions.{listed}
+use Rattle.spec_history.specs.Transcripts.{Transcript}
+use Rattle.spec_history.specs.Worlds.{first, run}
+use Rattle.spec_history.proofs.Settles.{in_append, in_left, in_right}
+use Rattle.spec_protocol.specs.Alone.{Alone, Alones, none, more}
+use Rattle.spec_protocol.specs.Alone as alone
+use Rattle.spec_history.specs.Transcripts.{end_of_session}
+use Rattle.spec_protocol.specs.Answering.{with_entry, written_of}
+use Rattle.spec_protocol.specs.Cells.{Cell, Catalog, Ledger, LedgerCell, Rows}
+use Rattle.spec_protocol.specs.Parts.{Now}
+use Rattle.spec_protocol.specs.SeatNames.{names_of, session_names}
+use Rattle.spec_protocol.specs.Seats.{Role, between, idle, builder, session, Session, SeatState, Written}
+use Rattle.spec_protocol.specs.Server.{Server}
+use Rattle.spec_protocol.specs.StandTogether.{History}
+use Rattle.spec_protocol.specs.TranscriptsAgree.{TranscriptsAgree}
+use Rattle.spec_protocol.specs.Visits.{Visit, Happens}
+use Rattle.spec_protocol.specs.Visits as visit
 use Rattle.law_protocol_ledger.proofs.NoneWanting.{listed_is, past_over}
 use Rattle.law_protocol.proofs.TheEnd.{past_has}
 
@@ -84,17 +84,17 @@ module _ (v : Server) (s : SeatState) where
   alone_names _ (alone.builds present role) = role_names s idle builder role refl
   alone_names _ (alone.rests role) = role_names s builder idle role refl
   alone_names _ (alone.takes x text at goes) = same_names s _ x _ at.role refl refl refl
-  alone_names _ (alone.leaves x o at one open_end opened) = same_names s _ x _ at.role refl refl refl
+  alone_names _ (alone.leaves x o at one open_end explicit) = same_names s _ x _ at.role refl refl refl
   alone_names _ (alone.stops x at free) = over_names s x x at.role refl
-  alone_names _ (alone.refused_in x o text e at one open_end opened is) = same_names s _ x _ at.role refl refl refl
+  alone_names _ (alone.refused_in x o text e at one open_end explicit is) = same_names s _ x _ at.role refl refl refl
   alone_names _ (alone.refused_out x text e at free is) = same_names s _ x _ at.role refl refl refl
   alone_names _ (alone.refused_checked o at named fresh e stage is) = same_names s _ at.stands.x _ at.stands.role refl refl refl
   alone_names _ (alone.no_memory x text at open_end) = same_names s _ x _ at.role refl refl refl
   alone_names _ (alone.no_memory_then o at named fresh stage) = same_names s _ at.stands.x _ at.stands.role refl refl refl
-  alone_names _ (alone.saves o at name stage opened is few) = same_names s _ at.stands.x _ at.stands.role refl refl refl
-  alone_names _ (alone.has_too_many o at name stage opened is full) = same_names s _ at.stands.x _ at.stands.role refl refl refl
-  alone_names _ (alone.goes_back o at name f fs stage opened is there_is) = same_names s _ at.stands.x _ at.stands.role refl refl refl
-  alone_names _ (alone.has_no_savepoint o at name stage opened is never) = same_names s _ at.stands.x _ at.stands.role refl refl refl
+  alone_names _ (alone.saves o at name stage explicit is few) = same_names s _ at.stands.x _ at.stands.role refl refl refl
+  alone_names _ (alone.has_too_many o at name stage explicit is full) = same_names s _ at.stands.x _ at.stands.role refl refl refl
+  alone_names _ (alone.goes_back o at name f fs stage explicit is there_is) = same_names s _ at.stands.x _ at.stands.role refl refl refl
+  alone_names _ (alone.has_no_savepoint o at name stage explicit is never) = same_names s _ at.stands.x _ at.stands.role refl refl refl
   alone_names _ (alone.is_back o at seq stage) = same_names s _ at.stands.x _ at.stands.role refl refl refl
   alone_names _ (alone.answers x text r at goes) = same_names s _ x _ at.role refl refl refl
   alone_names _ (alone.answers_end x o text r def line at one is released) = same_names s _ x _ at.role refl refl refl
@@ -107,7 +107,7 @@ module _ (v : Server) (s : SeatState) where
   the_same t e = record { keeps = λ n i. subst (λ (z : SeatState). In n (names_of z)) (sym e) i }
 
   pub visit_names : (out : List (ℕ × Cell)) (how : Visit) (c d : Cell) (t : SeatState) → Happens v out how c s d t → KeepsNames s t
-  visit_names out (visit.draw opened) (Ledger c) (Ledger d) t h = by_seat t _ h.stands.x _ h.stands.role h.seat refl refl refl
+  visit_names out (visit.assign_id explicit) (Ledger c) (Ledger d) t h = by_seat t _ h.stands.x _ h.stands.role h.seat refl refl refl
   visit_names out visit.look (Catalog c) (Catalog d) t h = by_seat t _ h.at.stands.x _ h.at.stands.role h.seat refl refl refl
   visit_names out visit.read_system (Catalog c) (Catalog d) t h = by_seat t _ h.at.stands.x _ h.at.stands.role h.seat refl refl refl
   visit_names out visit.create_table (Catalog c) (Catalog d) t h = by_seat t _ h.at.stands.x _ h.at.stands.role h.seat refl refl refl

@@ -1,16 +1,16 @@
 -- Where locks decide in a history of one statement after another, the transcripts that the seats wrote keep step order.
 use Rattle.std.proofs.Common.{List, [], length, None, subst}
-use Rattle.lg_history.specs.ExactRefusals.{StepOrder}
-use Rattle.lg_history.specs.Histories.{IsWhole, SessionsBelow, lines_of, rows_of}
-use Rattle.lg_history.specs.Worlds.{first}
-use Rattle.lg_history.proofs.ByLocks.{exact_refusals}
-use Rattle.lg_history.proofs.Ordered as ordered
-use Rattle.lg_standing.specs.Cells.{Cell}
-use Rattle.lg_standing.specs.LocksDecideIn.{LocksDecideIn}
-use Rattle.lg_standing.specs.Seats.{SeatState}
-use Rattle.lg_standing.specs.Server.{Server}
-use Rattle.lg_standing.specs.StandTogether.{History, Stands}
-use Rattle.lg_standing.specs.StepOrderThen.{KeepsStepOrder}
+use Rattle.spec_history.specs.ExactRefusals.{StepOrder}
+use Rattle.spec_history.specs.Histories.{IsWhole, SessionsBelow, lines_of, rows_of}
+use Rattle.spec_history.specs.Worlds.{first}
+use Rattle.spec_history.proofs.ByLocks.{exact_refusals}
+use Rattle.spec_history.proofs.Ordered as ordered
+use Rattle.spec_protocol.specs.Cells.{Cell}
+use Rattle.spec_protocol.specs.LocksDecideIn.{LocksDecideIn}
+use Rattle.spec_protocol.specs.Seats.{SeatState}
+use Rattle.spec_protocol.specs.Server.{Server}
+use Rattle.spec_protocol.specs.StandTogether.{History, Stands}
+use Rattle.spec_protocol.specs.StepOrderThen.{KeepsStepOrder}
 use Rattle.law_protocol.proofs.TheEnd.{below}
 
 pub keeps_order : (v : Server) (history : History) (cells : List Cell) (seats : List SeatState) (st : Stands v history cells seats) → LocksDecideIn v [] history → KeepsStepOrder v history seats st.ledger.items

@@ -3,44 +3,44 @@ use Rattle.std.proofs.Common.{◌≡◌, ℕ, zero, suc, Bool, true, false, List
 use Rattle.std.specs.Prelude.{if◌then◌else◌, nat_le}
 use mathlib.Core.Option.{some}
 use lib.ListN.{get_elem?}
-use Rattle.lg_types.specs.declared.lock.Hold.{Hold}
-use Rattle.lg_types.specs.declared.lock.Want.{Want}
-use Rattle.lg_types.specs.declared.reply.Reply.{Reply}
-use Rattle.lg_model.specs.Journals.{Line, tx_count}
-use Rattle.lg_history.specs.Acts.{SessionAct, starts, takes, says, fails, commits, ends, issues, stops, Act, by, closes}
-use Rattle.lg_history.specs.Guards.{Good}
-use Rattle.lg_history.specs.Histories.{OneAtATime}
-use Rattle.lg_history.specs.Lists.{Text, Each}
-use Rattle.lg_history.specs.Meaning.{Meaning}
-use Rattle.lg_history.specs.Transactions.{unfixed}
-use Rattle.lg_history.specs.Transcripts.{Kind, unread, begin, commit, roll_back, to_savepoint, create, rows, issue, keep, kind_of}
-use Rattle.lg_history.specs.Worlds.{World, first, run, step}
-use Rattle.lg_history.proofs.Cuts.{good_append}
-use Rattle.lg_standing.specs.Server.{Server}
-use Rattle.lg_standing.specs.ActsOf.{closings, done_acts, checked_acts, end_acts, failed_acts, failed_in, alone_acts}
-use Rattle.lg_standing.specs.Alone.{Alone}
-use Rattle.lg_standing.specs.Alone as alone
-use Rattle.lg_standing.specs.Cells.{Cell, Catalog, Ledger, LedgerCell, Rows, pending_in}
-use Rattle.lg_standing.specs.Deeds.{Deed, did, closed, deed, stopped_acts, visit_deeds}
-use Rattle.lg_standing.specs.Doing.{Stopped, barred, no_memory}
-use Rattle.lg_standing.specs.LedgerVisits.{Ends, commits_nothing, rolls_back, leaves, did_nothing, was_refused, lacks_memory, lacks_index, closed_by, next_block}
-use Rattle.lg_standing.specs.QuietElse.{IsQuiet, QuietElse}
-use Rattle.lg_standing.specs.OpenOnes.{lines_at, text_at}
-use Rattle.lg_standing.specs.Seats.{OpenTransaction, Place, between, inside, leaving, Stage, Session, SeatState, Role, idle, session}
-use Rattle.lg_standing.specs.StandTogether.{History, Stands, StandsDone}
-use Rattle.lg_standing.specs.TranscriptsSoFar.{end_shown, shown_at}
-use Rattle.lg_standing.specs.Visits as visit
-use Rattle.lg_standing.specs.Visits.{Visit, Happens}
-use Rattle.law_protocol.proofs.OneAtATime.{IsPlain, answers_end, answers_one, inside_alone, leaves_last, none_does, one_leaving, one_quiet}
-use Rattle.lg_standing.proofs.Places.{set_here}
+use Rattle.sql_types.specs.declared.lock.Hold.{Hold}
+use Rattle.sql_types.specs.declared.lock.LockRequest.{LockRequest}
+use Rattle.sql_types.specs.declared.reply.Reply.{Reply}
+use Rattle.spec_model.specs.Journals.{Line, tx_count}
+use Rattle.spec_history.specs.Acts.{SessionAct, starts, takes, says, fails, commits, ends, issues, stops, Act, by, closes}
+use Rattle.spec_history.specs.Guards.{Good}
+use Rattle.spec_history.specs.Histories.{OneAtATime}
+use Rattle.spec_history.specs.Lists.{Text, Each}
+use Rattle.spec_history.specs.Meaning.{Meaning}
+use Rattle.spec_history.specs.Transactions.{unfixed}
+use Rattle.spec_history.specs.Transcripts.{Kind, unread, begin, commit, roll_back, to_savepoint, create, rows, issue, keep, kind_of}
+use Rattle.spec_history.specs.Worlds.{World, first, run, step}
+use Rattle.spec_history.proofs.Cuts.{good_append}
+use Rattle.spec_protocol.specs.Server.{Server}
+use Rattle.spec_protocol.specs.ActsOf.{closings, done_acts, checked_acts, end_acts, failed_acts, failed_in, alone_acts}
+use Rattle.spec_protocol.specs.Alone.{Alone}
+use Rattle.spec_protocol.specs.Alone as alone
+use Rattle.spec_protocol.specs.Cells.{Cell, Catalog, Ledger, LedgerCell, Rows, pending_in}
+use Rattle.spec_protocol.specs.AnonymousActs.{AnonymousAct, did, closed, anonymous_act, stopped_acts, visit_anonymous_acts}
+use Rattle.spec_protocol.specs.Doing.{Stopped, blocked, no_memory}
+use Rattle.spec_protocol.specs.LedgerVisits.{Ends, commits_nothing, rolls_back, leaves, did_nothing, was_refused, lacks_memory, lacks_index, closed_by, next_block}
+use Rattle.spec_protocol.specs.InactiveExcept.{IsInactive, InactiveExcept}
+use Rattle.spec_protocol.specs.OpenOnes.{lines_at, text_at}
+use Rattle.spec_protocol.specs.Seats.{OpenTransaction, SessionStatus, between, inside, leaving, StatementProgress, Session, SeatState, Role, idle, session}
+use Rattle.spec_protocol.specs.StandTogether.{History, Stands, StandsDone}
+use Rattle.spec_protocol.specs.TranscriptsSoFar.{end_shown, shown_at}
+use Rattle.spec_protocol.specs.Visits as visit
+use Rattle.spec_protocol.specs.Visits.{Visit, Happens}
+use Rattle.law_protocol.proofs.OneAtATime.{IsPlain, answers_end, answers_one, inside_alone, leaves_last, none_does, one_leaving, one_inactive}
+use Rattle.spec_protocol.proofs.Places.{set_here}
 
 -- ---- plain acts
 
-either_plain : (b : Bool) (k : ℕ) (es : List Act) (more : List Deed) → Each IsPlain more → Each IsPlain (map deed es ++ more) → Each IsPlain (map deed (if b then [] else closes k ∷ es) ++ more)
+either_plain : (b : Bool) (k : ℕ) (es : List Act) (more : List AnonymousAct) → Each IsPlain more → Each IsPlain (map anonymous_act es ++ more) → Each IsPlain (map anonymous_act (if b then [] else closes k ∷ es) ++ more)
 either_plain true k es more h rest = h
 either_plain false k es more h rest = (tt, rest)
 
-pub closings_plain : (v : Server) (n : ℕ) (c : LedgerCell) (more : List Deed) → Each IsPlain more → Each IsPlain (map deed (closings v n c) ++ more)
+pub closings_plain : (v : Server) (n : ℕ) (c : LedgerCell) (more : List AnonymousAct) → Each IsPlain more → Each IsPlain (map anonymous_act (closings v n c) ++ more)
 closings_plain v zero c more h = h
 closings_plain v (suc n) c more h = either_plain (nat_le (pending_in c) 0) (next_block c) (closings v n (closed_by v.hash (next_block c) c)) more h (closings_plain v n (closed_by v.hash (next_block c) c) more h)
 
@@ -65,21 +65,21 @@ failed_plain keep text = (tt, tt)
 
 pub failed_in_plain : (q : Meaning) (o : Option OpenTransaction) (text : Text) → Each IsPlain (map did (failed_in q o text))
 failed_in_plain q None text = tt
-failed_in_plain q (Some o) text = by o.opened
+failed_in_plain q (Some o) text = by o.explicit
   where
     by : (b : Bool) → Each IsPlain (map did (if b then failed_acts (kind_of (q.reads text)) text else fails text ∷ []))
     by true = failed_plain (kind_of (q.reads text)) text
     by false = (tt, tt)
 
-pub stopped_plain : {holds : List Hold} {id : ℕ} {wants : List Want} {r : Reply} (why : Stopped holds id wants r) (text : Text) (fail : List SessionAct) → Each IsPlain (map did fail) → Each IsPlain (map did (stopped_acts why text fail))
-stopped_plain (barred c e) text fail h = (tt, tt)
+pub stopped_plain : {holds : List Hold} {id : ℕ} {requests : List LockRequest} {r : Reply} (why : Stopped holds id requests r) (text : Text) (fail : List SessionAct) → Each IsPlain (map did fail) → Each IsPlain (map did (stopped_acts why text fail))
+stopped_plain (blocked c e) text fail h = (tt, tt)
 stopped_plain no_memory text fail h = h
 
 pub says_plain : (ls : List Line) (more : List SessionAct) → Each IsPlain (map did more) → Each IsPlain (map did (map says ls ++ more))
 says_plain [] more h = h
 says_plain (l ∷ ls) more h = (tt, says_plain ls more h)
 
-pub end_plain : {v : Server} {x : Session} {o : OpenTransaction} {back : Bool} {script : List Line} {place : Place} (e : Ends v x o back script place) (n : ℕ) → Each IsPlain (map did (end_acts e n))
+pub end_plain : {v : Server} {x : Session} {o : OpenTransaction} {back : Bool} {script : List Line} {place : SessionStatus} (e : Ends v x o back script place) (n : ℕ) → Each IsPlain (map did (end_acts e n))
 end_plain (commits_nothing text a b c d) n = (tt, tt)
 end_plain (rolls_back text a b c) n = (tt, tt)
 end_plain (leaves a b) n = (tt, tt)
@@ -89,48 +89,48 @@ end_plain (lacks_memory text r a b) n = (tt, (tt, tt))
 end_plain (lacks_index text def indexed a b) n = (tt, (tt, tt))
 
 -- nothing but closings
-abbrev IsClosed : Deed → Type 0
+abbrev IsClosed : AnonymousAct → Type 0
 IsClosed (did act) = ⊥
 IsClosed (closed k) = Unit {0}
 
-closings_alone : (w : World) (es : List Act) → Each IsClosed (map deed es) → OneAtATime w es
+closings_alone : (w : World) (es : List Act) → Each IsClosed (map anonymous_act es) → OneAtATime w es
 closings_alone w [] h = tt
 closings_alone w (by n a ∷ es) h = absurd h.0
 closings_alone w (closes k ∷ es) h = closings_alone (step w (closes k)) es h.1
 
-quiet_idle : (r : Role) → r ≡ idle → IsQuiet r
-quiet_idle r e = subst IsQuiet (sym e) tt
+quiet_idle : (r : Role) → r ≡ idle → IsInactive r
+quiet_idle r e = subst IsInactive (sym e) tt
 
-quiet_between : (r : Role) (x : Session) → r ≡ session x → x.place ≡ between → IsQuiet r
-quiet_between r x e at = subst IsQuiet (sym e) at
+quiet_between : (r : Role) (x : Session) → r ≡ session x → x.place ≡ between → IsInactive r
+quiet_between r x e at = subst IsInactive (sym e) at
 
-module _ (v : Server) {history : History} {cells : List Cell} {seats : List SeatState} (st : Stands v history cells seats) (j : ℕ) (s : SeatState) (there : get_elem? seats j ≡ some s) (quiet : QuietElse seats j) where
-  module _ {deeds : List Deed} {then_cells : List Cell} (t : SeatState) (d : StandsDone v j history deeds then_cells (slice_set seats j t)) where
+module _ (v : Server) {history : History} {cells : List Cell} {seats : List SeatState} (st : Stands v history cells seats) (j : ℕ) (s : SeatState) (there : get_elem? seats j ≡ some s) (quiet : InactiveExcept seats j) where
+  module _ {anonymous_acts : List AnonymousAct} {then_cells : List Cell} (t : SeatState) (d : StandsDone v j history anonymous_acts then_cells (slice_set seats j t)) where
     abbrev Alone_then : Type 0
     Alone_then = OneAtATime (run first history) d.events
 
     good : Good v.meaning d.stands.ledger.database (run first history) d.events
     good = (good_append v.meaning d.stands.ledger.database first history d.events d.stands.transcripts_agree.good).1
 
-    inside_then : (x : Session) → s.role ≡ session x → Each IsPlain deeds → (y : Session) → t.role ≡ session y → (text : Text) (stage : Stage) → y.place ≡ inside text stage → Alone_then
+    inside_then : (x : Session) → s.role ≡ session x → Each IsPlain anonymous_acts → (y : Session) → t.role ≡ session y → (text : Text) (stage : StatementProgress) → y.place ≡ inside text stage → Alone_then
     inside_then x role plain y role_then text stage place = inside_alone v st j s there quiet x role d.events (subst (Each IsPlain) (sym d.are) plain) d.stands d.mine t (set_here seats j t s there) y role_then text stage place
 
   pub alone_one_at_a_time : {then_cells : List Cell} (t : SeatState) (how : Alone v s t) (d : StandsDone v j history (map did (alone_acts how)) then_cells (slice_set seats j t)) → OneAtATime (run first history) d.events
-  alone_one_at_a_time _ (alone.begins name present role) d = one_quiet v st j s there quiet (quiet_idle s.role role) d.events (starts name) d.are
+  alone_one_at_a_time _ (alone.begins name present role) d = one_inactive v st j s there quiet (quiet_idle s.role role) d.events (starts name) d.are
   alone_one_at_a_time _ (alone.builds present role) d = none_does v st j s there quiet d.events d.are
   alone_one_at_a_time _ (alone.rests role) d = none_does v st j s there quiet d.events d.are
-  alone_one_at_a_time _ (alone.takes x text at goes) d = one_quiet v st j s there quiet (quiet_between s.role x at.role at.here) d.events (takes text) d.are
-  alone_one_at_a_time _ (alone.leaves x o at one open_end opened) d = none_does v st j s there quiet d.events d.are
-  alone_one_at_a_time _ (alone.stops x at free) d = one_quiet v st j s there quiet (quiet_between s.role x at.role at.here) d.events stops d.are
-  alone_one_at_a_time t (alone.refused_in x o text e at one open_end opened is) d = inside_then t d x at.role (tt, tt) _ refl text _ refl
+  alone_one_at_a_time _ (alone.takes x text at goes) d = one_inactive v st j s there quiet (quiet_between s.role x at.role at.here) d.events (takes text) d.are
+  alone_one_at_a_time _ (alone.leaves x o at one open_end explicit) d = none_does v st j s there quiet d.events d.are
+  alone_one_at_a_time _ (alone.stops x at free) d = one_inactive v st j s there quiet (quiet_between s.role x at.role at.here) d.events stops d.are
+  alone_one_at_a_time t (alone.refused_in x o text e at one open_end explicit is) d = inside_then t d x at.role (tt, tt) _ refl text _ refl
   alone_one_at_a_time _ (alone.refused_out x text e at free is) d = none_does v st j s there quiet d.events d.are
-  alone_one_at_a_time t (alone.refused_checked o at named fresh e stage is) d = inside_then t d at.stands.x at.stands.role (checked_plain o.opened at.stands.text _) _ refl at.stands.text _ refl
+  alone_one_at_a_time t (alone.refused_checked o at named fresh e stage is) d = inside_then t d at.stands.x at.stands.role (checked_plain o.explicit at.stands.text _) _ refl at.stands.text _ refl
   alone_one_at_a_time t (alone.no_memory x text at open_end) d = inside_then t d x at.role (failed_in_plain v.meaning x.open_one text) _ refl text _ refl
   alone_one_at_a_time t (alone.no_memory_then o at named fresh stage) d = inside_then t d at.stands.x at.stands.role (tt, tt) _ refl at.stands.text _ refl
-  alone_one_at_a_time t (alone.saves o at name stage opened is few) d = inside_then t d at.stands.x at.stands.role (tt, tt) _ refl at.stands.text _ refl
-  alone_one_at_a_time t (alone.has_too_many o at name stage opened is full) d = inside_then t d at.stands.x at.stands.role (tt, tt) _ refl at.stands.text _ refl
-  alone_one_at_a_time _ (alone.goes_back o at name f fs stage opened is there_is) d = none_does v st j s there quiet d.events d.are
-  alone_one_at_a_time t (alone.has_no_savepoint o at name stage opened is never) d = inside_then t d at.stands.x at.stands.role (tt, tt) _ refl at.stands.text _ refl
+  alone_one_at_a_time t (alone.saves o at name stage explicit is few) d = inside_then t d at.stands.x at.stands.role (tt, tt) _ refl at.stands.text _ refl
+  alone_one_at_a_time t (alone.has_too_many o at name stage explicit is full) d = inside_then t d at.stands.x at.stands.role (tt, tt) _ refl at.stands.text _ refl
+  alone_one_at_a_time _ (alone.goes_back o at name f fs stage explicit is there_is) d = none_does v st j s there quiet d.events d.are
+  alone_one_at_a_time t (alone.has_no_savepoint o at name stage explicit is never) d = inside_then t d at.stands.x at.stands.role (tt, tt) _ refl at.stands.text _ refl
   alone_one_at_a_time t (alone.is_back o at seq stage) d = inside_then t d at.stands.x at.stands.role (tt, tt) _ refl at.stands.text _ refl
   alone_one_at_a_time t (alone.answers x text r at goes) d = answers_one v st j s there quiet x at.role d.stands.ledger.database text r None d.events d.are (good t d)
   alone_one_at_a_time t (alone.answers_end x o text r def line at one is released) d = answers_end v st j s there quiet x at.role d.stands.ledger.database text r (Some line) d.events d.are (good t d)
@@ -138,15 +138,15 @@ module _ (v : Server) {history : History} {cells : List Cell} {seats : List Seat
 
   -- ---- visits
 
-  module _ {deeds : List Deed} {then_cells : List Cell} (t : SeatState) (d : StandsDone v j history deeds then_cells (slice_set seats j t)) where
+  module _ {anonymous_acts : List AnonymousAct} {then_cells : List Cell} (t : SeatState) (d : StandsDone v j history anonymous_acts then_cells (slice_set seats j t)) where
     -- the seat turned inside a statement
-    turned : (x : Session) → s.role ≡ session x → Each IsPlain deeds → (u : SeatState) → t ≡ u → (y : Session) → u.role ≡ session y → (text : Text) (stage : Stage) → y.place ≡ inside text stage → OneAtATime (run first history) d.events
+    turned : (x : Session) → s.role ≡ session x → Each IsPlain anonymous_acts → (u : SeatState) → t ≡ u → (y : Session) → u.role ≡ session y → (text : Text) (stage : StatementProgress) → y.place ≡ inside text stage → OneAtATime (run first history) d.events
     turned x role plain u is y role_then text stage place = inside_then t d x role plain y (ap (λ (z : SeatState). z.role) is ∙ role_then) text stage place
 
   unended : (x : Session) (o : OpenTransaction) → x.open_one ≡ Some o → o.end ≡ unfixed → x.place ≡ leaving → (text_at x.place ≡ None) × (shown_at v.meaning x.place x.open_one ≡ [])
-  unended x o one open_end place = (ap text_at place, ap (λ (p : Place). shown_at v.meaning p x.open_one) place ∙ ap (shown_at v.meaning leaving) one ∙ ap end_shown open_end)
+  unended x o one open_end place = (ap text_at place, ap (λ (p : SessionStatus). shown_at v.meaning p x.open_one) place ∙ ap (shown_at v.meaning leaving) one ∙ ap end_shown open_end)
 
-  point : {then_cells : List Cell} (t : SeatState) {x : Session} {o : OpenTransaction} {back : Bool} {script : List Line} {place : Place} (role : s.role ≡ session x) (one : x.open_one ≡ Some o) (open_end : o.end ≡ unfixed) (n : ℕ) (y : Session) → t.role ≡ session y → y.place ≡ place → (e : Ends v x o back script place)
+  point : {then_cells : List Cell} (t : SeatState) {x : Session} {o : OpenTransaction} {back : Bool} {script : List Line} {place : SessionStatus} (role : s.role ≡ session x) (one : x.open_one ≡ Some o) (open_end : o.end ≡ unfixed) (n : ℕ) (y : Session) → t.role ≡ session y → y.place ≡ place → (e : Ends v x o back script place)
       → (d : StandsDone v j history (map did (end_acts e n)) then_cells (slice_set seats j t)) → OneAtATime (run first history) d.events
   point t {x} role one open_end n y then_role at (commits_nothing text a b c f) d = inside_then t d x role (tt, tt) y then_role text _ at
   point t {x} role one open_end n y then_role at (rolls_back text a b c) d = inside_then t d x role (tt, tt) y then_role text _ at
@@ -156,17 +156,17 @@ module _ (v : Server) {history : History} {cells : List Cell} {seats : List Seat
   point t {x} role one open_end n y then_role at (lacks_memory text r a b) d = inside_then t d x role (tt, (tt, tt)) y then_role text _ at
   point t {x} role one open_end n y then_role at (lacks_index text def indexed a b) d = inside_then t d x role (tt, (tt, tt)) y then_role text _ at
 
-  pub visit_one_at_a_time : (out : List (ℕ × Cell)) (how : Visit) (a b : Cell) (t : SeatState) (h : Happens v out how a s b t) {then_cells : List Cell} (d : StandsDone v j history (visit_deeds v out how a s b t h) then_cells (slice_set seats j t)) → OneAtATime (run first history) d.events
-  visit_one_at_a_time out (visit.draw opened) (Ledger a) (Ledger b) t h d = turned t d h.stands.x h.stands.role (tt, tt) _ h.seat _ refl h.stands.text _ refl
+  pub visit_one_at_a_time : (out : List (ℕ × Cell)) (how : Visit) (a b : Cell) (t : SeatState) (h : Happens v out how a s b t) {then_cells : List Cell} (d : StandsDone v j history (visit_anonymous_acts v out how a s b t h) then_cells (slice_set seats j t)) → OneAtATime (run first history) d.events
+  visit_one_at_a_time out (visit.assign_id explicit) (Ledger a) (Ledger b) t h d = turned t d h.stands.x h.stands.role (tt, tt) _ h.seat _ refl h.stands.text _ refl
   visit_one_at_a_time out visit.look (Catalog a) (Catalog b) t h d = turned t d h.at.stands.x h.at.stands.role (tt, tt) _ h.seat _ refl h.at.stands.text _ refl
-  visit_one_at_a_time out visit.read_system (Catalog a) (Catalog b) t h d = turned t d h.at.stands.x h.at.stands.role (tt, done_plain h.o.opened h.at.stands.text true _) _ h.seat _ refl h.at.stands.text _ refl
+  visit_one_at_a_time out visit.read_system (Catalog a) (Catalog b) t h d = turned t d h.at.stands.x h.at.stands.role (tt, done_plain h.o.explicit h.at.stands.text true _) _ h.seat _ refl h.at.stands.text _ refl
   visit_one_at_a_time out visit.create_table (Catalog a) (Catalog b) t h d = turned t d h.at.stands.x h.at.stands.role (tt, tt) _ h.seat _ refl h.at.stands.text _ refl
   visit_one_at_a_time out visit.create_index (Catalog a) (Catalog b) t h d = turned t d h.at.stands.x h.at.stands.role (tt, tt) _ h.seat _ refl h.at.stands.text _ refl
   visit_one_at_a_time out visit.refuse_create (Catalog a) (Catalog b) t h d = turned t d h.at.stands.x h.at.stands.role (tt, tt) _ h.seat _ refl h.at.stands.text _ refl
   visit_one_at_a_time out visit.stop_in_catalog (Catalog a) (Catalog b) t h d = turned t d h.0.at.stands.x h.0.at.stands.role (stopped_plain h.0.stopped h.0.at.stands.text (failed_in v.meaning (Some h.0.o) h.0.at.stands.text) (failed_in_plain v.meaning (Some h.0.o) h.0.at.stands.text)) _ h.0.seat _ refl h.0.at.stands.text _ refl
-  visit_one_at_a_time out visit.change (Rows a) (Rows b) t h d = turned t d h.at.at.stands.x h.at.at.stands.role (done_plain h.o.opened h.at.at.stands.text true _) _ h.seat _ refl h.at.at.stands.text _ refl
-  visit_one_at_a_time out visit.refuse_change (Rows a) (Rows b) t h d = turned t d h.at.at.stands.x h.at.at.stands.role (done_plain h.o.opened h.at.at.stands.text true _) _ h.seat _ refl h.at.at.stands.text _ refl
-  visit_one_at_a_time out visit.read (Rows a) (Rows b) t h d = turned t d h.at.at.stands.x h.at.at.stands.role (done_plain h.o.opened h.at.at.stands.text true _) _ h.seat _ refl h.at.at.stands.text _ refl
+  visit_one_at_a_time out visit.change (Rows a) (Rows b) t h d = turned t d h.at.at.stands.x h.at.at.stands.role (done_plain h.o.explicit h.at.at.stands.text true _) _ h.seat _ refl h.at.at.stands.text _ refl
+  visit_one_at_a_time out visit.refuse_change (Rows a) (Rows b) t h d = turned t d h.at.at.stands.x h.at.at.stands.role (done_plain h.o.explicit h.at.at.stands.text true _) _ h.seat _ refl h.at.at.stands.text _ refl
+  visit_one_at_a_time out visit.read (Rows a) (Rows b) t h d = turned t d h.at.at.stands.x h.at.at.stands.role (done_plain h.o.explicit h.at.at.stands.text true _) _ h.seat _ refl h.at.at.stands.text _ refl
   visit_one_at_a_time out visit.stop_in_table (Rows a) (Rows b) t h d = turned t d h.0.at.at.stands.x h.0.at.at.stands.role (stopped_plain h.0.stopped h.0.at.at.stands.text (fails h.0.at.at.stands.text ∷ []) (tt, tt)) _ h.0.seat _ refl h.0.at.at.stands.text _ refl
   visit_one_at_a_time out visit.add_index (Rows a) (Rows b) t h d = none_does v st j s there quiet d.events d.are
   visit_one_at_a_time out visit.undo_to (Rows a) (Rows b) t h d = none_does v st j s there quiet d.events d.are

@@ -2,26 +2,26 @@
 use Rattle.std.proofs.Common.{◌≡◌, ◌≢◌, ℕ, zero, suc, ◌+◌, ◌<◌, ◌≤◌, Bool, true, false, List, [], ◌∷◌, length, Option, None, refl, sym, ap, ◌∙◌, subst, subst₂, inl, inr, ⊎_elim, arith}
 use Rattle.std.specs.Prelude.{◌==◌, if◌then◌else◌}
 use Rattle.std.proofs.lemmas.Bool.{cases_lt, eq-eqb}
-use Rattle.lg_types.specs.declared.journal.JournalItem.{JournalItem}
-use Rattle.lg_history.specs.Inputs.{InputSession}
-use Rattle.lg_history.specs.Lists.{Each, Some_of, At, In}
-use Rattle.lg_history.specs.Agree.{Agree}
-use Rattle.lg_history.specs.Acts.{SessionAct, Act, by, closes, of}
-use Rattle.lg_history.specs.Digests.{Digest}
-use Rattle.lg_history.specs.Guards.{AtRest}
-use Rattle.lg_history.specs.Histories.{AreOf, SessionsBelow, SetupRan}
-use Rattle.lg_history.specs.Sessions.{SessionState, gone, unborn, transcript_of}
-use Rattle.lg_history.specs.Transactions.{listed}
-use Rattle.lg_history.specs.Transcripts.{Transcript}
-use Rattle.lg_history.specs.Worlds.{first, run}
-use Rattle.lg_history.proofs.Agreed.{agrees}
-use Rattle.lg_history.proofs.Settles.{in_append}
-use Rattle.lg_standing.specs.AtTheEnd.{AllRest, IsWritten, AreWritten, NamesDiffer, SessionsDiffer, WroteAt}
-use Rattle.lg_standing.specs.Cells.{Cell}
-use Rattle.lg_standing.specs.Parts.{Numbers, Past}
-use Rattle.lg_standing.specs.Seats.{SeatState, Written}
-use Rattle.lg_standing.specs.Server.{Server}
-use Rattle.lg_standing.specs.StandTogether.{History, Stands}
+use Rattle.sql_types.specs.declared.journal.JournalItem.{JournalItem}
+use Rattle.spec_history.specs.Inputs.{InputSession}
+use Rattle.spec_history.specs.Lists.{Each, Some_of, At, In}
+use Rattle.spec_history.specs.Agree.{Agree}
+use Rattle.spec_history.specs.Acts.{SessionAct, Act, by, closes, of}
+use Rattle.spec_history.specs.Digests.{Digest}
+use Rattle.spec_history.specs.Guards.{AtRest}
+use Rattle.spec_history.specs.Histories.{AreOf, SessionsBelow, SetupRan}
+use Rattle.spec_history.specs.Sessions.{SessionState, gone, unborn, transcript_of}
+use Rattle.spec_history.specs.Transactions.{listed}
+use Rattle.spec_history.specs.Transcripts.{Transcript}
+use Rattle.spec_history.specs.Worlds.{first, run}
+use Rattle.spec_history.proofs.Agreed.{agrees}
+use Rattle.spec_history.proofs.Settles.{in_append}
+use Rattle.spec_protocol.specs.AtTheEnd.{AllRest, IsWritten, AreWritten, NamesDiffer, SessionsDiffer, WroteAt}
+use Rattle.spec_protocol.specs.Cells.{Cell}
+use Rattle.spec_protocol.specs.Parts.{Numbers, Past}
+use Rattle.spec_protocol.specs.Seats.{SeatState, Written}
+use Rattle.spec_protocol.specs.Server.{Server}
+use Rattle.spec_protocol.specs.StandTogether.{History, Stands}
 use Rattle.law_protocol_ledger.proofs.GoneFree.{gone_rests}
 use Rattle.law_protocol_ledger.proofs.JoinsStand.{rests_none}
 use Rattle.law_protocol_ledger.proofs.NoneWanting.{past_over}
@@ -45,14 +45,14 @@ so_many at n zero = refl
 so_many at n (suc m) = ap suc (so_many at (suc n) m)
 
 -- the one at a place
-pub record StandsAt (at : ℕ → SessionState) (n m i : ℕ) (x : Transcript) : Type 0 where
+pub record TranscriptAt (at : ℕ → SessionState) (n m i : ℕ) (x : Transcript) : Type 0 where
   pub number : ℕ
   pub nth : number ≡ n + i
   pub least : n ≤ number
   pub most : number < n + m
   pub is : transcript_of (at number) ≡ x
 
-at_place : (at : ℕ → SessionState) (n m i : ℕ) (x : Transcript) → At (transcripts_from at n m) i x → StandsAt at n m i x
+at_place : (at : ℕ → SessionState) (n m i : ℕ) (x : Transcript) → At (transcripts_from at n m) i x → TranscriptAt at n m i x
 at_place at n zero i x e = absurd e
 at_place at n (suc m) zero x e = record { number = n; nth = omega arith; least = omega arith; most = omega arith; is = e }
 at_place at n (suc m) (suc i) x e = let w = at_place at (suc n) m i x e in let l = w.least in let k = w.most in let c = w.nth in record { number = w.number; nth = omega arith; least = omega arith; most = omega arith; is = w.is }

@@ -3,17 +3,17 @@
 ghost use Rattle.std.specs.Prelude.{◌≡◌, ◌≢◌, ◌<◌, ◌≤◌, ◌++◌, ℕ, List, [], ◌∷◌, slice_set};
 ghost use mathlib.Core.Option.{some};
 ghost use lib.ListN.{get_elem?};
-ghost use Rattle.lg_model.specs.Limits.{max_block};
-ghost use Rattle.lg_history.specs.Lists.{Text};
-ghost use Rattle.lg_standing.specs.Server.{Server};
-ghost use Rattle.lg_standing.specs.Cells.{Cell, first_cells};
-ghost use Rattle.lg_standing.specs.Seats.{SeatState, kept, split, joined, nobody, may_end};
-ghost use Rattle.lg_standing.specs.May.{May, OutsStand, first_seat};
-ghost use Rattle.lg_standing.specs.StandTogether.{StandTogether};
+ghost use Rattle.spec_model.specs.Limits.{max_block};
+ghost use Rattle.spec_history.specs.Lists.{Text};
+ghost use Rattle.spec_protocol.specs.Server.{Server};
+ghost use Rattle.spec_protocol.specs.Cells.{Cell, first_cells};
+ghost use Rattle.spec_protocol.specs.Seats.{SeatState, kept, split, joined, nobody, may_end};
+ghost use Rattle.spec_protocol.specs.AllowedVisit.{AllowedVisit, OutsAreIn, first_seat};
+ghost use Rattle.spec_protocol.specs.StandTogether.{StandTogether};
 
 /// Cells and seats that stand together, from the first cells and the first seat on: a visit that a seat may
 /// make keeps them so, a split does, and a join of a seat that may end. With `StandTogether v` as what
-/// stands, `May v` as what a seat may do, `first_seat` of `May`, and `kept`, `split`, `may_end`, `joined` and
+/// stands, `AllowedVisit v` as what a seat may do, `first_seat` of `AllowedVisit`, and `kept`, `split`, `may_end`, `joined` and
 /// `nobody` of `Seats`, these are the premises of a board's world, each in its form, for a world whose cells
 /// are these.
 pub fn cells_and_seats_are_a_world()
@@ -21,7 +21,7 @@ pub fn cells_and_seats_are_a_world()
         → StandTogether v (first_cells database size) (first_seat (first_cells database size) ∷ []) }
     ensures visits { (v : Server) (cells : List Cell) (seats : List SeatState) (j : ℕ) (s : SeatState)
         (out : List (ℕ × Cell)) (i : ℕ) (c : Cell) (t : SeatState)
-        → StandTogether v cells seats → get_elem? seats j ≡ some s → OutsStand cells out → May v s out i c t
+        → StandTogether v cells seats → get_elem? seats j ≡ some s → OutsAreIn cells out → AllowedVisit v s out i c t
         → StandTogether v (slice_set cells i c) (slice_set seats j t) }
     ensures splits { (v : Server) (cells : List Cell) (seats : List SeatState) (j : ℕ) (s : SeatState) (n : ℕ)
         → StandTogether v cells seats → get_elem? seats j ≡ some s → 0 < n

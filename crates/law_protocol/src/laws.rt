@@ -3,40 +3,40 @@
 ghost use Rattle.std.specs.Prelude.{◌≡◌, ◌≢◌, ◌≤◌, ◌++◌, ℕ, false, List, [], ◌∷◌, Option, Some, length, slice_set, map};
 ghost use mathlib.Core.Option.{some};
 ghost use lib.ListN.{get_elem?};
-ghost use Rattle.lg_types.specs.declared.lock.Hold.{Hold};
-ghost use Rattle.lg_model.specs.LegalJournals.{IsLegalJournal};
-ghost use Rattle.lg_model.specs.Limits.{max_block};
-ghost use Rattle.lg_standing.specs.JournalForms.{HaveForms, journal_in};
-ghost use Rattle.lg_model.specs.Locks.{wants_conflict};
-ghost use Rattle.lg_history.specs.Lists.{Text, Each, At, In};
-ghost use Rattle.lg_history.specs.Worlds.{first, run};
-ghost use Rattle.lg_history.specs.SoFar.{AgreeSoFar};
-ghost use Rattle.lg_history.specs.Agree.{Agree};
-ghost use Rattle.lg_history.specs.Digests.{Digest};
-ghost use Rattle.lg_history.specs.Meaning.{Meaning};
-ghost use Rattle.lg_types.specs.declared.journal.JournalItem.{JournalItem};
-ghost use Rattle.lg_standing.specs.Reordered.{InOrderOf, IsPlan, Reordered, moved};
-ghost use Rattle.lg_history.specs.Inputs.{InputSession};
-ghost use Rattle.lg_history.specs.Histories.{ClosesInStep, Due, EndsComeLast, HasItsName, OneAtATime, SetupRan};
-ghost use Rattle.lg_history.specs.Transcripts.{Transcript};
-ghost use Rattle.lg_standing.specs.AtTheEnd.{AllRest, AreWritten, HasItsImages, NamesDiffer, SessionsDiffer, WasKnown};
-ghost use Rattle.lg_standing.specs.Server.{Server};
-ghost use Rattle.lg_standing.specs.Cells.{Cell, first_cells, holds_at};
-ghost use Rattle.lg_standing.specs.Contents.{contents};
-ghost use Rattle.lg_standing.specs.LocksAreWanted.{LocksAreWanted};
-ghost use Rattle.lg_standing.specs.LocksDecideIn.{LocksDecideIn};
-ghost use Rattle.lg_standing.specs.StepOrderThen.{KeepsStepOrder};
-ghost use Rattle.lg_standing.specs.SeatNames.{OthersDiffer};
-ghost use Rattle.lg_standing.specs.Seats.{SeatState};
-ghost use Rattle.lg_standing.specs.May.{May, OutsStand, first_seat};
-ghost use Rattle.lg_standing.specs.Steps.{Steps};
-ghost use Rattle.lg_standing.specs.OneByOne.{OneByOne};
-ghost use Rattle.lg_standing.specs.Deeds.{deed, did, may_deeds, steps_deeds, visit_deeds};
-ghost use Rattle.lg_standing.specs.Follows.{BeginInTurn, Follows, alone_lines, may_lines, names_begun, steps_lines};
-ghost use Rattle.lg_standing.specs.ActsOf.{alone_acts};
-ghost use Rattle.lg_standing.specs.Alone.{Alone};
-ghost use Rattle.lg_standing.specs.Visits.{Happens, Visit};
-ghost use Rattle.lg_standing.specs.StandTogether.{History, IsOfSeat, LocksAskedFor, Stands, StandsLater, StandsNext, StandTogether};
+ghost use Rattle.sql_types.specs.declared.lock.Hold.{Hold};
+ghost use Rattle.spec_model.specs.LegalJournals.{IsLegalJournal};
+ghost use Rattle.spec_model.specs.Limits.{max_block};
+ghost use Rattle.spec_protocol.specs.JournalForms.{HaveForms, journal_in};
+ghost use Rattle.spec_model.specs.Locks.{requests_conflict};
+ghost use Rattle.spec_history.specs.Lists.{Text, Each, At, In};
+ghost use Rattle.spec_history.specs.Worlds.{first, run};
+ghost use Rattle.spec_history.specs.SoFar.{AgreeSoFar};
+ghost use Rattle.spec_history.specs.Agree.{Agree};
+ghost use Rattle.spec_history.specs.Digests.{Digest};
+ghost use Rattle.spec_history.specs.Meaning.{Meaning};
+ghost use Rattle.sql_types.specs.declared.journal.JournalItem.{JournalItem};
+ghost use Rattle.spec_protocol.specs.Reordered.{InOrderOf, IsSessionOrder, Reordered, moved};
+ghost use Rattle.spec_history.specs.Inputs.{InputSession};
+ghost use Rattle.spec_history.specs.Histories.{ClosesInStep, Due, EndsComeLast, HasItsName, OneAtATime, SetupRan};
+ghost use Rattle.spec_history.specs.Transcripts.{Transcript};
+ghost use Rattle.spec_protocol.specs.AtTheEnd.{AllRest, AreWritten, HasItsImages, NamesDiffer, SessionsDiffer, WasKnown};
+ghost use Rattle.spec_protocol.specs.Server.{Server};
+ghost use Rattle.spec_protocol.specs.Cells.{Cell, first_cells, holds_at};
+ghost use Rattle.spec_protocol.specs.Contents.{contents};
+ghost use Rattle.spec_protocol.specs.LocksAreRequested.{LocksAreRequested};
+ghost use Rattle.spec_protocol.specs.LocksDecideIn.{LocksDecideIn};
+ghost use Rattle.spec_protocol.specs.StepOrderThen.{KeepsStepOrder};
+ghost use Rattle.spec_protocol.specs.SeatNames.{OthersDiffer};
+ghost use Rattle.spec_protocol.specs.Seats.{SeatState};
+ghost use Rattle.spec_protocol.specs.AllowedVisit.{AllowedVisit, OutsAreIn, first_seat};
+ghost use Rattle.spec_protocol.specs.Steps.{Steps};
+ghost use Rattle.spec_protocol.specs.OneByOne.{OneByOne};
+ghost use Rattle.spec_protocol.specs.AnonymousActs.{anonymous_act, did, may_anonymous_acts, steps_anonymous_acts, visit_anonymous_acts};
+ghost use Rattle.spec_protocol.specs.Follows.{BeginInTurn, Follows, alone_lines, may_lines, names_begun, steps_lines};
+ghost use Rattle.spec_protocol.specs.ActsOf.{alone_acts};
+ghost use Rattle.spec_protocol.specs.Alone.{Alone};
+ghost use Rattle.spec_protocol.specs.Visits.{Happens, Visit};
+ghost use Rattle.spec_protocol.specs.StandTogether.{History, IsOfSeat, LocksAskedFor, Stands, StandsLater, StandsNext, StandTogether};
 
 /// The cells at the beginning and the first seat stand together, and nothing has happened; no lock is there
 /// that anybody would have to ask for or want.
@@ -47,15 +47,15 @@ pub fn first_cells_stand()
         → (st : Stands v [] (first_cells database size) (first_seat (first_cells database size) ∷ []))
         → LocksAskedFor st }
     ensures wanted { (v : Server) (database : Text) (size : ℕ)
-        → LocksAreWanted v (contents (first_cells database size)) (first_seat (first_cells database size) ∷ []) }
+        → LocksAreRequested v (contents (first_cells database size)) (first_seat (first_cells database size) ∷ []) }
 {}
 
 /// Where cells and seats stand together, no cell has conflicting locks of two transactions.
-pub fn conflicting_locks_dont_stand()
+pub fn conflicting_locks_are_not_held()
     ensures { (v : Server) (history : History) (cells : List Cell) (seats : List SeatState)
         → Stands v history cells seats
         → (i : ℕ) (a b : Hold) → In a (holds_at cells i) → In b (holds_at cells i) → a.tx ≢ b.tx
-        → wants_conflict a.want b.want ≡ false }
+        → requests_conflict a.request b.request ≡ false }
 {}
 
 /// There the rules of agreement hold of all that the sessions have shown so far.
@@ -105,16 +105,16 @@ pub fn agreement_is_of_any_order()
         → Agree q database input setup X J G
         → (then_input : List InputSession) (then_X : List Transcript) (to : ℕ → ℕ)
         → Reordered input X then_input then_X to → Agree q database then_input (moved to setup) then_X J G }
-    ensures plan { (input : List InputSession) (X : List Transcript) (names : List Text)
-        → length input ≡ length X → IsPlan names X → InOrderOf names input X }
+    ensures session_order { (input : List InputSession) (X : List Transcript) (names : List Text)
+        → length input ≡ length X → IsSessionOrder names X → InOrderOf names input X }
 {}
 
 /// So the transcripts that the seats wrote agree, numbered in the order of a plan of their names, once no
 /// session runs.
-pub fn transcripts_agree_in_the_order_of_a_plan()
+pub fn transcripts_agree_in_a_session_order()
     ensures { (v : Server) (history : History) (cells : List Cell) (seats : List SeatState)
         → (s : Stands v history cells seats) → (input : List InputSession) (X : List Transcript)
-        → AreWritten history seats input X → SessionsDiffer X → (names : List Text) → IsPlan names X
+        → AreWritten history seats input X → SessionsDiffer X → (names : List Text) → IsSessionOrder names X
         → (o : InOrderOf names input X) × ((setup : Option ℕ) → SetupRan setup history
         → Agree v.meaning s.ledger.database o.then_input (moved o.to setup) o.then_X s.ledger.items
         s.ledger.issued) }
@@ -134,15 +134,15 @@ pub fn what_seats_knew_tells_setup()
 /// locks decide in it where it takes one statement after another.
 pub fn one_step_keeps_standing()
     ensures visits { (v : Server) (history : History) (cells : List Cell) (seats : List SeatState)
-        → (st : Stands v history cells seats) → LocksAskedFor st → LocksAreWanted v (contents cells) seats
+        → (st : Stands v history cells seats) → LocksAskedFor st → LocksAreRequested v (contents cells) seats
         → (j : ℕ) (s : SeatState) → get_elem? seats j ≡ some s
-        → (out : List (ℕ × Cell)) → OutsStand cells out
+        → (out : List (ℕ × Cell)) → OutsAreIn cells out
         → (visit : Visit) (i : ℕ) (c d : Cell) (t : SeatState) → get_elem? cells i ≡ some c
         → (w : Happens v out visit c s d t)
-        → StandsNext v j history (visit_deeds v out visit c s d t w) [] (slice_set cells i d)
+        → StandsNext v j history (visit_anonymous_acts v out visit c s d t w) [] (slice_set cells i d)
         (slice_set seats j t) }
     ensures alone { (v : Server) (history : History) (cells : List Cell) (seats : List SeatState)
-        → (st : Stands v history cells seats) → LocksAskedFor st → LocksAreWanted v (contents cells) seats
+        → (st : Stands v history cells seats) → LocksAskedFor st → LocksAreRequested v (contents cells) seats
         → (j : ℕ) (s t : SeatState) → get_elem? seats j ≡ some s → (step : Alone v s t)
         → StandsNext v j history (map did (alone_acts step)) (alone_lines step) cells (slice_set seats j t) }
 {}
@@ -153,23 +153,23 @@ pub fn one_step_keeps_standing()
 /// their statements; and where it takes one statement after another, locks decide in them.
 pub fn what_a_seat_may_do_keeps_standing()
     ensures { (v : Server) (history : History) (cells : List Cell) (seats : List SeatState)
-        → (st : Stands v history cells seats) → LocksAskedFor st → LocksAreWanted v (contents cells) seats
+        → (st : Stands v history cells seats) → LocksAskedFor st → LocksAreRequested v (contents cells) seats
         → (j : ℕ) (s : SeatState) → get_elem? seats j ≡ some s
-        → (out : List (ℕ × Cell)) → OutsStand cells out
-        → (i : ℕ) (c : Cell) (t : SeatState) → (may : May v s out i c t)
-        → StandsLater st (may_deeds may) (may_lines may) (slice_set cells i c) (slice_set seats j t) }
+        → (out : List (ℕ × Cell)) → OutsAreIn cells out
+        → (i : ℕ) (c : Cell) (t : SeatState) → (may : AllowedVisit v s out i c t)
+        → StandsLater st (may_anonymous_acts may) (may_lines may) (slice_set cells i c) (slice_set seats j t) }
 {}
 
 /// And where no other seat has a session of the name of one of its own, all that a seat does in this way its
 /// own sessions do.
 pub fn what_a_seat_does_its_sessions_do()
     ensures { (v : Server) (history : History) (cells : List Cell) (seats : List SeatState)
-        → (st : Stands v history cells seats) → LocksAskedFor st → LocksAreWanted v (contents cells) seats
+        → (st : Stands v history cells seats) → LocksAskedFor st → LocksAreRequested v (contents cells) seats
         → (j : ℕ) (s : SeatState) → get_elem? seats j ≡ some s
-        → (out : List (ℕ × Cell)) → OutsStand cells out
-        → (i : ℕ) (c : Cell) (t : SeatState) → (may : May v s out i c t)
+        → (out : List (ℕ × Cell)) → OutsAreIn cells out
+        → (i : ℕ) (c : Cell) (t : SeatState) → (may : AllowedVisit v s out i c t)
         → OthersDiffer (slice_set seats j t) j
-        → (w : StandsLater st (may_deeds may) (may_lines may) (slice_set cells i c) (slice_set seats j t))
+        → (w : StandsLater st (may_anonymous_acts may) (may_lines may) (slice_set cells i c) (slice_set seats j t))
         × Each (IsOfSeat w.stands.transcripts_agree.owner j) w.events }
 {}
 
@@ -179,10 +179,10 @@ pub fn what_a_seat_does_its_sessions_do()
 /// them.
 pub fn all_steps_keep_standing()
     ensures { (v : Server) (history : History) (cells : List Cell) (seats : List SeatState)
-        → (st : Stands v history cells seats) → LocksAskedFor st → LocksAreWanted v (contents cells) seats
+        → (st : Stands v history cells seats) → LocksAskedFor st → LocksAreRequested v (contents cells) seats
         → (then_cells : List Cell) (then_seats : List SeatState)
         → (steps : Steps v cells seats then_cells then_seats)
-        → StandsLater st (steps_deeds steps) (steps_lines steps) then_cells then_seats }
+        → StandsLater st (steps_anonymous_acts steps) (steps_lines steps) then_cells then_seats }
 {}
 
 /// So they stand together whatever happened since the first cells, and what the sessions have shown so far
@@ -205,12 +205,12 @@ pub fn whatever_happens_agrees()
 /// each by one seat while all others are between statements, it takes one statement after another. Where it
 /// does, and ends its sessions behind the last and closes blocks in step, the transcripts that the seats
 /// wrote are one list in the order of these lines, and in it E20 comes exactly where a lock is in the way,
-/// with the least holder, unless it is E30.
+/// with the least holder, unless it is NoMemory.
 pub fn one_statement_after_another_keeps_step_order()
     ensures { (v : Server) (database : Text) (size : ℕ) → 1 ≤ size → size ≤ max_block
         → (cells : List Cell) (seats : List SeatState)
         → (steps : Steps v (first_cells database size) (first_seat (first_cells database size) ∷ []) cells seats)
-        → (s : StandTogether v cells seats) × (map deed s.history ≡ steps_deeds steps)
+        → (s : StandTogether v cells seats) × (map anonymous_act s.history ≡ steps_anonymous_acts steps)
         × Follows first s.history (steps_lines steps)
         × (OneByOne steps → OneAtATime first s.history)
         × KeepsStepOrder v s.history seats s.stands.ledger.items }
@@ -222,7 +222,7 @@ pub fn transcripts_are_in_the_order_of_their_beginnings()
     ensures { (v : Server) (history : History) (cells : List Cell) (seats : List SeatState)
         → Stands v history cells seats → BeginInTurn first history
         → (input : List InputSession) (X : List Transcript) → AreWritten history seats input X
-        → map (λ x. x.session) X ≡ names_begun (map deed history) }
+        → map (λ x. x.session) X ≡ names_begun (map anonymous_act history) }
 {}
 
 /// Locks decide in two parts of a history if they do in each; and where they decide in all of it, what the
@@ -239,8 +239,8 @@ pub fn locks_that_decide_keep_step_order()
 
 /// Whether sessions end behind the last statement, and blocks are closed in step, the deeds of a history
 /// tell: where one does so, so does each with the same deeds.
-pub fn deeds_tell_ends_and_closings()
-    ensures ends { (h g : History) → map deed h ≡ map deed g → EndsComeLast first h → EndsComeLast first g }
-    ensures closings { (h g : History) → map deed h ≡ map deed g → (N : ℕ) (due : Due)
+pub fn anonymous_acts_tell_ends_and_closings()
+    ensures ends { (h g : History) → map anonymous_act h ≡ map anonymous_act g → EndsComeLast first h → EndsComeLast first g }
+    ensures closings { (h g : History) → map anonymous_act h ≡ map anonymous_act g → (N : ℕ) (due : Due)
         → ClosesInStep N due h → ClosesInStep N due g }
 {}

@@ -4,38 +4,38 @@ use Rattle.std.proofs.lemmas.Bool.{cases_eq}
 use Rattle.std.specs.Prelude.{not}
 use mathlib.Core.Option.{some}
 use lib.ListN.{get_elem?}
-use Rattle.lg_types.specs.declared.lock.Mode.TheVariants as mode
-use Rattle.lg_types.specs.declared.lock.Want.{Want}
-use Rattle.lg_types.specs.declared.statement.Stmt.{Stmt}
-use Rattle.lg_types.specs.declared.version.Version.{Version}
-use Rattle.lg_model.specs.Keys.{Key, of_key, same_key, version_key}
-use Rattle.lg_model.specs.Catalog.{Tables, defs_of, versions_of}
-use Rattle.lg_model.specs.Locks.{catalog_want, whole, wants_conflict}
-use Rattle.lg_model.specs.Agreement.{columns_at}
-use Rattle.lg_model.specs.Reach.{lets_change}
-use Rattle.lg_model.specs.Runs.{MadeBefore}
-use Rattle.lg_model.specs.ScriptWants.{text_wants}
-use Rattle.lg_model.specs.Undo.{versions_undone}
-use Rattle.lg_frames.proofs.Alls.{all_filter}
-use Rattle.lg_frames.proofs.AtTable.{before_at}
-use Rattle.lg_frames.proofs.UndoneVersions.{nothing_undone}
-use Rattle.lg_history.specs.Lists.{Text, In}
-use Rattle.lg_history.specs.Transactions.{unfixed}
-use Rattle.lg_standing.specs.Server.{Server}
-use Rattle.lg_types.specs.declared.lock.Hold.{Hold}
-use Rattle.lg_standing.specs.Cells.{CatalogCell, TableCell, Cell, Catalog, Rows, holds_at, versions_at, catalog_at, cell_of}
-use Rattle.lg_standing.specs.Seats.{OpenTransaction, begun, Place, inside, Session, session, SeatState}
-use Rattle.lg_standing.specs.OpenOnes.{HasOpen, text_at, lines_at, script_so_far, script_end}
-use Rattle.lg_standing.specs.OpenScripts.{counted}
-use Rattle.lg_standing.specs.TableVisits.{with_holds}
-use Rattle.lg_standing.specs.Moves.{visiting, at_place, sits}
-use Rattle.lg_standing.specs.WantsIn.{of_catalog}
+use Rattle.sql_types.specs.declared.lock.Mode.TheVariants as mode
+use Rattle.sql_types.specs.declared.lock.LockRequest.{LockRequest}
+use Rattle.sql_types.specs.declared.statement.Stmt.{Stmt}
+use Rattle.sql_types.specs.declared.version.Version.{Version}
+use Rattle.spec_model.specs.Keys.{Key, of_key, same_key, version_key}
+use Rattle.spec_model.specs.Catalog.{Tables, defs_of, versions_of}
+use Rattle.spec_model.specs.Locks.{catalog_request, whole, requests_conflict}
+use Rattle.spec_model.specs.Agreement.{columns_at}
+use Rattle.spec_model.specs.Reach.{lets_change}
+use Rattle.spec_model.specs.Runs.{MadeBefore}
+use Rattle.spec_model.specs.ScriptRequests.{text_requests}
+use Rattle.spec_model.specs.Undo.{versions_undone}
+use Rattle.law_frame.proofs.Alls.{all_filter}
+use Rattle.law_frame.proofs.AtTable.{before_at}
+use Rattle.law_frame.proofs.UndoneVersions.{nothing_undone}
+use Rattle.spec_history.specs.Lists.{Text, In}
+use Rattle.spec_history.specs.Transactions.{unfixed}
+use Rattle.spec_protocol.specs.Server.{Server}
+use Rattle.sql_types.specs.declared.lock.Hold.{Hold}
+use Rattle.spec_protocol.specs.Cells.{CatalogCell, TableCell, Cell, Catalog, Rows, holds_at, versions_at, catalog_at, cell_of}
+use Rattle.spec_protocol.specs.Seats.{OpenTransaction, begun, SessionStatus, inside, Session, session, SeatState}
+use Rattle.spec_protocol.specs.OpenOnes.{HasOpen, text_at, lines_at, script_so_far, script_end}
+use Rattle.spec_protocol.specs.OpenScripts.{counted}
+use Rattle.spec_protocol.specs.TableVisits.{with_holds}
+use Rattle.spec_protocol.specs.Moves.{visiting, at_place, sits}
+use Rattle.spec_protocol.specs.RequestsIn.{of_catalog}
 use Rattle.law_protocol_steps.proofs.Taken.{taken, AreFree}
-use Rattle.lg_standing.specs.TablesAreSerial.{HasAdded}
-use Rattle.lg_standing.specs.LocksCover.{IsDropping, LookedFirst}
-use Rattle.lg_standing.specs.RowsAgree.{IsOpenedAt}
-use Rattle.lg_standing.specs.CatalogVisits as c
-use Rattle.lg_standing.specs.StandTogether.{History, Stands}
+use Rattle.spec_protocol.specs.TablesAreSerial.{HasAdded}
+use Rattle.spec_protocol.specs.LocksCover.{IsDropping, LookedFirst}
+use Rattle.spec_protocol.specs.RowsAgree.{IsExplicitAt}
+use Rattle.spec_protocol.specs.CatalogVisits as c
+use Rattle.spec_protocol.specs.StandTogether.{History, Stands}
 use Rattle.law_protocol_steps.proofs.AfterSet.{set_here, set_else, each_at}
 use Rattle.law_protocol_steps.proofs.CellsAfter.{catalog_changed, held_here}
 use Rattle.law_protocol_steps.proofs.CatalogAlone.{on_all}
@@ -56,8 +56,8 @@ pub record Exclusive (v : Server) (cells : List Cell) (seats : List SeatState) {
   pub place : x.place ≡ inside text begun
   pub out : get_elem? cells catalog_at ≡ some (Catalog old)
   pub is : v.reads text ≡ Some stmt
-  pub alone : o.opened ≡ false
-  pub wanted : catalog_want false stmt ≡ Some mode.X
+  pub alone : o.explicit ≡ false
+  pub wanted : catalog_request false stmt ≡ Some mode.X
   pub free : AreFree old.holds o.id (whole mode.X ∷ [])
 
 module _ (v : Server) (cells : List Cell) (seats : List SeatState) {history : History} (S : Stands v history cells seats) (j : ℕ) (s : SeatState) (x : Session) (o : OpenTransaction) (text : Text) (stmt : Stmt) (old : CatalogCell) (K : Exclusive v cells seats S j s x o text stmt old) where
@@ -86,36 +86,36 @@ module _ (v : Server) (cells : List Cell) (seats : List SeatState) {history : Hi
   is_catalog = let e : some (Catalog old) ≡ some (Catalog S.catalog) = sym K.out ∙ S.are_cells.has_catalog in cc
 
   same : IsSame x o then_session then_open
-  same = record { id = refl; opened = refl; script = refl; seq = refl; trees = refl; frames = refl; end = refl; lines = refl; text = refl; counts = λ tx id vs. refl; visited = λ i h. put_keeps catalog_at i o.visited h; released = refl }
+  same = record { id = refl; explicit = refl; script = refl; seq = refl; trees = refl; open_savepoints = refl; end = refl; lines = refl; text = refl; counts = λ tx id vs. refl; visited = λ i h. put_keeps catalog_at i o.visited h; released = refl }
 
-  wants_here : of_catalog (text_wants (defs_of T) o.opened (v.reads text)).catalog ≡ whole mode.X ∷ []
-  wants_here = ap (λ (q : Option Stmt). of_catalog (text_wants (defs_of T) o.opened q).catalog) K.is ∙ ap (λ (b : Bool). of_catalog (catalog_want b stmt)) K.alone ∙ ap of_catalog K.wanted
+  requests_here : of_catalog (text_requests (defs_of T) o.explicit (v.reads text)).catalog ≡ whole mode.X ∷ []
+  requests_here = ap (λ (q : Option Stmt). of_catalog (text_requests (defs_of T) o.explicit q).catalog) K.is ∙ ap (λ (b : Bool). of_catalog (catalog_request b stmt)) K.alone ∙ ap of_catalog K.wanted
 
   -- nobody else has any lock there
   none_else : (h : Hold) → In h (holds_at cells catalog_at) → h.tx ≡ o.id
   none_else h has = ⊎_elim (λ (e : h.tx ≡ o.id). e)
       (λ (ne : h.tx ≢ o.id).
-      let no : wants_conflict (whole mode.X) h.want ≡ false = each_at (λ (g : Hold). g.tx ≢ o.id → wants_conflict (whole mode.X) g.want ≡ false) old.holds h K.free.0 (subst (In h) (held_here cells catalog_at (Catalog old) (Catalog old) K.out) has) ne in
-      let yes : wants_conflict (whole mode.X) h.want ≡ true = on_all h.want (S.locks_cover.on_whole h has) in cc)
+      let no : requests_conflict (whole mode.X) h.request ≡ false = each_at (λ (g : Hold). g.tx ≢ o.id → requests_conflict (whole mode.X) g.request ≡ false) old.holds h K.free.0 (subst (In h) (held_here cells catalog_at (Catalog old) (Catalog old) K.out) has) ne in
+      let yes : requests_conflict (whole mode.X) h.request ≡ true = on_all h.request (S.locks_cover.on_whole h has) in cc)
       (cases_eq h.tx o.id)
 
   no_count : (id : ℕ) (vs : List Version) → counted o.id id x.place vs ≡ vs
-  no_count id vs = ap (λ (q : Place). counted o.id id q vs) K.place
+  no_count id vs = ap (λ (q : SessionStatus). counted o.id id q vs) K.place
 
   whole_script : script_so_far x o ≡ o.script
-  whole_script = ap (λ (q : Place). o.script ++ lines_at q) K.place ∙ append-nil o.script
+  whole_script = ap (λ (q : SessionStatus). o.script ++ lines_at q) K.place ∙ append-nil o.script
 
-  not_free : (id : ℕ) (key : Key) → cell_of id ≡ catalog_at → HasNoX (holds_at cells (cell_of id)) o.id key → (h : Hold) → In h (holds_at cells (cell_of id)) → lets_change key h.want ≡ true → in_journal S.ledger.items (h.tx, 0) ≡ true
-  not_free id key e free h has r = let m = none_else h (subst (λ (n : ℕ). In h (holds_at cells n)) e has) in let z : lets_change key h.want ≡ false = free h has m in cc
+  not_free : (id : ℕ) (key : Key) → cell_of id ≡ catalog_at → HasNoX (holds_at cells (cell_of id)) o.id key → (h : Hold) → In h (holds_at cells (cell_of id)) → lets_change key h.request ≡ true → in_journal S.ledger.items (h.tx, 0) ≡ true
+  not_free id key e free h has r = let m = none_else h (subst (λ (n : ℕ). In h (holds_at cells n)) e has) in let z : lets_change key h.request ≡ false = free h has m in cc
 
-  own : (id : ℕ) (key : Key) (w : Want) → 1 ≤ id → cell_of id ≡ catalog_at → In w (whole mode.X ∷ []) → lets_change key w ≡ true
+  own : (id : ℕ) (key : Key) (w : LockRequest) → 1 ≤ id → cell_of id ≡ catalog_at → In w (whole mode.X ∷ []) → lets_change key w ≡ true
       → counted o.id id x.place (of_key (columns_at (defs_of T) id) key (versions_at cells id)) ≡ of_key (columns_at (defs_of T) id) key (versions_of (script_end v T x o).state.tables id)
   own id key w l e is q = ⊎_elim
       (λ (k : HasX (holds_at cells (cell_of id)) o.id key). S.rows_agree.own j x o has_open K.unfixed id key l k.hold k.has k.mine k.reaches)
       (λ (free : HasNoX (holds_at cells (cell_of id)) o.id key). no_count id _ ∙ S.rows_agree.free id key l (not_free id key e free) ∙ ap (λ (U : Tables). of_key (columns_at (defs_of T) id) key (versions_of U id)) (sym (end_alone v cells seats S j x o has_open K.unfixed whole_script K.alone)))
       (has_x_or_not (holds_at cells (cell_of id)) o.id key)
 
-  undone : (id : ℕ) (key : Key) (w : Want) → 1 ≤ id → cell_of id ≡ catalog_at → In w (whole mode.X ∷ []) → lets_change key w ≡ true
+  undone : (id : ℕ) (key : Key) (w : LockRequest) → 1 ≤ id → cell_of id ≡ catalog_at → In w (whole mode.X ∷ []) → lets_change key w ≡ true
       → versions_undone o.id 0 (of_key (columns_at (defs_of T) id) key (versions_at cells id)) ≡ of_key (columns_at (defs_of T) id) key (versions_of T id)
   undone id key w l e is q = ⊎_elim
       (λ (k : HasX (holds_at cells (cell_of id)) o.id key). ap (λ (n : ℕ). versions_undone n 0 (of_key (columns_at (defs_of T) id) key (versions_at cells id))) (sym k.mine)
@@ -135,12 +135,12 @@ module _ (v : Server) (cells : List Cell) (seats : List SeatState) {history : Hi
     locks = refl;
     free = K.free;
     place = ap text_at K.place;
-    on_whole = λ e w i. ⊎_elim (λ (f : whole mode.X ≡ w). ap (λ (u : Want). u.item) (sym f)) (λ (z : ⊥). absurd z) i;
+    on_whole = λ e w i. ⊎_elim (λ (f : whole mode.X ≡ w). ap (λ (u : LockRequest). u.item) (sym f)) (λ (z : ⊥). absurd z) i;
     visited = put_there catalog_at o.visited;
     acted = λ h. h;
-    goes_on = λ h. subst (λ (q : Place). IsDropping q then_open) K.place h;
-    no_index = λ after h. subst (λ (q : Place). HasAdded q o after) K.place h;
-    stays_opened = subst (λ (q : Place). IsOpenedAt q o.opened) (sym K.place) tt;
+    goes_on = λ h. subst (λ (q : SessionStatus). IsDropping q then_open) K.place h;
+    no_index = λ after h. subst (λ (q : SessionStatus). HasAdded q o after) K.place h;
+    stays_opened = subst (λ (q : SessionStatus). IsExplicitAt q o.explicit) (sym K.place) tt;
     looked = λ i e. absurd (omega arith);
     intents = λ w i m. (whole mode.X, inl refl, refl, inr refl);
     own = own;
@@ -168,7 +168,7 @@ module _ (v : Server) (cells : List Cell) (seats : List SeatState) {history : Hi
         (λ h. absurd (subst LookedFirst K.place h));
     locks_agree = agree v cells seats S j (sits s then_session) x o then_session then_open catalog_at (Catalog old) (Catalog then_catalog) (whole mode.X ∷ []) text takes;
     trees_are_of_events = trees v cells seats S j (sits s then_session) x o then_session then_open catalog_at (Catalog old) (Catalog then_catalog) (whole mode.X ∷ []) text takes;
-    transcripts_agree = unmoved v cells seats S j s K.there x K.role o K.open_one then_open (record { id = refl; opened = refl; script = refl; end = refl });
+    transcripts_agree = unmoved v cells seats S j s K.there x K.role o K.open_one then_open (record { id = refl; explicit = refl; script = refl; end = refl });
   }
 
   pub same_ledger : exclusive_there.ledger ≡ S.ledger

@@ -8,59 +8,59 @@ use Rattle.std.specs.Prelude.{◌==◌, ◌&&◌, ◌||◌, not, if◌then◌els
 use Rattle.std.specs.List.{AllByRecursion, filter, list_any}
 use mathlib.Core.Option.{some}
 use lib.ListN.{get_elem?}
-use Rattle.lg_value.specs.declared.column.ColumnDef.{ColumnDef}
-use Rattle.lg_types.specs.declared.journal.JournalItem.{JournalItem}
-use Rattle.lg_types.specs.declared.journal.JournalItem.TheVariants.{Tx, Close}
-use Rattle.lg_types.specs.declared.lock.Item.{Item}
-use Rattle.lg_types.specs.declared.lock.Mode.TheVariants.{X}
-use Rattle.lg_types.specs.declared.lock.Item.TheVariants as item
-use Rattle.lg_types.specs.declared.lock.Want.{Want}
-use Rattle.lg_types.specs.declared.reply.Reply.TheVariants as reply
-use Rattle.lg_types.specs.declared.statement.Stmt.{Stmt}
-use Rattle.lg_types.specs.declared.statement.Stmt.TheVariants as stmt
-use Rattle.lg_types.specs.declared.statement.RowStmt.{RowStmt}
-use Rattle.lg_types.specs.declared.table.TableDef.{TableDef}
-use Rattle.lg_types.specs.declared.version.Version.{Version}
-use Rattle.lg_model.specs.Rows.{EventId}
-use Rattle.lg_model.specs.Keys.{Key, of_key, same_key, version_key}
-use Rattle.lg_model.specs.Catalog.{Defs, Named, Tables, defs_of, versions_of}
-use Rattle.lg_model.specs.Changes.{Change}
-use Rattle.lg_model.specs.Checks.{row_statement_check}
-use Rattle.lg_model.specs.Journals.{Line, IsOther, serial, upto}
-use Rattle.lg_model.specs.Locks.{whole, catalog_want, cell_wants, row_wants, row_cell_wants}
-use Rattle.lg_model.specs.Agreement.{columns_at}
-use Rattle.lg_model.specs.Reach.{is_exclusive, has_key, lets_change}
-use Rattle.lg_model.specs.Replies.{reply_text}
-use Rattle.lg_model.specs.Runs.{Rising, MadeBefore, EndsBefore}
-use Rattle.lg_model.specs.Script.{ScriptEnd}
-use Rattle.lg_model.specs.ScriptWants.{text_wants}
-use Rattle.lg_model.specs.Undo.{versions_undone}
-use Rattle.lg_frames.proofs.Alls.{all_filter}
-use Rattle.lg_frames.proofs.AtTable.{before_at}
-use Rattle.lg_frames.proofs.LegalSound.{legal_sound}
-use Rattle.lg_frames.proofs.OtherTransactions.{others_sound}
-use Rattle.lg_frames.proofs.SameKeys.{same_key_as, same_itself}
-use Rattle.lg_history.specs.Lists.{Text, Each, In}
-use Rattle.lg_history.specs.Journals.{ids_of}
-use Rattle.lg_history.specs.Refusals.{EndsAt}
-use Rattle.lg_history.specs.Transactions.{End, unfixed}
-use Rattle.lg_history.proofs.Trace.{each_append, each_weaker}
-use Rattle.lg_standing.specs.Server.{Server}
-use Rattle.lg_types.specs.declared.lock.Hold.{Hold}
-use Rattle.lg_standing.specs.Cells.{Creator, Index, TableCell, Cell, Rows, holds_at, versions_at, catalog_at, cell_of, AreCells}
-use Rattle.lg_standing.specs.Seats.{OpenTransaction, made, Place, inside, Session, SeatState, found}
-use Rattle.lg_standing.specs.OpenOnes.{HasOpen, text_at, script_so_far, texts_so_far, script_end}
-use Rattle.lg_standing.specs.OpenScripts.{counted}
-use Rattle.lg_standing.specs.Moves.{sits}
-use Rattle.lg_standing.specs.TableVisits.{reordered}
-use Rattle.lg_standing.specs.Doing.{stage_after, with_line}
-use Rattle.lg_standing.specs.TablesAreSerial.{IsCarried, def_at, ordinals_of, IsAdding}
+use Rattle.sql_value.specs.declared.column.ColumnDef.{ColumnDef}
+use Rattle.sql_types.specs.declared.journal.JournalItem.{JournalItem}
+use Rattle.sql_types.specs.declared.journal.JournalItem.TheVariants.{Tx, Close}
+use Rattle.sql_types.specs.declared.lock.Item.{Item}
+use Rattle.sql_types.specs.declared.lock.Mode.TheVariants.{X}
+use Rattle.sql_types.specs.declared.lock.Item.TheVariants as item
+use Rattle.sql_types.specs.declared.lock.LockRequest.{LockRequest}
+use Rattle.sql_types.specs.declared.reply.Reply.TheVariants as reply
+use Rattle.sql_types.specs.declared.statement.Stmt.{Stmt}
+use Rattle.sql_types.specs.declared.statement.Stmt.TheVariants as stmt
+use Rattle.sql_types.specs.declared.statement.RowStmt.{RowStmt}
+use Rattle.sql_types.specs.declared.table.TableDef.{TableDef}
+use Rattle.sql_types.specs.declared.version.Version.{Version}
+use Rattle.spec_model.specs.Rows.{EventId}
+use Rattle.spec_model.specs.Keys.{Key, of_key, same_key, version_key}
+use Rattle.spec_model.specs.Catalog.{Defs, NamedPart, Tables, defs_of, versions_of}
+use Rattle.spec_model.specs.Changes.{Change}
+use Rattle.spec_model.specs.Checks.{row_statement_check}
+use Rattle.spec_model.specs.Journals.{Line, IsOther, serial, upto}
+use Rattle.spec_model.specs.Locks.{whole, catalog_request, cell_requests, row_requests, row_cell_requests}
+use Rattle.spec_model.specs.Agreement.{columns_at}
+use Rattle.spec_model.specs.Reach.{is_exclusive, has_key, lets_change}
+use Rattle.spec_model.specs.Replies.{reply_text}
+use Rattle.spec_model.specs.Runs.{Rising, MadeBefore, EndsBefore}
+use Rattle.spec_model.specs.Script.{ScriptEnd}
+use Rattle.spec_model.specs.ScriptRequests.{text_requests}
+use Rattle.spec_model.specs.Undo.{versions_undone}
+use Rattle.law_frame.proofs.Alls.{all_filter}
+use Rattle.law_frame.proofs.AtTable.{before_at}
+use Rattle.law_frame.proofs.LegalSound.{legal_sound}
+use Rattle.law_frame.proofs.OtherTransactions.{others_sound}
+use Rattle.law_frame.proofs.SameKeys.{same_key_as, same_itself}
+use Rattle.spec_history.specs.Lists.{Text, Each, In}
+use Rattle.spec_history.specs.Journals.{ids_of}
+use Rattle.spec_history.specs.Refusals.{EndsAt}
+use Rattle.spec_history.specs.Transactions.{End, unfixed}
+use Rattle.spec_history.proofs.Trace.{each_append, each_weaker}
+use Rattle.spec_protocol.specs.Server.{Server}
+use Rattle.sql_types.specs.declared.lock.Hold.{Hold}
+use Rattle.spec_protocol.specs.Cells.{Creator, Index, TableCell, Cell, Rows, holds_at, versions_at, catalog_at, cell_of, AreCells}
+use Rattle.spec_protocol.specs.Seats.{OpenTransaction, made, SessionStatus, inside, Session, SeatState, found}
+use Rattle.spec_protocol.specs.OpenOnes.{HasOpen, text_at, script_so_far, texts_so_far, script_end}
+use Rattle.spec_protocol.specs.OpenScripts.{counted}
+use Rattle.spec_protocol.specs.Moves.{sits}
+use Rattle.spec_protocol.specs.TableVisits.{reordered}
+use Rattle.spec_protocol.specs.Doing.{stage_after, with_line}
+use Rattle.spec_protocol.specs.TablesAreSerial.{IsCarried, def_at, ordinals_of, IsAdding}
 use Rattle.law_protocol_changes.proofs.CommittedRows.{committed_undone}
-use Rattle.lg_model.specs.Plans.{plan, defined}
-use Rattle.lg_model.specs.Reach.{creates}
-use Rattle.lg_standing.specs.WantsIn.{of_catalog, of_cell, wants_at, wants_in, Holds}
-use Rattle.lg_standing.specs.LocksCover.{KeepsLocks, Belongs, HasIntent, LookedFirst, IsDropping}
-use Rattle.lg_standing.specs.StandTogether.{History, Stands}
+use Rattle.spec_model.specs.ChangeSets.{change_set, defined}
+use Rattle.spec_model.specs.Reach.{creates}
+use Rattle.spec_protocol.specs.RequestsIn.{of_catalog, of_cell, requests_at, requests_in, Holds}
+use Rattle.spec_protocol.specs.LocksCover.{KeepsLocks, Belongs, HasIntent, LookedFirst, IsDropping}
+use Rattle.spec_protocol.specs.StandTogether.{History, Stands}
 use Rattle.law_protocol_steps.proofs.AfterSet.{set_here, set_else, each_at, all_at}
 use Rattle.law_protocol_steps.proofs.CellsAfter.{held_here, table_changed}
 use Rattle.law_protocol_steps.proofs.SeatsAfter.{one_session, open_here, open_else, each_open, kept_open}
@@ -70,25 +70,22 @@ use Rattle.law_protocol_steps.proofs.Excluded.{HasX, HasNoX, has_x_or_not}
 use Rattle.law_protocol_steps.proofs.RowsFor.{sound, script_left}
 use Rattle.law_protocol_steps.proofs.Takes.{tables_now}
 use Rattle.law_protocol_changes.proofs.ChangesAt as ch
-use Rattle.law_protocol_steps.proofs.OfCells.{LookedAt, AreDefinitions, AreIndexes, Creates, EndLiesUnder, GoesBack, HasItsTrees, HasLock, HasLooked, HoldsInCatalog, IsGotAt, IsIndexed, IsOfItsScript, IsUnderLocks, IsUnderWay, LiesUnder, LocksAgree, LocksCover, OpenScripts, SeatHas, StandsAs, WantsNone, committed, in_journal, looked_now, looked_so, table_there}
-use Rattle.lg_standing.specs.Contents.{HasAlone, contents, table_found}
+use Rattle.law_protocol_steps.proofs.OfCells.{LookedAt, AreDefinitions, AreIndexes, Creates, EndLiesUnder, GoesBack, HasItsTrees, HasLock, HasLooked, HoldsInCatalog, IsGotAt, IsIndexed, IsOfItsScript, IsUnderLocks, IsUnderWay, LiesUnder, LocksAgree, LocksCover, OpenScripts, SeatHas, StandsAs, RequestsNone, committed, in_journal, looked_now, looked_so, table_there}
+use Rattle.spec_protocol.specs.Contents.{HasAlone, contents, table_found}
 use Rattle.law_protocol_steps.proofs.VisitActs.{done_act}
 use Rattle.law_protocol_steps.proofs.GotMore.{got_at_more}
-use Rattle.lg_history.specs.Transcripts.{kind_of}
-use Rattle.lg_model.specs.Touched.{touched}
+use Rattle.spec_history.specs.Transcripts.{kind_of}
+use Rattle.spec_model.specs.Touched.{touched}
 use Rattle.law_protocol_changes.proofs.Apart.{x_apart}
-use Rattle.lg_standing.specs.ActsOf.{done_acts}
+use Rattle.spec_protocol.specs.ActsOf.{done_acts}
 
 -- ---- equal keys
-
-key_turn : (a b : Key) → same_key a b ≡ true → same_key b a ≡ true
-key_turn a b e = sym (same_key_as a b a e) ∙ same_itself a
 
 reach_same : (a b : Key) (x : Item) → same_key a b ≡ true → has_key a x ≡ true → has_key b x ≡ true
 reach_same a b item.Whole e h = refl
 reach_same a b (item.Key k) e h = same_key_as k a b h ∙ e
 
-lets_same : (a b : Key) (w : Want) → same_key a b ≡ true → lets_change a w ≡ true → lets_change b w ≡ true
+lets_same : (a b : Key) (w : LockRequest) → same_key a b ≡ true → lets_change a w ≡ true → lets_change b w ≡ true
 lets_same a b w e h = by (is_exclusive w.mode) (has_key a w.item) h (λ k. reach_same a b w.item e k)
   where
     by : (p q : Bool) → (p && q) ≡ true → (q ≡ true → has_key b w.item ≡ true) → (p && has_key b w.item) ≡ true
@@ -121,7 +118,7 @@ twice p (x ∷ xs) = by (p x) refl (twice p xs)
 
 pub absent_others : (items : List JournalItem) (id : ℕ) → list_any (λ n. n == id) (ids_of items) ≡ false → AllByRecursion (IsOther id) items
 absent_others [] id h = tt
-absent_others (Tx own session time opened lines ∷ is) id h = by (own == id) refl h (absent_others is id)
+absent_others (Tx own session time explicit lines ∷ is) id h = by (own == id) refl h (absent_others is id)
   where
     by : (b : Bool) → (own == id) ≡ b → (b || list_any (λ n. n == id) (ids_of is)) ≡ false → (list_any (λ n. n == id) (ids_of is) ≡ false → AllByRecursion (IsOther id) is) → (own ≢ id) × AllByRecursion (IsOther id) is
     by true f g rest = cc
@@ -137,8 +134,8 @@ module _ (v : Server) (cells : List Cell) (seats : List SeatState) {history : Hi
   not_under : (w : Version) (e : EventId) → same_key (version_key cols w) key ≡ true → (in_journal S.ledger.items e ≡ false → LiesUnder cells (tables_now S) id w e) → e.0 ≡ tx → ⊥
   not_under w e k u m =
       let lies = u (ap (λ (n : ℕ). in_journal S.ledger.items (n, e.1)) m ∙ out e.1) in
-      let yes : lets_change key lies.hold.want ≡ true = lets_same (version_key cols w) key lies.hold.want k lies.reaches in
-      let no_one : lets_change key lies.hold.want ≡ false = free lies.hold lies.has (lies.mine ∙ m) in cc
+      let yes : lets_change key lies.hold.request ≡ true = lets_same (version_key cols w) key lies.hold.request k lies.reaches in
+      let no_one : lets_change key lies.hold.request ≡ false = free lies.hold lies.has (lies.mine ∙ m) in cc
 
   end_not : (w : Version) (o : Option EventId) → same_key (version_key cols w) key ≡ true → EndLiesUnder v cells S.ledger id w o → EndsBefore tx 0 o
   end_not w None k u = tt
@@ -154,7 +151,7 @@ module _ (v : Server) (cells : List Cell) (seats : List SeatState) {history : Hi
   pub untouched : AllByRecursion (MadeBefore tx 0) (of_key cols key (versions_at cells id))
   untouched = all_in (MadeBefore tx 0) (of_key cols key (versions_at cells id)) one_not
 
-module _ (v : Server) (cells : List Cell) (seats : List SeatState) {history : History} (S : Stands v history cells seats) (j : ℕ) (s : SeatState) (x : Session) (o : OpenTransaction) (text : Text) (named : Named) (fresh : Bool)
+module _ (v : Server) (cells : List Cell) (seats : List SeatState) {history : History} (S : Stands v history cells seats) (j : ℕ) (s : SeatState) (x : Session) (o : OpenTransaction) (text : Text) (named : NamedPart) (fresh : Bool)
     (i : ℕ) (c : TableCell) (row : RowStmt) (changes : List Change) (count : ℕ) (K : ch.Changing v cells seats S j s x o text named fresh i c row changes count) where
   abbrev T : Tables
   T = tables_now S
@@ -247,9 +244,9 @@ module _ (v : Server) (cells : List Cell) (seats : List SeatState) {history : Hi
     theirs_out m = outside v cells seats S n z r m has unfixed_too
 
     other_free : (key : Key) → HasX (holds_at cells (cell_of c.id)) o.id key → HasNoX (holds_at cells (cell_of c.id)) r.id key
-    other_free key k h has_h m = by (lets_change key h.want) refl
+    other_free key k h has_h m = by (lets_change key h.request) refl
       where
-        by : (b : Bool) → lets_change key h.want ≡ b → b ≡ false
+        by : (b : Bool) → lets_change key h.request ≡ b → b ≡ false
         by true e = absurd (x_apart v cells seats S (cell_of c.id) key k.hold h k.has has_h (λ q. differs (sym m ∙ q ∙ k.mine)) k.reaches e)
         by false e = refl
 
@@ -349,41 +346,41 @@ module _ (v : Server) (cells : List Cell) (seats : List SeatState) {history : Hi
 
   -- ---- the wants of the statement
 
-  wants_are : wants_in v D o.opened i text ≡ row_wants named.0 row
-  unfolding cell_wants
-  wants_are = ap (λ (q : Option Stmt). wants_at i (text_wants D o.opened q)) K.is
-      ∙ ap (λ (b : Bool). (if b then of_catalog (catalog_want o.opened (stmt.Change row)) else []) ++ of_cell i (row_cell_wants row (row_statement_check D row))) (ne_eqb i catalog_at (λ e. let q = (ch.at v cells seats S j s x o text named fresh i c row changes count K).is in omega arith))
-      ∙ ap (λ q. of_cell i (row_cell_wants row q)) K.checked
-      ∙ ap (λ (b : Bool). if b then row_wants named.0 row else []) (eq-eqb (cell_of named.0.id) i (ap cell_of K.here ∙ ch.here v cells seats S j s x o text named fresh i c row changes count K))
+  requests_are : requests_in v D o.explicit i text ≡ row_requests named.0 row
+  unfolding cell_requests
+  requests_are = ap (λ (q : Option Stmt). requests_at i (text_requests D o.explicit q)) K.is
+      ∙ ap (λ (b : Bool). (if b then of_catalog (catalog_request o.explicit (stmt.Change row)) else []) ++ of_cell i (row_cell_requests row (row_statement_check D row))) (ne_eqb i catalog_at (λ e. let q = (ch.at v cells seats S j s x o text named fresh i c row changes count K).is in omega arith))
+      ∙ ap (λ q. of_cell i (row_cell_requests row q)) K.checked
+      ∙ ap (λ (b : Bool). if b then row_requests named.0 row else []) (eq-eqb (cell_of named.0.id) i (ap cell_of K.here ∙ ch.here v cells seats S j s x o text named fresh i c row changes count K))
 
-  nowhere_else : (n : ℕ) → n ≢ catalog_at → n ≢ i → wants_in v D o.opened n text ≡ []
-  unfolding cell_wants
-  nowhere_else n nc ni = ap (λ (q : Option Stmt). wants_at n (text_wants D o.opened q)) K.is
-      ∙ ap (λ (b : Bool). (if b then of_catalog (catalog_want o.opened (stmt.Change row)) else []) ++ of_cell n (row_cell_wants row (row_statement_check D row))) (ne_eqb n catalog_at nc)
-      ∙ ap (λ q. of_cell n (row_cell_wants row q)) K.checked
-      ∙ ap (λ (b : Bool). if b then row_wants named.0 row else []) (ne_eqb (cell_of named.0.id) n (λ e. ni (sym e ∙ ap cell_of K.here ∙ ch.here v cells seats S j s x o text named fresh i c row changes count K)))
+  nowhere_else : (n : ℕ) → n ≢ catalog_at → n ≢ i → requests_in v D o.explicit n text ≡ []
+  unfolding cell_requests
+  nowhere_else n nc ni = ap (λ (q : Option Stmt). requests_at n (text_requests D o.explicit q)) K.is
+      ∙ ap (λ (b : Bool). (if b then of_catalog (catalog_request o.explicit (stmt.Change row)) else []) ++ of_cell n (row_cell_requests row (row_statement_check D row))) (ne_eqb n catalog_at nc)
+      ∙ ap (λ q. of_cell n (row_cell_requests row q)) K.checked
+      ∙ ap (λ (b : Bool). if b then row_requests named.0 row else []) (ne_eqb (cell_of named.0.id) n (λ e. ni (sym e ∙ ap cell_of K.here ∙ ch.here v cells seats S j s x o text named fresh i c row changes count K)))
 
-  in_catalog_alone : wants_in v D o.opened catalog_at text ≡ of_catalog (text_wants D o.opened (v.reads text)).catalog
-  unfolding cell_wants
-  in_catalog_alone = ap (λ (q : Option Stmt). wants_at catalog_at (text_wants D o.opened q)) K.is
-      ∙ ap (λ q. of_catalog (catalog_want o.opened (stmt.Change row)) ++ of_cell catalog_at (row_cell_wants row q)) K.checked
-      ∙ ap (λ (b : Bool). of_catalog (catalog_want o.opened (stmt.Change row)) ++ (if b then row_wants named.0 row else [])) (ne_eqb (cell_of named.0.id) catalog_at (λ e. let q = (ch.at v cells seats S j s x o text named fresh i c row changes count K).is in let z : catalog_at ≡ i = sym e ∙ ap cell_of K.here ∙ ch.here v cells seats S j s x o text named fresh i c row changes count K in omega (arith, q, z)))
-      ∙ append-nil _ ∙ sym (ap (λ (q : Option Stmt). of_catalog (text_wants D o.opened q).catalog) K.is)
+  in_catalog_alone : requests_in v D o.explicit catalog_at text ≡ of_catalog (text_requests D o.explicit (v.reads text)).catalog
+  unfolding cell_requests
+  in_catalog_alone = ap (λ (q : Option Stmt). requests_at catalog_at (text_requests D o.explicit q)) K.is
+      ∙ ap (λ q. of_catalog (catalog_request o.explicit (stmt.Change row)) ++ of_cell catalog_at (row_cell_requests row q)) K.checked
+      ∙ ap (λ (b : Bool). of_catalog (catalog_request o.explicit (stmt.Change row)) ++ (if b then row_requests named.0 row else [])) (ne_eqb (cell_of named.0.id) catalog_at (λ e. let q = (ch.at v cells seats S j s x o text named fresh i c row changes count K).is in let z : catalog_at ≡ i = sym e ∙ ap cell_of K.here ∙ ch.here v cells seats S j s x o text named fresh i c row changes count K in omega (arith, q, z)))
+      ∙ append-nil _ ∙ sym (ap (λ (q : Option Stmt). of_catalog (text_requests D o.explicit q).catalog) K.is)
 
-  line_held : (n : ℕ) → Each (Holds (holds_at cells n) o.id) (wants_in v D o.opened n text)
+  line_held : (n : ℕ) → Each (Holds (holds_at cells n) o.id) (requests_in v D o.explicit n text)
   line_held n = ⊎_elim
-      (λ (e : n ≡ catalog_at). subst (λ (m : ℕ). Each (Holds (holds_at cells m) o.id) (wants_in v D o.opened m text)) (sym e) (subst (Each (Holds (holds_at cells catalog_at) o.id)) (sym in_catalog_alone) ((looked_now v cells T o x.place (S.locks_cover.looked j x o open_j K.unfixed) (subst HasLooked (sym K.place) tt)).wants text text_here)))
+      (λ (e : n ≡ catalog_at). subst (λ (m : ℕ). Each (Holds (holds_at cells m) o.id) (requests_in v D o.explicit m text)) (sym e) (subst (Each (Holds (holds_at cells catalog_at) o.id)) (sym in_catalog_alone) ((looked_now v cells T o x.place (S.locks_cover.looked j x o open_j K.unfixed) (subst HasLooked (sym K.place) tt)).requests text text_here)))
       (λ (nc : n ≢ catalog_at). ⊎_elim
-      (λ (e : n ≡ i). subst (λ (m : ℕ). Each (Holds (holds_at cells m) o.id) (wants_in v D o.opened m text)) (sym e)
-      (subst (Each (Holds (holds_at cells i) o.id)) (sym wants_are) (subst (λ (hs : List Hold). Each (Holds hs o.id) (row_wants named.0 row)) (sym (held_here cells i (Rows c) (Rows c) K.out)) K.held)))
+      (λ (e : n ≡ i). subst (λ (m : ℕ). Each (Holds (holds_at cells m) o.id) (requests_in v D o.explicit m text)) (sym e)
+      (subst (Each (Holds (holds_at cells i) o.id)) (sym requests_are) (subst (λ (hs : List Hold). Each (Holds hs o.id) (row_requests named.0 row)) (sym (held_here cells i (Rows c) (Rows c) K.out)) K.held)))
       (λ (ni : n ≢ i). subst (Each (Holds (holds_at cells n) o.id)) (sym (nowhere_else n nc ni)) tt)
       (cases_eq n i))
       (cases_eq n catalog_at)
 
-  cover_here : (n : ℕ) → KeepsLocks p n → Each (λ l. Each (Holds (holds_at C' n) p.id) (wants_in v D p.opened n l.0)) (script_so_far y p)
-  cover_here n u = subst (Each (λ l. Each (Holds (holds_at C' n) o.id) (wants_in v D o.opened n l.0))) (sym (ch.script_then v cells seats S j s x o text named fresh i c row changes count K))
-      (subst (λ (hs : List Hold). Each (λ l. Each (Holds hs o.id) (wants_in v D o.opened n l.0)) (script_so_far x o ++ (text, reply_text (reply.Changed count)) ∷ [])) (sym (held_same n))
-      (each_append (λ (l : Line). Each (Holds (holds_at cells n) o.id) (wants_in v D o.opened n l.0)) (script_so_far x o) ((text, reply_text (reply.Changed count)) ∷ []) (S.locks_cover.cover j x o open_j n u) (line_held n, tt)))
+  cover_here : (n : ℕ) → KeepsLocks p n → Each (λ l. Each (Holds (holds_at C' n) p.id) (requests_in v D p.explicit n l.0)) (script_so_far y p)
+  cover_here n u = subst (Each (λ l. Each (Holds (holds_at C' n) o.id) (requests_in v D o.explicit n l.0))) (sym (ch.script_then v cells seats S j s x o text named fresh i c row changes count K))
+      (subst (λ (hs : List Hold). Each (λ l. Each (Holds hs o.id) (requests_in v D o.explicit n l.0)) (script_so_far x o ++ (text, reply_text (reply.Changed count)) ∷ [])) (sym (held_same n))
+      (each_append (λ (l : Line). Each (Holds (holds_at cells n) o.id) (requests_in v D o.explicit n l.0)) (script_so_far x o) ((text, reply_text (reply.Changed count)) ∷ []) (S.locks_cover.cover j x o open_j n u) (line_held n, tt)))
 
   -- ---- what isn't committed
 
@@ -401,7 +398,7 @@ module _ (v : Server) (cells : List Cell) (seats : List SeatState) {history : Hi
   not_theirs : (tx : ℕ) → tx ≢ o.id → in_journal S.ledger.items (tx, 0) ≡ false → AllByRecursion (MadeBefore tx 0) W'
   not_theirs tx ne f = subst (AllByRecursion (MadeBefore tx 0)) (ch.script_rows v cells seats S j s x o text named fresh i c row changes count K)
       (before_at tx 0 c.id (script_end v T y p).state.tables
-      (others_sound o.id tx 0 (λ e. ne (sym e)) v.reads o.opened T (texts_so_far y p) (sound v cells seats S j x o open_j K.unfixed) (legal_sound v.reads S.ledger.items tx S.ledger_is_legal.legal (absent_others S.ledger.items tx f))).each)
+      (others_sound o.id tx 0 (λ e. ne (sym e)) v.reads o.explicit T (texts_so_far y p) (sound v cells seats S j x o open_j K.unfixed) (legal_sound v.reads S.ledger.items tx S.ledger_is_legal.legal (absent_others S.ledger.items tx f))).each)
 
   module _ (w : Version) (k : HasX (holds_at cells (cell_of c.id)) o.id (version_key columns w)) (there : In w W') where
     mine_under : (e : EventId) → ((tx : ℕ) → tx ≢ o.id → MadeBefore tx 0 w → tx ≡ e.0 → ⊥) → in_journal S.ledger.items e ≡ false → LiesUnder C' T c.id w e
@@ -451,27 +448,27 @@ module _ (v : Server) (cells : List Cell) (seats : List SeatState) {history : Hi
   got_nothing q true = tt
   got_nothing q false = rows_replied T (v.reads text) (ap kind_of K.is)
 
-  looked_still : (place : Place) (r : OpenTransaction) → HoldsInCatalog v cells T place r → HoldsInCatalog v C' T place r
-  looked_still place r h = record { lock = lock_is catalog_at r.id h.lock; wants = λ u e. subst (λ (hs : List Hold). Each (Holds hs r.id) (of_catalog (text_wants D r.opened (v.reads u)).catalog)) (sym (held_same catalog_at)) (h.wants u e) }
+  looked_still : (place : SessionStatus) (r : OpenTransaction) → HoldsInCatalog v cells T place r → HoldsInCatalog v C' T place r
+  looked_still place r h = record { lock = lock_is catalog_at r.id h.lock; requests = λ u e. subst (λ (hs : List Hold). Each (Holds hs r.id) (of_catalog (text_requests D r.explicit (v.reads u)).catalog)) (sym (held_same catalog_at)) (h.requests u e) }
 
   pub covered : LocksCover v C' S.ledger seats'
   covered = let g = ch.goes v cells seats S j s x o text named fresh i c row changes count K in record {
     belong = λ n h has. belongs_then n h (S.locks_cover.belong n h (subst (In h) (held_same n) has));
     unreleased = kept_open seats j (sits s y) x o y p g (λ n z r. r.end ≡ unfixed → r.released ≡ []) (λ was. was) S.locks_cover.unreleased;
     intents = λ n h has m. subst (λ (hs : List Hold). HasIntent hs h) (sym (held_same n)) (S.locks_cover.intents n h (subst (In h) (held_same n) has) m);
-    looked = each_open seats j (sits s y) x o y p g (λ n z r. r.end ≡ unfixed → LookedAt v C' T z.place r) (λ e. looked_so v C' T p y.place (λ h. absurd (looked_not o.opened h))) (λ n z r ne h e. looked_so v C' T r z.place (λ l. looked_still z.place r (looked_now v cells T r z.place (S.locks_cover.looked n z r h e) l)));
+    looked = each_open seats j (sits s y) x o y p g (λ n z r. r.end ≡ unfixed → LookedAt v C' T z.place r) (λ e. looked_so v C' T p y.place (λ h. absurd (looked_not o.explicit h))) (λ n z r ne h e. looked_so v C' T r z.place (λ l. looked_still z.place r (looked_now v cells T r z.place (S.locks_cover.looked n z r h e) l)));
     on_whole = λ h has. S.locks_cover.on_whole h (subst (In h) (held_same catalog_at) has);
-    looked_first = each_open seats j (sits s y) x o y p g (λ n z r. r.end ≡ unfixed → LookedFirst z.place → WantsNone v C' T r) (λ e h. absurd (first_not o.opened h))
+    looked_first = each_open seats j (sits s y) x o y p g (λ n z r. r.end ≡ unfixed → LookedFirst z.place → RequestsNone v C' T r) (λ e h. absurd (first_not o.explicit h))
         (λ n z r ne h e f. let was = S.locks_cover.looked_first n z r h e f in record { before = was.before; shares = λ h has m. was.shares h (subst (In h) (held_same catalog_at) has) m; elsewhere = λ m l. was.elsewhere m (lock_was (suc m) r.id l) });
-    cover = each_open seats j (sits s y) x o y p g (λ n z r. (m : ℕ) → KeepsLocks r m → Each (λ l. Each (Holds (holds_at C' m) r.id) (wants_in v D r.opened m l.0)) (script_so_far z r)) cover_here
-        (λ n z r ne h m u. subst (λ (hs : List Hold). Each (λ l. Each (Holds hs r.id) (wants_in v D r.opened m l.0)) (script_so_far z r)) (sym (held_same m)) (S.locks_cover.cover n z r h m u));
+    cover = each_open seats j (sits s y) x o y p g (λ n z r. (m : ℕ) → KeepsLocks r m → Each (λ l. Each (Holds (holds_at C' m) r.id) (requests_in v D r.explicit m l.0)) (script_so_far z r)) cover_here
+        (λ n z r ne h m u. subst (λ (hs : List Hold). Each (λ l. Each (Holds hs r.id) (requests_in v D r.explicit m l.0)) (script_so_far z r)) (sym (held_same m)) (S.locks_cover.cover n z r h m u));
     catalog = λ n id l. lock_is catalog_at id (S.locks_cover.catalog n id (lock_was (suc n) id l));
     definitions = λ n z r m h e l. each_open seats j (sits s y) x o y p g (λ n z r. (m : ℕ) → EndsAt r.end m → HasLock C' catalog_at r.id → D ≡ defs_of (serial v.reads (upto S.ledger.items m)))
         (λ m e l. absurd (subst (λ (u : End). EndsAt u m) K.unfixed e))
         (λ n z r ne h m e l. S.locks_cover.definitions n z r m h e (lock_was catalog_at r.id l)) n z r h m e l;
-    got = each_open seats j (sits s y) x o y p g (λ n z r. HasLock C' catalog_at r.id → IsGotAt v C' T r.id (not (in_journal S.ledger.items (r.id, 0))) z.place) (λ l. got_nothing (not (in_journal S.ledger.items (o.id, 0))) o.opened)
+    got = each_open seats j (sits s y) x o y p g (λ n z r. HasLock C' catalog_at r.id → IsGotAt v C' T r.id (not (in_journal S.ledger.items (r.id, 0))) z.place) (λ l. got_nothing (not (in_journal S.ledger.items (o.id, 0))) o.explicit)
         (λ n z r ne h l. got_at_more v T (HasAlone (contents cells) r.id) (HasAlone (contents C') r.id) (not (in_journal S.ledger.items (r.id, 0))) (subst (In _) (sym (held_same catalog_at))) z.place (S.locks_cover.got n z r h (lock_was catalog_at r.id l)));
-    dropping = each_open seats j (sits s y) x o y p g (λ n z r. IsDropping z.place r → In (record { tx = r.id; want = whole X }) (holds_at C' catalog_at)) (λ d. absurd (not_dropping o.opened d))
+    dropping = each_open seats j (sits s y) x o y p g (λ n z r. IsDropping z.place r → In (record { tx = r.id; request = whole X }) (holds_at C' catalog_at)) (λ d. absurd (not_dropping o.explicit d))
         (λ n z r ne h d. subst (In _) (sym (held_same catalog_at)) (S.locks_cover.dropping n z r h d));
     under = under_then;
   }
@@ -528,7 +525,7 @@ module _ (v : Server) (cells : List Cell) (seats : List SeatState) {history : Hi
   ordinals_kept cols vs [] = refl
   ordinals_kept cols vs (x ∷ xs) = ap (λ (l : List (List ℕ)). x.ordinals ∷ l) (ordinals_kept cols vs xs)
 
-  indexed_else : (place : Place) → IsIndexed cells place → IsIndexed C' place
+  indexed_else : (place : SessionStatus) → IsIndexed cells place → IsIndexed C' place
   indexed_else (inside at (made def true)) h = λ n cell f m. let e = table_there (get_elem? C' n) cell f in ⊎_elim
       (λ (q : n ≡ i). let found_it : some (Rows (ch.cell_then v cells seats S j s x o text named fresh i c row changes count K)) ≡ some (Rows cell) = sym (set_here cells i (Rows c) _ K.out) ∙ ap (get_elem? C') (sym q) ∙ e in
       let same : ch.cell_then v cells seats S j s x o text named fresh i c row changes count K ≡ cell = cc in
@@ -545,7 +542,7 @@ module _ (v : Server) (cells : List Cell) (seats : List SeatState) {history : Hi
   pub indexes_then : (def : TableDef) (indexes : List (List ℕ)) → AreIndexes v cells seats S.ledger def indexes → AreIndexes v C' seats' S.ledger def indexes
   unfolding creates_then
   indexes_then def indexes d = ⊎_elim (λ (e : indexes ≡ ordinals_of def.indexes). inl e)
-      (λ (k : (z : Session) × (st : Stmt) × (after : TableDef) × (by : Creates v cells seats S.ledger z st) × (def_at (defs_of (defined (plan T st).definition T)) def.id ≡ Some after) × (indexes ≡ ordinals_of after.indexes) × IsAdding z.place by.o after (cell_of def.id)). inr (k.0, k.1, k.2, creates_then k.0 k.1 k.3, k.4, k.5, k.6)) d
+      (λ (k : (z : Session) × (st : Stmt) × (after : TableDef) × (by : Creates v cells seats S.ledger z st) × (def_at (defs_of (defined (change_set T st).definition T)) def.id ≡ Some after) × (indexes ≡ ordinals_of after.indexes) × IsAdding z.place by.o after (cell_of def.id)). inr (k.0, k.1, k.2, creates_then k.0 k.1 k.3, k.4, k.5, k.6)) d
 
   stands_else : (cell : TableCell) (def : Option TableDef) → StandsAs v cells seats S.ledger cell def → StandsAs v C' seats' S.ledger cell def
   stands_else cell None h = h
@@ -564,9 +561,9 @@ module _ (v : Server) (cells : List Cell) (seats : List SeatState) {history : Hi
     are_cells = let a = ch.at v cells seats S j s x o text named fresh i c row changes count K in
         subst (λ (m : ℕ). AreCells (set cells m (Rows (ch.cell_then v cells seats S j s x o text named fresh i c row changes count K))) S.catalog S.ledger) (sym a.is) (table_changed cells S.catalog S.ledger a.n c _ (ap (get_elem? cells) (sym a.is) ∙ K.out) refl S.are_cells)
 
-    pub changes_there : StandsBy v j history o.id o.opened (done_acts o.opened text true (reply.Changed count)) C' seats'
+    pub changes_there : StandsBy v j history o.id o.explicit (done_acts o.explicit text true (reply.Changed count)) C' seats'
     changes_there = let said = done_act v cells seats S j s K.there x K.role o K.open_one K.unfixed text (found (Some named) fresh) K.place refl (λ id ws. refl) true (λ a h. h) refl (λ k. refl) refl refl
-        (reply.Changed count) (record { e01 = λ e. cc; e13 = λ e. cc; e14 = λ e. cc; e17 = λ e. cc }) refl refl refl refl refl refl p refl refl refl refl (λ e. ap kind_of (v.real.reading text ∙ K.is)) in record {
+        (reply.Changed count) (record { not_syntax_error = λ e. cc; not_no_transaction = λ e. cc; not_already_in = λ e. cc; not_forbidden_in = λ e. cc }) refl refl refl refl refl refl p refl refl refl refl (λ e. ap kind_of (v.real.reading text ∙ K.is)) in record {
           session = said.session;
           of = by_number v.meaning history (S.transcripts_agree.of_seat j) x o (in_transaction v history S.ledger seats S.transcripts_agree j x o (record { seat = s; there = K.there; role = K.role; open_one = K.open_one })) said.session said.is;
           stands = record {
@@ -580,7 +577,7 @@ module _ (v : Server) (cells : List Cell) (seats : List SeatState) {history : Hi
               carried = each_open seats j (sits s y) x o y p (ch.goes v cells seats S j s x o text named fresh i c row changes count K) (λ n z r. r.end ≡ unfixed → IsCarried S.catalog.defs T (script_end v T z r).state.tables)
                   (λ e. inr (ch.then_defs v cells seats S j s x o text named fresh i c row changes count K)) (λ n z r ne h e. S.tables_are_serial.carried n z r h e);
               indexed = each_open seats j (sits s y) x o y p (ch.goes v cells seats S j s x o text named fresh i c row changes count K) (λ n z r. r.end ≡ unfixed → IsIndexed C' z.place)
-                  (λ e. indexed_here o.opened) (λ n z r ne h e. indexed_else z.place (S.tables_are_serial.indexed n z r h e));
+                  (λ e. indexed_here o.explicit) (λ n z r ne h e. indexed_else z.place (S.tables_are_serial.indexed n z r h e));
               versions = ch.by_table v cells seats S j s x o text named fresh i c row changes count K (λ id. committed S.ledger.items (versions_at C' id) ≡ versions_of T id)
                   (ap (committed S.ledger.items) (ch.rows_are v cells seats S j s x o text named fresh i c row changes count K) ∙ commits_same ∙ ap (committed S.ledger.items) (sym rows_were) ∙ S.tables_are_serial.versions c.id one_le)
                   (λ id l ne. ap (committed S.ledger.items) (ch.rows_elsewhere v cells seats S j s x o text named fresh i c row changes count K id ne) ∙ S.tables_are_serial.versions id l);

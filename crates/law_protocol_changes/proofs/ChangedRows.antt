@@ -6,31 +6,31 @@ use Rattle.std.specs.Prelude.{◌==◌, ◌&&◌, ◌||◌, not, if◌then◌els
 use Rattle.std.specs.List.{AllByRecursion, filter, list_any}
 use Rattle.std.specs.Ordering.{nat_cmp}
 use Rattle.std.specs.declared.cmp.Ordering.TheVariants.{Less}
-use Rattle.lg_value.specs.declared.column.ColumnDef.{ColumnDef}
-use Rattle.lg_types.specs.declared.event.Event.{Event}
-use Rattle.lg_types.specs.declared.version.Version.{Version}
-use Rattle.lg_model.specs.Rows.{EventId, start_cmp}
-use Rattle.lg_model.specs.Keys.{Key, same_key, version_key, of_key}
-use Rattle.lg_model.specs.Changes.{Change, changed, changed_all}
-use Rattle.lg_model.specs.Events.{end_events, version_events}
-use Rattle.lg_model.specs.Lists.{sorted}
-use Rattle.lg_model.specs.Runs.{Rising, IsBefore, EndsBefore, MadeBefore}
-use Rattle.lg_model.specs.Undo.{is_undone, end_left, end_undone, versions_undone}
-use Rattle.lg_frames.proofs.AgreeAfter.{key_after}
-use Rattle.lg_frames.proofs.Alls.{all_weaker, all_filter}
-use Rattle.lg_frames.proofs.ByKeys.{by_keys}
-use Rattle.lg_frames.proofs.OtherTransactions.{versions_untouched}
-use Rattle.lg_frames.proofs.SameKeys.{same_itself}
-use Rattle.lg_frames.proofs.Sounds.{rising_changed, before_changed}
-use Rattle.lg_frames.proofs.UndoneVersions.{Undoes, change_undoes, still_undoes}
-use Rattle.lg_history.specs.Lists.{In}
-use Rattle.lg_standing.specs.EventsIn.{events_in}
-use Rattle.lg_standing.specs.Cells.{cell_of}
-use Rattle.lg_standing.specs.Seats.{going_back, Place, inside}
-use Rattle.lg_standing.specs.OpenScripts.{counted}
-use Rattle.lg_standing.specs.RowsAgree.{GoesBackTo}
-use Rattle.lg_model.specs.Touched as t
-use Rattle.lg_frames.proofs.SameTouched as touching
+use Rattle.sql_value.specs.declared.column.ColumnDef.{ColumnDef}
+use Rattle.sql_types.specs.declared.event.Event.{Event}
+use Rattle.sql_types.specs.declared.version.Version.{Version}
+use Rattle.spec_model.specs.Rows.{EventId, start_cmp}
+use Rattle.spec_model.specs.Keys.{Key, same_key, version_key, of_key}
+use Rattle.spec_model.specs.Changes.{Change, changed, changed_all}
+use Rattle.spec_model.specs.Events.{end_events, version_events}
+use Rattle.spec_model.specs.Lists.{sorted}
+use Rattle.spec_model.specs.Runs.{Rising, IsBefore, EndsBefore, MadeBefore}
+use Rattle.spec_model.specs.Undo.{is_undone, end_left, end_undone, versions_undone}
+use Rattle.law_frame.proofs.AgreeAfter.{key_after}
+use Rattle.law_frame.proofs.Alls.{all_weaker, all_filter}
+use Rattle.law_frame.proofs.ByKeys.{by_keys}
+use Rattle.law_frame.proofs.OtherTransactions.{versions_untouched}
+use Rattle.law_frame.proofs.SameKeys.{same_itself}
+use Rattle.law_frame.proofs.Sounds.{rising_changed, before_changed}
+use Rattle.law_frame.proofs.UndoneVersions.{Undoes, change_undoes, still_undoes}
+use Rattle.spec_history.specs.Lists.{In}
+use Rattle.spec_protocol.specs.EventsIn.{events_in}
+use Rattle.spec_protocol.specs.Cells.{cell_of}
+use Rattle.spec_protocol.specs.Seats.{going_back, SessionStatus, inside}
+use Rattle.spec_protocol.specs.OpenScripts.{counted}
+use Rattle.spec_protocol.specs.RowsAgree.{GoesBackTo}
+use Rattle.spec_model.specs.Touched as t
+use Rattle.law_frame.proofs.SameTouched as touching
 
 -- ---- changes one after another
 
@@ -215,11 +215,11 @@ touched_agree tx columns V W r q h = by_keys columns (t.touched tx V) (t.touched
 -- ---- what counts on a way back
 
 -- all counts, or what is below the savepoint's number
-pub data IsCounted (tx id : ℕ) (place : Place) : Type 0 where
+pub data IsCounted (tx id : ℕ) (place : SessionStatus) : Type 0 where
   all_count : ((vs : List Version) → counted tx id place vs ≡ vs) → IsCounted tx id place
   some_undone : (seq : ℕ) → ((n : ℕ) → GoesBackTo place n → seq ≡ n) → ((vs : List Version) → counted tx id place vs ≡ versions_undone tx seq vs) → IsCounted tx id place
 
-pub counted_is : (tx id : ℕ) (place : Place) → IsCounted tx id place
+pub counted_is : (tx id : ℕ) (place : SessionStatus) → IsCounted tx id place
 counted_is tx id (inside text (going_back seq cells)) = by (list_any (λ i. i == cell_of id) cells) refl
   where
     by : (b : Bool) → list_any (λ i. i == cell_of id) cells ≡ b → IsCounted tx id (inside text (going_back seq cells))

@@ -5,48 +5,48 @@ use Rattle.std.specs.Prelude.{◌-◌}
 use Rattle.std.specs.List.{AllByRecursion}
 use mathlib.Core.Option.{some}
 use lib.ListN.{get_elem?}
-use Rattle.lg_value.specs.declared.column.ColumnDef.{ColumnDef}
-use Rattle.lg_types.specs.declared.lock.Want.{Want}
-use Rattle.lg_types.specs.declared.reply.Reply.TheVariants as reply
-use Rattle.lg_types.specs.declared.statement.Stmt.TheVariants as stmt
-use Rattle.lg_types.specs.declared.statement.RowStmt.{RowStmt}
-use Rattle.lg_types.specs.declared.version.Version.{Version}
-use Rattle.lg_model.specs.Keys.{Key, of_key}
-use Rattle.lg_model.specs.Catalog.{Defs, Named, Tables, defs_of, versions_of, changed_table}
-use Rattle.lg_model.specs.Changes.{Change, changed_all, row_changes}
-use Rattle.lg_model.specs.Checks.{row_statement_check}
-use Rattle.lg_model.specs.Journals.{Line}
-use Rattle.lg_model.specs.Lists.{repeats}
-use Rattle.lg_model.specs.Create.{names_of}
-use Rattle.lg_model.specs.Locks.{row_wants}
-use Rattle.lg_model.specs.Agreement.{AgreeOnAll, columns_at}
-use Rattle.lg_model.specs.Reach.{has_key, lets_change}
-use Rattle.lg_model.specs.Runs.{Rising, MadeBefore}
-use Rattle.lg_model.specs.Replies.{reply_text}
-use Rattle.lg_model.specs.Script.{Step, ScriptEnd, start, script}
-use Rattle.lg_model.specs.Undo.{versions_undone}
-use Rattle.lg_frames.proofs.Alls.{all_weaker}
-use Rattle.lg_frames.proofs.AtTable.{rising_at, before_at, names_at}
-use Rattle.lg_frames.proofs.Definitions.{same_defs, opened_keep_defs}
-use Rattle.lg_frames.proofs.LeftAlone.{all_leave}
-use Rattle.lg_frames.proofs.LeftRows.{row_leaves}
-use Rattle.lg_frames.proofs.NoClash.{Relies}
-use Rattle.lg_frames.proofs.SamePlan.{same_changes}
-use Rattle.lg_frames.proofs.UndoneVersions.{row_undoes}
-use Rattle.lg_history.specs.Lists.{Text, Each, In}
-use Rattle.lg_history.specs.Transactions.{unfixed}
-use Rattle.lg_standing.specs.Server.{Server}
-use Rattle.lg_types.specs.declared.lock.Hold.{Hold}
-use Rattle.lg_standing.specs.Cells.{TableCell, Cell, Rows, holds_at, versions_at, cell_of}
-use Rattle.lg_standing.specs.Seats.{OpenTransaction, found, Place, inside, Session, session, SeatState}
-use Rattle.lg_standing.specs.OpenOnes.{HasOpen, lines_at, script_so_far, texts_so_far, script_end}
-use Rattle.lg_standing.specs.OpenScripts.{counted}
-use Rattle.lg_standing.specs.Moves.{noting, at_place, sits}
-use Rattle.lg_standing.specs.Doing.{grown, events_from, with_line, with_reply, stage_after}
-use Rattle.lg_standing.specs.TableVisits.{with_versions}
-use Rattle.lg_standing.specs.WantsIn.{Holds}
-use Rattle.lg_standing.specs.RowsAgree.{GoesBackTo, IsOpenedAt}
-use Rattle.lg_standing.specs.StandTogether.{History, Stands}
+use Rattle.sql_value.specs.declared.column.ColumnDef.{ColumnDef}
+use Rattle.sql_types.specs.declared.lock.LockRequest.{LockRequest}
+use Rattle.sql_types.specs.declared.reply.Reply.TheVariants as reply
+use Rattle.sql_types.specs.declared.statement.Stmt.TheVariants as stmt
+use Rattle.sql_types.specs.declared.statement.RowStmt.{RowStmt}
+use Rattle.sql_types.specs.declared.version.Version.{Version}
+use Rattle.spec_model.specs.Keys.{Key, of_key}
+use Rattle.spec_model.specs.Catalog.{Defs, NamedPart, Tables, defs_of, versions_of, changed_table}
+use Rattle.spec_model.specs.Changes.{Change, changed_all, row_changes}
+use Rattle.spec_model.specs.Checks.{row_statement_check}
+use Rattle.spec_model.specs.Journals.{Line}
+use Rattle.spec_model.specs.Lists.{repeats}
+use Rattle.spec_model.specs.Create.{names_of}
+use Rattle.spec_model.specs.Locks.{row_requests}
+use Rattle.spec_model.specs.Agreement.{AgreeOnAll, columns_at}
+use Rattle.spec_model.specs.Reach.{has_key, lets_change}
+use Rattle.spec_model.specs.Runs.{Rising, MadeBefore}
+use Rattle.spec_model.specs.Replies.{reply_text}
+use Rattle.spec_model.specs.Script.{Step, ScriptEnd, start, script}
+use Rattle.spec_model.specs.Undo.{versions_undone}
+use Rattle.law_frame.proofs.Alls.{all_weaker}
+use Rattle.law_frame.proofs.AtTable.{rising_at, before_at, names_at}
+use Rattle.law_frame.proofs.Definitions.{same_defs, opened_keep_defs}
+use Rattle.law_frame.proofs.LeftAlone.{all_leave}
+use Rattle.law_frame.proofs.LeftRows.{row_leaves}
+use Rattle.law_frame.proofs.NoClash.{Relies}
+use Rattle.law_frame.proofs.SameChangeSet.{same_changes}
+use Rattle.law_frame.proofs.UndoneVersions.{row_undoes}
+use Rattle.spec_history.specs.Lists.{Text, Each, In}
+use Rattle.spec_history.specs.Transactions.{unfixed}
+use Rattle.spec_protocol.specs.Server.{Server}
+use Rattle.sql_types.specs.declared.lock.Hold.{Hold}
+use Rattle.spec_protocol.specs.Cells.{TableCell, Cell, Rows, holds_at, versions_at, cell_of}
+use Rattle.spec_protocol.specs.Seats.{OpenTransaction, found, SessionStatus, inside, Session, session, SeatState}
+use Rattle.spec_protocol.specs.OpenOnes.{HasOpen, lines_at, script_so_far, texts_so_far, script_end}
+use Rattle.spec_protocol.specs.OpenScripts.{counted}
+use Rattle.spec_protocol.specs.Moves.{noting, at_place, sits}
+use Rattle.spec_protocol.specs.Doing.{grown, events_from, with_line, with_reply, stage_after}
+use Rattle.spec_protocol.specs.TableVisits.{with_versions}
+use Rattle.spec_protocol.specs.RequestsIn.{Holds}
+use Rattle.spec_protocol.specs.RowsAgree.{GoesBackTo, IsExplicitAt}
+use Rattle.spec_protocol.specs.StandTogether.{History, Stands}
 use Rattle.law_protocol_steps.proofs.SeatsAfter.{Goes, each_open}
 use Rattle.law_protocol_steps.proofs.CellsAfter.{held_here, each_holds, versions_here, were_here, versions_else}
 use Rattle.law_protocol_changes.proofs.ChangedRows.{all_rising, all_before, all_untouched, keys_follow, all_undo, undone_of_key, IsCounted, all_count, some_undone, counted_is, later, undone_before}
@@ -54,14 +54,14 @@ use Rattle.law_protocol_steps.proofs.SeatIds.{one_seat, outside}
 use Rattle.law_protocol_steps.proofs.Excluded.{HasNoX, none_reach}
 use Rattle.law_protocol_steps.proofs.RowsFor.{sound, end_alone, end_sound, agree_on}
 use Rattle.law_protocol_steps.proofs.NewLine.{one_more, its_step, checked_part, changed_here, changed_else}
-use Rattle.lg_frames.proofs.AgreeAfter.{has_table}
+use Rattle.law_frame.proofs.AgreeAfter.{has_table}
 use Rattle.law_protocol_steps.proofs.Takes.{tables_now}
 use Rattle.law_protocol_steps.proofs.TakesInTable.{IsAtPlace, table_place, cell_at, users}
 use Rattle.law_protocol_steps.proofs.OfCells.{IsFree, RowsAgree, in_journal}
 use Rattle.law_protocol_changes.proofs.Apart.{x_apart}
 
 -- a seat stands at what it found in the catalog, has its locks in the cell of its table, and makes these changes there
-pub record Changing (v : Server) (cells : List Cell) (seats : List SeatState) {history : History} (S : Stands v history cells seats) (j : ℕ) (s : SeatState) (x : Session) (o : OpenTransaction) (text : Text) (named : Named) (fresh : Bool)
+pub record Changing (v : Server) (cells : List Cell) (seats : List SeatState) {history : History} (S : Stands v history cells seats) (j : ℕ) (s : SeatState) (x : Session) (o : OpenTransaction) (text : Text) (named : NamedPart) (fresh : Bool)
     (i : ℕ) (c : TableCell) (row : RowStmt) (changes : List Change) (count : ℕ) : Type 0 where
   pub there : get_elem? seats j ≡ some s
   pub role : s.role ≡ session x
@@ -74,14 +74,14 @@ pub record Changing (v : Server) (cells : List Cell) (seats : List SeatState) {h
   pub here : named.0.id ≡ c.id
   pub columns : columns_at (defs_of (tables_now S)) c.id ≡ named.0.columns
   pub defined : has_table (defs_of (tables_now S)) c.id ≡ true
-  pub held : Each (Holds c.holds o.id) (row_wants named.0 row)
-  pub others : (w : Want) → In w (row_wants named.0 row) → Relies w.mode → (key : Key) → has_key key w.item ≡ true → (h : Hold) → In h c.holds → h.tx ≢ o.id → lets_change key h.want ≡ false
+  pub held : Each (Holds c.holds o.id) (row_requests named.0 row)
+  pub others : (w : LockRequest) → In w (row_requests named.0 row) → Relies w.mode → (key : Key) → has_key key w.item ≡ true → (h : Hold) → In h c.holds → h.tx ≢ o.id → lets_change key h.request ≡ false
   pub changed : row_changes named.0 c.versions row ≡ Ok (changes, count)
 
 pub user_cell : (id : ℕ) → 3 ≤ id → cell_of id ≡ id - 1
 user_cell id l = rw (ne_eqb id 1 (λ e. omega arith), ne_eqb id 2 (λ e. omega arith)) refl
 
-module _ (v : Server) (cells : List Cell) (seats : List SeatState) {history : History} (S : Stands v history cells seats) (j : ℕ) (s : SeatState) (x : Session) (o : OpenTransaction) (text : Text) (named : Named) (fresh : Bool)
+module _ (v : Server) (cells : List Cell) (seats : List SeatState) {history : History} (S : Stands v history cells seats) (j : ℕ) (s : SeatState) (x : Session) (o : OpenTransaction) (text : Text) (named : NamedPart) (fresh : Bool)
     (i : ℕ) (c : TableCell) (row : RowStmt) (changes : List Change) (count : ℕ) (K : Changing v cells seats S j s x o text named fresh i c row changes count) where
   abbrev T : Tables
   T = tables_now S
@@ -102,7 +102,7 @@ module _ (v : Server) (cells : List Cell) (seats : List SeatState) {history : Hi
   open_then = with_reply text (reply.Changed count) (noting (o.seq + length changes) (grown c.id (events_from o.id o.seq c.id rows_then) o.trees) o)
 
   abbrev pub session_then : Session
-  session_then = at_place (Some open_then) (inside text (stage_after o.opened (reply.Changed count))) x
+  session_then = at_place (Some open_then) (inside text (stage_after o.explicit (reply.Changed count))) x
 
   abbrev pub then_sits : SeatState
   then_sits = sits s session_then
@@ -149,10 +149,10 @@ module _ (v : Server) (cells : List Cell) (seats : List SeatState) {history : Hi
   -- ---- the script's table
 
   pub whole_script : script_so_far x o ≡ o.script
-  whole_script = ap (λ (q : Place). o.script ++ lines_at q) K.place ∙ append-nil o.script
+  whole_script = ap (λ (q : SessionStatus). o.script ++ lines_at q) K.place ∙ append-nil o.script
 
   pub no_count : (id : ℕ) (vs : List Version) → counted o.id id x.place vs ≡ vs
-  no_count id vs = ap (λ (q : Place). counted o.id id q vs) K.place
+  no_count id vs = ap (λ (q : SessionStatus). counted o.id id q vs) K.place
 
   abbrev E : ScriptEnd
   E = script_end v T x o
@@ -172,19 +172,19 @@ module _ (v : Server) (cells : List Cell) (seats : List SeatState) {history : Hi
   pub W_before : AllByRecursion (MadeBefore o.id o.seq) W
   W_before = before_at o.id o.seq c.id E.state.tables (end_sound v cells seats S j x o has_open K.unfixed whole_script).each
 
-  agree : AgreeOnAll named.0.columns (row_wants named.0 row) c.versions W
-  agree = subst (λ (cols : List ColumnDef). AgreeOnAll cols (row_wants named.0 row) c.versions W) K.columns
-      (subst (λ (vs : List Version). AgreeOnAll columns (row_wants named.0 row) vs W) rows_were
-      (agree_on v cells seats S j x o has_open K.unfixed whole_script c.id (omega (arith, user)) (no_count c.id) (row_wants named.0 row) (λ w d r key q h has ne. K.others w d r key q h (held_in h has) ne)))
+  agree : AgreeOnAll named.0.columns (row_requests named.0 row) c.versions W
+  agree = subst (λ (cols : List ColumnDef). AgreeOnAll cols (row_requests named.0 row) c.versions W) K.columns
+      (subst (λ (vs : List Version). AgreeOnAll columns (row_requests named.0 row) vs W) rows_were
+      (agree_on v cells seats S j x o has_open K.unfixed whole_script c.id (omega (arith, user)) (no_count c.id) (row_requests named.0 row) (λ w d r key q h has ne. K.others w d r key q h (held_in h has) ne)))
 
   -- the script makes the same changes
   same_there : row_changes named.0 W row ≡ Ok (changes, count)
   same_there = sym (same_changes named.0 row c.versions W agree) ∙ K.changed
 
   E_defs : defs_of E.state.tables ≡ defs_of T
-  E_defs = by o.opened refl
+  E_defs = by o.explicit refl
     where
-      by : (b : Bool) → o.opened ≡ b → defs_of E.state.tables ≡ defs_of T
+      by : (b : Bool) → o.explicit ≡ b → defs_of E.state.tables ≡ defs_of T
       by true e = ap (λ (b : Bool). defs_of (script v.reads b T o.id (texts_so_far x o)).state.tables) e ∙ (opened_keep_defs v.reads T o.id (texts_so_far x o)).tables
       by false e = ap defs_of (end_alone v cells seats S j x o has_open K.unfixed whole_script e)
 
@@ -192,7 +192,7 @@ module _ (v : Server) (cells : List Cell) (seats : List SeatState) {history : Hi
   new_line = (text, reply_text (reply.Changed count))
 
   pub script_then : script_so_far session_then open_then ≡ script_so_far x o ++ new_line ∷ []
-  script_then = by o.opened
+  script_then = by o.explicit
       ∙ ap (λ (ls : List Line). ls ++ new_line ∷ []) (sym whole_script)
     where
       by : (b : Bool) → with_line b new_line o.script ++ lines_at (inside text (stage_after b (reply.Changed count))) ≡ o.script ++ new_line ∷ []
@@ -214,10 +214,10 @@ module _ (v : Server) (cells : List Cell) (seats : List SeatState) {history : Hi
 
   -- what the script comes to with the statement
   pub ends_so : script_end v T session_then open_then ≡ end_then
-  ends_so = ap (script v.reads o.opened T o.id) texts_then
-      ∙ one_more v.reads o.opened o.id (start T) (texts_so_far x o) text
+  ends_so = ap (script v.reads o.explicit T o.id) texts_then
+      ∙ one_more v.reads o.explicit o.id (start T) (texts_so_far x o) text
       ∙ ap (λ (q : Step). record { state = q.0; replies = E.replies ++ q.1 ∷ [] })
-      (its_step v.reads o.opened o.id E.state text row named.0 changes count K.is (ap (λ (ds : Defs). row_statement_check ds row) E_defs ∙ K.checked)
+      (its_step v.reads o.explicit o.id E.state text row named.0 changes count K.is (ap (λ (ds : Defs). row_statement_check ds row) E_defs ∙ K.checked)
       (ap (λ (n : ℕ). row_changes named.0 (versions_of E.state.tables n) row) K.here ∙ same_there))
 
   -- the script still leaves the definitions
@@ -245,7 +245,7 @@ module _ (v : Server) (cells : List Cell) (seats : List SeatState) {history : Hi
       let names = subst (λ (cols : List ColumnDef). repeats (names_of cols) ≡ false) K.columns (names_at o.id 0 c.id T (sound v cells seats S j x o has_open K.unfixed).each) in
       let free_here : HasNoX c.holds o.id key = λ h has m. free h (subst (λ (n : ℕ). In h (holds_at cells n)) (sym here) (subst (In h) (sym (held_here cells i (Rows c) (Rows c) K.out)) has)) m in
       subst (λ (cols : List ColumnDef). of_key cols key (changed_all o.id o.seq changes vs) ≡ of_key cols key vs) (sym K.columns)
-      (all_leave named.0.columns key o.id o.seq changes vs (row_leaves named.0 part.0 row key vs (changes, count) r names part.1 (none_reach c.holds o.id key (row_wants named.0 row) free_here K.held) e))
+      (all_leave named.0.columns key o.id o.seq changes vs (row_leaves named.0 part.0 row key vs (changes, count) r names part.1 (none_reach c.holds o.id key (row_requests named.0 row) free_here K.held) e))
 
   pub left : (key : Key) → HasNoX (holds_at cells (cell_of c.id)) o.id key → of_key columns key rows_then ≡ of_key columns key c.versions
   left key free = leaves key c.versions V_rising K.changed free
@@ -254,17 +254,17 @@ module _ (v : Server) (cells : List Cell) (seats : List SeatState) {history : Hi
   left_in_script key free = leaves key W W_rising same_there free
 
   -- where another transaction has X, this one hasn't
-  pub none_besides : (key : Key) (h : Hold) → In h (holds_at cells (cell_of c.id)) → h.tx ≢ o.id → lets_change key h.want ≡ true → HasNoX (holds_at cells (cell_of c.id)) o.id key
-  none_besides key h has ne reach g i m = by (lets_change key g.want) refl
+  pub none_besides : (key : Key) (h : Hold) → In h (holds_at cells (cell_of c.id)) → h.tx ≢ o.id → lets_change key h.request ≡ true → HasNoX (holds_at cells (cell_of c.id)) o.id key
+  none_besides key h has ne reach g i m = by (lets_change key g.request) refl
     where
-      by : (b : Bool) → lets_change key g.want ≡ b → b ≡ false
+      by : (b : Bool) → lets_change key g.request ≡ b → b ≡ false
       by true e = absurd (x_apart v cells seats S (cell_of c.id) key g h i has (λ z. ne (z ∙ m)) e reach)
       by false e = refl
 
   pub follows : (key : Key) → of_key columns key c.versions ≡ of_key columns key W → of_key columns key rows_then ≡ of_key columns key W_then
   follows key e = keys_follow o.id columns key o.seq changes c.versions W V_before W_before V_rising W_rising e
 
-  pub owned : (key : Key) (h : Hold) → In h (holds_at cells (cell_of c.id)) → h.tx ≡ o.id → lets_change key h.want ≡ true → of_key columns key rows_then ≡ of_key columns key W_then
+  pub owned : (key : Key) (h : Hold) → In h (holds_at cells (cell_of c.id)) → h.tx ≡ o.id → lets_change key h.request ≡ true → of_key columns key rows_then ≡ of_key columns key W_then
   owned key h has m reach = follows key (ap (of_key columns key) (sym rows_were) ∙ sym (no_count c.id (of_key columns key (versions_at cells c.id)))
       ∙ S.rows_agree.own j x o has_open K.unfixed c.id key (omega (arith, user)) h has m reach)
 
@@ -297,9 +297,9 @@ module _ (v : Server) (cells : List Cell) (seats : List SeatState) {history : Hi
   mine_outside n = outside v cells seats S j x o n has_open K.unfixed
 
   free_of_mine : (key : Key) → IsFree (holds_at cells (cell_of c.id)) S.ledger key → HasNoX (holds_at cells (cell_of c.id)) o.id key
-  free_of_mine key f h has m = by (lets_change key h.want) refl
+  free_of_mine key f h has m = by (lets_change key h.request) refl
     where
-      by : (b : Bool) → lets_change key h.want ≡ b → b ≡ false
+      by : (b : Bool) → lets_change key h.request ≡ b → b ≡ false
       by true e = absurd (let z : in_journal S.ledger.items (o.id, 0) ≡ true = ap (λ (n : ℕ). in_journal S.ledger.items (n, 0)) (sym m) ∙ f h has e in let y = mine_outside 0 in cc)
       by false e = refl
 
@@ -314,31 +314,31 @@ module _ (v : Server) (cells : List Cell) (seats : List SeatState) {history : Hi
       (λ id l ne key f. key_rows cells_then id key (λ vs. vs) (versions_at cells id) (rows_elsewhere id ne) ∙ S.rows_agree.free id key l (free_before (cell_of id) key f))
 
   pub counts_then : (tx id : ℕ) (vs : List Version) → counted tx id session_then.place vs ≡ vs
-  counts_then tx id vs = by o.opened
+  counts_then tx id vs = by o.explicit
     where
       by : (b : Bool) → counted tx id (inside text (stage_after b (reply.Changed count))) vs ≡ vs
       by true = refl
       by false = refl
 
-  own_then : (id : ℕ) → 1 ≤ id → (key : Key) (h : Hold) → In h (holds_at cells_then (cell_of id)) → h.tx ≡ o.id → lets_change key h.want ≡ true
+  own_then : (id : ℕ) → 1 ≤ id → (key : Key) (h : Hold) → In h (holds_at cells_then (cell_of id)) → h.tx ≡ o.id → lets_change key h.request ≡ true
       → counted o.id id session_then.place (of_key (columns_at (defs_of T) id) key (versions_at cells_then id)) ≡ of_key (columns_at (defs_of T) id) key (versions_of (script_end v T session_then open_then).state.tables id)
-  own_then = by_table (λ id. (key : Key) (h : Hold) → In h (holds_at cells_then (cell_of id)) → h.tx ≡ o.id → lets_change key h.want ≡ true
+  own_then = by_table (λ id. (key : Key) (h : Hold) → In h (holds_at cells_then (cell_of id)) → h.tx ≡ o.id → lets_change key h.request ≡ true
       → counted o.id id session_then.place (of_key (columns_at (defs_of T) id) key (versions_at cells_then id)) ≡ of_key (columns_at (defs_of T) id) key (versions_of (script_end v T session_then open_then).state.tables id))
       (λ key h has m r. counts_then o.id c.id _ ∙ key_rows cells_then c.id key (λ vs. vs) rows_then rows_are ∙ owned key h (was_held (cell_of c.id) h has) m r ∙ ap (of_key columns key) (sym script_rows))
       (λ id l ne key h has m r. counts_then o.id id _ ∙ key_rows cells_then id key (λ vs. vs) (versions_at cells id) (rows_elsewhere id ne)
       ∙ sym (no_count id _) ∙ S.rows_agree.own j x o has_open K.unfixed id key l h (was_held (cell_of id) h has) m r ∙ ap (of_key (columns_at (defs_of T) id) key) (sym (script_elsewhere id (not_this id ne))))
 
-  own_else : (n : ℕ) (z : Session) (r : OpenTransaction) → n ≢ j → HasOpen seats n z r → r.end ≡ unfixed → (id : ℕ) → 1 ≤ id → (key : Key) (h : Hold) → In h (holds_at cells_then (cell_of id)) → h.tx ≡ r.id → lets_change key h.want ≡ true
+  own_else : (n : ℕ) (z : Session) (r : OpenTransaction) → n ≢ j → HasOpen seats n z r → r.end ≡ unfixed → (id : ℕ) → 1 ≤ id → (key : Key) (h : Hold) → In h (holds_at cells_then (cell_of id)) → h.tx ≡ r.id → lets_change key h.request ≡ true
       → counted r.id id z.place (of_key (columns_at (defs_of T) id) key (versions_at cells_then id)) ≡ of_key (columns_at (defs_of T) id) key (versions_of (script_end v T z r).state.tables id)
-  own_else n z r ne g e = by_table (λ id. (key : Key) (h : Hold) → In h (holds_at cells_then (cell_of id)) → h.tx ≡ r.id → lets_change key h.want ≡ true
+  own_else n z r ne g e = by_table (λ id. (key : Key) (h : Hold) → In h (holds_at cells_then (cell_of id)) → h.tx ≡ r.id → lets_change key h.request ≡ true
       → counted r.id id z.place (of_key (columns_at (defs_of T) id) key (versions_at cells_then id)) ≡ of_key (columns_at (defs_of T) id) key (versions_of (script_end v T z r).state.tables id))
       (λ key h has m reach. kept_key key (counted r.id c.id z.place) (none_besides key h (was_held (cell_of c.id) h has) (λ y. ne (one_seat v cells seats S n j z x r o g has_open (sym m ∙ y))) reach)
       ∙ S.rows_agree.own n z r g e c.id key (omega (arith, user)) h (was_held (cell_of c.id) h has) m reach)
       (λ id l d key h has m reach. key_rows cells_then id key (counted r.id id z.place) (versions_at cells id) (rows_elsewhere id d) ∙ S.rows_agree.own n z r g e id key l h (was_held (cell_of id) h has) m reach)
 
-  undone_then : (id : ℕ) → 1 ≤ id → (key : Key) (h : Hold) → In h (holds_at cells_then (cell_of id)) → in_journal S.ledger.items (h.tx, 0) ≡ false → lets_change key h.want ≡ true
+  undone_then : (id : ℕ) → 1 ≤ id → (key : Key) (h : Hold) → In h (holds_at cells_then (cell_of id)) → in_journal S.ledger.items (h.tx, 0) ≡ false → lets_change key h.request ≡ true
       → versions_undone h.tx 0 (of_key (columns_at (defs_of T) id) key (versions_at cells_then id)) ≡ of_key (columns_at (defs_of T) id) key (versions_of T id)
-  undone_then = by_table (λ id. (key : Key) (h : Hold) → In h (holds_at cells_then (cell_of id)) → in_journal S.ledger.items (h.tx, 0) ≡ false → lets_change key h.want ≡ true
+  undone_then = by_table (λ id. (key : Key) (h : Hold) → In h (holds_at cells_then (cell_of id)) → in_journal S.ledger.items (h.tx, 0) ≡ false → lets_change key h.request ≡ true
       → versions_undone h.tx 0 (of_key (columns_at (defs_of T) id) key (versions_at cells_then id)) ≡ of_key (columns_at (defs_of T) id) key (versions_of T id))
       (λ key h has u reach. let was = was_held (cell_of c.id) h has in ⊎_elim
       (λ (m : h.tx ≡ o.id). key_rows cells_then c.id key (versions_undone h.tx 0) rows_then rows_are
@@ -376,22 +376,22 @@ module _ (v : Server) (cells : List Cell) (seats : List SeatState) {history : Hi
   rows_agree = record {
     free = λ id key l f. free_then id l key f;
     own = each_open seats j (sits s session_then) x o session_then open_then goes
-        (λ n z r. r.end ≡ unfixed → (id : ℕ) (key : Key) → 1 ≤ id → (h : Hold) → In h (holds_at cells_then (cell_of id)) → h.tx ≡ r.id → lets_change key h.want ≡ true
+        (λ n z r. r.end ≡ unfixed → (id : ℕ) (key : Key) → 1 ≤ id → (h : Hold) → In h (holds_at cells_then (cell_of id)) → h.tx ≡ r.id → lets_change key h.request ≡ true
         → counted r.id id z.place (of_key (columns_at (defs_of T) id) key (versions_at cells_then id)) ≡ of_key (columns_at (defs_of T) id) key (versions_of (script_end v T z r).state.tables id))
         (λ e id key l h has m r. own_then id l key h has m r)
         (λ n z r ne g e id key l h has m reach. own_else n z r ne g e id l key h has m reach);
     undone = λ id key l h has u r. undone_then id l key h has u r;
     rising = rising_then;
-    back = each_open seats j (sits s session_then) x o session_then open_then goes (λ n z r. GoesBackTo z.place r.seq) (by o.opened) (λ n z r ne g. S.rows_agree.back n z r g);
-    opened = each_open seats j (sits s session_then) x o session_then open_then goes (λ n z r. IsOpenedAt z.place r.opened) (by_opened o.opened) (λ n z r ne g. S.rows_agree.opened n z r g);
+    back = each_open seats j (sits s session_then) x o session_then open_then goes (λ n z r. GoesBackTo z.place r.seq) (by o.explicit) (λ n z r ne g. S.rows_agree.back n z r g);
+    explicit = each_open seats j (sits s session_then) x o session_then open_then goes (λ n z r. IsExplicitAt z.place r.explicit) (by_explicit o.explicit) (λ n z r ne g. S.rows_agree.explicit n z r g);
     before = each_open seats j (sits s session_then) x o session_then open_then goes
         (λ n z r. r.end ≡ unfixed → (id : ℕ) → 1 ≤ id → AllByRecursion (MadeBefore r.id r.seq) (counted r.id id z.place (versions_at cells_then id)))
         (λ e id l. before_then id l) before_else;
   }
     where
-      by_opened : (b : Bool) → IsOpenedAt (inside text (stage_after b (reply.Changed count))) o.opened
-      by_opened true = tt
-      by_opened false = tt
+      by_explicit : (b : Bool) → IsExplicitAt (inside text (stage_after b (reply.Changed count))) o.explicit
+      by_explicit true = tt
+      by_explicit false = tt
 
       by : (b : Bool) → GoesBackTo (inside text (stage_after b (reply.Changed count))) open_then.seq
       by true = tt

@@ -3,11 +3,11 @@ use Rattle.std.proofs.Common.{◌≡◌, ℕ, Bool, true, false, List, [], ◌�
 use Rattle.std.proofs.lemmas.Bool.{eqb-true}
 use Rattle.std.specs.Prelude.{◌==◌, not, nat_le, if◌then◌else◌}
 use Rattle.std.specs.List.{filter}
-use Rattle.lg_types.specs.declared.journal.JournalItem.{JournalItem}
-use Rattle.lg_types.specs.declared.version.Version.{Version}
-use Rattle.lg_model.specs.Rows.{EventId}
-use Rattle.lg_model.specs.Undo.{is_undone, end_left, end_undone, versions_undone}
-use Rattle.lg_frames.proofs.SameKeys.{and_true}
+use Rattle.sql_types.specs.declared.journal.JournalItem.{JournalItem}
+use Rattle.sql_types.specs.declared.version.Version.{Version}
+use Rattle.spec_model.specs.Rows.{EventId}
+use Rattle.spec_model.specs.Undo.{is_undone, end_left, end_undone, versions_undone}
+use Rattle.law_frame.proofs.SameKeys.{and_true}
 use Rattle.law_protocol_steps.proofs.OfCells.{committed, end_committed, in_journal, with_committed_end}
 
 module _ (J : List JournalItem) (tx : ℕ) (outside : in_journal J (tx, 0) ≡ false) where

@@ -7,62 +7,62 @@ use Rattle.std.specs.Prelude.{◌==◌, ◌||◌, ◌-◌, if◌then◌else◌}
 use Rattle.std.specs.List.{AllByRecursion, list_any}
 use mathlib.Core.Option.{some}
 use lib.ListN.{get_elem?}
-use Rattle.lg_value.specs.declared.refusal.Refusal.{Refusal}
-use Rattle.lg_types.specs.declared.lock.Mode.{Mode}
-use Rattle.lg_types.specs.declared.lock.Mode.TheVariants.{X}
-use Rattle.lg_types.specs.declared.lock.Item.{Item}
-use Rattle.lg_types.specs.declared.lock.Want.{Want}
-use Rattle.lg_types.specs.declared.reply.Reply.{Reply}
-use Rattle.lg_types.specs.declared.reply.Reply.TheVariants as reply
-use Rattle.lg_types.specs.declared.statement.Stmt.{Stmt}
-use Rattle.lg_types.specs.declared.statement.Stmt.TheVariants as st
-use Rattle.lg_types.specs.declared.table.TableDef.{TableDef}
-use Rattle.lg_types.specs.declared.table.IndexDef.{IndexDef}
-use Rattle.lg_types.specs.declared.version.Version.{Version}
-use Rattle.lg_types.specs.declared.version.Table.{Table}
-use Rattle.lg_model.specs.Rows.{Row}
-use Rattle.lg_model.specs.Catalog.{Defs, Tables, defs_of, versions_of, changed_table}
-use Rattle.lg_model.specs.Changes.{changed_all}
-use Rattle.lg_model.specs.Create.{create_check, index_check, with_index}
-use Rattle.lg_model.specs.Effect.{effect, table_effect, index_effect, table_start, column_starts, index_starts}
-use Rattle.lg_model.specs.SystemTables.{columns_id, column_rows, column_row, index_rows, index_row}
-use Rattle.lg_model.specs.Lists.{numbered}
-use Rattle.lg_model.specs.Locks.{whole, catalog_want}
-use Rattle.lg_model.specs.Plans.{plan, table_plan, index_plan, defined, in_place}
-use Rattle.lg_model.specs.Reach.{creates}
-use Rattle.lg_model.specs.Replies.{reply_text}
-use Rattle.lg_standing.specs.EventsIn.{events_in}
-use Rattle.lg_standing.specs.TreesAreOfEvents.{AreTrees}
-use Rattle.lg_types.specs.declared.event.Event.{Event}
-use Rattle.lg_standing.specs.Doing.{grown, events_from}
+use Rattle.sql_value.specs.declared.refusal.Refusal.{Refusal}
+use Rattle.sql_types.specs.declared.lock.Mode.{Mode}
+use Rattle.sql_types.specs.declared.lock.Mode.TheVariants.{X}
+use Rattle.sql_types.specs.declared.lock.Item.{Item}
+use Rattle.sql_types.specs.declared.lock.LockRequest.{LockRequest}
+use Rattle.sql_types.specs.declared.reply.Reply.{Reply}
+use Rattle.sql_types.specs.declared.reply.Reply.TheVariants as reply
+use Rattle.sql_types.specs.declared.statement.Stmt.{Stmt}
+use Rattle.sql_types.specs.declared.statement.Stmt.TheVariants as st
+use Rattle.sql_types.specs.declared.table.TableDef.{TableDef}
+use Rattle.sql_types.specs.declared.table.IndexDef.{IndexDef}
+use Rattle.sql_types.specs.declared.version.Version.{Version}
+use Rattle.sql_types.specs.declared.version.Table.{Table}
+use Rattle.spec_model.specs.Rows.{Row}
+use Rattle.spec_model.specs.Catalog.{Defs, Tables, defs_of, versions_of, changed_table}
+use Rattle.spec_model.specs.Changes.{changed_all}
+use Rattle.spec_model.specs.Create.{create_check, index_check, with_index}
+use Rattle.spec_model.specs.Effect.{effect, table_effect, index_effect, table_start, column_starts, index_starts}
+use Rattle.spec_model.specs.SystemTables.{columns_id, column_rows, column_row, index_rows, index_row}
+use Rattle.spec_model.specs.Lists.{numbered}
+use Rattle.spec_model.specs.Locks.{whole, catalog_request}
+use Rattle.spec_model.specs.ChangeSets.{change_set, create_table_change_set, create_index_change_set, defined, in_place}
+use Rattle.spec_model.specs.Reach.{creates}
+use Rattle.spec_model.specs.Replies.{reply_text}
+use Rattle.spec_protocol.specs.EventsIn.{events_in}
+use Rattle.spec_protocol.specs.TreesAreOfEvents.{AreTrees}
+use Rattle.sql_types.specs.declared.event.Event.{Event}
+use Rattle.spec_protocol.specs.Doing.{grown, events_from}
 use Rattle.law_protocol_changes.proofs.Grown.{grown_trees}
-use Rattle.lg_standing.specs.CatalogVisits.{with_table, with_new_index, with_system_leaves, replaced_def}
+use Rattle.spec_protocol.specs.CatalogVisits.{with_table, with_new_index, with_system_leaves, replaced_def}
 use Rattle.std.specs.Prelude.{nat_le}
 use Rattle.std.proofs.lemmas.Bool.Decides.{nat_tests}
 use Rattle.std.specs.List.{filter}
-use Rattle.lg_types.specs.declared.statement.CreateTable.{CreateTable}
-use Rattle.lg_types.specs.declared.statement.CreateIndex.{CreateIndex}
-use Rattle.lg_model.specs.Script.{start, text_step, by_statement, by_effect}
-use Rattle.lg_frames.proofs.AgreeAfter.{has_table}
-use Rattle.lg_frames.proofs.AtTable.{new_table, redefined_table}
-use Rattle.lg_frames.proofs.Definitions.{same_defs}
-use Rattle.lg_frames.proofs.Plans.{length-numbered, length-starts}
-use Rattle.lg_frames.proofs.UndoneVersions.{Undoes}
-use Rattle.lg_invariants.specs.Fine.{OfTable}
-use Rattle.lg_invariants.specs.Described.{Described}
-use Rattle.lg_invariants.proofs.DefLists.{defs_append, defs_redefined}
-use Rattle.lg_invariants.proofs.Serials.{legal_described}
-use Rattle.lg_history.specs.Lists.{Text, In}
-use Rattle.lg_standing.specs.Server.{Server}
-use Rattle.lg_types.specs.declared.lock.Hold.{Hold}
-use Rattle.lg_standing.specs.Cells.{CatalogCell, Cell, Catalog, versions_in, versions_at, catalog_at, cell_of}
-use Rattle.lg_standing.specs.Seats.{OpenTransaction, begun, made, replied, inside, Session, SeatState}
-use Rattle.lg_standing.specs.WantsIn.{Holds}
-use Rattle.lg_standing.specs.Moves.{visiting, noting, StandsOpen, at_place, sits}
-use Rattle.lg_standing.specs.Doing.{with_reply, with_line, stage_after}
-use Rattle.lg_standing.specs.LocksCover.{IsRepliedTo, IsAfter}
-use Rattle.lg_standing.specs.CatalogVisits.{CreateRefused, RefusesCreate, CreatesTable, CreatesIndex}
-use Rattle.lg_standing.specs.StandTogether.{History, Stands}
+use Rattle.sql_types.specs.declared.statement.CreateTable.{CreateTable}
+use Rattle.sql_types.specs.declared.statement.CreateIndex.{CreateIndex}
+use Rattle.spec_model.specs.Script.{start, text_step, by_statement, by_effect}
+use Rattle.law_frame.proofs.AgreeAfter.{has_table}
+use Rattle.law_frame.proofs.AtTable.{new_table, redefined_table}
+use Rattle.law_frame.proofs.Definitions.{same_defs}
+use Rattle.law_frame.proofs.ChangeSets.{length-numbered, length-starts}
+use Rattle.law_frame.proofs.UndoneVersions.{Undoes}
+use Rattle.law_journal.specs.Fine.{OfTable}
+use Rattle.law_journal.specs.Described.{Described}
+use Rattle.law_journal.proofs.DefLists.{defs_append, defs_redefined}
+use Rattle.law_journal.proofs.Serials.{legal_described}
+use Rattle.spec_history.specs.Lists.{Text, In}
+use Rattle.spec_protocol.specs.Server.{Server}
+use Rattle.sql_types.specs.declared.lock.Hold.{Hold}
+use Rattle.spec_protocol.specs.Cells.{CatalogCell, Cell, Catalog, versions_in, versions_at, catalog_at, cell_of}
+use Rattle.spec_protocol.specs.Seats.{OpenTransaction, begun, made, replied, inside, Session, SeatState}
+use Rattle.spec_protocol.specs.RequestsIn.{Holds}
+use Rattle.spec_protocol.specs.Moves.{visiting, noting, InOpenTransaction, at_place, sits}
+use Rattle.spec_protocol.specs.Doing.{with_reply, with_line, stage_after}
+use Rattle.spec_protocol.specs.LocksCover.{IsRepliedTo, IsAfter}
+use Rattle.spec_protocol.specs.CatalogVisits.{CreateRefused, RefusesCreate, CreatesTable, CreatesIndex}
+use Rattle.spec_protocol.specs.StandTogether.{History, Stands}
 use Rattle.law_protocol_steps.proofs.AfterSet.{set_here, set_same, set_twice}
 use Rattle.law_protocol_steps.proofs.CellsAfter.{were_here, versions_here}
 use Rattle.law_protocol_steps.proofs.Looks.{put_there}
@@ -72,12 +72,12 @@ use Rattle.law_protocol_steps.proofs.SameOne.{no_change, trees_from}
 use Rattle.law_protocol_steps.proofs.Takes.{tables_now}
 use Rattle.law_protocol_changes.proofs.CatalogTakes as take
 use Rattle.law_protocol_changes.proofs.Creating.{no_seq, IsStage, SystemChange, Creating, creates_there, was_trees, same_here_none, none_elsewhere}
-use Rattle.lg_frames.proofs.PlainRefusals.{IsPlainReply, effect_reply}
+use Rattle.law_frame.proofs.PlainRefusals.{IsPlainReply, effect_reply}
 use Rattle.law_protocol_steps.proofs.TakenLocks.{all_free}
-use Rattle.lg_model.specs.InTheWay.{first_conflict}
+use Rattle.spec_model.specs.InTheWay.{first_conflict}
 use Rattle.law_protocol_changes.proofs.PlainReplies.{replied_fits}
-use Rattle.lg_history.specs.Transactions.{unfixed}
-use Rattle.lg_history.specs.Acts.{SessionAct, looks}
+use Rattle.spec_history.specs.Transactions.{unfixed}
+use Rattle.spec_history.specs.Acts.{SessionAct, looks}
 
 nothing : (tx : ℕ) (vs : List Version) → vs ≡ changed_all tx 0 [] vs
 unfolding changed_all
@@ -145,15 +145,15 @@ all_events (e ∷ es) = rw (zero_le e.seq) (ap (λ (l : List Event). e ∷ l) (a
 -- ---- stages
 
 replied_stage : (v : Server) (T : Tables) (text : Text) (r : Reply) → IsPlainReply r → IsRepliedTo T (v.reads text) → IsStage v T text r (replied r)
-replied_stage v T text r h to = record { lines = refl; counts = λ tx id vs. refl; asks = inl refl; shows = refl; image = refl; fits = λ n own. replied_fits v.meaning text n r h unfixed own; got = to; acted = tt; not_first = λ h. h; not_dropping = λ p h. h; goes_to = λ n. tt; opened = tt; indexed = λ cs. tt }
+replied_stage v T text r h to = record { lines = refl; counts = λ tx id vs. refl; asks = inl refl; shows = refl; image = refl; fits = λ n own. replied_fits v.meaning text n r h unfixed own; got = to; acted = tt; not_first = λ h. h; not_dropping = λ p h. h; goes_to = λ n. tt; explicit = tt; indexed = λ cs. tt }
 
 made_stage : (v : Server) (T : Tables) (text : Text) (def : TableDef) → IsAfter T (v.reads text) def → IsStage v T text reply.Made (made def false)
-made_stage v T text def h = record { lines = refl; counts = λ tx id vs. refl; asks = inl refl; shows = refl; image = refl; fits = λ n own. tt; got = (refl, h, tt); acted = tt; not_first = λ h. h; not_dropping = λ p h. h; goes_to = λ n. tt; opened = refl; indexed = λ cs. tt }
+made_stage v T text def h = record { lines = refl; counts = λ tx id vs. refl; asks = inl refl; shows = refl; image = refl; fits = λ n own. tt; got = (refl, h, tt); acted = tt; not_first = λ h. h; not_dropping = λ p h. h; goes_to = λ n. tt; explicit = refl; indexed = λ cs. tt }
 
 -- ---- the lock
 
-pub has_whole : (hs : List Hold) (id : ℕ) → Holds hs id (whole X) → In (record { tx = id; want = whole X }) hs
-has_whole hs id h = subst (λ (g : Hold). In g hs) (ap₂ (λ (n : ℕ) (w : Want). record { tx = n; want = w }) h.mine (ap₂ (λ (i : Item) (m : Mode). record { item = i; mode = m }) (whole_alone h.hold.want.item h.item) h.mode)) h.has
+pub has_whole : (hs : List Hold) (id : ℕ) → Holds hs id (whole X) → In (record { tx = id; request = whole X }) hs
+has_whole hs id h = subst (λ (g : Hold). In g hs) (ap₂ (λ (n : ℕ) (w : LockRequest). record { tx = n; request = w }) h.mine (ap₂ (λ (i : Item) (m : Mode). record { item = i; mode = m }) (whole_alone h.hold.request.item h.item) h.mode)) h.has
 
 -- ---- refused
 
@@ -164,12 +164,12 @@ plain_refused c T tx (st.Index create) e h f = subst IsPlainReply (ap (λ m. (in
 plain_refused c T tx q e h f = absurd h
 
 refused_makes_none : (c : CatalogCell) (T : Tables) (q : Stmt) (e : Refusal) → CreateRefused c q e → c.defs ≡ defs_of T → IsRepliedTo T (Some q)
-unfolding plan
+unfolding change_set
 refused_makes_none c T (st.Create create) e h f = tt
-refused_makes_none c T (st.Index create) e h f = ap (λ m. (index_plan m).definition) (ap (λ (ds : Defs). index_check ds create) (sym f) ∙ h)
+refused_makes_none c T (st.Index create) e h f = ap (λ m. (create_index_change_set m).definition) (ap (λ (ds : Defs). index_check ds create) (sym f) ∙ h)
 refused_makes_none c T q e h f = absurd h
 
-refused_creates : (c : CatalogCell) (q : Stmt) (e : Refusal) → CreateRefused c q e → (creates q ≡ true) × (catalog_want false q ≡ Some X)
+refused_creates : (c : CatalogCell) (q : Stmt) (e : Refusal) → CreateRefused c q e → (creates q ≡ true) × (catalog_request false q ≡ Some X)
 refused_creates c (st.Create create) e h = (refl, refl)
 refused_creates c (st.Index create) e h = (refl, refl)
 refused_creates c q e h = absurd h
@@ -185,7 +185,7 @@ unfolding text_step
 step_of v tx T text stmt e = ap (by_statement false tx (start T)) e
 
 module _ (v : Server) (cells : List Cell) (seats : List SeatState) {history : History} (S : Stands v history cells seats) (j : ℕ) (s : SeatState) (there : get_elem? seats j ≡ some s) (c : CatalogCell) (out : get_elem? cells catalog_at ≡ some (Catalog c))
-    (o : OpenTransaction) (at : StandsOpen v s o) (at_begin : at.stands.stage ≡ begun) (alone : o.opened ≡ false) (wants : catalog_want false at.stands.stmt ≡ Some X) (its : creates at.stands.stmt ≡ true) (free : first_conflict c.holds o.id (whole X ∷ []) ≡ None) where
+    (o : OpenTransaction) (at : InOpenTransaction v s o) (at_begin : at.stands.stage ≡ begun) (alone : o.explicit ≡ false) (requests : catalog_request false at.stands.stmt ≡ Some X) (its : creates at.stands.stmt ≡ true) (free : first_conflict c.holds o.id (whole X ∷ []) ≡ None) where
   abbrev x : Session
   x = at.stands.x
 
@@ -199,7 +199,7 @@ module _ (v : Server) (cells : List Cell) (seats : List SeatState) {history : Hi
   place = at.stands.place ∙ ap (inside text) at_begin
 
   K : take.Exclusive v cells seats S j s x o text stmt c
-  K = record { there = there; role = at.stands.role; open_one = at.open_one; unfixed = at.unfixed; place = place; out = out; is = at.stands.is; alone = alone; wanted = wants; free = all_free c.holds o.id (whole X ∷ []) free }
+  K = record { there = there; role = at.stands.role; open_one = at.open_one; unfixed = at.unfixed; place = place; out = out; is = at.stands.is; alone = alone; wanted = requests; free = all_free c.holds o.id (whole X ∷ []) free }
 
   abbrev x1 : Session
   x1 = take.then_session v cells seats S j s x o text stmt c K
@@ -228,7 +228,7 @@ module _ (v : Server) (cells : List Cell) (seats : List SeatState) {history : Hi
   there1 : get_elem? seats1 j ≡ some (sits s x1)
   there1 = set_here seats j s (sits s x1) there
 
-  exclusive1 : In (record { tx = o.id; want = whole X }) c1.holds
+  exclusive1 : In (record { tx = o.id; request = whole X }) c1.holds
   exclusive1 = has_whole c1.holds o.id (taken_holds o.id (whole X ∷ []) c.holds).0
 
   rows1 : (id : ℕ) → cell_of id ≡ catalog_at → versions_at cells1 id ≡ versions_in id (Catalog c1)
@@ -253,12 +253,12 @@ module _ (v : Server) (cells : List Cell) (seats : List SeatState) {history : Hi
       creates = its;
       exclusive = exclusive1;
       visited = put_there catalog_at o.visited;
-      alike = record { id = refl; opened = refl; script = ap (λ (b : Bool). with_line b (text, reply_text (reply.Refused e)) o.script) alone; end = refl };
+      alike = record { id = refl; explicit = refl; script = ap (λ (b : Bool). with_line b (text, reply_text (reply.Refused e)) o.script) alone; end = refl };
       same_visited = refl;
       same_released = refl;
       stage_is = λ f. replied_stage v T text (reply.Refused e) (plain_refused c T o.id stmt e refused f) (subst (IsRepliedTo T) (sym at.stands.is) (refused_makes_none c T stmt e refused f));
       holds = refl;
-      same_frames = refl;
+      same_savepoints = refl;
       steps = λ f q. step_of v o.id T text stmt at.stands.is ∙ refused_step c T o.id stmt e refused f ∙ ap (λ (n : ℕ). (record { tables = T; seq = n; saved = [] }, reply.Refused e)) (sym q);
       system = λ f q id l k were. record { from = 0; changes = []; is = sym (rows1 id k) ∙ nothing o.id (versions_at cells1 id); script = sym were ∙ rows1 id k; within = omega arith; undoes = tt };
       users = λ id ne. refl;
@@ -266,7 +266,7 @@ module _ (v : Server) (cells : List Cell) (seats : List SeatState) {history : Hi
       creator = inl (refl, refl);
     }
 
-    refuses : StandsBy v j history o.id o.opened (looks text false ∷ []) (set cells1 catalog_at (Catalog c1)) (set seats1 j (sits (sits s x1) (at_place (Some p) (inside text (replied (reply.Refused e))) x1)))
+    refuses : StandsBy v j history o.id o.explicit (looks text false ∷ []) (set cells1 catalog_at (Catalog c1)) (set seats1 j (sits (sits s x1) (at_place (Some p) (inside text (replied (reply.Refused e))) x1)))
     refuses = creates_there v cells1 seats1 stands_then j (sits s x1) x1 o1 p text stmt c1 c1 (replied (reply.Refused e)) (reply.Refused e) T refusing
         (trees_from x1 o1 x1 o1 (no_change x1 o1) v (λ id. []) _ p.trees
         (λ id l. same_here_none v cells1 seats1 stands_then j (sits s x1) x1 o1 p text stmt c1 c1 (replied (reply.Refused e)) (reply.Refused e) T refusing id l (ap (λ (cs : List Cell). versions_at cs id) (set_same cells1 catalog_at (Catalog c1) out1)))
@@ -323,10 +323,10 @@ module _ (v : Server) (cells : List Cell) (seats : List SeatState) {history : Hi
         ∙ ap (λ m. by_effect (start T) (table_effect T o.id 0 m)) (ap (λ (ds : Defs). create_check ds create) (sym f) ∙ passes)
         ∙ ap (λ (n : ℕ). by_effect (start T) (table_effect T o.id n (Ok def))) (sym z)
 
-    plan_defs : c1.defs ≡ defs_of T → d.defs ≡ defs_of (defined (plan T stmt).definition T)
-    unfolding plan
-    plan_defs f = ap (λ (ds : Defs). ds ++ def ∷ []) f ∙ sym (defs_append T (record { def = def; versions = [] }))
-        ∙ ap (λ m. defs_of (defined (table_plan m).definition T)) (sym (ap (λ (ds : Defs). create_check ds create) (sym f) ∙ passes)) ∙ ap (λ (u : Stmt). defs_of (defined (plan T u).definition T)) (sym is)
+    change_set_defs : c1.defs ≡ defs_of T → d.defs ≡ defs_of (defined (change_set T stmt).definition T)
+    unfolding change_set
+    change_set_defs f = ap (λ (ds : Defs). ds ++ def ∷ []) f ∙ sym (defs_append T (record { def = def; versions = [] }))
+        ∙ ap (λ m. defs_of (defined (create_table_change_set m).definition T)) (sym (ap (λ (ds : Defs). create_check ds create) (sym f) ∙ passes)) ∙ ap (λ (u : Stmt). defs_of (defined (change_set T u).definition T)) (sym is)
 
     making : Creating v cells1 seats1 stands_then j (sits s x1) x1 o1 q text stmt c1 d (replied reply.Made) reply.Made E
     unfolding f1 f2
@@ -342,17 +342,17 @@ module _ (v : Server) (cells : List Cell) (seats : List SeatState) {history : Hi
       creates = its;
       exclusive = exclusive1;
       visited = put_there catalog_at o.visited;
-      alike = record { id = refl; opened = refl; script = ap (λ (b : Bool). with_line b (text, reply_text reply.Made) o.script) alone; end = refl };
+      alike = record { id = refl; explicit = refl; script = ap (λ (b : Bool). with_line b (text, reply_text reply.Made) o.script) alone; end = refl };
       same_visited = refl;
       same_released = refl;
       stage_is = λ f. replied_stage v T text reply.Made tt (subst (IsRepliedTo T) (sym (at.stands.is ∙ ap (λ (q : Stmt). Some q) is)) tt);
       holds = refl;
-      same_frames = refl;
+      same_savepoints = refl;
       steps = steps_so;
       system = λ f z. system_rows;
       users = λ id ne. new_table def id (changed_table 2 f2 (changed_table 1 f1 T)) ∙ changed_else 2 id f2 (changed_table 1 f1 T) (not_columns id ne) ∙ changed_else 1 id f1 T (not_tables id ne);
       left = λ f. ap (λ (ds : Defs). ds ++ def ∷ []) (f ∙ sym (same_defs 2 f2 (changed_table 1 f1 T) ∙ same_defs 1 f1 T)) ∙ sym (defs_append (changed_table 2 f2 (changed_table 1 f1 T)) (record { def = def; versions = [] }));
-      creator = inr (refl, plan_defs);
+      creator = inr (refl, change_set_defs);
     }
 
     abbrev cells2 : List Cell
@@ -389,7 +389,7 @@ module _ (v : Server) (cells : List Cell) (seats : List SeatState) {history : Hi
                 is_not (is_tables m) = eqb-false i 1 e m
                 is_not (is_columns m) = ne m
 
-    makes : StandsBy v j history o.id o.opened (looks text false ∷ []) cells2 (set seats1 j (sits (sits s x1) (at_place (Some q) (inside text (replied reply.Made)) x1)))
+    makes : StandsBy v j history o.id o.explicit (looks text false ∷ []) cells2 (set seats1 j (sits (sits s x1) (at_place (Some q) (inside text (replied reply.Made)) x1)))
     makes = creates_there v cells1 seats1 stands_then j (sits s x1) x1 o1 q text stmt c1 d (replied reply.Made) reply.Made E making both_trees
 
   -- ---- an index is made
@@ -450,11 +450,11 @@ module _ (v : Server) (cells : List Cell) (seats : List SeatState) {history : Hi
         ∙ ap (λ m. by_effect (start T) (index_effect T o.id 0 m)) (ap (λ (ds : Defs). index_check ds create) (sym f) ∙ passes)
         ∙ ap (λ (n : ℕ). by_effect (start T) (index_effect T o.id n (Ok (def, index)))) (sym z)
 
-    plan_is : c1.defs ≡ defs_of T → (plan T stmt).definition ≡ in_place wi
-    unfolding plan
-    plan_is f = ap (λ (u : Stmt). (plan T u).definition) is ∙ ap (λ m. (index_plan m).definition) (ap (λ (ds : Defs). index_check ds create) (sym f) ∙ passes)
+    plan_is : c1.defs ≡ defs_of T → (change_set T stmt).definition ≡ in_place wi
+    unfolding change_set
+    plan_is f = ap (λ (u : Stmt). (change_set T u).definition) is ∙ ap (λ m. (create_index_change_set m).definition) (ap (λ (ds : Defs). index_check ds create) (sym f) ∙ passes)
 
-    index_defs : c1.defs ≡ defs_of T → di.defs ≡ defs_of (defined (plan T stmt).definition T)
+    index_defs : c1.defs ≡ defs_of T → di.defs ≡ defs_of (defined (change_set T stmt).definition T)
     index_defs f = ap (replaced_def wi) f ∙ sym (defs_redefined wi T) ∙ ap (λ p. defs_of (defined p T)) (sym (plan_is f))
 
     indexing : Creating v cells1 seats1 stands_then j (sits s x1) x1 o1 qi text stmt c1 di (made wi false) reply.Made Ei
@@ -471,12 +471,12 @@ module _ (v : Server) (cells : List Cell) (seats : List SeatState) {history : Hi
       creates = its;
       exclusive = exclusive1;
       visited = put_there catalog_at o.visited;
-      alike = record { id = refl; opened = refl; script = refl; end = refl };
+      alike = record { id = refl; explicit = refl; script = refl; end = refl };
       same_visited = refl;
       same_released = refl;
       stage_is = λ f. made_stage v T text wi (subst (λ (u : Option Stmt). IsAfter T u wi) (sym at.stands.is) (plan_is f));
       holds = refl;
-      same_frames = refl;
+      same_savepoints = refl;
       steps = index_steps;
       system = λ f z. index_rows_then;
       users = λ id ne. redefined_table wi id (changed_table 2 g2 (changed_table 1 g1 T)) ∙ changed_else 2 id g2 (changed_table 1 g1 T) (not_columns id ne) ∙ changed_else 1 id g1 T (not_tables id ne);
@@ -508,32 +508,32 @@ module _ (v : Server) (cells : List Cell) (seats : List SeatState) {history : Hi
                 is_not (is_tables m) = eqb-false i 1 e m
                 is_not (is_columns m) = ne m
 
-    indexes : StandsBy v j history o.id o.opened (looks text false ∷ []) cells3 (set seats1 j (sits (sits s x1) (at_place (Some qi) (inside text (made wi false)) x1)))
+    indexes : StandsBy v j history o.id o.explicit (looks text false ∷ []) cells3 (set seats1 j (sits (sits s x1) (at_place (Some qi) (inside text (made wi false)) x1)))
     indexes = creates_there v cells1 seats1 stands_then j (sits s x1) x1 o1 qi text stmt c1 di (made wi false) reply.Made Ei indexing index_trees
 
 -- ---- the visits, in their own form
 
 module _ (v : Server) (cells : List Cell) (seats : List SeatState) {history : History} (S : Stands v history cells seats) (j : ℕ) (s : SeatState) (there : get_elem? seats j ≡ some s) (c d : CatalogCell) (t : SeatState) (out : get_elem? cells catalog_at ≡ some (Catalog c)) where
-  after_two : {id : ℕ} {opened : Bool} {acts : List SessionAct} (e f : CatalogCell) (u w : SeatState) → e ≡ d → u ≡ t → StandsBy v j history id opened acts (set (set cells catalog_at (Catalog f)) catalog_at (Catalog e)) (set (set seats j w) j u) → StandsBy v j history id opened acts (set cells catalog_at (Catalog d)) (set seats j t)
-  after_two {id} {opened} {acts} e f u w q r h = subst (λ (cs : List Cell). StandsBy v j history id opened acts cs (set seats j t)) (set_twice cells catalog_at (Catalog f) (Catalog e) ∙ ap (λ (g : CatalogCell). set cells catalog_at (Catalog g)) q)
-      (subst (StandsBy v j history id opened acts (set (set cells catalog_at (Catalog f)) catalog_at (Catalog e))) (set_twice seats j w u ∙ ap (set seats j) r) h)
+  after_two : {id : ℕ} {explicit : Bool} {acts : List SessionAct} (e f : CatalogCell) (u w : SeatState) → e ≡ d → u ≡ t → StandsBy v j history id explicit acts (set (set cells catalog_at (Catalog f)) catalog_at (Catalog e)) (set (set seats j w) j u) → StandsBy v j history id explicit acts (set cells catalog_at (Catalog d)) (set seats j t)
+  after_two {id} {explicit} {acts} e f u w q r h = subst (λ (cs : List Cell). StandsBy v j history id explicit acts cs (set seats j t)) (set_twice cells catalog_at (Catalog f) (Catalog e) ∙ ap (λ (g : CatalogCell). set cells catalog_at (Catalog g)) q)
+      (subst (StandsBy v j history id explicit acts (set (set cells catalog_at (Catalog f)) catalog_at (Catalog e))) (set_twice seats j w u ∙ ap (set seats j) r) h)
 
   -- the refusal of a CREATE
-  pub refuses_create : (L : RefusesCreate v c s d t) → StandsBy v j history L.o.id L.o.opened (looks L.at.stands.text false ∷ []) (set cells catalog_at (Catalog d)) (set seats j t)
+  pub refuses_create : (L : RefusesCreate v c s d t) → StandsBy v j history L.o.id L.o.explicit (looks L.at.stands.text false ∷ []) (set cells catalog_at (Catalog d)) (set seats j t)
   refuses_create L = let k = refused_creates c L.at.stands.stmt L.refusal L.is in
       after_two _ _ _ _ (sym L.cell) (ap (λ (b : Bool). sits s (at_place (Some (with_reply L.at.stands.text (reply.Refused L.refusal) (visiting catalog_at L.o))) (inside L.at.stands.text (stage_after b (reply.Refused L.refusal))) L.at.stands.x)) (sym L.alone) ∙ sym L.seat)
       (refuses v cells seats S j s there c out L.o L.at L.at_begin L.alone k.1 k.0 L.free L.refusal L.is)
 
   -- CREATE TABLE
-  pub creates_table : (L : CreatesTable v c s d t) → StandsBy v j history L.o.id L.o.opened (looks L.at.stands.text false ∷ []) (set cells catalog_at (Catalog d)) (set seats j t)
+  pub creates_table : (L : CreatesTable v c s d t) → StandsBy v j history L.o.id L.o.explicit (looks L.at.stands.text false ∷ []) (set cells catalog_at (Catalog d)) (set seats j t)
   creates_table L =
       after_two _ _ _ _ (sym L.cell)
       (ap₂ (λ (e : CatalogCell) (b : Bool). sits s (at_place (Some (with_reply L.at.stands.text reply.Made (noting (L.o.seq + 1 + length L.def.columns) (with_system_leaves L.o.id L.o.seq e L.o.trees) (visiting catalog_at L.o)))) (inside L.at.stands.text (stage_after b reply.Made)) L.at.stands.x)) (sym L.cell) (sym L.alone) ∙ sym L.seat)
-      (makes v cells seats S j s there c out L.o L.at L.at_begin L.alone (ap (catalog_want false) L.creates) (ap creates L.creates) L.free L.create L.creates L.def L.passes)
+      (makes v cells seats S j s there c out L.o L.at L.at_begin L.alone (ap (catalog_request false) L.creates) (ap creates L.creates) L.free L.create L.creates L.def L.passes)
 
   -- CREATE INDEX, as far as the catalog goes
-  pub creates_index : (L : CreatesIndex v c s d t) → StandsBy v j history L.o.id L.o.opened (looks L.at.stands.text false ∷ []) (set cells catalog_at (Catalog d)) (set seats j t)
+  pub creates_index : (L : CreatesIndex v c s d t) → StandsBy v j history L.o.id L.o.explicit (looks L.at.stands.text false ∷ []) (set cells catalog_at (Catalog d)) (set seats j t)
   creates_index L =
       after_two _ _ _ _ (sym L.cell)
       (ap (λ (e : CatalogCell). sits s (at_place (Some (noting (L.o.seq + length L.index.ordinals) (grown columns_id (events_from L.o.id L.o.seq columns_id e.columns) L.o.trees) (visiting catalog_at L.o))) (inside L.at.stands.text (made (with_index L.def L.index) false)) L.at.stands.x)) (sym L.cell) ∙ sym L.seat)
-      (indexes v cells seats S j s there c out L.o L.at L.at_begin L.alone (ap (catalog_want false) L.creates) (ap creates L.creates) L.free L.create L.creates L.def L.index L.passes)
+      (indexes v cells seats S j s there c out L.o L.at L.at_begin L.alone (ap (catalog_request false) L.creates) (ap creates L.creates) L.free L.create L.creates L.def L.index L.passes)

@@ -6,36 +6,36 @@ use Rattle.std.specs.Prelude.{not, if◌then◌else◌, ◌==◌}
 use Rattle.std.specs.List.{AllByRecursion}
 use mathlib.Core.Option.{some}
 use lib.ListN.{get_elem?}
-use Rattle.lg_types.specs.declared.lock.Mode.TheVariants.{X}
-use Rattle.lg_types.specs.declared.reply.Reply.{Reply}
-use Rattle.lg_types.specs.declared.statement.Stmt.{Stmt}
-use Rattle.lg_types.specs.declared.table.TableDef.{TableDef}
-use Rattle.lg_types.specs.declared.version.Version.{Version}
-use Rattle.lg_model.specs.Rows.{EventId}
-use Rattle.lg_model.specs.Keys.{Key, of_key}
-use Rattle.lg_model.specs.Catalog.{Defs, Tables, defs_of, versions_of}
-use Rattle.lg_model.specs.Journals.{Line, serial, upto}
-use Rattle.lg_model.specs.Locks.{whole, same_item}
-use Rattle.lg_model.specs.Agreement.{columns_at}
-use Rattle.lg_model.specs.Plans.{plan, defined}
-use Rattle.lg_model.specs.Runs.{Rising, MadeBefore, Sound}
-use Rattle.lg_model.specs.Undo.{versions_undone}
-use Rattle.lg_history.specs.Lists.{Text, Each, In}
-use Rattle.lg_history.specs.Refusals.{EndsAt}
-use Rattle.lg_history.specs.Transactions.{End, unfixed}
-use Rattle.lg_history.proofs.Trace.{each_weaker}
-use Rattle.lg_standing.specs.Server.{Server}
-use Rattle.lg_types.specs.declared.lock.Hold.{Hold}
-use Rattle.lg_standing.specs.Cells.{Creator, TableCell, Cell, Rows, holds_at, versions_at, catalog_at, cell_of}
-use Rattle.lg_standing.specs.OpenOnes.{HasOpen, script_so_far, script_end}
-use Rattle.lg_standing.specs.OpenScripts.{counted}
-use Rattle.lg_standing.specs.EventsIn.{events_in}
-use Rattle.lg_standing.specs.Moves.{at_place, sits}
-use Rattle.lg_standing.specs.WantsIn.{wants_in, Holds}
-use Rattle.lg_standing.specs.LocksCover as at
-use Rattle.lg_standing.specs.TablesAreSerial.{HasActed, def_at, ordinals_of, IsAdding, IsCarried}
-use Rattle.lg_standing.specs.LocksCover.{KeepsLocks, Belongs, HasIntent, LookedFirst, IsDropping}
-use Rattle.lg_standing.specs.StandTogether.{History, Stands}
+use Rattle.sql_types.specs.declared.lock.Mode.TheVariants.{X}
+use Rattle.sql_types.specs.declared.reply.Reply.{Reply}
+use Rattle.sql_types.specs.declared.statement.Stmt.{Stmt}
+use Rattle.sql_types.specs.declared.table.TableDef.{TableDef}
+use Rattle.sql_types.specs.declared.version.Version.{Version}
+use Rattle.spec_model.specs.Rows.{EventId}
+use Rattle.spec_model.specs.Keys.{Key, of_key}
+use Rattle.spec_model.specs.Catalog.{Defs, Tables, defs_of, versions_of}
+use Rattle.spec_model.specs.Journals.{Line, serial, upto}
+use Rattle.spec_model.specs.Locks.{whole, same_item}
+use Rattle.spec_model.specs.Agreement.{columns_at}
+use Rattle.spec_model.specs.ChangeSets.{change_set, defined}
+use Rattle.spec_model.specs.Runs.{Rising, MadeBefore, Sound}
+use Rattle.spec_model.specs.Undo.{versions_undone}
+use Rattle.spec_history.specs.Lists.{Text, Each, In}
+use Rattle.spec_history.specs.Refusals.{EndsAt}
+use Rattle.spec_history.specs.Transactions.{End, unfixed}
+use Rattle.spec_history.proofs.Trace.{each_weaker}
+use Rattle.spec_protocol.specs.Server.{Server}
+use Rattle.sql_types.specs.declared.lock.Hold.{Hold}
+use Rattle.spec_protocol.specs.Cells.{Creator, TableCell, Cell, Rows, holds_at, versions_at, catalog_at, cell_of}
+use Rattle.spec_protocol.specs.OpenOnes.{HasOpen, script_so_far, script_end}
+use Rattle.spec_protocol.specs.OpenScripts.{counted}
+use Rattle.spec_protocol.specs.EventsIn.{events_in}
+use Rattle.spec_protocol.specs.Moves.{at_place, sits}
+use Rattle.spec_protocol.specs.RequestsIn.{requests_in, Holds}
+use Rattle.spec_protocol.specs.LocksCover as at
+use Rattle.spec_protocol.specs.TablesAreSerial.{HasActed, def_at, ordinals_of, IsAdding, IsCarried}
+use Rattle.spec_protocol.specs.LocksCover.{KeepsLocks, Belongs, HasIntent, LookedFirst, IsDropping}
+use Rattle.spec_protocol.specs.StandTogether.{History, Stands}
 use Rattle.law_protocol_steps.proofs.AfterSet.{set_here, set_else, all_at}
 use Rattle.law_protocol_steps.proofs.SeatsAfter.{Goes, one_session, open_here, open_else, each_open}
 use Rattle.law_protocol_steps.proofs.CellsAfter.{held_here}
@@ -44,60 +44,60 @@ use Rattle.law_protocol_steps.proofs.SeatIds.{one_seat, outside}
 use Rattle.law_protocol_changes.proofs.ChangedRows.{undone_of_key, rising_undone, undone_untouched, undone_before, touched_agree, IsCounted, all_count, some_undone, counted_is}
 use Rattle.law_protocol_changes.proofs.ChangeKeeps.{at_in, absent_others}
 use Rattle.law_protocol_steps.proofs.Takes.{tables_now}
-use Rattle.lg_types.specs.declared.lock.Want.{Want}
-use Rattle.lg_model.specs.Reach.{lets_change}
+use Rattle.sql_types.specs.declared.lock.LockRequest.{LockRequest}
+use Rattle.spec_model.specs.Reach.{lets_change}
 use Rattle.law_protocol_changes.proofs.CommittedRows.{committed_undone}
-use Rattle.lg_standing.specs.OpenOnes.{lines_at, texts_so_far}
-use Rattle.lg_history.specs.Facts.{Fact, began}
-use Rattle.lg_standing.specs.RowsAgree.{GoesBackTo, IsOpenedAt}
-use Rattle.lg_model.specs.Script.{script}
-use Rattle.lg_frames.proofs.Definitions.{opened_keep_defs}
-use Rattle.lg_frames.proofs.UndoneVersions.{nothing_undone}
-use Rattle.lg_frames.proofs.Alls.{all_weaker}
+use Rattle.spec_protocol.specs.OpenOnes.{lines_at, texts_so_far}
+use Rattle.spec_history.specs.Facts.{Fact, began}
+use Rattle.spec_protocol.specs.RowsAgree.{GoesBackTo, IsExplicitAt}
+use Rattle.spec_model.specs.Script.{script}
+use Rattle.law_frame.proofs.Definitions.{opened_keep_defs}
+use Rattle.law_frame.proofs.UndoneVersions.{nothing_undone}
+use Rattle.law_frame.proofs.Alls.{all_weaker}
 use Rattle.law_protocol_changes.proofs.ChangedRows.{later}
 use Rattle.law_protocol_steps.proofs.CellsAfter.{each_holds, versions_here, versions_else}
-use Rattle.lg_model.specs.Replies.{reply_text}
-use Rattle.lg_standing.specs.TreesAreOfEvents.{AreFrames}
-use Rattle.lg_standing.specs.Seats.{OpenTransaction, Stage, begun, made, going_back, replied, found, refused, answering, Place, between, inside, leaving, Session, session, SeatState}
-use Rattle.lg_standing.specs.Cells.{CatalogCell, Catalog, versions_in}
+use Rattle.spec_model.specs.Replies.{reply_text}
+use Rattle.spec_protocol.specs.TreesAreOfEvents.{AreOpenSavepoints}
+use Rattle.spec_protocol.specs.Seats.{OpenTransaction, StatementProgress, begun, made, going_back, replied, found, refused, answering, SessionStatus, between, inside, leaving, Session, session, SeatState}
+use Rattle.spec_protocol.specs.Cells.{CatalogCell, Catalog, versions_in}
 use Rattle.law_protocol_steps.proofs.CellsAfter.{catalog_changed}
 use Rattle.law_protocol_steps.proofs.CatalogAlone.{none_besides}
 use Rattle.law_protocol_steps.proofs.VisitActs.{IsAlike, asks_act, asks_owner, g}
-use Rattle.lg_model.specs.Changes.{Change, changed_all}
-use Rattle.lg_model.specs.Locks.{catalog_want, cell_wants}
-use Rattle.lg_model.specs.Reach.{creates}
-use Rattle.lg_model.specs.Script.{State, Step, start, text_step, script_from, by_statement}
-use Rattle.lg_model.specs.ScriptWants.{text_wants}
-use Rattle.lg_frames.proofs.ByKeys as byk
-use Rattle.lg_frames.proofs.AtTable.{before_at, rising_at}
-use Rattle.lg_frames.proofs.Alls.{all_filter}
-use Rattle.lg_frames.proofs.UndoneVersions.{Undoes}
-use Rattle.lg_frames.proofs.Definitions.{nothing_done, defs_after}
+use Rattle.spec_model.specs.Changes.{Change, changed_all}
+use Rattle.spec_model.specs.Locks.{catalog_request, cell_requests}
+use Rattle.spec_model.specs.Reach.{creates}
+use Rattle.spec_model.specs.Script.{State, Step, start, text_step, script_from, by_statement}
+use Rattle.spec_model.specs.ScriptRequests.{text_requests}
+use Rattle.law_frame.proofs.ByKeys as byk
+use Rattle.law_frame.proofs.AtTable.{before_at, rising_at}
+use Rattle.law_frame.proofs.Alls.{all_filter}
+use Rattle.law_frame.proofs.UndoneVersions.{Undoes}
+use Rattle.law_frame.proofs.Definitions.{nothing_done, defs_after}
 use Rattle.law_protocol_steps.proofs.RowsFor.{sound, end_alone}
 use Rattle.law_protocol_steps.proofs.SameOne.{trees_from}
 use Rattle.law_protocol_changes.proofs.ChangedRows.{no_events}
-use Rattle.lg_standing.specs.TreesAreOfEvents.{AreTrees}
-use Rattle.lg_model.specs.Script.{Saved}
-use Rattle.lg_standing.specs.Seats.{Frame}
+use Rattle.spec_protocol.specs.TreesAreOfEvents.{AreTrees}
+use Rattle.spec_model.specs.Script.{Saved}
+use Rattle.spec_protocol.specs.Seats.{OpenSavepoint}
 use Rattle.law_protocol_changes.proofs.ChangedRows.{all_rising, all_before, all_untouched, all_undo}
-use Rattle.lg_types.specs.declared.statement.Stmt.TheVariants as st
-use Rattle.lg_standing.specs.WantsIn.{of_catalog, of_cell, wants_at}
-use Rattle.lg_types.specs.declared.lock.Mode.{Mode}
-use Rattle.lg_model.specs.Runs.{EndsBefore}
-use Rattle.lg_model.specs.Keys.{same_key, version_key}
-use Rattle.lg_frames.proofs.LegalSound.{legal_sound}
-use Rattle.law_protocol_steps.proofs.OfCells.{AreDefinitions, AreIndexes, Creates, EndLiesUnder, GoesBack, HasItsTrees, HasLock, HoldsInCatalog, IsFree, IsGotAt, IsIndexed, IsOfItsScript, IsUnderLocks, IsUnderWay, LiesUnder, LocksAgree, LocksCover, OpenScripts, RowsAgree, SeatHas, StandsAs, TreesAreOfEvents, WantsNone, committed, events_counted, in_journal, LookedAt, looked_now, looked_so, table_there}
-use Rattle.lg_standing.specs.TranscriptsSoFar.{EndsOwn, StageOwn, end_shown, image_in, is_begin, shown_alone, shown_with}
-use Rattle.lg_standing.specs.Contents.{HasAlone, contents, table_found}
-use Rattle.lg_history.specs.Guards.{IsAnswered}
-use Rattle.lg_standing.specs.TranscriptsAgree.{TranscriptsAgree}
-use Rattle.lg_standing.specs.Parts.{asking_in}
+use Rattle.sql_types.specs.declared.statement.Stmt.TheVariants as st
+use Rattle.spec_protocol.specs.RequestsIn.{of_catalog, of_cell, requests_at}
+use Rattle.sql_types.specs.declared.lock.Mode.{Mode}
+use Rattle.spec_model.specs.Runs.{EndsBefore}
+use Rattle.spec_model.specs.Keys.{same_key, version_key}
+use Rattle.law_frame.proofs.LegalSound.{legal_sound}
+use Rattle.law_protocol_steps.proofs.OfCells.{AreDefinitions, AreIndexes, Creates, EndLiesUnder, GoesBack, HasItsTrees, HasLock, HoldsInCatalog, IsFree, IsGotAt, IsIndexed, IsOfItsScript, IsUnderLocks, IsUnderWay, LiesUnder, LocksAgree, LocksCover, OpenScripts, RowsAgree, SeatHas, StandsAs, TreesAreOfEvents, RequestsNone, committed, events_counted, in_journal, LookedAt, looked_now, looked_so, table_there}
+use Rattle.spec_protocol.specs.TranscriptsSoFar.{EndsOwn, ProgressOwn, end_shown, image_in, is_begin, shown_alone, shown_with}
+use Rattle.spec_protocol.specs.Contents.{HasAlone, contents, table_found}
+use Rattle.spec_history.specs.Guards.{IsAnswered}
+use Rattle.spec_protocol.specs.TranscriptsAgree.{TranscriptsAgree}
+use Rattle.spec_protocol.specs.Parts.{asking_in}
 use Rattle.law_protocol_steps.proofs.FreshIds.{events_of_touched}
-use Rattle.law_protocol_steps.proofs.TranscriptStages.{fits_if, from_at, if_fits}
+use Rattle.law_protocol_steps.proofs.TranscriptProgress.{fits_if, from_at, if_fits}
 use Rattle.law_protocol_steps.proofs.GotMore.{got_at_more}
-use Rattle.lg_history.specs.Transcripts.{kind_of}
-use Rattle.lg_history.specs.Acts.{looks, by}
-use Rattle.lg_model.specs.Touched.{touched}
+use Rattle.spec_history.specs.Transcripts.{kind_of}
+use Rattle.spec_history.specs.Acts.{looks, by}
+use Rattle.spec_model.specs.Touched.{touched}
 
 -- ---- a statement that doesn't create keeps the definitions, also in a transaction of its own
 
@@ -114,7 +114,7 @@ keeps_defs tx T (Some (st.Rollback name)) h = refl
 keeps_defs tx T (Some st.Digest) h = refl
 keeps_defs tx T (Some st.Image) h = refl
 
-pub x_of : (stmt : Stmt) → creates stmt ≡ true → catalog_want false stmt ≡ Some X
+pub x_of : (stmt : Stmt) → creates stmt ≡ true → catalog_request false stmt ≡ Some X
 x_of (st.Create c) e = refl
 x_of (st.Index c) e = refl
 x_of stmt e = cc
@@ -131,7 +131,7 @@ pub step_is : (v : Server) (tx : ℕ) (T : Tables) (text : Text) → text_step v
 unfolding text_step
 step_is v tx T text = refl
 
-too_many : (place : Place) (l m : Line) (ls : List Line) → l ∷ m ∷ ls ≡ lines_at place → ⊥
+too_many : (place : SessionStatus) (l m : Line) (ls : List Line) → l ∷ m ∷ ls ≡ lines_at place → ⊥
 too_many (inside text (made def indexed)) l m ls e = cc
 too_many (inside text (going_back seq cells)) l m ls e = cc
 too_many (inside text (replied reply)) l m ls e = cc
@@ -142,8 +142,8 @@ too_many (inside text (refused reply)) l m ls e = cc
 too_many between l m ls e = cc
 too_many leaving l m ls e = cc
 
-pub no_cell : (defs : Defs) (stmt : Stmt) → creates stmt ≡ true → cell_wants defs stmt ≡ None
-unfolding cell_wants
+pub no_cell : (defs : Defs) (stmt : Stmt) → creates stmt ≡ true → cell_requests defs stmt ≡ None
+unfolding cell_requests
 no_cell defs (st.Create c) e = refl
 no_cell defs (st.Index c) e = refl
 no_cell defs stmt e = cc
@@ -154,59 +154,59 @@ whole_same = refl
 
 -- ---- where one transaction has the catalog's X, the scripts of others leave the definitions
 
-module _ (v : Server) (cells : List Cell) (seats : List SeatState) {history : History} (S : Stands v history cells seats) (id : ℕ) (exclusive : In (record { tx = id; want = whole X }) (holds_at cells catalog_at))
+module _ (v : Server) (cells : List Cell) (seats : List SeatState) {history : History} (S : Stands v history cells seats) (id : ℕ) (exclusive : In (record { tx = id; request = whole X }) (holds_at cells catalog_at))
     (n : ℕ) (z : Session) (r : OpenTransaction) (h : HasOpen seats n z r) (e : r.end ≡ unfixed) (other : r.id ≢ id) where
   abbrev tables_were : Tables
   tables_were = tables_now S
 
-  not_held : (w : Want) → Holds (holds_at cells catalog_at) r.id w → ⊥
+  not_held : (w : LockRequest) → Holds (holds_at cells catalog_at) r.id w → ⊥
   not_held w k = other (sym k.mine ∙ none_besides v cells seats S id exclusive k.hold k.has)
 
-  covers : Each (λ l. Each (Holds (holds_at cells catalog_at) r.id) (wants_in v (defs_of tables_were) r.opened catalog_at l.0)) (script_so_far z r)
+  covers : Each (λ l. Each (Holds (holds_at cells catalog_at) r.id) (requests_in v (defs_of tables_were) r.explicit catalog_at l.0)) (script_so_far z r)
   covers = S.locks_cover.cover n z r h catalog_at (λ k. subst (In catalog_at) (S.locks_cover.unreleased n z r h e) k, λ k. subst (In catalog_at) (S.locks_cover.unreleased n z r h e) k)
 
-  no_create : (l : Line) → r.opened ≡ false → Each (Holds (holds_at cells catalog_at) r.id) (wants_in v (defs_of tables_were) r.opened catalog_at l.0) → (stmt : Stmt) → v.reads l.0 ≡ Some stmt → creates stmt ≡ false
+  no_create : (l : Line) → r.explicit ≡ false → Each (Holds (holds_at cells catalog_at) r.id) (requests_in v (defs_of tables_were) r.explicit catalog_at l.0) → (stmt : Stmt) → v.reads l.0 ≡ Some stmt → creates stmt ≡ false
   no_create l a held stmt is = by (creates stmt) refl
     where
       by : (b : Bool) → creates stmt ≡ b → b ≡ false
-      by true k = let wants : wants_in v (defs_of tables_were) r.opened catalog_at l.0 ≡ whole X ∷ [] = ap (λ (q : Option Stmt). wants_at catalog_at (text_wants (defs_of tables_were) r.opened q)) is ∙ ap (λ (b : Bool). of_catalog (catalog_want b stmt) ++ of_cell catalog_at (cell_wants (defs_of tables_were) stmt)) a ∙ ap₂ (λ q c. of_catalog q ++ of_cell catalog_at c) (x_of stmt k) (no_cell (defs_of tables_were) stmt k) in
-          absurd (not_held (whole X) (subst (Each (Holds (holds_at cells catalog_at) r.id)) wants held).0)
+      by true k = let requests : requests_in v (defs_of tables_were) r.explicit catalog_at l.0 ≡ whole X ∷ [] = ap (λ (q : Option Stmt). requests_at catalog_at (text_requests (defs_of tables_were) r.explicit q)) is ∙ ap (λ (b : Bool). of_catalog (catalog_request b stmt) ++ of_cell catalog_at (cell_requests (defs_of tables_were) stmt)) a ∙ ap₂ (λ q c. of_catalog q ++ of_cell catalog_at c) (x_of stmt k) (no_cell (defs_of tables_were) stmt k) in
+          absurd (not_held (whole X) (subst (Each (Holds (holds_at cells catalog_at) r.id)) requests held).0)
       by false k = refl
 
-  alone_keeps : r.opened ≡ false → defs_of (script_end v tables_were z r).state.tables ≡ defs_of tables_were
+  alone_keeps : r.explicit ≡ false → defs_of (script_end v tables_were z r).state.tables ≡ defs_of tables_were
   alone_keeps a = ap (λ (b : Bool). defs_of (script v.reads b tables_were r.id (texts_so_far z r)).state.tables) a ∙ by (script_so_far z r) (ap (λ (ls : List Line). ls ++ lines_at z.place) only) covers
     where
       only : r.script ≡ []
       only = (S.open_scripts n z r h e).alone a
 
-      by : (ls : List Line) → ls ≡ lines_at z.place → Each (λ l. Each (Holds (holds_at cells catalog_at) r.id) (wants_in v (defs_of tables_were) r.opened catalog_at l.0)) ls → defs_of (script v.reads false tables_were r.id (map (λ l. l.0) ls)).state.tables ≡ defs_of tables_were
+      by : (ls : List Line) → ls ≡ lines_at z.place → Each (λ l. Each (Holds (holds_at cells catalog_at) r.id) (requests_in v (defs_of tables_were) r.explicit catalog_at l.0)) ls → defs_of (script v.reads false tables_were r.id (map (λ l. l.0) ls)).state.tables ≡ defs_of tables_were
       by [] q k = ap (λ q. defs_of q.state.tables) (nothing_done v.reads false tables_were r.id)
       by (l ∷ []) q k = ap (λ (q : State). defs_of q.tables) (one_text v r.id tables_were l.0) ∙ ap (λ (q : Step). defs_of q.0.tables) (step_is v r.id tables_were l.0) ∙ keeps_defs r.id tables_were (v.reads l.0) (no_create l a k.0)
       by (l ∷ m ∷ ls) q k = absurd (too_many z.place l m ls q)
 
   pub others_keep : defs_of (script_end v tables_were z r).state.tables ≡ defs_of tables_were
-  others_keep = by r.opened refl
+  others_keep = by r.explicit refl
     where
-      by : (b : Bool) → r.opened ≡ b → defs_of (script_end v tables_were z r).state.tables ≡ defs_of tables_were
+      by : (b : Bool) → r.explicit ≡ b → defs_of (script_end v tables_were z r).state.tables ≡ defs_of tables_were
       by true a = ap (λ (b : Bool). defs_of (script v.reads b tables_were r.id (texts_so_far z r)).state.tables) a ∙ (opened_keep_defs v.reads tables_were r.id (texts_so_far z r)).tables
       by false a = alone_keeps a
 
 -- ---- the statement creates, or is refused
 
 -- what a stage is at which a transaction of its own did all that it does in the catalog
-pub record IsStage (v : Server) (T : Tables) (text : Text) (r : Reply) (stage : Stage) : Type 0 where
+pub record IsStage (v : Server) (T : Tables) (text : Text) (r : Reply) (stage : StatementProgress) : Type 0 where
   pub lines : lines_at (inside text stage) ≡ (text, reply_text r) ∷ []
   pub counts : (tx id : ℕ) (vs : List Version) → counted tx id (inside text stage) vs ≡ vs
   pub asks : In (text, false) (asking_in text stage)
   pub shows : shown_alone v.meaning text stage ≡ []
   pub image : image_in stage ≡ 0
-  pub fits : (n : ℕ) → EndsOwn (kind_of (v.meaning.reads text)) unfixed → StageOwn v.meaning n text stage
+  pub fits : (n : ℕ) → EndsOwn (kind_of (v.meaning.reads text)) unfixed → ProgressOwn v.meaning n text stage
   pub got : at.IsGotAt v T (Unit {0}) true (inside text stage)
   pub acted : HasActed (inside text stage)
   pub not_first : LookedFirst (inside text stage) → ⊥
   pub not_dropping : (p : OpenTransaction) → IsDropping (inside text stage) p → ⊥
   pub goes_to : (n : ℕ) → GoesBackTo (inside text stage) n
-  pub opened : IsOpenedAt (inside text stage) false
+  pub explicit : IsExplicitAt (inside text stage) false
   pub indexed : (cs : List Cell) → IsIndexed cs (inside text stage)
 
 -- the changes in one system table
@@ -218,7 +218,7 @@ pub record SystemChange (tx : ℕ) (V V' W' : List Version) (seq : ℕ) : Type 0
   pub within : from + length changes ≤ seq
   pub undoes : AllByRecursion (Undoes tx 0 V) changes
 
-pub record Creating (v : Server) (cells : List Cell) (seats : List SeatState) {history : History} (S : Stands v history cells seats) (j : ℕ) (s : SeatState) (x : Session) (o p : OpenTransaction) (text : Text) (stmt : Stmt) (old new : CatalogCell) (stage : Stage) (r : Reply) (E : Tables) : Type 0 where
+pub record Creating (v : Server) (cells : List Cell) (seats : List SeatState) {history : History} (S : Stands v history cells seats) (j : ℕ) (s : SeatState) (x : Session) (o p : OpenTransaction) (text : Text) (stmt : Stmt) (old new : CatalogCell) (stage : StatementProgress) (r : Reply) (E : Tables) : Type 0 where
   pub there : get_elem? seats j ≡ some s
   pub role : s.role ≡ session x
   pub open_one : x.open_one ≡ Some o
@@ -226,23 +226,23 @@ pub record Creating (v : Server) (cells : List Cell) (seats : List SeatState) {h
   pub place : x.place ≡ inside text begun
   pub out : get_elem? cells catalog_at ≡ some (Catalog old)
   pub is : v.reads text ≡ Some stmt
-  pub alone : o.opened ≡ false
+  pub alone : o.explicit ≡ false
   pub creates : creates stmt ≡ true
-  pub exclusive : In (record { tx = o.id; want = whole X }) old.holds
+  pub exclusive : In (record { tx = o.id; request = whole X }) old.holds
   pub visited : In catalog_at o.visited
   pub alike : IsAlike o p
   pub same_visited : p.visited ≡ o.visited
   pub same_released : p.released ≡ o.released
   pub stage_is : old.defs ≡ defs_of (tables_now S) → IsStage v (tables_now S) text r stage
   pub holds : new.holds ≡ old.holds
-  pub same_frames : p.frames ≡ o.frames
+  pub same_savepoints : p.open_savepoints ≡ o.open_savepoints
   pub steps : old.defs ≡ defs_of (tables_now S) → o.seq ≡ 0 → text_step v.reads false o.id (start (tables_now S)) text ≡ (record { tables = E; seq = p.seq; saved = [] }, r)
   pub system : old.defs ≡ defs_of (tables_now S) → o.seq ≡ 0 → (id : ℕ) → 1 ≤ id → cell_of id ≡ catalog_at → versions_at cells id ≡ versions_of (tables_now S) id → SystemChange o.id (versions_at cells id) (versions_in id (Catalog new)) (versions_of E id) p.seq
   pub users : (id : ℕ) → cell_of id ≢ catalog_at → versions_of E id ≡ versions_of (tables_now S) id
   pub left : old.defs ≡ defs_of (tables_now S) → new.defs ≡ defs_of E
-  pub creator : ((new.defs ≡ old.defs) × (new.creator ≡ old.creator)) ⊎ ((new.creator ≡ Some (record { tx = o.id; before = old.defs })) × (old.defs ≡ defs_of (tables_now S) → new.defs ≡ defs_of (defined (plan (tables_now S) stmt).definition (tables_now S))))
+  pub creator : ((new.defs ≡ old.defs) × (new.creator ≡ old.creator)) ⊎ ((new.creator ≡ Some (record { tx = o.id; before = old.defs })) × (old.defs ≡ defs_of (tables_now S) → new.defs ≡ defs_of (defined (change_set (tables_now S) stmt).definition (tables_now S))))
 
-module _ (v : Server) (cells : List Cell) (seats : List SeatState) {history : History} (S : Stands v history cells seats) (j : ℕ) (s : SeatState) (x : Session) (o p : OpenTransaction) (text : Text) (stmt : Stmt) (old new : CatalogCell) (stage : Stage) (r : Reply) (E : Tables) (K : Creating v cells seats S j s x o p text stmt old new stage r E) where
+module _ (v : Server) (cells : List Cell) (seats : List SeatState) {history : History} (S : Stands v history cells seats) (j : ℕ) (s : SeatState) (x : Session) (o p : OpenTransaction) (text : Text) (stmt : Stmt) (old new : CatalogCell) (stage : StatementProgress) (r : Reply) (E : Tables) (K : Creating v cells seats S j s x o p text stmt old new stage r E) where
   abbrev T : Tables
   T = tables_now S
 
@@ -267,7 +267,7 @@ module _ (v : Server) (cells : List Cell) (seats : List SeatState) {history : Hi
   held_same : (n : ℕ) → holds_at C' n ≡ holds_at cells n
   held_same = each_holds cells catalog_at (Catalog old) (Catalog new) K.out (λ n hs. hs ≡ holds_at cells n) (K.holds ∙ sym (held_here cells catalog_at (Catalog old) (Catalog new) K.out)) (λ n. refl)
 
-  exclusive : In (record { tx = o.id; want = whole X }) (holds_at cells catalog_at)
+  exclusive : In (record { tx = o.id; request = whole X }) (holds_at cells catalog_at)
   exclusive = subst (In _) (sym (held_here cells catalog_at (Catalog old) (Catalog new) K.out)) K.exclusive
 
   other_id : (n : ℕ) (z : Session) (q : OpenTransaction) → n ≢ j → HasOpen seats n z q → q.id ≢ o.id
@@ -289,7 +289,7 @@ module _ (v : Server) (cells : List Cell) (seats : List SeatState) {history : Hi
 
   none_acts : (z : Session) (q : Stmt) → Creates v cells seats S.ledger z q → ⊥
   none_acts z q k =
-      let same_id : k.o.id ≡ o.id = none_besides v cells seats S o.id exclusive (record { tx = k.o.id; want = whole X }) k.exclusive in
+      let same_id : k.o.id ≡ o.id = none_besides v cells seats S o.id exclusive (record { tx = k.o.id; request = whole X }) k.exclusive in
       let same_seat : k.j ≡ j = one_seat v cells seats S k.j j z x k.o o k.has has_open same_id in
       let alike = one_session seats j z x k.o o (subst (λ (n : ℕ). HasOpen seats n z k.o) same_seat k.has) has_open in
       subst HasActed (ap (λ (u : Session). u.place) alike.0 ∙ K.place) k.acted
@@ -301,10 +301,10 @@ module _ (v : Server) (cells : List Cell) (seats : List SeatState) {history : Hi
   -- ---- before
 
   no_count : (id : ℕ) (vs : List Version) → counted o.id id x.place vs ≡ vs
-  no_count id vs = ap (λ (q : Place). counted o.id id q vs) K.place
+  no_count id vs = ap (λ (q : SessionStatus). counted o.id id q vs) K.place
 
   whole_script : script_so_far x o ≡ o.script
-  whole_script = ap (λ (q : Place). o.script ++ lines_at q) K.place ∙ append-nil o.script
+  whole_script = ap (λ (q : SessionStatus). o.script ++ lines_at q) K.place ∙ append-nil o.script
 
   none_said : o.script ≡ []
   none_said = (S.open_scripts j x o has_open K.unfixed).alone K.alone
@@ -324,7 +324,7 @@ module _ (v : Server) (cells : List Cell) (seats : List SeatState) {history : Hi
   -- the system tables are the journal's
   were : (id : ℕ) → 1 ≤ id → cell_of id ≡ catalog_at → versions_at cells id ≡ versions_of T id
   were id l e = byk.by_keys (columns_at (defs_of T) id) (versions_at cells id) (versions_of T id) (S.rows_agree.rising id l) (rising_at o.id 0 id T T_sound.each)
-      (λ key. sym (no_count id _) ∙ S.rows_agree.own j x o has_open K.unfixed id key l (record { tx = o.id; want = whole X }) (subst (λ (n : ℕ). In (record { tx = o.id; want = whole X }) (holds_at cells n)) (sym e) exclusive) refl (reaches_all key)
+      (λ key. sym (no_count id _) ∙ S.rows_agree.own j x o has_open K.unfixed id key l (record { tx = o.id; request = whole X }) (subst (λ (n : ℕ). In (record { tx = o.id; request = whole X }) (holds_at cells n)) (sym e) exclusive) refl (reaches_all key)
       ∙ ap (λ (U : Tables). of_key (columns_at (defs_of T) id) key (versions_of U id)) end_was)
 
   change : (id : ℕ) (l : 1 ≤ id) (e : cell_of id ≡ catalog_at) → SystemChange o.id (versions_at cells id) (versions_in id (Catalog new)) (versions_of E id) p.seq
@@ -336,11 +336,11 @@ module _ (v : Server) (cells : List Cell) (seats : List SeatState) {history : Hi
   same_script = ap (λ (ls : List Line). ls ++ lines_at (inside text stage)) (K.alike.script ∙ none_said) ∙ (K.stage_is old_defs).lines
 
   end_state : (script_end v T y p).state ≡ record { tables = E; seq = p.seq; saved = [] }
-  end_state = ap (λ (b : Bool). (script v.reads b T p.id (texts_so_far y p)).state) (K.alike.opened ∙ K.alone) ∙ ap (λ (n : ℕ). (script v.reads false T n (texts_so_far y p)).state) K.alike.id
+  end_state = ap (λ (b : Bool). (script v.reads b T p.id (texts_so_far y p)).state) (K.alike.explicit ∙ K.alone) ∙ ap (λ (n : ℕ). (script v.reads false T n (texts_so_far y p)).state) K.alike.id
       ∙ ap (λ (ls : List Line). (script v.reads false T o.id (map (λ l. l.0) ls)).state) same_script ∙ one_text v o.id T text ∙ ap (λ (q : Step). q.0) (K.steps old_defs no_seq)
 
   end_replies : (script_end v T y p).replies ≡ r ∷ []
-  end_replies = ap (λ (b : Bool). (script v.reads b T p.id (texts_so_far y p)).replies) (K.alike.opened ∙ K.alone) ∙ ap (λ (n : ℕ). (script v.reads false T n (texts_so_far y p)).replies) K.alike.id
+  end_replies = ap (λ (b : Bool). (script v.reads b T p.id (texts_so_far y p)).replies) (K.alike.explicit ∙ K.alone) ∙ ap (λ (n : ℕ). (script v.reads false T n (texts_so_far y p)).replies) K.alike.id
       ∙ ap (λ (ls : List Line). (script v.reads false T o.id (map (λ l. l.0) ls)).replies) same_script ∙ one_reply v o.id T text ∙ ap (λ (q : Step). q.1 ∷ []) (K.steps old_defs no_seq)
 
   end_tables : (script_end v T y p).state.tables ≡ E
@@ -385,7 +385,7 @@ module _ (v : Server) (cells : List Cell) (seats : List SeatState) {history : Hi
   mine_there id e h has = none_besides v cells seats S o.id exclusive h (subst (λ (n : ℕ). In h (holds_at cells n)) e (was_held (cell_of id) h has))
 
   not_free : (id : ℕ) (key : Key) → cell_of id ≡ catalog_at → IsFree (holds_at C' (cell_of id)) S.ledger key → ⊥
-  not_free id key e f = let z : in_journal S.ledger.items (o.id, 0) ≡ true = f (record { tx = o.id; want = whole X }) (subst (In (record { tx = o.id; want = whole X })) (sym (held_same (cell_of id))) (subst (λ (n : ℕ). In (record { tx = o.id; want = whole X }) (holds_at cells n)) (sym e) exclusive)) (reaches_all key) in let q = mine_out 0 in cc
+  not_free id key e f = let z : in_journal S.ledger.items (o.id, 0) ≡ true = f (record { tx = o.id; request = whole X }) (subst (In (record { tx = o.id; request = whole X })) (sym (held_same (cell_of id))) (subst (λ (n : ℕ). In (record { tx = o.id; request = whole X }) (holds_at cells n)) (sym e) exclusive)) (reaches_all key) in let q = mine_out 0 in cc
 
   key_else : (id : ℕ) (key : Key) (q : List Version → List Version) → cell_of id ≢ catalog_at → q (of_key (columns_at (defs_of T) id) key (versions_at C' id)) ≡ q (of_key (columns_at (defs_of T) id) key (versions_at cells id))
   key_else id key q ne = ap (λ (vs : List Version). q (of_key (columns_at (defs_of T) id) key vs)) (rows_else id ne)
@@ -396,25 +396,25 @@ module _ (v : Server) (cells : List Cell) (seats : List SeatState) {history : Hi
         (λ id l e f. absurd (not_free id key e f))
         (λ id l ne f. key_else id key (λ vs. vs) ne ∙ S.rows_agree.free id key l (λ h has q. f h (subst (In h) (sym (held_same (cell_of id))) has) q)) id l;
     own = each_open seats j (sits s y) x o y p goes
-        (λ n z q. q.end ≡ unfixed → (id : ℕ) (key : Key) → 1 ≤ id → (h : Hold) → In h (holds_at C' (cell_of id)) → h.tx ≡ q.id → lets_change key h.want ≡ true
+        (λ n z q. q.end ≡ unfixed → (id : ℕ) (key : Key) → 1 ≤ id → (h : Hold) → In h (holds_at C' (cell_of id)) → h.tx ≡ q.id → lets_change key h.request ≡ true
         → counted q.id id z.place (of_key (columns_at (defs_of T) id) key (versions_at C' id)) ≡ of_key (columns_at (defs_of T) id) key (versions_of (script_end v T z q).state.tables id))
-        (λ e id key l. by_cell (λ id. (h : Hold) → In h (holds_at C' (cell_of id)) → h.tx ≡ p.id → lets_change key h.want ≡ true
+        (λ e id key l. by_cell (λ id. (h : Hold) → In h (holds_at C' (cell_of id)) → h.tx ≡ p.id → lets_change key h.request ≡ true
         → counted p.id id y.place (of_key (columns_at (defs_of T) id) key (versions_at C' id)) ≡ of_key (columns_at (defs_of T) id) key (versions_of (script_end v T y p).state.tables id))
         (λ id l e h has m reach. counts_then id _ ∙ ap (of_key (columns_at (defs_of T) id) key) (as_script id l e) ∙ ap (λ (U : Tables). of_key (columns_at (defs_of T) id) key (versions_of U id)) (sym end_tables))
         (λ id l ne h has m reach. counts_then id _ ∙ key_else id key (λ vs. vs) ne ∙ sym (no_count id _) ∙ S.rows_agree.own j x o has_open K.unfixed id key l h (was_held (cell_of id) h has) (m ∙ K.alike.id) reach
         ∙ ap (λ (U : Tables). of_key (columns_at (defs_of T) id) key (versions_of U id)) end_was ∙ ap (of_key (columns_at (defs_of T) id) key) (sym (K.users id ne)) ∙ ap (λ (U : Tables). of_key (columns_at (defs_of T) id) key (versions_of U id)) (sym end_tables)) id l)
-        (λ n z q ne g f id key l. by_cell (λ id. (h : Hold) → In h (holds_at C' (cell_of id)) → h.tx ≡ q.id → lets_change key h.want ≡ true
+        (λ n z q ne g f id key l. by_cell (λ id. (h : Hold) → In h (holds_at C' (cell_of id)) → h.tx ≡ q.id → lets_change key h.request ≡ true
         → counted q.id id z.place (of_key (columns_at (defs_of T) id) key (versions_at C' id)) ≡ of_key (columns_at (defs_of T) id) key (versions_of (script_end v T z q).state.tables id))
         (λ id l e h has m reach. absurd (other_id n z q ne g (sym m ∙ mine_there id e h has)))
         (λ id l nc h has m reach. key_else id key (counted q.id id z.place) nc ∙ S.rows_agree.own n z q g f id key l h (was_held (cell_of id) h has) m reach) id l);
-    undone = λ id key l. by_cell (λ id. (h : Hold) → In h (holds_at C' (cell_of id)) → in_journal S.ledger.items (h.tx, 0) ≡ false → lets_change key h.want ≡ true
+    undone = λ id key l. by_cell (λ id. (h : Hold) → In h (holds_at C' (cell_of id)) → in_journal S.ledger.items (h.tx, 0) ≡ false → lets_change key h.request ≡ true
         → versions_undone h.tx 0 (of_key (columns_at (defs_of T) id) key (versions_at C' id)) ≡ of_key (columns_at (defs_of T) id) key (versions_of T id))
         (λ id l e h has u reach. ap (λ (n : ℕ). versions_undone n 0 (of_key (columns_at (defs_of T) id) key (versions_at C' id))) (mine_there id e h has)
         ∙ undone_of_key (columns_at (defs_of T) id) key o.id 0 (versions_at C' id) ∙ ap (of_key (columns_at (defs_of T) id) key) (undone_is id l e))
         (λ id l ne h has u reach. key_else id key (versions_undone h.tx 0) ne ∙ S.rows_agree.undone id key l h (was_held (cell_of id) h has) u reach) id l;
     rising = rising_then;
     back = each_open seats j (sits s y) x o y p goes (λ n z q. GoesBackTo z.place q.seq) ((K.stage_is old_defs).goes_to p.seq) (λ n z q ne g. S.rows_agree.back n z q g);
-    opened = each_open seats j (sits s y) x o y p goes (λ n z q. IsOpenedAt z.place q.opened) (subst (IsOpenedAt (inside text stage)) (sym (K.alike.opened ∙ K.alone)) (K.stage_is old_defs).opened) (λ n z q ne g. S.rows_agree.opened n z q g);
+    explicit = each_open seats j (sits s y) x o y p goes (λ n z q. IsExplicitAt z.place q.explicit) (subst (IsExplicitAt (inside text stage)) (sym (K.alike.explicit ∙ K.alone)) (K.stage_is old_defs).explicit) (λ n z q ne g. S.rows_agree.explicit n z q g);
     before = each_open seats j (sits s y) x o y p goes
         (λ n z q. q.end ≡ unfixed → (id : ℕ) → 1 ≤ id → AllByRecursion (MadeBefore q.id q.seq) (counted q.id id z.place (versions_at C' id)))
         (λ e id l. subst (AllByRecursion (MadeBefore p.id p.seq)) (sym (counts_then id _)) (subst (λ (n : ℕ). AllByRecursion (MadeBefore n p.seq) (versions_at C' id)) (sym K.alike.id) (before_then id l)))
@@ -503,28 +503,28 @@ module _ (v : Server) (cells : List Cell) (seats : List SeatState) {history : Hi
       only : (m : ℕ) (z : Session) (q : OpenTransaction) → HasOpen seats' m z q → q.id ≡ h.tx → m ≡ b.j
       only = each_open seats j (sits s y) x o y p goes (λ m z q. q.id ≡ h.tx → m ≡ b.j) (λ e. b.only j x o has_open (sym K.alike.id ∙ e)) (λ m z q ne g e. b.only m z q g e)
 
-  covers_same : (q : OpenTransaction) (m : ℕ) (ls : List Line) → Each (λ l. Each (Holds (holds_at cells m) q.id) (wants_in v (defs_of T) q.opened m l.0)) ls → Each (λ l. Each (Holds (holds_at C' m) q.id) (wants_in v (defs_of T) q.opened m l.0)) ls
-  covers_same q m ls h = subst (λ (hs : List Hold). Each (λ l. Each (Holds hs q.id) (wants_in v (defs_of T) q.opened m l.0)) ls) (sym (held_same m)) h
+  covers_same : (q : OpenTransaction) (m : ℕ) (ls : List Line) → Each (λ l. Each (Holds (holds_at cells m) q.id) (requests_in v (defs_of T) q.explicit m l.0)) ls → Each (λ l. Each (Holds (holds_at C' m) q.id) (requests_in v (defs_of T) q.explicit m l.0)) ls
+  covers_same q m ls h = subst (λ (hs : List Hold). Each (λ l. Each (Holds hs q.id) (requests_in v (defs_of T) q.explicit m l.0)) ls) (sym (held_same m)) h
 
-  looked_still : (place : Place) (q : OpenTransaction) → HoldsInCatalog v cells T place q → HoldsInCatalog v C' T place q
-  looked_still place q h = record { lock = lock_is catalog_at q.id h.lock; wants = λ u e. subst (λ (hs : List Hold). Each (Holds hs q.id) (of_catalog (text_wants (defs_of T) q.opened (v.reads u)).catalog)) (sym (held_same catalog_at)) (h.wants u e) }
+  looked_still : (place : SessionStatus) (q : OpenTransaction) → HoldsInCatalog v cells T place q → HoldsInCatalog v C' T place q
+  looked_still place q h = record { lock = lock_is catalog_at q.id h.lock; requests = λ u e. subst (λ (hs : List Hold). Each (Holds hs q.id) (of_catalog (text_requests (defs_of T) q.explicit (v.reads u)).catalog)) (sym (held_same catalog_at)) (h.requests u e) }
 
   whole_held : Holds (holds_at C' catalog_at) o.id (whole X)
-  whole_held = record { hold = record { tx = o.id; want = whole X }; has = subst (In _) (sym (held_same catalog_at)) exclusive; mine = refl; item = whole_same; mode = refl }
+  whole_held = record { hold = record { tx = o.id; request = whole X }; has = subst (In _) (sym (held_same catalog_at)) exclusive; mine = refl; item = whole_same; mode = refl }
 
   -- its wants are the catalog's X alone
-  its_wants : (m : ℕ) → Each (Holds (holds_at C' m) o.id) (wants_in v (defs_of T) false m text)
-  its_wants m = subst (Each (Holds (holds_at C' m) o.id)) (sym wants_are) (⊎_elim
+  its_requests : (m : ℕ) → Each (Holds (holds_at C' m) o.id) (requests_in v (defs_of T) false m text)
+  its_requests m = subst (Each (Holds (holds_at C' m) o.id)) (sym requests_are) (⊎_elim
       (λ (e : m ≡ catalog_at). subst (λ (n : ℕ). Each (Holds (holds_at C' n) o.id) (if n == catalog_at then whole X ∷ [] else [])) (sym e) (whole_held, tt))
       (λ (ne : m ≢ catalog_at). subst (λ (b : Bool). Each (Holds (holds_at C' m) o.id) (if b then whole X ∷ [] else [])) (sym (ne_eqb m catalog_at ne)) tt)
       (cases_eq m catalog_at))
     where
-      wants_are : wants_in v (defs_of T) false m text ≡ (if m == catalog_at then whole X ∷ [] else [])
-      wants_are = ap (λ (q : Option Stmt). wants_at m (text_wants (defs_of T) false q)) K.is
+      requests_are : requests_in v (defs_of T) false m text ≡ (if m == catalog_at then whole X ∷ [] else [])
+      requests_are = ap (λ (q : Option Stmt). requests_at m (text_requests (defs_of T) false q)) K.is
           ∙ ap₂ (λ q c. (if m == catalog_at then of_catalog q else []) ++ of_cell m c) (x_of stmt K.creates) (no_cell (defs_of T) stmt K.creates) ∙ append-nil (if m == catalog_at then whole X ∷ [] else [])
 
-  its_want : Each (Holds (holds_at C' catalog_at) o.id) (of_catalog (text_wants (defs_of T) false (v.reads text)).catalog)
-  its_want = subst (λ (q : Option Stmt). Each (Holds (holds_at C' catalog_at) o.id) (of_catalog (text_wants (defs_of T) false q).catalog)) (sym K.is)
+  its_request : Each (Holds (holds_at C' catalog_at) o.id) (of_catalog (text_requests (defs_of T) false (v.reads text)).catalog)
+  its_request = subst (λ (q : Option Stmt). Each (Holds (holds_at C' catalog_at) o.id) (of_catalog (text_requests (defs_of T) false q).catalog)) (sym K.is)
       (subst (λ (q : Option Mode). Each (Holds (holds_at C' catalog_at) o.id) (of_catalog q)) (sym (x_of stmt K.creates)) (whole_held, tt))
 
   lies_then : (id : ℕ) (w : Version) (e : EventId) → LiesUnder cells T id w e → LiesUnder C' T id w e
@@ -537,7 +537,7 @@ module _ (v : Server) (cells : List Cell) (seats : List SeatState) {history : Hi
   -- in the catalog all that isn't committed is its own
   module _ (id : ℕ) (l : 1 ≤ id) (e : cell_of id ≡ catalog_at) (w : Version) (there : In w (versions_at C' id)) where
     under_mine : (at : EventId) → at.0 ≡ o.id → LiesUnder C' T id w at
-    under_mine at m = record { hold = record { tx = o.id; want = whole X }; has = subst (In _) (sym (held_same (cell_of id))) (subst (λ (n : ℕ). In (record { tx = o.id; want = whole X }) (holds_at cells n)) (sym e) exclusive); mine = sym m; reaches = reaches_all (version_key (columns_at (defs_of T) id) w) }
+    under_mine at m = record { hold = record { tx = o.id; request = whole X }; has = subst (In _) (sym (held_same (cell_of id))) (subst (λ (n : ℕ). In (record { tx = o.id; request = whole X }) (holds_at cells n)) (sym e) exclusive); mine = sym m; reaches = reaches_all (version_key (columns_at (defs_of T) id) w) }
 
     of_others : (tx : ℕ) → tx ≢ o.id → in_journal S.ledger.items (tx, 0) ≡ false → MadeBefore tx 0 w
     of_others tx ne f = at_in (MadeBefore tx 0) (versions_at C' id) w (let c = change id l e in subst (AllByRecursion (MadeBefore tx 0)) (sym (rows_are id e ∙ c.is))
@@ -560,7 +560,7 @@ module _ (v : Server) (cells : List Cell) (seats : List SeatState) {history : Hi
       (each_weaker (IsUnderLocks v cells S.ledger id) (IsUnderLocks v C' S.ledger id) (λ w u. record { start = λ q. lies_then id w w.start (u.start q); end = end_then id w w.end u.end }) (versions_at cells id) (S.locks_cover.under id l)))
 
   alone_then : HasAlone (contents C') p.id
-  alone_then = subst (λ (n : ℕ). In (record { tx = n; want = whole X }) (holds_at C' catalog_at)) (sym K.alike.id) (subst (In _) (sym (held_same catalog_at)) exclusive)
+  alone_then = subst (λ (n : ℕ). In (record { tx = n; request = whole X }) (holds_at C' catalog_at)) (sym K.alike.id) (subst (In _) (sym (held_same catalog_at)) exclusive)
 
   covered : LocksCover v C' S.ledger seats'
   covered = record {
@@ -569,17 +569,17 @@ module _ (v : Server) (cells : List Cell) (seats : List SeatState) {history : Hi
     intents = λ n h has m. subst (λ (hs : List Hold). HasIntent hs h) (sym (held_same n)) (S.locks_cover.intents n h (was_held n h has) m);
     looked = each_open seats j (sits s y) x o y p goes (λ n z q. q.end ≡ unfixed → LookedAt v C' T z.place q)
         (λ e. looked_so v C' T p y.place (λ h. record {
-          lock = record { hold = record { tx = o.id; want = whole X }; has = subst (In _) (sym (held_same catalog_at)) exclusive; mine = sym K.alike.id };
-          wants = λ u f. let one : text ≡ u = cc in subst (λ (t : Text). Each (Holds (holds_at C' catalog_at) p.id) (of_catalog (text_wants (defs_of T) p.opened (v.reads t)).catalog)) one
-              (subst (λ (b : Bool). Each (Holds (holds_at C' catalog_at) p.id) (of_catalog (text_wants (defs_of T) b (v.reads text)).catalog)) (sym (K.alike.opened ∙ K.alone)) (subst (λ (n : ℕ). Each (Holds (holds_at C' catalog_at) n) (of_catalog (text_wants (defs_of T) false (v.reads text)).catalog)) (sym K.alike.id) its_want));
+          lock = record { hold = record { tx = o.id; request = whole X }; has = subst (In _) (sym (held_same catalog_at)) exclusive; mine = sym K.alike.id };
+          requests = λ u f. let one : text ≡ u = cc in subst (λ (t : Text). Each (Holds (holds_at C' catalog_at) p.id) (of_catalog (text_requests (defs_of T) p.explicit (v.reads t)).catalog)) one
+              (subst (λ (b : Bool). Each (Holds (holds_at C' catalog_at) p.id) (of_catalog (text_requests (defs_of T) b (v.reads text)).catalog)) (sym (K.alike.explicit ∙ K.alone)) (subst (λ (n : ℕ). Each (Holds (holds_at C' catalog_at) n) (of_catalog (text_requests (defs_of T) false (v.reads text)).catalog)) (sym K.alike.id) its_request));
         }))
         (λ n z q ne h e. looked_so v C' T q z.place (λ l. looked_still z.place q (looked_now v cells T q z.place (S.locks_cover.looked n z q h e) l)));
     on_whole = λ h has. S.locks_cover.on_whole h (was_held catalog_at h has);
-    looked_first = each_open seats j (sits s y) x o y p goes (λ n z q. q.end ≡ unfixed → LookedFirst z.place → WantsNone v C' T q) (λ e h. absurd ((K.stage_is old_defs).not_first h))
+    looked_first = each_open seats j (sits s y) x o y p goes (λ n z q. q.end ≡ unfixed → LookedFirst z.place → RequestsNone v C' T q) (λ e h. absurd ((K.stage_is old_defs).not_first h))
         (λ n z q ne h e f. let was = S.locks_cover.looked_first n z q h e f in record { before = was.before; shares = λ h has m. was.shares h (was_held catalog_at h has) m; elsewhere = λ m l. was.elsewhere m (lock_was (suc m) q.id l) });
-    cover = each_open seats j (sits s y) x o y p goes (λ n z q. (m : ℕ) → KeepsLocks q m → Each (λ l. Each (Holds (holds_at C' m) q.id) (wants_in v (defs_of T) q.opened m l.0)) (script_so_far z q))
-        (λ m u. subst (Each (λ l. Each (Holds (holds_at C' m) p.id) (wants_in v (defs_of T) p.opened m l.0))) (sym same_script)
-        (subst (λ (b : Bool). Each (Holds (holds_at C' m) p.id) (wants_in v (defs_of T) b m text)) (sym (K.alike.opened ∙ K.alone)) (subst (λ (n : ℕ). Each (Holds (holds_at C' m) n) (wants_in v (defs_of T) false m text)) (sym K.alike.id) (its_wants m)), tt))
+    cover = each_open seats j (sits s y) x o y p goes (λ n z q. (m : ℕ) → KeepsLocks q m → Each (λ l. Each (Holds (holds_at C' m) q.id) (requests_in v (defs_of T) q.explicit m l.0)) (script_so_far z q))
+        (λ m u. subst (Each (λ l. Each (Holds (holds_at C' m) p.id) (requests_in v (defs_of T) p.explicit m l.0))) (sym same_script)
+        (subst (λ (b : Bool). Each (Holds (holds_at C' m) p.id) (requests_in v (defs_of T) b m text)) (sym (K.alike.explicit ∙ K.alone)) (subst (λ (n : ℕ). Each (Holds (holds_at C' m) n) (requests_in v (defs_of T) false m text)) (sym K.alike.id) (its_requests m)), tt))
         (λ n z q ne h m u. covers_same q m (script_so_far z q) (S.locks_cover.cover n z q h m u));
     catalog = λ n id l. lock_is catalog_at id (S.locks_cover.catalog n id (lock_was (suc n) id l));
     definitions = λ n z q m h e l. each_open seats j (sits s y) x o y p goes (λ n z q. (m : ℕ) → EndsAt q.end m → HasLock C' catalog_at q.id → defs_of T ≡ defs_of (serial v.reads (upto S.ledger.items m)))
@@ -588,7 +588,7 @@ module _ (v : Server) (cells : List Cell) (seats : List SeatState) {history : Hi
     got = each_open seats j (sits s y) x o y p goes (λ n z q. HasLock C' catalog_at q.id → IsGotAt v C' T q.id (not (in_journal S.ledger.items (q.id, 0))) z.place)
         (λ l. subst (λ (b : Bool). IsGotAt v C' T p.id b y.place) (sym (ap (λ (n : ℕ). not (in_journal S.ledger.items (n, 0))) K.alike.id ∙ ap not (mine_out 0))) (got_at_more v T (Unit {0}) (HasAlone (contents C') p.id) true (λ u. alone_then) y.place (K.stage_is old_defs).got))
         (λ n z q ne h l. got_at_more v T (HasAlone (contents cells) q.id) (HasAlone (contents C') q.id) (not (in_journal S.ledger.items (q.id, 0))) (subst (In _) (sym (held_same catalog_at))) z.place (S.locks_cover.got n z q h (lock_was catalog_at q.id l)));
-    dropping = each_open seats j (sits s y) x o y p goes (λ n z q. IsDropping z.place q → In (record { tx = q.id; want = whole X }) (holds_at C' catalog_at)) (λ h. absurd ((K.stage_is old_defs).not_dropping p h))
+    dropping = each_open seats j (sits s y) x o y p goes (λ n z q. IsDropping z.place q → In (record { tx = q.id; request = whole X }) (holds_at C' catalog_at)) (λ h. absurd ((K.stage_is old_defs).not_dropping p h))
         (λ n z q ne g h. subst (In _) (sym (held_same catalog_at)) (S.locks_cover.dropping n z q g h));
     under = under_then;
   }
@@ -609,37 +609,37 @@ module _ (v : Server) (cells : List Cell) (seats : List SeatState) {history : Hi
     j = j;
     o = p;
     has = open_now;
-    own = K.alike.opened ∙ K.alone;
+    own = K.alike.explicit ∙ K.alone;
     outside = ap (λ (n : ℕ). in_journal S.ledger.items (n, 0)) K.alike.id ∙ mine_out 0;
     text = text;
     stands = refl;
     is = K.is;
     creates = K.creates;
     acted = (K.stage_is old_defs).acted;
-    exclusive = subst (λ (n : ℕ). In (record { tx = n; want = whole X }) (holds_at C' catalog_at)) (sym K.alike.id) (subst (In _) (sym (held_same catalog_at)) exclusive);
+    exclusive = subst (λ (n : ℕ). In (record { tx = n; request = whole X }) (holds_at C' catalog_at)) (sym K.alike.id) (subst (In _) (sym (held_same catalog_at)) exclusive);
   }
 
   definitions_then : AreDefinitions v C' seats' S.ledger new.defs new.creator
   unfolding it_creates
   definitions_then = ⊎_elim
       (λ (e : (new.defs ≡ old.defs) × (new.creator ≡ old.creator)). inl (e.0 ∙ old_defs))
-      (λ (e : (new.creator ≡ Some (record { tx = o.id; before = old.defs })) × (old.defs ≡ defs_of T → new.defs ≡ defs_of (defined (plan T stmt).definition T))).
+      (λ (e : (new.creator ≡ Some (record { tx = o.id; before = old.defs })) × (old.defs ≡ defs_of T → new.defs ≡ defs_of (defined (change_set T stmt).definition T))).
       inr (record { x = y; stmt = stmt; by = it_creates; has_creator = e.0 ∙ ap₂ (λ (n : ℕ) (ds : Defs). Some (record { tx = n; before = ds })) (sym K.alike.id) old_defs; is = e.1 old_defs }))
       K.creator
 
   creator_then : (k : Creator) → new.creator ≡ Some k → GoesBack v C' S.ledger k
   creator_then k f = ⊎_elim
       (λ (e : (new.defs ≡ old.defs) × (new.creator ≡ old.creator)). let was = S.tables_are_serial.goes_back k (ap (λ (q : CatalogCell). q.creator) (sym is_catalog) ∙ sym e.1 ∙ f) in
-      record { exclusive = subst (In (record { tx = k.tx; want = whole X })) (sym (held_same catalog_at)) was.exclusive; before = was.before })
-      (λ (e : (new.creator ≡ Some (record { tx = o.id; before = old.defs })) × (old.defs ≡ defs_of T → new.defs ≡ defs_of (defined (plan T stmt).definition T))).
+      record { exclusive = subst (In (record { tx = k.tx; request = whole X })) (sym (held_same catalog_at)) was.exclusive; before = was.before })
+      (λ (e : (new.creator ≡ Some (record { tx = o.id; before = old.defs })) × (old.defs ≡ defs_of T → new.defs ≡ defs_of (defined (change_set T stmt).definition T))).
       let one : Some (record { tx = o.id; before = old.defs }) ≡ Some k = sym e.0 ∙ f in
       let same : record { tx = o.id; before = old.defs } ≡ k = cc in
-      subst (GoesBack v C' S.ledger) same (record { exclusive = subst (In (record { tx = o.id; want = whole X })) (sym (held_same catalog_at)) exclusive; before = λ u. old_defs }))
+      subst (GoesBack v C' S.ledger) same (record { exclusive = subst (In (record { tx = o.id; request = whole X })) (sym (held_same catalog_at)) exclusive; before = λ u. old_defs }))
       K.creator
 
   indexes_then : (def : TableDef) (xs : List (List ℕ)) → AreIndexes v cells seats S.ledger def xs → AreIndexes v C' seats' S.ledger def xs
   indexes_then def xs h = ⊎_elim (λ (e : xs ≡ ordinals_of def.indexes). inl e)
-      (λ (k : (z : Session) × (q : Stmt) × (after : TableDef) × (by : Creates v cells seats S.ledger z q) × (def_at (defs_of (defined (plan T q).definition T)) def.id ≡ Some after) × (xs ≡ ordinals_of after.indexes) × IsAdding z.place by.o after (cell_of def.id)). absurd (none_acts k.0 k.1 k.3)) h
+      (λ (k : (z : Session) × (q : Stmt) × (after : TableDef) × (by : Creates v cells seats S.ledger z q) × (def_at (defs_of (defined (change_set T q).definition T)) def.id ≡ Some after) × (xs ≡ ordinals_of after.indexes) × IsAdding z.place by.o after (cell_of def.id)). absurd (none_acts k.0 k.1 k.3)) h
 
   stands_then : (cell : TableCell) (def : Option TableDef) → StandsAs v cells seats S.ledger cell def → StandsAs v C' seats' S.ledger cell def
   stands_then cell None h = h
@@ -651,7 +651,7 @@ module _ (v : Server) (cells : List Cell) (seats : List SeatState) {history : Hi
       (λ (ne : n ≢ catalog_at). ap table_found (sym (set_else cells catalog_at n (Catalog new) ne) ∙ e))
       (cases_eq n catalog_at)
 
-  indexed_else : (place : Place) → IsIndexed cells place → IsIndexed C' place
+  indexed_else : (place : SessionStatus) → IsIndexed cells place → IsIndexed C' place
   indexed_else (inside at (made def true)) was = λ m cell f k. was m cell (table_was m cell f) k
   indexed_else (inside at (made def false)) was = tt
   indexed_else place was = tt
@@ -664,10 +664,10 @@ module _ (v : Server) (cells : List Cell) (seats : List SeatState) {history : Hi
       (λ answered a h. ⊎_elim (λ (k : IsAnswered answered a). inl k) (λ (k : ⊥). absurd k) h)
       (from_at v.meaning x y (inside text begun) (Some o) [] K.place K.open_one refl (λ n i f. let z = fits_if v.meaning n text begun o false K.alone f in record {
         shown = append-nil _ ∙ (λ m. shown_with v.meaning (K.alone m) o.id text begun ++ end_shown o.end) ∙ ap (λ (l : List Fact). (began o.id false ∷ l) ++ end_shown o.end) (sym stands.shows)
-            ∙ (λ m. shown_with v.meaning (sym (K.alike.opened ∙ K.alone) m) (sym K.alike.id m) text stage ++ end_shown (sym K.alike.end m));
-        before = (λ m. if K.alone m then (if is_begin begun then None else Some o.id) else None) ∙ (λ m. if sym (K.alike.opened ∙ K.alone) m then (if is_begin stage then None else Some p.id) else None);
+            ∙ (λ m. shown_with v.meaning (sym (K.alike.explicit ∙ K.alone) m) (sym K.alike.id m) text stage ++ end_shown (sym K.alike.end m));
+        before = (λ m. if K.alone m then (if is_begin begun then None else Some o.id) else None) ∙ (λ m. if sym (K.alike.explicit ∙ K.alone) m then (if is_begin stage then None else Some p.id) else None);
         images = sym stands.image;
-        fits = if_fits v.meaning n text stage p false (K.alike.opened ∙ K.alone) (subst (EndsOwn (kind_of (v.meaning.reads text))) (sym K.alike.end) z.0, stands.fits n (subst (EndsOwn (kind_of (v.meaning.reads text))) K.unfixed z.0));
+        fits = if_fits v.meaning n text stage p false (K.alike.explicit ∙ K.alone) (subst (EndsOwn (kind_of (v.meaning.reads text))) (sym K.alike.end) z.0, stands.fits n (subst (EndsOwn (kind_of (v.meaning.reads text))) K.unfixed z.0));
       }))
 
   act_owner : act.owner (g v cells seats S j s K.there x K.role o K.open_one).runs.number ≡ j
@@ -704,12 +704,12 @@ module _ (v : Server) (cells : List Cell) (seats : List SeatState) {history : Hi
     trees = each_open seats j (sits s y) x o y p goes (λ n z q. q.end ≡ unfixed → HasItsTrees v C' S.ledger z q)
         (λ e. record {
           trees = trees_from x o x o (no_change x o) v (λ id. events_in o.id id (versions_at C' id)) (events_counted C' y p) p.trees (λ id l. events_then id) its_trees;
-          frames = subst (λ (fs : List Frame). AreFrames p.id fs (script_end v T y p).state.saved) (sym K.same_frames) (subst (λ (q : List Saved). AreFrames p.id o.frames q) (sym (ap (λ (q : State). q.saved) end_state))
-              (subst (λ (n : ℕ). AreFrames n o.frames []) (sym K.alike.id) (subst (AreFrames o.id o.frames) none_saved (S.trees_are_of_events j x o has_open K.unfixed).frames)));
+          open_savepoints = subst (λ (fs : List OpenSavepoint). AreOpenSavepoints p.id fs (script_end v T y p).state.saved) (sym K.same_savepoints) (subst (λ (q : List Saved). AreOpenSavepoints p.id o.open_savepoints q) (sym (ap (λ (q : State). q.saved) end_state))
+              (subst (λ (n : ℕ). AreOpenSavepoints n o.open_savepoints []) (sym K.alike.id) (subst (AreOpenSavepoints o.id o.open_savepoints) none_saved (S.trees_are_of_events j x o has_open K.unfixed).open_savepoints)));
         })
-        (λ n z q ne h e. let was = S.trees_are_of_events n z q h e in record { trees = trees_from z q z q (no_change z q) v (events_counted cells z q) (events_counted C' z q) q.trees (events_all n z q ne h e) was.trees; frames = was.frames })
+        (λ n z q ne h e. let was = S.trees_are_of_events n z q h e in record { trees = trees_from z q z q (no_change z q) v (events_counted cells z q) (events_counted C' z q) q.trees (events_all n z q ne h e) was.trees; open_savepoints = was.open_savepoints })
 
-    pub creates_there : StandsBy v j history o.id o.opened (looks text false ∷ []) C' seats'
+    pub creates_there : StandsBy v j history o.id o.explicit (looks text false ∷ []) C' seats'
     creates_there = record {
       session = _;
       of = its_session v.meaning history (S.transcripts_agree.of_seat j) x o (g v cells seats S j s K.there x K.role o K.open_one);

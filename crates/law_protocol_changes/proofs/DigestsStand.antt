@@ -3,48 +3,48 @@ use Rattle.std.proofs.Common.{◌≡◌, ℕ, zero, suc, ◌+◌, ◌≤◌, Boo
 use Rattle.std.specs.Prelude.{if◌then◌else◌, nat_le}
 use mathlib.Core.Option.{some}
 use lib.ListN.{get_elem?}
-use Rattle.lg_value.specs.declared.refusal.Refusal.TheVariants.{E19}
-use Rattle.lg_types.specs.declared.journal.JournalItem.{JournalItem}
-use Rattle.lg_types.specs.declared.journal.JournalItem.TheVariants.{Close}
-use Rattle.lg_types.specs.declared.reply.Reply.TheVariants as reply
-use Rattle.lg_model.specs.Journals.{tx_count, closed}
-use Rattle.lg_history.specs.Facts.{no_digest, digest}
-use Rattle.lg_history.specs.Transcripts.{issue, kind_of}
-use Rattle.lg_types.specs.declared.statement.Stmt.TheVariants as stmt
-use Rattle.lg_history.specs.Sessions.{acted}
-use Rattle.lg_standing.specs.Seats.{begun}
+use Rattle.sql_value.specs.declared.refusal.Refusal.TheVariants.{NothingCommitted}
+use Rattle.sql_types.specs.declared.journal.JournalItem.{JournalItem}
+use Rattle.sql_types.specs.declared.journal.JournalItem.TheVariants.{Close}
+use Rattle.sql_types.specs.declared.reply.Reply.TheVariants as reply
+use Rattle.spec_model.specs.Journals.{tx_count, closed}
+use Rattle.spec_history.specs.Facts.{no_digest, digest}
+use Rattle.spec_history.specs.Transcripts.{issue, kind_of}
+use Rattle.sql_types.specs.declared.statement.Stmt.TheVariants as stmt
+use Rattle.spec_history.specs.Sessions.{acted}
+use Rattle.spec_protocol.specs.Seats.{begun}
 use Rattle.law_protocol_steps.proofs.TranscriptActs.{goes_on}
-use Rattle.law_protocol_steps.proofs.TranscriptStages.{from_at, at_lack, at_digest}
-use Rattle.lg_history.specs.Lists.{Text, In}
-use Rattle.lg_history.specs.Journals.{blocks}
-use Rattle.lg_history.specs.Digests.{Digest, IsDigest}
-use Rattle.lg_history.specs.Acts.{issues, lacks, closes}
-use Rattle.lg_history.specs.Sessions.{SessionTransaction, SessionState}
-use Rattle.lg_history.specs.Worlds.{first, run}
-use Rattle.lg_history.proofs.Settles.{in_append, in_left, in_right}
-use Rattle.lg_history.proofs.Trace.{each_append, each_weaker, count_append}
-use Rattle.lg_standing.specs.Server.{Server}
-use Rattle.lg_standing.specs.Cells.{LedgerCell, Cell, Ledger, ledger_at, pending_in, blocks_in}
-use Rattle.lg_standing.specs.Contents.{Contents, Known, contents, known}
-use Rattle.lg_standing.specs.Seats.{answering, inside, OpenTransaction, Session, Written, Role, SeatState}
-use Rattle.lg_standing.specs.LedgerIsLegal.{IsOfCell, LedgerIsLegal}
-use Rattle.lg_standing.specs.LedgerVisits.{closed_by, all_closed, with_digest, Issues, LacksBlock, next_block}
-use Rattle.lg_standing.specs.Moves.{at_place, at_moment, sits, marking, StandsIn}
-use Rattle.lg_standing.specs.OpenOnes.{text_at}
-use Rattle.lg_standing.specs.Parts.{AreTransactions}
-use Rattle.lg_standing.specs.TranscriptsAgree.{session_moments, moments_of}
-use Rattle.lg_standing.specs.StandTogether.{History, Stands, StandsAfter}
+use Rattle.law_protocol_steps.proofs.TranscriptProgress.{from_at, at_lack, at_digest}
+use Rattle.spec_history.specs.Lists.{Text, In}
+use Rattle.spec_history.specs.Journals.{blocks}
+use Rattle.spec_history.specs.Digests.{Digest, IsDigest}
+use Rattle.spec_history.specs.Acts.{issues, lacks, closes}
+use Rattle.spec_history.specs.Sessions.{SessionTransaction, SessionState}
+use Rattle.spec_history.specs.Worlds.{first, run}
+use Rattle.spec_history.proofs.Settles.{in_append, in_left, in_right}
+use Rattle.spec_history.proofs.Trace.{each_append, each_weaker, count_append}
+use Rattle.spec_protocol.specs.Server.{Server}
+use Rattle.spec_protocol.specs.Cells.{LedgerCell, Cell, Ledger, ledger_at, pending_in, blocks_in}
+use Rattle.spec_protocol.specs.Contents.{Contents, Known, contents, known}
+use Rattle.spec_protocol.specs.Seats.{answering, inside, OpenTransaction, Session, Written, Role, SeatState}
+use Rattle.spec_protocol.specs.LedgerIsLegal.{IsOfCell, LedgerIsLegal}
+use Rattle.spec_protocol.specs.LedgerVisits.{closed_by, all_closed, with_digest, Issues, LacksBlock, next_block}
+use Rattle.spec_protocol.specs.Moves.{at_place, at_moment, sits, marking, InStatement}
+use Rattle.spec_protocol.specs.OpenOnes.{text_at}
+use Rattle.spec_protocol.specs.Parts.{AreTransactions}
+use Rattle.spec_protocol.specs.TranscriptsAgree.{session_moments, moments_of}
+use Rattle.spec_protocol.specs.StandTogether.{History, Stands, StandsAfter}
 use Rattle.law_protocol_steps.proofs.Closes.{close_stands, next_within}
 use Rattle.law_protocol_steps.proofs.Ids.{Running, running}
 use Rattle.law_protocol_steps.proofs.LedgerVisit.{the_ledger, ledger_after}
 use Rattle.law_protocol_steps.proofs.OneMore.{Acts, agrees_then, agrees_owner, images_stay_each}
 use Rattle.law_protocol_steps.proofs.OpenSeats.{Own, owns_none}
-use Rattle.lg_standing.proofs.Places.{set_here, set_same, set_again}
+use Rattle.spec_protocol.proofs.Places.{set_here, set_same, set_again}
 use Rattle.law_protocol_steps.proofs.PlainAct.{plain_act, plain_act_owner}
 use Rattle.law_protocol_steps.proofs.Turns.{Turns}
-use Rattle.lg_model.specs.Catalog.{Defs}
-use Rattle.lg_standing.specs.ActsOf.{closings}
-use Rattle.lg_standing.proofs.LedgerNumbers.{blocks_are, pending_are, pending_after}
+use Rattle.spec_model.specs.Catalog.{Defs}
+use Rattle.spec_protocol.specs.ActsOf.{closings}
+use Rattle.spec_protocol.proofs.LedgerNumbers.{blocks_are, pending_are, pending_after}
 
 -- a seat that has no open transaction, before and then, owes nothing
 pub no_turn : (v : Server) (c : Contents) (k : Known) (defs : Defs) (s t : SeatState) → ((z : Session) (u : OpenTransaction) → Own s z u → ⊥) → ((z : Session) (u : OpenTransaction) → Own t z u → ⊥) → Turns v c k defs s t
@@ -112,7 +112,7 @@ pub same_none : (z : Option SessionTransaction) (x y : Session) → AreTransacti
 same_none None x y e = tt
 same_none (Some d) x y e = absurd e
 
-module _ (v : Server) (cells : List Cell) (seats : List SeatState) {history : History} (st : Stands v history cells seats) (j : ℕ) (s : SeatState) (there : get_elem? seats j ≡ some s) (p : StandsIn v s) (free : p.x.open_one ≡ None) (at_begun : p.stage ≡ begun) (asks : p.stmt ≡ stmt.Digest) where
+module _ (v : Server) (cells : List Cell) (seats : List SeatState) {history : History} (st : Stands v history cells seats) (j : ℕ) (s : SeatState) (there : get_elem? seats j ≡ some s) (p : InStatement v s) (free : p.x.open_one ≡ None) (at_begun : p.stage ≡ begun) (asks : p.stmt ≡ stmt.Digest) where
   abbrev ledger : LedgerCell
   ledger = st.ledger
 
@@ -137,7 +137,7 @@ module _ (v : Server) (cells : List Cell) (seats : List SeatState) {history : Hi
   -- there is no block
   module _ (none : tx_count ledger.items ≡ 0) where
     abbrev y : Session
-    y = at_place None (inside p.text (answering (reply.Refused E19) None)) p.x
+    y = at_place None (inside p.text (answering (reply.Refused NothingCommitted) None)) p.x
 
     pub lack_stands : StandsAfter v j history (lacks ∷ []) (slice_set cells ledger_at (Ledger ledger)) (slice_set seats j (sits s y))
     lack_stands = ledger_after v cells seats st j s (sits s y) there ledger refl r.number st.ledger_is_legal

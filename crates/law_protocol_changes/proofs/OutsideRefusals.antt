@@ -1,28 +1,28 @@
 -- What is answered where no transaction is open, and want of memory.
 use Rattle.std.proofs.Common.{◌≡◌, ℕ, ◌⊎◌, Bool, true, false, [], ◌∷◌, Option, Some, None, refl, sym, ap, ◌∙◌, subst, inl, inr}
 use Rattle.std.specs.Prelude.{◌==◌, if◌then◌else◌}
-use Rattle.lg_value.specs.declared.refusal.Refusal.{Refusal}
-use Rattle.lg_value.specs.declared.refusal.Refusal.TheVariants.{E01, E13, E14, E16, E17, E30}
-use Rattle.lg_types.specs.declared.reply.Reply.TheVariants as reply
-use Rattle.lg_types.specs.declared.statement.Stmt.{Stmt}
-use Rattle.lg_types.specs.declared.statement.Stmt.TheVariants as stmt
-use Rattle.lg_history.specs.Lists.{Text}
-use Rattle.lg_history.specs.Meaning.{Meaning}
-use Rattle.lg_history.specs.Transcripts.{Kind, unread, begin, commit, roll_back, to_savepoint, create, rows, issue, keep, kind_of}
-use Rattle.lg_history.specs.Facts.{failed, facts_inside, facts_outside}
-use Rattle.lg_history.specs.InPlace.{ComesAt, ControlledBy}
-use Rattle.lg_standing.specs.Answering.{refused_outside}
-use Rattle.lg_standing.specs.TranscriptsSoFar.{FitsOutside}
-use Rattle.law_protocol_steps.proofs.InPlaces.{never, comes, outside, e30_outside}
-use Rattle.lg_standing.specs.ActsOf.{failed_acts}
-use Rattle.lg_history.specs.Acts.{fails}
+use Rattle.sql_value.specs.declared.refusal.Refusal.{Refusal}
+use Rattle.sql_value.specs.declared.refusal.Refusal.TheVariants.{SyntaxError, NoTransaction, AlreadyInTransaction, LimitExceeded, ForbiddenInTransaction, NoMemory}
+use Rattle.sql_types.specs.declared.reply.Reply.TheVariants as reply
+use Rattle.sql_types.specs.declared.statement.Stmt.{Stmt}
+use Rattle.sql_types.specs.declared.statement.Stmt.TheVariants as stmt
+use Rattle.spec_history.specs.Lists.{Text}
+use Rattle.spec_history.specs.Meaning.{Meaning}
+use Rattle.spec_history.specs.Transcripts.{Kind, unread, begin, commit, roll_back, to_savepoint, create, rows, issue, keep, kind_of}
+use Rattle.spec_history.specs.Facts.{failed, facts_inside, facts_outside}
+use Rattle.spec_history.specs.InPlace.{ComesAt, ControlledBy}
+use Rattle.spec_protocol.specs.Answering.{refused_outside}
+use Rattle.spec_protocol.specs.TranscriptsSoFar.{FitsOutside}
+use Rattle.law_protocol_steps.proofs.InPlaces.{never, comes, outside, memory_refused_outside}
+use Rattle.spec_protocol.specs.ActsOf.{failed_acts}
+use Rattle.spec_history.specs.Acts.{fails}
 
 module _ (q : Meaning) (text : Text) where
   abbrev k : Kind
   k = kind_of (q.reads text)
 
   -- want of memory, where no transaction is open
-  facts_none : (a : Kind) → facts_outside q a text (reply.Refused E30) None ≡ []
+  facts_none : (a : Kind) → facts_outside q a text (reply.Refused NoMemory) None ≡ []
   facts_none unread = refl
   facts_none begin = refl
   facts_none commit = refl
@@ -33,11 +33,11 @@ module _ (q : Meaning) (text : Text) where
   facts_none issue = refl
   facts_none keep = refl
 
-  pub no_memory_outside : (n : ℕ) → FitsOutside q n text (reply.Refused E30) × (facts_outside q k text (reply.Refused E30) None ≡ [])
-  no_memory_outside n = (record { plain = refl; in_place = e30_outside q n text }, facts_none k)
+  pub no_memory_outside : (n : ℕ) → FitsOutside q n text (reply.Refused NoMemory) × (facts_outside q k text (reply.Refused NoMemory) None ≡ [])
+  no_memory_outside n = (record { plain = refl; in_place = memory_refused_outside q n text }, facts_none k)
 
   -- and in one that BEGIN opened: COMMIT and ROLLBACK show nothing then
-  pub no_memory_facts : (a : Kind) → ((facts_inside q a text (reply.Refused E30) None ≡ []) × (failed_acts a text ≡ [])) ⊎ ((facts_inside q a text (reply.Refused E30) None ≡ failed text ∷ []) × (failed_acts a text ≡ fails text ∷ []))
+  pub no_memory_facts : (a : Kind) → ((facts_inside q a text (reply.Refused NoMemory) None ≡ []) × (failed_acts a text ≡ [])) ⊎ ((facts_inside q a text (reply.Refused NoMemory) None ≡ failed text ∷ []) × (failed_acts a text ≡ fails text ∷ []))
   no_memory_facts unread = inr (refl, refl)
   no_memory_facts begin = inr (refl, refl)
   no_memory_facts commit = inl (refl, refl)
@@ -53,26 +53,26 @@ module _ (q : Meaning) (text : Text) where
   abbrev Refuses : ℕ → Refusal → Type 0
   Refuses n e = FitsOutside q n text (reply.Refused e) × (facts_outside q k text (reply.Refused e) None ≡ [])
 
-  needs_one : (n : ℕ) (a : Kind) → k ≡ a → Rattle.lg_history.specs.InPlace.EndsOutside a None → ControlledBy None n a (reply.Refused E13) → Rattle.lg_history.specs.InPlace.HasItsForm a (reply.Refused E13) None → facts_outside q a text (reply.Refused E13) None ≡ [] → Refuses n E13
-  needs_one n a same e c f g = (record { plain = refl; in_place = outside q n text (reply.Refused E13) a None same e c f }, ap (λ (z : Kind). facts_outside q z text (reply.Refused E13) None) same ∙ g)
+  needs_one : (n : ℕ) (a : Kind) → k ≡ a → Rattle.spec_history.specs.InPlace.EndsOutside a None → ControlledBy None n a (reply.Refused NoTransaction) → Rattle.spec_history.specs.InPlace.HasItsForm a (reply.Refused NoTransaction) None → facts_outside q a text (reply.Refused NoTransaction) None ≡ [] → Refuses n NoTransaction
+  needs_one n a same e c f g = (record { plain = refl; in_place = outside q n text (reply.Refused NoTransaction) a None same e c f }, ap (λ (z : Kind). facts_outside q z text (reply.Refused NoTransaction) None) same ∙ g)
 
-  third : (n : ℕ) (e : Refusal) (b : Bool) → (n == 2) ≡ b → (if b then Some E16 else None) ≡ Some e → k ≡ keep → Refuses n e
-  third n E16 true f is same = (
-    record { plain = refl; in_place = outside q n text (reply.Refused E16) keep None same refl (record { none_open = never E13 _ (λ f. cc); begun_twice = never E14 _ (λ f. cc); not_inside = never E17 _ (λ f. cc); unread_outside = never E01 _ (λ f. cc); third_image = subst (λ (z : Bool). ComesAt E16 z (reply.Refused E16)) (sym f) (comes E16); begins = tt }) tt },
-    ap (λ (z : Kind). facts_outside q z text (reply.Refused E16) None) same,
+  third : (n : ℕ) (e : Refusal) (b : Bool) → (n == 2) ≡ b → (if b then Some LimitExceeded else None) ≡ Some e → k ≡ keep → Refuses n e
+  third n LimitExceeded true f is same = (
+    record { plain = refl; in_place = outside q n text (reply.Refused LimitExceeded) keep None same refl (record { none_open = never NoTransaction _ (λ f. cc); begun_twice = never AlreadyInTransaction _ (λ f. cc); not_inside = never ForbiddenInTransaction _ (λ f. cc); unread_outside = never SyntaxError _ (λ f. cc); third_image = subst (λ (z : Bool). ComesAt LimitExceeded z (reply.Refused LimitExceeded)) (sym f) (comes LimitExceeded); begins = tt }) tt },
+    ap (λ (z : Kind). facts_outside q z text (reply.Refused LimitExceeded) None) same,
   )
   third n e true f is same = cc
   third n e false f is same = cc
 
   pub refused_out_fits : (n : ℕ) (o : Option Stmt) (e : Refusal) → refused_outside n o ≡ Some e → k ≡ kind_of o → Refuses n e
-  refused_out_fits n None E01 f same = (
-    record { plain = refl; in_place = outside q n text (reply.Refused E01) unread None same refl (record { none_open = never E13 _ (λ f. cc); begun_twice = never E14 _ (λ f. cc); not_inside = never E17 _ (λ f. cc); unread_outside = comes E01; third_image = tt; begins = tt }) tt },
-    ap (λ (z : Kind). facts_outside q z text (reply.Refused E01) None) same,
+  refused_out_fits n None SyntaxError f same = (
+    record { plain = refl; in_place = outside q n text (reply.Refused SyntaxError) unread None same refl (record { none_open = never NoTransaction _ (λ f. cc); begun_twice = never AlreadyInTransaction _ (λ f. cc); not_inside = never ForbiddenInTransaction _ (λ f. cc); unread_outside = comes SyntaxError; third_image = tt; begins = tt }) tt },
+    ap (λ (z : Kind). facts_outside q z text (reply.Refused SyntaxError) None) same,
   )
-  refused_out_fits n (Some stmt.Commit) E13 f same = needs_one n commit same refl (record { none_open = comes E13; begun_twice = never E14 _ (λ f. cc); not_inside = never E17 _ (λ f. cc); unread_outside = never E01 _ (λ f. cc); third_image = tt; begins = tt }) tt refl
-  refused_out_fits n (Some (stmt.Save name)) E13 f same = needs_one n to_savepoint same refl (record { none_open = comes E13; begun_twice = never E14 _ (λ f. cc); not_inside = never E17 _ (λ f. cc); unread_outside = never E01 _ (λ f. cc); third_image = tt; begins = tt }) tt refl
-  refused_out_fits n (Some (stmt.Rollback None)) E13 f same = needs_one n roll_back same refl (record { none_open = comes E13; begun_twice = never E14 _ (λ f. cc); not_inside = never E17 _ (λ f. cc); unread_outside = never E01 _ (λ f. cc); third_image = tt; begins = tt }) tt refl
-  refused_out_fits n (Some (stmt.Rollback (Some name))) E13 f same = needs_one n to_savepoint same refl (record { none_open = comes E13; begun_twice = never E14 _ (λ f. cc); not_inside = never E17 _ (λ f. cc); unread_outside = never E01 _ (λ f. cc); third_image = tt; begins = tt }) tt refl
+  refused_out_fits n (Some stmt.Commit) NoTransaction f same = needs_one n commit same refl (record { none_open = comes NoTransaction; begun_twice = never AlreadyInTransaction _ (λ f. cc); not_inside = never ForbiddenInTransaction _ (λ f. cc); unread_outside = never SyntaxError _ (λ f. cc); third_image = tt; begins = tt }) tt refl
+  refused_out_fits n (Some (stmt.Save name)) NoTransaction f same = needs_one n to_savepoint same refl (record { none_open = comes NoTransaction; begun_twice = never AlreadyInTransaction _ (λ f. cc); not_inside = never ForbiddenInTransaction _ (λ f. cc); unread_outside = never SyntaxError _ (λ f. cc); third_image = tt; begins = tt }) tt refl
+  refused_out_fits n (Some (stmt.Rollback None)) NoTransaction f same = needs_one n roll_back same refl (record { none_open = comes NoTransaction; begun_twice = never AlreadyInTransaction _ (λ f. cc); not_inside = never ForbiddenInTransaction _ (λ f. cc); unread_outside = never SyntaxError _ (λ f. cc); third_image = tt; begins = tt }) tt refl
+  refused_out_fits n (Some (stmt.Rollback (Some name))) NoTransaction f same = needs_one n to_savepoint same refl (record { none_open = comes NoTransaction; begun_twice = never AlreadyInTransaction _ (λ f. cc); not_inside = never ForbiddenInTransaction _ (λ f. cc); unread_outside = never SyntaxError _ (λ f. cc); third_image = tt; begins = tt }) tt refl
   refused_out_fits n (Some stmt.Image) e f same = third n e (n == 2) refl f same
   refused_out_fits n None e f same = cc
   refused_out_fits n (Some stmt.Commit) e f same = cc

@@ -2,24 +2,24 @@
 use Rattle.std.proofs.Common.{◌≡◌, ℕ, ◌≤◌, true, false, List, [], ◌∷◌, ◌++◌, map, flat_map, Option, Some, slice_set, refl, sym, ap, ◌∙◌, subst, inl, inr, ⊎_elim, append-nil, arith}
 use mathlib.Core.Option.{some}
 use lib.ListN.{get_elem?}
-use Rattle.lg_model.specs.Journals.{Line, tx_count}
-use Rattle.lg_history.specs.Lists.{Text, Each, In}
-use Rattle.lg_history.specs.Transactions.{unfixed, on_some}
-use Rattle.lg_history.specs.Facts.{said}
+use Rattle.spec_model.specs.Journals.{Line, tx_count}
+use Rattle.spec_history.specs.Lists.{Text, Each, In}
+use Rattle.spec_history.specs.Transactions.{unfixed, on_some}
+use Rattle.spec_history.specs.Facts.{said}
 use Rattle.law_protocol_steps.proofs.TranscriptActs.{GoesFrom, goes_on}
 use Rattle.law_protocol_steps.proofs.Heard.{heard_answer, heard_now}
-use Rattle.lg_history.specs.Acts.{says, Act, by}
-use Rattle.lg_history.specs.Sessions.{SessionTransaction, SessionState, scripts, acted}
-use Rattle.lg_history.specs.Worlds.{first, run}
-use Rattle.lg_history.specs.Guards.{OnlyOne}
-use Rattle.lg_history.proofs.Trace.{each_weaker}
-use Rattle.lg_standing.specs.Server.{Server}
-use Rattle.lg_standing.specs.Cells.{LedgerCell}
-use Rattle.lg_standing.specs.Seats.{OpenTransaction, Stage, inside, Session, Written, Role, session, SeatState}
-use Rattle.lg_standing.specs.OpenOnes.{text_at, last_line, texts_so_far}
-use Rattle.lg_standing.specs.Moves.{saying, at_place, sits}
-use Rattle.lg_standing.specs.Parts.{AreTransactions, IsNow, Numbers}
-use Rattle.lg_standing.specs.TranscriptsAgree.{session_moments, TranscriptsAgree}
+use Rattle.spec_history.specs.Acts.{says, Act, by}
+use Rattle.spec_history.specs.Sessions.{SessionTransaction, SessionState, scripts, acted}
+use Rattle.spec_history.specs.Worlds.{first, run}
+use Rattle.spec_history.specs.Guards.{OnlyOne}
+use Rattle.spec_history.proofs.Trace.{each_weaker}
+use Rattle.spec_protocol.specs.Server.{Server}
+use Rattle.spec_protocol.specs.Cells.{LedgerCell}
+use Rattle.spec_protocol.specs.Seats.{OpenTransaction, StatementProgress, inside, Session, Written, Role, session, SeatState}
+use Rattle.spec_protocol.specs.OpenOnes.{text_at, last_line, texts_so_far}
+use Rattle.spec_protocol.specs.Moves.{saying, at_place, sits}
+use Rattle.spec_protocol.specs.Parts.{AreTransactions, IsNow, Numbers}
+use Rattle.spec_protocol.specs.TranscriptsAgree.{session_moments, TranscriptsAgree}
 use Rattle.law_protocol_steps.proofs.Ids.{InTransaction, in_transaction}
 use Rattle.law_protocol_steps.proofs.OneMore.{Acts, agrees_then, agrees_owner, agrees_parts}
 use Rattle.law_protocol_steps.proofs.GoesOn.{ActsBy}
@@ -29,8 +29,8 @@ in_more f a [] line ys i = ⊎_elim (λ e. inl e) (λ (e : ⊥). absurd e) i
 in_more f a (x ∷ xs) line ys i = ⊎_elim (λ e. inl e) (λ e. inr (in_more f a xs line ys e)) i
 
 module _ (v : Server) (c : LedgerCell) (seats : List SeatState) (h : List Act) (agree : TranscriptsAgree v h c seats) (j : ℕ) (s : SeatState) (there : get_elem? seats j ≡ some s)
-    (x : Session) (role : s.role ≡ session x) (o : OpenTransaction) (open_one : x.open_one ≡ Some o) (open_end : o.end ≡ unfixed) (alone : o.opened ≡ false → o.script ≡ []) (line : Line) (in_script : (a : Text) → In a (texts_so_far x o) → In a (map (λ l. l.0) (o.script ++ line ∷ [])))
-    (stands : text_at x.place ≡ Some line.0) (stage : Stage) (goes : GoesFrom v.meaning x (at_place (Some (saying line o)) (inside line.0 stage) x) (said line ∷ [])) where
+    (x : Session) (role : s.role ≡ session x) (o : OpenTransaction) (open_one : x.open_one ≡ Some o) (open_end : o.end ≡ unfixed) (alone : o.explicit ≡ false → o.script ≡ []) (line : Line) (in_script : (a : Text) → In a (texts_so_far x o) → In a (map (λ l. l.0) (o.script ++ line ∷ [])))
+    (stands : text_at x.place ≡ Some line.0) (stage : StatementProgress) (goes : GoesFrom v.meaning x (at_place (Some (saying line o)) (inside line.0 stage) x) (said line ∷ [])) where
   abbrev y : Session
   y = at_place (Some (saying line o)) (inside line.0 stage) x
 
@@ -53,7 +53,7 @@ module _ (v : Server) (c : LedgerCell) (seats : List SeatState) (h : List Act) (
   the_one ls a e i = ⊎_elim (λ (f : line.0 ≡ a). sym f) (λ (f : ⊥). absurd f) (subst (λ (k : List Line). In a (map (λ l. l.0) (k ++ line ∷ []))) e i)
 
   only : OnlyOne d.transaction line.0
-  only e = let none : o.script ≡ [] = alone (sym d.is.opened ∙ e) in
+  only e = let none : o.script ≡ [] = alone (sym d.is.explicit ∙ e) in
       (d.is.script ∙ none, each_weaker (λ a. a.1 ≡ true → In a.0 (map (λ l. l.0) (o.script ++ line ∷ []))) (λ a. a.1 ≡ true → a.0 ≡ line.0) (λ a f g. the_one o.script a.0 none (f g)) d.transaction.asked asked)
 
   asked_then : Each (λ a. a.1 ≡ true → In a.0 (texts_so_far y (saying line o))) ((line.0, true) ∷ d.transaction.asked)
@@ -72,7 +72,7 @@ module _ (v : Server) (c : LedgerCell) (seats : List SeatState) (h : List Act) (
     transcript = d.runs.now.transcript;
     under = d.runs.now.under ∙ stands;
     open_one = subst (λ (z : Option SessionTransaction). AreTransactions (on_some (scripts line) z) y y.open_one) (sym d.has)
-        (record { id = d.is.id; opened = d.is.opened; script = ap (λ (ls : List Line). ls ++ line ∷ []) d.is.script; end = d.is.end; asked = λ e. asked_then; heard = (heard_now y.place d.transaction.answered line.0 true, heard_answer x.place y.place d.transaction.answered d.transaction.asked line.0 stands d.is.heard) });
+        (record { id = d.is.id; explicit = d.is.explicit; script = ap (λ (ls : List Line). ls ++ line ∷ []) d.is.script; end = d.is.end; asked = λ e. asked_then; heard = (heard_now y.place d.transaction.answered line.0 true, heard_answer x.place y.place d.transaction.answered d.transaction.asked line.0 stands d.is.heard) });
     so_far = goes_on v.meaning sess.so_far (acted sess (says line)).so_far x y (said line ∷ []) refl refl d.runs.now.so_far goes;
   }
 

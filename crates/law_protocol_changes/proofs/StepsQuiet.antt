@@ -3,45 +3,45 @@ use Rattle.std.proofs.Common.{◌≡◌, ℕ, ◌+◌, not, Bool, true, false, L
 use Rattle.std.specs.Prelude.{if◌then◌else◌}
 use mathlib.Core.Option.{some}
 use lib.ListN.{get_elem?}
-use Rattle.lg_value.specs.declared.refusal.Refusal.TheVariants.{E30}
-use Rattle.lg_types.specs.declared.reply.Reply.{Reply}
-use Rattle.lg_types.specs.declared.reply.Reply.TheVariants as reply
-use Rattle.lg_types.specs.declared.version.Version.{Version}
-use Rattle.lg_model.specs.Catalog.{Tables, Named, defs_of}
-use Rattle.lg_model.specs.Journals.{Line}
-use Rattle.lg_history.specs.Lists.{Text, Each, In}
-use Rattle.lg_history.specs.Transcripts.{rows, kind_of}
-use Rattle.lg_history.specs.Facts.{Fact, began, failed, facts_outside}
-use Rattle.lg_history.specs.Transactions.{unfixed, on_some}
-use Rattle.lg_history.specs.Acts.{fails}
-use Rattle.lg_history.specs.Sessions.{SessionTransaction, SessionState, acted, hears}
-use Rattle.lg_history.specs.Worlds.{first, run}
-use Rattle.lg_standing.specs.Server.{Server}
-use Rattle.lg_standing.specs.Cells.{Cell}
-use Rattle.lg_standing.specs.Contents.{Contents, Known, contents, known, HasAlone}
-use Rattle.lg_standing.specs.TranscriptsSoFar.{EndsLeaving, end_shown, is_begin, image_in, shown_inside, shown_alone, shown_with, FitsOwn, StageOpened, Fits}
-use Rattle.lg_standing.specs.Doing.{stage_refused}
-use Rattle.lg_standing.specs.LocksCover.{LookedAt, IsGotAt, LookedFirst}
-use Rattle.lg_standing.specs.Moves.{at_place, sits}
-use Rattle.lg_standing.specs.OpenOnes.{HasOpen, text_at, last_line, lines_at, texts_so_far}
-use Rattle.lg_standing.specs.OpenScripts.{counted, counted_in}
-use Rattle.lg_standing.specs.Parts.{asking_in, asking, AreTransactions}
-use Rattle.lg_standing.specs.Seats.{OpenTransaction, Stage, begun, found, answering, refused, Place, between, inside, leaving, Session, session, SeatState}
-use Rattle.lg_standing.specs.StandTogether.{History, Stands, StandsAfter}
+use Rattle.sql_value.specs.declared.refusal.Refusal.TheVariants.{NoMemory}
+use Rattle.sql_types.specs.declared.reply.Reply.{Reply}
+use Rattle.sql_types.specs.declared.reply.Reply.TheVariants as reply
+use Rattle.sql_types.specs.declared.version.Version.{Version}
+use Rattle.spec_model.specs.Catalog.{Tables, NamedPart, defs_of}
+use Rattle.spec_model.specs.Journals.{Line}
+use Rattle.spec_history.specs.Lists.{Text, Each, In}
+use Rattle.spec_history.specs.Transcripts.{rows, kind_of}
+use Rattle.spec_history.specs.Facts.{Fact, began, failed, facts_outside}
+use Rattle.spec_history.specs.Transactions.{unfixed, on_some}
+use Rattle.spec_history.specs.Acts.{fails}
+use Rattle.spec_history.specs.Sessions.{SessionTransaction, SessionState, acted, hears}
+use Rattle.spec_history.specs.Worlds.{first, run}
+use Rattle.spec_protocol.specs.Server.{Server}
+use Rattle.spec_protocol.specs.Cells.{Cell}
+use Rattle.spec_protocol.specs.Contents.{Contents, Known, contents, known, HasAlone}
+use Rattle.spec_protocol.specs.TranscriptsSoFar.{EndsLeaving, end_shown, is_begin, image_in, shown_inside, shown_alone, shown_with, FitsOwn, ProgressOpened, Fits}
+use Rattle.spec_protocol.specs.Doing.{stage_refused}
+use Rattle.spec_protocol.specs.LocksCover.{LookedAt, IsGotAt, LookedFirst}
+use Rattle.spec_protocol.specs.Moves.{at_place, sits}
+use Rattle.spec_protocol.specs.OpenOnes.{HasOpen, text_at, last_line, lines_at, texts_so_far}
+use Rattle.spec_protocol.specs.OpenScripts.{counted, counted_in}
+use Rattle.spec_protocol.specs.Parts.{asking_in, asking, AreTransactions}
+use Rattle.spec_protocol.specs.Seats.{OpenTransaction, StatementProgress, begun, found, answering, refused, SessionStatus, between, inside, leaving, Session, session, SeatState}
+use Rattle.spec_protocol.specs.StandTogether.{History, Stands, StandsAfter}
 use Rattle.law_protocol_steps.proofs.AloneTurns.{Keeps, alone_stands, kept, keeps_turn, PlaceOwes, bare, alone_after}
-use Rattle.law_protocol_steps.proofs.Deeds.{IsPlain, plain_acts, plain_owner}
+use Rattle.law_protocol_steps.proofs.AnonymousActs.{IsPlain, plain_acts, plain_owner}
 use Rattle.law_protocol_steps.proofs.TranscriptActs.{GoesFrom, goes_on}
-use Rattle.law_protocol_steps.proofs.TranscriptStages.{from_at, fits_if, if_fits, at_opened, e30_own}
+use Rattle.law_protocol_steps.proofs.TranscriptProgress.{from_at, fits_if, if_fits, at_opened, memory_refused_own}
 use Rattle.law_protocol_changes.proofs.DigestsStand.{no_turn}
 use Rattle.law_protocol_steps.proofs.Heard.{heard_still, heard_answer, heard_now}
 use Rattle.law_protocol_steps.proofs.Ids.{Running, running, InTransaction, in_transaction}
-use Rattle.law_protocol_steps.proofs.InPlaces.{e30_inside}
+use Rattle.law_protocol_steps.proofs.InPlaces.{memory_refused_inside}
 use Rattle.law_protocol_steps.proofs.OpenSeats.{owns_none}
 use Rattle.law_protocol_changes.proofs.OutsideRefusals.{no_memory_facts}
 use Rattle.law_protocol_steps.proofs.PlainPlaces.{AddsNone, none_added}
-use Rattle.lg_model.specs.Columns.{fits}
-use Rattle.lg_standing.specs.TablesAreSerial.{HasActed, IsAdding}
-use Rattle.lg_standing.specs.ActsOf.{failed_acts, failed_in}
+use Rattle.spec_model.specs.Columns.{fits}
+use Rattle.spec_protocol.specs.TablesAreSerial.{HasActed, IsAdding}
+use Rattle.spec_protocol.specs.ActsOf.{failed_acts, failed_in}
 use Rattle.law_protocol_steps.proofs.GoesOn.{nothing_added, unacted, same_acts}
 
 pub plain_fail : (text : Text) → IsPlain (fails text)
@@ -70,7 +70,7 @@ module _ (v : Server) (cells : List Cell) (seats : List SeatState) {history : Hi
     abbrev y : Reply → Session
     y a = at_place None (inside text (answering a None)) x
 
-    pub outside_stands : (a : Reply) → image_in (answering a None) ≡ 0 → ((n : ℕ) → n + 0 ≡ length x.images → Rattle.lg_standing.specs.TranscriptsSoFar.FitsOutside v.meaning n text a × (facts_outside v.meaning (kind_of (v.meaning.reads text)) text a None ≡ []))
+    pub outside_stands : (a : Reply) → image_in (answering a None) ≡ 0 → ((n : ℕ) → n + 0 ≡ length x.images → Rattle.spec_protocol.specs.TranscriptsSoFar.FitsOutside v.meaning n text a × (facts_outside v.meaning (kind_of (v.meaning.reads text)) text a None ≡ []))
         → Stands v history cells (slice_set seats j (sits s (at_place None (inside text (answering a None)) x)))
     outside_stands a no_image fits = alone_stands v cells seats st j s there _ history
         (no_turn v c k st.catalog.defs s _ (owns_none s x role free) (owns_none (sits s (y a)) (y a) refl refl))
@@ -95,34 +95,34 @@ module _ (v : Server) (cells : List Cell) (seats : List SeatState) {history : Hi
     now_at = (run first history).at d.runs.number
 
     -- the session leaves
-    pub leaves_stands : x.place ≡ between → o.opened ≡ true → Stands v history cells (slice_set seats j (sits s (at_place (Some o) leaving x)))
-    leaves_stands at opened = alone_stands v cells seats st j s there _ history
+    pub leaves_stands : x.place ≡ between → o.explicit ≡ true → Stands v history cells (slice_set seats j (sits s (at_place (Some o) leaving x)))
+    leaves_stands at explicit = alone_stands v cells seats st j s there _ history
         (keeps_turn v cells seats st j s there x role o one _ (at_place (Some o) leaving x) o refl refl
-        (kept v cells seats st j s there x role o one (at_place (Some o) leaving x) o.script (ap (λ p. o.script ++ lines_at p) at) (λ id ws. ap (λ p. counted o.id id p ws) at) (λ e f. f) (λ e. let no : true ≡ false = sym opened ∙ e in cc) (λ l. tt) tt
-        (bare v cells seats st j s there x role o one (at_place (Some o) leaving x) o tt (subst AddsNone (sym at) tt) (λ e. let no : true ≡ false = sym opened ∙ e in cc))))
+        (kept v cells seats st j s there x role o one (at_place (Some o) leaving x) o.script (ap (λ p. o.script ++ lines_at p) at) (λ id ws. ap (λ p. counted o.id id p ws) at) (λ e f. f) (λ e. let no : true ≡ false = sym explicit ∙ e in cc) (λ l. tt) tt
+        (bare v cells seats st j s there x role o one (at_place (Some o) leaving x) o tt (subst AddsNone (sym at) tt) (λ e. let no : true ≡ false = sym explicit ∙ e in cc))))
         (nothing_added v history st.ledger _ (plain_acts v st.ledger seats history st.transcripts_agree j s there x (at_place (Some o) leaving x) role d.runs.number d.runs.is [] tt tt (record {
           running = d.runs.now.running;
           transcript = d.runs.now.transcript;
           under = d.runs.now.under ∙ ap text_at at;
           open_one = subst (λ (w : Option SessionTransaction). AreTransactions w (at_place (Some o) leaving x) (Some o)) (sym d.has) (record {
             id = d.is.id;
-            opened = d.is.opened;
+            explicit = d.is.explicit;
             script = d.is.script;
             end = d.is.end;
-            asked = λ u. subst (λ (p : Place). Each (λ a. a.1 ≡ true → In a.0 (map (λ l. l.0) (o.script ++ lines_at p))) d.transaction.asked) at (d.is.asked u);
+            asked = λ u. subst (λ (p : SessionStatus). Each (λ a. a.1 ≡ true → In a.0 (map (λ l. l.0) (o.script ++ lines_at p))) d.transaction.asked) at (d.is.asked u);
             heard = heard_still x.place leaving d.transaction.answered d.transaction.asked (ap asking at) d.is.heard;
           });
           so_far = goes_on v.meaning now_at.so_far now_at.so_far x (at_place (Some o) leaving x) [] refl (sym (append-nil now_at.so_far.pending)) d.runs.now.so_far (from_at v.meaning x (at_place (Some o) leaving x) between (Some o) [] at one refl (λ n i f. record {
             shown = ap end_shown (sym open_end);
             before = refl;
             images = refl;
-            fits = (opened, subst EndsLeaving (sym open_end) tt);
+            fits = (explicit, subst EndsLeaving (sym open_end) tt);
           }));
         }) (record { images = refl; moments = refl; earlier = refl })))
 
     -- memory is wanting: from one stage to another, which shows this
-    module _ (text : Text) (stage next : Stage) (at : x.place ≡ inside text stage) (no_lines : last_line text stage ≡ []) (no_lines_then : last_line text next ≡ []) (all_count : (id : ℕ) (ws : List Version) → counted_in o.id id stage ws ≡ ws) (all_count_then : (id : ℕ) (ws : List Version) → counted_in o.id id next ws ≡ ws)
-        (got : (T : Tables) (E : Type 0) (b : Bool) → IsGotAt v T E b (inside text next)) (looked : LookedAt v c (defs_of k.tables) o.id o.opened (inside text next))
+    module _ (text : Text) (stage next : StatementProgress) (at : x.place ≡ inside text stage) (no_lines : last_line text stage ≡ []) (no_lines_then : last_line text next ≡ []) (all_count : (id : ℕ) (ws : List Version) → counted_in o.id id stage ws ≡ ws) (all_count_then : (id : ℕ) (ws : List Version) → counted_in o.id id next ws ≡ ws)
+        (got : (T : Tables) (E : Type 0) (b : Bool) → IsGotAt v T E b (inside text next)) (looked : LookedAt v c (defs_of k.tables) o.id o.explicit (inside text next))
         (owes : PlaceOwes v cells seats st j s there x role o one (at_place (Some o) (inside text next) x) o) where
       abbrev z : Session
       z = at_place (Some o) (inside text next) x
@@ -146,7 +146,7 @@ module _ (v : Server) (cells : List Cell) (seats : List SeatState) {history : Hi
             under = d.runs.now.under ∙ ap text_at at;
             open_one = subst (λ (w : Option SessionTransaction). AreTransactions (on_some (hears text true) w) z z.open_one) (sym d.has) (record {
               id = d.is.id;
-              opened = d.is.opened;
+              explicit = d.is.explicit;
               script = d.is.script;
               end = d.is.end;
               asked = λ u. ((λ f. cc), asked_then u);
@@ -164,7 +164,7 @@ module _ (v : Server) (cells : List Cell) (seats : List SeatState) {history : Hi
             under = d.runs.now.under ∙ ap text_at at;
             open_one = subst (λ (w : Option SessionTransaction). AreTransactions w z z.open_one) (sym d.has) (record {
               id = d.is.id;
-              opened = d.is.opened;
+              explicit = d.is.explicit;
               script = d.is.script;
               end = d.is.end;
               asked = asked_then;
@@ -174,63 +174,63 @@ module _ (v : Server) (cells : List Cell) (seats : List SeatState) {history : Hi
           }) (record { images = refl; moments = refl; earlier = refl })))
 
       -- one of its own
-      pub own_fails : o.opened ≡ false → shown_alone v.meaning text stage ≡ [] → image_in stage ≡ 0 → shown_alone v.meaning text next ≡ failed text ∷ [] → image_in next ≡ 0
-          → ((n : ℕ) → FitsOwn v.meaning n text (reply.Refused E30) → Rattle.lg_standing.specs.TranscriptsSoFar.StageOwn v.meaning n text next) → StandsAfter v j history (fails text ∷ []) cells (slice_set seats j (sits s z))
+      pub own_fails : o.explicit ≡ false → shown_alone v.meaning text stage ≡ [] → image_in stage ≡ 0 → shown_alone v.meaning text next ≡ failed text ∷ [] → image_in next ≡ 0
+          → ((n : ℕ) → FitsOwn v.meaning n text (reply.Refused NoMemory) → Rattle.spec_protocol.specs.TranscriptsSoFar.ProgressOwn v.meaning n text next) → StandsAfter v j history (fails text ∷ []) cells (slice_set seats j (sits s z))
       own_fails own nothing none shows none_then fits = fails_stands (from_at v.meaning x z (inside text stage) (Some o) (failed text ∷ []) at one refl (λ n i f. let g = fits_if v.meaning n text stage o false own f in record {
         shown = (λ i. (shown_with v.meaning (own i) o.id text stage ++ end_shown (open_end i)) ++ failed text ∷ []) ∙ ap (λ (l : List Fact). ((began o.id false ∷ l) ++ []) ++ failed text ∷ []) nothing ∙ ap (λ (l : List Fact). (began o.id false ∷ l) ++ []) (sym shows)
             ∙ (λ i. shown_with v.meaning (sym own i) o.id text next ++ end_shown (sym open_end i));
         before = (λ i. if own i then (if is_begin stage then None else Some o.id) else None) ∙ (λ i. if sym own i then (if is_begin next then None else Some o.id) else None);
         images = none ∙ sym none_then;
-        fits = if_fits v.meaning n text next o false own (g.0, fits n (e30_own v.meaning n text o.end g.0));
+        fits = if_fits v.meaning n text next o false own (g.0, fits n (memory_refused_own v.meaning n text o.end g.0));
       }))
 
       -- one that BEGIN opened
-      pub opened_fails : o.opened ≡ true → shown_inside v.meaning (kind_of (v.meaning.reads text)) text stage ≡ [] → is_begin stage ≡ false → image_in stage ≡ 0 → is_begin next ≡ false → image_in next ≡ 0
-          → shown_inside v.meaning (kind_of (v.meaning.reads text)) text next ≡ failed text ∷ [] → ((n : ℕ) → StageOpened v.meaning n text o.id unfixed next) → StandsAfter v j history (fails text ∷ []) cells (slice_set seats j (sits s z))
-      opened_fails opened nothing not_begin none still_not none_then shows fits = fails_stands (from_at v.meaning x z (inside text stage) (Some o) (failed text ∷ []) at one refl (λ n i f. at_opened v.meaning n text o o stage next (failed text ∷ []) opened open_end refl opened open_end nothing not_begin none shows still_not none_then (fits n)))
+      pub opened_fails : o.explicit ≡ true → shown_inside v.meaning (kind_of (v.meaning.reads text)) text stage ≡ [] → is_begin stage ≡ false → image_in stage ≡ 0 → is_begin next ≡ false → image_in next ≡ 0
+          → shown_inside v.meaning (kind_of (v.meaning.reads text)) text next ≡ failed text ∷ [] → ((n : ℕ) → ProgressOpened v.meaning n text o.id unfixed next) → StandsAfter v j history (fails text ∷ []) cells (slice_set seats j (sits s z))
+      opened_fails explicit nothing not_begin none still_not none_then shows fits = fails_stands (from_at v.meaning x z (inside text stage) (Some o) (failed text ∷ []) at one refl (λ n i f. at_opened v.meaning n text o o stage next (failed text ∷ []) explicit open_end refl explicit open_end nothing not_begin none shows still_not none_then (fits n)))
 
-      pub opened_quiet : asking_in text stage ≡ [] → o.opened ≡ true → shown_inside v.meaning (kind_of (v.meaning.reads text)) text stage ≡ [] → is_begin stage ≡ false → image_in stage ≡ 0 → is_begin next ≡ false → image_in next ≡ 0
-          → shown_inside v.meaning (kind_of (v.meaning.reads text)) text next ≡ [] → ((n : ℕ) → StageOpened v.meaning n text o.id unfixed next) → Stands v history cells (slice_set seats j (sits s z))
-      opened_quiet none_asked opened nothing not_begin none still_not none_then shows fits = quiet_stands none_asked (from_at v.meaning x z (inside text stage) (Some o) [] at one refl (λ n i f. at_opened v.meaning n text o o stage next [] opened open_end refl opened open_end nothing not_begin none shows still_not none_then (fits n)))
+      pub opened_quiet : asking_in text stage ≡ [] → o.explicit ≡ true → shown_inside v.meaning (kind_of (v.meaning.reads text)) text stage ≡ [] → is_begin stage ≡ false → image_in stage ≡ 0 → is_begin next ≡ false → image_in next ≡ 0
+          → shown_inside v.meaning (kind_of (v.meaning.reads text)) text next ≡ [] → ((n : ℕ) → ProgressOpened v.meaning n text o.id unfixed next) → Stands v history cells (slice_set seats j (sits s z))
+      opened_quiet none_asked explicit nothing not_begin none still_not none_then shows fits = quiet_stands none_asked (from_at v.meaning x z (inside text stage) (Some o) [] at one refl (λ n i f. at_opened v.meaning n text o o stage next [] explicit open_end refl explicit open_end nothing not_begin none shows still_not none_then (fits n)))
 
     -- before it visits a cell
-    pub no_memory_stands : (text : Text) → x.place ≡ inside text begun → StandsAfter v j history (failed_in v.meaning (Some o) text) cells (slice_set seats j (sits s (at_place (Some o) (inside text (answering (reply.Refused E30) None)) x)))
-    no_memory_stands text at = by_opened o.opened refl
+    pub no_memory_stands : (text : Text) → x.place ≡ inside text begun → StandsAfter v j history (failed_in v.meaning (Some o) text) cells (slice_set seats j (sits s (at_place (Some o) (inside text (answering (reply.Refused NoMemory) None)) x)))
+    no_memory_stands text at = by_explicit o.explicit refl
       where
-        by_opened : (b : Bool) → o.opened ≡ b → StandsAfter v j history (failed_in v.meaning (Some o) text) cells (slice_set seats j (sits s (at_place (Some o) (inside text (answering (reply.Refused E30) None)) x)))
-        by_opened false own = same_acts v (ap (λ (z : Bool). if z then failed_acts (kind_of (v.meaning.reads text)) text else fails text ∷ []) (sym own)) (own_fails text begun (answering (reply.Refused E30) None) at refl refl (λ id ws. refl) (λ id ws. refl) (λ T E b. tt) tt (bare v cells seats st j s there x role o one (at_place (Some o) (inside text (answering (reply.Refused E30) None)) x) o tt (subst AddsNone (sym at) tt) (λ e f. tt)) own refl refl refl refl (λ n f. f))
-        by_opened true opened = ⊎_elim
-            (λ e. same_acts v (sym e.1 ∙ ap (λ (z : Bool). if z then failed_acts (kind_of (v.meaning.reads text)) text else fails text ∷ []) (sym opened)) (unacted v (opened_quiet text begun (answering (reply.Refused E30) None) at refl refl (λ id ws. refl) (λ id ws. refl) (λ T E b. tt) tt (bare v cells seats st j s there x role o one (at_place (Some o) (inside text (answering (reply.Refused E30) None)) x) o tt (subst AddsNone (sym at) tt) (λ e f. tt)) refl opened refl refl refl refl refl e.0 (λ n. e30_inside v.meaning n text o.id))))
-            (λ e. same_acts v (sym e.1 ∙ ap (λ (z : Bool). if z then failed_acts (kind_of (v.meaning.reads text)) text else fails text ∷ []) (sym opened)) (opened_fails text begun (answering (reply.Refused E30) None) at refl refl (λ id ws. refl) (λ id ws. refl) (λ T E b. tt) tt (bare v cells seats st j s there x role o one (at_place (Some o) (inside text (answering (reply.Refused E30) None)) x) o tt (subst AddsNone (sym at) tt) (λ e f. tt)) opened refl refl refl refl refl e.0 (λ n. e30_inside v.meaning n text o.id)))
+        by_explicit : (b : Bool) → o.explicit ≡ b → StandsAfter v j history (failed_in v.meaning (Some o) text) cells (slice_set seats j (sits s (at_place (Some o) (inside text (answering (reply.Refused NoMemory) None)) x)))
+        by_explicit false own = same_acts v (ap (λ (z : Bool). if z then failed_acts (kind_of (v.meaning.reads text)) text else fails text ∷ []) (sym own)) (own_fails text begun (answering (reply.Refused NoMemory) None) at refl refl (λ id ws. refl) (λ id ws. refl) (λ T E b. tt) tt (bare v cells seats st j s there x role o one (at_place (Some o) (inside text (answering (reply.Refused NoMemory) None)) x) o tt (subst AddsNone (sym at) tt) (λ e f. tt)) own refl refl refl refl (λ n f. f))
+        by_explicit true explicit = ⊎_elim
+            (λ e. same_acts v (sym e.1 ∙ ap (λ (z : Bool). if z then failed_acts (kind_of (v.meaning.reads text)) text else fails text ∷ []) (sym explicit)) (unacted v (opened_quiet text begun (answering (reply.Refused NoMemory) None) at refl refl (λ id ws. refl) (λ id ws. refl) (λ T E b. tt) tt (bare v cells seats st j s there x role o one (at_place (Some o) (inside text (answering (reply.Refused NoMemory) None)) x) o tt (subst AddsNone (sym at) tt) (λ e f. tt)) refl explicit refl refl refl refl refl e.0 (λ n. memory_refused_inside v.meaning n text o.id))))
+            (λ e. same_acts v (sym e.1 ∙ ap (λ (z : Bool). if z then failed_acts (kind_of (v.meaning.reads text)) text else fails text ∷ []) (sym explicit)) (opened_fails text begun (answering (reply.Refused NoMemory) None) at refl refl (λ id ws. refl) (λ id ws. refl) (λ T E b. tt) tt (bare v cells seats st j s there x role o one (at_place (Some o) (inside text (answering (reply.Refused NoMemory) None)) x) o tt (subst AddsNone (sym at) tt) (λ e f. tt)) explicit refl refl refl refl refl e.0 (λ n. memory_refused_inside v.meaning n text o.id)))
             (no_memory_facts v.meaning text (kind_of (v.meaning.reads text)))
 
     -- after it visited the catalog's
-    pub no_memory_then_stands : (text : Text) (named : Option Named) (fresh : Bool) → x.place ≡ inside text (found named fresh) → StandsAfter v j history (fails text ∷ []) cells (slice_set seats j (sits s (at_place (Some o) (inside text (stage_refused fresh (reply.Refused E30))) x)))
-    no_memory_then_stands text named fresh at = by_both fresh o.opened at refl
+    pub no_memory_then_stands : (text : Text) (named : Option NamedPart) (fresh : Bool) → x.place ≡ inside text (found named fresh) → StandsAfter v j history (fails text ∷ []) cells (slice_set seats j (sits s (at_place (Some o) (inside text (stage_refused fresh (reply.Refused NoMemory))) x)))
+    no_memory_then_stands text named fresh at = by_both fresh o.explicit at refl
       where
         fits_now : (n : ℕ) (f : Bool) → x.place ≡ inside text (found named f) → Fits v.meaning n x.place x.open_one → Fits v.meaning n (inside text (found named f)) (Some o)
         fits_now n f e g = subst (λ p. Fits v.meaning n p (Some o)) e (subst (Fits v.meaning n x.place) one g)
 
-        rows_there : (f : Bool) → x.place ≡ inside text (found named f) → o.opened ≡ true → kind_of (v.meaning.reads text) ≡ rows
-        rows_there f e opened = (fits_if v.meaning _ text (found named f) o true opened (fits_now _ f e d.runs.now.so_far.fits)).1
+        rows_there : (f : Bool) → x.place ≡ inside text (found named f) → o.explicit ≡ true → kind_of (v.meaning.reads text) ≡ rows
+        rows_there f e explicit = (fits_if v.meaning _ text (found named f) o true explicit (fits_now _ f e d.runs.now.so_far.fits)).1
 
-        found_bare : x.place ≡ inside text (found named false) → PlaceOwes v cells seats st j s there x role o one (at_place (Some o) (inside text (answering (reply.Refused E30) None)) x) o
-        found_bare e = bare v cells seats st j s there x role o one (at_place (Some o) (inside text (answering (reply.Refused E30) None)) x) o tt (subst AddsNone (sym e) tt) (λ d f. tt)
+        found_bare : x.place ≡ inside text (found named false) → PlaceOwes v cells seats st j s there x role o one (at_place (Some o) (inside text (answering (reply.Refused NoMemory) None)) x) o
+        found_bare e = bare v cells seats st j s there x role o one (at_place (Some o) (inside text (answering (reply.Refused NoMemory) None)) x) o tt (subst AddsNone (sym e) tt) (λ d f. tt)
 
-        found_first : x.place ≡ inside text (found named true) → PlaceOwes v cells seats st j s there x role o one (at_place (Some o) (inside text (refused (reply.Refused E30))) x) o
+        found_first : x.place ≡ inside text (found named true) → PlaceOwes v cells seats st j s there x role o one (at_place (Some o) (inside text (refused (reply.Refused NoMemory))) x) o
         found_first e = record {
           still = record { acted = λ d f. absurd (subst HasActed e f); adding = λ after i a. absurd (none_added (inside text (found named true)) o after i tt (subst (λ q. IsAdding q o after i) e a)) };
           indexed = tt;
           looked_first = λ f. let w = st.locks_cover.looked_first j x o has open_end (subst LookedFirst (sym e) tt) in record { before = w.before; elsewhere = w.elsewhere; shares = w.shares };
           dropping = λ d. absurd d;
           back = tt;
-          opened = tt;
+          explicit = tt;
         }
 
-        by_both : (f b : Bool) → x.place ≡ inside text (found named f) → o.opened ≡ b → StandsAfter v j history (fails text ∷ []) cells (slice_set seats j (sits s (at_place (Some o) (inside text (stage_refused f (reply.Refused E30))) x)))
-        by_both true false e own = own_fails text (found named true) (refused (reply.Refused E30)) e refl refl (λ id ws. refl) (λ id ws. refl) (λ T E b. tt) (subst (LookedAt v c (defs_of k.tables) o.id o.opened) e (st.locks_cover.looked j x o has open_end)) (found_first e) own refl refl refl refl (λ n f. f)
-        by_both false false e own = own_fails text (found named false) (answering (reply.Refused E30) None) e refl refl (λ id ws. refl) (λ id ws. refl) (λ T E b. tt) tt (found_bare e) own refl refl refl refl (λ n f. f)
-        by_both true true e opened = opened_fails text (found named true) (refused (reply.Refused E30)) e refl refl (λ id ws. refl) (λ id ws. refl) (λ T E b. tt) (subst (LookedAt v c (defs_of k.tables) o.id o.opened) e (st.locks_cover.looked j x o has open_end)) (found_first e) opened refl refl refl refl refl
-            (ap (λ a. shown_inside v.meaning a text (refused (reply.Refused E30))) (rows_there true e opened)) (λ n. e30_inside v.meaning n text o.id)
-        by_both false true e opened = opened_fails text (found named false) (answering (reply.Refused E30) None) e refl refl (λ id ws. refl) (λ id ws. refl) (λ T E b. tt) tt (found_bare e) opened refl refl refl refl refl
-            (ap (λ a. shown_inside v.meaning a text (answering (reply.Refused E30) None)) (rows_there false e opened)) (λ n. e30_inside v.meaning n text o.id)
+        by_both : (f b : Bool) → x.place ≡ inside text (found named f) → o.explicit ≡ b → StandsAfter v j history (fails text ∷ []) cells (slice_set seats j (sits s (at_place (Some o) (inside text (stage_refused f (reply.Refused NoMemory))) x)))
+        by_both true false e own = own_fails text (found named true) (refused (reply.Refused NoMemory)) e refl refl (λ id ws. refl) (λ id ws. refl) (λ T E b. tt) (subst (LookedAt v c (defs_of k.tables) o.id o.explicit) e (st.locks_cover.looked j x o has open_end)) (found_first e) own refl refl refl refl (λ n f. f)
+        by_both false false e own = own_fails text (found named false) (answering (reply.Refused NoMemory) None) e refl refl (λ id ws. refl) (λ id ws. refl) (λ T E b. tt) tt (found_bare e) own refl refl refl refl (λ n f. f)
+        by_both true true e explicit = opened_fails text (found named true) (refused (reply.Refused NoMemory)) e refl refl (λ id ws. refl) (λ id ws. refl) (λ T E b. tt) (subst (LookedAt v c (defs_of k.tables) o.id o.explicit) e (st.locks_cover.looked j x o has open_end)) (found_first e) explicit refl refl refl refl refl
+            (ap (λ a. shown_inside v.meaning a text (refused (reply.Refused NoMemory))) (rows_there true e explicit)) (λ n. memory_refused_inside v.meaning n text o.id)
+        by_both false true e explicit = opened_fails text (found named false) (answering (reply.Refused NoMemory) None) e refl refl (λ id ws. refl) (λ id ws. refl) (λ T E b. tt) tt (found_bare e) explicit refl refl refl refl refl
+            (ap (λ a. shown_inside v.meaning a text (answering (reply.Refused NoMemory) None)) (rows_there false e explicit)) (λ n. memory_refused_inside v.meaning n text o.id)

@@ -4,26 +4,26 @@ use Rattle.std.proofs.lemmas.Bool.{eq-eqb, ne_eqb, cases_eq}
 use Rattle.std.specs.Prelude.{◌==◌, if◌then◌else◌}
 use mathlib.Core.Option.{some, some-injective}
 use lib.ListN.{get_elem?}
-use Rattle.lg_history.specs.Lists.{Text, Each, In}
-use Rattle.lg_history.specs.Serial.{Differ}
-use Rattle.lg_history.specs.Facts.{Shows}
-use Rattle.lg_history.specs.Transactions.{listed}
-use Rattle.lg_history.specs.Transcripts.{Transcript}
-use Rattle.lg_history.specs.Acts.{SessionAct, starts, Act, of, marked}
-use Rattle.lg_history.specs.Sessions.{SessionState, unborn, runs, gone, fresh, acted, transcript_of}
-use Rattle.lg_history.specs.Worlds.{World, first, run}
-use Rattle.lg_history.proofs.Trace.{each_append, each_weaker}
-use Rattle.lg_history.proofs.Settles.{in_right}
-use Rattle.lg_standing.specs.Server.{Server}
-use Rattle.lg_standing.specs.Cells.{LedgerCell}
-use Rattle.lg_standing.specs.Seats.{Session, Written, Role, idle, session, builder, SeatState}
-use Rattle.lg_standing.specs.Alone.{new_session}
-use Rattle.lg_standing.specs.Moves.{sits}
-use Rattle.lg_standing.specs.Parts.{Numbers, all_of, IsNow, IsOver, WasOver, Past, Now}
-use Rattle.lg_standing.specs.TranscriptsAgree.{session_moments, moments_of, IsMoment, AreImages, MarksWithin, SeatAgrees, TranscriptsAgree}
-use Rattle.law_protocol_steps.proofs.Deeds.{IsPlain, same_items, same_next, same_issued}
+use Rattle.spec_history.specs.Lists.{Text, Each, In}
+use Rattle.spec_history.specs.Serial.{Differ}
+use Rattle.spec_history.specs.Facts.{Shows}
+use Rattle.spec_history.specs.Transactions.{listed}
+use Rattle.spec_history.specs.Transcripts.{Transcript}
+use Rattle.spec_history.specs.Acts.{SessionAct, starts, Act, of, marked}
+use Rattle.spec_history.specs.Sessions.{SessionState, unborn, runs, gone, fresh, acted, transcript_of}
+use Rattle.spec_history.specs.Worlds.{World, first, run}
+use Rattle.spec_history.proofs.Trace.{each_append, each_weaker}
+use Rattle.spec_history.proofs.Settles.{in_right}
+use Rattle.spec_protocol.specs.Server.{Server}
+use Rattle.spec_protocol.specs.Cells.{LedgerCell}
+use Rattle.spec_protocol.specs.Seats.{Session, Written, Role, idle, session, builder, SeatState}
+use Rattle.spec_protocol.specs.Alone.{new_session}
+use Rattle.spec_protocol.specs.Moves.{sits}
+use Rattle.spec_protocol.specs.Parts.{Numbers, all_of, IsNow, IsOver, WasOver, Past, Now}
+use Rattle.spec_protocol.specs.TranscriptsAgree.{session_moments, moments_of, IsMoment, AreImages, MarksWithin, SeatAgrees, TranscriptsAgree}
+use Rattle.law_protocol_steps.proofs.AnonymousActs.{IsPlain, same_items, same_next, same_issued}
 use Rattle.law_protocol_steps.proofs.OneMore.{by_each, good_more, world_more, else_same, now_acted, of_else, of_now, over_stays, past_stays, past_images_stay, seat_stays}
-use Rattle.lg_standing.proofs.Places.{at_set, set_here, set_else}
+use Rattle.spec_protocol.proofs.Places.{at_set, set_here, set_else}
 
 -- the numbers of a seat are of sessions that began
 numbers_began : (v : Server) (h : List Act) (ns : List ℕ) (xs : List Written) (n : ℕ) → (run first h).at n ≡ fresh → Past h ns xs → Each (λ i. i ≢ n) ns
@@ -60,11 +60,11 @@ module _ (v : Server) (c : LedgerCell) (seats : List SeatState) (h : List Act) (
   abbrev n : ℕ
   n = agree.count
 
-  abbrev deeds : List SessionAct
-  deeds = starts name ∷ []
+  abbrev anonymous_acts : List SessionAct
+  anonymous_acts = starts name ∷ []
 
   abbrev longer : List Act
-  longer = h ++ by_each n deeds
+  longer = h ++ by_each n anonymous_acts
 
   abbrev m : Numbers
   m = agree.of_seat j
@@ -112,10 +112,10 @@ module _ (v : Server) (c : LedgerCell) (seats : List SeatState) (h : List Act) (
   same_past = ap (λ (o : Option ℕ). m.past ++ listed o) no_now ∙ append-nil m.past
 
   acted_is : (run first longer).at n ≡ acted fresh (starts name)
-  acted_is = now_acted v.meaning c.database h agree.good n deeds alive ∙ ap (λ (z : SessionState). acted z (starts name)) fresh_now.0
+  acted_is = now_acted v.meaning c.database h agree.good n anonymous_acts alive ∙ ap (λ (z : SessionState). acted z (starts name)) fresh_now.0
 
   of_is : of n longer ≡ starts name ∷ []
-  of_is = of_now v.meaning c.database h agree.good n deeds alive ∙ ap (λ (l : List SessionAct). l ++ starts name ∷ []) fresh_now.1
+  of_is = of_now v.meaning c.database h agree.good n anonymous_acts alive ∙ ap (λ (l : List SessionAct). l ++ starts name ∷ []) fresh_now.1
 
   is_now : IsNow v.meaning (acted fresh (starts name)) y
   is_now = record { running = refl; transcript = refl; under = refl; open_one = tt; so_far = record { pending = refl; statements = tt; open_before = refl; images = refl; fits = tt } }
@@ -124,8 +124,8 @@ module _ (v : Server) (c : LedgerCell) (seats : List SeatState) (h : List Act) (
   was_over : (x : Transcript) → IsOver h x → WasOver longer n x
   was_over x o = record {
     number = o.number;
-    before = record { before = h; after = by_each n deeds; is = refl; over = o.over; none = fresh_now.1 };
-    is = ap transcript_of (else_same v.meaning c.database h agree.good n deeds alive o.number (λ same. alive (ap (λ (i : ℕ). ((run first h).at i).phase) (sym same) ∙ o.over))) ∙ o.is;
+    before = record { before = h; after = by_each n anonymous_acts; is = refl; over = o.over; none = fresh_now.1 };
+    is = ap transcript_of (else_same v.meaning c.database h agree.good n anonymous_acts alive o.number (λ same. alive (ap (λ (i : ℕ). ((run first h).at i).phase) (sym same) ∙ o.over))) ∙ o.is;
   }
 
   past_over : (ns : List ℕ) (xs : List Written) → Past h ns xs → Each (IsOver h) (map (λ x. x.transcript) xs)
@@ -139,21 +139,21 @@ module _ (v : Server) (c : LedgerCell) (seats : List SeatState) (h : List Act) (
 
   past_marks : (ns : List ℕ) → Each (λ i. i ≢ n) ns → Each (MarksWithin v h c s) ns → Each (MarksWithin v longer c t) ns
   past_marks [] ne e = tt
-  past_marks (i ∷ ns) ne e = (subst (Shows marked (λ i. (s.least ≤ i) × (i ≤ s.greatest))) (sym (of_else v.meaning c.database h agree.good n deeds alive i ne.0)) e.0, past_marks ns ne.1 e.1)
+  past_marks (i ∷ ns) ne e = (subst (Shows marked (λ i. (s.least ≤ i) × (i ≤ s.greatest))) (sym (of_else v.meaning c.database h agree.good n anonymous_acts alive i ne.0)) e.0, past_marks ns ne.1 e.1)
 
   seat_then : SeatAgrees v longer c new t
   seat_then = record {
     sessions = record {
       differ = differ_snoc m.past n (subst Differ same_past was.sessions.differ) past_differ;
-      past = past_stays v.meaning c.database h agree.good n deeds alive m.past s.written past_differ was.sessions.past;
+      past = past_stays v.meaning c.database h agree.good n anonymous_acts alive m.past s.written past_differ was.sessions.past;
       now = (subst (λ z. IsNow v.meaning z y) (sym acted_is) is_now, earlier_then);
-      earlier = each_weaker (IsOver h) (IsOver longer) (over_stays v.meaning c.database h agree.good n deeds alive) s.earlier was.sessions.earlier;
+      earlier = each_weaker (IsOver h) (IsOver longer) (over_stays v.meaning c.database h agree.good n anonymous_acts alive) s.earlier was.sessions.earlier;
     };
     database = was.database;
     block_size = was.block_size;
     marks = each_append (MarksWithin v longer c t) m.past (n ∷ []) (past_marks m.past past_differ (subst (Each (MarksWithin v h c s)) same_past was.marks)) (subst (Shows marked (λ i. (s.least ≤ i) × (i ≤ s.greatest))) (sym of_is) (tt, tt), tt);
     greatest = was.greatest;
-    past_images = past_images_stay v.meaning c.database h agree.good n deeds alive v c c [] refl (sym (append-nil c.items)) m.past s.written past_differ was.past_images;
+    past_images = past_images_stay v.meaning c.database h agree.good n anonymous_acts alive v c c [] refl (sym (append-nil c.items)) m.past s.written past_differ was.past_images;
     images = subst (λ l. AreImages v c l []) (sym of_is) (record { shown = refl; each = tt });
   }
 
@@ -161,7 +161,7 @@ module _ (v : Server) (c : LedgerCell) (seats : List SeatState) (h : List Act) (
   all_seats k u e = ⊎_elim
       (λ (f : (k ≡ j) × (t ≡ u)). subst (λ (w : SeatState). SeatAgrees v longer c (of_seat k) w) f.1 (subst (λ (i : ℕ). SeatAgrees v longer c (of_seat i) t) (sym f.0) (subst (λ (w : Numbers). SeatAgrees v longer c w t) (sym at_this) seat_then)))
       (λ (f : (k ≢ j) × (get_elem? seats k ≡ some u)). subst (λ (w : Numbers). SeatAgrees v longer c w u) (sym (at_other k f.0))
-      (seat_stays v.meaning c.database h agree.good n deeds alive v c c [] refl (sym (append-nil c.items)) (agree.of_seat k) u refl (omega arith) (all_differ k u f.1) (agree.agree k u f.1)))
+      (seat_stays v.meaning c.database h agree.good n anonymous_acts alive v c c [] refl (sym (append-nil c.items)) (agree.of_seat k) u refl (omega arith) (all_differ k u f.1) (agree.agree k u f.1)))
       (at_set seats j k t u e)
 
   owners_old : (k : ℕ) (ns : List ℕ) → Each (λ i. i ≢ n) ns → Each (λ i. agree.owner i ≡ k) ns → Each (λ i. owner i ≡ k) ns
@@ -206,28 +206,28 @@ module _ (v : Server) (c : LedgerCell) (seats : List SeatState) (h : List Act) (
       (λ (f : e.j ≢ j). record { j = e.j; seat = e.seat; there = set_else seats j e.j t f ∙ e.there; is = e.is })
       (cases_eq e.j j)
 
-  plain : Each IsPlain deeds
+  plain : Each IsPlain anonymous_acts
   plain = (record { items = λ x. refl; ids = refl; issued = refl; marks = refl; images = refl }, tt)
 
   pub begin_agrees : TranscriptsAgree v longer c after
   begin_agrees = record {
-    good = good_more v.meaning c.database first h (by_each n deeds) agree.good (fresh_now.0, tt);
-    items = ap (λ (w : World). w.items) world ∙ same_items n (run first h) deeds plain ∙ agree.items;
-    next = ap (λ (w : World). w.next) world ∙ same_next n (run first h) deeds plain ∙ agree.next;
-    issued = ap (λ (w : World). w.issued) world ∙ same_issued n (run first h) deeds plain ∙ agree.issued;
+    good = good_more v.meaning c.database first h (by_each n anonymous_acts) agree.good (fresh_now.0, tt);
+    items = ap (λ (w : World). w.items) world ∙ same_items n (run first h) anonymous_acts plain ∙ agree.items;
+    next = ap (λ (w : World). w.next) world ∙ same_next n (run first h) anonymous_acts plain ∙ agree.next;
+    issued = ap (λ (w : World). w.issued) world ∙ same_issued n (run first h) anonymous_acts plain ∙ agree.issued;
     of_seat = of_seat;
     agree = all_seats;
     owner = owner;
     own = all_own;
     count = suc n;
     all = all_there;
-    no_others = λ i l. let old = agree.no_others i (omega arith) in let ne : i ≢ n = λ e. omega arith in (else_same v.meaning c.database h agree.good n deeds alive i ne ∙ old.0, of_else v.meaning c.database h agree.good n deeds alive i ne ∙ old.1);
+    no_others = λ i l. let old = agree.no_others i (omega arith) in let ne : i ≢ n = λ e. omega arith in (else_same v.meaning c.database h agree.good n anonymous_acts alive i ne ∙ old.0, of_else v.meaning c.database h agree.good n anonymous_acts alive i ne ∙ old.1);
     times = each_weaker (IsMoment seats) (IsMoment after) moment_stays _ agree.times;
     made = each_weaker (λ g. IsMoment seats g.made) (λ g. IsMoment after g.made) (λ g. moment_stays g.made) _ agree.made;
   }
     where
-      world : run first longer ≡ run (run first h) (by_each n deeds)
-      world = world_more v.meaning c.database h agree.good n deeds alive
+      world : run first longer ≡ run (run first h) (by_each n anonymous_acts)
+      world = world_more v.meaning c.database h agree.good n anonymous_acts alive
 
   pub begin_owner : begin_agrees.owner n ≡ j
   unfolding begin_agrees

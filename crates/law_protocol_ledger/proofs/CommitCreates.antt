@@ -1,62 +1,62 @@
 -- The visit in which a CREATE is committed: nobody else has any lock then.
-use Rattle.lg_invariants.specs.Fits as row_fits
-use Rattle.lg_standing.specs.TablesAreSerial.{AreIndexes, IsIndexed, StandsAs, TableStands, IsCarried}
-use Rattle.lg_types.specs.declared.lock.Mode.TheVariants.{X}
-use Rattle.lg_standing.specs.LocksCover.{HasLock, LiesUnder, EndLiesUnder, IsUnderLocks, Belongs, IsDropping}
-use Rattle.lg_standing.specs.Committed.{with_committed_end}
+use Rattle.law_journal.specs.Fits as row_fits
+use Rattle.spec_protocol.specs.TablesAreSerial.{AreIndexes, IsIndexed, StandsAs, TableStands, IsCarried}
+use Rattle.sql_types.specs.declared.lock.Mode.TheVariants.{X}
+use Rattle.spec_protocol.specs.LocksCover.{HasLock, LiesUnder, EndLiesUnder, IsUnderLocks, Belongs, IsDropping}
+use Rattle.spec_protocol.specs.CommittedTxs.{with_committed_end}
 use Rattle.std.proofs.Common.{◌≡◌, ◌≢◌, ℕ, ◌+◌, ◌<◌, ◌≤◌, ◌⊎◌, not, Bool, true, false, List, [], ◌∷◌, ◌++◌, map, Option, Some, None, slice_set, refl, sym, ap, ◌∙◌, subst, subst₂, inl, inr, ⊎_elim, append-nil, arith, ap₂, suc, zero}
 use Rattle.std.proofs.lemmas.Bool.{cases_eq}
 use Rattle.std.specs.Prelude.{if◌then◌else◌, ◌==◌, is_some}
 use mathlib.Core.Option.{some}
 use lib.ListN.{get_elem?}
-use Rattle.lg_types.specs.declared.journal.JournalItem.{JournalItem}
-use Rattle.lg_types.specs.declared.journal.JournalItem.TheVariants.{Tx}
-use Rattle.lg_types.specs.declared.reply.Reply.{Reply}
-use Rattle.lg_types.specs.declared.reply.Reply.TheVariants as reply
-use Rattle.lg_types.specs.declared.statement.Stmt.{Stmt}
-use Rattle.lg_types.specs.declared.statement.Stmt.TheVariants as stmt
-use Rattle.lg_types.specs.declared.version.Version.{Version}
-use Rattle.lg_model.specs.Catalog.{Defs, Tables, defs_of, versions_of}
-use Rattle.lg_model.specs.Journals.{Line, tx_count, serial, AgreesWith, IsLegal}
-use Rattle.lg_model.specs.Reach.{creates, lets_change}
-use Rattle.lg_model.specs.Replies.{reply_text}
-use Rattle.lg_model.specs.Rows.{EventId, live}
-use Rattle.lg_model.specs.Runs.{EndsBefore, MadeBefore, Sound, Rising}
-use Rattle.lg_model.specs.Script.{script}
-use Rattle.lg_model.specs.Touched.{touched}
-use Rattle.lg_model.specs.Undo.{versions_undone}
-use Rattle.lg_frames.proofs.AtTable.{rising_at, before_at}
-use Rattle.lg_frames.proofs.LegalSound.{legal_sound}
-use Rattle.lg_history.specs.Lists.{Text, Each, In}
-use Rattle.lg_history.specs.Journals.{ids_of}
-use Rattle.lg_history.specs.Refusals.{EndsAt}
-use Rattle.lg_history.specs.Transactions.{unfixed, committed}
-use Rattle.lg_history.specs.Acts.{SessionAct, by}
-use Rattle.lg_history.proofs.Trace.{each_weaker}
-use Rattle.lg_standing.specs.Server.{Server}
-use Rattle.lg_standing.specs.Cells.{LedgerCell, Cell, Ledger, ledger_at, catalog_at, cell_of, Index, TableCell}
-use Rattle.lg_standing.specs.Committed.{end_committed, committed as committed_at}
-use Rattle.lg_standing.specs.Contents.{Contents, Known, contents, known, HasAlone}
-use Rattle.lg_standing.specs.Seats.{Stage, begun, found, made, going_back, replied, answering, refused, Place, between, inside, leaving, OpenTransaction, Session, SeatState}
-use Rattle.lg_standing.specs.OpenOnes.{HasOpen, text_at, last_line, lines_at, script_so_far, texts_so_far, script_end}
-use Rattle.lg_standing.specs.WantsIn.{wants_in, Holds, of_catalog, of_cell, wants_at}
-use Rattle.lg_standing.specs.TablesAreSerial.{Creates, TablesAreSerial, HasAdded, IsAdding, IsSortedProjection, KeysDiffer, def_at, ordinals_of}
-use Rattle.lg_standing.specs.OpenScripts.{IsOfItsScript, OpenScripts, counted}
-use Rattle.lg_standing.specs.LocksCover.{KeepsLocks, IsGot, IsGotAt, LocksCover, LookedAt, LookedFirst}
-use Rattle.lg_standing.specs.TreesAreOfEvents.{AreFrames, TreesAreOfEvents}
-use Rattle.lg_standing.specs.LocksAgree.{LocksAgree}
-use Rattle.lg_standing.specs.TranscriptsAgree.{TranscriptsAgree}
-use Rattle.lg_history.specs.Facts.{said, placed}
-use Rattle.lg_standing.specs.OpenOnes.{last_line}
-use Rattle.lg_standing.specs.TranscriptsSoFar.{Fits, FitsWith, FitsOwn, IsSaid}
+use Rattle.sql_types.specs.declared.journal.JournalItem.{JournalItem}
+use Rattle.sql_types.specs.declared.journal.JournalItem.TheVariants.{Tx}
+use Rattle.sql_types.specs.declared.reply.Reply.{Reply}
+use Rattle.sql_types.specs.declared.reply.Reply.TheVariants as reply
+use Rattle.sql_types.specs.declared.statement.Stmt.{Stmt}
+use Rattle.sql_types.specs.declared.statement.Stmt.TheVariants as stmt
+use Rattle.sql_types.specs.declared.version.Version.{Version}
+use Rattle.spec_model.specs.Catalog.{Defs, Tables, defs_of, versions_of}
+use Rattle.spec_model.specs.Journals.{Line, tx_count, serial, AgreesWith, IsLegal}
+use Rattle.spec_model.specs.Reach.{creates, lets_change}
+use Rattle.spec_model.specs.Replies.{reply_text}
+use Rattle.spec_model.specs.Rows.{EventId, live}
+use Rattle.spec_model.specs.Runs.{EndsBefore, MadeBefore, Sound, Rising}
+use Rattle.spec_model.specs.Script.{script}
+use Rattle.spec_model.specs.Touched.{touched}
+use Rattle.spec_model.specs.Undo.{versions_undone}
+use Rattle.law_frame.proofs.AtTable.{rising_at, before_at}
+use Rattle.law_frame.proofs.LegalSound.{legal_sound}
+use Rattle.spec_history.specs.Lists.{Text, Each, In}
+use Rattle.spec_history.specs.Journals.{ids_of}
+use Rattle.spec_history.specs.Refusals.{EndsAt}
+use Rattle.spec_history.specs.Transactions.{unfixed, committed}
+use Rattle.spec_history.specs.Acts.{SessionAct, by}
+use Rattle.spec_history.proofs.Trace.{each_weaker}
+use Rattle.spec_protocol.specs.Server.{Server}
+use Rattle.spec_protocol.specs.Cells.{LedgerCell, Cell, Ledger, ledger_at, catalog_at, cell_of, Index, TableCell}
+use Rattle.spec_protocol.specs.CommittedTxs.{end_committed, committed as committed_at}
+use Rattle.spec_protocol.specs.Contents.{Contents, Known, contents, known, HasAlone}
+use Rattle.spec_protocol.specs.Seats.{StatementProgress, begun, found, made, going_back, replied, answering, refused, SessionStatus, between, inside, leaving, OpenTransaction, Session, SeatState}
+use Rattle.spec_protocol.specs.OpenOnes.{HasOpen, text_at, last_line, lines_at, script_so_far, texts_so_far, script_end}
+use Rattle.spec_protocol.specs.RequestsIn.{requests_in, Holds, of_catalog, of_cell, requests_at}
+use Rattle.spec_protocol.specs.TablesAreSerial.{Creates, TablesAreSerial, HasAdded, IsAdding, IsSortedProjection, KeysDiffer, def_at, ordinals_of}
+use Rattle.spec_protocol.specs.OpenScripts.{IsOfItsScript, OpenScripts, counted}
+use Rattle.spec_protocol.specs.LocksCover.{KeepsLocks, IsGot, IsGotAt, LocksCover, LookedAt, LookedFirst}
+use Rattle.spec_protocol.specs.TreesAreOfEvents.{AreOpenSavepoints, TreesAreOfEvents}
+use Rattle.spec_protocol.specs.LocksAgree.{LocksAgree}
+use Rattle.spec_protocol.specs.TranscriptsAgree.{TranscriptsAgree}
+use Rattle.spec_history.specs.Facts.{said, placed}
+use Rattle.spec_protocol.specs.OpenOnes.{last_line}
+use Rattle.spec_protocol.specs.TranscriptsSoFar.{Fits, FitsWith, FitsOwn, IsSaid}
 use Rattle.law_protocol_steps.proofs.TranscriptActs.{GoesFrom}
-use Rattle.law_protocol_steps.proofs.TranscriptStages.{from_at, fits_if, at_said, at_own_end, made_fits}
-use Rattle.lg_standing.specs.StandTogether.{History, Stands, StandsAfter}
-use Rattle.lg_standing.specs.Moves.{saying, ending, at_place, at_moment, sits, marking, StandsIn}
-use Rattle.lg_standing.specs.LedgerVisits.{Commits, is_quiet, with_item, CommitsNow, entry_of_trees}
+use Rattle.law_protocol_steps.proofs.TranscriptProgress.{from_at, fits_if, at_said, at_own_end, made_fits}
+use Rattle.spec_protocol.specs.StandTogether.{History, Stands, StandsAfter}
+use Rattle.spec_protocol.specs.Moves.{saying, ending, at_place, at_moment, sits, marking, InStatement}
+use Rattle.spec_protocol.specs.LedgerVisits.{Commits, is_read_only, with_item, CommitsNow, entry_of_trees}
 use Rattle.law_protocol_steps.proofs.CommitsLedger.{its_script, its_touched, next_item, commit_is_legal}
-use Rattle.lg_model.specs.Agreement.{columns_at}
-use Rattle.lg_model.specs.ScriptWants.{text_wants}
+use Rattle.spec_model.specs.Agreement.{columns_at}
+use Rattle.spec_model.specs.ScriptRequests.{text_requests}
 use Rattle.law_protocol_ledger.proofs.CommittedMore.{IsWithin, committed_more, each_all, all_in, all_pass, unchanged}
 use Rattle.law_protocol_steps.proofs.Ids.{below, differ, drawn, others, has_not, outside}
 use Rattle.law_protocol_steps.proofs.JournalMore.{serial_more}
@@ -64,47 +64,47 @@ use Rattle.law_protocol_ledger.proofs.KnownMore.{has_own, has_other, upto_all, n
 use Rattle.law_protocol_ledger.proofs.CommitsHistory.{commit_by}
 use Rattle.law_protocol_steps.proofs.LedgerKept.{same_contents, are_cells}
 use Rattle.law_protocol_steps.proofs.LedgerVisit.{the_ledger}
-use Rattle.lg_standing.proofs.Places.{set_here, set_again}
+use Rattle.spec_protocol.proofs.Places.{set_here, set_again}
 use Rattle.law_protocol_changes.proofs.SaysHistory.{told}
 use Rattle.law_protocol_steps.proofs.OpenSeats.{Own, was_open}
-use Rattle.law_protocol_steps.proofs.OthersScripts.{sound_for, locked, script_stays, frames_stay, each_map}
-use Rattle.lg_standing.specs.RowsAgree.{RowsAgree, GoesBackTo, IsOpenedAt}
-use Rattle.lg_types.specs.declared.table.TableDef.{TableDef}
-use Rattle.lg_model.specs.Plans.{as_before, in_place, defined, plan, Definition, new}
+use Rattle.law_protocol_steps.proofs.OthersScripts.{sound_for, locked, script_stays, savepoints_stay, each_map}
+use Rattle.spec_protocol.specs.RowsAgree.{RowsAgree, GoesBackTo, IsExplicitAt}
+use Rattle.sql_types.specs.declared.table.TableDef.{TableDef}
+use Rattle.spec_model.specs.ChangeSets.{as_before, in_place, defined, change_set, Definition, new}
 use Rattle.law_protocol_ledger.proofs.CommitRows.{sound_left, undone_end}
 use Rattle.law_protocol_steps.proofs.CommitsLedger.{counts}
 use Rattle.law_protocol_steps.proofs.OfCells.{HasLooked, looked_now, looked_so}
-use Rattle.lg_standing.specs.TreesAreOfEvents.{HasItsTrees}
-use Rattle.lg_standing.specs.TablesAreSerial.{IsUnderWay}
-use Rattle.lg_standing.specs.LocksAgree.{SeatHas}
-use Rattle.lg_standing.specs.LocksCover.{WantsNone}
-use Rattle.lg_types.specs.declared.lock.Hold.{Hold}
-use Rattle.lg_model.specs.Keys.{Key, of_key, standing}
-use Rattle.lg_types.specs.declared.lock.Mode.{Mode}
-use Rattle.lg_types.specs.declared.lock.Want.{Want}
+use Rattle.spec_protocol.specs.TreesAreOfEvents.{HasItsTrees}
+use Rattle.spec_protocol.specs.TablesAreSerial.{IsUnderWay}
+use Rattle.spec_protocol.specs.LocksAgree.{SeatHas}
+use Rattle.spec_protocol.specs.LocksCover.{RequestsNone}
+use Rattle.sql_types.specs.declared.lock.Hold.{Hold}
+use Rattle.spec_model.specs.Keys.{Key, of_key, live_by_key}
+use Rattle.sql_types.specs.declared.lock.Mode.{Mode}
+use Rattle.sql_types.specs.declared.lock.LockRequest.{LockRequest}
 use Rattle.law_protocol_steps.proofs.CatalogAlone.{alone}
-use Rattle.lg_frames.proofs.ByKeys.{by_keys}
-use Rattle.law_protocol_ledger.proofs.CreatedTables.{created_tables, effect_defs, users_stay, Makes, index_later, made_by, makes_index, makes_none, makes_table, no_wants, same_want}
-use Rattle.lg_model.specs.Effect.{effect}
+use Rattle.law_frame.proofs.ByKeys.{by_keys}
+use Rattle.law_protocol_ledger.proofs.CreatedTables.{created_tables, effect_defs, users_stay, Makes, index_later, made_by, makes_index, makes_none, makes_table, no_requests, same_request}
+use Rattle.spec_model.specs.Effect.{effect}
 use Rattle.law_protocol_changes.proofs.CreateVisits.{has_whole}
 use Rattle.law_protocol_changes.proofs.Creating.{no_cell, x_of}
-use Rattle.lg_frames.proofs.UndoneVersions.{nothing_undone}
+use Rattle.law_frame.proofs.UndoneVersions.{nothing_undone}
 use Rattle.law_protocol_changes.proofs.ChangedRows.{rising_undone, undone_of_key}
-use Rattle.lg_model.specs.Locks.{whole}
-use Rattle.lg_value.specs.declared.column.ColumnDef.{ColumnDef}
+use Rattle.spec_model.specs.Locks.{whole}
+use Rattle.sql_value.specs.declared.column.ColumnDef.{ColumnDef}
 use Rattle.law_protocol_steps.proofs.DefsAfter.{IndexMade, else_redefined, found_id, here_redefined, index_made, kept_append, new_append}
-use Rattle.lg_invariants.proofs.DefLists.{defs_append, defs_redefined, redef}
+use Rattle.law_journal.proofs.DefLists.{defs_append, defs_redefined, redef}
 use Rattle.law_protocol_steps.proofs.SeatsAfter.{one_session, Goes, each_open, open_else, open_here}
 use Rattle.std.specs.List.{AllByRecursion}
-use Rattle.law_protocol_changes.proofs.StepsSaid.{none_wanted}
+use Rattle.law_protocol_changes.proofs.StepsSaid.{none_requested}
 use Rattle.law_protocol_ledger.proofs.CommitsStand.{commits_stand}
 use Rattle.law_protocol_ledger.proofs.NoneWanting.{none_wanting}
-use Rattle.lg_standing.specs.ActsOf.{commit_acts}
+use Rattle.spec_protocol.specs.ActsOf.{commit_acts}
 use Rattle.law_protocol_steps.proofs.GoesOn.{Owned, each_so, ActsBy, then_more}
-use Rattle.lg_history.specs.Acts as act
-use Rattle.lg_types.specs.declared.entry.TxEntry.{TxEntry}
+use Rattle.spec_history.specs.Acts as act
+use Rattle.sql_types.specs.declared.entry.TxEntry.{TxEntry}
 
-first_looked : (place : Place) → LookedFirst place → HasLooked place
+first_looked : (place : SessionStatus) → LookedFirst place → HasLooked place
 first_looked (inside text (found named true)) h = tt
 first_looked (inside text (refused reply)) h = tt
 first_looked (inside text (found named false)) h = absurd h
@@ -120,24 +120,24 @@ within_same : (has : ℕ → Bool) (vs : List Version) → Each (IsWithin has) v
 within_same has vs h = ap (map (with_committed_end has)) (all_pass (λ v. has v.start.0) vs (each_weaker (IsWithin has) (λ v. has v.start.0 ≡ true) (λ v k. k.start) vs h))
     ∙ unchanged (with_committed_end has) vs (each_weaker (IsWithin has) (λ v. with_committed_end has v ≡ v) (λ v k i. record { values = v.values; start = v.start; end = k.end i }) vs h)
 
-own_of : (b : Bool) (d : Stmt) (stage : Stage) (r : Reply) → creates d ≡ true → Commits b d stage r → b ≡ false
+own_of : (b : Bool) (d : Stmt) (stage : StatementProgress) (r : Reply) → creates d ≡ true → Commits b d stage r → b ≡ false
 own_of true stmt.Commit begun r e f = cc
 own_of false d stage r e f = refl
 own_of b d stage r e f = absurd f
 
 -- it was replied to, or its index was added
-pub data Ready (stage : Stage) : Type 0 where
+pub data Ready (stage : StatementProgress) : Type 0 where
   was_replied : (b : Reply) → stage ≡ replied b → Ready stage
   was_added : (def : TableDef) → stage ≡ made def true → Ready stage
 
-ready_of : (b : Bool) (d : Stmt) (stage : Stage) (r : Reply) → creates d ≡ true → Commits b d stage r → Ready stage
+ready_of : (b : Bool) (d : Stmt) (stage : StatementProgress) (r : Reply) → creates d ≡ true → Commits b d stage r → Ready stage
 ready_of true stmt.Commit begun r e f = cc
 ready_of false d (replied q) r e f = was_replied q refl
 ready_of false d (made def true) r e f = was_added def refl
 ready_of b d stage r e f = absurd f
 
 module _ (v : Server) (cells : List Cell) (seats : List SeatState) {history : History} (st : Stands v history cells seats) (j : ℕ) (s : SeatState) (there : get_elem? seats j ≡ some s)
-    (p : StandsIn v s) (o : OpenTransaction) (open_one : p.x.open_one ≡ Some o) (open_end : o.end ≡ unfixed) (r : Reply) (commits : Commits o.opened p.stmt p.stage r) (acts : is_quiet o ≡ false) (time : ℕ)
+    (p : InStatement v s) (o : OpenTransaction) (open_one : p.x.open_one ≡ Some o) (open_end : o.end ≡ unfixed) (r : Reply) (commits : Commits o.explicit p.stmt p.stage r) (acts : is_read_only o ≡ false) (time : ℕ)
     (creating : creates p.stmt ≡ true) where
   abbrev ledger : LedgerCell
   ledger = st.ledger
@@ -158,7 +158,7 @@ module _ (v : Server) (cells : List Cell) (seats : List SeatState) {history : Hi
   entry = entry_of_trees v o p.x.transcript.session time
 
   abbrev item : JournalItem
-  item = Tx o.id p.x.transcript.session time o.opened lines
+  item = Tx o.id p.x.transcript.session time o.explicit lines
 
   abbrev m : Known
   m = known v.reads (ledger.items ++ item ∷ [])
@@ -175,13 +175,13 @@ module _ (v : Server) (cells : List Cell) (seats : List SeatState) {history : Hi
   in_text : text_at p.x.place ≡ Some p.text
   in_text = ap text_at p.place
 
-  own : o.opened ≡ false
-  own = own_of o.opened p.stmt p.stage r creating commits
+  own : o.explicit ≡ false
+  own = own_of o.explicit p.stmt p.stage r creating commits
 
   ready : Ready p.stage
-  ready = ready_of o.opened p.stmt p.stage r creating commits
+  ready = ready_of o.explicit p.stmt p.stage r creating commits
 
-  its_alone : o.opened ≡ false → o.script ≡ []
+  its_alone : o.explicit ≡ false → o.script ≡ []
   its_alone = (its_script v cells seats st j s there p o open_one open_end r commits acts).alone
 
   last_of : Ready p.stage → (w : Text) × (last_line p.text p.stage ≡ (p.text, w) ∷ [])
@@ -197,23 +197,23 @@ module _ (v : Server) (cells : List Cell) (seats : List SeatState) {history : Hi
   left_is : left ≡ (effect T o.id 0 p.stmt).tables
   left_is = ap (λ (b : Bool). (script v.reads b T o.id (texts_so_far p.x o)).state.tables) own ∙ ap (λ (ts : List Text). (script v.reads false T o.id ts).state.tables) texts_are ∙ created_tables v o.id T p.text p.stmt p.is creating
 
-  left_defs : defs_of m.tables ≡ defs_of (defined (plan T p.stmt).definition T)
+  left_defs : defs_of m.tables ≡ defs_of (defined (change_set T p.stmt).definition T)
   left_defs = ap defs_of (tables_are ∙ left_is) ∙ effect_defs T o.id 0 p.stmt
 
   -- ---- it has the catalog alone
 
-  wants_are : (D : Defs) (i : ℕ) → wants_in v D o.opened i p.text ≡ (if i == catalog_at then whole X ∷ [] else [])
-  wants_are D i = ap (λ (q : Option Stmt). wants_at i (text_wants D o.opened q)) p.is ∙ ap (λ (b : Bool). wants_at i (text_wants D b (Some p.stmt))) own
+  requests_are : (D : Defs) (i : ℕ) → requests_in v D o.explicit i p.text ≡ (if i == catalog_at then whole X ∷ [] else [])
+  requests_are D i = ap (λ (q : Option Stmt). requests_at i (text_requests D o.explicit q)) p.is ∙ ap (λ (b : Bool). requests_at i (text_requests D b (Some p.stmt))) own
       ∙ ap₂ (λ q w. (if i == catalog_at then of_catalog q else []) ++ of_cell i w) (x_of p.stmt creating) (no_cell D p.stmt creating) ∙ append-nil (if i == catalog_at then whole X ∷ [] else [])
 
-  its_locks : (n : ℕ) → Each (Holds (c.holds n) o.id) (wants_in v (defs_of T) o.opened n p.text)
-  its_locks n = (subst (λ (ts : List Text). Each (λ t. Each (Holds (c.holds n) o.id) (wants_in v (defs_of T) o.opened n t)) ts) texts_are (locked v cells seats st j p.x o has open_end n)).0
+  its_locks : (n : ℕ) → Each (Holds (c.holds n) o.id) (requests_in v (defs_of T) o.explicit n p.text)
+  its_locks n = (subst (λ (ts : List Text). Each (λ t. Each (Holds (c.holds n) o.id) (requests_in v (defs_of T) o.explicit n t)) ts) texts_are (locked v cells seats st j p.x o has open_end n)).0
 
   exclusive : HasAlone c o.id
-  exclusive = has_whole (c.holds catalog_at) o.id (subst (Each (Holds (c.holds catalog_at) o.id)) (wants_are (defs_of T) catalog_at) (its_locks catalog_at)).0
+  exclusive = has_whole (c.holds catalog_at) o.id (subst (Each (Holds (c.holds catalog_at) o.id)) (requests_are (defs_of T) catalog_at) (its_locks catalog_at)).0
 
   its_lock : HasLock c catalog_at o.id
-  its_lock = record { hold = record { tx = o.id; want = whole X }; has = exclusive; mine = refl }
+  its_lock = record { hold = record { tx = o.id; request = whole X }; has = exclusive; mine = refl }
 
   no_lock : (i id : ℕ) → HasLock c i id → id ≡ o.id
   no_lock zero id l = alone v cells seats st o.id exclusive id l
@@ -229,14 +229,14 @@ module _ (v : Server) (cells : List Cell) (seats : List SeatState) {history : Hi
   not_locked i z u ne w n l = differ_ids i z u ne w (no_lock n u.id l)
 
   none_alone : (i : ℕ) (z : Session) (u : OpenTransaction) → i ≢ j → HasOpen seats i z u → HasAlone c u.id → ⊥
-  none_alone i z u ne w a = not_locked i z u ne w catalog_at (record { hold = record { tx = u.id; want = whole X }; has = a; mine = refl })
+  none_alone i z u ne w a = not_locked i z u ne w catalog_at (record { hold = record { tx = u.id; request = whole X }; has = a; mine = refl })
 
   -- so nobody else wants anything
-  wants_none : (i : ℕ) (z : Session) (u : OpenTransaction) → i ≢ j → HasOpen seats i z u → KeepsLocks u catalog_at → Each (λ l. (text_wants (defs_of T) u.opened (v.reads l.0)).catalog ≡ None) (script_so_far z u)
-  wants_none i z u ne w free = each_weaker (λ (l : Line). Each (Holds (c.holds catalog_at) u.id) (wants_in v (defs_of T) u.opened catalog_at l.0)) (λ (l : Line). (text_wants (defs_of T) u.opened (v.reads l.0)).catalog ≡ None)
-      (λ l h. none_of (text_wants (defs_of T) u.opened (v.reads l.0)).catalog (of_cell catalog_at (text_wants (defs_of T) u.opened (v.reads l.0)).cell) h) (script_so_far z u) (st.locks_cover.cover i z u w catalog_at free)
+  requests_none : (i : ℕ) (z : Session) (u : OpenTransaction) → i ≢ j → HasOpen seats i z u → KeepsLocks u catalog_at → Each (λ l. (text_requests (defs_of T) u.explicit (v.reads l.0)).catalog ≡ None) (script_so_far z u)
+  requests_none i z u ne w free = each_weaker (λ (l : Line). Each (Holds (c.holds catalog_at) u.id) (requests_in v (defs_of T) u.explicit catalog_at l.0)) (λ (l : Line). (text_requests (defs_of T) u.explicit (v.reads l.0)).catalog ≡ None)
+      (λ l h. none_of (text_requests (defs_of T) u.explicit (v.reads l.0)).catalog (of_cell catalog_at (text_requests (defs_of T) u.explicit (v.reads l.0)).cell) h) (script_so_far z u) (st.locks_cover.cover i z u w catalog_at free)
     where
-      none_of : (q : Option Mode) (ws : List Want) → Each (Holds (c.holds catalog_at) u.id) (of_catalog q ++ ws) → q ≡ None
+      none_of : (q : Option Mode) (ws : List LockRequest) → Each (Holds (c.holds catalog_at) u.id) (of_catalog q ++ ws) → q ≡ None
       none_of None ws h = refl
       none_of (Some mode) ws h = absurd (not_locked i z u ne w catalog_at (record { hold = h.0.hold; has = h.0.has; mine = h.0.mine }))
 
@@ -255,10 +255,10 @@ module _ (v : Server) (cells : List Cell) (seats : List SeatState) {history : Hi
   sound = sound_for v cells seats st j p.x o has open_end
 
   m_own : m.has o.id ≡ true
-  m_own = has_own o.id p.x.transcript.session time o.opened lines ledger.items
+  m_own = has_own o.id p.x.transcript.session time o.explicit lines ledger.items
 
   m_other : (n : ℕ) → n ≢ o.id → m.has n ≡ k.has n
-  m_other = has_other o.id p.x.transcript.session time o.opened lines ledger.items
+  m_other = has_other o.id p.x.transcript.session time o.explicit lines ledger.items
 
   next_not : m.has ledger.next ≡ false
   next_not = m_other ledger.next (λ e. let l = below v history ledger seats st.transcripts_agree j p.x o has in absurd (omega arith))
@@ -297,12 +297,12 @@ module _ (v : Server) (cells : List Cell) (seats : List SeatState) {history : Hi
     where
       in_catalog : cell_of id ≡ catalog_at → versions_of T id ≡ versions_undone o.id 0 (versions_of m.tables id)
       in_catalog e = by_keys (columns_at (defs_of T) id) (versions_of T id) (versions_undone o.id 0 (versions_of m.tables id)) (rising_at o.id 0 id T sound.each) (rising_undone o.id 0 (versions_of m.tables id) (left_rising id))
-          (λ key. sym (st.rows_agree.undone id key l (record { tx = o.id; want = whole X }) held (has_not o.id ledger.items (outside v history ledger seats st.transcripts_agree j p.x o has open_end)) (reach key))
-          ∙ ap (versions_undone o.id 0) (sym (no_count id _) ∙ st.rows_agree.own j p.x o has open_end id key l (record { tx = o.id; want = whole X }) held refl (reach key) ∙ ap (λ (U : Tables). of_key (columns_at (defs_of T) id) key (versions_of U id)) (sym tables_are))
+          (λ key. sym (st.rows_agree.undone id key l (record { tx = o.id; request = whole X }) held (has_not o.id ledger.items (outside v history ledger seats st.transcripts_agree j p.x o has open_end)) (reach key))
+          ∙ ap (versions_undone o.id 0) (sym (no_count id _) ∙ st.rows_agree.own j p.x o has open_end id key l (record { tx = o.id; request = whole X }) held refl (reach key) ∙ ap (λ (U : Tables). of_key (columns_at (defs_of T) id) key (versions_of U id)) (sym tables_are))
           ∙ undone_of_key (columns_at (defs_of T) id) key o.id 0 (versions_of m.tables id))
         where
-          held : In (record { tx = o.id; want = whole X }) (c.holds (cell_of id))
-          held = subst (λ (n : ℕ). In (record { tx = o.id; want = whole X }) (c.holds n)) (sym e) exclusive
+          held : In (record { tx = o.id; request = whole X }) (c.holds (cell_of id))
+          held = subst (λ (n : ℕ). In (record { tx = o.id; request = whole X }) (c.holds n)) (sym e) exclusive
 
   start_within : (id : ℕ) (w : Version) → In w (versions_of m.tables id) → (b : Bool) → m.has w.start.0 ≡ b → m.has w.start.0 ≡ true
   start_within id w i true e = e
@@ -327,17 +327,17 @@ module _ (v : Server) (cells : List Cell) (seats : List SeatState) {history : Hi
 
   -- ---- what it got
 
-  got_stage : (stage : Stage) → p.stage ≡ stage → IsGot T (HasAlone c o.id) (not (k.has o.id)) (Some p.stmt) stage
+  got_stage : (stage : StatementProgress) → p.stage ≡ stage → IsGot T (HasAlone c o.id) (not (k.has o.id)) (Some p.stmt) stage
   got_stage stage e = subst (λ (q : Option Stmt). IsGot T (HasAlone c o.id) (not (k.has o.id)) q stage) p.is
       (subst (IsGotAt v T (HasAlone c o.id) (not (k.has o.id))) (p.place ∙ ap (inside p.text) e) (st.locks_cover.got j p.x o has its_lock))
 
-  its_place : (stage : Stage) → p.stage ≡ stage → p.x.place ≡ inside p.text stage
+  its_place : (stage : StatementProgress) → p.stage ≡ stage → p.x.place ≡ inside p.text stage
   its_place stage e = p.place ∙ ap (inside p.text) e
 
   -- who creates is this one
   it_is : (x : Session) (d : Stmt) (h : Creates v c k seats x d) → (x ≡ p.x) × (h.o ≡ o) × (d ≡ p.stmt)
   it_is x d h =
-      let same_id : h.o.id ≡ o.id = no_lock catalog_at h.o.id (record { hold = record { tx = h.o.id; want = whole X }; has = h.exclusive; mine = refl }) in
+      let same_id : h.o.id ≡ o.id = no_lock catalog_at h.o.id (record { hold = record { tx = h.o.id; request = whole X }; has = h.exclusive; mine = refl }) in
       let same_seat : h.j ≡ j = ⊎_elim (λ (e : h.j ≡ j). e) (λ (ne : h.j ≢ j). absurd (differ_ids h.j x h.o ne h.has same_id)) (cases_eq h.j j) in
       let alike = one_session seats j x p.x h.o o (subst (λ (n : ℕ). HasOpen seats n x h.o) same_seat h.has) has in
       let texts : Some h.text ≡ Some p.text = sym h.stands ∙ ap (λ (u : Session). text_at u.place) alike.0 ∙ in_text in
@@ -351,18 +351,18 @@ module _ (v : Server) (cells : List Cell) (seats : List SeatState) {history : Hi
     added : p.stage ≡ made def true
     here : def.id ≡ id
 
-  adds_at : (stage : Stage) (after : TableDef) → Ready stage → HasAdded (inside p.text stage) o after → stage ≡ made after true
-  adds_at stage after (was_replied b e) a = absurd (subst (λ (q : Stage). HasAdded (inside p.text q) o after) e a)
-  adds_at stage after (was_added def e) a = let z : (def ≡ after) × (o.end ≡ unfixed) = subst (λ (q : Stage). HasAdded (inside p.text q) o after) e a in e ∙ ap (λ (d : TableDef). made d true) z.0
+  adds_at : (stage : StatementProgress) (after : TableDef) → Ready stage → HasAdded (inside p.text stage) o after → stage ≡ made after true
+  adds_at stage after (was_replied b e) a = absurd (subst (λ (q : StatementProgress). HasAdded (inside p.text q) o after) e a)
+  adds_at stage after (was_added def e) a = let z : (def ≡ after) × (o.end ≡ unfixed) = subst (λ (q : StatementProgress). HasAdded (inside p.text q) o after) e a in e ∙ ap (λ (d : TableDef). made d true) z.0
 
   adds_or_not : (def : TableDef) (xs : List (List ℕ)) → AreIndexes v c k seats def xs → (xs ≡ ordinals_of def.indexes) ⊎ Adds def.id
   adds_or_not def xs h = ⊎_elim (λ (e : xs ≡ ordinals_of def.indexes). inl e)
-      (λ (a : (x : Session) × (d : Stmt) × (after : TableDef) × (by : Creates v c k seats x d) × (def_at (defs_of (defined (plan T d).definition T)) def.id ≡ Some after) × (xs ≡ ordinals_of after.indexes) × IsAdding x.place by.o after (cell_of def.id)).
+      (λ (a : (x : Session) × (d : Stmt) × (after : TableDef) × (by : Creates v c k seats x d) × (def_at (defs_of (defined (change_set T d).definition T)) def.id ≡ Some after) × (xs ≡ ordinals_of after.indexes) × IsAdding x.place by.o after (cell_of def.id)).
       let w = it_is a.0 a.1 a.3 in
       let added : HasAdded p.x.place o a.2 = subst (λ (u : Session). HasAdded u.place o a.2) w.0 (subst (λ (u : OpenTransaction). HasAdded a.0.place u a.2) w.1 a.6.added) in
-      inr (record { def = a.2; added = adds_at p.stage a.2 ready (subst (λ (q : Place). HasAdded q o a.2) p.place added); here = found_id (defs_of (defined (plan T a.1).definition T)) def.id a.2 a.4 })) h
+      inr (record { def = a.2; added = adds_at p.stage a.2 ready (subst (λ (q : SessionStatus). HasAdded q o a.2) p.place added); here = found_id (defs_of (defined (change_set T a.1).definition T)) def.id a.2 a.4 })) h
 
-  in_place_of : (def : TableDef) → p.stage ≡ made def true → (plan T p.stmt).definition ≡ in_place def
+  in_place_of : (def : TableDef) → p.stage ≡ made def true → (change_set T p.stmt).definition ≡ in_place def
   in_place_of def e = (got_stage (made def true) e).1
 
   -- ---- tables
@@ -410,11 +410,11 @@ module _ (v : Server) (cells : List Cell) (seats : List SeatState) {history : Hi
 
   -- a new table's cell is empty
   is_new : (cell : TableCell) (def : TableDef) → def.indexes ≡ [] → StandsAs v c k seats cell None → TableStands v c m after cell def
-  unfolding standing
+  unfolding live_by_key
   is_new cell def none h = record {
     columns = inl h.0;
     fit = subst (Each (λ w. row_fits.Fits def.columns w.values)) (sym h.0) tt;
-    in_key_order = h.1 ∙ ap (λ (vs : List Version). map (λ w. w.start) (standing def.columns None vs)) (sym h.0);
+    in_key_order = h.1 ∙ ap (λ (vs : List Version). map (λ w. w.start) (live_by_key def.columns None vs)) (sym h.0);
     keys_differ = subst (λ (vs : List Version). KeysDiffer def.columns (live vs)) (sym h.0) tt;
     projections = subst (Each (IsSortedProjection def.columns cell.versions)) (sym h.2) tt;
     indexes = inl (no_indexes cell.indexes h.2 ∙ ap ordinals_of (sym none));
@@ -426,7 +426,7 @@ module _ (v : Server) (cells : List Cell) (seats : List SeatState) {history : Hi
       was : StandsAs v c k seats cell (def_at (defs_of T) cell.id)
       was = st.tables_are_serial.tables i cell at
 
-      over : (d : Definition) → (plan T p.stmt).definition ≡ d → (P : Option TableDef → Type 0) → P (def_at (defs_of (defined d T)) cell.id) → P (def_at (defs_of m.tables) cell.id)
+      over : (d : Definition) → (change_set T p.stmt).definition ≡ d → (P : Option TableDef → Type 0) → P (def_at (defs_of (defined d T)) cell.id) → P (def_at (defs_of m.tables) cell.id)
       over d e P h = subst (λ (ds : Defs). P (def_at ds cell.id)) (sym (left_defs ∙ ap (λ (z : Definition). defs_of (defined z T)) e)) h
 
       by : Makes T p.stmt → StandsAs v c m after cell (def_at (defs_of m.tables) cell.id)
@@ -463,7 +463,7 @@ module _ (v : Server) (cells : List Cell) (seats : List SeatState) {history : Hi
               (let h : TableStands v c k seats cell index_is.old = subst (StandsAs v c k seats cell) (ap (def_at (defs_of T)) f ∙ index_is.at) was in record {
                 columns = ⊎_elim (λ (e : cell.versions ≡ []). inl e) (λ (e : cell.columns ≡ index_is.old.columns). inr (e ∙ sym same_columns)) h.columns;
                 fit = subst (λ (cols : List ColumnDef). Each (λ w. row_fits.Fits cols w.values) cell.versions) (sym same_columns) h.fit;
-                in_key_order = h.in_key_order ∙ ap (λ (cols : List ColumnDef). map (λ w. w.start) (standing cols None cell.versions)) (sym same_columns);
+                in_key_order = h.in_key_order ∙ ap (λ (cols : List ColumnDef). map (λ w. w.start) (live_by_key cols None cell.versions)) (sym same_columns);
                 keys_differ = subst (λ (cols : List ColumnDef). KeysDiffer cols (live cell.versions)) (sym same_columns) h.keys_differ;
                 projections = subst (λ (cols : List ColumnDef). Each (IsSortedProjection cols cell.versions) cell.indexes) (sym same_columns) h.projections;
                 indexes = inl (has_them f);
@@ -487,14 +487,14 @@ module _ (v : Server) (cells : List Cell) (seats : List SeatState) {history : Hi
   rows_agree_then : RowsAgree v c m after
   rows_agree_then = record {
     free = λ id key l f. ap (of_key (columns_at (defs_of m.tables) id) key) (same_versions id l);
-    own = each_open seats j t p.x o y q goes (λ n z u. u.end ≡ unfixed → (id : ℕ) (key : Key) → 1 ≤ id → (h : Hold) → In h (c.holds (cell_of id)) → h.tx ≡ u.id → lets_change key h.want ≡ true
+    own = each_open seats j t p.x o y q goes (λ n z u. u.end ≡ unfixed → (id : ℕ) (key : Key) → 1 ≤ id → (h : Hold) → In h (c.holds (cell_of id)) → h.tx ≡ u.id → lets_change key h.request ≡ true
         → counted u.id id z.place (of_key (columns_at (defs_of m.tables) id) key (c.versions id)) ≡ of_key (columns_at (defs_of m.tables) id) key (versions_of (script_end v m.tables z u).state.tables id))
         (λ e. absurd (not_open e))
         (λ n z u ne w e id key l h is mine reaches. absurd (differ_ids n z u ne w (sym mine ∙ its (cell_of id) h is)));
     undone = λ id key l h is e reaches. absurd (let f : m.has h.tx ≡ true = ap m.has (its (cell_of id) h is) ∙ m_own in cc);
     rising = st.rows_agree.rising;
     back = each_open seats j t p.x o y q goes (λ n z u. GoesBackTo z.place u.seq) tt (λ n z u ne w. st.rows_agree.back n z u w);
-    opened = each_open seats j t p.x o y q goes (λ n z u. IsOpenedAt z.place u.opened) tt (λ n z u ne w. st.rows_agree.opened n z u w);
+    explicit = each_open seats j t p.x o y q goes (λ n z u. IsExplicitAt z.place u.explicit) tt (λ n z u ne w. st.rows_agree.explicit n z u w);
     before = each_open seats j t p.x o y q goes (λ n z u. u.end ≡ unfixed → (id : ℕ) → 1 ≤ id → AllByRecursion (MadeBefore u.id u.seq) (counted u.id id z.place (c.versions id)))
         (λ e. absurd (not_open e)) (λ n z u ne w e. st.rows_agree.before n z u w e);
   }
@@ -505,7 +505,7 @@ module _ (v : Server) (cells : List Cell) (seats : List SeatState) {history : Hi
 
   trees_then : TreesAreOfEvents v c m after
   trees_then = each_open seats j t p.x o y q goes (λ n z u. u.end ≡ unfixed → HasItsTrees v c m z u) (λ e. absurd (not_open e))
-      (λ n z u ne w e. let h = st.trees_are_of_events n z u w e in record { trees = h.trees; frames = subst (λ (U : Tables). AreFrames u.id u.frames (script_end v U z u).state.saved) (sym tables_are) (frames_stay v cells seats st j p.x o has open_end n z u ne w e h.frames) })
+      (λ n z u ne w e. let h = st.trees_are_of_events n z u w e in record { trees = h.trees; open_savepoints = subst (λ (U : Tables). AreOpenSavepoints u.id u.open_savepoints (script_end v U z u).state.saved) (sym tables_are) (savepoints_stay v cells seats st j p.x o has open_end n z u ne w e h.open_savepoints) })
 
   -- ---- locks
 
@@ -527,28 +527,28 @@ module _ (v : Server) (cells : List Cell) (seats : List SeatState) {history : Hi
       only : (n : ℕ) (z : Session) (u : OpenTransaction) → HasOpen after n z u → u.id ≡ h.tx → n ≡ b.j
       only = each_open seats j t p.x o y q goes (λ n z u. u.id ≡ h.tx → n ≡ b.j) (λ e. b.only j p.x o has e) (λ n z u ne w e. b.only n z u w e)
 
-  cover_mine : (i : ℕ) → KeepsLocks q i → Each (λ l. Each (Holds (c.holds i) q.id) (wants_in v (defs_of m.tables) q.opened i l.0)) (script_so_far y q)
-  cover_mine i free = subst (Each (λ l. Each (Holds (c.holds i) o.id) (wants_in v (defs_of m.tables) o.opened i l.0))) (sym (append-nil lines ∙ lines_are))
-      (subst (Each (Holds (c.holds i) o.id)) (wants_are (defs_of T) i ∙ sym (wants_are (defs_of m.tables) i)) (its_locks i), tt)
+  cover_mine : (i : ℕ) → KeepsLocks q i → Each (λ l. Each (Holds (c.holds i) q.id) (requests_in v (defs_of m.tables) q.explicit i l.0)) (script_so_far y q)
+  cover_mine i free = subst (Each (λ l. Each (Holds (c.holds i) o.id) (requests_in v (defs_of m.tables) o.explicit i l.0))) (sym (append-nil lines ∙ lines_are))
+      (subst (Each (Holds (c.holds i) o.id)) (requests_are (defs_of T) i ∙ sym (requests_are (defs_of m.tables) i)) (its_locks i), tt)
 
-  cover_else : (n : ℕ) (z : Session) (u : OpenTransaction) → n ≢ j → HasOpen seats n z u → (i : ℕ) → KeepsLocks u i → Each (λ l. Each (Holds (c.holds i) u.id) (wants_in v (defs_of m.tables) u.opened i l.0)) (script_so_far z u)
-  cover_else n z u ne w i free = each_weaker (λ (l : Line). (text_wants (defs_of T) u.opened (v.reads l.0)).catalog ≡ None) (λ (l : Line). Each (Holds (c.holds i) u.id) (wants_in v (defs_of m.tables) u.opened i l.0))
-      (λ l e. let f = no_wants (defs_of T) (defs_of m.tables) u.opened (v.reads l.0) e in none_wanted (Holds (c.holds i) u.id) i (text_wants (defs_of m.tables) u.opened (v.reads l.0)) f.0 f.1)
-      (script_so_far z u) (wants_none n z u ne w (free.1, free.1))
+  cover_else : (n : ℕ) (z : Session) (u : OpenTransaction) → n ≢ j → HasOpen seats n z u → (i : ℕ) → KeepsLocks u i → Each (λ l. Each (Holds (c.holds i) u.id) (requests_in v (defs_of m.tables) u.explicit i l.0)) (script_so_far z u)
+  cover_else n z u ne w i free = each_weaker (λ (l : Line). (text_requests (defs_of T) u.explicit (v.reads l.0)).catalog ≡ None) (λ (l : Line). Each (Holds (c.holds i) u.id) (requests_in v (defs_of m.tables) u.explicit i l.0))
+      (λ l e. let f = no_requests (defs_of T) (defs_of m.tables) u.explicit (v.reads l.0) e in none_requested (Holds (c.holds i) u.id) i (text_requests (defs_of m.tables) u.explicit (v.reads l.0)) f.0 f.1)
+      (script_so_far z u) (requests_none n z u ne w (free.1, free.1))
 
   looked_else : (n : ℕ) (z : Session) (u : OpenTransaction) → n ≢ j → HasOpen seats n z u → u.end ≡ unfixed → HasLooked z.place → ⊥
   looked_else n z u ne w e l = not_locked n z u ne w catalog_at (looked_now v cells T u z.place (st.locks_cover.looked n z u w e) l).lock
 
   definitions_mine : (n : ℕ) → EndsAt q.end n → HasLock c catalog_at q.id → defs_of m.tables ≡ defs_of (m.after n)
-  definitions_mine n e l = ap (λ (J : List JournalItem). defs_of (serial v.reads J)) (sym (upto_all o.id p.x.transcript.session time o.opened lines ledger.items n (omega (arith, e))))
+  definitions_mine n e l = ap (λ (J : List JournalItem). defs_of (serial v.reads J)) (sym (upto_all o.id p.x.transcript.session time o.explicit lines ledger.items n (omega (arith, e))))
 
   cover_then : LocksCover v c m after
   cover_then = record {
     belong = λ i h is. belongs i h (st.locks_cover.belong i h is);
-    cover = each_open seats j t p.x o y q goes (λ n z u. (i : ℕ) → KeepsLocks u i → Each (λ l. Each (Holds (c.holds i) u.id) (wants_in v (defs_of m.tables) u.opened i l.0)) (script_so_far z u)) cover_mine cover_else;
+    cover = each_open seats j t p.x o y q goes (λ n z u. (i : ℕ) → KeepsLocks u i → Each (λ l. Each (Holds (c.holds i) u.id) (requests_in v (defs_of m.tables) u.explicit i l.0)) (script_so_far z u)) cover_mine cover_else;
     unreleased = each_open seats j t p.x o y q goes (λ n z u. u.end ≡ unfixed → u.released ≡ []) (λ e. absurd (not_open e)) (λ n z u ne w. st.locks_cover.unreleased n z u w);
-    looked = each_open seats j t p.x o y q goes (λ n z u. u.end ≡ unfixed → LookedAt v c (defs_of m.tables) u.id u.opened z.place) (λ e. absurd (not_open e)) (λ n z u ne w e. looked_so v cells m.tables u z.place (λ l. absurd (looked_else n z u ne w e l)));
-    looked_first = each_open seats j t p.x o y q goes (λ n z u. u.end ≡ unfixed → LookedFirst z.place → WantsNone v c m.tables u) (λ e. absurd (not_open e)) (λ n z u ne w e f. absurd (looked_else n z u ne w e (first_looked z.place f)));
+    looked = each_open seats j t p.x o y q goes (λ n z u. u.end ≡ unfixed → LookedAt v c (defs_of m.tables) u.id u.explicit z.place) (λ e. absurd (not_open e)) (λ n z u ne w e. looked_so v cells m.tables u z.place (λ l. absurd (looked_else n z u ne w e l)));
+    looked_first = each_open seats j t p.x o y q goes (λ n z u. u.end ≡ unfixed → LookedFirst z.place → RequestsNone v c m.tables u) (λ e. absurd (not_open e)) (λ n z u ne w e f. absurd (looked_else n z u ne w e (first_looked z.place f)));
     intents = st.locks_cover.intents;
     on_whole = st.locks_cover.on_whole;
     catalog = st.locks_cover.catalog;
@@ -579,13 +579,13 @@ module _ (v : Server) (cells : List Cell) (seats : List SeatState) {history : Hi
   definitions_are : st.catalog.defs ≡ defs_of m.tables
   definitions_are = ⊎_elim
       (λ (e : st.catalog.defs ≡ defs_of T). ⊎_elim (λ (f : st.catalog.defs ≡ defs_of left). f ∙ ap defs_of (sym tables_are)) (λ (f : defs_of left ≡ defs_of T). e ∙ sym f ∙ ap defs_of (sym tables_are)) (st.tables_are_serial.carried j p.x o has open_end))
-      (λ (u : IsUnderWay v c k seats st.catalog.defs st.catalog.creator). u.is ∙ ap (λ (d : Stmt). defs_of (defined (plan T d).definition T)) (it_is u.x u.stmt u.by).2 ∙ sym left_defs)
+      (λ (u : IsUnderWay v c k seats st.catalog.defs st.catalog.creator). u.is ∙ ap (λ (d : Stmt). defs_of (defined (change_set T d).definition T)) (it_is u.x u.stmt u.by).2 ∙ sym left_defs)
       st.tables_are_serial.definitions
 
   serial_then : TablesAreSerial v c m st.catalog.defs st.catalog.creator after
   serial_then = record {
     definitions = inl definitions_are;
-    goes_back = λ e is. let g = st.tables_are_serial.goes_back e is in record { exclusive = g.exclusive; before = λ out. absurd (let f : m.has e.tx ≡ true = ap m.has (its catalog_at (record { tx = e.tx; want = whole X }) g.exclusive) ∙ m_own in cc) };
+    goes_back = λ e is. let g = st.tables_are_serial.goes_back e is in record { exclusive = g.exclusive; before = λ out. absurd (let f : m.has e.tx ≡ true = ap m.has (its catalog_at (record { tx = e.tx; request = whole X }) g.exclusive) ∙ m_own in cc) };
     carried = each_open seats j t p.x o y q goes (λ n z u. u.end ≡ unfixed → IsCarried st.catalog.defs m.tables (script_end v m.tables z u).state.tables) (λ e. absurd (not_open e))
         (λ n z u ne w e. inr (subst (λ (U : Tables). defs_of (script_end v U z u).state.tables ≡ defs_of U) (sym tables_are)
         (undone_end v cells seats st j p.x o has open_end no_count none_alone n z u ne w e left (sound_left v cells seats st j p.x o has open_end no_count none_alone n z u ne w e)).0));
@@ -596,29 +596,29 @@ module _ (v : Server) (cells : List Cell) (seats : List SeatState) {history : Hi
 
   -- ---- the history
 
-  pub record AgreesAt (ls : List Line) (deeds : List SessionAct) (us : List SeatState) : Type 0 where
+  pub record AgreesAt (ls : List Line) (anonymous_acts : List SessionAct) (us : List SeatState) : Type 0 where
     pub session : ℕ
-    pub agree : TranscriptsAgree v (history ++ map (by session) deeds) (with_item entry (Tx o.id p.x.transcript.session time o.opened ls) ledger) us
+    pub agree : TranscriptsAgree v (history ++ map (by session) anonymous_acts) (with_item entry (Tx o.id p.x.transcript.session time o.explicit ls) ledger) us
     pub own : agree.owner session ≡ j
 
   abbrev Agrees : Type 0
   Agrees = AgreesAt lines (commit_acts p.x time place) after
 
-  at_history : (n : ℕ) (deeds : List SessionAct) (ls : List Line) (us : List SeatState) → Owned v (history ++ map (by n) deeds) (with_item entry (Tx o.id p.x.transcript.session time o.opened ls) ledger) us n j → AgreesAt ls deeds us
-  at_history n deeds ls us a = record { session = n; agree = a.0; own = a.1 }
+  at_history : (n : ℕ) (anonymous_acts : List SessionAct) (ls : List Line) (us : List SeatState) → Owned v (history ++ map (by n) anonymous_acts) (with_item entry (Tx o.id p.x.transcript.session time o.explicit ls) ledger) us n j → AgreesAt ls anonymous_acts us
+  at_history n anonymous_acts ls us a = record { session = n; agree = a.0; own = a.1 }
 
   abbrev right_with : List Line → Type 0
-  right_with ls = AgreesWith v.reads T o.id o.opened ls (script v.reads o.opened T o.id (map (λ l. l.0) ls))
+  right_with ls = AgreesWith v.reads T o.id o.explicit ls (script v.reads o.explicit T o.id (map (λ l. l.0) ls))
 
   right : right_with lines
   right = (next_item v cells seats st j s there p o open_one open_end r commits acts p.x.transcript.session time).0
 
-  nobody_wants : (i : ℕ) (z : Session) (u : OpenTransaction) → i ≢ j → HasOpen seats i z u → u.end ≡ unfixed → Each (λ t. v.meaning.wants u.opened t ≡ false) (texts_so_far z u)
-  nobody_wants i z u ne w e = each_map (λ l. l.0) (λ t. v.meaning.wants u.opened t ≡ false) (script_so_far z u)
-      (each_weaker (λ (l : Line). (text_wants (defs_of T) u.opened (v.reads l.0)).catalog ≡ None) (λ (l : Line). v.meaning.wants u.opened l.0 ≡ false)
-      (λ l f. v.real.wants u.opened l.0 ∙ ap is_some (sym (same_want (defs_of T) u.opened (v.reads l.0)) ∙ f)) (script_so_far z u) (wants_none i z u ne w (unreleased_so i z u w e)))
+  nobody_requests : (i : ℕ) (z : Session) (u : OpenTransaction) → i ≢ j → HasOpen seats i z u → u.end ≡ unfixed → Each (λ t. v.meaning.requests u.explicit t ≡ false) (texts_so_far z u)
+  nobody_requests i z u ne w e = each_map (λ l. l.0) (λ t. v.meaning.requests u.explicit t ≡ false) (script_so_far z u)
+      (each_weaker (λ (l : Line). (text_requests (defs_of T) u.explicit (v.reads l.0)).catalog ≡ None) (λ (l : Line). v.meaning.requests u.explicit l.0 ≡ false)
+      (λ l f. v.real.requests u.explicit l.0 ∙ ap is_some (sym (same_request (defs_of T) u.explicit (v.reads l.0)) ∙ f)) (script_so_far z u) (requests_none i z u ne w (unreleased_so i z u w e)))
 
-  module _ (w : Text) (stage : Stage) (at : p.x.place ≡ inside p.text stage) (last : last_line p.text stage ≡ (p.text, w) ∷ [])
+  module _ (w : Text) (stage : StatementProgress) (at : p.x.place ≡ inside p.text stage) (last : last_line p.text stage ≡ (p.text, w) ∷ [])
       (goes_so : GoesFrom v.meaning p.x (at_place (Some (saying (p.text, w) o)) (inside p.text (answering r None)) p.x) (said (p.text, w) ∷ [])) where
     abbrev line : Line
     line = (p.text, w)
@@ -653,8 +653,8 @@ module _ (v : Server) (cells : List Cell) (seats : List SeatState) {history : Hi
     abbrev has1 : HasOpen seats1 j x1 (saying line o)
     has1 = record { seat = s1; there = there1; role = refl; open_one = refl }
 
-    nobody_wants1 : (i : ℕ) (z : Session) (u : OpenTransaction) → i ≢ j → HasOpen seats1 i z u → u.end ≡ unfixed → Each (λ t. v.meaning.wants u.opened t ≡ false) (texts_so_far z u)
-    nobody_wants1 i z u ne k e = nobody_wants i z u ne (⊎_elim (λ (f : (i ≡ j) × Own s1 z u). absurd (ne f.0)) (λ (f : (i ≢ j) × HasOpen seats i z u). f.1) (was_open seats j s s1 there i z u k)) e
+    nobody_wants1 : (i : ℕ) (z : Session) (u : OpenTransaction) → i ≢ j → HasOpen seats1 i z u → u.end ≡ unfixed → Each (λ t. v.meaning.requests u.explicit t ≡ false) (texts_so_far z u)
+    nobody_wants1 i z u ne k e = nobody_requests i z u ne (⊎_elim (λ (f : (i ≡ j) × Own s1 z u). absurd (ne f.0)) (λ (f : (i ≢ j) × HasOpen seats i z u). f.1) (was_open seats j s s1 there i z u k)) e
 
     by_line : Agrees
     by_line = subst₂ (λ (ls : List Line) (us : List SeatState). AgreesAt ls (commit_acts p.x time place) us) (sym all_lines) (set_again seats j s1 t1 ∙ ap (λ (ls : List Line). slice_set seats j (seat_with ls)) (sym all_lines))
@@ -666,21 +666,21 @@ module _ (v : Server) (cells : List Cell) (seats : List SeatState) {history : Hi
         (from_at v.meaning x1 y1 (inside p.text (answering r None)) (Some (saying line o)) (placed place ∷ []) refl refl refl (λ n i f. at_own_end v.meaning n p.text r None (saying line o) (committed place) (o.script ++ line ∷ []) own open_end tt f))
         (subst right_with all_lines right) (inr (none_wanting v (history ++ by said_it.session (act.says line) ∷ []) ledger seats1 said_it.agree j x1 (saying line o) has1 nobody_wants1)) said_it.session said_it.now))))
 
-  own_fits : (n : ℕ) (stage : Stage) → Fits v.meaning n (inside p.text stage) (Some o) → FitsWith v.meaning false n p.text stage o.id o.end
+  own_fits : (n : ℕ) (stage : StatementProgress) → Fits v.meaning n (inside p.text stage) (Some o) → FitsWith v.meaning false n p.text stage o.id o.end
   own_fits n stage f = fits_if v.meaning n p.text stage o false own f
 
-  by_stage : (opened : Bool) → o.opened ≡ opened → (d : Stmt) → creates d ≡ true → (stage : Stage) → Commits opened d stage r → p.x.place ≡ inside p.text stage → Agrees
-  by_stage true opened stmt.Commit e begun f at = cc
-  by_stage false opened d e (replied b) f at = by_line (reply_text b) (replied b) at refl
+  by_stage : (explicit : Bool) → o.explicit ≡ explicit → (d : Stmt) → creates d ≡ true → (stage : StatementProgress) → Commits explicit d stage r → p.x.place ≡ inside p.text stage → Agrees
+  by_stage true explicit stmt.Commit e begun f at = cc
+  by_stage false explicit d e (replied b) f at = by_line (reply_text b) (replied b) at refl
       (from_at v.meaning p.x _ (inside p.text (replied b)) (Some o) (said (p.text, reply_text b) ∷ []) at open_one refl (λ n i z. let g = own_fits n (replied b) z in
       at_said v.meaning n p.text r o (replied b) (reply_text b) own (v.real.writes r ∙ ap reply_text f) refl refl open_end g.0 (subst (FitsOwn v.meaning n p.text) (sym f) g.1.0) (subst (IsSaid v.meaning p.text) (sym f) g.1.1)))
-  by_stage false opened d e (made def true) f at = by_line (reply_text reply.Made) (made def true) at refl
+  by_stage false explicit d e (made def true) f at = by_line (reply_text reply.Made) (made def true) at refl
       (from_at v.meaning p.x _ (inside p.text (made def true)) (Some o) (said (p.text, reply_text reply.Made) ∷ []) at open_one refl (λ n i z. let g = own_fits n (made def true) z in
       at_said v.meaning n p.text r o (made def true) (reply_text reply.Made) own (v.real.writes r ∙ ap reply_text f) refl refl open_end g.0 (subst (FitsOwn v.meaning n p.text) (sym f) (made_fits v.meaning n p.text o.end g.0)) (subst (IsSaid v.meaning p.text) (sym f) refl)))
-  by_stage opened h d e stage f at = absurd f
+  by_stage explicit h d e stage f at = absurd f
 
   agrees : Agrees
-  agrees = by_stage o.opened refl p.stmt creating p.stage commits p.place
+  agrees = by_stage o.explicit refl p.stmt creating p.stage commits p.place
 
   -- ---- all
 
@@ -715,7 +715,7 @@ every_commit_stands v cells seats {history} st j s there time c d t here visit =
     from : (e : LedgerCell) → e ≡ st.ledger → (w : CommitsNow v time e s d t) → creates w.stands.stmt ≡ true → StandsAfter v j history (commit_acts w.stands.x time (tx_count e.items + 1)) (slice_set cells ledger_at (Ledger d)) (slice_set seats j t)
     from e is w f = subst (λ (l : LedgerCell). StandsAfter v j history (commit_acts w.stands.x time (tx_count l.items + 1)) (slice_set cells ledger_at (Ledger d)) (slice_set seats j t)) (sym is)
         (subst₂ (λ (l : LedgerCell) (u : SeatState). StandsAfter v j history (commit_acts w.stands.x time (tx_count st.ledger.items + 1)) (slice_set cells ledger_at (Ledger l)) (slice_set seats j u))
-        (ap (with_item (entry_of_trees v w.o w.stands.x.transcript.session time) (Tx w.o.id w.stands.x.transcript.session time w.o.opened (script_so_far w.stands.x w.o))) (sym is) ∙ sym w.cell)
+        (ap (with_item (entry_of_trees v w.o w.stands.x.transcript.session time) (Tx w.o.id w.stands.x.transcript.session time w.o.explicit (script_so_far w.stands.x w.o))) (sym is) ∙ sym w.cell)
         (ap (λ (l : LedgerCell). marking (tx_count l.items + 1) (sits s (at_moment time (at_place (Some (ending (committed (tx_count l.items + 1)) (script_so_far w.stands.x w.o) w.o)) (inside w.stands.text (answering w.reply None)) w.stands.x)))) (sym is) ∙ sym w.seat)
         (create_commits v cells seats st j s there w.stands w.o w.open_one w.unfixed w.reply w.commits w.acts time f))
 

@@ -2,41 +2,41 @@
 use Rattle.std.proofs.Common.{◌≡◌, ◌≢◌, ℕ, ◌+◌, ◌<◌, ◌≤◌, ◌⊎◌, List, [], ◌∷◌, ◌++◌, map, length, flat_map, Option, Some, None, slice_set, refl, sym, ap, ◌∙◌, subst, inl, inr, ⊎_elim, append-nil, arith}
 use mathlib.Core.Option.{some}
 use lib.ListN.{get_elem?}
-use Rattle.lg_types.specs.declared.journal.JournalItem.{JournalItem}
-use Rattle.lg_types.specs.declared.journal.JournalItem.TheVariants.{Tx}
-use Rattle.lg_types.specs.declared.reply.Reply.{Reply}
-use Rattle.lg_model.specs.Catalog.{Tables, defs_of}
-use Rattle.lg_model.specs.Events.{all_events}
-use Rattle.lg_model.specs.Journals.{tx_count, serial, AgreesWith}
-use Rattle.lg_model.specs.Script.{script}
-use Rattle.lg_history.specs.Lists.{Text, Each, In}
-use Rattle.lg_history.specs.Serial.{texts_of, replies_of, ScriptReplays}
-use Rattle.lg_history.specs.Serial as whole
-use Rattle.lg_history.specs.Facts.{placed}
+use Rattle.sql_types.specs.declared.journal.JournalItem.{JournalItem}
+use Rattle.sql_types.specs.declared.journal.JournalItem.TheVariants.{Tx}
+use Rattle.sql_types.specs.declared.reply.Reply.{Reply}
+use Rattle.spec_model.specs.Catalog.{Tables, defs_of}
+use Rattle.spec_model.specs.Events.{all_events}
+use Rattle.spec_model.specs.Journals.{tx_count, serial, AgreesWith}
+use Rattle.spec_model.specs.Script.{script}
+use Rattle.spec_history.specs.Lists.{Text, Each, In}
+use Rattle.spec_history.specs.Serial.{texts_of, replies_of, ScriptReplays}
+use Rattle.spec_history.specs.Serial as whole
+use Rattle.spec_history.specs.Facts.{placed}
 use Rattle.law_protocol_steps.proofs.TranscriptActs.{GoesFrom, goes_on}
 use Rattle.law_protocol_steps.proofs.Heard.{heard_still}
-use Rattle.lg_history.specs.Transactions.{unfixed, committed, on_some}
-use Rattle.lg_history.specs.Transcripts.{Transcript}
-use Rattle.lg_history.specs.Journals.{times}
-use Rattle.lg_history.specs.Acts.{commits, Act, by}
-use Rattle.lg_history.specs.Sessions.{SessionTransaction, SessionState, fixes, acted}
-use Rattle.lg_history.specs.Worlds.{first, run, item_of, tables}
-use Rattle.lg_history.specs.Guards.{Commits, NoTable}
-use Rattle.lg_history.proofs.Settles.{in_append, in_left, in_right}
-use Rattle.lg_history.proofs.Trace.{count_append}
-use Rattle.lg_standing.specs.Server.{Server}
-use Rattle.lg_standing.specs.Cells.{LedgerCell}
-use Rattle.lg_standing.specs.Seats.{OpenTransaction, answering, inside, Session, Written, Role, session, SeatState}
-use Rattle.lg_standing.specs.OpenOnes.{text_at}
-use Rattle.lg_standing.specs.Moves.{ending, at_place, at_moment, sits, marking}
-use Rattle.lg_standing.specs.LedgerVisits.{with_item, entry_of_trees}
-use Rattle.lg_standing.specs.Parts.{asking, AreTransactions, IsNow}
-use Rattle.lg_standing.specs.TranscriptsAgree.{session_moments, moments_of, TranscriptsAgree}
+use Rattle.spec_history.specs.Transactions.{unfixed, committed, on_some}
+use Rattle.spec_history.specs.Transcripts.{Transcript}
+use Rattle.spec_history.specs.Journals.{times}
+use Rattle.spec_history.specs.Acts.{commits, Act, by}
+use Rattle.spec_history.specs.Sessions.{SessionTransaction, SessionState, fixes, acted}
+use Rattle.spec_history.specs.Worlds.{first, run, item_of, tables}
+use Rattle.spec_history.specs.Guards.{Commits, NoTable}
+use Rattle.spec_history.proofs.Settles.{in_append, in_left, in_right}
+use Rattle.spec_history.proofs.Trace.{count_append}
+use Rattle.spec_protocol.specs.Server.{Server}
+use Rattle.spec_protocol.specs.Cells.{LedgerCell}
+use Rattle.spec_protocol.specs.Seats.{OpenTransaction, answering, inside, Session, Written, Role, session, SeatState}
+use Rattle.spec_protocol.specs.OpenOnes.{text_at}
+use Rattle.spec_protocol.specs.Moves.{ending, at_place, at_moment, sits, marking}
+use Rattle.spec_protocol.specs.LedgerVisits.{with_item, entry_of_trees}
+use Rattle.spec_protocol.specs.Parts.{asking, AreTransactions, IsNow}
+use Rattle.spec_protocol.specs.TranscriptsAgree.{session_moments, moments_of, TranscriptsAgree}
 use Rattle.law_protocol_steps.proofs.Ids.{InTransaction, in_transaction}
 use Rattle.law_protocol_steps.proofs.JournalMore.{same_serial}
 use Rattle.law_protocol_steps.proofs.OneMore.{Acts, agrees_then, agrees_owner, images_stay_each}
 use Rattle.law_protocol_steps.proofs.GoesOn.{Owned, one_number}
-use Rattle.lg_types.specs.declared.entry.TxEntry.{TxEntry}
+use Rattle.sql_types.specs.declared.entry.TxEntry.{TxEntry}
 
 some_there : {A : Type 0} (xs : List A) → xs ≢ [] → 0 < length xs
 some_there [] e = absurd (e refl)
@@ -58,7 +58,7 @@ module _ (v : Server) (c : LedgerCell) (seats : List SeatState) (h : List Act) (
   entry = entry_of_trees v o x.transcript.session time
 
   abbrev item : JournalItem
-  item = Tx o.id x.transcript.session time o.opened o.script
+  item = Tx o.id x.transcript.session time o.explicit o.script
 
   abbrev y : Session
   y = at_moment time (at_place (Some (ending (committed place) o.script o)) (inside text (answering reply None)) x)
@@ -83,16 +83,16 @@ module _ (v : Server) (c : LedgerCell) (seats : List SeatState) (h : List Act) (
   texts_are = ap texts_of d.is.script
 
   abbrev After : Tables
-  After = (script v.reads o.opened T o.id texts).state.tables
+  After = (script v.reads o.explicit T o.id texts).state.tables
 
-  after_is : v.meaning.after d.transaction.opened (tables v.meaning (run first h)) d.transaction.id (texts_of d.transaction.script) ≡ After
-  after_is = (λ i. v.meaning.after (d.is.opened i) (tables_are i) (d.is.id i) (texts_are i)) ∙ v.real.after o.opened T o.id texts
+  after_is : v.meaning.after d.transaction.explicit (tables v.meaning (run first h)) d.transaction.id (texts_of d.transaction.script) ≡ After
+  after_is = (λ i. v.meaning.after (d.is.explicit i) (tables_are i) (d.is.id i) (texts_are i)) ∙ v.real.after o.explicit T o.id texts
 
-  module _ (right : AgreesWith v.reads T o.id o.opened o.script (script v.reads o.opened T o.id texts)) where
-    agrees : ScriptReplays v.meaning (tables v.meaning (run first h)) d.transaction.id d.transaction.opened d.transaction.script
+  module _ (right : AgreesWith v.reads T o.id o.explicit o.script (script v.reads o.explicit T o.id texts)) where
+    agrees : ScriptReplays v.meaning (tables v.meaning (run first h)) d.transaction.id d.transaction.explicit d.transaction.script
     agrees = record {
-      replies = ap replies_of d.is.script ∙ right.replies ∙ sym (v.real.replies o.opened T o.id texts) ∙ sym (λ i. v.meaning.replies (d.is.opened i) (tables_are i) (d.is.id i) (texts_are i));
-      acts = let e : v.meaning.events d.transaction.opened (tables v.meaning (run first h)) d.transaction.id (texts_of d.transaction.script) ≡ length (all_events o.id After) = (λ i. v.meaning.events (d.is.opened i) (tables_are i) (d.is.id i) (texts_are i)) ∙ v.real.events o.opened T o.id texts in
+      replies = ap replies_of d.is.script ∙ right.replies ∙ sym (v.real.replies o.explicit T o.id texts) ∙ sym (λ i. v.meaning.replies (d.is.explicit i) (tables_are i) (d.is.id i) (texts_are i));
+      acts = let e : v.meaning.events d.transaction.explicit (tables v.meaning (run first h)) d.transaction.id (texts_of d.transaction.script) ≡ length (all_events o.id After) = (λ i. v.meaning.events (d.is.explicit i) (tables_are i) (d.is.id i) (texts_are i)) ∙ v.real.events o.explicit T o.id texts in
           omega (arith, e, some_there (all_events o.id After) right.events);
     }
 
@@ -111,7 +111,7 @@ module _ (v : Server) (c : LedgerCell) (seats : List SeatState) (h : List Act) (
       name_is = ap (λ (z : Transcript). z.session) d.runs.now.transcript
 
       items_are : item_of sess sess.transaction time ≡ item ∷ []
-      items_are = ap (λ (z : Option SessionTransaction). item_of sess z time) d.has ∙ (λ i. Tx (d.is.id i) (name_is i) time (d.is.opened i) (d.is.script i) ∷ [])
+      items_are = ap (λ (z : Option SessionTransaction). item_of sess z time) d.has ∙ (λ i. Tx (d.is.id i) (name_is i) time (d.is.explicit i) (d.is.script i) ∷ [])
 
       transaction_then : IsNow v.meaning (acted sess (commits time place)) y
       transaction_then = record {
@@ -119,7 +119,7 @@ module _ (v : Server) (c : LedgerCell) (seats : List SeatState) (h : List Act) (
         transcript = d.runs.now.transcript;
         under = d.runs.now.under ∙ stands;
         open_one = subst (λ (z : Option SessionTransaction). AreTransactions (on_some (fixes (committed place)) z) y y.open_one) (sym d.has)
-            (record { id = d.is.id; opened = d.is.opened; script = d.is.script; end = refl; asked = λ e. let f : committed place ≡ unfixed = e in cc; heard = heard_still x.place y.place d.transaction.answered d.transaction.asked none_asked d.is.heard });
+            (record { id = d.is.id; explicit = d.is.explicit; script = d.is.script; end = refl; asked = λ e. let f : committed place ≡ unfixed = e in cc; heard = heard_still x.place y.place d.transaction.answered d.transaction.asked none_asked d.is.heard });
         so_far = goes_on v.meaning sess.so_far (acted sess (commits time place)).so_far x y (placed place ∷ []) refl refl d.runs.now.so_far goes;
       }
 

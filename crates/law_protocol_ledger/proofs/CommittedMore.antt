@@ -2,20 +2,20 @@
 use Rattle.std.proofs.Common.{◌≡◌, ◌≢◌, ℕ, refl, sym, ap, ◌∙◌, subst, inl, inr, ⊎_elim, not, Bool, true, false, List, [], ◌∷◌, map, Option, Some, None}
 use Rattle.std.proofs.lemmas.Bool.{eq-eqb, ne_eqb, or_parts, or_left, or_right}
 use Rattle.std.specs.Prelude.{◌==◌, ◌&&◌, ◌||◌, nat_le, if◌then◌else◌}
-use Rattle.lg_model.specs.Rows.{EventId, same_event, start_cmp}
-use Rattle.lg_model.specs.Touched.{ends_by, is_touched, touched}
-use Rattle.lg_model.specs.Undo.{is_undone, end_left, end_undone, versions_undone}
-use Rattle.lg_frames.proofs.Alls.{all_filter}
-use Rattle.lg_frames.proofs.ByTest.{by_test}
-use Rattle.lg_frames.proofs.SameKeys.{IsAlone, each_alone}
-use Rattle.lg_frames.proofs.SameTouched.{filter_both, rising_filter}
-use Rattle.lg_history.specs.Lists.{Each, In}
-use Rattle.lg_history.proofs.Trace.{each_weaker}
-use Rattle.lg_standing.specs.Committed.{end_committed, with_committed_end, committed}
+use Rattle.spec_model.specs.Rows.{EventId, same_event, start_cmp}
+use Rattle.spec_model.specs.Touched.{ends_by, is_touched, touched}
+use Rattle.spec_model.specs.Undo.{is_undone, end_left, end_undone, versions_undone}
+use Rattle.law_frame.proofs.Alls.{all_filter}
+use Rattle.law_frame.proofs.ByTest.{by_test}
+use Rattle.law_frame.proofs.SameKeys.{IsAlone, each_alone}
+use Rattle.law_frame.proofs.SameTouched.{filter_both, rising_filter}
+use Rattle.spec_history.specs.Lists.{Each, In}
+use Rattle.spec_history.proofs.Trace.{each_weaker}
+use Rattle.spec_protocol.specs.CommittedTxs.{end_committed, with_committed_end, committed}
 use Rattle.std.specs.List.{AllByRecursion, filter, list_any}
 use Rattle.std.specs.declared.cmp.Ordering.TheVariants.{Less}
-use Rattle.lg_types.specs.declared.version.Version.{Version}
-use Rattle.lg_model.specs.Runs.{Rising}
+use Rattle.sql_types.specs.declared.version.Version.{Version}
+use Rattle.spec_model.specs.Runs.{Rising}
 
 -- ---- lists
 

@@ -1,31 +1,31 @@
 -- The tables after a CREATE: the definitions are those of its plan, and the versions of the tables of users stay.
-use Rattle.lg_standing.specs.LocksCover.{IsRepliedTo}
-use Rattle.lg_types.specs.declared.statement.Stmt.TheVariants as st
-use Rattle.lg_model.specs.Plans.{Definition, as_before, new, in_place, plan, defined, changed_from, index_plan, table_plan}
+use Rattle.spec_protocol.specs.LocksCover.{IsRepliedTo}
+use Rattle.sql_types.specs.declared.statement.Stmt.TheVariants as st
+use Rattle.spec_model.specs.ChangeSets.{Definition, as_before, new, in_place, change_set, defined, changed_from, create_index_change_set, create_table_change_set}
 use Rattle.std.proofs.Common.{Bool, Err, None, Ok, Option, Some, [], ap, false, refl, sym, true, ℕ, ◌++◌, ◌∙◌, ◌∷◌, ◌≡◌, ◌≢◌}
-use Rattle.lg_model.specs.Refusals.{Checked}
-use Rattle.lg_model.specs.Catalog.{Defs, Tables, defs_of, versions_of}
-use Rattle.lg_types.specs.declared.table.IndexDef.{IndexDef}
-use Rattle.lg_standing.specs.Server.{Server}
-use Rattle.lg_model.specs.Script.{State, Step, by_statement, script, start}
-use Rattle.lg_types.specs.declared.statement.Stmt.{Stmt}
-use Rattle.lg_types.specs.declared.table.TableDef.{TableDef}
-use Rattle.lg_history.specs.Lists.{Text}
-use Rattle.lg_standing.specs.Cells.{catalog_at, cell_of}
-use Rattle.lg_model.specs.Locks.{catalog_want, cell_wants}
+use Rattle.spec_model.specs.Refusals.{Checked}
+use Rattle.spec_model.specs.Catalog.{Defs, Tables, defs_of, versions_of}
+use Rattle.sql_types.specs.declared.table.IndexDef.{IndexDef}
+use Rattle.spec_protocol.specs.Server.{Server}
+use Rattle.spec_model.specs.Script.{State, Step, by_statement, script, start}
+use Rattle.sql_types.specs.declared.statement.Stmt.{Stmt}
+use Rattle.sql_types.specs.declared.table.TableDef.{TableDef}
+use Rattle.spec_history.specs.Lists.{Text}
+use Rattle.spec_protocol.specs.Cells.{catalog_at, cell_of}
+use Rattle.spec_model.specs.Locks.{catalog_request, cell_requests}
 use Rattle.law_protocol_steps.proofs.NewLine.{changed_else}
-use Rattle.lg_frames.proofs.Definitions.{changes_keep_defs}
-use Rattle.lg_model.specs.Create.{create_check, index_check, with_index}
-use Rattle.lg_invariants.proofs.Created.{created}
-use Rattle.lg_model.specs.Reach.{creates}
-use Rattle.lg_invariants.proofs.DefLists.{defs_append, defs_redefined, redef}
-use Rattle.lg_model.specs.Effect.{effect, index_effect, table_effect}
-use Rattle.lg_frames.proofs.AtTable.{new_table, redefined_table}
+use Rattle.law_frame.proofs.Definitions.{changes_keep_defs}
+use Rattle.spec_model.specs.Create.{create_check, index_check, with_index}
+use Rattle.law_journal.proofs.Created.{created}
+use Rattle.spec_model.specs.Reach.{creates}
+use Rattle.law_journal.proofs.DefLists.{defs_append, defs_redefined, redef}
+use Rattle.spec_model.specs.Effect.{effect, index_effect, table_effect}
+use Rattle.law_frame.proofs.AtTable.{new_table, redefined_table}
 use Rattle.law_protocol_changes.proofs.CreateVisits.{not_columns, not_tables}
 use Rattle.law_protocol_changes.proofs.Creating.{one_text, step_is}
-use Rattle.lg_frames.proofs.Plans.{planned}
-use Rattle.lg_model.specs.ScriptWants.{text_wants}
-use Rattle.lg_history.specs.Real.{wants_catalog}
+use Rattle.law_frame.proofs.ChangeSets.{carries_change_set_out}
+use Rattle.spec_model.specs.ScriptRequests.{text_requests}
+use Rattle.spec_history.specs.Real.{requests_catalog}
 
 -- a definition depends on the definitions alone
 same_defined : (d : Definition) (U T : Tables) → defs_of U ≡ defs_of T → defs_of (defined d U) ≡ defs_of (defined d T)
@@ -33,8 +33,8 @@ same_defined as_before U T e = e
 same_defined (new def) U T e = defs_append U (record { def = def; versions = [] }) ∙ ap (λ (ds : Defs). ds ++ def ∷ []) e ∙ sym (defs_append T (record { def = def; versions = [] }))
 same_defined (in_place def) U T e = defs_redefined def U ∙ ap (redef def) e ∙ sym (defs_redefined def T)
 
-pub effect_defs : (T : Tables) (tx seq : ℕ) (stmt : Stmt) → defs_of (effect T tx seq stmt).tables ≡ defs_of (defined (plan T stmt).definition T)
-effect_defs T tx seq stmt = ap (λ e. defs_of e.tables) (planned T tx seq stmt) ∙ same_defined (plan T stmt).definition (changed_from tx seq (plan T stmt).changes T) T (changes_keep_defs tx seq (plan T stmt).changes T)
+pub effect_defs : (T : Tables) (tx seq : ℕ) (stmt : Stmt) → defs_of (effect T tx seq stmt).tables ≡ defs_of (defined (change_set T stmt).definition T)
+effect_defs T tx seq stmt = ap (λ e. defs_of e.tables) (carries_change_set_out T tx seq stmt) ∙ same_defined (change_set T stmt).definition (changed_from tx seq (change_set T stmt).changes T) T (changes_keep_defs tx seq (change_set T stmt).changes T)
 
 table_users : (T : Tables) (tx seq : ℕ) (m : Checked TableDef) (id : ℕ) → cell_of id ≢ catalog_at → versions_of (table_effect T tx seq m).tables id ≡ versions_of T id
 table_users T tx seq (Ok def) id ne = new_table def id _ ∙ changed_else 2 id _ _ (not_columns id ne) ∙ changed_else 1 id _ T (not_tables id ne)
@@ -62,56 +62,56 @@ created_tables v tx T text stmt is e = ap (λ (q : State). q.tables) (one_text v
 -- ---- what the definitions are
 
 pub data Makes (T : Tables) (stmt : Stmt) : Type 0 where
-  makes_none : (plan T stmt).definition ≡ as_before → Makes T stmt
-  makes_table : (def : TableDef) → def.indexes ≡ [] → (plan T stmt).definition ≡ new def → Makes T stmt
-  makes_index : (def : TableDef) → (plan T stmt).definition ≡ in_place def → Makes T stmt
+  makes_none : (change_set T stmt).definition ≡ as_before → Makes T stmt
+  makes_table : (def : TableDef) → def.indexes ≡ [] → (change_set T stmt).definition ≡ new def → Makes T stmt
+  makes_index : (def : TableDef) → (change_set T stmt).definition ≡ in_place def → Makes T stmt
 
 pub made_by : (T : Tables) (stmt : Stmt) → creates stmt ≡ true → Makes T stmt
-unfolding plan
+unfolding change_set
 made_by T (st.Create c) e = by (create_check (defs_of T) c) refl
   where
     by : (m : Checked TableDef) → create_check (defs_of T) c ≡ m → Makes T (st.Create c)
-    by (Ok def) f = makes_table def (created (defs_of T) c def f).indexes (ap (λ m. (table_plan m).definition) f)
-    by (Err r) f = makes_none (ap (λ m. (table_plan m).definition) f)
+    by (Ok def) f = makes_table def (created (defs_of T) c def f).indexes (ap (λ m. (create_table_change_set m).definition) f)
+    by (Err r) f = makes_none (ap (λ m. (create_table_change_set m).definition) f)
 made_by T (st.Index c) e = by (index_check (defs_of T) c) refl
   where
     by : (m : Checked (TableDef × IndexDef)) → index_check (defs_of T) c ≡ m → Makes T (st.Index c)
-    by (Ok x) f = makes_index (with_index x.0 x.1) (ap (λ m. (index_plan m).definition) f)
-    by (Err r) f = makes_none (ap (λ m. (index_plan m).definition) f)
+    by (Ok x) f = makes_index (with_index x.0 x.1) (ap (λ m. (create_index_change_set m).definition) f)
+    by (Err r) f = makes_none (ap (λ m. (create_index_change_set m).definition) f)
 made_by T stmt e = cc
 
 -- ---- what wants nothing in the catalog wants nothing
 
-pub same_want : (defs : Defs) (o : Bool) (q : Option Stmt) → (text_wants defs o q).catalog ≡ wants_catalog o q
-same_want defs o None = refl
-same_want defs o (Some stmt) = refl
+pub same_request : (defs : Defs) (o : Bool) (q : Option Stmt) → (text_requests defs o q).catalog ≡ requests_catalog o q
+same_request defs o None = refl
+same_request defs o (Some stmt) = refl
 
-no_want : (defs : Defs) (o : Bool) (stmt : Stmt) → catalog_want o stmt ≡ None → cell_wants defs stmt ≡ None
-unfolding cell_wants
-no_want defs o (st.Create c) e = refl
-no_want defs o (st.Index c) e = refl
-no_want defs true (st.Change row) e = cc
-no_want defs false (st.Change row) e = cc
-no_want defs true (st.Select q) e = cc
-no_want defs false (st.Select q) e = cc
-no_want defs o st.Begin e = refl
-no_want defs o st.Commit e = refl
-no_want defs o (st.Save name) e = refl
-no_want defs o (st.Rollback name) e = refl
-no_want defs o st.Digest e = refl
-no_want defs o st.Image e = refl
+no_request : (defs : Defs) (o : Bool) (stmt : Stmt) → catalog_request o stmt ≡ None → cell_requests defs stmt ≡ None
+unfolding cell_requests
+no_request defs o (st.Create c) e = refl
+no_request defs o (st.Index c) e = refl
+no_request defs true (st.Change row) e = cc
+no_request defs false (st.Change row) e = cc
+no_request defs true (st.Select q) e = cc
+no_request defs false (st.Select q) e = cc
+no_request defs o st.Begin e = refl
+no_request defs o st.Commit e = refl
+no_request defs o (st.Save name) e = refl
+no_request defs o (st.Rollback name) e = refl
+no_request defs o st.Digest e = refl
+no_request defs o st.Image e = refl
 
-pub no_wants : (D E : Defs) (o : Bool) (q : Option Stmt) → (text_wants D o q).catalog ≡ None → ((text_wants E o q).catalog ≡ None) × ((text_wants E o q).cell ≡ None)
-no_wants D E o None e = (refl, refl)
-no_wants D E o (Some stmt) e = (e, no_want E o stmt e)
+pub no_requests : (D E : Defs) (o : Bool) (q : Option Stmt) → (text_requests D o q).catalog ≡ None → ((text_requests E o q).catalog ≡ None) × ((text_requests E o q).cell ≡ None)
+no_requests D E o None e = (refl, refl)
+no_requests D E o (Some stmt) e = (e, no_request E o stmt e)
 
 -- what makes an index isn't replied to before it is added
-pub index_later : (T : Tables) (stmt : Stmt) (def : TableDef) → creates stmt ≡ true → IsRepliedTo T (Some stmt) → (plan T stmt).definition ≡ in_place def → ⊥
-unfolding plan
+pub index_later : (T : Tables) (stmt : Stmt) (def : TableDef) → creates stmt ≡ true → IsRepliedTo T (Some stmt) → (change_set T stmt).definition ≡ in_place def → ⊥
+unfolding change_set
 index_later T (st.Index c) def e g h = let z : as_before ≡ in_place def = sym g ∙ h in cc
 index_later T (st.Create c) def e g h = by (create_check (defs_of T) c) h
   where
-    by : (m : Checked TableDef) → (table_plan m).definition ≡ in_place def → ⊥
+    by : (m : Checked TableDef) → (create_table_change_set m).definition ≡ in_place def → ⊥
     by (Ok d) f = let z : new d ≡ in_place def = f in cc
     by (Err r) f = let z : as_before ≡ in_place def = f in cc
 index_later T stmt def e g h = cc

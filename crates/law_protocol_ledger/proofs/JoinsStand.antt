@@ -5,20 +5,20 @@ use Rattle.std.proofs.lemmas.Grind.{flat_map-append}
 use Rattle.std.specs.Prelude.{◌==◌, if◌then◌else◌}
 use mathlib.Core.Option.{some, some-injective}
 use lib.ListN.{get_elem?}
-use Rattle.lg_history.specs.Lists.{Each, In}
-use Rattle.lg_history.specs.Serial.{Differ}
-use Rattle.lg_history.specs.Transactions.{listed}
-use Rattle.lg_history.specs.Acts.{Act, of, marked}
-use Rattle.lg_history.proofs.Trace.{each_append, each_weaker}
-use Rattle.lg_standing.specs.Server.{Server}
-use Rattle.lg_standing.specs.Cells.{LedgerCell, Cell}
-use Rattle.lg_standing.specs.Contents.{contents, known}
-use Rattle.lg_standing.specs.OpenOnes.{HasOpen}
-use Rattle.lg_standing.specs.Parts.{Numbers, all_of, Past, Now}
-use Rattle.lg_standing.specs.Seats.{OpenTransaction, Session, Written, Role, idle, session, builder, SeatState, nobody, IsAtRest, may_end, joined}
-use Rattle.lg_standing.specs.StandTogether.{History, Stands}
-use Rattle.lg_standing.specs.TranscriptsAgree.{session_moments, moments_of, IsMoment, ImagesOfPast, MarksWithin, SeatAgrees, TranscriptsAgree}
-use Rattle.lg_standing.proofs.Places.{set_here, set_else}
+use Rattle.spec_history.specs.Lists.{Each, In}
+use Rattle.spec_history.specs.Serial.{Differ}
+use Rattle.spec_history.specs.Transactions.{listed}
+use Rattle.spec_history.specs.Acts.{Act, of, marked}
+use Rattle.spec_history.proofs.Trace.{each_append, each_weaker}
+use Rattle.spec_protocol.specs.Server.{Server}
+use Rattle.spec_protocol.specs.Cells.{LedgerCell, Cell}
+use Rattle.spec_protocol.specs.Contents.{contents, known}
+use Rattle.spec_protocol.specs.OpenOnes.{HasOpen}
+use Rattle.spec_protocol.specs.Parts.{Numbers, all_of, Past, Now}
+use Rattle.spec_protocol.specs.Seats.{OpenTransaction, Session, Written, Role, idle, session, builder, SeatState, nobody, IsAtRest, may_end, joined}
+use Rattle.spec_protocol.specs.StandTogether.{History, Stands}
+use Rattle.spec_protocol.specs.TranscriptsAgree.{session_moments, moments_of, IsMoment, ImagesOfPast, MarksWithin, SeatAgrees, TranscriptsAgree}
+use Rattle.spec_protocol.proofs.Places.{set_here, set_else}
 use Rattle.law_protocol_ledger.proofs.SameOpens.{tables_same, scripts_same, trees_same, agree_same, cover_same, rows_same}
 
 -- ---- lists

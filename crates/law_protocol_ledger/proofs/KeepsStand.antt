@@ -2,37 +2,37 @@
 use Rattle.std.proofs.Common.{◌≡◌, ℕ, ◌+◌, ◌≤◌, Bool, List, [], ◌∷◌, ◌++◌, flat_map, Some, None, slice_set, refl, sym, ap, ◌∙◌, subst, subst₂, append-nil, arith, length, map, take, ◌<◌}
 use mathlib.Core.Option.{some}
 use lib.ListN.{get_elem?}
-use Rattle.lg_value.specs.declared.refusal.Refusal.TheVariants.{E01, E13, E14, E16, E17}
-use Rattle.lg_types.specs.declared.journal.JournalItem.{JournalItem}
-use Rattle.lg_types.specs.declared.reply.Reply.TheVariants as reply
-use Rattle.lg_model.specs.Journals.{tx_count}
-use Rattle.lg_history.specs.Facts.{facts_outside, image}
-use Rattle.lg_history.specs.Transcripts.{kind_of, Kind, keep}
-use Rattle.lg_types.specs.declared.statement.Stmt.TheVariants as stmt
-use Rattle.lg_history.specs.Sessions.{acted}
-use Rattle.lg_standing.specs.Seats.{begun, KeptImage, Place}
+use Rattle.sql_value.specs.declared.refusal.Refusal.TheVariants.{SyntaxError, NoTransaction, AlreadyInTransaction, LimitExceeded, ForbiddenInTransaction}
+use Rattle.sql_types.specs.declared.journal.JournalItem.{JournalItem}
+use Rattle.sql_types.specs.declared.reply.Reply.TheVariants as reply
+use Rattle.spec_model.specs.Journals.{tx_count}
+use Rattle.spec_history.specs.Facts.{facts_outside, image}
+use Rattle.spec_history.specs.Transcripts.{kind_of, Kind, keep}
+use Rattle.sql_types.specs.declared.statement.Stmt.TheVariants as stmt
+use Rattle.spec_history.specs.Sessions.{acted}
+use Rattle.spec_protocol.specs.Seats.{begun, KeptImage, SessionStatus}
 use Rattle.law_protocol_steps.proofs.TranscriptActs.{goes_on, GoesFrom}
-use Rattle.lg_history.specs.Lists.{In}
-use Rattle.lg_history.specs.Acts.{keeps}
-use Rattle.lg_history.specs.Sessions.{SessionState}
-use Rattle.lg_history.specs.Worlds.{first, run}
-use Rattle.lg_history.proofs.Trace.{each_append}
-use Rattle.lg_standing.specs.Server.{Server, journal_image}
-use Rattle.lg_standing.specs.Cells.{LedgerCell, Cell, Ledger, ledger_at}
-use Rattle.lg_standing.specs.Contents.{contents, known}
-use Rattle.lg_standing.specs.Seats.{answering, inside, Session, Written, Role, SeatState}
-use Rattle.lg_standing.specs.Moves.{at_place, sits, marking, StandsIn, keeping}
-use Rattle.lg_standing.specs.OpenOnes.{text_at}
-use Rattle.lg_standing.specs.Parts.{AreTransactions}
-use Rattle.lg_standing.specs.TranscriptsAgree.{session_moments, moments_of, IsImage}
-use Rattle.lg_standing.specs.StandTogether.{History, Stands, StandsAfter}
+use Rattle.spec_history.specs.Lists.{In}
+use Rattle.spec_history.specs.Acts.{keeps}
+use Rattle.spec_history.specs.Sessions.{SessionState}
+use Rattle.spec_history.specs.Worlds.{first, run}
+use Rattle.spec_history.proofs.Trace.{each_append}
+use Rattle.spec_protocol.specs.Server.{Server, journal_image}
+use Rattle.spec_protocol.specs.Cells.{LedgerCell, Cell, Ledger, ledger_at}
+use Rattle.spec_protocol.specs.Contents.{contents, known}
+use Rattle.spec_protocol.specs.Seats.{answering, inside, Session, Written, Role, SeatState}
+use Rattle.spec_protocol.specs.Moves.{at_place, sits, marking, InStatement, keeping}
+use Rattle.spec_protocol.specs.OpenOnes.{text_at}
+use Rattle.spec_protocol.specs.Parts.{AreTransactions}
+use Rattle.spec_protocol.specs.TranscriptsAgree.{session_moments, moments_of, IsImage}
+use Rattle.spec_protocol.specs.StandTogether.{History, Stands, StandsAfter}
 use Rattle.law_protocol_steps.proofs.Ids.{Running, running}
 use Rattle.law_protocol_steps.proofs.LedgerVisit.{the_ledger}
 use Rattle.law_protocol_steps.proofs.OneMore.{Acts, agrees_then, agrees_owner}
 use Rattle.law_protocol_steps.proofs.OpenSeats.{owns_none}
-use Rattle.lg_history.specs.InPlace.{ComesAt}
-use Rattle.lg_standing.specs.TranscriptsSoFar.{FitsOutside, image_at, open_before, shown_at}
-use Rattle.lg_standing.specs.ImageVisits.{KeepsImage}
+use Rattle.spec_history.specs.InPlace.{ComesAt}
+use Rattle.spec_protocol.specs.TranscriptsSoFar.{FitsOutside, image_at, open_before, shown_at}
+use Rattle.spec_protocol.specs.ImageVisits.{KeepsImage}
 use Rattle.law_protocol_steps.proofs.AloneTurns.{alone_after}
 use Rattle.std.proofs.lemmas.Bool.{ne_eqb}
 use Rattle.law_protocol_steps.proofs.InPlaces.{never, outside}
@@ -50,7 +50,7 @@ length_end : (ks : List KeptImage) (k : KeptImage) → length (ks ++ k ∷ []) �
 length_end [] k = refl
 length_end (i ∷ is) k = omega (arith, length_end is k)
 
-module _ (v : Server) (cells : List Cell) (seats : List SeatState) {history : History} (st : Stands v history cells seats) (j : ℕ) (s : SeatState) (there : get_elem? seats j ≡ some s) (p : StandsIn v s) (free : p.x.open_one ≡ None) (at_begun : p.stage ≡ begun) (asks : p.stmt ≡ stmt.Image) (fewer : length p.x.images < 2) where
+module _ (v : Server) (cells : List Cell) (seats : List SeatState) {history : History} (st : Stands v history cells seats) (j : ℕ) (s : SeatState) (there : get_elem? seats j ≡ some s) (p : InStatement v s) (free : p.x.open_one ≡ None) (at_begun : p.stage ≡ begun) (asks : p.stmt ≡ stmt.Image) (fewer : length p.x.images < 2) where
   abbrev ledger : LedgerCell
   ledger = st.ledger
 
@@ -91,17 +91,17 @@ module _ (v : Server) (cells : List Cell) (seats : List SeatState) {history : Hi
   image_fits n l = record {
     plain = refl;
     in_place = outside v.meaning n p.text (reply.Image items) keep None kind refl (record {
-      none_open = never E13 _ (λ f. cc);
-      begun_twice = never E14 _ (λ f. cc);
-      not_inside = never E17 _ (λ f. cc);
-      unread_outside = never E01 _ (λ f. cc);
-      third_image = subst (λ (b : Bool). ComesAt E16 b (reply.Image items)) (sym (ne_eqb n 2 (λ e. absurd (omega (arith, l, e))))) (never E16 (reply.Image items) (λ f. cc));
+      none_open = never NoTransaction _ (λ f. cc);
+      begun_twice = never AlreadyInTransaction _ (λ f. cc);
+      not_inside = never ForbiddenInTransaction _ (λ f. cc);
+      unread_outside = never SyntaxError _ (λ f. cc);
+      third_image = subst (λ (b : Bool). ComesAt LimitExceeded b (reply.Image items)) (sym (ne_eqb n 2 (λ e. absurd (omega (arith, l, e))))) (never LimitExceeded (reply.Image items) (λ f. cc));
       begins = tt;
     }) tt;
   }
 
   goes : GoesFrom v.meaning p.x z (image items ∷ [])
-  goes n images fits = let few : n + 0 ≡ length p.x.images = subst (λ (q : Place). n + image_at q ≡ length p.x.images) place images in record {
+  goes n images fits = let few : n + 0 ≡ length p.x.images = subst (λ (q : SessionStatus). n + image_at q ≡ length p.x.images) place images in record {
     shown = (λ i. shown_at v.meaning (place i) (free i) ++ image items ∷ []) ∙ sym (ap (λ (k : Kind). facts_outside v.meaning k p.text (reply.Image items) None) kind);
     before = λ i. open_before v.meaning (place i) (free i);
     images = let e = length_end p.x.images kept_image in omega (arith, few, e);

@@ -1,27 +1,27 @@
 -- The journal says more, and cells and seats stay: what that owes where the definitions stay, and what stands then.
 use Rattle.std.proofs.Common.{◌≡◌, ℕ, ◌≤◌, true, false, not, List, Option, Some, None, sym, ◌∙◌, subst, inl, ⊎_elim, []}
-use Rattle.lg_types.specs.declared.statement.Stmt.{Stmt}
-use Rattle.lg_types.specs.declared.table.TableDef.{TableDef}
-use Rattle.lg_types.specs.declared.version.Version.{Version}
-use Rattle.lg_model.specs.Keys.{version_key}
-use Rattle.lg_model.specs.Rows.{EventId}
-use Rattle.lg_model.specs.Catalog.{Defs, defs_of, versions_of}
-use Rattle.lg_model.specs.Agreement.{columns_at}
-use Rattle.lg_model.specs.Reach.{lets_change}
-use Rattle.lg_history.specs.Lists.{Each}
-use Rattle.lg_history.specs.Transactions.{unfixed}
-use Rattle.lg_history.proofs.Trace.{each_weaker}
-use Rattle.lg_standing.specs.Server.{Server}
-use Rattle.lg_standing.specs.Cells.{TableCell, catalog_at, Creator}
-use Rattle.lg_standing.specs.Contents.{Contents, Known, HasAlone}
-use Rattle.lg_standing.specs.Seats.{OpenTransaction, Session, SeatState}
-use Rattle.lg_standing.specs.OpenOnes.{HasOpen, script_so_far, script_end}
-use Rattle.lg_standing.specs.WantsIn.{wants_in, Holds}
-use Rattle.lg_standing.specs.Committed.{committed}
-use Rattle.lg_standing.specs.TablesAreSerial.{Creates, AreIndexes, StandsAs, TablesAreSerial, def_at, IsCarried, IsUnderWay}
-use Rattle.lg_standing.specs.OpenScripts.{IsOfItsScript, OpenScripts}
-use Rattle.lg_standing.specs.LocksCover.{LookedAt, HasLock, IsGotAt, LiesUnder, EndLiesUnder, IsUnderLocks, LocksCover, WantsNone}
-use Rattle.lg_standing.specs.TreesAreOfEvents.{HasItsTrees, TreesAreOfEvents}
+use Rattle.sql_types.specs.declared.statement.Stmt.{Stmt}
+use Rattle.sql_types.specs.declared.table.TableDef.{TableDef}
+use Rattle.sql_types.specs.declared.version.Version.{Version}
+use Rattle.spec_model.specs.Keys.{version_key}
+use Rattle.spec_model.specs.Rows.{EventId}
+use Rattle.spec_model.specs.Catalog.{Defs, defs_of, versions_of}
+use Rattle.spec_model.specs.Agreement.{columns_at}
+use Rattle.spec_model.specs.Reach.{lets_change}
+use Rattle.spec_history.specs.Lists.{Each}
+use Rattle.spec_history.specs.Transactions.{unfixed}
+use Rattle.spec_history.proofs.Trace.{each_weaker}
+use Rattle.spec_protocol.specs.Server.{Server}
+use Rattle.spec_protocol.specs.Cells.{TableCell, catalog_at, Creator}
+use Rattle.spec_protocol.specs.Contents.{Contents, Known, HasAlone}
+use Rattle.spec_protocol.specs.Seats.{OpenTransaction, Session, SeatState}
+use Rattle.spec_protocol.specs.OpenOnes.{HasOpen, script_so_far, script_end}
+use Rattle.spec_protocol.specs.RequestsIn.{requests_in, Holds}
+use Rattle.spec_protocol.specs.CommittedTxs.{committed}
+use Rattle.spec_protocol.specs.TablesAreSerial.{Creates, AreIndexes, StandsAs, TablesAreSerial, def_at, IsCarried, IsUnderWay}
+use Rattle.spec_protocol.specs.OpenScripts.{IsOfItsScript, OpenScripts}
+use Rattle.spec_protocol.specs.LocksCover.{LookedAt, HasLock, IsGotAt, LiesUnder, EndLiesUnder, IsUnderLocks, LocksCover, RequestsNone}
+use Rattle.spec_protocol.specs.TreesAreOfEvents.{HasItsTrees, TreesAreOfEvents}
 
 -- what is owed where k turns into m
 pub record Says (v : Server) (c : Contents) (k m : Known) (seats : List SeatState) : Type 0 where
@@ -67,7 +67,7 @@ module _ (v : Server) (c : Contents) (k m : Known) (seats : List SeatState) (mor
   over P p = subst P (sym more.defs) p
 
   lies : (id : ℕ) (w : Version) (event : EventId) → LiesUnder c k.tables id w event → LiesUnder c m.tables id w event
-  lies id w event l = record { hold = l.hold; has = l.has; mine = l.mine; reaches = over (λ ds. lets_change (version_key (columns_at ds id) w) l.hold.want ≡ true) l.reaches }
+  lies id w event l = record { hold = l.hold; has = l.has; mine = l.mine; reaches = over (λ ds. lets_change (version_key (columns_at ds id) w) l.hold.request ≡ true) l.reaches }
 
   end_lies : (id : ℕ) (w : Version) (o : Option EventId) → EndLiesUnder c k id w o → EndLiesUnder c m id w o
   end_lies id w None h = tt
@@ -76,9 +76,9 @@ module _ (v : Server) (c : Contents) (k m : Known) (seats : List SeatState) (mor
   under : (id : ℕ) (w : Version) → IsUnderLocks c k id w → IsUnderLocks c m id w
   under id w u = record { start = λ e. lies id w w.start (u.start (more.has w.start.0 e)); end = end_lies id w w.end u.end }
 
-  wants_none : (o : OpenTransaction) → WantsNone v c k.tables o → WantsNone v c m.tables o
-  wants_none o w = record {
-    before = over (λ ds. Each (λ l. wants_in v ds o.opened catalog_at l.0 ≡ []) o.script) w.before;
+  requests_none : (o : OpenTransaction) → RequestsNone v c k.tables o → RequestsNone v c m.tables o
+  requests_none o w = record {
+    before = over (λ ds. Each (λ l. requests_in v ds o.explicit catalog_at l.0 ≡ []) o.script) w.before;
     elsewhere = w.elsewhere;
     shares = w.shares;
   }
@@ -86,10 +86,10 @@ module _ (v : Server) (c : Contents) (k m : Known) (seats : List SeatState) (mor
   pub cover_more : LocksCover v c k seats → LocksCover v c m seats
   cover_more h = record {
     belong = h.belong;
-    cover = λ j x o has i r. over (λ ds. Each (λ l. Each (Holds (c.holds i) o.id) (wants_in v ds o.opened i l.0)) (script_so_far x o)) (h.cover j x o has i r);
+    cover = λ j x o has i r. over (λ ds. Each (λ l. Each (Holds (c.holds i) o.id) (requests_in v ds o.explicit i l.0)) (script_so_far x o)) (h.cover j x o has i r);
     unreleased = h.unreleased;
-    looked = λ j x o has u. over (λ ds. LookedAt v c ds o.id o.opened x.place) (h.looked j x o has u);
-    looked_first = λ j x o has u f. wants_none o (h.looked_first j x o has u f);
+    looked = λ j x o has u. over (λ ds. LookedAt v c ds o.id o.explicit x.place) (h.looked j x o has u);
+    looked_first = λ j x o has u f. requests_none o (h.looked_first j x o has u f);
     intents = h.intents;
     on_whole = h.on_whole;
     dropping = h.dropping;

@@ -3,20 +3,20 @@ use Rattle.std.proofs.Common.{◌≡◌, ◌≢◌, ◌<◌, ℕ, Bool, true, fa
 use Rattle.std.proofs.lemmas.Bool.{cases_lt}
 use mathlib.Core.Option.{some}
 use lib.ListN.{get_elem?}
-use Rattle.lg_history.specs.Acts.{Act}
-use Rattle.lg_history.specs.Guards.{NoTable}
-use Rattle.lg_history.specs.Lists.{Each, In}
-use Rattle.lg_history.specs.Sessions.{SessionTransaction, SessionState, gone}
-use Rattle.lg_history.specs.Transactions.{listed, unfixed}
-use Rattle.lg_history.specs.Worlds.{first, run}
-use Rattle.lg_history.proofs.Settles.{in_append}
-use Rattle.lg_history.proofs.Trace.{each_weaker}
-use Rattle.lg_standing.specs.Server.{Server}
-use Rattle.lg_standing.specs.Cells.{LedgerCell}
-use Rattle.lg_standing.specs.Seats.{OpenTransaction, Role, session, Session, SeatState, Written}
-use Rattle.lg_standing.specs.OpenOnes.{HasOpen, texts_so_far}
-use Rattle.lg_standing.specs.Parts.{AreTransactions, IsTransaction, Now, Past, all_of}
-use Rattle.lg_standing.specs.TranscriptsAgree.{TranscriptsAgree}
+use Rattle.spec_history.specs.Acts.{Act}
+use Rattle.spec_history.specs.Guards.{NoTable}
+use Rattle.spec_history.specs.Lists.{Each, In}
+use Rattle.spec_history.specs.Sessions.{SessionTransaction, SessionState, gone}
+use Rattle.spec_history.specs.Transactions.{listed, unfixed}
+use Rattle.spec_history.specs.Worlds.{first, run}
+use Rattle.spec_history.proofs.Settles.{in_append}
+use Rattle.spec_history.proofs.Trace.{each_weaker}
+use Rattle.spec_protocol.specs.Server.{Server}
+use Rattle.spec_protocol.specs.Cells.{LedgerCell}
+use Rattle.spec_protocol.specs.Seats.{OpenTransaction, Role, session, Session, SeatState, Written}
+use Rattle.spec_protocol.specs.OpenOnes.{HasOpen, texts_so_far}
+use Rattle.spec_protocol.specs.Parts.{AreTransactions, IsTransaction, Now, Past, all_of}
+use Rattle.spec_protocol.specs.TranscriptsAgree.{TranscriptsAgree}
 use Rattle.law_protocol_ledger.proofs.GoneFree.{gone_free}
 use Rattle.law_protocol_steps.proofs.Ids.{InTransaction, in_transaction, each_in}
 
@@ -30,7 +30,7 @@ listed_is m None h = absurd h
 listed_is m (Some n) h = ⊎_elim (λ (e : n ≡ m). ap (λ (r : ℕ). Some r) e) (λ (z : ⊥). absurd z) h
 
 module _ (v : Server) (h : List Act) (ledger : LedgerCell) (seats : List SeatState) (agree : TranscriptsAgree v h ledger seats) (j : ℕ) (x : Session) (o : OpenTransaction) (has : HasOpen seats j x o)
-    (others : (i : ℕ) (z : Session) (u : OpenTransaction) → i ≢ j → HasOpen seats i z u → u.end ≡ unfixed → Each (λ t. v.meaning.wants u.opened t ≡ false) (texts_so_far z u)) where
+    (others : (i : ℕ) (z : Session) (u : OpenTransaction) → i ≢ j → HasOpen seats i z u → u.end ≡ unfixed → Each (λ t. v.meaning.requests u.explicit t ≡ false) (texts_so_far z u)) where
   abbrev mine : InTransaction v.meaning h (agree.of_seat j) x o
   mine = in_transaction v h ledger seats agree j x o has
 
@@ -42,8 +42,8 @@ module _ (v : Server) (h : List Act) (ledger : LedgerCell) (seats : List SeatSta
 
   of_open : (i : ℕ) (z : Session) (u : OpenTransaction) (d : SessionTransaction) → i ≢ j → HasOpen seats i z u → IsTransaction d z u → NoTable v.meaning (Some d)
   of_open i z u d ne k is = λ f. let open_end : u.end ≡ unfixed = sym is.end ∙ f in
-      each_weaker (λ a. a.1 ≡ true → In a.0 (texts_so_far z u)) (λ a. a.1 ≡ true → v.meaning.wants d.opened a.0 ≡ false)
-      (λ a g e. ap (λ (b : Bool). v.meaning.wants b a.0) is.opened ∙ each_in (λ t. v.meaning.wants u.opened t ≡ false) (texts_so_far z u) a.0 (others i z u ne k open_end) (g e)) d.asked (is.asked open_end)
+      each_weaker (λ a. a.1 ≡ true → In a.0 (texts_so_far z u)) (λ a. a.1 ≡ true → v.meaning.requests d.explicit a.0 ≡ false)
+      (λ a g e. ap (λ (b : Bool). v.meaning.requests b a.0) is.explicit ∙ each_in (λ t. v.meaning.requests u.explicit t ≡ false) (texts_so_far z u) a.0 (others i z u ne k open_end) (g e)) d.asked (is.asked open_end)
 
   of_transactions : (i : ℕ) (s : SeatState) (z : Session) (there : get_elem? seats i ≡ some s) (role : s.role ≡ session z) (ne : i ≢ j) (d : Option SessionTransaction) (u : Option OpenTransaction) → z.open_one ≡ u → AreTransactions d z u → NoTable v.meaning d
   of_transactions i s z there role ne None u e a = tt

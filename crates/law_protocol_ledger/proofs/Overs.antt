@@ -5,27 +5,27 @@ use Rattle.std.proofs.lemmas.Grind.{flat_map-append}
 use Rattle.std.specs.Prelude.{◌==◌, if◌then◌else◌}
 use mathlib.Core.Option.{some, some-injective}
 use lib.ListN.{get_elem?}
-use Rattle.lg_history.specs.Lists.{Each, In}
-use Rattle.lg_history.specs.Serial.{Differ}
-use Rattle.lg_history.specs.Facts.{Shows}
-use Rattle.lg_history.specs.Transactions.{listed}
-use Rattle.lg_history.specs.Acts.{SessionAct, Act, of, marked}
-use Rattle.lg_history.specs.Sessions.{SessionState, unborn, runs, gone, fresh, transcript_of}
-use Rattle.lg_history.specs.Worlds.{World, first, run}
-use Rattle.lg_history.specs.Guards.{Good}
-use Rattle.lg_history.proofs.Trace.{each_append, each_weaker}
-use Rattle.lg_history.proofs.Settles.{in_right}
-use Rattle.lg_standing.specs.Server.{Server}
-use Rattle.lg_standing.specs.Cells.{LedgerCell}
-use Rattle.lg_standing.specs.Seats.{Session, Written, Role, session, SeatState}
-use Rattle.lg_standing.specs.Answering.{written_of}
-use Rattle.lg_standing.specs.Alone.{over}
-use Rattle.lg_standing.specs.Parts.{Numbers, all_of, IsPast, IsOver, WasOver, Past, Now}
-use Rattle.lg_standing.specs.TranscriptsAgree.{session_moments, moments_of, IsMoment, image_of, AreImages, ImagesOfPast, ImagesNow, MarksWithin, SeatAgrees, TranscriptsAgree}
-use Rattle.law_protocol_steps.proofs.Deeds.{IsPlain, same_items, same_next, same_issued, no_images, no_marks}
+use Rattle.spec_history.specs.Lists.{Each, In}
+use Rattle.spec_history.specs.Serial.{Differ}
+use Rattle.spec_history.specs.Facts.{Shows}
+use Rattle.spec_history.specs.Transactions.{listed}
+use Rattle.spec_history.specs.Acts.{SessionAct, Act, of, marked}
+use Rattle.spec_history.specs.Sessions.{SessionState, unborn, runs, gone, fresh, transcript_of}
+use Rattle.spec_history.specs.Worlds.{World, first, run}
+use Rattle.spec_history.specs.Guards.{Good}
+use Rattle.spec_history.proofs.Trace.{each_append, each_weaker}
+use Rattle.spec_history.proofs.Settles.{in_right}
+use Rattle.spec_protocol.specs.Server.{Server}
+use Rattle.spec_protocol.specs.Cells.{LedgerCell}
+use Rattle.spec_protocol.specs.Seats.{Session, Written, Role, session, SeatState}
+use Rattle.spec_protocol.specs.Answering.{written_of}
+use Rattle.spec_protocol.specs.Alone.{over}
+use Rattle.spec_protocol.specs.Parts.{Numbers, all_of, IsPast, IsOver, WasOver, Past, Now}
+use Rattle.spec_protocol.specs.TranscriptsAgree.{session_moments, moments_of, IsMoment, image_of, AreImages, ImagesOfPast, ImagesNow, MarksWithin, SeatAgrees, TranscriptsAgree}
+use Rattle.law_protocol_steps.proofs.AnonymousActs.{IsPlain, same_items, same_next, same_issued, no_images, no_marks}
 use Rattle.law_protocol_steps.proofs.Ids.{each_in}
 use Rattle.law_protocol_steps.proofs.OneMore.{acted_all, by_each, good_more, world_more, else_same, now_acted, of_else, of_now, over_stays, each_was_over, past_stays, past_images_stay, seat_stays, differ_front}
-use Rattle.lg_standing.proofs.Places.{at_set, set_here, set_else}
+use Rattle.spec_protocol.proofs.Places.{at_set, set_here, set_else}
 use Rattle.law_protocol_steps.proofs.PlainAct.{KeepsAll}
 
 past_snoc : (h : List Act) (ns : List ℕ) (xs : List Written) (n : ℕ) (x : Written) → Past h ns xs → IsPast h n x → Past h (ns ++ n ∷ []) (xs ++ x ∷ [])
@@ -41,8 +41,8 @@ images_snoc v h c g (m ∷ ns) [] n x p i e = absurd p
 images_snoc v h c g (m ∷ ns) (y ∷ ys) n x p i e = (i.0, images_snoc v h c g ns ys n x p.1 i.1 e)
 
 module _ (v : Server) (c : LedgerCell) (seats : List SeatState) (h : List Act) (agree : TranscriptsAgree v h c seats) (j : ℕ) (s : SeatState) (there : get_elem? seats j ≡ some s) (x y : Session) (role : s.role ≡ session x)
-    (n : ℕ) (number : (agree.of_seat j).now ≡ Some n) (deeds : List SessionAct) (plain : Each IsPlain deeds) (ok : Good v.meaning c.database (run first h) (by_each n deeds))
-    (gone_then : (acted_all ((run first h).at n) deeds).phase ≡ gone) (written_then : transcript_of (acted_all ((run first h).at n) deeds) ≡ y.transcript) (keeps : KeepsAll x y) where
+    (n : ℕ) (number : (agree.of_seat j).now ≡ Some n) (anonymous_acts : List SessionAct) (plain : Each IsPlain anonymous_acts) (ok : Good v.meaning c.database (run first h) (by_each n anonymous_acts))
+    (gone_then : (acted_all ((run first h).at n) anonymous_acts).phase ≡ gone) (written_then : transcript_of (acted_all ((run first h).at n) anonymous_acts) ≡ y.transcript) (keeps : KeepsAll x y) where
   abbrev t : SeatState
   t = over y s
 
@@ -50,7 +50,7 @@ module _ (v : Server) (c : LedgerCell) (seats : List SeatState) (h : List Act) (
   after = slice_set seats j t
 
   abbrev longer : List Act
-  longer = h ++ by_each n deeds
+  longer = h ++ by_each n anonymous_acts
 
   abbrev m : Numbers
   m = agree.of_seat j
@@ -97,30 +97,30 @@ module _ (v : Server) (c : LedgerCell) (seats : List SeatState) (h : List Act) (
 
   past_marks : (ns : List ℕ) → Each (λ i. i ≢ n) ns → Each (MarksWithin v h c s) ns → Each (MarksWithin v longer c t) ns
   past_marks [] ne e = tt
-  past_marks (i ∷ ns) ne e = (subst (Shows marked (λ i. (s.least ≤ i) × (i ≤ s.greatest))) (sym (of_else v.meaning c.database h agree.good n deeds alive i ne.0)) e.0, past_marks ns ne.1 e.1)
+  past_marks (i ∷ ns) ne e = (subst (Shows marked (λ i. (s.least ≤ i) × (i ≤ s.greatest))) (sym (of_else v.meaning c.database h agree.good n anonymous_acts alive i ne.0)) e.0, past_marks ns ne.1 e.1)
 
   now_marks : Shows marked (λ i. (s.least ≤ i) × (i ≤ s.greatest)) (of n longer)
-  now_marks = subst (Shows marked (λ i. (s.least ≤ i) × (i ≤ s.greatest))) (sym (of_now v.meaning c.database h agree.good n deeds alive))
-      (each_append (λ b. Each (λ i. (s.least ≤ i) × (i ≤ s.greatest)) (marked b)) (of n h) deeds (each_in (MarksWithin v h c s) (all_of m) n was.marks among) (no_marks _ deeds plain))
+  now_marks = subst (Shows marked (λ i. (s.least ≤ i) × (i ≤ s.greatest))) (sym (of_now v.meaning c.database h agree.good n anonymous_acts alive))
+      (each_append (λ b. Each (λ i. (s.least ≤ i) × (i ≤ s.greatest)) (marked b)) (of n h) anonymous_acts (each_in (MarksWithin v h c s) (all_of m) n was.marks among) (no_marks _ anonymous_acts plain))
 
   own_images : AreImages v c (of n h) x.images
   own_images = subst (λ (o : Option ℕ). ImagesNow v h c o (session x)) number (subst (ImagesNow v h c m.now) role was.images)
 
   now_images : AreImages v c (of n longer) y.images
   now_images = subst (AreImages v c (of n longer)) (sym keeps.images) (record {
-    shown = own_images.shown ∙ sym (append-nil _) ∙ ap (λ (l : List ℕ). flat_map image_of (of n h) ++ l) (sym (no_images deeds plain)) ∙ sym (flat_map-append image_of (of n h) deeds) ∙ ap (flat_map image_of) (sym (of_now v.meaning c.database h agree.good n deeds alive));
+    shown = own_images.shown ∙ sym (append-nil _) ∙ ap (λ (l : List ℕ). flat_map image_of (of n h) ++ l) (sym (no_images anonymous_acts plain)) ∙ sym (flat_map-append image_of (of n h) anonymous_acts) ∙ ap (flat_map image_of) (sym (of_now v.meaning c.database h agree.good n anonymous_acts alive));
     each = own_images.each;
   })
 
   is_past : IsPast longer n (written_of y)
   is_past = record {
-    over = ap (λ (z : SessionState). z.phase) (now_acted v.meaning c.database h agree.good n deeds alive) ∙ gone_then;
-    is = ap transcript_of (now_acted v.meaning c.database h agree.good n deeds alive) ∙ written_then;
-    earlier = subst (Each (WasOver longer n)) (sym keeps.earlier) (each_was_over v.meaning c.database h agree.good n deeds alive n x.earlier own_now.1);
+    over = ap (λ (z : SessionState). z.phase) (now_acted v.meaning c.database h agree.good n anonymous_acts alive) ∙ gone_then;
+    is = ap transcript_of (now_acted v.meaning c.database h agree.good n anonymous_acts alive) ∙ written_then;
+    earlier = subst (Each (WasOver longer n)) (sym keeps.earlier) (each_was_over v.meaning c.database h agree.good n anonymous_acts alive n x.earlier own_now.1);
   }
 
   past_then : Past longer m.past s.written
-  past_then = past_stays v.meaning c.database h agree.good n deeds alive m.past s.written past_differ was.sessions.past
+  past_then = past_stays v.meaning c.database h agree.good n anonymous_acts alive m.past s.written past_differ was.sessions.past
 
   seat_then : SeatAgrees v longer c new t
   seat_then = record {
@@ -128,13 +128,13 @@ module _ (v : Server) (c : LedgerCell) (seats : List SeatState) (h : List Act) (
       differ = subst Differ (sym same_numbers) was.sessions.differ;
       past = past_snoc longer m.past s.written n (written_of y) past_then is_past;
       now = tt;
-      earlier = each_weaker (IsOver h) (IsOver longer) (over_stays v.meaning c.database h agree.good n deeds alive) s.earlier was.sessions.earlier;
+      earlier = each_weaker (IsOver h) (IsOver longer) (over_stays v.meaning c.database h agree.good n anonymous_acts alive) s.earlier was.sessions.earlier;
     };
     database = was.database;
     block_size = was.block_size;
     marks = subst (Each (MarksWithin v longer c t)) (sym (append-nil (m.past ++ n ∷ []))) (each_append (MarksWithin v longer c t) m.past (n ∷ []) (past_marks m.past past_differ (left_of (MarksWithin v h c s) m.past (listed m.now) was.marks)) (now_marks, tt));
     greatest = was.greatest;
-    past_images = images_snoc v longer c longer m.past s.written n (written_of y) past_then (past_images_stay v.meaning c.database h agree.good n deeds alive v c c [] refl (sym (append-nil c.items)) m.past s.written past_differ was.past_images) now_images;
+    past_images = images_snoc v longer c longer m.past s.written n (written_of y) past_then (past_images_stay v.meaning c.database h agree.good n anonymous_acts alive v c c [] refl (sym (append-nil c.items)) m.past s.written past_differ was.past_images) now_images;
     images = tt;
   }
 
@@ -142,7 +142,7 @@ module _ (v : Server) (c : LedgerCell) (seats : List SeatState) (h : List Act) (
   all_seats k u e = ⊎_elim
       (λ (f : (k ≡ j) × (t ≡ u)). subst (λ (w : SeatState). SeatAgrees v longer c (of_seat k) w) f.1 (subst (λ (i : ℕ). SeatAgrees v longer c (of_seat i) t) (sym f.0) (subst (λ (w : Numbers). SeatAgrees v longer c w t) (sym at_this) seat_then)))
       (λ (f : (k ≢ j) × (get_elem? seats k ≡ some u)). subst (λ (w : Numbers). SeatAgrees v longer c w u) (sym (at_other k f.0))
-      (seat_stays v.meaning c.database h agree.good n deeds alive v c c [] refl (sym (append-nil c.items)) (agree.of_seat k) u refl (omega arith) (not_of k u f.0 f.1) (agree.agree k u f.1)))
+      (seat_stays v.meaning c.database h agree.good n anonymous_acts alive v c c [] refl (sym (append-nil c.items)) (agree.of_seat k) u refl (omega arith) (not_of k u f.0 f.1) (agree.agree k u f.1)))
       (at_set seats j k t u e)
 
   all_own : (k : ℕ) (u : SeatState) → get_elem? after k ≡ some u → Each (λ i. agree.owner i ≡ k) (all_of (of_seat k))
@@ -169,23 +169,23 @@ module _ (v : Server) (c : LedgerCell) (seats : List SeatState) (h : List Act) (
 
   pub over_agrees : TranscriptsAgree v longer c after
   over_agrees = record {
-    good = good_more v.meaning c.database first h (by_each n deeds) agree.good ok;
-    items = ap (λ (w : World). w.items) world ∙ same_items n (run first h) deeds plain ∙ agree.items;
-    next = ap (λ (w : World). w.next) world ∙ same_next n (run first h) deeds plain ∙ agree.next;
-    issued = ap (λ (w : World). w.issued) world ∙ same_issued n (run first h) deeds plain ∙ agree.issued;
+    good = good_more v.meaning c.database first h (by_each n anonymous_acts) agree.good ok;
+    items = ap (λ (w : World). w.items) world ∙ same_items n (run first h) anonymous_acts plain ∙ agree.items;
+    next = ap (λ (w : World). w.next) world ∙ same_next n (run first h) anonymous_acts plain ∙ agree.next;
+    issued = ap (λ (w : World). w.issued) world ∙ same_issued n (run first h) anonymous_acts plain ∙ agree.issued;
     of_seat = of_seat;
     agree = all_seats;
     owner = agree.owner;
     own = all_own;
     count = agree.count;
     all = λ i l. let old = agree.all i l in still_there i (agree.owner i) old.0 old.1 old.2;
-    no_others = λ i l. let old = agree.no_others i l in let ne = not_fresh i old.0 in (else_same v.meaning c.database h agree.good n deeds alive i ne ∙ old.0, of_else v.meaning c.database h agree.good n deeds alive i ne ∙ old.1);
+    no_others = λ i l. let old = agree.no_others i l in let ne = not_fresh i old.0 in (else_same v.meaning c.database h agree.good n anonymous_acts alive i ne ∙ old.0, of_else v.meaning c.database h agree.good n anonymous_acts alive i ne ∙ old.1);
     times = each_weaker (IsMoment seats) (IsMoment after) moment_stays _ agree.times;
     made = each_weaker (λ g. IsMoment seats g.made) (λ g. IsMoment after g.made) (λ g. moment_stays g.made) _ agree.made;
   }
     where
-      world : run first longer ≡ run (run first h) (by_each n deeds)
-      world = world_more v.meaning c.database h agree.good n deeds alive
+      world : run first longer ≡ run (run first h) (by_each n anonymous_acts)
+      world = world_more v.meaning c.database h agree.good n anonymous_acts alive
 
       not_fresh : (i : ℕ) → (run first h).at i ≡ fresh → i ≢ n
       not_fresh i e same = let r : ((run first h).at i).phase ≡ runs = ap (λ (k : ℕ). ((run first h).at k).phase) same ∙ own_now.0.running in let f : ((run first h).at i).phase ≡ unborn = ap (λ (z : SessionState). z.phase) e in cc

@@ -3,19 +3,19 @@ use Rattle.std.proofs.Common.{◌≡◌, ◌≢◌, ℕ, ◌+◌, ◌≤◌, Boo
 use Rattle.std.proofs.lemmas.Bool.{cases_eq}
 use Rattle.std.specs.Prelude.{◌&&◌}
 use Rattle.std.specs.List.{AllByRecursion, list_all}
-use Rattle.lg_types.specs.declared.event.Event.{Event}
-use Rattle.lg_model.specs.Agreement.{IdsFrom}
-use Rattle.lg_model.specs.Catalog.{Tables, defs_of, versions_of}
-use Rattle.lg_model.specs.Events.{events_of, all_events}
-use Rattle.lg_frames.proofs.UndoneTables.{own_versions}
-use Rattle.lg_history.specs.Lists.{Text, Each, In}
-use Rattle.lg_standing.specs.Seats.{Tree}
-use Rattle.lg_standing.specs.Server.{Server}
-use Rattle.lg_standing.specs.EventsIn.{events_in}
-use Rattle.lg_standing.specs.LedgerVisits.{is_empty}
-use Rattle.lg_standing.specs.TreesAreOfEvents.{AreTrees}
+use Rattle.sql_types.specs.declared.event.Event.{Event}
+use Rattle.spec_model.specs.Agreement.{IdsFrom}
+use Rattle.spec_model.specs.Catalog.{Tables, defs_of, versions_of}
+use Rattle.spec_model.specs.Events.{events_of, all_events}
+use Rattle.law_frame.proofs.UndoneTables.{own_versions}
+use Rattle.spec_history.specs.Lists.{Text, Each, In}
+use Rattle.spec_protocol.specs.Seats.{Tree}
+use Rattle.spec_protocol.specs.Server.{Server}
+use Rattle.spec_protocol.specs.EventsIn.{events_in}
+use Rattle.spec_protocol.specs.LedgerVisits.{is_empty}
+use Rattle.spec_protocol.specs.TreesAreOfEvents.{AreTrees}
 use Rattle.law_protocol_steps.proofs.Ids.{each_in}
-use Rattle.lg_row.specs.Leaf.{event_bytes}
+use Rattle.format_event.specs.Leaf.{event_bytes}
 
 is_nil : (xs : List Text) → is_empty xs ≡ true → xs ≡ []
 is_nil [] e = refl

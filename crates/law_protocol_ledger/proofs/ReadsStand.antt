@@ -2,66 +2,66 @@
 use Rattle.std.proofs.Common.{◌≡◌, ℕ, zero, suc, ◌≤◌, not, Bool, true, false, List, [], ◌∷◌, ◌++◌, map, Option, Some, None, slice_set, refl, sym, ap, ◌∙◌, subst, subst₂, append-nil, arith}
 use mathlib.Core.Option.{some}
 use lib.ListN.{get_elem?}
-use Rattle.lg_types.specs.declared.journal.JournalItem.{JournalItem}
-use Rattle.lg_types.specs.declared.journal.JournalItem.TheVariants.{Tx, Close}
-use Rattle.lg_types.specs.declared.reply.Reply.{Reply}
-use Rattle.lg_types.specs.declared.reply.Reply.TheVariants as reply
-use Rattle.lg_value.specs.declared.refusal.Refusal.TheVariants.{E30}
-use Rattle.lg_model.specs.Catalog.{Tables, defs_of, versions_of}
-use Rattle.lg_model.specs.Events.{all_events}
-use Rattle.lg_model.specs.Journals.{Line, tx_count, upto, serial_from, after_item}
-use Rattle.lg_model.specs.Replies.{reply_text}
-use Rattle.lg_model.specs.Runs.{Sound}
-use Rattle.lg_model.specs.Script.{Reading, script}
-use Rattle.lg_model.specs.SystemTables.{first_tables}
-use Rattle.lg_frames.proofs.Definitions.{nothing_done}
-use Rattle.lg_frames.proofs.NoEvents as before
-use Rattle.lg_frames.proofs.OtherTransactions.{others_sound}
-use Rattle.lg_frames.proofs.LegalSound.{legal_sound}
-use Rattle.lg_history.specs.Lists.{Text, Each, In}
-use Rattle.lg_history.specs.Refusals.{EndsAt}
-use Rattle.lg_history.specs.Transactions.{unfixed, ended}
-use Rattle.lg_history.specs.Acts.{SessionAct, by}
-use Rattle.lg_standing.specs.Server.{Server}
-use Rattle.lg_standing.specs.Cells.{LedgerCell, Cell, Ledger, ledger_at, catalog_at}
-use Rattle.lg_standing.specs.Contents.{Contents, Known, contents, known, HasAlone}
-use Rattle.lg_standing.specs.Seats.{answering, Place, inside, leaving, OpenTransaction, Session, session, SeatState}
-use Rattle.lg_standing.specs.OpenOnes.{HasOpen, text_at, lines_at, script_so_far, texts_so_far, script_end}
-use Rattle.lg_standing.specs.EventsIn.{events_in}
-use Rattle.lg_standing.specs.WantsIn.{wants_in, Holds}
-use Rattle.lg_standing.specs.OpenScripts.{IsOfItsScript, events_counted, counted}
-use Rattle.lg_standing.specs.LocksCover.{KeepsLocks, HasLock, IsGotAt, IsDropping, LookedAt}
-use Rattle.lg_standing.specs.TranscriptsAgree.{TranscriptsAgree}
-use Rattle.lg_types.specs.declared.statement.Stmt.{Stmt}
-use Rattle.lg_types.specs.declared.table.TableDef.{TableDef}
-use Rattle.lg_history.specs.Transcripts.{kind_of}
-use Rattle.lg_history.specs.Facts.{said, failed, passed}
-use Rattle.lg_standing.specs.Parts.{asking}
-use Rattle.lg_standing.specs.Seats.{Stage, begun, replied, made}
-use Rattle.lg_standing.specs.TranscriptsSoFar.{image_in, shown_alone}
+use Rattle.sql_types.specs.declared.journal.JournalItem.{JournalItem}
+use Rattle.sql_types.specs.declared.journal.JournalItem.TheVariants.{Tx, Close}
+use Rattle.sql_types.specs.declared.reply.Reply.{Reply}
+use Rattle.sql_types.specs.declared.reply.Reply.TheVariants as reply
+use Rattle.sql_value.specs.declared.refusal.Refusal.TheVariants.{NoMemory}
+use Rattle.spec_model.specs.Catalog.{Tables, defs_of, versions_of}
+use Rattle.spec_model.specs.Events.{all_events}
+use Rattle.spec_model.specs.Journals.{Line, tx_count, upto, serial_from, after_item}
+use Rattle.spec_model.specs.Replies.{reply_text}
+use Rattle.spec_model.specs.Runs.{Sound}
+use Rattle.spec_model.specs.Script.{Reading, script}
+use Rattle.spec_model.specs.SystemTables.{first_tables}
+use Rattle.law_frame.proofs.Definitions.{nothing_done}
+use Rattle.law_frame.proofs.NoEvents as before
+use Rattle.law_frame.proofs.OtherTransactions.{others_sound}
+use Rattle.law_frame.proofs.LegalSound.{legal_sound}
+use Rattle.spec_history.specs.Lists.{Text, Each, In}
+use Rattle.spec_history.specs.Refusals.{EndsAt}
+use Rattle.spec_history.specs.Transactions.{unfixed, ended}
+use Rattle.spec_history.specs.Acts.{SessionAct, by}
+use Rattle.spec_protocol.specs.Server.{Server}
+use Rattle.spec_protocol.specs.Cells.{LedgerCell, Cell, Ledger, ledger_at, catalog_at}
+use Rattle.spec_protocol.specs.Contents.{Contents, Known, contents, known, HasAlone}
+use Rattle.spec_protocol.specs.Seats.{answering, SessionStatus, inside, leaving, OpenTransaction, Session, session, SeatState}
+use Rattle.spec_protocol.specs.OpenOnes.{HasOpen, text_at, lines_at, script_so_far, texts_so_far, script_end}
+use Rattle.spec_protocol.specs.EventsIn.{events_in}
+use Rattle.spec_protocol.specs.RequestsIn.{requests_in, Holds}
+use Rattle.spec_protocol.specs.OpenScripts.{IsOfItsScript, events_counted, counted}
+use Rattle.spec_protocol.specs.LocksCover.{KeepsLocks, HasLock, IsGotAt, IsDropping, LookedAt}
+use Rattle.spec_protocol.specs.TranscriptsAgree.{TranscriptsAgree}
+use Rattle.sql_types.specs.declared.statement.Stmt.{Stmt}
+use Rattle.sql_types.specs.declared.table.TableDef.{TableDef}
+use Rattle.spec_history.specs.Transcripts.{kind_of}
+use Rattle.spec_history.specs.Facts.{said, failed, passed}
+use Rattle.spec_protocol.specs.Parts.{asking}
+use Rattle.spec_protocol.specs.Seats.{StatementProgress, begun, replied, made}
+use Rattle.spec_protocol.specs.TranscriptsSoFar.{image_in, shown_alone}
 use Rattle.law_protocol_steps.proofs.TranscriptActs.{GoesFrom}
-use Rattle.law_protocol_steps.proofs.TranscriptStages.{from_at, fits_if, at_quiet_commit, at_roll_back, at_leaving, at_said, at_own_end, at_fail_end}
-use Rattle.lg_standing.specs.StandTogether.{History, Stands, StandsAfter}
-use Rattle.lg_standing.specs.Moves.{saying, ending, at_place, sits, marking}
-use Rattle.lg_standing.specs.LedgerVisits.{is_quiet, Ends, commits_nothing, rolls_back, leaves, did_nothing, was_refused, lacks_memory, lacks_index, ReadsPoint}
-use Rattle.law_protocol_steps.proofs.Draws.{at_own, others_in_journal}
+use Rattle.law_protocol_steps.proofs.TranscriptProgress.{from_at, fits_if, at_read_only_commit, at_roll_back, at_leaving, at_said, at_own_end, at_fail_end}
+use Rattle.spec_protocol.specs.StandTogether.{History, Stands, StandsAfter}
+use Rattle.spec_protocol.specs.Moves.{saying, ending, at_place, sits, marking}
+use Rattle.spec_protocol.specs.LedgerVisits.{is_read_only, Ends, commits_nothing, rolls_back, leaves, did_nothing, was_refused, lacks_memory, lacks_index, ReadsPoint}
+use Rattle.law_protocol_steps.proofs.AssignsId.{at_own, others_in_journal}
 use Rattle.law_protocol_ledger.proofs.EndsHistory.{ends_act, fails_ends_act, ends_by}
 use Rattle.law_protocol_steps.proofs.FreshIds.{events_of_touched}
 use Rattle.law_protocol_steps.proofs.Ids.{below, others}
 use Rattle.law_protocol_steps.proofs.LedgerVisit.{the_ledger, ledger_after}
 use Rattle.law_protocol_steps.proofs.OpenSeats.{Own}
 use Rattle.law_protocol_steps.proofs.OthersScripts.{sound_for}
-use Rattle.lg_standing.proofs.Places.{set_here, set_again}
+use Rattle.spec_protocol.proofs.Places.{set_here, set_again}
 use Rattle.law_protocol_ledger.proofs.QuietOnes.{no_events, none_at_all}
 use Rattle.law_protocol_changes.proofs.SaysHistory.{told}
-use Rattle.law_protocol_steps.proofs.Turns.{MayHave, StillStands, Owes, Turns}
-use Rattle.lg_standing.specs.RowsAgree.{GoesBackTo, IsOpenedAt}
-use Rattle.lg_standing.specs.TablesAreSerial.{HasActed, HasAdded}
+use Rattle.law_protocol_steps.proofs.Turns.{MayHoldLock, StillStands, Owes, Turns}
+use Rattle.spec_protocol.specs.RowsAgree.{GoesBackTo, IsExplicitAt}
+use Rattle.spec_protocol.specs.TablesAreSerial.{HasActed, HasAdded}
 use Rattle.law_protocol_steps.proofs.PlainPlaces.{IsBare, not_back, not_dropping, of_either}
 use Rattle.law_protocol_steps.proofs.AloneTurns.{bare}
-use Rattle.lg_standing.specs.ActsOf.{end_acts}
+use Rattle.spec_protocol.specs.ActsOf.{end_acts}
 use Rattle.law_protocol_steps.proofs.GoesOn.{Owned, ActsBy, then_more}
-use Rattle.lg_history.specs.Acts as act
+use Rattle.spec_history.specs.Acts as act
 
 -- ---- lists
 
@@ -74,7 +74,7 @@ module _ (reads : Reading) where
   upto_all : (T : Tables) (J : List JournalItem) → serial_from reads T (upto J (tx_count J)) ≡ serial_from reads T J
   unfolding serial_from
   upto_all T [] = refl
-  upto_all T (Tx id name time opened lines ∷ is) = upto_all (after_item reads T (Tx id name time opened lines)) is
+  upto_all T (Tx id name time explicit lines ∷ is) = upto_all (after_item reads T (Tx id name time explicit lines)) is
   upto_all T (Close k ∷ is) = by_count (tx_count is) refl (upto_all T is)
     where
       by_count : (n : ℕ) → tx_count is ≡ n → serial_from reads T (upto is (tx_count is)) ≡ serial_from reads T is → serial_from reads T (upto (Close k ∷ is) n) ≡ serial_from reads T is
@@ -84,7 +84,7 @@ module _ (reads : Reading) where
 -- ---- how a transaction ends
 
 -- the script and the place then, beside those from before
-pub record EndsSo (v : Server) (x : Session) (o : OpenTransaction) (ls : List Line) (place : Place) : Type 1 where
+pub record EndsSo (v : Server) (x : Session) (o : OpenTransaction) (ls : List Line) (place : SessionStatus) : Type 1 where
   pub same_text : text_at x.place ≡ text_at place
   pub cover : (P : Line → Type 0) → Each P (script_so_far x o) → Each P (ls ++ lines_at place)
   pub got : (T : Tables) (E : Type 0) (b : Bool) → IsGotAt v T E b x.place → IsGotAt v T E b place
@@ -92,11 +92,11 @@ pub record EndsSo (v : Server) (x : Session) (o : OpenTransaction) (ls : List Li
   pub adding : (after : TableDef) (q : OpenTransaction) → HasAdded x.place o after → HasAdded place q after
   pub dropping : (q : OpenTransaction) → IsDropping place q → (text : Text) × (def : TableDef) × (b : Bool) × (x.place ≡ inside text (made def b))
   pub back : (n : ℕ) → GoesBackTo place n
-  pub either : (b : Bool) → IsOpenedAt place b
+  pub either : (b : Bool) → IsExplicitAt place b
 
 module _ (v : Server) (x : Session) (o : OpenTransaction) where
   -- with the script as it is
-  as_is : (place : Place) → IsBare place → (HasActed x.place → HasActed place) → ((after : TableDef) → HasAdded x.place o after → ⊥) → text_at x.place ≡ text_at place → lines_at place ≡ [] → ((T : Tables) (E : Type 0) (b : Bool) → IsGotAt v T E b x.place → IsGotAt v T E b place) → EndsSo v x o o.script place
+  as_is : (place : SessionStatus) → IsBare place → (HasActed x.place → HasActed place) → ((after : TableDef) → HasAdded x.place o after → ⊥) → text_at x.place ≡ text_at place → lines_at place ≡ [] → ((T : Tables) (E : Type 0) (b : Bool) → IsGotAt v T E b x.place → IsGotAt v T E b place) → EndsSo v x o o.script place
   as_is place bare acted adds same none got = record {
     same_text = same;
     cover = λ P h. subst (Each P) (sym (append-nil o.script) ∙ ap (λ (ls : List Line). o.script ++ ls) (sym none)) (each_front P o.script (lines_at x.place) h);
@@ -108,9 +108,9 @@ module _ (v : Server) (x : Session) (o : OpenTransaction) where
     either = λ b. of_either place b bare;
   }
 
-  so : (back : Bool) (ls : List Line) (place : Place) → Ends v x o back ls place → EndsSo v x o ls place
-  so _ _ _ (commits_nothing text by_begin at is quiet) = as_is (inside text (answering reply.Quiet None)) tt (λ a. tt) (λ after a. subst (λ z. HasAdded z o after) at a) (ap text_at at) refl (λ T E b g. tt)
-  so _ _ _ (rolls_back text by_begin at is) = as_is (inside text (answering reply.Quiet None)) tt (λ a. tt) (λ after a. subst (λ z. HasAdded z o after) at a) (ap text_at at) refl (λ T E b g. tt)
+  so : (back : Bool) (ls : List Line) (place : SessionStatus) → Ends v x o back ls place → EndsSo v x o ls place
+  so _ _ _ (commits_nothing text by_begin at is quiet) = as_is (inside text (answering reply.NoOutput None)) tt (λ a. tt) (λ after a. subst (λ z. HasAdded z o after) at a) (ap text_at at) refl (λ T E b g. tt)
+  so _ _ _ (rolls_back text by_begin at is) = as_is (inside text (answering reply.NoOutput None)) tt (λ a. tt) (λ after a. subst (λ z. HasAdded z o after) at a) (ap text_at at) refl (λ T E b g. tt)
   so _ _ _ (leaves by_begin at) = as_is leaving tt (λ a. subst HasActed at a) (λ after a. subst (λ z. HasAdded z o after) at a) (ap text_at at) refl (λ T E b g. tt)
   so _ _ _ (did_nothing text r alone at quiet) = record {
     same_text = ap text_at at;
@@ -123,7 +123,7 @@ module _ (v : Server) (x : Session) (o : OpenTransaction) where
     either = λ b. tt;
   }
   so _ _ _ (was_refused text r alone at) = as_is (inside text (answering r None)) tt (λ a. tt) (λ after a. subst (λ z. HasAdded z o after) at a) (ap text_at at) refl (λ T E b g. tt)
-  so _ _ _ (lacks_memory text r alone at) = as_is (inside text (answering (reply.Refused E30) None)) tt (λ a. tt) (λ after a. subst (λ z. HasAdded z o after) at a) (ap text_at at) refl (λ T E b g. tt)
+  so _ _ _ (lacks_memory text r alone at) = as_is (inside text (answering (reply.Refused NoMemory) None)) tt (λ a. tt) (λ after a. subst (λ z. HasAdded z o after) at a) (ap text_at at) refl (λ T E b g. tt)
   so _ _ _ (lacks_index text def indexed alone at) = record {
     same_text = ap text_at at;
     cover = λ P h. subst (Each P) (sym (append-nil o.script)) (each_front P o.script (lines_at x.place) h);
@@ -161,7 +161,7 @@ module _ (v : Server) (cells : List Cell) (seats : List SeatState) {history : Hi
 
   -- ---- the seat
 
-  module _ (back : Bool) (ls : List Line) (place : Place) (e : EndsSo v x o ls place) where
+  module _ (back : Bool) (ls : List Line) (place : SessionStatus) (e : EndsSo v x o ls place) where
     abbrev q : OpenTransaction
     q = ending (ended count back) ls o
 
@@ -184,20 +184,20 @@ module _ (v : Server) (cells : List Cell) (seats : List SeatState) {history : Hi
     new = record { role = refl; open_one = refl }
 
     abbrev Covered : Session → OpenTransaction → Type 0
-    Covered z u = (i : ℕ) → KeepsLocks u i → Each (λ l. Each (Holds (c.holds i) u.id) (wants_in v (defs_of k.tables) u.opened i l.0)) (script_so_far z u)
+    Covered z u = (i : ℕ) → KeepsLocks u i → Each (λ l. Each (Holds (c.holds i) u.id) (requests_in v (defs_of k.tables) u.explicit i l.0)) (script_so_far z u)
 
     pub ends_turn : Turns v c k st.catalog.defs s t
     ends_turn = record {
       came = λ i h l w. record { x = x; o = o; own = record { role = role; open_one = open_one }; is = own (λ z u. u.id ≡ h.tx → o.id ≡ h.tx) (λ f. f) w.x w.o w.own w.is };
-      locks = λ i h l w. was (λ z u. u.id ≡ h.tx → In i u.visited → (In i u.released → ⊥) → MayHave t i h)
+      locks = λ i h l w. was (λ z u. u.id ≡ h.tx → In i u.visited → (In i u.released → ⊥) → MayHoldLock t i h)
           (λ mine visited free. record { x = y; o = q; own = new; mine = mine; visited = visited; unreleased = free })
           w.x w.o w.own w.mine w.visited w.unreleased;
-      stands = λ z u text w alone out exclusive stands acted. was (λ a b. b.opened ≡ false → text_at a.place ≡ Some text → HasActed a.place → StillStands t a b text)
+      stands = λ z u text w alone out exclusive stands acted. was (λ a b. b.explicit ≡ false → text_at a.place ≡ Some text → HasActed a.place → StillStands t a b text)
           (λ f g h. record { y = y; p = q; own = new; is = refl; alone = f; stands = sym e.same_text ∙ g; acted = e.acted h; adding = λ after i a. record { added = e.adding after q a.added; visited = a.visited; unreleased = a.unreleased } })
           z u w alone stands acted;
       script = λ z u w f. absurd (is_fixed z u w f);
       trees = λ z u w f. absurd (is_fixed z u w f);
-      cover = own Covered (λ i free. e.cover (λ l. Each (Holds (c.holds i) o.id) (wants_in v (defs_of k.tables) o.opened i l.0)) (st.locks_cover.cover j x o has i free));
+      cover = own Covered (λ i free. e.cover (λ l. Each (Holds (c.holds i) o.id) (requests_in v (defs_of k.tables) o.explicit i l.0)) (st.locks_cover.cover j x o has i free));
       unreleased = λ z u w f. absurd (is_fixed z u w f);
       looked = λ z u w f. absurd (is_fixed z u w f);
       definitions = λ z u n w f l. own (λ a b. EndsAt b.end n → defs_of k.tables ≡ defs_of (k.after n)) (λ (g : count ≡ n). ap defs_of (sym (upto_all v.reads first_tables ledger.items)) ∙ ap (λ (i : ℕ). defs_of (k.after i)) g) z u w f;
@@ -210,13 +210,13 @@ module _ (v : Server) (cells : List Cell) (seats : List SeatState) {history : Hi
         own = λ f. absurd (is_fixed y q new f);
         before = λ f. absurd (is_fixed y q new f);
         back = e.back o.seq;
-        opened = e.either o.opened;
+        explicit = e.either o.explicit;
       });
     }
       where
         -- where a CREATE INDEX made its rows it has the catalog alone
         alone_at : (text : Text) (def : TableDef) (b : Bool) → x.place ≡ inside text (made def b) → HasAlone c o.id
-        alone_at text def b at = let looked = subst (LookedAt v c (defs_of k.tables) o.id o.opened) at (st.locks_cover.looked j x o has open_end) in
+        alone_at text def b at = let looked = subst (LookedAt v c (defs_of k.tables) o.id o.explicit) at (st.locks_cover.looked j x o has open_end) in
             (subst (IsGotAt v k.tables (HasAlone c o.id) (not (k.has o.id))) at (st.locks_cover.got j x o has looked.lock)).2
 
   -- ---- what it left
@@ -228,7 +228,7 @@ module _ (v : Server) (cells : List Cell) (seats : List SeatState) {history : Hi
   sound = sound_for v cells seats st j x o has open_end
 
   -- with no leaf in its trees there is no event
-  quiet_left : is_quiet o ≡ true → all_events o.id left ≡ []
+  quiet_left : is_read_only o ≡ true → all_events o.id left ≡ []
   quiet_left quiet = none_at_all o.id left none_there sound_left.ids
     where
       none_there : (id : ℕ) → 1 ≤ id → events_in o.id id (versions_of left id) ≡ []
@@ -239,7 +239,7 @@ module _ (v : Server) (cells : List Cell) (seats : List SeatState) {history : Hi
       next_sound = legal_sound v.reads ledger.items ledger.next st.ledger_is_legal.legal (others ledger.next ledger.items (others_in_journal v cells seats st))
 
       sound_left : Sound ledger.next 0 left
-      sound_left = others_sound o.id ledger.next 0 (λ e. let l = below v history ledger seats st.transcripts_agree j x o has in absurd (omega arith)) v.reads o.opened k.tables (texts_so_far x o) sound next_sound
+      sound_left = others_sound o.id ledger.next 0 (λ e. let l = below v history ledger seats st.transcripts_agree j x o has in absurd (omega arith)) v.reads o.explicit k.tables (texts_so_far x o) sound next_sound
 
   -- ---- the history
 
@@ -251,20 +251,20 @@ module _ (v : Server) (cells : List Cell) (seats : List SeatState) {history : Hi
   at_history : (n : ℕ) (acts : List SessionAct) (us : List SeatState) → Owned v (history ++ map (by n) acts) ledger us n j → AgreesAt acts us
   at_history n acts us a = record { session = n; agree = a.0; own = a.1 }
 
-  abbrev then_seats : Bool → List Line → Place → List SeatState
+  abbrev then_seats : Bool → List Line → SessionStatus → List SeatState
   then_seats back ls place = slice_set seats j (marking count (sits s (at_place (Some (ending (ended count back) ls o)) place x)))
 
   abbrev replies_with : List Line → Type 0
-  replies_with ls = map (λ l. l.1) ls ≡ map reply_text (script v.reads o.opened k.tables o.id (map (λ l. l.0) ls)).replies
+  replies_with ls = map (λ l. l.1) ls ≡ map reply_text (script v.reads o.explicit k.tables o.id (map (λ l. l.0) ls)).replies
 
   abbrev none_with : List Line → Type 0
-  none_with ls = all_events o.id (script v.reads o.opened k.tables o.id (map (λ l. l.0) ls)).state.tables ≡ []
+  none_with ls = all_events o.id (script v.reads o.explicit k.tables o.id (map (λ l. l.0) ls)).state.tables ≡ []
 
-  abbrev ended_at : Bool → List Line → Place → Session
+  abbrev ended_at : Bool → List Line → SessionStatus → Session
   ended_at back ls place = at_place (Some (ending (ended count back) ls o)) place x
 
   -- the script as it is
-  by_script : (back : Bool) (place : Place) → text_at x.place ≡ text_at place → asking x.place ≡ [] → GoesFrom v.meaning x (ended_at back o.script place) (passed count back ∷ []) → replies_with o.script → (back ≡ false → none_with o.script) → AgreesAt (act.ends count back ∷ []) (then_seats back o.script place)
+  by_script : (back : Bool) (place : SessionStatus) → text_at x.place ≡ text_at place → asking x.place ≡ [] → GoesFrom v.meaning x (ended_at back o.script place) (passed count back ∷ []) → replies_with o.script → (back ≡ false → none_with o.script) → AgreesAt (act.ends count back ∷ []) (then_seats back o.script place)
   by_script back place same none_asked goes replies quiet = at_history _ _ _ (ends_act v ledger seats history st.transcripts_agree j s there x role o open_one open_end back place same none_asked goes replies quiet)
 
   no_lines : lines_at x.place ≡ [] → script_so_far x o ≡ o.script
@@ -272,18 +272,18 @@ module _ (v : Server) (cells : List Cell) (seats : List SeatState) {history : Hi
 
   nothing_with : o.script ≡ [] → replies_with o.script × none_with o.script
   nothing_with e = subst (λ (ls : List Line). replies_with ls × none_with ls) (sym e)
-      (let same = nothing_done v.reads o.opened k.tables o.id in (ap (λ z. map reply_text z.replies) (sym same), ap (λ z. all_events o.id z.state.tables) same ∙ before.no_events o.id k.tables sound.each))
+      (let same = nothing_done v.reads o.explicit k.tables o.id in (ap (λ z. map reply_text z.replies) (sym same), ap (λ z. all_events o.id z.state.tables) same ∙ before.no_events o.id k.tables sound.each))
 
-  -- the statement was answered E30 first
-  by_failure : (text : Text) (stage : Stage) (def : Option TableDef) → x.place ≡ inside text stage → o.opened ≡ false → image_in stage ≡ 0 → shown_alone v.meaning text stage ≡ [] → AgreesAt (act.fails text ∷ act.ends count false ∷ []) (then_seats false o.script (inside text (answering (reply.Refused E30) def)))
+  -- the statement was answered NoMemory first
+  by_failure : (text : Text) (stage : StatementProgress) (def : Option TableDef) → x.place ≡ inside text stage → o.explicit ≡ false → image_in stage ≡ 0 → shown_alone v.meaning text stage ≡ [] → AgreesAt (act.fails text ∷ act.ends count false ∷ []) (then_seats false o.script (inside text (answering (reply.Refused NoMemory) def)))
   by_failure text stage def at own none_shown nothing = let none = its.alone own in
-      at_history _ _ _ (fails_ends_act v ledger seats history st.transcripts_agree j s there x role o open_one open_end text (ap text_at at) (inside text (answering (reply.Refused E30) def)) refl none
-      (from_at v.meaning x (ended_at false o.script (inside text (answering (reply.Refused E30) def))) (inside text stage) (Some o) (failed text ∷ passed count false ∷ []) at open_one refl
+      at_history _ _ _ (fails_ends_act v ledger seats history st.transcripts_agree j s there x role o open_one open_end text (ap text_at at) (inside text (answering (reply.Refused NoMemory) def)) refl none
+      (from_at v.meaning x (ended_at false o.script (inside text (answering (reply.Refused NoMemory) def))) (inside text stage) (Some o) (failed text ∷ passed count false ∷ []) at open_one refl
       (λ n i f. at_fail_end v.meaning n text o stage def count o.script own open_end none_shown nothing (fits_if v.meaning n text stage o false own f).0))
       (nothing_with none).0 (nothing_with none).1)
 
   -- the statement is said first
-  by_line : (text : Text) (r : Reply) → x.place ≡ inside text (replied r) → o.opened ≡ false → is_quiet o ≡ true → AgreesAt (act.says (text, reply_text r) ∷ act.ends count false ∷ []) (then_seats false (script_so_far x o) (inside text (answering r None)))
+  by_line : (text : Text) (r : Reply) → x.place ≡ inside text (replied r) → o.explicit ≡ false → is_read_only o ≡ true → AgreesAt (act.says (text, reply_text r) ∷ act.ends count false ∷ []) (then_seats false (script_so_far x o) (inside text (answering r None)))
   by_line text r at own quiet = let line : Line = (text, reply_text r) in let counts : lines_at x.place ≡ line ∷ [] = ap lines_at at in let e : script_so_far x o ≡ o.script ++ line ∷ [] = ap (λ (ls : List Line). o.script ++ ls) counts in
       let x1 : Session = at_place (Some (saying line o)) (inside text (answering r None)) x in let s1 : SeatState = sits s x1 in
       let y1 : Session = at_place (Some (ending (ended count false) (o.script ++ line ∷ []) (saying line o))) (inside text (answering r None)) x1 in
@@ -301,12 +301,12 @@ module _ (v : Server) (cells : List Cell) (seats : List SeatState) {history : Hi
   kind_at : (text : Text) (d : Stmt) → v.reads text ≡ Some d → kind_of (v.meaning.reads text) ≡ kind_of (Some d)
   kind_at text d is = ap kind_of (v.real.reading text ∙ is)
 
-  then_agree : (back : Bool) (ls : List Line) (place : Place) → (e : Ends v x o back ls place) → AgreesAt (end_acts e count) (then_seats back ls place)
-  then_agree _ _ _ (commits_nothing text by_begin at is quiet) = let e = no_lines (ap lines_at at) in by_script false (inside text (answering reply.Quiet None)) (ap text_at at) (ap asking at)
-      (from_at v.meaning x (ended_at false o.script (inside text (answering reply.Quiet None))) (inside text begun) (Some o) (passed count false ∷ []) at open_one refl (λ n i f. at_quiet_commit v.meaning n text o count o.script by_begin open_end (kind_at text _ is)))
+  then_agree : (back : Bool) (ls : List Line) (place : SessionStatus) → (e : Ends v x o back ls place) → AgreesAt (end_acts e count) (then_seats back ls place)
+  then_agree _ _ _ (commits_nothing text by_begin at is quiet) = let e = no_lines (ap lines_at at) in by_script false (inside text (answering reply.NoOutput None)) (ap text_at at) (ap asking at)
+      (from_at v.meaning x (ended_at false o.script (inside text (answering reply.NoOutput None))) (inside text begun) (Some o) (passed count false ∷ []) at open_one refl (λ n i f. at_read_only_commit v.meaning n text o count o.script by_begin open_end (kind_at text _ is)))
       (subst replies_with e its.replies) (λ f. subst none_with e (quiet_left quiet))
-  then_agree _ _ _ (rolls_back text by_begin at is) = let e = no_lines (ap lines_at at) in by_script true (inside text (answering reply.Quiet None)) (ap text_at at) (ap asking at)
-      (from_at v.meaning x (ended_at true o.script (inside text (answering reply.Quiet None))) (inside text begun) (Some o) (passed count true ∷ []) at open_one refl (λ n i f. at_roll_back v.meaning n text o count o.script by_begin open_end (kind_at text _ is)))
+  then_agree _ _ _ (rolls_back text by_begin at is) = let e = no_lines (ap lines_at at) in by_script true (inside text (answering reply.NoOutput None)) (ap text_at at) (ap asking at)
+      (from_at v.meaning x (ended_at true o.script (inside text (answering reply.NoOutput None))) (inside text begun) (Some o) (passed count true ∷ []) at open_one refl (λ n i f. at_roll_back v.meaning n text o count o.script by_begin open_end (kind_at text _ is)))
       (subst replies_with e its.replies) (λ f. cc)
   then_agree _ _ _ (leaves by_begin at) = let e = no_lines (ap lines_at at) in by_script true leaving (ap text_at at) (ap asking at)
       (from_at v.meaning x (ended_at true o.script leaving) leaving (Some o) (passed count true ∷ []) at open_one refl (λ n i f. at_leaving v.meaning n o count o.script by_begin open_end))
@@ -318,7 +318,7 @@ module _ (v : Server) (cells : List Cell) (seats : List SeatState) {history : Hi
   then_agree _ _ _ (lacks_memory text r alone at) = by_failure text (replied r) None at alone refl refl
   then_agree _ _ _ (lacks_index text def indexed alone at) = by_failure text (made def indexed) (Some def) at alone refl refl
 
-  pub read_stands : (back : Bool) (ls : List Line) (place : Place) → (e : Ends v x o back ls place) → StandsAfter v j history (end_acts e count) (slice_set cells ledger_at (Ledger ledger)) (then_seats back ls place)
+  pub read_stands : (back : Bool) (ls : List Line) (place : SessionStatus) → (e : Ends v x o back ls place) → StandsAfter v j history (end_acts e count) (slice_set cells ledger_at (Ledger ledger)) (then_seats back ls place)
   read_stands back ls place e = let a = then_agree back ls place e in
       ledger_after v cells seats st j s (marking count (sits s (at_place (Some (ending (ended count back) ls o)) place x))) there ledger refl a.session st.ledger_is_legal (ends_turn back ls place (so v x o back ls place e)) a.agree a.own
 

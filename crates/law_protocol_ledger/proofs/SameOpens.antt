@@ -1,20 +1,20 @@
 -- Where the open transactions of seats are the same, what is said of cells and seats but for transcripts stays.
 use Rattle.std.proofs.Common.{ℕ, List, Option, refl}
-use Rattle.lg_model.specs.Catalog.{Defs, defs_of}
-use Rattle.lg_standing.specs.Server.{Server}
-use Rattle.lg_types.specs.declared.lock.Hold.{Hold}
-use Rattle.lg_standing.specs.Cells.{Creator}
-use Rattle.lg_standing.specs.Contents.{Contents, Known}
-use Rattle.lg_standing.specs.Seats.{OpenTransaction, Session, SeatState}
-use Rattle.lg_standing.specs.OpenOnes.{HasOpen}
-use Rattle.lg_standing.specs.TablesAreSerial.{TablesAreSerial, Creates, def_at}
-use Rattle.lg_standing.specs.OpenScripts.{OpenScripts}
-use Rattle.lg_standing.specs.LocksCover.{Belongs, LocksCover}
-use Rattle.lg_standing.specs.LocksAgree.{SeatHas, LocksAgree}
-use Rattle.lg_standing.specs.TreesAreOfEvents.{TreesAreOfEvents}
+use Rattle.spec_model.specs.Catalog.{Defs, defs_of}
+use Rattle.spec_protocol.specs.Server.{Server}
+use Rattle.sql_types.specs.declared.lock.Hold.{Hold}
+use Rattle.spec_protocol.specs.Cells.{Creator}
+use Rattle.spec_protocol.specs.Contents.{Contents, Known}
+use Rattle.spec_protocol.specs.Seats.{OpenTransaction, Session, SeatState}
+use Rattle.spec_protocol.specs.OpenOnes.{HasOpen}
+use Rattle.spec_protocol.specs.TablesAreSerial.{TablesAreSerial, Creates, def_at}
+use Rattle.spec_protocol.specs.OpenScripts.{OpenScripts}
+use Rattle.spec_protocol.specs.LocksCover.{Belongs, LocksCover}
+use Rattle.spec_protocol.specs.LocksAgree.{SeatHas, LocksAgree}
+use Rattle.spec_protocol.specs.TreesAreOfEvents.{TreesAreOfEvents}
 use Rattle.law_protocol_steps.proofs.Turns.{StillCreates, definitions_stand, stands_as}
-use Rattle.lg_standing.specs.RowsAgree.{RowsAgree}
-use Rattle.lg_types.specs.declared.statement.Stmt.{Stmt}
+use Rattle.spec_protocol.specs.RowsAgree.{RowsAgree}
+use Rattle.sql_types.specs.declared.statement.Stmt.{Stmt}
 
 abbrev pub Opens : List SeatState → List SeatState → Type 0
 Opens these those = (k : ℕ) (y : Session) (p : OpenTransaction) → HasOpen these k y p → HasOpen those k y p
@@ -45,7 +45,7 @@ module _ (v : Server) (c : Contents) (k : Known) (seats then_seats : List SeatSt
     undone = h.undone;
     rising = h.rising;
     back = λ j x o w. h.back j x o (back j x o w);
-    opened = λ j x o w. h.opened j x o (back j x o w);
+    explicit = λ j x o w. h.explicit j x o (back j x o w);
     before = λ j x o w. h.before j x o (back j x o w);
   }
 

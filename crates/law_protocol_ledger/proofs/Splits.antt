@@ -4,18 +4,18 @@ use Rattle.std.proofs.lemmas.Bool.{eq-eqb, ne_eqb}
 use Rattle.std.specs.Prelude.{◌==◌, if◌then◌else◌}
 use mathlib.Core.Option.{some, some-injective, some-ne-none}
 use lib.ListN.{get_elem?}
-use Rattle.lg_history.specs.Lists.{Each, In}
-use Rattle.lg_history.specs.Acts.{Act}
-use Rattle.lg_history.proofs.Trace.{each_append, each_weaker}
-use Rattle.lg_standing.specs.Server.{Server}
-use Rattle.lg_standing.specs.Cells.{LedgerCell, Cell}
-use Rattle.lg_standing.specs.Contents.{contents, known}
-use Rattle.lg_standing.specs.Seats.{OpenTransaction, Session, Written, idle, session, SeatState, kept, split}
-use Rattle.lg_standing.specs.OpenOnes.{HasOpen}
-use Rattle.lg_standing.specs.Parts.{Numbers, all_of, IsOver, Past}
-use Rattle.lg_standing.specs.TranscriptsAgree.{IsMoment, SeatAgrees, TranscriptsAgree}
-use Rattle.lg_standing.specs.StandTogether.{History, Stands}
-use Rattle.lg_standing.proofs.Places.{set_same}
+use Rattle.spec_history.specs.Lists.{Each, In}
+use Rattle.spec_history.specs.Acts.{Act}
+use Rattle.spec_history.proofs.Trace.{each_append, each_weaker}
+use Rattle.spec_protocol.specs.Server.{Server}
+use Rattle.spec_protocol.specs.Cells.{LedgerCell, Cell}
+use Rattle.spec_protocol.specs.Contents.{contents, known}
+use Rattle.spec_protocol.specs.Seats.{OpenTransaction, Session, Written, idle, session, SeatState, kept, split}
+use Rattle.spec_protocol.specs.OpenOnes.{HasOpen}
+use Rattle.spec_protocol.specs.Parts.{Numbers, all_of, IsOver, Past}
+use Rattle.spec_protocol.specs.TranscriptsAgree.{IsMoment, SeatAgrees, TranscriptsAgree}
+use Rattle.spec_protocol.specs.StandTogether.{History, Stands}
+use Rattle.spec_protocol.proofs.Places.{set_same}
 use Rattle.law_protocol_ledger.proofs.SameOpens.{tables_same, scripts_same, trees_same, agree_same, cover_same, rows_same}
 
 module _ {A : Type 0} where

@@ -5,77 +5,77 @@ use Rattle.std.specs.List.{list_any, AllByRecursion}
 use Rattle.std.specs.Str.{bytes_eq}
 use mathlib.Core.Option.{some}
 use lib.ListN.{get_elem?}
-use Rattle.lg_types.specs.declared.reply.Reply.TheVariants as reply
-use Rattle.lg_types.specs.declared.statement.Stmt.TheVariants as stmt
-use Rattle.lg_types.specs.declared.version.Version.{Version}
-use Rattle.lg_model.specs.Catalog.{Tables, defs_of, versions_of}
-use Rattle.lg_model.specs.Journals.{Line}
-use Rattle.lg_model.specs.Replies.{reply_text}
-use Rattle.lg_model.specs.Script.{Saved, State, back_to, by_statement, script}
-use Rattle.lg_model.specs.Touched.{touched}
-use Rattle.lg_model.specs.Undo.{versions_undone, undone}
-use Rattle.lg_frames.proofs.UndoneScripts.{copies_undone}
-use Rattle.lg_frames.proofs.UndoneWhole.{undone_at}
-use Rattle.lg_history.specs.Lists.{Text, Each, In}
-use Rattle.lg_history.specs.Transcripts.{Kind, to_savepoint, kind_of}
-use Rattle.lg_history.specs.Facts.{said}
-use Rattle.lg_history.specs.Transactions.{unfixed}
-use Rattle.lg_history.specs.Sessions.{SessionTransaction, SessionState}
-use Rattle.lg_history.specs.Worlds.{first, run}
-use Rattle.lg_history.proofs.Trace.{each_weaker}
-use Rattle.lg_standing.specs.Server.{Server}
-use Rattle.lg_types.specs.declared.lock.Hold.{Hold}
-use Rattle.lg_standing.specs.Cells.{Cell, cell_of}
-use Rattle.lg_standing.specs.Contents.{Contents, Known, contents, known}
-use Rattle.lg_standing.specs.Alone.{tables_visited}
-use Rattle.lg_standing.specs.Answering.{frames_from}
-use Rattle.lg_standing.specs.TranscriptsSoFar.{shown_inside, FitsWith, Fits}
-use Rattle.lg_standing.specs.EventsIn.{events_in}
-use Rattle.lg_standing.specs.Moves.{saying, framed, at_place, sits}
-use Rattle.lg_standing.specs.OpenOnes.{HasOpen, text_at, lines_at, texts_so_far, script_end}
-use Rattle.lg_standing.specs.OpenScripts.{counted}
-use Rattle.lg_standing.specs.Parts.{asking, AreTransactions, IsNow}
-use Rattle.lg_standing.specs.Seats.{Frame, OpenTransaction, begun, going_back, answering, Place, inside, Session, session, SeatState}
-use Rattle.lg_standing.specs.StandTogether.{History, Stands, StandsAfter}
-use Rattle.lg_standing.specs.TreesAreOfEvents.{IsFrame, AreFrames}
-use Rattle.lg_standing.specs.WantsIn.{wants_in, Holds}
+use Rattle.sql_types.specs.declared.reply.Reply.TheVariants as reply
+use Rattle.sql_types.specs.declared.statement.Stmt.TheVariants as stmt
+use Rattle.sql_types.specs.declared.version.Version.{Version}
+use Rattle.spec_model.specs.Catalog.{Tables, defs_of, versions_of}
+use Rattle.spec_model.specs.Journals.{Line}
+use Rattle.spec_model.specs.Replies.{reply_text}
+use Rattle.spec_model.specs.Script.{Saved, State, back_to, by_statement, script}
+use Rattle.spec_model.specs.Touched.{touched}
+use Rattle.spec_model.specs.Undo.{versions_undone, undone}
+use Rattle.law_frame.proofs.UndoneScripts.{copies_undone}
+use Rattle.law_frame.proofs.UndoneWhole.{undone_at}
+use Rattle.spec_history.specs.Lists.{Text, Each, In}
+use Rattle.spec_history.specs.Transcripts.{Kind, to_savepoint, kind_of}
+use Rattle.spec_history.specs.Facts.{said}
+use Rattle.spec_history.specs.Transactions.{unfixed}
+use Rattle.spec_history.specs.Sessions.{SessionTransaction, SessionState}
+use Rattle.spec_history.specs.Worlds.{first, run}
+use Rattle.spec_history.proofs.Trace.{each_weaker}
+use Rattle.spec_protocol.specs.Server.{Server}
+use Rattle.sql_types.specs.declared.lock.Hold.{Hold}
+use Rattle.spec_protocol.specs.Cells.{Cell, cell_of}
+use Rattle.spec_protocol.specs.Contents.{Contents, Known, contents, known}
+use Rattle.spec_protocol.specs.Alone.{tables_visited}
+use Rattle.spec_protocol.specs.Answering.{savepoints_from}
+use Rattle.spec_protocol.specs.TranscriptsSoFar.{shown_inside, FitsWith, Fits}
+use Rattle.spec_protocol.specs.EventsIn.{events_in}
+use Rattle.spec_protocol.specs.Moves.{saying, with_undo_state, at_place, sits}
+use Rattle.spec_protocol.specs.OpenOnes.{HasOpen, text_at, lines_at, texts_so_far, script_end}
+use Rattle.spec_protocol.specs.OpenScripts.{counted}
+use Rattle.spec_protocol.specs.Parts.{asking, AreTransactions, IsNow}
+use Rattle.spec_protocol.specs.Seats.{OpenSavepoint, OpenTransaction, begun, going_back, answering, SessionStatus, inside, Session, session, SeatState}
+use Rattle.spec_protocol.specs.StandTogether.{History, Stands, StandsAfter}
+use Rattle.spec_protocol.specs.TreesAreOfEvents.{IsOpenSavepoint, AreOpenSavepoints}
+use Rattle.spec_protocol.specs.RequestsIn.{requests_in, Holds}
 use Rattle.law_protocol_steps.proofs.AloneTurns.{alone_stands, kept, keeps_turn, StillAt, bare, alone_after}
-use Rattle.law_protocol_steps.proofs.Deeds.{plain_acts}
+use Rattle.law_protocol_steps.proofs.AnonymousActs.{plain_acts}
 use Rattle.law_protocol_steps.proofs.TranscriptActs.{goes_on}
-use Rattle.law_protocol_steps.proofs.TranscriptStages.{from_at, at_opened, savepoint_fits}
+use Rattle.law_protocol_steps.proofs.TranscriptProgress.{from_at, at_opened, savepoint_fits}
 use Rattle.law_protocol_steps.proofs.FreshIds.{events_of_touched, IsNotOf, each_filter_not, made_before, none_of_touched, undone_nothing}
 use Rattle.law_protocol_steps.proofs.Heard.{heard_still}
 use Rattle.law_protocol_steps.proofs.Ids.{InTransaction, in_transaction}
 use Rattle.law_protocol_steps.proofs.OthersScripts.{sound_for}
-use Rattle.law_protocol_steps.proofs.SaidMore.{trees_over, X, its_versions, its_counter, its_frames, keeps_said, state_is}
+use Rattle.law_protocol_steps.proofs.SaidMore.{trees_over, X, its_versions, its_counter, its_savepoints, keeps_said, state_is}
 use Rattle.law_protocol_changes.proofs.SaysHistory.{says_act, says_owner}
 use Rattle.law_protocol_steps.proofs.ScriptMore.{step_is, back_one}
-use Rattle.law_protocol_changes.proofs.StepsSaid.{none_wanted, back_wants, same_back}
+use Rattle.law_protocol_changes.proofs.StepsSaid.{none_requested, back_requests, same_back}
 use Rattle.law_protocol_ledger.proofs.Visited.{touched_undone, nothing_there}
 use Rattle.law_protocol_steps.proofs.PlainPlaces.{AddsNone, none_added}
-use Rattle.lg_standing.specs.TablesAreSerial.{IsAdding}
-use Rattle.lg_model.specs.Keys.{Key, same_key, version_key}
-use Rattle.lg_model.specs.Runs.{MadeBefore}
+use Rattle.spec_protocol.specs.TablesAreSerial.{IsAdding}
+use Rattle.spec_model.specs.Keys.{Key, same_key, version_key}
+use Rattle.spec_model.specs.Runs.{MadeBefore}
 use Rattle.law_protocol_steps.proofs.Turns.{Owes}
-use Rattle.lg_model.specs.Agreement.{columns_at}
-use Rattle.lg_standing.specs.RowsAgree.{key_rows}
-use Rattle.lg_model.specs.Reach.{lets_change}
-use Rattle.lg_frames.proofs.Definitions.{opened_keep_defs}
+use Rattle.spec_model.specs.Agreement.{columns_at}
+use Rattle.spec_protocol.specs.RowsAgree.{key_rows}
+use Rattle.spec_model.specs.Reach.{lets_change}
+use Rattle.law_frame.proofs.Definitions.{opened_keep_defs}
 use Rattle.law_protocol_changes.proofs.ChangedRows.{undone_before, undone_of_key}
 use Rattle.law_protocol_steps.proofs.GoesOn.{nothing_added}
-use Rattle.lg_history.specs.Acts.{says}
+use Rattle.spec_history.specs.Acts.{says}
 
 -- the savepoint of a frame
-record BackAt (v : Server) (id : ℕ) (f : Frame) (fs : List Frame) (ks : List Saved) : Type 0 where
+record BackAt (v : Server) (id : ℕ) (f : OpenSavepoint) (fs : List OpenSavepoint) (ks : List Saved) : Type 0 where
   c : Saved
   cs : List Saved
   is : ks ≡ c ∷ cs
-  frame : IsFrame id f c
-  rest : AreFrames id fs cs
+  open_savepoint : IsOpenSavepoint id f c
+  rest : AreOpenSavepoints id fs cs
 
-back_at : (v : Server) (id : ℕ) (f : Frame) (fs : List Frame) (ks : List Saved) → AreFrames id (f ∷ fs) ks → BackAt v id f fs ks
+back_at : (v : Server) (id : ℕ) (f : OpenSavepoint) (fs : List OpenSavepoint) (ks : List Saved) → AreOpenSavepoints id (f ∷ fs) ks → BackAt v id f fs ks
 back_at v id f fs [] h = absurd h
-back_at v id f fs (c ∷ cs) h = record { c = c; cs = cs; is = refl; frame = h.0; rest = h.1 }
+back_at v id f fs (c ∷ cs) h = record { c = c; cs = cs; is = refl; open_savepoint = h.0; rest = h.1 }
 
 all_back : (P : Saved → Type 0) (name : List ℕ) (ks : List Saved) → AllByRecursion P ks → AllByRecursion P (back_to ks name)
 all_back P name [] h = tt
@@ -101,32 +101,32 @@ module _ (v : Server) (cells : List Cell) (seats : List SeatState) {history : Hi
 
   -- ---- it begins
 
-  module _ (opened : o.opened ≡ true) (text : Text) (at : x.place ≡ inside text begun) (name : Text) (is : v.reads text ≡ Some (stmt.Rollback (Some name))) (f : Frame) (fs : List Frame) (found : frames_from name o.frames ≡ f ∷ fs) where
+  module _ (explicit : o.explicit ≡ true) (text : Text) (at : x.place ≡ inside text begun) (name : Text) (is : v.reads text ≡ Some (stmt.Rollback (Some name))) (f : OpenSavepoint) (fs : List OpenSavepoint) (found : savepoints_from name o.open_savepoints ≡ f ∷ fs) where
     abbrev state : State
-    state = X v cells seats st j s there x role o one open_end opened text begun at refl (λ id ws. refl)
+    state = X v cells seats st j s there x role o one open_end explicit text begun at refl (λ id ws. refl)
 
     counter : o.seq ≡ state.seq
-    counter = its_counter v cells seats st j s there x role o one open_end opened text begun at refl (λ id ws. refl)
+    counter = its_counter v cells seats st j s there x role o one open_end explicit text begun at refl (λ id ws. refl)
 
     versions : (id : ℕ) → 1 ≤ id → touched o.id (c.versions id) ≡ touched o.id (versions_of state.tables id)
-    versions = its_versions v cells seats st j s there x role o one open_end opened text begun at refl (λ id ws. refl)
+    versions = its_versions v cells seats st j s there x role o one open_end explicit text begun at refl (λ id ws. refl)
 
     to : BackAt v o.id f fs (back_to state.saved name)
-    to = back_at v o.id f fs (back_to state.saved name) (subst (λ fs. AreFrames o.id fs (back_to state.saved name)) found (same_back v o.id name o.frames state.saved (its_frames v cells seats st j s there x role o one open_end opened text begun at refl (λ id ws. refl))))
+    to = back_at v o.id f fs (back_to state.saved name) (subst (λ fs. AreOpenSavepoints o.id fs (back_to state.saved name)) found (same_back v o.id name o.open_savepoints state.saved (its_savepoints v cells seats st j s there x role o one open_end explicit text begun at refl (λ id ws. refl))))
 
     -- the savepoint's tables are what undo by its counter gives
     undo : undone o.id to.c.seq state.tables ≡ to.c.tables
     undo = (subst (AllByRecursion (λ b. undone o.id b.seq state.tables ≡ b.tables)) to.is (all_back (λ b. undone o.id b.seq state.tables ≡ b.tables) name state.saved
-        (subst (λ b. AllByRecursion (λ g. undone o.id g.seq (script v.reads b k.tables o.id (map (λ l. l.0) o.script)).state.tables ≡ g.tables) (script v.reads b k.tables o.id (map (λ l. l.0) o.script)).state.saved) (sym opened)
+        (subst (λ b. AllByRecursion (λ g. undone o.id g.seq (script v.reads b k.tables o.id (map (λ l. l.0) o.script)).state.tables ≡ g.tables) (script v.reads b k.tables o.id (map (λ l. l.0) o.script)).state.saved) (sym explicit)
         (copies_undone v.reads k.tables o.id (map (λ l. l.0) o.script) (sound_for v cells seats st j x o has open_end))))).0
 
     then_state : State
     then_state = record { tables = to.c.tables; seq = to.c.seq; saved = to.c ∷ to.cs }
 
     abbrev p : OpenTransaction
-    p = framed f.seq f.trees (f ∷ fs) o
+    p = with_undo_state f.seq f.trees (f ∷ fs) o
 
-    abbrev place : Place
+    abbrev place : SessionStatus
     place = inside text (going_back f.seq (tables_visited o))
 
     abbrev y : Session
@@ -135,22 +135,22 @@ module _ (v : Server) (cells : List Cell) (seats : List SeatState) {history : Hi
     -- what counts is what the savepoint has
     undone_versions : (id : ℕ) → 1 ≤ id → touched o.id (versions_undone o.id f.seq (c.versions id)) ≡ touched o.id (versions_of to.c.tables id)
     undone_versions id l = touched_undone o.id f.seq (c.versions id) ∙ ap (λ (ws : List Version). touched o.id (versions_undone o.id f.seq ws)) (versions id l) ∙ sym (touched_undone o.id f.seq (versions_of state.tables id))
-        ∙ ap (λ (n : ℕ). touched o.id (versions_undone o.id n (versions_of state.tables id))) to.frame.counter ∙ ap (touched o.id) (sym (undone_at o.id to.c.seq state.tables id) ∙ ap (λ (T : Tables). versions_of T id) undo)
+        ∙ ap (λ (n : ℕ). touched o.id (versions_undone o.id n (versions_of state.tables id))) to.open_savepoint.counter ∙ ap (touched o.id) (sym (undone_at o.id to.c.seq state.tables id) ∙ ap (λ (T : Tables). versions_of T id) undo)
 
     counts : (id : ℕ) → 1 ≤ id → touched o.id (counted o.id id place (c.versions id)) ≡ touched o.id (versions_of to.c.tables id)
     counts id l = by_cell (list_any (λ i. i == cell_of id) (tables_visited o)) refl
       where
         by_cell : (b : Bool) → list_any (λ i. i == cell_of id) (tables_visited o) ≡ b → touched o.id (if b then versions_undone o.id f.seq (c.versions id) else c.versions id) ≡ touched o.id (versions_of to.c.tables id)
         by_cell true e = undone_versions id l
-        by_cell false e = let none = nothing_there v cells seats st j x o has open_end opened (map (λ l. l.0) o.script) versions id l e in
+        by_cell false e = let none = nothing_there v cells seats st j x o has open_end explicit (map (λ l. l.0) o.script) versions id l e in
             none ∙ sym (touched_undone o.id f.seq (c.versions id) ∙ ap (λ (ws : List Version). touched o.id (versions_undone o.id f.seq ws)) none) ∙ undone_versions id l
 
-    step : by_statement o.opened o.id state (v.reads text) ≡ (record { tables = to.c.tables; seq = to.c.seq; saved = to.c ∷ to.cs }, reply.Back)
-    step = (λ i. by_statement (opened i) o.id state (is i)) ∙ back_one state name to.c to.cs to.is
+    step : by_statement o.explicit o.id state (v.reads text) ≡ (record { tables = to.c.tables; seq = to.c.seq; saved = to.c ∷ to.cs }, reply.Back)
+    step = (λ i. by_statement (explicit i) o.id state (is i)) ∙ back_one state name to.c to.cs to.is
 
-    wants_none : (i : ℕ) → Each (Holds (c.holds i) o.id) (wants_in v (defs_of k.tables) o.opened i text)
-    wants_none i = let w = back_wants (defs_of k.tables) o.opened (Some name) in
-        subst (λ z. Each (Holds (c.holds i) o.id) (Rattle.lg_standing.specs.WantsIn.wants_at i (Rattle.lg_model.specs.ScriptWants.text_wants (defs_of k.tables) o.opened z))) (sym is) (none_wanted (Holds (c.holds i) o.id) i _ w.0 w.1)
+    requests_none : (i : ℕ) → Each (Holds (c.holds i) o.id) (requests_in v (defs_of k.tables) o.explicit i text)
+    requests_none i = let w = back_requests (defs_of k.tables) o.explicit (Some name) in
+        subst (λ z. Each (Holds (c.holds i) o.id) (Rattle.spec_protocol.specs.RequestsIn.requests_at i (Rattle.spec_model.specs.ScriptRequests.text_requests (defs_of k.tables) o.explicit z))) (sym is) (none_requested (Holds (c.holds i) o.id) i _ w.0 w.1)
 
     kind : kind_of (v.meaning.reads text) ≡ to_savepoint
     kind = ap kind_of (v.real.reading text ∙ is)
@@ -169,53 +169,53 @@ module _ (v : Server) (cells : List Cell) (seats : List SeatState) {history : Hi
       under = d.runs.now.under ∙ ap text_at at;
       open_one = subst (λ (z : Option SessionTransaction). AreTransactions z y y.open_one) (sym d.has) (record {
         id = d.is.id;
-        opened = d.is.opened;
+        explicit = d.is.explicit;
         script = d.is.script;
         end = d.is.end;
         asked = λ u. each_weaker (λ a. a.1 ≡ true → In a.0 (texts_so_far x o)) (λ a. a.1 ≡ true → In a.0 (texts_so_far y p))
-            (λ a g e. in_old a.0 o.script (text, reply_text reply.Back) (subst (λ ls. In a.0 (map (λ l. l.0) ls)) (ap (λ (z : Place). o.script ++ lines_at z) at ∙ append-nil o.script) (g e))) d.transaction.asked (d.is.asked u);
+            (λ a g e. in_old a.0 o.script (text, reply_text reply.Back) (subst (λ ls. In a.0 (map (λ l. l.0) ls)) (ap (λ (z : SessionStatus). o.script ++ lines_at z) at ∙ append-nil o.script) (g e))) d.transaction.asked (d.is.asked u);
         heard = heard_still x.place place d.transaction.answered d.transaction.asked (ap asking at) d.is.heard;
       });
       so_far = goes_on v.meaning sess.so_far sess.so_far x y [] refl (sym (append-nil sess.so_far.pending)) d.runs.now.so_far
-          (from_at v.meaning x y (inside text begun) (Some o) [] at one refl (λ n i g. at_opened v.meaning n text o p begun (going_back f.seq (tables_visited o)) [] opened open_end refl opened open_end refl refl refl refl refl refl kind));
+          (from_at v.meaning x y (inside text begun) (Some o) [] at one refl (λ n i g. at_opened v.meaning n text o p begun (going_back f.seq (tables_visited o)) [] explicit open_end refl explicit open_end refl refl refl refl refl refl kind));
     }
 
     back_still : StillAt v cells seats st j s there x o y p
-    back_still = record { acted = λ e. let no : true ≡ false = sym opened ∙ e in cc; adding = λ after i a. absurd (none_added (inside text begun) o after i tt (subst (λ z. IsAdding z o after i) at a)) }
+    back_still = record { acted = λ e. let no : true ≡ false = sym explicit ∙ e in cc; adding = λ after i a. absurd (none_added (inside text begun) o after i tt (subst (λ z. IsAdding z o after i) at a)) }
 
     -- the rows of a key, undone
     abbrev rows_of : ℕ → Key → List Version → List Version
     rows_of id key vs = key_rows k.tables id key vs
 
     back_tables : (script_end v k.tables y p).state.tables ≡ to.c.tables
-    back_tables = ap (λ z. z.tables) (state_is v cells seats st j s there x role o one open_end opened text begun at refl (λ id ws. refl) reply.Back (record { tables = to.c.tables; seq = to.c.seq; saved = to.c ∷ to.cs }) (step_is v.reads o.opened o.id state text ∙ step) wants_none)
+    back_tables = ap (λ z. z.tables) (state_is v cells seats st j s there x role o one open_end explicit text begun at refl (λ id ws. refl) reply.Back (record { tables = to.c.tables; seq = to.c.seq; saved = to.c ∷ to.cs }) (step_is v.reads o.explicit o.id state text ∙ step) requests_none)
 
-    owned_before : (id : ℕ) (key : Key) → 1 ≤ id → (h : Hold) → In h (c.holds (cell_of id)) → h.tx ≡ o.id → lets_change key h.want ≡ true → rows_of id key (c.versions id) ≡ rows_of id key (versions_of state.tables id)
+    owned_before : (id : ℕ) (key : Key) → 1 ≤ id → (h : Hold) → In h (c.holds (cell_of id)) → h.tx ≡ o.id → lets_change key h.request ≡ true → rows_of id key (c.versions id) ≡ rows_of id key (versions_of state.tables id)
     owned_before id key l h i m r = (λ n. counted o.id id (sym at n) (rows_of id key (c.versions id))) ∙ st.rows_agree.own j x o has open_end id key l h i m r
-        ∙ ap (λ (ls : List Line). rows_of id key (versions_of (script v.reads o.opened k.tables o.id (map (λ z. z.0) ls)).state.tables id)) (ap (λ (z : Place). o.script ++ lines_at z) at ∙ append-nil o.script)
+        ∙ ap (λ (ls : List Line). rows_of id key (versions_of (script v.reads o.explicit k.tables o.id (map (λ z. z.0) ls)).state.tables id)) (ap (λ (z : SessionStatus). o.script ++ lines_at z) at ∙ append-nil o.script)
 
     undone_key : (id : ℕ) (key : Key) → versions_undone o.id f.seq (rows_of id key (versions_of state.tables id)) ≡ rows_of id key (versions_of to.c.tables id)
     undone_key id key = undone_of_key (columns_at (defs_of k.tables) id) key o.id f.seq (versions_of state.tables id)
-        ∙ ap (λ (n : ℕ). rows_of id key (versions_undone o.id n (versions_of state.tables id))) to.frame.counter
+        ∙ ap (λ (n : ℕ). rows_of id key (versions_undone o.id n (versions_of state.tables id))) to.open_savepoint.counter
         ∙ ap (rows_of id key) (sym (undone_at o.id to.c.seq state.tables id) ∙ ap (λ (T : Tables). versions_of T id) undo)
 
     all_before : (id : ℕ) → 1 ≤ id → AllByRecursion (MadeBefore o.id o.seq) (c.versions id)
-    all_before id l = subst (λ (z : Place). AllByRecursion (MadeBefore o.id o.seq) (counted o.id id z (c.versions id))) at (st.rows_agree.before j x o has open_end id l)
+    all_before id l = subst (λ (z : SessionStatus). AllByRecursion (MadeBefore o.id o.seq) (counted o.id id z (c.versions id))) at (st.rows_agree.before j x o has open_end id l)
 
     -- who isn't in the cell made nothing there
     untouched_there : (id : ℕ) → 1 ≤ id → list_any (λ i. i == cell_of id) (tables_visited o) ≡ false → Each (IsNotOf o.id) (c.versions id)
-    untouched_there id l e = none_of_touched o.id (c.versions id) (nothing_there v cells seats st j x o has open_end opened (map (λ l. l.0) o.script) versions id l e)
+    untouched_there id l e = none_of_touched o.id (c.versions id) (nothing_there v cells seats st j x o has open_end explicit (map (λ l. l.0) o.script) versions id l e)
 
     back_owes : Owes v c k st.catalog.defs y p
     back_owes = record {
-      carried = λ u. inr (ap (λ (b : Bool). defs_of (script v.reads b k.tables o.id (texts_so_far y p)).state.tables) opened ∙ (opened_keep_defs v.reads k.tables o.id (texts_so_far y p)).tables);
+      carried = λ u. inr (ap (λ (b : Bool). defs_of (script v.reads b k.tables o.id (texts_so_far y p)).state.tables) explicit ∙ (opened_keep_defs v.reads k.tables o.id (texts_so_far y p)).tables);
       indexed = λ u. tt;
       looked_first = λ u f. absurd f;
       dropping = λ f. absurd f;
       own = λ u id key l h i m r. by_cell_own id key l (owned_before id key l h i m r) (list_any (λ a. a == cell_of id) (tables_visited o)) refl ∙ ap (λ (T : Tables). rows_of id key (versions_of T id)) (sym back_tables);
       before = λ u id l. by_cell_before id l (list_any (λ a. a == cell_of id) (tables_visited o)) refl;
       back = refl;
-      opened = opened;
+      explicit = explicit;
     }
       where
         by_cell_own : (id : ℕ) (key : Key) → 1 ≤ id → rows_of id key (c.versions id) ≡ rows_of id key (versions_of state.tables id) → (b : Bool) → list_any (λ a. a == cell_of id) (tables_visited o) ≡ b
@@ -231,11 +231,11 @@ module _ (v : Server) (cells : List Cell) (seats : List SeatState) {history : Hi
     pub went_back : Stands v history cells (slice_set seats j (sits s y))
     went_back = alone_stands v cells seats st j s there _ history
         (keeps_turn v cells seats st j s there x role o one _ y p refl refl
-        (keeps_said v cells seats st j s there x role o one open_end opened text begun at refl (λ id ws. refl) reply.Back (record { tables = to.c.tables; seq = to.c.seq; saved = to.c ∷ to.cs })
-        (step_is v.reads o.opened o.id state text ∙ step) wants_none y p o.script refl refl refl refl refl refl refl counts to.frame.counter
+        (keeps_said v cells seats st j s there x role o one open_end explicit text begun at refl (λ id ws. refl) reply.Back (record { tables = to.c.tables; seq = to.c.seq; saved = to.c ∷ to.cs })
+        (step_is v.reads o.explicit o.id state text ∙ step) requests_none y p o.script refl refl refl refl refl refl refl counts to.open_savepoint.counter
         (trees_over v (λ id. events_in o.id id (versions_of to.c.tables id)) (λ id. events_in o.id id (counted o.id id place (c.versions id))) f.trees
-        (λ id l. events_of_touched o.id id (versions_of to.c.tables id) ∙ ap (events_in o.id id) (sym (counts id l)) ∙ sym (events_of_touched o.id id (counted o.id id place (c.versions id)))) to.frame.trees)
-        (to.frame, to.rest) (λ l. tt) tt (λ e. ap text_at at) (λ e. let no : true ≡ false = sym opened ∙ e in cc) back_still back_owes))
+        (λ id l. events_of_touched o.id id (versions_of to.c.tables id) ∙ ap (events_in o.id id) (sym (counts id l)) ∙ sym (events_of_touched o.id id (counted o.id id place (c.versions id)))) to.open_savepoint.trees)
+        (to.open_savepoint, to.rest) (λ l. tt) tt (λ e. ap text_at at) (λ e. let no : true ≡ false = sym explicit ∙ e in cc) back_still back_owes))
         (nothing_added v history st.ledger _ (plain_acts v st.ledger seats history st.transcripts_agree j s there x y role d.runs.number d.runs.is [] tt tt now (record { images = refl; moments = refl; earlier = refl })))
 
   -- ---- it ends
@@ -251,11 +251,11 @@ module _ (v : Server) (cells : List Cell) (seats : List SeatState) {history : Hi
     by_begin true n g = (refl, g.1)
     by_begin false n g = absurd g.1
 
-    pub opened_by_begin : (o.opened ≡ true) × (kind_of (v.meaning.reads text) ≡ to_savepoint)
-    opened_by_begin = by_begin o.opened _ (fits_there _ d.runs.now.so_far.fits)
+    pub explicit_by_begin : (o.explicit ≡ true) × (kind_of (v.meaning.reads text) ≡ to_savepoint)
+    explicit_by_begin = by_begin o.explicit _ (fits_there _ d.runs.now.so_far.fits)
 
-    abbrev opened : o.opened ≡ true
-    opened = opened_by_begin.0
+    abbrev explicit : o.explicit ≡ true
+    explicit = explicit_by_begin.0
 
     abbrev z : Session
     z = at_place (Some (saying line o)) (inside text (answering reply.Back None)) x
@@ -263,9 +263,9 @@ module _ (v : Server) (cells : List Cell) (seats : List SeatState) {history : Hi
     pub is_back_stands : StandsAfter v j history (says line ∷ []) cells (slice_set seats j (sits s z))
     is_back_stands = alone_after v cells seats st j s there _ _
         (keeps_turn v cells seats st j s there x role o one _ z (saying line o) refl refl
-        (kept v cells seats st j s there x role o one z (o.script ++ line ∷ []) (ap (λ q. o.script ++ lines_at q) at ∙ sym (append-nil (o.script ++ line ∷ []))) (λ id ws. ap (λ q. counted o.id id q ws) at) (λ e f. let no : true ≡ false = sym opened ∙ e in cc) (λ e. ap text_at at) (λ l. tt) tt
-        (bare v cells seats st j s there x role o one z (saying line o) tt (subst AddsNone (sym at) tt) (λ e. let no : true ≡ false = sym opened ∙ e in cc))))
+        (kept v cells seats st j s there x role o one z (o.script ++ line ∷ []) (ap (λ q. o.script ++ lines_at q) at ∙ sym (append-nil (o.script ++ line ∷ []))) (λ id ws. ap (λ q. counted o.id id q ws) at) (λ e f. let no : true ≡ false = sym explicit ∙ e in cc) (λ e. ap text_at at) (λ l. tt) tt
+        (bare v cells seats st j s there x role o one z (saying line o) tt (subst AddsNone (sym at) tt) (λ e. let no : true ≡ false = sym explicit ∙ e in cc))))
         (says_act v st.ledger seats history st.transcripts_agree j s there x role o one open_end (st.open_scripts j x o has open_end).alone line (λ a i. subst (λ q. In a (map (λ l. l.0) (o.script ++ lines_at q))) at i) (ap text_at at) (answering reply.Back None)
-        (from_at v.meaning x z (inside text (going_back seq [])) (Some o) (said line ∷ []) at one refl (λ n i f. at_opened v.meaning n text o (saying line o) (going_back seq []) (answering reply.Back None) (said line ∷ []) opened open_end refl opened open_end refl refl refl
-        (ap (λ (q : Kind). shown_inside v.meaning q text (answering reply.Back None)) opened_by_begin.1 ∙ ap (λ w. said (text, w) ∷ []) (v.real.writes reply.Back)) refl refl
-        (savepoint_fits v.meaning n text o.id reply.Back opened_by_begin.1 (record { e01 = λ f. cc; e13 = λ f. cc; e14 = λ f. cc; e17 = λ f. cc }))))) (says_owner _ _ _ _ _ _ _ _ _ _ _ _ _ _ _ _ _ _ _)
+        (from_at v.meaning x z (inside text (going_back seq [])) (Some o) (said line ∷ []) at one refl (λ n i f. at_opened v.meaning n text o (saying line o) (going_back seq []) (answering reply.Back None) (said line ∷ []) explicit open_end refl explicit open_end refl refl refl
+        (ap (λ (q : Kind). shown_inside v.meaning q text (answering reply.Back None)) explicit_by_begin.1 ∙ ap (λ w. said (text, w) ∷ []) (v.real.writes reply.Back)) refl refl
+        (savepoint_fits v.meaning n text o.id reply.Back explicit_by_begin.1 (record { not_syntax_error = λ f. cc; not_no_transaction = λ f. cc; not_already_in = λ f. cc; not_forbidden_in = λ f. cc }))))) (says_owner _ _ _ _ _ _ _ _ _ _ _ _ _ _ _ _ _ _ _)

@@ -3,32 +3,32 @@ use Rattle.std.proofs.Common.{◌≡◌, ℕ, ◌+◌, List, [], ◌∷◌, ◌+
 use Rattle.std.specs.Prelude.{if◌then◌else◌}
 use mathlib.Core.Option.{some}
 use lib.ListN.{get_elem?}
-use Rattle.lg_types.specs.declared.lock.Hold.{Hold}
-use Rattle.lg_types.specs.declared.reply.Reply.{Reply}
-use Rattle.lg_types.specs.declared.table.TableDef.{TableDef}
-use Rattle.lg_types.specs.declared.lock.Mode.TheVariants.{X}
-use Rattle.lg_model.specs.Locks.{whole}
-use Rattle.lg_history.specs.Lists.{Text, In}
-use Rattle.lg_history.specs.Transcripts.{EndLine, Entry, statement, end_of_session, Transcript}
-use Rattle.lg_history.specs.Facts.{Fact, over, open_after, open_at_end}
-use Rattle.lg_history.specs.Transactions.{End, unfixed, committed, ended}
-use Rattle.lg_history.specs.Acts.{frees, answers, stops, by}
-use Rattle.lg_history.specs.Sessions.{SessionTransaction, SessionState, acted}
-use Rattle.lg_history.specs.Worlds.{World, first, run, step}
-use Rattle.lg_history.specs.Guards.{Fixed, images_of, Answers, AtRest, Frees}
-use Rattle.lg_standing.specs.Server.{Server}
-use Rattle.lg_standing.specs.Cells.{Cell, catalog_at}
-use Rattle.lg_standing.specs.Contents.{Contents, Known, contents, known}
-use Rattle.lg_standing.specs.Answering.{end_line, with_entry}
-use Rattle.lg_standing.specs.Alone.{over as session_over, IsReleased}
-use Rattle.lg_standing.specs.TranscriptsSoFar.{image_at, shown_at, open_before, Fits}
-use Rattle.lg_standing.specs.Moves.{sits}
-use Rattle.lg_standing.specs.OpenOnes.{HasOpen, text_at}
-use Rattle.lg_standing.specs.Parts.{asking, AreTransactions}
-use Rattle.lg_standing.specs.Seats.{OpenTransaction, answering, between, inside, leaving, idle, Session, session, SeatState}
-use Rattle.lg_standing.specs.StandTogether.{History, Stands, StandsAfter}
+use Rattle.sql_types.specs.declared.lock.Hold.{Hold}
+use Rattle.sql_types.specs.declared.reply.Reply.{Reply}
+use Rattle.sql_types.specs.declared.table.TableDef.{TableDef}
+use Rattle.sql_types.specs.declared.lock.Mode.TheVariants.{X}
+use Rattle.spec_model.specs.Locks.{whole}
+use Rattle.spec_history.specs.Lists.{Text, In}
+use Rattle.spec_history.specs.Transcripts.{EndLine, Entry, statement, end_of_session, Transcript}
+use Rattle.spec_history.specs.Facts.{Fact, over, open_after, open_at_end}
+use Rattle.spec_history.specs.Transactions.{End, unfixed, committed, ended}
+use Rattle.spec_history.specs.Acts.{releases_locks, answers, stops, by}
+use Rattle.spec_history.specs.Sessions.{SessionTransaction, SessionState, acted}
+use Rattle.spec_history.specs.Worlds.{World, first, run, step}
+use Rattle.spec_history.specs.Guards.{Fixed, images_of, Answers, AtRest, ReleasesLocks}
+use Rattle.spec_protocol.specs.Server.{Server}
+use Rattle.spec_protocol.specs.Cells.{Cell, catalog_at}
+use Rattle.spec_protocol.specs.Contents.{Contents, Known, contents, known}
+use Rattle.spec_protocol.specs.Answering.{end_line, with_entry}
+use Rattle.spec_protocol.specs.Alone.{over as session_over, IsReleased}
+use Rattle.spec_protocol.specs.TranscriptsSoFar.{image_at, shown_at, open_before, Fits}
+use Rattle.spec_protocol.specs.Moves.{sits}
+use Rattle.spec_protocol.specs.OpenOnes.{HasOpen, text_at}
+use Rattle.spec_protocol.specs.Parts.{asking, AreTransactions}
+use Rattle.spec_protocol.specs.Seats.{OpenTransaction, answering, between, inside, leaving, idle, Session, session, SeatState}
+use Rattle.spec_protocol.specs.StandTogether.{History, Stands, StandsAfter}
 use Rattle.law_protocol_steps.proofs.AloneTurns.{alone_after}
-use Rattle.law_protocol_steps.proofs.Deeds.{IsPlain, at_after, plain_acts, plain_owner}
+use Rattle.law_protocol_steps.proofs.AnonymousActs.{IsPlain, at_after, plain_acts, plain_owner}
 use Rattle.law_protocol_changes.proofs.DigestsStand.{no_turn}
 use Rattle.law_protocol_ledger.proofs.Entries.{open_snoc, Pays, line_is, pays_end_at, pays_leaving}
 use Rattle.law_protocol_steps.proofs.Heard.{heard_all}
@@ -38,7 +38,7 @@ use Rattle.law_protocol_ledger.proofs.Overs.{over_agrees, over_owner}
 use Rattle.law_protocol_ledger.proofs.StepsTake.{plain_answer, paid, written}
 use Rattle.law_protocol_steps.proofs.Turns.{Turns}
 
-pub plain_free : IsPlain frees
+pub plain_free : IsPlain releases_locks
 plain_free = record { items = λ x. refl; ids = refl; issued = refl; marks = refl; images = refl }
 
 pub plain_stop : IsPlain stops
@@ -100,7 +100,7 @@ module _ (v : Server) (cells : List Cell) (seats : List SeatState) {history : Hi
     released_turn t free = record {
       came = λ i h e w. absurd (free w.x w.o w.own);
       locks = λ i h e w. absurd (no_lock i h e (ap (λ u. u.id) (owns_one s x role o one w.x w.o w.own) ∙ w.mine));
-      stands = λ z u text w alone out lock. absurd (no_lock catalog_at (record { tx = u.id; want = whole X }) lock (ap (λ u. u.id) (owns_one s x role o one z u w)));
+      stands = λ z u text w alone out lock. absurd (no_lock catalog_at (record { tx = u.id; request = whole X }) lock (ap (λ u. u.id) (owns_one s x role o one z u w)));
       script = λ z u w e. absurd (free z u w);
       trees = λ z u w e. absurd (free z u w);
       cover = λ z u w. absurd (free z u w);
@@ -124,13 +124,13 @@ module _ (v : Server) (cells : List Cell) (seats : List SeatState) {history : Hi
     old = w0.at n
 
     abbrev freed : SessionState
-    freed = acted old frees
+    freed = acted old releases_locks
 
-    w1_at : (step w0 (by n frees)).at n ≡ freed
-    w1_at = at_after w0 n frees
+    w1_at : (step w0 (by n releases_locks)).at n ≡ freed
+    w1_at = at_after w0 n releases_locks
 
-    frees_ok : asking x.place ≡ [] → Frees v.meaning old
-    frees_ok none = record { mine = d.transaction; running = d.runs.now.running; has = d.has; fixed = subst Fixed (sym d.is.end) (is_fixed o o.end line is); all_answered = heard_all x.place d.transaction.answered d.transaction.asked none d.is.heard }
+    releases_locks_ok : asking x.place ≡ [] → ReleasesLocks v.meaning old
+    releases_locks_ok none = record { mine = d.transaction; running = d.runs.now.running; has = d.has; fixed = subst Fixed (sym d.is.end) (is_fixed o o.end line is); all_answered = heard_all x.place d.transaction.answered d.transaction.asked none d.is.heard }
 
     -- the answer of a statement
     module _ (text : Text) (a : Reply) (def : Option TableDef) (at : x.place ≡ inside text (answering a def)) where
@@ -155,10 +155,10 @@ module _ (v : Server) (cells : List Cell) (seats : List SeatState) {history : Hi
       guard : Answers v.meaning freed e
       guard = paid v freed x y e None shown d.runs.now.running d.runs.now.so_far.statements (d.runs.now.under ∙ ap text_at at) before opens (ap (λ (l : List Fact). l ++ over ∷ []) (d.runs.now.so_far.pending ∙ (λ i. shown_at v.meaning (at i) (one i)))) pays
 
-      pub answered_end : StandsAfter v j history (frees ∷ answers e ∷ []) cells (slice_set seats j (sits s y))
+      pub answered_end : StandsAfter v j history (releases_locks ∷ answers e ∷ []) cells (slice_set seats j (sits s y))
       answered_end = alone_after v cells seats st j s there (sits s y) _ (released_turn (sits s y) (owns_none (sits s y) y refl refl))
-          (plain_acts v st.ledger seats history st.transcripts_agree j s there x y role n d.runs.is (frees ∷ answers e ∷ []) (plain_free, (plain_answer e, tt))
-          (frees_ok (ap asking at), (subst (λ z. Answers v.meaning z e) (sym w1_at) guard, tt))
+          (plain_acts v st.ledger seats history st.transcripts_agree j s there x y role n d.runs.is (releases_locks ∷ answers e ∷ []) (plain_free, (plain_answer e, tt))
+          (releases_locks_ok (ap asking at), (subst (λ z. Answers v.meaning z e) (sym w1_at) guard, tt))
           (record {
             running = d.runs.now.running;
             transcript = ap (λ (t : Transcript). record { session = t.session; entries = t.entries ++ e ∷ [] }) d.runs.now.transcript;
@@ -199,16 +199,16 @@ module _ (v : Server) (cells : List Cell) (seats : List SeatState) {history : Hi
         free = refl;
       }
 
-      w2_at : (step (step w0 (by n frees)) (by n (answers last))).at n ≡ done
-      w2_at = at_after (step w0 (by n frees)) n (answers last) ∙ ap (λ y. acted y (answers last)) w1_at
+      w2_at : (step (step w0 (by n releases_locks)) (by n (answers last))).at n ≡ done
+      w2_at = at_after (step w0 (by n releases_locks)) n (answers last) ∙ ap (λ y. acted y (answers last)) w1_at
 
       owns_no_one : (y : Session) (u : OpenTransaction) → Own (session_over z s) y u → ⊥
       owns_no_one y u w = let f : idle ≡ session y = w.role in cc
 
-      pub left : StandsAfter v j history (frees ∷ answers last ∷ stops ∷ []) cells (slice_set seats j (session_over z s))
+      pub left : StandsAfter v j history (releases_locks ∷ answers last ∷ stops ∷ []) cells (slice_set seats j (session_over z s))
       left = alone_after v cells seats st j s there (session_over z s) _ (released_turn (session_over z s) owns_no_one)
-          (over_agrees v st.ledger seats history st.transcripts_agree j s there x z role n d.runs.is (frees ∷ answers last ∷ stops ∷ []) (plain_free, (plain_answer last, (plain_stop, tt)))
-          (frees_ok (ap asking at), (subst (λ y. Answers v.meaning y last) (sym w1_at) guard_there, (((ap (λ y. y.phase) w2_at ∙ d.runs.now.running), subst AtRest (sym w2_at) rests_there), tt)))
+          (over_agrees v st.ledger seats history st.transcripts_agree j s there x z role n d.runs.is (releases_locks ∷ answers last ∷ stops ∷ []) (plain_free, (plain_answer last, (plain_stop, tt)))
+          (releases_locks_ok (ap asking at), (subst (λ y. Answers v.meaning y last) (sym w1_at) guard_there, (((ap (λ y. y.phase) w2_at ∙ d.runs.now.running), subst AtRest (sym w2_at) rests_there), tt)))
           refl
           (ap (λ (t : Transcript). record { session = t.session; entries = t.entries ++ last ∷ [] }) d.runs.now.transcript)
           (record { images = refl; moments = refl; earlier = refl })) (over_owner _ _ _ _ _ _ _ _ _ _ _ _ _ _ _ _ _ _ _)

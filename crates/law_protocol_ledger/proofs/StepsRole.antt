@@ -3,23 +3,23 @@ use Rattle.std.proofs.Common.{◌≡◌, ◌≢◌, ℕ, List, [], ◌++◌, fla
 use Rattle.std.proofs.lemmas.Bool.{cases_eq}
 use mathlib.Core.Option.{some, some-injective}
 use lib.ListN.{get_elem?}
-use Rattle.lg_history.specs.Lists.{Text, Each, In}
-use Rattle.lg_history.specs.Acts.{Act, starts}
-use Rattle.lg_history.proofs.Trace.{each_weaker}
-use Rattle.lg_standing.specs.Server.{Server}
-use Rattle.lg_standing.specs.Cells.{LedgerCell, Cell}
-use Rattle.lg_standing.specs.Contents.{contents, known}
-use Rattle.lg_standing.specs.Alone.{new_session, with_role}
-use Rattle.lg_standing.specs.Moves.{sits}
-use Rattle.lg_standing.specs.Parts.{all_of, Now}
-use Rattle.lg_standing.specs.Seats.{OpenTransaction, Session, Written, Role, idle, session, builder, SeatState}
-use Rattle.lg_standing.specs.StandTogether.{History, Stands, StandsAfter}
-use Rattle.lg_standing.specs.TranscriptsAgree.{session_moments, moments_of, IsMoment, ImagesNow, SeatAgrees, TranscriptsAgree}
+use Rattle.spec_history.specs.Lists.{Text, Each, In}
+use Rattle.spec_history.specs.Acts.{Act, starts}
+use Rattle.spec_history.proofs.Trace.{each_weaker}
+use Rattle.spec_protocol.specs.Server.{Server}
+use Rattle.spec_protocol.specs.Cells.{LedgerCell, Cell}
+use Rattle.spec_protocol.specs.Contents.{contents, known}
+use Rattle.spec_protocol.specs.Alone.{new_session, with_role}
+use Rattle.spec_protocol.specs.Moves.{sits}
+use Rattle.spec_protocol.specs.Parts.{all_of, Now}
+use Rattle.spec_protocol.specs.Seats.{OpenTransaction, Session, Written, Role, idle, session, builder, SeatState}
+use Rattle.spec_protocol.specs.StandTogether.{History, Stands, StandsAfter}
+use Rattle.spec_protocol.specs.TranscriptsAgree.{session_moments, moments_of, IsMoment, ImagesNow, SeatAgrees, TranscriptsAgree}
 use Rattle.law_protocol_steps.proofs.AloneTurns.{alone_stands, alone_after}
 use Rattle.law_protocol_ledger.proofs.Begins.{begin_agrees, begin_owner}
 use Rattle.law_protocol_changes.proofs.DigestsStand.{no_turn}
 use Rattle.law_protocol_steps.proofs.OpenSeats.{Own}
-use Rattle.lg_standing.proofs.Places.{at_set, set_here, set_else}
+use Rattle.spec_protocol.proofs.Places.{at_set, set_here, set_else}
 
 -- a role without a session
 abbrev pub Rests : Role → Type 0

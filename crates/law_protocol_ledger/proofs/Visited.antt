@@ -3,25 +3,25 @@ use Rattle.std.proofs.Common.{◌≡◌, ◌≢◌, ℕ, ◌≤◌, Bool, true, 
 use Rattle.std.proofs.lemmas.Bool.{eq-eqb, ne_eqb, le-leb}
 use Rattle.std.specs.Prelude.{◌==◌, ◌&&◌, ◌||◌, ◌-◌, nat_le, if◌then◌else◌}
 use Rattle.std.specs.List.{filter, list_any}
-use Rattle.lg_types.specs.declared.lock.Hold.{Hold}
-use Rattle.lg_types.specs.declared.version.Version.{Version}
-use Rattle.lg_model.specs.Rows.{EventId}
-use Rattle.lg_model.specs.Catalog.{defs_of, versions_of}
-use Rattle.lg_model.specs.Script.{script}
-use Rattle.lg_model.specs.Touched.{ends_by, is_touched, touched}
-use Rattle.lg_model.specs.Undo.{is_undone, end_left, end_undone, versions_undone}
-use Rattle.lg_frames.proofs.NoClash.{system_texts}
-use Rattle.lg_frames.proofs.LeftScripts.{script_leaves_table}
-use Rattle.lg_history.specs.Lists.{Text, In}
-use Rattle.lg_history.specs.Transactions.{unfixed}
-use Rattle.lg_history.proofs.Trace.{each_weaker}
-use Rattle.lg_standing.specs.Server.{Server}
-use Rattle.lg_standing.specs.Cells.{Cell, cell_of}
-use Rattle.lg_standing.specs.Contents.{Contents, Known, contents, known}
-use Rattle.lg_standing.specs.LocksCover.{LiesUnder, EndLiesUnder, IsUnderLocks}
-use Rattle.lg_standing.specs.OpenOnes.{HasOpen}
-use Rattle.lg_standing.specs.Seats.{OpenTransaction, Session, SeatState}
-use Rattle.lg_standing.specs.StandTogether.{History, Stands}
+use Rattle.sql_types.specs.declared.lock.Hold.{Hold}
+use Rattle.sql_types.specs.declared.version.Version.{Version}
+use Rattle.spec_model.specs.Rows.{EventId}
+use Rattle.spec_model.specs.Catalog.{defs_of, versions_of}
+use Rattle.spec_model.specs.Script.{script}
+use Rattle.spec_model.specs.Touched.{ends_by, is_touched, touched}
+use Rattle.spec_model.specs.Undo.{is_undone, end_left, end_undone, versions_undone}
+use Rattle.law_frame.proofs.NoClash.{system_texts}
+use Rattle.law_frame.proofs.LeftScripts.{script_leaves_table}
+use Rattle.spec_history.specs.Lists.{Text, In}
+use Rattle.spec_history.specs.Transactions.{unfixed}
+use Rattle.spec_history.proofs.Trace.{each_weaker}
+use Rattle.spec_protocol.specs.Server.{Server}
+use Rattle.spec_protocol.specs.Cells.{Cell, cell_of}
+use Rattle.spec_protocol.specs.Contents.{Contents, Known, contents, known}
+use Rattle.spec_protocol.specs.LocksCover.{LiesUnder, EndLiesUnder, IsUnderLocks}
+use Rattle.spec_protocol.specs.OpenOnes.{HasOpen}
+use Rattle.spec_protocol.specs.Seats.{OpenTransaction, Session, SeatState}
+use Rattle.spec_protocol.specs.StandTogether.{History, Stands}
 use Rattle.law_protocol_steps.proofs.FreshIds.{EndIsNotOf, IsNotOf, none_touched, none_touched_in}
 use Rattle.law_protocol_steps.proofs.Ids.{outside, has_not}
 use Rattle.law_protocol_steps.proofs.OpenSeats.{one_open}
@@ -110,9 +110,9 @@ module _ (v : Server) (cells : List Cell) (seats : List SeatState) {history : Hi
     untouched l = none_touched o.id (c.versions id) (each_weaker (IsUnderLocks c k id) (IsNotOf o.id) (λ w u. record { start = not_its w w.start u.start; end = end_not_its w w.end u.end }) (c.versions id) (st.locks_cover.under id l))
 
   -- in a user's table in whose cell it wasn't it touched nothing; nor, where BEGIN opened it, in a system table
-  module _ (opened : o.opened ≡ true) (texts : List Text) (its : (id : ℕ) → 1 ≤ id → touched o.id (c.versions id) ≡ touched o.id (versions_of (script v.reads o.opened k.tables o.id texts).state.tables id)) where
+  module _ (explicit : o.explicit ≡ true) (texts : List Text) (its : (id : ℕ) → 1 ≤ id → touched o.id (c.versions id) ≡ touched o.id (versions_of (script v.reads o.explicit k.tables o.id texts).state.tables id)) where
     system : (id : ℕ) → 1 ≤ id → id ≤ 2 → touched o.id (c.versions id) ≡ []
-    system id l m = its id l ∙ ap (λ (b : Bool). touched o.id (versions_of (script v.reads b k.tables o.id texts).state.tables id)) opened
+    system id l m = its id l ∙ ap (λ (b : Bool). touched o.id (versions_of (script v.reads b k.tables o.id texts).state.tables id)) explicit
         ∙ ap (touched o.id) (script_leaves_table o.id k.tables id v.reads texts (system_texts (defs_of k.tables) id v.reads texts m)) ∙ none_touched_in o.id k.tables id (sound_for v cells seats st j x o has open_end)
 
     pub nothing_there : (id : ℕ) → 1 ≤ id → list_any (λ i. i == cell_of id) (filter (λ i. nat_le 1 i) o.visited) ≡ false → touched o.id (c.versions id) ≡ []

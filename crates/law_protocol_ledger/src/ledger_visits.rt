@@ -3,25 +3,25 @@
 ghost use Rattle.std.specs.Prelude.{◌≡◌, ◌+◌, ◌++◌, ℕ, Bool, List, [], ◌∷◌, length, slice_set};
 ghost use mathlib.Core.Option.{some};
 ghost use lib.ListN.{get_elem?};
-ghost use Rattle.lg_model.specs.Journals.{tx_count};
-ghost use Rattle.lg_history.specs.Acts.{draws, closes, issues, keeps, lacks};
-ghost use Rattle.lg_standing.specs.ActsOf.{closings, commit_acts, end_acts};
-ghost use Rattle.lg_standing.specs.Server.{Server};
-ghost use Rattle.lg_standing.specs.Cells.{Cell, Ledger, LedgerCell, pending_in};
-ghost use Rattle.lg_standing.specs.Seats.{SeatState};
-ghost use Rattle.lg_standing.specs.LedgerVisits.{Draws, CommitsNow, ReadsPoint, Closes, Issues, LacksBlock};
-ghost use Rattle.lg_standing.specs.May.{OutsStand};
-ghost use Rattle.lg_standing.specs.ImageVisits.{KeepsImage};
-ghost use Rattle.lg_standing.specs.StandTogether.{History, Stands, StandsAfter};
+ghost use Rattle.spec_model.specs.Journals.{tx_count};
+ghost use Rattle.spec_history.specs.Acts.{assigns_id, closes, issues, keeps, lacks};
+ghost use Rattle.spec_protocol.specs.ActsOf.{closings, commit_acts, end_acts};
+ghost use Rattle.spec_protocol.specs.Server.{Server};
+ghost use Rattle.spec_protocol.specs.Cells.{Cell, Ledger, LedgerCell, pending_in};
+ghost use Rattle.spec_protocol.specs.Seats.{SeatState};
+ghost use Rattle.spec_protocol.specs.LedgerVisits.{AssignsId, CommitsNow, ReadsPoint, Closes, Issues, LacksBlock};
+ghost use Rattle.spec_protocol.specs.AllowedVisit.{OutsAreIn};
+ghost use Rattle.spec_protocol.specs.ImageVisits.{KeepsImage};
+ghost use Rattle.spec_protocol.specs.StandTogether.{History, Stands, StandsAfter};
 
 /// Drawing an id does.
-pub fn drawing_keeps_standing()
+pub fn assigning_an_id_keeps_standing()
     ensures { (v : Server) (history : History) (cells : List Cell) (seats : List SeatState)
         → Stands v history cells seats
         → (i j : ℕ) (s : SeatState) → get_elem? seats j ≡ some s
-        → (opened : Bool) (c d : LedgerCell) (t : SeatState) → get_elem? cells i ≡ some (Ledger c)
-        → Draws v opened c s d t
-        → StandsAfter v j history (draws c.next opened ∷ [])
+        → (explicit : Bool) (c d : LedgerCell) (t : SeatState) → get_elem? cells i ≡ some (Ledger c)
+        → AssignsId v explicit c s d t
+        → StandsAfter v j history (assigns_id c.next explicit ∷ [])
         (slice_set cells i (Ledger d)) (slice_set seats j t) }
 {}
 
@@ -80,7 +80,7 @@ pub fn keeping_an_image_keeps_standing()
     ensures { (v : Server) (history : History) (cells : List Cell) (seats : List SeatState)
         → Stands v history cells seats
         → (j : ℕ) (s : SeatState) → get_elem? seats j ≡ some s
-        → (out : List (ℕ × Cell)) → OutsStand cells out
+        → (out : List (ℕ × Cell)) → OutsAreIn cells out
         → (t : SeatState) → (w : KeepsImage v out s t)
         → StandsAfter v j history (keeps (length w.ledger.items) (tx_count w.ledger.items) ∷ [])
         cells (slice_set seats j t) }

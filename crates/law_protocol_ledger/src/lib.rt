@@ -5,7 +5,7 @@ mod ledger_visits;
 mod seat_steps;
 
 pub use ledger_visits::{
-    closing_keeps_standing, committing_keeps_standing, digests_keep_standing,
-    drawing_keeps_standing, keeping_an_image_keeps_standing, reading_the_point_keeps_standing,
+    assigning_an_id_keeps_standing, closing_keeps_standing, committing_keeps_standing,
+    digests_keep_standing, keeping_an_image_keeps_standing, reading_the_point_keeps_standing,
 };
 pub use seat_steps::{splits_and_joins_keep_standing, steps_alone_keep_standing};

@@ -3,12 +3,12 @@
 ghost use Rattle.std.specs.Prelude.{◌≡◌, ◌≢◌, ◌++◌, ℕ, List, [], ◌∷◌, slice_set};
 ghost use mathlib.Core.Option.{some};
 ghost use lib.ListN.{get_elem?};
-ghost use Rattle.lg_standing.specs.Server.{Server};
-ghost use Rattle.lg_standing.specs.Cells.{Cell};
-ghost use Rattle.lg_standing.specs.Seats.{SeatState, kept, split, joined, nobody, may_end};
-ghost use Rattle.lg_standing.specs.ActsOf.{alone_acts};
-ghost use Rattle.lg_standing.specs.Alone.{Alone};
-ghost use Rattle.lg_standing.specs.StandTogether.{History, Stands, StandsAfter};
+ghost use Rattle.spec_protocol.specs.Server.{Server};
+ghost use Rattle.spec_protocol.specs.Cells.{Cell};
+ghost use Rattle.spec_protocol.specs.Seats.{SeatState, kept, split, joined, nobody, may_end};
+ghost use Rattle.spec_protocol.specs.ActsOf.{alone_acts};
+ghost use Rattle.spec_protocol.specs.Alone.{Alone};
+ghost use Rattle.spec_protocol.specs.StandTogether.{History, Stands, StandsAfter};
 
 /// Each step alone does.
 pub fn steps_alone_keep_standing()

@@ -1,13 +1,13 @@
 -- Histories in which locks decide, in two parts.
 use Rattle.std.proofs.Common.{ℕ, List, [], ◌∷◌, ◌++◌, sym, subst, append_assoc}
-use Rattle.lg_history.specs.Acts.{Act, by, closes}
-use Rattle.lg_history.specs.ByLocks.{LocksDecide}
-use Rattle.lg_history.specs.Histories.{OneAtATime, SessionsBelow}
-use Rattle.lg_history.specs.Meaning.{Meaning}
-use Rattle.lg_history.specs.Worlds.{World, first, run, step}
-use Rattle.lg_history.proofs.Cuts.{run_append}
-use Rattle.lg_standing.specs.LocksDecideIn.{LocksDecideIn}
-use Rattle.lg_standing.specs.Server.{Server}
+use Rattle.spec_history.specs.Acts.{Act, by, closes}
+use Rattle.spec_history.specs.ByLocks.{LocksDecide}
+use Rattle.spec_history.specs.Histories.{OneAtATime, SessionsBelow}
+use Rattle.spec_history.specs.Meaning.{Meaning}
+use Rattle.spec_history.specs.Worlds.{World, first, run, step}
+use Rattle.spec_history.proofs.Cuts.{run_append}
+use Rattle.spec_protocol.specs.LocksDecideIn.{LocksDecideIn}
+use Rattle.spec_protocol.specs.Server.{Server}
 
 pub below_first : (k : ℕ) (es fs : List Act) → SessionsBelow k (es ++ fs) → SessionsBelow k es
 below_first k [] fs b = tt

@@ -2,10 +2,10 @@
 use Rattle.std.proofs.Common.{◌≡◌, ℕ, zero, suc, List, refl, sym, ◌∙◌}
 use mathlib.Core.Option.{some}
 use lib.ListN.{get_elem?}
-use Rattle.lg_model.specs.Holds.{released}
-use Rattle.lg_history.specs.Transactions.{End, unfixed, committed, ended}
-use Rattle.lg_standing.specs.Cells.{AreCells, CatalogCell, Cell, Catalog, Ledger, LedgerCell, Rows, catalog_at}
-use Rattle.lg_standing.specs.UndoVisits.{catalog_left}
+use Rattle.spec_model.specs.Holds.{released}
+use Rattle.spec_history.specs.Transactions.{End, unfixed, committed, ended}
+use Rattle.spec_protocol.specs.Cells.{AreCells, CatalogCell, Cell, Catalog, Ledger, LedgerCell, Rows, catalog_at}
+use Rattle.spec_protocol.specs.UndoVisits.{catalog_left}
 
 -- it lies there alone
 pub catalog_there : (cells : List Cell) (catalog c : CatalogCell) (ledger : LedgerCell) → AreCells cells catalog ledger → (i : ℕ) → get_elem? cells i ≡ some (Catalog c) → i ≡ catalog_at

@@ -3,8 +3,8 @@ use Rattle.std.proofs.Common.{◌≡◌, ◌≢◌, ◌⊎◌, ℕ, suc, List, s
 use Rattle.std.proofs.lemmas.Bool.{cases_eq}
 use mathlib.Core.Option.{some}
 use lib.ListN.{get_elem?}
-use Rattle.lg_types.specs.declared.lock.Hold.{Hold}
-use Rattle.lg_standing.specs.Cells.{CatalogCell, LedgerCell, TableCell, Cell, Catalog, Rows, holds_in, holds_found, holds_at, versions_in, versions_found, versions_at, catalog_at, ledger_at, cell_of, AreCells}
+use Rattle.sql_types.specs.declared.lock.Hold.{Hold}
+use Rattle.spec_protocol.specs.Cells.{CatalogCell, LedgerCell, TableCell, Cell, Catalog, Rows, holds_in, holds_found, holds_at, versions_in, versions_found, versions_at, catalog_at, ledger_at, cell_of, AreCells}
 use Rattle.law_protocol_steps.proofs.AfterSet.{set_here, set_else}
 use Rattle.std.proofs.lemmas.List.{length-set}
 

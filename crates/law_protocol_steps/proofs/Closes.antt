@@ -3,46 +3,46 @@ use Rattle.std.proofs.Common.{◌≡◌, ℕ, zero, suc, ◌≤◌, List, [], �
 use Rattle.std.specs.Prelude.{◌==◌, ◌||◌, if◌then◌else◌, nat_le}
 use mathlib.Core.Option.{some}
 use lib.ListN.{get_elem?}
-use Rattle.lg_types.specs.declared.journal.JournalItem.{JournalItem}
-use Rattle.lg_types.specs.declared.journal.JournalItem.TheVariants.{Tx, Close}
-use Rattle.lg_model.specs.Catalog.{Tables}
-use Rattle.lg_model.specs.Journals.{tx_count, closed, upto, serial_from, after_item}
-use Rattle.lg_model.specs.Script.{Reading}
-use Rattle.lg_model.specs.SystemTables.{first_tables}
-use Rattle.lg_history.specs.Lists.{Each}
-use Rattle.lg_history.specs.Journals.{times}
-use Rattle.lg_history.specs.Facts.{Shows}
-use Rattle.lg_history.specs.Transcripts.{Transcript}
-use Rattle.lg_history.specs.Digests.{Digest}
-use Rattle.lg_history.specs.Acts.{SessionAct, Act, closes, of, marked}
-use Rattle.lg_history.specs.Sessions.{SessionState, transcript_of}
-use Rattle.lg_history.specs.Worlds.{World, first, step, run}
-use Rattle.lg_history.proofs.Cuts.{run_append, of_append}
-use Rattle.lg_history.proofs.Trace.{each_append, each_weaker, count_append}
-use Rattle.lg_history.proofs.Grows.{blocks_append, digest_stays}
-use Rattle.lg_standing.specs.Server.{Server}
-use Rattle.lg_standing.specs.Cells.{LedgerCell, Cell, Ledger, ledger_at, pending_in}
-use Rattle.lg_standing.specs.Contents.{Contents, Known, contents, known, has_id}
-use Rattle.lg_standing.specs.Seats.{KeptImage, Written, Role, idle, session, builder, SeatState}
-use Rattle.lg_standing.specs.LedgerIsLegal.{FitsBlock, IsOfCell, LedgerIsLegal}
-use Rattle.lg_standing.specs.LedgerVisits.{closed_by, next_block, Closes}
-use Rattle.lg_standing.specs.Parts.{Numbers, all_of, IsNow, IsOver, WasOver, Past, Now}
-use Rattle.lg_standing.specs.TranscriptsAgree.{IsMoment, AreImages, ImagesOfPast, ImagesNow, MarksWithin, SeatAgrees, TranscriptsAgree}
-use Rattle.lg_standing.specs.TablesAreSerial.{TablesAreSerial}
-use Rattle.lg_standing.specs.OpenScripts.{OpenScripts}
-use Rattle.lg_standing.specs.LocksCover.{LocksCover}
-use Rattle.lg_standing.specs.LocksAgree.{LocksAgree}
-use Rattle.lg_standing.specs.TreesAreOfEvents.{TreesAreOfEvents}
-use Rattle.lg_standing.specs.StandTogether.{History, Stands}
+use Rattle.sql_types.specs.declared.journal.JournalItem.{JournalItem}
+use Rattle.sql_types.specs.declared.journal.JournalItem.TheVariants.{Tx, Close}
+use Rattle.spec_model.specs.Catalog.{Tables}
+use Rattle.spec_model.specs.Journals.{tx_count, closed, upto, serial_from, after_item}
+use Rattle.spec_model.specs.Script.{Reading}
+use Rattle.spec_model.specs.SystemTables.{first_tables}
+use Rattle.spec_history.specs.Lists.{Each}
+use Rattle.spec_history.specs.Journals.{times}
+use Rattle.spec_history.specs.Facts.{Shows}
+use Rattle.spec_history.specs.Transcripts.{Transcript}
+use Rattle.spec_history.specs.Digests.{Digest}
+use Rattle.spec_history.specs.Acts.{SessionAct, Act, closes, of, marked}
+use Rattle.spec_history.specs.Sessions.{SessionState, transcript_of}
+use Rattle.spec_history.specs.Worlds.{World, first, step, run}
+use Rattle.spec_history.proofs.Cuts.{run_append, of_append}
+use Rattle.spec_history.proofs.Trace.{each_append, each_weaker, count_append}
+use Rattle.spec_history.proofs.Grows.{blocks_append, digest_stays}
+use Rattle.spec_protocol.specs.Server.{Server}
+use Rattle.spec_protocol.specs.Cells.{LedgerCell, Cell, Ledger, ledger_at, pending_in}
+use Rattle.spec_protocol.specs.Contents.{Contents, Known, contents, known, has_id}
+use Rattle.spec_protocol.specs.Seats.{KeptImage, Written, Role, idle, session, builder, SeatState}
+use Rattle.spec_protocol.specs.LedgerIsLegal.{FitsBlock, IsOfCell, LedgerIsLegal}
+use Rattle.spec_protocol.specs.LedgerVisits.{closed_by, next_block, Closes}
+use Rattle.spec_protocol.specs.Parts.{Numbers, all_of, IsNow, IsOver, WasOver, Past, Now}
+use Rattle.spec_protocol.specs.TranscriptsAgree.{IsMoment, AreImages, ImagesOfPast, ImagesNow, MarksWithin, SeatAgrees, TranscriptsAgree}
+use Rattle.spec_protocol.specs.TablesAreSerial.{TablesAreSerial}
+use Rattle.spec_protocol.specs.OpenScripts.{OpenScripts}
+use Rattle.spec_protocol.specs.LocksCover.{LocksCover}
+use Rattle.spec_protocol.specs.LocksAgree.{LocksAgree}
+use Rattle.spec_protocol.specs.TreesAreOfEvents.{TreesAreOfEvents}
+use Rattle.spec_protocol.specs.StandTogether.{History, Stands}
 use Rattle.law_protocol_steps.proofs.JournalMore.{legal_more, serial_more}
 use Rattle.law_protocol_steps.proofs.LedgerKept.{same_contents, are_cells}
 use Rattle.law_protocol_steps.proofs.LedgerVisit.{the_ledger}
 use Rattle.law_protocol_steps.proofs.OneMore.{good_snoc, images_stay, times_append}
-use Rattle.lg_standing.proofs.Places.{set_same}
-use Rattle.lg_standing.specs.RowsAgree.{RowsAgree}
-use Rattle.lg_standing.specs.Ledger as of_journal
-use Rattle.lg_standing.proofs.Adding.{one_more}
-use Rattle.lg_standing.proofs.LedgerNumbers.{pending_are}
+use Rattle.spec_protocol.proofs.Places.{set_same}
+use Rattle.spec_protocol.specs.RowsAgree.{RowsAgree}
+use Rattle.spec_protocol.specs.Ledger as of_journal
+use Rattle.spec_protocol.proofs.Adding.{one_more}
+use Rattle.spec_protocol.proofs.LedgerNumbers.{pending_are}
 
 -- ---- the journal says the same
 

@@ -4,52 +4,52 @@ use Rattle.std.specs.Prelude.{◌&&◌}
 use Rattle.std.specs.List.{list_all}
 use lib.ListN.{get_elem?}
 use mathlib.Core.Option.{some}
-use Rattle.lg_types.specs.declared.version.Version.{Version}
-use Rattle.lg_types.specs.declared.journal.JournalItem.{JournalItem}
-use Rattle.lg_types.specs.declared.journal.JournalItem.TheVariants.{Tx}
-use Rattle.lg_types.specs.declared.reply.Reply.{Reply}
-use Rattle.lg_types.specs.declared.statement.Stmt.{Stmt}
-use Rattle.lg_types.specs.declared.statement.Stmt.TheVariants as stmt
-use Rattle.lg_model.specs.Catalog.{Tables, versions_of, defs_of}
-use Rattle.lg_model.specs.Events.{all_events}
-use Rattle.lg_model.specs.Journals.{Line, IsNext, serial}
-use Rattle.lg_history.specs.Lists.{Text, In}
-use Rattle.lg_history.specs.Transactions.{unfixed}
-use Rattle.lg_history.specs.Digests.{Digest}
-use Rattle.lg_history.proofs.Trace.{each_append, each_weaker}
-use Rattle.lg_history.proofs.Grows.{blocks_append, digest_stays}
-use Rattle.lg_standing.specs.Server.{Server}
-use Rattle.lg_standing.specs.Cells.{LedgerCell, Cell}
-use Rattle.lg_standing.specs.Contents.{Contents, Known, contents, known}
-use Rattle.lg_standing.specs.Seats.{Tree, OpenTransaction, Stage, begun, made, replied, Place, SeatState}
-use Rattle.lg_standing.specs.OpenOnes.{HasOpen, script_so_far, script_end}
-use Rattle.lg_model.specs.Touched.{touched}
-use Rattle.lg_standing.specs.EventsIn.{events_in}
-use Rattle.lg_standing.specs.OpenScripts.{counted_in, counted, events_counted, IsOfItsScript}
-use Rattle.lg_standing.specs.TreesAreOfEvents.{HasItsTrees}
-use Rattle.lg_standing.specs.LedgerIsLegal.{FitsBlock, IsOfCell, LedgerIsLegal}
-use Rattle.lg_standing.specs.StandTogether.{History, Stands}
-use Rattle.lg_standing.specs.Moves.{StandsIn}
-use Rattle.lg_standing.specs.LedgerVisits.{Commits, is_empty, is_quiet, with_item, entry_of_trees, root_of_tree, with_leaves}
+use Rattle.sql_types.specs.declared.version.Version.{Version}
+use Rattle.sql_types.specs.declared.journal.JournalItem.{JournalItem}
+use Rattle.sql_types.specs.declared.journal.JournalItem.TheVariants.{Tx}
+use Rattle.sql_types.specs.declared.reply.Reply.{Reply}
+use Rattle.sql_types.specs.declared.statement.Stmt.{Stmt}
+use Rattle.sql_types.specs.declared.statement.Stmt.TheVariants as stmt
+use Rattle.spec_model.specs.Catalog.{Tables, versions_of, defs_of}
+use Rattle.spec_model.specs.Events.{all_events}
+use Rattle.spec_model.specs.Journals.{Line, IsNext, serial}
+use Rattle.spec_history.specs.Lists.{Text, In}
+use Rattle.spec_history.specs.Transactions.{unfixed}
+use Rattle.spec_history.specs.Digests.{Digest}
+use Rattle.spec_history.proofs.Trace.{each_append, each_weaker}
+use Rattle.spec_history.proofs.Grows.{blocks_append, digest_stays}
+use Rattle.spec_protocol.specs.Server.{Server}
+use Rattle.spec_protocol.specs.Cells.{LedgerCell, Cell}
+use Rattle.spec_protocol.specs.Contents.{Contents, Known, contents, known}
+use Rattle.spec_protocol.specs.Seats.{Tree, OpenTransaction, StatementProgress, begun, made, replied, SessionStatus, SeatState}
+use Rattle.spec_protocol.specs.OpenOnes.{HasOpen, script_so_far, script_end}
+use Rattle.spec_model.specs.Touched.{touched}
+use Rattle.spec_protocol.specs.EventsIn.{events_in}
+use Rattle.spec_protocol.specs.OpenScripts.{counted_in, counted, events_counted, IsOfItsScript}
+use Rattle.spec_protocol.specs.TreesAreOfEvents.{HasItsTrees}
+use Rattle.spec_protocol.specs.LedgerIsLegal.{FitsBlock, IsOfCell, LedgerIsLegal}
+use Rattle.spec_protocol.specs.StandTogether.{History, Stands}
+use Rattle.spec_protocol.specs.Moves.{InStatement}
+use Rattle.spec_protocol.specs.LedgerVisits.{Commits, is_empty, is_read_only, with_item, entry_of_trees, root_of_tree, with_leaves}
 use Rattle.law_protocol_steps.proofs.FreshIds.{events_of_touched}
 use Rattle.law_protocol_steps.proofs.Ids.{each_in, outside, others}
 use Rattle.law_protocol_steps.proofs.JournalMore.{legal_more, none_in_one}
-use Rattle.lg_standing.specs.Leaf.{event_bytes}
-use Rattle.lg_types.specs.declared.entry.TxEntry.{TxEntry}
-use Rattle.lg_model.specs.SystemTables.{first_tables}
-use Rattle.lg_model.specs.Agreement.{IdsFrom}
-use Rattle.lg_standing.specs.Entries.{entry_of, roots_of}
-use Rattle.lg_standing.proofs.Adding.{one_more, serial_more}
-use Rattle.lg_standing.proofs.Roots.{legal_ids}
+use Rattle.spec_protocol.specs.Leaf.{event_bytes}
+use Rattle.sql_types.specs.declared.entry.TxEntry.{TxEntry}
+use Rattle.spec_model.specs.SystemTables.{first_tables}
+use Rattle.spec_model.specs.Agreement.{IdsFrom}
+use Rattle.spec_protocol.specs.Entries.{entry_of, roots_of}
+use Rattle.spec_protocol.proofs.Adding.{one_more, serial_more}
+use Rattle.spec_protocol.proofs.Roots.{legal_ids}
 use Rattle.law_protocol_steps.proofs.EntryRoots.{same_roots}
 use Rattle.law_protocol_steps.proofs.SaidMore.{trees_over}
-use Rattle.lg_standing.specs.Ledger as of_journal
+use Rattle.spec_protocol.specs.Ledger as of_journal
 
 -- ---- one item more
 
-module _ (v : Server) (c : LedgerCell) (id time : ℕ) (name : Text) (opened : Bool) (script : List Line) (entry : TxEntry) where
+module _ (v : Server) (c : LedgerCell) (id time : ℕ) (name : Text) (explicit : Bool) (script : List Line) (entry : TxEntry) where
   abbrev item : JournalItem
-  item = Tx id name time opened script
+  item = Tx id name time explicit script
 
   abbrev d : LedgerCell
   d = with_item entry item c
@@ -70,11 +70,11 @@ module _ (v : Server) (c : LedgerCell) (id time : ℕ) (name : Text) (opened : B
 -- ---- a transaction that left an event
 
 -- who commits is on no way back
-pub all_count : (opened : Bool) (st : Stmt) (stage : Stage) (r : Reply) → Commits opened st stage r → (tx id : ℕ) (V : List Version) → counted_in tx id stage V ≡ V
+pub all_count : (explicit : Bool) (st : Stmt) (stage : StatementProgress) (r : Reply) → Commits explicit st stage r → (tx id : ℕ) (V : List Version) → counted_in tx id stage V ≡ V
 all_count true stmt.Commit begun r e tx id V = refl
 all_count false st (replied q) r e tx id V = refl
 all_count false st (made def true) r e tx id V = refl
-all_count opened st stage r e tx id V = absurd e
+all_count explicit st stage r e tx id V = absurd e
 
 -- a tree with a leaf
 pub record HasLeaf (trees : List Tree) : Type 0 where
@@ -97,7 +97,7 @@ has_leaf (t ∷ ts) e = by_first t ts (is_empty t.leaves) refl e (has_leaf ts)
 -- ---- the commit
 
 module _ (v : Server) (cells : List Cell) (seats : List SeatState) {history : History} (st : Stands v history cells seats) (j : ℕ) (s : SeatState) (there : get_elem? seats j ≡ some s)
-    (p : StandsIn v s) (o : OpenTransaction) (open_one : p.x.open_one ≡ Some o) (open_end : o.end ≡ unfixed) (reply : Reply) (commits : Commits o.opened p.stmt p.stage reply) (acts : is_quiet o ≡ false) where
+    (p : InStatement v s) (o : OpenTransaction) (open_one : p.x.open_one ≡ Some o) (open_end : o.end ≡ unfixed) (reply : Reply) (commits : Commits o.explicit p.stmt p.stage reply) (acts : is_read_only o ≡ false) where
   abbrev c : Contents
   c = contents cells
 
@@ -115,7 +115,7 @@ module _ (v : Server) (cells : List Cell) (seats : List SeatState) {history : Hi
 
   -- all its events count
   pub counts : (id : ℕ) (V : List Version) → counted o.id id p.x.place V ≡ V
-  counts id V = ap (λ (q : Place). counted o.id id q V) p.place ∙ all_count o.opened p.stmt p.stage reply commits o.id id V
+  counts id V = ap (λ (q : SessionStatus). counted o.id id q V) p.place ∙ all_count o.explicit p.stmt p.stage reply commits o.id id V
 
   -- what it leaves over the tables of the journal
   abbrev left : Tables
@@ -136,23 +136,23 @@ module _ (v : Server) (cells : List Cell) (seats : List SeatState) {history : Hi
   abbrev lines : List Line
   lines = script_so_far p.x o
 
-  pub next_item : (name : Text) (time : ℕ) → IsNext v.reads st.ledger.items k.tables (Tx o.id name time o.opened lines)
+  pub next_item : (name : Text) (time : ℕ) → IsNext v.reads st.ledger.items k.tables (Tx o.id name time o.explicit lines)
   next_item name time = (record { replies = its_script.replies; events = some_event }, others o.id st.ledger.items (outside v history st.ledger seats st.transcripts_agree j p.x o has open_end))
 
   -- the entry made of its trees is that of the journal
-  its_entry : (name : Text) (time : ℕ) → entry_of_trees v o name time ≡ entry_of v.hash (serial v.reads (st.ledger.items ++ Tx o.id name time o.opened lines ∷ [])) o.id name time
+  its_entry : (name : Text) (time : ℕ) → entry_of_trees v o name time ≡ entry_of v.hash (serial v.reads (st.ledger.items ++ Tx o.id name time o.explicit lines ∷ [])) o.id name time
   its_entry name time = λ i. record { id = o.id; block = 0; ordinal = 0; time = time; principal = name; roots = same i }
     where
       item : JournalItem
-      item = Tx o.id name time o.opened lines
+      item = Tx o.id name time o.explicit lines
 
-      tables : serial v.reads (st.ledger.items ++ Tx o.id name time o.opened lines ∷ []) ≡ left
-      tables = serial_more v.reads first_tables st.ledger.items (Tx o.id name time o.opened lines)
+      tables : serial v.reads (st.ledger.items ++ Tx o.id name time o.explicit lines ∷ []) ≡ left
+      tables = serial_more v.reads first_tables st.ledger.items (Tx o.id name time o.explicit lines)
 
-      same : map (root_of_tree v) (with_leaves o.trees) ≡ roots_of v.hash o.id (serial v.reads (st.ledger.items ++ Tx o.id name time o.opened lines ∷ []))
-      same = same_roots v o.id left (subst (λ (T : Tables). IdsFrom 1 (defs_of T)) tables (legal_ids v.reads (st.ledger.items ++ Tx o.id name time o.opened lines ∷ []) (legal_more v.reads st.ledger.items (Tx o.id name time o.opened lines) st.ledger_is_legal.legal (next_item name time))))
+      same : map (root_of_tree v) (with_leaves o.trees) ≡ roots_of v.hash o.id (serial v.reads (st.ledger.items ++ Tx o.id name time o.explicit lines ∷ []))
+      same = same_roots v o.id left (subst (λ (T : Tables). IdsFrom 1 (defs_of T)) tables (legal_ids v.reads (st.ledger.items ++ Tx o.id name time o.explicit lines ∷ []) (legal_more v.reads st.ledger.items (Tx o.id name time o.explicit lines) st.ledger_is_legal.legal (next_item name time))))
           some_event o.trees (trees_over v (events_counted c p.x o) (λ id. events_in o.id id (versions_of left id)) o.trees (λ id l. ap (events_in o.id id) (counts id (c.versions id)) ∙ its_events id l) its_trees.trees)
           ∙ ap (roots_of v.hash o.id) (sym tables)
 
-  pub commit_is_legal : (time : ℕ) → LedgerIsLegal v (with_item (entry_of_trees v o p.x.transcript.session time) (Tx o.id p.x.transcript.session time o.opened lines) st.ledger)
-  commit_is_legal time = ledger_more v st.ledger o.id time p.x.transcript.session o.opened lines (entry_of_trees v o p.x.transcript.session time) st.ledger_is_legal (next_item p.x.transcript.session time) (its_entry p.x.transcript.session time)
+  pub commit_is_legal : (time : ℕ) → LedgerIsLegal v (with_item (entry_of_trees v o p.x.transcript.session time) (Tx o.id p.x.transcript.session time o.explicit lines) st.ledger)
+  commit_is_legal time = ledger_more v st.ledger o.id time p.x.transcript.session o.explicit lines (entry_of_trees v o p.x.transcript.session time) st.ledger_is_legal (next_item p.x.transcript.session time) (its_entry p.x.transcript.session time)

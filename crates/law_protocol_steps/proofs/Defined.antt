@@ -1,11 +1,11 @@
 -- The definition of a table that there is.
 use Rattle.std.proofs.Common.{◌≡◌, ℕ, Bool, true, false, [], ◌∷◌, Some, refl, sym, ap, ◌∙◌}
 use Rattle.std.specs.Prelude.{◌==◌, ◌||◌, if◌then◌else◌}
-use Rattle.lg_types.specs.declared.table.TableDef.{TableDef}
-use Rattle.lg_model.specs.Catalog.{Defs}
-use Rattle.lg_model.specs.Agreement.{columns_at}
-use Rattle.lg_frames.proofs.AgreeAfter.{has_table}
-use Rattle.lg_standing.specs.TablesAreSerial.{def_at}
+use Rattle.sql_types.specs.declared.table.TableDef.{TableDef}
+use Rattle.spec_model.specs.Catalog.{Defs}
+use Rattle.spec_model.specs.Agreement.{columns_at}
+use Rattle.law_frame.proofs.AgreeAfter.{has_table}
+use Rattle.spec_protocol.specs.TablesAreSerial.{def_at}
 
 pub record IsDefined (defs : Defs) (id : ℕ) : Type 0 where
   pub def : TableDef

@@ -2,22 +2,22 @@
 use Rattle.std.proofs.Common.{◌≡◌, ◌≢◌, ℕ, ◌+◌, ◌≤◌, Bool, true, false, List, [], ◌∷◌, ◌++◌, Option, Some, None, Ok, Err, refl, sym, ap, ◌∙◌, subst, arith}
 use Rattle.std.proofs.lemmas.Bool.{eq-eqb, ne_eqb, eqb-true}
 use Rattle.std.specs.Prelude.{◌==◌, if◌then◌else◌}
-use Rattle.lg_types.specs.declared.statement.Stmt.{Stmt}
-use Rattle.lg_types.specs.declared.statement.Stmt.TheVariants as st
-use Rattle.lg_types.specs.declared.statement.CreateIndex.{CreateIndex}
-use Rattle.lg_types.specs.declared.table.Part.{Part}
-use Rattle.lg_types.specs.declared.table.TableDef.{TableDef}
-use Rattle.lg_types.specs.declared.table.IndexDef.{IndexDef}
-use Rattle.lg_model.specs.Refusals.{Checked}
-use Rattle.lg_model.specs.Catalog.{Defs, Named, Tables, defs_of, part_named, or_in, find_part}
-use Rattle.lg_model.specs.Create.{create_check, index_check, with_index}
-use Rattle.lg_model.specs.Agreement.{IdsFrom, columns_at}
-use Rattle.lg_model.specs.Plans.{Definition, as_before, new, in_place, defined, table_plan, index_plan, plan}
-use Rattle.lg_model.specs.Reach.{creates}
-use Rattle.lg_frames.proofs.Definitions.{plan_keeps}
-use Rattle.lg_standing.proofs.Created.{indexed}
-use Rattle.lg_standing.proofs.DefLists.{redef, defs_redefined}
-use Rattle.lg_standing.specs.TablesAreSerial.{def_at}
+use Rattle.sql_types.specs.declared.statement.Stmt.{Stmt}
+use Rattle.sql_types.specs.declared.statement.Stmt.TheVariants as st
+use Rattle.sql_types.specs.declared.statement.CreateIndex.{CreateIndex}
+use Rattle.sql_types.specs.declared.table.Part.{Part}
+use Rattle.sql_types.specs.declared.table.TableDef.{TableDef}
+use Rattle.sql_types.specs.declared.table.IndexDef.{IndexDef}
+use Rattle.spec_model.specs.Refusals.{Checked}
+use Rattle.spec_model.specs.Catalog.{Defs, NamedPart, Tables, defs_of, part_named, or_in, find_part}
+use Rattle.spec_model.specs.Create.{create_check, index_check, with_index}
+use Rattle.spec_model.specs.Agreement.{IdsFrom, columns_at}
+use Rattle.spec_model.specs.ChangeSets.{Definition, as_before, new, in_place, defined, create_table_change_set, create_index_change_set, change_set}
+use Rattle.spec_model.specs.Reach.{creates}
+use Rattle.law_frame.proofs.Definitions.{change_set_keeps}
+use Rattle.spec_protocol.proofs.Created.{indexed}
+use Rattle.spec_protocol.proofs.DefLists.{redef, defs_redefined}
+use Rattle.spec_protocol.specs.TablesAreSerial.{def_at}
 
 -- ---- by id
 
@@ -26,14 +26,14 @@ pub record IsFound (n : ℕ) (defs : Defs) (def : TableDef) : Type 0 where
   pub at : def_at defs def.id ≡ Some def
 
 -- what a name finds is the definition with its id
-pub found_at : (n : ℕ) (defs : Defs) (name : List ℕ) (found : Named) → IdsFrom n defs → find_part defs name ≡ Some found → IsFound n defs found.0
+pub found_at : (n : ℕ) (defs : Defs) (name : List ℕ) (found : NamedPart) → IdsFrom n defs → find_part defs name ≡ Some found → IsFound n defs found.0
 unfolding find_part
 found_at n [] name found ids e = cc
 found_at n (d ∷ defs) name found ids e = by (part_named d name) e (λ h. found_at (n + 1) defs name found ids.1 h)
   where
     by : (o : Option Part) → or_in o d (find_part defs name) ≡ Some found → (find_part defs name ≡ Some found → IsFound (n + 1) defs found.0) → IsFound n (d ∷ defs) found.0
     by (Some p) f rest = let same : (d, p) ≡ found = cc in
-        subst (λ (x : Named). IsFound n (d ∷ defs) x.0) same (record { from = omega (arith, ids.0); at = rw (eq-eqb d.id d.id refl) refl })
+        subst (λ (x : NamedPart). IsFound n (d ∷ defs) x.0) same (record { from = omega (arith, ids.0); at = rw (eq-eqb d.id d.id refl) refl })
     by None f rest = let r = rest f in record { from = omega (arith, r.from); at = rw (ne_eqb d.id (found.0).id (λ q. absurd (omega (arith, ids.0, r.from, q)))) r.at }
 
 -- the definition found has the id
@@ -95,9 +95,9 @@ pub record IndexMade (T : Tables) (stmt : Stmt) (def : TableDef) : Type 0 where
   pub is : def ≡ with_index old index
   pub at : def_at (defs_of T) def.id ≡ Some old
   pub creates : creates stmt ≡ true
-  pub then_at : def_at (defs_of (defined (plan T stmt).definition T)) def.id ≡ Some def
+  pub then_at : def_at (defs_of (defined (change_set T stmt).definition T)) def.id ≡ Some def
 
-in_place_of : (T : Tables) (c : CreateIndex) (m : Checked (TableDef × IndexDef)) (def : TableDef) → IdsFrom 1 (defs_of T) → index_check (defs_of T) c ≡ m → (index_plan m).definition ≡ in_place def → (plan T (st.Index c)).definition ≡ in_place def → IndexMade T (st.Index c) def
+in_place_of : (T : Tables) (c : CreateIndex) (m : Checked (TableDef × IndexDef)) (def : TableDef) → IdsFrom 1 (defs_of T) → index_check (defs_of T) c ≡ m → (create_index_change_set m).definition ≡ in_place def → (change_set T (st.Index c)).definition ≡ in_place def → IndexMade T (st.Index c) def
 in_place_of T c (Ok x) def ids e h plans =
     let i = indexed (defs_of T) c x e in
     let same : with_index x.0 x.1 ≡ def = cc in
@@ -114,18 +114,18 @@ in_place_of T c (Ok x) def ids e h plans =
     }
 in_place_of T c (Err r) def ids e h plans = cc
 
-table_not : (m : Checked TableDef) (def : TableDef) → (table_plan m).definition ≡ in_place def → ⊥
+table_not : (m : Checked TableDef) (def : TableDef) → (create_table_change_set m).definition ≡ in_place def → ⊥
 table_not (Ok d) def e = let z : new d ≡ in_place def = e in cc
 table_not (Err r) def e = let z : as_before ≡ in_place def = e in cc
 
-pub index_made : (T : Tables) (stmt : Stmt) (def : TableDef) → IdsFrom 1 (defs_of T) → (plan T stmt).definition ≡ in_place def → IndexMade T stmt def
-unfolding plan
+pub index_made : (T : Tables) (stmt : Stmt) (def : TableDef) → IdsFrom 1 (defs_of T) → (change_set T stmt).definition ≡ in_place def → IndexMade T stmt def
+unfolding change_set
 index_made T stmt def ids e = by stmt e (creates stmt) refl
   where
-    not_so : (q : Stmt) → (plan T q).definition ≡ in_place def → creates q ≡ false → ⊥
-    not_so q f k = let z : as_before ≡ in_place def = sym (plan_keeps T q k) ∙ f in cc
+    not_so : (q : Stmt) → (change_set T q).definition ≡ in_place def → creates q ≡ false → ⊥
+    not_so q f k = let z : as_before ≡ in_place def = sym (change_set_keeps T q k) ∙ f in cc
 
-    by : (q : Stmt) → (plan T q).definition ≡ in_place def → (b : Bool) → creates q ≡ b → IndexMade T q def
+    by : (q : Stmt) → (change_set T q).definition ≡ in_place def → (b : Bool) → creates q ≡ b → IndexMade T q def
     by (st.Index c) f b k = in_place_of T c (index_check (defs_of T) c) def ids refl f f
     by (st.Create c) f b k = absurd (table_not (create_check (defs_of T) c) def f)
     by q f false k = absurd (not_so q f k)

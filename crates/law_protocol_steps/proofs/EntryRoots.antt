@@ -6,27 +6,27 @@ use Rattle.std.specs.List.{filter}
 use Rattle.std.specs.Ordering.{nat_cmp, is_gt}
 use Rattle.std.specs.Cmp.{nat_cmp_is}
 use Rattle.std.specs.declared.cmp.Ordering.TheVariants.{Less, Greater}
-use Rattle.lg_types.specs.declared.event.Event.{Event}
-use Rattle.lg_types.specs.declared.version.Table.{Table}
-use Rattle.lg_types.specs.declared.version.Version.{Version}
-use Rattle.lg_model.specs.Agreement.{IdsFrom}
-use Rattle.lg_model.specs.Catalog.{Tables, defs_of, versions_of}
-use Rattle.lg_model.specs.Events.{events_of, all_events}
-use Rattle.lg_model.specs.Lists.{inserted, sorted}
-use Rattle.lg_frames.proofs.UndoneTables.{own_versions}
-use Rattle.lg_standing.specs.Leaf.{event_bytes}
-use Rattle.lg_merkle.specs.TreeHash.{tree_hash}
-use Rattle.lg_standing.specs.Entry.{rise_above, tables_rise}
-use Rattle.lg_standing.specs.Entries.{has_events, root_in, roots_of}
-use Rattle.lg_standing.proofs.Roots.{roots_rise}
-use Rattle.lg_history.specs.Lists.{Text, Each, In}
-use Rattle.lg_history.specs.Serial.{Differ}
-use Rattle.lg_history.proofs.Trace.{each_weaker}
-use Rattle.lg_standing.specs.EventsIn.{events_in}
-use Rattle.lg_standing.specs.LedgerVisits.{is_empty, by_table, with_leaves, root_of_tree}
-use Rattle.lg_standing.specs.Seats.{Tree}
-use Rattle.lg_standing.specs.Server.{Server}
-use Rattle.lg_standing.specs.TreesAreOfEvents.{AreTrees}
+use Rattle.sql_types.specs.declared.event.Event.{Event}
+use Rattle.sql_types.specs.declared.version.Table.{Table}
+use Rattle.sql_types.specs.declared.version.Version.{Version}
+use Rattle.spec_model.specs.Agreement.{IdsFrom}
+use Rattle.spec_model.specs.Catalog.{Tables, defs_of, versions_of}
+use Rattle.spec_model.specs.Events.{events_of, all_events}
+use Rattle.spec_model.specs.Lists.{inserted, sorted}
+use Rattle.law_frame.proofs.UndoneTables.{own_versions}
+use Rattle.spec_protocol.specs.Leaf.{event_bytes}
+use Rattle.base_merkle.specs.TreeHash.{tree_hash}
+use Rattle.spec_protocol.specs.Entry.{rise_above, tables_rise}
+use Rattle.spec_protocol.specs.Entries.{has_events, root_in, roots_of}
+use Rattle.spec_protocol.proofs.Roots.{roots_rise}
+use Rattle.spec_history.specs.Lists.{Text, Each, In}
+use Rattle.spec_history.specs.Serial.{Differ}
+use Rattle.spec_history.proofs.Trace.{each_weaker}
+use Rattle.spec_protocol.specs.EventsIn.{events_in}
+use Rattle.spec_protocol.specs.LedgerVisits.{is_empty, by_table, with_leaves, root_of_tree}
+use Rattle.spec_protocol.specs.Seats.{Tree}
+use Rattle.spec_protocol.specs.Server.{Server}
+use Rattle.spec_protocol.specs.TreesAreOfEvents.{AreTrees}
 use Rattle.law_protocol_steps.proofs.Ids.{each_in}
 
 -- ---- roots that rise

@@ -4,18 +4,18 @@ use Rattle.std.proofs.lemmas.Bool.{ne_eqb, or_parts, eq-eqb}
 use Rattle.std.specs.Prelude.{◌==◌, if◌then◌else◌, nat_le, not, ◌&&◌}
 use Rattle.std.specs.List.{AllByRecursion, filter}
 use Rattle.std.specs.Ordering.{nat_cmp}
-use Rattle.lg_types.specs.declared.event.Event.{Event}
-use Rattle.lg_types.specs.declared.version.Version.{Version}
-use Rattle.lg_model.specs.Lists.{sorted}
-use Rattle.lg_model.specs.Rows.{EventId}
-use Rattle.lg_model.specs.Catalog.{Tables, versions_of}
-use Rattle.lg_model.specs.Events.{end_events, version_events}
-use Rattle.lg_model.specs.Runs.{IsBefore, EndsBefore, MadeBefore, SoundTable, Sound}
-use Rattle.lg_history.specs.Lists.{Each}
-use Rattle.lg_history.proofs.Trace.{each_append, each_weaker}
-use Rattle.lg_model.specs.Touched.{ends_by, is_touched, touched}
-use Rattle.lg_standing.specs.EventsIn.{events_in}
-use Rattle.lg_model.specs.Undo.{end_left, end_undone, is_undone, versions_undone}
+use Rattle.sql_types.specs.declared.event.Event.{Event}
+use Rattle.sql_types.specs.declared.version.Version.{Version}
+use Rattle.spec_model.specs.Lists.{sorted}
+use Rattle.spec_model.specs.Rows.{EventId}
+use Rattle.spec_model.specs.Catalog.{Tables, versions_of}
+use Rattle.spec_model.specs.Events.{end_events, version_events}
+use Rattle.spec_model.specs.Runs.{IsBefore, EndsBefore, MadeBefore, SoundTable, Sound}
+use Rattle.spec_history.specs.Lists.{Each}
+use Rattle.spec_history.proofs.Trace.{each_append, each_weaker}
+use Rattle.spec_model.specs.Touched.{ends_by, is_touched, touched}
+use Rattle.spec_protocol.specs.EventsIn.{events_in}
+use Rattle.spec_model.specs.Undo.{end_left, end_undone, is_undone, versions_undone}
 
 abbrev pub EndIsNotOf : ℕ → Option EventId → Type 0
 EndIsNotOf tx None = Unit {0}

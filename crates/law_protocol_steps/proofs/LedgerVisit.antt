@@ -2,24 +2,24 @@
 use Rattle.std.proofs.Common.{◌≡◌, ℕ, zero, suc, List, slice_set, refl, sym, ◌∙◌, subst₂, map, ◌++◌}
 use mathlib.Core.Option.{some, some-injective}
 use lib.ListN.{get_elem?}
-use Rattle.lg_history.specs.Acts.{Act, SessionAct, by}
-use Rattle.lg_standing.specs.Server.{Server}
-use Rattle.lg_standing.specs.Cells.{CatalogCell, LedgerCell, Cell, Catalog, Ledger, Rows, AreCells, ledger_at}
-use Rattle.lg_standing.specs.Contents.{Contents, Known, contents, known}
-use Rattle.lg_standing.specs.Seats.{SeatState}
-use Rattle.lg_standing.specs.LedgerIsLegal.{LedgerIsLegal}
-use Rattle.lg_standing.specs.TablesAreSerial.{TablesAreSerial}
-use Rattle.lg_standing.specs.OpenScripts.{OpenScripts}
-use Rattle.lg_standing.specs.LocksCover.{LocksCover}
-use Rattle.lg_standing.specs.LocksAgree.{LocksAgree}
-use Rattle.lg_standing.specs.TreesAreOfEvents.{TreesAreOfEvents}
-use Rattle.lg_standing.specs.TranscriptsAgree.{TranscriptsAgree}
-use Rattle.lg_standing.specs.StandTogether.{History, Stands, StandsAfter}
+use Rattle.spec_history.specs.Acts.{Act, SessionAct, by}
+use Rattle.spec_protocol.specs.Server.{Server}
+use Rattle.spec_protocol.specs.Cells.{CatalogCell, LedgerCell, Cell, Catalog, Ledger, Rows, AreCells, ledger_at}
+use Rattle.spec_protocol.specs.Contents.{Contents, Known, contents, known}
+use Rattle.spec_protocol.specs.Seats.{SeatState}
+use Rattle.spec_protocol.specs.LedgerIsLegal.{LedgerIsLegal}
+use Rattle.spec_protocol.specs.TablesAreSerial.{TablesAreSerial}
+use Rattle.spec_protocol.specs.OpenScripts.{OpenScripts}
+use Rattle.spec_protocol.specs.LocksCover.{LocksCover}
+use Rattle.spec_protocol.specs.LocksAgree.{LocksAgree}
+use Rattle.spec_protocol.specs.TreesAreOfEvents.{TreesAreOfEvents}
+use Rattle.spec_protocol.specs.TranscriptsAgree.{TranscriptsAgree}
+use Rattle.spec_protocol.specs.StandTogether.{History, Stands, StandsAfter}
 use Rattle.law_protocol_steps.proofs.GoesOn.{each_so}
 use Rattle.law_protocol_steps.proofs.LedgerKept.{same_contents, are_cells}
 use Rattle.law_protocol_steps.proofs.Turns.{Turns, tables_turn, scripts_turn, trees_turn, agree_turn, cover_turn, rows_turn}
-use Rattle.lg_standing.specs.RowsAgree.{RowsAgree}
-use Rattle.lg_history.proofs.Legal.{legal}
+use Rattle.spec_protocol.specs.RowsAgree.{RowsAgree}
+use Rattle.spec_history.proofs.Legal.{legal}
 
 same_cell : (c d : LedgerCell) → Ledger c ≡ Ledger d → c ≡ d
 same_cell c d e = cc

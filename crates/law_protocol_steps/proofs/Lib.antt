@@ -9,10 +9,10 @@ pub mod CellsAfter
 pub mod CellsOut
 pub mod Closes
 pub mod CommitsLedger
-pub mod Deeds
+pub mod AnonymousActs
 pub mod Defined
 pub mod DefsAfter
-pub mod Draws
+pub mod AssignsId
 pub mod EntryRoots
 pub mod Excluded
 pub mod FreshIds
@@ -47,6 +47,6 @@ pub mod TakenLocks
 pub mod Takes
 pub mod TakesInTable
 pub mod TranscriptActs
-pub mod TranscriptStages
+pub mod TranscriptProgress
 pub mod Turns
 pub mod VisitActs

@@ -6,33 +6,33 @@ use Rattle.std.specs.Prelude.{◌==◌, ◌||◌, not, if◌then◌else◌}
 use Rattle.std.specs.List.{list_any}
 use mathlib.Core.Option.{some}
 use lib.ListN.{get_elem?}
-use Rattle.lg_types.specs.declared.lock.Mode.TheVariants as mode
-use Rattle.lg_types.specs.declared.lock.Want.{Want}
-use Rattle.lg_types.specs.declared.statement.Stmt.{Stmt}
-use Rattle.lg_types.specs.declared.statement.Stmt.TheVariants as st
-use Rattle.lg_model.specs.Keys.{Key}
-use Rattle.lg_model.specs.Catalog.{Defs, defs_of, find_part}
-use Rattle.lg_model.specs.Journals.{Line}
-use Rattle.lg_model.specs.Locks.{catalog_want, conflict, same_item, whole, wants_conflict}
-use Rattle.lg_model.specs.Reach.{creates, lets_change}
-use Rattle.lg_model.specs.ScriptWants.{text_wants}
-use Rattle.lg_history.specs.Lists.{Text, Each, In}
-use Rattle.lg_history.proofs.Trace.{each_weaker}
-use Rattle.lg_history.proofs.Refused.{each_left}
-use Rattle.lg_standing.specs.Server.{Server}
-use Rattle.lg_types.specs.declared.lock.Hold.{Hold}
-use Rattle.lg_standing.specs.Cells.{CatalogCell, TableCell, Cell, Catalog, Rows, holds_at, versions_in, catalog_at}
-use Rattle.lg_standing.specs.Seats.{OpenTransaction, Stage, begun, found, Place, inside, Session, SeatState}
-use Rattle.lg_standing.specs.OpenOnes.{HasOpen, text_at, lines_at}
-use Rattle.lg_standing.specs.OpenScripts.{counted}
-use Rattle.lg_standing.specs.TableVisits.{with_holds}
-use Rattle.lg_standing.specs.Moves.{put_in, visiting, at_place, sits}
-use Rattle.lg_standing.specs.WantsIn.{wants_in, of_catalog, Holds}
+use Rattle.sql_types.specs.declared.lock.Mode.TheVariants as mode
+use Rattle.sql_types.specs.declared.lock.LockRequest.{LockRequest}
+use Rattle.sql_types.specs.declared.statement.Stmt.{Stmt}
+use Rattle.sql_types.specs.declared.statement.Stmt.TheVariants as st
+use Rattle.spec_model.specs.Keys.{Key}
+use Rattle.spec_model.specs.Catalog.{Defs, defs_of, find_part}
+use Rattle.spec_model.specs.Journals.{Line}
+use Rattle.spec_model.specs.Locks.{catalog_request, conflict, same_item, whole, requests_conflict}
+use Rattle.spec_model.specs.Reach.{creates, lets_change}
+use Rattle.spec_model.specs.ScriptRequests.{text_requests}
+use Rattle.spec_history.specs.Lists.{Text, Each, In}
+use Rattle.spec_history.proofs.Trace.{each_weaker}
+use Rattle.spec_history.proofs.Refused.{each_left}
+use Rattle.spec_protocol.specs.Server.{Server}
+use Rattle.sql_types.specs.declared.lock.Hold.{Hold}
+use Rattle.spec_protocol.specs.Cells.{CatalogCell, TableCell, Cell, Catalog, Rows, holds_at, versions_in, catalog_at}
+use Rattle.spec_protocol.specs.Seats.{OpenTransaction, StatementProgress, begun, found, SessionStatus, inside, Session, SeatState}
+use Rattle.spec_protocol.specs.OpenOnes.{HasOpen, text_at, lines_at}
+use Rattle.spec_protocol.specs.OpenScripts.{counted}
+use Rattle.spec_protocol.specs.TableVisits.{with_holds}
+use Rattle.spec_protocol.specs.Moves.{put_in, visiting, at_place, sits}
+use Rattle.spec_protocol.specs.RequestsIn.{requests_in, of_catalog, Holds}
 use Rattle.law_protocol_steps.proofs.Taken.{holds_none, AreFree}
-use Rattle.lg_standing.specs.TablesAreSerial.{HasAdded, HasActed}
-use Rattle.lg_standing.specs.LocksCover.{IsNamed, LookedFirst}
-use Rattle.lg_standing.specs.CatalogVisits as c
-use Rattle.lg_standing.specs.StandTogether.{History, Stands}
+use Rattle.spec_protocol.specs.TablesAreSerial.{HasAdded, HasActed}
+use Rattle.spec_protocol.specs.LocksCover.{IsNamed, LookedFirst}
+use Rattle.spec_protocol.specs.CatalogVisits as c
+use Rattle.spec_protocol.specs.StandTogether.{History, Stands}
 use Rattle.law_protocol_steps.proofs.AfterSet.{set_here, set_else, each_at}
 use Rattle.law_protocol_steps.proofs.SeatsAfter.{one_session}
 use Rattle.law_protocol_steps.proofs.CellsAfter.{catalog_changed, holds_here, held_here}
@@ -40,16 +40,16 @@ use Rattle.law_protocol_steps.proofs.Taken.{held_nothing, taken_holds}
 use Rattle.law_protocol_steps.proofs.SameOne.{IsSame}
 use Rattle.law_protocol_steps.proofs.SeatIds.{one_seat}
 use Rattle.law_protocol_steps.proofs.Takes.{tables_now, Takes, came, lock_came, covered, agree, rows, scripts, trees, tables}
-use Rattle.law_protocol_steps.proofs.OfCells.{Creates, HasLock, IsGotAt, IsUnderWay, WantsNone, in_journal}
-use Rattle.lg_history.specs.Guards.{IsAnswered}
-use Rattle.lg_standing.specs.TranscriptsAgree.{TranscriptsAgree}
+use Rattle.law_protocol_steps.proofs.OfCells.{Creates, HasLock, IsGotAt, IsUnderWay, RequestsNone, in_journal}
+use Rattle.spec_history.specs.Guards.{IsAnswered}
+use Rattle.spec_protocol.specs.TranscriptsAgree.{TranscriptsAgree}
 use Rattle.law_protocol_steps.proofs.TakenLocks.{all_free}
 use Rattle.law_protocol_steps.proofs.VisitActs.{asks_act, asks_owner, asks_number}
-use Rattle.law_protocol_steps.proofs.TranscriptStages.{at_found, from_at, shares_rows}
-use Rattle.lg_history.specs.Transcripts.{kind_of}
-use Rattle.lg_history.specs.Acts.{looks}
-use Rattle.lg_history.specs.Transcripts as told
-use Rattle.lg_history.specs.Acts.{by}
+use Rattle.law_protocol_steps.proofs.TranscriptProgress.{at_found, from_at, shares_rows}
+use Rattle.spec_history.specs.Transcripts.{kind_of}
+use Rattle.spec_history.specs.Acts.{looks}
+use Rattle.spec_history.specs.Transcripts as told
+use Rattle.spec_history.specs.Acts.{by}
 use Rattle.law_protocol_steps.proofs.VisitActs.{g}
 
 -- ---- cells visited
@@ -79,20 +79,20 @@ put_keeps i k is h = by (list_any (λ n. n == i) is)
 
 -- ---- statements that share the catalog
 
-shares_not : (o : Bool) (stmt : Stmt) → catalog_want o stmt ≡ Some mode.S → creates stmt ≡ true → ⊥
+shares_not : (o : Bool) (stmt : Stmt) → catalog_request o stmt ≡ Some mode.S → creates stmt ≡ true → ⊥
 shares_not true (st.Create q) e k = cc
 shares_not true (st.Index q) e k = cc
 shares_not false (st.Create q) e k = cc
 shares_not false (st.Index q) e k = cc
 shares_not o stmt e k = cc
 
-s_against_x : wants_conflict (whole mode.S) (whole mode.X) ≡ true
+s_against_x : requests_conflict (whole mode.S) (whole mode.X) ≡ true
 unfolding same_item conflict
 s_against_x = refl
 
-none_wanted : (holds : List Hold) (id : ℕ) (ws : List Want) → ((h : Hold) → In h holds → h.tx ≢ id) → Each (Holds holds id) ws → ws ≡ []
-none_wanted holds id [] free h = refl
-none_wanted holds id (w ∷ ws) free h = absurd (free h.0.hold h.0.has h.0.mine)
+none_requested : (holds : List Hold) (id : ℕ) (ws : List LockRequest) → ((h : Hold) → In h holds → h.tx ≢ id) → Each (Holds holds id) ws → ws ≡ []
+none_requested holds id [] free h = refl
+none_requested holds id (w ∷ ws) free h = absurd (free h.0.hold h.0.has h.0.mine)
 
 module _ (v : Server) (cells : List Cell) (seats : List SeatState) {history : History} (S : Stands v history cells seats) (j : ℕ) (s : SeatState) (there : get_elem? seats j ≡ some s)
     (old new : CatalogCell) (t : SeatState) (out : get_elem? cells catalog_at ≡ some (Catalog old)) (L : c.Looks v old s new t) where
@@ -108,7 +108,7 @@ module _ (v : Server) (cells : List Cell) (seats : List SeatState) {history : Hi
   abbrev text : Text
   text = L.at.stands.text
 
-  abbrev stage : Stage
+  abbrev stage : StatementProgress
   stage = found (find_part old.defs L.name) (holds_none L.o.id old.holds)
 
   abbrev y : Session
@@ -126,29 +126,29 @@ module _ (v : Server) (cells : List Cell) (seats : List SeatState) {history : Hi
   same : IsSame x o y p
   same = record {
     id = refl;
-    opened = refl;
+    explicit = refl;
     script = refl;
     seq = refl;
     trees = refl;
-    frames = refl;
+    open_savepoints = refl;
     end = refl;
     lines = ap lines_at (sym place);
     text = ap text_at (sym place);
-    counts = λ tx id vs. ap (λ (q : Place). counted tx id q vs) (sym place);
+    counts = λ tx id vs. ap (λ (q : SessionStatus). counted tx id q vs) (sym place);
     visited = λ i h. put_keeps catalog_at i L.o.visited h;
     released = refl;
   }
 
-  shares : text_wants (defs_of (tables_now S)) o.opened (v.reads text) ≡ text_wants (defs_of (tables_now S)) o.opened (Some L.at.stands.stmt)
-  shares = ap (text_wants (defs_of (tables_now S)) o.opened) L.at.stands.is
+  shares : text_requests (defs_of (tables_now S)) o.explicit (v.reads text) ≡ text_requests (defs_of (tables_now S)) o.explicit (Some L.at.stands.stmt)
+  shares = ap (text_requests (defs_of (tables_now S)) o.explicit) L.at.stands.is
 
-  wants_here : of_catalog (text_wants (defs_of (tables_now S)) o.opened (v.reads text)).catalog ≡ whole mode.S ∷ []
-  wants_here = ap (λ w. of_catalog w.catalog) shares ∙ ap of_catalog L.shares
+  requests_here : of_catalog (text_requests (defs_of (tables_now S)) o.explicit (v.reads text)).catalog ≡ whole mode.S ∷ []
+  requests_here = ap (λ w. of_catalog w.catalog) shares ∙ ap of_catalog L.shares
 
-  no_x : (w : Want) → In w (whole mode.S ∷ []) → w.mode ≡ mode.X → ⊥
-  no_x w i m = ⊎_elim (λ (e : whole mode.S ≡ w). let z : mode.S ≡ mode.X = ap (λ (u : Want). u.mode) e ∙ m in cc) (λ (z : ⊥). z) i
+  no_x : (w : LockRequest) → In w (whole mode.S ∷ []) → w.mode ≡ mode.X → ⊥
+  no_x w i m = ⊎_elim (λ (e : whole mode.S ≡ w). let z : mode.S ≡ mode.X = ap (λ (u : LockRequest). u.mode) e ∙ m in cc) (λ (z : ⊥). z) i
 
-  no_change_here : (key : Key) (w : Want) → In w (whole mode.S ∷ []) → lets_change key w ≡ true → ⊥
+  no_change_here : (key : Key) (w : LockRequest) → In w (whole mode.S ∷ []) → lets_change key w ≡ true → ⊥
   no_change_here key w i m = ⊎_elim (λ (e : whole mode.S ≡ w). let z : lets_change key (whole mode.S) ≡ true = ap (lets_change key) e ∙ m in cc) (λ (z : ⊥). z) i
 
   free : AreFree old.holds o.id (whole mode.S ∷ [])
@@ -165,11 +165,11 @@ module _ (v : Server) (cells : List Cell) (seats : List SeatState) {history : Hi
     locks = ap (λ (z : CatalogCell). z.holds) L.cell;
     free = free;
     place = ap text_at place;
-    on_whole = λ e w i. ⊎_elim (λ (f : whole mode.S ≡ w). ap (λ (u : Want). u.item) (sym f)) (λ (z : ⊥). absurd z) i;
+    on_whole = λ e w i. ⊎_elim (λ (f : whole mode.S ≡ w). ap (λ (u : LockRequest). u.item) (sym f)) (λ (z : ⊥). absurd z) i;
     visited = put_there catalog_at L.o.visited;
     acted = λ h. absurd (subst HasActed place h);
     goes_on = λ h. h;
-    no_index = λ after h. subst (λ (q : Place). HasAdded q o after) place h;
+    no_index = λ after h. subst (λ (q : SessionStatus). HasAdded q o after) place h;
     stays_opened = tt;
     looked = λ i e. absurd (omega arith);
     intents = λ w i m. absurd (no_x w i m);
@@ -187,12 +187,12 @@ module _ (v : Server) (cells : List Cell) (seats : List SeatState) {history : Hi
       let one : k.text ≡ text = cc in
       let stmts : Some stmt ≡ Some L.at.stands.stmt = sym k.is ∙ ap v.reads one ∙ L.at.stands.is in
       let two : stmt ≡ L.at.stands.stmt = cc in
-      shares_not o.opened stmt (ap (catalog_want o.opened) two ∙ L.shares) k.creates)
+      shares_not o.explicit stmt (ap (catalog_request o.explicit) two ∙ L.shares) k.creates)
       (λ (ne : k.j ≢ j).
-      let free : wants_conflict (whole mode.S) (whole mode.X) ≡ false = each_at (λ (h : Hold). h.tx ≢ o.id → wants_conflict (whole mode.S) h.want ≡ false) old.holds (record { tx = k.o.id; want = whole mode.X }) free.0
-      (subst (In (record { tx = k.o.id; want = whole mode.X })) (held_here cells catalog_at (Catalog old) (Catalog new) out) k.exclusive)
+      let free : requests_conflict (whole mode.S) (whole mode.X) ≡ false = each_at (λ (h : Hold). h.tx ≢ o.id → requests_conflict (whole mode.S) h.request ≡ false) old.holds (record { tx = k.o.id; request = whole mode.X }) free.0
+      (subst (In (record { tx = k.o.id; request = whole mode.X })) (held_here cells catalog_at (Catalog old) (Catalog new) out) k.exclusive)
       (λ q. ne (one_seat v cells seats S k.j j z x k.o o k.has has_open q)) in
-      let taken : wants_conflict (whole mode.S) (whole mode.X) ≡ true = s_against_x in cc)
+      let taken : requests_conflict (whole mode.S) (whole mode.X) ≡ true = s_against_x in cc)
       (cases_eq k.j j)
 
   pub same_definitions : old.defs ≡ defs_of (tables_now S)
@@ -211,33 +211,33 @@ module _ (v : Server) (cells : List Cell) (seats : List SeatState) {history : Hi
   has_lock = let held = (taken_holds L.o.id (whole mode.S ∷ []) old.holds).0 in
       record { hold = held.hold; has = subst (In held.hold) (sym (holds_here cells catalog_at (Catalog old) (Catalog new) out)) (subst (λ (z : CatalogCell). In held.hold z.holds) (sym L.cell) held.has); mine = held.mine }
 
-  held_wants : (u : Text) → Some text ≡ Some u → Each (Holds (holds_at cells_after catalog_at) p.id) (of_catalog (text_wants (defs_of (tables_now S)) p.opened (v.reads u)).catalog)
-  held_wants u e = let one : text ≡ u = cc in
-      subst (λ (z : Text). Each (Holds (holds_at cells_after catalog_at) p.id) (of_catalog (text_wants (defs_of (tables_now S)) p.opened (v.reads z)).catalog)) one
-      (subst (Each (Holds (holds_at cells_after catalog_at) p.id)) (sym wants_here)
+  held_requests : (u : Text) → Some text ≡ Some u → Each (Holds (holds_at cells_after catalog_at) p.id) (of_catalog (text_requests (defs_of (tables_now S)) p.explicit (v.reads u)).catalog)
+  held_requests u e = let one : text ≡ u = cc in
+      subst (λ (z : Text). Each (Holds (holds_at cells_after catalog_at) p.id) (of_catalog (text_requests (defs_of (tables_now S)) p.explicit (v.reads z)).catalog)) one
+      (subst (Each (Holds (holds_at cells_after catalog_at) p.id)) (sym requests_here)
       (subst (λ (hs : List Hold). Each (Holds hs p.id) (whole mode.S ∷ [])) (sym (holds_here cells catalog_at (Catalog old) (Catalog new) out ∙ ap (λ (z : CatalogCell). z.holds) L.cell)) (taken_holds L.o.id (whole mode.S ∷ []) old.holds)))
 
   module _ (empty : holds_none L.o.id old.holds ≡ true) where
     not_held : HasLock cells catalog_at L.o.id → ⊥
     not_held l = held_nothing L.o.id old.holds empty l.hold (subst (In l.hold) (held_here cells catalog_at (Catalog old) (Catalog new) out) l.has) l.mine
 
-    covered_before : Each (λ l. Each (Holds (holds_at cells catalog_at) L.o.id) (wants_in v (defs_of (tables_now S)) L.o.opened catalog_at l.0)) L.o.script
-    covered_before = each_left (λ (l : Line). Each (Holds (holds_at cells catalog_at) L.o.id) (wants_in v (defs_of (tables_now S)) L.o.opened catalog_at l.0)) L.o.script (lines_at x.place)
+    covered_before : Each (λ l. Each (Holds (holds_at cells catalog_at) L.o.id) (requests_in v (defs_of (tables_now S)) L.o.explicit catalog_at l.0)) L.o.script
+    covered_before = each_left (λ (l : Line). Each (Holds (holds_at cells catalog_at) L.o.id) (requests_in v (defs_of (tables_now S)) L.o.explicit catalog_at l.0)) L.o.script (lines_at x.place)
         (S.locks_cover.cover j x o has_open catalog_at (λ r. subst (In catalog_at) (S.locks_cover.unreleased j x o has_open L.at.unfixed) r, λ r. subst (In catalog_at) (S.locks_cover.unreleased j x o has_open L.at.unfixed) r))
 
-    looked_first : WantsNone v cells_after (tables_now S) p
+    looked_first : RequestsNone v cells_after (tables_now S) p
     looked_first = record {
       shares = λ h has m. ⊎_elim
           (λ (was : In h (holds_at cells catalog_at)). absurd (not_held (record { hold = h; has = was; mine = m })))
-          (λ (is : (catalog_at ≡ catalog_at) × (h.tx ≡ L.o.id) × In h.want (whole mode.S ∷ [])). ⊎_elim (λ (e : whole mode.S ≡ h.want). ap (λ (w : Want). w.mode) (sym e)) (λ (z : ⊥). absurd z) is.2)
+          (λ (is : (catalog_at ≡ catalog_at) × (h.tx ≡ L.o.id) × In h.request (whole mode.S ∷ [])). ⊎_elim (λ (e : whole mode.S ≡ h.request). ap (λ (w : LockRequest). w.mode) (sym e)) (λ (z : ⊥). absurd z) is.2)
           (came v cells seats S j (sits s y) x o y p catalog_at (Catalog old) (Catalog new) (whole mode.S ∷ []) text takes catalog_at h has);
-      before = each_weaker (λ (l : Line). Each (Holds (holds_at cells catalog_at) L.o.id) (wants_in v (defs_of (tables_now S)) L.o.opened catalog_at l.0)) (λ (l : Line). wants_in v (defs_of (tables_now S)) L.o.opened catalog_at l.0 ≡ [])
-          (λ l h. none_wanted (holds_at cells catalog_at) L.o.id (wants_in v (defs_of (tables_now S)) L.o.opened catalog_at l.0) (λ g i e. not_held (record { hold = g; has = i; mine = e })) h) L.o.script covered_before;
+      before = each_weaker (λ (l : Line). Each (Holds (holds_at cells catalog_at) L.o.id) (requests_in v (defs_of (tables_now S)) L.o.explicit catalog_at l.0)) (λ (l : Line). requests_in v (defs_of (tables_now S)) L.o.explicit catalog_at l.0 ≡ [])
+          (λ l h. none_requested (holds_at cells catalog_at) L.o.id (requests_in v (defs_of (tables_now S)) L.o.explicit catalog_at l.0) (λ g i e. not_held (record { hold = g; has = i; mine = e })) h) L.o.script covered_before;
       elsewhere = λ i l. ⊎_elim (λ (was : HasLock cells (suc i) L.o.id). not_held (S.locks_cover.catalog i L.o.id was)) (λ (is : (suc i ≡ catalog_at) × (L.o.id ≡ L.o.id)). absurd (let e = is.0 in omega arith))
           (lock_came v cells seats S j (sits s y) x o y p catalog_at (Catalog old) (Catalog new) (whole mode.S ∷ []) text takes (suc i) L.o.id l);
     }
 
-  first_by : (b : Bool) → holds_none L.o.id old.holds ≡ b → LookedFirst (inside text (found (find_part old.defs L.name) b)) → WantsNone v cells_after (tables_now S) p
+  first_by : (b : Bool) → holds_none L.o.id old.holds ≡ b → LookedFirst (inside text (found (find_part old.defs L.name) b)) → RequestsNone v cells_after (tables_now S) p
   first_by true e h = looked_first e
   first_by false e h = absurd h
 
@@ -248,10 +248,10 @@ module _ (v : Server) (cells : List Cell) (seats : List SeatState) {history : Hi
       (cases_eq i catalog_at)
 
   kind : kind_of (v.meaning.reads text) ≡ told.rows
-  kind = ap kind_of (v.real.reading text ∙ L.at.stands.is) ∙ shares_rows o.opened L.at.stands.stmt L.shares
+  kind = ap kind_of (v.real.reading text ∙ L.at.stands.is) ∙ shares_rows o.explicit L.at.stands.stmt L.shares
 
   act : TranscriptsAgree v (history ++ by (g v cells seats S j s there x L.at.stands.role o L.at.open_one).runs.number (looks text false) ∷ []) S.ledger (set seats j (sits s y))
-  act = asks_act v cells seats S j s there x L.at.stands.role o L.at.open_one L.at.unfixed text begun place refl false stage p (record { id = refl; opened = refl; script = refl; end = refl }) (inl refl) (λ f. cc)
+  act = asks_act v cells seats S j s there x L.at.stands.role o L.at.open_one L.at.unfixed text begun place refl false stage p (record { id = refl; explicit = refl; script = refl; end = refl }) (inl refl) (λ f. cc)
       (λ answered a h. ⊎_elim (λ (k : IsAnswered answered a). inl k) (λ (k : ⊥). absurd k) h)
       (from_at v.meaning x y (inside text begun) (Some o) [] place L.at.open_one refl (λ m i f. at_found v.meaning m text o p (find_part old.defs L.name) (holds_none L.o.id old.holds) refl refl refl kind f))
 
@@ -268,7 +268,7 @@ module _ (v : Server) (cells : List Cell) (seats : List SeatState) {history : Hi
     tables_are_serial = tables v cells seats S j (sits s y) x o y p catalog_at (Catalog old) (Catalog new) (whole mode.S ∷ []) text takes new (record { defs = ap (λ (z : CatalogCell). z.defs) L.cell ∙ ap (λ (z : CatalogCell). z.defs) is_catalog; creator = ap (λ (z : CatalogCell). z.creator) L.cell ∙ ap (λ (z : CatalogCell). z.creator) is_catalog }) (λ cs h. tt) was_table;
     rows_agree = rows v cells seats S j (sits s y) x o y p catalog_at (Catalog old) (Catalog new) (whole mode.S ∷ []) text takes;
     open_scripts = scripts v cells seats S j (sits s y) x o y p catalog_at (Catalog old) (Catalog new) (whole mode.S ∷ []) text takes;
-    locks_cover = covered v cells seats S j (sits s y) x o y p catalog_at (Catalog old) (Catalog new) (whole mode.S ∷ []) text takes (λ l. is_named p.id (not (in_journal S.ledger.items (p.id, 0)))) (λ h. record { lock = has_lock; wants = λ u e. held_wants u e }) (first_by (holds_none L.o.id old.holds) refl);
+    locks_cover = covered v cells seats S j (sits s y) x o y p catalog_at (Catalog old) (Catalog new) (whole mode.S ∷ []) text takes (λ l. is_named p.id (not (in_journal S.ledger.items (p.id, 0)))) (λ h. record { lock = has_lock; requests = λ u e. held_requests u e }) (first_by (holds_none L.o.id old.holds) refl);
     locks_agree = agree v cells seats S j (sits s y) x o y p catalog_at (Catalog old) (Catalog new) (whole mode.S ∷ []) text takes;
     trees_are_of_events = trees v cells seats S j (sits s y) x o y p catalog_at (Catalog old) (Catalog new) (whole mode.S ∷ []) text takes;
     transcripts_agree = act;
@@ -278,10 +278,10 @@ module _ (v : Server) (cells : List Cell) (seats : List SeatState) {history : Hi
   unfolding stands_so act
   own_so = asks_owner _ _ _ _ _ _ _ _ _ _ _ _ _ _ _ _ _ _ _ _ _ _ _ _
 
-  pub looks_up : StandsBy v j history o.id o.opened (looks text false ∷ []) (set cells catalog_at (Catalog new)) (set seats j t)
-  looks_up = subst (λ (u : SeatState). StandsBy v j history o.id o.opened (looks text false ∷ []) cells_after (set seats j u)) (sym L.seat) (record { session = number; of = its_session v.meaning history (S.transcripts_agree.of_seat j) x o (g v cells seats S j s there x L.at.stands.role o L.at.open_one); stands = stands_so; mine = own_so })
+  pub looks_up : StandsBy v j history o.id o.explicit (looks text false ∷ []) (set cells catalog_at (Catalog new)) (set seats j t)
+  looks_up = subst (λ (u : SeatState). StandsBy v j history o.id o.explicit (looks text false ∷ []) cells_after (set seats j u)) (sym L.seat) (record { session = number; of = its_session v.meaning history (S.transcripts_agree.of_seat j) x o (g v cells seats S j s there x L.at.stands.role o L.at.open_one); stands = stands_so; mine = own_so })
 
-  pub is_number : IsOf history number o.id o.opened
+  pub is_number : IsOf history number o.id o.explicit
   is_number = its_session v.meaning history (S.transcripts_agree.of_seat j) x o (g v cells seats S j s there x L.at.stands.role o L.at.open_one)
 
   pub same_ledger : stands_so.ledger ≡ S.ledger
@@ -291,6 +291,6 @@ module _ (v : Server) (cells : List Cell) (seats : List SeatState) {history : Hi
   -- its number stays
   pub same_number : (stands_so.transcripts_agree.of_seat j).now ≡ Some number
   unfolding stands_so act
-  same_number = asks_number v cells seats S j s there x L.at.stands.role o L.at.open_one L.at.unfixed text begun place refl false stage p (record { id = refl; opened = refl; script = refl; end = refl }) (inl refl) (λ f. cc)
+  same_number = asks_number v cells seats S j s there x L.at.stands.role o L.at.open_one L.at.unfixed text begun place refl false stage p (record { id = refl; explicit = refl; script = refl; end = refl }) (inl refl) (λ f. cc)
       (λ answered a h. ⊎_elim (λ (k : IsAnswered answered a). inl k) (λ (k : ⊥). absurd k) h)
       (from_at v.meaning x y (inside text begun) (Some o) [] place L.at.open_one refl (λ m i f. at_found v.meaning m text o p (find_part old.defs L.name) (holds_none L.o.id old.holds) refl refl refl kind f))

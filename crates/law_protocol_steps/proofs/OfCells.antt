@@ -1,29 +1,29 @@
 -- What the definitions say of a list of cells and of the ledger's cell.
 use Rattle.std.proofs.Common.{◌≡◌, ℕ, Bool, List, Option, Some, refl, subst, ap}
-use Rattle.lg_types.specs.declared.journal.JournalItem.{JournalItem}
-use Rattle.lg_types.specs.declared.event.Event.{Event}
-use Rattle.lg_types.specs.declared.statement.Stmt.{Stmt}
-use Rattle.lg_types.specs.declared.table.TableDef.{TableDef}
-use Rattle.lg_types.specs.declared.version.Version.{Version}
-use Rattle.lg_model.specs.Rows.{EventId}
-use Rattle.lg_model.specs.Keys.{Key}
-use Rattle.lg_model.specs.Catalog.{Defs, Tables, defs_of}
-use Rattle.lg_standing.specs.Server.{Server}
-use Rattle.lg_types.specs.declared.lock.Hold.{Hold}
-use Rattle.lg_standing.specs.Cells.{Creator, LedgerCell, TableCell, Cell, catalog_at, holds_at, Catalog, Ledger, Rows}
-use Rattle.lg_standing.specs.Contents.{contents, known, has_id, HasAlone, table_found}
-use Rattle.lg_standing.specs.Seats.{OpenTransaction, Place, Session, SeatState, Stage, answering, begun, between, found, going_back, inside, leaving, made, refused, replied}
-use Rattle.lg_standing.specs.Committed as committed_rows
-use Rattle.lg_standing.specs.OpenScripts as scripts
-use Rattle.lg_standing.specs.RowsAgree as rows
-use Rattle.lg_standing.specs.TablesAreSerial as tables
-use Rattle.lg_standing.specs.LocksCover as cover
-use Rattle.lg_standing.specs.LocksAgree as agree
-use Rattle.lg_standing.specs.TreesAreOfEvents as trees
-use Rattle.lg_history.specs.Lists.{Each, Text}
-use Rattle.lg_standing.specs.WantsIn.{Holds, of_catalog}
-use Rattle.lg_standing.specs.OpenOnes.{text_at}
-use Rattle.lg_model.specs.ScriptWants.{text_wants}
+use Rattle.sql_types.specs.declared.journal.JournalItem.{JournalItem}
+use Rattle.sql_types.specs.declared.event.Event.{Event}
+use Rattle.sql_types.specs.declared.statement.Stmt.{Stmt}
+use Rattle.sql_types.specs.declared.table.TableDef.{TableDef}
+use Rattle.sql_types.specs.declared.version.Version.{Version}
+use Rattle.spec_model.specs.Rows.{EventId}
+use Rattle.spec_model.specs.Keys.{Key}
+use Rattle.spec_model.specs.Catalog.{Defs, Tables, defs_of}
+use Rattle.spec_protocol.specs.Server.{Server}
+use Rattle.sql_types.specs.declared.lock.Hold.{Hold}
+use Rattle.spec_protocol.specs.Cells.{Creator, LedgerCell, TableCell, Cell, catalog_at, holds_at, Catalog, Ledger, Rows}
+use Rattle.spec_protocol.specs.Contents.{contents, known, has_id, HasAlone, table_found}
+use Rattle.spec_protocol.specs.Seats.{OpenTransaction, SessionStatus, Session, SeatState, StatementProgress, answering, begun, between, found, going_back, inside, leaving, made, refused, replied}
+use Rattle.spec_protocol.specs.CommittedTxs as committed_rows
+use Rattle.spec_protocol.specs.OpenScripts as scripts
+use Rattle.spec_protocol.specs.RowsAgree as rows
+use Rattle.spec_protocol.specs.TablesAreSerial as tables
+use Rattle.spec_protocol.specs.LocksCover as cover
+use Rattle.spec_protocol.specs.LocksAgree as agree
+use Rattle.spec_protocol.specs.TreesAreOfEvents as trees
+use Rattle.spec_history.specs.Lists.{Each, Text}
+use Rattle.spec_protocol.specs.RequestsIn.{Holds, of_catalog}
+use Rattle.spec_protocol.specs.OpenOnes.{text_at}
+use Rattle.spec_model.specs.ScriptRequests.{text_requests}
 
 -- the event's transaction is in the journal
 abbrev pub in_journal : List JournalItem → EventId → Bool
@@ -78,7 +78,7 @@ StandsAs v cells seats ledger cell def = tables.StandsAs v (contents cells) (kno
 abbrev pub TableStands : Server → List Cell → List SeatState → LedgerCell → TableCell → TableDef → Type 0
 TableStands v cells seats ledger cell def = tables.TableStands v (contents cells) (known v.reads ledger.items) seats cell def
 
-abbrev pub IsIndexed : List Cell → Place → Type 0
+abbrev pub IsIndexed : List Cell → SessionStatus → Type 0
 IsIndexed cells place = tables.IsIndexed (contents cells) place
 
 abbrev pub TablesAreSerial : Server → List Cell → Defs → Option Creator → LedgerCell → List SeatState → Type 0
@@ -89,8 +89,8 @@ TablesAreSerial v cells defs creator ledger seats = tables.TablesAreSerial v (co
 abbrev pub HasLock : List Cell → ℕ → ℕ → Type 0
 HasLock cells i id = cover.HasLock (contents cells) i id
 
-abbrev pub WantsNone : Server → List Cell → Tables → OpenTransaction → Type 0
-WantsNone v cells T o = cover.WantsNone v (contents cells) T o
+abbrev pub RequestsNone : Server → List Cell → Tables → OpenTransaction → Type 0
+RequestsNone v cells T o = cover.RequestsNone v (contents cells) T o
 
 abbrev pub LiesUnder : List Cell → Tables → ℕ → Version → EventId → Type 0
 LiesUnder cells T id w event = cover.LiesUnder (contents cells) T id w event
@@ -121,25 +121,25 @@ TreesAreOfEvents v cells ledger seats = trees.TreesAreOfEvents v (contents cells
 -- ---- the statement's lock in the catalog
 
 -- from the catalog on, the statement has its lock there
-abbrev pub HasLooked : Place → Type 0
+abbrev pub HasLooked : SessionStatus → Type 0
 HasLooked (inside text (found named fresh)) = Unit {0}
 HasLooked (inside text (made def indexed)) = Unit {0}
 HasLooked (inside text (refused reply)) = Unit {0}
 HasLooked _ = ⊥
 
 -- it has the catalog's lock, and all that its statement wants there
-pub record HoldsInCatalog (v : Server) (cells : List Cell) (T : Tables) (place : Place) (o : OpenTransaction) : Type 0 where
+pub record HoldsInCatalog (v : Server) (cells : List Cell) (T : Tables) (place : SessionStatus) (o : OpenTransaction) : Type 0 where
   pub lock : HasLock cells catalog_at o.id
-  pub wants : (text : Text) → text_at place ≡ Some text → Each (Holds (holds_at cells catalog_at) o.id) (of_catalog (text_wants (defs_of T) o.opened (v.reads text)).catalog)
+  pub requests : (text : Text) → text_at place ≡ Some text → Each (Holds (holds_at cells catalog_at) o.id) (of_catalog (text_requests (defs_of T) o.explicit (v.reads text)).catalog)
 
-abbrev pub LookedAt : Server → List Cell → Tables → Place → OpenTransaction → Type 0
-LookedAt v cells T place o = cover.LookedAt v (contents cells) (defs_of T) o.id o.opened place
+abbrev pub LookedAt : Server → List Cell → Tables → SessionStatus → OpenTransaction → Type 0
+LookedAt v cells T place o = cover.LookedAt v (contents cells) (defs_of T) o.id o.explicit place
 
 module _ (v : Server) (cells : List Cell) (T : Tables) (o : OpenTransaction) where
-  catalog_of : (text : Text) (stage : Stage) → cover.HoldsCatalog v (contents cells) (defs_of T) o.id o.opened text → HoldsInCatalog v cells T (inside text stage) o
-  catalog_of text stage h = record { lock = h.lock; wants = λ t e. let same : text ≡ t = cc in subst (λ (a : Text). Each (Holds (holds_at cells catalog_at) o.id) (of_catalog (text_wants (defs_of T) o.opened (v.reads a)).catalog)) same h.wants }
+  catalog_of : (text : Text) (stage : StatementProgress) → cover.HoldsCatalog v (contents cells) (defs_of T) o.id o.explicit text → HoldsInCatalog v cells T (inside text stage) o
+  catalog_of text stage h = record { lock = h.lock; requests = λ t e. let same : text ≡ t = cc in subst (λ (a : Text). Each (Holds (holds_at cells catalog_at) o.id) (of_catalog (text_requests (defs_of T) o.explicit (v.reads a)).catalog)) same h.requests }
 
-  pub looked_now : (place : Place) → LookedAt v cells T place o → HasLooked place → HoldsInCatalog v cells T place o
+  pub looked_now : (place : SessionStatus) → LookedAt v cells T place o → HasLooked place → HoldsInCatalog v cells T place o
   looked_now (inside text (found named fresh)) l h = catalog_of text (found named fresh) l
   looked_now (inside text (made def indexed)) l h = catalog_of text (made def indexed) l
   looked_now (inside text (refused reply)) l h = catalog_of text (refused reply) l
@@ -150,10 +150,10 @@ module _ (v : Server) (cells : List Cell) (T : Tables) (o : OpenTransaction) whe
   looked_now (inside text (replied reply)) l h = absurd h
   looked_now (inside text (answering reply def)) l h = absurd h
 
-  to_catalog : (text : Text) (stage : Stage) → HoldsInCatalog v cells T (inside text stage) o → cover.HoldsCatalog v (contents cells) (defs_of T) o.id o.opened text
-  to_catalog text stage h = record { lock = h.lock; wants = h.wants text refl }
+  to_catalog : (text : Text) (stage : StatementProgress) → HoldsInCatalog v cells T (inside text stage) o → cover.HoldsCatalog v (contents cells) (defs_of T) o.id o.explicit text
+  to_catalog text stage h = record { lock = h.lock; requests = h.requests text refl }
 
-  pub looked_so : (place : Place) → (HasLooked place → HoldsInCatalog v cells T place o) → LookedAt v cells T place o
+  pub looked_so : (place : SessionStatus) → (HasLooked place → HoldsInCatalog v cells T place o) → LookedAt v cells T place o
   looked_so (inside text (found named fresh)) h = to_catalog text (found named fresh) (h tt)
   looked_so (inside text (made def indexed)) h = to_catalog text (made def indexed) (h tt)
   looked_so (inside text (refused reply)) h = to_catalog text (refused reply) (h tt)
@@ -165,7 +165,7 @@ module _ (v : Server) (cells : List Cell) (T : Tables) (o : OpenTransaction) whe
   looked_so (inside text (answering reply def)) h = tt
 
 -- what the statement got, where `id` may have the catalog alone
-abbrev pub IsGotAt : Server → List Cell → Tables → ℕ → Bool → Place → Type 0
+abbrev pub IsGotAt : Server → List Cell → Tables → ℕ → Bool → SessionStatus → Type 0
 IsGotAt v cells T id outside place = cover.IsGotAt v T (HasAlone (contents cells) id) outside place
 
 -- ---- a table's cell

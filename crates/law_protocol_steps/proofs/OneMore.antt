@@ -6,37 +6,37 @@ use Rattle.std.proofs.lemmas.List.{take-append-le}
 use Rattle.std.specs.Prelude.{◌==◌}
 use mathlib.Core.Option.{some, some-injective}
 use lib.ListN.{get_elem?}
-use Rattle.lg_types.specs.declared.journal.JournalItem.{JournalItem}
-use Rattle.lg_types.specs.declared.journal.JournalItem.TheVariants.{Tx, Close}
-use Rattle.lg_model.specs.Journals.{tx_count, cut}
-use Rattle.lg_history.specs.Lists.{Text, Each, In}
-use Rattle.lg_history.specs.Journals.{times}
-use Rattle.lg_history.specs.Meaning.{Meaning}
-use Rattle.lg_history.specs.Facts.{Shows}
-use Rattle.lg_history.specs.Serial.{Differ}
-use Rattle.lg_history.specs.Transcripts.{Transcript}
-use Rattle.lg_history.specs.Transactions.{listed}
-use Rattle.lg_history.specs.Digests.{Digest}
-use Rattle.lg_history.specs.Acts.{SessionAct, Act, by, of, marked}
-use Rattle.lg_history.specs.Sessions.{SessionState, unborn, runs, gone, fresh, acted, transcript_of}
-use Rattle.lg_history.specs.Worlds.{World, first, step, run, items_by, ids_by, issued_by}
-use Rattle.lg_history.specs.Guards.{MayHappen, Good}
-use Rattle.lg_history.proofs.Cuts.{run_append, of_append, good_append}
-use Rattle.lg_history.proofs.Trace.{each_append, each_weaker, count_append}
-use Rattle.lg_history.proofs.Settles.{in_right}
-use Rattle.lg_history.proofs.Setup.{silent}
-use Rattle.lg_standing.specs.Server.{Server, journal_image}
-use Rattle.lg_standing.specs.Cells.{LedgerCell}
-use Rattle.lg_standing.specs.Seats.{KeptImage, Session, Written, Role, idle, session, builder, SeatState}
-use Rattle.lg_standing.specs.Parts.{Numbers, all_of, IsNow, BeganAfter, IsOver, WasOver, Past, Now, Sessions}
-use Rattle.lg_standing.specs.TranscriptsAgree.{moments_of, IsMoment, image_of, IsImage, AreImages, ImagesOfPast, ImagesNow, MarksWithin, SeatAgrees, TranscriptsAgree}
+use Rattle.sql_types.specs.declared.journal.JournalItem.{JournalItem}
+use Rattle.sql_types.specs.declared.journal.JournalItem.TheVariants.{Tx, Close}
+use Rattle.spec_model.specs.Journals.{tx_count, cut}
+use Rattle.spec_history.specs.Lists.{Text, Each, In}
+use Rattle.spec_history.specs.Journals.{times}
+use Rattle.spec_history.specs.Meaning.{Meaning}
+use Rattle.spec_history.specs.Facts.{Shows}
+use Rattle.spec_history.specs.Serial.{Differ}
+use Rattle.spec_history.specs.Transcripts.{Transcript}
+use Rattle.spec_history.specs.Transactions.{listed}
+use Rattle.spec_history.specs.Digests.{Digest}
+use Rattle.spec_history.specs.Acts.{SessionAct, Act, by, of, marked}
+use Rattle.spec_history.specs.Sessions.{SessionState, unborn, runs, gone, fresh, acted, transcript_of}
+use Rattle.spec_history.specs.Worlds.{World, first, step, run, items_by, ids_by, issued_by}
+use Rattle.spec_history.specs.Guards.{IsEnabled, Good}
+use Rattle.spec_history.proofs.Cuts.{run_append, of_append, good_append}
+use Rattle.spec_history.proofs.Trace.{each_append, each_weaker, count_append}
+use Rattle.spec_history.proofs.Settles.{in_right}
+use Rattle.spec_history.proofs.Setup.{silent}
+use Rattle.spec_protocol.specs.Server.{Server, journal_image}
+use Rattle.spec_protocol.specs.Cells.{LedgerCell}
+use Rattle.spec_protocol.specs.Seats.{KeptImage, Session, Written, Role, idle, session, builder, SeatState}
+use Rattle.spec_protocol.specs.Parts.{Numbers, all_of, IsNow, BeganAfter, IsOver, WasOver, Past, Now, Sessions}
+use Rattle.spec_protocol.specs.TranscriptsAgree.{moments_of, IsMoment, image_of, IsImage, AreImages, ImagesOfPast, ImagesNow, MarksWithin, SeatAgrees, TranscriptsAgree}
 use Rattle.law_protocol_steps.proofs.Ids.{each_in}
-use Rattle.lg_standing.proofs.Places.{at_set, set_here, set_else}
+use Rattle.spec_protocol.proofs.Places.{at_set, set_here, set_else}
 
 -- ---- histories
 
 module _ (q : Meaning) (db : Text) where
-  pub good_snoc : (w : World) (es : List Act) (e : Act) → Good q db w es → MayHappen q db (run w es) e → Good q db w (es ++ e ∷ [])
+  pub good_snoc : (w : World) (es : List Act) (e : Act) → Good q db w es → IsEnabled q db (run w es) e → Good q db w (es ++ e ∷ [])
   good_snoc w [] e g k = (k, tt)
   good_snoc w (f ∷ fs) e g k = (g.0, good_snoc (step w f) fs e g.1 k)
 
@@ -47,27 +47,27 @@ module _ (q : Meaning) (db : Text) where
 -- ---- the acts of one session
 
 abbrev pub by_each : ℕ → List SessionAct → List Act
-by_each n deeds = map (by n) deeds
+by_each n anonymous_acts = map (by n) anonymous_acts
 
 abbrev pub acted_all : SessionState → List SessionAct → SessionState
 acted_all x [] = x
-acted_all x (a ∷ deeds) = acted_all (acted x a) deeds
+acted_all x (a ∷ anonymous_acts) = acted_all (acted x a) anonymous_acts
 
-pub run_else : (n : ℕ) (w : World) (deeds : List SessionAct) (m : ℕ) → m ≢ n → (run w (by_each n deeds)).at m ≡ w.at m
+pub run_else : (n : ℕ) (w : World) (anonymous_acts : List SessionAct) (m : ℕ) → m ≢ n → (run w (by_each n anonymous_acts)).at m ≡ w.at m
 run_else n w [] m ne = refl
-run_else n w (a ∷ deeds) m ne = run_else n (step w (by n a)) deeds m ne ∙ (rw (ne_eqb m n ne) refl)
+run_else n w (a ∷ anonymous_acts) m ne = run_else n (step w (by n a)) anonymous_acts m ne ∙ (rw (ne_eqb m n ne) refl)
 
-pub run_now : (n : ℕ) (w : World) (deeds : List SessionAct) → (run w (by_each n deeds)).at n ≡ acted_all (w.at n) deeds
+pub run_now : (n : ℕ) (w : World) (anonymous_acts : List SessionAct) → (run w (by_each n anonymous_acts)).at n ≡ acted_all (w.at n) anonymous_acts
 run_now n w [] = refl
-run_now n w (a ∷ deeds) = run_now n (step w (by n a)) deeds ∙ ap (λ (x : SessionState). acted_all x deeds) (rw (eq-eqb n n refl) refl)
+run_now n w (a ∷ anonymous_acts) = run_now n (step w (by n a)) anonymous_acts ∙ ap (λ (x : SessionState). acted_all x anonymous_acts) (rw (eq-eqb n n refl) refl)
 
-pub none_of : (n : ℕ) (deeds : List SessionAct) (m : ℕ) → m ≢ n → of m (by_each n deeds) ≡ []
+pub none_of : (n : ℕ) (anonymous_acts : List SessionAct) (m : ℕ) → m ≢ n → of m (by_each n anonymous_acts) ≡ []
 none_of n [] m ne = refl
-none_of n (a ∷ deeds) m ne = let e : (n == m) ≡ false = ne_eqb n m (λ x. ne (sym x)) in rw e (none_of n deeds m ne)
+none_of n (a ∷ anonymous_acts) m ne = let e : (n == m) ≡ false = ne_eqb n m (λ x. ne (sym x)) in rw e (none_of n anonymous_acts m ne)
 
-pub all_of_them : (n : ℕ) (deeds : List SessionAct) → of n (by_each n deeds) ≡ deeds
+pub all_of_them : (n : ℕ) (anonymous_acts : List SessionAct) → of n (by_each n anonymous_acts) ≡ anonymous_acts
 all_of_them n [] = refl
-all_of_them n (a ∷ deeds) = rw (eq-eqb n n refl) (ap (λ (l : List SessionAct). a ∷ l) (all_of_them n deeds))
+all_of_them n (a ∷ anonymous_acts) = rw (eq-eqb n n refl) (ap (λ (l : List SessionAct). a ∷ l) (all_of_them n anonymous_acts))
 
 -- ---- images
 
@@ -85,24 +85,24 @@ images_stay v c d K acts images db items i = record { shown = i.shown; each = im
 
 -- ---- acts more of session n
 
-module _ (q : Meaning) (db : Text) (h : List Act) (good : Good q db first h) (n : ℕ) (deeds : List SessionAct) (alive : ((run first h).at n).phase ≡ gone → ⊥) where
+module _ (q : Meaning) (db : Text) (h : List Act) (good : Good q db first h) (n : ℕ) (anonymous_acts : List SessionAct) (alive : ((run first h).at n).phase ≡ gone → ⊥) where
   abbrev more : List Act
-  more = h ++ by_each n deeds
+  more = h ++ by_each n anonymous_acts
 
-  pub world_more : run first more ≡ run (run first h) (by_each n deeds)
-  world_more = run_append first h (by_each n deeds)
+  pub world_more : run first more ≡ run (run first h) (by_each n anonymous_acts)
+  world_more = run_append first h (by_each n anonymous_acts)
 
   pub else_same : (m : ℕ) → m ≢ n → (run first more).at m ≡ (run first h).at m
-  else_same m ne = ap (λ w. w.at m) world_more ∙ run_else n (run first h) deeds m ne
+  else_same m ne = ap (λ w. w.at m) world_more ∙ run_else n (run first h) anonymous_acts m ne
 
-  pub now_acted : (run first more).at n ≡ acted_all ((run first h).at n) deeds
-  now_acted = ap (λ w. w.at n) world_more ∙ run_now n (run first h) deeds
+  pub now_acted : (run first more).at n ≡ acted_all ((run first h).at n) anonymous_acts
+  now_acted = ap (λ w. w.at n) world_more ∙ run_now n (run first h) anonymous_acts
 
   pub of_else : (m : ℕ) → m ≢ n → of m more ≡ of m h
-  of_else m ne = of_append m h (by_each n deeds) ∙ ap (λ (l : List SessionAct). of m h ++ l) (none_of n deeds m ne) ∙ append-nil (of m h)
+  of_else m ne = of_append m h (by_each n anonymous_acts) ∙ ap (λ (l : List SessionAct). of m h ++ l) (none_of n anonymous_acts m ne) ∙ append-nil (of m h)
 
-  pub of_now : of n more ≡ of n h ++ deeds
-  of_now = of_append n h (by_each n deeds) ∙ ap (λ (l : List SessionAct). of n h ++ l) (all_of_them n deeds)
+  pub of_now : of n more ≡ of n h ++ anonymous_acts
+  of_now = of_append n h (by_each n anonymous_acts) ∙ ap (λ (l : List SessionAct). of n h ++ l) (all_of_them n anonymous_acts)
 
   -- a session that is over isn't this one
   pub not_gone : (m : ℕ) → ((run first h).at m).phase ≡ gone → m ≢ n
@@ -118,7 +118,7 @@ module _ (q : Meaning) (db : Text) (h : List Act) (good : Good q db first h) (n 
   pub was_over_stays : (k : ℕ) (x : Transcript) → WasOver h k x → WasOver more k x
   was_over_stays k x o = record {
     number = o.number;
-    before = record { before = o.before.before; after = o.before.after ++ by_each n deeds; is = ap (λ (es : List Act). es ++ by_each n deeds) o.before.is ∙ append_assoc o.before.before o.before.after (by_each n deeds); over = o.before.over; none = o.before.none };
+    before = record { before = o.before.before; after = o.before.after ++ by_each n anonymous_acts; is = ap (λ (es : List Act). es ++ by_each n anonymous_acts) o.before.is ∙ append_assoc o.before.before o.before.after (by_each n anonymous_acts); over = o.before.over; none = o.before.none };
     is = ap transcript_of (else_same o.number (not_gone o.number (began_gone o.number k o.before))) ∙ o.is;
   }
 
@@ -186,7 +186,7 @@ module _ (q : Meaning) (db : Text) (h : List Act) (good : Good q db first h) (n 
 
 pub times_append : (J K : List JournalItem) → times (J ++ K) ≡ times J ++ times K
 times_append [] K = refl
-times_append (Tx id name time opened script ∷ is) K = ap (λ (l : List ℕ). time ∷ l) (times_append is K)
+times_append (Tx id name time explicit script ∷ is) K = ap (λ (l : List ℕ). time ∷ l) (times_append is K)
 times_append (Close k ∷ is) K = times_append is K
 
 pub differ_front : (ns : List ℕ) (n : ℕ) → Differ (ns ++ n ∷ []) → Each (λ m. m ≢ n) ns
@@ -198,15 +198,15 @@ differ_front (m ∷ ns) n d = (last_of ns d.0, differ_front ns n d.1)
     last_of (x ∷ xs) e = last_of xs e.1
 
 -- the acts of the session that runs at seat s, which turns into t, as the ledger's cell c into d
-pub record ActsAll (v : Server) (h : List Act) (n : ℕ) (deeds : List SessionAct) (c d : LedgerCell) (s t : SeatState) : Type 0 where
-  pub ok : Good v.meaning c.database (run first h) (by_each n deeds)
+pub record ActsAll (v : Server) (h : List Act) (n : ℕ) (anonymous_acts : List SessionAct) (c d : LedgerCell) (s t : SeatState) : Type 0 where
+  pub ok : Good v.meaning c.database (run first h) (by_each n anonymous_acts)
   -- what they add to the journal, to the ids drawn and to the digests
   pub K : List JournalItem
   pub ids : ℕ
   pub G : List Digest
-  pub adds_items : (run (run first h) (by_each n deeds)).items ≡ (run first h).items ++ K
-  pub adds_ids : (run (run first h) (by_each n deeds)).next ≡ (run first h).next + ids
-  pub adds_digests : (run (run first h) (by_each n deeds)).issued ≡ (run first h).issued ++ G
+  pub adds_items : (run (run first h) (by_each n anonymous_acts)).items ≡ (run first h).items ++ K
+  pub adds_ids : (run (run first h) (by_each n anonymous_acts)).next ≡ (run first h).next + ids
+  pub adds_digests : (run (run first h) (by_each n anonymous_acts)).issued ≡ (run first h).issued ++ G
   pub items : d.items ≡ c.items ++ K
   pub next : d.next ≡ c.next + ids
   pub issued : d.issued ≡ c.issued ++ G
@@ -218,7 +218,7 @@ pub record ActsAll (v : Server) (h : List Act) (n : ℕ) (deeds : List SessionAc
   pub was : s.role ≡ session x
   pub role : t.role ≡ session y
   pub same_name : y.earlier ≡ x.earlier
-  pub now : IsNow v.meaning (acted_all ((run first h).at n) deeds) y
+  pub now : IsNow v.meaning (acted_all ((run first h).at n) anonymous_acts) y
   -- what the seat keeps
   pub same_present : t.present ≡ s.present
   pub seat_database : t.database ≡ s.database
@@ -228,21 +228,21 @@ pub record ActsAll (v : Server) (h : List Act) (n : ℕ) (deeds : List SessionAc
   pub same_least : t.least ≡ s.least
   pub more_marks : s.greatest ≤ t.greatest
   pub greatest : t.greatest ≤ tx_count d.items
-  pub marks : Shows marked (λ m. (s.least ≤ m) × (m ≤ t.greatest)) deeds
-  pub images : map (λ k. k.0) y.images ≡ map (λ k. k.0) x.images ++ flat_map image_of deeds
+  pub marks : Shows marked (λ m. (s.least ≤ m) × (m ≤ t.greatest)) anonymous_acts
+  pub images : map (λ k. k.0) y.images ≡ map (λ k. k.0) x.images ++ flat_map image_of anonymous_acts
   pub each_image : Each (IsImage v c) x.images → Each (IsImage v d) y.images
   -- moments of its commits and digests
   pub moments : (time : ℕ) → In time (moments_of s) → In time (moments_of t)
   pub times : Each (λ time. In time (moments_of t)) (times K)
   pub made : Each (λ g. In g.made (moments_of t)) G
 
-module _ (v : Server) (h : List Act) (c d : LedgerCell) (seats : List SeatState) (agree : TranscriptsAgree v h c seats) (j : ℕ) (s t : SeatState) (there : get_elem? seats j ≡ some s) (n : ℕ) (deeds : List SessionAct) (number : (agree.of_seat j).now ≡ Some n)
-    (acts : ActsAll v h n deeds c d s t) where
+module _ (v : Server) (h : List Act) (c d : LedgerCell) (seats : List SeatState) (agree : TranscriptsAgree v h c seats) (j : ℕ) (s t : SeatState) (there : get_elem? seats j ≡ some s) (n : ℕ) (anonymous_acts : List SessionAct) (number : (agree.of_seat j).now ≡ Some n)
+    (acts : ActsAll v h n anonymous_acts c d s t) where
   abbrev after : List SeatState
   after = slice_set seats j t
 
   abbrev longer : List Act
-  longer = h ++ by_each n deeds
+  longer = h ++ by_each n anonymous_acts
 
   own_now : Now h v.meaning (Some n) (session acts.x)
   own_now = subst (λ (o : Option ℕ). Now h v.meaning o (session acts.x)) number (subst (Now h v.meaning (agree.of_seat j).now) acts.was (agree.agree j s there).sessions.now)
@@ -288,26 +288,26 @@ module _ (v : Server) (h : List Act) (c d : LedgerCell) (seats : List SeatState)
 
   past_marks : (ns : List ℕ) → Each (λ i. i ≢ n) ns → Each (MarksWithin v h c s) ns → Each (MarksWithin v longer d t) ns
   past_marks [] ne e = tt
-  past_marks (i ∷ ns) ne e = (subst (Shows marked Within) (sym (of_else v.meaning c.database h was_good n deeds alive i ne.0)) (wider_marks (of i h) e.0), past_marks ns ne.1 e.1)
+  past_marks (i ∷ ns) ne e = (subst (Shows marked Within) (sym (of_else v.meaning c.database h was_good n anonymous_acts alive i ne.0)) (wider_marks (of i h) e.0), past_marks ns ne.1 e.1)
 
   left_of : (xs ys : List ℕ) → Each (MarksWithin v h c s) (xs ++ ys) → Each (MarksWithin v h c s) xs
   left_of [] ys e = tt
   left_of (x ∷ xs) ys e = (e.0, left_of xs ys e.1)
 
-  new_marks : Shows marked Within deeds
+  new_marks : Shows marked Within anonymous_acts
   new_marks = each_weaker (λ b. Each (λ i. (s.least ≤ i) × (i ≤ t.greatest)) (marked b)) (λ b. Each Within (marked b))
-      (λ b. each_weaker (λ i. (s.least ≤ i) × (i ≤ t.greatest)) Within (λ i e. let l = acts.same_least in let f = e.0 in (omega arith, e.1)) (marked b)) deeds acts.marks
+      (λ b. each_weaker (λ i. (s.least ≤ i) × (i ≤ t.greatest)) Within (λ i e. let l = acts.same_least in let f = e.0 in (omega arith, e.1)) (marked b)) anonymous_acts acts.marks
 
   now_marks : Shows marked Within (of n longer)
-  now_marks = subst (Shows marked Within) (sym (of_now v.meaning c.database h was_good n deeds alive))
-      (each_append (λ b. Each Within (marked b)) (of n h) deeds (wider_marks (of n h) (each_in (MarksWithin v h c s) (all_of m) n was.marks among)) new_marks)
+  now_marks = subst (Shows marked Within) (sym (of_now v.meaning c.database h was_good n anonymous_acts alive))
+      (each_append (λ b. Each Within (marked b)) (of n h) anonymous_acts (wider_marks (of n h) (each_in (MarksWithin v h c s) (all_of m) n was.marks among)) new_marks)
 
   own_images : AreImages v c (of n h) acts.x.images
   own_images = subst (λ (o : Option ℕ). ImagesNow v h c o (session acts.x)) number (subst (ImagesNow v h c m.now) acts.was was.images)
 
   now_images : AreImages v d (of n longer) acts.y.images
   now_images = record {
-    shown = acts.images ∙ ap (λ (l : List ℕ). l ++ flat_map image_of deeds) own_images.shown ∙ sym (flat_map-append image_of (of n h) deeds) ∙ ap (flat_map image_of) (sym (of_now v.meaning c.database h was_good n deeds alive));
+    shown = acts.images ∙ ap (λ (l : List ℕ). l ++ flat_map image_of anonymous_acts) own_images.shown ∙ sym (flat_map-append image_of (of n h) anonymous_acts) ∙ ap (flat_map image_of) (sym (of_now v.meaning c.database h was_good n anonymous_acts alive));
     each = acts.each_image own_images.each;
   }
 
@@ -315,25 +315,25 @@ module _ (v : Server) (h : List Act) (c d : LedgerCell) (seats : List SeatState)
   seat_then = record {
     sessions = record {
       differ = was.sessions.differ;
-      past = subst (Past longer m.past) (sym acts.same_written) (past_stays v.meaning c.database h was_good n deeds alive m.past s.written past_differ was.sessions.past);
+      past = subst (Past longer m.past) (sym acts.same_written) (past_stays v.meaning c.database h was_good n anonymous_acts alive m.past s.written past_differ was.sessions.past);
       now = subst (λ (o : Option ℕ). Now longer v.meaning o t.role) (sym number) (subst (Now longer v.meaning (Some n)) (sym acts.role) (
-        subst (λ (z : SessionState). IsNow v.meaning z acts.y) (sym (now_acted v.meaning c.database h was_good n deeds alive)) acts.now,
-        subst (Each (WasOver longer n)) (sym acts.same_name) (each_was_over v.meaning c.database h was_good n deeds alive n acts.x.earlier own_now.1),
+        subst (λ (z : SessionState). IsNow v.meaning z acts.y) (sym (now_acted v.meaning c.database h was_good n anonymous_acts alive)) acts.now,
+        subst (Each (WasOver longer n)) (sym acts.same_name) (each_was_over v.meaning c.database h was_good n anonymous_acts alive n acts.x.earlier own_now.1),
       ));
-      earlier = subst (Each (IsOver longer)) (sym acts.same_earlier) (each_weaker (IsOver h) (IsOver longer) (over_stays v.meaning c.database h was_good n deeds alive) s.earlier was.sessions.earlier);
+      earlier = subst (Each (IsOver longer)) (sym acts.same_earlier) (each_weaker (IsOver h) (IsOver longer) (over_stays v.meaning c.database h was_good n anonymous_acts alive) s.earlier was.sessions.earlier);
     };
     database = λ e. acts.seat_database ∙ was.database (sym acts.same_present ∙ e) ∙ sym acts.same_database;
     block_size = λ e. acts.seat_size ∙ was.block_size (sym acts.same_present ∙ e) ∙ sym acts.same_size;
     marks = subst (λ (o : Option ℕ). Each (MarksWithin v longer d t) (m.past ++ listed o)) (sym number) (each_append (MarksWithin v longer d t) m.past (n ∷ []) (past_marks m.past past_differ (left_of m.past (listed m.now) was.marks)) (now_marks, tt));
     greatest = (let l = was.greatest.0 in let e = acts.same_least in let g = acts.more_marks in omega arith, acts.greatest);
-    past_images = subst (ImagesOfPast v longer d m.past) (sym acts.same_written) (past_images_stay v.meaning c.database h was_good n deeds alive v c d acts.K acts.same_database acts.items m.past s.written past_differ was.past_images);
+    past_images = subst (ImagesOfPast v longer d m.past) (sym acts.same_written) (past_images_stay v.meaning c.database h was_good n anonymous_acts alive v c d acts.K acts.same_database acts.items m.past s.written past_differ was.past_images);
     images = subst (λ (o : Option ℕ). ImagesNow v longer d o t.role) (sym number) (subst (ImagesNow v longer d (Some n)) (sym acts.role) now_images);
   }
 
   all_seats : (k : ℕ) (u : SeatState) → get_elem? after k ≡ some u → SeatAgrees v longer d (agree.of_seat k) u
   all_seats k u e = ⊎_elim
       (λ (f : (k ≡ j) × (t ≡ u)). subst (λ (w : SeatState). SeatAgrees v longer d (agree.of_seat k) w) f.1 (subst (λ (i : ℕ). SeatAgrees v longer d (agree.of_seat i) t) (sym f.0) seat_then))
-      (λ (f : (k ≢ j) × (get_elem? seats k ≡ some u)). seat_stays v.meaning c.database h was_good n deeds alive v c d acts.K acts.same_database acts.items (agree.of_seat k) u acts.same_size more_items (not_of k u f.0 f.1) (agree.agree k u f.1))
+      (λ (f : (k ≢ j) × (get_elem? seats k ≡ some u)). seat_stays v.meaning c.database h was_good n anonymous_acts alive v c d acts.K acts.same_database acts.items (agree.of_seat k) u acts.same_size more_items (not_of k u f.0 f.1) (agree.agree k u f.1))
       (at_set seats j k t u e)
 
   all_own : (k : ℕ) (u : SeatState) → get_elem? after k ≡ some u → Each (λ i. agree.owner i ≡ k) (all_of (agree.of_seat k))
@@ -359,7 +359,7 @@ module _ (v : Server) (h : List Act) (c d : LedgerCell) (seats : List SeatState)
 
   pub all_agree_then : TranscriptsAgree v longer d after
   all_agree_then = record {
-    good = subst (λ (db : Text). Good v.meaning db first longer) (sym acts.same_database) (good_more v.meaning c.database first h (by_each n deeds) was_good acts.ok);
+    good = subst (λ (db : Text). Good v.meaning db first longer) (sym acts.same_database) (good_more v.meaning c.database first h (by_each n anonymous_acts) was_good acts.ok);
     items = ap (λ (w : World). w.items) world ∙ acts.adds_items ∙ ap (λ (l : List JournalItem). l ++ acts.K) agree.items ∙ sym acts.items;
     next = ap (λ (w : World). w.next) world ∙ acts.adds_ids ∙ ap (λ (i : ℕ). i + acts.ids) agree.next ∙ sym acts.next;
     issued = ap (λ (w : World). w.issued) world ∙ acts.adds_digests ∙ ap (λ (l : List Digest). l ++ acts.G) agree.issued ∙ sym acts.issued;
@@ -369,7 +369,7 @@ module _ (v : Server) (h : List Act) (c d : LedgerCell) (seats : List SeatState)
     own = all_own;
     count = agree.count;
     all = λ i l. let old = agree.all i l in let w = still_there (agree.owner i) old.0 old.1 in (w.0, w.1, old.2);
-    no_others = λ i l. let old = agree.no_others i l in let ne = not_fresh i old.0 in (else_same v.meaning c.database h was_good n deeds alive i ne ∙ old.0, of_else v.meaning c.database h was_good n deeds alive i ne ∙ old.1);
+    no_others = λ i l. let old = agree.no_others i l in let ne = not_fresh i old.0 in (else_same v.meaning c.database h was_good n anonymous_acts alive i ne ∙ old.0, of_else v.meaning c.database h was_good n anonymous_acts alive i ne ∙ old.1);
     times = subst (Each (IsMoment after)) (sym (ap times acts.items ∙ times_append c.items acts.K))
         (each_append (IsMoment after) (times c.items) (times acts.K) (each_weaker (IsMoment seats) (IsMoment after) moment_stays (times c.items) agree.times)
         (each_weaker (λ time. In time (moments_of t)) (IsMoment after) new_moment (times acts.K) acts.times));
@@ -378,8 +378,8 @@ module _ (v : Server) (h : List Act) (c d : LedgerCell) (seats : List SeatState)
         (each_weaker (λ g. In g.made (moments_of t)) (λ g. IsMoment after g.made) (λ g. new_moment g.made) acts.G acts.made));
   }
     where
-      world : run first longer ≡ run (run first h) (by_each n deeds)
-      world = run_append first h (by_each n deeds)
+      world : run first longer ≡ run (run first h) (by_each n anonymous_acts)
+      world = run_append first h (by_each n anonymous_acts)
 
       not_fresh : (i : ℕ) → (run first h).at i ≡ fresh → i ≢ n
       not_fresh i e same = let r : ((run first h).at i).phase ≡ runs = ap (λ (k : ℕ). ((run first h).at k).phase) same ∙ runs_now in let f : ((run first h).at i).phase ≡ unborn = ap (λ (z : SessionState). z.phase) e in cc
@@ -398,7 +398,7 @@ module _ (v : Server) (h : List Act) (c d : LedgerCell) (seats : List SeatState)
 
 -- the act a of the session that runs at seat s, which turns into t, as the ledger's cell c into d
 pub record Acts (v : Server) (h : List Act) (n : ℕ) (a : SessionAct) (c d : LedgerCell) (s t : SeatState) : Type 0 where
-  pub ok : MayHappen v.meaning c.database (run first h) (by n a)
+  pub ok : IsEnabled v.meaning c.database (run first h) (by n a)
   pub items : d.items ≡ c.items ++ items_by ((run first h).at n) a
   pub next : d.next ≡ c.next + ids_by a
   pub issued : d.issued ≡ c.issued ++ issued_by a

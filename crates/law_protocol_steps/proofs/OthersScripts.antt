@@ -1,26 +1,26 @@
 -- Over the tables after a transaction of another seat, an open transaction's script comes to what it came to before.
 use Rattle.std.proofs.Common.{◌≡◌, ◌≢◌, ℕ, false, List, [], ◌∷◌, ◌++◌, map, sym, ap, ◌∙◌, subst}
-use Rattle.lg_types.specs.declared.event.Event.{Event}
-use Rattle.lg_model.specs.Catalog.{Tables, defs_of, versions_of}
-use Rattle.lg_model.specs.Journals.{Line}
-use Rattle.lg_model.specs.Replies.{reply_text}
-use Rattle.lg_model.specs.Runs.{Sound}
-use Rattle.lg_model.specs.Script.{Saved}
-use Rattle.lg_frames.proofs.LegalSound.{legal_sound}
-use Rattle.lg_frames.proofs.OtherTransactions.{others_sound}
-use Rattle.lg_frames.proofs.SameEnds.{SameSaved, AllSaved, SameEnds, IsShort, same_ends}
-use Rattle.lg_history.specs.Lists.{Text, Each, In}
-use Rattle.lg_history.specs.Transactions.{unfixed}
-use Rattle.lg_standing.specs.Server.{Server}
-use Rattle.lg_standing.specs.Cells.{catalog_at, Cell}
-use Rattle.lg_standing.specs.Contents.{Contents, Known, contents, known}
-use Rattle.lg_standing.specs.Seats.{Frame, Stage, begun, found, made, going_back, replied, answering, refused, Place, between, inside, leaving, OpenTransaction, Session, SeatState}
-use Rattle.lg_standing.specs.OpenOnes.{HasOpen, last_line, lines_at, script_so_far, texts_so_far, script_end}
-use Rattle.lg_standing.specs.EventsIn.{events_in}
-use Rattle.lg_standing.specs.WantsIn.{wants_in, Holds}
-use Rattle.lg_standing.specs.OpenScripts.{IsOfItsScript}
-use Rattle.lg_standing.specs.TreesAreOfEvents.{AreTrees, IsFrame, AreFrames}
-use Rattle.lg_standing.specs.StandTogether.{History, Stands}
+use Rattle.sql_types.specs.declared.event.Event.{Event}
+use Rattle.spec_model.specs.Catalog.{Tables, defs_of, versions_of}
+use Rattle.spec_model.specs.Journals.{Line}
+use Rattle.spec_model.specs.Replies.{reply_text}
+use Rattle.spec_model.specs.Runs.{Sound}
+use Rattle.spec_model.specs.Script.{Saved}
+use Rattle.law_frame.proofs.LegalSound.{legal_sound}
+use Rattle.law_frame.proofs.OtherTransactions.{others_sound}
+use Rattle.law_frame.proofs.SameEnds.{SameSaved, AllSaved, SameEnds, IsShort, same_ends}
+use Rattle.spec_history.specs.Lists.{Text, Each, In}
+use Rattle.spec_history.specs.Transactions.{unfixed}
+use Rattle.spec_protocol.specs.Server.{Server}
+use Rattle.spec_protocol.specs.Cells.{catalog_at, Cell}
+use Rattle.spec_protocol.specs.Contents.{Contents, Known, contents, known}
+use Rattle.spec_protocol.specs.Seats.{OpenSavepoint, StatementProgress, begun, found, made, going_back, replied, answering, refused, SessionStatus, between, inside, leaving, OpenTransaction, Session, SeatState}
+use Rattle.spec_protocol.specs.OpenOnes.{HasOpen, last_line, lines_at, script_so_far, texts_so_far, script_end}
+use Rattle.spec_protocol.specs.EventsIn.{events_in}
+use Rattle.spec_protocol.specs.RequestsIn.{requests_in, Holds}
+use Rattle.spec_protocol.specs.OpenScripts.{IsOfItsScript}
+use Rattle.spec_protocol.specs.TreesAreOfEvents.{AreTrees, IsOpenSavepoint, AreOpenSavepoints}
+use Rattle.spec_protocol.specs.StandTogether.{History, Stands}
 use Rattle.law_protocol_steps.proofs.FreshIds.{events_of_touched}
 use Rattle.law_protocol_steps.proofs.Ids.{outside, others, differ}
 use Rattle.law_protocol_steps.proofs.OthersAgree.{AllLocked, all_agree}
@@ -28,7 +28,7 @@ use Rattle.law_protocol_steps.proofs.OthersAgree.{AllLocked, all_agree}
 -- ---- a transaction of its own has at most one text
 
 module _ (v : Server) where
-  stage_short : (id : ℕ) (text : Text) (stage : Stage) → IsShort v.reads id (map (λ l. l.0) (last_line text stage))
+  stage_short : (id : ℕ) (text : Text) (stage : StatementProgress) → IsShort v.reads id (map (λ l. l.0) (last_line text stage))
   stage_short id text begun = tt
   stage_short id text (found named fresh) = tt
   stage_short id text (made def indexed) = tt
@@ -37,30 +37,30 @@ module _ (v : Server) where
   stage_short id text (answering reply def) = tt
   stage_short id text (refused reply) = tt
 
-  place_short : (id : ℕ) (place : Place) → IsShort v.reads id (map (λ l. l.0) (lines_at place))
+  place_short : (id : ℕ) (place : SessionStatus) → IsShort v.reads id (map (λ l. l.0) (lines_at place))
   place_short id between = tt
   place_short id (inside text stage) = stage_short id text stage
   place_short id leaving = tt
 
-  pub is_short : (x : Session) (o : OpenTransaction) → (o.opened ≡ false → o.script ≡ []) → o.opened ≡ false → IsShort v.reads o.id (texts_so_far x o)
+  pub is_short : (x : Session) (o : OpenTransaction) → (o.explicit ≡ false → o.script ≡ []) → o.explicit ≡ false → IsShort v.reads o.id (texts_so_far x o)
   is_short x o alone e = subst (λ (s : List Line). IsShort v.reads o.id (map (λ l. l.0) (s ++ lines_at x.place))) (sym (alone e)) (place_short o.id x.place)
 
   -- ---- frames
 
-  same_frame : (id : ℕ) (f : Frame) (a b : Saved) → SameSaved id a b → IsFrame id f a → IsFrame id f b
-  same_frame id f a b s h = record {
+  same_savepoint : (id : ℕ) (f : OpenSavepoint) (a b : Saved) → SameSaved id a b → IsOpenSavepoint id f a → IsOpenSavepoint id f b
+  same_savepoint id f a b s h = record {
     name = h.name ∙ s.name;
     counter = h.counter ∙ s.seq;
     trees = subst (λ (events : ℕ → List Event). AreTrees events f.trees) (λ i t. (events_of_touched id t (versions_of a.tables t) ∙ ap (events_in id t) (s.mine t) ∙ sym (events_of_touched id t (versions_of b.tables t))) i) h.trees;
   }
 
-  same_frames : (id : ℕ) (fs : List Frame) (us bs : List Saved) → AllSaved id us bs → AreFrames id fs us → AreFrames id fs bs
-  same_frames id [] [] [] s h = tt
-  same_frames id (f ∷ fs) (a ∷ us) (b ∷ bs) s h = (same_frame id f a b s.0 h.0, same_frames id fs us bs s.1 h.1)
-  same_frames id fs [] (b ∷ bs) s h = absurd s
-  same_frames id fs (a ∷ us) [] s h = absurd s
-  same_frames id [] (a ∷ us) bs s h = absurd h
-  same_frames id (f ∷ fs) [] bs s h = absurd h
+  same_savepoints : (id : ℕ) (fs : List OpenSavepoint) (us bs : List Saved) → AllSaved id us bs → AreOpenSavepoints id fs us → AreOpenSavepoints id fs bs
+  same_savepoints id [] [] [] s h = tt
+  same_savepoints id (f ∷ fs) (a ∷ us) (b ∷ bs) s h = (same_savepoint id f a b s.0 h.0, same_savepoints id fs us bs s.1 h.1)
+  same_savepoints id fs [] (b ∷ bs) s h = absurd s
+  same_savepoints id fs (a ∷ us) [] s h = absurd s
+  same_savepoints id [] (a ∷ us) bs s h = absurd h
+  same_savepoints id (f ∷ fs) [] bs s h = absurd h
 
 pub each_map : (f : Line → Text) (P : Text → Type 0) (ls : List Line) → Each (λ l. P (f l)) ls → Each P (map f ls)
 each_map f P [] h = tt
@@ -80,8 +80,8 @@ module _ (v : Server) (cells : List Cell) (seats : List SeatState) {history : Hi
   sound_for j x o has u = legal_sound v.reads st.ledger.items o.id st.ledger_is_legal.legal (others o.id st.ledger.items (outside v history st.ledger seats st.transcripts_agree j x o has u))
 
   -- and all that its script wants is locked
-  pub locked : (j : ℕ) (x : Session) (o : OpenTransaction) → HasOpen seats j x o → o.end ≡ unfixed → AllLocked v c k.tables o.opened o.id (texts_so_far x o)
-  locked j x o has u n = each_map (λ l. l.0) (λ t. Each (Holds (c.holds n) o.id) (wants_in v (defs_of k.tables) o.opened n t)) (script_so_far x o)
+  pub locked : (j : ℕ) (x : Session) (o : OpenTransaction) → HasOpen seats j x o → o.end ≡ unfixed → AllLocked v c k.tables o.explicit o.id (texts_so_far x o)
+  locked j x o has u n = each_map (λ l. l.0) (λ t. Each (Holds (c.holds n) o.id) (requests_in v (defs_of k.tables) o.explicit n t)) (script_so_far x o)
       (st.locks_cover.cover j x o has n (λ i. subst (In n) (st.locks_cover.unreleased j x o has u) i, λ i. subst (In catalog_at) (st.locks_cover.unreleased j x o has u) i))
 
   module _ (j : ℕ) (x : Session) (o : OpenTransaction) (has : HasOpen seats j x o) (open_end : o.end ≡ unfixed) where
@@ -93,9 +93,9 @@ module _ (v : Server) (cells : List Cell) (seats : List SeatState) {history : Hi
       differ_ids = differ v history st.ledger seats st.transcripts_agree j i x y o p (λ e. ne (sym e)) has has_p
 
       pub same_end : SameEnds p.id (script_end v k.tables y p) (script_end v After y p)
-      same_end = same_ends v.reads p.id p.opened k.tables After (texts_so_far y p) (is_short v y p (st.open_scripts i y p has_p open_p).alone)
+      same_end = same_ends v.reads p.id p.explicit k.tables After (texts_so_far y p) (is_short v y p (st.open_scripts i y p has_p open_p).alone)
           (sound_for i y p has_p open_p)
-          (others_sound o.id p.id 0 differ_ids v.reads o.opened k.tables (texts_so_far x o) (sound_for j x o has open_end) (sound_for i y p has_p open_p))
+          (others_sound o.id p.id 0 differ_ids v.reads o.explicit k.tables (texts_so_far x o) (sound_for j x o has open_end) (sound_for i y p has_p open_p))
           (all_agree v c k.tables seats st.locks_agree i j y x p o ne has_p has (sound_for j x o has open_end) (texts_so_far x o) (locked j x o has open_end) (is_short v x o (st.open_scripts j x o has open_end).alone)
           (texts_so_far y p) (locked i y p has_p open_p))
 
@@ -107,5 +107,5 @@ module _ (v : Server) (cells : List Cell) (seats : List SeatState) {history : Hi
         alone = h.alone;
       }
 
-      pub frames_stay : AreFrames p.id p.frames (script_end v k.tables y p).state.saved → AreFrames p.id p.frames (script_end v After y p).state.saved
-      frames_stay h = same_frames v p.id p.frames (script_end v k.tables y p).state.saved (script_end v After y p).state.saved same_end.saved h
+      pub savepoints_stay : AreOpenSavepoints p.id p.open_savepoints (script_end v k.tables y p).state.saved → AreOpenSavepoints p.id p.open_savepoints (script_end v After y p).state.saved
+      savepoints_stay h = same_savepoints v p.id p.open_savepoints (script_end v k.tables y p).state.saved (script_end v After y p).state.saved same_end.saved h

@@ -3,20 +3,20 @@ use Rattle.std.proofs.Common.{◌≡◌, ℕ, ◌≤◌, List, [], ◌∷◌, �
 use Rattle.std.specs.Prelude.{slice_set, Some}
 use mathlib.Core.Option.{some}
 use lib.ListN.{get_elem?}
-use Rattle.lg_types.specs.declared.journal.JournalItem.{JournalItem}
-use Rattle.lg_model.specs.Journals.{tx_count}
-use Rattle.lg_history.specs.Lists.{Each, In}
-use Rattle.lg_history.specs.Digests.{Digest}
-use Rattle.lg_history.specs.Acts.{SessionAct, Act, by, marked}
-use Rattle.lg_history.specs.Journals.{times}
-use Rattle.lg_history.specs.Sessions.{SessionState, acted}
-use Rattle.lg_history.specs.Worlds.{first, run, items_by, ids_by, issued_by}
-use Rattle.lg_history.specs.Guards.{MayHappen}
-use Rattle.lg_standing.specs.Server.{Server}
-use Rattle.lg_standing.specs.Cells.{LedgerCell}
-use Rattle.lg_standing.specs.Seats.{KeptImage, Session, Written, Role, session, SeatState}
-use Rattle.lg_standing.specs.Parts.{IsNow}
-use Rattle.lg_standing.specs.TranscriptsAgree.{session_moments, moments_of, image_of, IsImage, TranscriptsAgree}
+use Rattle.sql_types.specs.declared.journal.JournalItem.{JournalItem}
+use Rattle.spec_model.specs.Journals.{tx_count}
+use Rattle.spec_history.specs.Lists.{Each, In}
+use Rattle.spec_history.specs.Digests.{Digest}
+use Rattle.spec_history.specs.Acts.{SessionAct, Act, by, marked}
+use Rattle.spec_history.specs.Journals.{times}
+use Rattle.spec_history.specs.Sessions.{SessionState, acted}
+use Rattle.spec_history.specs.Worlds.{first, run, items_by, ids_by, issued_by}
+use Rattle.spec_history.specs.Guards.{IsEnabled}
+use Rattle.spec_protocol.specs.Server.{Server}
+use Rattle.spec_protocol.specs.Cells.{LedgerCell}
+use Rattle.spec_protocol.specs.Seats.{KeptImage, Session, Written, Role, session, SeatState}
+use Rattle.spec_protocol.specs.Parts.{IsNow}
+use Rattle.spec_protocol.specs.TranscriptsAgree.{session_moments, moments_of, image_of, IsImage, TranscriptsAgree}
 use Rattle.law_protocol_steps.proofs.OneMore.{Acts, agrees_then, agrees_owner}
 
 -- the seat with this session, and this greatest mark
@@ -38,7 +38,7 @@ pub record KeepsAll (x y : Session) : Type 0 where
 
 module _ (v : Server) (c : LedgerCell) (seats : List SeatState) (h : List Act) (agree : TranscriptsAgree v h c seats) (j : ℕ) (s : SeatState) (there : get_elem? seats j ≡ some s) (x y : Session) (role : s.role ≡ session x)
     (n : ℕ) (number : (agree.of_seat j).now ≡ Some n) (a : SessionAct) (greatest : ℕ) (more : s.greatest ≤ greatest) (most : greatest ≤ tx_count c.items) (marks : Each (λ m. (s.least ≤ m) × (m ≤ greatest)) (marked a))
-    (ok : MayHappen v.meaning c.database (run first h) (by n a)) (now : IsNow v.meaning (acted ((run first h).at n) a) y) (nothing : AddsNothing ((run first h).at n) a) (keeps : KeepsAll x y) where
+    (ok : IsEnabled v.meaning c.database (run first h) (by n a)) (now : IsNow v.meaning (acted ((run first h).at n) a) y) (nothing : AddsNothing ((run first h).at n) a) (keeps : KeepsAll x y) where
   abbrev t : SeatState
   t = seat_as s y greatest
 

@@ -1,16 +1,16 @@
 -- Places at which nothing is owed but what each transaction owes.
 use Rattle.std.proofs.Common.{◌≡◌, ℕ, true, false, Bool, None, Some, List, refl}
-use Rattle.lg_standing.specs.Contents.{Contents}
-use Rattle.lg_standing.specs.RowsAgree.{GoesBackTo, IsOpenedAt}
-use Rattle.lg_standing.specs.TablesAreSerial.{IsAdding, IsIndexed}
-use Rattle.lg_standing.specs.LocksCover.{IsDropping, LookedFirst}
-use Rattle.lg_standing.specs.Seats.{OpenTransaction, Place, answering, begun, between, found, going_back, inside, leaving, made, refused, replied}
-use Rattle.lg_types.specs.declared.table.TableDef.{TableDef}
-use Rattle.lg_types.specs.declared.version.Version.{Version}
-use Rattle.lg_standing.specs.OpenScripts.{counted}
+use Rattle.spec_protocol.specs.Contents.{Contents}
+use Rattle.spec_protocol.specs.RowsAgree.{GoesBackTo, IsExplicitAt}
+use Rattle.spec_protocol.specs.TablesAreSerial.{IsAdding, IsIndexed}
+use Rattle.spec_protocol.specs.LocksCover.{IsDropping, LookedFirst}
+use Rattle.spec_protocol.specs.Seats.{OpenTransaction, SessionStatus, answering, begun, between, found, going_back, inside, leaving, made, refused, replied}
+use Rattle.sql_types.specs.declared.table.TableDef.{TableDef}
+use Rattle.sql_types.specs.declared.version.Version.{Version}
+use Rattle.spec_protocol.specs.OpenScripts.{counted}
 
 -- no CREATE INDEX, no way back, and no lock that is to be given back
-abbrev pub IsBare : Place → Type 0
+abbrev pub IsBare : SessionStatus → Type 0
 IsBare between = Unit {0}
 IsBare (inside text begun) = Unit {0}
 IsBare (inside text (found named false)) = Unit {0}
@@ -19,7 +19,7 @@ IsBare (inside text (answering reply None)) = Unit {0}
 IsBare leaving = Unit {0}
 IsBare _ = ⊥
 
-pub not_indexing : (c : Contents) (place : Place) → IsBare place → IsIndexed c place
+pub not_indexing : (c : Contents) (place : SessionStatus) → IsBare place → IsIndexed c place
 not_indexing c between b = tt
 not_indexing c (inside text begun) b = tt
 not_indexing c (inside text (found named false)) b = tt
@@ -32,7 +32,7 @@ not_indexing c (inside text (answering reply (Some def))) b = absurd b
 not_indexing c (inside text (refused reply)) b = absurd b
 not_indexing c leaving b = tt
 
-pub not_first : (place : Place) → IsBare place → LookedFirst place → ⊥
+pub not_first : (place : SessionStatus) → IsBare place → LookedFirst place → ⊥
 not_first between b f = f
 not_first (inside text begun) b f = f
 not_first (inside text (found named false)) b f = f
@@ -45,7 +45,7 @@ not_first (inside text (answering reply (Some def))) b f = b
 not_first (inside text (refused reply)) b f = b
 not_first leaving b f = f
 
-pub not_dropping : (place : Place) (o : OpenTransaction) → IsBare place → IsDropping place o → ⊥
+pub not_dropping : (place : SessionStatus) (o : OpenTransaction) → IsBare place → IsDropping place o → ⊥
 not_dropping between o b f = f
 not_dropping (inside text begun) o b f = f
 not_dropping (inside text (found named false)) o b f = f
@@ -58,7 +58,7 @@ not_dropping (inside text (answering reply (Some def))) o b f = b
 not_dropping (inside text (refused reply)) o b f = b
 not_dropping leaving o b f = f
 
-pub not_back : (place : Place) (n : ℕ) → IsBare place → GoesBackTo place n
+pub not_back : (place : SessionStatus) (n : ℕ) → IsBare place → GoesBackTo place n
 not_back between n b = tt
 not_back (inside text begun) n b = tt
 not_back (inside text (found named false)) n b = tt
@@ -71,7 +71,7 @@ not_back (inside text (answering reply (Some def))) n b = absurd b
 not_back (inside text (refused reply)) n b = absurd b
 not_back leaving n b = tt
 
-pub of_either : (place : Place) (a : Bool) → IsBare place → IsOpenedAt place a
+pub of_either : (place : SessionStatus) (a : Bool) → IsBare place → IsExplicitAt place a
 of_either between a b = tt
 of_either (inside text begun) a b = tt
 of_either (inside text (found named false)) a b = tt
@@ -85,12 +85,12 @@ of_either (inside text (refused reply)) a b = absurd b
 of_either leaving a b = tt
 
 -- no index is being added
-abbrev pub AddsNone : Place → Type 0
+abbrev pub AddsNone : SessionStatus → Type 0
 AddsNone (inside text (made def true)) = ⊥
 AddsNone (inside text (answering reply (Some def))) = ⊥
 AddsNone _ = Unit {0}
 
-pub none_added : (place : Place) (o : OpenTransaction) (after : TableDef) (i : ℕ) → AddsNone place → IsAdding place o after i → ⊥
+pub none_added : (place : SessionStatus) (o : OpenTransaction) (after : TableDef) (i : ℕ) → AddsNone place → IsAdding place o after i → ⊥
 none_added between o after i n a = a.added
 none_added (inside text begun) o after i n a = a.added
 none_added (inside text (found named fresh)) o after i n a = a.added
@@ -103,7 +103,7 @@ none_added (inside text (answering reply (Some def))) o after i n a = n
 none_added (inside text (refused reply)) o after i n a = a.added
 none_added leaving o after i n a = a.added
 
-pub all_counted : (tx id : ℕ) (place : Place) (ws : List Version) → IsBare place → counted tx id place ws ≡ ws
+pub all_counted : (tx id : ℕ) (place : SessionStatus) (ws : List Version) → IsBare place → counted tx id place ws ≡ ws
 all_counted tx id between ws b = refl
 all_counted tx id (inside text begun) ws b = refl
 all_counted tx id (inside text (found named false)) ws b = refl

@@ -3,48 +3,48 @@ use Rattle.std.proofs.Common.{◌≡◌, ℕ, ◌≤◌, not, Bool, true, false,
 use Rattle.std.proofs.lemmas.List.{map-append}
 use mathlib.Core.Option.{some}
 use lib.ListN.{get_elem?}
-use Rattle.lg_types.specs.declared.reply.Reply.{Reply}
-use Rattle.lg_types.specs.declared.event.Event.{Event as RowEvent}
-use Rattle.lg_types.specs.declared.version.Version.{Version}
-use Rattle.lg_model.specs.Catalog.{Tables, defs_of, versions_of}
-use Rattle.lg_model.specs.Journals.{Line}
-use Rattle.lg_model.specs.Replies.{reply_text}
-use Rattle.lg_model.specs.Script.{ScriptEnd, State, start, script, text_step}
-use Rattle.lg_model.specs.Touched.{touched}
-use Rattle.lg_history.specs.Lists.{Text, Each, In}
-use Rattle.lg_history.specs.Facts.{said}
-use Rattle.lg_history.specs.Transactions.{unfixed, on_some}
-use Rattle.lg_history.specs.Acts.{says, by}
-use Rattle.lg_history.specs.Sessions.{SessionTransaction, SessionState, acted, scripts}
-use Rattle.lg_history.specs.Worlds.{first, run}
-use Rattle.lg_history.specs.Guards.{OnlyOne}
-use Rattle.lg_history.proofs.Trace.{each_append, each_weaker}
-use Rattle.lg_standing.specs.Server.{Server}
-use Rattle.lg_standing.specs.Cells.{Cell, catalog_at}
-use Rattle.lg_standing.specs.Contents.{Contents, Known, contents, known, HasAlone}
-use Rattle.lg_standing.specs.EventsIn.{events_in}
-use Rattle.lg_standing.specs.LocksCover.{KeepsLocks, LookedAt, HasLock, IsGotAt}
-use Rattle.lg_standing.specs.Moves.{at_place, sits}
-use Rattle.lg_standing.specs.OpenOnes.{HasOpen, text_at, last_line, lines_at, script_so_far, texts_so_far}
-use Rattle.lg_standing.specs.OpenScripts.{counted, counted_in}
-use Rattle.lg_standing.specs.Parts.{AreTransactions, IsNow}
-use Rattle.lg_standing.specs.Seats.{Tree, OpenTransaction, Stage, answering, Place, inside, Session, session, SeatState}
-use Rattle.lg_standing.specs.StandTogether.{History, Stands, StandsAfter}
-use Rattle.lg_standing.specs.TranscriptsAgree.{TranscriptsAgree}
-use Rattle.lg_standing.specs.TreesAreOfEvents.{AreTrees, AreFrames}
-use Rattle.lg_standing.specs.WantsIn.{wants_in, Holds}
+use Rattle.sql_types.specs.declared.reply.Reply.{Reply}
+use Rattle.sql_types.specs.declared.event.Event.{Event as RowEvent}
+use Rattle.sql_types.specs.declared.version.Version.{Version}
+use Rattle.spec_model.specs.Catalog.{Tables, defs_of, versions_of}
+use Rattle.spec_model.specs.Journals.{Line}
+use Rattle.spec_model.specs.Replies.{reply_text}
+use Rattle.spec_model.specs.Script.{ScriptEnd, State, start, script, text_step}
+use Rattle.spec_model.specs.Touched.{touched}
+use Rattle.spec_history.specs.Lists.{Text, Each, In}
+use Rattle.spec_history.specs.Facts.{said}
+use Rattle.spec_history.specs.Transactions.{unfixed, on_some}
+use Rattle.spec_history.specs.Acts.{says, by}
+use Rattle.spec_history.specs.Sessions.{SessionTransaction, SessionState, acted, scripts}
+use Rattle.spec_history.specs.Worlds.{first, run}
+use Rattle.spec_history.specs.Guards.{OnlyOne}
+use Rattle.spec_history.proofs.Trace.{each_append, each_weaker}
+use Rattle.spec_protocol.specs.Server.{Server}
+use Rattle.spec_protocol.specs.Cells.{Cell, catalog_at}
+use Rattle.spec_protocol.specs.Contents.{Contents, Known, contents, known, HasAlone}
+use Rattle.spec_protocol.specs.EventsIn.{events_in}
+use Rattle.spec_protocol.specs.LocksCover.{KeepsLocks, LookedAt, HasLock, IsGotAt}
+use Rattle.spec_protocol.specs.Moves.{at_place, sits}
+use Rattle.spec_protocol.specs.OpenOnes.{HasOpen, text_at, last_line, lines_at, script_so_far, texts_so_far}
+use Rattle.spec_protocol.specs.OpenScripts.{counted, counted_in}
+use Rattle.spec_protocol.specs.Parts.{AreTransactions, IsNow}
+use Rattle.spec_protocol.specs.Seats.{Tree, OpenTransaction, StatementProgress, answering, SessionStatus, inside, Session, session, SeatState}
+use Rattle.spec_protocol.specs.StandTogether.{History, Stands, StandsAfter}
+use Rattle.spec_protocol.specs.TranscriptsAgree.{TranscriptsAgree}
+use Rattle.spec_protocol.specs.TreesAreOfEvents.{AreTrees, AreOpenSavepoints}
+use Rattle.spec_protocol.specs.RequestsIn.{requests_in, Holds}
 use Rattle.law_protocol_steps.proofs.AloneTurns.{Keeps, keeps_turn, StillAt, owes_like, bare, alone_after}
-use Rattle.law_protocol_steps.proofs.Deeds.{IsPlain, plain_acts, plain_owner}
+use Rattle.law_protocol_steps.proofs.AnonymousActs.{IsPlain, plain_acts, plain_owner}
 use Rattle.law_protocol_steps.proofs.TranscriptActs.{GoesFrom, goes_on}
 use Rattle.law_protocol_steps.proofs.FreshIds.{events_of_touched}
 use Rattle.law_protocol_steps.proofs.Heard.{heard_answer, heard_now}
 use Rattle.law_protocol_steps.proofs.Ids.{InTransaction, in_transaction}
 use Rattle.law_protocol_steps.proofs.ScriptMore.{last_state, last_reply}
 use Rattle.law_protocol_steps.proofs.PlainPlaces.{AddsNone, none_added, IsBare, all_counted}
-use Rattle.lg_standing.specs.TablesAreSerial.{IsAdding, HasActed}
+use Rattle.spec_protocol.specs.TablesAreSerial.{IsAdding, HasActed}
 use Rattle.law_protocol_steps.proofs.Turns.{Owes}
 use Rattle.law_protocol_steps.proofs.GoesOn.{still, one_number}
-use Rattle.lg_standing.specs.Leaf.{event_bytes}
+use Rattle.spec_protocol.specs.Leaf.{event_bytes}
 
 pub plain_say : (line : Line) → IsPlain (says line)
 plain_say line = record { items = λ x. refl; ids = refl; issued = refl; marks = refl; images = refl }
@@ -63,7 +63,7 @@ trees_over v es fs trees same h = record {
     leaves (t ∷ ts) l e = (e.0 ∙ ap (map event_bytes) (same t.table l.0), leaves ts l.1 e.1)
 
 module _ {b : Bool} (v : Server) (cells : List Cell) (seats : List SeatState) {history : History} (st : Stands v history cells seats) (j : ℕ) (s : SeatState) (there : get_elem? seats j ≡ some s) (x : Session) (role : s.role ≡ session x)
-    (o : OpenTransaction) (one : x.open_one ≡ Some o) (open_end : o.end ≡ unfixed) (opened : o.opened ≡ b) (text : Text) (stage : Stage) (at : x.place ≡ inside text stage)
+    (o : OpenTransaction) (one : x.open_one ≡ Some o) (open_end : o.end ≡ unfixed) (explicit : o.explicit ≡ b) (text : Text) (stage : StatementProgress) (at : x.place ≡ inside text stage)
     (no_lines : last_line text stage ≡ []) (all_count : (id : ℕ) (ws : List Version) → counted_in o.id id stage ws ≡ ws) where
   abbrev pub c : Contents
   c = contents cells
@@ -79,13 +79,13 @@ module _ {b : Bool} (v : Server) (cells : List Cell) (seats : List SeatState) {h
 
   -- what its script comes to
   abbrev pub end_of : List Line → ScriptEnd
-  end_of ls = script v.reads o.opened k.tables o.id (texts ls)
+  end_of ls = script v.reads o.explicit k.tables o.id (texts ls)
 
   abbrev pub X : State
   X = (end_of o.script).state
 
   so_far : script_so_far x o ≡ o.script
-  so_far = ap (λ (p : Place). o.script ++ lines_at p) at ∙ ap (λ (ls : List Line). o.script ++ ls) no_lines ∙ append-nil o.script
+  so_far = ap (λ (p : SessionStatus). o.script ++ lines_at p) at ∙ ap (λ (ls : List Line). o.script ++ ls) no_lines ∙ append-nil o.script
 
   pub its_replies : map (λ l. l.1) o.script ≡ map reply_text (end_of o.script).replies
   its_replies = subst (λ ls. map (λ l. l.1) ls ≡ map reply_text (end_of ls).replies) so_far (st.open_scripts j x o has open_end).replies
@@ -104,15 +104,15 @@ module _ {b : Bool} (v : Server) (cells : List Cell) (seats : List SeatState) {h
   its_trees_there = trees_over v (λ id. events_in o.id id (c.versions id)) (λ id. events_in o.id id (versions_of X.tables id)) o.trees
       (λ id l. events_of_touched o.id id (c.versions id) ∙ ap (events_in o.id id) (its_versions id l) ∙ sym (events_of_touched o.id id (versions_of X.tables id))) its_trees
 
-  pub its_frames : AreFrames o.id o.frames X.saved
-  its_frames = subst (λ ls. AreFrames o.id o.frames (end_of ls).state.saved) so_far (st.trees_are_of_events j x o has open_end).frames
+  pub its_savepoints : AreOpenSavepoints o.id o.open_savepoints X.saved
+  its_savepoints = subst (λ ls. AreOpenSavepoints o.id o.open_savepoints (end_of ls).state.saved) so_far (st.trees_are_of_events j x o has open_end).open_savepoints
 
-  pub its_cover : (i : ℕ) → KeepsLocks o i → Each (λ l. Each (Holds (c.holds i) o.id) (wants_in v (defs_of k.tables) o.opened i l.0)) o.script
-  its_cover i free = subst (Each (λ l. Each (Holds (c.holds i) o.id) (wants_in v (defs_of k.tables) o.opened i l.0))) so_far (st.locks_cover.cover j x o has i free)
+  pub its_cover : (i : ℕ) → KeepsLocks o i → Each (λ l. Each (Holds (c.holds i) o.id) (requests_in v (defs_of k.tables) o.explicit i l.0)) o.script
+  its_cover i free = subst (Each (λ l. Each (Holds (c.holds i) o.id) (requests_in v (defs_of k.tables) o.explicit i l.0))) so_far (st.locks_cover.cover j x o has i free)
 
   -- ---- with the statement
 
-  module _ (r : Reply) (then_state : State) (step : text_step v.reads o.opened o.id X text ≡ (then_state, r)) (covers : (i : ℕ) → Each (Holds (c.holds i) o.id) (wants_in v (defs_of k.tables) o.opened i text)) where
+  module _ (r : Reply) (then_state : State) (step : text_step v.reads o.explicit o.id X text ≡ (then_state, r)) (covers : (i : ℕ) → Each (Holds (c.holds i) o.id) (requests_in v (defs_of k.tables) o.explicit i text)) where
     abbrev line : Line
     line = (text, reply_text r)
 
@@ -123,28 +123,28 @@ module _ {b : Bool} (v : Server) (cells : List Cell) (seats : List SeatState) {h
     texts_are = map-append (λ l. l.0) o.script (line ∷ [])
 
     pub state_is : (end_of lines).state ≡ then_state
-    state_is = ap (λ ts. (script v.reads o.opened k.tables o.id ts).state) texts_are ∙ last_state v.reads o.opened o.id (start k.tables) (texts o.script) text ∙ ap (λ z. z.0) step
+    state_is = ap (λ ts. (script v.reads o.explicit k.tables o.id ts).state) texts_are ∙ last_state v.reads o.explicit o.id (start k.tables) (texts o.script) text ∙ ap (λ z. z.0) step
 
     pub replies_are : map (λ l. l.1) lines ≡ map reply_text (end_of lines).replies
     replies_are = map-append (λ l. l.1) o.script (line ∷ []) ∙ ap (λ (l : List Text). l ++ reply_text r ∷ []) its_replies ∙ sym (map-append reply_text (end_of o.script).replies (r ∷ []))
-        ∙ sym (ap (map reply_text) (ap (λ ts. (script v.reads o.opened k.tables o.id ts).replies) texts_are ∙ last_reply v.reads o.opened o.id (start k.tables) (texts o.script) text ∙ ap (λ z. (end_of o.script).replies ++ z.1 ∷ []) step))
+        ∙ sym (ap (map reply_text) (ap (λ ts. (script v.reads o.explicit k.tables o.id ts).replies) texts_are ∙ last_reply v.reads o.explicit o.id (start k.tables) (texts o.script) text ∙ ap (λ z. (end_of o.script).replies ++ z.1 ∷ []) step))
 
     -- the session then, with what counts at its place
-    module _ (y : Session) (p : OpenTransaction) (ls : List Line) (id : p.id ≡ o.id) (opened_same : p.opened ≡ o.opened) (visited : p.visited ≡ o.visited) (released : p.released ≡ o.released) (end : p.end ≡ o.end)
+    module _ (y : Session) (p : OpenTransaction) (ls : List Line) (id : p.id ≡ o.id) (opened_same : p.explicit ≡ o.explicit) (visited : p.visited ≡ o.visited) (released : p.released ≡ o.released) (end : p.end ≡ o.end)
         (script_is : p.script ≡ ls) (lines_are : ls ++ lines_at y.place ≡ lines)
         (versions : (id : ℕ) → 1 ≤ id → touched o.id (counted o.id id y.place (c.versions id)) ≡ touched o.id (versions_of then_state.tables id)) (counter : p.seq ≡ then_state.seq)
-        (trees : AreTrees (λ id. events_in o.id id (counted o.id id y.place (c.versions id))) p.trees) (frames : AreFrames o.id p.frames then_state.saved)
-        (got : HasLock c catalog_at o.id → IsGotAt v k.tables (HasAlone c o.id) (not (k.has o.id)) y.place) (looked : LookedAt v c (defs_of k.tables) o.id o.opened y.place) (stands : o.opened ≡ false → text_at x.place ≡ text_at y.place) (alone : o.opened ≡ false → p.script ≡ []) where
+        (trees : AreTrees (λ id. events_in o.id id (counted o.id id y.place (c.versions id))) p.trees) (open_savepoints : AreOpenSavepoints o.id p.open_savepoints then_state.saved)
+        (got : HasLock c catalog_at o.id → IsGotAt v k.tables (HasAlone c o.id) (not (k.has o.id)) y.place) (looked : LookedAt v c (defs_of k.tables) o.id o.explicit y.place) (stands : o.explicit ≡ false → text_at x.place ≡ text_at y.place) (alone : o.explicit ≡ false → p.script ≡ []) where
       all_lines : script_so_far y p ≡ lines
       all_lines = ap (λ (ms : List Line). ms ++ lines_at y.place) script_is ∙ lines_are
 
-      ends_so : (script v.reads p.opened k.tables p.id (texts_so_far y p)) ≡ end_of lines
+      ends_so : (script v.reads p.explicit k.tables p.id (texts_so_far y p)) ≡ end_of lines
       ends_so = λ i. script v.reads (opened_same i) k.tables (id i) (texts (all_lines i))
 
       pub keeps_said : StillAt v cells seats st j s there x o y p → Owes v c k st.catalog.defs y p → Keeps v cells seats st j s there x role o one y p
       keeps_said still owes = record {
         id = id;
-        opened = opened_same;
+        explicit = opened_same;
         visited = visited;
         released = released;
         end = end;
@@ -157,9 +157,9 @@ module _ {b : Bool} (v : Server) (cells : List Cell) (seats : List SeatState) {h
         };
         trees = λ u. record {
           trees = subst (λ n. AreTrees (λ a. events_in n a (counted n a y.place (c.versions a))) p.trees) (sym id) trees;
-          frames = subst (λ n. AreFrames n p.frames (script v.reads p.opened k.tables p.id (texts_so_far y p)).state.saved) (sym id) (subst (AreFrames o.id p.frames) (ap (λ z. z.saved) (sym state_is) ∙ sym (ap (λ z. z.state.saved) ends_so)) frames);
+          open_savepoints = subst (λ n. AreOpenSavepoints n p.open_savepoints (script v.reads p.explicit k.tables p.id (texts_so_far y p)).state.saved) (sym id) (subst (AreOpenSavepoints o.id p.open_savepoints) (ap (λ z. z.saved) (sym state_is) ∙ sym (ap (λ z. z.state.saved) ends_so)) open_savepoints);
         };
-        cover = λ i free. subst (Each (λ l. Each (Holds (c.holds i) o.id) (wants_in v (defs_of k.tables) o.opened i l.0))) (sym all_lines) (each_append (λ l. Each (Holds (c.holds i) o.id) (wants_in v (defs_of k.tables) o.opened i l.0)) o.script (line ∷ []) (its_cover i free) (covers i, tt));
+        cover = λ i free. subst (Each (λ l. Each (Holds (c.holds i) o.id) (requests_in v (defs_of k.tables) o.explicit i l.0))) (sym all_lines) (each_append (λ l. Each (Holds (c.holds i) o.id) (requests_in v (defs_of k.tables) o.explicit i l.0)) o.script (line ∷ []) (its_cover i free) (covers i, tt));
         got = got;
         looked = looked;
         still = still;
@@ -167,7 +167,7 @@ module _ {b : Bool} (v : Server) (cells : List Cell) (seats : List SeatState) {h
       }
 
       -- where it leaves the tables as they were
-      pub keeps_bare : AddsNone (inside text stage) → (o.opened ≡ false → HasActed x.place → HasActed y.place) → then_state.tables ≡ X.tables → p.seq ≡ o.seq → IsBare y.place → Keeps v cells seats st j s there x role o one y p
+      pub keeps_bare : AddsNone (inside text stage) → (o.explicit ≡ false → HasActed x.place → HasActed y.place) → then_state.tables ≡ X.tables → p.seq ≡ o.seq → IsBare y.place → Keeps v cells seats st j s there x role o one y p
       keeps_bare adds acted same_tables same_seq bare = keeps_said
           (record { acted = acted; adding = λ after i a. absurd (none_added (inside text stage) o after i adds (subst (λ z. IsAdding z o after i) at a)) })
           (owes_like v cells seats st j s there x role o one y p id same_seq end bare
@@ -176,7 +176,7 @@ module _ {b : Bool} (v : Server) (cells : List Cell) (seats : List SeatState) {h
 
   -- ---- the history
 
-  module _ (by_begin : o.opened ≡ true) (r : Reply) (p : OpenTransaction) (id : p.id ≡ o.id) (opened_same : p.opened ≡ o.opened) (end : p.end ≡ o.end) (script_is : p.script ≡ o.script ++ (text, reply_text r) ∷ [])
+  module _ (by_begin : o.explicit ≡ true) (r : Reply) (p : OpenTransaction) (id : p.id ≡ o.id) (opened_same : p.explicit ≡ o.explicit) (end : p.end ≡ o.end) (script_is : p.script ≡ o.script ++ (text, reply_text r) ∷ [])
       (goes : GoesFrom v.meaning x (at_place (Some p) (inside text (answering r None)) x) (said (text, reply_text r) ∷ [])) where
     abbrev y : Session
     y = at_place (Some p) (inside text (answering r None)) x
@@ -205,7 +205,7 @@ module _ {b : Bool} (v : Server) (cells : List Cell) (seats : List SeatState) {h
     then_texts = ap texts (append-nil p.script ∙ script_is)
 
     only : OnlyOne d.transaction text
-    only e = let no : true ≡ false = sym by_begin ∙ sym d.is.opened ∙ e in cc
+    only e = let no : true ≡ false = sym by_begin ∙ sym d.is.explicit ∙ e in cc
 
     now : IsNow v.meaning (acted sess (says told)) y
     now = record {
@@ -214,7 +214,7 @@ module _ {b : Bool} (v : Server) (cells : List Cell) (seats : List SeatState) {h
       under = d.runs.now.under ∙ ap text_at at;
       open_one = subst (λ (z : Option SessionTransaction). AreTransactions (on_some (scripts told) z) y y.open_one) (sym d.has) (record {
         id = d.is.id ∙ sym id;
-        opened = d.is.opened ∙ sym opened_same;
+        explicit = d.is.explicit ∙ sym opened_same;
         script = ap (λ (ls : List Line). ls ++ told ∷ []) d.is.script ∙ sym script_is;
         end = d.is.end ∙ sym end;
         asked = λ u. subst (λ ts. Each (λ a. a.1 ≡ true → In a.0 ts) ((text, true) ∷ d.transaction.asked)) (sym then_texts) (
@@ -241,13 +241,13 @@ module _ {b : Bool} (v : Server) (cells : List Cell) (seats : List SeatState) {h
 
   -- ---- it is said, and certain at once
 
-  module _ (by_begin : o.opened ≡ true) (r : Reply) (then_state : State) (step : text_step v.reads o.opened o.id X text ≡ (then_state, r)) (covers : (i : ℕ) → Each (Holds (c.holds i) o.id) (wants_in v (defs_of k.tables) o.opened i text))
-      (p : OpenTransaction) (id : p.id ≡ o.id) (opened_same : p.opened ≡ o.opened) (visited : p.visited ≡ o.visited) (released : p.released ≡ o.released) (end : p.end ≡ o.end) (script_is : p.script ≡ o.script ++ (text, reply_text r) ∷ [])
-      (same_tables : then_state.tables ≡ X.tables) (counter : p.seq ≡ then_state.seq) (same_trees : p.trees ≡ o.trees) (frames : AreFrames o.id p.frames then_state.saved) (same_seq : p.seq ≡ o.seq) (adds : AddsNone (inside text stage))
+  module _ (by_begin : o.explicit ≡ true) (r : Reply) (then_state : State) (step : text_step v.reads o.explicit o.id X text ≡ (then_state, r)) (covers : (i : ℕ) → Each (Holds (c.holds i) o.id) (requests_in v (defs_of k.tables) o.explicit i text))
+      (p : OpenTransaction) (id : p.id ≡ o.id) (opened_same : p.explicit ≡ o.explicit) (visited : p.visited ≡ o.visited) (released : p.released ≡ o.released) (end : p.end ≡ o.end) (script_is : p.script ≡ o.script ++ (text, reply_text r) ∷ [])
+      (same_tables : then_state.tables ≡ X.tables) (counter : p.seq ≡ then_state.seq) (same_trees : p.trees ≡ o.trees) (open_savepoints : AreOpenSavepoints o.id p.open_savepoints then_state.saved) (same_seq : p.seq ≡ o.seq) (adds : AddsNone (inside text stage))
       (goes : GoesFrom v.meaning x (at_place (Some p) (inside text (answering r None)) x) (said (text, reply_text r) ∷ [])) where
     pub said_stands : StandsAfter v j history (says (text, reply_text r) ∷ []) cells (slice_set seats j (sits s (at_place (Some p) (inside text (answering r None)) x)))
     said_stands = alone_after v cells seats st j s there _ _
         (keeps_turn v cells seats st j s there x role o one _ _ p refl refl
         (keeps_bare r then_state step covers (at_place (Some p) (inside text (answering r None)) x) p p.script id opened_same visited released end refl (append-nil p.script ∙ script_is)
-        (λ n l. its_versions n l ∙ ap (λ (T : Tables). touched o.id (versions_of T n)) (sym same_tables)) counter (subst (AreTrees (λ a. events_in o.id a (c.versions a))) (sym same_trees) its_trees) frames (λ l. tt) tt (λ e. ap text_at at) (λ e. let no : true ≡ false = sym by_begin ∙ e in cc) adds (λ e f. tt) same_tables same_seq tt))
+        (λ n l. its_versions n l ∙ ap (λ (T : Tables). touched o.id (versions_of T n)) (sym same_tables)) counter (subst (AreTrees (λ a. events_in o.id a (c.versions a))) (sym same_trees) its_trees) open_savepoints (λ l. tt) tt (λ e. ap text_at at) (λ e. let no : true ≡ false = sym by_begin ∙ e in cc) adds (λ e f. tt) same_tables same_seq tt))
         (said_act by_begin r p id opened_same end script_is goes) (said_owner _ _ _ _ _ _ _ _)

@@ -1,30 +1,30 @@
 -- A seat that goes on without a change of its transaction's script, counter, trees or frames: what is said of these stays.
 use Rattle.std.proofs.Common.{◌≡◌, ◌≤◌, ℕ, Bool, List, [], ◌∷◌, ◌++◌, map, refl, sym, ap, ap₂, ◌∙◌, subst}
-use Rattle.lg_types.specs.declared.event.Event.{Event}
-use Rattle.lg_types.specs.declared.version.Version.{Version}
-use Rattle.lg_model.specs.Catalog.{Tables, versions_of}
-use Rattle.lg_model.specs.Journals.{Line, serial}
-use Rattle.lg_model.specs.Replies.{reply_text}
-use Rattle.lg_model.specs.Script.{ScriptEnd, script}
-use Rattle.lg_history.specs.Lists.{Each, In}
-use Rattle.lg_standing.specs.Server.{Server}
-use Rattle.lg_standing.specs.Cells.{LedgerCell, Cell, versions_at}
-use Rattle.lg_standing.specs.Seats.{Tree, Frame, OpenTransaction, Session}
-use Rattle.lg_standing.specs.OpenOnes.{text_at, lines_at, script_so_far, texts_so_far, script_end}
-use Rattle.lg_standing.specs.OpenScripts.{counted}
-use Rattle.lg_standing.specs.EventsIn.{events_in}
-use Rattle.lg_standing.specs.TreesAreOfEvents.{AreTrees, AreFrames}
+use Rattle.sql_types.specs.declared.event.Event.{Event}
+use Rattle.sql_types.specs.declared.version.Version.{Version}
+use Rattle.spec_model.specs.Catalog.{Tables, versions_of}
+use Rattle.spec_model.specs.Journals.{Line, serial}
+use Rattle.spec_model.specs.Replies.{reply_text}
+use Rattle.spec_model.specs.Script.{ScriptEnd, script}
+use Rattle.spec_history.specs.Lists.{Each, In}
+use Rattle.spec_protocol.specs.Server.{Server}
+use Rattle.spec_protocol.specs.Cells.{LedgerCell, Cell, versions_at}
+use Rattle.spec_protocol.specs.Seats.{Tree, OpenSavepoint, OpenTransaction, Session}
+use Rattle.spec_protocol.specs.OpenOnes.{text_at, lines_at, script_so_far, texts_so_far, script_end}
+use Rattle.spec_protocol.specs.OpenScripts.{counted}
+use Rattle.spec_protocol.specs.EventsIn.{events_in}
+use Rattle.spec_protocol.specs.TreesAreOfEvents.{AreTrees, AreOpenSavepoints}
 use Rattle.law_protocol_steps.proofs.OfCells.{HasItsTrees, IsOfItsScript, events_counted}
-use Rattle.lg_model.specs.Touched.{touched}
-use Rattle.lg_standing.specs.Leaf.{event_bytes}
+use Rattle.spec_model.specs.Touched.{touched}
+use Rattle.spec_protocol.specs.Leaf.{event_bytes}
 
 pub record IsSame (x : Session) (o : OpenTransaction) (y : Session) (p : OpenTransaction) : Type 0 where
   pub id : p.id ≡ o.id
-  pub opened : p.opened ≡ o.opened
+  pub explicit : p.explicit ≡ o.explicit
   pub script : p.script ≡ o.script
   pub seq : p.seq ≡ o.seq
   pub trees : p.trees ≡ o.trees
-  pub frames : p.frames ≡ o.frames
+  pub open_savepoints : p.open_savepoints ≡ o.open_savepoints
   pub end : p.end ≡ o.end
   pub lines : lines_at y.place ≡ lines_at x.place
   pub text : text_at y.place ≡ text_at x.place
@@ -37,8 +37,8 @@ module _ (x : Session) (o : OpenTransaction) (y : Session) (p : OpenTransaction)
   same_script = ap₂ (λ (a : List Line) (b : List Line). a ++ b) m.script m.lines
 
   pub same_end : (v : Server) (T : Tables) → script_end v T y p ≡ script_end v T x o
-  same_end v T = ap (λ (b : Bool). script v.reads b T p.id (texts_so_far y p)) m.opened
-      ∙ ap₂ (λ (n : ℕ) (l : List Line). script v.reads o.opened T n (map (λ z. z.0) l)) m.id same_script
+  same_end v T = ap (λ (b : Bool). script v.reads b T p.id (texts_so_far y p)) m.explicit
+      ∙ ap₂ (λ (n : ℕ) (l : List Line). script v.reads o.explicit T n (map (λ z. z.0) l)) m.id same_script
 
   same_touched : (cells others : List Cell) → ((id : ℕ) → versions_at others id ≡ versions_at cells id) → (id : ℕ) → touched p.id (counted p.id id y.place (versions_at others id)) ≡ touched o.id (counted o.id id x.place (versions_at cells id))
   same_touched cells others same id = ap₂ (λ (n : ℕ) (vs : List Version). touched n vs) m.id
@@ -54,7 +54,7 @@ module _ (x : Session) (o : OpenTransaction) (y : Session) (p : OpenTransaction)
       replies = ap (map (λ (l : Line). l.1)) same_script ∙ h.replies ∙ ap (λ (e : ScriptEnd). map reply_text e.replies) (sym (same_end v T));
       versions = λ id l. same_touched cells others same id ∙ h.versions id l ∙ ap₂ (λ (n : ℕ) (e : ScriptEnd). touched n (versions_of e.state.tables id)) (sym m.id) (sym (same_end v T));
       counter = m.seq ∙ h.counter ∙ ap (λ (e : ScriptEnd). e.state.seq) (sym (same_end v T));
-      alone = λ e. m.script ∙ h.alone (sym m.opened ∙ e);
+      alone = λ e. m.script ∙ h.alone (sym m.explicit ∙ e);
     }
 
   pub trees_same : (v : Server) (E F : ℕ → List Event) (trees : List Tree) → ((id : ℕ) → F id ≡ E id) → AreTrees E trees → AreTrees F trees
@@ -76,11 +76,11 @@ module _ (x : Session) (o : OpenTransaction) (y : Session) (p : OpenTransaction)
     pub trees_stay : HasItsTrees v cells ledger x o → HasItsTrees v others ledger y p
     trees_stay h = record {
       trees = subst (AreTrees (events_counted others y p)) (sym m.trees) (trees_same v (events_counted cells x o) (events_counted others y p) o.trees (same_events cells others same) h.trees);
-      frames = subst (λ (n : ℕ). AreFrames n p.frames (script_end v (serial v.reads ledger.items) y p).state.saved) (sym m.id)
-          (subst (λ (fs : List Frame). AreFrames o.id fs (script_end v (serial v.reads ledger.items) y p).state.saved) (sym m.frames)
-          (subst (λ (e : ScriptEnd). AreFrames o.id o.frames e.state.saved) (sym (same_end v (serial v.reads ledger.items))) h.frames));
+      open_savepoints = subst (λ (n : ℕ). AreOpenSavepoints n p.open_savepoints (script_end v (serial v.reads ledger.items) y p).state.saved) (sym m.id)
+          (subst (λ (fs : List OpenSavepoint). AreOpenSavepoints o.id fs (script_end v (serial v.reads ledger.items) y p).state.saved) (sym m.open_savepoints)
+          (subst (λ (e : ScriptEnd). AreOpenSavepoints o.id o.open_savepoints e.state.saved) (sym (same_end v (serial v.reads ledger.items))) h.open_savepoints));
     }
 
 -- nothing changed
 pub no_change : (x : Session) (o : OpenTransaction) → IsSame x o x o
-no_change x o = record { id = refl; opened = refl; script = refl; seq = refl; trees = refl; frames = refl; end = refl; lines = refl; text = refl; counts = λ tx id vs. refl; visited = λ i h. h; released = refl }
+no_change x o = record { id = refl; explicit = refl; script = refl; seq = refl; trees = refl; open_savepoints = refl; end = refl; lines = refl; text = refl; counts = λ tx id vs. refl; visited = λ i h. h; released = refl }

@@ -1,41 +1,38 @@
 -- A script leaves the rows of a key on which its transaction has no X; and where it doesn't create, undone as a whole it leaves the tables.
 use Rattle.std.proofs.Common.{◌≡◌, Bool, List, None, Option, Some, [], ap, false, refl, subst, sym, true, ℕ, ◌++◌, ◌∙◌, ◌∷◌, ⊎_elim}
 use Rattle.std.specs.List.{AllByRecursion, list_any}
-use Rattle.lg_model.specs.Locks.{CellWants, whole}
-use Rattle.lg_frames.proofs.UndoneWhole.{CreatesNot, one_undone, opened_undone}
-use Rattle.lg_model.specs.Catalog.{Defs, Tables, defs_of, versions_of}
-use Rattle.lg_history.specs.Lists.{Each, Text}
+use Rattle.spec_model.specs.Locks.{CellRequests, whole}
+use Rattle.law_frame.proofs.UndoneWhole.{CreatesNot, one_undone, opened_undone}
+use Rattle.spec_model.specs.Catalog.{Defs, Tables, defs_of, versions_of}
+use Rattle.spec_history.specs.Lists.{Each, Text}
 use Rattle.law_protocol_steps.proofs.Excluded.{HasNoX, held_reach, none_reach}
-use Rattle.lg_types.specs.declared.lock.Hold.{Hold}
-use Rattle.lg_standing.specs.Cells.{catalog_at, cell_of}
-use Rattle.lg_standing.specs.WantsIn.{Holds, of_catalog, of_cell, wants_at, wants_in}
-use Rattle.lg_frames.proofs.SameEnds.{IsShort}
-use Rattle.lg_model.specs.Keys.{Key, of_key}
-use Rattle.lg_types.specs.declared.lock.Mode.{Mode}
-use Rattle.lg_model.specs.Script.{Reading, alone, by_statement, script, script_from, start, text_step}
-use Rattle.lg_standing.specs.Server.{Server}
-use Rattle.lg_model.specs.Runs.{Sound}
-use Rattle.lg_types.specs.declared.statement.Stmt.{Stmt}
-use Rattle.lg_types.specs.declared.lock.Want.{Want}
-use Rattle.lg_model.specs.Agreement.{Wants, columns_at, wants_of}
-use Rattle.lg_model.specs.Reach.{catalog_reaches, cell_reaches, lets_change, reaches}
-use Rattle.lg_model.specs.SystemTables.{columns_id, tables_id}
+use Rattle.sql_types.specs.declared.lock.Hold.{Hold}
+use Rattle.spec_protocol.specs.Cells.{catalog_at, cell_of}
+use Rattle.spec_protocol.specs.RequestsIn.{Holds, of_catalog, of_cell, requests_at, requests_in}
+use Rattle.law_frame.proofs.SameEnds.{IsShort}
+use Rattle.spec_model.specs.Keys.{Key, of_key}
+use Rattle.sql_types.specs.declared.lock.Mode.{Mode}
+use Rattle.spec_model.specs.Script.{Reading, alone, by_statement, script, script_from, start, text_step}
+use Rattle.spec_protocol.specs.Server.{Server}
+use Rattle.spec_model.specs.Runs.{Sound}
+use Rattle.sql_types.specs.declared.statement.Stmt.{Stmt}
+use Rattle.sql_types.specs.declared.lock.LockRequest.{LockRequest}
+use Rattle.spec_model.specs.Agreement.{LockRequests, columns_at, requests_of}
+use Rattle.spec_model.specs.Reach.{catalog_reaches, cell_reaches, lets_change, reaches}
+use Rattle.spec_model.specs.SystemTables.{columns_id, tables_id}
 use Rattle.std.proofs.lemmas.Bool.{eq-eqb, eqb-true, or_cases, or_from}
 use Rattle.std.specs.Prelude.{if◌then◌else◌, ◌&&◌, ◌==◌}
-use Rattle.lg_frames.proofs.LeftTables.{left_key}
-use Rattle.lg_frames.proofs.UndoneTables.{none_undone}
-use Rattle.lg_frames.proofs.Definitions.{nothing_done, opened_keep_defs}
-use Rattle.lg_frames.proofs.LeftScripts.{script_leaves_key}
-use Rattle.lg_model.specs.ScriptWants.{script_wants, text_wants}
-use Rattle.lg_model.specs.Undo.{undone}
-use Rattle.lg_types.specs.declared.lock.Mode.TheVariants as mode
-use Rattle.lg_types.specs.declared.statement.Stmt.TheVariants as s
-use Rattle.lg_frames.proofs.Definitions.{alone_keeps}
+use Rattle.law_frame.proofs.LeftTables.{left_key}
+use Rattle.law_frame.proofs.UndoneTables.{none_undone}
+use Rattle.law_frame.proofs.Definitions.{nothing_done, opened_keep_defs}
+use Rattle.law_frame.proofs.LeftScripts.{script_leaves_key}
+use Rattle.spec_model.specs.ScriptRequests.{script_requests, text_requests}
+use Rattle.spec_model.specs.Undo.{undone}
+use Rattle.sql_types.specs.declared.lock.Mode.TheVariants as mode
+use Rattle.sql_types.specs.declared.statement.Stmt.TheVariants as s
+use Rattle.law_frame.proofs.Definitions.{alone_keeps}
 
 -- ---- what it wants reaches no key without an X
-
-exclusive_reaches : (key : Key) → lets_change key (whole mode.X) ≡ true
-exclusive_reaches key = refl
 
 module _ (holds : List Hold) (tx id : ℕ) (key : Key) (free : HasNoX holds tx key) where
   system_not : (m : Option Mode) (b : Bool) → catalog_reaches id m ≡ b → (b ≡ true → Each (Holds holds tx) (of_catalog m)) → catalog_reaches id m ≡ false
@@ -46,14 +43,14 @@ module _ (holds : List Hold) (tx id : ℕ) (key : Key) (free : HasNoX holds tx k
   system_not (Some mode.IS) true e h = cc
   system_not None true e h = cc
 
-  in_cell : (c : ℕ × List Want) (b : Bool) → (c.0 == id) ≡ b → Each (Holds holds tx) (of_cell (cell_of id) (Some c)) → (b && list_any (lets_change key) c.1) ≡ false
+  in_cell : (c : ℕ × List LockRequest) (b : Bool) → (c.0 == id) ≡ b → Each (Holds holds tx) (of_cell (cell_of id) (Some c)) → (b && list_any (lets_change key) c.1) ≡ false
   in_cell c true e h = none_reach holds tx key c.1 free (subst (Each (Holds holds tx)) here h)
     where
       here : (if cell_of c.0 == cell_of id then c.1 else []) ≡ c.1
       here = rw (eq-eqb (cell_of c.0) (cell_of id) (ap cell_of (eqb-true c.0 id e))) refl
   in_cell c false e h = refl
 
-  cell_left : (cell : CellWants) → Each (Holds holds tx) (of_cell (cell_of id) cell) → cell_reaches id key cell ≡ false
+  cell_left : (cell : CellRequests) → Each (Holds holds tx) (of_cell (cell_of id) cell) → cell_reaches id key cell ≡ false
   cell_left None h = refl
   cell_left (Some c) h = in_cell c (c.0 == id) refl h
 
@@ -76,15 +73,15 @@ system_cell id (Some mode.IS) e = cc
 system_cell id None e = cc
 
 module _ (holds : ℕ → List Hold) (tx id : ℕ) (key : Key) (free : HasNoX (holds (cell_of id)) tx key) where
-  pub none_wanted : (w : Wants) → ((n : ℕ) → Each (Holds (holds n) tx) (wants_at n w)) → reaches id key w ≡ false
-  none_wanted w h = or_from (catalog_reaches id w.catalog) (cell_reaches id key w.cell)
+  pub none_requested : (w : LockRequests) → ((n : ℕ) → Each (Holds (holds n) tx) (requests_at n w)) → reaches id key w ≡ false
+  none_requested w h = or_from (catalog_reaches id w.catalog) (cell_reaches id key w.cell)
       (system_not (holds (cell_of id)) tx id key free w.catalog (catalog_reaches id w.catalog) refl
       (λ e. let there = system_cell id w.catalog e in subst (λ (n : ℕ). Each (Holds (holds n) tx) (of_catalog w.catalog)) (sym there) (each_left (Holds (holds catalog_at) tx) (of_catalog w.catalog) (of_cell catalog_at w.cell) (h catalog_at))))
       (cell_left (holds (cell_of id)) tx id key free w.cell (each_right (Holds (holds (cell_of id)) tx) (if cell_of id == catalog_at then of_catalog w.catalog else []) (of_cell (cell_of id) w.cell) (h (cell_of id))))
 
-  pub none_wanted_by : (v : Server) (D : Defs) (b : Bool) (texts : List Text) → ((n : ℕ) → Each (λ t. Each (Holds (holds n) tx) (wants_in v D b n t)) texts) → AllByRecursion (λ w. reaches id key w ≡ false) (script_wants v.reads D b texts)
-  none_wanted_by v D b [] h = tt
-  none_wanted_by v D b (t ∷ ts) h = (none_wanted (text_wants D b (v.reads t)) (λ n. (h n).0), none_wanted_by v D b ts (λ n. (h n).1))
+  pub none_requested_by : (v : Server) (D : Defs) (b : Bool) (texts : List Text) → ((n : ℕ) → Each (λ t. Each (Holds (holds n) tx) (requests_in v D b n t)) texts) → AllByRecursion (λ w. reaches id key w ≡ false) (script_requests v.reads D b texts)
+  none_requested_by v D b [] h = tt
+  none_requested_by v D b (t ∷ ts) h = (none_requested (text_requests D b (v.reads t)) (λ n. (h n).0), none_requested_by v D b ts (λ n. (h n).1))
 
 -- ---- scripts
 
@@ -93,7 +90,7 @@ module _ (reads : Reading) (T : Tables) (tx : ℕ) (sound : Sound tx 0 T) where
     abbrev Left : Tables → Type 0
     Left U = of_key (columns_at (defs_of T) id) key (versions_of U id) ≡ of_key (columns_at (defs_of T) id) key (versions_of T id)
 
-    alone_left : (stmt : Stmt) → reaches id key (wants_of (defs_of T) false stmt) ≡ false → Left (alone tx (start T) stmt).0.tables
+    alone_left : (stmt : Stmt) → reaches id key (requests_of (defs_of T) false stmt) ≡ false → Left (alone tx (start T) stmt).0.tables
     alone_left (s.Create c) h = left_key tx 0 T id sound key (s.Create c) h
     alone_left (s.Index c) h = left_key tx 0 T id sound key (s.Index c) h
     alone_left (s.Change x) h = left_key tx 0 T id sound key (s.Change x) h
@@ -105,15 +102,15 @@ module _ (reads : Reading) (T : Tables) (tx : ℕ) (sound : Sound tx 0 T) where
     alone_left s.Digest h = refl
     alone_left s.Image h = refl
 
-    text_left : (o : Option Stmt) → reaches id key (text_wants (defs_of T) false o) ≡ false → Left (by_statement false tx (start T) o).0.tables
+    text_left : (o : Option Stmt) → reaches id key (text_requests (defs_of T) false o) ≡ false → Left (by_statement false tx (start T) o).0.tables
     text_left None h = refl
     text_left (Some stmt) h = alone_left stmt h
 
-    one_left : (text : List ℕ) → reaches id key (text_wants (defs_of T) false (reads text)) ≡ false → Left (script reads false T tx (text ∷ [])).state.tables
+    one_left : (text : List ℕ) → reaches id key (text_requests (defs_of T) false (reads text)) ≡ false → Left (script reads false T tx (text ∷ [])).state.tables
     unfolding script_from text_step
     one_left text h = text_left (reads text) h
 
-    pub key_left : (b : Bool) (texts : List Text) → (b ≡ false → IsShort reads tx texts) → AllByRecursion (λ w. reaches id key w ≡ false) (script_wants reads (defs_of T) b texts) → Left (script reads b T tx texts).state.tables
+    pub key_left : (b : Bool) (texts : List Text) → (b ≡ false → IsShort reads tx texts) → AllByRecursion (λ w. reaches id key w ≡ false) (script_requests reads (defs_of T) b texts) → Left (script reads b T tx texts).state.tables
     key_left true texts short h = script_leaves_key tx T id key reads texts sound h
     key_left false [] short h = ap (λ r. of_key (columns_at (defs_of T) id) key (versions_of r.state.tables id)) (nothing_done reads false T tx)
     key_left false (t ∷ []) short h = one_left t h.0

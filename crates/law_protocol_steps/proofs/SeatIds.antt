@@ -2,14 +2,14 @@
 use Rattle.std.proofs.Common.{◌≡◌, ◌≢◌, ℕ, List, false, ⊎_elim}
 use Rattle.law_protocol_steps.proofs.Ids as ids
 use Rattle.law_protocol_steps.proofs.OfCells.{in_journal}
-use Rattle.lg_standing.specs.Cells.{Cell}
-use Rattle.lg_standing.specs.OpenOnes.{HasOpen}
-use Rattle.lg_standing.specs.Seats.{OpenTransaction, SeatState, Session}
-use Rattle.lg_standing.specs.Server.{Server}
-use Rattle.lg_standing.specs.StandTogether.{History, Stands}
+use Rattle.spec_protocol.specs.Cells.{Cell}
+use Rattle.spec_protocol.specs.OpenOnes.{HasOpen}
+use Rattle.spec_protocol.specs.Seats.{OpenTransaction, SeatState, Session}
+use Rattle.spec_protocol.specs.Server.{Server}
+use Rattle.spec_protocol.specs.StandTogether.{History, Stands}
 use Rattle.std.proofs.lemmas.Bool.{cases_eq}
 use Rattle.law_protocol_steps.proofs.Ids.{has_not}
-use Rattle.lg_history.specs.Transactions.{unfixed}
+use Rattle.spec_history.specs.Transactions.{unfixed}
 
 module _ (v : Server) (cells : List Cell) (seats : List SeatState) {history : History} (S : Stands v history cells seats) where
   pub one_seat : (j k : ℕ) (x y : Session) (o p : OpenTransaction) → HasOpen seats j x o → HasOpen seats k y p → o.id ≡ p.id → j ≡ k

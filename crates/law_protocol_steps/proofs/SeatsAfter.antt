@@ -2,8 +2,8 @@
 use Rattle.std.proofs.Common.{◌≡◌, ◌≢◌, ℕ, List, Some, set, sym, ap, ◌∙◌, subst, ⊎_elim}
 use Rattle.std.proofs.lemmas.Bool.{cases_eq}
 use mathlib.Core.Option.{some}
-use Rattle.lg_standing.specs.Seats.{OpenTransaction, Session, session, SeatState}
-use Rattle.lg_standing.specs.OpenOnes.{HasOpen}
+use Rattle.spec_protocol.specs.Seats.{OpenTransaction, Session, session, SeatState}
+use Rattle.spec_protocol.specs.OpenOnes.{HasOpen}
 use Rattle.law_protocol_steps.proofs.AfterSet.{set_here, set_else}
 
 -- seat j is with session x and its transaction o before, and with y and p after

@@ -3,30 +3,30 @@ use Rattle.std.proofs.Common.{◌≡◌, ◌≢◌, ◌⊎◌, ℕ, Bool, true, 
 use Rattle.std.proofs.lemmas.Bool.{eqb-true, eq-eqb}
 use Rattle.std.specs.Prelude.{◌==◌, ◌&&◌, ◌||◌, not, if◌then◌else◌}
 use Rattle.std.specs.List.{list_any, filter}
-use Rattle.lg_types.specs.declared.lock.Mode.{Mode}
-use Rattle.lg_types.specs.declared.lock.Mode.TheVariants.{IS, IX, S, X}
-use Rattle.lg_types.specs.declared.lock.Item.{Item}
-use Rattle.lg_types.specs.declared.lock.Item.TheVariants as item
-use Rattle.lg_types.specs.declared.lock.Want.{Want}
-use Rattle.lg_model.specs.Keys.{Key, same_key}
-use Rattle.lg_model.specs.Locks.{conflict, same_item, wants_conflict}
-use Rattle.lg_frames.proofs.SameKeys.{same_key_as, same_itself, and_true}
-use Rattle.lg_history.specs.Lists.{Each, In}
-use Rattle.lg_history.proofs.Settles.{in_append, in_left, in_right}
-use Rattle.lg_types.specs.declared.lock.Hold.{Hold}
-use Rattle.lg_standing.specs.WantsIn.{Holds}
-use Rattle.lg_model.specs.Holds.{answers, released}
-use Rattle.lg_model.specs.Holds.{holds_after, holds_any, holds_want, same_mode}
+use Rattle.sql_types.specs.declared.lock.Mode.{Mode}
+use Rattle.sql_types.specs.declared.lock.Mode.TheVariants.{IS, IX, S, X}
+use Rattle.sql_types.specs.declared.lock.Item.{Item}
+use Rattle.sql_types.specs.declared.lock.Item.TheVariants as item
+use Rattle.sql_types.specs.declared.lock.LockRequest.{LockRequest}
+use Rattle.spec_model.specs.Keys.{Key, same_key}
+use Rattle.spec_model.specs.Locks.{conflict, same_item, requests_conflict}
+use Rattle.law_frame.proofs.SameKeys.{same_key_as, same_itself, and_true}
+use Rattle.spec_history.specs.Lists.{Each, In}
+use Rattle.spec_history.proofs.Settles.{in_append, in_left, in_right}
+use Rattle.sql_types.specs.declared.lock.Hold.{Hold}
+use Rattle.spec_protocol.specs.RequestsIn.{Holds}
+use Rattle.spec_model.specs.Holds.{answers, released}
+use Rattle.spec_model.specs.Holds.{holds_after, holds_any, holds_request, same_mode}
 
-abbrev pub taken : ℕ → List Want → List Hold → List Hold
-taken id wants holds = holds_after holds id wants
+abbrev pub taken : ℕ → List LockRequest → List Hold → List Hold
+taken id requests holds = holds_after holds id requests
 
 abbrev pub holds_none : ℕ → List Hold → Bool
 holds_none id holds = not (holds_any holds id)
 
 -- no lock of another transaction conflicts with one of these wants
-abbrev pub AreFree : List Hold → ℕ → List Want → Type 0
-AreFree holds id wants = Each (λ w. Each (λ h. h.tx ≢ id → wants_conflict w h.want ≡ false) holds) wants
+abbrev pub AreFree : List Hold → ℕ → List LockRequest → Type 0
+AreFree holds id requests = Each (λ w. Each (λ h. h.tx ≢ id → requests_conflict w h.request ≡ false) holds) requests
 
 -- ---- items
 
@@ -46,28 +46,28 @@ items_turned (item.Key a) (item.Key b) = keys_turned a b (same_key a b) (same_ke
 -- ---- what is among the locks
 
 module _ (id : ℕ) where
-  add_keeps : (b : Bool) (w : Want) (holds : List Hold) (h : Hold) → In h holds → In h (if b then holds else holds ++ record { tx = id; want = w } ∷ [])
+  add_keeps : (b : Bool) (w : LockRequest) (holds : List Hold) (h : Hold) → In h holds → In h (if b then holds else holds ++ record { tx = id; request = w } ∷ [])
   add_keeps true w holds h i = i
   add_keeps false w holds h i = in_left h holds _ i
 
-  pub taken_keeps : (ws : List Want) (holds : List Hold) (h : Hold) → In h holds → In h (taken id ws holds)
+  pub taken_keeps : (ws : List LockRequest) (holds : List Hold) (h : Hold) → In h holds → In h (taken id ws holds)
   unfolding holds_after
   taken_keeps [] holds h i = i
-  taken_keeps (w ∷ ws) holds h i = taken_keeps ws _ h (add_keeps (holds_want holds id w) w holds h i)
+  taken_keeps (w ∷ ws) holds h i = taken_keeps ws _ h (add_keeps (holds_request holds id w) w holds h i)
 
-  add_comes : (b : Bool) (w : Want) (holds : List Hold) (h : Hold) → In h (if b then holds else holds ++ record { tx = id; want = w } ∷ []) → In h holds ⊎ ((h.tx ≡ id) × (w ≡ h.want))
+  add_comes : (b : Bool) (w : LockRequest) (holds : List Hold) (h : Hold) → In h (if b then holds else holds ++ record { tx = id; request = w } ∷ []) → In h holds ⊎ ((h.tx ≡ id) × (w ≡ h.request))
   add_comes true w holds h i = inl i
   add_comes false w holds h i = ⊎_elim (λ (k : In h holds). inl k)
-      (λ (k : In h (record { tx = id; want = w } ∷ [])). ⊎_elim (λ (e : record { tx = id; want = w } ≡ h). inr (ap (λ (z : Hold). z.tx) (sym e), ap (λ (z : Hold). z.want) e)) (λ (z : ⊥). absurd z) k)
+      (λ (k : In h (record { tx = id; request = w } ∷ [])). ⊎_elim (λ (e : record { tx = id; request = w } ≡ h). inr (ap (λ (z : Hold). z.tx) (sym e), ap (λ (z : Hold). z.request) e)) (λ (z : ⊥). absurd z) k)
       (in_append h holds _ i)
 
   -- a lock was there, or it is one of the wants
-  pub taken_comes : (ws : List Want) (holds : List Hold) (h : Hold) → In h (taken id ws holds) → In h holds ⊎ ((h.tx ≡ id) × In h.want ws)
+  pub taken_comes : (ws : List LockRequest) (holds : List Hold) (h : Hold) → In h (taken id ws holds) → In h holds ⊎ ((h.tx ≡ id) × In h.request ws)
   unfolding holds_after
   taken_comes [] holds h i = inl i
   taken_comes (w ∷ ws) holds h i = ⊎_elim
-      (λ (k : In h (if holds_want holds id w then holds else holds ++ record { tx = id; want = w } ∷ [])). ⊎_elim (λ (m : In h holds). inl m) (λ (m : (h.tx ≡ id) × (w ≡ h.want)). inr (m.0, inl m.1)) (add_comes (holds_want holds id w) w holds h k))
-      (λ (k : (h.tx ≡ id) × In h.want ws). inr (k.0, inr k.1))
+      (λ (k : In h (if holds_request holds id w then holds else holds ++ record { tx = id; request = w } ∷ [])). ⊎_elim (λ (m : In h holds). inl m) (λ (m : (h.tx ≡ id) × (w ≡ h.request)). inr (m.0, inl m.1)) (add_comes (holds_request holds id w) w holds h k))
+      (λ (k : (h.tx ≡ id) × In h.request ws). inr (k.0, inr k.1))
       (taken_comes ws _ h i)
 
   -- ---- the wants are held
@@ -95,31 +95,31 @@ module _ (id : ℕ) where
   itself item.Whole = refl
   itself (item.Key k) = same_itself k
 
-  held_at_head : (w : Want) (h : Hold) (hs : List Hold) (b : Bool) → answers id w h ≡ b → (b ≡ false → Holds hs id w) → Holds (h ∷ hs) id w
+  held_at_head : (w : LockRequest) (h : Hold) (hs : List Hold) (b : Bool) → answers id w h ≡ b → (b ≡ false → Holds hs id w) → Holds (h ∷ hs) id w
   held_at_head w h hs true f later =
-      let p = and_true (h.tx == id) _ f in let q = and_true (same_item w.item h.want.item) _ p.1 in
-      record { hold = h; has = inl refl; mine = eqb-true h.tx id p.0; item = items_turned h.want.item w.item ∙ q.0; mode = sym (same_modes w.mode h.want.mode q.1) }
+      let p = and_true (h.tx == id) _ f in let q = and_true (same_item w.item h.request.item) _ p.1 in
+      record { hold = h; has = inl refl; mine = eqb-true h.tx id p.0; item = items_turned h.request.item w.item ∙ q.0; mode = sym (same_modes w.mode h.request.mode q.1) }
   held_at_head w h hs false f later = let k = later refl in record { hold = k.hold; has = inr k.has; mine = k.mine; item = k.item; mode = k.mode }
 
-  found_held : (w : Want) (holds : List Hold) → holds_want holds id w ≡ true → Holds holds id w
-  unfolding holds_want
+  found_held : (w : LockRequest) (holds : List Hold) → holds_request holds id w ≡ true → Holds holds id w
+  unfolding holds_request
   found_held w [] e = cc
   found_held w (h ∷ hs) e =
       held_at_head w h hs (answers id w h) refl
-      (λ f. found_held w hs (ap (λ (c : Bool). c || holds_want hs id w) (sym f) ∙ e))
+      (λ f. found_held w hs (ap (λ (c : Bool). c || holds_request hs id w) (sym f) ∙ e))
 
-  pub held_longer : (holds more : List Hold) (w : Want) → ((h : Hold) → In h holds → In h more) → Holds holds id w → Holds more id w
+  pub held_longer : (holds more : List Hold) (w : LockRequest) → ((h : Hold) → In h holds → In h more) → Holds holds id w → Holds more id w
   held_longer holds more w f k = record { hold = k.hold; has = f k.hold k.has; mine = k.mine; item = k.item; mode = k.mode }
 
-  added : (b : Bool) (w : Want) (holds : List Hold) → holds_want holds id w ≡ b → Holds (if b then holds else holds ++ record { tx = id; want = w } ∷ []) id w
+  added : (b : Bool) (w : LockRequest) (holds : List Hold) → holds_request holds id w ≡ b → Holds (if b then holds else holds ++ record { tx = id; request = w } ∷ []) id w
   added true w holds e = found_held w holds e
-  added false w holds e = record { hold = record { tx = id; want = w }; has = in_right _ holds _ (inl refl); mine = refl; item = itself w.item; mode = refl }
+  added false w holds e = record { hold = record { tx = id; request = w }; has = in_right _ holds _ (inl refl); mine = refl; item = itself w.item; mode = refl }
 
-  pub taken_holds : (ws : List Want) (holds : List Hold) → Each (Holds (taken id ws holds) id) ws
+  pub taken_holds : (ws : List LockRequest) (holds : List Hold) → Each (Holds (taken id ws holds) id) ws
   unfolding holds_after
   taken_holds [] holds = tt
   taken_holds (w ∷ ws) holds = (
-    held_longer _ _ w (λ h i. taken_keeps ws _ h i) (added (holds_want holds id w) w holds refl),
+    held_longer _ _ w (λ h i. taken_keeps ws _ h i) (added (holds_request holds id w) w holds refl),
     taken_holds ws _,
   )
 
@@ -165,7 +165,7 @@ modes_turned X IX = refl
 modes_turned X S = refl
 modes_turned X X = refl
 
-pub conflict_turned : (a b : Want) → wants_conflict b a ≡ wants_conflict a b
+pub conflict_turned : (a b : LockRequest) → requests_conflict b a ≡ requests_conflict a b
 conflict_turned a b = ap₂ (λ (p q : Bool). p && q) (items_turned b.item a.item) (modes_turned b.mode a.mode)
 
 -- the locks that are left are those of others

@@ -5,88 +5,88 @@ use Rattle.std.specs.Prelude.{not}
 use Rattle.std.specs.List.{AllByRecursion}
 use mathlib.Core.Option.{some}
 use lib.ListN.{get_elem?}
-use Rattle.lg_types.specs.declared.lock.Mode.TheVariants.{IX, X}
-use Rattle.lg_types.specs.declared.lock.Item.TheVariants.{Whole}
-use Rattle.lg_types.specs.declared.lock.Want.{Want}
-use Rattle.lg_types.specs.declared.statement.Stmt.{Stmt}
-use Rattle.lg_types.specs.declared.table.TableDef.{TableDef}
-use Rattle.lg_types.specs.declared.version.Version.{Version}
-use Rattle.lg_model.specs.Rows.{EventId}
-use Rattle.lg_model.specs.Keys.{Key, of_key}
-use Rattle.lg_model.specs.Catalog.{Tables, defs_of, versions_of}
-use Rattle.lg_model.specs.Journals.{Line, serial, upto}
-use Rattle.lg_model.specs.Locks.{whole, same_item, wants_conflict}
-use Rattle.lg_model.specs.Agreement.{columns_at}
-use Rattle.lg_model.specs.Plans.{plan, defined}
-use Rattle.lg_model.specs.Reach.{lets_change}
-use Rattle.lg_model.specs.Runs.{Rising, MadeBefore}
-use Rattle.lg_model.specs.Script.{ScriptEnd}
-use Rattle.lg_model.specs.Undo.{versions_undone}
-use Rattle.lg_history.specs.Lists.{Text, Each, In}
-use Rattle.lg_history.specs.Refusals.{EndsAt}
-use Rattle.lg_history.specs.Transactions.{End, unfixed}
-use Rattle.lg_history.proofs.Trace.{each_weaker}
-use Rattle.lg_standing.specs.Server.{Server}
-use Rattle.lg_types.specs.declared.lock.Hold.{Hold}
-use Rattle.lg_standing.specs.Cells.{Creator, CatalogCell, TableCell, Cell, Rows, holds_in, holds_at, versions_in, versions_at, catalog_at, cell_of}
-use Rattle.lg_standing.specs.Seats.{OpenTransaction, made, Place, inside, Session, SeatState}
-use Rattle.lg_standing.specs.OpenOnes.{HasOpen, text_at, script_so_far, script_end}
-use Rattle.lg_standing.specs.OpenScripts.{counted}
-use Rattle.lg_standing.specs.WantsIn.{wants_in, Holds, of_catalog}
+use Rattle.sql_types.specs.declared.lock.Mode.TheVariants.{IX, X}
+use Rattle.sql_types.specs.declared.lock.Item.TheVariants.{Whole}
+use Rattle.sql_types.specs.declared.lock.LockRequest.{LockRequest}
+use Rattle.sql_types.specs.declared.statement.Stmt.{Stmt}
+use Rattle.sql_types.specs.declared.table.TableDef.{TableDef}
+use Rattle.sql_types.specs.declared.version.Version.{Version}
+use Rattle.spec_model.specs.Rows.{EventId}
+use Rattle.spec_model.specs.Keys.{Key, of_key}
+use Rattle.spec_model.specs.Catalog.{Tables, defs_of, versions_of}
+use Rattle.spec_model.specs.Journals.{Line, serial, upto}
+use Rattle.spec_model.specs.Locks.{whole, same_item, requests_conflict}
+use Rattle.spec_model.specs.Agreement.{columns_at}
+use Rattle.spec_model.specs.ChangeSets.{change_set, defined}
+use Rattle.spec_model.specs.Reach.{lets_change}
+use Rattle.spec_model.specs.Runs.{Rising, MadeBefore}
+use Rattle.spec_model.specs.Script.{ScriptEnd}
+use Rattle.spec_model.specs.Undo.{versions_undone}
+use Rattle.spec_history.specs.Lists.{Text, Each, In}
+use Rattle.spec_history.specs.Refusals.{EndsAt}
+use Rattle.spec_history.specs.Transactions.{End, unfixed}
+use Rattle.spec_history.proofs.Trace.{each_weaker}
+use Rattle.spec_protocol.specs.Server.{Server}
+use Rattle.sql_types.specs.declared.lock.Hold.{Hold}
+use Rattle.spec_protocol.specs.Cells.{Creator, CatalogCell, TableCell, Cell, Rows, holds_in, holds_at, versions_in, versions_at, catalog_at, cell_of}
+use Rattle.spec_protocol.specs.Seats.{OpenTransaction, made, SessionStatus, inside, Session, SeatState}
+use Rattle.spec_protocol.specs.OpenOnes.{HasOpen, text_at, script_so_far, script_end}
+use Rattle.spec_protocol.specs.OpenScripts.{counted}
+use Rattle.spec_protocol.specs.RequestsIn.{requests_in, Holds, of_catalog}
 use Rattle.law_protocol_steps.proofs.Taken.{taken, AreFree}
-use Rattle.lg_standing.specs.TableVisits.{with_holds}
-use Rattle.lg_standing.specs.TablesAreSerial.{HasActed, IsCarried, def_at, ordinals_of, HasAdded, IsAdding}
-use Rattle.lg_standing.specs.LocksCover.{KeepsLocks, Belongs, HasIntent, LookedFirst, IsDropping}
-use Rattle.lg_standing.specs.RowsAgree.{GoesBackTo, IsOpenedAt}
-use Rattle.lg_standing.specs.StandTogether.{History, Stands}
+use Rattle.spec_protocol.specs.TableVisits.{with_holds}
+use Rattle.spec_protocol.specs.TablesAreSerial.{HasActed, IsCarried, def_at, ordinals_of, HasAdded, IsAdding}
+use Rattle.spec_protocol.specs.LocksCover.{KeepsLocks, Belongs, HasIntent, LookedFirst, IsDropping}
+use Rattle.spec_protocol.specs.RowsAgree.{GoesBackTo, IsExplicitAt}
+use Rattle.spec_protocol.specs.StandTogether.{History, Stands}
 use Rattle.law_protocol_steps.proofs.AfterSet.{each_at}
 use Rattle.law_protocol_steps.proofs.SeatsAfter.{Goes, one_session, open_here, open_else, each_open, kept_open}
 use Rattle.law_protocol_steps.proofs.CellsAfter.{holds_here, held_here, each_holds, versions_kept}
 use Rattle.law_protocol_steps.proofs.Taken.{taken_keeps, taken_comes, taken_holds, held_longer, whole_alone, conflict_turned}
 use Rattle.law_protocol_steps.proofs.SameOne.{IsSame, no_change, same_script, same_end, script_stays, trees_stay}
 use Rattle.law_protocol_steps.proofs.SeatIds.{one_seat}
-use Rattle.law_protocol_steps.proofs.OfCells.{AreDefinitions, AreIndexes, Creates, EndLiesUnder, GoesBack, HasItsTrees, HasLock, HasLooked, HoldsInCatalog, IsFree, IsGotAt, IsIndexed, IsOfItsScript, IsUnderLocks, IsUnderWay, LiesUnder, LocksAgree, LocksCover, OpenScripts, RowsAgree, SeatHas, StandsAs, TablesAreSerial, TreesAreOfEvents, WantsNone, committed, in_journal, LookedAt, looked_now, looked_so, table_there}
-use Rattle.lg_standing.specs.Contents.{HasAlone, contents, table_found}
+use Rattle.law_protocol_steps.proofs.OfCells.{AreDefinitions, AreIndexes, Creates, EndLiesUnder, GoesBack, HasItsTrees, HasLock, HasLooked, HoldsInCatalog, IsFree, IsGotAt, IsIndexed, IsOfItsScript, IsUnderLocks, IsUnderWay, LiesUnder, LocksAgree, LocksCover, OpenScripts, RowsAgree, SeatHas, StandsAs, TablesAreSerial, TreesAreOfEvents, RequestsNone, committed, in_journal, LookedAt, looked_now, looked_so, table_there}
+use Rattle.spec_protocol.specs.Contents.{HasAlone, contents, table_found}
 use Rattle.law_protocol_steps.proofs.GotMore.{got_at_more}
-use Rattle.lg_model.specs.ScriptWants.{text_wants}
+use Rattle.spec_model.specs.ScriptRequests.{text_requests}
 
 -- the tables that the journal leads to
 abbrev pub tables_now : {v : Server} {cells : List Cell} {seats : List SeatState} {history : History} → Stands v history cells seats → Tables
 tables_now {v = v} S = serial v.reads S.ledger.items
 
 pub record Takes (v : Server) (cells : List Cell) (seats : List SeatState) {history : History} (S : Stands v history cells seats) (j : ℕ) (t : SeatState) (x : Session) (o : OpenTransaction) (y : Session) (p : OpenTransaction)
-    (k : ℕ) (old new : Cell) (wants : List Want) (text : Text) : Type 0 where
+    (k : ℕ) (old new : Cell) (requests : List LockRequest) (text : Text) : Type 0 where
   pub goes : Goes seats j t x o y p
   pub unfixed : o.end ≡ unfixed
   pub same : IsSame x o y p
   pub back : GoesBackTo x.place o.seq → GoesBackTo y.place o.seq
   pub out : get_elem? cells k ≡ some old
   pub rows : (id : ℕ) → versions_in id new ≡ versions_in id old
-  pub locks : holds_in new ≡ taken o.id wants (holds_in old)
-  pub free : AreFree (holds_in old) o.id wants
+  pub locks : holds_in new ≡ taken o.id requests (holds_in old)
+  pub free : AreFree (holds_in old) o.id requests
   pub place : text_at x.place ≡ Some text
   -- in the catalog it locks all of it
-  pub on_whole : k ≡ catalog_at → (w : Want) → In w wants → w.item ≡ Whole
+  pub on_whole : k ≡ catalog_at → (w : LockRequest) → In w requests → w.item ≡ Whole
   pub visited : In k p.visited
   -- it has changed no definition
   pub acted : HasActed x.place → HasActed y.place
   pub goes_on : IsDropping y.place p → ⊥
   pub no_index : (after : TableDef) → HasAdded x.place o after → ⊥
-  pub stays_opened : IsOpenedAt y.place p.opened
+  pub stays_opened : IsExplicitAt y.place p.explicit
   -- in a table's cell it has the catalog's lock
   pub looked : (i : ℕ) → k ≡ suc i → HasLock cells catalog_at o.id
   -- who wants X on a row has said so on the whole table
-  pub intents : (w : Want) → In w wants → w.mode ≡ X → (u : Want) × In u wants × (u.item ≡ Whole) × ((u.mode ≡ IX) ⊎ (u.mode ≡ X))
+  pub intents : (w : LockRequest) → In w requests → w.mode ≡ X → (u : LockRequest) × In u requests × (u.item ≡ Whole) × ((u.mode ≡ IX) ⊎ (u.mode ≡ X))
   -- on the rows on which it takes X nobody is in the way
-  pub own : (id : ℕ) (key : Key) (w : Want) → 1 ≤ id → cell_of id ≡ k → In w wants → lets_change key w ≡ true
+  pub own : (id : ℕ) (key : Key) (w : LockRequest) → 1 ≤ id → cell_of id ≡ k → In w requests → lets_change key w ≡ true
       → counted o.id id x.place (of_key (columns_at (defs_of (tables_now S)) id) key (versions_at cells id))
       ≡ of_key (columns_at (defs_of (tables_now S)) id) key (versions_of (script_end v (tables_now S) x o).state.tables id)
-  pub undone : (id : ℕ) (key : Key) (w : Want) → 1 ≤ id → cell_of id ≡ k → In w wants → lets_change key w ≡ true
+  pub undone : (id : ℕ) (key : Key) (w : LockRequest) → 1 ≤ id → cell_of id ≡ k → In w requests → lets_change key w ≡ true
       → versions_undone o.id 0 (of_key (columns_at (defs_of (tables_now S)) id) key (versions_at cells id))
       ≡ of_key (columns_at (defs_of (tables_now S)) id) key (versions_of (tables_now S) id)
 
 module _ (v : Server) (cells : List Cell) (seats : List SeatState) {history : History} (S : Stands v history cells seats) (j : ℕ) (t : SeatState) (x : Session) (o : OpenTransaction) (y : Session) (p : OpenTransaction)
-    (k : ℕ) (old new : Cell) (wants : List Want) (text : Text) (K : Takes v cells seats S j t x o y p k old new wants text) where
+    (k : ℕ) (old new : Cell) (requests : List LockRequest) (text : Text) (K : Takes v cells seats S j t x o y p k old new requests text) where
   abbrev pub cells_then : List Cell
   cells_then = set cells k new
 
@@ -98,23 +98,23 @@ module _ (v : Server) (cells : List Cell) (seats : List SeatState) {history : Hi
 
   -- ---- locks
 
-  pub came : (i : ℕ) (h : Hold) → In h (holds_at cells_then i) → In h (holds_at cells i) ⊎ ((i ≡ k) × (h.tx ≡ o.id) × In h.want wants)
-  came i h = each_holds cells k old new K.out (λ n hs. In h hs → In h (holds_at cells n) ⊎ ((n ≡ k) × (h.tx ≡ o.id) × In h.want wants))
+  pub came : (i : ℕ) (h : Hold) → In h (holds_at cells_then i) → In h (holds_at cells i) ⊎ ((i ≡ k) × (h.tx ≡ o.id) × In h.request requests)
+  came i h = each_holds cells k old new K.out (λ n hs. In h hs → In h (holds_at cells n) ⊎ ((n ≡ k) × (h.tx ≡ o.id) × In h.request requests))
       (λ has. ⊎_elim
       (λ (was : In h (holds_in old)). inl (subst (In h) (sym (held_here cells k old new K.out)) was))
-      (λ (is : (h.tx ≡ o.id) × In h.want wants). inr (refl, is.0, is.1))
-      (taken_comes o.id wants (holds_in old) h (subst (In h) K.locks has)))
+      (λ (is : (h.tx ≡ o.id) × In h.request requests). inr (refl, is.0, is.1))
+      (taken_comes o.id requests (holds_in old) h (subst (In h) K.locks has)))
       (λ n has. inl has) i
 
   pub stayed : (i : ℕ) (h : Hold) → In h (holds_at cells i) → In h (holds_at cells_then i)
   stayed i h = each_holds cells k old new K.out (λ n hs. In h (holds_at cells n) → In h hs)
-      (λ was. subst (In h) (sym K.locks) (taken_keeps o.id wants (holds_in old) h (subst (In h) (held_here cells k old new K.out) was)))
+      (λ was. subst (In h) (sym K.locks) (taken_keeps o.id requests (holds_in old) h (subst (In h) (held_here cells k old new K.out) was)))
       (λ n has. has) i
 
   pub lock_came : (i id : ℕ) → HasLock cells_then i id → HasLock cells i id ⊎ ((i ≡ k) × (id ≡ o.id))
   lock_came i id l = ⊎_elim
       (λ (was : In l.hold (holds_at cells i)). inl (record { hold = l.hold; has = was; mine = l.mine }))
-      (λ (is : (i ≡ k) × (l.hold.tx ≡ o.id) × In l.hold.want wants). inr (is.0, sym l.mine ∙ is.1))
+      (λ (is : (i ≡ k) × (l.hold.tx ≡ o.id) × In l.hold.request requests). inr (is.0, sym l.mine ∙ is.1))
       (came i l.hold l.has)
 
   pub lock_stayed : (i id : ℕ) → HasLock cells i id → HasLock cells_then i id
@@ -154,7 +154,7 @@ module _ (v : Server) (cells : List Cell) (seats : List SeatState) {history : Hi
       only : (n : ℕ) (z : Session) (r : OpenTransaction) → HasOpen seats_then n z r → r.id ≡ h.tx → n ≡ b.j
       only = kept_open seats j t x o y p K.goes (λ n z r. r.id ≡ h.tx → n ≡ b.j) (λ was e. was (sym K.same.id ∙ e)) b.only
 
-  taken_belongs : (i : ℕ) (h : Hold) → i ≡ k → h.tx ≡ o.id → In h.want wants → Belongs seats_then i h
+  taken_belongs : (i : ℕ) (h : Hold) → i ≡ k → h.tx ≡ o.id → In h.request requests → Belongs seats_then i h
   taken_belongs i h e mine is = record {
     j = j;
     x = y;
@@ -169,7 +169,7 @@ module _ (v : Server) (cells : List Cell) (seats : List SeatState) {history : Hi
   belong : (i : ℕ) (h : Hold) → In h (holds_at cells_then i) → Belongs seats_then i h
   belong i h has = ⊎_elim
       (λ (was : In h (holds_at cells i)). belongs_after i h (S.locks_cover.belong i h was))
-      (λ (is : (i ≡ k) × (h.tx ≡ o.id) × In h.want wants). taken_belongs i h is.0 is.1 is.2)
+      (λ (is : (i ≡ k) × (h.tx ≡ o.id) × In h.request requests). taken_belongs i h is.0 is.1 is.2)
       (came i h has)
 
   -- ---- who says so on the whole table
@@ -177,34 +177,34 @@ module _ (v : Server) (cells : List Cell) (seats : List SeatState) {history : Hi
   intent_stays : (i : ℕ) (h : Hold) → HasIntent (holds_at cells i) h → HasIntent (holds_at cells_then i) h
   intent_stays i h n = record { hold = n.hold; has = stayed i n.hold n.has; mine = n.mine; whole = n.whole; mode = n.mode }
 
-  intents : (i : ℕ) (h : Hold) → In h (holds_at cells_then i) → h.want.mode ≡ X → HasIntent (holds_at cells_then i) h
+  intents : (i : ℕ) (h : Hold) → In h (holds_at cells_then i) → h.request.mode ≡ X → HasIntent (holds_at cells_then i) h
   intents i h has m = ⊎_elim
       (λ (was : In h (holds_at cells i)). intent_stays i h (S.locks_cover.intents i h was m))
-      (λ (is : (i ≡ k) × (h.tx ≡ o.id) × In h.want wants). taken_intent is.0 is.1 (K.intents h.want is.2 m))
+      (λ (is : (i ≡ k) × (h.tx ≡ o.id) × In h.request requests). taken_intent is.0 is.1 (K.intents h.request is.2 m))
       (came i h has)
     where
-      taken_intent : i ≡ k → h.tx ≡ o.id → (u : Want) × In u wants × (u.item ≡ Whole) × ((u.mode ≡ IX) ⊎ (u.mode ≡ X)) → HasIntent (holds_at cells_then i) h
+      taken_intent : i ≡ k → h.tx ≡ o.id → (u : LockRequest) × In u requests × (u.item ≡ Whole) × ((u.mode ≡ IX) ⊎ (u.mode ≡ X)) → HasIntent (holds_at cells_then i) h
       taken_intent e mine u =
-          let held : Holds (taken o.id wants (holds_in old)) o.id u.0 = each_at (Holds (taken o.id wants (holds_in old)) o.id) wants u.0 (taken_holds o.id wants (holds_in old)) u.1 in
+          let held : Holds (taken o.id requests (holds_in old)) o.id u.0 = each_at (Holds (taken o.id requests (holds_in old)) o.id) requests u.0 (taken_holds o.id requests (holds_in old)) u.1 in
           record {
             hold = held.hold;
             has = subst (λ (n : ℕ). In held.hold (holds_at cells_then n)) (sym e) (subst (In held.hold) (sym (holds_here cells k old new K.out)) (subst (In held.hold) (sym K.locks) held.has));
             mine = held.mine ∙ sym mine;
-            whole = whole_alone held.hold.want.item (ap (same_item held.hold.want.item) (sym u.2) ∙ held.item);
+            whole = whole_alone held.hold.request.item (ap (same_item held.hold.request.item) (sym u.2) ∙ held.item);
             mode = ⊎_elim (λ (z : (u.0).mode ≡ IX). inl (held.mode ∙ z)) (λ (z : (u.0).mode ≡ X). inr (held.mode ∙ z)) u.3;
           }
 
   -- ---- the wants of scripts
 
-  longer : (r : OpenTransaction) (i : ℕ) (ls : List Line) → Each (λ l. Each (Holds (holds_at cells i) r.id) (wants_in v (defs_of T) r.opened i l.0)) ls → Each (λ l. Each (Holds (holds_at cells_then i) r.id) (wants_in v (defs_of T) r.opened i l.0)) ls
-  longer r i ls = each_weaker (λ (l : Line). Each (Holds (holds_at cells i) r.id) (wants_in v (defs_of T) r.opened i l.0)) (λ (l : Line). Each (Holds (holds_at cells_then i) r.id) (wants_in v (defs_of T) r.opened i l.0))
-      (λ l. each_weaker (Holds (holds_at cells i) r.id) (Holds (holds_at cells_then i) r.id) (λ w. held_longer r.id (holds_at cells i) (holds_at cells_then i) w (stayed i)) (wants_in v (defs_of T) r.opened i l.0)) ls
+  longer : (r : OpenTransaction) (i : ℕ) (ls : List Line) → Each (λ l. Each (Holds (holds_at cells i) r.id) (requests_in v (defs_of T) r.explicit i l.0)) ls → Each (λ l. Each (Holds (holds_at cells_then i) r.id) (requests_in v (defs_of T) r.explicit i l.0)) ls
+  longer r i ls = each_weaker (λ (l : Line). Each (Holds (holds_at cells i) r.id) (requests_in v (defs_of T) r.explicit i l.0)) (λ (l : Line). Each (Holds (holds_at cells_then i) r.id) (requests_in v (defs_of T) r.explicit i l.0))
+      (λ l. each_weaker (Holds (holds_at cells i) r.id) (Holds (holds_at cells_then i) r.id) (λ w. held_longer r.id (holds_at cells i) (holds_at cells_then i) w (stayed i)) (requests_in v (defs_of T) r.explicit i l.0)) ls
 
-  covers : (i : ℕ) → KeepsLocks p i → Each (λ l. Each (Holds (holds_at cells_then i) p.id) (wants_in v (defs_of T) p.opened i l.0)) (script_so_far y p)
+  covers : (i : ℕ) → KeepsLocks p i → Each (λ l. Each (Holds (holds_at cells_then i) p.id) (requests_in v (defs_of T) p.explicit i l.0)) (script_so_far y p)
   covers i n =
-      subst (λ (u : List Line). Each (λ l. Each (Holds (holds_at cells_then i) p.id) (wants_in v (defs_of T) p.opened i l.0)) u) (sym (same_script x o y p K.same))
-      (subst (λ (b : Bool). Each (λ l. Each (Holds (holds_at cells_then i) p.id) (wants_in v (defs_of T) b i l.0)) (script_so_far x o)) (sym K.same.opened)
-      (subst (λ (m : ℕ). Each (λ l. Each (Holds (holds_at cells_then i) m) (wants_in v (defs_of T) o.opened i l.0)) (script_so_far x o)) (sym K.same.id)
+      subst (λ (u : List Line). Each (λ l. Each (Holds (holds_at cells_then i) p.id) (requests_in v (defs_of T) p.explicit i l.0)) u) (sym (same_script x o y p K.same))
+      (subst (λ (b : Bool). Each (λ l. Each (Holds (holds_at cells_then i) p.id) (requests_in v (defs_of T) b i l.0)) (script_so_far x o)) (sym K.same.explicit)
+      (subst (λ (m : ℕ). Each (λ l. Each (Holds (holds_at cells_then i) m) (requests_in v (defs_of T) o.explicit i l.0)) (script_so_far x o)) (sym K.same.id)
       (longer o i (script_so_far x o) (S.locks_cover.cover j x o K.goes.before i (λ z. n.0 (subst (In i) (sym K.same.released) z), λ z. n.1 (subst (In catalog_at) (sym K.same.released) z))))))
 
   -- ---- what isn't committed
@@ -220,26 +220,26 @@ module _ (v : Server) (cells : List Cell) (seats : List SeatState) {history : Hi
   under id l = subst (Each (IsUnderLocks v cells_then S.ledger id)) (sym (same_rows id))
       (each_weaker (IsUnderLocks v cells S.ledger id) (IsUnderLocks v cells_then S.ledger id) (λ w u. record { start = λ z. lies_under id w w.start (u.start z); end = end_under id w w.end u.end }) (versions_at cells id) (S.locks_cover.under id l))
 
-  pub looked_stays : (place : Place) (r : OpenTransaction) → HoldsInCatalog v cells T place r → HoldsInCatalog v cells_then T place r
+  pub looked_stays : (place : SessionStatus) (r : OpenTransaction) → HoldsInCatalog v cells T place r → HoldsInCatalog v cells_then T place r
   looked_stays place r h = record {
     lock = lock_stayed catalog_at r.id h.lock;
-    wants = λ u e. each_weaker (Holds (holds_at cells catalog_at) r.id) (Holds (holds_at cells_then catalog_at) r.id) (λ w. held_longer r.id (holds_at cells catalog_at) (holds_at cells_then catalog_at) w (stayed catalog_at)) (of_catalog (text_wants (defs_of T) r.opened (v.reads u)).catalog) (h.wants u e);
+    requests = λ u e. each_weaker (Holds (holds_at cells catalog_at) r.id) (Holds (holds_at cells_then catalog_at) r.id) (λ w. held_longer r.id (holds_at cells catalog_at) (holds_at cells_then catalog_at) w (stayed catalog_at)) (of_catalog (text_requests (defs_of T) r.explicit (v.reads u)).catalog) (h.requests u e);
   }
 
   -- ---- all of it
 
   module _ (got_here : HasLock cells_then catalog_at p.id → IsGotAt v cells_then T p.id (not (in_journal S.ledger.items (p.id, 0))) y.place)
-      (looked_here : HasLooked y.place → HoldsInCatalog v cells_then T y.place p) (first_here : LookedFirst y.place → WantsNone v cells_then T p) where
+      (looked_here : HasLooked y.place → HoldsInCatalog v cells_then T y.place p) (first_here : LookedFirst y.place → RequestsNone v cells_then T p) where
     pub covered : LocksCover v cells_then S.ledger seats_then
     covered = record {
       belong = belong;
       unreleased = kept_open seats j t x o y p K.goes (λ n z r. r.end ≡ unfixed → r.released ≡ []) (λ was e. K.same.released ∙ was (sym K.same.end ∙ e)) S.locks_cover.unreleased;
       intents = intents;
       looked = each_open seats j t x o y p K.goes (λ n z r. r.end ≡ unfixed → LookedAt v cells_then T z.place r) (λ e. looked_so v cells_then T p y.place looked_here) (λ n z r ne h e. looked_so v cells_then T r z.place (λ l. looked_stays z.place r (looked_now v cells T r z.place (S.locks_cover.looked n z r h e) l)));
-      on_whole = λ h has. ⊎_elim (λ (was : In h (holds_at cells catalog_at)). S.locks_cover.on_whole h was) (λ (is : (catalog_at ≡ k) × (h.tx ≡ o.id) × In h.want wants). K.on_whole (sym is.0) h.want is.2) (came catalog_at h has);
-      looked_first = each_open seats j t x o y p K.goes (λ n z r. r.end ≡ unfixed → LookedFirst z.place → WantsNone v cells_then T r) (λ e. first_here)
-          (λ n z r ne h e f. let was = S.locks_cover.looked_first n z r h e f in record { before = was.before; shares = λ g has m. ⊎_elim (λ (k : In g (holds_at cells catalog_at)). was.shares g k m) (λ (q : (catalog_at ≡ k) × (g.tx ≡ o.id) × In g.want wants). absurd (ne (one_seat v cells seats S n j z x r o h K.goes.before (sym m ∙ q.1)))) (came catalog_at g has); elsewhere = λ i l. was.elsewhere i (others_lock (suc i) n z r ne h l) });
-      cover = each_open seats j t x o y p K.goes (λ n z r. (i : ℕ) → KeepsLocks r i → Each (λ l. Each (Holds (holds_at cells_then i) r.id) (wants_in v (defs_of T) r.opened i l.0)) (script_so_far z r)) covers
+      on_whole = λ h has. ⊎_elim (λ (was : In h (holds_at cells catalog_at)). S.locks_cover.on_whole h was) (λ (is : (catalog_at ≡ k) × (h.tx ≡ o.id) × In h.request requests). K.on_whole (sym is.0) h.request is.2) (came catalog_at h has);
+      looked_first = each_open seats j t x o y p K.goes (λ n z r. r.end ≡ unfixed → LookedFirst z.place → RequestsNone v cells_then T r) (λ e. first_here)
+          (λ n z r ne h e f. let was = S.locks_cover.looked_first n z r h e f in record { before = was.before; shares = λ g has m. ⊎_elim (λ (k : In g (holds_at cells catalog_at)). was.shares g k m) (λ (q : (catalog_at ≡ k) × (g.tx ≡ o.id) × In g.request requests). absurd (ne (one_seat v cells seats S n j z x r o h K.goes.before (sym m ∙ q.1)))) (came catalog_at g has); elsewhere = λ i l. was.elsewhere i (others_lock (suc i) n z r ne h l) });
+      cover = each_open seats j t x o y p K.goes (λ n z r. (i : ℕ) → KeepsLocks r i → Each (λ l. Each (Holds (holds_at cells_then i) r.id) (requests_in v (defs_of T) r.explicit i l.0)) (script_so_far z r)) covers
           (λ n z r ne h i u. longer r i (script_so_far z r) (S.locks_cover.cover n z r h i u));
       catalog = λ i id l. ⊎_elim (λ (was : HasLock cells (suc i) id). lock_stayed catalog_at id (S.locks_cover.catalog i id was))
           (λ (is : (suc i ≡ k) × (id ≡ o.id)). lock_stayed catalog_at id (subst (HasLock cells catalog_at) (sym is.1) (K.looked i (sym is.0)))) (lock_came (suc i) id l);
@@ -248,7 +248,7 @@ module _ (v : Server) (cells : List Cell) (seats : List SeatState) {history : Hi
           (λ n z r ne h m e l. S.locks_cover.definitions n z r m h e (others_lock catalog_at n z r ne h l)) n z r h m e l;
       got = each_open seats j t x o y p K.goes (λ n z r. HasLock cells_then catalog_at r.id → IsGotAt v cells_then T r.id (not (in_journal S.ledger.items (r.id, 0))) z.place) got_here
           (λ n z r ne h l. got_at_more v T (HasAlone (contents cells) r.id) (HasAlone (contents cells_then) r.id) (not (in_journal S.ledger.items (r.id, 0))) (stayed catalog_at _) z.place (S.locks_cover.got n z r h (others_lock catalog_at n z r ne h l)));
-      dropping = each_open seats j t x o y p K.goes (λ n z r. IsDropping z.place r → In (record { tx = r.id; want = whole X }) (holds_at cells_then catalog_at)) (λ d. absurd (K.goes_on d))
+      dropping = each_open seats j t x o y p K.goes (λ n z r. IsDropping z.place r → In (record { tx = r.id; request = whole X }) (holds_at cells_then catalog_at)) (λ d. absurd (K.goes_on d))
           (λ n z r ne h d. stayed catalog_at _ (S.locks_cover.dropping n z r h d));
       under = under;
     }
@@ -258,33 +258,33 @@ module _ (v : Server) (cells : List Cell) (seats : List SeatState) {history : Hi
   was_had : (i n : ℕ) (h : Hold) → n ≢ j → SeatHas cells_then seats_then i n h → SeatHas cells seats i n h
   was_had i n h ne b = each_open seats j t x o y p K.goes (λ m z r. m ≡ n → r.id ≡ h.tx → SeatHas cells seats i m h)
       (λ e q. absurd (ne (sym e)))
-      (λ m z r d g e q. record { x = z; o = r; open_one = g; lock = ⊎_elim (λ (was : In h (holds_at cells i)). was) (λ (is : (i ≡ k) × (h.tx ≡ o.id) × In h.want wants). absurd (d (one_seat v cells seats S m j z x r o g K.goes.before (q ∙ is.1)))) (came i h b.lock); mine = q })
+      (λ m z r d g e q. record { x = z; o = r; open_one = g; lock = ⊎_elim (λ (was : In h (holds_at cells i)). was) (λ (is : (i ≡ k) × (h.tx ≡ o.id) × In h.request requests). absurd (d (one_seat v cells seats S m j z x r o g K.goes.before (q ∙ is.1)))) (came i h b.lock); mine = q })
       n b.x b.o b.open_one refl b.mine
 
-  mine_had : (i : ℕ) (h : Hold) → SeatHas cells_then seats_then i j h → SeatHas cells seats i j h ⊎ ((i ≡ k) × In h.want wants)
+  mine_had : (i : ℕ) (h : Hold) → SeatHas cells_then seats_then i j h → SeatHas cells seats i j h ⊎ ((i ≡ k) × In h.request requests)
   mine_had i h b = ⊎_elim
       (λ (was : In h (holds_at cells i)). inl (record { x = x; o = o; open_one = K.goes.before; lock = was; mine = sym K.same.id ∙ ap (λ (r : OpenTransaction). r.id) (one_session seats_then j y b.x p b.o open_now b.open_one).1 ∙ b.mine }))
-      (λ (is : (i ≡ k) × (h.tx ≡ o.id) × In h.want wants). inr (is.0, is.2))
+      (λ (is : (i ≡ k) × (h.tx ≡ o.id) × In h.request requests). inr (is.0, is.2))
       (came i h b.lock)
 
-  not_free : (i n : ℕ) (h : Hold) (w : Want) → n ≢ j → i ≡ k → In w wants → SeatHas cells seats i n h → wants_conflict w h.want ≡ false
+  not_free : (i n : ℕ) (h : Hold) (w : LockRequest) → n ≢ j → i ≡ k → In w requests → SeatHas cells seats i n h → requests_conflict w h.request ≡ false
   not_free i n h w ne e is b =
-      each_at (λ (g : Hold). g.tx ≢ o.id → wants_conflict w g.want ≡ false) (holds_in old) h (each_at (λ (u : Want). Each (λ g. g.tx ≢ o.id → wants_conflict u g.want ≡ false) (holds_in old)) wants w K.free is)
+      each_at (λ (g : Hold). g.tx ≢ o.id → requests_conflict w g.request ≡ false) (holds_in old) h (each_at (λ (u : LockRequest). Each (λ g. g.tx ≢ o.id → requests_conflict u g.request ≡ false) (holds_in old)) requests w K.free is)
       (subst (In h) (held_here cells k old new K.out) (subst (λ (m : ℕ). In h (holds_at cells m)) e b.lock))
       (λ q. ne (one_seat v cells seats S n j b.x x b.o o b.open_one K.goes.before (b.mine ∙ q)))
 
   -- as with this seat's, so with each
-  one_is_mine : (i n : ℕ) (a b : Hold) → n ≢ j → SeatHas cells_then seats_then i j a → SeatHas cells_then seats_then i n b → wants_conflict a.want b.want ≡ false
+  one_is_mine : (i n : ℕ) (a b : Hold) → n ≢ j → SeatHas cells_then seats_then i j a → SeatHas cells_then seats_then i n b → requests_conflict a.request b.request ≡ false
   one_is_mine i n a b ne f g = ⊎_elim
       (λ (was : SeatHas cells seats i j a). S.locks_agree i j n a b (λ e. ne (sym e)) was (was_had i n b ne g))
-      (λ (is : (i ≡ k) × In a.want wants). not_free i n b a.want ne is.0 is.1 (was_had i n b ne g))
+      (λ (is : (i ≡ k) × In a.request requests). not_free i n b a.request ne is.0 is.1 (was_had i n b ne g))
       (mine_had i a f)
 
   pub agree : LocksAgree cells_then seats_then
   agree i m n a b ne f g = ⊎_elim
       (λ (e : m ≡ j). one_is_mine i n a b (λ q. ne (e ∙ sym q)) (subst (λ (u : ℕ). SeatHas cells_then seats_then i u a) e f) g)
       (λ (d : m ≢ j). ⊎_elim
-      (λ (e : n ≡ j). conflict_turned b.want a.want ∙ one_is_mine i m b a d (subst (λ (u : ℕ). SeatHas cells_then seats_then i u b) e g) f)
+      (λ (e : n ≡ j). conflict_turned b.request a.request ∙ one_is_mine i m b a d (subst (λ (u : ℕ). SeatHas cells_then seats_then i u b) e g) f)
       (λ (c : n ≢ j). S.locks_agree i m n a b ne (was_had i m a d f) (was_had i n b c g))
       (cases_eq n j))
       (cases_eq m j)
@@ -313,22 +313,22 @@ module _ (v : Server) (cells : List Cell) (seats : List SeatState) {history : Hi
   rows = record {
     free = λ id key l f. rows_same id key (λ vs. vs) ∙ S.rows_agree.free id key l (free_before (cell_of id) key f);
     own = each_open seats j t x o y p K.goes
-        (λ n z r. r.end ≡ unfixed → (id : ℕ) (key : Key) → 1 ≤ id → (h : Hold) → In h (holds_at cells_then (cell_of id)) → h.tx ≡ r.id → lets_change key h.want ≡ true → Owns cells_then z r id key)
+        (λ n z r. r.end ≡ unfixed → (id : ℕ) (key : Key) → 1 ≤ id → (h : Hold) → In h (holds_at cells_then (cell_of id)) → h.tx ≡ r.id → lets_change key h.request ≡ true → Owns cells_then z r id key)
         (λ e id key l h has mine q. owns_here id key (⊎_elim
         (λ (was : In h (holds_at cells (cell_of id))). S.rows_agree.own j x o K.goes.before K.unfixed id key l h was (mine ∙ K.same.id) q)
-        (λ (is : (cell_of id ≡ k) × (h.tx ≡ o.id) × In h.want wants). K.own id key h.want l is.0 is.2 q)
+        (λ (is : (cell_of id ≡ k) × (h.tx ≡ o.id) × In h.request requests). K.own id key h.request l is.0 is.2 q)
         (came (cell_of id) h has)))
         (λ n z r ne g e id key l h has mine q. owns_else z r id key (⊎_elim
         (λ (was : In h (holds_at cells (cell_of id))). S.rows_agree.own n z r g e id key l h was mine q)
-        (λ (is : (cell_of id ≡ k) × (h.tx ≡ o.id) × In h.want wants). absurd (ne (one_seat v cells seats S n j z x r o g K.goes.before (sym mine ∙ is.1))))
+        (λ (is : (cell_of id ≡ k) × (h.tx ≡ o.id) × In h.request requests). absurd (ne (one_seat v cells seats S n j z x r o g K.goes.before (sym mine ∙ is.1))))
         (came (cell_of id) h has)));
     undone = λ id key l h has u q. rows_same id key (versions_undone h.tx 0) ∙ ⊎_elim
         (λ (was : In h (holds_at cells (cell_of id))). S.rows_agree.undone id key l h was u q)
-        (λ (is : (cell_of id ≡ k) × (h.tx ≡ o.id) × In h.want wants). ap (λ (n : ℕ). versions_undone n 0 (of_key (columns_at (defs_of T) id) key (versions_at cells id))) is.1 ∙ K.undone id key h.want l is.0 is.2 q)
+        (λ (is : (cell_of id ≡ k) × (h.tx ≡ o.id) × In h.request requests). ap (λ (n : ℕ). versions_undone n 0 (of_key (columns_at (defs_of T) id) key (versions_at cells id))) is.1 ∙ K.undone id key h.request l is.0 is.2 q)
         (came (cell_of id) h has);
     rising = λ id l. subst Rising (sym (same_rows id)) (S.rows_agree.rising id l);
     back = each_open seats j t x o y p K.goes (λ n z r. GoesBackTo z.place r.seq) (subst (GoesBackTo y.place) (sym K.same.seq) (K.back (S.rows_agree.back j x o K.goes.before))) (λ n z r ne g. S.rows_agree.back n z r g);
-    opened = each_open seats j t x o y p K.goes (λ n z r. IsOpenedAt z.place r.opened) K.stays_opened (λ n z r ne g. S.rows_agree.opened n z r g);
+    explicit = each_open seats j t x o y p K.goes (λ n z r. IsExplicitAt z.place r.explicit) K.stays_opened (λ n z r ne g. S.rows_agree.explicit n z r g);
     before = each_open seats j t x o y p K.goes
         (λ n z r. r.end ≡ unfixed → (id : ℕ) → 1 ≤ id → AllByRecursion (MadeBefore r.id r.seq) (counted r.id id z.place (versions_at cells_then id)))
         (λ e id l. subst (AllByRecursion (MadeBefore p.id p.seq)) (sym (ap (λ (n : ℕ). counted n id y.place (versions_at cells_then id)) K.same.id ∙ K.same.counts o.id id (versions_at cells_then id) ∙ ap (counted o.id id x.place) (same_rows id)))
@@ -361,14 +361,14 @@ module _ (v : Server) (cells : List Cell) (seats : List SeatState) {history : Hi
           j = j;
           o = p;
           has = open_now;
-          own = K.same.opened ∙ ap (λ (r : OpenTransaction). r.opened) (sym same.1) ∙ c.own;
+          own = K.same.explicit ∙ ap (λ (r : OpenTransaction). r.explicit) (sym same.1) ∙ c.own;
           outside = subst (λ (n : ℕ). in_journal S.ledger.items (n, 0) ≡ false) (sym id) c.outside;
           text = c.text;
           stands = K.same.text ∙ ap (λ (u : Session). text_at u.place) (sym same.0) ∙ c.stands;
           is = c.is;
           creates = c.creates;
           acted = K.acted (subst (λ (u : Session). HasActed u.place) same.0 c.acted);
-          exclusive = stayed catalog_at _ (subst (λ (n : ℕ). In (record { tx = n; want = whole X }) (holds_at cells catalog_at)) (sym id) c.exclusive);
+          exclusive = stayed catalog_at _ (subst (λ (n : ℕ). In (record { tx = n; request = whole X }) (holds_at cells catalog_at)) (sym id) c.exclusive);
         },
         id,
       ))
@@ -399,7 +399,7 @@ module _ (v : Server) (cells : List Cell) (seats : List SeatState) {history : Hi
   pub indexes_after : (def : TableDef) (indexes : List (List ℕ)) → AreIndexes v cells seats S.ledger def indexes → AreIndexes v cells_then seats_then S.ledger def indexes
   unfolding creates_else
   indexes_after def indexes d = ⊎_elim (λ (e : indexes ≡ ordinals_of def.indexes). inl e)
-      (λ (c : (z : Session) × (stmt : Stmt) × (after : TableDef) × (by : Creates v cells seats S.ledger z stmt) × (def_at (defs_of (defined (plan T stmt).definition T)) def.id ≡ Some after) × (indexes ≡ ordinals_of after.indexes) × IsAdding z.place by.o after (cell_of def.id)).
+      (λ (c : (z : Session) × (stmt : Stmt) × (after : TableDef) × (by : Creates v cells seats S.ledger z stmt) × (def_at (defs_of (defined (change_set T stmt).definition T)) def.id ≡ Some after) × (indexes ≡ ordinals_of after.indexes) × IsAdding z.place by.o after (cell_of def.id)).
       inr (c.0, c.1, c.2, creates_else c.0 c.1 c.3 (not_here c.0 c.1 c.3 c.2 def.id c.6), c.4, c.5, c.6)) d
 
   pub stands_after : (was : TableCell) (holds : List Hold) (def : Option TableDef) → StandsAs v cells seats S.ledger was def → StandsAs v cells_then seats_then S.ledger (with_holds holds was) def
@@ -410,7 +410,7 @@ module _ (v : Server) (cells : List Cell) (seats : List SeatState) {history : Hi
   abbrev pub WasTable : ℕ → TableCell → Type 0
   WasTable i cell = (was : TableCell) × (holds : List Hold) × (get_elem? cells i ≡ some (Rows was)) × (cell ≡ with_holds holds was)
 
-  indexes_kept : ((i : ℕ) (cell : TableCell) → get_elem? cells_then i ≡ some (Rows cell) → WasTable i cell) → (place : Place) → IsIndexed cells place → IsIndexed cells_then place
+  indexes_kept : ((i : ℕ) (cell : TableCell) → get_elem? cells_then i ≡ some (Rows cell) → WasTable i cell) → (place : SessionStatus) → IsIndexed cells place → IsIndexed cells_then place
   indexes_kept was (inside text (made def true)) h = λ i cell e m. let w = was i cell (table_there (get_elem? cells_then i) cell e) in ap (λ (c : TableCell). map (λ q. q.ordinals) c.indexes) w.3 ∙ h i w.0 (ap table_found w.2) (ap (λ (c : TableCell). c.id) (sym w.3) ∙ m)
   indexes_kept was (inside text (made def false)) h = tt
   indexes_kept was place h = tt

@@ -3,34 +3,34 @@ use Rattle.std.proofs.Common.{◌≡◌, ◌≢◌, ℕ, false, not, List, [], O
 use Rattle.std.proofs.lemmas.Bool.{cases_eq}
 use mathlib.Core.Option.{some}
 use lib.ListN.{get_elem?}
-use Rattle.lg_types.specs.declared.statement.Stmt.{Stmt}
-use Rattle.lg_types.specs.declared.table.TableDef.{TableDef}
-use Rattle.lg_model.specs.Catalog.{Defs, defs_of, versions_of}
-use Rattle.lg_history.specs.Lists.{Text, Each, In}
-use Rattle.lg_history.specs.Refusals.{EndsAt}
-use Rattle.lg_history.specs.Transactions.{unfixed}
-use Rattle.lg_standing.specs.Server.{Server}
-use Rattle.lg_types.specs.declared.lock.Hold.{Hold}
-use Rattle.lg_standing.specs.Cells.{TableCell, catalog_at, Cell, Creator, cell_of}
-use Rattle.lg_standing.specs.Contents.{Contents, Known, HasAlone, contents, known}
-use Rattle.lg_standing.specs.Seats.{OpenTransaction, Session, SeatState}
-use Rattle.lg_standing.specs.OpenOnes.{HasOpen, text_at, script_so_far, script_end}
-use Rattle.lg_standing.specs.WantsIn.{wants_in, Holds}
-use Rattle.lg_standing.specs.TablesAreSerial.{Creates, AreIndexes, StandsAs, TablesAreSerial, def_at, AreDefinitions, HasActed, IsAdding, IsCarried, IsIndexed, IsUnderWay}
-use Rattle.lg_standing.specs.OpenScripts.{IsOfItsScript, OpenScripts, counted}
-use Rattle.lg_standing.specs.LocksCover.{KeepsLocks, Belongs, LookedAt, HasLock, IsGotAt, LocksCover, IsDropping, LookedFirst, WantsNone}
-use Rattle.lg_standing.specs.LocksAgree.{SeatHas, LocksAgree}
-use Rattle.lg_standing.specs.TreesAreOfEvents.{HasItsTrees, TreesAreOfEvents}
+use Rattle.sql_types.specs.declared.statement.Stmt.{Stmt}
+use Rattle.sql_types.specs.declared.table.TableDef.{TableDef}
+use Rattle.spec_model.specs.Catalog.{Defs, defs_of, versions_of}
+use Rattle.spec_history.specs.Lists.{Text, Each, In}
+use Rattle.spec_history.specs.Refusals.{EndsAt}
+use Rattle.spec_history.specs.Transactions.{unfixed}
+use Rattle.spec_protocol.specs.Server.{Server}
+use Rattle.sql_types.specs.declared.lock.Hold.{Hold}
+use Rattle.spec_protocol.specs.Cells.{TableCell, catalog_at, Cell, Creator, cell_of}
+use Rattle.spec_protocol.specs.Contents.{Contents, Known, HasAlone, contents, known}
+use Rattle.spec_protocol.specs.Seats.{OpenTransaction, Session, SeatState}
+use Rattle.spec_protocol.specs.OpenOnes.{HasOpen, text_at, script_so_far, script_end}
+use Rattle.spec_protocol.specs.RequestsIn.{requests_in, Holds}
+use Rattle.spec_protocol.specs.TablesAreSerial.{Creates, AreIndexes, StandsAs, TablesAreSerial, def_at, AreDefinitions, HasActed, IsAdding, IsCarried, IsIndexed, IsUnderWay}
+use Rattle.spec_protocol.specs.OpenScripts.{IsOfItsScript, OpenScripts, counted}
+use Rattle.spec_protocol.specs.LocksCover.{KeepsLocks, Belongs, LookedAt, HasLock, IsGotAt, LocksCover, IsDropping, LookedFirst, RequestsNone}
+use Rattle.spec_protocol.specs.LocksAgree.{SeatHas, LocksAgree}
+use Rattle.spec_protocol.specs.TreesAreOfEvents.{HasItsTrees, TreesAreOfEvents}
 use Rattle.law_protocol_steps.proofs.OpenSeats.{Own, at_other, at_this, was_open, own_at}
 use Rattle.std.specs.List.{AllByRecursion}
-use Rattle.lg_standing.specs.RowsAgree.{GoesBackTo, IsOpenedAt, RowsAgree, key_rows}
-use Rattle.lg_model.specs.Keys.{Key}
-use Rattle.lg_model.specs.Runs.{MadeBefore}
-use Rattle.lg_standing.specs.StandTogether.{History, Stands}
-use Rattle.lg_model.specs.Reach.{lets_change}
+use Rattle.spec_protocol.specs.RowsAgree.{GoesBackTo, IsExplicitAt, RowsAgree, key_rows}
+use Rattle.spec_model.specs.Keys.{Key}
+use Rattle.spec_model.specs.Runs.{MadeBefore}
+use Rattle.spec_protocol.specs.StandTogether.{History, Stands}
+use Rattle.spec_model.specs.Reach.{lets_change}
 
 -- the seat's transaction is one whose lock this may be
-pub record MayHave (s : SeatState) (i : ℕ) (h : Hold) : Type 0 where
+pub record MayHoldLock (s : SeatState) (i : ℕ) (h : Hold) : Type 0 where
   pub x : Session
   pub o : OpenTransaction
   pub own : Own s x o
@@ -49,13 +49,13 @@ pub record OwnId (s : SeatState) (id : ℕ) : Type 0 where
 pub record Owes (v : Server) (c : Contents) (k : Known) (defs : Defs) (x : Session) (o : OpenTransaction) : Type 0 where
   pub carried : o.end ≡ unfixed → IsCarried defs k.tables (script_end v k.tables x o).state.tables
   pub indexed : o.end ≡ unfixed → IsIndexed c x.place
-  pub looked_first : o.end ≡ unfixed → LookedFirst x.place → WantsNone v c k.tables o
+  pub looked_first : o.end ≡ unfixed → LookedFirst x.place → RequestsNone v c k.tables o
   pub dropping : IsDropping x.place o → HasAlone c o.id
-  pub own : o.end ≡ unfixed → (id : ℕ) (key : Key) → 1 ≤ id → (h : Hold) → In h (c.holds (cell_of id)) → h.tx ≡ o.id → lets_change key h.want ≡ true
+  pub own : o.end ≡ unfixed → (id : ℕ) (key : Key) → 1 ≤ id → (h : Hold) → In h (c.holds (cell_of id)) → h.tx ≡ o.id → lets_change key h.request ≡ true
       → counted o.id id x.place (key_rows k.tables id key (c.versions id)) ≡ key_rows k.tables id key (versions_of (script_end v k.tables x o).state.tables id)
   pub before : o.end ≡ unfixed → (id : ℕ) → 1 ≤ id → AllByRecursion (MadeBefore o.id o.seq) (counted o.id id x.place (c.versions id))
   pub back : GoesBackTo x.place o.seq
-  pub opened : IsOpenedAt x.place o.opened
+  pub explicit : IsExplicitAt x.place o.explicit
 
 pub owed : (v : Server) (cells : List Cell) (seats : List SeatState) {history : History} (st : Stands v history cells seats) (j : ℕ) (x : Session) (o : OpenTransaction) → HasOpen seats j x o → Owes v (contents cells) (known v.reads st.ledger.items) st.catalog.defs x o
 owed v cells seats st j x o h = record {
@@ -66,7 +66,7 @@ owed v cells seats st j x o h = record {
   own = λ e. st.rows_agree.own j x o h e;
   before = λ e. st.rows_agree.before j x o h e;
   back = st.rows_agree.back j x o h;
-  opened = st.rows_agree.opened j x o h;
+  explicit = st.rows_agree.explicit j x o h;
 }
 
 -- the transaction o of its own still stands in this text, where it creates
@@ -75,7 +75,7 @@ pub record StillStands (t : SeatState) (x : Session) (o : OpenTransaction) (text
   pub p : OpenTransaction
   pub own : Own t y p
   pub is : p.id ≡ o.id
-  pub alone : p.opened ≡ false
+  pub alone : p.explicit ≡ false
   pub stands : text_at y.place ≡ Some text
   pub acted : HasActed y.place
   pub adding : (after : TableDef) (i : ℕ) → IsAdding x.place o after i → IsAdding y.place p after i
@@ -85,17 +85,17 @@ pub record Turns (v : Server) (c : Contents) (k : Known) (defs : Defs) (s t : Se
   -- its transaction had its locks
   pub came : (i : ℕ) (h : Hold) → In h (c.holds i) → OwnId t h.tx → OwnId s h.tx
   -- and they may still be its
-  pub locks : (i : ℕ) (h : Hold) → In h (c.holds i) → MayHave s i h → MayHave t i h
+  pub locks : (i : ℕ) (h : Hold) → In h (c.holds i) → MayHoldLock s i h → MayHoldLock t i h
   -- where it creates it stands in its statement as before
-  pub stands : (x : Session) (o : OpenTransaction) (text : Text) → Own s x o → o.opened ≡ false → k.has o.id ≡ false → HasAlone c o.id
+  pub stands : (x : Session) (o : OpenTransaction) (text : Text) → Own s x o → o.explicit ≡ false → k.has o.id ≡ false → HasAlone c o.id
       → text_at x.place ≡ Some text → HasActed x.place → StillStands t x o text
   -- what is said of its transaction alone
   pub script : (y : Session) (p : OpenTransaction) → Own t y p → p.end ≡ unfixed → IsOfItsScript v c k.tables y p
   pub trees : (y : Session) (p : OpenTransaction) → Own t y p → p.end ≡ unfixed → HasItsTrees v c k y p
   pub cover : (y : Session) (p : OpenTransaction) → Own t y p → (i : ℕ) → KeepsLocks p i
-      → Each (λ l. Each (Holds (c.holds i) p.id) (wants_in v (defs_of k.tables) p.opened i l.0)) (script_so_far y p)
+      → Each (λ l. Each (Holds (c.holds i) p.id) (requests_in v (defs_of k.tables) p.explicit i l.0)) (script_so_far y p)
   pub unreleased : (y : Session) (p : OpenTransaction) → Own t y p → p.end ≡ unfixed → p.released ≡ []
-  pub looked : (y : Session) (p : OpenTransaction) → Own t y p → p.end ≡ unfixed → LookedAt v c (defs_of k.tables) p.id p.opened y.place
+  pub looked : (y : Session) (p : OpenTransaction) → Own t y p → p.end ≡ unfixed → LookedAt v c (defs_of k.tables) p.id p.explicit y.place
   pub definitions : (y : Session) (p : OpenTransaction) (n : ℕ) → Own t y p → EndsAt p.end n → HasLock c catalog_at p.id → defs_of k.tables ≡ defs_of (k.after n)
   pub got : (y : Session) (p : OpenTransaction) → Own t y p → HasLock c catalog_at p.id → IsGotAt v k.tables (HasAlone c p.id) (not (k.has p.id)) y.place
   pub owes : (y : Session) (p : OpenTransaction) → Own t y p → Owes v c k defs y p
@@ -174,7 +174,7 @@ module _ (v : Server) (c : Contents) (k : Known) (defs : Defs) (seats : List Sea
     undone = h.undone;
     rising = h.rising;
     back = λ i y p has. ⊎_elim (λ e. (turn.owes y p e.1).back) (λ e. h.back i y p e.1) (was_open seats j s t there i y p has);
-    opened = λ i y p has. ⊎_elim (λ e. (turn.owes y p e.1).opened) (λ e. h.opened i y p e.1) (was_open seats j s t there i y p has);
+    explicit = λ i y p has. ⊎_elim (λ e. (turn.owes y p e.1).explicit) (λ e. h.explicit i y p e.1) (was_open seats j s t there i y p has);
     before = λ i y p has u. ⊎_elim (λ e. (turn.owes y p e.1).before u) (λ e. h.before i y p e.1 u) (was_open seats j s t there i y p has);
   }
 

@@ -4,30 +4,30 @@ use Rattle.std.proofs.lemmas.Bool.{cases_eq}
 use Rattle.std.specs.Prelude.{not}
 use mathlib.Core.Option.{some}
 use lib.ListN.{get_elem?}
-use Rattle.lg_value.specs.declared.column.ColumnDef.{ColumnDef}
-use Rattle.lg_types.specs.declared.lock.Mode.TheVariants.{X}
-use Rattle.lg_types.specs.declared.lock.Want.{Want}
-use Rattle.lg_types.specs.declared.statement.Stmt.{Stmt}
-use Rattle.lg_types.specs.declared.table.TableDef.{TableDef}
-use Rattle.lg_types.specs.declared.table.IndexDef.{IndexDef}
-use Rattle.lg_types.specs.declared.version.Version.{Version}
-use Rattle.lg_model.specs.Catalog.{Tables, defs_of}
-use Rattle.lg_model.specs.Locks.{whole}
-use Rattle.lg_model.specs.Plans.{plan, defined}
-use Rattle.lg_model.specs.Script.{ScriptEnd}
-use Rattle.lg_history.specs.Lists.{Text, Each, In}
-use Rattle.lg_history.specs.Transactions.{unfixed}
-use Rattle.lg_standing.specs.Server.{Server}
-use Rattle.lg_standing.specs.Cells.{TableCell, Cell, Rows, catalog_at, cell_of, AreCells}
-use Rattle.lg_standing.specs.Seats.{OpenTransaction, made, Place, inside, Session, SeatState}
-use Rattle.lg_standing.specs.OpenOnes.{HasOpen, text_at, lines_at, script_end}
-use Rattle.lg_standing.specs.OpenScripts.{counted}
-use Rattle.lg_standing.specs.TableVisits.{with_indexes, new_index, AddsIndex}
-use Rattle.lg_standing.specs.Moves.{visiting, at_place, sits}
-use Rattle.lg_standing.specs.TablesAreSerial.{HasAdded, IsAdding, IsSortedProjection, def_at, ordinals_of, HasIndexes, IsCarried}
-use Rattle.lg_standing.specs.RowsAgree.{IsOpenedAt}
-use Rattle.lg_standing.specs.LocksCover.{IsAfter}
-use Rattle.lg_standing.specs.StandTogether.{History, Stands}
+use Rattle.sql_value.specs.declared.column.ColumnDef.{ColumnDef}
+use Rattle.sql_types.specs.declared.lock.Mode.TheVariants.{X}
+use Rattle.sql_types.specs.declared.lock.LockRequest.{LockRequest}
+use Rattle.sql_types.specs.declared.statement.Stmt.{Stmt}
+use Rattle.sql_types.specs.declared.table.TableDef.{TableDef}
+use Rattle.sql_types.specs.declared.table.IndexDef.{IndexDef}
+use Rattle.sql_types.specs.declared.version.Version.{Version}
+use Rattle.spec_model.specs.Catalog.{Tables, defs_of}
+use Rattle.spec_model.specs.Locks.{whole}
+use Rattle.spec_model.specs.ChangeSets.{change_set, defined}
+use Rattle.spec_model.specs.Script.{ScriptEnd}
+use Rattle.spec_history.specs.Lists.{Text, Each, In}
+use Rattle.spec_history.specs.Transactions.{unfixed}
+use Rattle.spec_protocol.specs.Server.{Server}
+use Rattle.spec_protocol.specs.Cells.{TableCell, Cell, Rows, catalog_at, cell_of, AreCells}
+use Rattle.spec_protocol.specs.Seats.{OpenTransaction, made, SessionStatus, inside, Session, SeatState}
+use Rattle.spec_protocol.specs.OpenOnes.{HasOpen, text_at, lines_at, script_end}
+use Rattle.spec_protocol.specs.OpenScripts.{counted}
+use Rattle.spec_protocol.specs.TableVisits.{with_indexes, new_index, AddsIndex}
+use Rattle.spec_protocol.specs.Moves.{visiting, at_place, sits}
+use Rattle.spec_protocol.specs.TablesAreSerial.{HasAdded, IsAdding, IsSortedProjection, def_at, ordinals_of, HasIndexes, IsCarried}
+use Rattle.spec_protocol.specs.RowsAgree.{IsExplicitAt}
+use Rattle.spec_protocol.specs.LocksCover.{IsAfter}
+use Rattle.spec_protocol.specs.StandTogether.{History, Stands}
 use Rattle.law_protocol_steps.proofs.AfterSet.{set_here, set_else}
 use Rattle.law_protocol_steps.proofs.SeatsAfter.{open_here, each_open}
 use Rattle.law_protocol_steps.proofs.CellsAfter.{table_changed}
@@ -40,10 +40,10 @@ use Rattle.law_protocol_steps.proofs.SameOne.{IsSame, same_end}
 use Rattle.law_protocol_steps.proofs.Takes.{tables_now, Takes, covered, agree, rows, scripts, trees, same_rows, looked_stays, stayed, definitions_after, creator_after, indexes_after}
 use Rattle.law_protocol_steps.proofs.TakesInTable.{IsAtPlace, table_place, cell_at}
 use Rattle.law_protocol_steps.proofs.OfCells.{Creates, HasLooked, HoldsInCatalog, IsGotAt, IsIndexed, StandsAs, TableStands, committed, in_journal, looked_now, table_there}
-use Rattle.lg_standing.specs.TranscriptsSoFar.{FitsWith, shown_with}
-use Rattle.lg_standing.specs.Contents.{HasAlone, contents, table_found}
+use Rattle.spec_protocol.specs.TranscriptsSoFar.{FitsWith, shown_with}
+use Rattle.spec_protocol.specs.Contents.{HasAlone, contents, table_found}
 use Rattle.law_protocol_steps.proofs.VisitActs.{stage_act}
-use Rattle.lg_model.specs.Holds.{holds_after}
+use Rattle.spec_model.specs.Holds.{holds_after}
 use Rattle.law_protocol_steps.proofs.Taken.{taken}
 
 new_ordinals : (cols : List ColumnDef) (vs : List Version) (is : List IndexDef) → map (λ q. q.ordinals) (map (new_index cols vs) is) ≡ ordinals_of is
@@ -94,11 +94,11 @@ module _ (v : Server) (cells : List Cell) (seats : List SeatState) {history : Hi
   at : IsAtPlace i c
   at = table_place cells S.catalog S.ledger i c S.are_cells out
 
-  is_alone : o.opened ≡ false
-  is_alone = subst (λ (q : Place). IsOpenedAt q o.opened) place (S.rows_agree.opened j x o has_open)
+  is_alone : o.explicit ≡ false
+  is_alone = subst (λ (q : SessionStatus). IsExplicitAt q o.explicit) place (S.rows_agree.explicit j x o has_open)
 
   looked : HoldsInCatalog v cells T (inside text (made def false)) o
-  looked = subst (λ (q : Place). HoldsInCatalog v cells T q o) place (looked_now v cells T o x.place (S.locks_cover.looked j x o has_open L.at.unfixed) (subst HasLooked (sym place) tt))
+  looked = subst (λ (q : SessionStatus). HoldsInCatalog v cells T q o) place (looked_now v cells T o x.place (S.locks_cover.looked j x o has_open L.at.unfixed) (subst HasLooked (sym place) tt))
 
   got : (not (in_journal S.ledger.items (o.id, 0)) ≡ true) × IsAfter T (v.reads text) def × HasAlone (contents cells) o.id
   got = subst (IsGotAt v cells T o.id (not (in_journal S.ledger.items (o.id, 0)))) place (S.locks_cover.got j x o has_open looked.lock)
@@ -112,20 +112,20 @@ module _ (v : Server) (cells : List Cell) (seats : List SeatState) {history : Hi
   same : IsSame x o y p
   same = record {
     id = refl;
-    opened = refl;
+    explicit = refl;
     script = refl;
     seq = refl;
     trees = refl;
-    frames = refl;
+    open_savepoints = refl;
     end = refl;
     lines = ap lines_at (sym place);
     text = ap text_at (sym place);
-    counts = λ tx id vs. ap (λ (q : Place). counted tx id q vs) (sym place);
+    counts = λ tx id vs. ap (λ (q : SessionStatus). counted tx id q vs) (sym place);
     visited = λ n h. put_keeps i n o.visited h;
     released = refl;
   }
 
-  none : (w : Want) → In w [] → ⊥
+  none : (w : LockRequest) → In w [] → ⊥
   none w h = h
 
   none_taken : c.holds ≡ taken o.id [] c.holds
@@ -147,7 +147,7 @@ module _ (v : Server) (cells : List Cell) (seats : List SeatState) {history : Hi
     visited = put_there i o.visited;
     acted = λ h. tt;
     goes_on = λ h. h;
-    no_index = λ after h. subst (λ (q : Place). HasAdded q o after) place h;
+    no_index = λ after h. subst (λ (q : SessionStatus). HasAdded q o after) place h;
     stays_opened = is_alone;
     looked = λ n q. looked.lock;
     intents = λ w h. absurd h;
@@ -156,7 +156,7 @@ module _ (v : Server) (cells : List Cell) (seats : List SeatState) {history : Hi
   }
 
   kept_alone : HasAlone (contents C') p.id
-  kept_alone = stayed v cells seats S j (sits s y) x o y p i (Rows c) (Rows e) [] text takes catalog_at (record { tx = o.id; want = whole X }) exclusive
+  kept_alone = stayed v cells seats S j (sits s y) x o y p i (Rows c) (Rows e) [] text takes catalog_at (record { tx = o.id; request = whole X }) exclusive
 
   -- ---- tables
 
@@ -175,7 +175,7 @@ module _ (v : Server) (cells : List Cell) (seats : List SeatState) {history : Hi
     is = L.at.stands.is;
     creates = made_so.creates;
     acted = tt;
-    exclusive = stayed v cells seats S j (sits s y) x o y p i (Rows c) (Rows e) [] text takes catalog_at (record { tx = o.id; want = whole X }) exclusive;
+    exclusive = stayed v cells seats S j (sits s y) x o y p i (Rows c) (Rows e) [] text takes catalog_at (record { tx = o.id; request = whole X }) exclusive;
   }
 
   old_here : def_at (defs_of T) c.id ≡ Some made_so.old
@@ -202,7 +202,7 @@ module _ (v : Server) (cells : List Cell) (seats : List SeatState) {history : Hi
     in_key_order = h.in_key_order;
     keys_differ = h.keys_differ;
     projections = subst (λ (cols : List ColumnDef). Each (IsSortedProjection cols c.versions) (map (new_index def.columns c.versions) def.indexes)) same_columns (new_sorted def.columns c.versions def.indexes);
-    indexes = inr (y, L.at.stands.stmt, def, it_creates, ap (def_at (defs_of (defined (plan T L.at.stands.stmt).definition T))) old_id ∙ made_so.then_at, new_ordinals def.columns c.versions def.indexes, adding);
+    indexes = inr (y, L.at.stands.stmt, def, it_creates, ap (def_at (defs_of (defined (change_set T L.at.stands.stmt).definition T))) old_id ∙ made_so.then_at, new_ordinals def.columns c.versions def.indexes, adding);
   }
 
   stands_else : (cell : TableCell) (q : Option TableDef) → StandsAs v cells seats S.ledger cell q → StandsAs v C' seats' S.ledger cell q
@@ -229,7 +229,7 @@ module _ (v : Server) (cells : List Cell) (seats : List SeatState) {history : Hi
       (cases_eq n i)
 
   -- nobody else makes an index
-  indexed_else : (n : ℕ) (z : Session) (r : OpenTransaction) → n ≢ j → HasOpen seats n z r → r.end ≡ unfixed → (q : Place) → z.place ≡ q → IsIndexed C' q
+  indexed_else : (n : ℕ) (z : Session) (r : OpenTransaction) → n ≢ j → HasOpen seats n z r → r.end ≡ unfixed → (q : SessionStatus) → z.place ≡ q → IsIndexed C' q
   indexed_else n z r ne h f (inside u (made k true)) is = absurd (ne (one_seat v cells seats S n j z x r o h has_open (alone v cells seats S o.id exclusive r.id (looked_now v cells T r z.place (S.locks_cover.looked n z r h f) (subst HasLooked (sym is) tt)).lock)))
   indexed_else n z r ne h f (inside u (made k false)) is = tt
   indexed_else n z r ne h f q is = tt
@@ -260,10 +260,10 @@ module _ (v : Server) (cells : List Cell) (seats : List SeatState) {history : Hi
     rows_agree = rows v cells seats S j (sits s y) x o y p i (Rows c) (Rows e) [] text takes;
     open_scripts = scripts v cells seats S j (sits s y) x o y p i (Rows c) (Rows e) [] text takes;
     locks_cover = covered v cells seats S j (sits s y) x o y p i (Rows c) (Rows e) [] text takes (λ l. (got.0, got.1, kept_alone))
-        (λ h. looked_stays v cells seats S j (sits s y) x o y p i (Rows c) (Rows e) [] text takes y.place p (record { lock = looked.lock; wants = looked.wants })) (λ h. absurd h);
+        (λ h. looked_stays v cells seats S j (sits s y) x o y p i (Rows c) (Rows e) [] text takes y.place p (record { lock = looked.lock; requests = looked.requests })) (λ h. absurd h);
     locks_agree = agree v cells seats S j (sits s y) x o y p i (Rows c) (Rows e) [] text takes;
     trees_are_of_events = trees v cells seats S j (sits s y) x o y p i (Rows c) (Rows e) [] text takes;
-    transcripts_agree = stage_act v cells seats S j s there x L.at.stands.role o L.at.open_one text (made def false) (made def true) place same_shown refl refl same_fits refl (λ answered a h. h) p (record { id = refl; opened = refl; script = refl; end = refl });
+    transcripts_agree = stage_act v cells seats S j s there x L.at.stands.role o L.at.open_one text (made def false) (made def true) place same_shown refl refl same_fits refl (λ answered a h. h) p (record { id = refl; explicit = refl; script = refl; end = refl });
   }
 
   -- CREATE INDEX, in its table's cell

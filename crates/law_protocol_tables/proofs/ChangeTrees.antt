@@ -1,26 +1,26 @@
 -- A change of rows keeps trees those of the events.
 use Rattle.std.proofs.Common.{◌≡◌, ◌≢◌, ℕ, zero, suc, ◌≤◌, Bool, List, ◌++◌, sym, ap, ◌∙◌, subst, arith}
-use Rattle.lg_types.specs.declared.event.Event.{Event}
-use Rattle.lg_types.specs.declared.statement.RowStmt.{RowStmt}
-use Rattle.lg_types.specs.declared.version.Version.{Version}
-use Rattle.lg_model.specs.Catalog.{Named}
-use Rattle.lg_model.specs.Changes.{Change}
-use Rattle.lg_model.specs.Script.{ScriptEnd}
-use Rattle.lg_frames.proofs.UndoneVersions.{row_undoes}
-use Rattle.lg_history.specs.Lists.{Text}
-use Rattle.lg_history.specs.Transactions.{unfixed}
-use Rattle.lg_standing.specs.Server.{Server}
-use Rattle.lg_standing.specs.Cells.{TableCell, Cell, cell_of, versions_at}
-use Rattle.lg_standing.specs.Seats.{OpenTransaction, Session, SeatState}
-use Rattle.lg_standing.specs.OpenOnes.{HasOpen}
-use Rattle.lg_standing.specs.OpenScripts.{counted}
-use Rattle.lg_standing.specs.EventsIn.{events_in}
-use Rattle.lg_standing.specs.Doing.{events_from}
-use Rattle.lg_standing.specs.Moves.{sits}
-use Rattle.lg_standing.specs.TreesAreOfEvents.{AreFrames}
-use Rattle.lg_standing.specs.StandTogether.{History, Stands}
+use Rattle.sql_types.specs.declared.event.Event.{Event}
+use Rattle.sql_types.specs.declared.statement.RowStmt.{RowStmt}
+use Rattle.sql_types.specs.declared.version.Version.{Version}
+use Rattle.spec_model.specs.Catalog.{NamedPart}
+use Rattle.spec_model.specs.Changes.{Change}
+use Rattle.spec_model.specs.Script.{ScriptEnd}
+use Rattle.law_frame.proofs.UndoneVersions.{row_undoes}
+use Rattle.spec_history.specs.Lists.{Text}
+use Rattle.spec_history.specs.Transactions.{unfixed}
+use Rattle.spec_protocol.specs.Server.{Server}
+use Rattle.spec_protocol.specs.Cells.{TableCell, Cell, cell_of, versions_at}
+use Rattle.spec_protocol.specs.Seats.{OpenTransaction, Session, SeatState}
+use Rattle.spec_protocol.specs.OpenOnes.{HasOpen}
+use Rattle.spec_protocol.specs.OpenScripts.{counted}
+use Rattle.spec_protocol.specs.EventsIn.{events_in}
+use Rattle.spec_protocol.specs.Doing.{events_from}
+use Rattle.spec_protocol.specs.Moves.{sits}
+use Rattle.spec_protocol.specs.TreesAreOfEvents.{AreOpenSavepoints}
+use Rattle.spec_protocol.specs.StandTogether.{History, Stands}
 use Rattle.law_protocol_steps.proofs.SeatsAfter.{each_open}
-use Rattle.lg_standing.proofs.NewEvents.{come_last}
+use Rattle.spec_protocol.proofs.NewEvents.{come_last}
 use Rattle.law_protocol_changes.proofs.Grown.{grown_trees}
 use Rattle.law_protocol_steps.proofs.SameOne.{no_change, trees_same}
 use Rattle.law_protocol_changes.proofs.ChangesAt as ch
@@ -28,7 +28,7 @@ use Rattle.law_protocol_changes.proofs.ChangeKeeps as keeps
 use Rattle.law_protocol_steps.proofs.OfCells.{HasItsTrees, TreesAreOfEvents, events_counted}
 use Rattle.law_protocol_steps.proofs.FreshIds.{events_of_touched}
 
-module _ (v : Server) (cells : List Cell) (seats : List SeatState) {history : History} (S : Stands v history cells seats) (j : ℕ) (s : SeatState) (x : Session) (o : OpenTransaction) (text : Text) (named : Named) (fresh : Bool)
+module _ (v : Server) (cells : List Cell) (seats : List SeatState) {history : History} (S : Stands v history cells seats) (j : ℕ) (s : SeatState) (x : Session) (o : OpenTransaction) (text : Text) (named : NamedPart) (fresh : Bool)
     (i : ℕ) (c : TableCell) (row : RowStmt) (changes : List Change) (count : ℕ) (K : ch.Changing v cells seats S j s x o text named fresh i c row changes count) where
   abbrev V' : List Version
   V' = ch.rows_then v cells seats S j s x o text named fresh i c row changes count K
@@ -72,7 +72,7 @@ module _ (v : Server) (cells : List Cell) (seats : List SeatState) {history : Hi
   here = let was = S.trees_are_of_events j x o (ch.has_open v cells seats S j s x o text named fresh i c row changes count K) K.unfixed in record {
     trees = grown_trees v c.id (events_from o.id o.seq c.id V') (events_counted C' y p) (events_counted cells x o) more_here
         (λ id l ne. events_are id ∙ ap (events_in o.id id) (same_else id ne) ∙ sym (events_were id)) o.trees (omega (arith, user)) was.trees;
-    frames = subst (λ (e : ScriptEnd). AreFrames o.id o.frames e.state.saved) (sym (ch.ends_so v cells seats S j s x o text named fresh i c row changes count K)) was.frames;
+    open_savepoints = subst (λ (e : ScriptEnd). AreOpenSavepoints o.id o.open_savepoints e.state.saved) (sym (ch.ends_so v cells seats S j s x o text named fresh i c row changes count K)) was.open_savepoints;
   }
 
   other_events : (n : ℕ) (z : Session) (r : OpenTransaction) → n ≢ j → HasOpen seats n z r → r.end ≡ unfixed → (id : ℕ) → events_counted C' z r id ≡ events_counted cells z r id
@@ -82,4 +82,4 @@ module _ (v : Server) (cells : List Cell) (seats : List SeatState) {history : Hi
   pub trees_then : TreesAreOfEvents v C' S.ledger seats'
   trees_then = each_open seats j (sits s y) x o y p (ch.goes v cells seats S j s x o text named fresh i c row changes count K) (λ n z r. r.end ≡ unfixed → HasItsTrees v C' S.ledger z r)
       (λ e. here)
-      (λ n z r ne h e. let was = S.trees_are_of_events n z r h e in record { trees = trees_same z r z r (no_change z r) v (events_counted cells z r) (events_counted C' z r) r.trees (other_events n z r ne h e) was.trees; frames = was.frames })
+      (λ n z r ne h e. let was = S.trees_are_of_events n z r h e in record { trees = trees_same z r z r (no_change z r) v (events_counted cells z r) (events_counted C' z r) r.trees (other_events n z r ne h e) was.trees; open_savepoints = was.open_savepoints })

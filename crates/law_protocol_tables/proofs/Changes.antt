@@ -5,50 +5,50 @@ use Rattle.std.proofs.lemmas.Bool.{ne_eqb, eq-eqb}
 use Rattle.std.specs.Prelude.{not, if◌then◌else◌}
 use mathlib.Core.Option.{some}
 use lib.ListN.{get_elem?}
-use Rattle.lg_types.specs.declared.journal.JournalItem.{JournalItem}
-use Rattle.lg_types.specs.declared.lock.Mode.TheVariants.{IX, X}
-use Rattle.lg_types.specs.declared.lock.Item.TheVariants.{Whole}
-use Rattle.lg_types.specs.declared.lock.Want.{Want}
-use Rattle.lg_types.specs.declared.reply.Reply.TheVariants as reply
-use Rattle.lg_types.specs.declared.statement.Stmt.{Stmt}
-use Rattle.lg_types.specs.declared.statement.Stmt.TheVariants as stmt
-use Rattle.lg_types.specs.declared.statement.RowStmt.{RowStmt}
-use Rattle.lg_types.specs.declared.statement.RowStmt.TheVariants.{Insert, Update, Delete}
-use Rattle.lg_types.specs.declared.table.TableDef.{TableDef}
-use Rattle.lg_model.specs.Keys.{Key, standing}
-use Rattle.lg_model.specs.Catalog.{Defs, defs_of, find_part}
-use Rattle.lg_model.specs.Checks.{table_of, row_statement_check}
-use Rattle.lg_model.specs.Lists.{all_some}
-use Rattle.lg_model.specs.Where.{key_fixed}
-use Rattle.lg_model.specs.Journals.{serial}
-use Rattle.lg_model.specs.Locks.{whole, by_keys, by_key_or_whole, catalog_want, cell_wants, key_inserted, row_wants, row_cell_wants, wants_conflict}
-use Rattle.lg_model.specs.Agreement.{columns_at}
-use Rattle.lg_model.specs.ScriptWants.{text_wants}
-use Rattle.lg_frames.proofs.AgreeAfter.{has_table}
-use Rattle.lg_frames.proofs.Named.{found_stands}
-use Rattle.lg_invariants.specs.Fits.{Fits}
-use Rattle.lg_history.specs.Lists.{Text, Each, In}
-use Rattle.lg_standing.specs.Server.{Server}
-use Rattle.lg_types.specs.declared.lock.Hold.{Hold}
-use Rattle.lg_standing.specs.Cells.{Index, TableCell, Cell, Rows, catalog_at, cell_of}
-use Rattle.lg_standing.specs.Seats.{OpenTransaction, found, Place, inside, Session, SeatState}
-use Rattle.lg_standing.specs.OpenOnes.{HasOpen}
-use Rattle.lg_standing.specs.Moves.{visiting, noting, sits}
-use Rattle.lg_standing.specs.WantsIn.{of_catalog, of_cell, wants_at, wants_in}
+use Rattle.sql_types.specs.declared.journal.JournalItem.{JournalItem}
+use Rattle.sql_types.specs.declared.lock.Mode.TheVariants.{IX, X}
+use Rattle.sql_types.specs.declared.lock.Item.TheVariants.{Whole}
+use Rattle.sql_types.specs.declared.lock.LockRequest.{LockRequest}
+use Rattle.sql_types.specs.declared.reply.Reply.TheVariants as reply
+use Rattle.sql_types.specs.declared.statement.Stmt.{Stmt}
+use Rattle.sql_types.specs.declared.statement.Stmt.TheVariants as stmt
+use Rattle.sql_types.specs.declared.statement.RowStmt.{RowStmt}
+use Rattle.sql_types.specs.declared.statement.RowStmt.TheVariants.{Insert, Update, Delete}
+use Rattle.sql_types.specs.declared.table.TableDef.{TableDef}
+use Rattle.spec_model.specs.Keys.{Key, live_by_key}
+use Rattle.spec_model.specs.Catalog.{Defs, defs_of, find_part}
+use Rattle.spec_model.specs.Checks.{table_of, row_statement_check}
+use Rattle.spec_model.specs.Lists.{all_some}
+use Rattle.spec_model.specs.Where.{key_fixed}
+use Rattle.spec_model.specs.Journals.{serial}
+use Rattle.spec_model.specs.Locks.{whole, by_keys, by_key_or_whole, catalog_request, cell_requests, key_inserted, row_requests, row_cell_requests, requests_conflict}
+use Rattle.spec_model.specs.Agreement.{columns_at}
+use Rattle.spec_model.specs.ScriptRequests.{text_requests}
+use Rattle.law_frame.proofs.AgreeAfter.{has_table}
+use Rattle.law_frame.proofs.NamedPart.{found_is_listed}
+use Rattle.law_journal.specs.Fits.{Fits}
+use Rattle.spec_history.specs.Lists.{Text, Each, In}
+use Rattle.spec_protocol.specs.Server.{Server}
+use Rattle.sql_types.specs.declared.lock.Hold.{Hold}
+use Rattle.spec_protocol.specs.Cells.{Index, TableCell, Cell, Rows, catalog_at, cell_of}
+use Rattle.spec_protocol.specs.Seats.{OpenTransaction, found, SessionStatus, inside, Session, SeatState}
+use Rattle.spec_protocol.specs.OpenOnes.{HasOpen}
+use Rattle.spec_protocol.specs.Moves.{visiting, noting, sits}
+use Rattle.spec_protocol.specs.RequestsIn.{of_catalog, of_cell, requests_at, requests_in}
 use Rattle.law_protocol_steps.proofs.Taken.{AreFree}
-use Rattle.lg_standing.specs.TableVisits.{reordered, ChangesRows}
-use Rattle.lg_standing.specs.LocksCover.{name_of, IsNamed, HasIntent}
-use Rattle.lg_standing.specs.StandTogether.{History, Stands}
+use Rattle.spec_protocol.specs.TableVisits.{reordered, ChangesRows}
+use Rattle.spec_protocol.specs.LocksCover.{name_of, IsNamed, HasIntent}
+use Rattle.spec_protocol.specs.StandTogether.{History, Stands}
 use Rattle.law_protocol_steps.proofs.AfterSet.{set_here, set_twice, each_at, all_at}
 use Rattle.law_protocol_steps.proofs.CellsAfter.{held_here}
 use Rattle.law_protocol_steps.proofs.Excluded.{HasX, HasNoX, has_x_or_not, excluded}
 use Rattle.law_protocol_steps.proofs.Taken.{taken_comes, taken_holds}
-use Rattle.lg_invariants.specs.Serial.{place_in}
-use Rattle.lg_standing.specs.OpenOnes.{texts_so_far, script_end}
-use Rattle.lg_standing.specs.Cells.{holds_at}
+use Rattle.law_journal.specs.Serial.{place_in}
+use Rattle.spec_protocol.specs.OpenOnes.{texts_so_far, script_end}
+use Rattle.spec_protocol.specs.Cells.{holds_at}
 use Rattle.law_protocol_steps.proofs.Defined.{IsDefined, is_defined}
 use Rattle.law_protocol_tables.proofs.KeptNow.{KeptRows, kept_script}
-use Rattle.law_protocol_tables.proofs.StandByKey.{ByKey, kept_by_key}
+use Rattle.law_protocol_tables.proofs.LiveByKey.{ByKey, kept_by_key}
 use Rattle.law_protocol_steps.proofs.RowsFor.{sound, elsewhere}
 use Rattle.law_protocol_steps.proofs.NewLine.{same_check, has_found}
 use Rattle.law_protocol_steps.proofs.Takes.{tables_now}
@@ -57,20 +57,20 @@ use Rattle.law_protocol_changes.proofs.ChangesAt.{Changing}
 use Rattle.law_protocol_changes.proofs.ChangesAt as ch
 use Rattle.law_protocol_changes.proofs.ChangeKeeps.{changes_there, indexes_then}
 use Rattle.law_protocol_tables.proofs.ChangeTrees.{trees_then}
-use Rattle.lg_standing.specs.TablesAreSerial.{KeysDiffer, index_order, IsSortedProjection, def_at}
-use Rattle.lg_model.specs.Rows.{live}
-use Rattle.lg_value.specs.declared.column.ColumnDef.{ColumnDef}
-use Rattle.lg_standing.specs.Doing.{grown, events_from, done}
-use Rattle.lg_types.specs.declared.version.Version.{Version}
+use Rattle.spec_protocol.specs.TablesAreSerial.{KeysDiffer, index_order, IsSortedProjection, def_at}
+use Rattle.spec_model.specs.Rows.{live}
+use Rattle.sql_value.specs.declared.column.ColumnDef.{ColumnDef}
+use Rattle.spec_protocol.specs.Doing.{grown, events_from, done}
+use Rattle.sql_types.specs.declared.version.Version.{Version}
 use Rattle.law_protocol_steps.proofs.OfCells.{AreIndexes, HasLooked, IsGotAt, StandsAs, TableStands, in_journal, looked_now}
 use Rattle.law_protocol_steps.proofs.TakenLocks.{all_free}
-use Rattle.lg_standing.specs.Contents.{table_found}
-use Rattle.lg_standing.specs.ActsOf.{done_acts}
+use Rattle.spec_protocol.specs.Contents.{table_found}
+use Rattle.spec_protocol.specs.ActsOf.{done_acts}
 
 -- ---- the wants of a row statement
 
-abbrev Announces : List Want → Type 0
-Announces ws = (w : Want) → In w ws → (u : Want) × In u ws × (u.item ≡ Whole) × ((u.mode ≡ IX) ⊎ (u.mode ≡ X))
+abbrev Announces : List LockRequest → Type 0
+Announces ws = (w : LockRequest) → In w ws → (u : LockRequest) × In u ws × (u.item ≡ Whole) × ((u.mode ≡ IX) ⊎ (u.mode ≡ X))
 
 keys_announced : (o : Option (List Key)) → Announces (by_keys o)
 keys_announced (Some keys) w i = (whole IX, inl refl, refl, inl refl)
@@ -80,8 +80,8 @@ key_announced : (o : Option Key) → Announces (by_key_or_whole IX X o)
 key_announced (Some key) w i = (whole IX, inl refl, refl, inl refl)
 key_announced None w i = (whole X, inl refl, refl, inr refl)
 
-pub rows_announced : (def : TableDef) (row : RowStmt) → Announces (row_wants def row)
-unfolding row_wants
+pub rows_announced : (def : TableDef) (row : RowStmt) → Announces (row_requests def row)
+unfolding row_requests
 rows_announced def (Insert table names rows) = keys_announced (all_some (map (key_inserted def.columns names) rows))
 rows_announced def (Update table sets cond) = key_announced (key_fixed def.columns cond)
 rows_announced def (Delete table cond) = key_announced (key_fixed def.columns cond)
@@ -110,7 +110,7 @@ module _ (v : Server) (cells : List Cell) (seats : List SeatState) {history : Hi
 
   got : IsNamed (tables_now S) (Some (stmt.Change L.row)) (Some L.named)
   got = subst (λ (q : Option Stmt). IsNamed (tables_now S) q (Some L.named)) reads
-      (subst (λ (q : Place). IsGotAt v cells (tables_now S) o.id (not (in_journal S.ledger.items (o.id, 0))) q) place (S.locks_cover.got j x o has_open ((looked_now v cells (tables_now S) o x.place (S.locks_cover.looked j x o has_open L.at.at.unfixed) (subst HasLooked (sym place) tt)).lock)))
+      (subst (λ (q : SessionStatus). IsGotAt v cells (tables_now S) o.id (not (in_journal S.ledger.items (o.id, 0))) q) place (S.locks_cover.got j x o has_open ((looked_now v cells (tables_now S) o x.place (S.locks_cover.looked j x o has_open L.at.at.unfixed) (subst HasLooked (sym place) tt)).lock)))
 
   finds : find_part D (table_of L.row) ≡ Some L.named
   finds = by L.row got.1
@@ -129,19 +129,19 @@ module _ (v : Server) (cells : List Cell) (seats : List SeatState) {history : Hi
   here : cell_of L.named.0.id ≡ i
   here = ap cell_of L.at.here ∙ take.cell_at i c at
 
-  wants_are : wants_in v D o.opened i text ≡ row_wants L.named.0 L.row
-  unfolding cell_wants
-  wants_are = ap (λ (q : Option Stmt). wants_at i (text_wants D o.opened q)) reads
-      ∙ ap (λ (b : Bool). (if b then of_catalog (catalog_want o.opened (stmt.Change L.row)) else []) ++ of_cell i (row_cell_wants L.row (row_statement_check D L.row))) (ne_eqb i catalog_at (λ e. let q = at.is in omega arith))
-      ∙ ap (λ q. of_cell i (row_cell_wants L.row q)) checked
-      ∙ ap (λ (b : Bool). if b then row_wants L.named.0 L.row else []) (eq-eqb (cell_of L.named.0.id) i here)
+  requests_are : requests_in v D o.explicit i text ≡ row_requests L.named.0 L.row
+  unfolding cell_requests
+  requests_are = ap (λ (q : Option Stmt). requests_at i (text_requests D o.explicit q)) reads
+      ∙ ap (λ (b : Bool). (if b then of_catalog (catalog_request o.explicit (stmt.Change L.row)) else []) ++ of_cell i (row_cell_requests L.row (row_statement_check D L.row))) (ne_eqb i catalog_at (λ e. let q = at.is in omega arith))
+      ∙ ap (λ q. of_cell i (row_cell_requests L.row q)) checked
+      ∙ ap (λ (b : Bool). if b then row_requests L.named.0 L.row else []) (eq-eqb (cell_of L.named.0.id) i here)
 
   -- ---- the locks
 
-  free : AreFree c.holds o.id (row_wants L.named.0 L.row)
-  free = all_free c.holds o.id (row_wants L.named.0 L.row) L.free
+  free : AreFree c.holds o.id (row_requests L.named.0 L.row)
+  free = all_free c.holds o.id (row_requests L.named.0 L.row) L.free
 
-  pub takes_at : take.TakesAt v cells seats S j s x o text (Some L.named) L.fresh i c (row_wants L.named.0 L.row)
+  pub takes_at : take.TakesAt v cells seats S j s x o text (Some L.named) L.fresh i c (row_requests L.named.0 L.row)
   takes_at = record {
     there = there;
     role = L.at.at.stands.role;
@@ -155,26 +155,26 @@ module _ (v : Server) (cells : List Cell) (seats : List SeatState) {history : Hi
   }
 
   abbrev cells1 : List Cell
-  cells1 = take.then_cells v cells seats S j s x o text (Some L.named) L.fresh i c (row_wants L.named.0 L.row) takes_at
+  cells1 = take.then_cells v cells seats S j s x o text (Some L.named) L.fresh i c (row_requests L.named.0 L.row) takes_at
 
   abbrev seats1 : List SeatState
-  seats1 = take.then_seats v cells seats S j s x o text (Some L.named) L.fresh i c (row_wants L.named.0 L.row) takes_at
+  seats1 = take.then_seats v cells seats S j s x o text (Some L.named) L.fresh i c (row_requests L.named.0 L.row) takes_at
 
   abbrev cell1 : TableCell
-  cell1 = take.then_cell v cells seats S j s x o text (Some L.named) L.fresh i c (row_wants L.named.0 L.row) takes_at
+  cell1 = take.then_cell v cells seats S j s x o text (Some L.named) L.fresh i c (row_requests L.named.0 L.row) takes_at
 
   abbrev x1 : Session
-  x1 = take.then_session v cells seats S j s x o text (Some L.named) L.fresh i c (row_wants L.named.0 L.row) takes_at
+  x1 = take.then_session v cells seats S j s x o text (Some L.named) L.fresh i c (row_requests L.named.0 L.row) takes_at
 
   abbrev o1 : OpenTransaction
   o1 = visiting i o
 
   pub stands_then : Stands v history cells1 seats1
-  stands_then = take.takes_there v cells seats S j s x o text (Some L.named) L.fresh i c (row_wants L.named.0 L.row) takes_at
+  stands_then = take.takes_there v cells seats S j s x o text (Some L.named) L.fresh i c (row_requests L.named.0 L.row) takes_at
 
   same_ledger : stands_then.ledger ≡ S.ledger
   unfolding stands_then
-  same_ledger = take.same_ledger v cells seats S j s x o text (Some L.named) L.fresh i c (row_wants L.named.0 L.row) takes_at
+  same_ledger = take.same_ledger v cells seats S j s x o text (Some L.named) L.fresh i c (row_requests L.named.0 L.row) takes_at
 
   same_defs : defs_of (tables_now stands_then) ≡ D
   same_defs = ap (λ (items : List JournalItem). defs_of (serial v.reads items)) (ap (λ l. l.items) same_ledger)
@@ -182,13 +182,13 @@ module _ (v : Server) (cells : List Cell) (seats : List SeatState) {history : Hi
   cell_out : get_elem? cells1 i ≡ some (Rows cell1)
   cell_out = set_here cells i (Rows c) (Rows cell1) out
 
-  free1 : AreFree cell1.holds o.id (row_wants L.named.0 L.row)
-  free1 = all_at _ (row_wants L.named.0 L.row) (λ w is. all_at _ cell1.holds (λ h has ne. ⊎_elim
-      (λ (was : In h c.holds). each_at (λ (g : Hold). g.tx ≢ o.id → wants_conflict w g.want ≡ false) c.holds h (each_at (λ (u : Want). Each (λ g. g.tx ≢ o.id → wants_conflict u g.want ≡ false) c.holds) (row_wants L.named.0 L.row) w free is) was ne)
-      (λ (new : (h.tx ≡ o.id) × In h.want (row_wants L.named.0 L.row)). absurd (ne new.0))
-      (taken_comes o.id (row_wants L.named.0 L.row) c.holds h has)))
+  free1 : AreFree cell1.holds o.id (row_requests L.named.0 L.row)
+  free1 = all_at _ (row_requests L.named.0 L.row) (λ w is. all_at _ cell1.holds (λ h has ne. ⊎_elim
+      (λ (was : In h c.holds). each_at (λ (g : Hold). g.tx ≢ o.id → requests_conflict w g.request ≡ false) c.holds h (each_at (λ (u : LockRequest). Each (λ g. g.tx ≢ o.id → requests_conflict u g.request ≡ false) c.holds) (row_requests L.named.0 L.row) w free is) was ne)
+      (λ (new : (h.tx ≡ o.id) × In h.request (row_requests L.named.0 L.row)). absurd (ne new.0))
+      (taken_comes o.id (row_requests L.named.0 L.row) c.holds h has)))
 
-  intents1 : (h : Hold) → In h cell1.holds → h.want.mode ≡ X → HasIntent cell1.holds h
+  intents1 : (h : Hold) → In h cell1.holds → h.request.mode ≡ X → HasIntent cell1.holds h
   intents1 h has m = subst (λ (hs : List Hold). HasIntent hs h) (held_here cells1 i (Rows cell1) (Rows cell1) cell_out)
       (stands_then.locks_cover.intents i h (subst (In h) (sym (held_here cells1 i (Rows cell1) (Rows cell1) cell_out)) has) m)
 
@@ -204,10 +204,10 @@ module _ (v : Server) (cells : List Cell) (seats : List SeatState) {history : Hi
     checked = ap (λ (ds : Defs). row_statement_check ds L.row) same_defs ∙ checked;
     here = L.at.here;
     columns = ap (λ (ds : Defs). columns_at ds c.id) same_defs ∙ ap (columns_at D) (sym L.at.here)
-        ∙ (found_stands 1 D (table_of L.row) L.named (sound v cells seats S j x o has_open L.at.at.unfixed).ids finds).columns;
+        ∙ (found_is_listed 1 D (table_of L.row) L.named (sound v cells seats S j x o has_open L.at.at.unfixed).ids finds).columns;
     defined = ap (λ (ds : Defs). has_table ds c.id) same_defs ∙ ap (has_table D) (sym L.at.here) ∙ has_found D (table_of L.row) L.named finds;
-    held = taken_holds o.id (row_wants L.named.0 L.row) c.holds;
-    others = λ w is r key q h has ne. excluded cell1.holds o.id (row_wants L.named.0 L.row) free1 intents1 (λ u k. let a = rows_announced L.named.0 L.row u k in (a.0, a.1, a.2)) key w is r q h has ne;
+    held = taken_holds o.id (row_requests L.named.0 L.row) c.holds;
+    others = λ w is r key q h has ne. excluded cell1.holds o.id (row_requests L.named.0 L.row) free1 intents1 (λ u k. let a = rows_announced L.named.0 L.row u k in (a.0, a.1, a.2)) key w is r q h has ne;
     changed = L.changed;
   }
 
@@ -227,7 +227,7 @@ module _ (v : Server) (cells : List Cell) (seats : List SeatState) {history : Hi
   TableStandsThen = StandsAs v cells2 seats2 stands_then.ledger cell2 (def_at (defs_of (tables_now stands_then)) c.id)
 
   module _ (stands : TableStandsThen) where
-    together : StandsBy v j history o.id o.opened (done_acts o.opened text true (reply.Changed L.count)) cells2 seats2
+    together : StandsBy v j history o.id o.explicit (done_acts o.explicit text true (reply.Changed L.count)) cells2 seats2
     together = changes_there v cells1 seats1 stands_then j (sits s x1) x1 o1 text L.named false i cell1 L.row L.changes L.count changing stands
         (trees_then v cells1 seats1 stands_then j (sits s x1) x1 o1 text L.named false i cell1 L.row L.changes L.count changing)
 
@@ -241,8 +241,8 @@ module _ (v : Server) (cells : List Cell) (seats : List SeatState) {history : Hi
         seat_is = ap₂ (λ (n : ℕ) (vs : List Version). done s L.at.at.stands (noting (o.seq + length L.changes) (grown c.id (events_from o.id o.seq c.id vs) o.trees) (visiting n o)) (reply.Changed L.count))
             (sym (take.cell_at i c at)) (ap (λ (e : TableCell). e.versions) (sym L.cell))
 
-    pub changes : StandsBy v j history o.id o.opened (done_acts o.opened text true (reply.Changed L.count)) (set cells i (Rows d)) (set seats j t)
-    changes = subst (λ (u : List SeatState). StandsBy v j history o.id o.opened (done_acts o.opened text true (reply.Changed L.count)) (set cells i (Rows d)) u) same_seats (subst (λ (u : List Cell). StandsBy v j history o.id o.opened (done_acts o.opened text true (reply.Changed L.count)) u seats2) same_cells together)
+    pub changes : StandsBy v j history o.id o.explicit (done_acts o.explicit text true (reply.Changed L.count)) (set cells i (Rows d)) (set seats j t)
+    changes = subst (λ (u : List SeatState). StandsBy v j history o.id o.explicit (done_acts o.explicit text true (reply.Changed L.count)) (set cells i (Rows d)) u) same_seats (subst (λ (u : List Cell). StandsBy v j history o.id o.explicit (done_acts o.explicit text true (reply.Changed L.count)) u seats2) same_cells together)
 
   -- ---- the table's own form: what is left to be shown is a law on rows alone
 
@@ -263,7 +263,7 @@ module _ (v : Server) (cells : List Cell) (seats : List SeatState) {history : Hi
     stands_so = subst (StandsAs v cells2 seats2 stands_then.ledger cell2) (sym defines) (record {
       columns = inr (sym same_columns);
       fit = fit;
-      in_key_order = ap (λ (cols : List ColumnDef). map (λ w. w.start) (standing cols None cell2.versions)) (sym same_columns);
+      in_key_order = ap (λ (cols : List ColumnDef). map (λ w. w.start) (live_by_key cols None cell2.versions)) (sym same_columns);
       keys_differ = keys_differ;
       projections = sorted_so c.indexes;
       indexes = subst (AreIndexes v cells2 seats2 stands_then.ledger def) (sym (same_ordinals c.indexes))
@@ -271,7 +271,7 @@ module _ (v : Server) (cells : List Cell) (seats : List SeatState) {history : Hi
     })
 
     -- INSERT, UPDATE and DELETE keep cells and seats together, where the rows that they leave fit and have different keys
-    pub changes_rows : StandsBy v j history o.id o.opened (done_acts o.opened text true (reply.Changed L.count)) (set cells i (Rows d)) (set seats j t)
+    pub changes_rows : StandsBy v j history o.id o.explicit (done_acts o.explicit text true (reply.Changed L.count)) (set cells i (Rows d)) (set seats j t)
     changes_rows = changes stands_so
 
   -- ---- fit and keys, by those of the script
@@ -297,7 +297,7 @@ module _ (v : Server) (cells : List Cell) (seats : List SeatState) {history : Hi
       (ap (λ (ds : Defs). columns_at ds c.id) (ch.then_defs v cells1 seats1 stands_then j (sits s x1) x1 o1 text L.named false i cell1 L.row L.changes L.count changing))
       (subst (KeptRows (place_in stands_then.ledger.items) (columns_at (defs_of (script_end v (tables_now stands_then) x2 o2).state.tables) c.id))
       (ch.script_rows v cells1 seats1 stands_then j (sits s x1) x1 o1 text L.named false i cell1 L.row L.changes L.count changing)
-      (kept_script v.reads stands_then.ledger.items stands_then.ledger_is_legal.legal o.id (elsewhere v cells1 seats1 stands_then j x1 o1 has_open1 L.at.at.unfixed) o.opened (texts_so_far x2 o2) c.id))
+      (kept_script v.reads stands_then.ledger.items stands_then.ledger_is_legal.legal o.id (elsewhere v cells1 seats1 stands_then j x1 o1 has_open1 L.at.at.unfixed) o.explicit (texts_so_far x2 o2) c.id))
 
   each_key : ByKey columns cell2.versions c.versions script_rows_after
   unfolding columns
@@ -323,5 +323,5 @@ module _ (v : Server) (cells : List Cell) (seats : List SeatState) {history : Hi
       (subst (λ (cols : List ColumnDef). KeysDiffer cols (live c.versions)) defines.columns was.keys_differ))
 
   -- INSERT, UPDATE and DELETE keep cells and seats together
-  pub changes_stand : StandsBy v j history o.id o.opened (done_acts o.opened text true (reply.Changed L.count)) (set cells i (Rows d)) (set seats j t)
+  pub changes_stand : StandsBy v j history o.id o.explicit (done_acts o.explicit text true (reply.Changed L.count)) (set cells i (Rows d)) (set seats j t)
   changes_stand = changes_rows defines.def defines.is defined_columns formed.0 formed.1

@@ -3,24 +3,24 @@ use Rattle.std.proofs.Common.{◌≡◌, ◌≢◌, ℕ, Bool, true, false, List
 use Rattle.std.proofs.lemmas.Bool.{eq-eqb, ne_eqb}
 use Rattle.std.specs.Prelude.{◌==◌, ◌||◌}
 use Rattle.std.specs.List.{list_any}
-use Rattle.lg_types.specs.declared.journal.JournalItem.{JournalItem}
-use Rattle.lg_types.specs.declared.journal.JournalItem.TheVariants.{Close}
-use Rattle.lg_history.specs.Lists.{Text, Each, In}
-use Rattle.lg_history.specs.Journals.{ids_of}
-use Rattle.lg_history.specs.Meaning.{Meaning}
-use Rattle.lg_history.specs.Transactions.{End, unfixed, committed, ended, on_some}
-use Rattle.lg_history.specs.Acts.{SessionAct, draws, looks, says, fails, meets, commits, ends, frees, Act, by, closes}
-use Rattle.lg_history.specs.Sessions.{SessionTransaction, drawn, asks, hears, scripts, fixes, transaction_by}
-use Rattle.lg_history.specs.Worlds.{World, first, run, step, items_by, item_of}
-use Rattle.lg_history.specs.Guards.{MayHappen, Good}
-use Rattle.lg_history.proofs.Legal.{IdsApart, apart_by, apart_close, ids_append, was_there}
-use Rattle.lg_history.proofs.Settles.{in_left, in_right}
-use Rattle.lg_history.proofs.Trace.{each_append}
-use Rattle.lg_standing.specs.Server.{Server}
-use Rattle.lg_standing.specs.Cells.{Cell}
-use Rattle.lg_standing.specs.Seats.{OpenTransaction, Session, SeatState}
-use Rattle.lg_standing.specs.OpenOnes.{HasOpen}
-use Rattle.lg_standing.specs.StandTogether.{History, Stands}
+use Rattle.sql_types.specs.declared.journal.JournalItem.{JournalItem}
+use Rattle.sql_types.specs.declared.journal.JournalItem.TheVariants.{Close}
+use Rattle.spec_history.specs.Lists.{Text, Each, In}
+use Rattle.spec_history.specs.Journals.{ids_of}
+use Rattle.spec_history.specs.Meaning.{Meaning}
+use Rattle.spec_history.specs.Transactions.{End, unfixed, committed, ended, on_some}
+use Rattle.spec_history.specs.Acts.{SessionAct, assigns_id, looks, says, fails, meets, commits, ends, releases_locks, Act, by, closes}
+use Rattle.spec_history.specs.Sessions.{SessionTransaction, drawn, asks, hears, scripts, fixes, transaction_by}
+use Rattle.spec_history.specs.Worlds.{World, first, run, step, items_by, item_of}
+use Rattle.spec_history.specs.Guards.{IsEnabled, Good}
+use Rattle.spec_history.proofs.Legal.{IdsApart, apart_by, apart_close, ids_append, was_there}
+use Rattle.spec_history.proofs.Settles.{in_left, in_right}
+use Rattle.spec_history.proofs.Trace.{each_append}
+use Rattle.spec_protocol.specs.Server.{Server}
+use Rattle.spec_protocol.specs.Cells.{Cell}
+use Rattle.spec_protocol.specs.Seats.{OpenTransaction, Session, SeatState}
+use Rattle.spec_protocol.specs.OpenOnes.{HasOpen}
+use Rattle.spec_protocol.specs.StandTogether.{History, Stands}
 use Rattle.law_protocol_steps.proofs.Ids as ids
 use Rattle.law_protocol_steps.proofs.OfCells.{in_journal}
 
@@ -48,8 +48,8 @@ still_open : (f : SessionTransaction → SessionTransaction) (o : Option Session
 still_open f o c d e same u h = ap (λ (z : SessionTransaction). z.fixed) (sym (same_one f o c d e h)) ∙ same c ∙ u
 
 module _ (q : Meaning) (db : Text) where
-  placed_here : (w : World) (s : ℕ) (a : SessionAct) (d : SessionTransaction) → MayHappen q db w (by s a) → IdsApart w → AllPlaced w → transaction_by (w.at s).transaction a ≡ Some d → Placing d.fixed d.id (ids_of (w.items ++ items_by (w.at s) a))
-  placed_here w s (draws id opened) d k i h e = no_end d.fixed d.id _ (let z : drawn id opened ≡ d = cc in ap (λ (z : SessionTransaction). z.fixed) (sym z))
+  placed_here : (w : World) (s : ℕ) (a : SessionAct) (d : SessionTransaction) → IsEnabled q db w (by s a) → IdsApart w → AllPlaced w → transaction_by (w.at s).transaction a ≡ Some d → Placing d.fixed d.id (ids_of (w.items ++ items_by (w.at s) a))
+  placed_here w s (assigns_id id explicit) d k i h e = no_end d.fixed d.id _ (let z : drawn id explicit ≡ d = cc in ap (λ (z : SessionTransaction). z.fixed) (sym z))
   placed_here w s (looks text table) d k i h e = no_end d.fixed d.id _ (still_open (asks text table) (w.at s).transaction k.0 d k.1.has (λ z. refl) k.1.unfixed e)
   placed_here w s (says line) d k i h e = no_end d.fixed d.id _ (still_open (scripts line) (w.at s).transaction k.0 d k.1.has (λ z. refl) k.1.unfixed e)
   placed_here w s (fails text) d k i h e = no_end d.fixed d.id _ (still_open (hears text true) (w.at s).transaction k.0 d k.1.has (λ z. refl) k.1.unfixed e)
@@ -61,14 +61,14 @@ module _ (q : Meaning) (db : Text) where
   placed_here w s (ends n back) d k i h e =
       subst (λ (z : SessionTransaction). Placing z.fixed z.id (ids_of (w.items ++ []))) (same_one (fixes (ended n back)) (w.at s).transaction k.mine d k.stands.has e)
       (subst (λ (l : List JournalItem). Each (λ j. j ≢ k.mine.id) (ids_of l)) (sym (append-nil w.items)) (i.outside s k.mine k.stands.has k.stands.unfixed))
-  placed_here w s frees d k i h e = cc
+  placed_here w s releases_locks d k i h e = cc
   placed_here w s a d k i h e = subst (λ (l : List JournalItem). Placing d.fixed d.id (ids_of l)) (sym (append-nil w.items)) (h s d e)
 
-  not_new : (w : World) (s u : ℕ) (a : SessionAct) (d : SessionTransaction) → MayHappen q db w (by s a) → IdsApart w → u ≢ s → (w.at u).transaction ≡ Some d → Each (λ j. j ≢ d.id) (ids_of (items_by (w.at s) a))
+  not_new : (w : World) (s u : ℕ) (a : SessionAct) (d : SessionTransaction) → IsEnabled q db w (by s a) → IdsApart w → u ≢ s → (w.at u).transaction ≡ Some d → Each (λ j. j ≢ d.id) (ids_of (items_by (w.at s) a))
   not_new w s u (commits time place) d k i ne e = subst (λ (o : Option SessionTransaction). Each (λ j. j ≢ d.id) (ids_of (item_of (w.at s) o time))) (sym k.stands.has) (i.apart s u k.mine d (λ z. ne (sym z)) k.stands.has e, tt)
   not_new w s u a d k i ne e = tt
 
-  placed_by : (w : World) (s : ℕ) (a : SessionAct) → MayHappen q db w (by s a) → IdsApart w → AllPlaced w → AllPlaced (step w (by s a))
+  placed_by : (w : World) (s : ℕ) (a : SessionAct) → IsEnabled q db w (by s a) → IdsApart w → AllPlaced w → AllPlaced (step w (by s a))
   placed_by w s a k i h u d e = ⊎_elim
       (λ (m : (u ≡ s) × (transaction_by (w.at s).transaction a ≡ Some d)). placed_here w s a d k i h m.1)
       (λ (m : (u ≢ s) × ((w.at u).transaction ≡ Some d)). subst (Placing d.fixed d.id) (sym (ids_append w.items (items_by (w.at s) a))) (placing_more d.fixed d.id (ids_of w.items) (ids_of (items_by (w.at s) a)) (not_new w s u a d k i m.0 m.1) (h u d m.1)))

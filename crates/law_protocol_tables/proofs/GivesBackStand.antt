@@ -5,75 +5,75 @@ use Rattle.std.specs.Prelude.{◌==◌, ◌&&◌, not}
 use Rattle.std.specs.List.{AllByRecursion, filter}
 use mathlib.Core.Option.{some}
 use lib.ListN.{get_elem?}
-use Rattle.lg_types.specs.declared.lock.Mode.TheVariants.{X}
-use Rattle.lg_types.specs.declared.statement.Stmt.{Stmt}
-use Rattle.lg_types.specs.declared.table.TableDef.{TableDef}
-use Rattle.lg_types.specs.declared.version.Version.{Version}
-use Rattle.lg_model.specs.Keys.{Key, of_key}
-use Rattle.lg_model.specs.Catalog.{Tables, defs_of, versions_of}
-use Rattle.lg_model.specs.Journals.{Line, serial, upto}
-use Rattle.lg_model.specs.Locks.{whole}
-use Rattle.lg_model.specs.Agreement.{columns_at}
-use Rattle.lg_model.specs.Plans.{plan, defined}
-use Rattle.lg_model.specs.Runs.{Rising, MadeBefore}
-use Rattle.lg_model.specs.Undo.{versions_undone}
-use Rattle.lg_history.specs.Lists.{Text, Each, In}
-use Rattle.lg_history.specs.Refusals.{EndsAt}
-use Rattle.lg_history.specs.Transactions.{unfixed}
-use Rattle.lg_history.proofs.Trace.{each_weaker}
-use Rattle.lg_standing.specs.Server.{Server}
-use Rattle.lg_types.specs.declared.lock.Hold.{Hold}
-use Rattle.lg_standing.specs.Cells.{Creator, TableCell, Cell, Rows, holds_at, versions_at, catalog_at, cell_of}
-use Rattle.lg_standing.specs.Seats.{OpenTransaction, made, answering, refused, Place, inside, Session, SeatState}
-use Rattle.lg_standing.specs.OpenOnes.{HasOpen, text_at, script_so_far, script_end}
-use Rattle.lg_standing.specs.OpenScripts.{counted}
-use Rattle.lg_standing.specs.Moves.{at_place, sits}
-use Rattle.lg_standing.specs.WantsIn.{wants_in, Holds, of_catalog}
-use Rattle.lg_standing.specs.TablesAreSerial.{HasActed, def_at, ordinals_of, IsAdding, IsCarried}
-use Rattle.lg_standing.specs.LocksCover.{KeepsLocks, Belongs, HasIntent, LookedFirst, IsDropping}
-use Rattle.lg_standing.specs.StandTogether.{History, Stands}
+use Rattle.sql_types.specs.declared.lock.Mode.TheVariants.{X}
+use Rattle.sql_types.specs.declared.statement.Stmt.{Stmt}
+use Rattle.sql_types.specs.declared.table.TableDef.{TableDef}
+use Rattle.sql_types.specs.declared.version.Version.{Version}
+use Rattle.spec_model.specs.Keys.{Key, of_key}
+use Rattle.spec_model.specs.Catalog.{Tables, defs_of, versions_of}
+use Rattle.spec_model.specs.Journals.{Line, serial, upto}
+use Rattle.spec_model.specs.Locks.{whole}
+use Rattle.spec_model.specs.Agreement.{columns_at}
+use Rattle.spec_model.specs.ChangeSets.{change_set, defined}
+use Rattle.spec_model.specs.Runs.{Rising, MadeBefore}
+use Rattle.spec_model.specs.Undo.{versions_undone}
+use Rattle.spec_history.specs.Lists.{Text, Each, In}
+use Rattle.spec_history.specs.Refusals.{EndsAt}
+use Rattle.spec_history.specs.Transactions.{unfixed}
+use Rattle.spec_history.proofs.Trace.{each_weaker}
+use Rattle.spec_protocol.specs.Server.{Server}
+use Rattle.sql_types.specs.declared.lock.Hold.{Hold}
+use Rattle.spec_protocol.specs.Cells.{Creator, TableCell, Cell, Rows, holds_at, versions_at, catalog_at, cell_of}
+use Rattle.spec_protocol.specs.Seats.{OpenTransaction, made, answering, refused, SessionStatus, inside, Session, SeatState}
+use Rattle.spec_protocol.specs.OpenOnes.{HasOpen, text_at, script_so_far, script_end}
+use Rattle.spec_protocol.specs.OpenScripts.{counted}
+use Rattle.spec_protocol.specs.Moves.{at_place, sits}
+use Rattle.spec_protocol.specs.RequestsIn.{requests_in, Holds, of_catalog}
+use Rattle.spec_protocol.specs.TablesAreSerial.{HasActed, def_at, ordinals_of, IsAdding, IsCarried}
+use Rattle.spec_protocol.specs.LocksCover.{KeepsLocks, Belongs, HasIntent, LookedFirst, IsDropping}
+use Rattle.spec_protocol.specs.StandTogether.{History, Stands}
 use Rattle.law_protocol_steps.proofs.AfterSet.{set_here, set_else}
 use Rattle.law_protocol_steps.proofs.SeatsAfter.{Goes, one_session, open_else, each_open}
 use Rattle.law_protocol_steps.proofs.CellsAfter.{held_here, holds_here, holds_else}
 use Rattle.law_protocol_steps.proofs.SameOne.{no_change}
 use Rattle.law_protocol_changes.proofs.ChangedRows.{was_in}
 use Rattle.law_protocol_steps.proofs.Takes.{tables_now}
-use Rattle.lg_types.specs.declared.lock.Want.{Want}
-use Rattle.lg_model.specs.Reach.{lets_change}
-use Rattle.lg_standing.specs.Cells.{CatalogCell, Catalog, versions_in}
+use Rattle.sql_types.specs.declared.lock.LockRequest.{LockRequest}
+use Rattle.spec_model.specs.Reach.{lets_change}
+use Rattle.spec_protocol.specs.Cells.{CatalogCell, Catalog, versions_in}
 use Rattle.law_protocol_steps.proofs.CellsAfter.{catalog_changed}
 use Rattle.law_protocol_changes.proofs.ChangedRows.{in_passed}
 use Rattle.law_protocol_changes.proofs.ChangeKeeps.{passes}
-use Rattle.lg_standing.specs.RowsAgree.{GoesBackTo, IsOpenedAt}
-use Rattle.lg_model.specs.Rows.{EventId}
-use Rattle.lg_types.specs.declared.reply.Reply.TheVariants as reply
-use Rattle.lg_standing.specs.CatalogVisits.{GivesBack}
-use Rattle.lg_standing.specs.OpenOnes.{lines_at}
-use Rattle.lg_model.specs.Reach.{has_key, is_exclusive}
-use Rattle.lg_model.specs.Script.{ScriptEnd}
-use Rattle.lg_history.specs.Transactions.{listed}
+use Rattle.spec_protocol.specs.RowsAgree.{GoesBackTo, IsExplicitAt}
+use Rattle.spec_model.specs.Rows.{EventId}
+use Rattle.sql_types.specs.declared.reply.Reply.TheVariants as reply
+use Rattle.spec_protocol.specs.CatalogVisits.{ReleasesCatalogLock}
+use Rattle.spec_protocol.specs.OpenOnes.{lines_at}
+use Rattle.spec_model.specs.Reach.{has_key, is_exclusive}
+use Rattle.spec_model.specs.Script.{ScriptEnd}
+use Rattle.spec_history.specs.Transactions.{listed}
 use Rattle.law_protocol_steps.proofs.SameOne.{IsSame, same_end, script_stays, trees_stay}
 use Rattle.law_protocol_steps.proofs.CellsAfter.{versions_kept}
-use Rattle.lg_types.specs.declared.lock.Mode.TheVariants as mode
+use Rattle.sql_types.specs.declared.lock.Mode.TheVariants as mode
 use Rattle.law_protocol_changes.proofs.ChangeKeeps.{passes}
 use Rattle.std.proofs.Common.{append-nil}
-use Rattle.law_protocol_steps.proofs.OfCells.{LookedAt, AreDefinitions, AreIndexes, Creates, EndLiesUnder, GoesBack, HasItsTrees, HasLock, HoldsInCatalog, IsGotAt, IsIndexed, IsOfItsScript, IsUnderLocks, IsUnderWay, LiesUnder, LocksAgree, LocksCover, RowsAgree, SeatHas, StandsAs, WantsNone, committed, in_journal, looked_now, looked_so, table_there}
-use Rattle.lg_standing.specs.TranscriptsSoFar.{FitsWith, shown_with}
-use Rattle.lg_standing.specs.Contents.{HasAlone, contents, table_found}
+use Rattle.law_protocol_steps.proofs.OfCells.{LookedAt, AreDefinitions, AreIndexes, Creates, EndLiesUnder, GoesBack, HasItsTrees, HasLock, HoldsInCatalog, IsGotAt, IsIndexed, IsOfItsScript, IsUnderLocks, IsUnderWay, LiesUnder, LocksAgree, LocksCover, RowsAgree, SeatHas, StandsAs, RequestsNone, committed, in_journal, looked_now, looked_so, table_there}
+use Rattle.spec_protocol.specs.TranscriptsSoFar.{FitsWith, shown_with}
+use Rattle.spec_protocol.specs.Contents.{HasAlone, contents, table_found}
 use Rattle.law_protocol_steps.proofs.GotMore.{got_at_more}
 use Rattle.law_protocol_steps.proofs.SeatIds.{one_seat}
 use Rattle.law_protocol_steps.proofs.Taken.{released_is}
 use Rattle.law_protocol_steps.proofs.VisitActs.{stage_act}
-use Rattle.lg_model.specs.ScriptWants.{text_wants}
+use Rattle.spec_model.specs.ScriptRequests.{text_requests}
 
 listed_is : (u : Text) (q : Option Text) → In u (listed q) → q ≡ Some u
 listed_is u None h = absurd h
 listed_is u (Some w) h = ⊎_elim (λ (e : w ≡ u). ap (λ (r : Text). Some r) e) (λ (z : ⊥). absurd z) h
 
-shared_not : (key : Key) (w : Want) → w.mode ≡ mode.S → lets_change key w ≡ false
+shared_not : (key : Key) (w : LockRequest) → w.mode ≡ mode.S → lets_change key w ≡ false
 shared_not key w e = ap (λ m. is_exclusive m && has_key key w.item) e
 
-module _ (v : Server) (cells : List Cell) (seats : List SeatState) {history : History} (S : Stands v history cells seats) (j : ℕ) (s : SeatState) (there : get_elem? seats j ≡ some s) (c d : CatalogCell) (t : SeatState) (out : get_elem? cells catalog_at ≡ some (Catalog c)) (L : GivesBack v c s d t) where
+module _ (v : Server) (cells : List Cell) (seats : List SeatState) {history : History} (S : Stands v history cells seats) (j : ℕ) (s : SeatState) (there : get_elem? seats j ≡ some s) (c d : CatalogCell) (t : SeatState) (out : get_elem? cells catalog_at ≡ some (Catalog c)) (L : ReleasesCatalogLock v c s d t) where
   abbrev T : Tables
   T = tables_now S
 
@@ -137,30 +137,30 @@ module _ (v : Server) (cells : List Cell) (seats : List SeatState) {history : Hi
   same : IsSame x o y o
   same = record {
     id = refl;
-    opened = refl;
+    explicit = refl;
     script = refl;
     seq = refl;
     trees = refl;
-    frames = refl;
+    open_savepoints = refl;
     end = refl;
     lines = ap lines_at (sym place);
     text = ap text_at (sym place);
-    counts = λ tx id vs. ap (λ (q : Place). counted tx id q vs) (sym place);
+    counts = λ tx id vs. ap (λ (q : SessionStatus). counted tx id q vs) (sym place);
     visited = λ i h. h;
     released = refl;
   }
 
-  first : WantsNone v cells T o
+  first : RequestsNone v cells T o
   first = S.locks_cover.looked_first j x o has_open L.at.unfixed (subst LookedFirst (sym place) tt)
 
   -- its locks in the catalog are S
-  mine_shares : (h : Hold) → In h (holds_at cells catalog_at) → h.tx ≡ o.id → h.want.mode ≡ mode.S
+  mine_shares : (h : Hold) → In h (holds_at cells catalog_at) → h.tx ≡ o.id → h.request.mode ≡ mode.S
   mine_shares = first.shares
 
   -- who lets rows change stays
-  stays : (n : ℕ) (key : Key) (h : Hold) → In h (holds_at cells n) → lets_change key h.want ≡ true → In h (holds_at C' n)
+  stays : (n : ℕ) (key : Key) (h : Hold) → In h (holds_at cells n) → lets_change key h.request ≡ true → In h (holds_at C' n)
   stays n key h has reach = ⊎_elim
-      (λ (e : n ≡ catalog_at). is_held n h (λ m. (let z : lets_change key h.want ≡ false = shared_not key h.want (mine_shares h (subst (λ (q : ℕ). In h (holds_at cells q)) e has) m) in cc)) has)
+      (λ (e : n ≡ catalog_at). is_held n h (λ m. (let z : lets_change key h.request ≡ false = shared_not key h.request (mine_shares h (subst (λ (q : ℕ). In h (holds_at cells q)) e has) m) in cc)) has)
       (λ (ne : n ≢ catalog_at). subst (In h) (sym (same_holds n ne)) has)
       (cases_eq n catalog_at)
 
@@ -168,20 +168,20 @@ module _ (v : Server) (cells : List Cell) (seats : List SeatState) {history : Hi
   key_same id key q = ap (λ (vs : List Version). q (of_key (columns_at (defs_of T) id) key vs)) (rows_same id)
 
   counts_same : (id : ℕ) (vs : List Version) → counted o.id id y.place vs ≡ counted o.id id x.place vs
-  counts_same id vs = ap (λ (q : Place). counted o.id id q vs) (sym place)
+  counts_same id vs = ap (λ (q : SessionStatus). counted o.id id q vs) (sym place)
 
   rows_agree : RowsAgree v C' S.ledger seats'
   rows_agree = record {
     free = λ id key l f. key_same id key (λ vs. vs) ∙ S.rows_agree.free id key l (λ h has r. f h (stays (cell_of id) key h has r) r);
     own = each_open seats j (sits s y) x o y o goes
-        (λ n z r. r.end ≡ unfixed → (id : ℕ) (key : Key) → 1 ≤ id → (h : Hold) → In h (holds_at C' (cell_of id)) → h.tx ≡ r.id → lets_change key h.want ≡ true
+        (λ n z r. r.end ≡ unfixed → (id : ℕ) (key : Key) → 1 ≤ id → (h : Hold) → In h (holds_at C' (cell_of id)) → h.tx ≡ r.id → lets_change key h.request ≡ true
         → counted r.id id z.place (of_key (columns_at (defs_of T) id) key (versions_at C' id)) ≡ of_key (columns_at (defs_of T) id) key (versions_of (script_end v T z r).state.tables id))
         (λ e id key l h has m r. counts_same id _ ∙ key_same id key (counted o.id id x.place) ∙ S.rows_agree.own j x o has_open L.at.unfixed id key l h (was_held (cell_of id) h has) m r ∙ ap (λ (q : ScriptEnd). of_key (columns_at (defs_of T) id) key (versions_of q.state.tables id)) (sym (same_end x o y o same v T)))
         (λ n z r ne g e id key l h has m q. key_same id key (counted r.id id z.place) ∙ S.rows_agree.own n z r g e id key l h (was_held (cell_of id) h has) m q);
     undone = λ id key l h has u r. key_same id key (versions_undone h.tx 0) ∙ S.rows_agree.undone id key l h (was_held (cell_of id) h has) u r;
     rising = λ id l. subst Rising (sym (rows_same id)) (S.rows_agree.rising id l);
     back = each_open seats j (sits s y) x o y o goes (λ n z r. GoesBackTo z.place r.seq) tt (λ n z r ne g. S.rows_agree.back n z r g);
-    opened = each_open seats j (sits s y) x o y o goes (λ n z r. IsOpenedAt z.place r.opened) tt (λ n z r ne g. S.rows_agree.opened n z r g);
+    explicit = each_open seats j (sits s y) x o y o goes (λ n z r. IsExplicitAt z.place r.explicit) tt (λ n z r ne g. S.rows_agree.explicit n z r g);
     before = each_open seats j (sits s y) x o y o goes
         (λ n z r. r.end ≡ unfixed → (id : ℕ) → 1 ≤ id → AllByRecursion (MadeBefore r.id r.seq) (counted r.id id z.place (versions_at C' id)))
         (λ e id l. subst (AllByRecursion (MadeBefore o.id o.seq)) (sym (counts_same id _ ∙ ap (counted o.id id x.place) (rows_same id))) (S.rows_agree.before j x o has_open L.at.unfixed id l))
@@ -199,7 +199,7 @@ module _ (v : Server) (cells : List Cell) (seats : List SeatState) {history : Hi
   none_mine : HasLock C' catalog_at o.id → ⊥
   none_mine l = not_mine_here l.hold l.has l.mine
 
-  still_held : (n id : ℕ) (w : Want) → id ≢ o.id → Holds (holds_at cells n) id w → Holds (holds_at C' n) id w
+  still_held : (n id : ℕ) (w : LockRequest) → id ≢ o.id → Holds (holds_at cells n) id w → Holds (holds_at C' n) id w
   still_held n id w ne h = record { hold = h.hold; has = is_held n h.hold (λ e. ne (sym h.mine ∙ e)) h.has; mine = h.mine; item = h.item; mode = h.mode }
 
   never_mine : (n : ℕ) (h : Hold) → In h (holds_at C' n) → h.tx ≡ o.id → ⊥
@@ -222,15 +222,15 @@ module _ (v : Server) (cells : List Cell) (seats : List SeatState) {history : Hi
       (λ (ne : n ≢ catalog_at). record { hold = t.hold; has = subst (In t.hold) (sym (same_holds n ne)) t.has; mine = t.mine; whole = t.whole; mode = t.mode })
       (cases_eq n catalog_at)
 
-  looked_then : (place : Place) (r : OpenTransaction) → r.id ≢ o.id → HoldsInCatalog v cells T place r → HoldsInCatalog v C' T place r
-  looked_then place r ne h = record { lock = lock_is catalog_at r.id ne h.lock; wants = λ u e. each_weaker (Holds (holds_at cells catalog_at) r.id) (Holds (holds_at C' catalog_at) r.id) (λ w. still_held catalog_at r.id w ne) (of_catalog (text_wants (defs_of T) r.opened (v.reads u)).catalog) (h.wants u e) }
+  looked_then : (place : SessionStatus) (r : OpenTransaction) → r.id ≢ o.id → HoldsInCatalog v cells T place r → HoldsInCatalog v C' T place r
+  looked_then place r ne h = record { lock = lock_is catalog_at r.id ne h.lock; requests = λ u e. each_weaker (Holds (holds_at cells catalog_at) r.id) (Holds (holds_at C' catalog_at) r.id) (λ w. still_held catalog_at r.id w ne) (of_catalog (text_requests (defs_of T) r.explicit (v.reads u)).catalog) (h.requests u e) }
 
-  cover_here : (n : ℕ) → KeepsLocks o n → Each (λ l. Each (Holds (holds_at C' n) o.id) (wants_in v (defs_of T) o.opened n l.0)) (script_so_far y o)
-  cover_here n u = subst (Each (λ l. Each (Holds (holds_at C' n) o.id) (wants_in v (defs_of T) o.opened n l.0))) (sym (append-nil o.script)) (⊎_elim
-      (λ (e : n ≡ catalog_at). subst (λ (m : ℕ). Each (λ l. Each (Holds (holds_at C' m) o.id) (wants_in v (defs_of T) o.opened m l.0)) o.script) (sym e)
-      (each_weaker (λ (l : Line). wants_in v (defs_of T) o.opened catalog_at l.0 ≡ []) (λ (l : Line). Each (Holds (holds_at C' catalog_at) o.id) (wants_in v (defs_of T) o.opened catalog_at l.0)) (λ l k. subst (Each (Holds (holds_at C' catalog_at) o.id)) (sym k) tt) o.script first.before))
-      (λ (ne : n ≢ catalog_at). subst (λ (hs : List Hold). Each (λ l. Each (Holds hs o.id) (wants_in v (defs_of T) o.opened n l.0)) o.script) (sym (same_holds n ne))
-      (subst (Each (λ l. Each (Holds (holds_at cells n) o.id) (wants_in v (defs_of T) o.opened n l.0))) (ap (λ (q : Place). o.script ++ lines_at q) place ∙ append-nil o.script) (S.locks_cover.cover j x o has_open n u)))
+  cover_here : (n : ℕ) → KeepsLocks o n → Each (λ l. Each (Holds (holds_at C' n) o.id) (requests_in v (defs_of T) o.explicit n l.0)) (script_so_far y o)
+  cover_here n u = subst (Each (λ l. Each (Holds (holds_at C' n) o.id) (requests_in v (defs_of T) o.explicit n l.0))) (sym (append-nil o.script)) (⊎_elim
+      (λ (e : n ≡ catalog_at). subst (λ (m : ℕ). Each (λ l. Each (Holds (holds_at C' m) o.id) (requests_in v (defs_of T) o.explicit m l.0)) o.script) (sym e)
+      (each_weaker (λ (l : Line). requests_in v (defs_of T) o.explicit catalog_at l.0 ≡ []) (λ (l : Line). Each (Holds (holds_at C' catalog_at) o.id) (requests_in v (defs_of T) o.explicit catalog_at l.0)) (λ l k. subst (Each (Holds (holds_at C' catalog_at) o.id)) (sym k) tt) o.script first.before))
+      (λ (ne : n ≢ catalog_at). subst (λ (hs : List Hold). Each (λ l. Each (Holds hs o.id) (requests_in v (defs_of T) o.explicit n l.0)) o.script) (sym (same_holds n ne))
+      (subst (Each (λ l. Each (Holds (holds_at cells n) o.id) (requests_in v (defs_of T) o.explicit n l.0))) (ap (λ (q : SessionStatus). o.script ++ lines_at q) place ∙ append-nil o.script) (S.locks_cover.cover j x o has_open n u)))
       (cases_eq n catalog_at))
 
   lies_then : (id : ℕ) (w : Version) (e : EventId) → LiesUnder cells T id w e → LiesUnder C' T id w e
@@ -247,19 +247,19 @@ module _ (v : Server) (cells : List Cell) (seats : List SeatState) {history : Hi
     intents = λ n h has m. intent_stays n h has (S.locks_cover.intents n h (was_held n h has) m);
     looked = each_open seats j (sits s y) x o y o goes (λ n z r. r.end ≡ unfixed → LookedAt v C' T z.place r) (λ e. tt) (λ n z r ne h e. looked_so v C' T r z.place (λ l. looked_then z.place r (other_id n z r ne h) (looked_now v cells T r z.place (S.locks_cover.looked n z r h e) l)));
     on_whole = λ h has. S.locks_cover.on_whole h (was_held catalog_at h has);
-    looked_first = each_open seats j (sits s y) x o y o goes (λ n z r. r.end ≡ unfixed → LookedFirst z.place → WantsNone v C' T r) (λ e h. absurd h)
+    looked_first = each_open seats j (sits s y) x o y o goes (λ n z r. r.end ≡ unfixed → LookedFirst z.place → RequestsNone v C' T r) (λ e h. absurd h)
         (λ n z r ne h e f. let was = S.locks_cover.looked_first n z r h e f in record { before = was.before; shares = λ h has m. was.shares h (was_held catalog_at h has) m; elsewhere = λ m l. was.elsewhere m (lock_was (suc m) r.id l) });
-    cover = each_open seats j (sits s y) x o y o goes (λ n z r. (m : ℕ) → KeepsLocks r m → Each (λ l. Each (Holds (holds_at C' m) r.id) (wants_in v (defs_of T) r.opened m l.0)) (script_so_far z r)) cover_here
-        (λ n z r ne h m u. each_weaker (λ (l : Line). Each (Holds (holds_at cells m) r.id) (wants_in v (defs_of T) r.opened m l.0)) (λ (l : Line). Each (Holds (holds_at C' m) r.id) (wants_in v (defs_of T) r.opened m l.0))
-        (λ l. each_weaker (Holds (holds_at cells m) r.id) (Holds (holds_at C' m) r.id) (λ w. still_held m r.id w (other_id n z r ne h)) (wants_in v (defs_of T) r.opened m l.0)) (script_so_far z r) (S.locks_cover.cover n z r h m u));
+    cover = each_open seats j (sits s y) x o y o goes (λ n z r. (m : ℕ) → KeepsLocks r m → Each (λ l. Each (Holds (holds_at C' m) r.id) (requests_in v (defs_of T) r.explicit m l.0)) (script_so_far z r)) cover_here
+        (λ n z r ne h m u. each_weaker (λ (l : Line). Each (Holds (holds_at cells m) r.id) (requests_in v (defs_of T) r.explicit m l.0)) (λ (l : Line). Each (Holds (holds_at C' m) r.id) (requests_in v (defs_of T) r.explicit m l.0))
+        (λ l. each_weaker (Holds (holds_at cells m) r.id) (Holds (holds_at C' m) r.id) (λ w. still_held m r.id w (other_id n z r ne h)) (requests_in v (defs_of T) r.explicit m l.0)) (script_so_far z r) (S.locks_cover.cover n z r h m u));
     catalog = λ n id l. let was = lock_was (suc n) id l in lock_is catalog_at id (λ e. first.elsewhere n (subst (HasLock cells (suc n)) e was)) (S.locks_cover.catalog n id was);
     definitions = λ n z r m h e l. each_open seats j (sits s y) x o y o goes (λ n z r. (m : ℕ) → EndsAt r.end m → HasLock C' catalog_at r.id → defs_of T ≡ defs_of (serial v.reads (upto S.ledger.items m)))
         (λ m e l. absurd (none_mine l))
         (λ n z r ne h m e l. S.locks_cover.definitions n z r m h e (lock_was catalog_at r.id l)) n z r h m e l;
     got = each_open seats j (sits s y) x o y o goes (λ n z r. HasLock C' catalog_at r.id → IsGotAt v C' T r.id (not (in_journal S.ledger.items (r.id, 0))) z.place) (λ l. tt)
         (λ n z r ne h l. got_at_more v T (HasAlone (contents cells) r.id) (HasAlone (contents C') r.id) (not (in_journal S.ledger.items (r.id, 0))) (λ has. is_held catalog_at _ (other_id n z r ne h) has) z.place (S.locks_cover.got n z r h (lock_was catalog_at r.id l)));
-    dropping = each_open seats j (sits s y) x o y o goes (λ n z r. IsDropping z.place r → In (record { tx = r.id; want = whole X }) (holds_at C' catalog_at)) (λ h. absurd h)
-        (λ n z r ne g h. is_held catalog_at (record { tx = r.id; want = whole X }) (other_id n z r ne g) (S.locks_cover.dropping n z r g h));
+    dropping = each_open seats j (sits s y) x o y o goes (λ n z r. IsDropping z.place r → In (record { tx = r.id; request = whole X }) (holds_at C' catalog_at)) (λ h. absurd h)
+        (λ n z r ne g h. is_held catalog_at (record { tx = r.id; request = whole X }) (other_id n z r ne g) (S.locks_cover.dropping n z r g h));
     under = λ id l. subst (Each (IsUnderLocks v C' S.ledger id)) (sym (rows_same id))
         (each_weaker (IsUnderLocks v cells S.ledger id) (IsUnderLocks v C' S.ledger id) (λ w u. record { start = λ q. lies_then id w w.start (u.start q); end = end_then id w w.end u.end }) (versions_at cells id) (S.locks_cover.under id l));
   }
@@ -290,7 +290,7 @@ module _ (v : Server) (cells : List Cell) (seats : List SeatState) {history : Hi
     is = k.is;
     creates = k.creates;
     acted = k.acted;
-    exclusive = is_held catalog_at (record { tx = k.o.id; want = whole X }) (λ m. not_mine z stmt k (one_seat v cells seats S k.j j z x k.o o k.has has_open m)) k.exclusive;
+    exclusive = is_held catalog_at (record { tx = k.o.id; request = whole X }) (λ m. not_mine z stmt k (one_seat v cells seats S k.j j z x k.o o k.has has_open m)) k.exclusive;
   }
 
   definitions_then : AreDefinitions v C' seats' S.ledger d.defs d.creator
@@ -300,12 +300,12 @@ module _ (v : Server) (cells : List Cell) (seats : List SeatState) {history : Hi
 
   creator_then : (k : Creator) → d.creator ≡ Some k → GoesBack v C' S.ledger k
   creator_then k e = let was = S.tables_are_serial.goes_back k (ap (λ (q : CatalogCell). q.creator) (sym is_catalog) ∙ ap (λ (q : CatalogCell). q.creator) (sym L.cell) ∙ e) in
-      record { exclusive = is_held catalog_at (record { tx = k.tx; want = whole X }) (λ m. (let z : X ≡ mode.S = mine_shares (record { tx = k.tx; want = whole X }) was.exclusive m in cc)) was.exclusive; before = was.before }
+      record { exclusive = is_held catalog_at (record { tx = k.tx; request = whole X }) (λ m. (let z : X ≡ mode.S = mine_shares (record { tx = k.tx; request = whole X }) was.exclusive m in cc)) was.exclusive; before = was.before }
 
   indexes_then : (def : TableDef) (xs : List (List ℕ)) → AreIndexes v cells seats S.ledger def xs → AreIndexes v C' seats' S.ledger def xs
   unfolding creates_else
   indexes_then def xs h = ⊎_elim (λ (e : xs ≡ ordinals_of def.indexes). inl e)
-      (λ (k : (z : Session) × (st : Stmt) × (after : TableDef) × (by : Creates v cells seats S.ledger z st) × (def_at (defs_of (defined (plan T st).definition T)) def.id ≡ Some after) × (xs ≡ ordinals_of after.indexes) × IsAdding z.place by.o after (cell_of def.id)).
+      (λ (k : (z : Session) × (st : Stmt) × (after : TableDef) × (by : Creates v cells seats S.ledger z st) × (def_at (defs_of (defined (change_set T st).definition T)) def.id ≡ Some after) × (xs ≡ ordinals_of after.indexes) × IsAdding z.place by.o after (cell_of def.id)).
       inr (k.0, k.1, k.2, creates_else k.0 k.1 k.3, k.4, k.5, k.6)) h
 
   table_was : (n : ℕ) (cell : TableCell) → table_found (get_elem? C' n) ≡ some cell → table_found (get_elem? cells n) ≡ some cell
@@ -314,7 +314,7 @@ module _ (v : Server) (cells : List Cell) (seats : List SeatState) {history : Hi
       (λ (ne : n ≢ catalog_at). ap table_found (sym (set_else cells catalog_at n (Catalog d) ne) ∙ e))
       (cases_eq n catalog_at)
 
-  indexed_else : (place : Place) → IsIndexed cells place → IsIndexed C' place
+  indexed_else : (place : SessionStatus) → IsIndexed cells place → IsIndexed C' place
   indexed_else (inside at (made def true)) was = λ m cell f k. was m cell (table_was m cell f) k
   indexed_else (inside at (made def false)) was = tt
   indexed_else place was = tt
@@ -359,5 +359,5 @@ module _ (v : Server) (cells : List Cell) (seats : List SeatState) {history : Hi
     trees_are_of_events = each_open seats j (sits s y) x o y o goes (λ n z r. r.end ≡ unfixed → HasItsTrees v C' S.ledger z r)
         (λ e. trees_stay x o y o same v cells C' S.ledger rows_same (S.trees_are_of_events j x o has_open L.at.unfixed))
         (λ n z r ne h e. trees_stay z r z r (no_change z r) v cells C' S.ledger rows_same (S.trees_are_of_events n z r h e));
-    transcripts_agree = stage_act v cells seats S j s there x L.at.stands.role o L.at.open_one text (refused (reply.Refused L.refusal)) (answering (reply.Refused L.refusal) None) place same_shown refl refl same_fits refl (λ answered a h. h) o (record { id = refl; opened = refl; script = refl; end = refl });
+    transcripts_agree = stage_act v cells seats S j s there x L.at.stands.role o L.at.open_one text (refused (reply.Refused L.refusal)) (answering (reply.Refused L.refusal) None) place same_shown refl refl same_fits refl (λ answered a h. h) o (record { id = refl; explicit = refl; script = refl; end = refl });
   })

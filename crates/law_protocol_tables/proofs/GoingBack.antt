@@ -2,13 +2,13 @@
 use Rattle.std.proofs.Common.{◌≡◌, ℕ, ◌∷◌, List, set, Some, sym, ap, ◌∙◌, subst}
 use mathlib.Core.Option.{some}
 use lib.ListN.{get_elem?}
-use Rattle.lg_history.specs.Lists.{In}
-use Rattle.lg_standing.specs.Server.{Server}
-use Rattle.lg_standing.specs.Cells.{TableCell, Cell, Rows, cell_of}
-use Rattle.lg_standing.specs.Seats.{going_back, inside, SeatState}
-use Rattle.lg_standing.specs.Moves.{releasing, at_place, sits}
-use Rattle.lg_standing.specs.UndoVisits.{UndoesTo, ReleasesTable}
-use Rattle.lg_standing.specs.StandTogether.{History, Stands}
+use Rattle.spec_history.specs.Lists.{In}
+use Rattle.spec_protocol.specs.Server.{Server}
+use Rattle.spec_protocol.specs.Cells.{TableCell, Cell, Rows, cell_of}
+use Rattle.spec_protocol.specs.Seats.{going_back, inside, SeatState}
+use Rattle.spec_protocol.specs.Moves.{releasing, at_place, sits}
+use Rattle.spec_protocol.specs.UndoVisits.{UndoesTo, ReleasesTable}
+use Rattle.spec_protocol.specs.StandTogether.{History, Stands}
 use Rattle.law_protocol_steps.proofs.TakesInTable.{table_place, cell_at}
 use Rattle.law_protocol_tables.proofs.UndoesStand.{undoes_stand}
 use Rattle.law_protocol_tables.proofs.ReleasesStand.{releases_stand}

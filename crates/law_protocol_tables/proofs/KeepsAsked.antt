@@ -2,19 +2,19 @@
 use Rattle.std.proofs.Common.{◌≡◌, ◌⊎◌, ℕ, List, ◌++◌, map, set, refl, sym, ap, ◌∙◌, subst, inl, inr, ⊎_elim}
 use mathlib.Core.Option.{some}
 use lib.ListN.{get_elem?}
-use Rattle.lg_types.specs.declared.lock.Hold.{Hold}
-use Rattle.lg_model.specs.Catalog.{Defs, defs_of}
-use Rattle.lg_model.specs.Journals.{serial}
-use Rattle.lg_history.specs.Lists.{Each, In}
-use Rattle.lg_history.specs.Acts.{SessionAct, by}
-use Rattle.lg_standing.specs.Server.{Server}
-use Rattle.lg_standing.specs.Cells.{Cell, Ledger, ledger_at, holds_at, holds_in}
-use Rattle.lg_standing.specs.Contents.{contents}
-use Rattle.lg_standing.specs.Seats.{SeatState}
-use Rattle.lg_standing.specs.LocksWereAsked.{IsAskedFor}
-use Rattle.lg_standing.specs.StandTogether.{History, LocksAskedFor, Stands, StandsAfter}
+use Rattle.sql_types.specs.declared.lock.Hold.{Hold}
+use Rattle.spec_model.specs.Catalog.{Defs, defs_of}
+use Rattle.spec_model.specs.Journals.{serial}
+use Rattle.spec_history.specs.Lists.{Each, In}
+use Rattle.spec_history.specs.Acts.{SessionAct, by}
+use Rattle.spec_protocol.specs.Server.{Server}
+use Rattle.spec_protocol.specs.Cells.{Cell, Ledger, ledger_at, holds_at, holds_in}
+use Rattle.spec_protocol.specs.Contents.{contents}
+use Rattle.spec_protocol.specs.Seats.{SeatState}
+use Rattle.spec_protocol.specs.LocksWereAsked.{IsAskedFor}
+use Rattle.spec_protocol.specs.StandTogether.{History, LocksAskedFor, Stands, StandsAfter}
 use Rattle.law_protocol_steps.proofs.ActedFor.{sessions_at}
-use Rattle.law_protocol_tables.proofs.AskedStays.{DrawsNone, for_lock, locks_stay}
+use Rattle.law_protocol_tables.proofs.AskedStays.{AssignsNoId, for_lock, locks_stay}
 use Rattle.law_protocol_steps.proofs.CellsAfter.{each_holds, held_here}
 
 -- the definitions of the journal
@@ -28,7 +28,7 @@ module _ (v : Server) {h g : History} {cells then_cells : List Cell} {seats then
 
 module _ (v : Server) {history : History} {cells : List Cell} {seats : List SeatState} (st : Stands v history cells seats) where
   -- after acts that draw no id, where each lock was there and is asked for over the journal's definitions then, or is a new one that is
-  pub stay_asked_over : {j : ℕ} {acts : List SessionAct} {then_cells : List Cell} {then_seats : List SeatState} (after : StandsAfter v j history acts then_cells then_seats) → Each DrawsNone acts
+  pub stay_asked_over : {j : ℕ} {acts : List SessionAct} {then_cells : List Cell} {then_seats : List SeatState} (after : StandsAfter v j history acts then_cells then_seats) → Each AssignsNoId acts
       → ((i : ℕ) (lock : Hold) → In lock (holds_at cells i) → IsAskedFor v (sessions_at history) (defs_at after.stands) i lock)
       → ((i : ℕ) (lock : Hold) → In lock (holds_at then_cells i) → In lock (holds_at cells i) ⊎ IsAskedFor v (sessions_at (history ++ map (by after.session) acts)) (defs_at after.stands) i lock)
       → LocksAskedFor after.stands
@@ -37,7 +37,7 @@ module _ (v : Server) {history : History} {cells : List Cell} {seats : List Seat
 
 module _ (v : Server) {history : History} {cells : List Cell} {seats : List SeatState} (st : Stands v history cells seats) (asked : LocksAskedFor st) where
   -- where the journal has the same definitions
-  pub stay_asked : {j : ℕ} {acts : List SessionAct} {then_cells : List Cell} {then_seats : List SeatState} (after : StandsAfter v j history acts then_cells then_seats) → Each DrawsNone acts
+  pub stay_asked : {j : ℕ} {acts : List SessionAct} {then_cells : List Cell} {then_seats : List SeatState} (after : StandsAfter v j history acts then_cells then_seats) → Each AssignsNoId acts
       → defs_at st ≡ defs_at after.stands
       → ((i : ℕ) (lock : Hold) → In lock (holds_at then_cells i) → In lock (holds_at cells i) ⊎ IsAskedFor v (sessions_at (history ++ map (by after.session) acts)) (defs_at after.stands) i lock)
       → LocksAskedFor after.stands
@@ -45,7 +45,7 @@ module _ (v : Server) {history : History} {cells : List Cell} {seats : List Seat
 
   -- where cells and history stay
   pub still_asked_for : {then_seats : List SeatState} (after : Stands v history cells then_seats) → LocksAskedFor after
-  still_asked_for after i lock has = for_lock v (sessions_at history) (sessions_at history) _ _ i lock (ap (λ l. defs_of (serial v.reads l.items)) (sym (same_ledger v st after refl))) (asked i lock has) (λ opened a w. w)
+  still_asked_for after i lock has = for_lock v (sessions_at history) (sessions_at history) _ _ i lock (ap (λ l. defs_of (serial v.reads l.items)) (sym (same_ledger v st after refl))) (asked i lock has) (λ explicit a w. w)
 
 -- ---- locks of one cell
 

@@ -4,28 +4,28 @@ use Rattle.std.proofs.Common.{◌≡◌, ℕ, suc, ◌<◌, Bool, true, false, L
 use Rattle.std.proofs.lemmas.Bool.{ne_eqb, eq-eqb}
 use Rattle.std.specs.Prelude.{◌==◌, if◌then◌else◌, IfSome}
 use Rattle.std.specs.List.{AllByRecursion}
-use Rattle.lg_value.specs.declared.column.ColumnDef.{ColumnDef}
-use Rattle.lg_types.specs.declared.journal.JournalItem.{JournalItem}
-use Rattle.lg_types.specs.declared.journal.JournalItem.TheVariants.{Tx, Close}
-use Rattle.lg_types.specs.declared.version.Version.{Version}
-use Rattle.lg_model.specs.Rows.{EventId}
-use Rattle.lg_model.specs.Catalog.{Tables, defs_of, versions_of}
-use Rattle.lg_model.specs.Agreement.{columns_at}
-use Rattle.lg_model.specs.Journals.{IsLegal, IsOther, tx_count, serial}
-use Rattle.lg_model.specs.Script.{Reading, script}
-use Rattle.lg_frames.proofs.Alls.{all_weaker}
-use Rattle.lg_frames.proofs.LegalSound.{legal_sound}
-use Rattle.lg_invariants.specs.Fits.{Fits}
-use Rattle.lg_invariants.specs.Kept.{IsEarlier, AllApart, IsPast, KeptTable, Kept}
-use Rattle.lg_invariants.specs.Serial.{place_in, HasTx, IsOf, TableOf}
-use Rattle.lg_invariants.proofs.Serials.{no_number, legal_tables, legal_described}
-use Rattle.lg_invariants.proofs.Scripts.{script_both}
+use Rattle.sql_value.specs.declared.column.ColumnDef.{ColumnDef}
+use Rattle.sql_types.specs.declared.journal.JournalItem.{JournalItem}
+use Rattle.sql_types.specs.declared.journal.JournalItem.TheVariants.{Tx, Close}
+use Rattle.sql_types.specs.declared.version.Version.{Version}
+use Rattle.spec_model.specs.Rows.{EventId}
+use Rattle.spec_model.specs.Catalog.{Tables, defs_of, versions_of}
+use Rattle.spec_model.specs.Agreement.{columns_at}
+use Rattle.spec_model.specs.Journals.{IsLegal, IsOther, tx_count, serial}
+use Rattle.spec_model.specs.Script.{Reading, script}
+use Rattle.law_frame.proofs.Alls.{all_weaker}
+use Rattle.law_frame.proofs.LegalSound.{legal_sound}
+use Rattle.law_journal.specs.Fits.{Fits}
+use Rattle.law_journal.specs.Kept.{IsEarlier, AllApart, IsPast, KeptTable, Kept}
+use Rattle.law_journal.specs.Serial.{place_in, HasTx, IsOf, TableOf}
+use Rattle.law_journal.proofs.Serials.{no_number, legal_tables, legal_described}
+use Rattle.law_journal.proofs.Scripts.{script_both}
 
 -- ---- places
 
 before_all : (items : List JournalItem) (id : ℕ) → HasTx items id → place_in items id < tx_count items
 before_all [] id h = absurd h
-before_all (Tx other session time opened lines ∷ is) id h = by (other == id) refl (before_all is id)
+before_all (Tx other session time explicit lines ∷ is) id h = by (other == id) refl (before_all is id)
   where
     by : (b : Bool) → (other == id) ≡ b → (HasTx is id → place_in is id < tx_count is) → (if b then 0 else suc (place_in is id)) < suc (tx_count is)
     by true e rest = omega arith
@@ -34,7 +34,7 @@ before_all (Close k ∷ is) id h = before_all is id h
 
 behind_all : (items : List JournalItem) (id : ℕ) → AllByRecursion (IsOther id) items → place_in items id ≡ tx_count items
 behind_all [] id h = refl
-behind_all (Tx other session time opened lines ∷ is) id h = rw (ne_eqb other id h.0) (ap suc (behind_all is id h.1))
+behind_all (Tx other session time explicit lines ∷ is) id h = rw (ne_eqb other id h.0) (ap suc (behind_all is id h.1))
 behind_all (Close k ∷ is) id h = behind_all is id h.1
 
 -- ---- one table
@@ -87,6 +87,6 @@ module _ (reads : Reading) (items : List JournalItem) (legal : IsLegal reads ite
     }
 
     -- and of those after the script of a transaction that the journal doesn't have
-    pub kept_script : (opened : Bool) (texts : List (List ℕ)) (id : ℕ) → KeptRows place (columns_at (defs_of (script reads opened T tx texts).state.tables) id) (versions_of (script reads opened T tx texts).state.tables id)
-    kept_script opened texts id = kept_at place (tx, (script reads opened T tx texts).state.seq) id (script reads opened T tx texts).state.tables
-        (script_both place tx reads opened T texts (kept_now, legal_described reads items legal)).0.0.each
+    pub kept_script : (explicit : Bool) (texts : List (List ℕ)) (id : ℕ) → KeptRows place (columns_at (defs_of (script reads explicit T tx texts).state.tables) id) (versions_of (script reads explicit T tx texts).state.tables id)
+    kept_script explicit texts id = kept_at place (tx, (script reads explicit T tx texts).state.seq) id (script reads explicit T tx texts).state.tables
+        (script_both place tx reads explicit T texts (kept_now, legal_described reads items legal)).0.0.each

@@ -10,13 +10,13 @@ pub mod GoingBack
 pub mod KeepsAsked
 pub mod KeptNow
 pub mod MetLock
-pub mod PassedWants
+pub mod PassedRequests
 pub mod ReadsSystemStands
 pub mod Releases
 pub mod ReleasesCatalogStand
 pub mod ReleasesStand
 pub mod RowsVisits
-pub mod StandByKey
+pub mod LiveByKey
 pub mod StopsAtLock
 pub mod StopsForMemory
 pub mod TranscriptVisits

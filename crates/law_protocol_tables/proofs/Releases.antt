@@ -6,26 +6,26 @@ use Rattle.std.specs.Prelude.{◌==◌, not}
 use Rattle.std.specs.List.{AllByRecursion}
 use mathlib.Core.Option.{some}
 use lib.ListN.{get_elem?}
-use Rattle.lg_value.specs.declared.column.ColumnDef.{ColumnDef}
-use Rattle.lg_types.specs.declared.version.Version.{Version}
-use Rattle.lg_model.specs.Keys.{Key, of_key}
-use Rattle.lg_model.specs.Catalog.{Tables, defs_of, versions_of}
-use Rattle.lg_model.specs.Agreement.{columns_at}
-use Rattle.lg_model.specs.Reach.{lets_change}
-use Rattle.lg_model.specs.Runs.{Rising, MadeBefore}
-use Rattle.lg_model.specs.Undo.{versions_undone}
-use Rattle.lg_frames.proofs.UndoneVersions.{nothing_undone}
-use Rattle.lg_history.specs.Lists.{In}
-use Rattle.lg_history.specs.Transactions.{unfixed}
-use Rattle.lg_standing.specs.Server.{Server}
-use Rattle.lg_types.specs.declared.lock.Hold.{Hold}
-use Rattle.lg_standing.specs.Cells.{TableCell, Cell, Rows, holds_at, versions_at, cell_of}
-use Rattle.lg_standing.specs.Seats.{OpenTransaction, Place, Session, session, SeatState}
-use Rattle.lg_standing.specs.OpenOnes.{HasOpen, script_end}
-use Rattle.lg_standing.specs.OpenScripts.{counted}
-use Rattle.lg_standing.specs.Moves.{releasing, at_place, sits}
-use Rattle.lg_standing.specs.RowsAgree.{GoesBackTo, IsOpenedAt}
-use Rattle.lg_standing.specs.StandTogether.{History, Stands}
+use Rattle.sql_value.specs.declared.column.ColumnDef.{ColumnDef}
+use Rattle.sql_types.specs.declared.version.Version.{Version}
+use Rattle.spec_model.specs.Keys.{Key, of_key}
+use Rattle.spec_model.specs.Catalog.{Tables, defs_of, versions_of}
+use Rattle.spec_model.specs.Agreement.{columns_at}
+use Rattle.spec_model.specs.Reach.{lets_change}
+use Rattle.spec_model.specs.Runs.{Rising, MadeBefore}
+use Rattle.spec_model.specs.Undo.{versions_undone}
+use Rattle.law_frame.proofs.UndoneVersions.{nothing_undone}
+use Rattle.spec_history.specs.Lists.{In}
+use Rattle.spec_history.specs.Transactions.{unfixed}
+use Rattle.spec_protocol.specs.Server.{Server}
+use Rattle.sql_types.specs.declared.lock.Hold.{Hold}
+use Rattle.spec_protocol.specs.Cells.{TableCell, Cell, Rows, holds_at, versions_at, cell_of}
+use Rattle.spec_protocol.specs.Seats.{OpenTransaction, SessionStatus, Session, session, SeatState}
+use Rattle.spec_protocol.specs.OpenOnes.{HasOpen, script_end}
+use Rattle.spec_protocol.specs.OpenScripts.{counted}
+use Rattle.spec_protocol.specs.Moves.{releasing, at_place, sits}
+use Rattle.spec_protocol.specs.RowsAgree.{GoesBackTo, IsExplicitAt}
+use Rattle.spec_protocol.specs.StandTogether.{History, Stands}
 use Rattle.law_protocol_steps.proofs.SeatsAfter.{Goes, each_open}
 use Rattle.law_protocol_steps.proofs.CellsAfter.{held_here, holds_here, holds_else, versions_here, were_here, versions_else}
 use Rattle.law_protocol_changes.proofs.ChangedRows.{in_passed, was_in, undone_of_key, rising_undone, undone_untouched, IsCounted, all_count, some_undone, counted_is, undone_before}
@@ -37,7 +37,7 @@ use Rattle.law_protocol_steps.proofs.TakesInTable.{IsAtPlace, table_place, cell_
 use Rattle.law_protocol_steps.proofs.OfCells.{IsFree, RowsAgree, in_journal}
 use Rattle.law_protocol_changes.proofs.Apart.{x_apart}
 use Rattle.law_protocol_steps.proofs.Ids.{others}
-use Rattle.lg_model.specs.Holds.{released}
+use Rattle.spec_model.specs.Holds.{released}
 use Rattle.law_protocol_steps.proofs.Taken.{released_is}
 
 -- what is left of the versions, by whether the transaction is committed
@@ -45,7 +45,7 @@ abbrev pub left_by : Bool → ℕ → List Version → List Version
 left_by true tx vs = vs
 left_by false tx vs = versions_undone tx 0 vs
 
-pub record GivesUp (v : Server) (cells : List Cell) (seats : List SeatState) {history : History} (S : Stands v history cells seats) (j : ℕ) (s : SeatState) (x : Session) (o : OpenTransaction) (i : ℕ) (c d : TableCell) (placed : Bool) : Type 0 where
+pub record ReleasesTableLocks (v : Server) (cells : List Cell) (seats : List SeatState) {history : History} (S : Stands v history cells seats) (j : ℕ) (s : SeatState) (x : Session) (o : OpenTransaction) (i : ℕ) (c d : TableCell) (placed : Bool) : Type 0 where
   pub there : get_elem? seats j ≡ some s
   pub role : s.role ≡ session x
   pub open_one : x.open_one ≡ Some o
@@ -56,7 +56,7 @@ pub record GivesUp (v : Server) (cells : List Cell) (seats : List SeatState) {hi
   pub versions : d.versions ≡ left_by placed o.id c.versions
   pub holds : d.holds ≡ released c.holds o.id
 
-module _ (v : Server) (cells : List Cell) (seats : List SeatState) {history : History} (S : Stands v history cells seats) (j : ℕ) (s : SeatState) (x : Session) (o : OpenTransaction) (i : ℕ) (c d : TableCell) (placed : Bool) (K : GivesUp v cells seats S j s x o i c d placed) where
+module _ (v : Server) (cells : List Cell) (seats : List SeatState) {history : History} (S : Stands v history cells seats) (j : ℕ) (s : SeatState) (x : Session) (o : OpenTransaction) (i : ℕ) (c d : TableCell) (placed : Bool) (K : ReleasesTableLocks v cells seats S j s x o i c d placed) where
   abbrev pub T : Tables
   T = tables_now S
 
@@ -150,17 +150,17 @@ module _ (v : Server) (cells : List Cell) (seats : List SeatState) {history : Hi
   free_here key f = by (has_x_or_not (holds_at cells (cell_of c.id)) o.id key)
     where
       before_too : HasNoX (holds_at cells (cell_of c.id)) o.id key → IsFree (holds_at cells (cell_of c.id)) S.ledger key
-      before_too free h has reach = ⊎_elim (λ (m : h.tx ≡ o.id). absurd (let z : lets_change key h.want ≡ false = free h has m in cc)) (λ (ne : h.tx ≢ o.id). f h (is_held (cell_of c.id) h ne has) reach) (cases_eq h.tx o.id)
+      before_too free h has reach = ⊎_elim (λ (m : h.tx ≡ o.id). absurd (let z : lets_change key h.request ≡ false = free h has m in cc)) (λ (ne : h.tx ≢ o.id). f h (is_held (cell_of c.id) h ne has) reach) (cases_eq h.tx o.id)
 
       by : HasX (holds_at cells (cell_of c.id)) o.id key ⊎ HasNoX (holds_at cells (cell_of c.id)) o.id key → of_key columns key (versions_at C' c.id) ≡ of_key columns key (versions_of T c.id)
       by (inl k) = ap (of_key columns key) (rows_are ∙ ap (left_by placed o.id) (sym rows_were)) ∙ given placed K.is_placed key k
       by (inr free) = kept_key key free ∙ S.rows_agree.free c.id key one_le (before_too free)
 
   -- who still has X there isn't this one
-  pub none_besides : (key : Key) (h : Hold) → In h (holds_at C' (cell_of c.id)) → h.tx ≢ o.id → lets_change key h.want ≡ true → HasNoX (holds_at cells (cell_of c.id)) o.id key
-  none_besides key h has ne reach g k m = by (lets_change key g.want) refl
+  pub none_besides : (key : Key) (h : Hold) → In h (holds_at C' (cell_of c.id)) → h.tx ≢ o.id → lets_change key h.request ≡ true → HasNoX (holds_at cells (cell_of c.id)) o.id key
+  none_besides key h has ne reach g k m = by (lets_change key g.request) refl
     where
-      by : (b : Bool) → lets_change key g.want ≡ b → b ≡ false
+      by : (b : Bool) → lets_change key g.request ≡ b → b ≡ false
       by true e = absurd (x_apart v cells seats S (cell_of c.id) key g h k (was_held (cell_of c.id) h has) (λ q. ne (q ∙ m)) e reach)
       by false e = refl
 
@@ -178,7 +178,7 @@ module _ (v : Server) (cells : List Cell) (seats : List SeatState) {history : Hi
   rising_left true r = r
   rising_left false r = rising_undone o.id 0 c.versions r
 
-  pub still_before : (b : Bool) (tx n id : ℕ) (place : Place) → IsCounted tx id place → GoesBackTo place n → AllByRecursion (MadeBefore tx n) (counted tx id place c.versions) → AllByRecursion (MadeBefore tx n) (counted tx id place (left_by b o.id c.versions))
+  pub still_before : (b : Bool) (tx n id : ℕ) (place : SessionStatus) → IsCounted tx id place → GoesBackTo place n → AllByRecursion (MadeBefore tx n) (counted tx id place c.versions) → AllByRecursion (MadeBefore tx n) (counted tx id place (left_by b o.id c.versions))
   still_before true tx n id place k back h = h
   still_before false tx n id place (all_count same) back h = subst (AllByRecursion (MadeBefore tx n)) (sym (same _)) (undone_untouched tx o.id 0 n c.versions (subst (AllByRecursion (MadeBefore tx n)) (same _) h))
   still_before false tx n id place (some_undone seq to same) back h = subst (AllByRecursion (MadeBefore tx n)) (sym (same _)) (subst (λ (m : ℕ). AllByRecursion (MadeBefore tx m) (versions_undone tx seq (versions_undone o.id 0 c.versions))) (to n back) (undone_before tx seq _))
@@ -188,20 +188,20 @@ module _ (v : Server) (cells : List Cell) (seats : List SeatState) {history : Hi
     free = λ id key l. by_table (λ id. IsFree (holds_at C' (cell_of id)) S.ledger key → of_key (columns_at (defs_of T) id) key (versions_at C' id) ≡ of_key (columns_at (defs_of T) id) key (versions_of T id))
         (free_here key) (λ id l ne f. key_else id key (λ vs. vs) ne ∙ S.rows_agree.free id key l (same_holds_else id key ne f)) id l;
     own = each_open seats j (sits s y) x o y p goes
-        (λ n z r. r.end ≡ unfixed → (id : ℕ) (key : Key) → 1 ≤ id → (h : Hold) → In h (holds_at C' (cell_of id)) → h.tx ≡ r.id → lets_change key h.want ≡ true
+        (λ n z r. r.end ≡ unfixed → (id : ℕ) (key : Key) → 1 ≤ id → (h : Hold) → In h (holds_at C' (cell_of id)) → h.tx ≡ r.id → lets_change key h.request ≡ true
         → counted r.id id z.place (of_key (columns_at (defs_of T) id) key (versions_at C' id)) ≡ of_key (columns_at (defs_of T) id) key (versions_of (script_end v T z r).state.tables id))
         (λ e. absurd (K.fixed e))
-        (λ n z r ne g e id key l. by_table (λ id. (h : Hold) → In h (holds_at C' (cell_of id)) → h.tx ≡ r.id → lets_change key h.want ≡ true
+        (λ n z r ne g e id key l. by_table (λ id. (h : Hold) → In h (holds_at C' (cell_of id)) → h.tx ≡ r.id → lets_change key h.request ≡ true
         → counted r.id id z.place (of_key (columns_at (defs_of T) id) key (versions_at C' id)) ≡ of_key (columns_at (defs_of T) id) key (versions_of (script_end v T z r).state.tables id))
         (λ h has m reach. ap (counted r.id c.id z.place) (kept_key key (none_besides key h has (not_mine h has) reach)) ∙ S.rows_agree.own n z r g e c.id key one_le h (was_held (cell_of c.id) h has) m reach)
         (λ id l q h has m reach. key_else id key (counted r.id id z.place) q ∙ S.rows_agree.own n z r g e id key l h (was_held (cell_of id) h has) m reach) id l);
-    undone = λ id key l. by_table (λ id. (h : Hold) → In h (holds_at C' (cell_of id)) → in_journal S.ledger.items (h.tx, 0) ≡ false → lets_change key h.want ≡ true
+    undone = λ id key l. by_table (λ id. (h : Hold) → In h (holds_at C' (cell_of id)) → in_journal S.ledger.items (h.tx, 0) ≡ false → lets_change key h.request ≡ true
         → versions_undone h.tx 0 (of_key (columns_at (defs_of T) id) key (versions_at C' id)) ≡ of_key (columns_at (defs_of T) id) key (versions_of T id))
         (λ h has u reach. ap (versions_undone h.tx 0) (kept_key key (none_besides key h has (not_mine h has) reach)) ∙ S.rows_agree.undone c.id key one_le h (was_held (cell_of c.id) h has) u reach)
         (λ id l q h has u reach. key_else id key (versions_undone h.tx 0) q ∙ S.rows_agree.undone id key l h (was_held (cell_of id) h has) u reach) id l;
     rising = by_table (λ id. Rising (versions_at C' id)) (subst Rising (sym rows_are) (rising_left placed (subst Rising rows_were (S.rows_agree.rising c.id one_le)))) (λ id l ne. subst Rising (sym (rows_else id ne)) (S.rows_agree.rising id l));
     back = each_open seats j (sits s y) x o y p goes (λ n z r. GoesBackTo z.place r.seq) (S.rows_agree.back j x o has_open) (λ n z r ne g. S.rows_agree.back n z r g);
-    opened = each_open seats j (sits s y) x o y p goes (λ n z r. IsOpenedAt z.place r.opened) (S.rows_agree.opened j x o has_open) (λ n z r ne g. S.rows_agree.opened n z r g);
+    explicit = each_open seats j (sits s y) x o y p goes (λ n z r. IsExplicitAt z.place r.explicit) (S.rows_agree.explicit j x o has_open) (λ n z r ne g. S.rows_agree.explicit n z r g);
     before = each_open seats j (sits s y) x o y p goes
         (λ n z r. r.end ≡ unfixed → (id : ℕ) → 1 ≤ id → AllByRecursion (MadeBefore r.id r.seq) (counted r.id id z.place (versions_at C' id)))
         (λ e. absurd (K.fixed e))

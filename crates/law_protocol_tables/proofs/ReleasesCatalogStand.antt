@@ -6,36 +6,36 @@ use Rattle.std.specs.Prelude.{◌==◌, not, if◌then◌else◌}
 use Rattle.std.specs.List.{AllByRecursion, filter}
 use mathlib.Core.Option.{some}
 use lib.ListN.{get_elem?}
-use Rattle.lg_value.specs.declared.column.ColumnDef.{ColumnDef}
-use Rattle.lg_types.specs.declared.lock.Mode.TheVariants.{X}
-use Rattle.lg_types.specs.declared.statement.Stmt.{Stmt}
-use Rattle.lg_types.specs.declared.table.TableDef.{TableDef}
-use Rattle.lg_types.specs.declared.version.Version.{Version}
-use Rattle.lg_model.specs.Rows.{EventId, value_or_null}
-use Rattle.lg_model.specs.Keys.{Key, key_of, of_key}
-use Rattle.lg_model.specs.Catalog.{Tables, defs_of, versions_of}
-use Rattle.lg_model.specs.Journals.{Line, serial, upto}
-use Rattle.lg_model.specs.Locks.{whole}
-use Rattle.lg_model.specs.Agreement.{columns_at}
-use Rattle.lg_model.specs.Plans.{plan, defined}
-use Rattle.lg_model.specs.Runs.{Rising, EndsBefore, MadeBefore}
-use Rattle.lg_model.specs.Undo.{versions_undone}
-use Rattle.lg_history.specs.Lists.{Each, In}
-use Rattle.lg_history.specs.Refusals.{EndsAt}
-use Rattle.lg_history.specs.Transactions.{End, unfixed}
-use Rattle.lg_history.proofs.Trace.{each_weaker}
-use Rattle.lg_standing.specs.Server.{Server}
-use Rattle.lg_types.specs.declared.lock.Hold.{Hold}
-use Rattle.lg_standing.specs.Cells.{Creator, TableCell, Cell, Rows, holds_at, versions_at, catalog_at, cell_of}
-use Rattle.lg_standing.specs.Seats.{OpenTransaction, begun, found, made, going_back, replied, answering, refused, Place, between, inside, leaving, Session, SeatState}
-use Rattle.lg_standing.specs.OpenOnes.{HasOpen, script_so_far, script_end}
-use Rattle.lg_standing.specs.OpenScripts.{counted}
-use Rattle.lg_standing.specs.EventsIn.{events_in}
-use Rattle.lg_standing.specs.Moves.{releasing, at_place, sits}
-use Rattle.lg_standing.specs.WantsIn.{wants_in, Holds, of_catalog}
-use Rattle.lg_standing.specs.TablesAreSerial.{def_at, ordinals_of, IsAdding, IsCarried}
-use Rattle.lg_standing.specs.LocksCover.{KeepsLocks, Belongs, HasIntent, LookedFirst, IsDropping}
-use Rattle.lg_standing.specs.StandTogether.{History, Stands}
+use Rattle.sql_value.specs.declared.column.ColumnDef.{ColumnDef}
+use Rattle.sql_types.specs.declared.lock.Mode.TheVariants.{X}
+use Rattle.sql_types.specs.declared.statement.Stmt.{Stmt}
+use Rattle.sql_types.specs.declared.table.TableDef.{TableDef}
+use Rattle.sql_types.specs.declared.version.Version.{Version}
+use Rattle.spec_model.specs.Rows.{EventId, value_or_null}
+use Rattle.spec_model.specs.Keys.{Key, key_of, of_key}
+use Rattle.spec_model.specs.Catalog.{Tables, defs_of, versions_of}
+use Rattle.spec_model.specs.Journals.{Line, serial, upto}
+use Rattle.spec_model.specs.Locks.{whole}
+use Rattle.spec_model.specs.Agreement.{columns_at}
+use Rattle.spec_model.specs.ChangeSets.{change_set, defined}
+use Rattle.spec_model.specs.Runs.{Rising, EndsBefore, MadeBefore}
+use Rattle.spec_model.specs.Undo.{versions_undone}
+use Rattle.spec_history.specs.Lists.{Each, In}
+use Rattle.spec_history.specs.Refusals.{EndsAt}
+use Rattle.spec_history.specs.Transactions.{End, unfixed}
+use Rattle.spec_history.proofs.Trace.{each_weaker}
+use Rattle.spec_protocol.specs.Server.{Server}
+use Rattle.sql_types.specs.declared.lock.Hold.{Hold}
+use Rattle.spec_protocol.specs.Cells.{Creator, TableCell, Cell, Rows, holds_at, versions_at, catalog_at, cell_of}
+use Rattle.spec_protocol.specs.Seats.{OpenTransaction, begun, found, made, going_back, replied, answering, refused, SessionStatus, between, inside, leaving, Session, SeatState}
+use Rattle.spec_protocol.specs.OpenOnes.{HasOpen, script_so_far, script_end}
+use Rattle.spec_protocol.specs.OpenScripts.{counted}
+use Rattle.spec_protocol.specs.EventsIn.{events_in}
+use Rattle.spec_protocol.specs.Moves.{releasing, at_place, sits}
+use Rattle.spec_protocol.specs.RequestsIn.{requests_in, Holds, of_catalog}
+use Rattle.spec_protocol.specs.TablesAreSerial.{def_at, ordinals_of, IsAdding, IsCarried}
+use Rattle.spec_protocol.specs.LocksCover.{KeepsLocks, Belongs, HasIntent, LookedFirst, IsDropping}
+use Rattle.spec_protocol.specs.StandTogether.{History, Stands}
 use Rattle.law_protocol_steps.proofs.AfterSet.{set_here, set_else, each_at, all_at}
 use Rattle.law_protocol_steps.proofs.SeatsAfter.{Goes, one_session, open_here, open_else, each_open}
 use Rattle.law_protocol_steps.proofs.CellsAfter.{held_here, holds_here, holds_else}
@@ -48,33 +48,33 @@ use Rattle.law_protocol_changes.proofs.ChangedRows.{undone_of_key, rising_undone
 use Rattle.law_protocol_changes.proofs.ChangeKeeps.{untouched, at_in}
 use Rattle.law_protocol_steps.proofs.Takes.{tables_now}
 use Rattle.law_protocol_steps.proofs.TakesInTable.{table_place, cell_at}
-use Rattle.lg_types.specs.declared.lock.Want.{Want}
-use Rattle.lg_model.specs.Reach.{lets_change}
+use Rattle.sql_types.specs.declared.lock.LockRequest.{LockRequest}
+use Rattle.spec_model.specs.Reach.{lets_change}
 use Rattle.law_protocol_changes.proofs.CommittedRows.{committed_undone}
 use Rattle.law_protocol_tables.proofs.Releases.{left_by}
 use Rattle.law_protocol_tables.proofs.FixedOnes.{is_committed}
-use Rattle.lg_standing.specs.UndoVisits.{catalog_left, defs_before, creator_left, ReleasesCatalog}
-use Rattle.lg_standing.specs.Cells.{CatalogCell, Catalog, versions_in}
+use Rattle.spec_protocol.specs.UndoVisits.{catalog_left, defs_before, creator_left, ReleasesCatalog}
+use Rattle.spec_protocol.specs.Cells.{CatalogCell, Catalog, versions_in}
 use Rattle.law_protocol_steps.proofs.CellsAfter.{catalog_changed, versions_here, were_here, versions_else}
 use Rattle.law_protocol_changes.proofs.ChangedRows.{in_passed}
 use Rattle.law_protocol_changes.proofs.ChangeKeeps.{passes}
 use Rattle.law_protocol_changes.proofs.Creating.{others_keep}
-use Rattle.lg_standing.specs.RowsAgree.{GoesBackTo, IsOpenedAt}
-use Rattle.lg_model.specs.SystemTables.{tables_id}
-use Rattle.lg_frames.proofs.UndoneVersions.{nothing_undone}
+use Rattle.spec_protocol.specs.RowsAgree.{GoesBackTo, IsExplicitAt}
+use Rattle.spec_model.specs.SystemTables.{tables_id}
+use Rattle.law_frame.proofs.UndoneVersions.{nothing_undone}
 use Rattle.law_protocol_tables.proofs.UndoneTwice.{WasIn, was_undone}
-use Rattle.lg_history.specs.Transactions as en
+use Rattle.spec_history.specs.Transactions as en
 use Rattle.law_protocol_steps.proofs.SameOne.{trees_from}
-use Rattle.law_protocol_steps.proofs.OfCells.{AreDefinitions, AreIndexes, Creates, EndLiesUnder, GoesBack, HasItsTrees, HasLock, HoldsInCatalog, IsFree, IsGotAt, IsIndexed, IsOfItsScript, IsUnderLocks, IsUnderWay, LiesUnder, LocksAgree, LocksCover, OpenScripts, RowsAgree, SeatHas, StandsAs, TreesAreOfEvents, WantsNone, committed, events_counted, in_journal, LookedAt, looked_now, looked_so, table_there}
+use Rattle.law_protocol_steps.proofs.OfCells.{AreDefinitions, AreIndexes, Creates, EndLiesUnder, GoesBack, HasItsTrees, HasLock, HoldsInCatalog, IsFree, IsGotAt, IsIndexed, IsOfItsScript, IsUnderLocks, IsUnderWay, LiesUnder, LocksAgree, LocksCover, OpenScripts, RowsAgree, SeatHas, StandsAs, TreesAreOfEvents, RequestsNone, committed, events_counted, in_journal, LookedAt, looked_now, looked_so, table_there}
 use Rattle.law_protocol_changes.proofs.Apart.{x_apart}
-use Rattle.lg_standing.specs.Contents.{HasAlone, contents, table_found}
+use Rattle.spec_protocol.specs.Contents.{HasAlone, contents, table_found}
 use Rattle.law_protocol_steps.proofs.FreshIds.{events_of_touched}
 use Rattle.law_protocol_steps.proofs.GotMore.{got_at_more}
 use Rattle.law_protocol_steps.proofs.Ids.{others}
-use Rattle.lg_model.specs.Holds.{released}
+use Rattle.spec_model.specs.Holds.{released}
 use Rattle.law_protocol_steps.proofs.Taken.{released_is}
-use Rattle.lg_model.specs.ScriptWants.{text_wants}
-use Rattle.lg_model.specs.Touched.{touched}
+use Rattle.spec_model.specs.ScriptRequests.{text_requests}
+use Rattle.spec_model.specs.Touched.{touched}
 use Rattle.law_protocol_steps.proofs.VisitActs.{unmoved}
 
 rows_left : (e : End) (tx id : ℕ) (c : CatalogCell) → versions_in id (Catalog (catalog_left e tx c)) ≡ left_by (is_committed e) tx (versions_in id (Catalog c))
@@ -230,17 +230,17 @@ module _ (v : Server) (cells : List Cell) (seats : List SeatState) {history : Hi
     free_here key f = by (has_x_or_not (holds_at cells (cell_of id)) o.id key)
       where
         before_too : HasNoX (holds_at cells (cell_of id)) o.id key → IsFree (holds_at cells (cell_of id)) S.ledger key
-        before_too free h has reach = ⊎_elim (λ (m : h.tx ≡ o.id). absurd (let z : lets_change key h.want ≡ false = free h has m in cc)) (λ (ne : h.tx ≢ o.id). f h (is_held (cell_of id) h ne has) reach) (cases_eq h.tx o.id)
+        before_too free h has reach = ⊎_elim (λ (m : h.tx ≡ o.id). absurd (let z : lets_change key h.request ≡ false = free h has m in cc)) (λ (ne : h.tx ≢ o.id). f h (is_held (cell_of id) h ne has) reach) (cases_eq h.tx o.id)
 
         by : HasX (holds_at cells (cell_of id)) o.id key ⊎ HasNoX (holds_at cells (cell_of id)) o.id key → of_key columns key (versions_at C' id) ≡ of_key columns key (versions_of T id)
         by (inl k) = ap (of_key columns key) (rows_are id here) ∙ given placed mine_is key k
         by (inr free) = kept_key key free ∙ S.rows_agree.free id key l (before_too free)
 
     -- who still has X there isn't this one
-    none_left : (key : Key) (h : Hold) → In h (holds_at C' (cell_of id)) → lets_change key h.want ≡ true → HasNoX (holds_at cells (cell_of id)) o.id key
-    none_left key h has reach g k m = by (lets_change key g.want) refl
+    none_left : (key : Key) (h : Hold) → In h (holds_at C' (cell_of id)) → lets_change key h.request ≡ true → HasNoX (holds_at cells (cell_of id)) o.id key
+    none_left key h has reach g k m = by (lets_change key g.request) refl
       where
-        by : (b : Bool) → lets_change key g.want ≡ b → b ≡ false
+        by : (b : Bool) → lets_change key g.request ≡ b → b ≡ false
         by true e = absurd (x_apart v cells seats S (cell_of id) key g h k (was_held (cell_of id) h has) (λ q. not_mine_here h (subst (λ (n : ℕ). In h (holds_at C' n)) here has) (q ∙ m)) e reach)
         by false e = refl
 
@@ -255,7 +255,7 @@ module _ (v : Server) (cells : List Cell) (seats : List SeatState) {history : Hi
     left_untouched true other m vs h = h
     left_untouched false other m vs h = undone_untouched other o.id 0 m vs h
 
-    before_here : (other n : ℕ) (place : Place) → IsCounted other id place → GoesBackTo place n → AllByRecursion (MadeBefore other n) (counted other id place V) → AllByRecursion (MadeBefore other n) (counted other id place (versions_at C' id))
+    before_here : (other n : ℕ) (place : SessionStatus) → IsCounted other id place → GoesBackTo place n → AllByRecursion (MadeBefore other n) (counted other id place V) → AllByRecursion (MadeBefore other n) (counted other id place (versions_at C' id))
     before_here other n place (all_count same) back h = subst (AllByRecursion (MadeBefore other n)) (sym (same _ ∙ rows_are id here)) (left_untouched placed other n V (subst (AllByRecursion (MadeBefore other n)) (same _) h))
     before_here other n place (some_undone k to same) back h = subst (AllByRecursion (MadeBefore other n)) (sym (same _)) (subst (λ (m : ℕ). AllByRecursion (MadeBefore other m) (versions_undone other k (versions_at C' id))) (to n back) (undone_before other k _))
 
@@ -273,9 +273,9 @@ module _ (v : Server) (cells : List Cell) (seats : List SeatState) {history : Hi
       none_his key k = untouched v cells seats S id l key r.id (λ m. outside v cells seats S n z r m has unfixed_too) other_free
         where
           other_free : HasNoX (holds_at cells (cell_of id)) r.id key
-          other_free h has_h m = by (lets_change key h.want) refl
+          other_free h has_h m = by (lets_change key h.request) refl
             where
-              by : (b : Bool) → lets_change key h.want ≡ b → b ≡ false
+              by : (b : Bool) → lets_change key h.request ≡ b → b ≡ false
               by true e = absurd (x_apart v cells seats S (cell_of id) key k.hold h k.has has_h (λ q. other_id n z r ne has (sym m ∙ q ∙ k.mine)) k.reaches e)
               by false e = refl
 
@@ -312,20 +312,20 @@ module _ (v : Server) (cells : List Cell) (seats : List SeatState) {history : Hi
     free = λ id key l. by_cell (λ id. IsFree (holds_at C' (cell_of id)) S.ledger key → of_key (columns_at (defs_of T) id) key (versions_at C' id) ≡ of_key (columns_at (defs_of T) id) key (versions_of T id))
         (λ id l e f. free_here id l e key f) (λ id l ne f. key_else id key (λ vs. vs) ne ∙ S.rows_agree.free id key l (λ h has q. f h (subst (In h) (sym (same_holds (cell_of id) ne)) has) q)) id l;
     own = each_open seats j (sits s y) x o y p goes
-        (λ n z r. r.end ≡ unfixed → (id : ℕ) (key : Key) → 1 ≤ id → (h : Hold) → In h (holds_at C' (cell_of id)) → h.tx ≡ r.id → lets_change key h.want ≡ true
+        (λ n z r. r.end ≡ unfixed → (id : ℕ) (key : Key) → 1 ≤ id → (h : Hold) → In h (holds_at C' (cell_of id)) → h.tx ≡ r.id → lets_change key h.request ≡ true
         → counted r.id id z.place (of_key (columns_at (defs_of T) id) key (versions_at C' id)) ≡ of_key (columns_at (defs_of T) id) key (versions_of (script_end v T z r).state.tables id))
         (λ e. absurd (L.at.fixed e))
-        (λ n z r ne g e id key l. by_cell (λ id. (h : Hold) → In h (holds_at C' (cell_of id)) → h.tx ≡ r.id → lets_change key h.want ≡ true
+        (λ n z r ne g e id key l. by_cell (λ id. (h : Hold) → In h (holds_at C' (cell_of id)) → h.tx ≡ r.id → lets_change key h.request ≡ true
         → counted r.id id z.place (of_key (columns_at (defs_of T) id) key (versions_at C' id)) ≡ of_key (columns_at (defs_of T) id) key (versions_of (script_end v T z r).state.tables id))
         (λ id l q h has m reach. ap (counted r.id id z.place) (kept_key id l q key (none_left id l q key h has reach)) ∙ S.rows_agree.own n z r g e id key l h (was_held (cell_of id) h has) m reach)
         (λ id l q h has m reach. key_else id key (counted r.id id z.place) q ∙ S.rows_agree.own n z r g e id key l h (was_held (cell_of id) h has) m reach) id l);
-    undone = λ id key l. by_cell (λ id. (h : Hold) → In h (holds_at C' (cell_of id)) → in_journal S.ledger.items (h.tx, 0) ≡ false → lets_change key h.want ≡ true
+    undone = λ id key l. by_cell (λ id. (h : Hold) → In h (holds_at C' (cell_of id)) → in_journal S.ledger.items (h.tx, 0) ≡ false → lets_change key h.request ≡ true
         → versions_undone h.tx 0 (of_key (columns_at (defs_of T) id) key (versions_at C' id)) ≡ of_key (columns_at (defs_of T) id) key (versions_of T id))
         (λ id l q h has u reach. ap (versions_undone h.tx 0) (kept_key id l q key (none_left id l q key h has reach)) ∙ S.rows_agree.undone id key l h (was_held (cell_of id) h has) u reach)
         (λ id l q h has u reach. key_else id key (versions_undone h.tx 0) q ∙ S.rows_agree.undone id key l h (was_held (cell_of id) h has) u reach) id l;
     rising = by_cell (λ id. Rising (versions_at C' id)) rising_here (λ id l ne. subst Rising (sym (rows_else id ne)) (S.rows_agree.rising id l));
     back = each_open seats j (sits s y) x o y p goes (λ n z r. GoesBackTo z.place r.seq) (S.rows_agree.back j x o has_open) (λ n z r ne g. S.rows_agree.back n z r g);
-    opened = each_open seats j (sits s y) x o y p goes (λ n z r. IsOpenedAt z.place r.opened) (S.rows_agree.opened j x o has_open) (λ n z r ne g. S.rows_agree.opened n z r g);
+    explicit = each_open seats j (sits s y) x o y p goes (λ n z r. IsExplicitAt z.place r.explicit) (S.rows_agree.explicit j x o has_open) (λ n z r ne g. S.rows_agree.explicit n z r g);
     before = each_open seats j (sits s y) x o y p goes
         (λ n z r. r.end ≡ unfixed → (id : ℕ) → 1 ≤ id → AllByRecursion (MadeBefore r.id r.seq) (counted r.id id z.place (versions_at C' id)))
         (λ e. absurd (L.at.fixed e))
@@ -353,7 +353,7 @@ module _ (v : Server) (cells : List Cell) (seats : List SeatState) {history : Hi
   trees : TreesAreOfEvents v C' S.ledger seats'
   trees = each_open seats j (sits s y) x o y p goes (λ n z r. r.end ≡ unfixed → HasItsTrees v C' S.ledger z r)
       (λ e. absurd (L.at.fixed e))
-      (λ n z r ne h e. let was = S.trees_are_of_events n z r h e in record { trees = trees_from z r z r (no_change z r) v (events_counted cells z r) (events_counted C' z r) r.trees (events_stay n z r ne h e) was.trees; frames = was.frames })
+      (λ n z r ne h e. let was = S.trees_are_of_events n z r h e in record { trees = trees_from z r z r (no_change z r) v (events_counted cells z r) (events_counted C' z r) r.trees (events_stay n z r ne h e) was.trees; open_savepoints = was.open_savepoints })
 
   -- ---- locks
 
@@ -380,7 +380,7 @@ module _ (v : Server) (cells : List Cell) (seats : List SeatState) {history : Hi
       let same = one_session seats j b.x x b.o o (subst (λ (m : ℕ). HasOpen seats m b.x b.o) e b.has) has_open in
       b.unreleased (subst (λ (r : OpenTransaction). In (suc n) r.released) (sym same.1) (all_others (suc n) (λ q. omega arith) (subst (λ (r : OpenTransaction). In (suc n) r.visited) same.1 b.visited)))
 
-  still_held : (n id : ℕ) (w : Want) → id ≢ o.id → Holds (holds_at cells n) id w → Holds (holds_at C' n) id w
+  still_held : (n id : ℕ) (w : LockRequest) → id ≢ o.id → Holds (holds_at cells n) id w → Holds (holds_at C' n) id w
   still_held n id w ne h = record { hold = h.hold; has = is_held n h.hold (λ e. ne (sym h.mine ∙ e)) h.has; mine = h.mine; item = h.item; mode = h.mode }
 
   belongs_then : (n : ℕ) (h : Hold) → In h (holds_at C' n) → Belongs seats n h → Belongs seats' n h
@@ -411,13 +411,13 @@ module _ (v : Server) (cells : List Cell) (seats : List SeatState) {history : Hi
       (λ (ne : n ≢ catalog_at). record { hold = t.hold; has = subst (In t.hold) (sym (same_holds n ne)) t.has; mine = t.mine; whole = t.whole; mode = t.mode })
       (cases_eq n catalog_at)
 
-  looked_then : (place : Place) (r : OpenTransaction) → r.id ≢ o.id → HoldsInCatalog v cells T place r → HoldsInCatalog v C' T place r
-  looked_then place r ne h = record { lock = lock_is catalog_at r.id ne h.lock; wants = λ u e. each_weaker (Holds (holds_at cells catalog_at) r.id) (Holds (holds_at C' catalog_at) r.id) (λ w. still_held catalog_at r.id w ne) (of_catalog (text_wants (defs_of T) r.opened (v.reads u)).catalog) (h.wants u e) }
+  looked_then : (place : SessionStatus) (r : OpenTransaction) → r.id ≢ o.id → HoldsInCatalog v cells T place r → HoldsInCatalog v C' T place r
+  looked_then place r ne h = record { lock = lock_is catalog_at r.id ne h.lock; requests = λ u e. each_weaker (Holds (holds_at cells catalog_at) r.id) (Holds (holds_at C' catalog_at) r.id) (λ w. still_held catalog_at r.id w ne) (of_catalog (text_requests (defs_of T) r.explicit (v.reads u)).catalog) (h.requests u e) }
 
-  cover_here : (n : ℕ) → KeepsLocks p n → Each (λ l. Each (Holds (holds_at C' n) p.id) (wants_in v (defs_of T) p.opened n l.0)) (script_so_far y p)
+  cover_here : (n : ℕ) → KeepsLocks p n → Each (λ l. Each (Holds (holds_at C' n) p.id) (requests_in v (defs_of T) p.explicit n l.0)) (script_so_far y p)
   cover_here n u = absurd (u.1 (inl refl))
 
-  not_dropping : (place : Place) → IsDropping place p → ⊥
+  not_dropping : (place : SessionStatus) → IsDropping place p → ⊥
   not_dropping (inside text (answering reply (Some def))) h = ⊎_elim (λ (e : cell_of def.id ≡ catalog_at). h.1 (inl (sym e))) (λ (ne : cell_of def.id ≢ catalog_at). h.1 (inr (all_others (cell_of def.id) ne h.0))) (cases_eq (cell_of def.id) catalog_at)
   not_dropping (inside text (answering reply None)) h = h
   not_dropping (inside text begun) h = h
@@ -463,7 +463,7 @@ module _ (v : Server) (cells : List Cell) (seats : List SeatState) {history : Hi
         by false h = was_undone o.id 0 w (versions_at cells id) h
 
     lies_then : (u : Version) (e : EventId) → e.0 ≢ o.id → w.values ≡ u.values → LiesUnder cells T id u e → LiesUnder C' T id w e
-    lies_then u e ne same h = record { hold = h.hold; has = is_held (cell_of id) h.hold (λ q. ne (sym h.mine ∙ q)) h.has; mine = h.mine; reaches = ap (λ vs. lets_change (key_of (columns_at (defs_of T) id) (map value_or_null vs)) h.hold.want) same ∙ h.reaches }
+    lies_then u e ne same h = record { hold = h.hold; has = is_held (cell_of id) h.hold (λ q. ne (sym h.mine ∙ q)) h.has; mine = h.mine; reaches = ap (λ vs. lets_change (key_of (columns_at (defs_of T) id) (map value_or_null vs)) h.hold.request) same ∙ h.reaches }
 
     one_under : IsUnderLocks v C' S.ledger id w
     one_under =
@@ -494,20 +494,20 @@ module _ (v : Server) (cells : List Cell) (seats : List SeatState) {history : Hi
     intents = λ n h has m. intent_stays n h has (S.locks_cover.intents n h (was_held n h has) m);
     looked = each_open seats j (sits s y) x o y p goes (λ n z r. r.end ≡ unfixed → LookedAt v C' T z.place r) (λ e. absurd (L.at.fixed e)) (λ n z r ne h e. looked_so v C' T r z.place (λ l. looked_then z.place r (other_id n z r ne h) (looked_now v cells T r z.place (S.locks_cover.looked n z r h e) l)));
     on_whole = λ h has. S.locks_cover.on_whole h (was_held catalog_at h has);
-    looked_first = each_open seats j (sits s y) x o y p goes (λ n z r. r.end ≡ unfixed → LookedFirst z.place → WantsNone v C' T r) (λ e. absurd (L.at.fixed e))
+    looked_first = each_open seats j (sits s y) x o y p goes (λ n z r. r.end ≡ unfixed → LookedFirst z.place → RequestsNone v C' T r) (λ e. absurd (L.at.fixed e))
         (λ n z r ne h e f. let was = S.locks_cover.looked_first n z r h e f in record { before = was.before; shares = λ h has m. was.shares h (was_held catalog_at h has) m; elsewhere = λ m l. was.elsewhere m (lock_was (suc m) r.id l) });
-    cover = each_open seats j (sits s y) x o y p goes (λ n z r. (m : ℕ) → KeepsLocks r m → Each (λ l. Each (Holds (holds_at C' m) r.id) (wants_in v (defs_of T) r.opened m l.0)) (script_so_far z r)) cover_here
-        (λ n z r ne h m u. each_weaker (λ (l : Line). Each (Holds (holds_at cells m) r.id) (wants_in v (defs_of T) r.opened m l.0)) (λ (l : Line). Each (Holds (holds_at C' m) r.id) (wants_in v (defs_of T) r.opened m l.0))
-        (λ l. each_weaker (Holds (holds_at cells m) r.id) (Holds (holds_at C' m) r.id) (λ w. still_held m r.id w (other_id n z r ne h)) (wants_in v (defs_of T) r.opened m l.0)) (script_so_far z r) (S.locks_cover.cover n z r h m u));
+    cover = each_open seats j (sits s y) x o y p goes (λ n z r. (m : ℕ) → KeepsLocks r m → Each (λ l. Each (Holds (holds_at C' m) r.id) (requests_in v (defs_of T) r.explicit m l.0)) (script_so_far z r)) cover_here
+        (λ n z r ne h m u. each_weaker (λ (l : Line). Each (Holds (holds_at cells m) r.id) (requests_in v (defs_of T) r.explicit m l.0)) (λ (l : Line). Each (Holds (holds_at C' m) r.id) (requests_in v (defs_of T) r.explicit m l.0))
+        (λ l. each_weaker (Holds (holds_at cells m) r.id) (Holds (holds_at C' m) r.id) (λ w. still_held m r.id w (other_id n z r ne h)) (requests_in v (defs_of T) r.explicit m l.0)) (script_so_far z r) (S.locks_cover.cover n z r h m u));
     catalog = λ n id l. let was = lock_was (suc n) id l in lock_is catalog_at id (λ e. none_in_tables n (subst (HasLock cells (suc n)) e was)) (S.locks_cover.catalog n id was);
     definitions = λ n z r m h e l. each_open seats j (sits s y) x o y p goes (λ n z r. (m : ℕ) → EndsAt r.end m → HasLock C' catalog_at r.id → defs_of T ≡ defs_of (serial v.reads (upto S.ledger.items m)))
         (λ m e l. absurd (none_mine l))
         (λ n z r ne h m e l. S.locks_cover.definitions n z r m h e (lock_was catalog_at r.id l)) n z r h m e l;
     got = each_open seats j (sits s y) x o y p goes (λ n z r. HasLock C' catalog_at r.id → IsGotAt v C' T r.id (not (in_journal S.ledger.items (r.id, 0))) z.place) (λ l. absurd (none_mine l))
         (λ n z r ne h l. got_at_more v T (HasAlone (contents cells) r.id) (HasAlone (contents C') r.id) (not (in_journal S.ledger.items (r.id, 0))) (λ has. is_held catalog_at _ (other_id n z r ne h) has) z.place (S.locks_cover.got n z r h (lock_was catalog_at r.id l)));
-    dropping = each_open seats j (sits s y) x o y p goes (λ n z r. IsDropping z.place r → In (record { tx = r.id; want = whole X }) (holds_at C' catalog_at))
+    dropping = each_open seats j (sits s y) x o y p goes (λ n z r. IsDropping z.place r → In (record { tx = r.id; request = whole X }) (holds_at C' catalog_at))
         (λ h. absurd (not_dropping x.place h))
-        (λ n z r ne g h. is_held catalog_at (record { tx = r.id; want = whole X }) (other_id n z r ne g) (S.locks_cover.dropping n z r g h));
+        (λ n z r ne g h. is_held catalog_at (record { tx = r.id; request = whole X }) (other_id n z r ne g) (S.locks_cover.dropping n z r g h));
     under = under_then;
   }
 
@@ -523,7 +523,7 @@ module _ (v : Server) (cells : List Cell) (seats : List SeatState) {history : Hi
   -- ---- tables
 
   creates_else : (z : Session) (stmt : Stmt) (k : Creates v cells seats S.ledger z stmt) → k.o.id ≢ o.id → k.j ≢ j → Creates v C' seats' S.ledger z stmt
-  creates_else z stmt k nd ne = record { j = k.j; o = k.o; has = open_else seats j (sits s y) x o y p goes k.j z k.o ne k.has; own = k.own; outside = k.outside; text = k.text; stands = k.stands; is = k.is; creates = k.creates; acted = k.acted; exclusive = is_held catalog_at (record { tx = k.o.id; want = whole X }) nd k.exclusive }
+  creates_else z stmt k nd ne = record { j = k.j; o = k.o; has = open_else seats j (sits s y) x o y p goes k.j z k.o ne k.has; own = k.own; outside = k.outside; text = k.text; stands = k.stands; is = k.is; creates = k.creates; acted = k.acted; exclusive = is_held catalog_at (record { tx = k.o.id; request = whole X }) nd k.exclusive }
 
   not_this : (z : Session) (stmt : Stmt) (k : Creates v cells seats S.ledger z stmt) → k.o.id ≢ o.id → k.j ≢ j
   not_this z stmt k ne e = let same = one_session seats j z x k.o o (subst (λ (n : ℕ). HasOpen seats n z k.o) e k.has) has_open in ne (ap (λ (r : OpenTransaction). r.id) same.1)
@@ -592,14 +592,14 @@ module _ (v : Server) (cells : List Cell) (seats : List SeatState) {history : Hi
 
   creator_then : (k : Creator) → d.creator ≡ Some k → GoesBack v C' S.ledger k
   creator_then k e = let other = creator_other o.id c.creator k (sym creator_here ∙ e) in let was = back_to k other.0 in
-      record { exclusive = is_held catalog_at (record { tx = k.tx; want = whole X }) other.1 was.exclusive; before = was.before }
+      record { exclusive = is_held catalog_at (record { tx = k.tx; request = whole X }) other.1 was.exclusive; before = was.before }
 
   carried_else : (n : ℕ) (z : Session) (r : OpenTransaction) → n ≢ j → HasOpen seats n z r → r.end ≡ unfixed → IsCarried d.defs T (script_end v T z r).state.tables
   carried_else n z r ne h e = by defs_here
     where
       by : DefsLeft o.id c d → IsCarried d.defs T (script_end v T z r).state.tables
       by (same_defs f) = ⊎_elim (λ (g : S.catalog.defs ≡ defs_of (script_end v T z r).state.tables). inl (f ∙ ap (λ (q : CatalogCell). q.defs) is_catalog ∙ g)) (λ (g : defs_of (script_end v T z r).state.tables ≡ defs_of T). inr g) (S.tables_are_serial.carried n z r h e)
-      by (gone k f m g) = inr (others_keep v cells seats S o.id (subst (λ (q : ℕ). In (record { tx = q; want = whole X }) (holds_at cells catalog_at)) m (back_to k f).exclusive) n z r h e (other_id n z r ne h))
+      by (gone k f m g) = inr (others_keep v cells seats S o.id (subst (λ (q : ℕ). In (record { tx = q; request = whole X }) (holds_at cells catalog_at)) m (back_to k f).exclusive) n z r h e (other_id n z r ne h))
 
   table_was : (n : ℕ) (cell : TableCell) → table_found (get_elem? C' n) ≡ some cell → table_found (get_elem? cells n) ≡ some cell
   table_was n cell f = let e = table_there (get_elem? C' n) cell f in ⊎_elim
@@ -607,7 +607,7 @@ module _ (v : Server) (cells : List Cell) (seats : List SeatState) {history : Hi
       (λ (ne : n ≢ catalog_at). ap table_found (sym (set_else cells catalog_at n (Catalog d) ne) ∙ e))
       (cases_eq n catalog_at)
 
-  indexed_else : (place : Place) → IsIndexed cells place → IsIndexed C' place
+  indexed_else : (place : SessionStatus) → IsIndexed cells place → IsIndexed C' place
   indexed_else (inside at (made def true)) was = λ m cell f k. was m cell (table_was m cell f) k
   indexed_else (inside at (made def false)) was = tt
   indexed_else place was = tt
@@ -616,7 +616,7 @@ module _ (v : Server) (cells : List Cell) (seats : List SeatState) {history : Hi
   indexes_then : (def : TableDef) (xs : List (List ℕ)) → cell_of def.id ≢ catalog_at → AreIndexes v cells seats S.ledger def xs → AreIndexes v C' seats' S.ledger def xs
   unfolding creates_else
   indexes_then def xs user h = ⊎_elim (λ (e : xs ≡ ordinals_of def.indexes). inl e)
-      (λ (k : (z : Session) × (st : Stmt) × (after : TableDef) × (by : Creates v cells seats S.ledger z st) × (def_at (defs_of (defined (plan T st).definition T)) def.id ≡ Some after) × (xs ≡ ordinals_of after.indexes) × IsAdding z.place by.o after (cell_of def.id)).
+      (λ (k : (z : Session) × (st : Stmt) × (after : TableDef) × (by : Creates v cells seats S.ledger z st) × (def_at (defs_of (defined (change_set T st).definition T)) def.id ≡ Some after) × (xs ≡ ordinals_of after.indexes) × IsAdding z.place by.o after (cell_of def.id)).
       let ne : k.3.o.id ≢ o.id = λ m. (
       let e : k.3.j ≡ j = one_seat v cells seats S k.3.j j k.0 x k.3.o o k.3.has has_open m in
       let same = one_session seats j k.0 x k.3.o o (subst (λ (n : ℕ). HasOpen seats n k.0 k.3.o) e k.3.has) has_open in
@@ -652,5 +652,5 @@ module _ (v : Server) (cells : List Cell) (seats : List SeatState) {history : Hi
     locks_cover = covered;
     locks_agree = agree;
     trees_are_of_events = trees;
-    transcripts_agree = unmoved v cells seats S j s there x L.at.role o L.at.open_one p (record { id = refl; opened = refl; script = refl; end = refl });
+    transcripts_agree = unmoved v cells seats S j s there x L.at.role o L.at.open_one p (record { id = refl; explicit = refl; script = refl; end = refl });
   })

@@ -8,40 +8,40 @@ use Rattle.std.specs.Prelude.{not, nat_lt, if◌then◌else◌}
 use Rattle.std.specs.List.{AllByRecursion, filter}
 use mathlib.Core.Option.{some}
 use lib.ListN.{get_elem?}
-use Rattle.lg_value.specs.declared.column.ColumnDef.{ColumnDef}
-use Rattle.lg_types.specs.declared.lock.Mode.TheVariants.{X}
-use Rattle.lg_types.specs.declared.reply.Reply.{Reply}
-use Rattle.lg_types.specs.declared.statement.Stmt.{Stmt}
-use Rattle.lg_types.specs.declared.table.TableDef.{TableDef}
-use Rattle.lg_types.specs.declared.table.IndexDef.{IndexDef}
-use Rattle.lg_types.specs.declared.version.Version.{Version}
-use Rattle.lg_model.specs.Rows.{EventId, value_or_null}
-use Rattle.lg_model.specs.Keys.{Key, key_of, of_key}
-use Rattle.lg_model.specs.Catalog.{Tables, defs_of, versions_of}
-use Rattle.lg_model.specs.Journals.{Line, serial, upto}
-use Rattle.lg_model.specs.Locks.{whole, same_item, conflict, wants_conflict}
-use Rattle.lg_model.specs.Agreement.{columns_at, IdsFrom}
-use Rattle.lg_model.specs.Plans.{plan, defined}
-use Rattle.lg_model.specs.Runs.{Rising, IsBefore, EndsBefore, MadeBefore}
-use Rattle.lg_model.specs.Undo.{is_undone, end_left, end_undone, versions_undone}
-use Rattle.lg_history.specs.Lists.{Text, Each, In}
-use Rattle.lg_history.specs.Refusals.{EndsAt}
-use Rattle.lg_history.specs.Transactions.{unfixed}
-use Rattle.lg_history.proofs.Trace.{each_weaker}
-use Rattle.lg_invariants.specs.Serial.{place_in}
-use Rattle.lg_standing.specs.Server.{Server}
-use Rattle.lg_types.specs.declared.lock.Hold.{Hold}
-use Rattle.lg_standing.specs.Cells.{Creator, Index, TableCell, Cell, Rows, holds_at, versions_at, catalog_at, cell_of, AreCells}
-use Rattle.lg_standing.specs.Seats.{OpenTransaction, begun, found, made, going_back, replied, answering, refused, Place, between, inside, leaving, Session, session, SeatState}
-use Rattle.lg_standing.specs.OpenOnes.{HasOpen, text_at, script_so_far, script_end}
-use Rattle.lg_standing.specs.OpenScripts.{counted}
-use Rattle.lg_standing.specs.EventsIn.{events_in}
-use Rattle.lg_standing.specs.Moves.{releasing, at_place, sits}
-use Rattle.lg_standing.specs.WantsIn.{wants_in, Holds, of_catalog}
-use Rattle.lg_standing.specs.UndoVisits.{undone_unless, refused_def, without_last, index_dropped, unlocked}
-use Rattle.lg_standing.specs.TablesAreSerial.{HasActed, def_at, ordinals_of, HasAdded, IsAdding, IsCarried}
-use Rattle.lg_standing.specs.LocksCover.{KeepsLocks, Belongs, HasIntent, LookedFirst, IsDropping, IsAfter}
-use Rattle.lg_standing.specs.StandTogether.{History, Stands}
+use Rattle.sql_value.specs.declared.column.ColumnDef.{ColumnDef}
+use Rattle.sql_types.specs.declared.lock.Mode.TheVariants.{X}
+use Rattle.sql_types.specs.declared.reply.Reply.{Reply}
+use Rattle.sql_types.specs.declared.statement.Stmt.{Stmt}
+use Rattle.sql_types.specs.declared.table.TableDef.{TableDef}
+use Rattle.sql_types.specs.declared.table.IndexDef.{IndexDef}
+use Rattle.sql_types.specs.declared.version.Version.{Version}
+use Rattle.spec_model.specs.Rows.{EventId, value_or_null}
+use Rattle.spec_model.specs.Keys.{Key, key_of, of_key}
+use Rattle.spec_model.specs.Catalog.{Tables, defs_of, versions_of}
+use Rattle.spec_model.specs.Journals.{Line, serial, upto}
+use Rattle.spec_model.specs.Locks.{whole, same_item, conflict, requests_conflict}
+use Rattle.spec_model.specs.Agreement.{columns_at, IdsFrom}
+use Rattle.spec_model.specs.ChangeSets.{change_set, defined}
+use Rattle.spec_model.specs.Runs.{Rising, IsBefore, EndsBefore, MadeBefore}
+use Rattle.spec_model.specs.Undo.{is_undone, end_left, end_undone, versions_undone}
+use Rattle.spec_history.specs.Lists.{Text, Each, In}
+use Rattle.spec_history.specs.Refusals.{EndsAt}
+use Rattle.spec_history.specs.Transactions.{unfixed}
+use Rattle.spec_history.proofs.Trace.{each_weaker}
+use Rattle.law_journal.specs.Serial.{place_in}
+use Rattle.spec_protocol.specs.Server.{Server}
+use Rattle.sql_types.specs.declared.lock.Hold.{Hold}
+use Rattle.spec_protocol.specs.Cells.{Creator, Index, TableCell, Cell, Rows, holds_at, versions_at, catalog_at, cell_of, AreCells}
+use Rattle.spec_protocol.specs.Seats.{OpenTransaction, begun, found, made, going_back, replied, answering, refused, SessionStatus, between, inside, leaving, Session, session, SeatState}
+use Rattle.spec_protocol.specs.OpenOnes.{HasOpen, text_at, script_so_far, script_end}
+use Rattle.spec_protocol.specs.OpenScripts.{counted}
+use Rattle.spec_protocol.specs.EventsIn.{events_in}
+use Rattle.spec_protocol.specs.Moves.{releasing, at_place, sits}
+use Rattle.spec_protocol.specs.RequestsIn.{requests_in, Holds, of_catalog}
+use Rattle.spec_protocol.specs.UndoVisits.{undone_unless, refused_def, without_last, index_dropped, unlocked}
+use Rattle.spec_protocol.specs.TablesAreSerial.{HasActed, def_at, ordinals_of, HasAdded, IsAdding, IsCarried}
+use Rattle.spec_protocol.specs.LocksCover.{KeepsLocks, Belongs, HasIntent, LookedFirst, IsDropping, IsAfter}
+use Rattle.spec_protocol.specs.StandTogether.{History, Stands}
 use Rattle.law_protocol_steps.proofs.AfterSet.{set_here, set_else, each_at, all_at}
 use Rattle.law_protocol_steps.proofs.SeatsAfter.{Goes, one_session, open_here, open_else, each_open}
 use Rattle.law_protocol_steps.proofs.CellsAfter.{holds_else, table_changed}
@@ -52,27 +52,27 @@ use Rattle.law_protocol_tables.proofs.FixedOnes.{is_placed}
 use Rattle.law_protocol_tables.proofs.Formed.{Formed, Left, is_committed, left_unless, dropped_as, sorted_less, last_dropped}
 use Rattle.law_protocol_steps.proofs.DefsAfter.{found_id, found_columns, IndexMade, index_made}
 use Rattle.law_protocol_tables.proofs.KeptNow.{KeptRows, kept_serial}
-use Rattle.law_protocol_tables.proofs.StandByKey.{ByKey, kept_by_key}
+use Rattle.law_protocol_tables.proofs.LiveByKey.{ByKey, kept_by_key}
 use Rattle.law_protocol_changes.proofs.ChangedRows.{undone_of_key, rising_undone, undone_untouched, undone_before, touched_agree, IsCounted, all_count, some_undone, counted_is, was_in}
 use Rattle.law_protocol_changes.proofs.ChangeKeeps.{untouched, at_in, absent_others}
 use Rattle.law_protocol_steps.proofs.Takes.{tables_now}
-use Rattle.law_protocol_tables.proofs.Releases.{left_by, GivesUp}
+use Rattle.law_protocol_tables.proofs.Releases.{left_by, ReleasesTableLocks}
 use Rattle.law_protocol_tables.proofs.Releases as rel
 use Rattle.law_protocol_steps.proofs.VisitActs.{unmoved}
 use Rattle.law_protocol_steps.proofs.TakesInTable.{table_place, cell_at}
-use Rattle.lg_types.specs.declared.lock.Want.{Want}
-use Rattle.lg_model.specs.Reach.{lets_change}
+use Rattle.sql_types.specs.declared.lock.LockRequest.{LockRequest}
+use Rattle.spec_model.specs.Reach.{lets_change}
 use Rattle.law_protocol_steps.proofs.CatalogAlone.{none_besides, alone}
 use Rattle.law_protocol_changes.proofs.CommittedRows.{committed_undone}
-use Rattle.lg_frames.proofs.LegalSound.{legal_sound}
-use Rattle.law_protocol_steps.proofs.OfCells.{LookedAt, AreDefinitions, AreIndexes, Creates, EndLiesUnder, GoesBack, HasItsTrees, HasLock, HasLooked, HoldsInCatalog, IsGotAt, IsIndexed, IsOfItsScript, IsUnderLocks, IsUnderWay, LiesUnder, LocksAgree, LocksCover, OpenScripts, SeatHas, StandsAs, TreesAreOfEvents, WantsNone, committed, events_counted, in_journal, looked_now, looked_so, table_there}
+use Rattle.law_frame.proofs.LegalSound.{legal_sound}
+use Rattle.law_protocol_steps.proofs.OfCells.{LookedAt, AreDefinitions, AreIndexes, Creates, EndLiesUnder, GoesBack, HasItsTrees, HasLock, HasLooked, HoldsInCatalog, IsGotAt, IsIndexed, IsOfItsScript, IsUnderLocks, IsUnderWay, LiesUnder, LocksAgree, LocksCover, OpenScripts, SeatHas, StandsAs, TreesAreOfEvents, RequestsNone, committed, events_counted, in_journal, looked_now, looked_so, table_there}
 use Rattle.law_protocol_changes.proofs.Apart.{x_apart}
-use Rattle.lg_standing.specs.Contents.{HasAlone, contents, table_found}
+use Rattle.spec_protocol.specs.Contents.{HasAlone, contents, table_found}
 use Rattle.law_protocol_steps.proofs.FreshIds.{events_of_touched}
 use Rattle.law_protocol_steps.proofs.GotMore.{got_at_more}
-use Rattle.lg_model.specs.Holds.{released}
-use Rattle.lg_model.specs.ScriptWants.{text_wants}
-use Rattle.lg_model.specs.Touched.{touched}
+use Rattle.spec_model.specs.Holds.{released}
+use Rattle.spec_model.specs.ScriptRequests.{text_requests}
+use Rattle.spec_model.specs.Touched.{touched}
 
 pub record Releasing (v : Server) (cells : List Cell) (seats : List SeatState) {history : History} (S : Stands v history cells seats) (j : ℕ) (s : SeatState) (x : Session) (o : OpenTransaction) (i : ℕ) (c d : TableCell) : Type 0 where
   pub there : get_elem? seats j ≡ some s
@@ -86,12 +86,12 @@ pub record Releasing (v : Server) (cells : List Cell) (seats : List SeatState) {
 
 -- ---- the place of a refused CREATE INDEX
 
-pub record IsRefusedAt (place : Place) (def : TableDef) : Type 0 where
+pub record IsRefusedAt (place : SessionStatus) (def : TableDef) : Type 0 where
   pub text : Text
   pub reply : Reply
   pub is : place ≡ inside text (answering reply (Some def))
 
-of_refused : (place : Place) (def : TableDef) → refused_def place ≡ Some def → IsRefusedAt place def
+of_refused : (place : SessionStatus) (def : TableDef) → refused_def place ≡ Some def → IsRefusedAt place def
 of_refused (inside text (answering reply (Some d))) def e = let same : d ≡ def = cc in subst (IsRefusedAt (inside text (answering reply (Some d)))) same (record { text = text; reply = reply; is = refl })
 of_refused (inside text (answering reply None)) def e = cc
 of_refused (inside text begun) def e = cc
@@ -104,7 +104,7 @@ of_refused between def e = cc
 of_refused leaving def e = cc
 
 -- who has added an index, and whose end is fixed, is refused with it
-added_is : (o : OpenTransaction) → (place : Place) (after : TableDef) → o.end ≢ unfixed → HasAdded place o after → refused_def place ≡ Some after
+added_is : (o : OpenTransaction) → (place : SessionStatus) (after : TableDef) → o.end ≢ unfixed → HasAdded place o after → refused_def place ≡ Some after
 added_is o (inside text (made def true)) after f h = absurd (f h.1)
 added_is o (inside text (made def false)) after f h = absurd h
 added_is o (inside text (answering reply (Some def))) after f h = ap (λ (q : TableDef). Some q) h
@@ -117,7 +117,7 @@ added_is o (inside text (refused reply)) after f h = absurd h
 added_is o between after f h = absurd h
 added_is o leaving after f h = absurd h
 
-x_against_x : wants_conflict (whole X) (whole X) ≡ true
+x_against_x : requests_conflict (whole X) (whole X) ≡ true
 unfolding same_item conflict
 x_against_x = refl
 
@@ -178,7 +178,7 @@ module _ (v : Server) (cells : List Cell) (seats : List SeatState) {history : Hi
   has_open : HasOpen seats j x o
   has_open = record { seat = s; there = R.there; role = R.role; open_one = R.open_one }
 
-  K : GivesUp v cells seats S j s x o i c d placed
+  K : ReleasesTableLocks v cells seats S j s x o i c d placed
   K = record { there = R.there; role = R.role; open_one = R.open_one; fixed = R.fixed; out = R.out; is_placed = is_placed v cells seats S j x o has_open R.fixed; versions = versions_left; holds = holds_left }
 
   abbrev columns : List ColumnDef
@@ -257,9 +257,9 @@ module _ (v : Server) (cells : List Cell) (seats : List SeatState) {history : Hi
     theirs_out m = outside v cells seats S n z r m has unfixed_too
 
     other_free : (key : Key) → HasX (holds_at cells (cell_of c.id)) o.id key → HasNoX (holds_at cells (cell_of c.id)) r.id key
-    other_free key k h has_h m = by (lets_change key h.want) refl
+    other_free key k h has_h m = by (lets_change key h.request) refl
       where
-        by : (b : Bool) → lets_change key h.want ≡ b → b ≡ false
+        by : (b : Bool) → lets_change key h.request ≡ b → b ≡ false
         by true e = absurd (x_apart v cells seats S (cell_of c.id) key k.hold h k.has has_h (λ q. other_id n z r ne has (sym m ∙ q ∙ k.mine)) k.reaches e)
         by false e = refl
 
@@ -322,7 +322,7 @@ module _ (v : Server) (cells : List Cell) (seats : List SeatState) {history : Hi
   trees : TreesAreOfEvents v C' S.ledger seats'
   trees = each_open seats j (sits s y) x o y p goes (λ n z r. r.end ≡ unfixed → HasItsTrees v C' S.ledger z r)
       (λ e. absurd (R.fixed e))
-      (λ n z r ne h e. let was = S.trees_are_of_events n z r h e in record { trees = trees_same z r z r (no_change z r) v (events_counted cells z r) (events_counted C' z r) r.trees (events_all n z r ne h e) was.trees; frames = was.frames })
+      (λ n z r ne h e. let was = S.trees_are_of_events n z r h e in record { trees = trees_same z r z r (no_change z r) v (events_counted cells z r) (events_counted C' z r) r.trees (events_all n z r ne h e) was.trees; open_savepoints = was.open_savepoints })
 
   -- ---- locks
 
@@ -338,7 +338,7 @@ module _ (v : Server) (cells : List Cell) (seats : List SeatState) {history : Hi
   catalog_lock : (id : ℕ) → HasLock cells catalog_at id → HasLock C' catalog_at id
   catalog_lock id l = record { hold = l.hold; has = subst (In l.hold) (sym catalog_holds) l.has; mine = l.mine }
 
-  still_held : (n id : ℕ) (w : Want) → id ≢ o.id → Holds (holds_at cells n) id w → Holds (holds_at C' n) id w
+  still_held : (n id : ℕ) (w : LockRequest) → id ≢ o.id → Holds (holds_at cells n) id w → Holds (holds_at C' n) id w
   still_held n id w ne h = record { hold = h.hold; has = is_held n h.hold (λ e. ne (sym h.mine ∙ e)) h.has; mine = h.mine; item = h.item; mode = h.mode }
 
   belongs_then : (n : ℕ) (h : Hold) → In h (holds_at C' n) → Belongs seats n h → Belongs seats' n h
@@ -430,7 +430,7 @@ module _ (v : Server) (cells : List Cell) (seats : List SeatState) {history : Hi
   was_by false w h = was_mapped w (filter (λ u. not (is_undone o.id 0 u.start)) c.versions) (λ u m. was_in (λ q. not (is_undone o.id 0 q.start)) u c.versions m) h
 
   under_was : (w u : Version) (e : EventId) → w.values ≡ u.values → LiesUnder cells T c.id u e → LiesUnder cells T c.id w e
-  under_was w u e same h = record { hold = h.hold; has = h.has; mine = h.mine; reaches = ap (λ vs. lets_change (key_of columns (map value_or_null vs)) h.hold.want) same ∙ h.reaches }
+  under_was w u e same h = record { hold = h.hold; has = h.has; mine = h.mine; reaches = ap (λ vs. lets_change (key_of columns (map value_or_null vs)) h.hold.request) same ∙ h.reaches }
 
   one_under : (w : Version) → In w d.versions → IsUnderLocks v C' S.ledger c.id w
   one_under w there =
@@ -454,14 +454,14 @@ module _ (v : Server) (cells : List Cell) (seats : List SeatState) {history : Hi
       (λ id l ne. subst (Each (IsUnderLocks v C' S.ledger id)) (sym (rows_else id ne))
       (each_weaker (IsUnderLocks v cells S.ledger id) (IsUnderLocks v C' S.ledger id) (λ w u. record { start = λ q. lies_else id w w.start ne (u.start q); end = end_else id w w.end ne u.end }) (versions_at cells id) (S.locks_cover.under id l)))
 
-  looked_then : (place : Place) (r : OpenTransaction) → HoldsInCatalog v cells T place r → HoldsInCatalog v C' T place r
-  looked_then place r h = record { lock = catalog_lock r.id h.lock; wants = λ u e. subst (λ (hs : List Hold). Each (Holds hs r.id) (of_catalog (text_wants (defs_of T) r.opened (v.reads u)).catalog)) (sym catalog_holds) (h.wants u e) }
+  looked_then : (place : SessionStatus) (r : OpenTransaction) → HoldsInCatalog v cells T place r → HoldsInCatalog v C' T place r
+  looked_then place r h = record { lock = catalog_lock r.id h.lock; requests = λ u e. subst (λ (hs : List Hold). Each (Holds hs r.id) (of_catalog (text_requests (defs_of T) r.explicit (v.reads u)).catalog)) (sym catalog_holds) (h.requests u e) }
 
-  cover_here : (n : ℕ) → KeepsLocks p n → Each (λ l. Each (Holds (holds_at C' n) p.id) (wants_in v (defs_of T) p.opened n l.0)) (script_so_far y p)
-  cover_here n u = subst (λ (hs : List Hold). Each (λ l. Each (Holds hs o.id) (wants_in v (defs_of T) o.opened n l.0)) (script_so_far x o)) (sym (same_holds n (λ e. u.0 (inl (sym e)))))
+  cover_here : (n : ℕ) → KeepsLocks p n → Each (λ l. Each (Holds (holds_at C' n) p.id) (requests_in v (defs_of T) p.explicit n l.0)) (script_so_far y p)
+  cover_here n u = subst (λ (hs : List Hold). Each (λ l. Each (Holds hs o.id) (requests_in v (defs_of T) o.explicit n l.0)) (script_so_far x o)) (sym (same_holds n (λ e. u.0 (inl (sym e)))))
       (S.locks_cover.cover j x o has_open n (λ k. u.0 (inr k), λ k. u.1 (inr k)))
 
-  dropping_here : (place : Place) → IsDropping place p → IsDropping place o
+  dropping_here : (place : SessionStatus) → IsDropping place p → IsDropping place o
   dropping_here (inside text (answering reply (Some def))) h = (h.0, λ k. h.1 (inr k))
   dropping_here (inside text (answering reply None)) h = absurd h
   dropping_here (inside text begun) h = absurd h
@@ -480,18 +480,18 @@ module _ (v : Server) (cells : List Cell) (seats : List SeatState) {history : Hi
     intents = λ n h has m. intent_stays n h has (S.locks_cover.intents n h (was_held n h has) m);
     looked = each_open seats j (sits s y) x o y p goes (λ n z r. r.end ≡ unfixed → LookedAt v C' T z.place r) (λ e. absurd (R.fixed e)) (λ n z r ne h e. looked_so v C' T r z.place (λ l. looked_then z.place r (looked_now v cells T r z.place (S.locks_cover.looked n z r h e) l)));
     on_whole = λ h has. S.locks_cover.on_whole h (was_held catalog_at h has);
-    looked_first = each_open seats j (sits s y) x o y p goes (λ n z r. r.end ≡ unfixed → LookedFirst z.place → WantsNone v C' T r) (λ e. absurd (R.fixed e))
+    looked_first = each_open seats j (sits s y) x o y p goes (λ n z r. r.end ≡ unfixed → LookedFirst z.place → RequestsNone v C' T r) (λ e. absurd (R.fixed e))
         (λ n z r ne h e f. let was = S.locks_cover.looked_first n z r h e f in record { before = was.before; shares = λ h has m. was.shares h (was_held catalog_at h has) m; elsewhere = λ m l. was.elsewhere m (lock_was (suc m) r.id l) });
-    cover = each_open seats j (sits s y) x o y p goes (λ n z r. (m : ℕ) → KeepsLocks r m → Each (λ l. Each (Holds (holds_at C' m) r.id) (wants_in v (defs_of T) r.opened m l.0)) (script_so_far z r)) cover_here
-        (λ n z r ne h m u. each_weaker (λ (l : Line). Each (Holds (holds_at cells m) r.id) (wants_in v (defs_of T) r.opened m l.0)) (λ (l : Line). Each (Holds (holds_at C' m) r.id) (wants_in v (defs_of T) r.opened m l.0))
-        (λ l. each_weaker (Holds (holds_at cells m) r.id) (Holds (holds_at C' m) r.id) (λ w. still_held m r.id w (other_id n z r ne h)) (wants_in v (defs_of T) r.opened m l.0)) (script_so_far z r) (S.locks_cover.cover n z r h m u));
+    cover = each_open seats j (sits s y) x o y p goes (λ n z r. (m : ℕ) → KeepsLocks r m → Each (λ l. Each (Holds (holds_at C' m) r.id) (requests_in v (defs_of T) r.explicit m l.0)) (script_so_far z r)) cover_here
+        (λ n z r ne h m u. each_weaker (λ (l : Line). Each (Holds (holds_at cells m) r.id) (requests_in v (defs_of T) r.explicit m l.0)) (λ (l : Line). Each (Holds (holds_at C' m) r.id) (requests_in v (defs_of T) r.explicit m l.0))
+        (λ l. each_weaker (Holds (holds_at cells m) r.id) (Holds (holds_at C' m) r.id) (λ w. still_held m r.id w (other_id n z r ne h)) (requests_in v (defs_of T) r.explicit m l.0)) (script_so_far z r) (S.locks_cover.cover n z r h m u));
     catalog = λ n id l. catalog_lock id (S.locks_cover.catalog n id (lock_was (suc n) id l));
     definitions = λ n z r m h e l. each_open seats j (sits s y) x o y p goes (λ n z r. (m : ℕ) → EndsAt r.end m → HasLock C' catalog_at r.id → defs_of T ≡ defs_of (serial v.reads (upto S.ledger.items m)))
         (λ m e l. S.locks_cover.definitions j x o m has_open e (lock_was catalog_at o.id l))
         (λ n z r ne h m e l. S.locks_cover.definitions n z r m h e (lock_was catalog_at r.id l)) n z r h m e l;
     got = each_open seats j (sits s y) x o y p goes (λ n z r. HasLock C' catalog_at r.id → IsGotAt v C' T r.id (not (in_journal S.ledger.items (r.id, 0))) z.place) (λ l. got_at_more v T (HasAlone (contents cells) o.id) (HasAlone (contents C') o.id) (not (in_journal S.ledger.items (o.id, 0))) (subst (In _) (sym catalog_holds)) x.place (S.locks_cover.got j x o has_open (lock_was catalog_at o.id l)))
         (λ n z r ne h l. got_at_more v T (HasAlone (contents cells) r.id) (HasAlone (contents C') r.id) (not (in_journal S.ledger.items (r.id, 0))) (subst (In _) (sym (catalog_holds))) z.place (S.locks_cover.got n z r h (lock_was catalog_at r.id l)));
-    dropping = each_open seats j (sits s y) x o y p goes (λ n z r. IsDropping z.place r → In (record { tx = r.id; want = whole X }) (holds_at C' catalog_at))
+    dropping = each_open seats j (sits s y) x o y p goes (λ n z r. IsDropping z.place r → In (record { tx = r.id; request = whole X }) (holds_at C' catalog_at))
         (λ h. subst (In _) (sym catalog_holds) (S.locks_cover.dropping j x o has_open (dropping_here x.place h)))
         (λ n z r ne g h. subst (In _) (sym catalog_holds) (S.locks_cover.dropping n z r g h));
     under = under_then;
@@ -518,14 +518,14 @@ module _ (v : Server) (cells : List Cell) (seats : List SeatState) {history : Hi
           j = j;
           o = p;
           has = open_now;
-          own = ap (λ (r : OpenTransaction). r.opened) (sym same.1) ∙ k.own;
+          own = ap (λ (r : OpenTransaction). r.explicit) (sym same.1) ∙ k.own;
           outside = subst (λ (n : ℕ). in_journal S.ledger.items (n, 0) ≡ false) (sym id) k.outside;
           text = k.text;
           stands = ap (λ (u : Session). text_at u.place) (sym same.0) ∙ k.stands;
           is = k.is;
           creates = k.creates;
           acted = subst (λ (u : Session). HasActed u.place) same.0 k.acted;
-          exclusive = subst (In _) (sym catalog_holds) (subst (λ (n : ℕ). In (record { tx = n; want = whole X }) (holds_at cells catalog_at)) (sym id) k.exclusive);
+          exclusive = subst (In _) (sym catalog_holds) (subst (λ (n : ℕ). In (record { tx = n; request = whole X }) (holds_at cells catalog_at)) (sym id) k.exclusive);
         },
         id,
       ))
@@ -553,21 +553,21 @@ module _ (v : Server) (cells : List Cell) (seats : List SeatState) {history : Hi
           j = j;
           o = p;
           has = open_now;
-          own = ap (λ (r : OpenTransaction). r.opened) (sym same.1) ∙ k.own;
+          own = ap (λ (r : OpenTransaction). r.explicit) (sym same.1) ∙ k.own;
           outside = subst (λ (n : ℕ). in_journal S.ledger.items (n, 0) ≡ false) (sym id_is) k.outside;
           text = k.text;
           stands = ap (λ (u : Session). text_at u.place) (sym same.0) ∙ k.stands;
           is = k.is;
           creates = k.creates;
           acted = subst (λ (u : Session). HasActed u.place) same.0 k.acted;
-          exclusive = subst (In _) (sym catalog_holds) (subst (λ (n : ℕ). In (record { tx = n; want = whole X }) (holds_at cells catalog_at)) (sym id_is) k.exclusive);
+          exclusive = subst (In _) (sym catalog_holds) (subst (λ (n : ℕ). In (record { tx = n; request = whole X }) (holds_at cells catalog_at)) (sym id_is) k.exclusive);
         },
         record { added = still_added x.place after b.added; visited = b.visited; unreleased = λ h. ⊎_elim (λ (q : i ≡ cell_of id). ⊎_elim (λ (f : cell_of id ≢ i). f (sym q)) (λ (f : HasAdded x.place o after → ⊥). f b.added) here) (λ (q : In (cell_of id) o.released). b.unreleased q) h },
       ))
       (λ (ne : k.j ≢ j). (z, record { j = k.j; o = k.o; has = open_else seats j (sits s y) x o y p goes k.j z k.o ne k.has; own = k.own; outside = k.outside; text = k.text; stands = k.stands; is = k.is; creates = k.creates; acted = k.acted; exclusive = subst (In _) (sym catalog_holds) k.exclusive }, a))
       (cases_eq k.j j)
     where
-      still_added : (place : Place) (after : TableDef) → HasAdded place o after → HasAdded place p after
+      still_added : (place : SessionStatus) (after : TableDef) → HasAdded place o after → HasAdded place p after
       still_added (inside text (made def true)) after h = h
       still_added (inside text (made def false)) after h = h
       still_added (inside text (answering reply (Some def))) after h = h
@@ -582,8 +582,8 @@ module _ (v : Server) (cells : List Cell) (seats : List SeatState) {history : Hi
 
   indexes_after : (def : TableDef) (xs : List (List ℕ)) → ((after : TableDef) → after.id ≡ def.id → (cell_of def.id ≢ i) ⊎ (HasAdded x.place o after → ⊥)) → AreIndexes v cells seats S.ledger def xs → AreIndexes v C' seats' S.ledger def xs
   indexes_after def xs here h = ⊎_elim (λ (e : xs ≡ ordinals_of def.indexes). inl e)
-      (λ (k : (z : Session) × (stmt : Stmt) × (after : TableDef) × (by : Creates v cells seats S.ledger z stmt) × (def_at (defs_of (defined (plan T stmt).definition T)) def.id ≡ Some after) × (xs ≡ ordinals_of after.indexes) × IsAdding z.place by.o after (cell_of def.id)).
-      let n = adding_after k.0 k.1 k.2 def.id (here k.2 (found_id (defs_of (defined (plan T k.1).definition T)) def.id k.2 k.4)) k.3 k.6 in inr (n.0, k.1, k.2, n.1, k.4, k.5, n.2)) h
+      (λ (k : (z : Session) × (stmt : Stmt) × (after : TableDef) × (by : Creates v cells seats S.ledger z stmt) × (def_at (defs_of (defined (change_set T stmt).definition T)) def.id ≡ Some after) × (xs ≡ ordinals_of after.indexes) × IsAdding z.place by.o after (cell_of def.id)).
+      let n = adding_after k.0 k.1 k.2 def.id (here k.2 (found_id (defs_of (defined (change_set T k.1).definition T)) def.id k.2 k.4)) k.3 k.6 in inr (n.0, k.1, k.2, n.1, k.4, k.5, n.2)) h
 
   -- ---- the index of a refused CREATE INDEX
 
@@ -597,12 +597,12 @@ module _ (v : Server) (cells : List Cell) (seats : List SeatState) {history : Hi
     cell_this : cell_of rdef.id ≡ i
     cell_this = ap cell_of this ∙ here
 
-    exclusive : In (record { tx = o.id; want = whole X }) (holds_at cells catalog_at)
-    exclusive = S.locks_cover.dropping j x o has_open (subst (λ (q : Place). IsDropping q o) (sym at.is)
+    exclusive : In (record { tx = o.id; request = whole X }) (holds_at cells catalog_at)
+    exclusive = S.locks_cover.dropping j x o has_open (subst (λ (q : SessionStatus). IsDropping q o) (sym at.is)
         (subst (λ (n : ℕ). In n o.visited) (sym cell_this) R.visited, λ k. R.not_yet (subst (λ (n : ℕ). In n o.released) cell_this k)))
 
     got_here : ((not (in_journal S.ledger.items (o.id, 0))) ≡ true) × IsAfter T (v.reads at.text) rdef × HasAlone (contents cells) o.id
-    got_here = subst (IsGotAt v cells T o.id (not (in_journal S.ledger.items (o.id, 0)))) at.is (S.locks_cover.got j x o has_open (record { hold = record { tx = o.id; want = whole X }; has = exclusive; mine = refl }))
+    got_here = subst (IsGotAt v cells T o.id (not (in_journal S.ledger.items (o.id, 0)))) at.is (S.locks_cover.got j x o has_open (record { hold = record { tx = o.id; request = whole X }; has = exclusive; mine = refl }))
 
     out_of : in_journal S.ledger.items (o.id, 0) ≡ false
     out_of = by (in_journal S.ledger.items (o.id, 0)) got_here.0
@@ -645,20 +645,20 @@ module _ (v : Server) (cells : List Cell) (seats : List SeatState) {history : Hi
       -- the statement under way is this one
       its_own : (z : Session) (st : Stmt) → (k : Creates v cells seats S.ledger z st) → st ≡ stmt
       its_own z st k =
-          let same_id : k.o.id ≡ o.id = none_besides v cells seats S o.id exclusive (record { tx = k.o.id; want = whole X }) k.exclusive in
+          let same_id : k.o.id ≡ o.id = none_besides v cells seats S o.id exclusive (record { tx = k.o.id; request = whole X }) k.exclusive in
           let same_seat : k.j ≡ j = one_seat v cells seats S k.j j z x k.o o k.has has_open same_id in
           let alike = one_session seats j z x k.o o (subst (λ (n : ℕ). HasOpen seats n z k.o) same_seat k.has) has_open in
           let texts : Some k.text ≡ Some at.text = sym k.stands ∙ ap (λ (u : Session). text_at u.place) alike.0 ∙ ap text_at at.is in
           let one : k.text ≡ at.text = cc in
           let stmts : Some st ≡ Some stmt = sym k.is ∙ ap v.reads one ∙ reads in cc
 
-      after_is : (st : Stmt) (after : TableDef) → st ≡ stmt → def_at (defs_of (defined (plan T st).definition T)) def.id ≡ Some after → after ≡ rdef
-      after_is st after e h = let q : Some after ≡ Some rdef = sym h ∙ ap (λ (u : Stmt). def_at (defs_of (defined (plan T u).definition T)) def.id) e
-          ∙ ap (def_at (defs_of (defined (plan T stmt).definition T))) (found_id (defs_of T) c.id def defines ∙ sym this) ∙ is_made.then_at in cc
+      after_is : (st : Stmt) (after : TableDef) → st ≡ stmt → def_at (defs_of (defined (change_set T st).definition T)) def.id ≡ Some after → after ≡ rdef
+      after_is st after e h = let q : Some after ≡ Some rdef = sym h ∙ ap (λ (u : Stmt). def_at (defs_of (defined (change_set T u).definition T)) def.id) e
+          ∙ ap (def_at (defs_of (defined (change_set T stmt).definition T))) (found_id (defs_of T) c.id def defines ∙ sym this) ∙ is_made.then_at in cc
 
       dropped : AreIndexes v cells seats S.ledger def (Ordinals c) → Ordinals d ≡ ordinals_of def.indexes
       dropped h = ⊎_elim (λ (e : Ordinals c ≡ ordinals_of def.indexes). none_more e)
-          (λ (k : (z : Session) × (st : Stmt) × (after : TableDef) × (by : Creates v cells seats S.ledger z st) × (def_at (defs_of (defined (plan T st).definition T)) def.id ≡ Some after) × (Ordinals c ≡ ordinals_of after.indexes) × IsAdding z.place by.o after (cell_of def.id)).
+          (λ (k : (z : Session) × (st : Stmt) × (after : TableDef) × (by : Creates v cells seats S.ledger z st) × (def_at (defs_of (defined (change_set T st).definition T)) def.id ≡ Some after) × (Ordinals c ≡ ordinals_of after.indexes) × IsAdding z.place by.o after (cell_of def.id)).
           one_more (k.5 ∙ ap (λ (q : TableDef). ordinals_of q.indexes) (after_is k.1 k.2 (its_own k.0 k.1 k.3) k.4))) h
 
     dropped_here : (def : TableDef) → def_at (defs_of T) c.id ≡ Some def → AreIndexes v cells seats S.ledger def (Ordinals c) → Ordinals d ≡ ordinals_of def.indexes
@@ -690,7 +690,7 @@ module _ (v : Server) (cells : List Cell) (seats : List SeatState) {history : Hi
       by (none_dropped e none) = subst (AreIndexes v C' seats' S.ledger def) (sym e) (indexes_after def (Ordinals c) (λ after k. inr (none after (k ∙ found_id (defs_of T) c.id def defines))) h)
       by (perhaps rdef at this) = inl (dropped_here rdef at this def defines h)
 
-  indexed_else : (n : ℕ) (z : Session) (r : OpenTransaction) → n ≢ j → HasOpen seats n z r → r.end ≡ unfixed → (place : Place) → z.place ≡ place → IsIndexed cells place → IsIndexed C' place
+  indexed_else : (n : ℕ) (z : Session) (r : OpenTransaction) → n ≢ j → HasOpen seats n z r → r.end ≡ unfixed → (place : SessionStatus) → z.place ≡ place → IsIndexed cells place → IsIndexed C' place
   indexed_else n z r ne h e (inside at (made def true)) is was = λ m cell t k. let f = table_there (get_elem? C' m) cell t in ⊎_elim
       (λ (q : m ≡ i). let found_it : some (Rows d) ≡ some (Rows cell) = sym (set_here cells i (Rows c) (Rows d) R.out) ∙ ap (get_elem? C') (sym q) ∙ f in
       let same : d ≡ cell = cc in subst (λ (u : TableCell). u.id ≡ def.id → Ordinals u ≡ ordinals_of def.indexes) same (λ id. by drop id) k)
@@ -767,5 +767,5 @@ module _ (v : Server) (cells : List Cell) (seats : List SeatState) {history : Hi
     locks_cover = covered;
     locks_agree = agree;
     trees_are_of_events = trees;
-    transcripts_agree = unmoved v cells seats S j s R.there x R.role o R.open_one p (record { id = refl; opened = refl; script = refl; end = refl });
+    transcripts_agree = unmoved v cells seats S j s R.there x R.role o R.open_one p (record { id = refl; explicit = refl; script = refl; end = refl });
   }

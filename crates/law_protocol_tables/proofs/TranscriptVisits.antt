@@ -2,24 +2,24 @@
 use Rattle.std.proofs.Common.{◌≡◌, ℕ, ◌+◌, ◌<◌, Bool, true, false, List, [], ◌∷◌, ◌++◌, length, Some, None, refl, sym, ap, ◌∙◌, subst, length-append, arith}
 use Rattle.std.proofs.lemmas.Bool.{ne_eqb}
 use Rattle.std.specs.Prelude.{if◌then◌else◌}
-use Rattle.lg_value.specs.declared.refusal.Refusal.TheVariants.{Locked, E01, E13, E14, E16, E17}
-use Rattle.lg_types.specs.declared.reply.Reply.TheVariants as reply
-use Rattle.lg_history.specs.Lists.{Text}
-use Rattle.lg_history.specs.Meaning.{Meaning}
-use Rattle.lg_history.specs.Transcripts.{Kind, rows, keep, kind_of}
-use Rattle.lg_history.specs.Facts.{Fact, began, met, image, facts_outside}
-use Rattle.lg_history.specs.InPlace.{ComesAt}
-use Rattle.lg_history.specs.Transactions.{unfixed}
-use Rattle.lg_standing.specs.TranscriptsSoFar.{end_shown, is_begin, image_in, image_at, shown_inside, shown_alone, shown_with, shown_at, open_before, Fits}
-use Rattle.lg_standing.specs.Doing.{stage_refused}
-use Rattle.lg_standing.specs.Moves.{keeping, at_place}
-use Rattle.lg_standing.specs.Seats.{OpenTransaction, Stage, begun, answering, refused, inside, Session}
+use Rattle.sql_value.specs.declared.refusal.Refusal.TheVariants.{Locked, SyntaxError, NoTransaction, AlreadyInTransaction, LimitExceeded, ForbiddenInTransaction}
+use Rattle.sql_types.specs.declared.reply.Reply.TheVariants as reply
+use Rattle.spec_history.specs.Lists.{Text}
+use Rattle.spec_history.specs.Meaning.{Meaning}
+use Rattle.spec_history.specs.Transcripts.{Kind, rows, keep, kind_of}
+use Rattle.spec_history.specs.Facts.{Fact, began, met, image, facts_outside}
+use Rattle.spec_history.specs.InPlace.{ComesAt}
+use Rattle.spec_history.specs.Transactions.{unfixed}
+use Rattle.spec_protocol.specs.TranscriptsSoFar.{end_shown, is_begin, image_in, image_at, shown_inside, shown_alone, shown_with, shown_at, open_before, Fits}
+use Rattle.spec_protocol.specs.Doing.{stage_refused}
+use Rattle.spec_protocol.specs.Moves.{keeping, at_place}
+use Rattle.spec_protocol.specs.Seats.{OpenTransaction, StatementProgress, begun, answering, refused, inside, Session}
 use Rattle.law_protocol_steps.proofs.TranscriptActs.{GoesFrom}
-use Rattle.law_protocol_steps.proofs.TranscriptStages.{GoesAt, fits_if, if_fits, at_opened}
+use Rattle.law_protocol_steps.proofs.TranscriptProgress.{GoesAt, fits_if, if_fits, at_opened}
 use Rattle.law_protocol_steps.proofs.InPlaces.{NoControl, never, outside, within, controlled_inside, fits_own}
 
 locked_plain : (holder : ℕ) → NoControl (reply.Refused (Locked holder))
-locked_plain holder = record { e01 = λ e. cc; e13 = λ e. cc; e14 = λ e. cc; e17 = λ e. cc }
+locked_plain holder = record { not_syntax_error = λ e. cc; not_no_transaction = λ e. cc; not_already_in = λ e. cc; not_forbidden_in = λ e. cc }
 
 module _ (q : Meaning) where
   -- an image is kept, the first or the second
@@ -32,11 +32,11 @@ module _ (q : Meaning) where
     fits = record {
       plain = refl;
       in_place = outside q n text (reply.Image items) keep None kind refl (record {
-        none_open = never E13 _ (λ f. cc);
-        begun_twice = never E14 _ (λ f. cc);
-        not_inside = never E17 _ (λ f. cc);
-        unread_outside = never E01 _ (λ f. cc);
-        third_image = subst (λ (b : Bool). ComesAt E16 b (reply.Image items)) (sym (ne_eqb n 2 (λ e. let l = so_far in omega (arith, e, l, few)))) (never E16 _ (λ f. cc));
+        none_open = never NoTransaction _ (λ f. cc);
+        begun_twice = never AlreadyInTransaction _ (λ f. cc);
+        not_inside = never ForbiddenInTransaction _ (λ f. cc);
+        unread_outside = never SyntaxError _ (λ f. cc);
+        third_image = subst (λ (b : Bool). ComesAt LimitExceeded b (reply.Image items)) (sym (ne_eqb n 2 (λ e. let l = so_far in omega (arith, e, l, few)))) (never LimitExceeded _ (λ f. cc));
         begins = tt;
       }) tt;
     };
@@ -49,14 +49,14 @@ module _ (q : Meaning) where
       counts = omega (arith, so_far, length-append x.images (kept ∷ []))
 
   -- a lock is in the way of a statement of rows, in a transaction that BEGIN opened and in one of its own
-  pub at_met : (n : ℕ) (text : Text) (holder : ℕ) (o : OpenTransaction) (stage : Stage) (fresh : Bool) → o.opened ≡ true → o.end ≡ unfixed → kind_of (q.reads text) ≡ rows → shown_inside q (kind_of (q.reads text)) text stage ≡ [] → is_begin stage ≡ false → image_in stage ≡ 0
+  pub at_met : (n : ℕ) (text : Text) (holder : ℕ) (o : OpenTransaction) (stage : StatementProgress) (fresh : Bool) → o.explicit ≡ true → o.end ≡ unfixed → kind_of (q.reads text) ≡ rows → shown_inside q (kind_of (q.reads text)) text stage ≡ [] → is_begin stage ≡ false → image_in stage ≡ 0
       → GoesAt q n (inside text stage) (Some o) (inside text (stage_refused fresh (reply.Refused (Locked holder)))) (Some o) (met text holder ∷ [])
-  at_met n text holder o stage true opened open_end kind nothing not_begin none = at_opened q n text o o stage (refused (reply.Refused (Locked holder))) (met text holder ∷ []) opened open_end refl opened open_end nothing not_begin none
+  at_met n text holder o stage true explicit open_end kind nothing not_begin none = at_opened q n text o o stage (refused (reply.Refused (Locked holder))) (met text holder ∷ []) explicit open_end refl explicit open_end nothing not_begin none
       (ap (λ (k : Kind). shown_inside q k text (refused (reply.Refused (Locked holder)))) kind) refl refl (within q n text (reply.Refused (Locked holder)) o.id rows None kind refl (controlled_inside n (reply.Refused (Locked holder)) (locked_plain holder) o.id rows refl refl) tt)
-  at_met n text holder o stage false opened open_end kind nothing not_begin none = at_opened q n text o o stage (answering (reply.Refused (Locked holder)) None) (met text holder ∷ []) opened open_end refl opened open_end nothing not_begin none
+  at_met n text holder o stage false explicit open_end kind nothing not_begin none = at_opened q n text o o stage (answering (reply.Refused (Locked holder)) None) (met text holder ∷ []) explicit open_end refl explicit open_end nothing not_begin none
       (ap (λ (k : Kind). shown_inside q k text (answering (reply.Refused (Locked holder)) None)) kind) refl refl (within q n text (reply.Refused (Locked holder)) o.id rows None kind refl (controlled_inside n (reply.Refused (Locked holder)) (locked_plain holder) o.id rows refl refl) tt)
 
-  pub at_own_met : (n : ℕ) (text : Text) (holder : ℕ) (o : OpenTransaction) (stage : Stage) (fresh : Bool) → o.opened ≡ false → o.end ≡ unfixed → shown_alone q text stage ≡ [] → image_in stage ≡ 0 → Fits q n (inside text stage) (Some o)
+  pub at_own_met : (n : ℕ) (text : Text) (holder : ℕ) (o : OpenTransaction) (stage : StatementProgress) (fresh : Bool) → o.explicit ≡ false → o.end ≡ unfixed → shown_alone q text stage ≡ [] → image_in stage ≡ 0 → Fits q n (inside text stage) (Some o)
       → GoesAt q n (inside text stage) (Some o) (inside text (stage_refused fresh (reply.Refused (Locked holder)))) (Some o) (met text holder ∷ [])
   at_own_met n text holder o stage true own open_end nothing none f = let g = fits_if q n text stage o false own f in record {
     shown = (λ i. (shown_with q (own i) o.id text stage ++ end_shown (open_end i)) ++ met text holder ∷ []) ∙ ap (λ (l : List Fact). ((began o.id false ∷ l) ++ []) ++ met text holder ∷ []) nothing ∙ (λ i. shown_with q (sym own i) o.id text (refused (reply.Refused (Locked holder))) ++ end_shown (sym open_end i));

@@ -5,56 +5,56 @@ use Rattle.std.specs.Prelude.{◌==◌, not, if◌then◌else◌}
 use Rattle.std.specs.List.{AllByRecursion, list_any}
 use mathlib.Core.Option.{some}
 use lib.ListN.{get_elem?}
-use Rattle.lg_value.specs.declared.column.ColumnDef.{ColumnDef}
-use Rattle.lg_types.specs.declared.lock.Mode.TheVariants.{X}
-use Rattle.lg_types.specs.declared.statement.Stmt.{Stmt}
-use Rattle.lg_types.specs.declared.table.TableDef.{TableDef}
-use Rattle.lg_types.specs.declared.version.Version.{Version}
-use Rattle.lg_model.specs.Rows.{EventId, value_or_null}
-use Rattle.lg_model.specs.Keys.{Key, key_of, of_key}
-use Rattle.lg_model.specs.Catalog.{Defs, Tables, defs_of, versions_of}
-use Rattle.lg_model.specs.Journals.{Line, serial, upto}
-use Rattle.lg_model.specs.Locks.{whole}
-use Rattle.lg_model.specs.Agreement.{columns_at}
-use Rattle.lg_model.specs.Plans.{plan, defined}
-use Rattle.lg_model.specs.Runs.{Rising, MadeBefore}
-use Rattle.lg_model.specs.Undo.{versions_undone}
-use Rattle.lg_history.specs.Lists.{Text, Each, In}
-use Rattle.lg_history.specs.Refusals.{EndsAt}
-use Rattle.lg_history.specs.Transactions.{unfixed}
-use Rattle.lg_history.proofs.Trace.{each_weaker}
-use Rattle.lg_invariants.specs.Serial.{place_in}
-use Rattle.lg_standing.specs.Server.{Server}
-use Rattle.lg_types.specs.declared.lock.Hold.{Hold}
-use Rattle.lg_standing.specs.Cells.{Creator, TableCell, Cell, Rows, holds_at, versions_at, catalog_at, cell_of, AreCells}
-use Rattle.lg_standing.specs.OpenOnes.{HasOpen, text_at, script_so_far, script_end}
-use Rattle.lg_standing.specs.OpenScripts.{counted}
-use Rattle.lg_standing.specs.EventsIn.{events_in}
-use Rattle.lg_standing.specs.Moves.{at_place, sits}
-use Rattle.lg_standing.specs.WantsIn.{wants_in, Holds, of_catalog}
-use Rattle.lg_standing.specs.TablesAreSerial.{HasActed, def_at, ordinals_of, IsAdding, IsCarried}
-use Rattle.lg_standing.specs.LocksCover.{KeepsLocks, Belongs, HasIntent, LookedFirst, IsDropping}
-use Rattle.lg_standing.specs.StandTogether.{History, Stands}
+use Rattle.sql_value.specs.declared.column.ColumnDef.{ColumnDef}
+use Rattle.sql_types.specs.declared.lock.Mode.TheVariants.{X}
+use Rattle.sql_types.specs.declared.statement.Stmt.{Stmt}
+use Rattle.sql_types.specs.declared.table.TableDef.{TableDef}
+use Rattle.sql_types.specs.declared.version.Version.{Version}
+use Rattle.spec_model.specs.Rows.{EventId, value_or_null}
+use Rattle.spec_model.specs.Keys.{Key, key_of, of_key}
+use Rattle.spec_model.specs.Catalog.{Defs, Tables, defs_of, versions_of}
+use Rattle.spec_model.specs.Journals.{Line, serial, upto}
+use Rattle.spec_model.specs.Locks.{whole}
+use Rattle.spec_model.specs.Agreement.{columns_at}
+use Rattle.spec_model.specs.ChangeSets.{change_set, defined}
+use Rattle.spec_model.specs.Runs.{Rising, MadeBefore}
+use Rattle.spec_model.specs.Undo.{versions_undone}
+use Rattle.spec_history.specs.Lists.{Text, Each, In}
+use Rattle.spec_history.specs.Refusals.{EndsAt}
+use Rattle.spec_history.specs.Transactions.{unfixed}
+use Rattle.spec_history.proofs.Trace.{each_weaker}
+use Rattle.law_journal.specs.Serial.{place_in}
+use Rattle.spec_protocol.specs.Server.{Server}
+use Rattle.sql_types.specs.declared.lock.Hold.{Hold}
+use Rattle.spec_protocol.specs.Cells.{Creator, TableCell, Cell, Rows, holds_at, versions_at, catalog_at, cell_of, AreCells}
+use Rattle.spec_protocol.specs.OpenOnes.{HasOpen, text_at, script_so_far, script_end}
+use Rattle.spec_protocol.specs.OpenScripts.{counted}
+use Rattle.spec_protocol.specs.EventsIn.{events_in}
+use Rattle.spec_protocol.specs.Moves.{at_place, sits}
+use Rattle.spec_protocol.specs.RequestsIn.{requests_in, Holds, of_catalog}
+use Rattle.spec_protocol.specs.TablesAreSerial.{HasActed, def_at, ordinals_of, IsAdding, IsCarried}
+use Rattle.spec_protocol.specs.LocksCover.{KeepsLocks, Belongs, HasIntent, LookedFirst, IsDropping}
+use Rattle.spec_protocol.specs.StandTogether.{History, Stands}
 use Rattle.law_protocol_steps.proofs.AfterSet.{set_here, set_else, each_at, all_at}
 use Rattle.law_protocol_steps.proofs.SeatsAfter.{Goes, one_session, open_here, open_else, each_open}
 use Rattle.law_protocol_steps.proofs.CellsAfter.{held_here, table_changed}
 use Rattle.law_protocol_steps.proofs.SameOne.{no_change, trees_same}
 use Rattle.law_protocol_steps.proofs.Excluded.{HasX, HasNoX, has_x_or_not}
 use Rattle.law_protocol_steps.proofs.SeatIds.{one_seat, outside}
-use Rattle.law_protocol_tables.proofs.StandByKey.{ByKey, kept_by_key}
+use Rattle.law_protocol_tables.proofs.LiveByKey.{ByKey, kept_by_key}
 use Rattle.law_protocol_changes.proofs.ChangedRows.{undone_of_key, rising_undone, undone_untouched, undone_before, touched_agree, IsCounted, all_count, some_undone, counted_is}
 use Rattle.law_protocol_changes.proofs.ChangeKeeps.{untouched}
 use Rattle.law_protocol_steps.proofs.Takes.{tables_now}
-use Rattle.lg_model.specs.Reach.{lets_change}
+use Rattle.spec_model.specs.Reach.{lets_change}
 use Rattle.law_protocol_changes.proofs.CommittedRows.{committed_undone}
-use Rattle.lg_standing.specs.Seats.{OpenTransaction, made, going_back, Place, inside, Session, session, SeatState}
-use Rattle.lg_standing.specs.UndoVisits.{undone_to}
-use Rattle.lg_standing.specs.OpenOnes.{lines_at, texts_so_far}
-use Rattle.lg_standing.specs.RowsAgree.{GoesBackTo, IsOpenedAt}
-use Rattle.lg_model.specs.Script.{ScriptEnd, script}
-use Rattle.lg_frames.proofs.Definitions.{opened_keep_defs}
-use Rattle.lg_frames.proofs.UndoneVersions.{nothing_undone}
-use Rattle.lg_frames.proofs.Alls.{all_weaker}
+use Rattle.spec_protocol.specs.Seats.{OpenTransaction, made, going_back, SessionStatus, inside, Session, session, SeatState}
+use Rattle.spec_protocol.specs.UndoVisits.{undone_to}
+use Rattle.spec_protocol.specs.OpenOnes.{lines_at, texts_so_far}
+use Rattle.spec_protocol.specs.RowsAgree.{GoesBackTo, IsExplicitAt}
+use Rattle.spec_model.specs.Script.{ScriptEnd, script}
+use Rattle.law_frame.proofs.Definitions.{opened_keep_defs}
+use Rattle.law_frame.proofs.UndoneVersions.{nothing_undone}
+use Rattle.law_frame.proofs.Alls.{all_weaker}
 use Rattle.law_protocol_changes.proofs.ChangedRows.{later}
 use Rattle.law_protocol_steps.proofs.CellsAfter.{each_holds, versions_here, were_here, versions_else}
 use Rattle.law_protocol_changes.proofs.ChangesAt.{user_cell}
@@ -64,19 +64,19 @@ use Rattle.law_protocol_steps.proofs.DefsAfter.{found_columns}
 use Rattle.law_protocol_steps.proofs.RowsFor.{elsewhere}
 use Rattle.law_protocol_tables.proofs.UndoneTwice.{undone_twice, was_undone}
 use Rattle.law_protocol_steps.proofs.TakesInTable.{IsAtPlace, table_place, cell_at, users}
-use Rattle.lg_model.specs.Replies.{reply_text}
-use Rattle.lg_standing.specs.TreesAreOfEvents.{AreFrames}
+use Rattle.spec_model.specs.Replies.{reply_text}
+use Rattle.spec_protocol.specs.TreesAreOfEvents.{AreOpenSavepoints}
 use Rattle.law_protocol_tables.proofs.Formed.{nothing_undone_to}
-use Rattle.law_protocol_steps.proofs.OfCells.{LookedAt, AreDefinitions, AreIndexes, Creates, EndLiesUnder, GoesBack, HasItsTrees, HasLock, HoldsInCatalog, IsFree, IsGotAt, IsIndexed, IsOfItsScript, IsUnderLocks, IsUnderWay, LiesUnder, LocksAgree, LocksCover, OpenScripts, RowsAgree, SeatHas, StandsAs, TreesAreOfEvents, WantsNone, committed, events_counted, in_journal, looked_now, looked_so, table_there}
+use Rattle.law_protocol_steps.proofs.OfCells.{LookedAt, AreDefinitions, AreIndexes, Creates, EndLiesUnder, GoesBack, HasItsTrees, HasLock, HoldsInCatalog, IsFree, IsGotAt, IsIndexed, IsOfItsScript, IsUnderLocks, IsUnderWay, LiesUnder, LocksAgree, LocksCover, OpenScripts, RowsAgree, SeatHas, StandsAs, TreesAreOfEvents, RequestsNone, committed, events_counted, in_journal, looked_now, looked_so, table_there}
 use Rattle.law_protocol_changes.proofs.Apart.{x_apart}
-use Rattle.lg_standing.specs.TranscriptsSoFar.{FitsWith, shown_with}
-use Rattle.lg_standing.specs.Contents.{HasAlone, contents, table_found}
+use Rattle.spec_protocol.specs.TranscriptsSoFar.{FitsWith, shown_with}
+use Rattle.spec_protocol.specs.Contents.{HasAlone, contents, table_found}
 use Rattle.law_protocol_steps.proofs.FreshIds.{events_of_touched}
 use Rattle.law_protocol_steps.proofs.GotMore.{got_at_more}
 use Rattle.law_protocol_steps.proofs.Ids.{others}
 use Rattle.law_protocol_steps.proofs.VisitActs.{stage_act}
-use Rattle.lg_model.specs.ScriptWants.{text_wants}
-use Rattle.lg_model.specs.Touched.{touched}
+use Rattle.spec_model.specs.ScriptRequests.{text_requests}
+use Rattle.spec_model.specs.Touched.{touched}
 
 pub record Undoing (v : Server) (cells : List Cell) (seats : List SeatState) {history : History} (S : Stands v history cells seats) (j : ℕ) (s : SeatState) (x : Session) (o : OpenTransaction) (text : Text) (seq : ℕ) (rest : List ℕ) (i : ℕ) (c d : TableCell) : Type 0 where
   pub there : get_elem? seats j ≡ some s
@@ -159,11 +159,11 @@ module _ (v : Server) (cells : List Cell) (seats : List SeatState) {history : Hi
 
   -- ---- what counts
 
-  abbrev after : Place
+  abbrev after : SessionStatus
   after = inside text (going_back seq rest)
 
   counts_before : (vs : List Version) → counted o.id c.id x.place vs ≡ versions_undone o.id seq vs
-  counts_before vs = ap (λ (q : Place). counted o.id c.id q vs) R.place ∙ rw (eq-eqb i (cell_of c.id) (sym here)) refl
+  counts_before vs = ap (λ (q : SessionStatus). counted o.id c.id q vs) R.place ∙ rw (eq-eqb i (cell_of c.id) (sym here)) refl
 
   counts_here : (f : List Version → List Version) → ((vs : List Version) → f (versions_undone o.id seq vs) ≡ versions_undone o.id seq (f vs)) → counted o.id c.id after (f d.versions) ≡ counted o.id c.id x.place (f c.versions)
   counts_here f turns = by (list_any (λ k. k == cell_of c.id) rest) ∙ sym (counts_before (f c.versions))
@@ -176,7 +176,7 @@ module _ (v : Server) (cells : List Cell) (seats : List SeatState) {history : Hi
       by false = once
 
   counts_else : (id : ℕ) (vs : List Version) → cell_of id ≢ i → counted o.id id after vs ≡ counted o.id id x.place vs
-  counts_else id vs ne = sym (ap (λ (q : Place). counted o.id id q vs) R.place ∙ rw (ne_eqb i (cell_of id) (λ e. ne (sym e))) refl)
+  counts_else id vs ne = sym (ap (λ (q : SessionStatus). counted o.id id q vs) R.place ∙ rw (ne_eqb i (cell_of id) (λ e. ne (sym e))) refl)
 
   counts_all : (id : ℕ) → counted o.id id after (versions_at C' id) ≡ counted o.id id x.place (versions_at cells id)
   counts_all zero = ap (counted o.id 0 after) (rows_else 0 not_zero) ∙ counts_else 0 (versions_at cells 0) not_zero
@@ -187,13 +187,13 @@ module _ (v : Server) (cells : List Cell) (seats : List SeatState) {history : Hi
   -- ---- the script
 
   same_script : script_so_far y o ≡ script_so_far x o
-  same_script = ap (λ (q : Place). o.script ++ lines_at q) (sym R.place)
+  same_script = ap (λ (q : SessionStatus). o.script ++ lines_at q) (sym R.place)
 
   same_end : script_end v T y o ≡ script_end v T x o
-  same_end = ap (λ (ls : List Line). script v.reads o.opened T o.id (map (λ l. l.0) ls)) same_script
+  same_end = ap (λ (ls : List Line). script v.reads o.explicit T o.id (map (λ l. l.0) ls)) same_script
 
-  is_opened : o.opened ≡ true
-  is_opened = subst (λ (q : Place). IsOpenedAt q o.opened) R.place (S.rows_agree.opened j x o has_open)
+  is_opened : o.explicit ≡ true
+  is_opened = subst (λ (q : SessionStatus). IsExplicitAt q o.explicit) R.place (S.rows_agree.explicit j x o has_open)
 
   end_defs : defs_of (script_end v T x o).state.tables ≡ defs_of T
   end_defs = ap (λ (b : Bool). defs_of (script v.reads b T o.id (texts_so_far x o)).state.tables) is_opened ∙ (opened_keep_defs v.reads T o.id (texts_so_far x o)).tables
@@ -225,17 +225,17 @@ module _ (v : Server) (cells : List Cell) (seats : List SeatState) {history : Hi
       (has_x_or_not (holds_at cells (cell_of c.id)) o.id key)
 
   -- where another transaction has X, this one hasn't
-  none_besides : (key : Key) (h : Hold) → In h (holds_at cells (cell_of c.id)) → h.tx ≢ o.id → lets_change key h.want ≡ true → HasNoX (holds_at cells (cell_of c.id)) o.id key
-  none_besides key h has ne reach g k m = by (lets_change key g.want) refl
+  none_besides : (key : Key) (h : Hold) → In h (holds_at cells (cell_of c.id)) → h.tx ≢ o.id → lets_change key h.request ≡ true → HasNoX (holds_at cells (cell_of c.id)) o.id key
+  none_besides key h has ne reach g k m = by (lets_change key g.request) refl
     where
-      by : (b : Bool) → lets_change key g.want ≡ b → b ≡ false
+      by : (b : Bool) → lets_change key g.request ≡ b → b ≡ false
       by true e = absurd (x_apart v cells seats S (cell_of c.id) key g h k has (λ q. ne (q ∙ m)) e reach)
       by false e = refl
 
   free_of_mine : (key : Key) → IsFree (holds_at cells (cell_of c.id)) S.ledger key → HasNoX (holds_at cells (cell_of c.id)) o.id key
-  free_of_mine key f h has m = by (lets_change key h.want) refl
+  free_of_mine key f h has m = by (lets_change key h.request) refl
     where
-      by : (b : Bool) → lets_change key h.want ≡ b → b ≡ false
+      by : (b : Bool) → lets_change key h.request ≡ b → b ≡ false
       by true e = absurd (let z : in_journal S.ledger.items (o.id, 0) ≡ true = ap (λ (n : ℕ). in_journal S.ledger.items (n, 0)) (sym m) ∙ f h has e in let q = mine_out 0 in cc)
       by false e = refl
 
@@ -259,7 +259,7 @@ module _ (v : Server) (cells : List Cell) (seats : List SeatState) {history : Hi
   rising_after : Rising d.versions
   rising_after = subst Rising (sym versions_left) (rising_undone o.id seq c.versions rising_before)
 
-  still_before : (tx n id : ℕ) (place : Place) → IsCounted tx id place → GoesBackTo place n → AllByRecursion (MadeBefore tx n) (counted tx id place c.versions) → AllByRecursion (MadeBefore tx n) (counted tx id place d.versions)
+  still_before : (tx n id : ℕ) (place : SessionStatus) → IsCounted tx id place → GoesBackTo place n → AllByRecursion (MadeBefore tx n) (counted tx id place c.versions) → AllByRecursion (MadeBefore tx n) (counted tx id place d.versions)
   still_before tx n id place (all_count same) back h = subst (AllByRecursion (MadeBefore tx n)) (sym (same _)) (subst (AllByRecursion (MadeBefore tx n)) (sym versions_left) (undone_untouched tx o.id seq n c.versions (subst (AllByRecursion (MadeBefore tx n)) (same _) h)))
   still_before tx n id place (some_undone k to same) back h = subst (AllByRecursion (MadeBefore tx n)) (sym (same _)) (subst (λ (m : ℕ). AllByRecursion (MadeBefore tx m) (versions_undone tx k d.versions)) (to n back) (undone_before tx k _))
 
@@ -269,20 +269,20 @@ module _ (v : Server) (cells : List Cell) (seats : List SeatState) {history : Hi
         (λ f. let g = free_before (cell_of c.id) key f in kept_at key (λ vs. vs) (free_of_mine key g) ∙ S.rows_agree.free c.id key one_le g)
         (λ id l ne f. key_else id key (λ vs. vs) ne ∙ S.rows_agree.free id key l (free_before (cell_of id) key f)) id l;
     own = each_open seats j (sits s y) x o y o goes
-        (λ n z r. r.end ≡ unfixed → (id : ℕ) (key : Key) → 1 ≤ id → (h : Hold) → In h (holds_at C' (cell_of id)) → h.tx ≡ r.id → lets_change key h.want ≡ true
+        (λ n z r. r.end ≡ unfixed → (id : ℕ) (key : Key) → 1 ≤ id → (h : Hold) → In h (holds_at C' (cell_of id)) → h.tx ≡ r.id → lets_change key h.request ≡ true
         → counted r.id id z.place (of_key (columns_at (defs_of T) id) key (versions_at C' id)) ≡ of_key (columns_at (defs_of T) id) key (versions_of (script_end v T z r).state.tables id))
-        (λ e id key l. by_table (λ id. (h : Hold) → In h (holds_at C' (cell_of id)) → h.tx ≡ o.id → lets_change key h.want ≡ true
+        (λ e id key l. by_table (λ id. (h : Hold) → In h (holds_at C' (cell_of id)) → h.tx ≡ o.id → lets_change key h.request ≡ true
         → counted o.id id y.place (of_key (columns_at (defs_of T) id) key (versions_at C' id)) ≡ of_key (columns_at (defs_of T) id) key (versions_of (script_end v T y o).state.tables id))
         (λ h has m reach. ap (λ (vs : List Version). counted o.id c.id after (of_key columns key vs)) rows_are ∙ counts_here (of_key columns key) (λ vs. sym (undone_of_key columns key o.id seq vs))
         ∙ ap (λ (vs : List Version). counted o.id c.id x.place (of_key columns key vs)) (sym rows_were)
         ∙ S.rows_agree.own j x o has_open R.unfixed c.id key one_le h (was_held (cell_of c.id) h has) m reach ∙ ap (λ (q : ScriptEnd). of_key columns key (versions_of q.state.tables c.id)) (sym same_end))
         (λ id l ne h has m reach. key_else id key (counted o.id id after) ne ∙ counts_else id _ ne
         ∙ S.rows_agree.own j x o has_open R.unfixed id key l h (was_held (cell_of id) h has) m reach ∙ ap (λ (q : ScriptEnd). of_key (columns_at (defs_of T) id) key (versions_of q.state.tables id)) (sym same_end)) id l)
-        (λ n z r ne g e id key l. by_table (λ id. (h : Hold) → In h (holds_at C' (cell_of id)) → h.tx ≡ r.id → lets_change key h.want ≡ true
+        (λ n z r ne g e id key l. by_table (λ id. (h : Hold) → In h (holds_at C' (cell_of id)) → h.tx ≡ r.id → lets_change key h.request ≡ true
         → counted r.id id z.place (of_key (columns_at (defs_of T) id) key (versions_at C' id)) ≡ of_key (columns_at (defs_of T) id) key (versions_of (script_end v T z r).state.tables id))
         (λ h has m reach. kept_at key (counted r.id c.id z.place) (none_besides key h (was_held (cell_of c.id) h has) (λ q. other_id n z r ne g (sym m ∙ q)) reach) ∙ S.rows_agree.own n z r g e c.id key one_le h (was_held (cell_of c.id) h has) m reach)
         (λ id l q h has m reach. key_else id key (counted r.id id z.place) q ∙ S.rows_agree.own n z r g e id key l h (was_held (cell_of id) h has) m reach) id l);
-    undone = λ id key l. by_table (λ id. (h : Hold) → In h (holds_at C' (cell_of id)) → in_journal S.ledger.items (h.tx, 0) ≡ false → lets_change key h.want ≡ true
+    undone = λ id key l. by_table (λ id. (h : Hold) → In h (holds_at C' (cell_of id)) → in_journal S.ledger.items (h.tx, 0) ≡ false → lets_change key h.request ≡ true
         → versions_undone h.tx 0 (of_key (columns_at (defs_of T) id) key (versions_at C' id)) ≡ of_key (columns_at (defs_of T) id) key (versions_of T id))
         (λ h has u reach. let was = was_held (cell_of c.id) h has in ⊎_elim
         (λ (m : h.tx ≡ o.id). subst (λ (n : ℕ). versions_undone n 0 (of_key columns key (versions_at C' c.id)) ≡ versions_undone n 0 (of_key columns key (versions_at cells c.id))) (sym m) (undone_mine key))
@@ -290,8 +290,8 @@ module _ (v : Server) (cells : List Cell) (seats : List SeatState) {history : Hi
         (cases_eq h.tx o.id) ∙ S.rows_agree.undone c.id key one_le h was u reach)
         (λ id l q h has u reach. key_else id key (versions_undone h.tx 0) q ∙ S.rows_agree.undone id key l h (was_held (cell_of id) h has) u reach) id l;
     rising = by_table (λ id. Rising (versions_at C' id)) (subst Rising (sym rows_are) rising_after) (λ id l ne. subst Rising (sym (rows_else id ne)) (S.rows_agree.rising id l));
-    back = each_open seats j (sits s y) x o y o goes (λ n z r. GoesBackTo z.place r.seq) (subst (λ (q : Place). GoesBackTo q o.seq) R.place (S.rows_agree.back j x o has_open)) (λ n z r ne g. S.rows_agree.back n z r g);
-    opened = each_open seats j (sits s y) x o y o goes (λ n z r. IsOpenedAt z.place r.opened) is_opened (λ n z r ne g. S.rows_agree.opened n z r g);
+    back = each_open seats j (sits s y) x o y o goes (λ n z r. GoesBackTo z.place r.seq) (subst (λ (q : SessionStatus). GoesBackTo q o.seq) R.place (S.rows_agree.back j x o has_open)) (λ n z r ne g. S.rows_agree.back n z r g);
+    explicit = each_open seats j (sits s y) x o y o goes (λ n z r. IsExplicitAt z.place r.explicit) is_opened (λ n z r ne g. S.rows_agree.explicit n z r g);
     before = each_open seats j (sits s y) x o y o goes
         (λ n z r. r.end ≡ unfixed → (id : ℕ) → 1 ≤ id → AllByRecursion (MadeBefore r.id r.seq) (counted r.id id z.place (versions_at C' id)))
         (λ e id l. subst (AllByRecursion (MadeBefore o.id o.seq)) (sym (counts_all id)) (S.rows_agree.before j x o has_open R.unfixed id l))
@@ -311,9 +311,9 @@ module _ (v : Server) (cells : List Cell) (seats : List SeatState) {history : Hi
     theirs_out m = outside v cells seats S n z r m has unfixed_too
 
     other_free : (key : Key) → HasX (holds_at cells (cell_of c.id)) o.id key → HasNoX (holds_at cells (cell_of c.id)) r.id key
-    other_free key k h has_h m = by (lets_change key h.want) refl
+    other_free key k h has_h m = by (lets_change key h.request) refl
       where
-        by : (b : Bool) → lets_change key h.want ≡ b → b ≡ false
+        by : (b : Bool) → lets_change key h.request ≡ b → b ≡ false
         by true e = absurd (x_apart v cells seats S (cell_of c.id) key k.hold h k.has has_h (λ q. other_id n z r ne has (sym m ∙ q ∙ k.mine)) k.reaches e)
         by false e = refl
 
@@ -368,9 +368,9 @@ module _ (v : Server) (cells : List Cell) (seats : List SeatState) {history : Hi
   trees = each_open seats j (sits s y) x o y o goes (λ n z r. r.end ≡ unfixed → HasItsTrees v C' S.ledger z r)
       (λ e. let was = S.trees_are_of_events j x o has_open R.unfixed in record {
         trees = trees_same x o x o (no_change x o) v (events_counted cells x o) (events_counted C' y o) o.trees (λ id. ap (events_in o.id id) (counts_all id)) was.trees;
-        frames = subst (λ (q : ScriptEnd). AreFrames o.id o.frames q.state.saved) (sym same_end) was.frames;
+        open_savepoints = subst (λ (q : ScriptEnd). AreOpenSavepoints o.id o.open_savepoints q.state.saved) (sym same_end) was.open_savepoints;
       })
-      (λ n z r ne h e. let was = S.trees_are_of_events n z r h e in record { trees = trees_same z r z r (no_change z r) v (events_counted cells z r) (events_counted C' z r) r.trees (events_all n z r ne h e) was.trees; frames = was.frames })
+      (λ n z r ne h e. let was = S.trees_are_of_events n z r h e in record { trees = trees_same z r z r (no_change z r) v (events_counted cells z r) (events_counted C' z r) r.trees (events_all n z r ne h e) was.trees; open_savepoints = was.open_savepoints })
 
   -- ---- locks
 
@@ -406,11 +406,11 @@ module _ (v : Server) (cells : List Cell) (seats : List SeatState) {history : Hi
       only : (m : ℕ) (z : Session) (r : OpenTransaction) → HasOpen seats' m z r → r.id ≡ h.tx → m ≡ b.j
       only = each_open seats j (sits s y) x o y o goes (λ m z r. r.id ≡ h.tx → m ≡ b.j) (λ e. b.only j x o has_open e) (λ m z r ne g e. b.only m z r g e)
 
-  covers_same : (z : Session) (r : OpenTransaction) (m : ℕ) (ls : List Line) → Each (λ l. Each (Holds (holds_at cells m) r.id) (wants_in v (defs_of T) r.opened m l.0)) ls → Each (λ l. Each (Holds (holds_at C' m) r.id) (wants_in v (defs_of T) r.opened m l.0)) ls
-  covers_same z r m ls h = subst (λ (hs : List Hold). Each (λ l. Each (Holds hs r.id) (wants_in v (defs_of T) r.opened m l.0)) ls) (sym (held_same m)) h
+  covers_same : (z : Session) (r : OpenTransaction) (m : ℕ) (ls : List Line) → Each (λ l. Each (Holds (holds_at cells m) r.id) (requests_in v (defs_of T) r.explicit m l.0)) ls → Each (λ l. Each (Holds (holds_at C' m) r.id) (requests_in v (defs_of T) r.explicit m l.0)) ls
+  covers_same z r m ls h = subst (λ (hs : List Hold). Each (λ l. Each (Holds hs r.id) (requests_in v (defs_of T) r.explicit m l.0)) ls) (sym (held_same m)) h
 
-  looked_still : (place : Place) (r : OpenTransaction) → HoldsInCatalog v cells T place r → HoldsInCatalog v C' T place r
-  looked_still place r h = record { lock = lock_is catalog_at r.id h.lock; wants = λ u e. subst (λ (hs : List Hold). Each (Holds hs r.id) (of_catalog (text_wants (defs_of T) r.opened (v.reads u)).catalog)) (sym (held_same catalog_at)) (h.wants u e) }
+  looked_still : (place : SessionStatus) (r : OpenTransaction) → HoldsInCatalog v cells T place r → HoldsInCatalog v C' T place r
+  looked_still place r h = record { lock = lock_is catalog_at r.id h.lock; requests = λ u e. subst (λ (hs : List Hold). Each (Holds hs r.id) (of_catalog (text_requests (defs_of T) r.explicit (v.reads u)).catalog)) (sym (held_same catalog_at)) (h.requests u e) }
 
   lies_then : (id : ℕ) (w : Version) (e : EventId) → LiesUnder cells T id w e → LiesUnder C' T id w e
   lies_then id w e u = record { hold = u.hold; has = subst (In u.hold) (sym (held_same (cell_of id))) u.has; mine = u.mine; reaches = u.reaches }
@@ -420,7 +420,7 @@ module _ (v : Server) (cells : List Cell) (seats : List SeatState) {history : Hi
   end_then id w (Some e) u = λ q. lies_then id w e (u q)
 
   under_was : (w u : Version) (e : EventId) → w.values ≡ u.values → LiesUnder cells T c.id u e → LiesUnder C' T c.id w e
-  under_was w u e same h = lies_then c.id w e (record { hold = h.hold; has = h.has; mine = h.mine; reaches = ap (λ vs. lets_change (key_of columns (map value_or_null vs)) h.hold.want) same ∙ h.reaches })
+  under_was w u e same h = lies_then c.id w e (record { hold = h.hold; has = h.has; mine = h.mine; reaches = ap (λ vs. lets_change (key_of columns (map value_or_null vs)) h.hold.request) same ∙ h.reaches })
 
   one_under : (w : Version) → In w d.versions → IsUnderLocks v C' S.ledger c.id w
   one_under w there =
@@ -451,10 +451,10 @@ module _ (v : Server) (cells : List Cell) (seats : List SeatState) {history : Hi
     intents = λ n h has m. subst (λ (hs : List Hold). HasIntent hs h) (sym (held_same n)) (S.locks_cover.intents n h (was_held n h has) m);
     looked = each_open seats j (sits s y) x o y o goes (λ n z r. r.end ≡ unfixed → LookedAt v C' T z.place r) (λ e. tt) (λ n z r ne h e. looked_so v C' T r z.place (λ l. looked_still z.place r (looked_now v cells T r z.place (S.locks_cover.looked n z r h e) l)));
     on_whole = λ h has. S.locks_cover.on_whole h (was_held catalog_at h has);
-    looked_first = each_open seats j (sits s y) x o y o goes (λ n z r. r.end ≡ unfixed → LookedFirst z.place → WantsNone v C' T r) (λ e h. absurd h)
+    looked_first = each_open seats j (sits s y) x o y o goes (λ n z r. r.end ≡ unfixed → LookedFirst z.place → RequestsNone v C' T r) (λ e h. absurd h)
         (λ n z r ne h e f. let was = S.locks_cover.looked_first n z r h e f in record { before = was.before; shares = λ h has m. was.shares h (was_held catalog_at h has) m; elsewhere = λ m l. was.elsewhere m (lock_was (suc m) r.id l) });
-    cover = each_open seats j (sits s y) x o y o goes (λ n z r. (m : ℕ) → KeepsLocks r m → Each (λ l. Each (Holds (holds_at C' m) r.id) (wants_in v (defs_of T) r.opened m l.0)) (script_so_far z r))
-        (λ m u. subst (Each (λ l. Each (Holds (holds_at C' m) o.id) (wants_in v (defs_of T) o.opened m l.0))) (sym same_script) (covers_same x o m (script_so_far x o) (S.locks_cover.cover j x o has_open m u)))
+    cover = each_open seats j (sits s y) x o y o goes (λ n z r. (m : ℕ) → KeepsLocks r m → Each (λ l. Each (Holds (holds_at C' m) r.id) (requests_in v (defs_of T) r.explicit m l.0)) (script_so_far z r))
+        (λ m u. subst (Each (λ l. Each (Holds (holds_at C' m) o.id) (requests_in v (defs_of T) o.explicit m l.0))) (sym same_script) (covers_same x o m (script_so_far x o) (S.locks_cover.cover j x o has_open m u)))
         (λ n z r ne h m u. covers_same z r m (script_so_far z r) (S.locks_cover.cover n z r h m u));
     catalog = λ n id l. lock_is catalog_at id (S.locks_cover.catalog n id (lock_was (suc n) id l));
     definitions = λ n z r m h e l. each_open seats j (sits s y) x o y o goes (λ n z r. (m : ℕ) → EndsAt r.end m → HasLock C' catalog_at r.id → defs_of T ≡ defs_of (serial v.reads (upto S.ledger.items m)))
@@ -462,7 +462,7 @@ module _ (v : Server) (cells : List Cell) (seats : List SeatState) {history : Hi
         (λ n z r ne h m e l. S.locks_cover.definitions n z r m h e (lock_was catalog_at r.id l)) n z r h m e l;
     got = each_open seats j (sits s y) x o y o goes (λ n z r. HasLock C' catalog_at r.id → IsGotAt v C' T r.id (not (in_journal S.ledger.items (r.id, 0))) z.place) (λ l. tt)
         (λ n z r ne h l. got_at_more v T (HasAlone (contents cells) r.id) (HasAlone (contents C') r.id) (not (in_journal S.ledger.items (r.id, 0))) (subst (In _) (sym (held_same catalog_at))) z.place (S.locks_cover.got n z r h (lock_was catalog_at r.id l)));
-    dropping = each_open seats j (sits s y) x o y o goes (λ n z r. IsDropping z.place r → In (record { tx = r.id; want = whole X }) (holds_at C' catalog_at)) (λ h. absurd h)
+    dropping = each_open seats j (sits s y) x o y o goes (λ n z r. IsDropping z.place r → In (record { tx = r.id; request = whole X }) (holds_at C' catalog_at)) (λ h. absurd h)
         (λ n z r ne g h. subst (In _) (sym (held_same catalog_at)) (S.locks_cover.dropping n z r g h));
     under = under_then;
   }
@@ -497,7 +497,7 @@ module _ (v : Server) (cells : List Cell) (seats : List SeatState) {history : Hi
   indexes_after : (def : TableDef) (xs : List (List ℕ)) → AreIndexes v cells seats S.ledger def xs → AreIndexes v C' seats' S.ledger def xs
   unfolding creates_then
   indexes_after def xs h = ⊎_elim (λ (e : xs ≡ ordinals_of def.indexes). inl e)
-      (λ (k : (z : Session) × (stmt : Stmt) × (after : TableDef) × (by : Creates v cells seats S.ledger z stmt) × (def_at (defs_of (defined (plan T stmt).definition T)) def.id ≡ Some after) × (xs ≡ ordinals_of after.indexes) × IsAdding z.place by.o after (cell_of def.id)). inr (k.0, k.1, k.2, creates_then k.0 k.1 k.3, k.4, k.5, k.6)) h
+      (λ (k : (z : Session) × (stmt : Stmt) × (after : TableDef) × (by : Creates v cells seats S.ledger z stmt) × (def_at (defs_of (defined (change_set T stmt).definition T)) def.id ≡ Some after) × (xs ≡ ordinals_of after.indexes) × IsAdding z.place by.o after (cell_of def.id)). inr (k.0, k.1, k.2, creates_then k.0 k.1 k.3, k.4, k.5, k.6)) h
 
   abbrev Ordinals : TableCell → List (List ℕ)
   Ordinals e = map (λ q. q.ordinals) e.indexes
@@ -505,7 +505,7 @@ module _ (v : Server) (cells : List Cell) (seats : List SeatState) {history : Hi
   ordinals_left : Ordinals d ≡ Ordinals c
   ordinals_left = ap Ordinals R.cell ∙ same_ordinals c.columns (versions_undone o.id seq c.versions) c.indexes
 
-  indexed_else : (place : Place) → IsIndexed cells place → IsIndexed C' place
+  indexed_else : (place : SessionStatus) → IsIndexed cells place → IsIndexed C' place
   indexed_else (inside at (made def true)) was = λ m cell t k. let f = table_there (get_elem? C' m) cell t in ⊎_elim
       (λ (q : m ≡ i). let found_it : some (Rows d) ≡ some (Rows cell) = sym (set_here cells i (Rows c) (Rows d) R.out) ∙ ap (get_elem? C') (sym q) ∙ f in
       let same : d ≡ cell = cc in subst (λ (u : TableCell). u.id ≡ def.id → Ordinals u ≡ ordinals_of def.indexes) same (λ id. ordinals_left ∙ was i c (ap table_found R.out) (sym id_left ∙ id)) k)
@@ -516,7 +516,7 @@ module _ (v : Server) (cells : List Cell) (seats : List SeatState) {history : Hi
 
   kept_there : KeptRows (place_in S.ledger.items) columns W
   kept_there = subst (λ (ds : Defs). KeptRows (place_in S.ledger.items) (columns_at ds c.id) W) end_defs
-      (kept_script v.reads S.ledger.items S.ledger_is_legal.legal o.id (elsewhere v cells seats S j x o has_open R.unfixed) o.opened (texts_so_far x o) c.id)
+      (kept_script v.reads S.ledger.items S.ledger_is_legal.legal o.id (elsewhere v cells seats S j x o has_open R.unfixed) o.explicit (texts_so_far x o) c.id)
 
   stands_here : (def : Option TableDef) → def_at (defs_of T) c.id ≡ def → StandsAs v cells seats S.ledger c def → StandsAs v C' seats' S.ledger d def
   stands_here None e h = subst (λ (u : TableCell). (u.versions ≡ []) × (u.order ≡ []) × (u.indexes ≡ [])) (sym R.cell) (nothing_undone_to o.id seq c h)
@@ -579,5 +579,5 @@ module _ (v : Server) (cells : List Cell) (seats : List SeatState) {history : Hi
     locks_cover = covered;
     locks_agree = agree;
     trees_are_of_events = trees;
-    transcripts_agree = stage_act v cells seats S j s R.there x R.role o R.open_one text (going_back seq (i ∷ rest)) (going_back seq rest) R.place same_shown refl refl same_fits refl (λ answered a h. h) o (record { id = refl; opened = refl; script = refl; end = refl });
+    transcripts_agree = stage_act v cells seats S j s R.there x R.role o R.open_one text (going_back seq (i ∷ rest)) (going_back seq rest) R.place same_shown refl refl same_fits refl (λ answered a h. h) o (record { id = refl; explicit = refl; script = refl; end = refl });
   }

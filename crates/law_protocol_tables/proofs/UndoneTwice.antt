@@ -3,11 +3,11 @@ use Rattle.std.proofs.Common.{◌≡◌, ◌⊎◌, inl, inr, ⊎_elim, ℕ, ◌
 use Rattle.std.proofs.lemmas.Bool.Decides.{nat_tests}
 use Rattle.std.specs.Prelude.{◌==◌, ◌&&◌, not, nat_le, if◌then◌else◌}
 use Rattle.std.specs.List.{filter}
-use Rattle.lg_types.specs.declared.version.Version.{Version}
-use Rattle.lg_model.specs.Rows.{EventId}
-use Rattle.lg_history.specs.Lists.{In}
+use Rattle.sql_types.specs.declared.version.Version.{Version}
+use Rattle.spec_model.specs.Rows.{EventId}
+use Rattle.spec_history.specs.Lists.{In}
 use Rattle.law_protocol_changes.proofs.ChangedRows.{was_in}
-use Rattle.lg_model.specs.Undo.{is_undone, end_left, end_undone, versions_undone}
+use Rattle.spec_model.specs.Undo.{is_undone, end_left, end_undone, versions_undone}
 
 below_too : (n m k : ℕ) → n ≤ m → nat_le m k ≡ true → nat_le n k ≡ true
 below_too n m k l e = grind (arith, nat_tests, l, e)

@@ -3,19 +3,19 @@
 ghost use Rattle.std.specs.Prelude.{◌≡◌, ℕ, false, true, List, [], ◌∷◌, slice_set, Some};
 ghost use mathlib.Core.Option.{some};
 ghost use lib.ListN.{get_elem?};
-ghost use Rattle.lg_types.specs.declared.table.Part.TheVariants.{System};
-ghost use Rattle.lg_model.specs.Effect.{query_rows};
-ghost use Rattle.lg_history.specs.Acts.{looks, meets};
-ghost use Rattle.lg_standing.specs.ActsOf.{done_acts, failed_in};
-ghost use Rattle.lg_standing.specs.Doing.{rows_reply};
-ghost use Rattle.lg_standing.specs.Server.{Server};
-ghost use Rattle.lg_standing.specs.Cells.{Cell, Catalog, CatalogCell, catalog_at, versions_in};
-ghost use Rattle.lg_standing.specs.Seats.{SeatState};
-ghost use Rattle.lg_types.specs.declared.reply.Reply.TheVariants.{Refused};
-ghost use Rattle.lg_value.specs.declared.refusal.Refusal.TheVariants.{E30, Locked};
-ghost use Rattle.lg_standing.specs.CatalogVisits.{CreatesIndex, CreatesTable, GivesBack, Looks, ReadsSystem, RefusesCreate, StopsInCatalog};
-ghost use Rattle.lg_standing.specs.UndoVisits.{ReleasesCatalog};
-ghost use Rattle.lg_standing.specs.StandTogether.{History, LocksAskedFor, Stands, StandsAfter};
+ghost use Rattle.sql_types.specs.declared.table.Part.TheVariants.{System};
+ghost use Rattle.spec_model.specs.Effect.{query_rows};
+ghost use Rattle.spec_history.specs.Acts.{looks, meets};
+ghost use Rattle.spec_protocol.specs.ActsOf.{done_acts, failed_in};
+ghost use Rattle.spec_protocol.specs.Doing.{rows_reply};
+ghost use Rattle.spec_protocol.specs.Server.{Server};
+ghost use Rattle.spec_protocol.specs.Cells.{Cell, Catalog, CatalogCell, catalog_at, versions_in};
+ghost use Rattle.spec_protocol.specs.Seats.{SeatState};
+ghost use Rattle.sql_types.specs.declared.reply.Reply.TheVariants.{Refused};
+ghost use Rattle.sql_value.specs.declared.refusal.Refusal.TheVariants.{NoMemory, Locked};
+ghost use Rattle.spec_protocol.specs.CatalogVisits.{CreatesIndex, CreatesTable, ReleasesCatalogLock, Looks, ReadsSystem, RefusesCreate, StopsInCatalog};
+ghost use Rattle.spec_protocol.specs.UndoVisits.{ReleasesCatalog};
+ghost use Rattle.spec_protocol.specs.StandTogether.{History, LocksAskedFor, Stands, StandsAfter};
 
 /// Looking a name up does.
 pub fn looking_up_keeps_standing()
@@ -34,7 +34,7 @@ pub fn giving_back_keeps_standing()
         → Stands v history cells seats
         → (j : ℕ) (s : SeatState) → get_elem? seats j ≡ some s
         → (c d : CatalogCell) (t : SeatState) → get_elem? cells catalog_at ≡ some (Catalog c)
-        → GivesBack v c s d t
+        → ReleasesCatalogLock v c s d t
         → Stands v history (slice_set cells catalog_at (Catalog d)) (slice_set seats j t) }
 {}
 
@@ -88,7 +88,7 @@ pub fn reading_a_system_table_keeps_standing()
         → (j : ℕ) (s : SeatState) → get_elem? seats j ≡ some s
         → (c d : CatalogCell) (t : SeatState) → get_elem? cells catalog_at ≡ some (Catalog c)
         → (w : ReadsSystem v c s d t)
-        → StandsAfter v j history (looks w.at.stands.text false ∷ done_acts w.o.opened w.at.stands.text true
+        → StandsAfter v j history (looks w.at.stands.text false ∷ done_acts w.o.explicit w.at.stands.text true
         (rows_reply (query_rows w.q (w.def, System) (versions_in w.def.id (Catalog c)))))
         (slice_set cells catalog_at (Catalog d)) (slice_set seats j t) }
 {}
@@ -99,7 +99,7 @@ pub fn lacking_memory_in_the_catalog_keeps_standing()
         → Stands v history cells seats
         → (j : ℕ) (s : SeatState) → get_elem? seats j ≡ some s
         → (c d : CatalogCell) (t : SeatState) → get_elem? cells catalog_at ≡ some (Catalog c)
-        → (w : StopsInCatalog v c s t) → w.r ≡ Refused E30 → d ≡ c
+        → (w : StopsInCatalog v c s t) → w.r ≡ Refused NoMemory → d ≡ c
         → StandsAfter v j history (failed_in v.meaning (Some w.o) w.at.stands.text)
         (slice_set cells catalog_at (Catalog d)) (slice_set seats j t) }
 {}

@@ -3,18 +3,18 @@
 ghost use Rattle.std.specs.Prelude.{◌≡◌, ℕ, true, List, [], ◌∷◌, slice_set};
 ghost use mathlib.Core.Option.{some};
 ghost use lib.ListN.{get_elem?};
-ghost use Rattle.lg_model.specs.Effect.{query_rows};
-ghost use Rattle.lg_history.specs.Acts.{fails, meets};
-ghost use Rattle.lg_standing.specs.ActsOf.{done_acts};
-ghost use Rattle.lg_standing.specs.Doing.{rows_reply};
-ghost use Rattle.lg_standing.specs.Server.{Server};
-ghost use Rattle.lg_standing.specs.Cells.{Cell, Rows, TableCell};
-ghost use Rattle.lg_standing.specs.Seats.{SeatState};
-ghost use Rattle.lg_types.specs.declared.reply.Reply.TheVariants.{Changed, Refused};
-ghost use Rattle.lg_value.specs.declared.refusal.Refusal.TheVariants.{E30, Locked};
-ghost use Rattle.lg_standing.specs.TableVisits.{AddsIndex, ChangesRows, ReadsRows, RefusesRows, StopsInTable};
-ghost use Rattle.lg_standing.specs.UndoVisits.{ReleasesTable, UndoesTo};
-ghost use Rattle.lg_standing.specs.StandTogether.{History, LocksAskedFor, Stands, StandsAfter};
+ghost use Rattle.spec_model.specs.Effect.{query_rows};
+ghost use Rattle.spec_history.specs.Acts.{fails, meets};
+ghost use Rattle.spec_protocol.specs.ActsOf.{done_acts};
+ghost use Rattle.spec_protocol.specs.Doing.{rows_reply};
+ghost use Rattle.spec_protocol.specs.Server.{Server};
+ghost use Rattle.spec_protocol.specs.Cells.{Cell, Rows, TableCell};
+ghost use Rattle.spec_protocol.specs.Seats.{SeatState};
+ghost use Rattle.sql_types.specs.declared.reply.Reply.TheVariants.{Changed, Refused};
+ghost use Rattle.sql_value.specs.declared.refusal.Refusal.TheVariants.{NoMemory, Locked};
+ghost use Rattle.spec_protocol.specs.TableVisits.{AddsIndex, ChangesRows, ReadsRows, RefusesRows, StopsInTable};
+ghost use Rattle.spec_protocol.specs.UndoVisits.{ReleasesTable, UndoesTo};
+ghost use Rattle.spec_protocol.specs.StandTogether.{History, LocksAskedFor, Stands, StandsAfter};
 
 /// INSERT, UPDATE and DELETE do.
 pub fn changing_rows_keeps_standing()
@@ -22,7 +22,7 @@ pub fn changing_rows_keeps_standing()
         → Stands v history cells seats
         → (i j : ℕ) (s : SeatState) → get_elem? seats j ≡ some s
         → (c d : TableCell) (t : SeatState) → get_elem? cells i ≡ some (Rows c) → (w : ChangesRows v c s d t)
-        → StandsAfter v j history (done_acts w.o.opened w.at.at.stands.text true (Changed w.count))
+        → StandsAfter v j history (done_acts w.o.explicit w.at.at.stands.text true (Changed w.count))
         (slice_set cells i (Rows d)) (slice_set seats j t) }
 {}
 
@@ -59,7 +59,7 @@ pub fn refusing_rows_keeps_standing()
         → Stands v history cells seats
         → (i j : ℕ) (s : SeatState) → get_elem? seats j ≡ some s
         → (c d : TableCell) (t : SeatState) → get_elem? cells i ≡ some (Rows c) → (w : RefusesRows v c s d t)
-        → StandsAfter v j history (done_acts w.o.opened w.at.at.stands.text true (Refused w.refusal))
+        → StandsAfter v j history (done_acts w.o.explicit w.at.at.stands.text true (Refused w.refusal))
         (slice_set cells i (Rows d)) (slice_set seats j t) }
 {}
 
@@ -69,7 +69,7 @@ pub fn reading_rows_keeps_standing()
         → Stands v history cells seats
         → (i j : ℕ) (s : SeatState) → get_elem? seats j ≡ some s
         → (c d : TableCell) (t : SeatState) → get_elem? cells i ≡ some (Rows c) → (w : ReadsRows v c s d t)
-        → StandsAfter v j history (done_acts w.o.opened w.at.at.stands.text true
+        → StandsAfter v j history (done_acts w.o.explicit w.at.at.stands.text true
         (rows_reply (query_rows w.q w.named c.versions)))
         (slice_set cells i (Rows d)) (slice_set seats j t) }
 {}
@@ -80,7 +80,7 @@ pub fn lacking_memory_in_a_table_keeps_standing()
         → Stands v history cells seats
         → (i j : ℕ) (s : SeatState) → get_elem? seats j ≡ some s
         → (c d : TableCell) (t : SeatState) → get_elem? cells i ≡ some (Rows c)
-        → (w : StopsInTable v c s t) → w.r ≡ Refused E30 → d ≡ c
+        → (w : StopsInTable v c s t) → w.r ≡ Refused NoMemory → d ≡ c
         → StandsAfter v j history (fails w.at.at.stands.text ∷ [])
         (slice_set cells i (Rows d)) (slice_set seats j t) }
 {}

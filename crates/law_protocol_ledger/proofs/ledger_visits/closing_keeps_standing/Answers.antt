@@ -2,9 +2,9 @@ use Rattle.std.proofs.Common.{◌≡◌, ◌++◌, ℕ, [], ◌∷◌, sym, subs
 use Rattle.std.specs.Prelude.{slice_set}
 use mathlib.Core.Option.{some}
 use lib.ListN.{get_elem?}
-use Rattle.lg_standing.specs.Cells.{Ledger}
-use Rattle.lg_history.specs.Acts.{closes}
-use Rattle.lg_standing.specs.StandTogether.{Stands}
+use Rattle.spec_protocol.specs.Cells.{Ledger}
+use Rattle.spec_history.specs.Acts.{closes}
+use Rattle.spec_protocol.specs.StandTogether.{Stands}
 use Rattle.law_protocol_steps.proofs.LedgerVisit.{lies_there}
 use Rattle.law_protocol_steps.proofs.Closes.{closes_stand}
 use Rattle.law_protocol_ledger.proofs.ledger_visits.closing_keeps_standing.Goals as goal

@@ -2,10 +2,10 @@ use Rattle.std.proofs.Common.{◌≡◌, ◌+◌, ℕ, sym, subst}
 use Rattle.std.specs.Prelude.{slice_set}
 use mathlib.Core.Option.{some}
 use lib.ListN.{get_elem?}
-use Rattle.lg_standing.specs.Cells.{Ledger}
-use Rattle.lg_model.specs.Journals.{tx_count}
-use Rattle.lg_standing.specs.ActsOf.{commit_acts}
-use Rattle.lg_standing.specs.StandTogether.{StandsAfter}
+use Rattle.spec_protocol.specs.Cells.{Ledger}
+use Rattle.spec_model.specs.Journals.{tx_count}
+use Rattle.spec_protocol.specs.ActsOf.{commit_acts}
+use Rattle.spec_protocol.specs.StandTogether.{StandsAfter}
 use Rattle.law_protocol_steps.proofs.LedgerVisit.{lies_there}
 use Rattle.law_protocol_ledger.proofs.CommitCreates.{every_commit_stands}
 use Rattle.law_protocol_ledger.proofs.ledger_visits.committing_keeps_standing.Goals as goal

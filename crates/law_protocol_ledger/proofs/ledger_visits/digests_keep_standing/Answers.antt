@@ -2,11 +2,11 @@ use Rattle.std.proofs.Common.{◌≡◌, ◌++◌, ℕ, [], ◌∷◌, sym, subs
 use Rattle.std.specs.Prelude.{slice_set}
 use mathlib.Core.Option.{some}
 use lib.ListN.{get_elem?}
-use Rattle.lg_standing.specs.Cells.{Ledger, pending_in}
-use Rattle.lg_model.specs.Journals.{tx_count}
-use Rattle.lg_history.specs.Acts.{issues, lacks}
-use Rattle.lg_standing.specs.ActsOf.{closings}
-use Rattle.lg_standing.specs.StandTogether.{StandsAfter}
+use Rattle.spec_protocol.specs.Cells.{Ledger, pending_in}
+use Rattle.spec_model.specs.Journals.{tx_count}
+use Rattle.spec_history.specs.Acts.{issues, lacks}
+use Rattle.spec_protocol.specs.ActsOf.{closings}
+use Rattle.spec_protocol.specs.StandTogether.{StandsAfter}
 use Rattle.law_protocol_steps.proofs.LedgerVisit.{lies_there}
 use Rattle.law_protocol_changes.proofs.DigestsStand.{issues_stand, lacks_stand}
 use Rattle.law_protocol_ledger.proofs.ledger_visits.digests_keep_standing.Goals as goal

@@ -1,0 +1,10 @@
+//! Whether the rows of the two tables of the system encode the definitions of all others.
+#![tactic(auto)]
+
+mod first_values;
+mod items;
+mod names;
+mod rules;
+mod spelling;
+
+pub use spelling::definition_fault;

@@ -1,0 +1,167 @@
+//! Whether a definition may be spelled by rows of the two tables of the system.
+
+ghost use Rattle.std.specs.Prelude.{◌≡◌, ◌<◌, ◌^◌, ◌==◌, ◌&&◌, not, IfOk};
+ghost use Rattle.std.specs.List.{list_all, list_any, range_with_len};
+ghost use Rattle.law_catalog_rows.specs.IsEncodableDef as spec;
+ghost use Rattle.audit_definitions.specs.Rules.{names_are_right, columns_are_right, indexes_are_right};
+
+use crate::names::{
+    column_names_repeat, has_its_history, index_names_repeat, is_ledger_name, is_proper_name,
+    table_names_repeat,
+};
+use base_types::Memory;
+use sql_types::{IndexDef, TableDef};
+use sql_value::ColumnDef;
+use std::alloc::Global;
+
+/// Whether the definition keeps to the rules by itself.
+pub fn is_encodable_def(alloc: Global, def: &TableDef) -> Result<bool, Memory>
+    ensures { IfOk result (λ may. may ≡ spec.is_encodable_def def.now) }
+{
+    let columns = def.columns.as_slice();
+    let positions = positions_of(alloc, columns)?;
+    let named = has_right_names(def);
+    let has_columns = has_right_columns(columns, &positions);
+    let has_indexes = has_right_indexes(columns.len(), def.indexes.as_slice());
+    Ok(all_hold(named, has_columns, has_indexes))
+}
+
+fn all_hold(a: bool, b: bool, c: bool) -> bool
+    ensures { result ≡ (a && b && c) }
+{
+    a && b && c
+}
+
+fn has_right_names(def: &TableDef) -> bool
+    ensures { result ≡ names_are_right def.now }
+{
+    3 <= def.id
+        && def.id <= 34
+        && is_proper_name(def.name.bytes())
+        && has_its_history(def.kind, def.history.bytes())
+        && is_proper_name(def.view.bytes())
+        && !table_names_repeat(def)
+}
+
+fn has_right_columns(columns: &[ColumnDef], positions: &[u16]) -> bool
+    ensures { result ≡ columns_are_right columns.now positions.now }
+{
+    1 <= columns.len()
+        && columns.len() <= 64
+        && are_encodable_columns(columns)
+        && !column_names_repeat(columns)
+        && are_key_positions(positions)
+        && !has_null_key(columns)
+}
+
+fn has_right_indexes(columns: usize, indexes: &[IndexDef]) -> bool
+    ensures { result ≡ indexes_are_right columns indexes.now }
+{
+    indexes.len() <= 4 && are_encodable_indexes(columns, indexes) && !index_names_repeat(indexes)
+}
+
+fn are_encodable_columns(columns: &[ColumnDef]) -> bool
+    ensures { result ≡ list_all spec.is_encodable_column columns.now }
+{
+    columns.iter().all(is_encodable_column)
+}
+
+fn is_encodable_column(column: &ColumnDef) -> bool
+    ensures { result ≡ spec.is_encodable_column column.now }
+{
+    column.ty.is_in_range() && is_proper_name(column.name.bytes()) && !is_ledger_name(&column.name)
+}
+
+fn has_null_key(columns: &[ColumnDef]) -> bool
+    ensures { result ≡ list_any (λ c. c.nullable && not (c.key_position == 0)) columns.now }
+{
+    columns
+        .iter()
+        .any(|column| column.nullable && column.key_position != 0)
+}
+
+fn are_encodable_indexes(columns: usize, indexes: &[IndexDef]) -> bool
+    ensures { result ≡ list_all (spec.is_encodable_index columns) indexes.now }
+{
+    indexes
+        .iter()
+        .all(|index| is_encodable_index(columns, index))
+}
+
+fn is_encodable_index(columns: usize, index: &IndexDef) -> bool
+    ensures { result ≡ spec.is_encodable_index columns index.now }
+{
+    let ordinals = index.ordinals.as_slice();
+    is_proper_name(index.name.bytes())
+        && 1 <= ordinals.len()
+        && ordinals.len() <= 4
+        && are_ordinals(columns, ordinals)
+        && !repeat(ordinals)
+}
+
+fn are_ordinals(columns: usize, ordinals: &[u16]) -> bool
+    ensures { result ≡ list_all (spec.is_between 1 columns) ordinals.now }
+{
+    ordinals
+        .iter()
+        .all(|n| 1 <= *n && usize::from(*n) <= columns)
+}
+
+/// The key positions other than 0.
+fn positions_of(alloc: Global, columns: &[ColumnDef]) -> Result<Vec<u16>, Memory>
+    ensures { IfOk result (λ positions. positions.items ≡ spec.positions_of columns.now) }
+{
+    let mut positions = Vec::new(alloc);
+    for column in columns {
+        if column.key_position != 0 {
+            positions.push(u16::from(column.key_position))?;
+        }
+    }
+    Ok(positions)
+}
+
+/// Whether these are 1 to k, each once, with k from 1 to 4.
+fn are_key_positions(positions: &[u16]) -> bool
+    ensures { result ≡ spec.are_key_positions positions.now }
+{
+    let last = greatest(positions);
+    1 <= last && last <= 4 && are_all_among(positions, last) && !repeat(positions)
+}
+
+fn are_all_among(numbers: &[u16], last: u16) -> bool
+    requires { last < 2 ^ 15 }
+    ensures { result ≡ list_all (spec.is_among numbers.now) (range_with_len 1 last) }
+{
+    (1..last + 1).all(|n| is_among(numbers, n))
+}
+
+fn is_among(numbers: &[u16], n: u16) -> bool
+    ensures { result ≡ spec.is_among numbers.now n }
+{
+    numbers.iter().any(|m| *m == n)
+}
+
+fn greatest(numbers: &[u16]) -> u16
+    ensures { result ≡ spec.greatest numbers.now }
+{
+    let mut greatest = 0;
+    let mut k = numbers.len();
+    while k > 0 {
+        k -= 1;
+        if numbers[k] > greatest {
+            greatest = numbers[k];
+        }
+    }
+    greatest
+}
+
+fn repeat(numbers: &[u16]) -> bool
+    ensures { result ≡ spec.number_repeats numbers.now }
+{
+    for k in 0..numbers.len() {
+        if is_among(&numbers[k + 1..], numbers[k]) {
+            return true;
+        }
+    }
+    false
+}

@@ -1,0 +1,195 @@
+//! Whether the rows of the two tables of the system spell the definitions of all others.
+
+ghost use Rattle.std.specs.Prelude.{◌≡◌, ◌∷◌, ◌++◌, [], pos, IfOk, OnOk, map, filter, filter_map};
+ghost use Rattle.std.specs.List.{AllByRecursion};
+ghost use Rattle.std.specs.Ordering.{int_cmp};
+ghost use Rattle.spec_model.specs.Catalog.{Defs};
+ghost use Rattle.spec_model.specs.Rows.{values_of};
+ghost use Rattle.law_catalog_rows.specs.Differs as spec;
+ghost use Rattle.law_catalog_rows.specs.Least.{least_from, lesser};
+ghost use Rattle.spec_verify.specs.Definitions as verdict;
+ghost use Rattle.audit_definitions.specs.DefinitionRows.{HasSmallId, base_in, has_its_rows, ids_encoded, is_missing, rows_in};
+
+use crate::first_values::table_of;
+use crate::items::{has_item_rows, has_table_row, system_rows_of};
+use crate::names::has_new_names;
+use crate::rules::is_encodable_def;
+use base_types::{Memory, TableId};
+use format_image::Image;
+use spec_verify::Place;
+use sql_types::{TableDef, Version};
+use std::alloc::Global;
+
+/// The least table that is defined otherwise than its rows spell it.
+pub fn definition_fault(alloc: Global, image: &Image) -> Result<Option<Place>, Memory>
+    requires first { AllByRecursion HasSmallId (base_in image.now.tables 0) }
+    requires second { AllByRecursion HasSmallId (base_in image.now.tables 1) }
+    ensures { IfOk result (λ place. place ≡ verdict.definition_fault image.now) }
+{
+    let defs = image.defs.as_slice();
+    fault_of(alloc, base_at(image, 0), base_at(image, 1), defs)
+}
+
+fn fault_of(
+    alloc: Global,
+    first: &[Version],
+    second: &[Version],
+    defs: &[TableDef],
+) -> Result<Option<Place>, Memory>
+    requires first { AllByRecursion HasSmallId first.now }
+    requires second { AllByRecursion HasSmallId second.now }
+    ensures { IfOk result (λ place. place
+        ≡ verdict.table_place (spec.encoding_fault (rows_in first.now) (rows_in second.now) defs.now)) }
+{
+    let spelled = ids_encoded(alloc, first, second, defs)?;
+    let worst = worst_row(&spelled, first, None);
+    let worst = worst_row(&spelled, second, worst);
+    Ok(table_place(worst_def(&spelled, defs, worst)))
+}
+
+/// The base rows of the table at this place; of no table there are none.
+fn base_at(image: &Image, place: usize) -> &[Version]
+    ensures { result.now ≡ base_in image.now.tables place }
+{
+    match image.tables.get(place) {
+        Some(rows) => rows.base.as_slice(),
+        None => &[],
+    }
+}
+
+fn table_place(id: Option<i64>) -> Option<Place>
+    ensures { result ≡ verdict.table_place id }
+{
+    match id {
+        Some(id) => Some(Place::Table(id)),
+        None => None,
+    }
+}
+
+/// The ids of the definitions that the rows spell. Takes room for 32 ids at most, since no two definitions of
+/// an image have one id.
+fn ids_encoded(
+    alloc: Global,
+    first: &[Version],
+    second: &[Version],
+    defs: &[TableDef],
+) -> Result<Vec<TableId>, Memory>
+    ensures { IfOk result (λ ids. ids.items ≡ ids_encoded (rows_in first.now) (rows_in second.now) defs.now) }
+{
+    let mut ids = Vec::new(alloc);
+    for def in defs {
+        add_if_encoded(alloc, first, second, def, &mut ids)?;
+    }
+    Ok(ids)
+}
+
+fn add_if_encoded(
+    alloc: Global,
+    first: &[Version],
+    second: &[Version],
+    def: &TableDef,
+    ids: &mut Vec<TableId>,
+) -> Result<(), Memory>
+    ensures { OnOk result ((defs : Defs) → ids.new.items ≡ ids.old.items
+        ++ map (λ d. d.id)
+        (filter (spec.is_encoded (rows_in first.now) (rows_in second.now) defs) (def.now ∷ []))) }
+{
+    if is_encoded(alloc, first, second, def)? {
+        ids.push(def.id)?;
+    }
+    Ok(())
+}
+
+/// Whether the rows spell the definition. Its own rules come first: they let through the ids from 3 to 34,
+/// and the rows are gone through for those alone.
+fn is_encoded(
+    alloc: Global,
+    first: &[Version],
+    second: &[Version],
+    def: &TableDef,
+) -> Result<bool, Memory>
+    ensures { IfOk result (λ is. (defs : Defs)
+        → is ≡ spec.is_encoded (rows_in first.now) (rows_in second.now) defs def.now) }
+{
+    if !is_encodable_def(alloc, def)? {
+        return Ok(false);
+    }
+    let own = has_its_rows(alloc, first, second, def)?;
+    Ok(own && has_new_names(first, def))
+}
+
+/// Whether the rows about its table are those of the definition.
+fn has_its_rows(
+    alloc: Global,
+    first: &[Version],
+    second: &[Version],
+    def: &TableDef,
+) -> Result<bool, Memory>
+    ensures { IfOk result (λ has. has ≡ has_its_rows (rows_in first.now) (rows_in second.now) def.now) }
+{
+    let tables = system_rows_of(alloc, first, def.id)?;
+    let items = system_rows_of(alloc, second, def.id)?;
+    Ok(has_table_row(&tables, def) && has_item_rows(&items, def))
+}
+
+/// Whether it is none of these ids.
+fn is_missing(ids: &[TableId], id: i64) -> bool
+    ensures { result ≡ is_missing ids.now id }
+{
+    for own in ids {
+        if i64::from(*own) == id {
+            return false;
+        }
+    }
+    true
+}
+
+fn lesser(worst: Option<i64>, id: i64) -> Option<i64>
+    ensures { result ≡ lesser int_cmp worst id }
+{
+    match worst {
+        Some(known) if known <= id => Some(known),
+        _ => Some(id),
+    }
+}
+
+/// The table that the row is about.
+fn small_table(version: &Version) -> Option<i64>
+    requires { HasSmallId version.now }
+    ensures { result ≡ spec.table_of (values_of version.now) }
+{
+    match table_of(version) {
+        Some(table) => Some(table as i64),
+        None => None,
+    }
+}
+
+fn worst_row(spelled: &[TableId], versions: &[Version], worst: Option<i64>) -> Option<i64>
+    requires { AllByRecursion HasSmallId versions.now }
+    ensures { result ≡ least_from int_cmp worst
+        (filter (is_missing spelled.now) (filter_map spec.table_of (rows_in versions.now))) }
+{
+    let mut worst = worst;
+    for version in versions {
+        if let Some(id) = small_table(version) {
+            if is_missing(spelled, id) {
+                worst = lesser(worst, id);
+            }
+        }
+    }
+    worst
+}
+
+fn worst_def(spelled: &[TableId], defs: &[TableDef], worst: Option<i64>) -> Option<i64>
+    ensures { result ≡ least_from int_cmp worst
+        (filter (is_missing spelled.now) (map (λ d. pos d.id) defs.now)) }
+{
+    let mut worst = worst;
+    for def in defs {
+        let id = i64::from(def.id);
+        if is_missing(spelled, id) {
+            worst = lesser(worst, id);
+        }
+    }
+    worst
+}

@@ -1,0 +1,20 @@
+use Rattle.std.proofs.Common.{rules, refl, ◌-◌}
+use Rattle.audit_extract.proofs.Linked.{agreed_at, digested, one_less, records_collide}
+use Rattle.audit_extract.proofs.chain.in_chain.Goals as goal
+
+pub covered_blocks-at-requires : goal.covered_blocks-at-requires
+covered_blocks-at-requires g c = (digested (g.H.Hash32.digest c.args.h) c.args.honest.now c.args.digest.now c.requires.honest).within
+
+pub loop-at-init : goal.loop-at-init
+loop-at-init g c =
+    agreed_at (g.H.Hash32.digest c.args.h) c.args.honest.now c.args.suspect.now c.args.digest.now c.covered_blocks-at.result.now _ c.requires.honest c.requires.suspect c.covered_blocks-at.ensures (search rules)
+
+pub loop-at-preserved : goal.loop-at-preserved
+loop-at-preserved g c =
+    one_less (g.H.Hash32.digest c.args.h) c.args.honest.now c.args.suspect.now c.args.digest.now c.loop-at.at (c.loop-at.at - 1) c.record_at-x.result.now c.record_at-y.result.now c.requires.honest c.requires.suspect (search rules) refl c.loop-at.invariant
+    (search rules) (search rules) (c.if-not-is_same.ensures.same refl)
+
+pub returns-then-not-is_same : goal.returns-then-not-is_same
+returns-then-not-is_same g c =
+    records_collide (g.H.Hash32.digest c.args.h) c.args.honest.now c.args.suspect.now c.args.digest.now c.loop-at.at (c.loop-at.at - 1) c.record_at-x.result.now c.record_at-y.result.now _ _ c.requires.honest c.requires.suspect (search rules) refl c.loop-at.invariant
+    (search rules) (search rules) (c.if-not-is_same.ensures.differ refl) c.in_ok-records.ensures.first c.in_ok-records.ensures.second

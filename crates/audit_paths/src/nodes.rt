@@ -1,0 +1,69 @@
+//! The hashes of a leaf and of a node (RFC 6962, section 2.1), and the bytes that are hashed.
+
+ghost use Rattle.std.specs.Prelude.{◌≡◌, ◌∷◌, ◌++◌, IfOk};
+ghost use Rattle.audit_paths.specs.Path.{node_of};
+
+use crate::side::Side;
+use base_merkle::Hash32;
+use base_types::{Blob, Memory};
+use std::alloc::Global;
+
+/// The hash of a leaf.
+pub(crate) fn leaf_hash<H: Hash32>(h: H, leaf: &[u8]) -> [u8; 32]
+    ensures { result ≡ H.digest h (0 ∷ leaf.now) }
+{
+    h.hash(&[0], leaf)
+}
+
+/// The hash of the node that has one half and on this side the other.
+pub(crate) fn node_hash<H: Hash32>(h: H, half: &[u8; 32], side: Side, other: &[u8; 32]) -> [u8; 32]
+    ensures { result ≡ H.digest h (node_of (side, other.now) half.now) }
+{
+    match side {
+        Side::Right => joined_hash(h, half, other),
+        Side::Left => joined_hash(h, other, half),
+    }
+}
+
+fn joined_hash<H: Hash32>(h: H, left: &[u8; 32], right: &[u8; 32]) -> [u8; 32]
+    ensures { result ≡ H.digest h (1 ∷ left.now ++ right.now) }
+{
+    let mut head = [1u8; 33];
+    head[1..].copy_from_slice(left);
+    h.hash(&head, right)
+}
+
+/// The bytes whose hash is that of a leaf.
+pub(crate) fn leaf_bytes(alloc: Global, leaf: &[u8]) -> Result<Blob, Memory>
+    ensures { IfOk result (λ bytes. bytes ≡ 0 ∷ leaf.now) }
+{
+    let mut bytes = Vec::new(alloc);
+    bytes.push(0)?;
+    bytes.extend_from_slice(leaf)?;
+    Ok(Blob::from_vec(bytes))
+}
+
+/// The bytes whose hash is that of the node that has one half and on this side the other.
+pub(crate) fn node_bytes(
+    alloc: Global,
+    half: &[u8; 32],
+    side: Side,
+    other: &[u8; 32],
+) -> Result<Blob, Memory>
+    ensures { IfOk result (λ bytes. bytes ≡ node_of (side, other.now) half.now) }
+{
+    match side {
+        Side::Right => joined_bytes(alloc, half, other),
+        Side::Left => joined_bytes(alloc, other, half),
+    }
+}
+
+fn joined_bytes(alloc: Global, left: &[u8; 32], right: &[u8; 32]) -> Result<Blob, Memory>
+    ensures { IfOk result (λ bytes. bytes ≡ 1 ∷ left.now ++ right.now) }
+{
+    let mut bytes = Vec::new(alloc);
+    bytes.push(1)?;
+    bytes.extend_from_slice(left)?;
+    bytes.extend_from_slice(right)?;
+    Ok(Blob::from_vec(bytes))
+}

@@ -1,0 +1,7 @@
+pub mod Chains
+pub mod Decided
+pub mod Finding
+pub mod Found
+pub mod Made
+pub mod SameRecords
+pub mod Spelled

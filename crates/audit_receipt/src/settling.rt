@@ -1,0 +1,133 @@
+//! Two receipts of one place.
+
+ghost use Rattle.std.specs.Prelude.{◌≡◌, ◌≢◌, ◌<◌, ◌+◌, ◌∷◌, true, false, List, length, drop, IfOk, MatchOption};
+ghost use Rattle.std.specs.List.{AllByRecursion};
+ghost use Rattle.sql_types.specs.declared.entry.BlockRecord.{BlockRecord};
+ghost use Rattle.format_entry.specs.Record.{IsRecord, record_bytes};
+ghost use Rattle.spec_verify.specs.Collision.{Collides};
+ghost use Rattle.format_receipt.specs.Receipts.{IsReceipt};
+ghost use Rattle.audit_receipt.specs.Accepted.{Accepted, LeadTo};
+ghost use Rattle.audit_receipt.specs.Settles.{Settles};
+
+use crate::leaves::entry_leaf;
+use crate::settled::Settled;
+use audit_extract::Collision;
+use audit_paths::find_in_paths;
+use base_merkle::Hash32;
+use base_types::{Blob, Memory};
+use format_entry::record_bytes;
+use format_receipt::Receipt;
+use sql_types::{BlockRecord, HeldDigest};
+use std::alloc::Global;
+
+/// Whether two receipts of one place, both accepted with one digest, have one entry; where they don't, two
+/// different byte strings with one hash. The records are walked down from the digest's block, and then the two
+/// paths from the root to the leaves, until the bytes that were hashed differ.
+pub fn settle<H: Hash32>(
+    alloc: Global,
+    h: H,
+    a: &Receipt,
+    b: &Receipt,
+    digest: &HeldDigest,
+) -> Result<Settled, Memory>
+    requires first { IsReceipt a.now }
+    requires second { IsReceipt b.now }
+    requires first_accepted { Accepted (H.digest h) a.now digest.now }
+    requires second_accepted { Accepted (H.digest h) b.now digest.now }
+    requires block { a.now.entry.block ≡ b.now.entry.block }
+    requires ordinal { a.now.entry.ordinal ≡ b.now.entry.ordinal }
+    ensures { IfOk result (Settles (H.digest h) a.now b.now) }
+{
+    let a_leaf = entry_leaf(alloc, &a.entry)?;
+    let b_leaf = entry_leaf(alloc, &b.entry)?;
+    if is_equal(a_leaf.bytes(), b_leaf.bytes()) {
+        return Ok(Settled::Same);
+    }
+    let a_records = a.records.as_slice();
+    let b_records = b.records.as_slice();
+    if let Some(collision) = find_in_records(
+        alloc,
+        h,
+        a_records,
+        b_records,
+        a.entry.block,
+        digest,
+    )? {
+        return Ok(Settled::Collision(collision));
+    }
+    let collision = find_in_paths(
+        alloc,
+        h,
+        a.entry.ordinal as usize,
+        first_size(a_records) as usize,
+        (a_leaf.bytes(), a.path.as_slice()),
+        (b_leaf.bytes(), b.path.as_slice()),
+    )?;
+    Ok(Settled::Collision(collision))
+}
+
+fn is_equal(a: &[u8], b: &[u8]) -> bool
+    ensures same { result ≡ true → a.now ≡ b.now }
+    ensures differ { result ≡ false → a.now ≢ b.now }
+{
+    a == b
+}
+
+fn first_size(records: &[BlockRecord]) -> u64
+    requires { 0 < length records.now }
+    ensures { (r : BlockRecord) (rs : List BlockRecord) → records.now ≡ r ∷ rs → result ≡ r.size }
+{
+    records[0].size
+}
+
+// The bytes of the last two records that differ, of those that lead from one block to one digest.
+fn find_in_records<H: Hash32>(
+    alloc: Global,
+    h: H,
+    a: &[BlockRecord],
+    b: &[BlockRecord],
+    from: u64,
+    digest: &HeldDigest,
+) -> Result<Option<Collision>, Memory>
+    requires a_fit { AllByRecursion IsRecord a.now }
+    requires b_fit { AllByRecursion IsRecord b.now }
+    requires a_leads { LeadTo (H.digest h) from a.now digest.now }
+    requires b_leads { LeadTo (H.digest h) from b.now digest.now }
+    ensures { IfOk result (λ found. MatchOption found (a.now ≡ b.now)
+        (λ c. Collides (H.digest h) c.first c.second)) }
+{
+    let mut at = a.len();
+    while at > 0 {
+        at -= 1;
+        let x = record_at(a, at);
+        let y = record_at(b, at);
+        if !is_same(x, y) {
+            return Ok(Some(bytes_of(alloc, x, y)?));
+        }
+    }
+    Ok(None)
+}
+
+fn record_at(records: &[BlockRecord], at: usize) -> &BlockRecord
+    requires { at < length records.now }
+    ensures { drop at records.now ≡ result.now ∷ drop (at + 1) records.now }
+{
+    &records[at]
+}
+
+fn is_same(x: &BlockRecord, y: &BlockRecord) -> bool
+    ensures same { result ≡ true → x.now ≡ y.now }
+    ensures differ { result ≡ false → x.now ≢ y.now }
+{
+    x == y
+}
+
+// The bytes of two records.
+fn bytes_of(alloc: Global, x: &BlockRecord, y: &BlockRecord) -> Result<Collision, Memory>
+    ensures first { IfOk result (λ c. c.first ≡ record_bytes x.now) }
+    ensures second { IfOk result (λ c. c.second ≡ record_bytes y.now) }
+{
+    let first = Blob::of(alloc, &record_bytes(x))?;
+    let second = Blob::of(alloc, &record_bytes(y))?;
+    Ok(Collision { first, second })
+}

@@ -1,0 +1,88 @@
+//! Running a journal again.
+
+ghost use Rattle.std.specs.Prelude.{◌≡◌, IfErr, IfOk, OnOk};
+ghost use Rattle.spec_model.specs.LegalJournals.{IsLegalJournal};
+ghost use Rattle.format_journal.specs.Rules.{IsJournal};
+ghost use Rattle.spec_syntax.specs.Text.{statement_of};
+ghost use Rattle.format_image.specs.Image.{image_of as spec_image_of};
+ghost use Rattle.format_image.specs.ImageBytes.{IsImage};
+ghost use Rattle.audit_replay.specs.Reached.{DiffersAt};
+
+use crate::image::image_of;
+use crate::item::run_item;
+use base_merkle::Hash32;
+use base_types::Memory;
+use format_image_rows::tables_have_room;
+use law_catalog_text::readings_of_the_grammar_give_written;
+use law_image::legal_images_are_encodable;
+use sql_reference::{ReplayAgreement, SerialMachine};
+use sql_types::{Image, Journal};
+use std::alloc::Global;
+use store_blocks::LedgerChain;
+
+/// Why a journal has no image.
+#[derive(Clone, Copy, Debug, PartialEq, Eq)]
+pub enum ReplayErr {
+    /// This statement of this item, both counted from 0, is the first whose kept reply isn't the one that the
+    /// plain machine gives; or it is the number of the item's statements, where all replies agree and no
+    /// event is left.
+    Differs { item: u64, statement: u64 },
+    /// There is no more memory.
+    Memory,
+}
+
+impl From<Memory> for ReplayErr {
+    ghost use Rattle.std.specs.Prelude.{◌≡◌};
+    ghost use Rattle.audit_replay.specs.declared.running.ReplayErr.TheVariants as errors;
+
+    ghost from_gives = { λ _ e. e ≡ errors.Memory };
+
+    fn from(_: Memory) -> ReplayErr {
+        ReplayErr::Memory
+    }
+}
+
+/// Runs a journal again on the plain machine. Where it is legal the answer is its image: the one of the
+/// tables to which its transactions lead, with their entries and the blocks that it closed, and the image has
+/// a spelling. It costs what the machine costs, the hashes of each event, entry and block, and for each
+/// transaction a look at each version of each table.
+pub fn replay<H: Hash32>(alloc: Global, h: H, journal: &Journal) -> Result<Image, ReplayErr>
+    requires { IsJournal journal.now }
+    ensures legal { OnOk result (IsLegalJournal statement_of journal.now) }
+    ensures image { IfOk result (λ image. image
+        ≡ spec_image_of (H.digest h) statement_of journal.now.database journal.now.items) }
+    ensures spelling { IfOk result IsImage }
+    ensures differs { IfErr result (λ error. DiffersAt error journal.now.items) }
+{
+    let items = journal.items.as_slice();
+    let mut serial_machine = SerialMachine::new(alloc)?;
+    let mut ledger_chain = LedgerChain::new(alloc);
+    for place in 0..items.len() {
+        let end = run_item(
+            alloc,
+            h,
+            &items[..place],
+            &items[place],
+            &mut serial_machine,
+            &mut ledger_chain,
+        )?;
+        if let ReplayAgreement::Differs { statement } = end {
+            return Err(ReplayErr::Differs {
+                item: place as u64,
+                statement,
+            });
+        }
+    }
+    legal_images_are_encodable();
+    readings_of_the_grammar_give_written();
+    tables_have_room(serial_machine.tables());
+    let _blocks = ledger_chain.blocks().len();
+    let _entries = ledger_chain.entries().len();
+    let image = image_of(
+        alloc,
+        &journal.database,
+        ledger_chain,
+        serial_machine.into_tables(),
+    )?;
+    Ok(image)
+}

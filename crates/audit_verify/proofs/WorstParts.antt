@@ -1,0 +1,149 @@
+-- The least version that its table may not have: of those that don't fit by themselves, and of those that don't stand in
+-- order.
+use Rattle.std.proofs.Common.{◌≡◌, ◌<◌, ◌+◌, refl, sym, ap, ap₂, subst, ◌∙◌, ℕ, Bool, true, false, cond, List, [], ◌∷◌, ◌++◌, length, map, filter, drop, get_or, Option}
+use Rattle.std.proofs.lemmas.Cmp.{ranked}
+use Rattle.std.proofs.lemmas.List.{map-append}
+use Rattle.std.proofs.lemmas.List.Elements.{filter-append}
+use Rattle.std.specs.Prelude.{◌&&◌, ◌||◌, not}
+use Rattle.std.specs.List.{AllByRecursion}
+use Rattle.std.specs.declared.cmp.Ordering.{Ordering}
+use Rattle.std.specs.declared.cmp.Ordering.TheVariants.{Less, Equal, Greater}
+use Rattle.std.specs.Ordering.{nat_cmp, ordering_then}
+use Rattle.sql_value.specs.declared.column.ColumnDef.{ColumnDef}
+use Rattle.sql_types.specs.declared.entry.TxEntry.{TxEntry}
+use Rattle.sql_types.specs.declared.image.TableRows.{TableRows}
+use Rattle.sql_types.specs.declared.table.TableDef.{TableDef}
+use Rattle.sql_types.specs.declared.version.Version.{Version}
+use Rattle.format_image.specs.Tables.{table_in}
+use Rattle.spec_model.specs.Lists.{sorted}
+use Rattle.law_catalog_rows.specs.Least.{lesser, least_from}
+use Rattle.spec_verify.proofs.ToldEntries.{table_event_total}
+use Rattle.spec_verify.specs.Entries.{TableEvent, table_event_cmp}
+use Rattle.spec_verify.specs.Order.{shares_key, is_in_order}
+use Rattle.spec_verify.specs.Versions.{has_columns, with_columns, version_holds, bad_versions}
+use Rattle.audit_verify.specs.declared.order.EarlierVersions.{EarlierVersions}
+use Rattle.audit_verify.specs.declared.order.VersionWithRanks.{VersionWithRanks}
+use Rattle.audit_verify.specs.Order.{IsRanked, InRuns, KnowsEarlier, version_of, ranked_cmp, is_ordered_after, is_ordered_among, out_of_order}
+use Rattle.audit_verify.specs.Versions.{fits_alone, unfit_among}
+use Rattle.audit_verify.proofs.InRuns.{ordered_among_is, ordered_among_sorted}
+use Rattle.audit_verify.proofs.LeastParts.{in_parts, when_sorted}
+use Rattle.audit_verify.proofs.Neighbours.{from_here}
+
+then_both : (r s : Ordering) → ordering_then r s ≡ Equal → (r ≡ Equal) × (s ≡ Equal)
+then_both Less s e = cc
+then_both Equal s e = (refl, e)
+then_both Greater s e = cc
+
+same_number : (m n : ℕ) → nat_cmp m n ≡ Equal → m ≡ n
+same_number m n e = ranked m n Equal (sym e)
+
+same_event : (x y : TableEvent) → table_event_cmp x y ≡ Equal → x ≡ y
+same_event x y e =
+    let outer = then_both (nat_cmp x.0 y.0) _ e in
+    let inner = then_both (nat_cmp x.1.0 y.1.0) (nat_cmp x.1.1 y.1.1) outer.1 in
+    ap₂ (λ (t : ℕ) (p : ℕ × ℕ). (t, p)) (same_number x.0 y.0 outer.0) (ap₂ (λ (a b : ℕ). (a, b)) (same_number x.1.0 y.1.0 inner.0) (same_number x.1.1 y.1.1 inner.1))
+
+append : (best : Option TableEvent) (xs ys : List TableEvent) → least_from table_event_cmp best (xs ++ ys) ≡ least_from table_event_cmp (least_from table_event_cmp best xs) ys
+append best [] ys = refl
+append best (x ∷ xs) ys = append (lesser table_event_cmp best x) xs ys
+
+filter_twice : {A : Type 0} (p q : A → Bool) (xs : List A) → filter (λ x. p x && q x) xs ≡ filter q (filter p xs)
+filter_twice p q [] = refl
+filter_twice {A} p q (x ∷ xs) = here (p x) (filter_twice p q xs)
+  where
+    here : (b : Bool) → filter (λ y. p y && q y) xs ≡ filter q (filter p xs)
+        → cond (b && q x) (x ∷ filter (λ y. p y && q y) xs) (filter (λ y. p y && q y) xs) ≡ filter q (cond b (x ∷ filter p xs) (filter p xs))
+    here true more = ap (λ l. cond (q x) (x ∷ l) l) more
+    here false more = more
+
+two_tests : (h k a s o : Bool) → not ((((h && k) && a) && s) && o) ≡ (not ((h && k) && a) || (h && not (s && o)))
+two_tests true true true s o = refl
+two_tests true true false s o = refl
+two_tests true false a s o = refl
+two_tests false k a s o = refl
+
+module _ (entries : List TxEntry) (def : TableDef) (rows : TableRows) where
+  abbrev all : List Version
+  all = rows.base ++ rows.history
+
+  abbrev fitting : List Version
+  fitting = with_columns def.columns all
+
+  abbrev start : Version → TableEvent
+  start v = (def.id, v.start)
+
+  abbrev unfit : Version → Bool
+  unfit v = not (fits_alone def v)
+
+  abbrev disordered : Version → Bool
+  disordered v = not (not (shares_key entries def.columns fitting v) && is_in_order entries def.columns fitting v)
+
+  abbrev least : Option TableEvent → List TableEvent → Option TableEvent
+  least = least_from table_event_cmp
+
+  holds_parts : (v : Version) → not (version_holds entries (table_in def rows) v) ≡ (unfit v || (has_columns def.columns v.values && disordered v))
+  holds_parts v = two_tests (has_columns def.columns v.values) _ _ _ _
+
+  alone : (best : Option TableEvent) → least best (map start (filter unfit all)) ≡ least (least best (unfit_among def rows.base)) (unfit_among def rows.history)
+  alone best =
+      ap (least best) (ap (map start) (filter-append unfit rows.base rows.history) ∙ map-append start (filter unfit rows.base) (filter unfit rows.history))
+      ∙ append best (unfit_among def rows.base) (unfit_among def rows.history)
+
+  by_ranks : (found : List VersionWithRanks) → AllByRecursion (IsRanked entries) found → map version_of found ≡ fitting
+      → (xs : List VersionWithRanks) → AllByRecursion (IsRanked entries) xs → map start (filter disordered (map version_of xs)) ≡ out_of_order def.id def.columns found xs
+  by_ranks found ranks are [] a = refl
+  by_ranks found ranks are (x ∷ xs) a =
+      here (disordered (version_of x)) (not (is_ordered_among def.columns found x))
+      (ap (λ l. not (not (shares_key entries def.columns l (version_of x)) && is_in_order entries def.columns l (version_of x))) (sym are) ∙ ap not (ordered_among_is entries def.columns found x ranks a.0))
+      (by_ranks found ranks are xs a.1)
+    where
+      here : (b c : Bool) → b ≡ c → map start (filter disordered (map version_of xs)) ≡ out_of_order def.id def.columns found xs
+          → map start (cond b (version_of x ∷ filter disordered (map version_of xs)) (filter disordered (map version_of xs)))
+          ≡ map (λ (r : VersionWithRanks). (def.id, r.version.now.start)) (cond c (x ∷ filter (λ r. not (is_ordered_among def.columns found r)) xs) (filter (λ r. not (is_ordered_among def.columns found r)) xs))
+      here b true e more = ap (λ t. map start (cond t (version_of x ∷ filter disordered (map version_of xs)) (filter disordered (map version_of xs)))) e ∙ ap (λ l. start (version_of x) ∷ l) more
+      here b false e more = ap (λ t. map start (cond t (version_of x ∷ filter disordered (map version_of xs)) (filter disordered (map version_of xs)))) e ∙ more
+
+  in_order : (found : List VersionWithRanks) (best : Option TableEvent)
+      → least best (out_of_order def.id def.columns (sorted (ranked_cmp def.columns) found) (sorted (ranked_cmp def.columns) found)) ≡ least best (out_of_order def.id def.columns found found)
+  in_order found best =
+      let began : VersionWithRanks → TableEvent = λ (r : VersionWithRanks). (def.id, r.version.now.start) in
+      ap (λ (p : VersionWithRanks → Bool). least best (map began (filter p (sorted (ranked_cmp def.columns) found)))) (λ i r. not (ordered_among_sorted def.columns found r i))
+      ∙ when_sorted table_event_cmp table_event_total same_event began (ranked_cmp def.columns) (λ r. not (is_ordered_among def.columns found r)) best found
+
+  -- first those that don't fit by themselves, in the base and in the history, then those out of order
+  pub worst_of_table : (ranked : List VersionWithRanks) (best in_base in_both : Option TableEvent) → in_base ≡ least best (unfit_among def rows.base) → in_both ≡ least in_base (unfit_among def rows.history)
+      → InRuns entries def.columns fitting ranked → least in_both (out_of_order def.id def.columns ranked ranked) ≡ least best (bad_versions entries (table_in def rows))
+  worst_of_table ranked best in_base in_both base_is both_is runs =
+      let q = λ (v : Version). has_columns def.columns v.values && disordered v in
+      ap (λ l. least in_both (out_of_order def.id def.columns l l)) runs.order
+      ∙ in_order runs.found in_both
+      ∙ ap (least in_both) (sym (by_ranks runs.found runs.ranks runs.versions_are runs.found runs.ranks) ∙ ap (λ l. map start (filter disordered l)) runs.versions_are
+      ∙ ap (map start) (sym (filter_twice (λ (v : Version). has_columns def.columns v.values) disordered all)))
+      ∙ ap (λ b. least b (map start (filter q all))) (both_is ∙ ap (λ b. least b (unfit_among def rows.history)) base_is ∙ sym (alone best))
+      ∙ sym (ap (λ (p : Version → Bool). least best (map start (filter p all))) (λ i v. holds_parts v i)
+      ∙ in_parts table_event_cmp table_event_total same_event start unfit q best all)
+
+-- ---- one by one
+
+one_more : (p : VersionWithRanks → Bool) (f : VersionWithRanks → TableEvent) (best : Option TableEvent) (x : VersionWithRanks) (xs : List VersionWithRanks)
+    → least_from table_event_cmp best (map f (filter (λ y. not (p y)) (x ∷ xs))) ≡ least_from table_event_cmp (cond (p x) best (lesser table_event_cmp best (f x))) (map f (filter (λ y. not (p y)) xs))
+one_more p f best x xs = here (p x)
+  where
+    here : (b : Bool) → least_from table_event_cmp best (map f (cond (not b) (x ∷ filter (λ y. not (p y)) xs) (filter (λ y. not (p y)) xs)))
+        ≡ least_from table_event_cmp (cond b best (lesser table_event_cmp best (f x))) (map f (filter (λ y. not (p y)) xs))
+    here true = refl
+    here false = refl
+
+pub worst_next : (id : ℕ) (columns : List ColumnDef) (all : List VersionWithRanks) (k : ℕ) (x : VersionWithRanks) (e : EarlierVersions) (best next least : Option TableEvent) → k < length all → x ≡ get_or all k x
+    → ((d : VersionWithRanks) → KnowsEarlier columns all (get_or all k d) e)
+    → next ≡ cond (is_ordered_after x e.latest e.any_open) best (lesser table_event_cmp best (id, x.version.now.start))
+    → least_from table_event_cmp best (out_of_order id columns all (drop k all)) ≡ least
+    → least_from table_event_cmp next (out_of_order id columns all (drop (k + 1) all)) ≡ least
+worst_next id columns all k x e best next least within is known next_is rest =
+    let began : VersionWithRanks → TableEvent = λ (r : VersionWithRanks). (id, r.version.now.start) in
+    let k_is = subst (λ (r : VersionWithRanks). KnowsEarlier columns all r e) (sym is) (known x) in
+    let ordering_is : is_ordered_after x e.latest e.any_open ≡ is_ordered_among columns all x = ap₂ (is_ordered_after x) k_is.latest k_is.some_open in
+    ap (λ b. least_from table_event_cmp b (out_of_order id columns all (drop (k + 1) all))) (next_is ∙ ap (λ t. cond t best (lesser table_event_cmp best (began x))) ordering_is)
+    ∙ sym (ap (λ l. least_from table_event_cmp best (out_of_order id columns all l)) (from_here all k x within ∙ ap (λ (r : VersionWithRanks). r ∷ drop (k + 1) all) (sym is))
+    ∙ one_more (is_ordered_among columns all) began best x (drop (k + 1) all))
+    ∙ rest

@@ -1,0 +1,55 @@
+use Rattle.std.proofs.Common.{List, sym, ap, ap₂, subst, take, drop, ◌∙◌}
+use Rattle.std.specs.List.{All}
+use Rattle.sql_types.specs.declared.entry.TxEntry.{TxEntry}
+use Rattle.audit_verify.specs.declared.shown.ImageTable.{ImageTable}
+use Rattle.audit_verify.specs.Groups.{if_none, version_in, wrong_root}
+use Rattle.audit_verify.specs.Order.{AreStarted}
+use Rattle.audit_verify.proofs.GroupParts.{group_started, group_few, group_indexes}
+use Rattle.audit_verify.proofs.WrongRoots.{within_shown, group_tables, group_spelled, group_rises}
+use Rattle.audit_verify.proofs.groups.group_faults.Goals as goal
+
+pub group_of-group-requires : goal.group_of-group-requires
+group_of-group-requires g c = within_shown _ _ c.args.image.now _ c.in_ok-tables.ensures c.deref-2.ensures.value c.requires.within
+
+pub root_in_group-requires-clause-spelled : goal.root_in_group-requires-clause-spelled
+root_in_group-requires-clause-spelled g c κs within =
+    group_spelled _ _ c.args.image.now c.args.from c.args.count c.in_ok-tables.ensures c.requires.image
+    (c.group_of-group.ensures ∙ ap (λ (l : List ImageTable). take c.args.count (drop c.args.from l)) c.deref-2.ensures.value)
+
+pub root_in_group-requires-clause-rise : goal.root_in_group-requires-clause-rise
+root_in_group-requires-clause-rise g c κs within =
+    group_rises _ _ c.args.image.now c.args.from c.args.count c.in_ok-tables.ensures c.requires.image
+    (c.group_of-group.ensures ∙ ap (λ (l : List ImageTable). take c.args.count (drop c.args.from l)) c.deref-2.ensures.value)
+
+pub version_in_group-requires : goal.version_in_group-requires
+version_in_group-requires g c =
+    subst (λ (es : List TxEntry). All (AreStarted es) c.group_of-group.result.now) (sym c.as_slice-entries.ensures)
+    (group_started _ _ c.args.image.now c.args.from c.args.count c.in_ok-tables.ensures
+    (c.group_of-group.ensures ∙ ap (λ (l : List ImageTable). take c.args.count (drop c.args.from l)) c.deref-2.ensures.value) c.requires.ids)
+
+pub index_in_group-requires : goal.index_in_group-requires
+index_in_group-requires g c =
+    group_few _ _ c.args.image.now c.args.from c.args.count c.in_ok-tables.ensures
+    (c.group_of-group.ensures ∙ ap (λ (l : List ImageTable). take c.args.count (drop c.args.from l)) c.deref-2.ensures.value) c.requires.image
+
+pub returns-clause-root : goal.returns-clause-root
+returns-clause-root g c =
+    c.in_ok-root.ensures
+    ∙ ap₂ (wrong_root (g.H.Hash32.digest c.args.hasher))
+    (group_tables _ _ c.args.image.now c.args.from c.args.count c.in_ok-tables.ensures c.requires.image
+    (c.group_of-group.ensures ∙ ap (λ (l : List ImageTable). take c.args.count (drop c.args.from l)) c.deref-2.ensures.value))
+    c.as_slice-entries.ensures
+
+pub returns-clause-version : goal.returns-clause-version
+returns-clause-version g c =
+    c.in_ok-version.ensures
+    ∙ ap₂ version_in c.as_slice-entries.ensures
+    (group_tables _ _ c.args.image.now c.args.from c.args.count c.in_ok-tables.ensures c.requires.image
+    (c.group_of-group.ensures ∙ ap (λ (l : List ImageTable). take c.args.count (drop c.args.from l)) c.deref-2.ensures.value))
+
+pub returns-clause-index : goal.returns-clause-index
+returns-clause-index g c =
+    c.in_ok-index.ensures
+    ∙ ap (if_none c.in_ok-version.version)
+    (group_indexes _ _ c.args.image.now c.args.from c.args.count c.in_ok-tables.ensures
+    (c.group_of-group.ensures ∙ ap (λ (l : List ImageTable). take c.args.count (drop c.args.from l)) c.deref-2.ensures.value))

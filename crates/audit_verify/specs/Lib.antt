@@ -1,0 +1,15 @@
+pub mod Entries
+pub mod EventIds
+pub mod Groups
+pub mod Ids
+pub mod Indexes
+pub mod Marks
+pub mod Numbered
+pub mod Order
+pub mod Positions
+pub mod Roots
+pub mod Runs
+pub mod ImageTable
+pub mod Versions
+pub mod WrongRoots
+pub mod Verdict

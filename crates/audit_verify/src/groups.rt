@@ -1,0 +1,228 @@
+//! Groups of the tables of an image, which may be gone through apart, and how what they find merges.
+
+ghost use Rattle.std.specs.Prelude.{All, ℕ, ◌≡◌, ◌≤◌, ◌+◌, ◌++◌, ◌&&◌, List, IfOk, length, map, not, take, drop, None};
+ghost use Rattle.std.specs.List.{AllByRecursion, filter};
+ghost use Rattle.std.specs.List.Sorted.{IsNonDecreasingBy};
+ghost use Rattle.std.specs.Ordering.{nat_cmp};
+ghost use Rattle.sql_types.specs.declared.entry.TxEntry.{TxEntry as LedgerEntry};
+ghost use Rattle.sql_types.specs.declared.image.Image.{Image as ImageOf};
+ghost use Rattle.format_image.specs.ImageBytes.{IsImage};
+ghost use Rattle.format_image.specs.Tables.{tables_in};
+ghost use Rattle.spec_model.specs.Catalog.{Tables};
+ghost use Rattle.law_catalog_rows.specs.Least.{least, lesser_of};
+ghost use Rattle.spec_verify.specs.Entries.{id_fault, root_at, root_fault, same_root};
+ghost use Rattle.spec_verify.specs.Groups.{found_cmp};
+ghost use Rattle.audit_verify.specs.Groups as spec;
+ghost use Rattle.audit_verify.specs.WrongRoots as told;
+ghost use Rattle.audit_verify.specs.Indexes.{HasFewIndexes, first_among};
+ghost use Rattle.audit_verify.specs.Marks.{HaveEncodableValues, HasValues, tx_of};
+ghost use Rattle.audit_verify.specs.Order.{AreStarted};
+ghost use Rattle.audit_verify.specs.ImageTable.{IdsRise, table_of};
+
+use crate::indexes::fault_among;
+use crate::least::event_place;
+use crate::marks::{Mark, run_of, sorted_marks};
+use crate::positions::Positions;
+use crate::roots::{ScratchSpace, TableRoot, least_among, lesser, put_roots, root_at, same_root};
+use crate::shown::{ImageTable, shown_tables};
+use crate::versions::least_invalid_version;
+use base_merkle::Hash32;
+use base_types::{Memory, TableId};
+use format_image::Image;
+use spec_verify::Place;
+use sql_system::first_tables;
+use sql_types::TxEntry;
+use std::alloc::Global;
+
+/// What may fail of an entry: the numbers of its events, or its root in a table.
+#[derive(Clone, Copy, Debug, PartialEq, Eq)]
+pub enum Fault {
+    Numbers,
+    Root(TableId),
+}
+
+/// What fails in a group of tables.
+#[derive(Clone, Copy, Debug, PartialEq, Eq)]
+pub struct GroupFaults {
+    /// The place, from 0, of the first entry that has another root in one of these tables than its events
+    /// there, or a root without events, or events without a root; and the least of those tables.
+    pub root: Option<(u64, TableId)>,
+    /// The start of the least version that its table may not have.
+    pub version: Option<Place>,
+    /// The first index whose rows aren't those of the base, where each version of these tables is one that
+    /// its table may have.
+    pub index: Option<Place>,
+}
+
+/// What fails in so many tables of the image, from the one at place `from` on, where no id of an entry
+/// repeats and each start and end has its entry. What groups find of roots merges by the laws below. The only
+/// error is want of memory.
+pub fn group_faults<H: Hash32>(
+    alloc: Global,
+    hasher: H,
+    image: &Image,
+    from: usize,
+    count: usize,
+) -> Result<GroupFaults, Memory>
+    requires image { IsImage image.now }
+    requires ids { id_fault image.now ≡ None }
+    requires within { from + count ≤ length image.now.tables }
+    ensures root { IfOk result (λ faults. faults.root
+        ≡ spec.wrong_root (H.digest hasher) (spec.group_of from count image.now) image.now.entries) }
+    ensures version { IfOk result (λ faults. faults.version
+        ≡ spec.version_in image.now.entries (spec.group_of from count image.now)) }
+    ensures index { IfOk result (λ faults. faults.index
+        ≡ spec.if_none faults.version (spec.index_in from count image.now)) }
+{
+    let system = first_tables(alloc)?;
+    let tables = shown_tables(alloc, &system, image)?;
+    let group = group_of(&tables, from, count);
+    let entries = image.entries.as_slice();
+    let root = root_in_group(alloc, hasher, entries, group)?;
+    let version = version_in_group(alloc, entries, group)?;
+    let index = index_in_group(alloc, version, group)?;
+    Ok(GroupFaults {
+        root,
+        version,
+        index,
+    })
+}
+
+fn group_of<'s, 'a>(tables: &'s [ImageTable<'a>], from: usize, count: usize) -> &'s [ImageTable<'a>]
+    requires { from + count ≤ length tables.now }
+    ensures { result.now ≡ take count (drop from tables.now) }
+{
+    let (_, rest) = tables.split_at(from);
+    let (group, _) = rest.split_at(count);
+    group
+}
+
+/// The first entry that is wrong in one of these tables, and the least of them.
+fn root_in_group<H: Hash32>(
+    alloc: Global,
+    hasher: H,
+    entries: &[TxEntry],
+    tables: &[ImageTable],
+) -> Result<Option<(u64, TableId)>, Memory>
+    requires spelled { All HaveEncodableValues tables.now }
+    requires rise { IdsRise 0 (map table_of tables.now) }
+    ensures { IfOk result (λ found. found
+        ≡ spec.wrong_root (H.digest hasher) (map table_of tables.now) entries.now) }
+{
+    let marks = sorted_marks(alloc, tables)?;
+    wrong_root(alloc, hasher, entries, tables, marks.as_slice())
+}
+
+fn version_in_group(
+    alloc: Global,
+    entries: &[TxEntry],
+    tables: &[ImageTable],
+) -> Result<Option<Place>, Memory>
+    requires { All (AreStarted entries.now) tables.now }
+    ensures { IfOk result (λ place. place ≡ spec.version_in entries.now (map table_of tables.now)) }
+{
+    let positions = Positions::of(alloc, entries)?;
+    let worst = least_invalid_version(alloc, &positions, tables)?;
+    Ok(event_place(worst))
+}
+
+/// The first index at fault, where no version is.
+fn index_in_group(
+    alloc: Global,
+    version: Option<Place>,
+    tables: &[ImageTable],
+) -> Result<Option<Place>, Memory>
+    requires { AllByRecursion HasFewIndexes tables.now }
+    ensures { IfOk result (λ place. place ≡ spec.if_none version (first_among tables.now)) }
+{
+    match version {
+        Some(_) => Ok(None),
+        None => fault_among(alloc, tables),
+    }
+}
+
+/// The place of the first entry whose roots, but for those of other tables, differ from the roots over its own
+/// marks; and the least table in which they do.
+pub fn wrong_root<H: Hash32>(
+    alloc: Global,
+    hasher: H,
+    entries: &[TxEntry],
+    tables: &[ImageTable],
+    marks: &[Mark],
+) -> Result<Option<(u64, TableId)>, Memory>
+    requires rise { IsNonDecreasingBy tx_of marks.now }
+    requires values { All HasValues marks.now }
+    ensures { IfOk result (λ found. found
+        ≡ told.wrong_told (H.digest hasher) (map table_of tables.now) marks.now entries.now) }
+{
+    let mut work = ScratchSpace::new(alloc);
+    for (k, entry) in entries.iter().enumerate() {
+        if let Some(table) = wrong_table(hasher, entry, tables, marks, &mut work)? {
+            return Ok(Some((k as u64, table)));
+        }
+    }
+    Ok(None)
+}
+
+fn wrong_table<H: Hash32>(
+    hasher: H,
+    entry: &TxEntry,
+    tables: &[ImageTable],
+    marks: &[Mark],
+    work: &mut ScratchSpace,
+) -> Result<Option<TableId>, Memory>
+    requires rise { IsNonDecreasingBy tx_of marks.now }
+    requires values { All HasValues marks.now }
+    ensures { IfOk result (λ table. table
+        ≡ told.wrong_by_marks (H.digest hasher) (map table_of tables.now) marks.now entry.now) }
+{
+    let own = run_of(marks, entry.id);
+    put_roots(hasher, own, &mut work.leaf, &mut work.roots)?;
+    Ok(least_wrong(tables, entry.roots.as_slice(), &work.roots))
+}
+
+/// The least table in which two lists have another root, or of which only one has one. Of the first the roots
+/// for these tables count.
+fn least_wrong(tables: &[ImageTable], a: &[TableRoot], b: &[TableRoot]) -> Option<TableId>
+    ensures { result ≡ least nat_cmp (told.wrong_roots (map table_of tables.now) a.now b.now) }
+{
+    let best = least_in_tables(tables, a, b);
+    least_among(a, b, b, best)
+}
+
+fn least_in_tables(tables: &[ImageTable], a: &[TableRoot], b: &[TableRoot]) -> Option<TableId>
+    ensures { result ≡ least nat_cmp
+        (filter (λ t. not (same_root (root_at a.now t) (root_at b.now t)) && told.is_shown tables.now t)
+        (map (λ r. r.0) a.now)) }
+{
+    let mut best = None;
+    for root in a {
+        if !same_root(root_at(a, root.0), root_at(b, root.0)) && is_shown(tables, root.0) {
+            best = lesser(best, root.0);
+        }
+    }
+    best
+}
+
+/// Whether one of the tables has this id.
+pub fn is_shown(tables: &[ImageTable], id: TableId) -> bool
+    ensures { result ≡ told.is_shown tables.now id }
+{
+    tables.iter().any(|table| table.def.id == id)
+}
+
+/// What two groups find of roots is the lesser of what each finds: by the place of the entry, and then by the
+/// table.
+pub fn roots_of_groups_merge()
+    ensures { (h : List ℕ → List ℕ) (first second : Tables) (entries : List LedgerEntry)
+        → spec.wrong_root h (first ++ second) entries
+        ≡ lesser_of (found_cmp nat_cmp) (spec.wrong_root h first entries) (spec.wrong_root h second entries) }
+{}
+
+/// The verdict on roots merges what a group of all tables finds with what is left: the numbers of an entry's
+/// events over all tables, and its roots for no table.
+pub fn root_fault_is_merged()
+    ensures { (h : List ℕ → List ℕ) (i : ImageOf) → IsImage i → root_fault h i
+        ≡ spec.fault_place i.entries
+        (spec.merged (spec.left_over (tables_in i) i.entries) (spec.wrong_root h (tables_in i) i.entries)) }
+{}

@@ -1,0 +1,299 @@
+//! The versions of a table by key, and those of a key by start.
+//!
+//! Sorted so, the versions of one key stand side by side. One pass from the first to the last then knows of
+//! each version the latest of the earlier ones of its key, and whether one of them has no end. It has to know
+//! both, and the neighbour alone wouldn't do: where one version has no end, each later one of its key without
+//! an end is at fault, also behind others that have ended, and the least fault is the one of the least
+//! transaction, which needn't be the first in the ledger.
+
+ghost use Rattle.std.specs.Prelude.{◌≡◌, ◌<◌, ◌||◌, ◌++◌, ◌∷◌, [], if◌then◌else◌, IsSorted, List, IfOk, OnOk, map, length, get_or, option_map, is_none};
+ghost use Rattle.std.specs.List.{All, AllByRecursion};
+ghost use Rattle.spec_model.specs.Lists.{sorted};
+ghost use Rattle.law_catalog_rows.specs.Least.{least_from, lesser};
+ghost use Rattle.spec_verify.specs.Entries.{table_event_cmp};
+ghost use Rattle.spec_verify.specs.Versions.{with_columns};
+ghost use Rattle.audit_verify.specs.Order as spec;
+ghost use Rattle.audit_verify.specs.Positions.{rank_of};
+ghost use Rattle.audit_verify.specs.Runs.{Neighbours};
+ghost use Rattle.audit_verify.specs.declared.order.VersionWithRanks.{VersionWithRanks as RankedVersion};
+
+use crate::columns::has_columns;
+use crate::least::{TableEvent, lesser};
+use crate::positions::{Positions, Rank};
+use base_types::Memory;
+use sql_parts::{KeyedTable, compare_by_key, same_key};
+use sql_types::{EventId, TableRows, Version};
+use sql_value::ColumnDef;
+use std::alloc::Global;
+use std::cmp::Ordering;
+
+/// A version with the ranks of its start and its end.
+#[derive(Clone, Copy, Debug)]
+pub struct VersionWithRanks<'a> {
+    pub version: &'a Version,
+    pub start: Rank,
+    pub end: Option<Rank>,
+}
+
+/// What is known of the earlier versions of a version's key.
+#[derive(Clone, Copy, Debug)]
+pub struct EarlierVersions {
+    /// The end of the latest of them, if there are some.
+    pub latest: Option<Option<Rank>>,
+    /// Whether one of them has no end.
+    pub any_open: bool,
+}
+
+/// The versions that have the table's columns, by key, and those of a key by start. Sorts them once.
+pub fn ranked_versions<'a>(
+    alloc: Global,
+    positions: &Positions,
+    table: &KeyedTable,
+    rows: &'a TableRows,
+) -> Result<Vec<VersionWithRanks<'a>>, Memory>
+    requires base { All (spec.IsStarted positions.now) rows.now.base }
+    requires history { All (spec.IsStarted positions.now) rows.now.history }
+    ensures { IfOk result (λ ranked. spec.InRuns positions.now table.now.columns
+        (with_columns table.now.columns (rows.now.base ++ rows.now.history)) ranked.items) }
+{
+    let mut ranked = Vec::new(alloc);
+    add_ranked(
+        positions,
+        table.columns(),
+        rows.base.as_slice(),
+        &mut ranked,
+    )?;
+    add_ranked(
+        positions,
+        table.columns(),
+        rows.history.as_slice(),
+        &mut ranked,
+    )?;
+    sort_in_runs(table, &mut ranked)?;
+    Ok(ranked)
+}
+
+/// Adds those of these versions that have the columns.
+fn add_ranked<'a>(
+    positions: &Positions,
+    columns: &[ColumnDef],
+    versions: &'a [Version],
+    ranked: &mut Vec<VersionWithRanks<'a>>,
+) -> Result<(), Memory>
+    requires { All (spec.IsStarted positions.now) versions.now }
+    ensures versions { OnOk result (map spec.version_of ranked.new.items
+        ≡ map spec.version_of ranked.old.items ++ with_columns columns.now versions.now) }
+    ensures ranks { OnOk result (AllByRecursion (spec.IsRanked positions.now) ranked.old.items
+        → AllByRecursion (spec.IsRanked positions.now) ranked.new.items) }
+{
+    for version in versions {
+        add_one(positions, columns, version, ranked)?;
+    }
+    Ok(())
+}
+
+/// Adds the version, if it has the columns.
+fn add_one<'a>(
+    positions: &Positions,
+    columns: &[ColumnDef],
+    version: &'a Version,
+    ranked: &mut Vec<VersionWithRanks<'a>>,
+) -> Result<(), Memory>
+    requires { spec.IsStarted positions.now version.now }
+    ensures versions { OnOk result (map spec.version_of ranked.new.items
+        ≡ map spec.version_of ranked.old.items ++ with_columns columns.now (version.now ∷ [])) }
+    ensures ranks { OnOk result (AllByRecursion (spec.IsRanked positions.now) ranked.old.items
+        → AllByRecursion (spec.IsRanked positions.now) ranked.new.items) }
+{
+    if has_columns(columns, version.values.as_slice()) {
+        ranked.push(ranked_one(positions, version))?;
+    }
+    Ok(())
+}
+
+fn ranked_one<'a>(positions: &Positions, version: &'a Version) -> VersionWithRanks<'a>
+    requires { spec.IsStarted positions.now version.now }
+    ensures version { result.version.now ≡ version.now }
+    ensures ranks { spec.IsRanked positions.now result }
+{
+    VersionWithRanks {
+        version,
+        start: positions.rank_of(version.start),
+        end: rank_of_end(positions, version.end),
+    }
+}
+
+fn rank_of_end(positions: &Positions, end: Option<EventId>) -> Option<Rank>
+    ensures { result ≡ option_map (rank_of positions.now) end }
+{
+    match end {
+        Some(end) => Some(positions.rank_of(end)),
+        None => None,
+    }
+}
+
+fn sort_in_runs(table: &KeyedTable, ranked: &mut Vec<VersionWithRanks>) -> Result<(), Memory>
+    ensures { OnOk result (ranked.new.items
+        ≡ sorted (spec.ranked_cmp table.now.columns) ranked.old.items) }
+{
+    ranked.sort_by(|a, b| compare_ranked(table, a, b))?;
+    Ok(())
+}
+
+/// By key, and then by start.
+fn compare_ranked(table: &KeyedTable, a: &VersionWithRanks, b: &VersionWithRanks) -> Ordering
+    ensures { result ≡ spec.ranked_cmp table.now.columns a.now b.now }
+{
+    match compare_by_key(table, a.version, b.version) {
+        Ordering::Equal => compare_starts(a, b),
+        order => order,
+    }
+}
+
+/// By start; of two with one start the one without an end is the later.
+fn compare_starts(a: &VersionWithRanks, b: &VersionWithRanks) -> Ordering
+    ensures { result ≡ spec.start_cmp a.now b.now }
+{
+    match a.start.cmp(&b.start) {
+        Ordering::Equal => openness(a.end).cmp(&openness(b.end)),
+        order => order,
+    }
+}
+
+fn openness(end: Option<Rank>) -> u8
+    ensures { result ≡ spec.openness end }
+{
+    match end {
+        None => 1,
+        Some(_) => 0,
+    }
+}
+
+/// The least start so far, and of the versions that don't stand in order among those of their key.
+pub fn least_out_of_order(
+    table: &KeyedTable,
+    ranked: &[VersionWithRanks],
+    worst: Option<TableEvent>,
+) -> Option<TableEvent>
+    requires { IsSorted (spec.ranked_cmp table.now.columns) ranked.now }
+    ensures { result ≡ least_from table_event_cmp worst
+        (spec.out_of_order table.now.id table.now.columns ranked.now ranked.now) }
+{
+    let mut worst = worst;
+    let mut earlier = EarlierVersions {
+        latest: None,
+        any_open: false,
+    };
+    for k in 0..ranked.len() {
+        earlier = earlier_at(table, ranked, k, earlier);
+        worst = worst_with(table, &ranked[k], earlier, worst);
+    }
+    worst
+}
+
+/// The lesser of the least so far and the start of the version, if it doesn't stand in order.
+fn worst_with(
+    table: &KeyedTable,
+    version: &VersionWithRanks,
+    earlier: EarlierVersions,
+    worst: Option<TableEvent>,
+) -> Option<TableEvent>
+    ensures { result ≡ (if spec.is_ordered_after version.now earlier.latest earlier.any_open
+        then worst else lesser table_event_cmp worst (table.now.id, version.now.version.now.start)) }
+{
+    if is_ordered_after(version, earlier) {
+        worst
+    } else {
+        lesser(worst, (table.def().id, version.version.start))
+    }
+}
+
+/// What is known at this place, by what was known at the one before.
+fn earlier_at(
+    table: &KeyedTable,
+    ranked: &[VersionWithRanks],
+    k: usize,
+    before: EarlierVersions,
+) -> EarlierVersions
+    requires within { k < length ranked.now }
+    requires order { IsSorted (spec.ranked_cmp table.now.columns) ranked.now }
+    requires before { spec.KnowsBefore table.now.columns ranked.now k before }
+    ensures { (d : RankedVersion) → spec.KnowsEarlier table.now.columns ranked.now (get_or ranked.now k d) result }
+{
+    if k == 0 {
+        return EarlierVersions {
+            latest: None,
+            any_open: false,
+        };
+    }
+    earlier_behind(table, &ranked[k - 1], &ranked[k], before)
+}
+
+/// What is known of the version that stands behind the last one.
+fn earlier_behind(
+    table: &KeyedTable,
+    last: &VersionWithRanks,
+    version: &VersionWithRanks,
+    known: EarlierVersions,
+) -> EarlierVersions
+    ensures { (all : List RankedVersion) → Neighbours (spec.ranked_cmp table.now.columns) all last.now version.now
+        → spec.KnowsEarlier table.now.columns all last.now known
+        → spec.KnowsEarlier table.now.columns all version.now result }
+{
+    if !same_key(table, last.version, version.version) {
+        return EarlierVersions {
+            latest: None,
+            any_open: false,
+        };
+    }
+    if compare_starts(last, version).is_lt() {
+        return EarlierVersions {
+            latest: Some(last.end),
+            any_open: is_any_open(last, known),
+        };
+    }
+    known
+}
+
+/// Whether the version or an earlier one has no end.
+fn is_any_open(version: &VersionWithRanks, known: EarlierVersions) -> bool
+    ensures { result ≡ (known.any_open || is_none version.now.end) }
+{
+    known.any_open || version.end.is_none()
+}
+
+/// Whether it has an end or each earlier one has one, it ends after it starts, and the latest of the earlier
+/// ones ends before it starts.
+fn is_ordered_after(version: &VersionWithRanks, earlier: EarlierVersions) -> bool
+    ensures { result ≡ spec.is_ordered_after version.now earlier.latest earlier.any_open }
+{
+    !(version.end.is_none() && earlier.any_open)
+        && (ends_well(version) && follows(version, earlier.latest))
+}
+
+fn is_before(a: Rank, b: Rank) -> bool
+    ensures { result ≡ spec.rank_before a b }
+{
+    a.0 < b.0 || (a.0 == b.0 && a.1 < b.1)
+}
+
+/// Whether the version ends after it starts, if it ends.
+fn ends_well(version: &VersionWithRanks) -> bool
+    ensures { result ≡ spec.ends_well version.now version.now.end }
+{
+    match version.end {
+        None => true,
+        Some(end) => is_before(version.start, end),
+    }
+}
+
+/// Whether the version before, if there is one, ends before this one starts.
+fn follows(version: &VersionWithRanks, latest: Option<Option<Rank>>) -> bool
+    ensures { result ≡ spec.follows version.now latest }
+{
+    match latest {
+        None => true,
+        Some(None) => false,
+        Some(Some(end)) => is_before(end, version.start),
+    }
+}

@@ -1,0 +1,199 @@
+//! The verdict on bytes, and on the image that they are, by several threads, which go through groups of the
+//! tables.
+
+ghost use Rattle.std.specs.Prelude.{◌≡◌, ◌<◌, ◌≤◌, ◌+◌, IfOk, length, None};
+ghost use Rattle.std.specs.Thread.{IsSend, IsSync};
+ghost use Rattle.format_image.specs.ImageBytes.{IsImage};
+ghost use Rattle.spec_verify.specs.Bytes.{verdict_of};
+ghost use Rattle.spec_verify.specs.Entries.{id_fault as id_fault_of};
+ghost use Rattle.spec_verify.specs.Indexes.{index_fault};
+ghost use Rattle.spec_verify.specs.Verdict.{image_verdict};
+ghost use Rattle.spec_verify.specs.Versions.{version_fault};
+ghost use Rattle.audit_verify.specs.Groups as spec;
+ghost use Rattle.audit_verify.specs.Verdict.{rows_tried, tables_tried};
+
+use crate::entries::Entries;
+use crate::groups::{GroupFaults, group_faults};
+use crate::ids::id_fault;
+use crate::leftover::left_over;
+use crate::merged::{both, root_place};
+use crate::shown::shown_tables;
+use crate::verdict::{verify_blocks, verify_image};
+use audit_definitions::definition_fault;
+use base_merkle::Hash32;
+use base_types::Memory;
+use format_image::{Image, TableRows, read_image};
+use spec_verify::{Invariant, Place, Verdict};
+use sql_system::first_tables;
+use sql_types::HeldDigest;
+use std::alloc::Global;
+use std::thread::{Threads, join};
+
+/// The verdict on these bytes with these digests, by so many threads: Yes, or the first invariant that fails
+/// with its least place. The only error is want of memory; where no thread can be started the caller's does
+/// its work.
+///
+/// The caller's thread reads the image and goes through blocks, entries, ids and the numbers of events. Then
+/// each worker hashes the leaves and tests the versions and indexes of a group of tables. The groups have
+/// about as many versions, but a table isn't cut: no number of workers is faster than the largest table.
+pub fn verify<H: Hash32, R: Threads + Sync>(
+    rt: &R,
+    alloc: Global,
+    hasher: H,
+    bytes: &[u8],
+    digests: &[HeldDigest],
+    workers: u32,
+) -> Result<Verdict, Memory>
+    ensures { IfOk result (λ v. v ≡ verdict_of (H.digest hasher) digests.now bytes.now) }
+{
+    match read_image(alloc, bytes)? {
+        Some(image) => verify_image_with_workers(rt, alloc, hasher, &image, digests, workers),
+        None => Ok(Verdict::No(Invariant::V0, Place::Whole)),
+    }
+}
+
+/// The verdict on an image that has a spelling, as `verify_image` gives it, by so many threads.
+pub fn verify_image_with_workers<H: Hash32, R: Threads + Sync>(
+    rt: &R,
+    alloc: Global,
+    hasher: H,
+    image: &Image,
+    digests: &[HeldDigest],
+    workers: u32,
+) -> Result<Verdict, Memory>
+    requires { IsImage image.now }
+    ensures { IfOk result (λ v. v ≡ image_verdict (H.digest hasher) image.now digests.now) }
+{
+    if workers <= 1 {
+        return verify_image(alloc, hasher, image, digests);
+    }
+    match verify_blocks(alloc, hasher, image, digests)? {
+        Verdict::Yes => verify_groups(rt, alloc, hasher, image, workers),
+        no => Ok(no),
+    }
+}
+
+/// The invariants that speak of the rows of tables.
+fn verify_groups<H: Hash32, R: Threads + Sync>(
+    rt: &R,
+    alloc: Global,
+    hasher: H,
+    image: &Image,
+    workers: u32,
+) -> Result<Verdict, Memory>
+    requires { IsImage image.now }
+    ensures { IfOk result (λ v. v ≡ tables_tried (H.digest hasher) image.now) }
+{
+    let system = first_tables(alloc)?;
+    let tables = shown_tables(alloc, &system, image)?;
+    let entries = Entries::new(alloc, image.entries.as_slice())?;
+    if let Some(place) = id_fault(image, &entries, &tables) {
+        return Ok(Verdict::No(Invariant::V4, place));
+    }
+    let left = left_over(alloc, image.entries.as_slice(), &tables)?;
+    let found = faults_of(rt, alloc, hasher, image, 0, image.tables.len(), workers)?;
+    let root = root_place(image.entries.as_slice(), left, found.root);
+    verdict_on(alloc, image, root, found)
+}
+
+/// The verdict by the place at which a root of an entry is at fault, and by what all tables show. Definitions
+/// come after versions, by which the ids in their rows are small.
+fn verdict_on(
+    alloc: Global,
+    image: &Image,
+    root: Option<Place>,
+    found: GroupFaults,
+) -> Result<Verdict, Memory>
+    requires image { IsImage image.now }
+    requires version { found.version ≡ version_fault image.now }
+    requires index { found.index ≡ spec.if_none found.version (index_fault image.now) }
+    ensures { IfOk result (λ v. v ≡ rows_tried root image.now) }
+{
+    if let Some(place) = root {
+        return Ok(Verdict::No(Invariant::V5, place));
+    }
+    if let Some(place) = found.version {
+        return Ok(Verdict::No(Invariant::V6, place));
+    }
+    if let Some(place) = definition_fault(alloc, image)? {
+        return Ok(Verdict::No(Invariant::V7, place));
+    }
+    match found.index {
+        Some(place) => Ok(Verdict::No(Invariant::V8, place)),
+        None => Ok(Verdict::Yes),
+    }
+}
+
+/// What fails in so many tables of the image, from the one at place `from` on, by so many threads. The tables
+/// are halved by their versions, as far as there are threads.
+fn faults_of<H: Hash32, R: Threads + Sync>(
+    rt: &R,
+    alloc: Global,
+    hasher: H,
+    image: &Image,
+    from: usize,
+    count: usize,
+    workers: u32,
+) -> Result<GroupFaults, Memory>
+    requires image { IsImage image.now }
+    requires ids { id_fault_of image.now ≡ None }
+    requires within { from + count ≤ length image.now.tables }
+    ensures { IfOk result (spec.AreFaults (H.digest hasher) from count image.now) }
+{
+    if workers <= 1 || count <= 1 {
+        return group_faults(alloc, hasher, image, from, count);
+    }
+    let fewer = workers / 2;
+    let others = workers - fewer;
+    let tables = &image.tables.as_slice()[from..from + count];
+    let front = front_of(tables, fewer, workers).clamp(1, count - 1);
+    let middle = from + front;
+    let rest = count - front;
+    let (first, second) = join(
+        rt,
+        || -> Result<GroupFaults, Memory>
+            requires sync { IsSync R.row × IsSync H.row × IsSend H.row }
+            requires image { IsImage image.now }
+            requires ids { id_fault_of image.now ≡ None }
+            requires within { from + front ≤ length image.now.tables }
+            ensures { IfOk result (spec.AreFaults (H.digest hasher) from front image.entry.now) }
+        { faults_of(rt, alloc, hasher, image, from, front, fewer) },
+        || -> Result<GroupFaults, Memory>
+            requires sync { IsSync R.row × IsSync H.row × IsSend H.row }
+            requires image { IsImage image.now }
+            requires ids { id_fault_of image.now ≡ None }
+            requires within { middle + rest ≤ length image.now.tables }
+            ensures { IfOk result (spec.AreFaults (H.digest hasher) middle rest image.entry.now) }
+        { faults_of(rt, alloc, hasher, image, middle, rest, others) },
+    );
+    Ok(both(first?, second?))
+}
+
+/// How many of the first of these tables have about so large a part of their versions.
+fn front_of(tables: &[TableRows], part: u32, whole: u32) -> usize
+    requires { 0 < whole }
+{
+    let goal = (versions_in(tables) / whole as usize).saturating_mul(part as usize);
+    let mut seen = 0usize;
+    for (k, rows) in tables.iter().enumerate() {
+        let count = versions_of(rows);
+        if seen.saturating_add(count / 2) > goal {
+            return k;
+        }
+        seen = seen.saturating_add(count);
+    }
+    tables.len()
+}
+
+fn versions_in(tables: &[TableRows]) -> usize {
+    let mut count = 0usize;
+    for rows in tables {
+        count = count.saturating_add(versions_of(rows));
+    }
+    count
+}
+
+fn versions_of(rows: &TableRows) -> usize {
+    let base = rows.base.len();
+    base.saturating_add(rows.history.len())
+}

@@ -1,0 +1,12 @@
+pub mod AnswerLemmas
+pub mod CallLemmas
+pub mod CheckLemmas
+pub mod ExtractLemmas
+pub mod FilesLemmas
+pub mod GetLemmas
+pub mod HeldLemmas
+pub mod ReceiptLemmas
+pub mod ReplayLemmas
+pub mod SavedLemmas
+pub mod TransferLemmas
+mod ReportLemmas

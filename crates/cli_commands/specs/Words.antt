@@ -1,0 +1,66 @@
+-- What is so of the command that words say.
+use Rattle.std.specs.Prelude.{ℕ, Bool, true, false, List, Option, Some}
+use Rattle.cli_words.specs.Commands.{Command, Settings, Step, Run, Verify, Extract, Replay, Gen, Receipt, Check, Help, Version}
+use Rattle.cli_words.specs.Help.{help_of}
+use Rattle.cli_words.specs.declared.help.TheConstants.{VERSION}
+
+-- what is so of the name that `step` is given, and of its settings
+abbrev pub OfStep : Option Command → (List ℕ → Settings → Type 0) → Type 0
+OfStep (Some (Step save how)) P = P save how
+OfStep words P = Unit {0}
+
+-- what is so of the name that `run` is given, and of its settings
+abbrev pub OfRun : Option Command → (List ℕ → Settings → Type 0) → Type 0
+OfRun (Some (Run save how)) P = P save how
+OfRun words P = Unit {0}
+
+-- what is so of the names that `verify` is given; the number of workers changes nothing that it says
+abbrev pub OfVerify : Option Command → (List ℕ → List ℕ → Type 0) → Type 0
+OfVerify (Some (Verify image digests workers)) P = P image digests
+OfVerify words P = Unit {0}
+
+-- what is so of the names that `replay` is given
+abbrev pub OfReplay : Option Command → (List ℕ → List ℕ → Type 0) → Type 0
+OfReplay (Some (Replay journal save)) P = P journal save
+OfReplay words P = Unit {0}
+
+-- what is so of the names that `extract` is given
+abbrev pub OfExtract : Option Command → (List ℕ → List ℕ → List ℕ → Type 0) → Type 0
+OfExtract (Some (Extract honest suspect digests)) P = P honest suspect digests
+OfExtract words P = Unit {0}
+
+-- what is so of the count that `gen` is given
+abbrev pub OfGen : Option Command → (ℕ → Type 0) → Type 0
+OfGen (Some (Gen count)) P = P count
+OfGen words P = Unit {0}
+
+-- what is so of the names and of the transaction that `receipt` is given: an image, digests, its id, and the name
+-- that its receipt is saved under
+abbrev pub OfReceipt : Option Command → (List ℕ → List ℕ → ℕ → List ℕ → Type 0) → Type 0
+OfReceipt (Some (Receipt image digests tx save)) P = P image digests tx save
+OfReceipt words P = Unit {0}
+
+-- what is so of the names that `check` is given
+abbrev pub OfCheck : Option Command → (List ℕ → List ℕ → Type 0) → Type 0
+OfCheck (Some (Check receipt digests)) P = P receipt digests
+OfCheck words P = Unit {0}
+
+-- what is so of the text that is printed: help, or the version
+abbrev pub OfTell : Option Command → (List ℕ → Type 0) → Type 0
+OfTell (Some (Help which)) P = P (help_of which)
+OfTell (Some Version) P = P VERSION.now
+OfTell words P = Unit {0}
+
+-- the command reads the input
+abbrev pub reads_input : Option Command → Bool
+reads_input (Some (Step save how)) = true
+reads_input (Some (Run save how)) = true
+reads_input words = false
+
+-- the command puts files
+abbrev pub puts_files : Option Command → Bool
+puts_files (Some (Step save how)) = true
+puts_files (Some (Run save how)) = true
+puts_files (Some (Replay journal save)) = true
+puts_files (Some (Receipt image digests tx save)) = true
+puts_files words = false

@@ -1,0 +1,277 @@
+//! The top call.
+
+ghost use Rattle.std.specs.Prelude.{◌≡◌, ◌⊎◌, map, string_bytes, None, IfSome, false};
+ghost use Rattle.sha2.specs.Sha256.{sha256};
+ghost use Rattle.base_io.specs.Count.{Rises};
+ghost use Rattle.base_io.specs.History.{Since};
+ghost use Rattle.cli_words.specs.Commands.{command_of};
+ghost use Rattle.cli_commands.specs.Words.{OfStep, OfRun, OfVerify, OfReplay, OfExtract, OfGen, OfTell};
+ghost use Rattle.cli_commands.specs.Words.{OfReceipt, OfCheck};
+ghost use Rattle.cli_commands.specs.Words.{reads_input, puts_files};
+ghost use Rattle.cli_commands.specs.Answer.{HasRead, RanAndSaved, RunOutcomeOrIdle, Unfailed};
+ghost use Rattle.cli_commands.specs.Calls.{AreReads, AreCalls, AreWrites};
+ghost use Rattle.cli_commands.specs.Cause.{HasCause};
+ghost use Rattle.cli_commands.specs.Check.{Checks, ShowsEntry};
+ghost use Rattle.cli_commands.specs.Extract.{Extracts};
+ghost use Rattle.cli_commands.specs.Generated.{HasGenerated};
+ghost use Rattle.cli_commands.specs.Input.{line_form, section_form};
+ghost use Rattle.cli_commands.specs.Receipt.{Receipted, SaysNo, ReceiptedOrIdle, PutsReceipt};
+ghost use Rattle.cli_commands.specs.Replay.{SavesReplay, ReplayedOrIdle, PutsAccepted};
+ghost use Rattle.cli_commands.specs.Run.{LinesComeTo, SectionsComeTo};
+ghost use Rattle.cli_commands.specs.Tell.{HasTold};
+ghost use Rattle.cli_commands.specs.Verify.{SaysVerdict, SaidOrIdle};
+
+use crate::Status;
+use crate::check::check;
+use crate::extract::extract;
+use crate::generate::generate;
+use crate::receipt::receipt;
+use crate::replay::replay;
+use crate::run::run_side_by_side;
+use crate::step::step;
+use crate::tell::tell;
+use crate::verify::verify;
+use base_io::{Clock, Gate, Sink, Source, Vault};
+use base_merkle::Sha256Hash;
+use base_types::Memory;
+use cli_words::{Command, VERSION, help_text, read_command};
+use std::alloc::Global;
+use std::sync::Wait;
+use std::thread::Threads;
+
+/// Runs the command that the words give.
+///
+/// `step --save NAME` reads an input of statements, `session: statement` on each line, and runs them in their
+/// order on one thread, each at a moment that the clock says. The sessions begin before the first line and
+/// end, in the order in which they appear, behind the last. For each number of journal items that a SAVE
+/// IMAGE answered, the image goes under `NAME-m.img`, m being that number, the least first; then that of the
+/// whole journal under `NAME.img`, the digests under `NAME.digests` and the journal of what was committed
+/// under `NAME.journal`. Then the transcript is written, which has what each statement was answered, in the
+/// order of the lines. Transcripts, journal, digests and images agree: each image is that of its part of the
+/// journal, and `verify` says `Yes` of it, where it has at most 256 MiB, with any of these digests whose blocks are
+/// closed in it.
+/// `--block-size N` says how many transactions a block has, `--clock T` at which moment all is done, and
+/// `--database D` the name of the database.
+///
+/// `run --save NAME` reads an input of sections: behind a line `-- setup` the statements of a session
+/// `setup`, and behind each line `-- session S` those of the session S. It runs the setup to its end, and
+/// then all sessions side by side, each in a thread of its own that runs its statements in their order, while
+/// another thread closes blocks. It puts the files of `step`, and then writes the transcripts: that of the
+/// setup, and then each session's in the order of the input. However the turns of the threads fall,
+/// transcripts, journal, digests and images agree as those of `step` do, but that lines have no order there.
+/// Its options are those of `step`.
+///
+/// `verify IMAGE DIGESTS` reads what stands under the two names, and writes the verdict on the image with the
+/// digests: `Yes`, and the status is `Done`, or `No` with the first invariant that fails and its least place,
+/// and the status is `No`. It puts nothing and reads no input.
+///
+/// `replay JOURNAL --save NAME` reads what stands under the name of a journal, as `step` and `run` save
+/// one, and runs its statements again in their order, one transaction after another. Where each is answered
+/// with the reply that the journal keeps, and each transaction leaves a start or an end of a version, the
+/// journal is legal: then its image goes under `NAME.img`, its own bytes under `NAME.journal`, and the
+/// number of its transactions is written. Whoever has digests of blocks that the journal closed gets `Yes`
+/// for that image.
+///
+/// `extract HONEST SUSPECT DIGESTS` reads what stands under the three names and verifies both images with the
+/// digests. Where the honest one isn't accepted it writes `honest: ` and the line of the verdict, and else
+/// `suspect: ` where the suspect one isn't; the status is `No`. Where both are, all that any of the digests
+/// covers is the same in both, and it writes `Same`, and the status is `Done`; or it writes `Collision`, and
+/// on two lines, in hexadecimal digits, two different strings of bytes with one SHA-256: the status is `No`.
+/// It puts nothing and reads no input.
+///
+/// `receipt IMAGE DIGESTS TX --save NAME` reads what stands under the two names and verifies the image with the
+/// digests. Where the verdict is No it writes the line of the verdict, and the status is `No`. Else it makes the
+/// receipt of the transaction with this id under the digest of the greatest block, the first of these, puts it
+/// under `NAME.receipt`, and writes the block of the transaction's entry and its place there. The receipt is
+/// accepted with the digest. Where there is no digest, or no entry up to its block is of the transaction, the
+/// status is `NoEntry`.
+///
+/// `check RECEIPT DIGESTS` reads what stands under the two names. Where the receipt is accepted with the first
+/// digest that is of its last record's block it writes `Yes`, and the status is `Done`; else `No receipt`, and
+/// the status is `No`. After `Yes` each image that is accepted with this digest has the receipt's entry at its
+/// place, or SHA-256 has a collision. It puts nothing and reads no input.
+///
+/// `gen COUNT` runs a workload of four sessions side by side, each of which inserts so many rows into a table
+/// of its own and adds 1 to every tenth, and writes five lines: how many transactions there are, rows, versions
+/// that have ended, the sum of the rows' values, and the verdict on the image. However the turns of the threads
+/// fall, these are 4 and 4.4 times the count, 4 times the count, 0.4 times the count, what was inserted and
+/// added, and `Yes` (of a count that isn't a multiple of ten, the tenths are rounded down for each table). It
+/// reads no input and puts no file.
+///
+/// `--help` (or `-h` or `help`) and `--version` (or `-V`) as the only word, `--help` or `-h` as the only word
+/// behind a command, and `help` before one, print a text.
+///
+/// An option and its value are two words or one, `--save NAME` or `--save=NAME`, and stand anywhere behind
+/// the command. `verify --workers N` lets N threads look at an image, and says what is so without it.
+///
+/// Only `run`, `gen` and `verify` with more than one worker start threads, and only `run` calls the gate.
+///
+/// `Words` comes before anything else, and so does want of memory for the words. Of `step` and `run`, `Limit`
+/// and `Form` come before anything is put; the size of the input is looked at first, then the form of all
+/// lines, and then the number of sessions. After `VaultFault` the files before the one that failed stand, its
+/// name is open, and nothing was written; after `Memory` the first of the files may stand. After `SinkFault`
+/// all files stand and a first part of the text was written. Of `verify` and `extract`, the names are looked
+/// at in the order of the words, each whether it is there and then how long, then the digests, and last the
+/// images: `Digests` comes before `No`. Of `replay`, the name is looked at so, then whether the bytes are
+/// those of a journal, and last whether that is legal; all this before anything is put. Of `receipt`, the names
+/// and the digests are looked at as of `verify`, then the image, and last whether there is such an entry: `No`
+/// comes before `NoEntry`, and all this before anything is put. Of `check`, the names, then whether the bytes are
+/// those of a receipt, and then the digests: `Receipt` comes before `Digests`.
+pub fn ledgerd<S: Source, K: Sink, V: Vault, C: Clock, G: Gate, R: Threads + Wait + Sync>(
+    rt: &R,
+    alloc: Global,
+    words: &[String],
+    source: &mut S,
+    sink: &mut K,
+    vault: &mut V,
+    clock: &C,
+    gate: &G,
+) -> Status
+    // Each status has its cause.
+    ensures cause { HasCause result sha256 (command_of (map string_bytes words.now))
+        (S.left source.old) (V.names vault.old)
+        (Rises (S.faults source.old) (S.faults source.new))
+        (Rises (V.faults vault.old) (V.faults vault.new))
+        (Rises (K.faults sink.old) (K.faults sink.new) ⊎ Rises (K.stalls sink.old) (K.stalls sink.new)) }
+
+    // Where the words say no command, nothing is touched. Only `step` and `run` read the input; these two,
+    // `replay` and `receipt` put files.
+    ensures words { command_of (map string_bytes words.now) ≡ None
+        → (source.new ≡ source.old) × (vault.new ≡ vault.old) × (sink.new ≡ sink.old) }
+    ensures unread { reads_input (command_of (map string_bytes words.now)) ≡ false
+        → source.new ≡ source.old }
+    ensures unput { puts_files (command_of (map string_bytes words.now)) ≡ false
+        → V.names vault.new ≡ V.names vault.old }
+
+    // `step`: what is read, by the status; and what is put and written of a run whose transcripts, journal,
+    // digests and images agree.
+    ensures read { OfStep (command_of (map string_bytes words.now))
+        (λ save settings. IfSome (S.left source.old) (λ input. HasRead result input (S.left source.new))) }
+    ensures ran { OfStep (command_of (map string_bytes words.now)) (λ save settings. RunOutcomeOrIdle result
+        (RanAndSaved result line_form (LinesComeTo sha256 settings (C.says clock.now)) save (S.left source.old)
+        (V.names vault.old) (V.names vault.new) (K.taken sink.old) (K.taken sink.new))
+        ((vault.new ≡ vault.old) × (sink.new ≡ sink.old))) }
+
+    // `run`: the same of sections whose sessions were run side by side.
+    ensures read_sections { OfRun (command_of (map string_bytes words.now))
+        (λ save settings. IfSome (S.left source.old) (λ input. HasRead result input (S.left source.new))) }
+    ensures ran_all { OfRun (command_of (map string_bytes words.now)) (λ save settings. RunOutcomeOrIdle result
+        (RanAndSaved result section_form (SectionsComeTo sha256 settings (C.says clock.now)) save (S.left source.old)
+        (V.names vault.old) (V.names vault.new) (K.taken sink.old) (K.taken sink.new))
+        ((vault.new ≡ vault.old) × (sink.new ≡ sink.old))) }
+
+    // `verify`: the line of the verdict on what stands under the names, by the status.
+    ensures verified { OfVerify (command_of (map string_bytes words.now))
+        (λ image digests. SaidOrIdle result
+        (SaysVerdict result sha256 image digests
+        (V.names vault.old) (K.taken sink.old) (K.taken sink.new)) (sink.new ≡ sink.old)) }
+
+    // `extract`: the lines of what is found of the two images under the names, by the status.
+    ensures extracts { OfExtract (command_of (map string_bytes words.now))
+        (λ honest suspect digests. SaidOrIdle result
+        (Extracts result sha256 honest suspect digests
+        (V.names vault.old) (K.taken sink.old) (K.taken sink.new)) (sink.new ≡ sink.old)) }
+
+    // `gen`: the lines of what is counted of a run of the workload, which are those that are expected.
+    ensures generated { OfGen (command_of (map string_bytes words.now))
+        (λ count. SaidOrIdle result
+        (HasGenerated result sha256 count (K.taken sink.old) (K.taken sink.new)) (sink.new ≡ sink.old)) }
+
+    // Help and the version: the text, by the status.
+    ensures told { OfTell (command_of (map string_bytes words.now))
+        (λ text. SaidOrIdle result
+        (HasTold result text (K.taken sink.old) (K.taken sink.new)) (sink.new ≡ sink.old)) }
+
+    // `replay`: what is put and written of the legal journal under the name, by the status; and the image
+    // that is put is accepted with any digests of the journal's blocks.
+    ensures replayed { OfReplay (command_of (map string_bytes words.now))
+        (λ journal save. ReplayedOrIdle result
+        (SavesReplay result sha256 journal save
+        (V.names vault.old) (V.names vault.new) (K.taken sink.old) (K.taken sink.new))
+        ((V.names vault.new ≡ V.names vault.old) × (sink.new ≡ sink.old))) }
+    ensures accepted { OfReplay (command_of (map string_bytes words.now))
+        (λ journal save. result ≡ Status.Done
+        → PutsAccepted sha256 journal save (V.names vault.old) (V.names vault.new)) }
+
+    // `receipt`: what is put and written of the receipt, or the line of a verdict that isn't Yes, by the status; and
+    // the receipt that is put is accepted with the digest of the greatest block.
+    ensures receipted { OfReceipt (command_of (map string_bytes words.now))
+        (λ image digests tx save. ReceiptedOrIdle result
+        (Receipted result sha256 image digests tx save
+        (V.names vault.old) (V.names vault.new) (K.taken sink.old) (K.taken sink.new))
+        (SaysNo result sha256 image digests
+        (V.names vault.old) (V.names vault.new) (K.taken sink.old) (K.taken sink.new))
+        ((V.names vault.new ≡ V.names vault.old) × (sink.new ≡ sink.old))) }
+    ensures shown { OfReceipt (command_of (map string_bytes words.now))
+        (λ image digests tx save. result ≡ Status.Done
+        → PutsReceipt sha256 image digests tx save (V.names vault.old) (V.names vault.new)) }
+
+    // `check`: the line of what is said of the receipt under the name, by the status; and after `Yes` each image
+    // that is accepted with the digest has the receipt's entry, or SHA-256 has a collision.
+    ensures checked { OfCheck (command_of (map string_bytes words.now))
+        (λ receipt digests. SaidOrIdle result
+        (Checks result sha256 receipt digests
+        (V.names vault.old) (K.taken sink.old) (K.taken sink.new)) (sink.new ≡ sink.old)) }
+    ensures shows { OfCheck (command_of (map string_bytes words.now))
+        (λ receipt digests. result ≡ Status.Done → ShowsEntry sha256 receipt digests (V.names vault.old)) }
+
+    // The first fault or stall is the last call: nothing is tried again, and nothing is read behind the end.
+    ensures reads { OfStep (command_of (map string_bytes words.now))
+        (λ save settings. Since (S.history source.old) (S.history source.new) (AreReads result)) }
+    ensures reads_sections { OfRun (command_of (map string_bytes words.now))
+        (λ save settings. Since (S.history source.old) (S.history source.new) (AreReads result)) }
+    ensures calls { Since (V.history vault.old) (V.history vault.new)
+        (AreCalls (command_of (map string_bytes words.now)) result) }
+    ensures writes { Since (K.history sink.old) (K.history sink.new) (AreWrites result) }
+    ensures unfailed { Unfailed result (S.faults source.new ≡ S.faults source.old)
+        (V.faults vault.new ≡ V.faults vault.old)
+        ((K.faults sink.new ≡ K.faults sink.old) × (K.stalls sink.new ≡ K.stalls sink.old)) }
+
+    // Nothing is written before all is put, and before the verdict.
+    ensures unwritten { (result ≡ Status.Done → ⊥) → (result ≡ Status.No → ⊥)
+        → (result ≡ Status.SinkFault → ⊥)
+        → sink.new ≡ sink.old }
+{
+    let command = match read_command(alloc, words) {
+        Ok(Some(command)) => command,
+        Ok(None) => return Status::Words,
+        Err(Memory) => return Status::Memory,
+    };
+    match command {
+        Command::Step { save, settings } => {
+            step(
+                alloc, Sha256Hash, save, settings, source, sink, vault, clock,
+            )
+        }
+        Command::Run { save, settings } => {
+            run_side_by_side(
+                rt, alloc, Sha256Hash, save, settings, source, sink, vault, clock, gate,
+            )
+        }
+        Command::Verify {
+            image,
+            digests,
+            workers,
+        } => verify(rt, alloc, Sha256Hash, image, digests, workers, sink, vault),
+        Command::Extract {
+            honest,
+            suspect,
+            digests,
+        } => extract(alloc, Sha256Hash, honest, suspect, digests, sink, vault),
+        Command::Replay { journal, save } => {
+            replay(alloc, Sha256Hash, journal, save, sink, vault)
+        }
+        Command::Receipt {
+            image,
+            digests,
+            tx,
+            save,
+        } => { receipt(alloc, Sha256Hash, image, digests, tx, save, sink, vault) }
+        Command::Check { receipt, digests } => {
+            check(alloc, Sha256Hash, receipt, digests, sink, vault)
+        }
+        Command::Gen { count } => generate(rt, alloc, Sha256Hash, count, sink),
+        Command::Help(which) => tell(help_text(which), sink),
+        Command::Version => tell(VERSION, sink),
+    }
+}

@@ -1,0 +1,51 @@
+use Rattle.std.proofs.Common.{◌≡◌, Bool, true, false, List, [], Option, Some, None, is_some, refl, sym, ap, subst, arith, true≢false}
+use Rattle.std.specs.Prelude.{if◌then◌else◌}
+use Rattle.cli_words.specs.Arguments.{Says, spelled_out}
+use Rattle.cli_words.specs.Commands.{Command, given, has_dashes, meaning_of, arguments_of}
+use Rattle.cli_words.specs.Line.{Text, Use, nothing, is_among, uses_of, ◌>>=◌}
+use Rattle.cli_words.specs.Subcommands.{operands_of, options_of}
+use Rattle.cli_words.specs.declared.subcommand.Subcommand.{Subcommand}
+use Rattle.cli_words.specs.declared.subcommand.Subcommand.TheVariants.{Step, Run, Verify, Extract, Replay, Gen, Receipt, Check}
+use Rattle.cli_words.proofs.Spelled.{AreNames, IsOptionName, each_name, complete, sound}
+
+option_names : (which : Subcommand) → AreNames (options_of which)
+option_names Step = ((omega arith, refl), ((omega arith, refl), ((omega arith, refl), ((omega arith, refl), tt))))
+option_names Run = ((omega arith, refl), ((omega arith, refl), ((omega arith, refl), ((omega arith, refl), tt))))
+option_names Verify = ((omega arith, refl), tt)
+option_names Extract = tt
+option_names Replay = ((omega arith, refl), tt)
+option_names Gen = tt
+option_names Receipt = ((omega arith, refl), tt)
+option_names Check = tt
+
+names : (which : Subcommand) (n : Text) → is_among (options_of which) n ≡ true → IsOptionName n
+names which = each_name (options_of which) (option_names which)
+
+pub accepted : (which : Subcommand) (words : List Text) (command : Command) → Says which words command → arguments_of which words ≡ Some command
+unfolding arguments_of
+accepted which words command says =
+    let read : uses_of (options_of which) (operands_of which) (spelled_out says.arguments) ≡ Some says.uses =
+    complete (options_of which) (operands_of which) (names which) says.arguments [] [] says.uses nothing 0 refl says.give in
+    let same : uses_of (options_of which) (operands_of which) words ≡ Some says.uses =
+    subst (λ (w : List Text). uses_of (options_of which) (operands_of which) w ≡ Some says.uses) (sym says.spelling) read in
+    rw (says.no_dashes, same) says.meaning
+
+no_answer : {X : Type 0} (x : X) → None ≡ Some x → ⊥
+no_answer x e = true≢false (sym (ap is_some e))
+
+pub spelled_words : (which : Subcommand) (words : List Text) (command : Command) → arguments_of which words ≡ Some command → Says which words command
+unfolding arguments_of
+spelled_words which words command e = on_dashes (has_dashes words) refl e
+  where
+    on_uses : has_dashes words ≡ false → (o : Option (List Use)) → uses_of (options_of which) (operands_of which) words ≡ o
+        → (o >>= λ uses. meaning_of which (given uses)) ≡ Some command → Says which words command
+    on_uses none None read f = absurd (no_answer command f)
+    on_uses none (Some uses) read f =
+        let s = sound (options_of which) (operands_of which) (names which) words [] nothing 0 uses read in
+        record { arguments = s.0; uses = uses; spelling = s.1; no_dashes = none; give = s.2; meaning = f }
+
+    on_dashes : (b : Bool) → has_dashes words ≡ b
+        → (if b then None else (uses_of (options_of which) (operands_of which) words >>= λ uses. meaning_of which (given uses))) ≡ Some command
+        → Says which words command
+    on_dashes true some f = absurd (no_answer command f)
+    on_dashes false none f = on_uses none (uses_of (options_of which) (operands_of which) words) refl f

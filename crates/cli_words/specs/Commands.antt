@@ -1,0 +1,136 @@
+-- What the words after the program's name say.
+use Rattle.std.specs.Prelude.{ℕ, ◌≡◌, ◌≤◌, Bool, true, false, ◌||◌, List, [], ◌∷◌, codes, Option, Some, None, IfSome, if◌then◌else◌, bytes_eq, find, option_map}
+use Rattle.std.specs.List.{list_any}
+use Rattle.base_types.specs.DatabaseName.{is_database_name}
+use Rattle.base_types.specs.declared.moment.TheConstants.{MAX_TICKS}
+use Rattle.cli_words.specs.declared.forms.TheConstants.{MAX_TX}
+use Rattle.cli_words.specs.declared.subcommand.Subcommand.{Subcommand}
+use Rattle.cli_words.specs.declared.subcommand.Subcommand.TheVariants as which
+use Rattle.cli_words.specs.Forms.{file_name, save_name, database_name, number_in, or_default, if_given}
+use Rattle.cli_words.specs.Line.{Text, Use, uses_of, ◌>>=◌}
+use Rattle.cli_words.specs.Subcommands.{named, operands_of, options_of}
+
+-- how statements are run
+pub record Settings : Type 0 where
+  -- the most transactions of a block
+  pub block_size : ℕ
+  -- the moment that each statement has, where one is given
+  pub clock : Option ℕ
+  pub database : Text
+
+-- they have their ranges and their form
+pub record AreInRange (how : Settings) : Type 0 where
+  pub least : 1 ≤ how.block_size
+  pub most : how.block_size ≤ 100000
+  pub clock : IfSome how.clock (λ ticks. ticks ≤ MAX_TICKS)
+  pub database : is_database_name how.database ≡ true
+
+pub data Command : Type 0 where
+  -- the name that the files are saved under
+  Step : Text → Settings → Command
+  Run : Text → Settings → Command
+  -- the names of an image and of digests, and how many workers look
+  Verify : Text → Text → ℕ → Command
+  -- the names of an honest image, of one that is suspected, and of digests
+  Extract : Text → Text → Text → Command
+  -- the name of a journal, and the name that its image is saved under
+  Replay : Text → Text → Command
+  Gen : ℕ → Command
+  -- the names of an image and of digests, the id of a transaction, and the name its receipt is saved under
+  Receipt : Text → Text → ℕ → Text → Command
+  -- the names of a receipt and of digests
+  Check : Text → Text → Command
+  -- help on one command, or on all
+  Help : Option Subcommand → Command
+  Version : Command
+
+-- its values have their ranges
+abbrev pub IsInRange : Command → Type 0
+IsInRange (Step save how) = AreInRange how
+IsInRange (Run save how) = AreInRange how
+IsInRange (Verify image digests workers) = (1 ≤ workers) × (workers ≤ 16)
+IsInRange (Gen count) = (1 ≤ count) × (count ≤ 10000)
+IsInRange (Receipt image digests tx save) = (1 ≤ tx) × (tx ≤ MAX_TX)
+IsInRange _ = Unit {0}
+
+-- what was given under a name
+abbrev pub given : List Use → Text → Option Text
+given uses name = option_map (λ u. u.1) (find (λ u. bytes_eq u.0 name) uses)
+
+-- `[--block-size N] [--clock T] [--database D]`
+unfoldable pub settings : (Text → Option Text) → Option Settings
+settings value =
+    or_default 100000 (number_in 1 100000) (value (codes "block-size")) >>= λ size.
+    if_given (number_in 0 MAX_TICKS) (value (codes "clock")) >>= λ clock.
+    or_default (codes "LedgerDB") database_name (value (codes "database")) >>= λ database.
+    Some (record { block_size = size; clock = clock; database = database })
+
+-- what the values under the names of its operands and options say; none where one of them lacks its form
+unfoldable pub meaning_of : Subcommand → (Text → Option Text) → Option Command
+meaning_of which.Step value = value (codes "save") >>= save_name >>= λ save.
+    settings value >>= λ how. Some (Step save how)
+meaning_of which.Run value = value (codes "save") >>= save_name >>= λ save.
+    settings value >>= λ how. Some (Run save how)
+meaning_of which.Verify value = value (codes "IMAGE") >>= file_name >>= λ image.
+    value (codes "DIGESTS") >>= file_name >>= λ digests.
+    or_default 1 (number_in 1 16) (value (codes "workers")) >>= λ workers.
+    Some (Verify image digests workers)
+meaning_of which.Extract value = value (codes "HONEST") >>= file_name >>= λ honest.
+    value (codes "SUSPECT") >>= file_name >>= λ suspect.
+    value (codes "DIGESTS") >>= file_name >>= λ digests.
+    Some (Extract honest suspect digests)
+meaning_of which.Replay value = value (codes "JOURNAL") >>= file_name >>= λ journal.
+    value (codes "save") >>= save_name >>= λ save.
+    Some (Replay journal save)
+meaning_of which.Gen value = value (codes "COUNT") >>= number_in 1 10000 >>= λ count.
+    Some (Gen count)
+meaning_of which.Receipt value = value (codes "IMAGE") >>= file_name >>= λ image.
+    value (codes "DIGESTS") >>= file_name >>= λ digests.
+    value (codes "TX") >>= number_in 1 MAX_TX >>= λ tx.
+    value (codes "save") >>= save_name >>= λ save.
+    Some (Receipt image digests tx save)
+meaning_of which.Check value = value (codes "RECEIPT") >>= file_name >>= λ receipt.
+    value (codes "DIGESTS") >>= file_name >>= λ digests.
+    Some (Check receipt digests)
+
+abbrev pub has_dashes : List Text → Bool
+has_dashes words = list_any (λ w. bytes_eq w (codes "--")) words
+
+-- what the words behind a command say: options as `--name value` or `--name=value`, each at most once, and
+-- operands, in any order; no word is `--`
+unfoldable pub arguments_of : Subcommand → List Text → Option Command
+arguments_of which words = if has_dashes words then None
+    else uses_of (options_of which) (operands_of which) words >>= λ uses. meaning_of which (given uses)
+
+-- the words ask for help and nothing else
+abbrev pub asks_help : List Text → Bool
+asks_help (word ∷ []) = bytes_eq word (codes "--help") || bytes_eq word (codes "-h")
+asks_help words = false
+
+-- what a word says that stands alone
+unfoldable pub alone : Text → Option Command
+alone word =
+    if asks_help (word ∷ []) || bytes_eq word (codes "help") then Some (Help None)
+    else if bytes_eq word (codes "--version") || bytes_eq word (codes "-V") then Some Version
+    else None
+
+-- `help` and the name of a command
+abbrev pub help_on : Text → Text → Option Command
+help_on word name =
+    if bytes_eq word (codes "help") then (named name >>= λ which. Some (Help (Some which))) else None
+
+-- what words say the first of which names no command
+abbrev pub others : Text → List Text → Option Command
+others word [] = alone word
+others word (name ∷ []) = help_on word name
+others word words = None
+
+abbrev pub behind : Option Subcommand → Text → List Text → Option Command
+behind (Some which) word words =
+    if asks_help words then Some (Help (Some which)) else arguments_of which words
+behind None word words = others word words
+
+-- the command that the words say; none where they have no command's form
+unfoldable pub command_of : List Text → Option Command
+command_of [] = None
+command_of (word ∷ words) = behind (named word) word words

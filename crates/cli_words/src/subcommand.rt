@@ -1,0 +1,44 @@
+// The words that name a command.
+ghost use Rattle.std.specs.Prelude.{◌≡◌};
+ghost use Rattle.cli_words.specs.Subcommands.{named};
+
+/// A word that names a command.
+#[derive(Clone, Copy, Debug, PartialEq, Eq)]
+pub enum Subcommand {
+    /// Runs an input on one thread.
+    Step,
+    /// Runs an input with a thread for each session.
+    Run,
+    /// Says the verdict on an image.
+    Verify,
+    /// Says what two images are to each other.
+    Extract,
+    /// Runs a journal again.
+    Replay,
+    /// Runs and verifies a workload.
+    Gen,
+    /// Makes the receipt of a transaction.
+    Receipt,
+    /// Says whether a receipt holds with digests.
+    Check,
+}
+
+impl Subcommand {
+    /// The one that the word names.
+    #[tactic(auto, unfolding(crate::specs::Subcommands::named))]
+    pub(crate) fn named(word: &str) -> Option<Subcommand>
+        ensures { result ≡ named word.now }
+    {
+        match word {
+            "step" => Some(Subcommand::Step),
+            "run" => Some(Subcommand::Run),
+            "verify" => Some(Subcommand::Verify),
+            "extract" => Some(Subcommand::Extract),
+            "replay" => Some(Subcommand::Replay),
+            "gen" => Some(Subcommand::Gen),
+            "receipt" => Some(Subcommand::Receipt),
+            "check" => Some(Subcommand::Check),
+            _ => None,
+        }
+    }
+}

@@ -1,0 +1,10 @@
+mod Growing
+mod LeafExact
+pub mod Leaves
+mod Sizes
+mod Texts
+pub mod TypeLaws
+pub mod TypedExact
+mod ValueLaws
+pub mod Values
+pub mod Told

@@ -1,0 +1,4 @@
+pub mod EventRef
+pub mod Leaf
+pub mod LeafReading
+pub mod TypedBytes

@@ -1,0 +1,8 @@
+use Rattle.std.proofs.Common.{◌≡◌, ◌-◌}
+use Rattle.base_fields.specs.Readers.{times}
+use Rattle.base_fields.proofs.Loops.{with_front}
+use Rattle.format_image.specs.ImageReading.{index_at}
+use Rattle.format_image.proofs.read_definitions.some_indexes.Given as goal
+
+abbrev pub invariant-loop : goal.invariant-loop
+invariant-loop l = with_front index_at l.indexes (times index_at (l.count - l.counter) l.rest) ≡ times index_at l.count l.bytes

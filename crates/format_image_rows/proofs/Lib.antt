@@ -1,0 +1,4 @@
+pub mod Joined
+pub mod Orders
+pub mod UserDefs
+pub use Rattle.law_image.proofs.Entries

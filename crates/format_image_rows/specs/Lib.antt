@@ -1,0 +1,1 @@
+pub use Rattle.law_image.specs.Room

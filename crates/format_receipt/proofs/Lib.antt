@@ -1,0 +1,2 @@
+pub mod ReceiptExact
+pub mod Room

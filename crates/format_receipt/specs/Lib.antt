@@ -1,0 +1,2 @@
+pub mod ReceiptReading
+pub mod Receipts

@@ -1,0 +1,9 @@
+//! The texts of replies.
+#![tactic(auto)]
+
+mod rows;
+mod text;
+mod utf8;
+
+pub use sql_types::Reply;
+pub use text::{indented_reply, reply_text};

@@ -1,0 +1,5 @@
+pub mod Kind
+pub mod Form
+pub mod Names
+pub mod RunSections
+pub mod UnreadInput

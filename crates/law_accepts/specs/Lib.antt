@@ -1,0 +1,2 @@
+pub mod Held
+pub use Rattle.law_image.specs.Room

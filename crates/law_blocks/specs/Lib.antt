@@ -1,0 +1,5 @@
+pub mod Digests
+pub use Rattle.spec_ledger.specs.Entries
+pub use Rattle.spec_ledger.specs.Ledger
+pub use Rattle.spec_ledger.specs.Leaf
+pub use Rattle.spec_ledger.specs.Entry

@@ -1,0 +1,17 @@
+pub mod About
+pub mod Defs
+pub mod FormedAfter
+pub mod Forms
+pub mod Journals
+pub mod KeptByJournals
+pub mod KeyCounted
+pub mod KeyPositions
+pub mod LiveRows
+pub mod MayBe
+pub mod NewNames
+pub mod Orders
+pub mod Ordinals
+pub mod Passing
+pub mod RowsAfter
+pub mod ChangedTables
+pub mod WrittenAfter

@@ -1,0 +1,5 @@
+mod Compared
+mod Judged
+mod Lists
+mod Put
+mod Reading

@@ -1,0 +1,231 @@
+-- What threads left is a run of the input.
+use Rattle.std.proofs.Common.{◌≡◌, ◌<◌, ℕ, true, List, [], ◌∷◌, ◌++◌, length, map, Option, Some, ⊎_elim, refl, sym, ap, ap₂, subst, subst₂, ◌∙◌, arith}
+use Rattle.std.proofs.lemmas.List.{take_all}
+use mathlib.Core.Option.{some, some-injective}
+use lib.ListN.{get_elem?}
+use Rattle.base_types.specs.DatabaseName.{is_database_name}
+use Rattle.base_types.specs.Moment.{is_moment}
+use Rattle.base_types.specs.SessionName.{is_session_name}
+use Rattle.sql_types.specs.declared.digest.Digest.{Digest}
+use Rattle.sql_types.specs.declared.digest.HeldDigest.{HeldDigest}
+use Rattle.sql_types.specs.declared.journal.Journal.{Journal}
+use Rattle.sql_types.specs.declared.journal.JournalItem.{JournalItem}
+use Rattle.spec_model.specs.Journals.{cut}
+use Rattle.spec_model.specs.LegalJournals.{IsLegalJournal}
+use Rattle.spec_model.specs.Script.{Reading}
+use Rattle.spec_history.specs.Agree.{Agree, ShowsHash}
+use Rattle.spec_history.specs.Digests.{IsDigest}
+use Rattle.spec_history.specs.Facts.{image, facts_of}
+use Rattle.spec_history.specs.Inputs.{InputSession}
+use Rattle.spec_history.specs.Journals.{blocks, times}
+use Rattle.spec_history.specs.Lists.{Text, Each, Some_of, In}
+use Rattle.spec_history.specs.Meaning.{Meaning}
+use Rattle.spec_history.specs.Real.{IsReal}
+use Rattle.spec_history.specs.Transcripts.{Transcript}
+use Rattle.spec_history.proofs.Trace.{each_weaker}
+use Rattle.law_order.specs.OneOrder.{SessionFact, AreInOneOrder}
+use Rattle.format_image.specs.Image.{image_of_cut}
+use Rattle.format_image.specs.ImageBytes.{image_bytes}
+use Rattle.law_image.specs.Room.{FitsImageFormat}
+use Rattle.spec_ledger.specs.Ledger.{block_hash}
+use Rattle.spec_syntax.specs.Text.{statement_of}
+use Rattle.spec_verify.specs.declared.place.Verdict.TheVariants.{Yes}
+use Rattle.spec_verify.specs.Bytes.{verdict_of}
+use Rattle.law_kept_images.specs.Held.{AllHeld, IsHeld, held}
+use Rattle.spec_protocol.specs.Cells.{Cell, Ledger, LedgerCell, ledger_at}
+use Rattle.spec_protocol.specs.LedgerIsLegal.{FitsBlock, IsOfCell}
+use Rattle.spec_protocol.specs.Reordered.{NamesApart}
+use Rattle.spec_protocol.specs.Seats.{KeptImage, Written}
+use Rattle.spec_protocol.specs.Server.{Server}
+use Rattle.spec_protocol.specs.StandTogether.{Stands}
+use Rattle.law_protocol_steps.proofs.AfterSet.{all_at, each_at}
+use Rattle.law_kept_images.specs.SessionOutput.{IsImageOf, IsMeaning}
+use Rattle.law_kept_images.specs.Wrote.{transcripts_in}
+use Rattle.law_kept_images.specs.Accepted.{IsAccepted, IsOfCut}
+use Rattle.law_concurrent.specs.Joined.{IsJoined, KnewThatOver}
+use Rattle.law_concurrent.specs.Together.{AreFormed, IsMomentOf, RanTogether, names_in}
+use Rattle.law_kept_images.specs.LastImage.{journal_of, last_image}
+use Rattle.law_concurrent.specs.CameTo.{CameTo, RunResult}
+use Rattle.law_concurrent.specs.InOrder.{IsAcceptedBehind, RanInOneOrder, digests_shown}
+use Rattle.law_concurrent.specs.Threads.{HasJoined}
+use Rattle.law_concurrent.proofs.Behind.{along, held_before}
+use Rattle.law_concurrent.proofs.Images.{all_images, all_shown, whole_image}
+use Rattle.law_concurrent.proofs.Orders.{by_other}
+use Rattle.law_concurrent.proofs.Sessions.{are_named, is_said, names_are}
+
+-- ---- the laws that are used
+
+abbrev pub JoinedAgree : Type 0
+JoinedAgree = (v : Server) (cells : List Cell) (w : Written) (ws : List Written) → IsJoined v cells (w ∷ ws) → KnewThatOver w ws → NamesApart (names_in (transcripts_in (w ∷ ws)))
+    → (ledger : LedgerCell) → get_elem? cells ledger_at ≡ some (Ledger ledger) → RanTogether v (w ∷ ws) ledger
+
+abbrev pub MeaningsAgree : Type 0
+MeaningsAgree = (h : List ℕ → List ℕ) (reads : Reading) (q r : Meaning) → IsMeaning h reads q → IsMeaning h reads r
+    → (database : Text) (input : List InputSession) (setup : Option ℕ) (X : List Transcript) (J : List JournalItem) (G : List Digest) → Agree q database input setup X J G → Agree r database input setup X J G
+
+abbrev pub MeaningsShow : Type 0
+MeaningsShow = (h : List ℕ → List ℕ) (reads : Reading) (q r : Meaning) → IsMeaning h reads q → IsMeaning h reads r → (x : Transcript) → facts_of q x ≡ facts_of r x
+
+abbrev pub ImagesVerify : Type 0
+ImagesVerify = (h : List ℕ → List ℕ) (j : Journal) (m : ℕ) (digests : List HeldDigest) → IsLegalJournal statement_of j → FitsImageFormat h statement_of j.database j.items
+    → AllHeld h statement_of j.database (cut j.items m) digests → verdict_of h digests (image_bytes (image_of_cut h statement_of j.database j.items m)) ≡ Yes
+
+abbrev pub DigestsAreHeld : Type 0
+DigestsAreHeld = (h : List ℕ → List ℕ) (reads : Reading) (q : Meaning) (database : Text) (items : List JournalItem) (m : ℕ) (d : Digest)
+    → ((J : List JournalItem) (b : ℕ) → q.block_hash J b ≡ block_hash h reads J b) → IsDigest q database items d → d.block < blocks (cut items m) → IsHeld h reads database (cut items m) (held d)
+
+kept_is : (P : KeptImage → Type 0) (kept : List (List KeptImage)) (k : KeptImage) → Each (λ ks. Each P ks) kept → Some_of (In k) kept → P k
+kept_is P [] k h i = absurd i
+kept_is P (ks ∷ kept) k h i = ⊎_elim (λ (j : In k ks). each_at P ks k h.0 j) (λ j. kept_is P kept k h.1 j) i
+
+-- ---- what is left
+
+abbrev left_of : List Transcript → List (List KeptImage) → Journal → List Digest → RunResult
+left_of X kept J G = record { X = X; kept = kept; J = J; G = G }
+
+same_ledger : (k l : LedgerCell) → Ledger k ≡ Ledger l → k ≡ l
+same_ledger k l e = cc
+
+module _ (joined_agree : JoinedAgree) (meanings_agree : MeaningsAgree) (meanings_show : MeaningsShow) (verify : ImagesVerify) (are_held : DigestsAreHeld) where
+  module _ (h : List ℕ → List ℕ) (database : Text) (size : ℕ) (IsSaid : ℕ → Type 0) (input : List InputSession) (r : RunResult) (x : HasJoined h database size IsSaid input r) where
+    abbrev v : Server
+    v = x.v
+
+    abbrev l : LedgerCell
+    l = x.ledger
+
+    abbrev written : List Written
+    written = x.first ∷ x.others
+
+    abbrev X : List Transcript
+    X = transcripts_in written
+
+    abbrev J : List JournalItem
+    J = l.items
+
+    abbrev G : List Digest
+    G = l.issued
+
+    -- ---- agreement
+
+    apart : NamesApart (names_in X)
+    apart = subst NamesApart (ap (λ (i : List InputSession). map (λ s. s.name) i) (sym x.input_is) ∙ names_are X) x.apart
+
+    together : RanTogether v written l
+    together = joined_agree v x.cells x.first x.others x.joined x.knew apart l x.there
+
+    meaning : IsMeaning h statement_of v.meaning
+    meaning = record {
+      hashing = v.hashing;
+      real = subst (λ (reads : Reading). IsReal reads v.hashing v.meaning) x.serves.reading v.real;
+      hashes = λ K b. v.hashes K b ∙ ap₂ (λ (g : List ℕ → List ℕ) (reads : Reading). block_hash g reads K b) x.serves.hash x.serves.reading;
+    }
+
+    agree : Agree v.meaning database input (Some 0) X J G
+    agree = subst₂ (λ (d : Text) (i : List InputSession). Agree v.meaning d i (Some 0) X J G) x.of_database x.input_is together.agree
+
+    -- ---- the journal
+
+    formed : AreFormed l written
+    formed = record {
+      database = subst (λ (d : Text). is_database_name d ≡ true) (sym x.of_database) x.database_is_named;
+      ids = x.ids;
+      names = are_named written (subst (λ (i : List InputSession). Each (λ s. is_session_name s.name ≡ true) i) (sym x.input_is) x.sessions_are_named);
+      moments = each_weaker (λ (w : Written). Each IsSaid w.moments) (λ w. Each (λ time. is_moment time ≡ true) w.moments) (λ w said. each_weaker IsSaid (λ time. is_moment time ≡ true) x.are_moments w.moments said) written x.moments;
+    }
+
+    legal : IsLegalJournal statement_of (journal_of database J)
+    legal = subst₂ (λ (reads : Reading) (d : Text). IsLegalJournal reads (journal_of d J)) x.serves.reading x.of_database (together.legal formed)
+
+    said : (time : ℕ) → IsMomentOf written time → IsSaid time
+    said time m = is_said IsSaid written x.moments time m
+
+    -- ---- digests
+
+    st : Stands v x.joined.together.history x.cells x.joined.seats
+    st = x.joined.together.stands
+
+    of_cell : Each (IsOfCell v l) G
+    of_cell = subst (λ (c : LedgerCell). Each (IsOfCell v c) c.issued) (same_ledger st.ledger l (some-injective (Ledger st.ledger) (Ledger l) (sym st.are_cells.has_ledger ∙ x.there))) st.ledger_is_legal.digests
+
+    one_held : (m : ℕ) (d : Digest) → IsOfCut J m G d → IsHeld h statement_of database (cut J m) (held d)
+    one_held m d is = are_held h statement_of v.meaning database J m d (λ K b. meaning.real.block_hash K b ∙ meaning.hashes K b)
+        (subst (λ (name : Text). IsDigest v.meaning name J d) x.of_database (each_at (IsOfCell v l) G d of_cell is.0).is) is.1
+
+    all_held : (m : ℕ) (digests : List Digest) → Each (IsOfCut J m G) digests → AllHeld h statement_of database (cut J m) (map held digests)
+    all_held m [] e = tt
+    all_held m (d ∷ ds) e = (one_held m d e.0, all_held m ds e.1)
+
+    all_closed : Each (IsOfCut J (length J) G) G
+    all_closed = all_at (IsOfCut J (length J) G) G (λ d i. (i, subst (λ (K : List JournalItem). d.block < blocks K) (sym (take_all (length J) J (omega arith))) (each_at (IsOfCell v l) G d of_cell i).closed))
+
+    -- ---- images
+
+    accepted : (k : KeptImage) → IsImageOf h statement_of database J k → IsAccepted h database J G k
+    accepted k is digests e = ap (verdict_of h (map held digests)) is.bytes ∙ verify h (journal_of database J) k.0 (map held digests) legal x.room (all_held k.0 digests e)
+
+    abbrev images : List (List KeptImage)
+    images = map (λ w. w.images) written
+
+    are_images : Each (λ kept. Each (IsImageOf h statement_of database J) kept) images
+    are_images = all_images h statement_of database v x.serves l x.of_database written together.images
+
+    last_accepted : IsAccepted h database J G (last_image h (journal_of database J))
+    last_accepted = accepted (last_image h (journal_of database J)) (whole_image h statement_of database J)
+
+    -- ---- in one order
+
+    all_hashed : (order : List SessionFact) → AreInOneOrder v.meaning (Some 0) X J order → Each (λ f. ShowsHash v.meaning J f.1) order
+    all_hashed order is = along v.meaning (Some 0) X J order is (ShowsHash v.meaning J) agree.digests_are_the_journals.shown
+
+    its_image : (k : KeptImage) → Some_of (In k) images → IsImageOf h statement_of database J k
+    its_image k i = kept_is (IsImageOf h statement_of database J) images k are_images i
+
+    behind : (order earlier later : List SessionFact) (name : Text) (k : KeptImage) → AreInOneOrder v.meaning (Some 0) X J order → Some_of (In k) images → order ≡ earlier ++ (name, image k.0) ∷ later → IsAcceptedBehind h database earlier k
+    behind order earlier later name k is i e digests all = ap (verdict_of h digests) (its_image k i).bytes ∙ verify h (journal_of database J) k.0 digests legal x.room
+        (each_weaker (λ (d : HeldDigest). In d (digests_shown database earlier)) (IsHeld h statement_of database (cut J k.0))
+        (λ d n. each_at (IsHeld h statement_of database (cut J k.0)) (digests_shown database earlier) d
+        (held_before h statement_of v.meaning database J k.0 (λ K b. meaning.real.block_hash K b ∙ meaning.hashes K b) order earlier later name e (all_hashed order is) is.images) n) digests all)
+
+    in_order : RanInOneOrder h v.meaning database X images J
+    in_order = record {
+      order = together.in_order.order;
+      is = together.in_order.is;
+      accepted = λ earlier later name k i e. behind together.in_order.order earlier later name k together.in_order.is i e;
+    }
+
+    in_order_by : (q : Meaning) → IsMeaning h statement_of q → RanInOneOrder h q database X images J
+    in_order_by q m = record {
+      order = in_order.order;
+      is = by_other v.meaning q (meanings_show h statement_of v.meaning q meaning m) 0 X J in_order.order in_order.is;
+      accepted = in_order.accepted;
+    }
+
+    came_to : CameTo h database size IsSaid input (left_of X images (journal_of database J) G)
+    came_to = record {
+      agree = λ q m. meanings_agree h statement_of v.meaning q meaning m database input (Some 0) X J G agree;
+      in_order = in_order_by;
+      legal = legal;
+      of_database = refl;
+      closings = subst (λ (n : ℕ). Each (FitsBlock n) J) x.of_size together.closings;
+      times = each_weaker (IsMomentOf written) IsSaid said (times J) together.times;
+      made = each_weaker (λ (d : Digest). IsMomentOf written d.made) (λ d. IsSaid d.made) (λ d m. said d.made m) G together.made;
+      shown = λ q m. all_shown v l q (meanings_show h statement_of v.meaning q meaning m) written together.images;
+      are_images = are_images;
+      accepted = each_weaker (λ (kept : List KeptImage). Each (IsImageOf h statement_of database J) kept) (λ kept. Each (IsAccepted h database J G) kept)
+          (λ kept e. each_weaker (IsImageOf h statement_of database J) (IsAccepted h database J G) accepted kept e) images are_images;
+      last_accepted = last_accepted;
+      all_accepted = last_accepted G all_closed;
+    }
+
+    -- ---- and that is left
+
+    same_journal : journal_of database J ≡ r.J
+    same_journal = ap (λ (d : Text). journal_of d J) (sym x.of_database) ∙ sym x.journal
+
+    same_left : left_of X images (journal_of database J) G ≡ r
+    same_left = ap₂ (λ (Y : List Transcript) (kept : List (List KeptImage)). left_of Y kept (journal_of database J) G) (sym x.transcripts) (sym x.kept)
+        ∙ ap₂ (λ (j : Journal) (H : List Digest). left_of r.X r.kept j H) same_journal (sym x.digests)
+
+    pub comes_to : CameTo h database size IsSaid input r
+    comes_to = subst (CameTo h database size IsSaid input) same_left came_to

@@ -1,0 +1,6 @@
+pub mod CameTo
+pub mod InOrder
+pub mod Joined
+pub mod Threads
+pub mod Together
+pub use Rattle.law_kept_images.specs.Held

@@ -1,0 +1,4 @@
+mod Before
+mod Bound
+mod Saved
+mod Shown

@@ -1,0 +1,9 @@
+pub mod Accepts
+mod Closed
+pub use Rattle.law_sequential.proofs.InSessionOrder
+pub use Rattle.law_sequential.proofs.JournalKept
+pub use Rattle.law_sequential.proofs.KeptImages
+pub use Rattle.law_sequential.proofs.RanFirst
+pub use Rattle.law_sequential.proofs.Reorders
+pub use Rattle.law_sequential.proofs.SameNames
+pub use Rattle.law_sequential.proofs.TheEnd

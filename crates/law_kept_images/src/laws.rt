@@ -1,0 +1,60 @@
+//! Laws of the images that were kept.
+
+ghost use Rattle.std.specs.Prelude.{ℕ, ◌≡◌, List, length, map};
+ghost use Rattle.sql_types.specs.declared.digest.Digest.{Digest};
+ghost use Rattle.sql_types.specs.declared.journal.JournalItem.{JournalItem};
+ghost use Rattle.spec_model.specs.LegalJournals.{IsLegalJournal};
+ghost use Rattle.spec_history.specs.Inputs.{InputLine};
+ghost use Rattle.spec_history.specs.Lists.{Text, Each};
+ghost use Rattle.spec_history.specs.Transcripts.{Transcript};
+ghost use Rattle.spec_syntax.specs.Text.{statement_of};
+ghost use Rattle.format_image.specs.Image.{image_of};
+ghost use Rattle.format_image.specs.ImageBytes.{image_bytes};
+ghost use Rattle.law_accepts.specs.Room.{FitsImageFormat};
+ghost use Rattle.spec_verify.specs.declared.place.Verdict.TheVariants.{Yes};
+ghost use Rattle.spec_verify.specs.Bytes.{verdict_of};
+ghost use Rattle.law_accepts.specs.Held.{held};
+ghost use Rattle.spec_protocol.specs.Seats.{KeptImage};
+ghost use Rattle.law_sequential.specs.SessionOutput.{RunAgrees};
+ghost use Rattle.law_kept_images.specs.Accepted.{IsAccepted, IsAcceptedIfEncodable};
+
+use law_accepts::{
+    digests_are_held_where_their_blocks_are_closed, images_of_legal_journals_verify,
+};
+
+/// Where texts are read as the parser reads them and the journal of a run is legal: each image that a session
+/// of the run kept is accepted with any digests that were issued in the run, of blocks that are closed in it,
+/// where the image has a spelling in the format; it has one where the whole journal has room in it. Where it
+/// has, the image of the whole journal is accepted so too, and with all digests at once.
+pub fn kept_images_are_accepted()
+    ensures spelled { (h : List ℕ → List ℕ) (database : Text) (size : ℕ) (names : List Text)
+        (lines : List InputLine) (X : List Transcript) (images : List (List KeptImage))
+        (J : List JournalItem) (G : List Digest)
+        → RunAgrees h statement_of database size names lines X images J G
+        → IsLegalJournal statement_of (record { database = database; items = J })
+        → Each (λ kept. Each (IsAcceptedIfEncodable h database J G) kept) images }
+    ensures room { (h : List ℕ → List ℕ) (database : Text) (size : ℕ) (names : List Text)
+        (lines : List InputLine) (X : List Transcript) (images : List (List KeptImage))
+        (J : List JournalItem) (G : List Digest)
+        → RunAgrees h statement_of database size names lines X images J G
+        → IsLegalJournal statement_of (record { database = database; items = J })
+        → FitsImageFormat h statement_of database J
+        → Each (λ kept. Each (IsAccepted h database J G) kept) images }
+    ensures whole { (h : List ℕ → List ℕ) (database : Text) (size : ℕ) (names : List Text)
+        (lines : List InputLine) (X : List Transcript) (images : List (List KeptImage))
+        (J : List JournalItem) (G : List Digest)
+        → RunAgrees h statement_of database size names lines X images J G
+        → IsLegalJournal statement_of (record { database = database; items = J })
+        → FitsImageFormat h statement_of database J
+        → IsAccepted h database J G (length J, image_bytes (image_of h statement_of database J)) }
+    ensures all { (h : List ℕ → List ℕ) (database : Text) (size : ℕ) (names : List Text)
+        (lines : List InputLine) (X : List Transcript) (images : List (List KeptImage))
+        (J : List JournalItem) (G : List Digest)
+        → RunAgrees h statement_of database size names lines X images J G
+        → IsLegalJournal statement_of (record { database = database; items = J })
+        → FitsImageFormat h statement_of database J
+        → verdict_of h (map held G) (image_bytes (image_of h statement_of database J)) ≡ Yes }
+{
+    images_of_legal_journals_verify();
+    digests_are_held_where_their_blocks_are_closed();
+}

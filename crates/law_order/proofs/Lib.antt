@@ -1,0 +1,5 @@
+mod Counts
+mod Holders
+mod ImagesInOrder
+pub mod InOrder
+mod Parts

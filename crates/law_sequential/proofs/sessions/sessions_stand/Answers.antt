@@ -1,0 +1,8 @@
+use Rattle.law_sequential.proofs.SessionsStand.{sessions_stand_first, one_session_more}
+use Rattle.law_sequential.proofs.sessions.sessions_stand.Goals as goal
+
+pub returns : goal.returns
+returns g = record {
+  first = λ v database size least most. sessions_stand_first v database size least most;
+  more = λ v database size phase lines moments told cells states c quiet name. one_session_more c quiet name;
+}

@@ -1,0 +1,7 @@
+pub mod SequentialRun
+pub mod EndsLast
+pub mod InStep
+pub mod Outcome
+pub mod Sessions
+pub mod SessionOutput
+pub mod Wrote

@@ -1,0 +1,17 @@
+pub mod Levels
+mod Terminals
+mod Leaves
+mod NotEqual
+mod Steps
+mod ExprSound
+mod RowSound
+mod TableSound
+mod LedgerSound
+mod StmtSound
+mod ExprFalls
+mod ExprComplete
+mod ParsesTo
+mod RowComplete
+mod TableComplete
+mod LedgerComplete
+pub mod StmtComplete

@@ -1,0 +1,3 @@
+pub use Rattle.spec_grammar.specs.Statements
+pub use Rattle.spec_syntax.specs.Parsed
+pub use Rattle.spec_syntax.specs.Text

@@ -1,0 +1,4 @@
+pub mod Input
+pub mod Statements
+pub mod Tables
+pub mod Turns

@@ -1,8 +1,0 @@
-pub mod Adapters
-pub mod Count
-pub mod Entries
-pub mod Fakes
-pub mod History
-pub mod Outside
-pub mod Plan
-pub mod Store

@@ -1,4 +1,0 @@
-mod Seconds
-mod FourTables
-mod Telling
-mod Plans

@@ -1,5 +1,0 @@
-use Rattle.lg_types.specs.declared.reply.Reply.TheVariants as reply
-use Rattle.lg_catalog.proofs.laws.stopping_is_a_visit.Goals as goal
-
-pub returns : goal.returns
-returns c = λ v cell s t o at e begin stopped seat. record { o = o; at = at; at_begin = begin; r = reply.Refused e; stopped = stopped; seat = seat }

@@ -1,6 +1,0 @@
-use Rattle.std.proofs.Common.{◌≡◌, take, map}
-use Rattle.lg_row.specs.Leaf.{event_bytes}
-use Rattle.lg_catalog.proofs.rows.leaves_of.Given as goal
-
-abbrev pub invariant-loop-event : goal.invariant-loop-event
-invariant-loop-event l = l.leaves.items ≡ map event_bytes (take l.event-index l.events)

@@ -1,5 +1,0 @@
-pub mod Known
-pub mod Spelled
-pub use Rattle.lg_snapshot.proofs.Entries
-pub use Rattle.lg_server.proofs.CellsShow
-pub use Rattle.lg_server.proofs.Servers

@@ -1,8 +1,0 @@
-use Rattle.std.proofs.Common.{◌≡◌}
-use Rattle.lg_committed.specs.Known.{has_in}
-use Rattle.lg_server.specs.CellsImage.{committed_tables}
-use Rattle.lg_cells_image.proofs.tables.with_versions.Given as goal
-
-abbrev pub invariant-loop-def : goal.invariant-loop-def
-invariant-loop-def g l =
-    l.tables.items ≡ committed_tables (has_in l.known) (g.C.ShownCells.cells l.cells) l.yielded

@@ -1,3 +1,0 @@
-pub mod Leads
-pub use Rattle.lg_snapshot.specs.Room
-pub use Rattle.lg_server.specs.CellsImage

@@ -1,7 +1,0 @@
-use Rattle.std.proofs.Common.{◌≡◌, map}
-use Rattle.lg_model.specs.Rows.{stored_row}
-use Rattle.lg_model.specs.Changes as spec
-use Rattle.lg_changes.proofs.changes.starts.Given as goal
-
-abbrev pub invariant-loop-row : goal.invariant-loop-row
-invariant-loop-row l = l.changes ≡ map (λ row. spec.Starts (stored_row l.fn.columns row)) l.yielded

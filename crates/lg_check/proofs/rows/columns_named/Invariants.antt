@@ -1,8 +1,0 @@
-use Rattle.std.proofs.Common.{◌≡◌, ◌++◌, drop, map, filter_map}
-use Rattle.lg_model.specs.Columns as spec_columns
-use Rattle.lg_check.proofs.rows.columns_named.Given as goal
-
-abbrev pub invariant-loop-name : goal.invariant-loop-name
-invariant-loop-name l =
-    map (λ c. c.now) l.listed.items ++ filter_map (spec_columns.column_of l.columns) (drop l.name-index l.names)
-    ≡ filter_map (spec_columns.column_of l.columns) l.names

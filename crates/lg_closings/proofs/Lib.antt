@@ -1,9 +1,0 @@
-pub mod Counting
-pub mod Digests
-pub mod Roots
-pub mod Staying
-pub use Rattle.lg_history.proofs.Alls
-pub use Rattle.lg_history.proofs.LeftRows
-pub use Rattle.lg_history.proofs.SameKeys
-pub use Rattle.lg_history.proofs.UndoneVersions
-pub use Rattle.lg_ledger.proofs.Adding

@@ -1,5 +1,0 @@
-use Rattle.lg_closings.proofs.Digests.{digest_is}
-use Rattle.lg_closings.proofs.laws.digests_are_of_closed_blocks.Goals as goal
-
-pub returns : goal.returns
-returns c = λ h reads q database J b made hashes legal lt. digest_is reads h q database J b made hashes legal lt

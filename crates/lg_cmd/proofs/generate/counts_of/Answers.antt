@@ -1,6 +1,0 @@
-use Rattle.std.proofs.Common.{◌∙◌}
-use Rattle.lg_cmd.proofs.ReportLemmas.{three_lines}
-use Rattle.lg_cmd.proofs.generate.counts_of.Goals as goal
-
-pub returns : goal.returns
-returns c = c.in_ok-format.ensures.ok ∙ three_lines c.args.report.transactions c.args.report.rows c.args.report.history

@@ -1,6 +1,0 @@
-use Rattle.std.proofs.Common.{◌≡◌, map}
-use Rattle.lg_cmd.specs.Run.{cut_file}
-use Rattle.lg_cmd.proofs.saved.cut_files.Given as goal
-
-abbrev pub invariant-loop-image : goal.invariant-loop-image
-invariant-loop-image l = l.files ≡ map (cut_file l.fn.save) l.yielded

@@ -1,5 +1,0 @@
-use Rattle.lg_counters.proofs.Counted.{two_counts}
-use Rattle.lg_counters.proofs.world.totals_of.Goals as goal
-
-pub returns : goal.returns
-returns c = two_counts c.args.counters.now _ _ c.requires

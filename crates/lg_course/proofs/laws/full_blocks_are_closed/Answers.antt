@@ -1,5 +1,0 @@
-use Rattle.lg_course.proofs.Goes.{close_more}
-use Rattle.lg_course.proofs.laws.full_blocks_are_closed.Goals as goal
-
-pub returns : goal.returns
-returns g = λ v database size phase names lines cells seats c j s there quiet l lies is_full k d closes. close_more c j s there quiet l lies is_full k d closes

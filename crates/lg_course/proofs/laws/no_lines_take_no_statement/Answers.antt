@@ -1,8 +1,0 @@
-use Rattle.lg_course.proofs.Goes.{all_silent, may_silent}
-use Rattle.lg_course.proofs.laws.no_lines_take_no_statement.Goals as goal
-
-pub returns : goal.returns
-returns g = record {
-  alone = λ v s t steps e. all_silent steps e;
-  visits = λ v s out i c t m e. may_silent m e;
-}

@@ -1,5 +1,0 @@
-use Rattle.lg_course.proofs.Goes.{session_more}
-use Rattle.lg_course.proofs.laws.sessions_begin.Goals as goal
-
-pub returns : goal.returns
-returns g = λ v database size phase names lines cells seats c parent there present quiet name. session_more c parent there present quiet name

@@ -1,5 +1,0 @@
-use Rattle.lg_course.proofs.Goes.{ends_now}
-use Rattle.lg_course.proofs.laws.sessions_end.Goals as goal
-
-pub returns : goal.returns
-returns g = λ v database size names lines cells seats c. ends_now c

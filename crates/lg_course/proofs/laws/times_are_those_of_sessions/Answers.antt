@@ -1,5 +1,0 @@
-use Rattle.lg_course.proofs.Told.{times_are, made_are}
-use Rattle.lg_course.proofs.laws.times_are_those_of_sessions.Goals as goal
-
-pub returns : goal.returns
-returns g = λ v database size names lines moments X images J G e. (times_are e, made_are e)

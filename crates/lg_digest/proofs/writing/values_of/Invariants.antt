@@ -1,6 +1,0 @@
-use Rattle.std.proofs.Common.{take}
-use Rattle.lg_digest.specs.Writing.{AreValues}
-use Rattle.lg_digest.proofs.writing.values_of.Given as goal
-
-abbrev pub invariant-loop-digest : goal.invariant-loop-digest
-invariant-loop-digest l = AreValues (take l.digest-index l.list) l.values.items

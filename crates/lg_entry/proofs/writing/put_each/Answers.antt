@@ -1,5 +1,0 @@
-use Rattle.lg_entry.proofs.Growing.{first_stands}
-use Rattle.lg_entry.proofs.writing.put_each.Goals as goal
-
-pub returns-in_err-put_root-clause-grows : goal.returns-in_err-put_root-clause-grows
-returns-in_err-put_root-clause-grows c = first_stands c.args.out.now.items _ c.loop-root.out.items c.put_root.new.out.items c.loop-root.invariant c.put_root.ensures.grows

@@ -1,5 +1,0 @@
-use Rattle.lg_items.proofs.Names.{session_short}
-use Rattle.lg_entry.proofs.writing.put_head.Goals as goal
-
-pub put_short-requires : goal.put_short-requires
-put_short-requires c = rw c.bytes.ensures.value (session_short c.args.entry.now.principal c.requires.principal)

@@ -1,4 +1,0 @@
-pub mod Arithmetic
-pub mod Operators
-pub mod Rows
-pub mod Seen

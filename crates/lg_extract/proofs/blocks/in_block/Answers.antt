@@ -1,7 +1,0 @@
-use Rattle.std.proofs.Common.{refl, sym, ◌∙◌}
-use Rattle.lg_extract.proofs.Parted.{same_entries}
-use Rattle.lg_extract.proofs.blocks.in_block.Goals as goal
-
-pub returns-then-are_same : goal.returns-then-are_same
-returns-then-are_same g c =
-    same_entries c.args.a.now c.args.b.now _ _ c.requires.fit_a c.requires.fit_b c.in_ok-first.ensures c.in_ok-second.ensures (sym c.deref.ensures.value ∙ c.if-are_same.ensures.same refl ∙ c.deref-2.ensures.value)

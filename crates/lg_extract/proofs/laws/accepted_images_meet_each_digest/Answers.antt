@@ -1,5 +1,0 @@
-use Rattle.lg_extract.proofs.Accepted.{accepted}
-use Rattle.lg_extract.proofs.laws.accepted_images_meet_each_digest.Goals as goal
-
-pub returns : goal.returns
-returns c = accepted

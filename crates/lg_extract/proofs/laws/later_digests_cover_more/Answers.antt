@@ -1,5 +1,0 @@
-use Rattle.lg_extract.proofs.EachDigest.{earlier}
-use Rattle.lg_extract.proofs.laws.later_digests_cover_more.Goals as goal
-
-pub returns : goal.returns
-returns c = earlier

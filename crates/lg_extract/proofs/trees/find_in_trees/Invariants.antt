@@ -1,9 +1,0 @@
-use Rattle.std.proofs.Common.{length}
-use Rattle.lg_extract.proofs.Halves.{Sought}
-use Rattle.lg_extract.proofs.trees.find_in_trees.Given as goal
-
-abbrev pub invariant-halves : goal.invariant-halves
-invariant-halves g l = Sought (g.H.Hash32.digest l.fn.h) l.a l.b
-
-abbrev pub decreases-halves : goal.decreases-halves
-decreases-halves g l = length l.a

@@ -1,6 +1,0 @@
-use Rattle.std.proofs.Common.{take}
-use Rattle.lg_merkle.specs.Holds.{Holds}
-use Rattle.lg_extract.proofs.trees.root_of.Given as goal
-
-abbrev pub invariant-loop-leaf : goal.invariant-loop-leaf
-invariant-loop-leaf g l = Holds g.H.Hash32.digest l.fn.h l.tree (take l.leaf-index l.leaves)

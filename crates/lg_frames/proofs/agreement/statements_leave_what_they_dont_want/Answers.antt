@@ -1,5 +1,0 @@
-use Rattle.lg_frames.proofs.LeftTables.{left_key, left_table}
-use Rattle.lg_frames.proofs.agreement.statements_leave_what_they_dont_want.Goals as goal
-
-pub returns : goal.returns
-returns c = record { keys = λ T tx seq id key stmt sound h. left_key tx seq T id sound key stmt h; tables = λ T tx seq id stmt h. left_table tx seq T id stmt h }

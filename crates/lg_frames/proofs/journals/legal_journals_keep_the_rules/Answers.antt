@@ -1,5 +1,0 @@
-use Rattle.lg_frames.proofs.LegalRules as laws
-use Rattle.lg_frames.proofs.journals.legal_journals_keep_the_rules.Goals as goal
-
-pub returns : goal.returns
-returns c = record { ids = laws.legal_ids; closes = laws.legal_closes; journal = laws.legal_rules }

@@ -1,5 +1,0 @@
-use Rattle.lg_frames.proofs.LegalSound.{legal_sound}
-use Rattle.lg_frames.proofs.runs.legal_journals_lead_to_sound_tables.Goals as goal
-
-pub returns : goal.returns
-returns c = legal_sound

@@ -1,5 +1,0 @@
-use Rattle.lg_frames.proofs.ChangesMade.{script_made}
-use Rattle.lg_frames.proofs.scripts.opened_scripts_are_their_changes.Goals as goal
-
-pub returns : goal.returns
-returns c = record { tables = λ reads T tx texts. (script_made tx T reads texts).tables; counter = λ reads T tx texts. (script_made tx T reads texts).count }

@@ -1,5 +1,0 @@
-use Rattle.lg_frames.proofs.UndoneTables.{whole_undone, part_undone}
-use Rattle.lg_frames.proofs.undo.undo_by_number_takes_a_statement_back.Goals as goal
-
-pub returns : goal.returns
-returns c = record { whole = whole_undone; part = part_undone }

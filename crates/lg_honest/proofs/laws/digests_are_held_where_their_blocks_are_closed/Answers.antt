@@ -1,5 +1,0 @@
-use Rattle.lg_honest.proofs.Whole.{held_at, issued_at}
-use Rattle.lg_honest.proofs.laws.digests_are_held_where_their_blocks_are_closed.Goals as goal
-
-pub returns : goal.returns
-returns c = record { issued = issued_at; agreed = held_at }

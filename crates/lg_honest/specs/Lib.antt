@@ -1,2 +1,0 @@
-pub mod Held
-pub use Rattle.lg_images.specs.Room

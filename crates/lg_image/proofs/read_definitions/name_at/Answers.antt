@@ -1,6 +1,0 @@
-use Rattle.std.proofs.Common.{rules}
-use Rattle.lg_image.proofs.ProperNames.{proper_utf8}
-use Rattle.lg_image.proofs.read_definitions.name_at.Goals as goal
-
-pub of-requires : goal.of-requires
-of-requires c = proper_utf8 c.in_ok-name.name.now (search rules)

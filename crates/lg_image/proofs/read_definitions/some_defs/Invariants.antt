@@ -1,8 +1,0 @@
-use Rattle.std.proofs.Common.{◌≡◌, ◌-◌}
-use Rattle.lg_bytes.specs.Readers.{times}
-use Rattle.lg_bytes.proofs.Loops.{with_front}
-use Rattle.lg_image.specs.ImageReading.{def_at}
-use Rattle.lg_image.proofs.read_definitions.some_defs.Given as goal
-
-abbrev pub invariant-loop : goal.invariant-loop
-invariant-loop l = with_front def_at l.defs (times def_at (l.count - l.counter) l.rest) ≡ times def_at l.count l.bytes

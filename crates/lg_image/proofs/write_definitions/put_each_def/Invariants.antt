@@ -1,6 +1,0 @@
-use Rattle.std.proofs.Common.{◌≡◌, ◌++◌, take, flat_map}
-use Rattle.lg_image.specs.DefBytes.{def_bytes}
-use Rattle.lg_image.proofs.write_definitions.put_each_def.Given as goal
-
-abbrev pub invariant-loop-def : goal.invariant-loop-def
-invariant-loop-def l = l.out.items ≡ l.initial.out.items ++ flat_map def_bytes (take l.def-index l.defs)

@@ -1,7 +1,0 @@
-use Rattle.std.proofs.Common.{arith}
-use Rattle.std.proofs.lemmas.Grind.{common_steps}
-use Rattle.lg_input.proofs.Said.{line_read}
-use Rattle.lg_input.proofs.lines.read_lines.Goals as goal
-
-pub loop-rest-preserved-in_ok-push : goal.loop-rest-preserved-in_ok-push
-loop-rest-preserved-in_ok-push c = (grind (arith, common_steps, line_read), grind (arith, common_steps), omega arith, omega arith)

@@ -1,5 +1,0 @@
-use Rattle.lg_invariants.proofs.Tables.{kept_changed}
-use Rattle.lg_invariants.proofs.laws.fine_changes_keep.Goals as goal
-
-pub returns : goal.returns
-returns c = λ place T tx seq change k fine. kept_changed place tx seq change T k fine

@@ -1,5 +1,0 @@
-use Rattle.lg_invariants.proofs.Serials.{legal_tables, legal_described}
-use Rattle.lg_invariants.proofs.laws.legal_journals_keep.Goals as goal
-
-pub returns : goal.returns
-returns c = record { tables = legal_tables; described = legal_described }

@@ -1,2 +1,0 @@
-mod Meets
-mod Same

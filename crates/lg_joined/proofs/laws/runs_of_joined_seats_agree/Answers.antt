@@ -1,5 +1,0 @@
-use Rattle.lg_joined.proofs.Meets.{comes_to}
-use Rattle.lg_joined.proofs.laws.runs_of_joined_seats_agree.Goals as goal
-
-pub returns : goal.returns
-returns c = λ v cells w ws joined knew apart ledger there. comes_to v cells w ws joined knew apart ledger there

@@ -1,9 +1,0 @@
-use Rattle.std.proofs.Common.{◌≡◌, ◌-◌}
-use Rattle.lg_bytes.specs.Readers.{times}
-use Rattle.lg_bytes.proofs.Loops.{with_front}
-use Rattle.lg_journal.specs.JournalReading.{item_at}
-use Rattle.lg_journal.proofs.reading.some_items.Given as goal
-
-abbrev pub invariant-loop : goal.invariant-loop
-invariant-loop l =
-    with_front item_at l.items (times item_at (l.count - l.counter) l.rest) ≡ times item_at l.count l.bytes

@@ -1,8 +1,0 @@
-use Rattle.std.proofs.Common.{take}
-use Rattle.std.specs.List.{AllByRecursion}
-use Rattle.lg_journal.specs.Rules.{IsStatement}
-use Rattle.lg_journal.proofs.spelled.are_statements.Given as goal
-
--- so it is of the statements so far
-abbrev pub invariant-loop-statement : goal.invariant-loop-statement
-invariant-loop-statement l = AllByRecursion IsStatement (take l.statement-index l.script)

@@ -1,2 +1,0 @@
-pub mod Accepts
-mod Closed

@@ -1,9 +1,0 @@
-//! The images that the sessions of a run kept are accepted.
-#![tactic(auto)]
-
-mod laws;
-
-pub use laws::kept_images_are_accepted;
-pub use lg_honest::{
-    digests_are_held_where_their_blocks_are_closed, images_of_legal_journals_verify,
-};

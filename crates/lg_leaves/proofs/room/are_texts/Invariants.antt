@@ -1,6 +1,0 @@
-use Rattle.std.proofs.Common.{take}
-use Rattle.lg_leaves.specs.Room.{AreTexts}
-use Rattle.lg_leaves.proofs.room.are_texts.Given as goal
-
-abbrev pub invariant-loop-column : goal.invariant-loop-column
-invariant-loop-column l = AreTexts (take l.column-index l.columns)

@@ -1,5 +1,0 @@
-use Rattle.lg_locks.proofs.Steps.{back_restores}
-use Rattle.lg_locks.proofs.laws.back_undoes_an_ask.Goals as goal
-
-pub returns : goal.returns
-returns c = back_restores

@@ -1,3 +1,0 @@
-mod Agrees
-mod Real
-mod Same

@@ -1,5 +1,0 @@
-use Rattle.lg_model.proofs.Missing as laws
-use Rattle.lg_model.proofs.expressions.missing_columns_come_first.Goals as goal
-
-pub returns : goal.returns
-returns c = record { missing = laws.missing; others = laws.others; there = laws.there }

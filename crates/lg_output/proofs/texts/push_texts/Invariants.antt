@@ -1,7 +1,0 @@
-use Rattle.std.proofs.Common.{◌≡◌, ◌++◌, take, string_bytes}
-use Rattle.lg_output.specs.Joined.{joined}
-use Rattle.lg_output.proofs.texts.push_texts.Given as goal
-
--- those so far are there
-abbrev pub invariant-loop-text : goal.invariant-loop-text
-invariant-loop-text l = string_bytes l.out ≡ string_bytes l.initial.out ++ joined (take l.text-index l.texts)

@@ -1,7 +1,0 @@
-use Rattle.std.proofs.Common.{◌≡◌}
-use Rattle.lg_value.specs.declared.expr.Expr.TheVariants.{Neg}
-use Rattle.lg_parse.specs.Expr.{times}
-use Rattle.lg_parse.proofs.expr.negations.Given as goal
-
-abbrev pub invariant-loop-turn : goal.invariant-loop-turn
-invariant-loop-turn l = l.e ≡ times l._turn Neg l.fn.e

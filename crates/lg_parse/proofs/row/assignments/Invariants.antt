@@ -1,7 +1,0 @@
-use Rattle.std.proofs.Common.{◌≡◌, ◌-◌}
-use Rattle.lg_parse.specs.Input.{list, list_from}
-use Rattle.lg_parse.specs.Row.{assignment}
-use Rattle.lg_parse.proofs.row.assignments.Given as goal
-
-abbrev pub invariant-loop-turn : goal.invariant-loop-turn
-invariant-loop-turn l = list assignment l.fn.c ≡ list_from assignment (l._turn-end - l._turn) l.found l.c

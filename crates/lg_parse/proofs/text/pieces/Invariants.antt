@@ -1,7 +1,0 @@
-use Rattle.std.proofs.Common.{◌≡◌, map, take}
-use Rattle.lg_parse.specs.Input.{syms}
-use Rattle.lg_parse.specs.Text.{sym_of}
-use Rattle.lg_parse.proofs.text.pieces.Given as goal
-
-abbrev pub invariant-loop-token : goal.invariant-loop-token
-invariant-loop-token l = syms l.found ≡ map (sym_of l.text) (take l.token-index l.tokens)

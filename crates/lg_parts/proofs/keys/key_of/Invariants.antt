@@ -1,6 +1,0 @@
-use Rattle.std.proofs.Common.{◌≡◌, take, map}
-use Rattle.lg_model.specs.Keys.{value_at}
-use Rattle.lg_parts.proofs.keys.key_of.Given as goal
-
-abbrev pub invariant-loop-place : goal.invariant-loop-place
-invariant-loop-place l = l.key.items ≡ map (value_at l.row) (take l.place-index l.places)

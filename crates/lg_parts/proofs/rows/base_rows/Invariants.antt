@@ -1,6 +1,0 @@
-use Rattle.std.proofs.Common.{◌≡◌, take, map}
-use Rattle.lg_model.specs.Parts.{base_row}
-use Rattle.lg_parts.proofs.rows.base_rows.Given as goal
-
-abbrev pub invariant-loop-version : goal.invariant-loop-version
-invariant-loop-version l = l.rows.items ≡ map base_row (map (λ v. v.now) (take l.version-index l.versions))

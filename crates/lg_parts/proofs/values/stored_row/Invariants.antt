@@ -1,6 +1,0 @@
-use Rattle.std.proofs.Common.{◌≡◌, ◌++◌}
-use Rattle.lg_model.specs.Rows as spec
-use Rattle.lg_parts.proofs.values.stored_row.Given as goal
-
-abbrev pub invariant-loop-column : goal.invariant-loop-column
-invariant-loop-column l = l.stored.items ++ spec.stored_row l.column-iterator.a.rest.now l.column-iterator.b.rest.items ≡ spec.stored_row l.fn.columns l.fn.row

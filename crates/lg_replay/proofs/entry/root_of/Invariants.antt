@@ -1,7 +1,0 @@
-use Rattle.std.proofs.Common.{take, map}
-use Rattle.lg_row.specs.Leaf.{event_bytes}
-use Rattle.lg_merkle.specs.Holds.{Holds}
-use Rattle.lg_replay.proofs.entry.root_of.Given as goal
-
-abbrev pub invariant-loop-event : goal.invariant-loop-event
-invariant-loop-event g l = Holds g.H.Hash32.digest l.fn.h l.tree (map event_bytes (take l.event-index l.events))

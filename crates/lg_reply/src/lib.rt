@@ -1,9 +1,0 @@
-//! The texts of replies.
-#![tactic(auto)]
-
-mod rows;
-mod text;
-mod utf8;
-
-pub use lg_types::Reply;
-pub use text::{indented_reply, reply_text};

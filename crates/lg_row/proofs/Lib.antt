@@ -1,9 +1,0 @@
-mod Growing
-mod LeafExact
-pub mod Leaves
-mod Sizes
-mod Texts
-pub mod TypeLaws
-pub mod TypedExact
-mod ValueLaws
-pub mod Told

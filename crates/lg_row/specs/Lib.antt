@@ -1,3 +1,0 @@
-pub mod Leaf
-pub mod LeafReading
-pub mod TypedBytes

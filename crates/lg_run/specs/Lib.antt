@@ -1,9 +1,0 @@
-pub mod Agreed
-pub mod CameTo
-pub mod Closing
-pub mod Finished
-pub mod Saved
-pub mod Seated
-pub mod Wrote
-pub use Rattle.lg_core.specs.Told
-pub use Rattle.lg_together.specs.Held

@@ -1,9 +1,0 @@
-use Rattle.lg_samples.proofs.Worked as laws
-use Rattle.lg_samples.proofs.samples.keys_are_locked.Goals as goal
-
-pub returns : goal.returns
-returns c = record {
-  insert_far_wants = laws.insert_far_wants;
-  read_and_inserted = laws.read_and_inserted;
-  key_locked = laws.key_locked;
-}

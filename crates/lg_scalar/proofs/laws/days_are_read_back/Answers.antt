@@ -1,6 +1,0 @@
-use Rattle.lg_value.proofs.Dates.{day_bound}
-use Rattle.lg_scalar.proofs.DayTexts.{day_read}
-use Rattle.lg_scalar.proofs.laws.days_are_read_back.Goals as goal
-
-pub returns : goal.returns
-returns c = record { read = day_read; within = day_bound }

@@ -1,5 +1,0 @@
-use Rattle.lg_seat.proofs.Ending.{ends_session}
-use Rattle.lg_seat.proofs.seat.Seat.end_session.Goals as goal
-
-pub returns-clause-ends : goal.returns-clause-ends
-returns-clause-ends g c = ends_session g.H.Hash32.digest c.args.self.now c.requires

@@ -1,5 +1,0 @@
-use Rattle.lg_seat.proofs.Keeping.{lacks_image}
-use Rattle.lg_seat.proofs.seat.Seat.keep_nothing.Goals as goal
-
-pub returns-clause-visits : goal.returns-clause-visits
-returns-clause-visits g c = lacks_image g.H.Hash32.digest c.args.self.now c.args.cells.now c.requires

@@ -1,5 +1,0 @@
-use Rattle.lg_seat.proofs.Alone.{lacks}
-use Rattle.lg_seat.proofs.seat.Seat.lack_memory.Goals as goal
-
-pub returns-clause-steps : goal.returns-clause-steps
-returns-clause-steps g c = lacks g.H.Hash32.digest c.args.self.now c.requires

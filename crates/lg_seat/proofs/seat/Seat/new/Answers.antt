@@ -1,5 +1,0 @@
-use Rattle.lg_seat.proofs.Alone.{session_begins}
-use Rattle.lg_seat.proofs.seat.Seat.new.Goals as goal
-
-pub returns-clause-begins : goal.returns-clause-begins
-returns-clause-begins g c = session_begins g.H.Hash32.digest c.args.hasher c.args.name _ c.requires

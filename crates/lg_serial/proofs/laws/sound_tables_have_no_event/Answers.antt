@@ -1,5 +1,0 @@
-use Rattle.lg_serial.proofs.Ready.{sound_new}
-use Rattle.lg_serial.proofs.laws.sound_tables_have_no_event.Goals as goal
-
-pub returns : goal.returns
-returns c = sound_new

@@ -1,5 +1,0 @@
-use Rattle.lg_server.proofs.Servers.{some_server}
-use Rattle.lg_server.proofs.laws.there_is_such_a_server.Goals as goal
-
-pub returns : goal.returns
-returns c = some_server

@@ -1,7 +1,0 @@
-use Rattle.std.proofs.Common.{◌≡◌, map}
-use Rattle.lg_image.specs.Image.{user_defs}
-use Rattle.lg_image.specs.Rows.{table_rows}
-use Rattle.lg_snapshot.proofs.parts.split.Given as goal
-
-abbrev pub invariant-loop-table : goal.invariant-loop-table
-invariant-loop-table l = (l.defs.items ≡ user_defs l.yielded) × (l.all_rows.items ≡ map table_rows l.yielded)

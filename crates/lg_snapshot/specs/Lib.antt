@@ -1,1 +1,0 @@
-pub use Rattle.lg_images.specs.Room

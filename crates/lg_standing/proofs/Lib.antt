@@ -1,9 +1,0 @@
-pub mod LedgerNumbers
-pub mod NewEvents
-pub mod Places
-pub use Rattle.lg_closings.proofs.Adding
-pub use Rattle.lg_closings.proofs.Counting
-pub use Rattle.lg_closings.proofs.Roots
-pub use Rattle.lg_closings.proofs.Staying
-pub use Rattle.lg_invariants.proofs.Created
-pub use Rattle.lg_invariants.proofs.DefLists

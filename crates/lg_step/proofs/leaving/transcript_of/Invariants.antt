@@ -1,6 +1,0 @@
-use Rattle.std.proofs.Common.{◌≡◌, map, take}
-use Rattle.lg_step.proofs.leaving.transcript_of.Given as goal
-
--- those of the sessions so far
-abbrev pub invariant-loop-session : goal.invariant-loop-session
-invariant-loop-session g l = map (λ t. t.now) l.texts.items ≡ map (λ y. y.entries) (take l.session-index l.sessions)

@@ -1,6 +1,0 @@
-use Rattle.std.proofs.Common.{◌∙◌}
-use Rattle.lg_step.proofs.Places.{as_many_before}
-use Rattle.lg_step.proofs.number.number_of.Goals as goal
-
-pub returns : goal.returns
-returns c = c.others_before.ensures ∙ as_many_before c.args.name.now c.args.sessions.now

@@ -1,6 +1,0 @@
-use Rattle.std.proofs.Common.{◌≡◌, ◌++◌, drop, map}
-use Rattle.lg_model.specs.Rows.{live}
-use Rattle.lg_table.proofs.building.live_versions.Given as goal
-
-abbrev pub invariant-loop-version : goal.invariant-loop-version
-invariant-loop-version l = map (λ v. v.now) l.found.items ++ live (drop l.version-index l.versions) ≡ live l.versions

@@ -1,7 +1,0 @@
-use Rattle.lg_table.proofs.Noted.{noting_one}
-use Rattle.lg_table.proofs.noting.note_all.Goals as goal
-
-pub loop-leaf-preserved : goal.loop-leaf-preserved
-loop-leaf-preserved g c =
-    noting_one g.H.Hash32.digest c.args.table c.args.leaves.now c.args.ctx.now c.requires c.loop-leaf.leaf-index c.loop-leaf.ctx c.loop-leaf-test.true c.loop-leaf.invariant
-    c.note.new.self c.bytes.result.now c.leaf-item.result c.bytes.ensures c.leaf-item.is c.note.ensures.noted c.note.ensures.open

@@ -1,4 +1,0 @@
-mod Comes
-mod Images
-pub mod Said
-mod Sessions

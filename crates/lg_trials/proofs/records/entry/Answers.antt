@@ -1,5 +1,0 @@
-use Rattle.lg_trials.proofs.Found.{is_entry}
-use Rattle.lg_trials.proofs.records.entry.Goals as goal
-
-pub entry_found-requires : goal.entry_found-requires
-entry_found-requires c = is_entry c.args.bytes.now c.in_ok-found.found c.in_ok-found.ensures.found

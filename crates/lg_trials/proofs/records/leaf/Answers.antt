@@ -1,5 +1,0 @@
-use Rattle.lg_trials.proofs.Found.{has_leaf}
-use Rattle.lg_trials.proofs.records.leaf.Goals as goal
-
-pub leaf_found-requires : goal.leaf_found-requires
-leaf_found-requires c = has_leaf c.args.bytes.now c.in_ok-found.found c.in_ok-found.ensures.found

@@ -1,5 +1,0 @@
-use Rattle.lg_tx.proofs.RootsMade.{MadeSoFar}
-use Rattle.lg_tx.proofs.roots.roots_of.Given as goal
-
-abbrev pub invariant-loop-tree : goal.invariant-loop-tree
-invariant-loop-tree g l = MadeSoFar g.H.Hash32.digest l.trees l.tree-index l.roots.items

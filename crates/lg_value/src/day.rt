@@ -1,9 +1,0 @@
-//! Dates as their three numbers.
-
-/// A year, a month and a day, which the calendar may not have.
-#[derive(Clone, Copy, Debug)]
-pub struct Civil {
-    pub year: u16,
-    pub month: u8,
-    pub day: u8,
-}

@@ -1,5 +1,0 @@
-use Rattle.lg_verdict.proofs.Judged.{of_image, of_none}
-use Rattle.lg_verdict.proofs.laws.bytes_are_judged_by_their_image.Goals as goal
-
-pub returns : goal.returns
-returns c = record { image = of_image; none = of_none }

@@ -1,5 +1,0 @@
-use Rattle.lg_verdict.proofs.CoveredSo.{covered_exactly}
-use Rattle.lg_verdict.proofs.laws.entries_and_their_events_are_covered.Goals as goal
-
-pub returns : goal.returns
-returns c = covered_exactly

@@ -1,5 +1,0 @@
-use Rattle.lg_verdict.proofs.CoveredSo.{same_covered, behind_not_covered}
-use Rattle.lg_verdict.proofs.laws.only_blocks_up_to_its_own_are_covered.Goals as goal
-
-pub returns : goal.returns
-returns c = record { same = same_covered; behind = behind_not_covered }

@@ -1,5 +1,0 @@
-use Rattle.lg_verdict.proofs.AllHold.{yes_exactly}
-use Rattle.lg_verdict.proofs.laws.yes_is_said_of_what_holds.Goals as goal
-
-pub returns : goal.returns
-returns c = yes_exactly

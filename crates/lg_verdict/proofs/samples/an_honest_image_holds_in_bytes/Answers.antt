@@ -1,5 +1,0 @@
-use Rattle.lg_verdict.proofs.WorkedBytes.{honest_is, holds_in_bytes}
-use Rattle.lg_verdict.proofs.samples.an_honest_image_holds_in_bytes.Goals as goal
-
-pub returns : goal.returns
-returns c = record { spelled = honest_is; verdict = holds_in_bytes }

@@ -1,5 +1,0 @@
-use Rattle.lg_verdict.proofs.ToldEntries.{entries_told}
-use Rattle.lg_verdict.proofs.sentences.the_first_wrong_entry_is_named.Goals as goal
-
-pub returns : goal.returns
-returns c = entries_told

@@ -1,5 +1,0 @@
-use Rattle.lg_verdict.proofs.ToldVersions.{versions_told}
-use Rattle.lg_verdict.proofs.sentences.the_least_wrong_version_is_named.Goals as goal
-
-pub returns : goal.returns
-returns c = versions_told

@@ -1,9 +1,0 @@
-use Rattle.std.proofs.Common.{◌≡◌, drop}
-use Rattle.lg_image.specs.Rows.{stored_cmp}
-use Rattle.lg_verify.specs.Indexes.{row_at}
-use Rattle.lg_verify.proofs.indexes.compare_rows.Given as goal
-
-abbrev pub invariant-loop-ordinal : goal.invariant-loop-ordinal
-invariant-loop-ordinal l =
-    stored_cmp (row_at (drop l.ordinal-index l.ordinals) l.a) (row_at (drop l.ordinal-index l.ordinals) l.b)
-    ≡ stored_cmp (row_at l.ordinals l.a) (row_at l.ordinals l.b)

@@ -1,9 +1,0 @@
-use Rattle.std.proofs.Common.{ap, sym, ◌∙◌}
-use Rattle.std.specs.Prelude.{pos}
-use Rattle.lg_model.specs.Rows.{values_of}
-use Rattle.lg_verify.specs.Numbers.{about_number}
-use Rattle.lg_verify.proofs.FirstValues.{about_of}
-use Rattle.lg_verify.proofs.items.is_about.Goals as goal
-
-pub returns : goal.returns
-returns c = c.is_table.ensures ∙ ap (about_number (pos c.args.id)) c.table_of.ensures ∙ sym (about_of (pos c.args.id) (values_of c.args.version.now))

@@ -1,7 +1,0 @@
-use Rattle.std.proofs.Common.{◌≡◌, drop}
-use Rattle.lg_model.specs.Create.{names_of}
-use Rattle.lg_model.specs.Lists.{has_name}
-use Rattle.lg_verify.proofs.names.has_column.Given as goal
-
-abbrev pub invariant-loop-column : goal.invariant-loop-column
-invariant-loop-column l = has_name (names_of (drop l.column-index l.columns)) l.name ≡ has_name (names_of l.columns) l.name

@@ -1,8 +1,0 @@
-use Rattle.std.proofs.Common.{ap, sym, ◌∙◌}
-use Rattle.lg_model.specs.Rows.{values_of}
-use Rattle.lg_verify.specs.Numbers.{before_number}
-use Rattle.lg_verify.proofs.FirstValues.{before_of}
-use Rattle.lg_verify.proofs.names.is_before.Goals as goal
-
-pub returns : goal.returns
-returns c = c.is_less.ensures ∙ ap (before_number c.args.id) c.table_of.ensures ∙ sym (before_of c.args.id (values_of c.args.version.now))

@@ -1,9 +1,0 @@
-use Rattle.std.proofs.Common.{◌≡◌, drop, map}
-use Rattle.lg_model.specs.Lists.{has_name}
-use Rattle.lg_model.specs.Rows.{value_or_null}
-use Rattle.lg_spell.specs.MayBeSpelled.{names_in}
-use Rattle.lg_verify.proofs.names.row_has_name.Given as goal
-
-abbrev pub invariant-loop-value : goal.invariant-loop-value
-invariant-loop-value l =
-    has_name (names_in (map value_or_null (drop l.value-index l.version.values))) l.name ≡ has_name (names_in (map value_or_null l.version.values)) l.name

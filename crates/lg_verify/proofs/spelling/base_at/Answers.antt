@@ -1,9 +1,0 @@
-use Rattle.std.proofs.Common.{sym, ◌∙◌}
-use Rattle.lg_verify.proofs.Spelled.{base_some, base_none}
-use Rattle.lg_verify.proofs.spelling.base_at.Goals as goal
-
-pub returns-in-Some : goal.returns-in-Some
-returns-in-Some c = c.as_slice.ensures ∙ base_some c.args.image.now.tables c.args.place c.in-Some.rows.now (sym c.in-Some.ensures.value)
-
-pub returns-in-None : goal.returns-in-None
-returns-in-None c = base_none c.args.image.now.tables c.args.place (sym c.in-None.ensures.value)

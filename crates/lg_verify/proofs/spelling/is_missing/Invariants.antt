@@ -1,6 +1,0 @@
-use Rattle.std.proofs.Common.{◌≡◌, drop}
-use Rattle.lg_verify.specs.Spelling.{is_missing}
-use Rattle.lg_verify.proofs.spelling.is_missing.Given as goal
-
-abbrev pub invariant-loop-own : goal.invariant-loop-own
-invariant-loop-own l = is_missing (drop l.own-index l.ids) l.id ≡ is_missing l.ids l.id

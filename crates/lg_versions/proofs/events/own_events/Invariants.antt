@@ -1,6 +1,0 @@
-use Rattle.std.proofs.Common.{◌≡◌, ◌++◌, drop, flat_map}
-use Rattle.lg_versions.specs.Own.{own}
-use Rattle.lg_versions.proofs.events.own_events.Given as goal
-
-abbrev pub invariant-loop-version : goal.invariant-loop-version
-invariant-loop-version l = l.events.items ++ flat_map (own l.tx l.table) (drop l.version-index l.versions) ≡ flat_map (own l.tx l.table) l.versions

@@ -1,7 +1,0 @@
-mod Facts
-mod Run
-mod End
-mod Meant
-mod Spelled
-mod Says
-mod Ranges

@@ -1,9 +1,0 @@
--- Readings of texts by the grammar.
-use Rattle.std.specs.Prelude.{◌≡◌, ℕ, List, Some}
-use Rattle.lg_types.specs.declared.statement.Stmt.{Stmt}
-use Rattle.lg_grammar.specs.Statements.{IsStatement}
-use Rattle.lg_model.specs.Script.{Reading}
-
--- each statement that it reads is one of the grammar; it may read fewer
-abbrev pub KeepsToTheGrammar : Reading → Type 0
-KeepsToTheGrammar reads = (text : List ℕ) (stmt : Stmt) → reads text ≡ Some stmt → IsStatement text stmt

@@ -1,0 +1,16 @@
+pub mod AllCells
+pub mod Calls
+pub mod AnonymousActs
+pub mod Ends
+pub mod FirstCells
+pub mod Holding
+pub mod Midways
+pub mod OneServer
+pub mod Pairs
+pub mod Pending
+pub mod Texts
+pub mod Turns
+pub mod Within
+pub use Rattle.law_sequential.proofs.SameNames
+pub use Rattle.law_sequential.proofs.SessionOutput
+pub use Rattle.server_visits.proofs.ImagesOfCells

@@ -1,0 +1,12 @@
+pub mod CoreInput
+pub mod FirstCells
+pub mod IsMidway
+pub mod Parts
+pub mod Standing
+pub mod Written
+pub use Rattle.law_sequential.specs.SessionOutput
+pub use Rattle.law_sequential.specs.Wrote
+pub use Rattle.law_sequential.specs.EndsLast
+pub use Rattle.server_visits.specs.Full
+pub use Rattle.server_visits.specs.Images
+pub use Rattle.server_visits.specs.LedgerSeen

@@ -1,0 +1,40 @@
+-- What a session writes down.
+use Rattle.std.specs.Prelude.{ℕ, ◌≡◌, ◌++◌, List, Option, map}
+use Rattle.spec_history.specs.Lists.{Text}
+use Rattle.spec_history.specs.Transcripts.{Entry}
+use Rattle.format_transcript.specs.TranscriptText.{entry_text}
+use Rattle.server_session.specs.KeptCell.{KeptCell}
+use Rattle.server_session.specs.ControlPoints.{IsBetween, IsOver, KeepsStatement}
+use Rattle.server_session.specs.Steps.{EndsSession, IsAnsweredBy, KeepsImage, end_of, entries_at, image_in, images_kept, items_in, last_entries}
+use Rattle.server_engine.specs.declared.session.Session.{Session}
+
+-- it gains the texts of these entries
+abbrev pub Gained : {H : Type 0} → List Entry → Session H → Session H → Type 0
+Gained entries y z =
+    z.entries ≡ y.entries ++ map (entry_text y.seat.name) entries
+
+-- the statement is answered, and its entry is there
+pub record AnswersStatement {H : Type 0} (digest : H → List ℕ → List ℕ) (y z : Session H) : Type 0 where
+  pub answered : IsAnsweredBy digest y.seat z.seat
+  pub between : IsBetween z.seat
+  pub started : z.seat.started ≡ y.seat.started
+  pub name : z.seat.name ≡ y.seat.name
+  pub gained : Gained (entries_at y.seat) y z
+  pub images : z.images ≡ y.images
+
+-- the session is over, and there is an entry for the transaction that its end ended
+pub record LeavesSession {H : Type 0} (digest : H → List ℕ → List ℕ) (y z : Session H) : Type 0 where
+  pub ends : EndsSession digest y.seat
+  pub over : IsOver z.seat
+  pub name : z.seat.name ≡ y.seat.name
+  pub gained : Gained (last_entries (end_of y.seat.running)) y z
+  pub images : z.images ≡ y.images
+
+-- an image was kept, or there was no memory for one
+pub record KeepsSessionImage {H : Type 0} (digest : H → List ℕ → List ℕ) (all : List KeptCell)
+    (y z : Session H) : Type 0 where
+  pub image : Option Text
+  pub keeps : KeepsImage digest y.seat all image z.seat
+  pub stays : KeepsStatement y.seat z.seat
+  pub entries : z.entries ≡ y.entries
+  pub images : z.images ≡ y.images ++ images_kept (image_in (items_in all) image)

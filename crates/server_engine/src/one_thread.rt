@@ -1,0 +1,177 @@
+//! The core of one thread.
+
+ghost use Rattle.std.specs.Prelude.{ℕ, ◌≡◌, ◌<◌, ◌≤◌, List, true, length, IfOk, OnOk};
+ghost use mathlib.Core.Option.{some};
+ghost use lib.ListN.{get_elem?};
+ghost use Rattle.base_types.specs.Moment.{is_moment};
+ghost use Rattle.base_types.specs.SessionName.{is_session_name};
+ghost use Rattle.sql_types.specs.declared.journal.TheConstants.{MAX_BLOCK};
+ghost use Rattle.law_sequential.specs.EndsLast.{running, ending};
+ghost use Rattle.server_engine.specs.CoreInput.{CoreInput, nothing_asked, with_session, with_line, at_end};
+ghost use Rattle.server_engine.specs.IsMidway.{IsAtSessionEnd, IsBelow, IsBetweenThen, IsOverThen, MayAnswer, MayLeave, IsMidway, TookUp, ChangesSession};
+ghost use Rattle.server_engine.specs.Parts.{HasLeft, IsDone};
+ghost use Rattle.server_engine.specs.Standing.{IsEnded, IsOpen, IsStanding, MayTakeStatement, OthersStay, Stands};
+
+use crate::cells::first_cells;
+use crate::parts::Parts;
+use crate::session::{Session, new_session};
+use crate::visits::LEDGER;
+use base_merkle::Hash32;
+use base_types::{Memory, Name, Text};
+use server_visits::{Cell, image_bytes_of};
+use std::alloc::Global;
+
+/// The cells of a database, and sessions that run over them one statement after another. After want of memory
+/// it is to be dropped.
+#[derive(Drop)]
+pub struct Core<H: Hash32> {
+    pub(crate) hasher: H,
+    pub(crate) cells: Vec<Cell>,
+    pub(crate) sessions: Vec<Session<H>>,
+}
+
+impl<H: Hash32> Core<H> {
+    /// The core of a database without transactions, whose blocks take at most so many entries; no session
+    /// has begun.
+    pub fn new(alloc: Global, hasher: H, database: Name, block_size: u32) -> Result<Core<H>, Memory>
+        requires some { 1 ≤ block_size }
+        requires most { block_size ≤ MAX_BLOCK }
+        ensures { IfOk result (λ core. Stands H.digest hasher core (nothing_asked database block_size)) }
+    {
+        let cells = first_cells(alloc, database, block_size)?;
+        let sessions = Vec::new(alloc);
+        Ok(Core {
+            hasher,
+            cells,
+            sessions,
+        })
+    }
+
+    /// A session begins. Its number is that of the sessions before it.
+    pub fn open_session(&mut self, alloc: Global, name: Name) -> Result<usize, Memory>
+        requires standing { IsStanding H.digest self.old }
+        requires name { is_session_name name ≡ true }
+        ensures stands { (h : H) (a : CoreInput) → Stands H.digest h self.old a
+            → OnOk result (Stands H.digest h self.new (with_session name a)) }
+        ensures number { (h : H) (a : CoreInput) → Stands H.digest h self.old a
+            → IfOk result (λ session. session ≡ length a.names) }
+        ensures open { IfOk result (λ session. IsOpen self.new session) }
+        ensures others { IfOk result (λ session. OthersStay session self.old self.new) }
+    {
+        let number = self.sessions.len();
+        self.sessions.push(new_session(alloc, self.hasher, name))?;
+        Ok(number)
+    }
+
+    /// Runs a statement of a session at this moment to its answer, which stands in the session's transcript
+    /// then. A block that is full is closed. It costs what the statement's visits do, and time in proportion
+    /// to the text and the reply.
+    pub fn step(
+        &mut self,
+        alloc: Global,
+        session: usize,
+        text: Text,
+        now: u64,
+    ) -> Result<(), Memory>
+        requires standing { MayTakeStatement H.digest self.old }
+        requires open { IsOpen self.old session }
+        requires moment { is_moment now ≡ true }
+        ensures stands { (h : H) (a : CoreInput) (name : List ℕ) → Stands H.digest h self.old a
+            → a.phase ≡ running → get_elem? a.names session ≡ some name
+            → OnOk result (Stands H.digest h self.new (with_line name text now a)) }
+        ensures open { OnOk result (IsOpen self.new session) }
+        ensures others { OnOk result (OthersStay session self.old self.new) }
+    {
+        self.start(alloc, session, text, now);
+        self.visit_needed(alloc, session)?;
+        self.answer(alloc, session)?;
+        Ok(())
+    }
+
+    // A session takes up a statement.
+    fn start(&mut self, alloc: Global, session: usize, text: Text, now: u64)
+        requires standing { MayTakeStatement H.digest self.old }
+        requires open { IsOpen self.old session }
+        requires moment { is_moment now ≡ true }
+        ensures midway { (h : H) (a : CoreInput) (name : List ℕ) → Stands H.digest h self.old a
+            → a.phase ≡ running → get_elem? a.names session ≡ some name
+            → IsMidway H.digest h self.new (with_line name text now a) session
+            × IsBelow self.new (with_line name text now a) }
+        ensures turned { ChangesSession TookUp session self.old self.new }
+    {
+        self.sessions[session].seat.start(alloc, text, now);
+    }
+
+    // The answer of a session's statement is written down.
+    fn answer(&mut self, alloc: Global, session: usize) -> Result<(), Memory>
+        requires { MayAnswer H.digest self.old session }
+        ensures stands { (h : H) (a : CoreInput) → IsMidway H.digest h self.old a session → IsBelow self.old a
+            → OnOk result (Stands H.digest h self.new a) }
+        ensures turned { OnOk result (ChangesSession IsBetweenThen session self.old self.new) }
+    {
+        self.sessions[session].answer(alloc)?;
+        Ok(())
+    }
+
+    /// A session ends, and with it the transaction that it has open, of which its transcript tells then.
+    /// Behind it no statement is to be run any more.
+    pub fn end_session(&mut self, alloc: Global, session: usize) -> Result<(), Memory>
+        requires standing { IsStanding H.digest self.old }
+        requires open { IsOpen self.old session }
+        ensures stands { (h : H) (a : CoreInput) → Stands H.digest h self.old a
+            → OnOk result (Stands H.digest h self.new (at_end a)) }
+        ensures ended { OnOk result (IsEnded self.new session) }
+        ensures others { OnOk result (OthersStay session self.old self.new) }
+    {
+        self.finish(session);
+        self.visit_needed(alloc, session)?;
+        self.leave(alloc, session)?;
+        Ok(())
+    }
+
+    // A session comes to its end, behind the last statement.
+    fn finish(&mut self, session: usize)
+        requires standing { IsStanding H.digest self.old }
+        requires open { IsOpen self.old session }
+        ensures midway { (h : H) (a : CoreInput) → Stands H.digest h self.old a
+            → IsMidway H.digest h self.new (at_end a) session × IsBelow self.new (at_end a) }
+        ensures turned { ChangesSession IsAtSessionEnd session self.old self.new }
+    {
+        self.sessions[session].seat.finish();
+    }
+
+    // The last entry of a session is written down, and it is over.
+    fn leave(&mut self, alloc: Global, session: usize) -> Result<(), Memory>
+        requires { MayLeave H.digest self.old session }
+        ensures stands { (h : H) (a : CoreInput) → IsMidway H.digest h self.old a session → IsBelow self.old a
+            → a.phase ≡ ending → OnOk result (Stands H.digest h self.new a) }
+        ensures turned { OnOk result (ChangesSession IsOverThen session self.old self.new) }
+    {
+        self.sessions[session].leave(alloc)?;
+        Ok(())
+    }
+
+    /// What it leaves, once all its sessions are over, with the image of its journal.
+    pub fn into_parts(self, alloc: Global) -> Result<Parts<H>, Memory>
+        requires { IsDone H.digest self }
+        ensures { (h : H) (a : CoreInput) → Stands H.digest h self a
+            → IfOk result (HasLeft (H.digest h) a) }
+    {
+        let Core {
+            mut cells,
+            sessions,
+            ..
+        } = self;
+        let image = image_bytes_of(alloc, &cells)?;
+        let ledger = cells.swap_remove(LEDGER).into_ledger();
+        // Its ids have room in 8 bytes.
+        ledger.next_id();
+        let (journal, digests) = ledger.into_parts();
+        Ok(Parts {
+            image,
+            journal,
+            digests,
+            sessions,
+        })
+    }
+}

@@ -1,0 +1,96 @@
+//! A session of a core.
+
+ghost use Rattle.std.specs.Prelude.{◌≡◌, ◌<◌, OnOk, true, []};
+ghost use Rattle.base_types.specs.SessionName.{is_session_name};
+ghost use Rattle.spec_protocol.specs.Seats.{idle, SeatState};
+ghost use Rattle.spec_protocol.specs.Server.{Server};
+ghost use Rattle.server_session.specs.Needs.{need_of, visits_left};
+ghost use Rattle.server_session.specs.ControlPoints.{IsAnswering, IsBetween};
+ghost use Rattle.server_session.specs.Rest.{MayEndSession};
+ghost use Rattle.server_session.specs.Steps.{AmongAll, Begins, items_in};
+ghost use Rattle.server_session.specs.declared.need.NextVisit.TheVariants.{Done};
+ghost use Rattle.server_engine.specs.Written.{AnswersStatement, KeepsSessionImage, LeavesSession};
+
+use base_merkle::Hash32;
+use base_types::{Blob, Items, Memory, Name, Text};
+use format_transcript::{push_end, push_statement};
+use server_session::{Answer, Seat};
+use server_visits::{Cell, visit_all};
+use std::alloc::Global;
+
+/// A session with what it has shown.
+#[derive(Drop)]
+pub struct Session<H: Hash32> {
+    pub seat: Seat<H>,
+    /// The texts of the entries of its transcript.
+    pub entries: Items<Text>,
+    /// The images that it kept, in this order: the number of the journal's items, and the bytes.
+    pub images: Items<(u64, Blob)>,
+}
+
+/// A session of this name that nothing was asked of. Takes no memory.
+pub fn new_session<H: Hash32>(alloc: Global, hasher: H, name: Name) -> Session<H>
+    requires { is_session_name name ≡ true }
+    ensures begins { (v : Server) (s : SeatState) → s.present ≡ true → s.role ≡ idle
+        → Begins H.digest hasher v name s result.seat }
+    ensures between { IsBetween result.seat }
+    ensures name { result.seat.name ≡ name }
+    ensures entries { result.entries ≡ [] }
+    ensures images { result.images ≡ [] }
+{
+    Session {
+        seat: Seat::new(alloc, hasher, name),
+        entries: Items::new(alloc),
+        images: Items::new(alloc),
+    }
+}
+
+impl<H: Hash32> Session<H> {
+    /// The statement is answered.
+    pub fn answer(&mut self, alloc: Global) -> Result<(), Memory>
+        requires answers { IsAnswering self.old.seat }
+        requires done { need_of self.old.seat ≡ Done }
+        ensures { OnOk result (AnswersStatement H.digest self.old self.new) }
+    {
+        let Answer { text, reply, end } = self.seat.answer();
+        let name = self.seat.name().as_str();
+        let mut entry = String::new(alloc);
+        push_statement(alloc, name, text.as_str(), reply, end, &mut entry)?;
+        self.entries.push(Text::from_string(entry))?;
+        self.seat.end_statement();
+        Ok(())
+    }
+
+    /// The session is over.
+    pub fn leave(&mut self, alloc: Global) -> Result<(), Memory>
+        requires { MayEndSession self.old.seat }
+        ensures { OnOk result (LeavesSession H.digest self.old self.new) }
+    {
+        if let Some(end) = self.seat.last_line() {
+            let name = self.seat.name().as_str();
+            let mut entry = String::new(alloc);
+            push_end(alloc, name, end, &mut entry)?;
+            self.entries.push(Text::from_string(entry))?;
+        }
+        self.seat.end_session();
+        Ok(())
+    }
+
+    /// Keeps an image of all cells, if there is memory for one, with the number of the journal's items.
+    pub(crate) fn keep_image(
+        &mut self,
+        alloc: Global,
+        items: u64,
+        cells: &[Cell],
+    ) -> Result<(), Memory>
+        requires among { AmongAll H.digest self.old.seat cells.now }
+        requires items { items ≡ items_in cells.now }
+        ensures kept { OnOk result (KeepsSessionImage H.digest cells.now self.old self.new) }
+        ensures comes_on { visits_left self.new.seat < visits_left self.old.seat }
+    {
+        if let Some(bytes) = visit_all(&mut self.seat, alloc, cells) {
+            self.images.push((items, bytes))?;
+        }
+        Ok(())
+    }
+}

@@ -1,0 +1,90 @@
+//! The visits that a statement of a session needs, or its end.
+
+ghost use Rattle.std.specs.Prelude.{ℕ, ◌≡◌, IfOk, OnOk, MatchBool};
+ghost use Rattle.server_session.specs.declared.need.NextVisit.TheVariants as need;
+ghost use Rattle.server_engine.specs.CoreInput.{CoreInput};
+ghost use Rattle.server_engine.specs.IsMidway.{IsBelow, IsWithin, LessWork, MayCloseBlock, MayContinue, IsMidway, NeedsVisit, NoMorePending, ChangesSession, WentOn, WentToEnd};
+
+use crate::one_thread::Core;
+use base_merkle::Hash32;
+use base_types::Memory;
+use server_session::NextVisit;
+use server_visits::visit;
+use std::alloc::Global;
+
+/// The number of the ledger's cell.
+pub(crate) const LEDGER: usize = 1;
+
+impl<H: Hash32> Core<H> {
+    // Makes all visits that the session needs.
+    pub(crate) fn visit_needed(&mut self, alloc: Global, session: usize) -> Result<(), Memory>
+        requires { MayContinue H.digest self.old session }
+        ensures midway { (h : H) (a : CoreInput) → IsMidway H.digest h self.old a session → IsBelow self.old a
+            → OnOk result (IsMidway H.digest h self.new a session × IsBelow self.new a) }
+        ensures turned { OnOk result (ChangesSession WentToEnd session self.old self.new) }
+    {
+        while self.visit_next(alloc, session)? {
+            self.close_full(alloc)?;
+        }
+        Ok(())
+    }
+
+    // Makes the next visit that the session needs; false where it needs none.
+    fn visit_next(&mut self, alloc: Global, session: usize) -> Result<bool, Memory>
+        requires { MayContinue H.digest self.old session }
+        ensures midway { (h : H) (a : CoreInput) → IsMidway H.digest h self.old a session → IsBelow self.old a
+            → OnOk result (IsMidway H.digest h self.new a session × IsWithin self.new a) }
+        ensures next { IfOk result (λ more. MatchBool more
+            (ChangesSession WentOn session self.old self.new × LessWork session self.old self.new)
+            ((self.new ≡ self.old) × ChangesSession WentToEnd session self.old self.new)) }
+    {
+        match self.sessions[session].seat.need() {
+            NextVisit::Cell(cell) => {
+                self.visit(alloc, session, cell);
+                Ok(true)
+            }
+            NextVisit::All => {
+                self.visit_all(alloc, session)?;
+                Ok(true)
+            }
+            NextVisit::Done => Ok(false),
+        }
+    }
+
+    // Visits the cell that the session needs.
+    fn visit(&mut self, alloc: Global, session: usize, cell: usize)
+        requires { NeedsVisit H.digest self.old session (need.Cell cell) }
+        ensures midway { (h : H) (a : CoreInput) → IsMidway H.digest h self.old a session → IsBelow self.old a
+            → IsMidway H.digest h self.new a session × IsWithin self.new a }
+        ensures turned { ChangesSession WentOn session self.old self.new }
+        ensures less { LessWork session self.old self.new }
+    {
+        let seat = &mut self.sessions[session].seat;
+        visit(seat, alloc, &mut self.cells[cell]);
+    }
+
+    // Visits all cells.
+    fn visit_all(&mut self, alloc: Global, session: usize) -> Result<(), Memory>
+        requires { NeedsVisit H.digest self.old session need.All }
+        ensures midway { (h : H) (a : CoreInput) → IsMidway H.digest h self.old a session → IsBelow self.old a
+            → OnOk result (IsMidway H.digest h self.new a session × IsWithin self.new a) }
+        ensures turned { OnOk result (ChangesSession WentOn session self.old self.new) }
+        ensures less { OnOk result (LessWork session self.old self.new) }
+    {
+        let items = self.cells[LEDGER].item_count() as u64;
+        self.sessions[session].keep_image(alloc, items, &self.cells)?;
+        Ok(())
+    }
+
+    // Closes a block, if one is full.
+    fn close_full(&mut self, alloc: Global) -> Result<(), Memory>
+        requires { MayCloseBlock H.digest self.old }
+        ensures midway { (h : H) (a : CoreInput) (session : ℕ) → IsMidway H.digest h self.old a session
+            → IsWithin self.old a → OnOk result (IsMidway H.digest h self.new a session × IsBelow self.new a) }
+        ensures sessions { self.new.sessions ≡ self.old.sessions }
+        ensures pending { OnOk result (NoMorePending self.old self.new) }
+    {
+        self.cells[LEDGER].close_full(alloc, self.hasher)?;
+        Ok(())
+    }
+}

@@ -1,0 +1,279 @@
+-- What is saved of threads that have ended is that of a run of their plan.
+use Rattle.std.proofs.Common.{◌≡◌, ◌∙◌, ℕ, true, List, [], ◌∷◌, ◌++◌, codes, flat_map, length, map, refl, sym, ap, ap₂, subst, subst₂}
+use Rattle.std.specs.List.{All, AllByRecursion, IsDistinct}
+use Rattle.std.specs.Str.{bytes_eq}
+use Rattle.base_types.specs.DatabaseName.{is_database_name}
+use Rattle.base_types.specs.SessionName.{is_session_name}
+use Rattle.sql_types.specs.declared.digest.Digest.{Digest}
+use Rattle.sql_types.specs.declared.journal.Journal.{Journal}
+use Rattle.sql_types.specs.declared.journal.JournalItem.{JournalItem}
+use Rattle.spec_model.specs.Journals.{closed, tx_count}
+use Rattle.spec_model.specs.LegalJournals.{IsLegalJournal}
+use Rattle.spec_history.specs.Inputs.{InputSession}
+use Rattle.spec_history.specs.Journals.{times}
+use Rattle.spec_history.specs.Lists.{Text, Each}
+use Rattle.spec_history.specs.Transcripts.{Entry}
+use Rattle.spec_history.proofs.Trace.{each_weaker}
+use Rattle.format_image.specs.Image.{image_of, image_of_cut}
+use Rattle.format_image.specs.ImageBytes.{image_bytes}
+use Rattle.law_image.specs.Room.{FitsImageFormat}
+use Rattle.format_journal.specs.Rules.{IsJournal}
+use Rattle.format_digest.specs.Writing.{HasMoments}
+use Rattle.spec_syntax.specs.Text.{statement_of}
+use Rattle.format_sections.specs.RunSections.{run_sections_view, section_view, session_names}
+use Rattle.format_sections.specs.declared.all_sections.RunSections.{RunSections}
+use Rattle.format_sections.specs.declared.section.Section.{Section}
+use Rattle.format_transcript.specs.TranscriptText.{entry_text, transcript_text}
+use Rattle.spec_protocol.specs.Cells.{Cell, LedgerCell, pending_in}
+use Rattle.spec_protocol.specs.LedgerIsLegal.{LedgerIsLegal}
+use Rattle.spec_protocol.specs.JournalForms.{journal_in}
+use Rattle.spec_protocol.specs.Reordered.{NamesApart}
+use Rattle.spec_protocol.specs.Seats.{KeptImage, Written}
+use Rattle.spec_protocol.specs.StandTogether.{Stands}
+use Rattle.spec_protocol.specs.Serves.{Serves}
+use Rattle.server_engine.proofs.SameNames.{names_apart}
+use Rattle.server_engine.specs.SessionOutput.{IsImageOf}
+use Rattle.server_engine.specs.Wrote.{transcripts_in}
+use Rattle.server_engine.proofs.SessionOutput.{some_meaning}
+use Rattle.server_engine.specs.Images.{CellsStand}
+use Rattle.server_engine.proofs.ImagesOfCells.{bytes_are_the_journals}
+use Rattle.server_board.specs.Laws.{one_ledger}
+use Rattle.server_board.specs.ServedDatabase.{IsOf as IsOfDatabase, ServedDatabase}
+use Rattle.server_result.specs.Images.{AreKept, with_each}
+use Rattle.server_result.specs.Moments.{IsMoment}
+use Rattle.server_result.specs.Joined.{joined, joined_each}
+use Rattle.server_result.specs.declared.ran.RunOutcome.{RunOutcome}
+use Rattle.server_result.proofs.Kept.{are_kept}
+use Rattle.server_result.proofs.Made.{have_moments, moment_is}
+use Rattle.server_result.proofs.Each.{each_from_all}
+use Rattle.law_concurrent.specs.CameTo as together
+use Rattle.law_concurrent.specs.CameTo.{RunResult, last_image_bytes}
+use Rattle.law_concurrent.specs.Threads.{HasJoined, session_in}
+use Rattle.spec_verify.specs.declared.place.Verdict.TheVariants.{Yes}
+use Rattle.spec_verify.specs.Bytes.{verdict_of}
+use Rattle.law_concurrent.specs.Held.{held}
+use Rattle.server_engine.specs.Standing.{pending_found}
+use Rattle.server_run.specs.CameTo.{AreLast, IsClosed, IsOf, and_digests, input_of, session_of, transcripts_text}
+use Rattle.server_run.specs.Closing.{IssuesLast, pending_there}
+use Rattle.server_run.specs.FinishedRun.{HasFinished, setup_name}
+use Rattle.server_run.specs.Saved.{HasSaved, with_digests}
+use Rattle.server_run.specs.Seated.{texts_in}
+use Rattle.server_run.specs.Wrote.{AreWritten, IsWritten}
+use Rattle.server_run.specs.declared.whole.FinishedRun.{FinishedRun}
+use Rattle.server_run.specs.declared.worker.SessionEnd.{SessionEnd}
+use Rattle.server_run.proofs.Issued.{Laws, accepted_with, all_have_moments, all_in_blocks, are_last}
+use Rattle.server_run.proofs.Named.{setup_named}
+
+-- ---- what sessions wrote
+
+abbrev shown_of : Written → List Text
+shown_of w = map (entry_text w.transcript.session) w.transcript.entries
+
+module _ (says : ℕ → Type 0) where
+  input_is : (name : Text) (texts : List Text) (e : SessionEnd) (w : Written) → IsWritten says name texts e w → session_in w.transcript ≡ record { name = name; texts = texts }
+  input_is name texts e w is = ap₂ (λ (n : Text) (ts : List Text). record { name = n; texts = ts }) is.session is.texts
+
+  shown_is : (name : Text) (texts : List Text) (e : SessionEnd) (w : Written) → IsWritten says name texts e w → e.entries ≡ shown_of w
+  shown_is name texts e w is = is.entries ∙ ap (λ (n : Text). map (entry_text n) w.transcript.entries) (sym is.session)
+
+  inputs_are : (ps : List Section) (es : List SessionEnd) (ws : List Written) → AreWritten says ps es ws → map session_in (transcripts_in ws) ≡ map session_of (map section_view ps)
+  inputs_are [] [] [] a = refl
+  inputs_are [] [] (w ∷ ws) a = absurd a
+  inputs_are [] (e ∷ es) ws a = absurd a
+  inputs_are (p ∷ ps) [] ws a = absurd a
+  inputs_are (p ∷ ps) (e ∷ es) [] a = absurd a
+  inputs_are (p ∷ ps) (e ∷ es) (w ∷ ws) a = ap₂ (λ (x : InputSession) (xs : List InputSession). x ∷ xs) (input_is p.name.now (texts_in p.statements.items) e w a.0) (inputs_are ps es ws a.1)
+
+  all_shown : (ps : List Section) (es : List SessionEnd) (ws : List Written) → AreWritten says ps es ws → map (λ e. e.entries) es ≡ map shown_of ws
+  all_shown [] [] [] a = refl
+  all_shown [] [] (w ∷ ws) a = absurd a
+  all_shown [] (e ∷ es) ws a = absurd a
+  all_shown (p ∷ ps) [] ws a = absurd a
+  all_shown (p ∷ ps) (e ∷ es) [] a = absurd a
+  all_shown (p ∷ ps) (e ∷ es) (w ∷ ws) a = ap₂ (λ (x : List Text) (xs : List (List Text)). x ∷ xs) (shown_is p.name.now (texts_in p.statements.items) e w a.0) (all_shown ps es ws a.1)
+
+  images_are : (ps : List Section) (es : List SessionEnd) (ws : List Written) → AreWritten says ps es ws → map (λ e. e.images) es ≡ map (λ w. w.images) ws
+  images_are [] [] [] a = refl
+  images_are [] [] (w ∷ ws) a = absurd a
+  images_are [] (e ∷ es) ws a = absurd a
+  images_are (p ∷ ps) [] ws a = absurd a
+  images_are (p ∷ ps) (e ∷ es) [] a = absurd a
+  images_are (p ∷ ps) (e ∷ es) (w ∷ ws) a = ap₂ (λ (x : List KeptImage) (xs : List (List KeptImage)). x ∷ xs) a.0.images (images_are ps es ws a.1)
+
+  moments_are : (ps : List Section) (es : List SessionEnd) (ws : List Written) → AreWritten says ps es ws → Each (λ w. Each (IsMoment says) w.moments) ws
+  moments_are [] [] [] a = tt
+  moments_are [] [] (w ∷ ws) a = absurd a
+  moments_are [] (e ∷ es) ws a = absurd a
+  moments_are (p ∷ ps) [] ws a = absurd a
+  moments_are (p ∷ ps) (e ∷ es) [] a = absurd a
+  moments_are (p ∷ ps) (e ∷ es) (w ∷ ws) a = (a.0.moments, moments_are ps es ws a.1)
+
+-- ---- the text of all
+
+entries_joined : (name : Text) (es : List Entry) → joined (map (entry_text name) es) ≡ flat_map (entry_text name) es
+entries_joined name [] = refl
+entries_joined name (e ∷ es) = ap (λ (b : List ℕ). entry_text name e ++ b) (entries_joined name es)
+
+all_text : (ws : List Written) → joined_each (map shown_of ws) ≡ transcripts_text (transcripts_in ws)
+unfolding transcripts_text transcript_text
+all_text [] = refl
+all_text (w ∷ ws) = ap₂ (λ (a b : List ℕ). a ++ b) (entries_joined w.transcript.session w.transcript.entries) (all_text ws)
+
+-- ---- all
+
+module _ (h : List ℕ → List ℕ) (sized : (bytes : List ℕ) → length (h bytes) ≡ 32) (database : Text) (size : ℕ) (says : ℕ → Type 0) (all_sections : RunSections)
+    (d : ServedDatabase) (serves : Serves h statement_of d.server) (of_database : d.database ≡ database) (of_size : d.size ≡ size)
+    (f : FinishedRun) (fin : HasFinished d says (texts_in all_sections.setup.items) all_sections.sessions.items f) where
+  abbrev cells : List Cell
+  cells = map (λ c. c.cell) f.cells.items
+
+  pub cells_stand : CellsStand f.cells.items
+  cells_stand = record { hash = h; sized = sized; v = d.server; serves = serves; seats = fin.seats; together = fin.stands.together }
+
+  abbrev all : List Written
+  all = fin.first ∷ fin.rest
+
+  abbrev pub left_of : RunOutcome → RunResult
+  left_of r = record { X = transcripts_in all; kept = map (λ w. w.images) all; J = r.journal; G = r.digests }
+
+  module _ (r : RunOutcome) (saved : HasSaved f r) where
+    abbrev st : Stands d.server fin.stands.together.history cells fin.seats
+    st = fin.stands.together.stands
+
+    abbrev l : LedgerCell
+    l = saved.ledger
+
+    same_ledger : st.ledger ≡ l
+    same_ledger = one_ledger cells st.ledger l st.are_cells.has_ledger saved.there
+
+    of : IsOfDatabase d l
+    of = fin.stands.of l saved.there
+
+    the_journal : r.journal ≡ journal_in l
+    the_journal = ap₂ (λ (name : Text) (items : List JournalItem). record { database = name; items = items }) saved.database saved.items
+
+    room : FitsImageFormat h statement_of database l.items
+    unfolding cells_stand
+    room = subst (λ (name : Text). FitsImageFormat h statement_of name l.items) (of.database ∙ of_database)
+        (subst (λ (k : LedgerCell). FitsImageFormat h statement_of k.database k.items) same_ledger (saved.room cells_stand st.catalog st.ledger st.are_cells))
+
+    pub joined_so : is_database_name database ≡ true → All (λ name. is_session_name name ≡ true) (session_names (run_sections_view all_sections)) → IsDistinct bytes_eq (codes "setup" ∷ session_names (run_sections_view all_sections))
+        → HasJoined h database size (IsMoment says) (input_of (run_sections_view all_sections)) (left_of r)
+    joined_so named names apart = record {
+      v = d.server;
+      serves = serves;
+      cells = cells;
+      first = fin.first;
+      others = fin.rest;
+      joined = record { seats = fin.seats; together = fin.stands.together; j = fin.j; s = fin.s; there = fin.there; rests = fin.rests; wrote = fin.wrote; others = fin.others };
+      knew = fin.knew;
+      ledger = l;
+      there = saved.there;
+      of_database = of.database ∙ of_database;
+      of_size = of.block_size ∙ of_size;
+      input_is = ap₂ (λ (x : InputSession) (xs : List InputSession). x ∷ xs) (input_is says setup_name (texts_in all_sections.setup.items) f.setup fin.first fin.setup_is) (inputs_are says all_sections.sessions.items f.ends.items fin.rest fin.are);
+      apart = subst NamesApart (sym (names_in all_sections)) (names_apart (codes "setup" ∷ session_names (run_sections_view all_sections)) apart);
+      database_is_named = named;
+      sessions_are_named = (setup_named, each_named all_sections (each_from_all (λ name. is_session_name name ≡ true) (session_names (run_sections_view all_sections)) names));
+      moments = (fin.setup_is.moments, moments_are says all_sections.sessions.items f.ends.items fin.rest fin.are);
+      are_moments = moment_is says;
+      ids = saved.ids;
+      room = room;
+      transcripts = refl;
+      kept = refl;
+      journal = the_journal;
+      digests = saved.digests;
+    }
+      where
+        names_of : (ps : List Section) → map (λ s. s.name) (map session_of (map section_view ps)) ≡ map (λ s. s.name) (map section_view ps)
+        names_of [] = refl
+        names_of (p ∷ ps) = ap (λ (ns : List Text). p.name.now ∷ ns) (names_of ps)
+
+        names_in : (p : RunSections) → map (λ s. s.name) (input_of (run_sections_view p)) ≡ codes "setup" ∷ session_names (run_sections_view p)
+        names_in p = ap (λ (ns : List Text). codes "setup" ∷ ns) (names_of p.sessions.items)
+
+        named_by : (ps : List Section) → Each (λ name. is_session_name name ≡ true) (map (λ s. s.name) (map section_view ps)) → Each (λ s. is_session_name s.name ≡ true) (map session_of (map section_view ps))
+        named_by [] e = tt
+        named_by (p ∷ ps) e = (e.0, named_by ps e.1)
+
+        each_named : (p : RunSections) → Each (λ name. is_session_name name ≡ true) (session_names (run_sections_view p)) → Each (λ s. is_session_name s.name ≡ true) (map session_of (run_sections_view p).sessions)
+        each_named p e = named_by p.sessions.items e
+
+    -- ---- what is saved
+
+    text_is : r.transcript ≡ transcripts_text (transcripts_in all)
+    text_is = saved.transcript
+        ∙ ap₂ (λ (x : List Text) (xs : List (List Text)). joined_each (x ∷ xs)) (shown_is says setup_name (texts_in all_sections.setup.items) f.setup fin.first fin.setup_is) (all_shown says all_sections.sessions.items f.ends.items fin.rest fin.are)
+        ∙ all_text all
+
+    images_of_all : r.images ≡ with_each (map (λ w. w.images) all)
+    images_of_all = saved.images ∙ ap₂ (λ (x : List KeptImage) (xs : List (List KeptImage)). with_each (x ∷ xs)) fin.setup_is.images (images_are says all_sections.sessions.items f.ends.items fin.rest fin.are)
+
+    image_is : r.image ≡ last_image_bytes h r.journal
+    image_is = bytes_are_the_journals h d.server serves fin.stands.together.history fin.seats f.cells.items st r.image saved.bytes
+        ∙ ap (λ (k : LedgerCell). image_bytes (image_of h statement_of k.database k.items)) same_ledger
+        ∙ ap (λ (J : Journal). last_image_bytes h J) (sym the_journal)
+
+    abbrev bytes_at : ℕ → Text
+    bytes_at items = image_bytes (image_of_cut h statement_of database r.journal.items items)
+
+    each_has : (kept : List (List KeptImage)) → Each (λ ks. Each (IsImageOf h statement_of database r.journal.items) ks) kept → Each (λ ks. Each (λ k. k.1 ≡ bytes_at k.0) ks) kept
+    each_has = each_weaker (λ ks. Each (IsImageOf h statement_of database r.journal.items) ks) (λ ks. Each (λ k. k.1 ≡ bytes_at k.0) ks) (λ ks. each_weaker (IsImageOf h statement_of database r.journal.items) (λ k. k.1 ≡ bytes_at k.0) (λ k is. is.bytes) ks)
+
+    journal_room : FitsImageFormat h statement_of r.journal.database r.journal.items
+    unfolding cells_stand
+    journal_room = subst (λ (J : Journal). FitsImageFormat h statement_of J.database J.items) (sym the_journal)
+        (subst (λ (k : LedgerCell). FitsImageFormat h statement_of k.database k.items) same_ledger (saved.room cells_stand st.catalog st.ledger st.are_cells))
+
+    pub is_of : together.CameTo h database size (IsMoment says) (input_of (run_sections_view all_sections)) (left_of r) → IsJournal r.journal → IsOf h (left_of r) r
+    is_of came spelled = record {
+      transcript = text_is;
+      images = subst (AreKept (map (λ w. w.images) all)) (sym images_of_all) (are_kept bytes_at (map (λ w. w.images) all) (each_has (map (λ w. w.images) all) came.are_images));
+      image = image_is;
+      journal = refl;
+      digests = refl;
+      journal_is_encodable = spelled;
+      has_room = journal_room;
+      digests_have_moments = let m = some_meaning h statement_of in
+          have_moments m.0 database r.journal.items says r.digests came.times came.made (came.agree m.0 m.1).digests_are_the_journals.each;
+    }
+
+    -- ---- behind which the ledger is closed
+
+    legal_cell : LedgerIsLegal d.server l
+    legal_cell = subst (LedgerIsLegal d.server) same_ledger st.ledger_is_legal
+
+    module _ (laws : Laws) (none : pending_there f.cells.items ≡ 0) (made : ℕ) (said : IsMoment says made) (more : List Digest) (after : LedgerCell) (issued : IssuesLast h made l more after)
+        (came : together.CameTo h database size (IsMoment says) (input_of (run_sections_view all_sections)) (left_of r)) where
+      none_there : pending_in l ≡ 0
+      none_there = sym (ap pending_found saved.there) ∙ none
+
+      cell_room : FitsImageFormat h statement_of l.database l.items
+      cell_room = subst (λ (J : Journal). FitsImageFormat h statement_of J.database J.items) the_journal journal_room
+
+      pub is_closed : IsClosed h says (left_of r) more
+      is_closed = record {
+        all = subst (λ (J : Journal). closed J.items ≡ tx_count J.items) (sym the_journal) (all_in_blocks laws h d.server serves l legal_cell none_there);
+        last = subst (λ (J : Journal). AreLast h says J more) (sym the_journal) (are_last laws h d.server serves l legal_cell none_there made more after issued says said);
+        accepted = subst₂ (λ (G : List Digest) (J : Journal). verdict_of h (map held (G ++ more)) (last_image_bytes h J) ≡ Yes) (sym saved.digests) (sym the_journal)
+            (accepted_with laws h d.server serves l legal_cell none_there made more after issued (subst (IsLegalJournal statement_of) the_journal came.legal) cell_room);
+      }
+
+      pub is_with_digests : (t : RunOutcome) → t ≡ with_digests r (r.digests ++ more) → IsJournal t.journal → IsOf h (and_digests (left_of r) more) t
+      is_with_digests t is spelled = subst (IsOf h (and_digests (left_of r) more)) (sym is)
+          (record {
+            transcript = base.transcript;
+            images = base.images;
+            image = base.image;
+            journal = refl;
+            digests = refl;
+            journal_is_encodable = base.journal_is_encodable;
+            has_room = base.has_room;
+            digests_have_moments = subst (λ (G : List Digest). AllByRecursion HasMoments (G ++ more)) (sym saved.digests)
+                (all_have_moments laws h d.server serves l legal_cell none_there made more after issued says said
+                (subst (λ (J : Journal). Each (IsMoment says) (times J.items)) the_journal came.times)
+                (subst (Each (λ g. IsMoment says g.made)) saved.digests came.made));
+          })
+        where
+          base : IsOf h (left_of r) r
+          base = is_of came (subst (λ (u : RunOutcome). IsJournal u.journal) is spelled)

@@ -1,0 +1,33 @@
+-- The seat of a thread at the board of all cells of a database.
+use Rattle.std.specs.Prelude.{ℕ, ◌≡◌, List, []}
+use Rattle.base_board.specs.Boards.{board_cells, HasSeat, IsSameSeat, seat_out, seat_parts, seat_state}
+use Rattle.base_board.specs.declared.board.Board.{Board}
+use Rattle.base_board.specs.declared.board.BoardSeat.{BoardSeat}
+use Rattle.base_board.specs.declared.world.World.{Ghosts}
+use Rattle.format_sections.specs.declared.section.Section.{Section}
+use Rattle.spec_syntax.specs.Text.{statement_of}
+use Rattle.spec_protocol.specs.Cells.{cell_count}
+use Rattle.spec_protocol.specs.Seats.{SeatState}
+use Rattle.spec_protocol.specs.Server.{Server}
+use Rattle.spec_protocol.specs.Serves.{Serves}
+use Rattle.server_run.specs.FinishedRun.{AreRunnable}
+use Rattle.server_run.specs.Seated.{IsIdle}
+
+module _ {W C : Type 0} {g : Ghosts W C SeatState} where
+  -- it is one of the board's, and no cell is out with it
+  abbrev pub IsFree : Board W C SeatState → BoardSeat W C SeatState g → Type 0
+  IsFree b s = HasSeat b s × (board_cells b ≡ cell_count) × (seat_out s ≡ [])
+
+  -- a thread to which it was lent leaves the same seat, with as many parts, and no cell is out
+  abbrev pub IsFreed : BoardSeat W C SeatState g → BoardSeat W C SeatState g → Type 0
+  IsFreed s t = IsSameSeat s t × (seat_parts t ≡ seat_parts s) × (seat_out t ≡ [])
+
+  -- a thread that owned it gives back one of the board's, with as many parts, and no cell is out
+  abbrev pub IsGivenBack : Board W C SeatState → BoardSeat W C SeatState g → BoardSeat W C SeatState g → Type 0
+  IsGivenBack b s t = HasSeat b t × (seat_parts t ≡ seat_parts s) × (seat_out t ≡ [])
+
+  -- Sessions may run from it, under this hash: no cell is out, no session runs there, the hash is that of the
+  -- board's server, and each session has its form.
+  abbrev pub MayRun : Server → (List ℕ → List ℕ) → Board W C SeatState → BoardSeat W C SeatState g
+      → List Section → Type 0
+  MayRun v h b s sections = IsFree b s × IsIdle (seat_state s) × Serves h statement_of v × AreRunnable sections

@@ -1,0 +1,82 @@
+-- What a run of a plan comes to, and what is written and saved of it.
+use Rattle.std.specs.Prelude.{ℕ, ◌≡◌, ◌+◌, ◌++◌, List, [], ◌∷◌, flat_map, map}
+use Rattle.std.specs.List.{AllByRecursion}
+use Rattle.sql_types.specs.declared.digest.Digest.{Digest}
+use Rattle.sql_types.specs.declared.journal.Journal.{Journal}
+use Rattle.spec_model.specs.Journals.{closed, tx_count}
+use Rattle.format_digest.specs.Writing.{HasMoments}
+use Rattle.spec_history.specs.Inputs.{InputSession}
+use Rattle.spec_history.specs.Journals.{blocks}
+use Rattle.spec_history.specs.Lists.{Text}
+use Rattle.spec_history.specs.Transcripts.{Transcript}
+use Rattle.format_journal.specs.Rules.{IsJournal}
+use Rattle.law_image.specs.Room.{FitsImageFormat}
+use Rattle.law_blocks.specs.Digests.{digest_of}
+use Rattle.spec_verify.specs.declared.place.Verdict.TheVariants.{Yes}
+use Rattle.spec_verify.specs.Bytes.{verdict_of}
+use Rattle.law_concurrent.specs.Held.{held}
+use Rattle.spec_syntax.specs.Text.{statement_of}
+use Rattle.format_sections.specs.RunSections.{RunSections, Section}
+use Rattle.server_result.specs.Images.{AreKept}
+use Rattle.server_result.specs.Moments.{IsMoment}
+use Rattle.server_result.specs.declared.ran.RunOutcome.{RunOutcome}
+use Rattle.law_concurrent.specs.CameTo as together
+use Rattle.law_concurrent.specs.CameTo.{RunResult, last_image_bytes}
+use Rattle.format_transcript.specs.TranscriptText.{transcript_text}
+use Rattle.server_run.specs.FinishedRun.{setup_name}
+
+-- what an input has of a session
+abbrev pub session_of : Section → InputSession
+session_of s = record { name = s.name; texts = s.statements }
+
+-- the setup first, and then the sessions in their order
+abbrev pub input_of : RunSections → List InputSession
+input_of all_sections = record { name = setup_name; texts = all_sections.setup } ∷ map session_of all_sections.sessions
+
+-- However the turns of sessions and builder fell, this is left of a run of the plan, on a server of this
+-- database whose blocks have at most so many transactions, each statement at a moment that is said.
+abbrev pub CameTo : (List ℕ → List ℕ) → Text → ℕ → (ℕ → Type 0) → RunSections → RunResult → Type 0
+CameTo h database size says all_sections left = together.CameTo h database size (IsMoment says) (input_of all_sections) left
+
+-- one transcript behind the other
+unfoldable pub transcripts_text : List Transcript → List ℕ
+transcripts_text X = flat_map transcript_text X
+
+-- This is written and saved of it, and it has a spelling: the transcripts, the images that were kept, each
+-- once, that of the whole journal, the journal, and the digests.
+pub record IsOf (h : List ℕ → List ℕ) (left : RunResult) (r : RunOutcome) : Type 0 where
+  pub transcript : r.transcript ≡ transcripts_text left.X
+  pub images : AreKept left.kept r.images
+  pub image : r.image ≡ last_image_bytes h left.J
+  pub journal : r.journal ≡ left.J
+  pub digests : r.digests ≡ left.G
+  pub journal_is_encodable : IsJournal r.journal
+  -- the image has room in its format, so that it has a spelling
+  pub has_room : FitsImageFormat h statement_of left.J.database left.J.items
+  pub digests_have_moments : AllByRecursion HasMoments r.digests
+
+-- ---- a run behind which the ledger is closed
+
+-- with some digests behind its own
+abbrev pub and_digests : RunResult → List Digest → RunResult
+and_digests left more = record { X = left.X; kept = left.kept; J = left.J; G = left.G ++ more }
+
+-- it is the digest of the journal's newest block, made at a moment that is said
+pub record IsLast (h : List ℕ → List ℕ) (says : ℕ → Type 0) (J : Journal) (d : Digest) : Type 0 where
+  pub newest : blocks J.items ≡ d.block + 1
+  pub is : d ≡ digest_of h statement_of J.database J.items d.block d.made
+  pub made : IsMoment says d.made
+
+-- one such digest, or none where the journal has no transaction
+abbrev pub AreLast : (List ℕ → List ℕ) → (ℕ → Type 0) → Journal → List Digest → Type 0
+AreLast h says J [] = tx_count J.items ≡ 0
+AreLast h says J (d ∷ []) = IsLast h says J d
+AreLast h says J _ = ⊥
+
+-- All transactions are in blocks. Behind the digests of the run that of the newest block was issued, and
+-- `verify` says Yes of the image of the whole journal with all of them at once.
+pub record IsClosed (h : List ℕ → List ℕ) (says : ℕ → Type 0) (left : RunResult) (more : List Digest)
+    : Type 0 where
+  pub all : closed left.J.items ≡ tx_count left.J.items
+  pub last : AreLast h says left.J more
+  pub accepted : verdict_of h (map held (left.G ++ more)) (last_image_bytes h left.J) ≡ Yes

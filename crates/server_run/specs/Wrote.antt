@@ -1,0 +1,68 @@
+-- What sessions wrote that are over.
+use Rattle.std.specs.Prelude.{ℕ, ◌≡◌, ◌++◌, List, [], ◌∷◌, map}
+use Rattle.spec_history.specs.Lists.{Text, Each, In}
+use Rattle.spec_history.specs.Transcripts.{Transcript, statements}
+use Rattle.format_transcript.specs.TranscriptText.{entry_text}
+use Rattle.spec_protocol.specs.Alone.{Alones}
+use Rattle.spec_protocol.specs.Seats.{idle, IsAtRest, SeatState, Written}
+use Rattle.spec_protocol.specs.Server.{Server}
+use Rattle.format_sections.specs.declared.section.Section.{Section}
+use Rattle.server_result.specs.Moments.{IsMoment}
+use Rattle.server_run.specs.Seated.{known_by, says_in, texts_in}
+use Rattle.server_run.specs.declared.worker.SessionEnd.{SessionEnd}
+use Rattle.server_run.specs.declared.worker.Worker.{Worker}
+
+-- this was written of the session of this name that ran these statements, and its thread has this of it
+pub record IsWritten (says : ℕ → Type 0) (name : Text) (ran : List Text) (e : SessionEnd)
+    (w : Written) : Type 0 where
+  pub session : w.transcript.session ≡ name
+  pub texts : statements w.transcript.entries ≡ ran
+  pub entries : e.entries ≡ map (entry_text name) w.transcript.entries
+  pub images : e.images ≡ w.images
+  pub moments : Each (IsMoment says) w.moments
+
+-- ---- one session
+
+-- what the thread of a session has of it at the end
+abbrev pub left_of : {H C : Type 0} → Worker H C → SessionEnd
+left_of z = record { entries = z.session.entries; images = z.session.images }
+
+-- The session is over, and this seat wrote its transcript behind these. When it began, its seat knew of these
+-- sessions that they were over.
+pub record HasWritten (says : ℕ → Type 0) (name : Text) (texts : List Text) (e : SessionEnd)
+    (known : List Transcript) (written : List Written) (t : SeatState) : Type 0 where
+  pub w : Written
+  pub role : t.role ≡ idle
+  pub wrote : t.written ≡ written ++ w ∷ []
+  pub is : IsWritten says name texts e w
+  pub earlier : w.earlier ≡ known
+
+-- so it is where some steps of the seat alone lead from the state that the board knows
+pub record HasLeft {H C : Type 0} (says : C → ℕ → Type 0) (v : Server) (z : Worker H C)
+    (s : SeatState) : Type 0 where
+  pub t : SeatState
+  pub steps : Alones v s t
+  pub wrote : HasWritten (says_in says z.job) z.job.name.now (texts_in z.job.statements.now) (left_of z)
+      (known_by s) s.written t
+
+-- ---- many sessions
+
+-- these were written of the sessions of a plan, in its order
+abbrev pub AreWritten : (ℕ → Type 0) → List Section → List SessionEnd → List Written → Type 0
+AreWritten says [] [] [] = Unit {0}
+AreWritten says (p ∷ ps) (e ∷ es) (w ∷ ws) =
+    IsWritten says p.name.now (texts_in p.statements.items) e w × AreWritten says ps es ws
+AreWritten says _ _ _ = ⊥
+
+-- when the session began, its seat knew all these to be over
+abbrev pub BeganAfterAll : List Transcript → Written → Type 0
+BeganAfterAll known w = (x : Transcript) → In x known → In x w.earlier
+
+-- the sessions of a plan are over, and a seat wrote their transcripts or took them in
+pub record HaveWritten (says : ℕ → Type 0) (sections : List Section) (ends : List SessionEnd)
+    (s t : SeatState) : Type 0 where
+  pub rests : IsAtRest t.role
+  pub ws : List Written
+  pub wrote : t.written ≡ s.written ++ ws
+  pub are : AreWritten says sections ends ws
+  pub knew : Each (BeganAfterAll (known_by s)) ws

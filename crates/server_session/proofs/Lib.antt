@@ -1,0 +1,9 @@
+pub mod Alone
+pub mod Course
+pub mod Ending
+pub mod Reversed
+pub mod Savepoints
+pub mod Sitting
+pub use Rattle.spec_ledger.proofs.Adding
+pub use Rattle.spec_protocol.proofs.LedgerNumbers
+pub use Rattle.spec_protocol.proofs.Roots

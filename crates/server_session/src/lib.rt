@@ -1,0 +1,24 @@
+//! Seats, which are sessions as their threads have them, and what they do alone between visits of cells.
+#![tactic(auto)]
+
+mod going_on;
+mod need;
+mod needing;
+mod rest;
+mod running;
+mod seat;
+mod seat_name;
+mod served_cell;
+mod stage;
+mod starting;
+mod visited;
+
+pub use need::NextVisit;
+pub use needing::{CATALOG, LEDGER, cell_of, not_catalog};
+pub use running::Running;
+pub use seat::{Answer, Seat};
+pub use served_cell::ServedCell;
+pub use sql_types::EndLine;
+pub use stage::{Answering, ControlPoint, Stage};
+pub use store_tx::TxCtx;
+pub use visited::VisitedCellList;

@@ -1,0 +1,145 @@
+//! A seat: a session between its statements, or inside one.
+
+ghost use Rattle.std.specs.Prelude.{◌≡◌, ◌∷◌, [], true, if◌then◌else◌};
+ghost use Rattle.base_types.specs.SessionName.{is_session_name};
+ghost use Rattle.spec_history.specs.Transcripts.{statement};
+ghost use Rattle.spec_protocol.specs.Seats.{idle, SeatState};
+ghost use Rattle.spec_protocol.specs.Server.{Server};
+ghost use Rattle.spec_history.specs.EndSeen.{line_seen};
+ghost use Rattle.server_session.specs.Needs.{need_of};
+ghost use Rattle.server_session.specs.ControlPoints.{IsAnswering, IsBetween, IsOver};
+ghost use Rattle.server_session.specs.Rest.{IsFinishing, MayEndSession};
+ghost use Rattle.server_session.specs.Steps.{entries_at, end_of as end_in, Begins, EndsSession, StepsAlone};
+ghost use Rattle.server_session.specs.declared.stage.ControlPoint.TheVariants.{Between, Leaving};
+
+use crate::need::NextVisit;
+use crate::needing::{leaving_need, stage_need};
+use crate::running::Running;
+use crate::stage::{ControlPoint, Stage};
+use base_merkle::Hash32;
+use base_types::{Name, Text};
+use sql_types::{EndLine, Reply, Stmt};
+use std::alloc::Global;
+
+/// A session as its thread has it: its transaction, and the statement under way.
+#[derive(Drop)]
+pub struct Seat<H: Hash32> {
+    pub hasher: H,
+    pub name: Name,
+    /// When the statement was taken up.
+    pub started: u64,
+    /// How many images it kept.
+    pub images: usize,
+    pub text: Text,
+    pub stmt: Option<Stmt>,
+    pub running: Option<Running<H>>,
+    pub point: ControlPoint,
+}
+
+/// What a statement is answered.
+pub struct Answer<'a> {
+    pub text: &'a Text,
+    pub reply: &'a Reply,
+    /// The line of the transaction that ends with it.
+    pub end: Option<EndLine>,
+}
+
+impl<H: Hash32> Seat<H> {
+    /// A session that has no statement yet. Takes no memory.
+    pub fn new(alloc: Global, hasher: H, name: Name) -> Seat<H>
+        requires { is_session_name name ≡ true }
+        ensures begins { (v : Server) (s : SeatState) → s.present ≡ true → s.role ≡ idle
+            → Begins H.digest hasher v name s result }
+        ensures between { IsBetween result }
+        ensures name { result.name ≡ name }
+    {
+        Seat {
+            hasher,
+            name,
+            started: 0,
+            images: 0,
+            text: Text::from_string(String::new(alloc)),
+            stmt: None,
+            running: None,
+            point: ControlPoint::Between,
+        }
+    }
+
+    /// What it needs next.
+    pub fn need(&self) -> NextVisit
+        ensures { result ≡ need_of self.now }
+    {
+        match &self.point {
+            ControlPoint::Between => NextVisit::Done,
+            ControlPoint::Inside(stage) => stage_need(stage, &self.running),
+            ControlPoint::Leaving => leaving_need(&self.running),
+            ControlPoint::Over => NextVisit::Done,
+        }
+    }
+
+    /// What the statement is answered, once its seat needs nothing more.
+    pub fn answer(&self) -> Answer<'_>
+        requires { IsAnswering self.now }
+        ensures { entries_at self.now
+            ≡ statement result.text.now result.reply.now (line_seen result.end) ∷ [] }
+    {
+        let ControlPoint::Inside(Stage::Answering(answering)) = &self.point else {
+            unreachable!()
+        };
+        Answer {
+            text: &self.text,
+            reply: &answering.reply,
+            end: end_of(&self.running),
+        }
+    }
+
+    /// The session comes to its end: where a transaction is open, cells are still to be visited.
+    pub fn finish(&mut self)
+        requires { IsBetween self.old }
+        ensures steps { StepsAlone H.digest self.old [] self.new }
+        ensures end { IsFinishing self.old self.new }
+        ensures started { self.new.started ≡ self.old.started }
+        ensures name { self.new.name ≡ self.old.name }
+    {
+        self.point = end_point(self.running.is_some());
+    }
+
+    /// The line of the transaction that the session's end ended.
+    pub fn last_line(&self) -> Option<EndLine>
+        ensures { line_seen result ≡ end_in self.now.running }
+    {
+        end_of(&self.running)
+    }
+
+    /// The session is over, once its last line is in the transcript.
+    pub fn end_session(&mut self)
+        requires { MayEndSession self.old }
+        ensures ends { EndsSession H.digest self.old }
+        ensures over { IsOver self.new }
+        ensures name { self.new.name ≡ self.old.name }
+    {
+        self.running = None;
+        self.point = ControlPoint::Over;
+    }
+}
+
+// Where a session stands that comes to its end; with true, its transaction is open.
+fn end_point(is_open: bool) -> ControlPoint
+    ensures { result ≡ (if is_open then Leaving else Between) }
+{
+    if is_open {
+        ControlPoint::Leaving
+    } else {
+        ControlPoint::Between
+    }
+}
+
+// The line with which the transaction ends.
+fn end_of<H: Hash32>(running: &Option<Running<H>>) -> Option<EndLine>
+    ensures { line_seen result ≡ end_in running.now }
+{
+    match running {
+        Some(running) => running.end,
+        None => None,
+    }
+}

@@ -1,0 +1,11 @@
+pub mod CatalogBehind
+pub mod CatalogCreated
+pub mod CatalogFound
+pub mod CatalogGot
+pub mod CatalogLocks
+pub mod CatalogLooked
+pub mod CatalogParts
+pub mod CatalogReleased
+pub mod CatalogSitting
+pub mod CatalogStopped
+pub mod CatalogVisits

@@ -1,0 +1,6 @@
+pub mod Ledger
+pub mod LedgerAssigns
+pub mod LedgerCommits
+pub mod LedgerEnds
+pub mod LedgerEntries
+pub mod LedgerIssues

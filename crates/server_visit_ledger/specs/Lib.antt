@@ -1,0 +1,4 @@
+pub mod AssigningId
+pub mod Drew
+pub mod LedgerMoves
+pub mod LedgerSeen

@@ -1,0 +1,3 @@
+pub mod ImagesOfCells
+pub mod Keeping
+pub use Rattle.store_image.proofs.Servers

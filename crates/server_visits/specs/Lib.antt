@@ -1,0 +1,5 @@
+pub mod CellSeen
+pub mod Full
+pub mod Images
+pub use Rattle.server_visit_ledger.specs.LedgerSeen
+pub use Rattle.store_image.specs.Room

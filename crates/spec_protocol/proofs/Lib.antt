@@ -1,0 +1,9 @@
+pub mod LedgerNumbers
+pub mod NewEvents
+pub mod Places
+pub use Rattle.law_blocks.proofs.Adding
+pub use Rattle.law_blocks.proofs.Counting
+pub use Rattle.law_blocks.proofs.Roots
+pub use Rattle.law_blocks.proofs.Staying
+pub use Rattle.law_journal.proofs.Created
+pub use Rattle.law_journal.proofs.DefLists

@@ -1,0 +1,148 @@
+-- Versions: what is told of them.
+use Rattle.std.proofs.Common.{◌≡◌, ◌≢◌, ◌∙◌, refl, sym, ap, subst, Bool, true, false, true≢false, List, [], ◌∷◌, ◌++◌, map, Option, Some, None}
+use Rattle.std.proofs.lemmas.Bool.Decides.{Decides-and, Decides-like, not_from_Decides}
+use Rattle.std.specs.Bool.{Decides}
+use Rattle.std.specs.Cmp.{IsTotalOrder, on_total}
+use Rattle.std.specs.Prelude.{◌&&◌, not, is_some, is_none, flat_map, IfSome}
+use Rattle.std.specs.List.{AllByRecursion, filter, list_any}
+use Rattle.std.specs.Ordering.{is_gt, on}
+use Rattle.std.specs.declared.cmp.Ordering.{Ordering}
+use Rattle.sql_value.specs.declared.column.TableKind.{TableKind}
+use Rattle.sql_value.specs.declared.column.TableKind.TheVariants.{AppendOnly, Updatable}
+use Rattle.sql_types.specs.declared.image.Image.{Image}
+use Rattle.sql_types.specs.declared.version.Table.{Table}
+use Rattle.sql_types.specs.declared.version.Version.{Version}
+use Rattle.spec_model.specs.Checks.{is_append_only}
+use Rattle.spec_model.specs.Rows.{EventId}
+use Rattle.format_image.specs.Tables.{tables_in}
+use Rattle.law_catalog_rows.specs.Least.{lesser, least_from}
+use Rattle.spec_verify.specs.declared.place.Place.{Place}
+use Rattle.spec_verify.specs.declared.place.Place.TheVariants as at
+use Rattle.spec_verify.specs.Entries.{table_event_cmp, event_place, least_event}
+use Rattle.spec_verify.specs.Order.{is_before, latest, ends_before, ends_well, follows, shares_key}
+use Rattle.spec_verify.specs.Sentences.{TableVersion, versions_of_image, start_of, earlier_of, VersionHolds}
+use Rattle.spec_verify.specs.Told.{TellsLeast}
+use Rattle.spec_verify.specs.Versions.{has_columns, respects_not_null, with_columns, version_holds, bad_versions, version_fault}
+use Rattle.spec_verify.proofs.Deciding.{not_true, not_false, Decides-none}
+use Rattle.spec_verify.proofs.Leasts.{Placed, least_told}
+use Rattle.spec_verify.proofs.ToldEntries.{table_event_total}
+
+-- ---- one version
+
+itself : (b : Bool) → Decides b (b ≡ true)
+itself b = (λ e. e, λ e. e)
+
+no_end : (end : Option EventId) → Decides (is_none end) (end ≡ None)
+no_end None = (λ e. refl, λ e. refl)
+no_end (Some e) = (λ f. absurd (true≢false (sym f)), λ f. absurd (let g : Some e ≡ None = f in cc))
+
+-- what need be so only where a table is append-only
+decides_kind : (kind : TableKind) (end : Option EventId) → Decides (not (is_append_only kind && is_some end)) (kind ≡ AppendOnly → end ≡ None)
+decides_kind AppendOnly None = (λ e k. refl, λ f. refl)
+decides_kind AppendOnly (Some e) = (λ f. absurd (true≢false (sym f)), λ f. absurd (let g : Some e ≡ None = f refl in cc))
+decides_kind Updatable end = (λ e k. absurd (let g : Updatable ≡ AppendOnly = k in cc), λ f. refl)
+
+decides_key : (end : Option EventId) (before : List Version) → Decides (not (is_none end && list_any (λ (w : Version). is_none w.end) before)) (end ≡ None → AllByRecursion (λ (w : Version). w.end ≢ None) before)
+decides_key None before = (λ e f. (none before).0 e, λ f. (none before).1 (f refl))
+  where
+    none : (ws : List Version) → Decides (not (list_any (λ (w : Version). is_none w.end) ws)) (AllByRecursion (λ (w : Version). w.end ≢ None) ws)
+    none = Decides-none (λ (w : Version). is_none w.end) (λ w. w.end ≡ None) (λ w. no_end w.end)
+decides_key (Some e) before = (λ f g. absurd (let k : Some e ≡ None = g in cc), λ f. refl)
+
+module _ (i : Image) where
+  decides_end : (v : Version) (end : Option EventId) → Decides (ends_well i.entries v end) (IfSome end (λ e. is_before i.entries v.start e ≡ true))
+  decides_end v None = (λ e. tt, λ f. refl)
+  decides_end v (Some e) = itself (is_before i.entries v.start e)
+
+  decides_follow : (v : Version) (w : Option Version) → Decides (follows i.entries v w) (IfSome w (λ w. ends_before i.entries w.end v.start ≡ true))
+  decides_follow v None = (λ e. tt, λ f. refl)
+  decides_follow v (Some w) = itself (ends_before i.entries w.end v.start)
+
+  decides_version : (x : TableVersion) → Decides (version_holds i.entries x.0 x.1) (VersionHolds i x)
+  decides_version x =
+      let cs = x.0.def.columns in
+      let v = x.1 in
+      let among : List Version = with_columns cs x.0.versions in
+      let columns : Bool = has_columns cs v.values in
+      let nulls : Bool = respects_not_null cs v.values in
+      let kind : Bool = not (is_append_only x.0.def.kind && is_some v.end) in
+      let key : Bool = not (shares_key i.entries cs among v) in
+      let ends : Bool = ends_well i.entries v v.end in
+      let after : Bool = follows i.entries v (latest i.entries (earlier_of i x)) in
+      Decides-like (version_holds i.entries x.0 x.1)
+      (λ p. record { columns = p.0.0.0.0; nulls = p.0.0.0.1; append_only = p.0.0.1; key = p.0.1; ends = p.1.0; follows = p.1.1 })
+      (λ k. ((((k.columns, k.nulls), k.append_only), k.key), (k.ends, k.follows)))
+      (Decides-and (columns && nulls && kind && key) (ends && after)
+      (Decides-and (columns && nulls && kind) key
+      (Decides-and (columns && nulls) kind (Decides-and columns nulls (itself columns) (itself nulls)) (decides_kind x.0.def.kind v.end))
+      (decides_key v.end (earlier_of i x)))
+      (Decides-and ends after (decides_end v v.end) (decides_follow v (latest i.entries (earlier_of i x)))))
+
+-- ---- the least
+
+module _ {A B : Type 0} (f : A → B) (cmp : B → B → Ordering) where
+  abbrev through : Option A → Option B
+  through None = None
+  through (Some x) = Some (f x)
+
+  lesser_through : (best : Option A) (x : A) → lesser cmp (through best) (f x) ≡ through (lesser (on f cmp) best x)
+  lesser_through None x = refl
+  lesser_through (Some best) x = here (is_gt (cmp (f best) (f x))) refl
+    where
+      here : (g : Bool) → is_gt (cmp (f best) (f x)) ≡ g → lesser cmp (Some (f best)) (f x) ≡ through (lesser (on f cmp) (Some best) x)
+      here true e = rw e refl
+      here false e = rw e refl
+
+  least_through : (best : Option A) (xs : List A) → least_from cmp (through best) (map f xs) ≡ through (least_from (on f cmp) best xs)
+  least_through best [] = refl
+  least_through best (x ∷ xs) = ap (λ b. least_from cmp b (map f xs)) (lesser_through best x) ∙ least_through (lesser (on f cmp) best x) xs
+
+abbrev start_place : Option TableVersion → Option Place
+start_place x = event_place (through start_of table_event_cmp x)
+
+module _ (i : Image) where
+  abbrev is_bad : TableVersion → Bool
+  is_bad x = not (version_holds i.entries x.0 x.1)
+
+  with_table : (t : Table) (vs : List Version)
+      → map (λ (v : Version). (t.def.id, v.start)) (filter (λ v. not (version_holds i.entries t v)) vs) ≡ map start_of (filter is_bad (map (λ v. (t, v)) vs))
+  with_table t [] = refl
+  with_table t (v ∷ vs) = here (not (version_holds i.entries t v)) refl (with_table t vs)
+    where
+      here : (b : Bool) → not (version_holds i.entries t v) ≡ b
+          → map (λ (v : Version). (t.def.id, v.start)) (filter (λ v. not (version_holds i.entries t v)) vs) ≡ map start_of (filter is_bad (map (λ v. (t, v)) vs))
+          → map (λ (v : Version). (t.def.id, v.start)) (filter (λ v. not (version_holds i.entries t v)) (v ∷ vs)) ≡ map start_of (filter is_bad (map (λ v. (t, v)) (v ∷ vs)))
+      here true e r = rw e (ap (λ more. (t.def.id, v.start) ∷ more) r)
+      here false e r = rw e r
+
+  append_bad : (xs ys : List TableVersion) → map start_of (filter is_bad (xs ++ ys)) ≡ map start_of (filter is_bad xs) ++ map start_of (filter is_bad ys)
+  append_bad [] ys = refl
+  append_bad (x ∷ xs) ys = here (is_bad x) refl (append_bad xs ys)
+    where
+      here : (b : Bool) → is_bad x ≡ b → map start_of (filter is_bad (xs ++ ys)) ≡ map start_of (filter is_bad xs) ++ map start_of (filter is_bad ys)
+          → map start_of (filter is_bad ((x ∷ xs) ++ ys)) ≡ map start_of (filter is_bad (x ∷ xs)) ++ map start_of (filter is_bad ys)
+      here true e r = rw e (ap (λ more. start_of x ∷ more) r)
+      here false e r = rw e r
+
+  all_tables : (ts : List Table) → flat_map (bad_versions i.entries) ts ≡ map start_of (filter is_bad (flat_map (λ (t : Table). map (λ v. (t, v)) t.versions) ts))
+  all_tables [] = refl
+  all_tables (t ∷ ts) =
+      ap (λ more. bad_versions i.entries t ++ more) (all_tables ts)
+      ∙ ap (λ front. front ++ map start_of (filter is_bad (flat_map (λ (t : Table). map (λ v. (t, v)) t.versions) ts))) (with_table t t.versions)
+      ∙ sym (append_bad (map (λ v. (t, v)) t.versions) (flat_map (λ (t : Table). map (λ v. (t, v)) t.versions) ts))
+
+  places_of_starts : Placed (λ (x : TableVersion) (p : Place). p ≡ at.Event x.0.def.id x.1.start.0 x.1.start.1) start_place
+  places_of_starts = record { none = refl; at = λ x. at.Event x.0.def.id x.1.start.0 x.1.start.1; some = λ x. refl; says = λ x. refl }
+
+  start_total : IsTotalOrder (on start_of table_event_cmp)
+  start_total = on_total start_of table_event_total
+
+  pub versions_told : TellsLeast (on start_of table_event_cmp) (VersionHolds i) (λ x p. p ≡ at.Event x.0.def.id x.1.start.0 x.1.start.1) (versions_of_image i) (version_fault i)
+  unfolding version_fault
+  versions_told =
+      subst (λ p. TellsLeast (on start_of table_event_cmp) (VersionHolds i) (λ x p. p ≡ at.Event x.0.def.id x.1.start.0 x.1.start.1) (versions_of_image i) p)
+      (sym (ap least_event (all_tables (tables_in i)) ∙ ap event_place (least_through start_of table_event_cmp None (filter is_bad (versions_of_image i)))))
+      (least_told (on start_of table_event_cmp) start_total (VersionHolds i) is_bad
+      (λ x is. (decides_version i x).0 (not_true (version_holds i.entries x.0 x.1) is))
+      (λ x is. not_from_Decides (version_holds i.entries x.0 x.1) (decides_version i x) (not_false (version_holds i.entries x.0 x.1) is))
+      (λ x p. p ≡ at.Event x.0.def.id x.1.start.0 x.1.start.1) start_place (versions_of_image i) places_of_starts)

@@ -1,0 +1,18 @@
+-- The events of a version that are a transaction's own.
+use Rattle.std.specs.Prelude.{ℕ, ◌==◌, if◌then◌else◌, List, [], ◌∷◌, ◌++◌, Option, Some, None}
+use Rattle.sql_types.specs.declared.event.Event.{Event}
+use Rattle.sql_types.specs.declared.version.Version.{Version}
+use Rattle.spec_model.specs.Rows.{EventId}
+use Rattle.spec_model.specs.Events.{start_event, end_event}
+
+-- its start, where the transaction started it
+abbrev pub own_start : ℕ → ℕ → Version → List Event
+own_start tx table v = if v.start.0 == tx then start_event table v ∷ [] else []
+
+-- its end, where the transaction ended it
+abbrev pub own_ends : ℕ → ℕ → Version → Option EventId → List Event
+own_ends tx table v (Some end) = if end.0 == tx then end_event table v end ∷ [] else []
+own_ends tx table v None = []
+
+abbrev pub own : ℕ → ℕ → Version → List Event
+own tx table v = own_start tx table v ++ own_ends tx table v v.end

@@ -1,0 +1,11 @@
+//! Tables as lists of versions: changes carried out and undone, and the events that they are.
+#![tactic(auto)]
+
+mod changing;
+mod events;
+mod undoing;
+
+pub use changing::change_table;
+pub use events::{all_events, events_of};
+pub use sql_types::{Change, Event, Table, Version};
+pub use undoing::undo;

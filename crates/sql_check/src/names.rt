@@ -1,0 +1,104 @@
+//! Names in lists, and what a name stands for in a table.
+
+ghost use Rattle.std.specs.Prelude.{◌≡◌, ℕ, List, map};
+ghost use Rattle.std.specs.List.{list_any};
+ghost use Rattle.std.specs.Str.{bytes_eq};
+ghost use Rattle.spec_model.specs.Lists as spec;
+ghost use Rattle.spec_model.specs.Catalog as catalog;
+
+use base_types::Name;
+use sql_types::{Part, TableDef};
+use sql_value::{ColumnDef, Expr};
+
+/// What has a name.
+pub trait Named: Drop {
+    /// The bytes of the name.
+    ghost named: { Self → List ℕ };
+
+    fn name(&self) -> &Name
+        ensures { result.now ≡ named self.now };
+}
+
+impl Named for Name {
+    ghost named = { λ n. n };
+
+    fn name(&self) -> &Name {
+        self
+    }
+}
+
+impl Named for ColumnDef {
+    ghost named = { λ c. c.name };
+
+    fn name(&self) -> &Name {
+        &self.name
+    }
+}
+
+/// A column that SET names, with its new value.
+impl Named for (Name, Expr) {
+    ghost named = { λ s. s.0 };
+
+    fn name(&self) -> &Name {
+        &self.0
+    }
+}
+
+fn any_named<T: Named>(items: &[T], name: &Name) -> bool
+    ensures { result ≡ list_any (λ item. bytes_eq (T.named item) name.now) items.now }
+{
+    items.iter().any(|item| *item.name() == *name)
+}
+
+/// Whether one of these has the name.
+#[tactic(auto, using(crate::proofs::Lists::any_map))]
+pub fn has_name<T: Named>(items: &[T], name: &Name) -> bool
+    ensures { result ≡ spec.has_name (map T.named items.now) name.now }
+{
+    any_named(items, name)
+}
+
+/// Whether some name stands twice. Each is compared with those behind it.
+pub fn repeats<T: Named>(items: &[T]) -> bool
+    ensures { result ≡ spec.repeats (map T.named items.now) }
+{
+    for at in 0..items.len() {
+        if has_name(&items[at + 1..], items[at].name()) {
+            return true;
+        }
+    }
+    false
+}
+
+/// The part of the table that has the name.
+pub fn part_named(def: &TableDef, name: &Name) -> Option<Part>
+    ensures { result ≡ catalog.part_named def.now name.now }
+{
+    if is_named(&def.name, name) {
+        Some(own_part(def))
+    } else if is_named(&def.history, name) {
+        Some(Part::History)
+    } else if is_named(&def.view, name) {
+        Some(Part::View)
+    } else {
+        None
+    }
+}
+
+/// Whether the name is this one; what has no name is found by none.
+pub fn is_named(own: &Name, name: &Name) -> bool
+    ensures { result ≡ catalog.is_named own.now name.now }
+{
+    !own.bytes().is_empty() && *own == *name
+}
+
+/// The part of a table that its own name stands for.
+pub fn own_part(def: &TableDef) -> Part
+    ensures { result ≡ catalog.own_part def.now }
+{
+    if def.id <= 2 {
+        Part::System
+    } else {
+        Part::Base
+    }
+}

@@ -1,0 +1,4 @@
+pub mod Arithmetic
+pub mod Operators
+pub mod Rows
+pub mod OutcomeRef

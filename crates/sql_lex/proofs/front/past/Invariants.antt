@@ -1,0 +1,11 @@
+use Rattle.std.proofs.Common.{◌≡◌, ◌+◌, ◌-◌, ◌≤◌, length, drop}
+use Rattle.std.specs.List.{prefix_len}
+use Rattle.sql_lex.specs.Front.{is_in}
+use Rattle.sql_lex.proofs.front.past.Given as goal
+
+abbrev pub invariant-loop-end : goal.invariant-loop-end
+invariant-loop-end l =
+    (l.end + prefix_len (is_in l.class) (drop l.end l.z) ≡ l.at + prefix_len (is_in l.class) (drop l.at l.z)) × (l.at ≤ l.end) × (l.end ≤ length l.z)
+
+abbrev pub decreases-loop-end : goal.decreases-loop-end
+decreases-loop-end l = length l.z - l.end

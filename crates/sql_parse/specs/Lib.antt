@@ -1,0 +1,1 @@
+pub use Rattle.spec_syntax.specs.Text

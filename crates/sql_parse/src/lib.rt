@@ -1,0 +1,22 @@
+//! Reads and prints the text of a statement.
+#![tactic(auto)]
+
+mod column;
+mod cursor;
+mod expr;
+mod ledger;
+mod name;
+mod page;
+mod print_part;
+mod print_stmt;
+mod row;
+mod select;
+mod stmt;
+mod table;
+mod text;
+mod word;
+
+pub use print_stmt::print;
+pub use spec_syntax::ParseErr;
+pub use sql_types::{Agg, CreateIndex, CreateTable, RowStmt, Select, SelectList, Stmt};
+pub use text::parse;

@@ -1,0 +1,88 @@
+//! The rows in the order of ORDER BY.
+
+ghost use Rattle.std.specs.Prelude.{◌≡◌, IfOk, map};
+ghost use Rattle.spec_model.specs.Lists.{sorted};
+ghost use Rattle.spec_model.specs.Query as spec;
+ghost use Rattle.sql_select.specs.SortKeys.{key_of, key_cmp, keys_cmp};
+
+use crate::showing::value_in;
+use base_types::{Memory, Name};
+use sql_parts::Columns;
+use sql_types::Row;
+use sql_value::{Value, compare};
+use std::alloc::Global;
+use std::cmp::Ordering;
+
+/// A column by which rows are sorted.
+#[derive(Clone, Copy, Debug)]
+pub struct SortKey {
+    /// The place of its values in the rows, if it is there.
+    pub place: Option<usize>,
+    pub descending: bool,
+}
+
+/// The keys of the columns in ORDER BY: each is looked up once.
+fn sort_keys(
+    alloc: Global,
+    columns: &Columns,
+    order: &[(Name, bool)],
+) -> Result<Vec<SortKey>, Memory>
+    ensures { IfOk result (λ keys. keys.items ≡ map (key_of columns.now) order.now) }
+{
+    let mut keys = Vec::with_capacity(alloc, order.len())?;
+    for by in order {
+        keys.push(SortKey {
+            place: columns.place_of(&by.0),
+            descending: by.1,
+        })?;
+    }
+    Ok(keys)
+}
+
+/// How two rows stand to each other by one column.
+fn compare_by(key: SortKey, a: &[Value], b: &[Value]) -> Ordering
+    ensures { result ≡ key_cmp key a.now b.now }
+{
+    let null = Value::Null;
+    let x = value_in(key.place, a, &null);
+    let y = value_in(key.place, b, &null);
+    if key.descending {
+        compare(y, x)
+    } else {
+        compare(x, y)
+    }
+}
+
+/// How two rows stand to each other by the first column, then by the second, and so on.
+fn compare_rows(keys: &[SortKey], a: &[Value], b: &[Value]) -> Ordering
+    ensures { result ≡ keys_cmp keys.now a.now b.now }
+{
+    for &key in keys {
+        let order = compare_by(key, a, b);
+        if order != Ordering::Equal {
+            return order;
+        }
+    }
+    Ordering::Equal
+}
+
+/// The rows by their keys; those that are equal in all of them keep their order.
+fn sorted_rows(keys: &[SortKey], mut rows: Vec<Row>) -> Result<Vec<Row>, Memory>
+    ensures { IfOk result (λ out. out.items ≡ sorted (keys_cmp keys.now) rows.items) }
+{
+    rows.sort_by(|a, b| compare_rows(keys, a.as_slice(), b.as_slice()))?;
+    Ok(rows)
+}
+
+/// The rows by the columns of ORDER BY; those that are equal in all of them keep their order.
+pub fn ordered(
+    alloc: Global,
+    columns: &Columns,
+    order: &[(Name, bool)],
+    rows: Vec<Row>,
+) -> Result<Vec<Row>, Memory>
+    ensures { IfOk result (λ out. out.items ≡ sorted (spec.order_cmp columns.now order.now) rows.items) }
+{
+    let keys = sort_keys(alloc, columns, order)?;
+    sorted_rows(&keys, rows)
+}

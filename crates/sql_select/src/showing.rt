@@ -1,0 +1,109 @@
+//! What is shown of the rows.
+
+ghost use Rattle.std.specs.Prelude.{◌≡◌, IfOk, map, take};
+ghost use Rattle.sql_value.specs.declared.value.Value.TheVariants.{Null};
+ghost use Rattle.spec_model.specs.Columns as columns_spec;
+ghost use Rattle.spec_model.specs.Query as spec;
+ghost use Rattle.sql_select.specs.Answers.{ItemsMatchUnlessOom};
+ghost use Rattle.sql_select.specs.Places.{values_at};
+
+use crate::totals::aggregates;
+use base_types::{Items, Memory, Name};
+use sql_parts::Columns;
+use sql_types::{Row, SelectList};
+use sql_value::{Refusal, Value};
+use std::alloc::Global;
+
+/// The value of a row at a place, or else NULL.
+pub fn value_in<'a>(place: Option<usize>, row: &'a [Value], null: &'a Value) -> &'a Value
+    requires { null.now ≡ Null }
+    ensures { result.now ≡ spec.value_in place row.now }
+{
+    match place {
+        Some(place) => row.get(place).unwrap_or(null),
+        None => null,
+    }
+}
+
+/// The first so many values of each row.
+fn shown_of(alloc: Global, shown: usize, rows: Vec<Row>) -> Result<Vec<Row>, Memory>
+    ensures { IfOk result (λ out. out.items ≡ map (take shown) rows.items) }
+{
+    let mut out = Vec::with_capacity(alloc, rows.len())?;
+    for row in rows {
+        let mut values = row.into_vec();
+        values.truncate(shown);
+        out.push(Items::from_vec(values))?;
+    }
+    Ok(out)
+}
+
+/// The places of columns.
+fn places_of(alloc: Global, columns: &Columns, names: &[Name]) -> Result<Vec<Option<usize>>, Memory>
+    ensures { IfOk result (λ places. places.items ≡ map (columns_spec.place_of columns.now) names.now) }
+{
+    let mut places = Vec::with_capacity(alloc, names.len())?;
+    for name in names {
+        places.push(columns.place_of(name))?;
+    }
+    Ok(places)
+}
+
+/// The values of a row at some places.
+#[tactic(auto, unfolding(crate::specs::Places::values_at))]
+fn values_in(alloc: Global, places: &[Option<usize>], row: &[Value]) -> Result<Row, Memory>
+    ensures { IfOk result (λ values. values ≡ values_at places.now row.now) }
+{
+    let null = Value::Null;
+    let mut values = Vec::with_capacity(alloc, places.len())?;
+    for &place in places {
+        values.push(value_in(place, row, &null).copy()?)?;
+    }
+    Ok(Items::from_vec(values))
+}
+
+/// The values of each row at some places.
+fn rows_at(alloc: Global, places: &[Option<usize>], rows: &[Row]) -> Result<Vec<Row>, Memory>
+    ensures { IfOk result (λ out. out.items ≡ map (values_at places.now) rows.now) }
+{
+    let mut out = Vec::with_capacity(alloc, rows.len())?;
+    for row in rows {
+        out.push(values_in(alloc, places, row.as_slice())?)?;
+    }
+    Ok(out)
+}
+
+/// The values of each row in the columns of these names.
+#[tactic(auto, using(crate::proofs::Projections::by_places))]
+fn projected(
+    alloc: Global,
+    columns: &Columns,
+    names: &[Name],
+    rows: &[Row],
+) -> Result<Vec<Row>, Memory>
+    ensures { IfOk result (λ out. out.items ≡ map (spec.projected columns.now names.now) rows.now) }
+{
+    let places = places_of(alloc, columns, names)?;
+    rows_at(alloc, &places, rows)
+}
+
+/// What a SELECT shows of the rows that it took; `*` shows the first `shown` columns.
+pub fn apply_select_list(
+    alloc: Global,
+    columns: &Columns,
+    shown: usize,
+    what: &SelectList,
+    rows: Vec<Row>,
+) -> Result<Vec<Row>, Refusal>
+    ensures { ItemsMatchUnlessOom (spec.apply_select_list columns.now shown what.now rows.items) result }
+{
+    match what {
+        SelectList::All => Ok(shown_of(alloc, shown, rows)?),
+        SelectList::Columns(names) => Ok(projected(alloc, columns, names.as_slice(), &rows)?),
+        SelectList::Aggs(aggs) => {
+            let mut out = Vec::with_capacity(alloc, 1)?;
+            out.push(aggregates(alloc, columns, aggs.as_slice(), &rows)?)?;
+            Ok(out)
+        }
+    }
+}

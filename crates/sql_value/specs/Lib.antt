@@ -1,0 +1,16 @@
+pub mod Conversion
+pub mod Day
+pub mod Literal
+pub mod Literals
+pub mod Number
+pub mod Order
+pub mod Printed
+pub mod Refusal
+pub mod Stored
+pub mod Text
+pub mod Tree
+pub mod TypeCodes
+pub use Rattle.base_types.specs.DatabaseName
+pub use Rattle.base_types.specs.Ids
+pub use Rattle.base_types.specs.Moment
+pub use Rattle.base_types.specs.SessionName

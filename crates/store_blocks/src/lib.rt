@@ -1,0 +1,9 @@
+//! The entries and blocks of a database, as its transactions are committed and its blocks closed.
+#![tactic(auto)]
+
+mod ledger_chain;
+mod placing;
+mod root;
+
+pub use ledger_chain::LedgerChain;
+pub use sql_types::{BlockRecord, TxEntry};

@@ -1,0 +1,25 @@
+//! The places of entries in blocks.
+
+ghost use Rattle.std.specs.Prelude.{◌≡◌, ◌≤◌, ◌++◌, length, take, drop};
+ghost use Rattle.spec_ledger.specs.Entries.{at_place, placed};
+
+use sql_types::TxEntry;
+
+/// Puts an entry at a place of a block.
+pub(crate) fn place_at(entry: &mut TxEntry, block: u64, ordinal: u64)
+    ensures { entry.new ≡ at_place block ordinal entry.old }
+{
+    entry.block = block;
+    entry.ordinal = ordinal;
+}
+
+/// Puts the entries from this one on at the places of a block, from its first one on.
+pub(crate) fn place_from(entries: &mut Vec<TxEntry>, from: usize, block: u64)
+    requires { from ≤ length entries.old.items }
+    ensures { entries.new.items
+        ≡ take from entries.old.items ++ placed block 0 (drop from entries.old.items) }
+{
+    for place in from..entries.len() {
+        place_at(&mut entries[place], block, (place - from) as u64);
+    }
+}

@@ -1,0 +1,101 @@
+-- What a CREATE needs of the cell and of the context before it changes them.
+use Rattle.std.proofs.Common.{◌≡◌, ◌≤◌, ◌<◌, ℕ, ◌+◌, ◌-◌, ◌^◌, refl, sym, ap, ap₂, subst, ◌∙◌, List, [], ◌∷◌, ◌++◌, length, get_or, take, Option, Some, arith}
+use Rattle.std.specs.Prelude.{slice_set}
+use Rattle.std.specs.List.{AllByRecursion}
+use Rattle.sql_types.specs.declared.change.Change.{Change}
+use Rattle.sql_types.specs.declared.statement.CreateIndex.{CreateIndex}
+use Rattle.sql_types.specs.declared.statement.CreateTable.{CreateTable}
+use Rattle.sql_types.specs.declared.table.TableDef.{TableDef}
+use Rattle.sql_types.specs.declared.version.Version.{Version}
+use Rattle.spec_model.specs.Catalog.{Defs}
+use Rattle.spec_model.specs.Changes.{changed_all}
+use Rattle.spec_model.specs.Effect.{column_starts, index_starts, table_start}
+use Rattle.spec_model.specs.Runs.{MadeBefore}
+use Rattle.spec_model.specs.SystemTables.{column_rows, columns_id, tables_id}
+use Rattle.law_journal.proofs.Created.{Created, created}
+use Rattle.spec_protocol.specs.CatalogVisits.{replaced_def}
+use Rattle.spec_protocol.specs.Cells.{CatalogCell, Creator}
+use Rattle.store_catalog.specs.Definitions.{AreFormed}
+use Rattle.store_catalog.specs.Names.{HaveSameNames, MayReplace}
+use Rattle.store_catalog.specs.WorkedOut.{IsNewIndex, IsNewTable}
+use Rattle.store_catalog.specs.declared.creating.NewIndex.{NewIndex}
+use Rattle.store_catalog.specs.declared.creating.NewTable.{NewTable}
+use Rattle.store_catalog.proofs.Creates.{as_many, Entered, Indexes}
+use Rattle.store_catalog.proofs.DefsKept.{before_in_place, before_more, replaced_in_place}
+use Rattle.store_catalog.proofs.Fitting.{columns_starts_are_rows, of_index, table_starts_are_rows, OfIndex}
+
+abbrev made_by : ℕ → Defs → Option Creator
+made_by tx defs = Some (record { tx = tx; before = defs })
+
+-- ---- CREATE TABLE
+
+module _ (c : CatalogCell) (tx seq : ℕ) (create : CreateTable) (new : NewTable) (changes_worked_out : IsNewTable c.defs tx seq create new) (fl sl : List (List ℕ)) (first : fl ≡ new.first.leaves) (second : sl ≡ new.second.leaves) where
+  is_created : Created c.defs new.def
+  is_created = created c.defs create new.def changes_worked_out.passes
+
+  pub leaves_room : (n : ℕ) → seq ≡ n → n + (length fl + length sl) < 2 ^ 63
+  leaves_room n is =
+      let one = as_many tables_id tx seq seq (table_start new.def) fl (first ∙ changes_worked_out.first.leaves) (table_starts_are_rows c.defs new.def is_created) in
+      let rest = as_many columns_id tx seq (seq + 1) (column_starts (column_rows new.def)) sl (second ∙ changes_worked_out.second.leaves) (columns_starts_are_rows c.defs new.def is_created) in
+      omega (arith, one, rest, changes_worked_out.second.room, is)
+
+  pub entered : (d : CatalogCell) (ts cs : List Version) → AllByRecursion (MadeBefore tx seq) c.tables → AllByRecursion (MadeBefore tx seq) c.columns
+      → d.defs ≡ c.defs ++ new.def ∷ [] → d.creator ≡ Some (record { tx = tx; before = take (length d.defs - 1) d.defs })
+      → ts ≡ c.tables → cs ≡ c.columns → d.tables ≡ changed_all tx seq new.first.starts ts → d.columns ≡ changed_all tx (seq + 1) new.second.starts cs → d.holds ≡ c.holds
+      → Entered tx seq new.def fl sl c d
+  entered d ts cs old_tables old_columns defs creator t k tables columns holds = record {
+    created = is_created;
+    old_tables = old_tables;
+    old_columns = old_columns;
+    first = first ∙ changes_worked_out.first.leaves;
+    second = second ∙ changes_worked_out.second.leaves;
+    defs = defs;
+    creator = creator ∙ ap (made_by tx) (ap (λ (ds : Defs). take (length ds - 1) ds) defs ∙ before_more c.defs new.def);
+    tables = tables ∙ ap₂ (λ (xs : List Change) (vs : List Version). changed_all tx seq xs vs) changes_worked_out.first.starts t;
+    columns = columns ∙ ap₂ (λ (xs : List Change) (vs : List Version). changed_all tx (seq + 1) xs vs) changes_worked_out.second.starts k;
+    holds = holds;
+  }
+
+-- ---- CREATE INDEX
+
+module _ (c : CatalogCell) (tx seq : ℕ) (create : CreateIndex) (new : NewIndex) (formed : AreFormed c.defs) (changes_worked_out : IsNewIndex c.defs tx seq create new) (ls : List (List ℕ)) (leaves : ls ≡ new.rows.leaves) where
+  of : OfIndex c.defs changes_worked_out.def changes_worked_out.index
+  of = of_index c.defs create changes_worked_out.def changes_worked_out.index formed changes_worked_out.passes
+
+  pub index_room : (n : ℕ) → seq ≡ n → n + length ls < 2 ^ 63
+  index_room n is =
+      let all = as_many columns_id tx seq seq (index_starts changes_worked_out.def changes_worked_out.index) ls (leaves ∙ changes_worked_out.rows.leaves) of.rows in
+      omega (arith, all, changes_worked_out.rows.room, is)
+
+  pub new_id : new.def.id ≡ new.place + 1
+  new_id = ap (λ (d : TableDef). d.id) changes_worked_out.now ∙ changes_worked_out.place
+
+  pub may_replace : MayReplace c.defs new.place new.def
+  may_replace = record {
+    within = changes_worked_out.within;
+    same_names = λ d. subst (λ (e : TableDef). HaveSameNames e new.def) (sym (there d)) (subst (HaveSameNames changes_worked_out.def) (sym changes_worked_out.now) (record { id = refl; name = refl; history = refl; view = refl }));
+  }
+    where
+      at_place : of.has_listing.place ≡ new.place
+      at_place = omega (arith, of.has_listing.id, changes_worked_out.place)
+
+      there : (d : TableDef) → get_or c.defs new.place d ≡ changes_worked_out.def
+      there d = subst (λ (n : ℕ). get_or c.defs n d ≡ changes_worked_out.def) at_place (of.has_listing.there d)
+
+  pub new_few : length new.def.columns ≤ 64
+  new_few = subst (λ (d : TableDef). length d.columns ≤ 64) (sym changes_worked_out.now) changes_worked_out.few
+
+  pub indexes : (d : CatalogCell) (cs : List Version) (old : TableDef) → AllByRecursion (MadeBefore tx seq) c.columns → d.defs ≡ slice_set c.defs new.place new.def → old ≡ get_or c.defs new.place old
+      → d.creator ≡ Some (record { tx = tx; before = slice_set d.defs new.place old }) → d.tables ≡ c.tables
+      → cs ≡ c.columns → d.columns ≡ changed_all tx seq new.rows.starts cs → d.holds ≡ c.holds
+      → Indexes tx seq changes_worked_out.def changes_worked_out.index ls c d
+  indexes d cs old old_columns defs at creator tables k columns holds = record {
+    rows = of.rows;
+    old_columns = old_columns;
+    leaves = leaves ∙ changes_worked_out.rows.leaves;
+    defs = defs ∙ replaced_in_place c.defs new.place new.def formed.ids new_id changes_worked_out.within ∙ ap (λ (x : TableDef). replaced_def x c.defs) changes_worked_out.now;
+    creator = creator ∙ ap (made_by tx) (ap (λ (ds : Defs). slice_set ds new.place old) defs ∙ before_in_place c.defs new.place new.def old at);
+    tables = tables;
+    columns = columns ∙ ap₂ (λ (xs : List Change) (vs : List Version). changed_all tx seq xs vs) changes_worked_out.rows.starts k;
+    holds = holds;
+  }

@@ -1,0 +1,12 @@
+pub mod Asking
+pub mod Carrying
+pub mod Creates
+pub mod DefsKept
+pub mod Entering
+pub mod Fitting
+pub mod Named
+pub mod NewRows
+pub mod NotedLeaves
+pub mod Shown
+pub mod Taking
+pub mod Visits

@@ -1,0 +1,7 @@
+pub mod Calls
+pub mod Definitions
+pub mod Names
+pub mod Noted
+pub mod Refusals
+pub mod Rows
+pub mod WorkedOut

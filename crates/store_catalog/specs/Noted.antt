@@ -1,0 +1,30 @@
+-- Leaves that are noted one after another.
+use Rattle.std.specs.Prelude.{ℕ, ◌<◌, ◌+◌, ◌^◌, List, [], ◌∷◌}
+use Rattle.spec_model.specs.SystemTables.{columns_id, tables_id}
+use Rattle.spec_protocol.specs.Seats.{Tree, OpenTransaction}
+use Rattle.store_tx.specs.Leaves.{with_leaf}
+use Rattle.store_tx.specs.Represents.{Represents, IsOpen}
+use Rattle.store_tx.specs.declared.context.TxCtx.{TxCtx}
+
+-- the leaves come at the end of the table's tree
+abbrev pub with_leaves : ℕ → List (List ℕ) → List Tree → List Tree
+with_leaves table [] trees = trees
+with_leaves table (l ∷ ls) trees = with_leaves table ls (with_leaf table l trees)
+
+-- so many more events of the table may be noted
+pub record MayNoteMany {H : Type 0} (digest : H → List ℕ → List ℕ) (table count : ℕ) (c : TxCtx H)
+    : Type 0 where
+  pub h : H
+  pub o : OpenTransaction
+  pub is : Represents digest h c o
+  pub open_tree : IsOpen table c
+  pub room : o.seq + count < 2 ^ 63
+
+-- so many more events of both tables of the system may be
+pub record MayNoteBoth {H : Type 0} (digest : H → List ℕ → List ℕ) (count : ℕ) (c : TxCtx H) : Type 0 where
+  pub h : H
+  pub o : OpenTransaction
+  pub is : Represents digest h c o
+  pub tables : IsOpen tables_id c
+  pub columns : IsOpen columns_id c
+  pub room : o.seq + count < 2 ^ 63

@@ -1,0 +1,107 @@
+//! The last change of the definitions: who made it, and how it is taken back.
+
+ghost use Rattle.std.specs.Prelude.{◌≡◌, IfOk};
+ghost use Rattle.spec_model.specs.Catalog.{Defs};
+ghost use Rattle.spec_protocol.specs.UndoVisits.{creator_left, defs_before};
+ghost use Rattle.store_catalog.specs.Definitions.{before, creator_seen, is_creator, AreFormed, IsPlace, MayTakeBack};
+
+use crate::named_defs::NamedDefs;
+use base_types::{Memory, TxId};
+use sql_system::copy_def;
+use sql_types::TableDef;
+use std::alloc::Global;
+
+/// A definition, and its place, in which there is another one now.
+#[derive(Drop)]
+pub(crate) struct ReplacedDef {
+    pub place: usize,
+    pub def: TableDef,
+}
+
+/// The transaction that changed the definitions and hasn't released the catalog. It replaced a definition,
+/// or added one behind the others.
+#[derive(Drop)]
+pub(crate) struct Creator {
+    pub tx: TxId,
+    pub replaced: Option<ReplacedDef>,
+}
+
+/// Copies of the definitions.
+pub(crate) fn copy_defs(alloc: Global, defs: &[TableDef]) -> Result<Vec<TableDef>, Memory>
+    ensures { IfOk result (λ copies. copies.items ≡ defs.now) }
+{
+    let mut copies = Vec::with_capacity(alloc, defs.len())?;
+    for def in defs {
+        copies.push(copy_def(alloc, def)?)?;
+    }
+    Ok(copies)
+}
+
+/// Copies of the definitions as they were before the last one was added, or before one took the place of
+/// another.
+pub(crate) fn copy_before(
+    alloc: Global,
+    defs: &[TableDef],
+    replaced: &Option<ReplacedDef>,
+) -> Result<Vec<TableDef>, Memory>
+    requires { IsPlace defs.now replaced.now }
+    ensures { IfOk result (λ copies. copies.items ≡ before defs.now replaced.now) }
+{
+    let mut copies = copy_defs(alloc, defs)?;
+    match replaced {
+        Some(ReplacedDef { place, def }) => copies[*place] = copy_def(alloc, def)?,
+        None => {
+            copies.pop();
+        }
+    }
+    Ok(copies)
+}
+
+fn is_creator(creator: &Option<Creator>, tx: TxId) -> bool
+    ensures { result ≡ is_creator tx creator.now }
+{
+    match creator {
+        Some(creator) => creator.tx == tx,
+        None => false,
+    }
+}
+
+fn take_back(defs: &mut NamedDefs, replaced: Option<ReplacedDef>)
+    requires { IsPlace defs.old replaced }
+    ensures { defs.new ≡ before defs.old replaced }
+{
+    match replaced {
+        Some(ReplacedDef { place, def }) => {
+            defs.replace(place, def);
+        }
+        None => defs.pop(),
+    }
+}
+
+/// Takes the change back, where it is the transaction's. Takes no memory.
+pub(crate) fn undo_change(defs: &mut NamedDefs, creator: &mut Option<Creator>, tx: TxId)
+    requires { MayTakeBack defs.old creator.old }
+    ensures defs { defs.new ≡ defs_before tx (creator_seen defs.old creator.old) defs.old }
+    ensures creator { creator_seen defs.new creator.new
+        ≡ creator_left tx (creator_seen defs.old creator.old) }
+    ensures formed { AreFormed defs.old → AreFormed defs.new }
+    ensures back { MayTakeBack defs.new creator.new }
+{
+    if !is_creator(creator, tx) {
+        return;
+    }
+    if let Some(Creator { replaced, .. }) = creator.take() {
+        take_back(defs, replaced);
+    }
+}
+
+/// The change stays, where it is the transaction's. Takes no memory.
+pub(crate) fn keep_change(creator: &mut Option<Creator>, tx: TxId)
+    ensures creator { (defs : Defs) → creator_seen defs creator.new
+        ≡ creator_left tx (creator_seen defs creator.old) }
+    ensures back { (defs : Defs) → MayTakeBack defs creator.old → MayTakeBack defs creator.new }
+{
+    if is_creator(creator, tx) {
+        *creator = None;
+    }
+}

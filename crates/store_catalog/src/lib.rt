@@ -1,0 +1,20 @@
+//! The catalog's cell: the definitions of all tables, the rows that the system tables have of them, and its
+//! locks.
+#![tactic(auto)]
+
+mod cell;
+mod creating;
+mod definitions;
+mod laws;
+mod locks;
+mod named_defs;
+mod noting;
+mod reading;
+mod rows;
+
+pub use cell::CatalogCell;
+pub use laws::{
+    creating_a_table_is_a_visit, creating_an_index_is_a_visit, looking_up_is_a_visit,
+    reading_is_a_visit, refusing_a_create_is_a_visit, releases_undo_unless_committed,
+    stopping_is_a_visit,
+};

@@ -1,0 +1,6 @@
+use Rattle.std.proofs.Common.{◌≡◌, ◌++◌, drop, map}
+use Rattle.spec_model.specs.Rows.{live}
+use Rattle.store_table.proofs.building.live_versions.Given as goal
+
+abbrev pub invariant-loop-version : goal.invariant-loop-version
+invariant-loop-version l = map (λ v. v.now) l.found.items ++ live (drop l.version-index l.versions) ≡ live l.versions

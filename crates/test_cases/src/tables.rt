@@ -1,0 +1,88 @@
+//! Tables and rows that cases and their tables of columns are made of, by the statements that make them.
+
+use crate::fault::Fault;
+use crate::statements::statement;
+use base_types::{Items, Name};
+use sql_types::{CreateTable, Row, RowStmt, Stmt, TableDef};
+use sql_value::{ColumnDef, TableKind, Value};
+use std::alloc::Global;
+
+fn put_columns(columns: &[ColumnDef], copies: &mut Items<ColumnDef>) -> Result<(), Fault> {
+    for column in columns {
+        copies.push(column.copy()?)?;
+    }
+    Ok(())
+}
+
+/// A table of this name with no columns.
+fn bare_def(alloc: Global, name: Name, kind: TableKind) -> Result<TableDef, Fault> {
+    let history = Name::of_str(alloc, "")?;
+    let view = Name::of_str(alloc, "")?;
+    Ok(TableDef {
+        id: 3,
+        name,
+        kind,
+        history,
+        view,
+        columns: Items::new(alloc),
+        indexes: Items::new(alloc),
+    })
+}
+
+fn def_of(alloc: Global, table: &CreateTable) -> Result<TableDef, Fault> {
+    let mut def = bare_def(alloc, table.name.copy()?, table.kind)?;
+    put_columns(table.columns.as_slice(), &mut def.columns)?;
+    Ok(def)
+}
+
+fn def_in(alloc: Global, found: Option<&Stmt>) -> Result<TableDef, Fault> {
+    match found {
+        Some(Stmt::Create(table)) => def_of(alloc, table),
+        _ => Err(Fault::Form("a table is wanted")),
+    }
+}
+
+/// The table that a CREATE TABLE declares.
+pub fn table_of(alloc: Global, text: &str) -> Result<TableDef, Fault> {
+    let found = statement(alloc, text)?;
+    def_in(alloc, found.statement())
+}
+
+fn put_values(row: &[Value], copies: &mut Row) -> Result<(), Fault> {
+    for value in row {
+        copies.push(value.copy()?)?;
+    }
+    Ok(())
+}
+
+fn row_of(alloc: Global, row: &[Value]) -> Result<Row, Fault> {
+    let mut copies = Items::new(alloc);
+    put_values(row, &mut copies)?;
+    Ok(copies)
+}
+
+fn put_rows(alloc: Global, rows: &[Row], copies: &mut Items<Row>) -> Result<(), Fault> {
+    for row in rows {
+        copies.push(row_of(alloc, row.as_slice())?)?;
+    }
+    Ok(())
+}
+
+fn copied(alloc: Global, rows: &[Row]) -> Result<Items<Row>, Fault> {
+    let mut copies = Items::new(alloc);
+    put_rows(alloc, rows, &mut copies)?;
+    Ok(copies)
+}
+
+fn rows_in(alloc: Global, found: Option<&Stmt>) -> Result<Items<Row>, Fault> {
+    match found {
+        Some(Stmt::Change(RowStmt::Insert { rows, .. })) => copied(alloc, rows.as_slice()),
+        _ => Err(Fault::Form("rows are wanted")),
+    }
+}
+
+/// The rows that an INSERT lists.
+pub fn rows_of(alloc: Global, text: &str) -> Result<Items<Row>, Fault> {
+    let found = statement(alloc, text)?;
+    rows_in(alloc, found.statement())
+}

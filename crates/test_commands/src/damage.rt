@@ -1,0 +1,103 @@
+//! Receipts of the stored run with one damage each.
+
+use crate::files::bytes_under;
+use crate::machine::Machine;
+use base_io::{FixedClock, MemSink, MemSource, MemVault, OpenGate, Vault, VaultErr};
+use cli_commands::{Status, ledgerd};
+use std::alloc::{AllocError, Global};
+
+/// What `check` answers of these bytes, with these digests.
+fn checked(
+    rt: &impl Machine,
+    alloc: Global,
+    receipt: &[u8],
+    digests: &[u8],
+) -> Result<Status, AllocError> {
+    let mut vault = MemVault::new(alloc, Vec::new(alloc));
+    if put_both(&mut vault, receipt, digests).is_err() {
+        return Ok(Status::VaultFault);
+    }
+    let mut words = Vec::new(alloc);
+    for word in ["check", "a", "b"] {
+        words.push(String::from_str(alloc, word)?)?;
+    }
+    let mut source = MemSource::new(Vec::new(alloc), 1, Vec::new(alloc));
+    let mut sink = MemSink::new(alloc, 64, Vec::new(alloc));
+    let clock = FixedClock { at: 0 };
+    Ok(ledgerd(
+        rt,
+        alloc,
+        &words,
+        &mut source,
+        &mut sink,
+        &mut vault,
+        &clock,
+        &OpenGate,
+    ))
+}
+
+fn put_both(vault: &mut MemVault, receipt: &[u8], digests: &[u8]) -> Result<(), VaultErr> {
+    vault.put("a", receipt)?;
+    vault.put("b", digests)
+}
+
+/// How many of the proper prefixes of a receipt are those of none.
+fn count_cut(
+    rt: &impl Machine,
+    alloc: Global,
+    receipt: &[u8],
+    digests: &[u8],
+) -> Result<usize, AllocError> {
+    let mut refused = 0;
+    for count in 0..receipt.len() {
+        if checked(rt, alloc, &receipt[..count], digests)? == Status::Receipt {
+            refused += 1;
+        }
+    }
+    Ok(refused)
+}
+
+/// The bytes with the lowest bit of the one at this place changed.
+fn with_bit(alloc: Global, bytes: &[u8], at: usize) -> Result<Vec<u8>, AllocError> {
+    let mut out = Vec::new(alloc);
+    out.extend_from_slice(bytes)?;
+    if let Some(byte) = out.get_mut(at) {
+        *byte ^= 1;
+    }
+    Ok(out)
+}
+
+/// How many of the receipts with one bit changed in a byte aren't accepted.
+fn count_changed(
+    rt: &impl Machine,
+    alloc: Global,
+    receipt: &[u8],
+    digests: &[u8],
+) -> Result<usize, AllocError> {
+    let mut refused = 0;
+    for at in 0..receipt.len() {
+        let status = checked(rt, alloc, &with_bit(alloc, receipt, at)?, digests)?;
+        if status == Status::No || status == Status::Receipt {
+            refused += 1;
+        }
+    }
+    Ok(refused)
+}
+
+/// Of `<name> <digests>`: how many proper prefixes of the name's bytes are refused, how many of those with one bit
+/// changed in a byte aren't accepted, and how many bytes there are.
+pub fn count_damages<V: Vault>(
+    rt: &impl Machine,
+    alloc: Global,
+    vault: &mut V,
+    words: &[String],
+) -> Result<(usize, usize, usize), AllocError> {
+    let [_, name, digests] = words else {
+        return Ok((0, 0, 0));
+    };
+    let receipt = bytes_under(alloc, vault, name.as_str());
+    let digests = bytes_under(alloc, vault, digests.as_str());
+    let cut = count_cut(rt, alloc, &receipt, &digests)?;
+    let changed = count_changed(rt, alloc, &receipt, &digests)?;
+    Ok((cut, changed, receipt.len()))
+}

@@ -1,0 +1,63 @@
+//! Commands over an outside in memory whose calls fail as they are told to.
+
+use crate::machine::Machine;
+use crate::setting::{CommandSetup, Faults};
+use base_io::{FixedClock, FolderVault, MemSink, MemSource, MemVault, OpenGate, Vault, VaultErr};
+use cli_commands::ledgerd;
+use std::io;
+
+/// More than a file of the stored run has.
+const MOST: usize = 1 << 20;
+
+/// A vault in memory with the files that the folder has under these names.
+fn vault_of(rt: &impl Machine, fails: Vec<u64>, names: &[String]) -> MemVault {
+    let mut vault = MemVault::new(rt.alloc(), fails);
+    let mut folder = FolderVault::new(*rt);
+    for name in names {
+        if let Ok(bytes) = folder.get(name.as_str(), MOST) {
+            let _ = vault.put(name.as_str(), &bytes);
+        }
+    }
+    vault
+}
+
+/// Prints what stands under a name: how many bytes, or that there is nothing, or that nobody can tell.
+fn print_file(rt: &impl Machine, vault: &mut MemVault, name: &str) -> io::Result<()> {
+    match vault.get(name, MOST) {
+        Ok(bytes) => println!(rt; "{name}: {} bytes", bytes.len()),
+        Err(VaultErr::Missing) => println!(rt; "{name}: missing"),
+        Err(_) => println!(rt; "{name}: open"),
+    }
+}
+
+/// Runs a command over an outside in memory with these faults. Prints what was written, how the call ended,
+/// and what stands under the names.
+pub fn run_over_memory(
+    rt: &impl Machine,
+    setting: CommandSetup,
+    faults: Faults,
+    words: &[String],
+) -> io::Result<()> {
+    let alloc = rt.alloc();
+    let mut source = MemSource::new(setting.input, 77, faults.source);
+    let mut sink = MemSink::new(alloc, faults.piece, faults.sink);
+    let mut vault = vault_of(rt, faults.vault, &faults.names);
+    let clock = FixedClock { at: setting.clock };
+    let status = ledgerd(
+        rt,
+        alloc,
+        words,
+        &mut source,
+        &mut sink,
+        &mut vault,
+        &clock,
+        &OpenGate,
+    );
+    let written = std::str::from_utf8(sink.bytes()).unwrap_or("");
+    println!(rt; "wrote {written:?}")?;
+    println!(rt; "{} {status}", status.code())?;
+    for name in &faults.names {
+        print_file(rt, &mut vault, name.as_str())?;
+    }
+    Ok(())
+}

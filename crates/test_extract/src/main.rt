@@ -1,0 +1,84 @@
+//! Compares the images of two journals, one pair in each line of standard input, over hashes that are weak on
+//! purpose: two images that are accepted with the same digests and differ are then easy to have. A line is
+//! the name of a hash and of three files of the folder: the journal of the image that is gone by, that of
+//! the one that is shown, and the digests. It is printed behind `> `, and then what was found; an empty line
+//! and one that begins with `#` are printed as they are.
+#![tactic(auto)]
+
+mod comparing;
+mod fault;
+mod files;
+mod weak;
+
+use base_io::{FolderVault, Vault};
+use base_merkle::{Hash32, Sha256Hash};
+use comparing::compared;
+use fault::Fault;
+use files::{digests_of, image_of};
+use std::alloc::Global;
+use std::io;
+use weak::{LengthHash, ZeroHash};
+
+/// The names of a line's three files.
+#[derive(Clone, Copy)]
+struct Names<'a> {
+    honest: &'a str,
+    suspect: &'a str,
+    digests: &'a str,
+}
+
+/// The name of the hash, and those of the files.
+fn words_of(line: &str) -> Option<(&str, Names<'_>)> {
+    let (hash, rest) = line.split_once(' ')?;
+    let (honest, rest) = rest.split_once(' ')?;
+    let (suspect, digests) = rest.split_once(' ')?;
+    Some((
+        hash,
+        Names {
+            honest,
+            suspect,
+            digests,
+        },
+    ))
+}
+
+/// What is found of a line's images with its hash.
+fn found<H: Hash32, V: Vault>(
+    alloc: Global,
+    h: H,
+    vault: &mut V,
+    names: Names,
+) -> Result<String, Fault> {
+    let digests = digests_of(alloc, vault, names.digests)?;
+    let honest = image_of(alloc, h, vault, names.honest)?;
+    let suspect = image_of(alloc, h, vault, names.suspect)?;
+    compared(alloc, h, &honest, &suspect, digests.as_slice())
+}
+
+/// What is found of a line's images.
+fn answer<V: Vault>(alloc: Global, vault: &mut V, line: &str) -> Result<String, Fault> {
+    match words_of(line) {
+        Some(("zeros", names)) => found(alloc, ZeroHash, vault, names),
+        Some(("length", names)) => found(alloc, LengthHash, vault, names),
+        Some(("sha256", names)) => found(alloc, Sha256Hash, vault, names),
+        _ => Err(Fault::Form("the line is no case")),
+    }
+}
+
+fn main(rt: HostRuntime) -> io::Result<()> {
+    let mut vault = FolderVault::new(rt);
+    for line in rt.lines(rt.alloc()) {
+        let line = line?;
+        if line.is_empty() || line.starts_with("#") {
+            println!(rt; "{line}")?;
+            continue;
+        }
+        println!(rt; "> {line}")?;
+        match answer(rt.alloc(), &mut vault, line.as_str()) {
+            Ok(text) => println!(rt; "{text}")?,
+            Err(Fault::Form(what)) => println!(rt; "{what}")?,
+            Err(Fault::Memory) => println!(rt; "no memory")?,
+        }
+    }
+    Ok(())
+}

@@ -1,0 +1,4 @@
+mod Seconds
+mod FourTables
+mod Telling
+mod RunSectionsFit

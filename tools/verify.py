@@ -1,0 +1,367 @@
+#!/usr/bin/env python3
+"""Judges an image and digests as `ledgerd verify` does, by docs/FORMATS.md alone.
+
+    tools/verify.py IMAGE DIGESTS
+
+Writes the line of section "Verdict", and ends with the exit status of `ledgerd verify` (docs/AUDIT.md).
+"""
+
+import sys
+from collections import Counter, defaultdict
+from typing import NamedTuple, Optional
+
+from digests import Digest, NoDigest, read_digests
+from ledger import (
+    APPEND_ONLY, BIGINT, BIT, COLUMNS, DECIMAL, FIRST_USER_TABLE, INT, MAX_BLOCK_ENTRIES, NVARCHAR, TABLES,
+    Column, Definition, EventId, Image, Malformed, Type, Value, Values, Version, event_leaf, number, read_image, signed,
+    system_definitions, tree_hash,
+)
+
+MAX_IMAGE, MAX_DIGESTS = 256 * 2**20, 32 * 2**20
+MAX_TABLES, MAX_COLUMNS, MAX_PARTS, MAX_INDEXES = 32, 64, 4, 4
+
+Place = Optional[str]
+
+
+def verdict(data: bytes, digests: list[Digest]) -> str:
+    """The line on an image's bytes and held digests."""
+    try:
+        image = read_image(data)
+    except Malformed:
+        return "No V0"
+    for invariant, fault in enumerate(INVARIANTS, 1):
+        place = fault(image, digests)
+        if place is not None:
+            return f"No V{invariant} {place}"
+    return "Yes"
+
+
+# --- V1 to V3: digests, and blocks -----------------------------------------------------------------------------------
+
+
+def digest_fault(image: Image, digests: list[Digest]) -> Place:
+    """V1: each digest is of this database, and of the block at that place."""
+    hashes = [record.hash() for record in image.blocks]
+    for index, digest in enumerate(digests):
+        is_of_block = digest.block < len(hashes) and digest.hash == hashes[digest.block]
+        if not (digest.database == image.database and is_of_block):
+            return f"digest {index}"
+    return None
+
+
+def chain_fault(image: Image, _: list[Digest]) -> Place:
+    """V2: blocks are numbered by their places, and each keeps the hash of the one before."""
+    previous = bytes(32)
+    for place, record in enumerate(image.blocks):
+        if record.id != place or record.previous != previous:
+            return f"block {place}"
+        previous = record.hash()
+    return None
+
+
+def block_fault(image: Image, _: list[Digest]) -> Place:
+    """V3: a block has its entries, and the root is the tree hash of their bytes."""
+    first = 0
+    for place, record in enumerate(image.blocks):
+        last = first + record.size
+        if not (1 <= record.size <= MAX_BLOCK_ENTRIES and last <= len(image.entries)):
+            return f"block {place}"
+        if record.root != tree_hash([entry.leaf() for entry in image.entries[first:last]]):
+            return f"block {place}"
+        first = last
+    return None
+
+
+# --- V4 and V5: entries, and the events that they are of -------------------------------------------------------------
+
+
+class Event(NamedTuple):
+    """An event in a table; the start of the version is told for an end."""
+
+    id: EventId
+    table: int
+    start: Optional[EventId]
+    values: Values
+
+    def leaf(self) -> bytes:
+        return event_leaf(self.table, self.id, self.start, self.values)
+
+
+def events_of(image: Image) -> dict[int, list[Event]]:
+    """The events of each transaction, by number."""
+    events: dict[int, list[Event]] = defaultdict(list)
+    for table, rows in image.rows.items():
+        for version in rows.base + rows.history:
+            events[version.start.transaction].append(Event(version.start, table, None, version.values))
+            if version.end is not None:
+                events[version.end.transaction].append(Event(version.end, table, version.start, version.values))
+    for own in events.values():
+        own.sort(key=lambda event: event.id.number)
+    return events
+
+
+def roots_of(events: list[Event]) -> dict[int, bytes]:
+    """The root for each table with such an event."""
+    leaves: dict[int, list[bytes]] = defaultdict(list)
+    for event in events:
+        leaves[event.table].append(event.leaf())
+    return {table: tree_hash(own) for table, own in leaves.items()}
+
+
+def id_fault(image: Image, _: list[Digest]) -> Place:
+    """V4: entries have ids of their own, and events are of transactions with an entry."""
+    ids: set[int] = set()
+    for place, entry in enumerate(image.entries):
+        if entry.id in ids:
+            return f"entry {place}"
+        ids.add(entry.id)
+    strangers = [(it.table, it.id) for id, own in events_of(image).items() if id not in ids for it in own]
+    return event_place(strangers)
+
+
+def event_place(events: list[tuple[int, EventId]]) -> Place:
+    """The least of these events, by table, transaction and number."""
+    return "table {} event {}".format(*min(events)) if events else None
+
+
+def root_fault(image: Image, _: list[Digest]) -> Place:
+    """V5: events are numbered from 0 without a gap or a repetition, and the entry has their roots."""
+    events = events_of(image)
+    for entry in image.entries:
+        own = events.get(entry.id, [])
+        if [event.id.number for event in own] != list(range(len(own))):
+            return f"transaction {entry.id} numbers"
+        roots = roots_of(own)
+        wrong = [table for table in {*roots, *entry.roots} if roots.get(table) != entry.roots.get(table)]
+        if wrong:
+            return f"transaction {entry.id} table {min(wrong)}"
+    return None
+
+
+# --- V6: versions ----------------------------------------------------------------------------------------------------
+
+
+def version_fault(image: Image, _: list[Digest]) -> Place:
+    """V6: versions have their table's columns, and those of one key follow one another."""
+    places = {entry.id: place for place, entry in enumerate(image.entries)}
+    bad = []
+    for definition in [*system_definitions(), *image.definitions]:
+        rows = image.rows[definition.id]
+        versions = rows.base + rows.history
+        fitting = [it for it in versions if has_columns(definition.columns, it.values)]
+        starts = {it.start for it in versions if not has_columns(definition.columns, it.values)}
+        starts |= {it.start for it in fitting if has_forbidden_null(definition.columns, it.values)}
+        if definition.kind == APPEND_ONLY:
+            starts |= {it.start for it in rows.history}
+        starts |= out_of_order(definition, fitting, places)
+        bad += [(definition.id, start) for start in starts]
+    return event_place(bad)
+
+
+def has_columns(columns: tuple[Column, ...], values: Values) -> bool:
+    """Whether there is one value for each column, NULL or of its type."""
+    return len(values) == len(columns) and all(
+        value is None or value.type == column.type for column, value in zip(columns, values)
+    )
+
+
+def has_forbidden_null(columns: tuple[Column, ...], values: Values) -> bool:
+    return any(value is None and not column.nullable for column, value in zip(columns, values))
+
+
+def out_of_order(definition: Definition, versions: list[Version], places: dict[int, int]) -> set[EventId]:
+    """The starts of versions that end too early, or that begin before another of their key had ended."""
+
+    def at(event: EventId) -> tuple[int, int]:
+        return places[event.transaction], event.number
+
+    by_key: dict[Values, list[Version]] = defaultdict(list)
+    for version in versions:
+        by_key[picked(version, definition.key())].append(version)
+    found = {it.start for it in versions if it.end is not None and not at(it.start) < at(it.end)}
+    for own in by_key.values():
+        own.sort(key=lambda it: (at(it.start), it.end is None))
+        is_live_before = False
+        for before, it in zip([None, *own], own):
+            has_followed = before is None or (before.end is not None and at(before.end) < at(it.start))
+            if not has_followed or (it.end is None and is_live_before):
+                found.add(it.start)
+            is_live_before |= it.end is None
+    return found
+
+
+def picked(version: Version, places: list[int]) -> Values:
+    return tuple(version.values[place] for place in places)
+
+
+# --- V7: definitions -------------------------------------------------------------------------------------------------
+
+
+def definition_fault(image: Image, _: list[Digest]) -> Place:
+    """V7: the base rows of the system's tables encode the definitions, which keep the rules of CREATE."""
+    tables, items = (by_table(image.rows[table].base) for table in (TABLES, COLUMNS))
+    definitions = {it.id: it for it in image.definitions}
+    wrong = [
+        id
+        for id in {*tables, *items, *definitions}
+        if id not in definitions
+        or Counter(tables.get(id, [])) != Counter([table_row(definitions[id])])
+        or Counter(items.get(id, [])) != Counter(item_rows(definitions[id]))
+        or not keeps_rules(definitions[id])
+        or has_old_name(definitions[id], tables)
+    ]
+    return f"table {min(wrong)}" if wrong else None
+
+
+def by_table(base: list[Version]) -> dict[int, list[Values]]:
+    """Rows of a system table by the table that they are about."""
+    found: dict[int, list[Values]] = defaultdict(list)
+    for version in base:
+        found[signed(version.values[0].data)].append(version.values)
+    return found
+
+
+def whole(value: int) -> Value:
+    return Value(Type(INT), number(value, 4))
+
+
+def bit(value: int) -> Value:
+    return Value(Type(BIT), number(value, 1))
+
+
+def text(value: str) -> Value:
+    return Value(Type(NVARCHAR, 128), value.encode())
+
+
+def table_row(it: Definition) -> Values:
+    """Section "The system's tables": the row of a table."""
+    history = None if it.kind == APPEND_ONLY else text(it.history)
+    return (whole(it.id), whole(0), text(it.name), whole(it.kind), history, text(it.view))
+
+
+def item_rows(it: Definition) -> list[Values]:
+    """Section "The system's tables": the rows of columns and of parts of indexes."""
+    items = [
+        (place, column.name, column.type, column.nullable, column.key) for place, column in enumerate(it.columns, 1)
+    ] + [
+        (1000 * group + part, index.name, Type(0), 0, ordinal)
+        for group, index in enumerate(it.indexes, 1)
+        for part, ordinal in enumerate(index.ordinals, 1)
+    ]
+    return [
+        (whole(it.id), whole(item), whole(0), text(name), *map(whole, type), bit(nullable), whole(key))
+        for item, name, type, nullable, key in items
+    ]
+
+
+def keeps_rules(it: Definition) -> bool:
+    """Section "The system's tables": the rules on a definition by itself."""
+    names = own_names(it)
+    columns = [column.name for column in it.columns]
+    keys = sorted(column.key for column in it.columns if column.key)
+    return (
+        it.id < FIRST_USER_TABLE + MAX_TABLES
+        and len(set(names)) == len(names)
+        and 1 <= len(columns) <= MAX_COLUMNS
+        and len(set(columns)) == len(columns)
+        and not any(name.lower().startswith("ledger_") for name in columns)
+        and 1 <= len(keys) <= MAX_PARTS
+        and keys == list(range(1, len(keys) + 1))
+        and not any(column.key and column.nullable for column in it.columns)
+        and len(it.indexes) <= MAX_INDEXES
+        and len({index.name for index in it.indexes}) == len(it.indexes)
+        and all(
+            1 <= len(index.ordinals) <= MAX_PARTS
+            and len(set(index.ordinals)) == len(index.ordinals)
+            and all(1 <= ordinal <= len(columns) for ordinal in index.ordinals)
+            for index in it.indexes
+        )
+    )
+
+
+def own_names(it: Definition) -> list[str]:
+    """The names of a table, its history and its view, as far as it has them."""
+    return [name for name in (it.name, it.history, it.view) if name]
+
+
+def has_old_name(it: Definition, tables: dict[int, list[Values]]) -> bool:
+    """Whether a name of the table is one of the system's, or stands in a row about a table with a lower id."""
+    taken = {text(system.name).data for system in system_definitions()}
+    for id, rows in tables.items():
+        if id < it.id:
+            taken |= {value.data for row in rows for value in row if value is not None and value.type.code == NVARCHAR}
+    return any(name.encode() in taken for name in own_names(it))
+
+
+# --- V8: indexes -----------------------------------------------------------------------------------------------------
+
+
+def index_fault(image: Image, _: list[Digest]) -> Place:
+    """V8: an index has the base rows, cut down to its columns and then the key's, and sorted."""
+    for definition in image.definitions:
+        for group, found in enumerate(image.rows[definition.id].indexes):
+            if found != index_rows(image, definition, group):
+                return f"table {definition.id} index {group + 1}"
+    return None
+
+
+def index_rows(image: Image, definition: Definition, group: int) -> list[Values]:
+    """The rows that an index should have."""
+    places = [ordinal - 1 for ordinal in definition.indexes[group].ordinals] + definition.key()
+    rows = [picked(version, places) for version in image.rows[definition.id].base]
+    return sorted(rows, key=lambda row: [order(value) for value in row])
+
+
+def order(value: Optional[Value]) -> tuple:
+    """What values of one type are sorted by: NULL first, numbers as such, texts and bytes by their bytes."""
+    if value is None:
+        return (0,)
+    return (1, signed(value.data) if value.type.code in (BIT, INT, BIGINT, DECIMAL) else value.data)
+
+
+INVARIANTS = (
+    digest_fault, chain_fault, block_fault, id_fault, root_fault, version_fault, definition_fault, index_fault
+)
+
+# --- The command -----------------------------------------------------------------------------------------------------
+
+
+class Ended(Exception):
+    """An exit status, and what standard error says."""
+
+
+def read_file(place: int, path: str, most: int) -> bytes:
+    try:
+        with open(path, "rb") as file:
+            data = file.read(most + 1)
+    except FileNotFoundError as error:
+        raise Ended(7, f"no such name (name {place})") from error
+    except OSError as error:
+        raise Ended(6, f"the file could not be read ({error})") from error
+    if len(data) > most:
+        raise Ended(3, "a limit was exceeded")
+    return data
+
+
+def main(words: list[str]) -> int:
+    try:
+        if len(words) != 2:
+            raise Ended(2, "verify.py IMAGE DIGESTS")
+        image, held = read_file(1, words[0], MAX_IMAGE), read_file(2, words[1], MAX_DIGESTS)
+        try:
+            digests = read_digests(held)
+        except NoDigest as error:
+            raise Ended(8, f"the digests were refused (digest {error})") from error
+        except Malformed as error:
+            raise Ended(8, "the digests were refused") from error
+    except Ended as ended:
+        status, said = ended.args
+        print(f"verify.py: {said}", file=sys.stderr)
+        return status
+    line = verdict(image, digests)
+    print(line)
+    return 0 if line == "Yes" else 1
+
+
+if __name__ == "__main__":
+    sys.exit(main(sys.argv[1:]))
