@@ -40,7 +40,7 @@ pub fn find_in_paths<H: Hash32>(
         let (b_below, b_other) = parted(b_path);
         let first = bytes_above(alloc, h, a_leaf, a_below, &half, a_other)?;
         let second = bytes_above(alloc, h, b_leaf, b_below, &half, b_other)?;
-        if !is_equal(first.bytes(), second.bytes()) {
+        if !is_equal(&first, &second) {
             return Ok(Collision { first, second });
         }
         a_path = a_below;
@@ -71,9 +71,9 @@ fn bytes_above<H: Hash32>(
     node_bytes(alloc, &hash, half.other, other)
 }
 
-fn is_equal(a: &[u8], b: &[u8]) -> bool
+fn is_equal(a: &Blob, b: &Blob) -> bool
     ensures same { result ≡ true → a.now ≡ b.now }
     ensures differ { result ≡ false → a.now ≢ b.now }
 {
-    a == b
+    a.bytes() == b.bytes()
 }

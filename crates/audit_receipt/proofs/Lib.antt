@@ -3,5 +3,5 @@ pub mod Decided
 pub mod Finding
 pub mod Found
 pub mod Made
-pub mod Settling
+pub mod SameRecords
 pub mod Spelled

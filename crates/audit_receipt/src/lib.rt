@@ -6,12 +6,12 @@ mod check;
 mod leaves;
 mod make;
 mod receipt_err;
-mod settle;
 mod settled;
+mod settling;
 
 pub use check::check_receipt;
 pub use format_receipt::Receipt;
 pub use make::make_receipt;
 pub use receipt_err::ReceiptErr;
-pub use settle::settle;
 pub use settled::Settled;
+pub use settling::settle;

@@ -2,7 +2,7 @@ use Rattle.audit_paths.proofs.Descending.{Sought}
 use Rattle.audit_paths.proofs.finding.find_in_paths.Given as goal
 
 abbrev pub invariant-halves : goal.invariant-halves
-invariant-halves g l = Sought (g.H.Hash32.digest l.fn.h) l.place l.count l.fn.a.0 l.a_path l.fn.b.0 l.b_path
+invariant-halves g l = Sought (g.H.Hash32.digest l.fn.h) l.place l.count l.a_leaf l.a_path l.b_leaf l.b_path
 
 abbrev pub decreases-halves : goal.decreases-halves
 decreases-halves g l = l.count

@@ -1,4 +1,3 @@
-use Rattle.std.proofs.Common.{◌-◌}
 use Rattle.audit_paths.proofs.Equations.{half_front, half_back}
 use Rattle.audit_paths.proofs.half.half_of.Goals as goal
 

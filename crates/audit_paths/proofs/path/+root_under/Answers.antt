@@ -22,8 +22,8 @@ returns-else-count-lt2 g t c =
     sym (ap (λ (p : List (List ℕ)). root_under h p c.args.place c.args.count c.args.leaf.now) c.in-None.ensures
     ∙ under_none h c.args.place c.args.count c.args.leaf.now c.if-count-lt2.false)
 
-pub returns-in-Some : goal.returns-in-Some
-returns-in-Some g t c =
+pub returns-else-count-lt2-2 : goal.returns-else-count-lt2-2
+returns-else-count-lt2-2 g t c =
     c.above.ensures
     ∙ climbs (g.H.Hash32.digest c.args.h) c.args.path.now c.in-Some.below.now c.in-Some.other.now c.half_of-half.result.other c.args.place c.args.count c.half_of-half.result.place c.half_of-half.result.count
     c.args.leaf.now c.root_under-hash.result c.in-Some.ensures c.half_of-half.ensures.sides c.root_under-hash.ensures

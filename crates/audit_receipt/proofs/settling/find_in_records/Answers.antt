@@ -1,6 +1,6 @@
 use Rattle.std.proofs.Common.{rules, refl, ◌-◌}
-use Rattle.audit_receipt.proofs.Settling.{level_start, one_less, records_collide}
-use Rattle.audit_receipt.proofs.settle.find_in_records.Goals as goal
+use Rattle.audit_receipt.proofs.SameRecords.{level_start, one_less, records_collide}
+use Rattle.audit_receipt.proofs.settling.find_in_records.Goals as goal
 
 pub loop-at-init : goal.loop-at-init
 loop-at-init g c = level_start (g.H.Hash32.digest c.args.h) c.args.from c.args.a.now c.args.b.now c.args.digest.now c.requires.a_leads c.requires.b_leads

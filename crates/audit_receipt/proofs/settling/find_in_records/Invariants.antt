@@ -1,5 +1,5 @@
-use Rattle.audit_receipt.proofs.Settling.{Level}
-use Rattle.audit_receipt.proofs.settle.find_in_records.Given as goal
+use Rattle.audit_receipt.proofs.SameRecords.{Level}
+use Rattle.audit_receipt.proofs.settling.find_in_records.Given as goal
 
 abbrev pub invariant-loop-at : goal.invariant-loop-at
 invariant-loop-at g l = Level (g.H.Hash32.digest l.fn.h) l.a l.b l.at
