@@ -106,8 +106,9 @@ module _ (h : List ℕ → List ℕ) where
   ready e f p q (r ∷ rs) ys size same o x y size_is =
       subst (λ (n : ℕ). OneBlock e.ordinal n e f p q) (sym (size_is r rs refl)) (one_block e f p q r rs o x (subst (StandsIn h f q) (sym same) y))
 
-pub entries_differ : (e f : TxEntry) (x y : List ℕ) → x ≡ entry_bytes e → y ≡ entry_bytes f → x ≢ y → e ≢ f
-entries_differ e f x y x_is y_is ne = λ same. ne (x_is ∙ ap entry_bytes same ∙ sym y_is)
+-- of leaves and paths that the code names otherwise
+pub roots_are : (h : List ℕ → List ℕ) (m n : ℕ) (a b c d : List ℕ) (p q r s : List (List ℕ)) → c ≡ a → r ≡ p → d ≡ b → s ≡ q → HaveOneRoot h m n a p b q → HaveOneRoot h m n c r d s
+roots_are h m n a b c d p q r s a_is p_is b_is q_is one = rw (a_is, p_is, b_is, q_is) one
 
 pub entries_same : (e f : TxEntry) (x y : List ℕ) → IsEntry e → IsEntry f → x ≡ entry_bytes e → y ≡ entry_bytes f → x ≡ y → e ≡ f
 entries_same e f x y fe ff x_is y_is same = equal_entries e f fe ff (sym x_is ∙ same ∙ y_is)
