@@ -2,10 +2,10 @@
 #![tactic(auto)]
 
 mod check;
-mod join;
+mod joining;
 mod laws;
 
 pub use check::check_chain;
 pub use format_chain::Chain;
-pub use join::join;
+pub use joining::join;
 pub use laws::{accepted_chains_tell_one_history, made_chains_join};
