@@ -119,7 +119,7 @@ module _ (h : List ℕ → List ℕ) (sized : (bytes : List ℕ) → length (h b
           (part_each (λ (f : TxEntry). f.roots ≡ roots_of h f.id (tables_in i)) i.blocks i.entries e.block (all_rooted h i is roots)) at in
           inl (root_found h e.id (filter (has_events e.id) (tables_in i)) table root (ap (λ (rs : List TableRoot). root_at rs table) (sym own) ∙ at_root))
 
-  table_is : (tx table : ℕ) (root : List ℕ) (r : HasRoot h tx (filter (has_events tx) (tables_in i)) table root) → HasTable i table
+  abbrev table_is : (tx table : ℕ) (root : List ℕ) (r : HasRoot h tx (filter (has_events tx) (tables_in i)) table root) → HasTable i table
   table_is tx table root r =
       let t = among_filter (has_events tx) (tables_in i) r.place r.it r.there in
       record { place = t.place; it = r.it; there = t.there; of = r.of }
