@@ -24,6 +24,9 @@ module _ (tx : ℕ) (leaf : List ℕ) where
     λ it. d.1 (ap (λ (n : ℕ). Some n) (sym (told.1 table it))),
   )
 
+pub told_as : (tx : ℕ) (a b : List ℕ) (found is : Option ℕ) → Tells tx a found → a ≡ b → found ≡ is → Tells tx b is
+told_as tx a b found is told same e = subst (λ (x : Option ℕ). Tells tx b x) e (subst (λ (x : List ℕ). Tells tx x found) same told)
+
 -- ---- the root of a table
 
 pub root_decided : (root : List ℕ) (found : Option (List ℕ)) (so : Bool) → so ≡ is_root root found → Decides so (found ≡ Some root)
