@@ -1,11 +1,12 @@
 #!/usr/bin/env python3
-"""Checks a receipt of a transaction against held digests, without the image and without ledgerd.
+"""Checks a receipt or a chain against held digests, without the image and without ledgerd.
 
     tools/check_receipt.py RECEIPT DIGESTS
 
 Writes `Yes` (status 0) or `No receipt` (1), and on standard error what the receipt shows or lacks. The status is
 15 where the bytes have no receipt's form, 8 where the digests can't be read, 7 where a file can't. This file stands
-alone, and is written from docs/FORMATS.md alone (section "Receipt").
+alone, and is written from docs/FORMATS.md alone (sections "Receipt", "Receipts of rows" and "Chain"). Of the events
+that a receipt shows it looks at the heads alone, and not at their values.
 """
 
 import hashlib
@@ -28,28 +29,28 @@ def sha256(data: bytes) -> bytes:
 
 
 class Reader:
-    """Bytes, read from the front."""
+    """Bytes, read from the front, and the status where they lack their form."""
 
-    def __init__(self, data: bytes):
-        self.data, self.at = data, 0
+    def __init__(self, data: bytes, status: int = 15):
+        self.data, self.at, self.status = data, 0, status
 
     def take(self, count: int) -> bytes:
         self.at += count
-        need(self.at <= len(self.data), 15, "the receipt is too short")
+        need(self.at <= len(self.data), self.status, "the receipt is too short")
         return self.data[self.at - count : self.at]
 
     def number(self, width: int, least: int = 0, most: int = 2**64) -> int:
         found = int.from_bytes(self.take(width), "big")
-        need(least <= found <= most, 15, "a number of the receipt is out of its range")
+        need(least <= found <= most, self.status, "a number of the receipt is out of its range")
         return found
 
     def name(self, form: bytes) -> bytes:
         found = self.take(self.number(2))
-        need(re.fullmatch(form, found) is not None, 15, "a name of the receipt lacks its form")
+        need(re.fullmatch(form, found) is not None, self.status, "a name of the receipt lacks its form")
         return found
 
     def close(self) -> None:
-        need(self.at == len(self.data), 15, "bytes stand behind the end of the receipt")
+        need(self.at == len(self.data), self.status, "bytes stand behind the end of the receipt")
 
 
 def read_file(path: str) -> bytes:
@@ -67,12 +68,27 @@ def read_entry(source: Reader) -> dict:
     entry = {"id": source.number(8, 1, 2**63 - 1), "block": source.number(8), "ordinal": source.number(4),
              "time": source.number(8, 0, 2534023007999999999), "session": source.name(rb"[A-Za-z0-9_]{1,32}").decode()}
     source.number(1, 1, 1)
-    tables: list[int] = []
+    roots: dict[int, bytes] = {}
     for _ in range(source.number(1, 1)):
-        tables.append(source.number(4, tables[-1] + 1 if tables else 0))
-        source.take(32)
+        table = source.number(4, max(roots) + 1 if roots else 0)
+        roots[table] = source.take(32)
     source.close()
-    return {**entry, "tables": tables}
+    return {**entry, "roots": roots, "tables": list(roots)}
+
+
+def read_leaf(leaf: bytes) -> tuple[int, int]:
+    """The transaction and the table of an event (section "Leaf")."""
+    source = Reader(leaf, 1)
+    source.number(1, 1, 1)
+    table = source.number(4)
+    end = source.number(1, 1, 2) == 2
+    transaction = source.number(8)
+    source.take(8 + 16 * end)
+    for _ in range(source.number(2)):
+        source.take(6)
+        source.take(source.number(4))
+    source.close()
+    return transaction, table
 
 
 def root_under(path: list[bytes], place: int, count: int, leaf: bytes) -> bytes | None:
@@ -91,6 +107,22 @@ def root_under(path: list[bytes], place: int, count: int, leaf: bytes) -> bytes 
     return found if last == 0 else None
 
 
+def tree_hash(leaves: list[bytes]) -> bytes:
+    """RFC 6962, section 2.1, of one leaf and more."""
+    if len(leaves) == 1:
+        return sha256(b"\0" + leaves[0])
+    half = 1 << (len(leaves) - 1).bit_length() - 1
+    return sha256(b"\1" + tree_hash(leaves[:half]) + tree_hash(leaves[half:]))
+
+
+def root_over(leaf: bytes, steps: list[tuple[int, bytes]]) -> bytes:
+    """The root to which steps lead from a leaf."""
+    found = sha256(b"\0" + leaf)
+    for before, other in steps:
+        found = sha256(b"\1" + (other + found if before else found + other))
+    return found
+
+
 def read_digests(data: bytes) -> list[dict]:
     """Section "Digest file", though this reads some files that it refuses."""
     items = json.loads(data.decode())
@@ -102,15 +134,56 @@ def read_digests(data: bytes) -> list[dict]:
     return items
 
 
+def check_records(records: list[bytes], database: str, held: list[dict]) -> list[int]:
+    """The numbers of the blocks of records that lead to a held digest."""
+    ids = [int.from_bytes(record[:8], "big") for record in records]
+    digest = next((it for it in held if it["block_id"] == ids[-1]), None)
+    need(digest is not None, 1, f"no digest is of block {ids[-1]}")
+    need(digest["database_name"] == database, 1, "the digest is of another database")
+    need(bytes.fromhex(digest["hash"][2:]) == sha256(records[-1]), 1, "the last record is not the one of the digest")
+    need(ids == list(range(ids[0], ids[0] + len(ids))), 1, "the records are of other blocks")
+    linked = all(after[48:] == sha256(before) for before, after in zip(records, records[1:]))
+    need(linked, 1, "a record doesn't keep the hash of the one before")
+    return ids
+
+
+def check_entry(leaf: bytes, entry: dict, path: list[bytes], first: bytes) -> None:
+    """The entry stands in the block of a record."""
+    size = int.from_bytes(first[40:48], "big")
+    need(entry["ordinal"] < size <= 100_000, 1, "the block has no such place")
+    root = root_under(path, entry["ordinal"], size, leaf)
+    need(root == first[8:40], 1, "the path doesn't lead to the root of the block")
+
+
+def check_chain(database: str, records: list[bytes], held: list[dict]) -> str:
+    """The digests of all blocks of a chain are those of its records."""
+    ids = check_records(records, database, held)
+    others = [it for it in held if it["block_id"] in ids]
+    need(len(others) > 1 or len(ids) > 1, 1, "one digest alone is joined to nothing")
+    for it in others:
+        record = records[it["block_id"] - ids[0]]
+        need(it["database_name"] == database, 1, "a digest is of another database")
+        need(bytes.fromhex(it["hash"][2:]) == sha256(record), 1, f"the digest of block {it['block_id']} is another")
+    return f"the digest of block {ids[-1]} continues those of the blocks from {ids[0]} on"
+
+
 def check(data: bytes, digests: bytes) -> str:
     """What an accepted receipt shows."""
     source = Reader(data)
-    need(source.take(5) == b"LGRC\1", 15, "this is no receipt")
+    kind = source.take(5)
+    need(kind in (b"LGRC\1", b"LGRA\1", b"LGRR\1", b"LGCC\1"), 15, "this is no receipt")
     database = source.name(rb"[A-Za-z0-9][A-Za-z0-9_.-]{0,63}").decode()
-    leaf = source.take(source.number(4))
-    entry = read_entry(Reader(leaf))
-    path = [source.take(32) for _ in range(source.number(1, 0, 17))]
+    if kind != b"LGCC\1":
+        leaf = source.take(source.number(4))
+        entry = read_entry(Reader(leaf))
+        path = [source.take(32) for _ in range(source.number(1, 0, 17))]
     records = [source.take(80) for _ in range(source.number(8, 1))]
+    events = []
+    if kind == b"LGRA\1":
+        events = [source.take(source.number(4)) for _ in range(source.number(8, 1))]
+    if kind == b"LGRR\1":
+        events = [source.take(source.number(4))]
+        steps = [(source.number(1, 0, 1), source.take(32)) for _ in range(source.number(1, 0, 63))]
     source.close()
     try:
         held = read_digests(digests)
@@ -118,20 +191,20 @@ def check(data: bytes, digests: bytes) -> str:
         need(False, 8, f"the digests were refused: {error}")
         raise
 
-    ids = [int.from_bytes(record[:8], "big") for record in records]
-    size = int.from_bytes(records[0][40:48], "big")
-    digest = next((it for it in held if it["block_id"] == ids[-1]), None)
-    need(digest is not None, 1, f"no digest is of block {ids[-1]}")
-    need(digest["database_name"] == database, 1, "the digest is of another database")
-    need(bytes.fromhex(digest["hash"][2:]) == sha256(records[-1]), 1, "the last record is not the one of the digest")
-    need(ids == list(range(entry["block"], entry["block"] + len(ids))), 1, "the records are of other blocks")
-    linked = all(after[48:] == sha256(before) for before, after in zip(records, records[1:]))
-    need(linked, 1, "a record doesn't keep the hash of the one before")
-    need(entry["ordinal"] < size <= 100_000, 1, "the block has no such place")
-    root = root_under(path, entry["ordinal"], size, leaf)
-    need(root == records[0][8:40], 1, "the path doesn't lead to the root of the block")
-    shown = "transaction {id} of {session} at tick {time}, in block {block} at {ordinal}, tables {tables}"
-    return shown.format(**entry)
+    if kind == b"LGCC\1":
+        return check_chain(database, records, held)
+    ids = check_records(records, database, held)
+    need(ids[0] == entry["block"], 1, "the records are of other blocks")
+    check_entry(leaf, entry, path, records[0])
+    shown = "transaction {id} of {session} at tick {time}, in block {block} at {ordinal}, tables {tables}".format(**entry)
+    if not events:
+        return shown
+    table = read_leaf(events[0])[1]
+    need(all(read_leaf(it) == (entry["id"], table) for it in events), 1, "an event is another transaction's or table's")
+    root = tree_hash(events) if kind == b"LGRA\1" else root_over(events[0], steps)
+    need(entry["roots"].get(table) == root, 1, "the events don't lead to the root of their table")
+    which = "all" if kind == b"LGRA\1" else "one"
+    return f"{shown}: {which} of its events in table {table}"
 
 
 def main(words: list[str]) -> None:

@@ -1,0 +1,9 @@
+//! Receipts of rows checked: of all events of a transaction in a table, and of one event.
+#![tactic(auto)]
+
+mod check;
+mod leaves;
+mod roots;
+
+pub use check::{check_row_receipt, check_table_receipt};
+pub use format_row_receipt::{RowReceipt, TableReceipt};

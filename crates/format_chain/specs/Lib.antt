@@ -1,0 +1,2 @@
+pub mod ChainReading
+pub mod Chains

@@ -1,0 +1,3 @@
+pub mod BodyExact
+pub mod RowExact
+pub mod StepsExact
