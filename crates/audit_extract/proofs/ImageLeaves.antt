@@ -29,7 +29,7 @@ use Rattle.format_image.specs.Rows.{Stored}
 use Rattle.format_image.specs.RowBytes.{AreValues, AreIndexes, AreRows, IsPair, IsBaseRow, IsHistoryRow, IsEnd, IsTable}
 use Rattle.format_image.specs.Tables.{tables_in, tables_with, table_in, defs_in}
 use Rattle.audit_extract.specs.declared.leaves.Leaf.{Leaf}
-use Rattle.audit_extract.specs.Leaves.{leaf_of, table_leaves, all_leaves, leaf_cmp, is_of, bytes_of, tree_of}
+use Rattle.audit_extract.specs.Leaves.{HasLeaves, leaf_of, table_leaves, all_leaves, leaf_cmp, is_of, bytes_of, tree_of}
 use Rattle.audit_extract.proofs.Groups.{by_seq, group_sorted}
 use Rattle.audit_extract.proofs.Lists.{all_two}
 use Rattle.audit_extract.proofs.Rooted.{Above, tables_above}
@@ -120,6 +120,12 @@ found_in tx ts ys up stable t here =
 pub all_found : (i : Image) (ys : List Leaf) → IsImage i → IsSorted leaf_cmp ys → IsStable leaf_cmp (all_leaves (tables_in i)) ys → (tx : ℕ) → AllByRecursion (IsFound tx ys) (tables_in i)
 all_found i ys is up stable tx =
     all_weaker (InTable tx (tables_in i)) (IsFound tx ys) (found_in tx (tables_in i) ys up stable) (tables_in i) (each_table tx 0 (tables_in i) (tables_above i.defs i.tables is.ids))
+
+pub found_leaves : (i : Image) (ys : List Leaf) (tx table : ℕ) (leaves : List (List ℕ)) → IsImage i → IsSorted leaf_cmp ys → IsStable leaf_cmp (all_leaves (tables_in i)) ys
+    → leaves ≡ tree_of ys (tx, table) → HasLeaves i tx table leaves
+found_leaves i ys tx table leaves is up stable same =
+    all_weaker (IsFound tx ys) (λ (t : Table). t.def.id ≡ table → leaves ≡ leaves_of tx t)
+    (λ t found of. same ∙ ap (λ (n : ℕ). tree_of ys (tx, n)) (sym of) ∙ found) (tables_in i) (all_found i ys is up stable tx)
 
 -- ---- the bytes at a place
 

@@ -8,10 +8,13 @@ use Rattle.base_merkle.specs.TreeHash.{tree_hash}
 use Rattle.format_event.specs.Leaf.{event_bytes}
 use Rattle.sql_types.specs.declared.entry.TxEntry.{TxEntry}
 use Rattle.sql_types.specs.declared.event.Event.{Event}
+use Rattle.sql_types.specs.declared.image.Image.{Image}
 use Rattle.sql_types.specs.declared.version.Table.{Table}
 use Rattle.spec_model.specs.Catalog.{Tables}
 use Rattle.spec_model.specs.Events.{version_events}
 use Rattle.spec_model.specs.Rows.{event_cmp, same_event}
+use Rattle.spec_ledger.specs.Entries.{leaves_of}
+use Rattle.format_image.specs.Tables.{tables_in}
 use Rattle.audit_extract.specs.declared.leaves.Leaf.{Leaf}
 
 -- a transaction and a table
@@ -61,3 +64,7 @@ SameTree a b tx r = tree_of a (tx, r.0) ≡ tree_of b (tx, r.0)
 
 abbrev pub SameTrees : List Leaf → List Leaf → TxEntry → Type 0
 SameTrees a b e = AllByRecursion (SameTree a b e.id) e.roots
+
+-- in each table of the image with this id these are the leaves of the transaction, by number
+abbrev pub HasLeaves : Image → ℕ → ℕ → List (List ℕ) → Type 0
+HasLeaves i tx table leaves = AllByRecursion (λ (t : Table). t.def.id ≡ table → leaves ≡ leaves_of tx t) (tables_in i)
