@@ -1,8 +1,6 @@
 -- Chains that join two digests tell one history.
-use Rattle.std.proofs.Common.{◌≡◌, ◌≤◌, ◌<◌, ◌+◌, ◌-◌, ◌⊎◌, ℕ, Bool, List, ◌∷◌, length, take, drop, None, arith, sym, ◌∙◌, ap, subst, inl, length-take, length-drop}
-use Rattle.std.specs.Prelude.{◌&&◌, bytes_eq}
+use Rattle.std.proofs.Common.{◌≡◌, ◌≤◌, ◌<◌, ◌+◌, ◌-◌, ◌⊎◌, ℕ, List, length, drop, None, arith, sym, ◌∙◌, ap, inl, length-take, length-drop}
 use Rattle.std.specs.List.{AllByRecursion}
-use Rattle.std.specs.Bool.{Decides}
 use Rattle.format_entry.specs.Record.{IsRecord}
 use Rattle.sql_types.specs.declared.digest.HeldDigest.{HeldDigest}
 use Rattle.sql_types.specs.declared.entry.BlockRecord.{BlockRecord}
@@ -18,7 +16,6 @@ use Rattle.audit_extract.proofs.Unbroken.{so_far}
 use Rattle.format_chain.specs.declared.chain.Chain.{Chain}
 use Rattle.format_chain.specs.Chains.{IsChain}
 use Rattle.audit_receipt.specs.Accepted.{LeadTo}
-use Rattle.audit_receipt.specs.Tests.{lead_to}
 use Rattle.audit_receipt.proofs.Chains.{same_links}
 use Rattle.audit_receipt.proofs.Found.{HasBlock, block_at, all_heads}
 use Rattle.audit_receipt.proofs.Made.{first_taken, parts_lead}

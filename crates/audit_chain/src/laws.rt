@@ -1,6 +1,6 @@
 //! Laws of chains.
 
-ghost use Rattle.std.specs.Prelude.{ℕ, ◌≡◌, ◌≤◌, ◌⊎◌, List, length, None};
+ghost use Rattle.std.specs.Prelude.{ℕ, ◌≡◌, ◌≤◌, ◌⊎◌, List, None};
 ghost use Rattle.sql_types.specs.declared.digest.HeldDigest.{HeldDigest};
 ghost use Rattle.sql_types.specs.declared.image.Image.{Image};
 ghost use Rattle.format_image.specs.ImageBytes.{IsImage};

@@ -12,7 +12,7 @@ use Rattle.base_fields.proofs.Written.{IsBytes-back, Shorter, u8_exact, u64_exac
 use Rattle.base_fields.proofs.Parts.{Decodes, both_exact, mapped_exact, decoded_exact, where_exact, listed_exact}
 use Rattle.sql_types.specs.declared.entry.BlockRecord.{BlockRecord}
 use Rattle.sql_types.specs.declared.entry.TxEntry.{TxEntry}
-use Rattle.format_entry.specs.Entry.{entry_bytes, IsEntry}
+use Rattle.format_entry.specs.Entry.{entry_bytes}
 use Rattle.format_entry.specs.EntryReading.{entry_at}
 use Rattle.format_entry.proofs.EntryExact.{found_of, only_of}
 use Rattle.format_receipt.specs.declared.receipt.Receipt.{Receipt}

@@ -1,5 +1,5 @@
 -- Steps are read exactly as they are written.
-use Rattle.std.proofs.Common.{◌≡◌, ◌<◌, ℕ, zero, suc, true, List, [], ◌∷◌, length, Some, None, refl, ap, arith}
+use Rattle.std.proofs.Common.{◌≡◌, ◌<◌, ℕ, zero, suc, true, List, [], ◌∷◌, length, Some, refl, ap, arith}
 use Rattle.std.specs.List.{AllByRecursion}
 use Rattle.base_fields.specs.Fields.{u8_field, hash_field}
 use Rattle.base_fields.specs.Readers.{u8_at, hash_at, listed}
