@@ -1,13 +1,13 @@
 #!/usr/bin/env python3
-"""Has `ledgerd verify` and `tools/verify.py` judge images that were altered, and compares what they say.
+"""Has `ledgerd verify` and `tools/verify.py` judge altered images, and compares what they say.
 
     bench/mutate.py PROGRAM [--count N] [--seed S] [--keep FOLDER]
 
-Half of the images have a few of their bytes changed, and some digest files too. The other half are forged: values,
-rows, columns, entries or blocks are altered, and of what stands above the change (index rows, the system's rows, roots,
-blocks, digests) some is made anew by docs/FORMATS.md. PROGRAM is a built ledgerd; 10,000 images take some minutes. The
-last line is 'N of M agree', behind how often each invariant was named, and the status 1 where N isn't M. What disagrees
-is kept in FOLDER.
+Some images and digest files have a few of their bytes changed. Other images are forged: values, rows, columns, entries
+or blocks are altered, and of what stands above the change (index rows, the system's rows, roots, blocks, digests) some
+is made anew by docs/FORMATS.md. Where PROGRAM, a built ledgerd, makes receipts, one file in ten is a receipt with bytes
+changed, which `ledgerd check` and `tools/check_receipt.py` judge. 10,000 files take some minutes. The last line is 'N
+of M agree', behind how often each answer came, and the status 1 where N isn't M. What disagrees is kept in FOLDER.
 """
 
 import argparse
@@ -20,11 +20,13 @@ import random
 import subprocess
 import sys
 import tempfile
+from typing import NamedTuple
 
 TOP = os.path.dirname(os.path.dirname(os.path.abspath(__file__)))
 sys.path.insert(0, os.path.join(TOP, "tools"))
 
 # pylint: disable=wrong-import-position
+import check_receipt
 import verify
 from forge import Forger, image_bytes
 from ledger import Image, read_image
@@ -83,29 +85,106 @@ def with_other_bytes(data: bytes, choice: random.Random) -> bytes:
     return bytes(found)
 
 
-def judged_by_tool(image: str, digests: str) -> tuple[int, str]:
+class Altered(NamedTuple):
+    """An altered file and digests: what judges it, and how it was altered."""
+
+    command: str
+    how: str
+    data: bytes
+    digests: bytes
+
+
+def altered_image(honest: list[tuple[bytes, bytes]], choice: random.Random) -> Altered:
+    data, digests = choice.choice(honest)
+    how = choice.choice(("bytes", "forged"))
+    if how == "bytes":
+        data = with_other_bytes(data, choice)
+    else:
+        forged = Forger(read_image(data), choice).forge()
+        data = image_bytes(forged)
+        if choice.random() < 0.8:
+            digests = digests_of(forged)
+    if choice.random() < 0.1:
+        digests = b"[]"
+    elif choice.random() < 0.1:
+        digests = with_other_bytes(digests, choice)
+    return Altered("verify", how, data, digests)
+
+
+def altered_receipt(receipts: list[tuple[bytes, bytes]], choice: random.Random) -> Altered:
+    data, digests = choice.choice(receipts)
+    return Altered("check", "bytes", with_other_bytes(data, choice), digests)
+
+
+def judged_by_tool(command: str, *names: str) -> tuple[int, str]:
     line = io.StringIO()
     with contextlib.redirect_stdout(line), contextlib.redirect_stderr(io.StringIO()):
-        status = verify.main([image, digests])
+        try:
+            status = TOOLS[command](list(names)) or 0
+        except SystemExit as ended:
+            status = ended.code
     return status, line.getvalue()
 
 
-def judged_by_program(program: str, image: str, digests: str) -> tuple[int, str]:
-    it = subprocess.run([program, "verify", image, digests], capture_output=True, text=True, check=False)
+TOOLS = {"verify": verify.main, "check": check_receipt.main}
+
+
+def called(program: str, *words: str, lines: str = "") -> tuple[int, str]:
+    it = subprocess.run([program, *words], input=lines, capture_output=True, text=True, check=False)
     return it.returncode, it.stdout
 
 
+def read(name: str) -> bytes:
+    with open(name, "rb") as file:
+        return file.read()
+
+
+def write(name: str, content: bytes) -> None:
+    with open(name, "wb") as file:
+        file.write(content)
+
+
 def honest_images(program: str) -> list[tuple[bytes, bytes]]:
-    """Images with digests that they are accepted with."""
-    subprocess.run([program, "step", "--save", "made", "--block-size", "3"], input=INPUT, text=True, check=True,
-                   stdout=subprocess.DEVNULL, stderr=subprocess.DEVNULL)
-    with open("made.img", "rb") as file:
-        made = file.read()
-    found = [made] * len(HONEST)
-    for name in HONEST:
-        with open(os.path.join(TOP, "crates/test_commands/data", name + ".img"), "rb") as file:
-            found.append(file.read())
-    return [(data, digests_of(read_image(data))) for data in found]
+    """Images with digests that they are accepted with, the one of INPUT first and as often as all others."""
+    called(program, "step", "--save", "made", "--block-size", "3", lines=INPUT)
+    stored = [read(os.path.join(TOP, "crates/test_commands/data", name + ".img")) for name in HONEST]
+    return [(data, digests_of(read_image(data))) for data in [read("made.img")] * len(HONEST) + stored]
+
+
+def honest_receipts(program: str, image: bytes, digests: bytes) -> list[tuple[bytes, bytes]]:
+    """The receipts of the transactions of an image, if the program makes any."""
+    write("x.img", image)
+    write("x.digests", digests)
+    ids = [str(entry.id) for entry in read_image(image).entries]
+    made = [id for id in ids if called(program, "receipt", "x.img", "x.digests", id, "--save", f"r{id}")[0] == 0]
+    return [(read(f"r{id}.receipt"), digests) for id in made]
+
+
+def compare(program: str, count: int, seed: int, keep: str | None) -> int:
+    """Alters so many files, and says of how many both say the same."""
+    choice = random.Random(seed)
+    said: collections.Counter[str] = collections.Counter()
+    agreed = 0
+    honest = honest_images(program)
+    receipts = honest_receipts(program, *honest[0])
+    for place in range(count):
+        it = altered_receipt(receipts, choice) if receipts and place % 10 == 9 else altered_image(honest, choice)
+        write("x.file", it.data)
+        write("x.digests", it.digests)
+        ours = judged_by_tool(it.command, "x.file", "x.digests")
+        theirs = called(program, it.command, "x.file", "x.digests")
+        line = " ".join(theirs[1].split()[:2]) or f"status {theirs[0]}"
+        said[f"{it.command} {it.how} {line}"] += 1
+        if ours == theirs:
+            agreed += 1
+            continue
+        print(f"{it.command} {place} of seed {seed}: the tool says {ours}, the program {theirs}", flush=True)
+        if keep:
+            os.makedirs(keep, exist_ok=True)
+            write(f"{keep}/{seed}-{place}.{it.command}", it.data)
+            write(f"{keep}/{seed}-{place}.digests", it.digests)
+    print(", ".join(f"{line}: {times}" for line, times in sorted(said.items())))
+    return agreed
 
 
 def main() -> int:
@@ -115,43 +194,10 @@ def main() -> int:
     words.add_argument("--seed", type=int, default=1)
     words.add_argument("--keep")
     given = words.parse_args()
-    program = os.path.abspath(given.program)
-    keep = os.path.abspath(given.keep) if given.keep else None
-    choice = random.Random(given.seed)
-    said: collections.Counter[str] = collections.Counter()
-    agreed = 0
+    program, keep = os.path.abspath(given.program), given.keep and os.path.abspath(given.keep)
     with tempfile.TemporaryDirectory() as room:
         os.chdir(room)
-        honest = honest_images(program)
-        for count in range(given.count):
-            data, digests = choice.choice(honest)
-            if count % 2:
-                data = with_other_bytes(data, choice)
-            else:
-                forged = Forger(read_image(data), choice).forge()
-                data = image_bytes(forged)
-                if choice.random() < 0.8:
-                    digests = digests_of(forged)
-            if choice.random() < 0.1:
-                digests = b"[]"
-            elif choice.random() < 0.1:
-                digests = with_other_bytes(digests, choice)
-            for name, content in (("x.img", data), ("x.digests", digests)):
-                with open(name, "wb") as file:
-                    file.write(content)
-            ours, theirs = judged_by_tool("x.img", "x.digests"), judged_by_program(program, "x.img", "x.digests")
-            line = " ".join(theirs[1].split()[:2]) or "refused"
-            said[line + (" forged" if count % 2 == 0 else " bytes")] += 1
-            if ours == theirs:
-                agreed += 1
-                continue
-            print(f"image {count} of seed {given.seed}: the tool says {ours}, the program {theirs}", flush=True)
-            if keep:
-                os.makedirs(keep, exist_ok=True)
-                for end, content in (("img", data), ("digests", digests)):
-                    with open(f"{keep}/{given.seed}-{count}.{end}", "wb") as file:
-                        file.write(content)
-    print(", ".join(f"{line}: {times}" for line, times in sorted(said.items())))
+        agreed = compare(program, given.count, given.seed, keep)
     print(f"{agreed} of {given.count} agree")
     return 0 if agreed == given.count else 1
 

@@ -1,5 +1,5 @@
 -- Chains that join two digests tell one history.
-use Rattle.std.proofs.Common.{◌≡◌, ◌≤◌, ◌<◌, ◌+◌, ◌-◌, ◌⊎◌, ℕ, List, length, drop, None, arith, sym, ◌∙◌, ap, inl, length-take, length-drop}
+use Rattle.std.proofs.Common.{◌≡◌, ◌≤◌, ◌<◌, ◌+◌, ◌⊎◌, ℕ, List, length, drop, None, arith, sym, ◌∙◌, ap, inl, length-take, length-drop}
 use Rattle.std.specs.List.{AllByRecursion}
 use Rattle.format_entry.specs.Record.{IsRecord}
 use Rattle.sql_types.specs.declared.digest.HeldDigest.{HeldDigest}

@@ -1,5 +1,5 @@
 -- What is read and judged for `extract`.
-use Rattle.std.proofs.Common.{◌≡◌, ◌∙◌, ℕ, List, ap, subst, inr, Option, Some, None, IfSome, Ok}
+use Rattle.std.proofs.Common.{◌≡◌, ◌∙◌, ℕ, List, ap, refl, subst, inr, Option, Some, None, IfSome, Ok}
 use Rattle.base_io.specs.Store.{Names}
 use Rattle.sql_types.specs.declared.digest.HeldDigest.{HeldDigest}
 use Rattle.sql_types.specs.declared.image.Image.{Image}
@@ -7,7 +7,10 @@ use Rattle.spec_verify.specs.declared.place.Verdict.TheVariants.{Yes}
 use Rattle.spec_verify.specs.Bytes.{verdict_of}
 use Rattle.spec_verify.proofs.Judged.{of_image}
 use Rattle.cli_commands.specs.declared.status.Status.{Status}
-use Rattle.cli_commands.specs.Extract.{IsTried, LacksExhibits}
+use Rattle.audit_extract.specs.declared.found.ImageComparison.{ImageComparison}
+use Rattle.cli_commands.specs.declared.extract.Finding.{Finding}
+use Rattle.cli_commands.specs.declared.extract.Finding.TheVariants.{Honest, Suspect, Compared}
+use Rattle.cli_commands.specs.Extract.{AreCompared, IsFoundWith, IsTried, LacksExhibits, finding_status, finding_text}
 use Rattle.cli_commands.specs.Names.{IsInVault, LacksName, image_limit, digests_limit}
 
 -- the verdict on bytes whose image is accepted
@@ -26,3 +29,19 @@ third_lacks status before between now honest suspect digests a b first second pr
     let there : IfSome before (λ n. IsInVault (n suspect) image_limit b) = subst (λ (names : Option Names). IfSome names (λ n. IsInVault (n suspect) image_limit b)) first present_b in
     let none : LacksName status 3 digests_limit before digests = subst (λ (names : Option Names). LacksName status 3 digests_limit names digests) (second ∙ first) lacks in
     inr (inr (a, b, both_are_present (λ n. IsInVault (n honest) image_limit a) (λ n. IsInVault (n suspect) image_limit b) before present_a there, none))
+
+-- ---- what two accepted images are to each other
+
+abbrev pub compared_text : ImageComparison → List ℕ
+compared_text outcome = finding_text (Compared outcome)
+
+abbrev pub compared_status : ImageComparison → Status
+compared_status outcome = finding_status (Compared outcome)
+
+-- of two images that are accepted nothing else is found
+pub compared_of_accepted : (h : List ℕ → List ℕ) (held : List HeldDigest) (a b : List ℕ) → verdict_of h held a ≡ Yes → verdict_of h held b ≡ Yes
+    → (finding : Finding) → IsFoundWith h held a b finding
+    → (outcome : ImageComparison) × AreCompared h held a b outcome × (finding_text finding ≡ compared_text outcome) × (finding_status finding ≡ compared_status outcome)
+compared_of_accepted h held a b yes_a yes_b (Honest verdict) found = absurd (found.0 (found.1 ∙ yes_a))
+compared_of_accepted h held a b yes_a yes_b (Suspect verdict) found = absurd (found.1.0 (found.1.1 ∙ yes_b))
+compared_of_accepted h held a b yes_a yes_b (Compared outcome) found = (outcome, found, refl, refl)

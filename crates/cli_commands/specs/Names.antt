@@ -7,12 +7,12 @@ use Rattle.base_io.specs.Store.{NameContent, Absent, Open, Bytes, Names}
 use Rattle.cli_commands.specs.declared.status.Status.{Status}
 use Rattle.cli_commands.specs.declared.status.Status.TheVariants.{Limit, VaultFault, Missing, Memory}
 
--- the most bytes that an image may have, 256 MiB, and digests, 16 MiB
+-- the most bytes that an image may have, 256 MiB, and digests, 32 MiB
 abbrev pub image_limit : ℕ
 image_limit = 268435456
 
 abbrev pub digests_limit : ℕ
-digests_limit = 16777216
+digests_limit = 33554432
 
 -- these bytes, no more than the limit, stand under a name; or it is open, and any may be given
 abbrev pub IsInVault : NameContent → ℕ → List ℕ → Type 0

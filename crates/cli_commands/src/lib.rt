@@ -21,3 +21,4 @@ pub use cli_words::USAGE;
 pub use format_journal::{Journal, JournalItem, Script, write_journal};
 pub use status::Status;
 pub use top::ledgerd;
+pub use transfer::INPUT_LIMIT;

@@ -12,8 +12,8 @@ use base_io::{Vault, VaultErr};
 /// The most bytes that an image or a journal may have: 256 MiB.
 pub(crate) const IMAGE_LIMIT: usize = 268435456;
 
-/// The most bytes that digests may have: 16 MiB.
-pub(crate) const DIGESTS_LIMIT: usize = 16777216;
+/// The most bytes that digests may have: 32 MiB, so that those of every run can be read.
+pub(crate) const DIGESTS_LIMIT: usize = 33554432;
 
 /// The bytes under a name, which is the one with this number, from 1, among those of the command.
 pub(crate) fn read_name<V: Vault>(

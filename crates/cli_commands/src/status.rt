@@ -15,8 +15,8 @@ pub enum Status {
     /// The words have none of the commands' forms.
     Words,
     /// A limit was exceeded: more than 4 MiB came as input, or statements of more than 64 sessions; or more
-    /// than 256 MiB stand under the name of an image or of a journal, or 16 MiB under that of digests or of a
-    /// receipt.
+    /// than 256 MiB stand under the name of an image or of a journal, 32 MiB under that of digests, or 16 MiB
+    /// under that of a receipt.
     Limit,
     /// Reading the input failed.
     SourceFault,

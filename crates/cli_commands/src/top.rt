@@ -48,7 +48,8 @@ use std::thread::Threads;
 /// whole journal under `NAME.img`, the digests under `NAME.digests` and the journal of what was committed
 /// under `NAME.journal`. Then the transcript is written, which has what each statement was answered, in the
 /// order of the lines. Transcripts, journal, digests and images agree: each image is that of its part of the
-/// journal, and `verify` says `Yes` of it with any of these digests whose blocks are closed in it.
+/// journal, and `verify` says `Yes` of it, where it has at most 256 MiB, with any of these digests whose blocks are
+/// closed in it.
 /// `--block-size N` says how many transactions a block has, `--clock T` at which moment all is done, and
 /// `--database D` the name of the database.
 ///
@@ -97,8 +98,8 @@ use std::thread::Threads;
 /// added, and `Yes` (of a count that isn't a multiple of ten, the tenths are rounded down for each table). It
 /// reads no input and puts no file.
 ///
-/// `--help` (or `-h`) and `--version` (or `-V`) as the only word, and `--help` as the only word behind a
-/// command, print a text.
+/// `--help` (or `-h` or `help`) and `--version` (or `-V`) as the only word, `--help` or `-h` as the only word
+/// behind a command, and `help` before one, print a text.
 ///
 /// An option and its value are two words or one, `--save NAME` or `--save=NAME`, and stand anywhere behind
 /// the command. `verify --workers N` lets N threads look at an image, and says what is so without it.

@@ -5,3 +5,4 @@ mod Meant
 mod Spelled
 mod Says
 mod Ranges
+mod Saved

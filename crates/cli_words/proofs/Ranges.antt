@@ -5,9 +5,9 @@ use Rattle.std.specs.Str.{bytes_eq}
 use Rattle.std.proofs.lemmas.Bool.Decides.{nat_tests}
 use Rattle.base_types.specs.DatabaseName.{is_database_name}
 use Rattle.base_types.specs.declared.moment.TheConstants.{MAX_TICKS}
-use Rattle.cli_words.specs.Commands.{Settings, AreInRange, IsInRange, Command, Step, Run, Verify, Extract, Replay, Gen, Receipt, Check, given, settings, meaning_of, has_dashes, arguments_of, asks_help, alone, behind, command_of}
+use Rattle.cli_words.specs.Commands.{Settings, AreInRange, IsInRange, Command, Step, Run, Verify, Extract, Replay, Gen, Receipt, Check, given, settings, meaning_of, has_dashes, arguments_of, asks_help, alone, help_on, others, behind, command_of}
 use Rattle.cli_words.specs.Commands as said
-use Rattle.cli_words.specs.Forms.{is_number, number_from, number_in, database_name, file_name, or_default, if_given}
+use Rattle.cli_words.specs.Forms.{is_number, number_from, number_in, database_name, file_name, save_name, or_default, if_given}
 use Rattle.cli_words.specs.Line.{Text, uses_of, ◌>>=◌}
 use Rattle.cli_words.specs.Subcommands.{named, operands_of, options_of}
 use Rattle.cli_words.specs.Views.{command_view}
@@ -110,10 +110,10 @@ is_some c d range e = some_range c d (inner c d e) range
 has_range : (w : Subcommand) (value : Text → Option Text) (c : Command) → meaning_of w value ≡ Some c → IsInRange c
 unfolding meaning_of
 has_range which.Step value =
-    every (value (codes "save") >>= file_name) (λ save. settings value >>= λ how. Some (Step save how)) IsInRange
+    every (value (codes "save") >>= save_name) (λ save. settings value >>= λ how. Some (Step save how)) IsInRange
     (λ save is. every (settings value) (λ how. Some (Step save how)) IsInRange (λ how said d. is_some (Step save how) d (in_range value how said)))
 has_range which.Run value =
-    every (value (codes "save") >>= file_name) (λ save. settings value >>= λ how. Some (Run save how)) IsInRange
+    every (value (codes "save") >>= save_name) (λ save. settings value >>= λ how. Some (Run save how)) IsInRange
     (λ save is. every (settings value) (λ how. Some (Run save how)) IsInRange (λ how said d. is_some (Run save how) d (in_range value how said)))
 has_range which.Verify value =
     every (value (codes "IMAGE") >>= file_name) (λ image. value (codes "DIGESTS") >>= file_name >>= λ digests. or_default 1 (number_in 1 16) (value (codes "workers")) >>= λ workers. Some (Verify image digests workers)) IsInRange
@@ -127,18 +127,18 @@ has_range which.Extract value =
     (λ suspect also. every (value (codes "DIGESTS") >>= file_name) (λ digests. Some (Extract honest suspect digests)) IsInRange
     (λ digests are d. is_some (Extract honest suspect digests) d tt)))
 has_range which.Replay value =
-    every (value (codes "JOURNAL") >>= file_name) (λ journal. value (codes "save") >>= file_name >>= λ save. Some (Replay journal save)) IsInRange
-    (λ journal is. every (value (codes "save") >>= file_name) (λ save. Some (Replay journal save)) IsInRange
+    every (value (codes "JOURNAL") >>= file_name) (λ journal. value (codes "save") >>= save_name >>= λ save. Some (Replay journal save)) IsInRange
+    (λ journal is. every (value (codes "save") >>= save_name) (λ save. Some (Replay journal save)) IsInRange
     (λ save also d. is_some (Replay journal save) d tt))
 has_range which.Gen value =
     every (value (codes "COUNT") >>= number_in 1 10000) (λ count. Some (Gen count)) IsInRange
     (λ count is d. let b = bound (value (codes "COUNT")) (number_in 1 10000) count is in
     let within = number_within 1 10000 b.value count b.rest in is_some (Gen count) d (within.least, within.most))
 has_range which.Receipt value =
-    every (value (codes "IMAGE") >>= file_name) (λ image. value (codes "DIGESTS") >>= file_name >>= λ digests. value (codes "TX") >>= number_in 1 MAX_TX >>= λ tx. value (codes "save") >>= file_name >>= λ save. Some (Receipt image digests tx save)) IsInRange
-    (λ image is. every (value (codes "DIGESTS") >>= file_name) (λ digests. value (codes "TX") >>= number_in 1 MAX_TX >>= λ tx. value (codes "save") >>= file_name >>= λ save. Some (Receipt image digests tx save)) IsInRange
-    (λ digests are. every (value (codes "TX") >>= number_in 1 MAX_TX) (λ tx. value (codes "save") >>= file_name >>= λ save. Some (Receipt image digests tx save)) IsInRange
-    (λ tx said. every (value (codes "save") >>= file_name) (λ save. Some (Receipt image digests tx save)) IsInRange
+    every (value (codes "IMAGE") >>= file_name) (λ image. value (codes "DIGESTS") >>= file_name >>= λ digests. value (codes "TX") >>= number_in 1 MAX_TX >>= λ tx. value (codes "save") >>= save_name >>= λ save. Some (Receipt image digests tx save)) IsInRange
+    (λ image is. every (value (codes "DIGESTS") >>= file_name) (λ digests. value (codes "TX") >>= number_in 1 MAX_TX >>= λ tx. value (codes "save") >>= save_name >>= λ save. Some (Receipt image digests tx save)) IsInRange
+    (λ digests are. every (value (codes "TX") >>= number_in 1 MAX_TX) (λ tx. value (codes "save") >>= save_name >>= λ save. Some (Receipt image digests tx save)) IsInRange
+    (λ tx said. every (value (codes "save") >>= save_name) (λ save. Some (Receipt image digests tx save)) IsInRange
     (λ save also d. let b = bound (value (codes "TX")) (number_in 1 MAX_TX) tx said in
     let within = number_within 1 MAX_TX b.value tx b.rest in is_some (Receipt image digests tx save) d (within.least, within.most)))))
 has_range which.Check value =
@@ -164,17 +164,29 @@ helped false w o c range e = range c e
 alone_range : (word : Text) (c : Command) → alone word ≡ Some c → IsInRange c
 unfolding alone
 alone_range word c e =
-    go (bytes_eq word (codes "--help") || bytes_eq word (codes "-h")) (bytes_eq word (codes "--version") || bytes_eq word (codes "-V")) e
+    go (asks_help (word ∷ []) || bytes_eq word (codes "help")) (bytes_eq word (codes "--version") || bytes_eq word (codes "-V")) e
   where
     go : (a b : Bool) → (if a then Some (said.Help None) else if b then Some said.Version else None) ≡ Some c → IsInRange c
     go true b f = some_range _ c (inner _ c f) tt
     go false true f = some_range _ c (inner _ c f) tt
     go false false f = absurd cc
 
+on_range : (word name : Text) (c : Command) → help_on word name ≡ Some c → IsInRange c
+on_range word name c e = go (bytes_eq word (codes "help")) (named name) e
+  where
+    go : (b : Bool) (o : Option Subcommand) → (if b then (o >>= λ w. Some (said.Help (Some w))) else None) ≡ Some c → IsInRange c
+    go true None f = absurd cc
+    go true (Some w) f = some_range _ c (inner _ c f) tt
+    go false o f = absurd cc
+
+others_range : (word : Text) (words : List Text) (c : Command) → others word words ≡ Some c → IsInRange c
+others_range word [] c e = alone_range word c e
+others_range word (name ∷ []) c e = on_range word name c e
+others_range word (name ∷ more ∷ rest) c e = absurd cc
+
 behind_range : (o : Option Subcommand) (word : Text) (words : List Text) (c : Command) → behind o word words ≡ Some c → IsInRange c
 behind_range (Some w) word words c e = helped (asks_help words) w (arguments_of w words) c (arguments_range w words) e
-behind_range None word [] c e = alone_range word c e
-behind_range None word (x ∷ xs) c e = absurd cc
+behind_range None word words c e = others_range word words c e
 
 pub command_range : (words : List Text) (c : Command) → command_of words ≡ Some c → IsInRange c
 unfolding command_of

@@ -6,7 +6,7 @@ use Rattle.base_types.specs.declared.moment.TheConstants.{MAX_TICKS}
 use Rattle.cli_words.specs.declared.forms.TheConstants.{MAX_TX}
 use Rattle.cli_words.specs.declared.subcommand.Subcommand.{Subcommand}
 use Rattle.cli_words.specs.declared.subcommand.Subcommand.TheVariants as which
-use Rattle.cli_words.specs.Forms.{file_name, database_name, number_in, or_default, if_given}
+use Rattle.cli_words.specs.Forms.{file_name, save_name, database_name, number_in, or_default, if_given}
 use Rattle.cli_words.specs.Line.{Text, Use, uses_of, ◌>>=◌}
 use Rattle.cli_words.specs.Subcommands.{named, operands_of, options_of}
 
@@ -67,9 +67,9 @@ settings value =
 
 -- what the values under the names of its operands and options say; none where one of them lacks its form
 unfoldable pub meaning_of : Subcommand → (Text → Option Text) → Option Command
-meaning_of which.Step value = value (codes "save") >>= file_name >>= λ save.
+meaning_of which.Step value = value (codes "save") >>= save_name >>= λ save.
     settings value >>= λ how. Some (Step save how)
-meaning_of which.Run value = value (codes "save") >>= file_name >>= λ save.
+meaning_of which.Run value = value (codes "save") >>= save_name >>= λ save.
     settings value >>= λ how. Some (Run save how)
 meaning_of which.Verify value = value (codes "IMAGE") >>= file_name >>= λ image.
     value (codes "DIGESTS") >>= file_name >>= λ digests.
@@ -80,14 +80,14 @@ meaning_of which.Extract value = value (codes "HONEST") >>= file_name >>= λ hon
     value (codes "DIGESTS") >>= file_name >>= λ digests.
     Some (Extract honest suspect digests)
 meaning_of which.Replay value = value (codes "JOURNAL") >>= file_name >>= λ journal.
-    value (codes "save") >>= file_name >>= λ save.
+    value (codes "save") >>= save_name >>= λ save.
     Some (Replay journal save)
 meaning_of which.Gen value = value (codes "COUNT") >>= number_in 1 10000 >>= λ count.
     Some (Gen count)
 meaning_of which.Receipt value = value (codes "IMAGE") >>= file_name >>= λ image.
     value (codes "DIGESTS") >>= file_name >>= λ digests.
     value (codes "TX") >>= number_in 1 MAX_TX >>= λ tx.
-    value (codes "save") >>= file_name >>= λ save.
+    value (codes "save") >>= save_name >>= λ save.
     Some (Receipt image digests tx save)
 meaning_of which.Check value = value (codes "RECEIPT") >>= file_name >>= λ receipt.
     value (codes "DIGESTS") >>= file_name >>= λ digests.
@@ -104,21 +104,31 @@ arguments_of which words = if has_dashes words then None
 
 -- the words ask for help and nothing else
 abbrev pub asks_help : List Text → Bool
-asks_help (word ∷ []) = bytes_eq word (codes "--help")
+asks_help (word ∷ []) = bytes_eq word (codes "--help") || bytes_eq word (codes "-h")
 asks_help words = false
 
 -- what a word says that stands alone
 unfoldable pub alone : Text → Option Command
 alone word =
-    if bytes_eq word (codes "--help") || bytes_eq word (codes "-h") then Some (Help None)
+    if asks_help (word ∷ []) || bytes_eq word (codes "help") then Some (Help None)
     else if bytes_eq word (codes "--version") || bytes_eq word (codes "-V") then Some Version
     else None
+
+-- `help` and the name of a command
+abbrev pub help_on : Text → Text → Option Command
+help_on word name =
+    if bytes_eq word (codes "help") then (named name >>= λ which. Some (Help (Some which))) else None
+
+-- what words say the first of which names no command
+abbrev pub others : Text → List Text → Option Command
+others word [] = alone word
+others word (name ∷ []) = help_on word name
+others word words = None
 
 abbrev pub behind : Option Subcommand → Text → List Text → Option Command
 behind (Some which) word words =
     if asks_help words then Some (Help (Some which)) else arguments_of which words
-behind None word [] = alone word
-behind None word words = None
+behind None word words = others word words
 
 -- the command that the words say; none where they have no command's form
 unfoldable pub command_of : List Text → Option Command

@@ -3,6 +3,7 @@ pub mod Commands
 pub mod Forms
 pub mod Help
 pub mod Line
+pub mod Names
 pub mod Shapes
 pub mod Subcommands
 pub mod Views

@@ -7,7 +7,8 @@ ghost use Rattle.cli_words.specs.Commands as spec;
 ghost use Rattle.cli_words.specs.Views.{settings_view, command_view};
 
 use crate::forms::{
-    MAX_TX, database_or_default, file_name, number_if_given, number_in, number_or, small_number_in,
+    MAX_TX, database_or_default, file_name, number_if_given, number_in, number_or, save_name,
+    small_number_in,
 };
 use crate::line::read_line;
 use crate::subcommand::Subcommand;
@@ -104,7 +105,7 @@ fn step_of<'a>(matches: &ArgMatches<'a>) -> Option<Command<'a>>
     ensures { option_map command_view result
         ≡ spec.meaning_of Subcommand.Step (first_value (found_of matches.now)) }
 {
-    let save = file_name(matches.get_str("save")?)?;
+    let save = save_name(matches.get_str("save")?)?;
     let settings = settings_of(matches)?;
     Some(Command::Step { save, settings })
 }
@@ -114,7 +115,7 @@ fn run_of<'a>(matches: &ArgMatches<'a>) -> Option<Command<'a>>
     ensures { option_map command_view result
         ≡ spec.meaning_of Subcommand.Run (first_value (found_of matches.now)) }
 {
-    let save = file_name(matches.get_str("save")?)?;
+    let save = save_name(matches.get_str("save")?)?;
     let settings = settings_of(matches)?;
     Some(Command::Run { save, settings })
 }
@@ -155,7 +156,7 @@ fn replay_of<'a>(matches: &ArgMatches<'a>) -> Option<Command<'a>>
         ≡ spec.meaning_of Subcommand.Replay (first_value (found_of matches.now)) }
 {
     let journal = file_name(matches.get_str("JOURNAL")?)?;
-    let save = file_name(matches.get_str("save")?)?;
+    let save = save_name(matches.get_str("save")?)?;
     Some(Command::Replay { journal, save })
 }
 
@@ -176,7 +177,7 @@ fn receipt_of<'a>(matches: &ArgMatches<'a>) -> Option<Command<'a>>
     let image = file_name(matches.get_str("IMAGE")?)?;
     let digests = file_name(matches.get_str("DIGESTS")?)?;
     let tx = number_in(1, MAX_TX, matches.get_str("TX")?)?;
-    let save = file_name(matches.get_str("save")?)?;
+    let save = save_name(matches.get_str("save")?)?;
     Some(Command::Receipt {
         image,
         digests,
@@ -240,7 +241,7 @@ fn asks_help(words: &[String]) -> bool
     ensures { result ≡ spec.asks_help (map string_bytes words.now) }
 {
     match words {
-        [word] => word.as_str() == "--help",
+        [word] => word.as_str() == "--help" || word.as_str() == "-h",
         _ => false,
     }
 }
@@ -249,12 +250,33 @@ fn asks_help(words: &[String]) -> bool
 fn alone<'a>(word: &str) -> Option<Command<'a>>
     ensures { option_map command_view result ≡ spec.alone word.now }
 {
-    if word == "--help" || word == "-h" {
+    if word == "--help" || word == "-h" || word == "help" {
         Some(Command::Help(None))
     } else if word == "--version" || word == "-V" {
         Some(Command::Version)
     } else {
         None
+    }
+}
+
+fn help_on<'a>(word: &str, name: &str) -> Option<Command<'a>>
+    ensures { option_map command_view result ≡ spec.help_on word.now name.now }
+{
+    if word != "help" {
+        return None;
+    }
+    let which = Subcommand::named(name)?;
+    Some(Command::Help(Some(which)))
+}
+
+/// What words say the first of which names no command.
+fn others<'a>(word: &str, rest: &[String]) -> Option<Command<'a>>
+    ensures { option_map command_view result ≡ spec.others word.now (map string_bytes rest.now) }
+{
+    match rest {
+        [] => alone(word),
+        [name] => help_on(word, name.as_str()),
+        _ => None,
     }
 }
 
@@ -275,11 +297,7 @@ fn command_of<'a>(alloc: Global, words: &'a [String]) -> Result<Option<Command<'
                 read_arguments(alloc, which, words)
             }
         }
-        None => Ok(if rest.is_empty() {
-            alone(word.as_str())
-        } else {
-            None
-        }),
+        None => Ok(others(word.as_str(), rest)),
     }
 }
 

@@ -3,8 +3,8 @@ ghost use Rattle.std.specs.Prelude.{◌≡◌, ◌≤◌, codes, length, true, o
 ghost use Rattle.std.specs.List.{list_all};
 ghost use Rattle.std.specs.Char.{is_ascii_digit};
 ghost use Rattle.base_types.specs.DatabaseName.{is_database_byte, starts_as_name};
-ghost use Rattle.cli_words.specs.Forms.{is_file_name, has_leading_zero, is_number, number_from, number_in};
-ghost use Rattle.cli_words.specs.Forms.{file_name, database_name, or_default, if_given};
+ghost use Rattle.cli_words.specs.Forms.{is_file_name, is_save_name, has_leading_zero, is_number, number_from, number_in};
+ghost use Rattle.cli_words.specs.Forms.{file_name, save_name, database_name, or_default, if_given};
 
 use base_types::is_database_name;
 
@@ -30,7 +30,14 @@ fn are_name_bytes(name: &[u8]) -> bool
 fn is_file_name(name: &[u8]) -> bool
     ensures { result ≡ is_file_name name.now }
 {
-    starts_well(name) && name.len() <= 100 && are_name_bytes(name)
+    starts_well(name) && name.len() <= 128 && are_name_bytes(name)
+}
+
+#[tactic(auto, unfolding(crate::specs::Forms::is_save_name))]
+fn is_save_name(name: &[u8]) -> bool
+    ensures { result ≡ is_save_name name.now }
+{
+    name.len() <= 100 && is_file_name(name)
 }
 
 /// The text, where it is the name of a file.
@@ -44,7 +51,19 @@ pub(crate) fn file_name(text: &str) -> Option<&str>
     }
 }
 
-fn database_name(text: &str) -> Option<&str>
+/// The text, where it is a name that files are saved under.
+pub(crate) fn save_name(text: &str) -> Option<&str>
+    ensures { option_copied result ≡ save_name text.now }
+{
+    if is_save_name(text.as_bytes()) {
+        Some(text)
+    } else {
+        None
+    }
+}
+
+/// The text, where it is the name of a database.
+pub(crate) fn database_name(text: &str) -> Option<&str>
     ensures { option_copied result ≡ database_name text.now }
 {
     if is_database_name(text.as_bytes()) {

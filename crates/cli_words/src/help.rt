@@ -16,29 +16,52 @@ pub const USAGE: &str = "usage: ledgerd step --save NAME [--block-size N] [--clo
 `./ledgerd --help` says what each does.
 ";
 
-/// The program's name and version.
-pub const VERSION: &str = "ledgerd 0.1.0
+/// The program's name and version, and the logic that the proofs of its sources are in: the last word of `rt version`.
+pub const VERSION: &str = "ledgerd 0.1.0 (logic dac8208d650f15bf)
 ";
 
 /// Help on all commands.
-pub const HELP: &str =
-    "ledgerd runs statements over ledger tables in memory, and verifies images of them.
+pub const HELP: &str = "ledgerd runs statements over ledger tables in memory, and verifies images of
+them.
 
-  ledgerd step --save NAME                 runs statements of sessions and saves what is left
-  ledgerd run --save NAME                  runs sessions side by side and saves what is left
-  ledgerd verify IMAGE DIGESTS             says whether an image and digests hold together
-  ledgerd extract HONEST SUSPECT DIGESTS   says what two images are to each other
-  ledgerd replay JOURNAL --save NAME       runs a journal again and saves its image
+  ledgerd step --save NAME      runs statements of sessions, one after another,
+                                and saves what is left
+  ledgerd run --save NAME       runs sessions side by side, and saves the same
+  ledgerd verify IMAGE DIGESTS  says whether an image and digests hold together
+  ledgerd extract HONEST SUSPECT DIGESTS
+                                says what two images are to each other
+  ledgerd replay JOURNAL --save NAME
+                                runs a journal again and saves its image
   ledgerd receipt IMAGE DIGESTS TX --save NAME
-                                           makes the receipt of one transaction of an image
-  ledgerd check RECEIPT DIGESTS            says whether a receipt holds with digests
-  ledgerd gen COUNT                        runs and verifies a workload, to measure with
-  ledgerd COMMAND --help                   says more of one of these
-  ledgerd --help, ledgerd -h               prints this text
-  ledgerd --version, ledgerd -V            prints the version
+                                makes the receipt of a transaction of an image
+  ledgerd check RECEIPT DIGESTS says whether a receipt holds with digests
+  ledgerd gen COUNT             runs and verifies a workload, to measure with
+  ledgerd COMMAND --help        says more of one of these, as `ledgerd help
+                                COMMAND` and `ledgerd COMMAND -h` do
+  ledgerd --help, -h or help    prints this text
+  ledgerd --version or -V       prints the version
 
-Names are those of files in the current folder: 1 to 100 letters, digits, `_`, `-` or `.`, the first a
-letter or a digit. An option and its value are two words, or one: `--save NAME` or `--save=NAME`.
+Names are those of files in the current folder: letters, digits, `_`, `-` or
+`.`, the first a letter or a digit; 1 to 100 of them in NAME, which files are
+saved under, and 1 to 128 in the others. An option and its value are two words,
+or one: `--save NAME` or `--save=NAME`.
+
+Limits: 4 MiB and 64 sessions for an input, 256 MiB for an image or a journal,
+32 MiB for digests, 16 MiB for a receipt.
+
+It ends with one of these statuses, and from 2 on standard error says more:
+   0  the work is done; `verify` and `check` said Yes, `extract` said Same
+   1  `verify`, `receipt` or `check` said No; `extract` said it of an image, or
+      shows a collision
+   2  the words were refused             3  a limit was exceeded
+   4  reading the input failed           5  writing the output failed
+   6  a file can't be read or put        7  no such file
+   8  the digests were refused           9  the journal was refused
+  10  a line has no session             12  out of memory
+  14  no such entry                     15  the receipt was refused
+
+Pages, in docs/ of the repository: SQL.md (input, statements and codes),
+AUDIT.md (commands, answers and statuses), FORMATS.md (the bytes of the files).
 
 Example, from the top of the repository:
   ./ledgerd step --save balance < examples/balance.txt
@@ -47,12 +70,30 @@ Example, from the top of the repository:
 /// Help on `step`.
 pub const STEP_HELP: &str = "ledgerd step --save NAME [--block-size N] [--clock T] [--database D]
 
-Runs the statements of standard input, `session: statement` on each line, one after another, and prints what
-each was answered. It puts in the current folder NAME-m.img for each number m that a SAVE IMAGE answered, the
-image of the first m items of the journal; NAME.img, the image of the whole; NAME.digests, the digests; and
-NAME.journal, what was committed, with the replies.
-N is the number of a block's transactions, 1 to 100,000. T is the moment of all that is done, in ticks of 100
-nanoseconds since 1970. D is the name of the database.
+Runs the statements of standard input, `session: statement` on each line, one
+after another, and prints what each was answered. It puts in the current folder
+NAME-m.img for each number m that a SAVE IMAGE answered, the image of the first
+m items of the journal; NAME.img, the image of the whole; NAME.digests, the
+digests; and NAME.journal, what was committed, with the replies. What stands
+under these names is replaced.
+N is the number of a block's transactions, 1 to 100,000; 100,000 where it isn't
+said. T is the moment of all that is done, in ticks of 100 nanoseconds since
+1970; the clock says it where it isn't given. D is the name of the database, 1
+to 64 letters, digits, `_`, `-` or `.`; LedgerDB where it isn't said.
+
+A refused statement is answered with a code; docs/SQL.md has an example of each
+and its cure:
+  E01 no statement                    E02 no such table
+  E03 a name is taken or reserved     E04 no such column
+  E05 values that don't fit together  E06 NULL where none may be
+  E07 the key is there already        E08 a number out of range
+  E09 a text or bytes too long        E10 the table is append-only
+  E11 the table may only be read      E12 a key can't be changed
+  E13 outside a transaction           E14 inside a transaction already
+  E15 no such savepoint               E16 a limit is passed
+  E17 not inside a transaction        E18 more or fewer values than columns
+  E19 nothing is committed            E20 locked by the transaction behind it
+  E30 no memory
 
 Example, from the top of the repository:
   ./ledgerd step --save shop --clock 0 < examples/shop.txt
@@ -61,23 +102,43 @@ Example, from the top of the repository:
 /// Help on `run`.
 pub const RUN_HELP: &str = "ledgerd run --save NAME [--block-size N] [--clock T] [--database D]
 
-Runs the sections of standard input and prints what their statements were answered. The lines behind
-`-- setup`, the first section, are run first, in their order; then those behind each `-- session S`, each of
-these sessions in a thread of its own beside the others, while another thread closes blocks.
-It puts in the current folder the files that `step` puts: NAME-m.img for each number m that a SAVE IMAGE
-answered, NAME.img, NAME.digests and NAME.journal. N, T and D are those of `step`.
+Runs the sections of standard input and prints what their statements were
+answered. The lines behind `-- setup`, the first section, are run first, in
+their order; then those behind each `-- session S`, each of these sessions in a
+thread of its own beside the others, while another thread closes blocks. Any
+other line that begins with `--` is a comment.
+It puts in the current folder the files that `step` puts: NAME-m.img for each
+number m that a SAVE IMAGE answered, NAME.img, NAME.digests and NAME.journal. N,
+T and D are those of `step`.
 
-Example, from the top of the repository; it puts seats.img, seats.digests and seats.journal:
+A refused statement is answered with a code; docs/SQL.md has an example of each
+and its cure:
+  E01 no statement                    E02 no such table
+  E03 a name is taken or reserved     E04 no such column
+  E05 values that don't fit together  E06 NULL where none may be
+  E07 the key is there already        E08 a number out of range
+  E09 a text or bytes too long        E10 the table is append-only
+  E11 the table may only be read      E12 a key can't be changed
+  E13 outside a transaction           E14 inside a transaction already
+  E15 no such savepoint               E16 a limit is passed
+  E17 not inside a transaction        E18 more or fewer values than columns
+  E19 nothing is committed            E20 locked by the transaction behind it
+  E30 no memory
+
+Example, from the top of the repository; it puts seats.img, seats.digests and
+seats.journal:
   ./ledgerd run --save seats < examples/seats.txt
 ";
 
 /// Help on `verify`.
 pub const VERIFY_HELP: &str = "ledgerd verify IMAGE DIGESTS [--workers W]
 
-Prints `Yes` where the image IMAGE and the digests DIGESTS hold together, and ends with status 0. Where they
-don't it prints `No`, the first invariant that fails and its place, and ends with status 1.
+Prints `Yes` where the image IMAGE and the digests DIGESTS hold together, and
+ends with status 0. Where they don't it prints `No`, the first invariant that
+fails and its place, and ends with status 1; docs/AUDIT.md says what each is.
 Both names are those of files in the current folder. It puts no file.
-W is how many threads go through the tables of the image, 1 to 16; 1 where it isn't said.
+W is how many threads go through the tables of the image, 1 to 16; 1 where it
+isn't said.
 
 Example, from the top of the repository:
   (cd examples && ../ledgerd verify honest.img honest.digests)
@@ -86,9 +147,10 @@ Example, from the top of the repository:
 /// Help on `extract`.
 pub const EXTRACT_HELP: &str = "ledgerd extract HONEST SUSPECT DIGESTS
 
-Verifies the images HONEST and SUSPECT with the digests DIGESTS, and prints the verdict on the first of them
-that isn't accepted. Where both are, it prints `Same` and ends with status 0 if all that the digests cover is
-the same in both, and else `Collision` and two byte strings with one SHA-256.
+Verifies the images HONEST and SUSPECT with the digests DIGESTS, and prints the
+verdict on the first of them that isn't accepted. Where both are, it prints
+`Same` and ends with status 0 if all that the digests cover is the same in both,
+and else `Collision` and two byte strings with one SHA-256.
 All three names are those of files in the current folder. It puts no file.
 
 Example, from the top of the repository:
@@ -98,9 +160,10 @@ Example, from the top of the repository:
 /// Help on `replay`.
 pub const REPLAY_HELP: &str = "ledgerd replay JOURNAL --save NAME
 
-Runs the journal in the file JOURNAL again, as `step` and `run` save one, and prints how many transactions it
-has. Where each statement is answered as the journal keeps it, it puts NAME.img, the journal's image, and
-NAME.journal, its own bytes, in the current folder.
+Runs the journal in the file JOURNAL again, as `step` and `run` save one, and
+prints how many transactions it has. Where each statement is answered as the
+journal keeps it, it puts NAME.img, the journal's image, and NAME.journal, its
+own bytes, in the current folder.
 
 Example, from the top of the repository, behind that of `step`:
   ./ledgerd replay shop.journal --save again
@@ -109,9 +172,10 @@ Example, from the top of the repository, behind that of `step`:
 /// Help on `receipt`.
 pub const RECEIPT_HELP: &str = "ledgerd receipt IMAGE DIGESTS TX --save NAME
 
-Verifies the image IMAGE with the digests DIGESTS, and prints the verdict where it is No. Else it puts
-NAME.receipt in the current folder and prints `receipt` with the transaction's block and its place there. The
-receipt shows that the transaction with the id TX is one of those that the digest of the greatest block
+Verifies the image IMAGE with the digests DIGESTS, and prints the verdict where
+it is No. Else it puts NAME.receipt in the current folder and prints `receipt`
+with the transaction's block and its place there. The receipt shows that the
+transaction with the id TX is one of those that the digest of the greatest block
 covers; `check` says so to whoever holds that digest, without the image.
 TX is a number from 1 on, as `committed` prints it.
 
@@ -122,9 +186,10 @@ Example, from the top of the repository:
 /// Help on `check`.
 pub const CHECK_HELP: &str = "ledgerd check RECEIPT DIGESTS
 
-Prints `Yes` where the receipt RECEIPT holds with the first of the digests DIGESTS that is of its last block,
-and ends with status 0: no image that verifies with this digest has another transaction at this place. Else
-it prints `No receipt` and ends with status 1.
+Prints `Yes` where the receipt RECEIPT holds with the first of the digests
+DIGESTS that is of its last block, and ends with status 0: no image that
+verifies with this digest has another transaction at this place. Else it prints
+`No receipt` and ends with status 1.
 Both names are those of files in the current folder. It puts no file.
 
 Example, from the top of the repository, behind that of `receipt`:
@@ -134,9 +199,11 @@ Example, from the top of the repository, behind that of `receipt`:
 /// Help on `gen`.
 pub const GEN_HELP: &str = "ledgerd gen COUNT
 
-Runs four sessions side by side, each of which inserts COUNT rows into a table of its own and changes every
-tenth; then closes the ledger, issues a digest and verifies the image with it. It prints how many transactions
-were committed, how many rows and rows of histories there are, the sum of the rows' values, and the verdict.
+Runs four sessions side by side, each of which inserts COUNT rows into a table
+of its own and changes every tenth; then closes the ledger, issues a digest and
+verifies the image with it. It prints how many transactions were committed, how
+many rows and rows of histories there are, the sum of the rows' values, and the
+verdict.
 COUNT is 1 to 10,000. It reads no input and puts no file.
 
 Example, from the top of the repository:

@@ -1,7 +1,8 @@
 // Which words are accepted, in spelled form.
-ghost use Rattle.std.specs.Prelude.{◌≡◌, List, Some};
+ghost use Rattle.std.specs.Prelude.{◌≡◌, List, Some, true};
 ghost use Rattle.cli_words.specs.Arguments.{Says};
 ghost use Rattle.cli_words.specs.Commands.{Command, IsInRange, arguments_of, command_of};
+ghost use Rattle.cli_words.specs.Forms.{is_save_name, IsReadable};
 ghost use Rattle.cli_words.specs.Line.{Text};
 ghost use Rattle.cli_words.specs.declared.subcommand.Subcommand.{Subcommand};
 
@@ -16,4 +17,9 @@ pub fn words_law()
 /// The values of a command that words say have their ranges, and the settings of a run their form.
 pub fn settings_are_in_range()
     ensures { (words : List Text) (command : Command) → command_of words ≡ Some command → IsInRange command }
+{}
+
+/// What is saved under a name that may be given stands under names that may be given to read it.
+pub fn saved_files_can_be_read()
+    ensures { (name : Text) → is_save_name name ≡ true → IsReadable name }
 {}

@@ -6,9 +6,13 @@ mod forms;
 mod help;
 mod law;
 mod line;
+mod names;
+mod refused;
 mod subcommand;
 
 pub use command::{Command, read_command};
 pub use help::{HELP, USAGE, VERSION, help_text};
-pub use law::{settings_are_in_range, words_law};
+pub use law::{saved_files_can_be_read, settings_are_in_range, words_law};
+pub use names::name_read;
+pub use refused::{Refused, refused_word};
 pub use subcommand::Subcommand;

@@ -1,47 +1,55 @@
 -- What `extract` says of an exhibit and another image that is accepted with its digests.
 use Rattle.std.proofs.Common.{◌≡◌, ◌⊎◌, ◌∙◌, ℕ, List, Option, Some, None, ap, refl, sym, subst, ⊎_elim}
 use Rattle.std.specs.Prelude.{Ok}
+use Rattle.base_io.specs.Outside.{TellsTaken}
 use Rattle.base_io.specs.Store.{Names}
 use Rattle.sql_types.specs.declared.digest.HeldDigest.{HeldDigest}
 use Rattle.format_digest.specs.Reading.{IsRead}
 use Rattle.spec_verify.specs.declared.place.Verdict.TheVariants.{Yes}
 use Rattle.spec_verify.specs.Bytes.{verdict_of}
 use Rattle.audit_extract.specs.declared.found.ImageComparison.{ImageComparison}
-use Rattle.cli_commands.specs.declared.extract.Finding.{Finding}
-use Rattle.cli_commands.specs.declared.extract.Finding.TheVariants.{Honest, Suspect, Compared}
+use Rattle.audit_extract.specs.declared.found.ImageComparison.TheVariants.{Same, Collision}
 use Rattle.cli_commands.specs.declared.status.Status.{Status}
 use Rattle.cli_commands.specs.declared.status.Status.TheVariants.{Done, No, Words, Limit, SourceFault, SinkFault, VaultFault, Missing, Digests, Journal, Form, Memory, NoEntry, Receipt}
-use Rattle.cli_commands.specs.Extract.{AreCompared, ExtractCause, Extracts, HasToldOf, HoldsNoDigests, IsFound, IsFoundWith, LacksExhibits}
+use Rattle.cli_commands.specs.Extract.{AreCompared, ExtractCause, Extracts, HoldsNoDigests, IsFoundWith, LacksExhibits, finding_status, finding_text}
 use Rattle.cli_commands.specs.Names.{digests_limit, image_limit}
+use Rattle.cli_commands.specs.Transfer.{TellsPart}
 use Rattle.cli_commands.specs.Verify.{AreRefused, SaidOrIdle}
-use Rattle.law_commands.specs.Calls.{Faults, EndsExtract, SaysSameOrCollision, SaysWhatIsFound}
+use Rattle.cli_commands.proofs.ExtractLemmas.{compared_of_accepted, compared_status, compared_text}
+use Rattle.law_commands.specs.Calls.{Faults, EndsExtract, SaysSameOrCollision, SaysWhatIsFound, comparison_text}
 use Rattle.law_commands.specs.Exhibits.{HoldsImage, IsExhibit}
 use Rattle.law_commands.proofs.Judged.{not_refused}
 use Rattle.law_commands.proofs.Reading.{found_in, not_missing, not_too_long, read_once}
 
--- it is what the two images are to each other
-abbrev IsComparison : (List ℕ → List ℕ) → List HeldDigest → List ℕ → List ℕ → Finding → Type 0
-IsComparison h held a b finding = (outcome : ImageComparison) × (finding ≡ Compared outcome) × AreCompared h held a b outcome
+-- the text of a comparison, and what its status says
+text_is : (outcome : ImageComparison) → compared_text outcome ≡ comparison_text outcome
+text_is Same = refl
+text_is (Collision c) = refl
 
-comparison : (h : List ℕ → List ℕ) (held : List HeldDigest) (a b : List ℕ) → verdict_of h held a ≡ Yes → verdict_of h held b ≡ Yes
-    → (finding : Finding) → IsFoundWith h held a b finding → IsComparison h held a b finding
-comparison h held a b yes_a yes_b (Honest verdict) found = absurd (found.0 (found.1 ∙ yes_a))
-comparison h held a b yes_a yes_b (Suspect verdict) found = absurd (found.1.0 (found.1.1 ∙ yes_b))
-comparison h held a b yes_a yes_b (Compared outcome) found = (outcome, refl, found)
+is_same : (outcome : ImageComparison) → compared_status outcome ≡ Done → outcome ≡ Same
+is_same Same e = refl
+is_same (Collision c) e = absurd cc
+
+isnt_same : (outcome : ImageComparison) → compared_status outcome ≡ No → outcome ≡ Same → ⊥
+isnt_same Same e same = cc
+isnt_same (Collision c) e same = cc
 
 module _ (h : List ℕ → List ℕ) (names : Names) (honest suspect digests bytes other : List ℕ) (held : List HeldDigest)
     (x : IsExhibit h names honest digests bytes held) (y : HoldsImage names suspect other) (accepted : verdict_of h held other ≡ Yes) where
-  compared : (finding : Finding) → IsFound h honest suspect digests (Some names) finding → IsComparison h held bytes other finding
-  compared finding j =
+  compared : (status : Status) (old new : Option (List ℕ)) (s : Extracts status h honest suspect digests (Some names) old new)
+      → (outcome : ImageComparison) × AreCompared h held bytes other outcome × (finding_text s.finding ≡ compared_text outcome)
+      × (finding_status s.finding ≡ compared_status outcome)
+  compared status old new s =
+      let j = s.is_found in
       let same = found_in names honest bytes image_limit j.a x.image_is.there j.are_in_vault.0 in
       let second = found_in names suspect other image_limit j.b y.there j.are_in_vault.1.0 in
       let file = found_in names digests x.digests_are.file digests_limit j.file x.digests_are.there j.are_in_vault.1.1 in
       let read = subst (λ (f : List ℕ). IsRead f (Ok j.on.0)) file j.on.1 in
       let one = read_once x.digests_are.file j.on.0 held read x.digests_are.read in
-      comparison h held bytes other x.accepted accepted finding
-      (subst (λ (ds : List HeldDigest). IsFoundWith h ds bytes other finding) one
-      (subst (λ (a : List ℕ). IsFoundWith h j.on.0 a other finding) same
-      (subst (λ (b : List ℕ). IsFoundWith h j.on.0 j.a b finding) second j.on.2)))
+      compared_of_accepted h held bytes other x.accepted accepted s.finding
+      (subst (λ (ds : List HeldDigest). IsFoundWith h ds bytes other s.finding) one
+      (subst (λ (a : List ℕ). IsFoundWith h j.on.0 a other s.finding) same
+      (subst (λ (b : List ℕ). IsFoundWith h j.on.0 j.a b s.finding) second j.on.2)))
 
   within : LacksExhibits Limit honest suspect digests (Some names) → ⊥
   within lacks = ⊎_elim
@@ -66,17 +74,34 @@ module _ (h : List ℕ → List ℕ) (names : Names) (honest suspect digests byt
       let file = found_in names digests x.digests_are.file digests_limit none.file x.digests_are.there none.are_in_vault.1.1 in
       not_refused x.digests_are.file held index x.digests_are.read (subst (λ (f : List ℕ). AreRefused (Digests index) f) file none.refused)
 
-  what_is_found : (status : Status) (old new : Option (List ℕ)) → Extracts status h honest suspect digests (Some names) old new
-      → SaysWhatIsFound h held bytes other status old new
-  what_is_found status old new s =
-      let j = compared s.finding s.is_found in
-      record { found = j.0; compared = j.2; told = subst (λ (g : Finding). HasToldOf status g old new) j.1 s.told }
+  found_same : (old new : Option (List ℕ)) → Extracts Done h honest suspect digests (Some names) old new → SaysWhatIsFound h held bytes other Done old new
+  found_same old new s =
+      let j = compared Done old new s in
+      record {
+        found = j.0;
+        compared = j.1;
+        told = (is_same j.0 (sym j.3 ∙ s.told.0), subst (TellsTaken old new) (j.2 ∙ text_is j.0) s.told.1);
+      }
+
+  found_other : (old new : Option (List ℕ)) → Extracts No h honest suspect digests (Some names) old new → SaysWhatIsFound h held bytes other No old new
+  found_other old new s =
+      let j = compared No old new s in
+      record {
+        found = j.0;
+        compared = j.1;
+        told = (isnt_same j.0 (sym j.3 ∙ s.told.0), subst (TellsTaken old new) (j.2 ∙ text_is j.0) s.told.1);
+      }
+
+  found_partly : (old new : Option (List ℕ)) → Extracts SinkFault h honest suspect digests (Some names) old new → SaysWhatIsFound h held bytes other SinkFault old new
+  found_partly old new s =
+      let j = compared SinkFault old new s in
+      record { found = j.0; compared = j.1; told = subst (TellsPart old new) (j.2 ∙ text_is j.0) s.told }
 
   pub says_which : (status : Status) (f : Faults) (old new : Option (List ℕ)) → ExtractCause status h honest suspect digests (Some names) f.vault f.sink
       → SaidOrIdle status (Extracts status h honest suspect digests (Some names) old new) f.idle → SaysSameOrCollision h held bytes other status f old new
-  says_which Done f old new cause s = what_is_found Done old new s
-  says_which No f old new cause s = what_is_found No old new s
-  says_which SinkFault f old new cause s = (cause, what_is_found SinkFault old new s)
+  says_which Done f old new cause s = found_same old new s
+  says_which No f old new cause s = found_other old new s
+  says_which SinkFault f old new cause s = (cause, found_partly old new s)
   says_which VaultFault f old new cause s = (cause, s)
   says_which Memory f old new cause s = s
   says_which Limit f old new cause s = within cause

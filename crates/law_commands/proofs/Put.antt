@@ -1,5 +1,5 @@
 -- What a run saved stands in the vault, and is accepted.
-use Rattle.std.proofs.Common.{◌≡◌, ◌∙◌, ℕ, List, [], ◌∷◌, ◌++◌, map, Option, Some, ap, sym, subst}
+use Rattle.std.proofs.Common.{◌≡◌, ◌∙◌, ℕ, List, [], ◌∷◌, ◌++◌, map, Option, Some, ap, refl, sym, subst}
 use Rattle.std.specs.Prelude.{Ok}
 use Rattle.base_io.specs.Store.{Names, Bytes}
 use Rattle.sql_types.specs.declared.digest.Digest.{Digest}
@@ -13,14 +13,21 @@ use Rattle.spec_history.specs.Transcripts.{Transcript}
 use Rattle.spec_protocol.specs.Seats.{KeptImage}
 use Rattle.spec_verify.specs.Bytes.{verdict_of}
 use Rattle.format_digest.specs.Reading.{IsRead}
+use Rattle.format_journal.specs.Journal.{journal_bytes}
+use Rattle.format_journal.specs.Rules.{IsJournal}
 use Rattle.law_kept_images.specs.Held.{held}
 use Rattle.law_kept_images.specs.LastImage.{last_image, last_image_bytes}
 use Rattle.server_result.specs.declared.ran.RunOutcome.{RunOutcome as Output}
 use Rattle.law_headline.specs.Headline.{Headline, IsSaved}
 use Rattle.cli_commands.specs.declared.files.File.{File}
-use Rattle.cli_commands.specs.Run.{cut_file, digests_file, image_file, journal_file, saved_files}
+use Rattle.cli_commands.specs.Replay.{SavesReplay, replayed_files}
+use Rattle.cli_commands.specs.Run.{cut_file, digests_file, image_file, image_name, journal_file, journal_name, saved_files}
+use Rattle.cli_commands.specs.Names.{image_limit}
+use Rattle.cli_commands.specs.declared.status.Status.TheVariants.{Done}
+use Rattle.cli_commands.proofs.ReplayLemmas.{image_is_present}
 use Rattle.law_commands.specs.Exhibits.{AreExhibits}
 use Rattle.law_commands.specs.Runs.{saved_of}
+use Rattle.law_commands.proofs.Reading.{found_in}
 use Rattle.law_commands.proofs.Lists.{each_back, each_front, each_made, each_of}
 
 -- ---- the headline of what is saved
@@ -44,9 +51,9 @@ module _ (h : List ℕ → List ℕ) (input : List InputSession) (setup : Option
   abbrev last_files : List File
   last_files = image_file save o.image ∷ digests_file save file ∷ journal_file save o.journal ∷ []
 
-  pub exhibits : o.image ≡ last_image_bytes h o.journal → Each Stands (saved_files save o file) → IsRead file (Ok (map held o.digests))
+  pub exhibits : o.image ≡ last_image_bytes h o.journal → Each Stands (saved_files save o file) → IsRead file (Ok (map held o.digests)) → IsJournal o.journal
       → AreExhibits h names save o file
-  exhibits image stand read =
+  exhibits image stand read spelling =
       let first : Each Stands (map (cut_file save) o.images) = each_front Stands (map (cut_file save) o.images) last_files stand in
       let last : Each Stands last_files = each_back Stands (map (cut_file save) o.images) last_files stand in
       record {
@@ -63,4 +70,19 @@ module _ (h : List ℕ → List ℕ) (input : List InputSession) (setup : Option
               digests_are = holds;
               accepted = ap (verdict_of h (map held digests)) saved.of_its_part.bytes ∙ (saved.bound digests closed).yes;
             };
+        journal = record { there = last.1.1.0; spelling = spelling };
+        image = image;
       }
+
+-- ---- what is made of the journal again
+
+pub same_image : ((i j : Journal) → IsJournal i → IsJournal j → journal_bytes i ≡ journal_bytes j → i ≡ j)
+    → (h : List ℕ → List ℕ) (save again : List ℕ) (o : Output) (file : List ℕ) (names after : Names) (taken_old taken_new : Option (List ℕ))
+    → AreExhibits h names save o file → SavesReplay Done h (journal_name save) again (Some names) (Some after) taken_old taken_new
+    → after (image_name again) ≡ Bytes o.image
+same_image equal h save again o file names after taken_old taken_new x s =
+    let J = s.read.J in
+    let found = found_in names (journal_name save) (journal_bytes o.journal) image_limit s.read.bytes x.journal.there s.read.is_in_vault in
+    let same = equal J o.journal s.read.spelled.0 x.journal.spelling (sym s.read.spelled.1 ∙ found) in
+    let put = image_is_present again (last_image_bytes h J) (journal_bytes J) (replayed_files h again J) (Some names) (Some after) refl s.put in
+    put ∙ ap (λ (K : Journal). Bytes (last_image_bytes h K)) same ∙ ap (λ (b : List ℕ). Bytes b) (sym x.image)

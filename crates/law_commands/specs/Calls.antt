@@ -1,15 +1,15 @@
 -- What a call of `verify` or `extract` says of what stands in the vault.
-use Rattle.std.specs.Prelude.{ℕ, ◌⊎◌, List, Option}
+use Rattle.std.specs.Prelude.{ℕ, ◌≡◌, ◌⊎◌, ◌++◌, List, [], ◌∷◌, Option, codes}
 use Rattle.base_io.specs.Count.{Rises}
 use Rattle.base_io.specs.Outside.{TellsTaken}
 use Rattle.base_io.specs.Store.{Names}
 use Rattle.sql_types.specs.declared.digest.HeldDigest.{HeldDigest}
 use Rattle.spec_verify.specs.declared.place.Verdict.TheVariants.{Yes}
 use Rattle.audit_extract.specs.declared.found.ImageComparison.{ImageComparison}
-use Rattle.cli_commands.specs.declared.extract.Finding.TheVariants.{Compared}
+use Rattle.audit_extract.specs.declared.found.ImageComparison.TheVariants.{Same, Collision}
 use Rattle.cli_commands.specs.declared.status.Status.{Status}
 use Rattle.cli_commands.specs.declared.status.Status.TheVariants.{Done, No, SinkFault, VaultFault, Memory}
-use Rattle.cli_commands.specs.Extract.{AreCompared, ExtractCause, Extracts, HasToldOf}
+use Rattle.cli_commands.specs.Extract.{AreCompared, ExtractCause, Extracts, hex_line}
 use Rattle.cli_commands.specs.Transfer.{TellsPart}
 use Rattle.cli_commands.specs.Verify.{SaidOrIdle, SaysVerdict, VerifyCause, verdict_text}
 
@@ -47,13 +47,25 @@ SaysYes VaultFault f old new = f.vault × f.idle
 SaysYes Memory f old new = f.idle
 SaysYes _ f old new = ⊥
 
+-- the line `Same`, or `Collision` and two strings of bytes in hexadecimal digits
+abbrev pub comparison_text : ImageComparison → List ℕ
+comparison_text Same = codes "Same" ++ 10 ∷ []
+comparison_text (Collision c) = codes "Collision" ++ 10 ∷ hex_line c.first ++ hex_line c.second
+
+-- what the sink took of it, by how the call ended
+abbrev pub TellsComparison : Status → ImageComparison → Option (List ℕ) → Option (List ℕ) → Type 0
+TellsComparison Done found old new = (found ≡ Same) × TellsTaken old new (comparison_text found)
+TellsComparison No found old new = (found ≡ Same → ⊥) × TellsTaken old new (comparison_text found)
+TellsComparison SinkFault found old new = TellsPart old new (comparison_text found)
+TellsComparison _ found old new = ⊥
+
 -- `Same` was written, and the images that the bytes are have the same covered transactions and row versions; or
 -- `Collision` and two different strings of bytes with one hash
 pub record SaysWhatIsFound (h : List ℕ → List ℕ) (digests : List HeldDigest) (honest suspect : List ℕ)
     (status : Status) (old new : Option (List ℕ)) : Type 0 where
   pub found : ImageComparison
   pub compared : AreCompared h digests honest suspect found
-  pub told : HasToldOf status (Compared found) old new
+  pub told : TellsComparison status found old new
 
 -- so it is, unless a fault or want of memory came first
 abbrev pub SaysSameOrCollision : (List ℕ → List ℕ) → List HeldDigest → List ℕ → List ℕ → Status → Faults

@@ -3,16 +3,20 @@ use Rattle.std.specs.Prelude.{ℕ, ◌≡◌, ◌≤◌, List, length, map, Ok}
 use Rattle.base_io.specs.Store.{Names, Bytes}
 use Rattle.sql_types.specs.declared.digest.Digest.{Digest}
 use Rattle.sql_types.specs.declared.digest.HeldDigest.{HeldDigest}
+use Rattle.sql_types.specs.declared.journal.Journal.{Journal}
 use Rattle.spec_history.specs.Lists.{Each, In}
 use Rattle.spec_protocol.specs.Seats.{KeptImage}
 use Rattle.spec_verify.specs.declared.place.Verdict.TheVariants.{Yes}
 use Rattle.spec_verify.specs.Bytes.{verdict_of}
 use Rattle.format_digest.specs.Reading.{IsRead}
+use Rattle.format_journal.specs.Journal.{journal_bytes}
+use Rattle.format_journal.specs.Rules.{IsJournal}
 use Rattle.law_kept_images.specs.Accepted.{IsOfCut}
 use Rattle.law_kept_images.specs.Held.{held}
+use Rattle.law_kept_images.specs.LastImage.{last_image_bytes}
 use Rattle.server_result.specs.declared.ran.RunOutcome.{RunOutcome as Output}
 use Rattle.cli_commands.specs.Names.{image_limit, digests_limit}
-use Rattle.cli_commands.specs.Run.{cut_name, digests_name, image_name}
+use Rattle.cli_commands.specs.Run.{cut_name, digests_name, image_name, journal_name}
 
 -- an image stands under the name, which `verify` and `extract` may read
 pub record HoldsImage (names : Names) (name bytes : List ℕ) : Type 0 where
@@ -33,9 +37,14 @@ pub record IsExhibit (h : List ℕ → List ℕ) (names : Names) (image digests 
   pub digests_are : HoldsDigests names digests held_ones
   pub accepted : verdict_of h held_ones bytes ≡ Yes
 
+-- a journal that has a spelling stands under the name
+pub record HoldsJournal (names : Names) (name : List ℕ) (J : Journal) : Type 0 where
+  pub there : names name ≡ Bytes (journal_bytes J)
+  pub spelling : IsJournal J
+
 -- What a run saved, where this is its file of digests, stands in the vault: the image of the whole journal is
 -- accepted with all digests that were issued, which are in that file; and each that was kept with any digests of
--- its blocks. All are within the limits of what is read.
+-- its blocks. They are within the limits of what is read. And so does the journal.
 pub record AreExhibits (h : List ℕ → List ℕ) (names : Names) (save : List ℕ) (o : Output) (file : List ℕ)
     : Type 0 where
   pub whole : length o.image ≤ image_limit → length file ≤ digests_limit
@@ -44,3 +53,5 @@ pub record AreExhibits (h : List ℕ → List ℕ) (names : Names) (save : List 
       → (name : List ℕ) (digests : List Digest) → HoldsDigests names name (map held digests)
       → Each (IsOfCut o.journal.items k.0 o.digests) digests
       → IsExhibit h names (cut_name save k.0) name k.1 (map held digests)
+  pub journal : HoldsJournal names (journal_name save) o.journal
+  pub image : o.image ≡ last_image_bytes h o.journal

@@ -1,18 +1,19 @@
 //! Two calls in a row, over a vault that tells what it has.
 
 ghost use Rattle.std.specs.Prelude.{ℕ, ◌≡◌, ◌≤◌, List, Option, Some, length};
-ghost use Rattle.base_io.specs.Store.{Names};
+ghost use Rattle.base_io.specs.Store.{Bytes, Names};
 ghost use Rattle.sql_types.specs.declared.digest.HeldDigest.{HeldDigest};
 ghost use Rattle.spec_syntax.specs.Text.{statement_of};
 ghost use Rattle.spec_verify.specs.declared.place.Verdict.TheVariants.{Yes};
 ghost use Rattle.spec_verify.specs.Bytes.{verdict_of};
 ghost use Rattle.law_kept_images.specs.Held.{AllHeld};
+ghost use Rattle.server_result.specs.declared.ran.RunOutcome.{RunOutcome as Output};
 ghost use Rattle.cli_words.specs.Commands.{Settings};
 ghost use Rattle.cli_commands.specs.Answer.{RanAndSaved};
 ghost use Rattle.cli_commands.specs.Input.{line_form, section_form};
 ghost use Rattle.cli_commands.specs.Names.{image_limit};
-ghost use Rattle.cli_commands.specs.Replay.{PutsAccepted};
-ghost use Rattle.cli_commands.specs.Run.{LinesComeTo, SectionsComeTo, image_name};
+ghost use Rattle.cli_commands.specs.Replay.{PutsAccepted, SavesReplay};
+ghost use Rattle.cli_commands.specs.Run.{LinesComeTo, SectionsComeTo, image_name, journal_name};
 ghost use Rattle.cli_commands.specs.declared.status.Status.{Status};
 ghost use Rattle.cli_commands.specs.declared.status.Status.TheVariants.{Done};
 ghost use Rattle.law_commands.specs.Calls.{EndsVerify, EndsExtract, SaysYes, SaysSameOrCollision, faults_in};
@@ -20,6 +21,7 @@ ghost use Rattle.law_commands.specs.Exhibits.{AreExhibits, HoldsDigests, HoldsIm
 
 use crate::values::saved_files_keep_the_headline;
 use base_io::{Clock, Sink, Vault};
+use format_journal::equal_bytes_are_of_equal_journals;
 
 /// Where `step`, `run` or `replay` ended with `Done` over a vault that tells what it has, and `verify` or `extract`
 /// runs over what the vault has then, under the names that were put: the line of `verify` is `Yes`, and that of
@@ -28,7 +30,8 @@ use base_io::{Clock, Sink, Vault};
 ///
 /// What was put has to be within the limits of what is read. With NAME.img goes NAME.digests, which has all
 /// digests that were issued; with NAME-m.img any file of digests of blocks that are closed in it; and with the
-/// image of `replay` any file of digests of blocks that its journal closed.
+/// image of `replay` any file of digests of blocks that its journal closed. Of the journal that a run saved it
+/// makes the image that the run saved.
 pub fn what_was_saved_is_accepted<K: Sink, V: Vault, C: Clock>()
     // the first call
     ensures step { (h : List ℕ → List ℕ) (how : Settings) (clock : C) (save : List ℕ) (input : Option (List ℕ))
@@ -46,6 +49,12 @@ pub fn what_was_saved_is_accepted<K: Sink, V: Vault, C: Clock>()
         → (name : List ℕ) (digests : List HeldDigest) → HoldsDigests new name digests
         → AllHeld h statement_of puts.read.J.database puts.read.J.items digests
         → IsExhibit h new (image_name save) name puts.image digests }
+    // `replay` of the journal that a run saved
+    ensures same_image { (h : List ℕ → List ℕ) (save again : List ℕ) (o : Output) (file : List ℕ)
+        (names after : Names) (taken_old taken_new : Option (List ℕ))
+        → AreExhibits h names save o file
+        → SavesReplay Done h (journal_name save) again (Some names) (Some after) taken_old taken_new
+        → after (image_name again) ≡ Bytes o.image }
     // the second call
     ensures verify { (h : List ℕ → List ℕ) (names : Names) (image digests bytes : List ℕ)
         (held : List HeldDigest) (status : Status) (vault vault_then : V) (sink sink_then : K)
@@ -68,4 +77,5 @@ pub fn what_was_saved_is_accepted<K: Sink, V: Vault, C: Clock>()
         (K.stalls sink) (K.stalls sink_then) (sink_then ≡ sink)) (K.taken sink) (K.taken sink_then) }
 {
     saved_files_keep_the_headline::<C>();
+    equal_bytes_are_of_equal_journals();
 }

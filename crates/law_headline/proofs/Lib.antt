@@ -1,3 +1,4 @@
 mod Before
 mod Bound
 mod Saved
+mod Shown

@@ -26,6 +26,7 @@ use Rattle.law_kept_images.specs.Held.{held}
 use Rattle.law_kept_images.specs.LastImage.{last_image}
 use Rattle.law_kept_images.specs.SessionOutput.{IsImageOf, IsMeaning}
 use Rattle.law_headline.specs.Before.{ComesBefore}
+use Rattle.law_headline.specs.Shown.{AreShown}
 
 -- The bytes are those of an image that has the same covered transactions and row versions as this one, under
 -- each of the digests; or two different strings of bytes have one hash.
@@ -74,6 +75,8 @@ pub record Headline (h : List ℕ → List ℕ) (input : List InputSession) (set
       → Agree q s.J.database input setup s.X s.J.items s.G
   -- these are the replies of one thread that runs them in ledger order
   pub by_one_thread : IsLegalJournal statement_of s.J
+  -- the images are those that the transcripts show
+  pub shown : (q : Meaning) → IsMeaning h statement_of q → AreShown q s.X s.images
   -- each image, and that of the whole journal, is that of its part, bound by the digests of its blocks
   pub every_image : Each (IsSaved h s.J s.G) (s.images ++ last_image h s.J ∷ [])
   -- that of the whole journal by all digests at once

@@ -28,7 +28,7 @@ fn standard_output_takes_what_is_written(rt: HostRuntime) {
 
 #[test]
 fn a_folder_keeps_files(rt: HostRuntime) -> Result<(), Fail> {
-    let name = "lg_base.test";
+    let name = "bytes.test";
     let mut vault = FolderVault::new(rt);
     assert_eq!(rt; vault.put(name, b"one"), Ok(()));
     assert_eq!(rt; vault.put(name, b"three"), Ok(()));
@@ -46,25 +46,34 @@ fn a_file_in_no_folder_is_not_put(rt: HostRuntime) {
 }
 
 #[test]
-fn a_file_outlives_a_put_that_is_cut_off_or_fails(rt: HostRuntime) -> Result<(), Fail> {
+fn a_put_leaves_what_others_write_beside_the_file(rt: HostRuntime) -> Result<(), Fail> {
     let name = "kept.test";
-    let beside = ".kept.test.new";
+    let beside = ".kept.test.0.new";
     let mut vault = FolderVault::new(rt);
     assert_eq!(rt; vault.put(name, b"one"), Ok(()));
 
-    // One that was cut off has left a part of its bytes beside the file.
+    // A part of the bytes of another writer, at work or cut off.
     fs::write(&rt, beside, b"tw")?;
     assert_eq!(rt; vault.get(name, 3)?.as_slice(), b"one".as_slice());
-    assert_eq!(rt; vault.put(name, b"two"), Ok(()));
-    assert_eq!(rt; vault.get(name, 3)?.as_slice(), b"two".as_slice());
-    assert_eq!(rt; vault.get(beside, 3).err(), Some(VaultErr::Missing));
-
-    // One fails that has no place beside the file.
-    fs::create_dir(&rt, beside)?;
-    assert_eq!(rt; vault.put(name, b"three"), Err(VaultErr::Failed));
-    assert_eq!(rt; vault.get(name, 5)?.as_slice(), b"two".as_slice());
-    fs::remove_dir(&rt, beside)?;
+    assert_eq!(rt; vault.put(name, b"three"), Ok(()));
+    assert_eq!(rt; vault.get(name, 5)?.as_slice(), b"three".as_slice());
+    assert_eq!(rt; vault.get(beside, 2)?.as_slice(), b"tw".as_slice());
+    fs::remove_file(&rt, beside)?;
     fs::remove_file(&rt, name)?;
+    Ok(())
+}
+
+#[test]
+fn a_put_that_fails_leaves_nothing_beside_the_file(rt: HostRuntime) -> Result<(), Fail> {
+    let name = "folder.test";
+    let mut vault = FolderVault::new(rt);
+    fs::create_dir(&rt, name)?;
+    assert_eq!(rt; vault.put(name, b"one"), Err(VaultErr::Failed));
+    assert_eq!(rt;
+        vault.get(".folder.test.0.new", 3).err(),
+        Some(VaultErr::Missing)
+    );
+    fs::remove_dir(&rt, name)?;
     Ok(())
 }
 

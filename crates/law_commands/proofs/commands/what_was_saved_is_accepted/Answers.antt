@@ -6,7 +6,7 @@ use Rattle.law_headline.specs.Before.{InOneOrder, InOrderOfLines}
 use Rattle.law_commands.specs.Runs.{input_of, lines_of}
 use Rattle.law_commands.proofs.Compared.{extract_says}
 use Rattle.law_commands.proofs.Judged.{verify_says}
-use Rattle.law_commands.proofs.Put.{exhibits}
+use Rattle.law_commands.proofs.Put.{exhibits, same_image}
 use Rattle.law_commands.proofs.commands.what_was_saved_is_accepted.Goals as goal
 
 pub returns-clause-step : goal.returns-clause-step
@@ -15,14 +15,14 @@ returns-clause-step g c = λ h how clock save input old new taken_old taken_new 
     let lines = lines_of ran.said in
     exhibits h (sessions_in lines (sessions_of ran.said)) None (InOrderOfLines how.block_size lines came.run.X ran.output.journal.items) came.run.X ran.output
     (c.saved_files_keep_the_headline.ensures.step h how clock ran.said ran.output came) new save ran.saved.digests
-    (came.is.image ∙ ap (last_image_bytes h) (sym came.is.journal)) (ran.saved.are_in_vault refl) ran.saved.digests_read_back
+    (came.is.image ∙ ap (last_image_bytes h) (sym came.is.journal)) (ran.saved.are_in_vault refl) ran.saved.digests_read_back ran.saved.journal_is_encodable
 
 pub returns-clause-run : goal.returns-clause-run
 returns-clause-run g c = λ h how clock save input old new taken_old taken_new ran.
     let came = ran.came in
     exhibits h (input_of ran.said) (Some 0) (InOneOrder came.left.X ran.output.journal.items) came.left.X ran.output
     (c.saved_files_keep_the_headline.ensures.run h how clock ran.said ran.output came) new save ran.saved.digests
-    (came.is.image ∙ ap (last_image_bytes h) (sym came.is.journal)) (ran.saved.are_in_vault refl) ran.saved.digests_read_back
+    (came.is.image ∙ ap (last_image_bytes h) (sym came.is.journal)) (ran.saved.are_in_vault refl) ran.saved.digests_read_back ran.saved.journal_is_encodable
 
 pub returns-clause-replay : goal.returns-clause-replay
 returns-clause-replay g c = λ h journal save old new puts fits name digests holds closed. record {
@@ -30,6 +30,9 @@ returns-clause-replay g c = λ h journal save old new puts fits name digests hol
   digests_are = holds;
   accepted = puts.accepted digests closed;
 }
+
+pub returns-clause-same_image : goal.returns-clause-same_image
+returns-clause-same_image g c = same_image c.equal_bytes_are_of_equal_journals.ensures.equal
 
 pub returns-clause-verify : goal.returns-clause-verify
 returns-clause-verify g c = λ h names image digests bytes held status vault vault_then sink sink_then x tells ends.

@@ -1,4 +1,4 @@
-use Rattle.std.specs.Prelude.{ℕ, ◌<◌, List, length, None, Some}
+use Rattle.std.specs.Prelude.{◌<◌, List, length, None, Some}
 use Rattle.std.proofs.Common.{refl, subst, sym, arith}
 use Rattle.std.proofs.lemmas.List.{take_all}
 use Rattle.sql_types.specs.declared.journal.JournalItem.{JournalItem}
@@ -15,6 +15,7 @@ use Rattle.law_kept_images.specs.LastImage.{last_image}
 use Rattle.law_kept_images.proofs.Accepts.{all_closed, each_in}
 use Rattle.law_headline.proofs.Before.{closed_in_one_order, closed_in_order_of_lines}
 use Rattle.law_headline.proofs.Saved.{all_saved, whole_bound}
+use Rattle.law_headline.proofs.Shown.{all_are_shown}
 use Rattle.law_headline.proofs.laws.saved_images_are_serial_and_tamper_evident.Goals as goal
 
 pub returns : goal.returns
@@ -28,6 +29,7 @@ returns g c =
       one_thread = λ h size names lines X kept images J G run legal room are. record {
         replies_given = run.agree;
         by_one_thread = legal;
+        shown = λ q real. all_are_shown q X kept images (run.shown q real) are;
         every_image = all_saved bound encodable written h J G legal room kept images are run.are_images
             (accepted.room h J.database size names lines X kept J.items G run legal room)
             (accepted.whole h J.database size names lines X kept J.items G run legal room);
@@ -48,6 +50,7 @@ returns g c =
           record {
             replies_given = agree;
             by_one_thread = came.legal;
+            shown = λ q real. all_are_shown q left.X left.kept images (came.shown q real) are;
             every_image = all_saved bound encodable written h J G came.legal room left.kept images are
                 (subst (λ (D : Text). Each (λ ks. Each (IsImageOf h statement_of D J.items) ks) left.kept) named came.are_images)
                 (subst (λ (D : Text). Each (λ ks. Each (IsAccepted h D J.items G) ks) left.kept) named came.accepted)

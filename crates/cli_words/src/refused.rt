@@ -1,0 +1,307 @@
+// Which word was refused and why, for whoever typed it. `read_command` decides what is refused; of words that it
+// refused this says what is wrong with the first that is at fault.
+use crate::forms::{MAX_TX, database_name, file_name, number_in, save_name};
+use crate::subcommand::Subcommand;
+use base_types::MAX_TICKS;
+use std::fmt;
+
+/// What a value has to be.
+#[derive(Clone, Copy, Debug, PartialEq, Eq)]
+enum Form {
+    /// A name that files are saved under.
+    SaveName,
+    /// The name of a file.
+    FileName,
+    /// The name of a database.
+    DatabaseName,
+    /// A number from the first to the second.
+    Number(u64, u64),
+}
+
+/// What is wrong with a word.
+#[derive(Clone, Copy, Debug, PartialEq, Eq)]
+enum Fault {
+    NotGiven,
+    NoCommand,
+    NoOption,
+    NoValue,
+    GivenTwice,
+    TooMany,
+    /// A path stands in the place of a name.
+    Path,
+    /// It lacks the form of a value.
+    Form(Form),
+}
+
+/// A word that was refused, or one that is missing, and why.
+#[derive(Clone, Copy, Debug, PartialEq, Eq)]
+pub struct Refused<'a> {
+    /// The option, or that whose value the word is.
+    option: Option<&'a str>,
+    word: Option<&'a str>,
+    fault: Fault,
+}
+
+/// How far the words behind a command were looked at.
+#[derive(Drop)]
+struct Scan<'a> {
+    /// The option whose value is to come.
+    begun: Option<&'a str>,
+    /// How many operands came.
+    operands: usize,
+}
+
+const NAME_FORM: &str = "letters, digits, `_`, `-` and `.`, the first a letter or a digit";
+
+fn form_of(name: &str) -> Form {
+    match name {
+        "save" => Form::SaveName,
+        "block-size" => Form::Number(1, 100_000),
+        "clock" => Form::Number(0, MAX_TICKS),
+        "database" => Form::DatabaseName,
+        "workers" => Form::Number(1, 16),
+        "COUNT" => Form::Number(1, 10_000),
+        "TX" => Form::Number(1, MAX_TX),
+        _ => Form::FileName,
+    }
+}
+
+fn has_form(form: Form, text: &str) -> bool {
+    match form {
+        Form::SaveName => save_name(text).is_some(),
+        Form::FileName => file_name(text).is_some(),
+        Form::DatabaseName => database_name(text).is_some(),
+        Form::Number(low, high) => number_in(low, high, text).is_some(),
+    }
+}
+
+fn is_name(form: Form) -> bool {
+    matches!(form, Form::SaveName | Form::FileName)
+}
+
+/// The name of the operand at a place, from 0.
+fn operand_at(which: Subcommand, place: usize) -> Option<&'static str> {
+    match (which, place) {
+        (Subcommand::Verify, 0) => Some("IMAGE"),
+        (Subcommand::Verify, 1) => Some("DIGESTS"),
+        (Subcommand::Extract, 0) => Some("HONEST"),
+        (Subcommand::Extract, 1) => Some("SUSPECT"),
+        (Subcommand::Extract, 2) => Some("DIGESTS"),
+        (Subcommand::Replay, 0) => Some("JOURNAL"),
+        (Subcommand::Gen, 0) => Some("COUNT"),
+        (Subcommand::Receipt, 0) => Some("IMAGE"),
+        (Subcommand::Receipt, 1) => Some("DIGESTS"),
+        (Subcommand::Receipt, 2) => Some("TX"),
+        (Subcommand::Check, 0) => Some("RECEIPT"),
+        (Subcommand::Check, 1) => Some("DIGESTS"),
+        _ => None,
+    }
+}
+
+fn has_option(which: Subcommand, name: &str) -> bool {
+    match which {
+        Subcommand::Step | Subcommand::Run => {
+            matches!(name, "save" | "block-size" | "clock" | "database")
+        }
+        Subcommand::Verify => name == "workers",
+        Subcommand::Replay | Subcommand::Receipt => name == "save",
+        Subcommand::Extract | Subcommand::Gen | Subcommand::Check => false,
+    }
+}
+
+/// Whether the word is the option of this name, with its value or without.
+fn gives(word: &str, name: &str) -> bool {
+    match word.strip_prefix("--") {
+        Some(text) => match text.split_once('=') {
+            Some((option, _)) => option == name,
+            None => text == name,
+        },
+        None => false,
+    }
+}
+
+fn of_option<'a>(name: &'a str, fault: Fault) -> Option<Refused<'a>> {
+    Some(Refused {
+        option: Some(name),
+        word: None,
+        fault,
+    })
+}
+
+fn of_word<'a>(word: &'a str, fault: Fault) -> Option<Refused<'a>> {
+    Some(Refused {
+        option: None,
+        word: Some(word),
+        fault,
+    })
+}
+
+/// What is wrong with the value of this name.
+fn value_fault<'a>(option: Option<&'a str>, name: &str, word: &'a str) -> Option<Refused<'a>> {
+    let form = form_of(name);
+    if has_form(form, word) {
+        return None;
+    }
+    let fault = if is_name(form) && word.contains('/') {
+        Fault::Path
+    } else {
+        Fault::Form(form)
+    };
+    Some(Refused {
+        option,
+        word: Some(word),
+        fault,
+    })
+}
+
+/// What is wrong with an option, whose text stands behind its two hyphens, and which these words stand before.
+fn option_fault<'a>(
+    which: Subcommand,
+    before: &[String],
+    text: &'a str,
+    scan: &mut Scan<'a>,
+) -> Option<Refused<'a>> {
+    let (name, value) = match text.split_once('=') {
+        Some((name, value)) => (name, Some(value)),
+        None => (text, None),
+    };
+    if !has_option(which, name) {
+        return of_option(name, Fault::NoOption);
+    }
+    if before.iter().any(|word| gives(word.as_str(), name)) {
+        return of_option(name, Fault::GivenTwice);
+    }
+    match value {
+        Some(value) => value_fault(Some(name), name, value),
+        None => {
+            scan.begun = Some(name);
+            None
+        }
+    }
+}
+
+/// What is wrong with a word that is no option, which is a value or an operand.
+fn plain_fault<'a>(which: Subcommand, word: &'a str, scan: &mut Scan<'a>) -> Option<Refused<'a>> {
+    if let Some(name) = scan.begun.take() {
+        return value_fault(Some(name), name, word);
+    }
+    let Some(name) = operand_at(which, scan.operands) else {
+        return of_word(word, Fault::TooMany);
+    };
+    scan.operands = scan.operands.saturating_add(1);
+    value_fault(None, name, word)
+}
+
+/// What is wrong with a word that these words stand before.
+fn word_fault<'a>(
+    which: Subcommand,
+    before: &[String],
+    word: &'a str,
+    scan: &mut Scan<'a>,
+) -> Option<Refused<'a>> {
+    if !word.starts_with('-') || word == "-" {
+        return plain_fault(which, word, scan);
+    }
+    if let Some(name) = scan.begun {
+        return of_option(name, Fault::NoValue);
+    }
+    match word.strip_prefix("--") {
+        Some("") => of_word(word, Fault::NoOption),
+        Some(text) => option_fault(which, before, text, scan),
+        None => of_word(word, Fault::NoOption),
+    }
+}
+
+/// What is missing behind all words.
+fn missing<'a>(which: Subcommand, words: &[String], scan: &Scan<'a>) -> Option<Refused<'a>> {
+    if let Some(name) = scan.begun {
+        return of_option(name, Fault::NoValue);
+    }
+    if let Some(name) = operand_at(which, scan.operands) {
+        return of_word(name, Fault::NotGiven);
+    }
+    if has_option(which, "save") && !words.iter().any(|word| gives(word.as_str(), "save")) {
+        return of_option("save", Fault::NotGiven);
+    }
+    None
+}
+
+/// What is wrong with the words behind a command.
+fn fault_behind<'a>(which: Subcommand, words: &'a [String]) -> Option<Refused<'a>> {
+    let mut scan = Scan {
+        begun: None,
+        operands: 0,
+    };
+    for at in 0..words.len() {
+        let fault = word_fault(which, &words[..at], words[at].as_str(), &mut scan);
+        if fault.is_some() {
+            return fault;
+        }
+    }
+    missing(which, words, &scan)
+}
+
+/// What is wrong with words the first of which names no command.
+fn fault_of_others<'a>(word: &'a str, rest: &'a [String]) -> Option<Refused<'a>> {
+    if !matches!(word, "help" | "--help" | "-h" | "--version" | "-V") {
+        return of_word(word, Fault::NoCommand);
+    }
+    match rest {
+        [] => None,
+        [name, ..] if word == "help" && Subcommand::named(name.as_str()).is_none() => {
+            of_word(name.as_str(), Fault::NoCommand)
+        }
+        [_, second, ..] if word == "help" => of_word(second.as_str(), Fault::TooMany),
+        [first, ..] => of_word(first.as_str(), Fault::TooMany),
+    }
+}
+
+/// Of words that were refused, the first that is at fault, and why; none where nothing is found.
+pub fn refused_word<'a>(words: &'a [String]) -> Option<Refused<'a>> {
+    match words {
+        [] => of_word("COMMAND", Fault::NotGiven),
+        [first, rest @ ..] => match Subcommand::named(first.as_str()) {
+            Some(which) => fault_behind(which, rest),
+            None => fault_of_others(first.as_str(), rest),
+        },
+    }
+}
+
+/// What a value has to be.
+impl fmt::Display for Form {
+    fn fmt<W: fmt::Write>(&self, f: &mut fmt::Formatter<W>) -> fmt::Result {
+        match self {
+            Form::SaveName => write!(f, "1 to 100 {NAME_FORM}"),
+            Form::FileName => write!(f, "1 to 128 {NAME_FORM}"),
+            Form::DatabaseName => write!(f, "1 to 64 {NAME_FORM}"),
+            Form::Number(low, high) => write!(f, "a number from {low} to {high}"),
+        }
+    }
+}
+
+impl fmt::Display for Fault {
+    fn fmt<W: fmt::Write>(&self, f: &mut fmt::Formatter<W>) -> fmt::Result {
+        match self {
+            Fault::NotGiven => f.write_str("not given"),
+            Fault::NoCommand => f.write_str("no command; `ledgerd help` has them"),
+            Fault::NoOption => f.write_str("no option of this command"),
+            Fault::NoValue => f.write_str("no value behind it"),
+            Fault::GivenTwice => f.write_str("given twice"),
+            Fault::TooMany => f.write_str("one word too many"),
+            Fault::Path => f.write_str("files are those of the current folder, by name"),
+            Fault::Form(form) => write!(f, "{form}"),
+        }
+    }
+}
+
+/// The word and why it was refused, as `--block-size 0: a number from 1 to 100000`.
+impl fmt::Display for Refused<'_> {
+    fn fmt<W: fmt::Write>(&self, f: &mut fmt::Formatter<W>) -> fmt::Result {
+        match (self.option, self.word) {
+            (Some(option), Some(word)) => write!(f, "--{option} {word}: {}", self.fault),
+            (Some(option), None) => write!(f, "--{option}: {}", self.fault),
+            (None, Some(word)) => write!(f, "{word}: {}", self.fault),
+            (None, None) => write!(f, "{}", self.fault),
+        }
+    }
+}
