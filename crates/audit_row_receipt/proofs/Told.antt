@@ -1,12 +1,10 @@
 -- What a leaf tells, and what receipts of rows are accepted.
-use Rattle.std.proofs.Common.{◌≡◌, ◌≢◌, ◌≤◌, ℕ, Bool, true, false, List, [], ◌∷◌, length, Option, Some, None, refl, sym, ap, ◌∙◌, subst, arith}
+use Rattle.std.proofs.Common.{◌≡◌, ◌≤◌, ℕ, Bool, true, false, List, [], ◌∷◌, length, Option, Some, None, refl, sym, ap, ◌∙◌, subst, arith}
 use Rattle.std.specs.Prelude.{◌&&◌}
 use Rattle.std.specs.List.{AllByRecursion}
 use Rattle.std.specs.Bool.{Decides}
 use Rattle.std.proofs.lemmas.Slice.Eq.{bytes_eq-Decides}
 use Rattle.sql_types.specs.declared.digest.HeldDigest.{HeldDigest}
-use Rattle.sql_types.specs.declared.event.Event.{Event}
-use Rattle.format_event.specs.Leaf.{event_bytes, IsEvent}
 use Rattle.base_merkle.specs.TreeHash.{tree_hash}
 use Rattle.spec_verify.specs.Entries.{root_at}
 use Rattle.audit_paths.specs.Path.{root_over}
@@ -18,37 +16,22 @@ use Rattle.audit_row_receipt.specs.AcceptedRows.{IsLeafIn, Tells, AcceptedTable,
 
 -- ---- the table that a leaf tells
 
-one_event : (e f : Event) → Some e ≡ Some f → e ≡ f
-one_event e f s = cc
-
 module _ (tx : ℕ) (leaf : List ℕ) where
-  abbrev pub Only : Option Event → Type 0
-  Only read = (f : Event) → IsEvent f → leaf ≡ event_bytes f → read ≡ Some f
-
-  pub tells_own : (e : Event) → IsEvent e → leaf ≡ event_bytes e → Only (Some e) → e.tx ≡ tx → Tells tx leaf (Some e.table)
-  tells_own e fits is only own = (
-    record { event = e; fits = fits; is = is; tx_is = own; table_is = refl },
-    λ other it. sym it.table_is ∙ ap (λ (f : Event). f.table) (sym (one_event e it.event (only it.event it.fits it.is))),
-  )
-
-  pub tells_other : (e : Event) → Only (Some e) → e.tx ≢ tx → Tells tx leaf None
-  tells_other e only ne = λ table it. ne (ap (λ (f : Event). f.tx) (one_event e it.event (only it.event it.fits it.is)) ∙ it.tx_is)
-
-  pub tells_nothing : Only None → Tells tx leaf None
-  tells_nothing only = λ table it. (let no : None ≡ Some it.event = only it.event it.fits it.is in absurd cc)
-
-  pub in_decided : (found : Option ℕ) (table : ℕ) (yes : Bool) → Tells tx leaf found → Decides yes (found ≡ Some table) → Decides yes (IsLeafIn tx table leaf)
-  in_decided None table yes told d = ((λ e. let no : None ≡ Some table = d.0 e in absurd cc), λ it. absurd (told table it))
-  in_decided (Some own) table yes told d = (
+  pub in_decided : (found : Option ℕ) (table : ℕ) (so : Bool) → Tells tx leaf found → Decides so (found ≡ Some table) → Decides so (IsLeafIn tx table leaf)
+  in_decided None table so told d = ((λ e. let never : None ≡ Some table = d.0 e in absurd cc), λ it. absurd (told table it))
+  in_decided (Some own) table so told d = (
     (λ e. let both : Some own ≡ Some table = d.0 e in let same : own ≡ table = cc in subst (λ (n : ℕ). IsLeafIn tx n leaf) same told.0),
     λ it. d.1 (ap (λ (n : ℕ). Some n) (sym (told.1 table it))),
   )
 
+pub told_as : (tx : ℕ) (a b : List ℕ) (found is : Option ℕ) → Tells tx a found → a ≡ b → found ≡ is → Tells tx b is
+told_as tx a b found is told same e = subst (λ (x : Option ℕ). Tells tx b x) e (subst (λ (x : List ℕ). Tells tx x found) same told)
+
 -- ---- the root of a table
 
-pub root_decided : (root : List ℕ) (found : Option (List ℕ)) (yes : Bool) → yes ≡ is_root root found → Decides yes (found ≡ Some root)
-root_decided root None yes is = rw is ((λ e. cc), λ e. cc)
-root_decided root (Some own) yes is =
+pub root_decided : (root : List ℕ) (found : Option (List ℕ)) (so : Bool) → so ≡ is_root root found → Decides so (found ≡ Some root)
+root_decided root None so is = rw is ((λ e. cc), λ e. cc)
+root_decided root (Some own) so is =
     rw is ((λ e. ap (λ (x : List ℕ). Some x) ((bytes_eq-Decides own root).0 e)), λ e. (let same : own ≡ root = cc in (bytes_eq-Decides own root).1 same))
 
 -- ---- receipts

@@ -16,7 +16,7 @@ module _ (P : List ℕ → Type 0) (all : List (List ℕ)) where
   }
 
   pub walk_fails : (rest more : List (List ℕ)) (x : List ℕ) → rest ≡ x ∷ more → (P x → ⊥) → Walk rest → Decides false (AllByRecursion P all)
-  walk_fails rest more x e no w = ((λ f. cc), λ a. absurd (no (subst (AllByRecursion P) e (w.part a)).0))
+  walk_fails rest more x e other w = ((λ f. cc), λ a. absurd (other (subst (AllByRecursion P) e (w.part a)).0))
 
   pub walk_ends : (rest : List (List ℕ)) → rest ≡ [] → Walk rest → Decides true (AllByRecursion P all)
   walk_ends rest e w = ((λ f. w.whole (subst (AllByRecursion P) (sym e) tt)), λ a. refl)
