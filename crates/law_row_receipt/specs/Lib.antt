@@ -1,1 +1,2 @@
+pub mod RowsMade
 pub mod Shown
