@@ -8,7 +8,7 @@ ghost use Rattle.spec_model.specs.SystemTables.{tables_def, columns_def};
 ghost use Rattle.format_image.specs.ImageBytes.{IsImage, AreTables};
 ghost use Rattle.format_image.specs.RowBytes.{AreRows, AreValues};
 ghost use Rattle.format_image.specs.Tables.{tables_in, tables_with};
-ghost use Rattle.audit_extract.specs.Leaves.{HasLeaves, all_leaves, bytes_of, comes_after, comes_before, is_of, leaf_cmp, leaf_of};
+ghost use Rattle.audit_extract.specs.Leaves.{all_leaves, bytes_of, comes_after, comes_before, is_of, leaf_cmp, leaf_of, leaves_in};
 
 use crate::trees::is_equal;
 use base_types::{Blob, Memory, TableId, TxId, first_of};
@@ -194,7 +194,7 @@ pub fn leaves_in(
     table: TableId,
 ) -> Result<Vec<Blob>, Memory>
     requires { IsImage image.now }
-    ensures { IfOk result (λ leaves. HasLeaves image.now tx table leaves.items) }
+    ensures { IfOk result (λ leaves. leaves.items ≡ leaves_in (tables_in image.now) tx table) }
 {
     let all = sorted_leaves(alloc, image)?;
     copied(alloc, leaves_of(&all, (tx, table)))

@@ -3,11 +3,9 @@
 ghost use Rattle.std.specs.Prelude.{◌≡◌, ◌<◌, None, Err, length, IfOk};
 ghost use Rattle.format_image.specs.ImageBytes.{IsImage};
 ghost use Rattle.spec_verify.specs.Blocks.{block_fault, chain_fault};
-ghost use Rattle.spec_verify.specs.Entries.{root_fault};
 ghost use Rattle.audit_receipt.specs.declared.receipt_err.ReceiptErr.TheVariants as errors;
 ghost use Rattle.audit_row_receipt.specs.RowsMade.{HasNoTable, IsMadeTable};
 
-use crate::roots::has_some_root;
 use audit_extract::leaves_in;
 use audit_receipt::{ReceiptErr, make_receipt};
 use base_merkle::Hash32;
@@ -29,15 +27,14 @@ pub fn make_table_receipt<H: Hash32>(
     requires image { IsImage image.now }
     requires chain { chain_fault (H.digest h) image.now ≡ None }
     requires blocks { block_fault (H.digest h) image.now ≡ None }
-    requires roots { root_fault (H.digest h) image.now ≡ None }
     requires block { block < length image.now.blocks }
     ensures made { IfOk result (IsMadeTable (H.digest h) image.now tx table block) }
     ensures none { result ≡ Err errors.NoEntry → HasNoTable image.now tx table block }
 {
     let receipt = make_receipt(alloc, h, image, tx, block)?;
-    if !has_some_root(receipt.entry.roots.as_slice(), table) {
+    let leaves = Items::from_vec(leaves_in(alloc, image, tx, table)?);
+    if leaves.is_empty() {
         return Err(ReceiptErr::NoEntry);
     }
-    let leaves = Items::from_vec(leaves_in(alloc, image, tx, table)?);
     Ok(TableReceipt { receipt, leaves })
 }

@@ -1,6 +1,6 @@
 //! The root of a table among those of an entry.
 
-ghost use Rattle.std.specs.Prelude.{◌≡◌, true, false, Some, None, IsSome, bytes_eq};
+ghost use Rattle.std.specs.Prelude.{◌≡◌, Some, bytes_eq};
 ghost use Rattle.std.specs.Bool.{Decides};
 ghost use Rattle.spec_verify.specs.Entries.{root_at};
 ghost use Rattle.audit_receipt.specs.Tests.{is_root};
@@ -29,17 +29,4 @@ fn is_equal(a: &[u8], b: &[u8]) -> bool
     ensures { result ≡ bytes_eq a.now b.now }
 {
     a == b
-}
-
-/// Whether the entry with these roots has one in a table.
-pub(crate) fn has_some_root(roots: &[(TableId, [u8; 32])], table: TableId) -> bool
-    ensures some { result ≡ true → IsSome (root_at roots.now table) }
-    ensures none { result ≡ false → root_at roots.now table ≡ None }
-{
-    for own in roots {
-        if own.0 == table {
-            return true;
-        }
-    }
-    false
 }
