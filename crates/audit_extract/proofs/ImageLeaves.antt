@@ -136,11 +136,11 @@ none_found tx table ts ys up stable all = ap bytes_of (group_sorted (tx, table) 
 picked : (tx table : ℕ) (leaves : List (List ℕ)) (ts : Tables) → AllByRecursion (λ (t : Table). t.def.id ≡ table → leaves ≡ leaves_of tx t) ts
     → (AllByRecursion (λ (t : Table). t.def.id ≢ table) ts → leaves ≡ []) → leaves ≡ leaves_in ts tx table
 picked tx table leaves [] found none = none tt
-picked tx table leaves (t ∷ ts) found none = by (t.def.id == table) refl
+picked tx table leaves (t ∷ ts) found none = by (t.def.id == table) refl (λ ne. picked tx table leaves ts found.1 (λ all. none (ne, all)))
   where
-    by : (b : Bool) → (t.def.id == table) ≡ b → leaves ≡ cond b (leaves_of tx t) (leaves_in ts tx table)
-    by true e = found.0 (eqb-true t.def.id table e)
-    by false e = picked tx table leaves ts found.1 (λ all. none (eqb-false t.def.id table e, all))
+    by : (b : Bool) → (t.def.id == table) ≡ b → (t.def.id ≢ table → leaves ≡ leaves_in ts tx table) → leaves ≡ cond b (leaves_of tx t) (leaves_in ts tx table)
+    by true e later = found.0 (eqb-true t.def.id table e)
+    by false e later = later (eqb-false t.def.id table e)
 
 pub found_leaves : (i : Image) (ys : List Leaf) (tx table : ℕ) (leaves : List (List ℕ)) → IsImage i → IsSorted leaf_cmp ys → IsStable leaf_cmp (all_leaves (tables_in i)) ys
     → leaves ≡ tree_of ys (tx, table) → leaves ≡ leaves_in (tables_in i) tx table

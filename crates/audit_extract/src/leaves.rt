@@ -197,7 +197,8 @@ pub fn leaves_in(
     ensures { IfOk result (λ leaves. leaves.items ≡ leaves_in (tables_in image.now) tx table) }
 {
     let all = sorted_leaves(alloc, image)?;
-    copied(alloc, leaves_of(&all, (tx, table)))
+    let own = copied(alloc, leaves_of(&all, (tx, table)))?;
+    Ok(own)
 }
 
 /// Those of a transaction in a table.

@@ -23,11 +23,11 @@ use Rattle.audit_row_receipt.proofs.Room.{event_room}
 
 all_shown : (tx table : ℕ) (ts : Tables) → AllByRecursion (EventsFit tx) ts → AllByRecursion IsShown (leaves_in ts tx table)
 all_shown tx table [] fits = tt
-all_shown tx table (t ∷ ts) fits = by (t.def.id == table)
+all_shown tx table (t ∷ ts) fits = by (t.def.id == table) (all_shown tx table ts fits.1)
   where
-    by : (b : Bool) → AllByRecursion IsShown (cond b (leaves_of tx t) (leaves_in ts tx table))
-    by true = all_map HasLeaf IsShown event_bytes (λ e leaf. event_room e leaf) (events_of tx t) fits.0
-    by false = all_shown tx table ts fits.1
+    by : (b : Bool) → AllByRecursion IsShown (leaves_in ts tx table) → AllByRecursion IsShown (cond b (leaves_of tx t) (leaves_in ts tx table))
+    by true later = all_map HasLeaf IsShown event_bytes (λ e leaf. event_room e leaf) (events_of tx t) fits.0
+    by false later = later
 
 -- what is made is the receipt
 pub table_made : (h : List ℕ → List ℕ) (i : Image) (tx table b : ℕ) (r : Receipt) (leaves : List (List ℕ)) → IsImage i → IsMade h i tx b r → leaves ≡ leaves_in (tables_in i) tx table
