@@ -1,5 +1,5 @@
 -- Receipts of rows that are made have a spelling.
-use Rattle.std.proofs.Common.{◌≡◌, ◌≤◌, ◌<◌, ◌^◌, ℕ, Bool, true, false, cond, List, [], ◌∷◌, length, sym, subst}
+use Rattle.std.proofs.Common.{◌≡◌, ◌≢◌, ◌≤◌, ◌<◌, ◌^◌, ℕ, Bool, true, false, cond, List, [], ◌∷◌, length, refl, arith, sym, subst}
 use Rattle.std.specs.Prelude.{◌==◌}
 use Rattle.std.specs.List.{AllByRecursion}
 use Rattle.sql_types.specs.declared.event.Event.{Event}
@@ -29,16 +29,20 @@ all_shown tx table (t ∷ ts) fits = by (t.def.id == table) (all_shown tx table 
     by true later = all_map HasLeaf IsShown event_bytes (λ e leaf. event_room e leaf) (events_of tx t) fits.0
     by false later = later
 
+some_of : (leaves : List (List ℕ)) → leaves ≢ [] → 1 ≤ length leaves
+some_of [] ne = absurd (ne refl)
+some_of (leaf ∷ leaves) ne = omega arith
+
 -- what is made is the receipt
 pub table_made : (h : List ℕ → List ℕ) (i : Image) (tx table b : ℕ) (r : Receipt) (leaves : List (List ℕ)) → IsImage i → IsMade h i tx b r → leaves ≡ leaves_in (tables_in i) tx table
-    → 1 ≤ length leaves → length leaves < 2 ^ 64 → IsMadeTable h i tx table b (record { receipt = r; leaves = leaves })
+    → leaves ≢ [] → length leaves < 2 ^ 64 → IsMadeTable h i tx table b (record { receipt = r; leaves = leaves })
 table_made h i tx table b r leaves is made same some few =
     record {
       receipt = made;
       leaves = same;
       spelled = record {
         receipt = made.spelled;
-        some = some;
+        some = some_of leaves some;
         count = few;
         leaves = subst (AllByRecursion IsShown) (sym same) (all_shown tx table (tables_in i) (image_fits tx i is));
       };

@@ -6,7 +6,7 @@ mod leaves;
 mod make;
 mod roots;
 
-pub use check::{check_row_receipt, check_table_receipt};
 pub use audit_receipt::ReceiptErr;
+pub use check::{check_row_receipt, check_table_receipt};
 pub use format_row_receipt::{RowReceipt, TableReceipt};
 pub use make::make_table_receipt;
