@@ -22,7 +22,7 @@ an empty folder, the k-th call being refused. The same is done with `verify` of 
 Any other is unstated; it is told, its folder stays, and the status is 1. A run that takes more than 60 seconds hangs.
 
 --jobs      processes that work side by side (1)
---part      the words to do this for, as step,verify (all four)
+--part      the words to do this for, as step,verify (all six)
 --at        refuses this call alone
 
 refuse.c does the refusing; cc compiles it. It replaces functions of the GNU C library in a program that is linked

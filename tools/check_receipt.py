@@ -189,6 +189,7 @@ def check(data: bytes, digests: bytes) -> str:
         held = read_digests(digests)
     except (ValueError, KeyError, TypeError, RecursionError) as error:
         need(False, 8, f"the digests were refused: {error}")
+        raise
 
     if kind == b"LGCC\1":
         return check_chain(database, records, held)

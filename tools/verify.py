@@ -17,7 +17,7 @@ from ledger import (
     system_definitions, tree_hash,
 )
 
-MAX_IMAGE, MAX_DIGESTS = 256 * 2**20, 16 * 2**20
+MAX_IMAGE, MAX_DIGESTS = 256 * 2**20, 32 * 2**20
 MAX_TABLES, MAX_COLUMNS, MAX_PARTS, MAX_INDEXES = 32, 64, 4, 4
 
 Place = Optional[str]

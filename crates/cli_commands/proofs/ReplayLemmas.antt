@@ -265,7 +265,7 @@ gave_short old now gave = since_weaker old now (Gave 1) (AreGetsAndPuts 1 Memory
 -- ---- gets, and puts behind them
 
 module _ (old mid new : Answers → Type 0) (k : ℕ) where
-  pub gets_then : (are : Answers → Type 0) → Since old mid (Gave k) → Since mid new are → Since old new (Behind k are)
+  gets_then : (are : Answers → Type 0) → Since old mid (Gave k) → Since mid new are → Since old new (Behind k are)
   gets_then are gets puts = record {
     answers = gets.answers ++ puts.answers;
     adds = λ earlier had. subst new (append_assoc earlier gets.answers puts.answers) (puts.adds (earlier ++ gets.answers) (gets.adds earlier had));

@@ -1,5 +1,5 @@
 -- What `verify` says of an exhibit.
-use Rattle.std.proofs.Common.{◌≡◌, ◌⊎◌, ◌∙◌, ℕ, List, Option, Some, None, ap, subst, ⊎_elim}
+use Rattle.std.proofs.Common.{◌≡◌, ◌∙◌, ℕ, List, Option, Some, None, ap, subst, ⊎_elim}
 use Rattle.std.specs.Prelude.{Ok}
 use Rattle.base_io.specs.Outside.{TellsTaken}
 use Rattle.base_io.specs.Store.{Names}

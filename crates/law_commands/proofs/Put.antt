@@ -1,5 +1,5 @@
 -- What a run saved stands in the vault, and is accepted.
-use Rattle.std.proofs.Common.{◌≡◌, ◌∙◌, ℕ, List, [], ◌∷◌, ◌++◌, map, Option, Some, ap, refl, sym, subst}
+use Rattle.std.proofs.Common.{◌≡◌, ◌∙◌, ℕ, List, [], ◌∷◌, map, Option, Some, ap, refl, sym, subst}
 use Rattle.std.specs.Prelude.{Ok}
 use Rattle.base_io.specs.Store.{Names, Bytes}
 use Rattle.sql_types.specs.declared.digest.Digest.{Digest}
@@ -7,7 +7,7 @@ use Rattle.sql_types.specs.declared.journal.Journal.{Journal}
 use Rattle.sql_types.specs.declared.journal.JournalItem.{JournalItem}
 use Rattle.spec_history.specs.Facts.{Fact}
 use Rattle.spec_history.specs.Inputs.{InputSession}
-use Rattle.spec_history.specs.Lists.{Each, In}
+use Rattle.spec_history.specs.Lists.{Each}
 use Rattle.spec_history.specs.Meaning.{Meaning}
 use Rattle.spec_history.specs.Transcripts.{Transcript}
 use Rattle.spec_protocol.specs.Seats.{KeptImage}

@@ -1,5 +1,5 @@
 -- What is read of names that hold something.
-use Rattle.std.proofs.Common.{◌≡◌, ◌<◌, ◌≤◌, ℕ, List, length, Option, Some, None, subst, arith}
+use Rattle.std.proofs.Common.{◌≡◌, ◌<◌, ◌≤◌, ℕ, List, length, subst, arith}
 use Rattle.std.specs.Prelude.{Ok, Err}
 use Rattle.base_io.specs.Store.{NameContent, Absent, Bytes, Names}
 use Rattle.sql_types.specs.declared.digest.HeldDigest.{HeldDigest}

@@ -1,11 +1,11 @@
 -- What was answered in the run of an input, and what was saved of it.
-use Rattle.std.specs.Prelude.{ℕ, List, ◌∷◌, None, Some, codes, map}
-use Rattle.sql_types.specs.declared.digest.Digest.{Digest}
+use Rattle.std.specs.Prelude.{ℕ, ◌≡◌, List, ◌∷◌, None, Some, codes, map}
 use Rattle.spec_history.specs.Inputs.{InputLine, InputSession, sessions_in}
 use Rattle.spec_history.specs.Transcripts.{Transcript}
 use Rattle.format_lines.specs.Line.{Statement}
 use Rattle.format_lines.specs.Sessions.{sessions_of}
 use Rattle.format_sections.specs.RunSections.{RunSections, Section}
+use Rattle.law_kept_images.specs.LastImage.{last_image_bytes}
 use Rattle.server_result.specs.declared.ran.RunOutcome.{RunOutcome as Output}
 use Rattle.law_headline.specs.Before.{InOneOrder, InOrderOfLines}
 use Rattle.law_headline.specs.Headline.{Headline, Saved}
@@ -24,13 +24,17 @@ abbrev pub input_of : RunSections → List InputSession
 input_of all_sections =
     record { name = codes "setup"; texts = all_sections.setup } ∷ map session_of all_sections.sessions
 
+-- the image that stands beside those that were kept is that of the whole journal
+abbrev pub HasLastImage : (List ℕ → List ℕ) → Output → Type 0
+HasLastImage h o = o.image ≡ last_image_bytes h o.journal
+
 -- every image that `step` saved of these lines, and of these transcripts, is as the headline has it
 abbrev pub LinesKeepHeadline : (List ℕ → List ℕ) → ℕ → List Statement → List Transcript → Output → Type 0
 LinesKeepHeadline h size statements X o =
-    Headline h (sessions_in (lines_of statements) (sessions_of statements)) None
+    HasLastImage h o × Headline h (sessions_in (lines_of statements) (sessions_of statements)) None
     (InOrderOfLines size (lines_of statements) X o.journal.items) (saved_of X o)
 
 -- and so every image that `run` saved
 abbrev pub SectionsKeepHeadline : (List ℕ → List ℕ) → RunSections → List Transcript → Output → Type 0
 SectionsKeepHeadline h all_sections X o =
-    Headline h (input_of all_sections) (Some 0) (InOneOrder X o.journal.items) (saved_of X o)
+    HasLastImage h o × Headline h (input_of all_sections) (Some 0) (InOneOrder X o.journal.items) (saved_of X o)

@@ -1,7 +1,6 @@
-use Rattle.std.proofs.Common.{List, None, Some, ap, refl, sym, ◌∙◌}
+use Rattle.std.proofs.Common.{None, Some, ap, refl, sym, ◌∙◌}
 use Rattle.format_lines.specs.Sessions.{sessions_of}
 use Rattle.spec_history.specs.Inputs.{sessions_in}
-use Rattle.law_kept_images.specs.LastImage.{last_image_bytes}
 use Rattle.law_headline.specs.Before.{InOneOrder, InOrderOfLines}
 use Rattle.law_commands.specs.Runs.{input_of, lines_of}
 use Rattle.law_commands.proofs.Compared.{extract_says}
@@ -13,16 +12,16 @@ pub returns-clause-step : goal.returns-clause-step
 returns-clause-step g c = λ h how clock save input old new taken_old taken_new ran.
     let came = ran.came in
     let lines = lines_of ran.said in
+    let keeps = c.saved_files_keep_the_headline.ensures.step h how clock ran.said ran.output came in
     exhibits h (sessions_in lines (sessions_of ran.said)) None (InOrderOfLines how.block_size lines came.run.X ran.output.journal.items) came.run.X ran.output
-    (c.saved_files_keep_the_headline.ensures.step h how clock ran.said ran.output came) new save ran.saved.digests
-    (came.is.image ∙ ap (last_image_bytes h) (sym came.is.journal)) (ran.saved.are_in_vault refl) ran.saved.digests_read_back ran.saved.journal_is_encodable
+    keeps.1 new save ran.saved.digests keeps.0 (ran.saved.are_in_vault refl) ran.saved.digests_read_back ran.saved.journal_is_encodable
 
 pub returns-clause-run : goal.returns-clause-run
 returns-clause-run g c = λ h how clock save input old new taken_old taken_new ran.
     let came = ran.came in
+    let keeps = c.saved_files_keep_the_headline.ensures.run h how clock ran.said ran.output came in
     exhibits h (input_of ran.said) (Some 0) (InOneOrder came.left.X ran.output.journal.items) came.left.X ran.output
-    (c.saved_files_keep_the_headline.ensures.run h how clock ran.said ran.output came) new save ran.saved.digests
-    (came.is.image ∙ ap (last_image_bytes h) (sym came.is.journal)) (ran.saved.are_in_vault refl) ran.saved.digests_read_back ran.saved.journal_is_encodable
+    keeps.1 new save ran.saved.digests keeps.0 (ran.saved.are_in_vault refl) ran.saved.digests_read_back ran.saved.journal_is_encodable
 
 pub returns-clause-replay : goal.returns-clause-replay
 returns-clause-replay g c = λ h journal save old new puts fits name digests holds closed. record {

@@ -1,8 +1,9 @@
-use Rattle.std.proofs.Common.{ℕ, List, None, Some, refl, sym, subst}
+use Rattle.std.proofs.Common.{None, Some, refl, sym, ap, subst, ◌∙◌}
 use Rattle.spec_history.specs.Lists.{Text}
 use Rattle.spec_syntax.specs.Text.{statement_of}
 use Rattle.format_lines.specs.Sessions.{sessions_of}
 use Rattle.spec_history.specs.Inputs.{sessions_in}
+use Rattle.law_kept_images.specs.LastImage.{last_image_bytes}
 use Rattle.law_kept_images.specs.SessionOutput.{RunAgrees}
 use Rattle.law_headline.specs.Before.{InOneOrder, InOrderOfLines}
 use Rattle.law_commands.specs.Runs.{input_of, lines_of}
@@ -16,16 +17,20 @@ returns g c =
       step = λ h how clock statements o came.
           let run = came.run in
           let names = sessions_of statements in
-          let lines = lines_of statements in
-          moved h (sessions_in lines names) None (λ items. InOrderOfLines how.block_size lines run.X items) run.X run.images run.J run.G o
-          came.is.images came.is.journal came.is.digests
-          (law.one_thread h how.block_size names lines run.X run.kept run.images run.J run.G
-          (subst (λ (D : Text). RunAgrees h statement_of D how.block_size names lines run.X run.kept run.J.items run.G) (sym came.came.of_database) came.came.agrees)
-          came.came.legal came.is.has_room came.came.saved);
+          let lines = lines_of statements in (
+            came.is.image ∙ ap (last_image_bytes h) (sym came.is.journal),
+            moved h (sessions_in lines names) None (λ items. InOrderOfLines how.block_size lines run.X items) run.X run.images run.J run.G o
+                came.is.images came.is.journal came.is.digests
+                (law.one_thread h how.block_size names lines run.X run.kept run.images run.J run.G
+                (subst (λ (D : Text). RunAgrees h statement_of D how.block_size names lines run.X run.kept run.J.items run.G) (sym came.came.of_database) came.came.agrees)
+                came.came.legal came.is.has_room came.came.saved),
+          );
       run = λ h how clock all_sections o came.
-          let left = came.left in
-          moved h (input_of all_sections) (Some 0) (λ items. InOneOrder left.X items) left.X o.images left.J left.G o
-          refl came.is.journal came.is.digests
-          (law.side_by_side h how.database how.block_size how.clock clock (input_of all_sections) left o.images
-          came.came came.is.has_room came.is.images);
+          let left = came.left in (
+            came.is.image ∙ ap (last_image_bytes h) (sym came.is.journal),
+            moved h (input_of all_sections) (Some 0) (λ items. InOneOrder left.X items) left.X o.images left.J left.G o
+                refl came.is.journal came.is.digests
+                (law.side_by_side h how.database how.block_size how.clock clock (input_of all_sections) left o.images
+                came.came came.is.has_room came.is.images),
+          );
     }
