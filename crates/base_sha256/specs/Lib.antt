@@ -1,0 +1,3 @@
+pub mod Lanes
+pub mod Rounds
+pub mod Messages

@@ -1,0 +1,8 @@
+//! SHA-256 (FIPS 180-4) of four messages at once, each in its lane of vectors.
+#![tactic(auto)]
+
+mod message;
+mod rounds;
+mod words;
+
+pub use message::Message;
