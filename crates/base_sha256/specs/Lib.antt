@@ -1,3 +1,4 @@
+pub mod Blocks
 pub mod Lanes
-pub mod Rounds
 pub mod Messages
+pub mod Rounds
