@@ -85,3 +85,15 @@ digests_after messages n len has =
     λ i lt. digest_after (message messages i) n (has_at messages n i (omega arith) has) ∙ sym (made_at sha256 messages i (omega arith)) in
     (λ j. at 0 (omega arith) j ∷ at 1 (omega arith) j ∷ at 2 (omega arith) j ∷ at 3 (omega arith) j ∷ [])
     ∙ sym (four_of (map (λ m. sha256 (bytes_of m)) messages) (length-map messages (λ m. sha256 (bytes_of m)) ∙ len))
+
+-- each of four messages has n blocks
+pub all_four : (a b c d : Message) (n : ℕ) → HasBlocks (bytes_of a) n → HasBlocks (bytes_of b) n → HasBlocks (bytes_of c) n → HasBlocks (bytes_of d) n
+    → AllHaveBlocks (a ∷ b ∷ c ∷ d ∷ []) n
+all_four a b c d n ha hb hc hd = at
+  where
+    at : (k : ℕ) (e : Message) → k < 4 → HasBlocks (bytes_of (slice_index_or (a ∷ b ∷ c ∷ d ∷ []) k e)) n
+    at zero e lt = ha
+    at (suc zero) e lt = hb
+    at (suc (suc zero)) e lt = hc
+    at (suc (suc (suc zero))) e lt = hd
+    at (suc (suc (suc (suc k)))) e lt = absurd (omega arith)

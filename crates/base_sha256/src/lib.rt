@@ -2,10 +2,10 @@
 #![tactic(auto)]
 
 mod block;
-mod digest;
+mod hashing;
 mod message;
 mod rounds;
 mod words;
 
-pub use digest::{digest, digest_four};
+pub use hashing::{digest, digest_four};
 pub use message::Message;

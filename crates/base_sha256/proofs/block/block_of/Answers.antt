@@ -8,7 +8,7 @@ pub returns : goal.returns
 returns c =
     let head = c.args.message.now.head.now in
     let rest = c.args.message.now.rest.now in
-    let pad = c.padding.result.now in
+    let pad = c.padding-padding.result.now in
     let m = head ++ rest in
     let start = c.args.index * 64 in
     let len : length m ≡ length head + length rest = length-append head rest in
@@ -19,4 +19,4 @@ returns c =
     let f2 = c.put-filled-2.ensures.filled start head c.saturating_sub.ensures f1 in
     let f3 = c.put-filled-3.ensures.filled start m (c.saturating_sub-2.ensures ∙ ap (λ k. start - k) (sym len)) f2 in
     let f4 = c.put.ensures.filled start (m ++ pad) (c.saturating_sub-3.ensures ∙ omega arith) f3 in
-    filled_whole _ _ c.args.index m pad _ c.requires.within (rw used at c.padding.ensures) (rw bits at c.to_be_bytes-bits.ensures) f4
+    filled_whole _ _ c.args.index m pad _ c.requires.within (rw used at c.padding-padding.ensures) (rw bits at c.to_be_bytes-bits.ensures) f4

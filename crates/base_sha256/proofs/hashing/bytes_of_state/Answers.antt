@@ -1,6 +1,6 @@
 use Rattle.std.proofs.Common.{refl}
 use Rattle.sha2.specs.Sha256.{digest_bytes}
-use Rattle.base_sha256.proofs.digest.bytes_of_state.Goals as goal
+use Rattle.base_sha256.proofs.hashing.bytes_of_state.Goals as goal
 
 pub returns : goal.returns
 unfolding digest_bytes

@@ -1,6 +1,6 @@
 use Rattle.std.proofs.Common.{arith}
 use Rattle.base_merkle.proofs.Stacks.{few_nodes, few_at}
-use Rattle.base_merkle.proofs.frontier.Frontier.push_leaf.Goals as goal
+use Rattle.base_merkle.proofs.frontier.Frontier.push_leaf_hash.Goals as goal
 
 pub put_on-requires-after_bounds : goal.put_on-requires-after_bounds
 put_on-requires-after_bounds g c κs within =
