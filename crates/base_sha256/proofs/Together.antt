@@ -1,11 +1,11 @@
 -- Four messages in their lanes, and their digests.
-use Rattle.std.proofs.Common.{◌≡◌, ℕ, zero, suc, ◌+◌, ◌*◌, ◌/◌, ◌<◌, List, [], ◌∷◌, length, map, slice_index, slice_index_or, take, drop, refl, sym, ap, subst, ◌∙◌, arith}
+use Rattle.std.proofs.Common.{◌≡◌, ℕ, zero, suc, ◌+◌, ◌/◌, ◌<◌, List, [], ◌∷◌, length, map, slice_index, slice_index_or, refl, sym, ap, subst, ◌∙◌, arith}
 use Rattle.std.proofs.lemmas.List.{get_or-map, length-map}
 use Rattle.std.proofs.lemmas.Simd.{map-map}
 use Rattle.sha2.specs.Sha256.{compress, digest_bytes, hash_after, initial_hash_256, padded_message, sha256}
 use Rattle.sha2.proofs.Absorbing256.{hash_after_next}
 use Rattle.base_sha256.specs.Blocks.{HasBlocks, block_at}
-use Rattle.base_sha256.specs.Lanes.{block, eight_words, lanes}
+use Rattle.base_sha256.specs.Lanes.{block, eight_words}
 use Rattle.base_sha256.specs.Messages.{AllHaveBlocks, bytes_of}
 use Rattle.base_sha256.specs.declared.message.Message.{Message}
 

@@ -1,5 +1,5 @@
 -- The blocks of a padded message.
-use Rattle.std.specs.Prelude.{◌≡◌, ℕ, ◌+◌, ◌-◌, ◌*◌, ◌^◌, ◌<◌, List, length, min, take, drop}
+use Rattle.std.specs.Prelude.{◌≡◌, ℕ, ◌-◌, ◌*◌, ◌^◌, ◌<◌, List, length, min, take, drop}
 use Rattle.sha2.specs.Sha256.{padded_message}
 
 -- the message m is short enough to be hashed in a lane, and has n blocks with its padding

@@ -1,6 +1,4 @@
-use Rattle.std.proofs.Common.{◌≡◌, [], ◌∷◌, ◌++◌, ◌+◌, ◌*◌, ◌%◌, ◌-◌, ◌^◌, length, refl, ap, sym, ◌∙◌, arith, length-append, replicate}
-use Rattle.std.proofs.lemmas.List.{length-replicate}
-use Rattle.base_sha256.specs.Messages.{bytes_of}
+use Rattle.std.proofs.Common.{◌≡◌, [], ◌++◌, ◌+◌, ◌*◌, ◌%◌, ◌-◌, ◌^◌, length, refl, ap, sym, ◌∙◌, arith, length-append}
 use Rattle.base_sha256.proofs.Filling.{filled_empty, filled_whole}
 use Rattle.base_sha256.proofs.block.block_of.Goals as goal
 

@@ -9,6 +9,7 @@ returns-then-from-piece-clause-filled c = λ start m ef held.
 pub returns-clause-filled : goal.returns-clause-filled
 returns-clause-filled c = λ start m ef held.
     let n = c.min-count.result in
-    let copied = c.copy_from_slice.ensures.after ∙ ap (λ (k : ℕ). take k (drop c.args.from c.args.piece.now)) (omega arith) in
+    let all : c.args.from + n - c.args.from ≡ n = omega arith in
+    let copied = c.copy_from_slice.ensures.after ∙ ap (λ (k : ℕ). take k (drop c.args.from c.args.piece.now)) all in
     filled_more c.args.block.now c.args.filled c.args.from start n (c.args.filled + n - c.args.filled) m c.args.piece.now c.copy_from_slice.new.self
     ef (omega arith) c.min-count.ensures (omega arith) copied held

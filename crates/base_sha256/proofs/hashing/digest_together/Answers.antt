@@ -5,7 +5,7 @@ use Rattle.base_sha256.proofs.hashing.digest_together.Goals as goal
 
 pub turns-init : goal.turns-init
 unfolding hash_after
-turns-init c = c.initial.ensures
+turns-init c = c.initial-state.ensures
 
 pub turns-preserved : goal.turns-preserved
 turns-preserved c =

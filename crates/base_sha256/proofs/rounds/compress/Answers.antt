@@ -1,8 +1,8 @@
-use Rattle.std.proofs.Common.{rules, ◌≡◌, ℕ, List, [], refl, inl, inr, ap, ◌*◌, ◌∙◌, arith}
+use Rattle.std.proofs.Common.{rules, ◌≡◌, [], refl, inl, inr, ◌*◌, ◌∙◌, arith}
 use Rattle.std.proofs.lemmas.List.{get_or-set_same, get_or-set_other}
 use Rattle.std.proofs.lemmas.Bool.{cases_lt}
-use Rattle.sha2.specs.Sha256.{add_state, compress, rounds, schedule}
-use Rattle.base_sha256.specs.Lanes.{block, eight_words}
+use Rattle.sha2.specs.Sha256.{compress, rounds}
+use Rattle.base_sha256.specs.Lanes.{block}
 use Rattle.base_sha256.specs.Rounds.{after_rounds}
 use Rattle.base_sha256.proofs.Steps.{rounds_at, window_first}
 use Rattle.base_sha256.proofs.rounds.compress.Goals as goal

@@ -1,4 +1,4 @@
-use Rattle.std.proofs.Common.{◌≡◌, ◌+◌, ◌%◌, arith, refl}
+use Rattle.std.proofs.Common.{arith, refl}
 use Rattle.sha2.specs.Sha256.{rounds, schedule}
 use Rattle.base_sha256.proofs.Steps.{round_more, window_at, words_at}
 use Rattle.base_sha256.proofs.rounds.first_round.Goals as goal

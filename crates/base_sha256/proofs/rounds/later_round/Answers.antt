@@ -1,4 +1,4 @@
-use Rattle.std.proofs.Common.{◌≡◌, ◌+◌, ◌-◌, ◌*◌, ◌%◌, arith, refl}
+use Rattle.std.proofs.Common.{◌+◌, ◌-◌, ◌*◌, ◌%◌, arith, refl}
 use Rattle.sha2.specs.Sha256.{rounds, schedule}
 use Rattle.base_sha256.proofs.Steps.{rounds_at, round_more, window_at, window_next, words_at, words_next}
 use Rattle.base_sha256.proofs.rounds.later_round.Goals as goal

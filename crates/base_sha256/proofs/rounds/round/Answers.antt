@@ -1,5 +1,5 @@
 use Rattle.std.proofs.Common.{◌≡◌, ℕ, List, [], get_or, slice_index, ap, refl}
-use Rattle.base_sha256.specs.Lanes.{lanes, eight_words}
+use Rattle.base_sha256.specs.Lanes.{eight_words}
 use Rattle.base_sha256.proofs.rounds.round.Goals as goal
 
 pub returns : goal.returns
