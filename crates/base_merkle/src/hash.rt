@@ -65,12 +65,18 @@ pub fn hash_all<H: Hash32>(
     let mut hashes = Vec::with_capacity(alloc, messages.len())?;
     let mut done = 0;
     'fours: while messages.len() - done >= 4 {
-        let four = [messages[done], messages[done + 1], messages[done + 2], messages[done + 3]];
+        let four = [
+            messages[done],
+            messages[done + 1],
+            messages[done + 2],
+            messages[done + 3],
+        ];
         hashes.extend_from_slice(&hasher.hash_four(&four))?;
         done += 4;
     }
-    'rest: for message in &messages[done..] {
-        hashes.push(hasher.hash(message.head, message.rest))?;
+    'rest: while done < messages.len() {
+        hashes.push(hasher.hash(messages[done].head, messages[done].rest))?;
+        done += 1;
     }
     Ok(hashes)
 }

@@ -6,8 +6,8 @@ mod hash;
 mod law;
 mod node;
 
-pub use frontier::{Frontier, FrontierMark};
 pub use base_sha256::Message;
+pub use frontier::{Frontier, FrontierMark};
 pub use hash::{Hash32, Sha256Hash, hash_all};
 pub use law::{root_of_leaf, tree_hash_law};
 pub use node::{leaf_hash, node_hash};

@@ -66,8 +66,15 @@ filled_more block f from start n j m piece ys ef some en ej ey held =
     let within : f + n ≤ 64 = omega (arith, held.count) in
     let placed : take (f + n) (put_mid f j block ys) ≡ take f block ++ ys = take-put_mid f j block ys (f + n) (omega arith) (omega (arith, held.len)) in
     record {
-      len = omega (arith, held.len, length-append (take f block) (ys ++ drop j (drop f block)), length-append ys (drop j (drop f block)),
-          length-take-le f block (omega (arith, held.len)), length-drop j (drop f block), length-drop f block);
+      len = omega (
+        arith,
+        held.len,
+        length-append (take f block) (ys ++ drop j (drop f block)),
+        length-append ys (drop j (drop f block)),
+        length-take-le f block (omega (arith, held.len)),
+        length-drop j (drop f block),
+        length-drop f block,
+      );
       count = omega (arith, held.count);
       front = placed ∙ (λ i. held.front i ++ ey i) ∙ ap (λ (l : List ℕ). take 64 (drop start m) ++ l) (sym all ∙ ap (λ (k : ℕ). take (64 - f) (drop k piece)) ef)
           ∙ sym (window_both start f m piece held.count);

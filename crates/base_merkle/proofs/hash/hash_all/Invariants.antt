@@ -10,4 +10,8 @@ abbrev pub decreases-fours : goal.decreases-fours
 decreases-fours g l = length l.messages - l.done
 
 abbrev pub invariant-rest : goal.invariant-rest
-invariant-rest g l = l.hashes.items ≡ map (λ m. g.H.Hash32.digest l.hasher (bytes_of m)) (take (l.done + l.message-index) l.messages)
+invariant-rest g l = (l.done ≤ length l.messages)
+    × (l.hashes.items ≡ map (λ m. g.H.Hash32.digest l.hasher (bytes_of m)) (take l.done l.messages))
+
+abbrev pub decreases-rest : goal.decreases-rest
+decreases-rest g l = length l.messages - l.done
