@@ -1,4 +1,5 @@
 pub mod Holds
+pub mod Levels
 pub mod PutOn
 pub mod Stack
 pub mod TreeHash

@@ -1,11 +1,9 @@
 -- A block that is filled from the pieces of a padded message.
 use Rattle.std.proofs.Common.{◌≡◌, ℕ, ◌+◌, ◌-◌, ◌*◌, ◌%◌, ◌^◌, ◌<◌, ◌≤◌, List, [], ◌∷◌, ◌++◌, length, min, take, drop, replicate, refl, sym, ap, ◌∙◌, arith, inl, inr, length-append, length-drop}
 use Rattle.std.proofs.lemmas.Bool.{cases_lt}
-use Rattle.std.proofs.lemmas.List.{append-nil, append_assoc, drop-append-le, drop_all, length-replicate, length-take-le, take-append-le, take_all}
-use Rattle.std.proofs.lemmas.Slice.{take-put_mid}
+use Rattle.std.proofs.lemmas.List.{append-nil, append_assoc, drop-append-le, drop_all, drop-drop, drop-replicate, length-take-le, take-append-le, take_all}
+use Rattle.std.proofs.lemmas.Slice.{drop-put_mid, take-put_mid}
 use Rattle.std.proofs.Math.Seq.{drop-append-add, take-append-add}
-use Rattle.std.specs.Int.{w64, to_be_bytes}
-use Rattle.sha2.specs.Sha256.{padded_message}
 use Rattle.base_sha256.specs.Blocks.{IsFilled, block_at}
 use borrow.Rule.Slice.PartMut.{put_mid}
 
@@ -49,6 +47,7 @@ filled_none block f from start m piece ef none held =
       len = held.len;
       count = omega (arith, held.count);
       front = held.front ∙ sym (window_both start f m piece held.count ∙ ap (λ (l : List ℕ). take 64 (drop start m) ++ l) nothing ∙ append-nil (take 64 (drop start m)));
+      back = held.back;
     }
 
 -- a piece that is copied behind what is filled
@@ -65,6 +64,8 @@ filled_more block f from start n j m piece ys ef some en ej ey held =
     let ly : length ys ≡ n = ap length ey ∙ length-take-le n (drop from piece) (omega arith) in
     let within : f + n ≤ 64 = omega (arith, held.count) in
     let placed : take (f + n) (put_mid f j block ys) ≡ take f block ++ ys = take-put_mid f j block ys (f + n) (omega arith) (omega (arith, held.len)) in
+    let kept : drop (f + n) (put_mid f j block ys) ≡ drop (f + n) block = drop-put_mid f j block ys (f + n) (omega arith) (omega (arith, held.len)) (omega arith) in
+    let left : drop (f + n) block ≡ replicate (64 - f - n) 0 = sym (drop-drop n f block) ∙ ap (drop n) held.back ∙ drop-replicate n (64 - f) 0 in
     record {
       len = omega (
         arith,
@@ -78,31 +79,14 @@ filled_more block f from start n j m piece ys ef some en ej ey held =
       count = omega (arith, held.count);
       front = placed ∙ (λ i. held.front i ++ ey i) ∙ ap (λ (l : List ℕ). take 64 (drop start m) ++ l) (sym all ∙ ap (λ (k : ℕ). take (64 - f) (drop k piece)) ef)
           ∙ sym (window_both start f m piece held.count);
+      back = kept ∙ left ∙ ap (λ (k : ℕ). replicate k 0) (omega arith);
     }
 
 -- a block with nothing in it yet
-pub filled_empty : (block : List ℕ) (start : ℕ) → length block ≡ 64 → IsFilled block 0 start []
-filled_empty block start len = record {
+pub filled_empty : (block : List ℕ) (start : ℕ) → length block ≡ 64 → block ≡ replicate 64 0 → IsFilled block 0 start []
+filled_empty block start len zeros = record {
   len = len;
   count = omega arith;
   front = sym (ap (take 64) (drop_all start [] (omega arith)) ∙ take_all 64 [] (omega arith));
+  back = zeros;
 }
-
-pub length-padded : (m : List ℕ) → length (padded_message m) ≡ length m + 1 + (119 - length m % 64) % 64 + 8
-length-padded m =
-    let zeros : List ℕ = replicate ((119 - length m % 64) % 64) 0 in
-    let bits : List ℕ = to_be_bytes w64 (length m * 8 % 2 ^ 64) in
-    let eight : length bits ≡ 8 = refl in
-    omega (arith, length-append m (0x80 ∷ zeros ++ bits), length-append (0x80 ∷ zeros) bits, length-replicate {A = ℕ} ((119 - length m % 64) % 64) 0)
-
--- a block that all pieces of the padded message have filled
-pub filled_whole : (block : List ℕ) (f index : ℕ) (m pad bits : List ℕ) → index * 64 < length (padded_message m)
-    → pad ≡ 0x80 ∷ replicate ((119 - length m % 64) % 64) 0 → bits ≡ to_be_bytes w64 (length m * 8 % 2 ^ 64)
-    → IsFilled block f (index * 64) ((m ++ pad) ++ bits) → block ≡ block_at m index
-filled_whole block f index m pad bits within ep eb held =
-    let e : (m ++ pad) ++ bits ≡ padded_message m = rw (append_assoc, ep, eb) refl in
-    let len : length (padded_message m) ≡ length m + 1 + (119 - length m % 64) % 64 + 8 = length-padded m in
-    let count : f ≡ min 64 (length (padded_message m) - index * 64) = rw e at held.count in
-    let front : take f block ≡ take 64 (drop (index * 64) (padded_message m)) = rw e at held.front in
-    let full : 64 ≤ f = omega arith in
-    sym (take_all f block (omega (arith, held.len))) ∙ front
