@@ -1,7 +1,7 @@
 -- The levels of a tree, from its leaves to its root.
-use Rattle.std.proofs.Common.{◌≡◌, ◌≤◌, ◌<◌, ◌+◌, ◌-◌, ◌*◌, ◌/◌, ◌^◌, suc, zero, ℕ, List, [], ◌∷◌, ◌++◌, length, map, take, drop, slice_index_or, refl, arith, sym, ◌∙◌, ap, subst, lit<, append_assoc, length-append, length-drop}
+use Rattle.std.proofs.Common.{◌≡◌, ◌≤◌, ◌+◌, ◌*◌, ◌/◌, ◌^◌, suc, zero, ℕ, List, [], ◌∷◌, ◌++◌, length, map, take, drop, slice_index_or, refl, arith, sym, ◌∙◌, ap, append_assoc, length-append, length-drop}
 use Rattle.std.proofs.lemmas.List.{append-nil, drop-drop, drop_more, length-take-le, take-append-drop}
-use Rattle.std.proofs.Math.Nat.{one-le-pow, pow-succ'}
+use Rattle.std.proofs.Math.Nat.{pow-succ'}
 use Rattle.base_merkle.specs.Levels.{level_above}
 use Rattle.base_merkle.specs.TreeHash.{tree_hash}
 use Rattle.base_merkle.proofs.Trees.{tree_hash_join}

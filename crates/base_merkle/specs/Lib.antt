@@ -1,3 +1,4 @@
+pub use Rattle.base_sha256.specs.Messages
 pub mod Holds
 pub mod Levels
 pub mod PutOn

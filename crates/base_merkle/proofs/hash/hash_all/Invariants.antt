@@ -1,4 +1,4 @@
-use Rattle.std.proofs.Common.{◌≡◌, ◌≤◌, ◌+◌, ◌-◌, length, map, take}
+use Rattle.std.proofs.Common.{◌≡◌, ◌≤◌, ◌-◌, length, map, take}
 use Rattle.base_sha256.specs.Messages.{bytes_of}
 use Rattle.base_merkle.proofs.hash.hash_all.Given as goal
 

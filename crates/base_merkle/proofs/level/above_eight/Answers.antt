@@ -1,4 +1,4 @@
-use Rattle.std.proofs.Common.{◌≡◌, ◌∙◌, ap, sym}
+use Rattle.std.proofs.Common.{◌∙◌, ap, sym}
 use Rattle.base_merkle.specs.Levels.{level_above}
 use Rattle.base_merkle.proofs.Levels.{eight_of}
 use Rattle.base_merkle.proofs.level.above_eight.Goals as goal

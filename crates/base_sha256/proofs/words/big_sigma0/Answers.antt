@@ -1,4 +1,4 @@
-use Rattle.std.proofs.Common.{◌≡◌, ℕ, List, ◌^◌, ◌<◌, ◌∙◌, bit_xor, subst, refl, arith, w32, Fits}
+use Rattle.std.proofs.Common.{ℕ, List, ◌∙◌, bit_xor, subst, refl, arith, w32, Fits}
 use Rattle.sha2.specs.Sha256.{big_sigma0}
 use Rattle.base_sha256.specs.Lanes.{lanes}
 use Rattle.base_sha256.proofs.Lanewise.{lane_fits, same_vector}

@@ -1,4 +1,4 @@
-use Rattle.std.proofs.Common.{◌≡◌, ℕ, bit_and, bit_xor, ◌∙◌, refl}
+use Rattle.std.proofs.Common.{◌≡◌, ℕ, bit_and, bit_xor}
 use Rattle.sha2.specs.Sha256.{maj}
 use Rattle.base_sha256.specs.Lanes.{lanes}
 use Rattle.base_sha256.proofs.MajShort.{maj_short}

@@ -1,4 +1,4 @@
-use Rattle.std.proofs.Common.{◌≡◌, ℕ, List, ◌/◌, ◌^◌, ◌<◌, ◌∙◌, ap, bit_xor, subst, refl, arith, w32, Fits}
+use Rattle.std.proofs.Common.{ℕ, List, ◌/◌, ◌^◌, ap, bit_xor, subst, refl, arith, w32, Fits}
 use Rattle.sha2.specs.Sha256.{small_sigma1}
 use Rattle.base_sha256.specs.Lanes.{lanes}
 use Rattle.base_sha256.proofs.Lanewise.{lane_fits, same_vector}
