@@ -1,2 +1,4 @@
+pub mod Room
+pub mod RowsSpelled
 pub mod Told
 pub mod Walked
