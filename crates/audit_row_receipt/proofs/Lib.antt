@@ -1,3 +1,4 @@
+pub mod Numbered
 pub mod Room
 pub mod RowsSpelled
 pub mod Told
