@@ -1,14 +1,14 @@
-//! The root over the entries of a block.
+//! The root over entries.
 
 ghost use Rattle.std.specs.Prelude.{◌≡◌, ◌∷◌, [], map, IfOk, OnOk};
 ghost use Rattle.std.specs.List.{AllByRecursion};
 ghost use Rattle.format_entry.specs.Entry.{IsEntry, entry_bytes};
 ghost use Rattle.base_merkle.specs.TreeHash.{tree_hash};
 
-use base_merkle::{Hash32, Message, leaf_hash, root_of_hashes};
+use crate::leaves::four_leaf_hashes;
+use base_merkle::{Hash32, leaf_hash, root_of_hashes};
 use base_types::Memory;
-use format_entry::write_entry;
-use sql_types::TxEntry;
+use format_entry::{TxEntry, write_entry};
 use std::alloc::Global;
 
 /// The bytes of four entries that are hashed together.
@@ -36,31 +36,6 @@ fn entry_hash<H: Hash32>(h: H, bytes: &mut Vec<u8>, entry: &TxEntry) -> Result<[
 {
     spell(entry, bytes)?;
     Ok(leaf_hash(h, bytes))
-}
-
-/// The hashes of four leaves, computed together.
-fn four_leaf_hashes<H: Hash32>(h: H, a: &[u8], b: &[u8], c: &[u8], d: &[u8]) -> [[u8; 32]; 4]
-    ensures { result ≡ H.digest h (0 ∷ a.now) ∷ H.digest h (0 ∷ b.now)
-        ∷ H.digest h (0 ∷ c.now) ∷ H.digest h (0 ∷ d.now) ∷ [] }
-{
-    h.hash_four(&[
-        Message {
-            head: &[0],
-            rest: a,
-        },
-        Message {
-            head: &[0],
-            rest: b,
-        },
-        Message {
-            head: &[0],
-            rest: c,
-        },
-        Message {
-            head: &[0],
-            rest: d,
-        },
-    ])
 }
 
 /// The hashes of the leaves of four entries, computed together.
@@ -127,11 +102,7 @@ fn entry_hashes<H: Hash32>(
 /// The tree hash over the bytes of the entries. It costs the hash of each entry's bytes, and about one of a
 /// node; leaves, and nodes of one level, are hashed four at a time. While it runs it takes 32 bytes for each
 /// entry, and half of that again.
-pub(crate) fn root_of<H: Hash32>(
-    alloc: Global,
-    h: H,
-    entries: &[TxEntry],
-) -> Result<[u8; 32], Memory>
+pub fn entries_root<H: Hash32>(alloc: Global, h: H, entries: &[TxEntry]) -> Result<[u8; 32], Memory>
     requires { AllByRecursion IsEntry entries.now }
     ensures { IfOk result (λ root. root ≡ tree_hash (H.digest h) (map entry_bytes entries.now)) }
 {

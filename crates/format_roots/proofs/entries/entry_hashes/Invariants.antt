@@ -1,6 +1,6 @@
 use Rattle.std.proofs.Common.{◌≡◌, ◌≤◌, ◌-◌, ◌∷◌, length, map, take}
 use Rattle.format_entry.specs.Entry.{entry_bytes}
-use Rattle.store_blocks.proofs.root.entry_hashes.Given as goal
+use Rattle.format_roots.proofs.entries.entry_hashes.Given as goal
 
 abbrev pub invariant-fours : goal.invariant-fours
 invariant-fours g l = (l.done ≤ length l.entries)

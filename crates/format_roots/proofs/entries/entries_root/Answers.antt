@@ -1,7 +1,7 @@
 use Rattle.std.proofs.Common.{◌≡◌, ◌∷◌, ◌∙◌, ℕ, List, map, sym}
 use Rattle.std.proofs.lemmas.Simd.{map-map}
 use Rattle.format_entry.specs.Entry.{entry_bytes}
-use Rattle.store_blocks.proofs.root.root_of.Goals as goal
+use Rattle.format_roots.proofs.entries.entries_root.Goals as goal
 
 pub returns : goal.returns
 returns g c =
