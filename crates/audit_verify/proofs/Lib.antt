@@ -5,6 +5,7 @@ pub mod Fitting
 pub mod GroupParts
 pub mod Grouped
 pub mod GroupsMerge
+pub mod Hashed
 pub mod IdsAt
 pub mod InRows
 pub mod LeafOrder

@@ -15,10 +15,11 @@ ghost use Rattle.spec_verify.specs.Groups.{found_cmp};
 ghost use Rattle.audit_verify.specs.Groups as spec;
 ghost use Rattle.audit_verify.specs.WrongRoots as told;
 ghost use Rattle.audit_verify.specs.Indexes.{HasFewIndexes, first_among};
-ghost use Rattle.audit_verify.specs.Marks.{HaveEncodableValues, HasValues, tx_of};
+ghost use Rattle.audit_verify.specs.Marks.{HaveEncodableValues, leaf_hash, tx_of};
 ghost use Rattle.audit_verify.specs.Order.{AreStarted};
 ghost use Rattle.audit_verify.specs.ImageTable.{IdsRise, table_of};
 
+use crate::hashes::leaf_hashes;
 use crate::indexes::fault_among;
 use crate::least::event_place;
 use crate::marks::{Mark, run_of, sorted_marks};
@@ -110,7 +111,8 @@ fn root_in_group<H: Hash32>(
         ≡ spec.wrong_root (H.digest hasher) (map table_of tables.now) entries.now) }
 {
     let marks = sorted_marks(alloc, tables)?;
-    wrong_root(alloc, hasher, entries, tables, marks.as_slice())
+    let hashes = leaf_hashes(alloc, hasher, &marks)?;
+    wrong_root(alloc, hasher, entries, tables, &marks, &hashes)
 }
 
 fn version_in_group(
@@ -149,15 +151,16 @@ pub fn wrong_root<H: Hash32>(
     entries: &[TxEntry],
     tables: &[ImageTable],
     marks: &[Mark],
+    hashes: &[[u8; 32]],
 ) -> Result<Option<(u64, TableId)>, Memory>
     requires rise { IsNonDecreasingBy tx_of marks.now }
-    requires values { All HasValues marks.now }
+    requires hashes { hashes.now ≡ map (leaf_hash (H.digest hasher)) marks.now }
     ensures { IfOk result (λ found. found
         ≡ told.wrong_told (H.digest hasher) (map table_of tables.now) marks.now entries.now) }
 {
     let mut work = ScratchSpace::new(alloc);
     for (k, entry) in entries.iter().enumerate() {
-        if let Some(table) = wrong_table(hasher, entry, tables, marks, &mut work)? {
+        if let Some(table) = wrong_table(alloc, hasher, entry, tables, marks, hashes, &mut work)? {
             return Ok(Some((k as u64, table)));
         }
     }
@@ -165,19 +168,21 @@ pub fn wrong_root<H: Hash32>(
 }
 
 fn wrong_table<H: Hash32>(
+    alloc: Global,
     hasher: H,
     entry: &TxEntry,
     tables: &[ImageTable],
     marks: &[Mark],
+    hashes: &[[u8; 32]],
     work: &mut ScratchSpace,
 ) -> Result<Option<TableId>, Memory>
     requires rise { IsNonDecreasingBy tx_of marks.now }
-    requires values { All HasValues marks.now }
+    requires hashes { hashes.now ≡ map (leaf_hash (H.digest hasher)) marks.now }
     ensures { IfOk result (λ table. table
         ≡ told.wrong_by_marks (H.digest hasher) (map table_of tables.now) marks.now entry.now) }
 {
-    let own = run_of(marks, entry.id);
-    put_roots(hasher, own, &mut work.leaf, &mut work.roots)?;
+    let (own, hashes) = run_of(marks, hashes, entry.id);
+    put_roots(alloc, hasher, own, hashes, &mut work.roots)?;
     Ok(least_wrong(tables, entry.roots.as_slice(), &work.roots))
 }
 

@@ -6,6 +6,7 @@ mod columns;
 mod entries;
 mod event_ids;
 mod groups;
+mod hashes;
 mod ids;
 mod indexes;
 mod least;
