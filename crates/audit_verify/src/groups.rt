@@ -12,6 +12,7 @@ ghost use Rattle.spec_model.specs.Catalog.{Tables};
 ghost use Rattle.law_catalog_rows.specs.Least.{least, lesser_of};
 ghost use Rattle.spec_verify.specs.Entries.{id_fault, root_at, root_fault, same_root};
 ghost use Rattle.spec_verify.specs.Groups.{found_cmp};
+ghost use Rattle.spec_verify.specs.Versions.{rows_of_columns};
 ghost use Rattle.audit_verify.specs.Groups as spec;
 ghost use Rattle.audit_verify.specs.WrongRoots as told;
 ghost use Rattle.audit_verify.specs.Indexes.{HasFewIndexes, first_among};
@@ -19,10 +20,10 @@ ghost use Rattle.audit_verify.specs.Marks.{HaveEncodableValues, HasValues, tx_of
 ghost use Rattle.audit_verify.specs.Order.{AreStarted};
 ghost use Rattle.audit_verify.specs.ImageTable.{IdsRise, table_of};
 
+use crate::column_rows::ColumnRows;
 use crate::indexes::fault_among;
 use crate::least::event_place;
 use crate::marks::{Mark, run_of, sorted_marks};
-use crate::positions::Positions;
 use crate::roots::{ScratchSpace, TableRoot, least_among, lesser, put_roots, root_at, same_root};
 use crate::shown::{ImageTable, shown_tables};
 use crate::versions::least_invalid_version;
@@ -70,7 +71,8 @@ pub fn group_faults<H: Hash32>(
     ensures root { IfOk result (λ faults. faults.root
         ≡ spec.wrong_root (H.digest hasher) (spec.group_of from count image.now) image.now.entries) }
     ensures version { IfOk result (λ faults. faults.version
-        ≡ spec.version_in image.now.entries (spec.group_of from count image.now)) }
+        ≡ spec.version_in image.now.entries (rows_of_columns image.now.tables)
+        (spec.group_of from count image.now)) }
     ensures index { IfOk result (λ faults. faults.index
         ≡ spec.if_none faults.version (spec.index_in from count image.now)) }
 {
@@ -79,7 +81,7 @@ pub fn group_faults<H: Hash32>(
     let group = group_of(&tables, from, count);
     let entries = image.entries.as_slice();
     let root = root_in_group(alloc, hasher, entries, group)?;
-    let version = version_in_group(alloc, entries, group)?;
+    let version = version_in_group(alloc, image, group)?;
     let index = index_in_group(alloc, version, group)?;
     Ok(GroupFaults {
         root,
@@ -113,16 +115,18 @@ fn root_in_group<H: Hash32>(
     wrong_root(alloc, hasher, entries, tables, marks.as_slice())
 }
 
+/// The least version of these tables that its table may not have, by all rows of the table of columns.
 fn version_in_group(
     alloc: Global,
-    entries: &[TxEntry],
+    image: &Image,
     tables: &[ImageTable],
 ) -> Result<Option<Place>, Memory>
-    requires { All (AreStarted entries.now) tables.now }
-    ensures { IfOk result (λ place. place ≡ spec.version_in entries.now (map table_of tables.now)) }
+    requires { All (AreStarted image.now.entries) tables.now }
+    ensures { IfOk result (λ place. place ≡ spec.version_in image.now.entries
+        (rows_of_columns image.now.tables) (map table_of tables.now)) }
 {
-    let positions = Positions::of(alloc, entries)?;
-    let worst = least_invalid_version(alloc, &positions, tables)?;
+    let columns = ColumnRows::of(alloc, image)?;
+    let worst = least_invalid_version(alloc, &columns, tables)?;
     Ok(event_place(worst))
 }
 

@@ -2,6 +2,7 @@
 #![tactic(auto)]
 
 mod blocks;
+mod column_rows;
 mod columns;
 mod entries;
 mod event_ids;
