@@ -40,8 +40,6 @@ pub data Command : Type 0 where
   Receipt : Text → Text → ℕ → Text → Command
   -- the names of a receipt and of digests
   Check : Text → Text → Command
-  -- the name of an image, how many of its transactions count, and the name of digests, where they are given
-  AsOf : Text → ℕ → Option Text → Command
   -- help on one command, or on all
   Help : Option Subcommand → Command
   Version : Command
@@ -53,7 +51,6 @@ IsInRange (Run save how) = AreInRange how
 IsInRange (Verify image digests workers) = (1 ≤ workers) × (workers ≤ 16)
 IsInRange (Gen count) = (1 ≤ count) × (count ≤ 10000)
 IsInRange (Receipt image digests tx save) = (1 ≤ tx) × (tx ≤ MAX_TX)
-IsInRange (AsOf image n digests) = n ≤ MAX_TX
 IsInRange _ = Unit {0}
 
 -- what was given under a name
@@ -95,10 +92,6 @@ meaning_of which.Receipt value = value (codes "IMAGE") >>= file_name >>= λ imag
 meaning_of which.Check value = value (codes "RECEIPT") >>= file_name >>= λ receipt.
     value (codes "DIGESTS") >>= file_name >>= λ digests.
     Some (Check receipt digests)
-meaning_of which.AsOf value = value (codes "IMAGE") >>= file_name >>= λ image.
-    value (codes "N") >>= number_in 0 MAX_TX >>= λ n.
-    if_given file_name (value (codes "digests")) >>= λ digests.
-    Some (AsOf image n digests)
 
 abbrev pub has_dashes : List Text → Bool
 has_dashes words = list_any (λ w. bytes_eq w (codes "--")) words

@@ -62,7 +62,6 @@ fn form_of(name: &str) -> Form {
         "workers" => Form::Number(1, 16),
         "COUNT" => Form::Number(1, 10_000),
         "TX" => Form::Number(1, MAX_TX),
-        "N" => Form::Number(0, MAX_TX),
         _ => Form::FileName,
     }
 }
@@ -95,8 +94,6 @@ fn operand_at(which: Subcommand, place: usize) -> Option<&'static str> {
         (Subcommand::Receipt, 2) => Some("TX"),
         (Subcommand::Check, 0) => Some("RECEIPT"),
         (Subcommand::Check, 1) => Some("DIGESTS"),
-        (Subcommand::AsOf, 0) => Some("IMAGE"),
-        (Subcommand::AsOf, 1) => Some("N"),
         _ => None,
     }
 }
@@ -108,7 +105,6 @@ fn has_option(which: Subcommand, name: &str) -> bool {
         }
         Subcommand::Verify => name == "workers",
         Subcommand::Replay | Subcommand::Receipt => name == "save",
-        Subcommand::AsOf => name == "digests",
         Subcommand::Extract | Subcommand::Gen | Subcommand::Check => false,
     }
 }

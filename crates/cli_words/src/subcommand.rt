@@ -21,8 +21,6 @@ pub enum Subcommand {
     Receipt,
     /// Says whether a receipt holds with digests.
     Check,
-    /// Answers SELECTs over an image behind its first transactions.
-    AsOf,
 }
 
 impl Subcommand {
@@ -40,7 +38,6 @@ impl Subcommand {
             "gen" => Some(Subcommand::Gen),
             "receipt" => Some(Subcommand::Receipt),
             "check" => Some(Subcommand::Check),
-            "asof" => Some(Subcommand::AsOf),
             _ => None,
         }
     }
