@@ -47,7 +47,6 @@ fn change_set(alloc: Global, tables: &[Table], stmt: &RowStmt) -> Result<Planned
 }
 
 /// INSERT, UPDATE and DELETE: all changes are known before the first is made.
-#[tactic(auto, using(crate::proofs::RisingIds::ready_rise))]
 pub(crate) fn change_rows(
     alloc: Global,
     tables: &mut Vec<Table>,

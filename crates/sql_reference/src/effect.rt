@@ -34,7 +34,7 @@ pub(crate) fn counted(seq: u64, events: usize) -> Result<u64, Memory>
 /// What a statement of transaction `tx`, whose next event has the number `seq`, does to the tables. A refusal
 /// leaves them; after want of memory they may be anything. Statements that are no table statements do
 /// nothing.
-#[tactic(auto, unfolding(spec_model::specs::Effect::effect), using(crate::proofs::RisingIds::ready_rise))]
+#[tactic(auto, unfolding(spec_model::specs::Effect::effect))]
 pub(crate) fn effect(
     alloc: Global,
     tables: &mut Vec<Table>,
