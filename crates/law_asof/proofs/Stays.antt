@@ -56,7 +56,7 @@ module _ (has : ℕ → Bool) (other : ℕ) (none : has other ≡ false) where
       → (HasLive start vs → left_of has (ended (other, m) start vs) ≡ left_of has vs) → left_of has (ended (other, m) start (v ∷ vs)) ≡ left_of has (v ∷ vs)
   ended_at m start true v vs e few there rest =
       let it = hit (other, m) start v vs e few there in
-      ap (left_of has) it.is ∙ head_alike (has v.start.0) (with_end (other, m) v) v (filter (λ w. has w.start.0) vs) (filter (λ w. has w.start.0) vs) (its_end m v it.stands) refl
+      ap (left_of has) it.is ∙ head_alike (has v.start.0) (with_end (other, m) v) v (filter (λ w. has w.start.0) vs) (filter (λ w. has w.start.0) vs) (its_end m v it.is_live) refl
   ended_at m start false v vs e few there rest =
       ap (left_of has) (ended_cons (other, m) start false v vs e)
       ∙ head_alike (has v.start.0) v v (filter (λ w. has w.start.0) (ended (other, m) start vs)) (filter (λ w. has w.start.0) vs) refl (rest (missed start v vs e there))

@@ -52,7 +52,7 @@ all_other n (Tx id session time explicit lines ∷ is) le = ((λ e. absurd (omeg
 all_other n (Close k ∷ is) le = (tt, all_other n is le)
 
 module _ (reads : Reading) (items : List JournalItem) (legal : IsLegal reads items) where
-  pub sound : Sound (above items) 0 (serial reads items)
+  sound : Sound (above items) 0 (serial reads items)
   sound = legal_sound reads items (above items) legal (all_other (above items) items (omega arith))
 
   -- each table's versions stand in the image as the first transactions left them
