@@ -1,6 +1,6 @@
 //! A database behind its first transactions, which answers SELECTs.
 
-ghost use Rattle.std.specs.Prelude.{◌≡◌, ◌≤◌, ◌<◌, ◌×◌, ⊥, ℕ, length, IfErr, IfOk};
+ghost use Rattle.std.specs.Prelude.{◌≡◌, ◌≤◌, ◌<◌, ℕ, length, Some, IfErr, IfOk};
 ghost use Rattle.format_image.specs.ImageBytes.{IsImage};
 ghost use Rattle.spec_model.specs.Effect.{effect};
 ghost use Rattle.spec_syntax.specs.Text.{statement_of};
@@ -94,10 +94,20 @@ impl AsOf {
         ensures no_memory { IfOk result (λ reply. reply ≡ replies.Refused NoMemory → ⊥) }
     {
         match parse(alloc, text) {
-            Ok(Stmt::Select(q)) => self.select(alloc, &q),
-            Ok(_) => Ok(AsOfReply::NotSelect),
+            Ok(stmt) => self.reply_to(alloc, &stmt),
             Err(ParseErr::Syntax) => Ok(AsOfReply::Refused(Refusal::SyntaxError)),
             Err(ParseErr::Memory) => Err(Memory),
+        }
+    }
+
+    #[tactic(auto, unfolding(spec_asof::specs::Answer::answer_of))]
+    fn reply_to(&self, alloc: Global, stmt: &Stmt) -> Result<AsOfReply, Memory>
+        ensures answer { IfOk result (λ reply. reply ≡ answer_of self.now (Some stmt.now)) }
+        ensures no_memory { IfOk result (λ reply. reply ≡ replies.Refused NoMemory → ⊥) }
+    {
+        match stmt {
+            Stmt::Select(q) => self.select(alloc, q),
+            _ => Ok(AsOfReply::NotSelect),
         }
     }
 
