@@ -1,5 +1,5 @@
 -- The tables of users, one after another.
-use Rattle.std.proofs.Common.{◌≡◌, ℕ, Bool, true, false, refl, sym, ap, ◌∙◌, List, [], ◌∷◌, ◌++◌, append_assoc, append-nil, length}
+use Rattle.std.proofs.Common.{◌≡◌, ℕ, Bool, true, false, refl, sym, ap, ◌∙◌, List, [], ◌∷◌, ◌++◌, append_assoc, length}
 use Rattle.std.specs.Prelude.{if◌then◌else◌}
 use Rattle.sql_types.specs.declared.image.TableRows.{TableRows}
 use Rattle.sql_types.specs.declared.table.TableDef.{TableDef}

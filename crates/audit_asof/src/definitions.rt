@@ -1,6 +1,6 @@
 //! Definitions as far as rows of the system's tables tell them.
 
-ghost use Rattle.std.specs.Prelude.{◌≡◌, ◌++◌, ◌+◌, ◌∷◌, [], IfOk, OnOk, map, ℕ};
+ghost use Rattle.std.specs.Prelude.{◌≡◌, ◌++◌, ◌+◌, ◌∷◌, [], IfOk, OnOk};
 ghost use Rattle.audit_definitions.specs.DefinitionRows.{rows_in, rows_seen};
 ghost use Rattle.spec_asof.specs.DatabaseAt as spec;
 ghost use Rattle.audit_asof.specs.Told.{columns_from, parts_from, indexes_from};

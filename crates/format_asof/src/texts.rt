@@ -1,7 +1,6 @@
 //! The texts of an input by line.
 
-ghost use Rattle.std.specs.Prelude.{◌≡◌, ◌∷◌, ◌<◌, ℕ, length, map, Ok, Err, IfOk, option_map, option_to_list};
-ghost use Rattle.format_lines.specs.Lines.{lines_of};
+ghost use Rattle.std.specs.Prelude.{◌≡◌, ◌<◌, ℕ, map, Ok, Err, IfOk, option_map, option_to_list};
 ghost use Rattle.format_asof.specs.Texts as spec;
 
 use format_lines::{InputErr, before_blanks, behind_blanks, first_line, is_skipped};

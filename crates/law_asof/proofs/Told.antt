@@ -1,15 +1,14 @@
 -- What the image of a legal journal tells of the versions behind its first transactions.
-use Rattle.std.proofs.Common.{◌≡◌, ◌≤◌, ℕ, Bool, zero, suc, ◌+◌, refl, sym, ap, ◌∙◌, List, [], ◌∷◌, map, take, arith}
+use Rattle.std.proofs.Common.{◌≡◌, ◌≤◌, ℕ, Bool, zero, suc, ◌+◌, refl, sym, ap, ◌∙◌, List, [], ◌∷◌, take, arith}
 use Rattle.std.specs.List.{AllByRecursion}
 use Rattle.std.proofs.lemmas.List.{take-map}
 use Rattle.sql_types.specs.declared.entry.TxEntry.{TxEntry}
 use Rattle.sql_types.specs.declared.journal.JournalItem.{JournalItem}
 use Rattle.sql_types.specs.declared.journal.JournalItem.TheVariants.{Tx, Close}
 use Rattle.sql_types.specs.declared.version.Table.{Table}
-use Rattle.sql_types.specs.declared.version.Version.{Version}
-use Rattle.spec_model.specs.Catalog.{Tables, versions_of}
+use Rattle.spec_model.specs.Catalog.{versions_of}
 use Rattle.spec_model.specs.Journals.{upto, serial, IsOther, IsLegal}
-use Rattle.spec_model.specs.Runs.{Rising, SoundTable, Sound}
+use Rattle.spec_model.specs.Runs.{SoundTable, Sound}
 use Rattle.spec_model.specs.Script.{Reading}
 use Rattle.spec_history.specs.Journals.{ids_of}
 use Rattle.law_frame.proofs.Alls.{all_weaker, all_both}
