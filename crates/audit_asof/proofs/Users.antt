@@ -1,5 +1,5 @@
 -- The tables of users, one after another.
-use Rattle.std.proofs.Common.{◌≡◌, ℕ, Bool, true, false, refl, sym, ap, ◌∙◌, List, [], ◌∷◌, ◌++◌, append_assoc, length}
+use Rattle.std.proofs.Common.{◌≡◌, ℕ, Bool, true, false, refl, sym, ap, ◌∙◌, List, [], ◌∷◌, ◌++◌, append_assoc, append-nil, length}
 use Rattle.std.specs.Prelude.{if◌then◌else◌}
 use Rattle.sql_types.specs.declared.image.TableRows.{TableRows}
 use Rattle.sql_types.specs.declared.table.TableDef.{TableDef}
@@ -34,3 +34,13 @@ module _ (has : ℕ → Bool) (first second : List Row) where
   pub no_defs : (defs : Defs) (rows : List TableRows) → length defs ≡ 0 → users_at has first second defs rows ≡ []
   no_defs [] rows e = refl
   no_defs (def ∷ defs) rows e = cc
+
+-- one table that passes, or that doesn't
+
+pub added : (b : Bool) (t u : Table) (before after : Tables) → b ≡ true → u ≡ t → after ≡ before ++ u ∷ [] → after ≡ before ++ (if b then t ∷ [] else [])
+added true t u before after e is so = so ∙ ap (λ (x : Table). before ++ x ∷ []) is
+added false t u before after e is so = cc
+
+pub passed : (b : Bool) (t : Table) (before : Tables) → b ≡ false → before ≡ before ++ (if b then t ∷ [] else [])
+passed true t before e = cc
+passed false t before e = sym (append-nil before)
