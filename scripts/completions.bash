@@ -8,13 +8,14 @@ _ledgerd_options() {
     case $1 in
         step | run) echo --save --block-size --clock --database --help ;;
         verify) echo --workers --help ;;
-        replay | receipt) echo --save --help ;;
+        receipt) echo --save --table --event --help ;;
+        replay | join) echo --save --help ;;
         *) echo --help ;;
     esac
 }
 
 _ledgerd() {
-    local commands='step run verify extract replay receipt check gen' word=${COMP_WORDS[COMP_CWORD]}
+    local commands='step run verify extract replay receipt join check gen' word=${COMP_WORDS[COMP_CWORD]}
     if [ "$COMP_CWORD" = 1 ]; then
         case $word in
             -*) mapfile -t COMPREPLY < <(compgen -W '--help --version' -- "$word") ;;
@@ -26,7 +27,7 @@ _ledgerd() {
         mapfile -t COMPREPLY < <(compgen -W "$(_ledgerd_options "${COMP_WORDS[1]}")" -- "$word")
     else
         case ${COMP_WORDS[COMP_CWORD - 1]} in
-            --save | --block-size | --clock | --database | --workers) COMPREPLY=() ;;
+            --save | --block-size | --clock | --database | --workers | --table | --event) COMPREPLY=() ;;
             *) mapfile -t COMPREPLY < <(compgen -f -- "$word" | sort) ;;
         esac
     fi

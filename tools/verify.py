@@ -7,6 +7,7 @@ Writes the line of section "Verdict", and ends with the exit status of `ledgerd 
 """
 
 import sys
+from bisect import bisect_left
 from collections import Counter, defaultdict
 from typing import NamedTuple, Optional
 
@@ -21,6 +22,8 @@ MAX_IMAGE, MAX_DIGESTS = 256 * 2**20, 32 * 2**20
 MAX_TABLES, MAX_COLUMNS, MAX_PARTS, MAX_INDEXES = 32, 64, 4, 4
 
 Place = Optional[str]
+# of a column, by table and item: the ranks of rows about it, and whether they say NOT NULL
+ColumnsByStart = dict[tuple[int, int], list[tuple[tuple[int, int], bool]]]
 
 
 def verdict(data: bytes, digests: list[Digest]) -> str:
@@ -142,15 +145,19 @@ def root_fault(image: Image, _: list[Digest]) -> Place:
 
 
 def version_fault(image: Image, _: list[Digest]) -> Place:
-    """V6: versions have their table's columns, and those of one key follow one another."""
+    """V6: versions have their table's columns as of their start, and those of one key follow one another."""
     places = {entry.id: place for place, entry in enumerate(image.entries)}
+    columns = columns_by_start(image, places)
     bad = []
     for definition in [*system_definitions(), *image.definitions]:
         rows = image.rows[definition.id]
         versions = rows.base + rows.history
         fitting = [it for it in versions if has_columns(definition.columns, it.values)]
         starts = {it.start for it in versions if not has_columns(definition.columns, it.values)}
-        starts |= {it.start for it in fitting if has_forbidden_null(definition.columns, it.values)}
+        if definition.id < FIRST_USER_TABLE:
+            starts |= {it.start for it in fitting if has_forbidden_null(definition.columns, it.values)}
+        else:
+            starts |= {it.start for it in fitting if has_null_too_much(columns, definition.id, it, places)}
         if definition.kind == APPEND_ONLY:
             starts |= {it.start for it in rows.history}
         starts |= out_of_order(definition, fitting, places)
@@ -169,11 +176,40 @@ def has_forbidden_null(columns: tuple[Column, ...], values: Values) -> bool:
     return any(value is None and not column.nullable for column, value in zip(columns, values))
 
 
+def columns_by_start(image: Image, places: dict[int, int]) -> ColumnsByStart:
+    """The base rows of the table of columns that have its columns, by table and item and then by start."""
+    columns = system_definitions()[1].columns
+    found: ColumnsByStart = defaultdict(list)
+    for it in image.rows[COLUMNS].base:
+        if has_columns(columns, it.values) and it.values[0] and it.values[1]:
+            says_not_null = it.values[7] is not None and signed(it.values[7].data) == 0
+            column = signed(it.values[0].data), signed(it.values[1].data)
+            found[column].append((rank(it.start, places), says_not_null))
+    for rows in found.values():
+        rows.sort(key=lambda row: row[0])
+    return found
+
+
+def has_null_too_much(columns: ColumnsByStart, table: int, version: Version, places: dict[int, int]) -> bool:
+    """Whether a value isn't NULL that no row before is about, or is NULL where the last row before says NOT NULL."""
+    for item, value in enumerate(version.values, 1):
+        rows = columns.get((table, item), [])
+        before = bisect_left(rows, (rank(version.start, places),))
+        if (value is None and before > 0 and rows[before - 1][1]) or (value is not None and before == 0):
+            return True
+    return False
+
+
+def rank(event: EventId, places: dict[int, int]) -> tuple[int, int]:
+    """The place of the event's entry, and its number: the order of the ledger."""
+    return places[event.transaction], event.number
+
+
 def out_of_order(definition: Definition, versions: list[Version], places: dict[int, int]) -> set[EventId]:
     """The starts of versions that end too early, or that begin before another of their key had ended."""
 
     def at(event: EventId) -> tuple[int, int]:
-        return places[event.transaction], event.number
+        return rank(event, places)
 
     by_key: dict[Values, list[Version]] = defaultdict(list)
     for version in versions:

@@ -1,8 +1,9 @@
 -- The tests decide whether a chain joins two digests.
-use Rattle.std.proofs.Common.{◌≡◌, ◌+◌, ℕ, Bool, true, false, List, [], ◌∷◌, length, Option, Some, None, refl, subst}
-use Rattle.std.specs.Prelude.{◌==◌, ◌&&◌, bytes_eq}
+use Rattle.std.proofs.Common.{◌≡◌, ◌≤◌, ◌+◌, ◌-◌, ℕ, Bool, true, false, nat_lt, List, [], ◌∷◌, length, drop, Option, Some, None, refl, subst, arith}
+use Rattle.std.specs.Prelude.{◌==◌, ◌&&◌, bytes_eq, if◌then◌else◌}
+use Rattle.std.specs.List.{AllByRecursion, list_all}
 use Rattle.std.specs.Bool.{Decides}
-use Rattle.std.proofs.lemmas.Bool.{eqb-true, eq-eqb}
+use Rattle.std.proofs.lemmas.Bool.{eqb-true, eq-eqb, ltb-true, ltb-false}
 use Rattle.std.proofs.lemmas.Slice.Eq.{bytes_eq-Decides}
 use Rattle.sql_types.specs.declared.digest.HeldDigest.{HeldDigest}
 use Rattle.sql_types.specs.declared.entry.BlockRecord.{BlockRecord}
@@ -10,6 +11,7 @@ use Rattle.spec_ledger.specs.Blocks.{no_hash, record_hash, first_or_no_hash, las
 use Rattle.format_chain.specs.declared.chain.Chain.{Chain}
 use Rattle.audit_receipt.specs.Accepted.{AreLinked, LeadTo}
 use Rattle.audit_receipt.specs.Tests.{keeps_hash, are_linked, lead_to}
+use Rattle.audit_chain.specs.Continues.{first_block, IsOfFirst, IsKept, Continues, is_of_first, is_kept, are_kept}
 use Rattle.audit_chain.specs.Joins.{Joins}
 
 both : {P Q : Type 0} (a b : Bool) → Decides a P → Decides b Q → Decides (a && b) (P × Q)
@@ -78,3 +80,33 @@ module _ (h : List ℕ → List ℕ) where
       (both (bytes_eq c.database older.database && bytes_eq c.database newer.database) (lead_to h older.block c.records newer && bytes_eq (first_or_no_hash h c.records) older.hash)
       (both (bytes_eq c.database older.database) (bytes_eq c.database newer.database) (strings c.database older.database) (strings c.database newer.database))
       (both (lead_to h older.block c.records newer) (bytes_eq (first_or_no_hash h c.records) older.hash) (led older.block c.records newer) (strings (first_or_no_hash h c.records) older.hash))))
+
+  -- ---- several digests
+
+  of_first : (database : List ℕ) (d : HeldDigest) (rs : List BlockRecord) → Decides (is_of_first h database d rs) (IsOfFirst h database d rs)
+  of_first database d [] = ((λ e. tt), λ p. refl)
+  of_first database d (r ∷ rs) = both (bytes_eq d.database database) (bytes_eq (record_hash h r) d.hash) (strings d.database database) (strings (record_hash h r) d.hash)
+
+  kept : (c : Chain) (d : HeldDigest) → Decides (is_kept h c.database (first_block c.records) c.records d) (IsKept h c d)
+  kept c d = by (nat_lt d.block (first_block c.records)) refl
+    where
+      rest : List BlockRecord
+      rest = drop (d.block - first_block c.records) c.records
+
+      by : (b : Bool) → nat_lt d.block (first_block c.records) ≡ b → Decides (if b then true else is_of_first h c.database d rest) (IsKept h c d)
+      by true t = ((λ e. λ le. absurd (omega (arith, le, ltb-true d.block (first_block c.records) t))), λ p. refl)
+      by false t = ((λ e. λ le. (of_first c.database d rest).0 e), λ p. (of_first c.database d rest).1 (p (ltb-false d.block (first_block c.records) t)))
+
+  all_kept : (c : Chain) (ds : List HeldDigest) → Decides (are_kept h c.database (first_block c.records) c.records ds) (AllByRecursion (IsKept h c) ds)
+  all_kept c [] = ((λ e. tt), λ p. refl)
+  all_kept c (d ∷ ds) = both (is_kept h c.database (first_block c.records) c.records d) (are_kept h c.database (first_block c.records) c.records ds) (kept c d) (all_kept c ds)
+
+  -- the answer of the three tests
+  pub continued : (c : Chain) (newest : HeldDigest) (digests : List HeldDigest) (a l k answer : Bool) → a ≡ bytes_eq c.database newest.database → l ≡ lead_to h (first_block c.records) c.records newest
+      → k ≡ are_kept h c.database (first_block c.records) c.records digests → answer ≡ (a && (l && k)) → Decides answer (Continues h c newest digests)
+  continued c newest digests a l k answer is_a is_l is_k is_answer =
+      rw (is_answer, is_a, is_l, is_k) (turned (bytes_eq c.database newest.database && (lead_to h (first_block c.records) c.records newest && are_kept h c.database (first_block c.records) c.records digests))
+      (λ p. record { database = p.0; chain = p.1.0; kept = p.1.1 })
+      (λ x. (x.database, (x.chain, x.kept)))
+      (both (bytes_eq c.database newest.database) (lead_to h (first_block c.records) c.records newest && are_kept h c.database (first_block c.records) c.records digests) (strings c.database newest.database)
+      (both (lead_to h (first_block c.records) c.records newest) (are_kept h c.database (first_block c.records) c.records digests) (led (first_block c.records) c.records newest) (all_kept c digests))))

@@ -40,7 +40,7 @@ chain_spelled i is j b le lt =
 
 module _ (h : List ℕ → List ℕ) (i : Image) (is : IsImage i) (chain : chain_fault h i ≡ None) (blocks : block_fault h i ≡ None) where
   -- the records up to a digest that holds begin, from a block on, with the one whose hash the image has there
-  first_is : (j : ℕ) (d : HeldDigest) → DigestHolds h i d → j ≤ d.block → first_or_no_hash h (drop j (blocks_to i d.block)) ≡ first_or_no_hash h (drop j i.blocks)
+  pub first_is : (j : ℕ) (d : HeldDigest) → DigestHolds h i d → j ≤ d.block → first_or_no_hash h (drop j (blocks_to i d.block)) ≡ first_or_no_hash h (drop j i.blocks)
   first_is j d holds le =
       let within = holds.block in
       let b : HasBlock h i.blocks i.entries j = block_at h 0 no_hash i.blocks i.entries (all_heads h i is chain blocks) j (omega (arith, le, within)) in

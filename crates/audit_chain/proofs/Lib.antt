@@ -1,2 +1,3 @@
+pub mod Continuing
 pub mod Decided
 pub mod Histories

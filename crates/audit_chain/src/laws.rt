@@ -1,6 +1,7 @@
 //! Laws of chains.
 
-ghost use Rattle.std.specs.Prelude.{ℕ, ◌≡◌, ◌≤◌, ◌⊎◌, List, None};
+ghost use Rattle.std.specs.Prelude.{ℕ, ◌≡◌, ◌≤◌, ◌⊎◌, List, None, Contains};
+ghost use Rattle.std.specs.List.{AllByRecursion};
 ghost use Rattle.sql_types.specs.declared.digest.HeldDigest.{HeldDigest};
 ghost use Rattle.sql_types.specs.declared.image.Image.{Image};
 ghost use Rattle.format_image.specs.ImageBytes.{IsImage};
@@ -9,6 +10,7 @@ ghost use Rattle.spec_verify.specs.Sentences.{DigestHolds};
 ghost use Rattle.audit_extract.specs.Each.{HasCollision};
 ghost use Rattle.format_chain.specs.declared.chain.Chain.{Chain};
 ghost use Rattle.format_chain.specs.Chains.{IsChain};
+ghost use Rattle.audit_chain.specs.Continues.{Continues, first_block};
 ghost use Rattle.audit_chain.specs.Joins.{Joins, chain_of};
 
 /// The chain that an image gives from the block of one digest to that of another joins the two, where both hold
@@ -27,5 +29,25 @@ pub fn accepted_chains_tell_one_history()
     ensures { (h : List ℕ → List ℕ) (c : Chain) (older newer : HeldDigest) (i : Image)
         → IsChain c → Joins h c older newer
         → IsImage i → chain_fault h i ≡ None → block_fault h i ≡ None → DigestHolds h i newer
+        → DigestHolds h i older ⊎ HasCollision h }
+{}
+
+/// The chain that an image gives from a block to that of the newest digest shows that this one continues the histories
+/// of all digests that hold with the image, where its chain and blocks hold.
+pub fn made_chains_continue()
+    ensures { (h : List ℕ → List ℕ) (i : Image) (from : ℕ) (newest : HeldDigest) (digests : List HeldDigest)
+        → IsImage i → chain_fault h i ≡ None → block_fault h i ≡ None
+        → DigestHolds h i newest → AllByRecursion (DigestHolds h i) digests → from ≤ newest.block
+        → Continues h (chain_of i from newest.block) newest digests }
+{}
+
+/// Where a chain shows that the newest digest continues the histories of others, each image that holds with the newest
+/// one, and whose chain and blocks hold, holds with each of the others that is of a block from the chain's first to the
+/// newest digest's; or two different byte strings have one hash.
+pub fn newest_digests_tell_all_histories()
+    ensures { (h : List ℕ → List ℕ) (c : Chain) (newest older : HeldDigest) (digests : List HeldDigest) (i : Image)
+        → IsChain c → Continues h c newest digests
+        → IsImage i → chain_fault h i ≡ None → block_fault h i ≡ None → DigestHolds h i newest
+        → Contains digests older → first_block c.records ≤ older.block → older.block ≤ newest.block
         → DigestHolds h i older ⊎ HasCollision h }
 {}

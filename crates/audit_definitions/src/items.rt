@@ -197,7 +197,8 @@ fn column_row(id: TableId, place: usize, column: &ColumnDef) -> [ExpectedValue<'
     ]
 }
 
-fn has_column_row(rows: &[&Version], id: TableId, place: usize, column: &ColumnDef) -> bool
+/// Whether one of the rows is that of the column at this place, counted from 0.
+pub fn has_column_row(rows: &[&Version], id: TableId, place: usize, column: &ColumnDef) -> bool
     ensures { result ≡ has_row (rows_seen rows.now) (system.column_row id (place + 1, column.now)) }
 {
     has_row(rows, &column_row(id, place, column))
@@ -238,7 +239,8 @@ fn part_row(
     ]
 }
 
-fn has_part_row(
+/// Whether one of the rows is that of the part at this place, counted from 0, of an index behind so many others.
+pub fn has_part_row(
     rows: &[&Version],
     id: TableId,
     others: usize,

@@ -7,4 +7,5 @@ mod names;
 mod rules;
 mod spelling;
 
-pub use spelling::definition_fault;
+pub use items::{has_column_row, has_part_row, system_rows_of};
+pub use spelling::{definition_fault, is_encoded};

@@ -101,8 +101,8 @@ fn add_if_encoded(
 }
 
 /// Whether the rows spell the definition. Its own rules come first: they let through the ids from 3 to 34,
-/// and the rows are gone through for those alone.
-fn is_encoded(
+/// and the rows are gone through for those alone. The only error is want of memory.
+pub fn is_encoded(
     alloc: Global,
     first: &[Version],
     second: &[Version],

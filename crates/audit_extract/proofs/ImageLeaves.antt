@@ -4,7 +4,7 @@ use Rattle.std.specs.Prelude.{◌&&◌, ◌==◌, IfSome}
 use Rattle.std.specs.List.{AllByRecursion}
 use Rattle.std.specs.List.Sorted.{IsStable}
 use Rattle.std.specs.Ordering.{nat_cmp}
-use Rattle.std.proofs.lemmas.Bool.{eq-eqb, ne_eqb}
+use Rattle.std.proofs.lemmas.Bool.{eqb-true, eqb-false, eq-eqb, ne_eqb}
 use Rattle.std.proofs.lemmas.List.Elements.{filter-append}
 use Rattle.sql_types.specs.declared.event.Event.{Event}
 use Rattle.sql_types.specs.declared.image.Image.{Image}
@@ -29,7 +29,7 @@ use Rattle.format_image.specs.Rows.{Stored}
 use Rattle.format_image.specs.RowBytes.{AreValues, AreIndexes, AreRows, IsPair, IsBaseRow, IsHistoryRow, IsEnd, IsTable}
 use Rattle.format_image.specs.Tables.{tables_in, tables_with, table_in, defs_in}
 use Rattle.audit_extract.specs.declared.leaves.Leaf.{Leaf}
-use Rattle.audit_extract.specs.Leaves.{leaf_of, table_leaves, all_leaves, leaf_cmp, is_of, bytes_of, tree_of}
+use Rattle.audit_extract.specs.Leaves.{leaf_of, table_leaves, all_leaves, leaf_cmp, is_of, bytes_of, tree_of, leaves_in}
 use Rattle.audit_extract.proofs.Groups.{by_seq, group_sorted}
 use Rattle.audit_extract.proofs.Lists.{all_two}
 use Rattle.audit_extract.proofs.Rooted.{Above, tables_above}
@@ -120,6 +120,35 @@ found_in tx ts ys up stable t here =
 pub all_found : (i : Image) (ys : List Leaf) → IsImage i → IsSorted leaf_cmp ys → IsStable leaf_cmp (all_leaves (tables_in i)) ys → (tx : ℕ) → AllByRecursion (IsFound tx ys) (tables_in i)
 all_found i ys is up stable tx =
     all_weaker (InTable tx (tables_in i)) (IsFound tx ys) (found_in tx (tables_in i) ys up stable) (tables_in i) (each_table tx 0 (tables_in i) (tables_above i.defs i.tables is.ids))
+
+-- of a table that isn't there nothing is found
+none_of : (tx table : ℕ) (ts : Tables) → AllByRecursion (λ (t : Table). t.def.id ≢ table) ts → filter (is_of (tx, table)) (all_leaves ts) ≡ []
+none_of tx table [] all = refl
+none_of tx table (t ∷ ts) all =
+    filter-append (is_of (tx, table)) (table_leaves t) (all_leaves ts)
+    ∙ ap (λ (l : List Leaf). l ++ filter (is_of (tx, table)) (all_leaves ts)) (other_group tx table t.def.id (flat_map (version_events t.def.id) t.versions) all.0 (of_table t.def.id t.versions))
+    ∙ none_of tx table ts all.1
+
+none_found : (tx table : ℕ) (ts : Tables) (ys : List Leaf) → IsSorted leaf_cmp ys → IsStable leaf_cmp (all_leaves ts) ys → AllByRecursion (λ (t : Table). t.def.id ≢ table) ts → tree_of ys (tx, table) ≡ []
+none_found tx table ts ys up stable all = ap bytes_of (group_sorted (tx, table) (all_leaves ts) ys up stable ∙ ap (sorted by_seq) (none_of tx table ts all))
+
+-- the first table with this id, or none
+picked : (tx table : ℕ) (leaves : List (List ℕ)) (ts : Tables) → AllByRecursion (λ (t : Table). t.def.id ≡ table → leaves ≡ leaves_of tx t) ts
+    → (AllByRecursion (λ (t : Table). t.def.id ≢ table) ts → leaves ≡ []) → leaves ≡ leaves_in ts tx table
+picked tx table leaves [] found none = none tt
+picked tx table leaves (t ∷ ts) found none = by (t.def.id == table) refl (λ ne. picked tx table leaves ts found.1 (λ all. none (ne, all)))
+  where
+    by : (b : Bool) → (t.def.id == table) ≡ b → (t.def.id ≢ table → leaves ≡ leaves_in ts tx table) → leaves ≡ cond b (leaves_of tx t) (leaves_in ts tx table)
+    by true e later = found.0 (eqb-true t.def.id table e)
+    by false e later = later (eqb-false t.def.id table e)
+
+pub found_leaves : (i : Image) (ys : List Leaf) (tx table : ℕ) (leaves : List (List ℕ)) → IsImage i → IsSorted leaf_cmp ys → IsStable leaf_cmp (all_leaves (tables_in i)) ys
+    → leaves ≡ tree_of ys (tx, table) → leaves ≡ leaves_in (tables_in i) tx table
+found_leaves i ys tx table leaves is up stable same =
+    picked tx table leaves (tables_in i)
+    (all_weaker (IsFound tx ys) (λ (t : Table). t.def.id ≡ table → leaves ≡ leaves_of tx t)
+    (λ t found of. same ∙ ap (λ (n : ℕ). tree_of ys (tx, n)) (sym of) ∙ found) (tables_in i) (all_found i ys is up stable tx))
+    (λ all. same ∙ none_found tx table (tables_in i) ys up stable all)
 
 -- ---- the bytes at a place
 

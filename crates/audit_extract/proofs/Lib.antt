@@ -8,6 +8,7 @@ pub mod Heads
 pub mod ImageLeaves
 pub mod Linked
 pub mod Lists
+mod Nodes
 pub mod Parted
 pub mod Rooted
 pub mod Unbroken

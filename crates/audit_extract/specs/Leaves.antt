@@ -1,6 +1,6 @@
 -- The leaves of an image: one for each start and each end of a version, with the transaction and the table
 -- that it is of.
-use Rattle.std.specs.Prelude.{ℕ, ◌≡◌, Bool, List, map, flat_map}
+use Rattle.std.specs.Prelude.{ℕ, ◌≡◌, ◌==◌, Bool, if◌then◌else◌, List, [], ◌∷◌, map, flat_map}
 use Rattle.std.specs.List.{filter, AllByRecursion}
 use Rattle.std.specs.declared.cmp.Ordering.{Ordering}
 use Rattle.std.specs.Ordering.{nat_cmp, ordering_then, is_lt, is_gt}
@@ -12,6 +12,7 @@ use Rattle.sql_types.specs.declared.version.Table.{Table}
 use Rattle.spec_model.specs.Catalog.{Tables}
 use Rattle.spec_model.specs.Events.{version_events}
 use Rattle.spec_model.specs.Rows.{event_cmp, same_event}
+use Rattle.spec_ledger.specs.Entries.{leaves_of}
 use Rattle.audit_extract.specs.declared.leaves.Leaf.{Leaf}
 
 -- a transaction and a table
@@ -61,3 +62,8 @@ SameTree a b tx r = tree_of a (tx, r.0) ≡ tree_of b (tx, r.0)
 
 abbrev pub SameTrees : List Leaf → List Leaf → TxEntry → Type 0
 SameTrees a b e = AllByRecursion (SameTree a b e.id) e.roots
+
+-- the leaves of a transaction in the table with this id, by number; none where there is no such table
+abbrev pub leaves_in : Tables → ℕ → ℕ → List (List ℕ)
+leaves_in [] tx table = []
+leaves_in (t ∷ ts) tx table = if t.def.id == table then leaves_of tx t else leaves_in ts tx table

@@ -4,3 +4,4 @@ pub mod Hashed
 pub mod Leaves
 pub mod Meets
 pub mod Parts
+pub mod Strings

@@ -8,6 +8,7 @@ ghost use Rattle.format_entry.specs.Entry.{IsEntry, entry_bytes};
 ghost use Rattle.audit_extract.specs.Finds.{Finds};
 ghost use Rattle.audit_extract.specs.Meets.{Meets};
 ghost use Rattle.audit_extract.specs.Parts.{blocks_to, entries_to};
+ghost use Rattle.audit_extract.specs.Strings.{AreAtNode, AreOfEntries, OfCollision};
 
 use crate::found::ImageComparison;
 use crate::trees::{are_same, find_in_trees};
@@ -28,8 +29,9 @@ pub(crate) fn in_blocks<H: Hash32>(
     requires honest { Meets (H.digest h) honest.now digest.now }
     requires suspect { Meets (H.digest h) suspect.now digest.now }
     requires same { blocks_to honest.now digest.now.block ≡ blocks_to suspect.now digest.now.block }
-    ensures { IfOk result (Finds (H.digest h)
+    ensures finds { IfOk result (Finds (H.digest h)
         (entries_to honest.now digest.now.block ≡ entries_to suspect.now digest.now.block)) }
+    ensures strings { IfOk result (OfCollision (AreOfEntries (H.digest h) honest.now suspect.now)) }
 {
     let mut rest = covered_blocks(honest, digest.block);
     let mut a = honest.entries.as_slice();
@@ -66,7 +68,9 @@ fn in_block<H: Hash32>(
     requires fit_b { AllByRecursion IsEntry b.now }
     requires root { tree_hash (H.digest h) (map entry_bytes a.now)
         ≡ tree_hash (H.digest h) (map entry_bytes b.now) }
-    ensures { IfOk result (Finds (H.digest h) (a.now ≡ b.now)) }
+    ensures finds { IfOk result (Finds (H.digest h) (a.now ≡ b.now)) }
+    ensures strings { IfOk result (OfCollision
+        (AreAtNode (H.digest h) (map entry_bytes a.now) (map entry_bytes b.now))) }
 {
     let first = entry_leaves(alloc, a)?;
     let second = entry_leaves(alloc, b)?;

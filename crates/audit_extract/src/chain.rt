@@ -5,6 +5,7 @@ ghost use Rattle.format_entry.specs.Record.{record_bytes};
 ghost use Rattle.audit_extract.specs.Finds.{Finds};
 ghost use Rattle.audit_extract.specs.Meets.{Meets};
 ghost use Rattle.audit_extract.specs.Parts.{blocks_to};
+ghost use Rattle.audit_extract.specs.Strings.{AreRecords, OfCollision};
 
 use crate::blocks::covered_blocks;
 use crate::found::{Collision, ImageComparison};
@@ -25,8 +26,9 @@ pub(crate) fn in_chain<H: Hash32>(
 ) -> Result<ImageComparison, Memory>
     requires honest { Meets (H.digest h) honest.now digest.now }
     requires suspect { Meets (H.digest h) suspect.now digest.now }
-    ensures { IfOk result (Finds (H.digest h)
+    ensures finds { IfOk result (Finds (H.digest h)
         (blocks_to honest.now digest.now.block ≡ blocks_to suspect.now digest.now.block)) }
+    ensures strings { IfOk result (OfCollision (AreRecords honest.now suspect.now)) }
 {
     let a = honest.blocks.as_slice();
     let b = suspect.blocks.as_slice();

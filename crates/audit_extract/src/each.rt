@@ -6,6 +6,7 @@ ghost use Rattle.spec_verify.specs.declared.place.Verdict.TheVariants.{Yes};
 ghost use Rattle.spec_verify.specs.Verdict.{image_verdict};
 ghost use Rattle.audit_extract.specs.Each.{AgreeOnEach, last_from, last_of};
 ghost use Rattle.audit_extract.specs.Finds.{Finds};
+ghost use Rattle.audit_extract.specs.Strings.{AreHashed, OfCollision};
 
 use crate::found::ImageComparison;
 use crate::images::extract;
@@ -15,8 +16,8 @@ use sql_types::{HeldDigest, Image};
 use std::alloc::Global;
 
 /// `Same` exactly where all that each of the digests covers is the same in both images, and else two
-/// different byte strings with one hash. The digest of the last block covers what the others do, so it is
-/// the one that is asked; with no digest there is nothing that could differ.
+/// different byte strings with one hash, as `extract` finds them. The digest of the last block covers what the
+/// others do, so it is the one that is asked; with no digest there is nothing that could differ.
 pub fn extract_each<H: Hash32>(
     alloc: Global,
     h: H,
@@ -28,7 +29,8 @@ pub fn extract_each<H: Hash32>(
     requires suspect { IsImage suspect.now }
     requires honest_accepted { image_verdict (H.digest h) honest.now digests.now ≡ Yes }
     requires suspect_accepted { image_verdict (H.digest h) suspect.now digests.now ≡ Yes }
-    ensures { IfOk result (Finds (H.digest h) (AgreeOnEach honest.now suspect.now digests.now)) }
+    ensures finds { IfOk result (Finds (H.digest h) (AgreeOnEach honest.now suspect.now digests.now)) }
+    ensures strings { IfOk result (OfCollision (AreHashed (H.digest h) honest.now suspect.now)) }
 {
     match last_of(digests) {
         None => Ok(ImageComparison::Same),

@@ -1,7 +1,7 @@
 //! The trees of leaves: entry by entry and table by table, the events of two images are the same, or the
 //! trees give a collision.
 
-ghost use Rattle.std.specs.Prelude.{◌≡◌, ◌≤◌, ◌<◌, ◌+◌, IsSorted, IfOk, length};
+ghost use Rattle.std.specs.Prelude.{◌≡◌, ◌≤◌, ◌<◌, ◌+◌, ℕ, IsSorted, IfOk, length};
 ghost use Rattle.std.specs.List.{AllByRecursion, sum_by};
 ghost use Rattle.base_merkle.specs.TreeHash.{tree_hash};
 ghost use Rattle.spec_verify.specs.Blocks.{entries_before};
@@ -10,6 +10,7 @@ ghost use Rattle.audit_extract.specs.Finds.{Finds};
 ghost use Rattle.audit_extract.specs.Leaves.{HasRoots, IsRooted, SameTree, SameTrees, leaf_cmp, tree_of};
 ghost use Rattle.audit_extract.specs.Meets.{Meets};
 ghost use Rattle.audit_extract.specs.Parts.{entries_to};
+ghost use Rattle.audit_extract.specs.Strings.{AreAtNode, AreOfEvents, OfCollision};
 
 use crate::blocks::covered_blocks;
 use crate::found::ImageComparison;
@@ -32,8 +33,9 @@ pub(crate) fn in_entries<H: Hash32>(
     requires honest { Meets (H.digest h) honest.now digest.now }
     requires suspect { Meets (H.digest h) suspect.now digest.now }
     requires same { entries_to honest.now digest.now.block ≡ entries_to suspect.now digest.now.block }
-    ensures { IfOk result (Finds (H.digest h)
+    ensures finds { IfOk result (Finds (H.digest h)
         (covered_of honest.now digest.now.block ≡ covered_of suspect.now digest.now.block)) }
+    ensures strings { IfOk result (OfCollision (AreOfEvents (H.digest h) honest.now suspect.now)) }
 {
     let a = sorted_leaves(alloc, honest)?;
     let b = sorted_leaves(alloc, suspect)?;
@@ -77,7 +79,10 @@ fn in_trees<H: Hash32>(
     requires sorted_b { IsSorted leaf_cmp b.now }
     requires roots_a { AllByRecursion (HasRoots (H.digest h) a.now) entries.now }
     requires roots_b { AllByRecursion (HasRoots (H.digest h) b.now) entries.now }
-    ensures { IfOk result (Finds (H.digest h) (AllByRecursion (SameTrees a.now b.now) entries.now)) }
+    ensures finds { IfOk result
+        (Finds (H.digest h) (AllByRecursion (SameTrees a.now b.now) entries.now)) }
+    ensures strings { IfOk result (OfCollision (λ c. (group : ℕ × ℕ)
+        × AreAtNode (H.digest h) (tree_of a.now group) (tree_of b.now group) c)) }
 {
     let mut rest = entries;
     while let [entry, more @ ..] = rest {
@@ -109,7 +114,10 @@ fn in_tables<H: Hash32>(
     requires sorted_b { IsSorted leaf_cmp b.now }
     requires roots_a { AllByRecursion (IsRooted (H.digest h) a.now tx) roots.now }
     requires roots_b { AllByRecursion (IsRooted (H.digest h) b.now tx) roots.now }
-    ensures { IfOk result (Finds (H.digest h) (AllByRecursion (SameTree a.now b.now tx) roots.now)) }
+    ensures finds { IfOk result
+        (Finds (H.digest h) (AllByRecursion (SameTree a.now b.now tx) roots.now)) }
+    ensures strings { IfOk result (OfCollision (λ c. (group : ℕ × ℕ)
+        × AreAtNode (H.digest h) (tree_of a.now group) (tree_of b.now group) c)) }
 {
     let mut rest = roots;
     while let [(table, _), more @ ..] = rest {
@@ -133,7 +141,9 @@ fn in_table<H: Hash32>(
     requires sorted_b { IsSorted leaf_cmp b.now }
     requires root { tree_hash (H.digest h) (tree_of a.now group)
         ≡ tree_hash (H.digest h) (tree_of b.now group) }
-    ensures { IfOk result (Finds (H.digest h) (tree_of a.now group ≡ tree_of b.now group)) }
+    ensures finds { IfOk result (Finds (H.digest h) (tree_of a.now group ≡ tree_of b.now group)) }
+    ensures strings { IfOk result (OfCollision
+        (AreAtNode (H.digest h) (tree_of a.now group) (tree_of b.now group))) }
 {
     let x = leaves_of(a, group);
     let y = leaves_of(b, group);

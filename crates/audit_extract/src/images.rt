@@ -4,6 +4,7 @@ ghost use Rattle.std.specs.Prelude.{◌≡◌, IfOk};
 ghost use Rattle.spec_verify.specs.Covered.{covered_of};
 ghost use Rattle.audit_extract.specs.Finds.{Finds};
 ghost use Rattle.audit_extract.specs.Meets.{Meets};
+ghost use Rattle.audit_extract.specs.Strings.{AreHashed, OfCollision};
 
 use crate::blocks::in_blocks;
 use crate::chain::in_chain;
@@ -16,7 +17,9 @@ use std::alloc::Global;
 
 /// `Same` exactly where the entries and events that the digest covers are the same in both images,
 /// and else two different byte strings with one hash. So whoever shows two histories under one digest
-/// has broken the hash.
+/// has broken the hash. The first was hashed in the honest image and the second at the same place of the
+/// other: the records of one block, or what is hashed at one node of two trees, of a block's entries or of a
+/// transaction's events in a table.
 pub fn extract<H: Hash32>(
     alloc: Global,
     h: H,
@@ -26,8 +29,9 @@ pub fn extract<H: Hash32>(
 ) -> Result<ImageComparison, Memory>
     requires honest { Meets (H.digest h) honest.now digest.now }
     requires suspect { Meets (H.digest h) suspect.now digest.now }
-    ensures { IfOk result (Finds (H.digest h)
+    ensures finds { IfOk result (Finds (H.digest h)
         (covered_of honest.now digest.now.block ≡ covered_of suspect.now digest.now.block)) }
+    ensures strings { IfOk result (OfCollision (AreHashed (H.digest h) honest.now suspect.now)) }
 {
     if let ImageComparison::Collision(records) = in_chain(alloc, h, honest, suspect, digest)? {
         return Ok(ImageComparison::Collision(records));

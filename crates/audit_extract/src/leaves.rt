@@ -8,7 +8,7 @@ ghost use Rattle.spec_model.specs.SystemTables.{tables_def, columns_def};
 ghost use Rattle.format_image.specs.ImageBytes.{IsImage, AreTables};
 ghost use Rattle.format_image.specs.RowBytes.{AreRows, AreValues};
 ghost use Rattle.format_image.specs.Tables.{tables_in, tables_with};
-ghost use Rattle.audit_extract.specs.Leaves.{all_leaves, bytes_of, comes_after, comes_before, is_of, leaf_cmp, leaf_of};
+ghost use Rattle.audit_extract.specs.Leaves.{all_leaves, bytes_of, comes_after, comes_before, is_of, leaf_cmp, leaf_of, leaves_in};
 
 use crate::trees::is_equal;
 use base_types::{Blob, Memory, TableId, TxId, first_of};
@@ -184,6 +184,21 @@ fn event_leaf(alloc: Global, event: &EventRef) -> Result<Leaf, Memory>
         seq: event.id.1,
         bytes: Blob::from_vec(bytes),
     })
+}
+
+/// The leaves of a transaction in a table of an image, by number. Takes the time of sorting all leaves.
+pub fn leaves_in(
+    alloc: Global,
+    image: &Image,
+    tx: TxId,
+    table: TableId,
+) -> Result<Vec<Blob>, Memory>
+    requires { IsImage image.now }
+    ensures { IfOk result (λ leaves. leaves.items ≡ leaves_in (tables_in image.now) tx table) }
+{
+    let all = sorted_leaves(alloc, image)?;
+    let own = copied(alloc, leaves_of(&all, (tx, table)))?;
+    Ok(own)
 }
 
 /// Those of a transaction in a table.

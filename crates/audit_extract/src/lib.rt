@@ -19,4 +19,5 @@ pub use laws::{
     accepted_bytes_have_one_history_or_a_collision, accepted_images_meet_each_digest,
     later_digests_cover_more,
 };
+pub use leaves::leaves_in;
 pub use trees::{split_of, tree_halves, tree_root};

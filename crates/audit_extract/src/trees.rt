@@ -5,13 +5,15 @@ ghost use Rattle.base_merkle.specs.TreeHash.{tree_hash, split_of};
 ghost use Rattle.spec_verify.specs.Collision.{Collides};
 ghost use Rattle.audit_extract.specs.Hashed.{hashed};
 ghost use Rattle.audit_extract.specs.Finds.{Finds};
+ghost use Rattle.audit_extract.specs.Strings.{AreAtNode, OfCollision};
 
 use crate::found::{Collision, ImageComparison};
 use base_merkle::{Frontier, Hash32};
 use base_types::{Blob, Memory};
 use std::alloc::Global;
 
-/// Of two different lists of leaves that have one tree hash, two different byte strings with one hash.
+/// Of two different lists of leaves that have one tree hash, two different byte strings with one hash: what is
+/// hashed at one node of both trees.
 /// Parts the lists as the tree does until the bytes that were hashed differ.
 pub(crate) fn find_in_trees<H: Hash32>(
     alloc: Global,
@@ -23,7 +25,8 @@ pub(crate) fn find_in_trees<H: Hash32>(
     requires few_b { length b.now < 2 ^ 63 }
     requires differ { a.now ≢ b.now }
     requires same { tree_hash (H.digest h) a.now ≡ tree_hash (H.digest h) b.now }
-    ensures { IfOk result (λ c. Collides (H.digest h) c.first c.second) }
+    ensures collides { IfOk result (λ c. Collides (H.digest h) c.first c.second) }
+    ensures node { IfOk result (AreAtNode (H.digest h) a.now b.now) }
 {
     let mut a = a;
     let mut b = b;
@@ -55,7 +58,10 @@ fn compared<H: Hash32>(
     requires few_a { length a.now < 2 ^ 63 }
     requires few_b { length b.now < 2 ^ 63 }
     requires same { tree_hash (H.digest h) a.now ≡ tree_hash (H.digest h) b.now }
-    ensures { IfOk result (Finds (H.digest h) (hashed (H.digest h) a.now ≡ hashed (H.digest h) b.now)) }
+    ensures finds { IfOk result
+        (Finds (H.digest h) (hashed (H.digest h) a.now ≡ hashed (H.digest h) b.now)) }
+    ensures strings { IfOk result (OfCollision
+        (λ c. (c.first ≡ hashed (H.digest h) a.now) × (c.second ≡ hashed (H.digest h) b.now))) }
 {
     let first = hashed_bytes(alloc, h, a)?;
     let second = hashed_bytes(alloc, h, b)?;

@@ -81,18 +81,18 @@ path_back h m (x ∷ leaves) more le =
 
 -- ---- the same of sides
 
-sides_few : (m n : ℕ) → n < 2 → sides_of m n ≡ []
+pub sides_few : (m n : ℕ) → n < 2 → sides_of m n ≡ []
 sides_few m zero few = refl
 sides_few m (suc zero) few = refl
 sides_few m (suc (suc n)) few = absurd (omega (arith, few))
 
-sides_front : (m n : ℕ) → 2 ≤ n → m < split_of n → sides_of m n ≡ sides_of m (split_of n) ++ other.Right ∷ []
+pub sides_front : (m n : ℕ) → 2 ≤ n → m < split_of n → sides_of m n ≡ sides_of m (split_of n) ++ other.Right ∷ []
 sides_front m zero more lt = absurd (omega (arith, more))
 sides_front m (suc n) more lt =
     let s = split_is (suc n) more in
     sides_left n m (suc n) more lt ∙ ap (λ (l : List Side). l ++ other.Right ∷ []) (sides_depth n (split_of (suc n)) m (split_of (suc n)) (omega (arith, s.below)) (omega arith))
 
-sides_back : (m n : ℕ) → 2 ≤ n → split_of n ≤ m → sides_of m n ≡ sides_of (m - split_of n) (n - split_of n) ++ other.Left ∷ []
+pub sides_back : (m n : ℕ) → 2 ≤ n → split_of n ≤ m → sides_of m n ≡ sides_of (m - split_of n) (n - split_of n) ++ other.Left ∷ []
 sides_back m zero more le = absurd (omega (arith, more))
 sides_back m (suc n) more le =
     let s = split_is (suc n) more in
@@ -175,7 +175,7 @@ under_leaf h path m n leaf root few e =
 
 -- ---- for the code
 
-front_count : (all front : List (List ℕ)) → 2 ≤ length all → front ≡ take (split_of (length all)) all → length front ≡ split_of (length all)
+pub front_count : (all front : List (List ℕ)) → 2 ≤ length all → front ≡ take (split_of (length all)) all → length front ≡ split_of (length all)
 front_count all front more is_front =
     let s = split_is (length all) more in
     let l = length-take (split_of (length all)) all in

@@ -39,6 +39,10 @@ sides_of m n = sides_within n m n
 abbrev pub Step : Type 0
 Step = Side × List ℕ
 
+-- the path of place m of these leaves, and on which side each of its hashes stands
+abbrev pub audit_steps : (List ℕ → List ℕ) → ℕ → List (List ℕ) → List Step
+audit_steps h m leaves = zip (sides_of m (length leaves)) (audit_path h m leaves)
+
 -- the bytes of a node of which one half has this hash
 abbrev pub node_of : Step → List ℕ → List ℕ
 node_of (other.Right, p) hash = 1 ∷ hash ++ p

@@ -13,5 +13,5 @@ pub use laws::{
     audit_path_law, leaves_under_one_root_are_one, paths_lead_to_the_root,
     steps_lead_from_a_leaf_of_the_tree,
 };
-pub use path::{audit_path, root_over, root_under};
+pub use path::{audit_path, audit_steps, root_over, root_under};
 pub use side::Side;

@@ -3,7 +3,7 @@
 ghost use Rattle.std.specs.Prelude.{◌≡◌, ◌≢◌, ◌≤◌, ◌<◌, ◌^◌, [], ◌∷◌, ◌++◌, length, take, drop, IfOk};
 ghost use Rattle.std.specs.Option.{MatchOption, option_map};
 ghost use Rattle.base_merkle.specs.TreeHash.{split_of};
-ghost use Rattle.audit_paths.specs.Path.{audit_path, node_of, root_over, root_under};
+ghost use Rattle.audit_paths.specs.Path.{audit_path, audit_steps, node_of, root_over, root_under};
 
 use crate::half::half_of;
 use crate::nodes::{leaf_hash, node_hash};
@@ -36,6 +36,31 @@ pub fn audit_path<H: Hash32>(
         let mut path = audit_path(alloc, h, place - front.len(), back)?;
         path.push(tree_root(h, front))?;
         Ok(path)
+    }
+}
+
+/// The audit path of a place in some leaves, and on which side each of its hashes stands.
+pub fn audit_steps<H: Hash32>(
+    alloc: Global,
+    h: H,
+    place: usize,
+    leaves: &[Blob],
+) -> Result<Items<(Side, [u8; 32])>, Memory>
+    requires { length leaves.now < 2 ^ 63 }
+    ensures { IfOk result (λ steps. steps ≡ audit_steps (H.digest h) place leaves.now) }
+{
+    if leaves.len() < 2 {
+        return Ok(Items::new(alloc));
+    }
+    let (front, back) = halves(leaves);
+    if place < front.len() {
+        let mut steps = audit_steps(alloc, h, place, front)?;
+        steps.push((Side::Right, tree_root(h, back)))?;
+        Ok(steps)
+    } else {
+        let mut steps = audit_steps(alloc, h, place - front.len(), back)?;
+        steps.push((Side::Left, tree_root(h, front)))?;
+        Ok(steps)
     }
 }
 

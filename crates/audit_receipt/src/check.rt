@@ -64,8 +64,8 @@ fn is_equal(a: &[u8], b: &[u8]) -> bool
     a == b
 }
 
-// Whether the records lead from a block to that of the digest.
-fn leads_to<H: Hash32>(h: H, from: u64, records: &[BlockRecord], d: &HeldDigest) -> bool
+/// Whether the records lead from a block to that of the digest. It takes no memory.
+pub fn leads_to<H: Hash32>(h: H, from: u64, records: &[BlockRecord], d: &HeldDigest) -> bool
     ensures { result ≡ lead_to (H.digest h) from records.now d.now }
 {
     if !reaches(from, records.len(), d.block) {

@@ -9,9 +9,9 @@ mod receipt_err;
 mod settled;
 mod settling;
 
-pub use check::check_receipt;
+pub use check::{check_receipt, leads_to};
 pub use format_receipt::Receipt;
-pub use make::make_receipt;
+pub use make::{make_receipt, records_from};
 pub use receipt_err::ReceiptErr;
 pub use settled::Settled;
 pub use settling::settle;

@@ -129,7 +129,8 @@ fn path_in<H: Hash32>(
     audit_path(alloc, h, place as usize, &leaves)
 }
 
-fn records_from(
+/// The records of the blocks of an image from one to another.
+pub fn records_from(
     alloc: Global,
     image: &Image,
     from: u64,

@@ -1,2 +1,5 @@
+pub mod Numbered
+pub mod Room
+pub mod RowsSpelled
 pub mod Told
 pub mod Walked

@@ -13,6 +13,7 @@ use Rattle.format_row_receipt.specs.declared.table_receipt.TableReceipt.{TableRe
 use Rattle.audit_receipt.specs.Accepted.{Accepted}
 use Rattle.audit_receipt.specs.Tests.{is_root}
 use Rattle.audit_row_receipt.specs.AcceptedRows.{IsLeafIn, Tells, AcceptedTable, AcceptedRow}
+use Rattle.audit_row_receipt.specs.RowsMade.{IsLeafOf, Numbers}
 
 -- ---- the table that a leaf tells
 
@@ -26,6 +27,15 @@ module _ (tx : ℕ) (leaf : List ℕ) where
 
 pub told_as : (tx : ℕ) (a b : List ℕ) (found is : Option ℕ) → Tells tx a found → a ≡ b → found ≡ is → Tells tx b is
 told_as tx a b found is told same e = subst (λ (x : Option ℕ). Tells tx b x) e (subst (λ (x : List ℕ). Tells tx x found) same told)
+
+-- ---- the number that a leaf tells
+
+pub number_decided : (leaf : List ℕ) (found : Option ℕ) (seq : ℕ) (so : Bool) → Numbers leaf found → Decides so (found ≡ Some seq) → Decides so (IsLeafOf seq leaf)
+number_decided leaf None seq so told d = ((λ e. let never : None ≡ Some seq = d.0 e in absurd cc), λ it. absurd (told seq it))
+number_decided leaf (Some own) seq so told d = (
+  (λ e. let both : Some own ≡ Some seq = d.0 e in let same : own ≡ seq = cc in subst (λ (n : ℕ). IsLeafOf n leaf) same told.0),
+  λ it. d.1 (ap (λ (n : ℕ). Some n) (sym (told.1 seq it))),
+)
 
 -- ---- the root of a table
 

@@ -1,1 +1,2 @@
 pub mod AcceptedRows
+pub mod RowsMade

@@ -27,6 +27,7 @@ use Rattle.audit_verify.specs.Runs as runs
 use Rattle.audit_verify.specs.Runs.{Neighbours}
 use Rattle.audit_verify.proofs.Neighbours.{neighbours, first_is, behind_first}
 use Rattle.audit_verify.proofs.Runs as law
+use Rattle.audit_verify.proofs.Sortings.{all_sorted}
 
 -- ---- orders
 
@@ -297,6 +298,10 @@ ordered_among_sorted columns found r =
     ap₂ (λ m b. is_ordered_after r (option_map (λ (w : VersionWithRanks). w.end) m) b)
     (law.latest_sorted (key_order columns) start_cmp (keys_total columns) starts_total r found)
     (law.any_sorted (key_order columns) start_cmp (keys_total columns) starts_total is_open r found)
+
+-- what is sorted so has its ranks
+pub runs_ranked : (entries : List TxEntry) (columns : List ColumnDef) (versions : List Version) (ranked : List VersionWithRanks) → InRuns entries columns versions ranked → AllByRecursion (IsRanked entries) ranked
+runs_ranked entries columns versions ranked runs = subst (AllByRecursion (IsRanked entries)) (sym runs.order) (all_sorted (ranked_cmp columns) (IsRanked entries) runs.found runs.ranks)
 
 -- what is sorted so rises
 pub runs_rise : (entries : List TxEntry) (columns : List ColumnDef) (versions : List Version) (ranked : List VersionWithRanks) → InRuns entries columns versions ranked → IsSorted (ranked_cmp columns) ranked

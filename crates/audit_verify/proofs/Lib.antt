@@ -1,10 +1,12 @@
 pub mod Bad
+pub mod ColumnRows
 pub mod EntryPlaces
 pub mod EventIds
 pub mod Fitting
 pub mod GroupParts
 pub mod Grouped
 pub mod GroupsMerge
+pub mod Hashed
 pub mod IdsAt
 pub mod InRows
 pub mod LeafOrder

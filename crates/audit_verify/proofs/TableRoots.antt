@@ -1,10 +1,10 @@
 -- The events of a transaction, table by table, fall into groups: one for each table that has some, with its root.
-use Rattle.std.proofs.Common.{◌≡◌, ◌<◌, ◌+◌, ◌==◌, ℕ, Bool, true, false, cond, List, [], ◌∷◌, ◌++◌, length, map, filter, flat_map, drop, drop-drop, get_or, refl, sym, ap, ap₂, ◌∙◌, arith, subst}
+use Rattle.std.proofs.Common.{◌≡◌, ◌<◌, ◌+◌, ◌==◌, ℕ, Bool, true, false, cond, List, [], ◌∷◌, ◌++◌, length, map, filter, flat_map, drop, drop-drop, get_or, refl, sym, ap, ap₂, ◌∙◌, arith}
 use Rattle.std.specs.Prelude.{not}
 use Rattle.std.specs.List.{All, AllByRecursion}
 use Rattle.std.proofs.lemmas.Bool.{eq-eqb, ne_eqb}
 use Rattle.std.proofs.lemmas.List.{map-append, length-drop, get_or-drop}
-use Rattle.std.proofs.lemmas.List.Elements.{All-drop, All-from_recursion, recursion_from_All}
+use Rattle.std.proofs.lemmas.List.Elements.{recursion_from_All}
 use Rattle.sql_types.specs.declared.event.Event.{Event}
 use Rattle.sql_types.specs.declared.version.Table.{Table}
 use Rattle.spec_ledger.specs.Entries.{roots_of, root_in, has_events}
@@ -14,7 +14,7 @@ use Rattle.spec_model.specs.Events.{events_of}
 use Rattle.format_event.specs.Leaf.{event_bytes}
 use Rattle.spec_verify.specs.Entries.{TableRoot}
 use Rattle.audit_verify.specs.declared.marks.Mark.{Mark}
-use Rattle.audit_verify.specs.Marks.{event_of, HasValues, StartsOther}
+use Rattle.audit_verify.specs.Marks.{event_of, StartsOther}
 use Rattle.audit_verify.specs.Roots.{same_first, joined, grouped, group_root, roots_in}
 use Rattle.audit_verify.specs.ImageTable.{IdsRise}
 use Rattle.audit_verify.proofs.Grouped.{append_all, map_all, all_in}
@@ -92,15 +92,7 @@ drop_front : {A : Type 0} (xs ys : List A) → drop (length xs) (xs ++ ys) ≡ y
 drop_front [] ys = refl
 drop_front (x ∷ xs) ys = drop_front xs ys
 
-all_front : {A : Type 0} (P : A → Type 0) (xs zs : List A) → AllByRecursion P (xs ++ zs) → AllByRecursion P xs
-all_front P [] zs all = tt
-all_front P (x ∷ xs) zs all = (all.0, all_front P xs zs all.1)
-
 module _ (marks rest own others : List Mark) (at : ℕ) (rest_is : rest ≡ drop at marks) (parts : rest ≡ own ++ others) where
-  pub group_values : All HasValues marks → All HasValues own
-  group_values all = All-from_recursion HasValues own (all_front HasValues own others (recursion_from_All HasValues (own ++ others)
-      (subst (All HasValues) (sym rest_is ∙ parts) (All-drop HasValues at marks all))))
-
   others_are : others ≡ drop (at + length own) marks
   others_are = sym (drop_front own others) ∙ ap (drop (length own)) (sym parts ∙ rest_is) ∙ drop-drop (length own) at marks
 

@@ -1,5 +1,5 @@
--- The least version that its table may not have: of those that don't fit by themselves, and of those that don't stand in
--- order.
+-- The least version that its table may not have: of those that don't fit by themselves, of those in which NULL stands
+-- where it may not, and of those that don't stand in order.
 use Rattle.std.proofs.Common.{◌≡◌, ◌<◌, ◌+◌, refl, sym, ap, ap₂, subst, ◌∙◌, ℕ, Bool, true, false, cond, List, [], ◌∷◌, ◌++◌, length, map, filter, drop, get_or, Option}
 use Rattle.std.proofs.lemmas.Cmp.{ranked}
 use Rattle.std.proofs.lemmas.List.{map-append}
@@ -20,11 +20,11 @@ use Rattle.law_catalog_rows.specs.Least.{lesser, least_from}
 use Rattle.spec_verify.proofs.ToldEntries.{table_event_total}
 use Rattle.spec_verify.specs.Entries.{TableEvent, table_event_cmp}
 use Rattle.spec_verify.specs.Order.{shares_key, is_in_order}
-use Rattle.spec_verify.specs.Versions.{has_columns, with_columns, version_holds, bad_versions}
+use Rattle.spec_verify.specs.Versions.{has_columns, respects_columns, with_columns, version_holds, bad_versions}
 use Rattle.audit_verify.specs.declared.order.EarlierVersions.{EarlierVersions}
 use Rattle.audit_verify.specs.declared.order.VersionWithRanks.{VersionWithRanks}
 use Rattle.audit_verify.specs.Order.{IsRanked, InRuns, KnowsEarlier, version_of, ranked_cmp, is_ordered_after, is_ordered_among, out_of_order}
-use Rattle.audit_verify.specs.Versions.{fits_alone, unfit_among}
+use Rattle.audit_verify.specs.Versions.{fits_alone, null_among, unfit_among}
 use Rattle.audit_verify.proofs.InRuns.{ordered_among_is, ordered_among_sorted}
 use Rattle.audit_verify.proofs.LeastParts.{in_parts, when_sorted}
 use Rattle.audit_verify.proofs.Neighbours.{from_here}
@@ -56,13 +56,14 @@ filter_twice {A} p q (x ∷ xs) = here (p x) (filter_twice p q xs)
     here true more = ap (λ l. cond (q x) (x ∷ l) l) more
     here false more = more
 
-two_tests : (h k a s o : Bool) → not ((((h && k) && a) && s) && o) ≡ (not ((h && k) && a) || (h && not (s && o)))
-two_tests true true true s o = refl
-two_tests true true false s o = refl
-two_tests true false a s o = refl
-two_tests false k a s o = refl
+three_tests : (h k a s o : Bool) → not ((((h && k) && a) && s) && o) ≡ ((not (h && a) || (h && not k)) || (h && not (s && o)))
+three_tests true true true s o = refl
+three_tests true true false s o = refl
+three_tests true false true s o = refl
+three_tests true false false s o = refl
+three_tests false k a s o = refl
 
-module _ (entries : List TxEntry) (def : TableDef) (rows : TableRows) where
+module _ (entries : List TxEntry) (second : List Version) (def : TableDef) (rows : TableRows) where
   abbrev all : List Version
   all = rows.base ++ rows.history
 
@@ -75,14 +76,20 @@ module _ (entries : List TxEntry) (def : TableDef) (rows : TableRows) where
   abbrev unfit : Version → Bool
   unfit v = not (fits_alone def v)
 
+  abbrev has_all : Version → Bool
+  has_all v = has_columns def.columns v.values
+
+  abbrev has_null : Version → Bool
+  has_null v = not (respects_columns entries second def v)
+
   abbrev disordered : Version → Bool
   disordered v = not (not (shares_key entries def.columns fitting v) && is_in_order entries def.columns fitting v)
 
   abbrev least : Option TableEvent → List TableEvent → Option TableEvent
   least = least_from table_event_cmp
 
-  holds_parts : (v : Version) → not (version_holds entries (table_in def rows) v) ≡ (unfit v || (has_columns def.columns v.values && disordered v))
-  holds_parts v = two_tests (has_columns def.columns v.values) _ _ _ _
+  holds_parts : (v : Version) → not (version_holds entries second (table_in def rows) v) ≡ ((unfit v || (has_all v && has_null v)) || (has_all v && disordered v))
+  holds_parts v = three_tests (has_columns def.columns v.values) _ _ _ _
 
   alone : (best : Option TableEvent) → least best (map start (filter unfit all)) ≡ least (least best (unfit_among def rows.base)) (unfit_among def rows.history)
   alone best =
@@ -110,18 +117,41 @@ module _ (entries : List TxEntry) (def : TableDef) (rows : TableRows) where
       ap (λ (p : VersionWithRanks → Bool). least best (map began (filter p (sorted (ranked_cmp def.columns) found)))) (λ i r. not (ordered_among_sorted def.columns found r i))
       ∙ when_sorted table_event_cmp table_event_total same_event began (ranked_cmp def.columns) (λ r. not (is_ordered_among def.columns found r)) best found
 
-  -- first those that don't fit by themselves, in the base and in the history, then those out of order
-  pub worst_of_table : (ranked : List VersionWithRanks) (best in_base in_both : Option TableEvent) → in_base ≡ least best (unfit_among def rows.base) → in_both ≡ least in_base (unfit_among def rows.history)
-      → InRuns entries def.columns fitting ranked → least in_both (out_of_order def.id def.columns ranked ranked) ≡ least best (bad_versions entries (table_in def rows))
-  worst_of_table ranked best in_base in_both base_is both_is runs =
-      let q = λ (v : Version). has_columns def.columns v.values && disordered v in
-      ap (λ l. least in_both (out_of_order def.id def.columns l l)) runs.order
-      ∙ in_order runs.found in_both
-      ∙ ap (least in_both) (sym (by_ranks runs.found runs.ranks runs.versions_are runs.found runs.ranks) ∙ ap (λ l. map start (filter disordered l)) runs.versions_are
-      ∙ ap (map start) (sym (filter_twice (λ (v : Version). has_columns def.columns v.values) disordered all)))
-      ∙ ap (λ b. least b (map start (filter q all))) (both_is ∙ ap (λ b. least b (unfit_among def rows.history)) base_is ∙ sym (alone best))
-      ∙ sym (ap (λ (p : Version → Bool). least best (map start (filter p all))) (λ i v. holds_parts v i)
-      ∙ in_parts table_event_cmp table_event_total same_event start unfit q best all)
+  null_by : (xs : List VersionWithRanks) → map start (filter has_null (map version_of xs)) ≡ null_among entries second def xs
+  null_by [] = refl
+  null_by (x ∷ xs) = here (has_null (version_of x)) (null_by xs)
+    where
+      here : (b : Bool) → map start (filter has_null (map version_of xs)) ≡ null_among entries second def xs
+          → map start (cond b (version_of x ∷ filter has_null (map version_of xs)) (filter has_null (map version_of xs)))
+          ≡ map (λ (r : VersionWithRanks). (def.id, r.version.now.start)) (cond b (x ∷ filter (λ r. has_null (version_of r)) xs) (filter (λ r. has_null (version_of r)) xs))
+      here true more = ap (λ l. start (version_of x) ∷ l) more
+      here false more = more
+
+  -- of those that have the columns
+  null_of : (found : List VersionWithRanks) (best : Option TableEvent) → map version_of found ≡ fitting
+      → least best (null_among entries second def (sorted (ranked_cmp def.columns) found)) ≡ least best (map start (filter (λ v. has_all v && has_null v) all))
+  null_of found best are =
+      when_sorted table_event_cmp table_event_total same_event (λ (r : VersionWithRanks). (def.id, r.version.now.start)) (ranked_cmp def.columns) (λ r. has_null (version_of r)) best found
+      ∙ ap (least best) (sym (null_by found) ∙ ap (λ l. map start (filter has_null l)) are ∙ ap (map start) (sym (filter_twice has_all has_null all)))
+
+  -- first those that don't fit by themselves, in the base and in the history, then those with NULL where it may not
+  -- be, then those out of order
+  pub worst_of_table : (ranked : List VersionWithRanks) (best in_base in_both with_null : Option TableEvent) → in_base ≡ least best (unfit_among def rows.base) → in_both ≡ least in_base (unfit_among def rows.history)
+      → with_null ≡ least in_both (null_among entries second def ranked)
+      → InRuns entries def.columns fitting ranked → least with_null (out_of_order def.id def.columns ranked ranked) ≡ least best (bad_versions entries second (table_in def rows))
+  worst_of_table ranked best in_base in_both with_null base_is both_is null_is runs =
+      let p = λ (v : Version). has_all v && has_null v in
+      let q = λ (v : Version). has_all v && disordered v in
+      ap (λ l. least with_null (out_of_order def.id def.columns l l)) runs.order
+      ∙ in_order runs.found with_null
+      ∙ ap (least with_null) (sym (by_ranks runs.found runs.ranks runs.versions_are runs.found runs.ranks) ∙ ap (λ l. map start (filter disordered l)) runs.versions_are
+      ∙ ap (map start) (sym (filter_twice has_all disordered all)))
+      ∙ ap (λ b. least b (map start (filter q all)))
+      (null_is ∙ ap (λ l. least in_both (null_among entries second def l)) runs.order ∙ null_of runs.found in_both runs.versions_are
+      ∙ ap (λ b. least b (map start (filter p all))) (both_is ∙ ap (λ b. least b (unfit_among def rows.history)) base_is ∙ sym (alone best)))
+      ∙ sym (ap (λ (t : Version → Bool). least best (map start (filter t all))) (λ i v. holds_parts v i)
+      ∙ in_parts table_event_cmp table_event_total same_event start (λ v. unfit v || p v) q best all
+      ∙ ap (λ b. least b (map start (filter q all))) (in_parts table_event_cmp table_event_total same_event start unfit p best all))
 
 -- ---- one by one
 

@@ -8,6 +8,7 @@ use Rattle.sql_types.specs.declared.entry.TxEntry.{TxEntry}
 use Rattle.sql_types.specs.declared.event.Event.{Event}
 use Rattle.sql_types.specs.declared.image.Image.{Image}
 use Rattle.sql_types.specs.declared.version.Table.{Table}
+use Rattle.sql_types.specs.declared.version.Version.{Version}
 use Rattle.spec_model.specs.Catalog.{Tables}
 use Rattle.spec_model.specs.Events.{all_events}
 use Rattle.base_merkle.specs.TreeHash.{tree_hash}
@@ -18,7 +19,7 @@ use Rattle.spec_verify.specs.declared.place.Place.{Place}
 use Rattle.spec_verify.specs.declared.place.Place.TheVariants as at
 use Rattle.spec_verify.specs.Entries.{TableEvent, TableRoot, are_numbered, event_place, least_event, root_at, same_root, table_event_cmp}
 use Rattle.spec_verify.specs.Indexes.{first_table}
-use Rattle.spec_verify.specs.Versions.{bad_versions}
+use Rattle.spec_verify.specs.Versions.{bad_versions, rows_of_columns}
 use Rattle.spec_verify.specs.Groups.{Found, first_found, found_cmp}
 use Rattle.audit_verify.specs.declared.groups.Fault.{Fault}
 use Rattle.audit_verify.specs.declared.groups.Fault.TheVariants.{Numbers, Root}
@@ -28,9 +29,9 @@ use Rattle.audit_verify.specs.declared.groups.GroupFaults.{GroupFaults}
 abbrev pub group_of : ℕ → ℕ → Image → Tables
 group_of from count i = take count (drop from (tables_in i))
 
--- the least version of these tables that its table may not have
-abbrev pub version_in : List TxEntry → Tables → Option Place
-version_in entries tables = least_event (flat_map (bad_versions entries) tables)
+-- the least version of these tables that its table may not have, by the rows of the table of columns
+abbrev pub version_in : List TxEntry → List Version → Tables → Option Place
+version_in entries second tables = least_event (flat_map (bad_versions entries second) tables)
 
 -- the first index of those tables whose rows aren't those of the base
 abbrev pub index_in : ℕ → ℕ → Image → Option Place
@@ -75,7 +76,7 @@ module _ (h : List ℕ → List ℕ) where
   -- what a group finds in so many tables of an image, from the one at this place on
   pub record AreFaults (from count : ℕ) (i : Image) (f : GroupFaults) : Type 0 where
     pub root : f.root ≡ wrong_root (group_of from count i) i.entries
-    pub version : f.version ≡ version_in i.entries (group_of from count i)
+    pub version : f.version ≡ version_in i.entries (rows_of_columns i.tables) (group_of from count i)
     pub index : f.index ≡ if_none f.version (index_in from count i)
 
 -- ---- what is left

@@ -1,3 +1,4 @@
+pub mod ColumnRows
 pub mod Entries
 pub mod EventIds
 pub mod Groups

@@ -6,6 +6,7 @@ use Rattle.std.specs.Ordering.{nat_cmp, ordering_then}
 use Rattle.sql_types.specs.declared.event.Event.{Event}
 use Rattle.sql_types.specs.declared.version.Table.{Table}
 use Rattle.sql_types.specs.declared.version.Version.{Version}
+use Rattle.format_event.specs.Leaf.{event_bytes}
 use Rattle.format_image.specs.RowBytes.{AreValues}
 use Rattle.spec_model.specs.Catalog.{Tables}
 use Rattle.spec_model.specs.Events.{fields_of, version_events}
@@ -31,6 +32,10 @@ tx_of m = m.event.0
 
 abbrev pub number_of : Mark → ℕ
 number_of m = m.event.1
+
+-- the hash of its leaf
+abbrev pub leaf_hash : (List ℕ → List ℕ) → Mark → List ℕ
+leaf_hash h m = h (0 ∷ event_bytes (event_of m))
 
 -- the values of a version have a spelling
 abbrev pub HasEncodableValues : Version → Type 0

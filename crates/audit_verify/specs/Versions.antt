@@ -1,19 +1,25 @@
--- Versions that don't fit their table by themselves.
+-- Versions that don't fit their table.
 use Rattle.std.specs.Prelude.{◌&&◌, not, Bool, List, map, is_some}
 use Rattle.std.specs.List.{filter}
+use Rattle.sql_types.specs.declared.entry.TxEntry.{TxEntry}
 use Rattle.sql_types.specs.declared.table.TableDef.{TableDef}
 use Rattle.sql_types.specs.declared.version.Version.{Version}
 use Rattle.spec_model.specs.Checks.{is_append_only}
 use Rattle.spec_verify.specs.Entries.{TableEvent}
-use Rattle.spec_verify.specs.Versions.{has_columns, respects_not_null}
+use Rattle.spec_verify.specs.Versions.{has_columns, respects_columns}
+use Rattle.audit_verify.specs.declared.order.VersionWithRanks.{VersionWithRanks}
 
--- its values are those of the table's columns, and it has no end where the table is append-only
+-- by itself: its values are those of the table's columns, and it has no end where the table is append-only
 abbrev pub fits_alone : TableDef → Version → Bool
-fits_alone def v =
-    has_columns def.columns v.values && respects_not_null def.columns v.values
-    && not (is_append_only def.kind && is_some v.end)
+fits_alone def v = has_columns def.columns v.values && not (is_append_only def.kind && is_some v.end)
 
 -- the starts of those of these versions that don't
 abbrev pub unfit_among : TableDef → List Version → List TableEvent
 unfit_among def versions =
     map (λ (v : Version). (def.id, v.start)) (filter (λ v. not (fits_alone def v)) versions)
+
+-- the starts of those of these versions in which NULL stands where it may not
+abbrev pub null_among : List TxEntry → List Version → TableDef → List VersionWithRanks → List TableEvent
+null_among entries second def ranked =
+    map (λ (r : VersionWithRanks). (def.id, r.version.now.start))
+    (filter (λ (r : VersionWithRanks). not (respects_columns entries second def r.version.now)) ranked)

@@ -1,19 +1,17 @@
 //! The digests, the chain of the blocks, and the roots of their entries.
 
-ghost use Rattle.std.specs.Prelude.{◌≡◌, ◌<◌, ◌≤◌, ◌+◌, ◌^◌, ◌∷◌, true, length, drop, map, IfOk};
-ghost use Rattle.std.specs.List.{AllByRecursion};
-ghost use Rattle.format_entry.specs.Entry.{IsEntry, entry_bytes};
+ghost use Rattle.std.specs.Prelude.{◌≡◌, ◌<◌, ◌≤◌, ◌+◌, ◌∷◌, true, length, drop, IfOk};
 ghost use Rattle.format_image.specs.ImageBytes.{IsImage};
-ghost use Rattle.base_merkle.specs.TreeHash.{tree_hash};
 ghost use Rattle.spec_ledger.specs.Blocks.{no_hash};
 ghost use Rattle.spec_verify.specs.Blocks as spec;
 
-use base_merkle::{Frontier, Hash32};
+use base_merkle::Hash32;
 use base_types::Memory;
-use format_entry::{block_hash, write_entry};
+use format_entry::block_hash;
 use format_image::Image;
+use format_roots::entries_root;
 use spec_verify::Place;
-use sql_types::{BlockRecord, HeldDigest, MAX_BLOCK, TxEntry};
+use sql_types::{BlockRecord, HeldDigest, MAX_BLOCK};
 use std::alloc::Global;
 
 /// The first digest that isn't of a block of the image.
@@ -68,7 +66,7 @@ fn no_hash() -> [u8; 32]
 }
 
 /// The first block that hasn't the size or the root of its entries.
-/// The entries are hashed in order, each once.
+/// The entries are hashed in order, each once; those of one block, and its nodes of one level, four at a time.
 #[tactic(auto, unfolding(spec_verify::specs::Blocks::block_fault))]
 pub fn block_fault<H: Hash32>(
     alloc: Global,
@@ -79,11 +77,10 @@ pub fn block_fault<H: Hash32>(
     ensures { IfOk result (λ place. place ≡ spec.block_fault (H.digest hasher) image.now) }
 {
     let blocks = image.blocks.as_slice();
-    let mut leaf = Vec::new(alloc);
     let mut before = 0;
     for b in 0..blocks.len() {
         let block = block_at(blocks, b);
-        if !block_holds(hasher, image, b, before, block, &mut leaf)? {
+        if !block_holds(alloc, hasher, image, b, before, block)? {
             return Ok(Some(Place::Block(b as u64)));
         }
         before += block.size as usize;
@@ -91,14 +88,14 @@ pub fn block_fault<H: Hash32>(
     Ok(None)
 }
 
-// The entries before the block are so many. The buffer has the last leaf then, whatever it had before.
+// The entries before the block are so many.
 fn block_holds<H: Hash32>(
+    alloc: Global,
     hasher: H,
     image: &Image,
     b: usize,
     before: usize,
     block: &BlockRecord,
-    leaf: &mut Vec<u8>,
 ) -> Result<bool, Memory>
     requires image { IsImage image.now }
     requires block { drop b image.now.blocks ≡ block.now ∷ drop (b + 1) image.now.blocks }
@@ -116,24 +113,6 @@ fn block_holds<H: Hash32>(
     if entries.len() - before < size {
         return Ok(false);
     }
-    let root = root_of(hasher, &entries[before..before + size], leaf)?;
+    let root = entries_root(alloc, hasher, &entries[before..before + size])?;
     Ok(block.root == root)
-}
-
-fn root_of<H: Hash32>(
-    hasher: H,
-    entries: &[TxEntry],
-    leaf: &mut Vec<u8>,
-) -> Result<[u8; 32], Memory>
-    requires fit { AllByRecursion IsEntry entries.now }
-    requires few { length entries.now < 2 ^ 62 }
-    ensures { IfOk result (λ root. root ≡ tree_hash (H.digest hasher) (map entry_bytes entries.now)) }
-{
-    let mut tree = Frontier::new(hasher);
-    for entry in entries {
-        leaf.clear();
-        write_entry(entry, leaf)?;
-        tree.push_leaf(leaf);
-    }
-    Ok(tree.root())
 }

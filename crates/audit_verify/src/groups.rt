@@ -12,17 +12,19 @@ ghost use Rattle.spec_model.specs.Catalog.{Tables};
 ghost use Rattle.law_catalog_rows.specs.Least.{least, lesser_of};
 ghost use Rattle.spec_verify.specs.Entries.{id_fault, root_at, root_fault, same_root};
 ghost use Rattle.spec_verify.specs.Groups.{found_cmp};
+ghost use Rattle.spec_verify.specs.Versions.{rows_of_columns};
 ghost use Rattle.audit_verify.specs.Groups as spec;
 ghost use Rattle.audit_verify.specs.WrongRoots as told;
 ghost use Rattle.audit_verify.specs.Indexes.{HasFewIndexes, first_among};
-ghost use Rattle.audit_verify.specs.Marks.{HaveEncodableValues, HasValues, tx_of};
+ghost use Rattle.audit_verify.specs.Marks.{HaveEncodableValues, leaf_hash, tx_of};
 ghost use Rattle.audit_verify.specs.Order.{AreStarted};
 ghost use Rattle.audit_verify.specs.ImageTable.{IdsRise, table_of};
 
+use crate::column_rows::ColumnRows;
+use crate::hashes::leaf_hashes;
 use crate::indexes::fault_among;
 use crate::least::event_place;
 use crate::marks::{Mark, run_of, sorted_marks};
-use crate::positions::Positions;
 use crate::roots::{ScratchSpace, TableRoot, least_among, lesser, put_roots, root_at, same_root};
 use crate::shown::{ImageTable, shown_tables};
 use crate::versions::least_invalid_version;
@@ -70,7 +72,8 @@ pub fn group_faults<H: Hash32>(
     ensures root { IfOk result (λ faults. faults.root
         ≡ spec.wrong_root (H.digest hasher) (spec.group_of from count image.now) image.now.entries) }
     ensures version { IfOk result (λ faults. faults.version
-        ≡ spec.version_in image.now.entries (spec.group_of from count image.now)) }
+        ≡ spec.version_in image.now.entries (rows_of_columns image.now.tables)
+        (spec.group_of from count image.now)) }
     ensures index { IfOk result (λ faults. faults.index
         ≡ spec.if_none faults.version (spec.index_in from count image.now)) }
 {
@@ -79,7 +82,7 @@ pub fn group_faults<H: Hash32>(
     let group = group_of(&tables, from, count);
     let entries = image.entries.as_slice();
     let root = root_in_group(alloc, hasher, entries, group)?;
-    let version = version_in_group(alloc, entries, group)?;
+    let version = version_in_group(alloc, image, group)?;
     let index = index_in_group(alloc, version, group)?;
     Ok(GroupFaults {
         root,
@@ -110,19 +113,22 @@ fn root_in_group<H: Hash32>(
         ≡ spec.wrong_root (H.digest hasher) (map table_of tables.now) entries.now) }
 {
     let marks = sorted_marks(alloc, tables)?;
-    wrong_root(alloc, hasher, entries, tables, marks.as_slice())
+    let hashes = leaf_hashes(alloc, hasher, &marks)?;
+    wrong_root(alloc, hasher, entries, tables, &marks, &hashes)
 }
 
+/// The least version of these tables that its table may not have, by all rows of the table of columns.
 fn version_in_group(
     alloc: Global,
-    entries: &[TxEntry],
+    image: &Image,
     tables: &[ImageTable],
 ) -> Result<Option<Place>, Memory>
-    requires { All (AreStarted entries.now) tables.now }
-    ensures { IfOk result (λ place. place ≡ spec.version_in entries.now (map table_of tables.now)) }
+    requires { All (AreStarted image.now.entries) tables.now }
+    ensures { IfOk result (λ place. place ≡ spec.version_in image.now.entries
+        (rows_of_columns image.now.tables) (map table_of tables.now)) }
 {
-    let positions = Positions::of(alloc, entries)?;
-    let worst = least_invalid_version(alloc, &positions, tables)?;
+    let columns = ColumnRows::of(alloc, image)?;
+    let worst = least_invalid_version(alloc, &columns, tables)?;
     Ok(event_place(worst))
 }
 
@@ -149,15 +155,16 @@ pub fn wrong_root<H: Hash32>(
     entries: &[TxEntry],
     tables: &[ImageTable],
     marks: &[Mark],
+    hashes: &[[u8; 32]],
 ) -> Result<Option<(u64, TableId)>, Memory>
     requires rise { IsNonDecreasingBy tx_of marks.now }
-    requires values { All HasValues marks.now }
+    requires hashes { hashes.now ≡ map (leaf_hash (H.digest hasher)) marks.now }
     ensures { IfOk result (λ found. found
         ≡ told.wrong_told (H.digest hasher) (map table_of tables.now) marks.now entries.now) }
 {
     let mut work = ScratchSpace::new(alloc);
     for (k, entry) in entries.iter().enumerate() {
-        if let Some(table) = wrong_table(hasher, entry, tables, marks, &mut work)? {
+        if let Some(table) = wrong_table(alloc, hasher, entry, tables, marks, hashes, &mut work)? {
             return Ok(Some((k as u64, table)));
         }
     }
@@ -165,19 +172,21 @@ pub fn wrong_root<H: Hash32>(
 }
 
 fn wrong_table<H: Hash32>(
+    alloc: Global,
     hasher: H,
     entry: &TxEntry,
     tables: &[ImageTable],
     marks: &[Mark],
+    hashes: &[[u8; 32]],
     work: &mut ScratchSpace,
 ) -> Result<Option<TableId>, Memory>
     requires rise { IsNonDecreasingBy tx_of marks.now }
-    requires values { All HasValues marks.now }
+    requires hashes { hashes.now ≡ map (leaf_hash (H.digest hasher)) marks.now }
     ensures { IfOk result (λ table. table
         ≡ told.wrong_by_marks (H.digest hasher) (map table_of tables.now) marks.now entry.now) }
 {
-    let own = run_of(marks, entry.id);
-    put_roots(hasher, own, &mut work.leaf, &mut work.roots)?;
+    let (own, hashes) = run_of(marks, hashes, entry.id);
+    put_roots(alloc, hasher, own, hashes, &mut work.roots)?;
     Ok(least_wrong(tables, entry.roots.as_slice(), &work.roots))
 }
 

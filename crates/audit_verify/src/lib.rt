@@ -2,10 +2,12 @@
 #![tactic(auto)]
 
 mod blocks;
+mod column_rows;
 mod columns;
 mod entries;
 mod event_ids;
 mod groups;
+mod hashes;
 mod ids;
 mod indexes;
 mod least;

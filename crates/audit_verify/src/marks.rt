@@ -1,6 +1,6 @@
 //! The starts and ends of versions, in the order of their leaves, and the leaves.
 
-ghost use Rattle.std.specs.Prelude.{All, ◌≡◌, ◌==◌, ◌++◌, IfOk, OnOk, map, flat_map};
+ghost use Rattle.std.specs.Prelude.{All, ◌≡◌, ◌≤◌, ◌==◌, ◌+◌, ◌++◌, ℕ, List, IfOk, OnOk, length, map, flat_map, take, drop};
 ghost use Rattle.std.specs.List.{filter};
 ghost use Rattle.std.specs.List.Sorted.{IsNonDecreasingBy};
 ghost use Rattle.format_image.specs.RowBytes.{AreValues};
@@ -8,7 +8,7 @@ ghost use Rattle.spec_model.specs.Events.{version_events};
 ghost use Rattle.spec_model.specs.Lists.{sorted};
 ghost use Rattle.format_event.specs.EventRef as leaves;
 ghost use Rattle.format_event.specs.Leaf.{event_bytes};
-ghost use Rattle.audit_verify.specs.Marks.{event_of, tx_of, number_of, leaf_cmp, events_shown, AreMarks, HaveEncodableValues, HasEncodableValues, HasValues, StartsOther};
+ghost use Rattle.audit_verify.specs.Marks.{event_of, tx_of, number_of, leaf_cmp, leaf_hash, events_shown, AreMarks, HaveEncodableValues, HasEncodableValues, HasValues, StartsOther};
 ghost use Rattle.audit_verify.specs.ImageTable.{table_of};
 
 use crate::shown::ImageTable;
@@ -128,16 +128,31 @@ fn compare_marks(a: &Mark, b: &Mark) -> Ordering
         .then(a.event.1.cmp(&b.event.1))
 }
 
-/// Those of a transaction, which stand together. Takes two ordered searches.
-pub fn run_of<'m, 'a>(marks: &'m [Mark<'a>], tx: TxId) -> &'m [Mark<'a>]
-    requires { IsNonDecreasingBy tx_of marks.now }
-    ensures { result.now ≡ filter (λ m. tx_of m == tx) marks.now }
+/// Those of a transaction, which stand together, and the hashes of their leaves. Takes two ordered searches.
+pub fn run_of<'m, 'h, 'a>(
+    marks: &'m [Mark<'a>],
+    hashes: &'h [[u8; 32]],
+    tx: TxId,
+) -> (&'m [Mark<'a>], &'h [[u8; 32]])
+    requires rise { IsNonDecreasingBy tx_of marks.now }
+    requires alike { length hashes.now ≡ length marks.now }
+    ensures own { result.0.now ≡ filter (λ m. tx_of m == tx) marks.now }
+    ensures hashes { (h : List ℕ → List ℕ) → hashes.now ≡ map (leaf_hash h) marks.now
+        → result.1.now ≡ map (leaf_hash h) result.0.now }
 {
     let from = marks.partition_point(|mark| mark.event.0 < tx);
     let (_, rest) = marks.split_at(from);
     let count = rest.partition_point(|mark| mark.event.0 <= tx);
     let (own, _) = rest.split_at(count);
-    own
+    (own, hashes_at(hashes, from, count))
+}
+
+/// So many of the hashes, from the one at place `from` on.
+pub fn hashes_at(hashes: &[[u8; 32]], from: usize, count: usize) -> &[[u8; 32]]
+    requires { from + count ≤ length hashes.now }
+    ensures { result.now ≡ take count (drop from hashes.now) }
+{
+    &hashes[from..from + count]
 }
 
 /// The first of these as far as they are of the table, and the others.

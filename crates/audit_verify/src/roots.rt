@@ -1,6 +1,6 @@
 //! Whether each entry has the roots of its transaction's events, which are numbered without a gap.
 
-ghost use Rattle.std.specs.Prelude.{All, ◌≡◌, ◌<◌, ◌≤◌, ◌+◌, ◌∷◌, ℕ, List, IfOk, OnOk, length, drop, map, filter, not};
+ghost use Rattle.std.specs.Prelude.{◌≡◌, ◌<◌, ◌≤◌, ◌+◌, ◌∷◌, ℕ, List, IfOk, OnOk, length, drop, map, filter, not};
 ghost use Rattle.std.specs.List.Sorted.{IsNonDecreasingBy};
 ghost use Rattle.std.specs.Ordering.{nat_cmp};
 ghost use Rattle.format_image.specs.ImageBytes.{IsImage};
@@ -8,16 +8,18 @@ ghost use Rattle.base_merkle.specs.TreeHash.{tree_hash};
 ghost use Rattle.format_event.specs.Leaf.{event_bytes};
 ghost use Rattle.law_catalog_rows.specs.Least.{least, least_from, lesser};
 ghost use Rattle.spec_verify.specs.Entries as spec;
-ghost use Rattle.audit_verify.specs.Marks.{event_of, tx_of, number_of, HasValues};
+ghost use Rattle.audit_verify.specs.Marks.{event_of, tx_of, number_of, leaf_hash};
 ghost use Rattle.audit_verify.specs.Roots.{fault_of, first_fault, roots_in, run_in};
 ghost use Rattle.audit_verify.specs.ImageTable.{AreImageTables};
 
-use crate::marks::{Mark, first_group, put_leaf, run_of, sorted_marks};
+use crate::hashes::leaf_hashes;
+use crate::marks::{Mark, first_group, hashes_at, run_of, sorted_marks};
 use crate::numbers::are_numbered;
 use crate::shown::ImageTable;
-use base_merkle::{Frontier, Hash32};
+use base_merkle::Hash32;
 use base_types::{Memory, TableId};
 use format_image::Image;
+use format_roots::root_over_hashes;
 use spec_verify::Place;
 use sql_types::TxEntry;
 use std::alloc::Global;
@@ -26,7 +28,7 @@ use std::alloc::Global;
 pub type TableRoot = (TableId, [u8; 32]);
 
 /// The first entry whose events aren't numbered without a gap, or that has other roots than theirs.
-/// The starts and ends of all versions are sorted once, and each leaf is hashed once.
+/// The starts and ends of all versions are sorted once, and each leaf is hashed once, four at a time.
 pub fn root_fault<H: Hash32>(
     alloc: Global,
     hasher: H,
@@ -38,7 +40,8 @@ pub fn root_fault<H: Hash32>(
     ensures { IfOk result (λ place. place ≡ spec.root_fault (H.digest hasher) image.now) }
 {
     let marks = sorted_marks(alloc, tables)?;
-    first_fault(alloc, hasher, image.entries.as_slice(), marks.as_slice())
+    let hashes = leaf_hashes(alloc, hasher, &marks)?;
+    first_fault(alloc, hasher, image.entries.as_slice(), &marks, &hashes)
 }
 
 fn first_fault<H: Hash32>(
@@ -46,14 +49,15 @@ fn first_fault<H: Hash32>(
     hasher: H,
     entries: &[TxEntry],
     marks: &[Mark],
+    hashes: &[[u8; 32]],
 ) -> Result<Option<Place>, Memory>
     requires rise { IsNonDecreasingBy tx_of marks.now }
-    requires values { All HasValues marks.now }
+    requires hashes { hashes.now ≡ map (leaf_hash (H.digest hasher)) marks.now }
     ensures { IfOk result (λ place. place ≡ first_fault (H.digest hasher) marks.now entries.now) }
 {
     let mut work = ScratchSpace::new(alloc);
     for entry in entries {
-        if let Some(place) = entry_fault(hasher, entry, marks, &mut work)? {
+        if let Some(place) = entry_fault(alloc, hasher, entry, marks, hashes, &mut work)? {
             return Ok(Some(place));
         }
     }
@@ -65,7 +69,6 @@ fn first_fault<H: Hash32>(
 pub struct ScratchSpace {
     pub numbers: Vec<u64>,
     pub roots: Vec<TableRoot>,
-    pub leaf: Vec<u8>,
 }
 
 impl ScratchSpace {
@@ -73,28 +76,29 @@ impl ScratchSpace {
         ScratchSpace {
             numbers: Vec::new(alloc),
             roots: Vec::new(alloc),
-            leaf: Vec::new(alloc),
         }
     }
 }
 
 fn entry_fault<H: Hash32>(
+    alloc: Global,
     hasher: H,
     entry: &TxEntry,
     marks: &[Mark],
+    hashes: &[[u8; 32]],
     work: &mut ScratchSpace,
 ) -> Result<Option<Place>, Memory>
     requires rise { IsNonDecreasingBy tx_of marks.now }
-    requires values { All HasValues marks.now }
+    requires hashes { hashes.now ≡ map (leaf_hash (H.digest hasher)) marks.now }
     ensures { IfOk result (λ place. place
         ≡ fault_of (H.digest hasher) (run_in entry.now.id marks.now) entry.now) }
 {
-    let own = run_of(marks, entry.id);
+    let (own, hashes) = run_of(marks, hashes, entry.id);
     put_numbers(own, &mut work.numbers)?;
     if !are_numbered(&mut work.numbers) {
         return Ok(Some(Place::Numbers { tx: entry.id }));
     }
-    put_roots(hasher, own, &mut work.leaf, &mut work.roots)?;
+    put_roots(alloc, hasher, own, hashes, &mut work.roots)?;
     match least_other(entry.roots.as_slice(), &work.roots) {
         Some(table) => Ok(Some(Place::Root {
             tx: entry.id,
@@ -115,66 +119,65 @@ fn put_numbers(marks: &[Mark], numbers: &mut Vec<u64>) -> Result<(), Memory>
     Ok(())
 }
 
-/// The root over the leaves of each table, in place of those that were there.
-/// The buffer has the last leaf then, whatever it had before.
+/// The root over the leaves of each table, of which the hashes are known, in place of those that were there.
 pub fn put_roots<H: Hash32>(
+    alloc: Global,
     hasher: H,
     marks: &[Mark],
-    leaf: &mut Vec<u8>,
+    hashes: &[[u8; 32]],
     roots: &mut Vec<TableRoot>,
 ) -> Result<(), Memory>
-    requires { All HasValues marks.now }
+    requires { hashes.now ≡ map (leaf_hash (H.digest hasher)) marks.now }
     ensures { OnOk result (roots.new.items ≡ roots_in (H.digest hasher) (map event_of marks.now)) }
 {
     roots.clear();
     let mut at = 0;
     'groups: while at < marks.len() {
-        let (table, own) = group_at(marks, at);
-        let root = root_of(hasher, own, leaf)?;
+        let (table, own, own_hashes) = group_at(marks, hashes, at);
+        let root = group_root(alloc, hasher, own, own_hashes)?;
         roots.push((table, root))?;
         at += own.len();
     }
     Ok(())
 }
 
-/// The table of the mark at this place, and this mark with those behind it as far as they are of that table.
-fn group_at<'m, 'a>(marks: &'m [Mark<'a>], at: usize) -> (TableId, &'m [Mark<'a>])
-    requires { at < length marks.now }
+/// The table of the mark at this place, this mark with those behind it as far as they are of that table, and
+/// their hashes.
+fn group_at<'m, 'h, 'a>(
+    marks: &'m [Mark<'a>],
+    hashes: &'h [[u8; 32]],
+    at: usize,
+) -> (TableId, &'m [Mark<'a>], &'h [[u8; 32]])
+    requires at { at < length marks.now }
+    requires alike { length hashes.now ≡ length marks.now }
     ensures group { (h : List ℕ → List ℕ) → roots_in h (map event_of (drop at marks.now))
         ≡ (result.0, tree_hash h (map event_bytes (map event_of result.1.now)))
         ∷ roots_in h (map event_of (drop (at + length result.1.now) marks.now)) }
     ensures some { 0 < length result.1.now }
     ensures within { at + length result.1.now ≤ length marks.now }
-    ensures values { All HasValues marks.now → All HasValues result.1.now }
+    ensures hashes { (h : List ℕ → List ℕ) → hashes.now ≡ map (leaf_hash h) marks.now
+        → result.2.now ≡ map (leaf_hash h) result.1.now }
 {
     let table = marks[at].table;
     let (_, rest) = marks.split_at(at);
     let (own, _) = first_group(rest, table);
-    (table, own)
+    (table, own, hashes_at(hashes, at, own.len()))
 }
 
-/// The root over the leaves of these starts and ends.
-/// The buffer has the last leaf then, whatever it had before.
-fn root_of<H: Hash32>(hasher: H, marks: &[Mark], leaf: &mut Vec<u8>) -> Result<[u8; 32], Memory>
-    requires { All HasValues marks.now }
+/// The root over the leaves of these starts and ends, of which the hashes are known.
+fn group_root<H: Hash32>(
+    alloc: Global,
+    hasher: H,
+    marks: &[Mark],
+    hashes: &[[u8; 32]],
+) -> Result<[u8; 32], Memory>
+    requires { hashes.now ≡ map (leaf_hash (H.digest hasher)) marks.now }
     ensures { IfOk result (λ root. root
         ≡ tree_hash (H.digest hasher) (map event_bytes (map event_of marks.now))) }
 {
-    // a tree has room for fewer leaves than 2^63
-    if marks.len() > MOST_LEAVES {
-        return Err(Memory);
-    }
-    let mut tree = Frontier::new(hasher);
-    for mark in marks {
-        leaf.clear();
-        put_leaf(mark, leaf)?;
-        tree.push_leaf(leaf);
-    }
-    Ok(tree.root())
+    let root = root_over_hashes(alloc, hasher, hashes)?;
+    Ok(root)
 }
-
-/// More leaves than memory can hold.
-const MOST_LEAVES: usize = 1 << 62;
 
 /// The least table in which two lists have another root, or of which only one has one.
 fn least_other(a: &[TableRoot], b: &[TableRoot]) -> Option<TableId>

@@ -1,19 +1,19 @@
 //! Whether each version fits its table, and those of one key follow one another.
 
 ghost use Rattle.std.specs.Prelude.{◌≡◌, flat_map, IfOk, None};
-ghost use Rattle.std.specs.List.{All};
+ghost use Rattle.std.specs.List.{All, AllByRecursion};
 ghost use Rattle.spec_model.specs.Checks.{is_append_only};
 ghost use Rattle.law_catalog_rows.specs.Least.{least, least_from};
 ghost use Rattle.spec_verify.specs.Entries.{id_fault, table_event_cmp};
 ghost use Rattle.spec_verify.specs.Versions as spec;
-ghost use Rattle.audit_verify.specs.Order.{AreStarted};
+ghost use Rattle.audit_verify.specs.Order.{AreStarted, IsRanked};
 ghost use Rattle.audit_verify.specs.ImageTable.{AreImageTables, table_of};
-ghost use Rattle.audit_verify.specs.Versions.{fits_alone, unfit_among};
+ghost use Rattle.audit_verify.specs.Versions.{fits_alone, null_among, unfit_among};
 
-use crate::columns::{has_columns, respects_not_null};
+use crate::column_rows::ColumnRows;
+use crate::columns::has_columns;
 use crate::least::{TableEvent, event_place, lesser};
-use crate::order::{least_out_of_order, ranked_versions};
-use crate::positions::Positions;
+use crate::order::{VersionWithRanks, least_out_of_order, ranked_versions};
 use crate::shown::ImageTable;
 use base_types::Memory;
 use format_image::Image;
@@ -24,7 +24,8 @@ use sql_value::TableKind;
 use std::alloc::Global;
 
 /// The start of the least version that its table may not have, where each start has its entry. Sorts the ids
-/// of the entries, and the versions of each table by key and start, and goes through them once.
+/// of the entries, the rows of the table of columns by column and start, and the versions of each table by key and
+/// start, and goes through them once, with an ordered search for each value of theirs.
 #[tactic(auto, unfolding(spec_verify::specs::Versions::version_fault))]
 pub fn version_fault(
     alloc: Global,
@@ -35,44 +36,46 @@ pub fn version_fault(
     requires ids { id_fault image.now ≡ None }
     ensures { IfOk result (λ place. place ≡ spec.version_fault image.now) }
 {
-    let positions = Positions::of(alloc, image.entries.as_slice())?;
-    let worst = least_invalid_version(alloc, &positions, tables)?;
+    let columns = ColumnRows::of(alloc, image)?;
+    let worst = least_invalid_version(alloc, &columns, tables)?;
     Ok(event_place(worst))
 }
 
 /// The start of the least version that its table may not have, if there is one.
 pub fn least_invalid_version(
     alloc: Global,
-    positions: &Positions,
+    columns: &ColumnRows,
     tables: &[ImageTable],
 ) -> Result<Option<TableEvent>, Memory>
-    requires { All (AreStarted positions.now) tables.now }
+    requires { All (AreStarted columns.now.0) tables.now }
     ensures { IfOk result (λ worst. worst
-        ≡ least table_event_cmp (flat_map (λ t. spec.bad_versions positions.now (table_of t)) tables.now)) }
+        ≡ least table_event_cmp
+        (flat_map (λ t. spec.bad_versions columns.now.0 columns.now.1 (table_of t)) tables.now)) }
 {
     let mut worst = None;
     for table in tables {
-        worst = worst_in(alloc, positions, table, worst)?;
+        worst = worst_in(alloc, columns, table, worst)?;
     }
     Ok(worst)
 }
 
 fn worst_in(
     alloc: Global,
-    positions: &Positions,
+    columns: &ColumnRows,
     table: &ImageTable,
     worst: Option<TableEvent>,
 ) -> Result<Option<TableEvent>, Memory>
-    requires { AreStarted positions.now table.now }
-    ensures { IfOk result (λ least. least
-        ≡ least_from table_event_cmp worst (spec.bad_versions positions.now (table_of table.now))) }
+    requires { AreStarted columns.now.0 table.now }
+    ensures { IfOk result (λ least. least ≡ least_from table_event_cmp worst
+        (spec.bad_versions columns.now.0 columns.now.1 (table_of table.now))) }
 {
     let rows = table.rows;
     let worst = worst_alone(table.def, rows.base.as_slice(), worst);
     let worst = worst_alone(table.def, rows.history.as_slice(), worst);
     let key = key_places(alloc, table.def.columns.as_slice())?;
     let keyed = KeyedTable::new(table.def, &key);
-    let ranked = ranked_versions(alloc, positions, &keyed, rows)?;
+    let ranked = ranked_versions(alloc, columns.positions(), &keyed, rows)?;
+    let worst = worst_null(columns, table.def, &ranked, worst);
     Ok(least_out_of_order(&keyed, &ranked, worst))
 }
 
@@ -93,14 +96,32 @@ fn worst_alone(
     worst
 }
 
+/// The least start so far, and of those of these versions in which NULL stands where it may not.
+fn worst_null(
+    columns: &ColumnRows,
+    def: &TableDef,
+    ranked: &[VersionWithRanks],
+    worst: Option<TableEvent>,
+) -> Option<TableEvent>
+    requires { AllByRecursion (IsRanked columns.now.0) ranked.now }
+    ensures { result ≡ least_from table_event_cmp worst
+        (null_among columns.now.0 columns.now.1 def.now ranked.now) }
+{
+    let mut worst = worst;
+    for row in ranked {
+        if !columns.respects_columns(def, row.version, row.start) {
+            worst = lesser(worst, (def.id, row.version.start));
+        }
+    }
+    worst
+}
+
 fn fits_alone(def: &TableDef, version: &Version) -> bool
     ensures { result ≡ fits_alone def.now version.now }
 {
     let columns = def.columns.as_slice();
     let values = version.values.as_slice();
-    has_columns(columns, values)
-        && respects_not_null(columns, values)
-        && !(is_append_only(def.kind) && version.end.is_some())
+    has_columns(columns, values) && !(is_append_only(def.kind) && version.end.is_some())
 }
 
 fn is_append_only(kind: TableKind) -> bool

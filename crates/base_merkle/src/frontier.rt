@@ -109,6 +109,15 @@ impl<H: Hash32> Frontier<H> {
             → Holds H.digest h self.new (leaves ++ bytes.now ∷ []) }
     {
         let hash = leaf_hash(self.hasher, bytes);
+        self.push_leaf_hash(hash);
+    }
+
+    /// Adds a leaf behind the others, of which the hash is known: that of a zero byte and the leaf's bytes.
+    pub fn push_leaf_hash(&mut self, hash: [u8; 32])
+        requires { MayAddLeaf H.digest self.old }
+        ensures { (h : H) (leaves : List (List ℕ)) (leaf : List ℕ) → Holds H.digest h self.old leaves
+            → hash ≡ H.digest h (0 ∷ leaf) → Holds H.digest h self.new (leaves ++ leaf ∷ []) }
+    {
         put_on(self.hasher, &mut self.nodes, Node { size: 1, hash });
         self.count += 1;
     }

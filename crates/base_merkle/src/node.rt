@@ -18,11 +18,18 @@ pub fn leaf_hash<H: Hash32>(hasher: H, leaf: &[u8]) -> [u8; 32]
     hasher.hash(&[0], leaf)
 }
 
+// What stands before the right one of two nodes that are hashed: a one byte and the left one.
+pub(crate) fn head_of(left: &[u8; 32]) -> [u8; 33]
+    ensures { result ≡ 1 ∷ left.now }
+{
+    let mut head = [1u8; 33];
+    head[1..].copy_from_slice(left);
+    head
+}
+
 /// The hash of two nodes: a one byte stands before them.
 pub fn node_hash<H: Hash32>(hasher: H, left: &[u8; 32], right: &[u8; 32]) -> [u8; 32]
     ensures { result ≡ H.digest hasher (1 ∷ left.now ++ right.now) }
 {
-    let mut head = [1u8; 33];
-    head[1..].copy_from_slice(left);
-    hasher.hash(&head, right)
+    hasher.hash(&head_of(left), right)
 }

@@ -4,7 +4,6 @@ pub mod CheckLemmas
 pub mod ExtractLemmas
 pub mod FilesLemmas
 pub mod GetLemmas
-pub mod HeldLemmas
 pub mod ReceiptLemmas
 pub mod ReplayLemmas
 pub mod SavedLemmas

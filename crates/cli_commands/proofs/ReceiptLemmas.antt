@@ -1,69 +1,44 @@
 -- The receipt of a transaction: what an accepted image gives, and how a call ends.
 use Rattle.std.proofs.Common.{◌≡◌, ◌≤◌, ◌∙◌, ℕ, List, [], ◌∷◌, Bool, true, cond, bytes_eq, Option, Some, None, Ok, ◌⊎◌, refl, sym, ap, subst, inl, inr}
-use Rattle.std.specs.List.{slice_get}
 use Rattle.std.proofs.lemmas.Slice.Eq.{bytes_eq-Decides}
 use Rattle.base_io.specs.Store.{Bytes, Names}
 use Rattle.sql_types.specs.declared.digest.HeldDigest.{HeldDigest}
-use Rattle.sql_types.specs.declared.entry.TxEntry.{TxEntry}
 use Rattle.sql_types.specs.declared.image.Image.{Image}
 use Rattle.format_digest.specs.Reading.{IsRead}
-use Rattle.format_image.specs.ImageBytes.{IsImage}
-use Rattle.format_receipt.specs.declared.receipt.Receipt.{Receipt as ReceiptOf}
-use Rattle.format_receipt.specs.Receipts.{receipt_bytes}
 use Rattle.spec_verify.specs.declared.place.Verdict.{Verdict}
 use Rattle.spec_verify.specs.declared.place.Verdict.TheVariants.{Yes}
-use Rattle.spec_verify.specs.Blocks.{chain_fault, block_fault}
-use Rattle.spec_verify.specs.Sentences.{DigestHolds}
-use Rattle.spec_verify.specs.Verdict.{image_verdict}
-use Rattle.audit_extract.specs.Each.{last_of}
-use Rattle.audit_receipt.specs.Accepted.{Accepted}
-use Rattle.audit_receipt.specs.Made.{IsMade, receipt_of}
+use Rattle.audit_any_receipt.specs.declared.any.AnyReceipt.{AnyReceipt}
+use Rattle.audit_any_receipt.specs.declared.make.Wanted.{Wanted}
+use Rattle.audit_any_receipt.specs.Kinds.{any_bytes}
+use Rattle.audit_any_receipt.specs.Wanted.{HasNoneUnder, IsReceiptUnder}
 use Rattle.cli_commands.specs.declared.files.File.{File}
 use Rattle.cli_commands.specs.declared.status.Status.{Status}
 use Rattle.cli_commands.specs.declared.status.Status.TheVariants.{Done, No, Words, Limit, SourceFault, SinkFault, VaultFault, Missing, Digests, Journal, Form, Memory, NoEntry, Receipt}
 use Rattle.cli_commands.specs.Answer.{HasPut, HasWritten, EndsBy}
 use Rattle.cli_commands.specs.Extract.{IsTried}
 use Rattle.cli_commands.specs.Files.{TellsLeft, TellsHeld, FirstArePut, put_held}
-use Rattle.cli_commands.specs.Receipt.{IsReceiptUnder, HasNoneUnder, LacksUnder, IsReceiptOn, LacksShown, HasReceipt, ReceiptCause, receipt_name, receipt_file, receipt_text, Receipted, EndsRefusing, SaysNo, ReceiptedOrIdle, PutsReceipt}
+use Rattle.cli_commands.specs.Receipt.{LacksUnder, IsReceiptOn, LacksShown, HasReceipt, ReceiptCause, receipt_name, receipt_file, receipt_text, Receipted, EndsRefusing, SaysNo, ReceiptedOrIdle, PutsReceipt}
 use Rattle.cli_commands.specs.Verify.{HasSaid, IsJudged}
 use Rattle.cli_commands.proofs.ExtractLemmas.{accepts}
-use Rattle.cli_commands.proofs.HeldLemmas.{last_fits}
 use Rattle.cli_commands.proofs.ReplayLemmas.{by_end}
 
 -- ---- what an image gives
 
--- the receipt that an image gives of an entry is accepted with a digest that holds with the image
-abbrev pub AreAccepted : Type 0
-AreAccepted = (h : List ℕ → List ℕ) (i : Image) (d : HeldDigest) (k : ℕ) (e : TxEntry)
-    → IsImage i → chain_fault h i ≡ None → block_fault h i ≡ None → DigestHolds h i d
-    → slice_get i.entries k ≡ Some e → e.block ≤ d.block → Accepted h (receipt_of h i e d.block) d
-
-pub is_under : AreAccepted → (h : List ℕ → List ℕ) (i : Image) (held : List HeldDigest) (tx : ℕ) (d : HeldDigest) (r : ReceiptOf) → IsImage i → image_verdict h i held ≡ Yes
-    → last_of held ≡ Some d → IsMade h i tx d.block r → IsReceiptUnder h i held tx r
-is_under accepted h i held tx d r is yields last made =
-    let f = last_fits h i held d yields last in
-    record {
-      d = d;
-      last = last;
-      made = made;
-      accepted = subst (λ (x : ReceiptOf). Accepted h x d) (sym made.is) (accepted h i d made.place made.entry is f.chain f.blocks f.digest made.there made.within);
-    }
-
--- the same of bytes, and of a file whose digests lie in two slices
-module _ (h : List ℕ → List ℕ) (tx : ℕ) (bytes file : List ℕ) (held slice again : List HeldDigest) (i : Image) (read : IsRead file (Ok held)) (is : slice ≡ held) (also : again ≡ held)
+-- of bytes, and of a file whose digests lie in two slices
+module _ (h : List ℕ → List ℕ) (w : Wanted) (bytes file : List ℕ) (held slice again : List HeldDigest) (i : Image) (read : IsRead file (Ok held)) (is : slice ≡ held) (also : again ≡ held)
     (tried : IsTried h slice bytes (Ok i)) where
-  pub shown_on : (r : ReceiptOf) → IsReceiptUnder h i again tx r → IsReceiptOn h tx bytes file r
+  pub shown_on : (r : AnyReceipt) → IsReceiptUnder h i again w r → IsReceiptOn h w bytes file r
   shown_on r under =
       let t = subst (λ (l : List HeldDigest). IsTried h l bytes (Ok i)) is tried in record {
         image = record { held = held; read = read; i = i; is = (t.0, t.1); accepted = accepts h held bytes i t };
-        under = subst (λ (l : List HeldDigest). IsReceiptUnder h i l tx r) also under;
+        under = subst (λ (l : List HeldDigest). IsReceiptUnder h i l w r) also under;
       }
 
-  pub lacks_on : (status : Status) → LacksUnder status i again tx → LacksShown status h tx bytes file
+  pub lacks_on : (status : Status) → LacksUnder status i again w → LacksShown status h w bytes file
   lacks_on NoEntry lacks =
       let t = subst (λ (l : List HeldDigest). IsTried h l bytes (Ok i)) is tried in record {
         image = record { held = held; read = read; i = i; is = (t.0, t.1); accepted = accepts h held bytes i t };
-        none = subst (λ (l : List HeldDigest). HasNoneUnder i l tx) also lacks;
+        none = subst (λ (l : List HeldDigest). HasNoneUnder i l w) also lacks;
       }
   lacks_on Memory lacks = tt
   lacks_on Done lacks = absurd lacks
@@ -88,20 +63,20 @@ one_tells file (Some old) (Some new) told =
     let same : bytes_eq file.name file.name ≡ true = (bytes_eq-Decides file.name file.name).1 refl in
     told file.name ∙ ap (λ x. cond x (Bytes file.bytes) (old file.name)) same
 
-module _ (h : List ℕ → List ℕ) (image digests : List ℕ) (tx : ℕ) (save : List ℕ) (before old new : Option Names) (has : HasReceipt h image digests tx before) (same : old ≡ before)
+module _ (h : List ℕ → List ℕ) (image digests : List ℕ) (w : Wanted) (save : List ℕ) (before old new : Option Names) (has : HasReceipt h image digests w before) (same : old ≡ before)
     (status : Status) (put : HasPut status (receipt_file save has.r ∷ []) old new) where
-  pub receipted_is : (taken now : Option (List ℕ)) → HasWritten status (receipt_text has.r) taken now → Receipted status h image digests tx save before new taken now
+  pub receipted_is : (taken now : Option (List ℕ)) → HasWritten status (receipt_text has.r) taken now → Receipted status h image digests w save before new taken now
   receipted_is taken now written = record {
     has = has;
     put = subst (λ (o : Option Names). HasPut status (receipt_file save has.r ∷ []) o new) same put;
     written = written;
   }
 
-  pub puts_receipt : status ≡ Done → PutsReceipt h image digests tx save before new
+  pub puts_receipt : status ≡ Done → PutsReceipt h image digests w save before new
   puts_receipt done =
       let all : FirstArePut (receipt_file save has.r ∷ []) 1 old new = subst (λ (s : Status). HasPut s (receipt_file save has.r ∷ []) old new) done put in record {
         has = has;
-        put = subst (λ (o : Option Names). TellsHeld o new (receipt_name save) (receipt_bytes has.r)) same (one_tells (receipt_file save has.r) old new all);
+        put = subst (λ (o : Option Names). TellsHeld o new (receipt_name save has.r) (any_bytes has.r)) same (one_tells (receipt_file save has.r) old new all);
       }
 
 pub made_by : (status : Status) (vault sink receipted said idle : Type 0) → EndsBy status vault sink → receipted → ReceiptedOrIdle status receipted said idle
@@ -129,9 +104,9 @@ module _ (verdict : Verdict) (sink : Type 0) (taken now : Option (List ℕ)) (sa
 
   module _ (status : Status) (ends : EndsRefusing status verdict sink taken now same)
       (h : List ℕ → List ℕ) (image digests : List ℕ) (names : Option Names) (other : verdict ≡ Yes → ⊥) (judged : IsJudged h image digests names verdict) where
-    pub cause_refusing : (tx : ℕ) (vault : Type 0) → ReceiptCause status h image digests tx names vault sink
-    cause_refusing tx vault =
-        by_refusing (λ s. ReceiptCause s h image digests tx names vault sink) (λ said. (verdict, other, judged)) (λ fault said. fault) (λ is. tt) status ends
+    pub cause_refusing : (w : Wanted) (vault : Type 0) → ReceiptCause status h image digests w names vault sink
+    cause_refusing w vault =
+        by_refusing (λ s. ReceiptCause s h image digests w names vault sink) (λ said. (verdict, other, judged)) (λ fault said. fault) (λ is. tt) status ends
 
     pub said_refusing : (receipted : Type 0) (new : Option Names) → new ≡ names
         → ReceiptedOrIdle status receipted (SaysNo status h image digests names new taken now) ((new ≡ names) × same)

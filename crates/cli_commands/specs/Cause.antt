@@ -1,7 +1,7 @@
 -- Why the top call ends with a status, by the command that the words say.
 use Rattle.std.specs.Prelude.{◌≡◌, ◌⊎◌, ℕ, List, Option, Some, None}
 use Rattle.base_io.specs.Store.{Names}
-use Rattle.cli_words.specs.Commands.{Command, Step, Run, Verify, Extract, Replay, Gen, Receipt, Check, Help, Version}
+use Rattle.cli_words.specs.Commands.{Command, Step, Run, Verify, Extract, Replay, Gen, Receipt, Join, Check, Help, Version}
 use Rattle.cli_commands.specs.declared.status.Status.{Status}
 use Rattle.cli_commands.specs.declared.status.Status.TheVariants.{Words, Memory}
 use Rattle.cli_commands.specs.Answer.{InputCause}
@@ -12,6 +12,8 @@ use Rattle.cli_commands.specs.Receipt.{ReceiptCause}
 use Rattle.cli_commands.specs.Replay.{ReplayCause}
 use Rattle.cli_commands.specs.Tell.{TellCause}
 use Rattle.cli_commands.specs.Verify.{VerifyCause}
+use Rattle.cli_commands.specs.Words.{wanted_of}
+use Rattle.audit_any_receipt.specs.declared.make.Wanted.TheVariants as wanted
 
 -- Each command has its causes, by what the input and the vault tell and by whose faults rose in the call.
 -- Words comes exactly where the words say none, unless want of memory comes first: the words are read by
@@ -30,8 +32,10 @@ HasCause status h (Some (Replay journal save)) input names source vault sink =
 HasCause status h (Some (Extract honest suspect digests)) input names source vault sink =
     ExtractCause status h honest suspect digests names vault sink
 HasCause status h (Some (Gen count)) input names source vault sink = TellCause status sink
-HasCause status h (Some (Receipt image digests tx save)) input names source vault sink =
-    ReceiptCause status h image digests tx names vault sink
+HasCause status h (Some (Receipt image digests tx part save)) input names source vault sink =
+    ReceiptCause status h image digests (wanted_of tx part) names vault sink
+HasCause status h (Some (Join image digests save)) input names source vault sink =
+    ReceiptCause status h image digests wanted.Chain names vault sink
 HasCause status h (Some (Check receipt digests)) input names source vault sink =
     CheckCause status h receipt digests names vault sink
 HasCause status h (Some (Help which)) input names source vault sink = TellCause status sink

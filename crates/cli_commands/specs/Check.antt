@@ -1,21 +1,13 @@
 -- What `check` reads, says and answers.
-use Rattle.std.specs.Prelude.{◌≡◌, ◌⊎◌, ◌==◌, ℕ, Bool, true, false, List, [], ◌∷◌, ◌++◌, codes, Option, Some, Ok, Contains}
-use Rattle.std.specs.List.{find, slice_get}
+use Rattle.std.specs.Prelude.{◌≡◌, ℕ, Bool, true, false, List, [], ◌∷◌, ◌++◌, codes, Option, Ok}
 use Rattle.base_io.specs.Outside.{TellsTaken}
 use Rattle.base_io.specs.Store.{Names}
 use Rattle.sql_types.specs.declared.digest.HeldDigest.{HeldDigest}
-use Rattle.sql_types.specs.declared.entry.BlockRecord.{BlockRecord}
-use Rattle.sql_types.specs.declared.entry.TxEntry.{TxEntry}
-use Rattle.sql_types.specs.declared.image.Image.{Image}
 use Rattle.format_digest.specs.Reading.{IsRead}
-use Rattle.format_image.specs.ImageBytes.{image_bytes, IsImage}
-use Rattle.format_receipt.specs.declared.receipt.Receipt.{Receipt}
-use Rattle.format_receipt.specs.Receipts.{receipt_bytes, IsReceipt}
-use Rattle.spec_verify.specs.declared.place.Verdict.TheVariants.{Yes}
-use Rattle.spec_verify.specs.Bytes.{verdict_of}
-use Rattle.audit_extract.specs.Each.{HasCollision}
-use Rattle.audit_receipt.specs.Accepted.{Accepted}
-use Rattle.audit_receipt.specs.Made.{part_at}
+use Rattle.audit_any_receipt.specs.declared.any.AnyReceipt.{AnyReceipt}
+use Rattle.audit_any_receipt.specs.Among.{IsSoAmong}
+use Rattle.audit_any_receipt.specs.Kinds.{Spells, SpellsNone}
+use Rattle.audit_any_receipt.specs.Shows.{EachImageShows}
 use Rattle.cli_commands.specs.declared.status.Status.{Status}
 use Rattle.cli_commands.specs.declared.status.Status.TheVariants as status
 use Rattle.cli_commands.specs.Evidence.{LacksEither, StandUnder}
@@ -28,55 +20,24 @@ use Rattle.cli_commands.specs.Verify.{AreRefused}
 abbrev pub receipt_limit : ℕ
 receipt_limit = 16777216
 
--- the bytes are those of this receipt
-abbrev pub IsSpelled : Receipt → List ℕ → Type 0
-IsSpelled r bytes = IsReceipt r × (bytes ≡ receipt_bytes r)
-
--- the bytes are those of no receipt
-abbrev pub SpellsNone : List ℕ → Type 0
-SpellsNone bytes = (r : Receipt) → IsSpelled r bytes → ⊥
-
 -- why bytes are refused as those of none
 abbrev pub LacksReceiptForm : Status → List ℕ → Type 0
 LacksReceiptForm status.Receipt bytes = SpellsNone bytes
 LacksReceiptForm status.Memory bytes = Unit {0}
 LacksReceiptForm _ bytes = ⊥
 
--- the block of the last of these records, or this one where there is none
-abbrev pub last_block_from : ℕ → List BlockRecord → ℕ
-last_block_from block [] = block
-last_block_from block (r ∷ rs) = last_block_from r.id rs
-
--- the block of the last of some records; a receipt has one at least
-abbrev pub last_block : List BlockRecord → ℕ
-last_block records = last_block_from 0 records
-
--- the first digest of this block
-abbrev pub first_of_block : ℕ → List HeldDigest → Option HeldDigest
-first_of_block block digests = find (λ (d : HeldDigest). d.block == block) digests
-
--- the receipt is accepted with the first digest of its last record's block
-abbrev pub IsAcceptedAmong : (List ℕ → List ℕ) → Receipt → List HeldDigest → Type 0
-IsAcceptedAmong h r held =
-    (d : HeldDigest) × (first_of_block (last_block r.records) held ≡ Some d) × Accepted h r d
-
--- whether it is
-abbrev pub IsSoAmong : (List ℕ → List ℕ) → Receipt → List HeldDigest → Bool → Type 0
-IsSoAmong h r held true = IsAcceptedAmong h r held
-IsSoAmong h r held false = IsAcceptedAmong h r held → ⊥
-
 -- the bytes are those of a receipt, the file has some digests, and this is so of the two
 pub record IsCheckedOn (h : List ℕ → List ℕ) (bytes file : List ℕ) (so : Bool) : Type 0 where
-  pub r : Receipt
-  pub spelled : IsSpelled r bytes
+  pub r : AnyReceipt
+  pub spelled : Spells bytes r
   pub held : List HeldDigest
   pub read : IsRead file (Ok held)
   pub is : IsSoAmong h r held so
 
 -- the bytes are those of a receipt, and the file is refused
 pub record HasNoDigests (ended : Status) (bytes file : List ℕ) : Type 0 where
-  pub r : Receipt
-  pub spelled : IsSpelled r bytes
+  pub r : AnyReceipt
+  pub spelled : Spells bytes r
   pub refused : AreRefused ended file
 
 -- why nothing is said of the two: whether the bytes are a receipt's is looked at first
@@ -138,18 +99,8 @@ pub record Checks (ended : Status) (h : List ℕ → List ℕ) (receipt digests 
 
 -- ---- what Yes shows
 
--- the image that `verify` accepts with digests, of which this is one, has the entry at its place, or two different
--- strings of bytes have one hash
-abbrev pub EachImageHas : (List ℕ → List ℕ) → TxEntry → HeldDigest → Type 0
-EachImageHas h e d =
-    (i : Image) (digests : List HeldDigest) → IsImage i → Contains digests d
-    → verdict_of h digests (image_bytes i) ≡ Yes
-    → (slice_get (part_at i.blocks i.entries e.block) e.ordinal ≡ Some e) ⊎ HasCollision h
-
--- a receipt stands under the name, and a digest of its last block under the other, such that each image that is
--- accepted with the digest has the receipt's entry
-pub record ShowsEntry (h : List ℕ → List ℕ) (receipt digests : List ℕ) (names : Option Names) : Type 0 where
+-- the receipt under the name is accepted with a digest under the other, and no image that `verify` accepts with this
+-- digest contradicts what it shows, or two different strings of bytes have one hash
+pub record ShowsClaim (h : List ℕ → List ℕ) (receipt digests : List ℕ) (names : Option Names) : Type 0 where
   pub checked : IsChecked h receipt digests names true
-  pub d : HeldDigest
-  pub first : first_of_block (last_block checked.such.r.records) checked.such.held ≡ Some d
-  pub each : EachImageHas h checked.such.r.entry d
+  pub each : EachImageShows h checked.such.r checked.such.is.d checked.such.held checked.such.is.accepted

@@ -16,6 +16,7 @@ use Rattle.audit_extract.specs.declared.found.ImageComparison.{ImageComparison}
 use Rattle.audit_extract.specs.declared.found.ImageComparison.TheVariants.{Same, Collision}
 use Rattle.audit_extract.specs.Each.{AgreeOnEach}
 use Rattle.audit_extract.specs.Finds.{Finds}
+use Rattle.audit_extract.specs.Strings.{AreHashed, OfCollision}
 use Rattle.cli_commands.specs.declared.extract.Finding.{Finding}
 use Rattle.cli_commands.specs.declared.extract.Finding.TheVariants.{Honest, Suspect, Compared}
 use Rattle.cli_commands.specs.declared.status.Status.{Status}
@@ -59,6 +60,8 @@ pub record AreCompared (h : List ℕ → List ℕ) (held : List HeldDigest) (a b
   pub honest_accepted : verdict_of h held a ≡ Yes
   pub suspect_accepted : verdict_of h held b ≡ Yes
   pub found : Finds h (AgreeOnEach honest suspect held) outcome
+  -- two strings that it found were hashed at one place of both
+  pub strings : OfCollision (AreHashed h honest suspect) outcome
 
 -- the verdict on the first that isn't accepted, or what the two are to each other
 abbrev pub IsFoundWith : (List ℕ → List ℕ) → List HeldDigest → List ℕ → List ℕ → Finding → Type 0

@@ -1,19 +1,23 @@
--- What `receipt` reads, puts, says and answers.
+-- What `receipt` and `join` read, put, say and answer.
 use Rattle.std.specs.Prelude.{◌≡◌, ◌⊎◌, ℕ, List, [], ◌∷◌, ◌++◌, codes, Option, Some, Ok}
 use Rattle.std.specs.Fmt.{decimal}
 use Rattle.base_io.specs.Store.{Names}
 use Rattle.sql_types.specs.declared.digest.HeldDigest.{HeldDigest}
+use Rattle.sql_types.specs.declared.entry.BlockRecord.{BlockRecord}
+use Rattle.sql_types.specs.declared.entry.TxEntry.{TxEntry}
 use Rattle.sql_types.specs.declared.image.Image.{Image}
 use Rattle.format_digest.specs.Reading.{IsRead}
 use Rattle.format_image.specs.ImageBytes.{image_bytes, IsImage}
-use Rattle.format_receipt.specs.declared.receipt.Receipt.{Receipt}
-use Rattle.format_receipt.specs.Receipts.{receipt_bytes}
 use Rattle.spec_verify.specs.declared.place.Verdict.{Verdict}
 use Rattle.spec_verify.specs.declared.place.Verdict.TheVariants.{Yes}
 use Rattle.spec_verify.specs.Bytes.{verdict_of}
-use Rattle.audit_extract.specs.Each.{last_of}
-use Rattle.audit_receipt.specs.Accepted.{Accepted}
-use Rattle.audit_receipt.specs.Made.{HasNone, IsMade}
+use Rattle.audit_chain.specs.Continues.{first_block}
+use Rattle.audit_any_receipt.specs.declared.any.AnyReceipt.{AnyReceipt}
+use Rattle.audit_any_receipt.specs.declared.any.AnyReceipt.TheVariants as kinds
+use Rattle.audit_any_receipt.specs.declared.make.Wanted.{Wanted}
+use Rattle.audit_any_receipt.specs.Among.{last_block}
+use Rattle.audit_any_receipt.specs.Kinds.{any_bytes}
+use Rattle.audit_any_receipt.specs.Wanted.{HasNoneUnder, IsReceiptUnder}
 use Rattle.cli_commands.specs.declared.files.File.{File}
 use Rattle.cli_commands.specs.declared.receipt.Shown.{Shown}
 use Rattle.cli_commands.specs.declared.receipt.Shown.TheVariants.{Refused, Made}
@@ -35,92 +39,99 @@ pub record IsAcceptedImage (h : List ℕ → List ℕ) (bytes file : List ℕ) :
   pub is : IsImage i × (bytes ≡ image_bytes i)
   pub accepted : verdict_of h held bytes ≡ Yes
 
--- it is the receipt that the image gives of the transaction under the digest of the greatest block, the first of
--- these, and it is accepted with that digest
-pub record IsReceiptUnder (h : List ℕ → List ℕ) (i : Image) (held : List HeldDigest) (tx : ℕ) (r : Receipt) : Type 0 where
-  pub d : HeldDigest
-  pub last : last_of held ≡ Some d
-  pub made : IsMade h i tx d.block r
-  pub accepted : Accepted h r d
-
--- there is no digest, or no entry of the blocks up to the greatest of one is of the transaction
-abbrev pub HasNoneUnder : Image → List HeldDigest → ℕ → Type 0
-HasNoneUnder i held tx = (d : HeldDigest) → last_of held ≡ Some d → HasNone i tx d.block
-
 -- why the image gives none
-abbrev pub LacksUnder : Status → Image → List HeldDigest → ℕ → Type 0
-LacksUnder status.NoEntry i held tx = HasNoneUnder i held tx
-LacksUnder status.Memory i held tx = Unit {0}
-LacksUnder _ i held tx = ⊥
+abbrev pub LacksUnder : Status → Image → List HeldDigest → Wanted → Type 0
+LacksUnder status.NoEntry i held w = HasNoneUnder i held w
+LacksUnder status.Memory i held w = Unit {0}
+LacksUnder _ i held w = ⊥
 
--- the receipt of the transaction that the bytes give under the digests of the file
-pub record IsReceiptOn (h : List ℕ → List ℕ) (tx : ℕ) (bytes file : List ℕ) (r : Receipt) : Type 0 where
+-- the receipt that the bytes give under the digests of the file
+pub record IsReceiptOn (h : List ℕ → List ℕ) (w : Wanted) (bytes file : List ℕ) (r : AnyReceipt) : Type 0 where
   pub image : IsAcceptedImage h bytes file
-  pub under : IsReceiptUnder h image.i image.held tx r
+  pub under : IsReceiptUnder h image.i image.held w r
 
 -- they give none
-pub record LacksEntry (h : List ℕ → List ℕ) (tx : ℕ) (bytes file : List ℕ) : Type 0 where
+pub record LacksEntry (h : List ℕ → List ℕ) (w : Wanted) (bytes file : List ℕ) : Type 0 where
   pub image : IsAcceptedImage h bytes file
-  pub none : HasNoneUnder image.i image.held tx
+  pub none : HasNoneUnder image.i image.held w
 
 -- the verdict, which isn't Yes, or the receipt
-abbrev pub IsShownOn : (List ℕ → List ℕ) → ℕ → List ℕ → List ℕ → Shown → Type 0
-IsShownOn h tx bytes file (Refused verdict) =
+abbrev pub IsShownOn : (List ℕ → List ℕ) → Wanted → List ℕ → List ℕ → Shown → Type 0
+IsShownOn h w bytes file (Refused verdict) =
     (verdict ≡ Yes → ⊥) × IsVerdictOn h bytes file verdict
-IsShownOn h tx bytes file (Made r) = IsReceiptOn h tx bytes file r
+IsShownOn h w bytes file (Made r) = IsReceiptOn h w bytes file r
 
 -- why neither is found
-abbrev pub LacksShown : Status → (List ℕ → List ℕ) → ℕ → List ℕ → List ℕ → Type 0
-LacksShown (status.Digests index) h tx bytes file = AreRefused (status.Digests index) file
-LacksShown status.NoEntry h tx bytes file = LacksEntry h tx bytes file
-LacksShown status.Memory h tx bytes file = Unit {0}
-LacksShown _ h tx bytes file = ⊥
+abbrev pub LacksShown : Status → (List ℕ → List ℕ) → Wanted → List ℕ → List ℕ → Type 0
+LacksShown (status.Digests index) h w bytes file = AreRefused (status.Digests index) file
+LacksShown status.NoEntry h w bytes file = LacksEntry h w bytes file
+LacksShown status.Memory h w bytes file = Unit {0}
+LacksShown _ h w bytes file = ⊥
 
 -- ---- of what stands under the names
 
 -- the verdict on what stands under the names, which isn't Yes, or the receipt
-abbrev pub IsShown : (List ℕ → List ℕ) → List ℕ → List ℕ → ℕ → Option Names → Shown → Type 0
-IsShown h image digests tx names shown =
-    StandUnder image_limit image digests names (λ bytes file. IsShownOn h tx bytes file shown)
+abbrev pub IsShown : (List ℕ → List ℕ) → List ℕ → List ℕ → Wanted → Option Names → Shown → Type 0
+IsShown h image digests w names shown =
+    StandUnder image_limit image digests names (λ bytes file. IsShownOn h w bytes file shown)
 
 -- why neither is found
-abbrev pub LacksReceipt : Status → (List ℕ → List ℕ) → List ℕ → List ℕ → ℕ → Option Names → Type 0 → Type 0
-LacksReceipt status.NoEntry h image digests tx names vault =
-    StandUnder image_limit image digests names (LacksEntry h tx)
-LacksReceipt ended h image digests tx names vault = LacksVerdict ended image digests names vault
+abbrev pub LacksReceipt : Status → (List ℕ → List ℕ) → List ℕ → List ℕ → Wanted → Option Names → Type 0 → Type 0
+LacksReceipt status.NoEntry h image digests w names vault =
+    StandUnder image_limit image digests names (LacksEntry h w)
+LacksReceipt ended h image digests w names vault = LacksVerdict ended image digests names vault
 
--- a receipt of the transaction is had of what stands under the names
-pub record HasReceipt (h : List ℕ → List ℕ) (image digests : List ℕ) (tx : ℕ) (names : Option Names) : Type 0 where
-  pub r : Receipt
-  pub on : StandUnder image_limit image digests names (λ bytes file. IsReceiptOn h tx bytes file r)
+-- a receipt is had of what stands under the names
+pub record HasReceipt (h : List ℕ → List ℕ) (image digests : List ℕ) (w : Wanted) (names : Option Names) : Type 0 where
+  pub r : AnyReceipt
+  pub on : StandUnder image_limit image digests names (λ bytes file. IsReceiptOn h w bytes file r)
 
 -- Why a status comes. The causes exclude one another but for those of faults and want of memory, so each comes
 -- exactly where its cause stands, unless a fault or want of memory comes before it.
-abbrev pub ReceiptCause : Status → (List ℕ → List ℕ) → List ℕ → List ℕ → ℕ → Option Names
+abbrev pub ReceiptCause : Status → (List ℕ → List ℕ) → List ℕ → List ℕ → Wanted → Option Names
     → Type 0 → Type 0 → Type 0
-ReceiptCause status.Done h image digests tx names vault sink = HasReceipt h image digests tx names
-ReceiptCause status.No h image digests tx names vault sink =
+ReceiptCause status.Done h image digests w names vault sink = HasReceipt h image digests w names
+ReceiptCause status.No h image digests w names vault sink =
     (verdict : Verdict) × (verdict ≡ Yes → ⊥) × IsJudged h image digests names verdict
-ReceiptCause status.SinkFault h image digests tx names vault sink = sink
-ReceiptCause ended h image digests tx names vault sink = LacksReceipt ended h image digests tx names vault
+ReceiptCause status.SinkFault h image digests w names vault sink = sink
+ReceiptCause ended h image digests w names vault sink = LacksReceipt ended h image digests w names vault
 
 -- ---- what is put and written
 
--- NAME.receipt has the receipt
-abbrev pub receipt_name : List ℕ → List ℕ
-receipt_name save = save ++ codes ".receipt"
+-- NAME.receipt has the receipt, and NAME.chain a chain
+abbrev pub ending_of : AnyReceipt → List ℕ
+ending_of (kinds.Entry r) = codes ".receipt"
+ending_of (kinds.Table r) = codes ".receipt"
+ending_of (kinds.Event r) = codes ".receipt"
+ending_of (kinds.Chain c) = codes ".chain"
 
-abbrev pub receipt_file : List ℕ → Receipt → File
-receipt_file save r = record { name = receipt_name save; bytes = receipt_bytes r }
+abbrev pub receipt_name : List ℕ → AnyReceipt → List ℕ
+receipt_name save r = save ++ ending_of r
+
+abbrev pub receipt_file : List ℕ → AnyReceipt → File
+receipt_file save r = record { name = receipt_name save r; bytes = any_bytes r }
 
 -- the line of the entry's block and of its place there
-abbrev pub receipt_text : Receipt → List ℕ
-receipt_text r = codes "receipt " ++ decimal r.entry.block ++ codes " " ++ decimal r.entry.ordinal ++ 10 ∷ []
+abbrev pub entry_text : TxEntry → List ℕ
+entry_text e = codes "receipt " ++ decimal e.block ++ codes " " ++ decimal e.ordinal ++ 10 ∷ []
+
+-- the line of the first block of a chain and of its last one
+abbrev pub joined_text : ℕ → ℕ → List ℕ
+joined_text from to = codes "joined " ++ decimal from ++ codes " " ++ decimal to ++ 10 ∷ []
+
+abbrev pub chain_text : List BlockRecord → List ℕ
+chain_text records = joined_text (first_block records) (last_block records)
+
+abbrev pub receipt_text : AnyReceipt → List ℕ
+receipt_text (kinds.Entry r) = entry_text r.entry
+receipt_text (kinds.Table r) = entry_text r.receipt.entry
+receipt_text (kinds.Event r) = entry_text r.receipt.entry
+receipt_text (kinds.Chain c) = chain_text c.records
 
 -- this was put and written of the receipt
-pub record Receipted (ended : Status) (h : List ℕ → List ℕ) (image digests : List ℕ) (tx : ℕ) (save : List ℕ)
+pub record Receipted (ended : Status) (h : List ℕ → List ℕ) (image digests : List ℕ) (w : Wanted) (save : List ℕ)
     (names_old names_new : Option Names) (taken_old taken_new : Option (List ℕ)) : Type 0 where
-  pub has : HasReceipt h image digests tx names_old
+  pub has : HasReceipt h image digests w names_old
   pub put : HasPut ended (receipt_file save has.r ∷ []) names_old names_new
   pub written : HasWritten ended (receipt_text has.r) taken_old taken_new
 
@@ -150,8 +161,9 @@ ReceiptedOrIdle status.VaultFault receipted said idle = receipted ⊎ idle
 ReceiptedOrIdle status.Memory receipted said idle = receipted ⊎ idle
 ReceiptedOrIdle _ receipted said idle = idle
 
--- the file that was put has the bytes of the receipt, which is accepted with the digest of the greatest block
-pub record PutsReceipt (h : List ℕ → List ℕ) (image digests : List ℕ) (tx : ℕ) (save : List ℕ)
+-- the file that was put has the bytes of the receipt, which is accepted with the digest of the greatest block; a
+-- chain with all digests
+pub record PutsReceipt (h : List ℕ → List ℕ) (image digests : List ℕ) (w : Wanted) (save : List ℕ)
     (names_old names_new : Option Names) : Type 0 where
-  pub has : HasReceipt h image digests tx names_old
-  pub put : TellsHeld names_old names_new (receipt_name save) (receipt_bytes has.r)
+  pub has : HasReceipt h image digests w names_old
+  pub put : TellsHeld names_old names_new (receipt_name save has.r) (any_bytes has.r)

@@ -1,8 +1,12 @@
 -- What is so of the command that words say.
 use Rattle.std.specs.Prelude.{ℕ, Bool, true, false, List, Option, Some}
-use Rattle.cli_words.specs.Commands.{Command, Settings, Step, Run, Verify, Extract, Replay, Gen, Receipt, Check, Help, Version}
+use Rattle.cli_words.specs.Commands.{Command, Settings, Step, Run, Verify, Extract, Replay, Gen, Receipt, Join, Check, Help, Version}
 use Rattle.cli_words.specs.Help.{help_of}
 use Rattle.cli_words.specs.declared.help.TheConstants.{VERSION}
+use Rattle.cli_words.specs.declared.part.Part.{Part}
+use Rattle.cli_words.specs.declared.part.Part.TheVariants as shown
+use Rattle.audit_any_receipt.specs.declared.make.Wanted.{Wanted}
+use Rattle.audit_any_receipt.specs.declared.make.Wanted.TheVariants as wanted
 
 -- what is so of the name that `step` is given, and of its settings
 abbrev pub OfStep : Option Command → (List ℕ → Settings → Type 0) → Type 0
@@ -34,10 +38,17 @@ abbrev pub OfGen : Option Command → (ℕ → Type 0) → Type 0
 OfGen (Some (Gen count)) P = P count
 OfGen words P = Unit {0}
 
--- what is so of the names and of the transaction that `receipt` is given: an image, digests, its id, and the name
--- that its receipt is saved under
-abbrev pub OfReceipt : Option Command → (List ℕ → List ℕ → ℕ → List ℕ → Type 0) → Type 0
-OfReceipt (Some (Receipt image digests tx save)) P = P image digests tx save
+-- what a receipt of a part of a transaction is wanted of
+abbrev pub wanted_of : ℕ → Part → Wanted
+wanted_of tx shown.Entry = wanted.Entry tx
+wanted_of tx (shown.Table id) = wanted.Table tx id
+wanted_of tx (shown.Event id number) = wanted.Event tx id number
+
+-- what is so of the names that `receipt` and `join` are given, and of what a receipt is wanted: an image, digests, a
+-- part of a transaction or the digests themselves, and the name that the receipt is saved under
+abbrev pub OfReceipt : Option Command → (List ℕ → List ℕ → Wanted → List ℕ → Type 0) → Type 0
+OfReceipt (Some (Receipt image digests tx part save)) P = P image digests (wanted_of tx part) save
+OfReceipt (Some (Join image digests save)) P = P image digests wanted.Chain save
 OfReceipt words P = Unit {0}
 
 -- what is so of the names that `check` is given
@@ -62,5 +73,6 @@ abbrev pub puts_files : Option Command → Bool
 puts_files (Some (Step save how)) = true
 puts_files (Some (Run save how)) = true
 puts_files (Some (Replay journal save)) = true
-puts_files (Some (Receipt image digests tx save)) = true
+puts_files (Some (Receipt image digests tx part save)) = true
+puts_files (Some (Join image digests save)) = true
 puts_files words = false

@@ -1,16 +1,13 @@
 //! Whether a receipt is accepted with the digests that an auditor holds.
 
-ghost use Rattle.std.specs.Prelude.{⊤, ◌≡◌, ◌≤◌, ◌⊎◌, IfOk, IfErr, IfSome};
-ghost use Rattle.std.specs.List.{find};
-ghost use Rattle.std.specs.Option.{option_copied};
+ghost use Rattle.std.specs.Prelude.{⊤, ◌≡◌, ◌⊎◌, IfOk, IfErr, IfSome};
 ghost use Rattle.base_io.specs.Count.{Rises};
 ghost use Rattle.base_io.specs.History.{Since};
-ghost use Rattle.format_receipt.specs.Receipts.{IsReceipt};
+ghost use Rattle.audit_any_receipt.specs.Kinds.{Spells};
 ghost use Rattle.cli_commands.specs.Answer.{Unfailed};
 ghost use Rattle.cli_commands.specs.Calls.{AreGets, AreWrites, Gave};
-ghost use Rattle.cli_commands.specs.Check.{receipt_limit, IsSpelled, SpellsNone, last_block, first_of_block};
-ghost use Rattle.cli_commands.specs.Check.{IsSoAmong, IsCheckedOn, LacksCheck, IsChecked, LacksAnswer, CheckCause};
-ghost use Rattle.cli_commands.specs.Check.{check_text, Checks, ShowsEntry, LacksReceiptForm};
+ghost use Rattle.cli_commands.specs.Check.{receipt_limit, IsCheckedOn, LacksCheck, IsChecked, LacksAnswer};
+ghost use Rattle.cli_commands.specs.Check.{check_text, CheckCause, Checks, ShowsClaim, LacksReceiptForm};
 ghost use Rattle.cli_commands.specs.Evidence.{AreUnder, LacksEither};
 ghost use Rattle.cli_commands.specs.Verify.{SaidOrIdle};
 
@@ -18,13 +15,12 @@ use crate::Status;
 use crate::names::{DIGESTS_LIMIT, read_name};
 use crate::transfer::write_all;
 use crate::verify::read_held;
-use audit_receipt::check_receipt;
+use audit_any_receipt::{
+    AnyReceipt, accepted_receipts_are_never_contradicted, check_any, read_any,
+};
 use base_io::{Failed, Sink, Vault};
 use base_merkle::Hash32;
 use base_types::Memory;
-use format_receipt::{Receipt, read_receipt};
-use law_receipt::accepted_receipts_agree_with_images;
-use sql_types::{BlockRecord, HeldDigest};
 use std::alloc::Global;
 
 /// The most bytes that a receipt may have: 16 MiB.
@@ -59,53 +55,14 @@ fn read_claim<V: Vault>(vault: &mut V, receipt: &str, digests: &str) -> Result<C
 }
 
 /// The receipt whose bytes these are.
-fn receipt_of(alloc: Global, bytes: &[u8]) -> Result<Receipt, Status>
-    ensures spelled { IfOk result (λ receipt. IsSpelled receipt bytes.now) }
+fn receipt_of(alloc: Global, bytes: &[u8]) -> Result<AnyReceipt, Status>
+    ensures spelled { IfOk result (Spells bytes.now) }
     ensures refused { IfErr result (λ status. LacksReceiptForm status bytes.now) }
 {
-    match read_receipt(alloc, bytes) {
+    match read_any(alloc, bytes) {
         Ok(Some(receipt)) => Ok(receipt),
         Ok(None) => Err(Status::Receipt),
         Err(Memory) => Err(Status::Memory),
-    }
-}
-
-/// The block of the last of these records.
-fn last_block(records: &[BlockRecord]) -> u64
-    ensures { result ≡ last_block records.now }
-{
-    let mut block = 0;
-    for record in records {
-        block = record.id;
-    }
-    block
-}
-
-/// The first digest of a block.
-fn first_of_block(block: u64, digests: &[HeldDigest]) -> Option<&HeldDigest>
-    ensures { option_copied result ≡ first_of_block block digests.now }
-{
-    for digest in digests {
-        if digest.block == block {
-            return Some(digest);
-        }
-    }
-    None
-}
-
-/// Whether a receipt is accepted with the first of these digests that is of its last record's block.
-fn is_accepted<H: Hash32>(
-    alloc: Global,
-    h: H,
-    receipt: &Receipt,
-    held: &[HeldDigest],
-) -> Result<bool, Memory>
-    requires { IsReceipt receipt.now }
-    ensures { IfOk result (IsSoAmong (H.digest h) receipt.now held.now) }
-{
-    match first_of_block(last_block(receipt.records.as_slice()), held) {
-        Some(digest) => check_receipt(alloc, h, receipt, digest),
-        None => Ok(false),
     }
 }
 
@@ -116,7 +73,7 @@ fn judge<H: Hash32>(alloc: Global, h: H, bytes: &[u8], digests: &[u8]) -> Result
 {
     let receipt = receipt_of(alloc, bytes)?;
     let held = read_held(alloc, digests)?;
-    match is_accepted(alloc, h, &receipt, held.as_slice()) {
+    match check_any(alloc, h, &receipt, held.as_slice()) {
         Ok(so) => Ok(so),
         Err(Memory) => Err(Status::Memory),
     }
@@ -167,14 +124,14 @@ pub(crate) fn check<H: Hash32, K: Sink, V: Vault>(
     ensures checked { SaidOrIdle result
         (Checks result (H.digest h) receipt.now digests.now
         (V.names vault.old) (K.taken sink.old) (K.taken sink.new)) (sink.new ≡ sink.old) }
-    ensures shows { result ≡ Status.Done → ShowsEntry (H.digest h) receipt.now digests.now (V.names vault.old) }
+    ensures shows { result ≡ Status.Done → ShowsClaim (H.digest h) receipt.now digests.now (V.names vault.old) }
     ensures same { V.names vault.new ≡ V.names vault.old }
     ensures gets { Since (V.history vault.old) (V.history vault.new) (AreGets 2 result) }
     ensures writes { Since (K.history sink.old) (K.history sink.new) (AreWrites result) }
     ensures unfailed { Unfailed result ⊤ (V.faults vault.new ≡ V.faults vault.old)
         ((K.faults sink.new ≡ K.faults sink.old) × (K.stalls sink.new ≡ K.stalls sink.old)) }
 {
-    accepted_receipts_agree_with_images();
+    accepted_receipts_are_never_contradicted();
     let so = match judge_names(alloc, h, receipt, digests, vault) {
         Ok(so) => so,
         Err(status) => return status,

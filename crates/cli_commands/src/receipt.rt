@@ -1,16 +1,19 @@
-//! The receipt of a transaction, of an image that is accepted with digests.
+//! The receipt of a transaction or of digests, of an image that is accepted with digests.
 
 ghost use Rattle.std.specs.Prelude.{⊤, ◌≡◌, ◌⊎◌, ◌∷◌, [], string_bytes, IfOk, IfErr};
 ghost use Rattle.base_io.specs.Count.{Rises};
 ghost use Rattle.base_io.specs.History.{Since};
 ghost use Rattle.format_image.specs.ImageBytes.{IsImage};
-ghost use Rattle.format_receipt.specs.Receipts.{IsReceipt};
+ghost use Rattle.audit_any_receipt.specs.Kinds.{IsAny};
+ghost use Rattle.audit_any_receipt.specs.Wanted.{IsReceiptUnder};
 ghost use Rattle.spec_verify.specs.Verdict.{image_verdict};
 ghost use Rattle.cli_commands.specs.Answer.{EndsBy, HasPut, HasWritten, Unfailed};
 ghost use Rattle.cli_commands.specs.Calls.{AreGets, AreGetsAndPuts, ArePuts, AreWrites, Gave};
-ghost use Rattle.cli_commands.specs.Receipt.{IsReceiptUnder, LacksUnder, IsShownOn, LacksShown, IsShown, LacksReceipt};
+ghost use Rattle.cli_commands.specs.Receipt.{LacksUnder, IsShownOn, LacksShown, IsShown, LacksReceipt};
+ghost use Rattle.cli_commands.specs.Receipt.{ending_of, entry_text, chain_text, joined_text};
 ghost use Rattle.cli_commands.specs.Receipt.{ReceiptCause, receipt_file, receipt_text, Receipted, EndsRefusing, SaysNo};
 ghost use Rattle.cli_commands.specs.Receipt.{ReceiptedOrIdle, PutsReceipt};
+ghost use Rattle.cli_commands.specs.Words.{wanted_of};
 
 use crate::extract::accepted;
 use crate::files::{File, put_and_write};
@@ -18,65 +21,72 @@ use crate::saved::file;
 use crate::transfer::write_all;
 use crate::verify::{read_evidence, read_held};
 use crate::{Status, verify};
-use audit_extract::last_of;
-use audit_receipt::{ReceiptErr, make_receipt};
+use audit_any_receipt::{
+    AnyReceipt, ReceiptErr, Wanted, first_block, last_block, make_any, write_any,
+};
 use base_io::{Failed, Sink, Vault};
 use base_merkle::Hash32;
 use base_types::{Blob, Items, Memory};
-use format_receipt::{Receipt, write_receipt};
-use law_receipt::made_receipts_are_accepted;
+use cli_words::Part;
 use spec_verify::Verdict;
-use sql_types::{HeldDigest, Image};
+use sql_types::{BlockRecord, HeldDigest, Image, TxEntry};
 use std::alloc::{AllocError, Global};
 
-/// What is shown of a transaction.
+/// What a receipt of a part of a transaction is wanted of.
+fn wanted_of(tx: u64, part: Part) -> Wanted
+    ensures { result ≡ wanted_of tx part }
+{
+    match part {
+        Part::Entry => Wanted::Entry(tx),
+        Part::Table(table) => Wanted::Table(tx, table),
+        Part::Event(table, seq) => Wanted::Event(tx, table, seq),
+    }
+}
+
+/// What is shown of an image.
 #[derive(Drop)]
 pub(crate) enum Shown {
     /// The image isn't accepted, and this is the verdict on it.
     Refused(Verdict),
-    /// It is, and this is the transaction's receipt.
-    Made(Receipt),
+    /// It is, and this is the receipt that is wanted.
+    Made(AnyReceipt),
 }
 
-/// The receipt that an accepted image gives of a transaction under the digest of the greatest block.
+/// The receipt that an accepted image gives under the digest of the greatest block.
 fn receipt_under<H: Hash32>(
     alloc: Global,
     h: H,
     image: &Image,
     held: &[HeldDigest],
-    tx: u64,
-) -> Result<Receipt, Status>
+    wanted: Wanted,
+) -> Result<AnyReceipt, Status>
     requires image { IsImage image.now }
     requires accepted { image_verdict (H.digest h) image.now held.now ≡ Verdict.Yes }
-    ensures made { IfOk result (IsReceiptUnder (H.digest h) image.now held.now tx) }
-    ensures lacks { IfErr result (λ status. LacksUnder status image.now held.now tx) }
+    ensures made { IfOk result (IsReceiptUnder (H.digest h) image.now held.now wanted) }
+    ensures lacks { IfErr result (λ status. LacksUnder status image.now held.now wanted) }
 {
-    made_receipts_are_accepted();
-    let Some(digest) = last_of(held) else {
-        return Err(Status::NoEntry);
-    };
-    match make_receipt(alloc, h, image, tx, digest.block) {
+    match make_any(alloc, h, image, held, wanted) {
         Ok(receipt) => Ok(receipt),
         Err(ReceiptErr::NoEntry) => Err(Status::NoEntry),
         Err(ReceiptErr::Memory) => Err(Status::Memory),
     }
 }
 
-/// What is shown of a transaction by these bytes of an image, with the digests of this file.
+/// What is shown by these bytes of an image, with the digests of this file.
 fn show<H: Hash32>(
     alloc: Global,
     h: H,
     bytes: &[u8],
     digests: &[u8],
-    tx: u64,
+    wanted: Wanted,
 ) -> Result<Shown, Status>
-    ensures shown { IfOk result (IsShownOn (H.digest h) tx bytes.now digests.now) }
-    ensures lacks { IfErr result (λ status. LacksShown status (H.digest h) tx bytes.now digests.now) }
+    ensures shown { IfOk result (IsShownOn (H.digest h) wanted bytes.now digests.now) }
+    ensures lacks { IfErr result (λ status. LacksShown status (H.digest h) wanted bytes.now digests.now) }
 {
     let held = read_held(alloc, digests)?;
     match accepted(alloc, h, bytes, held.as_slice()) {
         Ok(Ok(image)) => {
-            let receipt = receipt_under(alloc, h, &image, held.as_slice(), tx)?;
+            let receipt = receipt_under(alloc, h, &image, held.as_slice(), wanted)?;
             Ok(Shown::Made(receipt))
         }
         Ok(Err(verdict)) => Ok(Shown::Refused(verdict)),
@@ -84,18 +94,18 @@ fn show<H: Hash32>(
     }
 }
 
-/// What is shown of a transaction by what stands under the two names.
+/// What is shown by what stands under the two names.
 fn show_names<H: Hash32, V: Vault>(
     alloc: Global,
     h: H,
     image: &str,
     digests: &str,
-    tx: u64,
+    wanted: Wanted,
     vault: &mut V,
 ) -> Result<Shown, Status>
-    ensures shown { IfOk result (IsShown (H.digest h) image.now digests.now tx (V.names vault.old)) }
+    ensures shown { IfOk result (IsShown (H.digest h) image.now digests.now wanted (V.names vault.old)) }
     ensures lacks { IfErr result
-        (λ status. LacksReceipt status (H.digest h) image.now digests.now tx (V.names vault.old)
+        (λ status. LacksReceipt status (H.digest h) image.now digests.now wanted (V.names vault.old)
         (Rises (V.faults vault.old) (V.faults vault.new))) }
     ensures same { V.names vault.new ≡ V.names vault.old }
     ensures gave { IfOk result (λ shown. Since (V.history vault.old) (V.history vault.new) (Gave 2)) }
@@ -106,26 +116,62 @@ fn show_names<H: Hash32, V: Vault>(
         (λ status. Unfailed status ⊤ (V.faults vault.new ≡ V.faults vault.old) ⊤) }
 {
     let evidence = read_evidence(vault, image, digests)?;
-    show(alloc, h, &evidence.image, &evidence.digests, tx)
+    show(alloc, h, &evidence.image, &evidence.digests, wanted)
 }
 
-/// The line of a receipt.
-fn text_of(alloc: Global, receipt: &Receipt) -> Result<String, AllocError>
-    ensures { IfOk result (λ text. string_bytes text ≡ receipt_text receipt.now) }
+/// The line of an entry: its block, and its place there.
+fn entry_text(alloc: Global, entry: &TxEntry) -> Result<String, AllocError>
+    ensures { IfOk result (λ text. string_bytes text ≡ entry_text entry.now) }
 {
-    let block = receipt.entry.block;
-    let ordinal = receipt.entry.ordinal;
+    let block = entry.block;
+    let ordinal = entry.ordinal;
     format!(in alloc; "receipt {block} {ordinal}\n")
 }
 
+/// The line of a chain from one block to another.
+fn joined_text(alloc: Global, from: u64, to: u64) -> Result<String, AllocError>
+    ensures { IfOk result (λ text. string_bytes text ≡ joined_text from to) }
+{
+    format!(in alloc; "joined {from} {to}\n")
+}
+
+/// The line of a chain: its first block and its last one.
+fn chain_text(alloc: Global, records: &[BlockRecord]) -> Result<String, AllocError>
+    ensures { IfOk result (λ text. string_bytes text ≡ chain_text records.now) }
+{
+    joined_text(alloc, first_block(records), last_block(records))
+}
+
+/// The line of a receipt.
+fn text_of(alloc: Global, receipt: &AnyReceipt) -> Result<String, AllocError>
+    ensures { IfOk result (λ text. string_bytes text ≡ receipt_text receipt.now) }
+{
+    match receipt {
+        AnyReceipt::Entry(receipt) => entry_text(alloc, &receipt.entry),
+        AnyReceipt::Table(receipt) => entry_text(alloc, &receipt.receipt.entry),
+        AnyReceipt::Event(receipt) => entry_text(alloc, &receipt.receipt.entry),
+        AnyReceipt::Chain(chain) => chain_text(alloc, chain.records.as_slice()),
+    }
+}
+
+/// The ending of the name that a receipt is put under.
+fn ending_of(receipt: &AnyReceipt) -> &'static str
+    ensures { result.now ≡ ending_of receipt.now }
+{
+    match receipt {
+        AnyReceipt::Entry(_) | AnyReceipt::Table(_) | AnyReceipt::Event(_) => ".receipt",
+        AnyReceipt::Chain(_) => ".chain",
+    }
+}
+
 /// The file of a receipt.
-fn files_of(alloc: Global, save: &str, receipt: &Receipt) -> Result<Items<File>, Memory>
-    requires { IsReceipt receipt.now }
+fn files_of(alloc: Global, save: &str, receipt: &AnyReceipt) -> Result<Items<File>, Memory>
+    requires { IsAny receipt.now }
     ensures { IfOk result (λ files. files ≡ receipt_file save.now receipt.now ∷ []) }
 {
-    let bytes = Blob::from_vec(write_receipt(alloc, receipt)?);
+    let bytes = Blob::from_vec(write_any(alloc, receipt)?);
     let mut files = Items::new(alloc);
-    files.push(file(alloc, save, ".receipt", bytes)?)?;
+    files.push(file(alloc, save, ending_of(receipt), bytes)?)?;
     Ok(files)
 }
 
@@ -133,11 +179,11 @@ fn files_of(alloc: Global, save: &str, receipt: &Receipt) -> Result<Items<File>,
 fn save_receipt<K: Sink, V: Vault>(
     alloc: Global,
     save: &str,
-    receipt: &Receipt,
+    receipt: &AnyReceipt,
     sink: &mut K,
     vault: &mut V,
 ) -> Status
-    requires { IsReceipt receipt.now }
+    requires { IsAny receipt.now }
     ensures cause { EndsBy result (Rises (V.faults vault.old) (V.faults vault.new))
         (Rises (K.faults sink.old) (K.faults sink.new) ⊎ Rises (K.stalls sink.old) (K.stalls sink.new)) }
     ensures put { HasPut result (receipt_file save.now receipt.now ∷ []) (V.names vault.old) (V.names vault.new) }
@@ -176,29 +222,29 @@ fn refuse<K: Sink>(alloc: Global, verdict: &Verdict, sink: &mut K) -> Status
     }
 }
 
-/// Puts the receipt of a transaction under the digest of the greatest block, and writes where its entry stands;
-/// of an image that isn't accepted, says the verdict.
+/// Puts the receipt that is wanted under the digest of the greatest block, and writes where its entry stands, or from
+/// which block to which it joins; of an image that isn't accepted, says the verdict.
 pub(crate) fn receipt<H: Hash32, K: Sink, V: Vault>(
     alloc: Global,
     h: H,
     image: &str,
     digests: &str,
-    tx: u64,
+    wanted: Wanted,
     save: &str,
     sink: &mut K,
     vault: &mut V,
 ) -> Status
-    ensures cause { ReceiptCause result (H.digest h) image.now digests.now tx (V.names vault.old)
+    ensures cause { ReceiptCause result (H.digest h) image.now digests.now wanted (V.names vault.old)
         (Rises (V.faults vault.old) (V.faults vault.new))
         (Rises (K.faults sink.old) (K.faults sink.new) ⊎ Rises (K.stalls sink.old) (K.stalls sink.new)) }
     ensures receipted { ReceiptedOrIdle result
-        (Receipted result (H.digest h) image.now digests.now tx save.now
+        (Receipted result (H.digest h) image.now digests.now wanted save.now
         (V.names vault.old) (V.names vault.new) (K.taken sink.old) (K.taken sink.new))
         (SaysNo result (H.digest h) image.now digests.now
         (V.names vault.old) (V.names vault.new) (K.taken sink.old) (K.taken sink.new))
         ((V.names vault.new ≡ V.names vault.old) × (sink.new ≡ sink.old)) }
     ensures shown { result ≡ Status.Done
-        → PutsReceipt (H.digest h) image.now digests.now tx save.now (V.names vault.old) (V.names vault.new) }
+        → PutsReceipt (H.digest h) image.now digests.now wanted save.now (V.names vault.old) (V.names vault.new) }
     ensures calls { Since (V.history vault.old) (V.history vault.new) (AreGetsAndPuts 2 result) }
     ensures writes { Since (K.history sink.old) (K.history sink.new) (AreWrites result) }
     ensures unfailed { Unfailed result ⊤ (V.faults vault.new ≡ V.faults vault.old)
@@ -206,9 +252,43 @@ pub(crate) fn receipt<H: Hash32, K: Sink, V: Vault>(
     ensures unwritten { (result ≡ Status.Done → ⊥) → (result ≡ Status.No → ⊥)
         → (result ≡ Status.SinkFault → ⊥) → sink.new ≡ sink.old }
 {
-    match show_names(alloc, h, image, digests, tx, vault) {
+    match show_names(alloc, h, image, digests, wanted, vault) {
         Ok(Shown::Made(receipt)) => save_receipt(alloc, save, &receipt, sink, vault),
         Ok(Shown::Refused(verdict)) => refuse(alloc, &verdict, sink),
         Err(status) => status,
     }
+}
+
+/// Makes the receipt of a part of a transaction, as `receipt` makes one.
+pub(crate) fn receipt_of_part<H: Hash32, K: Sink, V: Vault>(
+    alloc: Global,
+    h: H,
+    image: &str,
+    digests: &str,
+    tx: u64,
+    part: Part,
+    save: &str,
+    sink: &mut K,
+    vault: &mut V,
+) -> Status
+    ensures cause { ReceiptCause result (H.digest h) image.now digests.now (wanted_of tx part) (V.names vault.old)
+        (Rises (V.faults vault.old) (V.faults vault.new))
+        (Rises (K.faults sink.old) (K.faults sink.new) ⊎ Rises (K.stalls sink.old) (K.stalls sink.new)) }
+    ensures receipted { ReceiptedOrIdle result
+        (Receipted result (H.digest h) image.now digests.now (wanted_of tx part) save.now
+        (V.names vault.old) (V.names vault.new) (K.taken sink.old) (K.taken sink.new))
+        (SaysNo result (H.digest h) image.now digests.now
+        (V.names vault.old) (V.names vault.new) (K.taken sink.old) (K.taken sink.new))
+        ((V.names vault.new ≡ V.names vault.old) × (sink.new ≡ sink.old)) }
+    ensures shown { result ≡ Status.Done → PutsReceipt (H.digest h) image.now digests.now (wanted_of tx part)
+        save.now (V.names vault.old) (V.names vault.new) }
+    ensures calls { Since (V.history vault.old) (V.history vault.new) (AreGetsAndPuts 2 result) }
+    ensures writes { Since (K.history sink.old) (K.history sink.new) (AreWrites result) }
+    ensures unfailed { Unfailed result ⊤ (V.faults vault.new ≡ V.faults vault.old)
+        ((K.faults sink.new ≡ K.faults sink.old) × (K.stalls sink.new ≡ K.stalls sink.old)) }
+    ensures unwritten { (result ≡ Status.Done → ⊥) → (result ≡ Status.No → ⊥)
+        → (result ≡ Status.SinkFault → ⊥) → sink.new ≡ sink.old }
+{
+    let wanted = wanted_of(tx, part);
+    receipt(alloc, h, image, digests, wanted, save, sink, vault)
 }

@@ -37,9 +37,10 @@ pub enum Status {
     Form { line: u64 },
     /// There was no more memory.
     Memory,
-    /// The digests are none, or no entry of the blocks up to their greatest is of the transaction.
+    /// The digests are none, or no entry of the blocks up to their greatest is of the transaction, or it has no such
+    /// event.
     NoEntry,
-    /// The bytes are no receipt's.
+    /// The bytes are no receipt's, of whatever kind.
     Receipt,
 }
 

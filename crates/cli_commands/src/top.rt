@@ -11,7 +11,7 @@ ghost use Rattle.cli_commands.specs.Words.{reads_input, puts_files};
 ghost use Rattle.cli_commands.specs.Answer.{HasRead, RanAndSaved, RunOutcomeOrIdle, Unfailed};
 ghost use Rattle.cli_commands.specs.Calls.{AreReads, AreCalls, AreWrites};
 ghost use Rattle.cli_commands.specs.Cause.{HasCause};
-ghost use Rattle.cli_commands.specs.Check.{Checks, ShowsEntry};
+ghost use Rattle.cli_commands.specs.Check.{Checks, ShowsClaim};
 ghost use Rattle.cli_commands.specs.Extract.{Extracts};
 ghost use Rattle.cli_commands.specs.Generated.{HasGenerated};
 ghost use Rattle.cli_commands.specs.Input.{line_form, section_form};
@@ -25,12 +25,13 @@ use crate::Status;
 use crate::check::check;
 use crate::extract::extract;
 use crate::generate::generate;
-use crate::receipt::receipt;
+use crate::receipt::{receipt, receipt_of_part};
 use crate::replay::replay;
 use crate::run::run_side_by_side;
 use crate::step::step;
 use crate::tell::tell;
 use crate::verify::verify;
+use audit_any_receipt::Wanted;
 use base_io::{Clock, Gate, Sink, Source, Vault};
 use base_merkle::Sha256Hash;
 use base_types::Memory;
@@ -84,12 +85,18 @@ use std::thread::Threads;
 /// receipt of the transaction with this id under the digest of the greatest block, the first of these, puts it
 /// under `NAME.receipt`, and writes the block of the transaction's entry and its place there. The receipt is
 /// accepted with the digest. Where there is no digest, or no entry up to its block is of the transaction, the
-/// status is `NoEntry`.
+/// status is `NoEntry`. With `--table ID` the receipt has all events of the transaction in this table too, and with
+/// `--event N` behind it the one with this number alone; where there is none the status is `NoEntry`.
 ///
-/// `check RECEIPT DIGESTS` reads what stands under the two names. Where the receipt is accepted with the first
-/// digest that is of its last record's block it writes `Yes`, and the status is `Done`; else `No receipt`, and
-/// the status is `No`. After `Yes` each image that is accepted with this digest has the receipt's entry at its
-/// place, or SHA-256 has a collision. It puts nothing and reads no input.
+/// `join IMAGE DIGESTS --save NAME` does the same of the digests themselves: what it puts under `NAME.chain` are the
+/// records from the least to the greatest of the digests' blocks, and it writes the numbers of these two.
+///
+/// `check RECEIPT DIGESTS` reads what stands under the two names, and tells the kind of the receipt by its first
+/// bytes. Where it is accepted with the first digest that is of its last record's block it writes `Yes`, and the
+/// status is `Done`; else `No receipt`, and the status is `No`. A chain is held against the other digests too. After
+/// `Yes` each image that is accepted with this digest has the receipt's entry at its place, just the events of it in
+/// the table that a receipt has all of, the event that one has, and the block of each digest that a chain joins; or
+/// SHA-256 has a collision. It puts nothing and reads no input.
 ///
 /// `gen COUNT` runs a workload of four sessions side by side, each of which inserts so many rows into a table
 /// of its own and adds 1 to every tenth, and writes five lines: how many transactions there are, rows, versions
@@ -113,10 +120,10 @@ use std::thread::Threads;
 /// all files stand and a first part of the text was written. Of `verify` and `extract`, the names are looked
 /// at in the order of the words, each whether it is there and then how long, then the digests, and last the
 /// images: `Digests` comes before `No`. Of `replay`, the name is looked at so, then whether the bytes are
-/// those of a journal, and last whether that is legal; all this before anything is put. Of `receipt`, the names
-/// and the digests are looked at as of `verify`, then the image, and last whether there is such an entry: `No`
+/// those of a journal, and last whether that is legal; all this before anything is put. Of `receipt` and `join`, the
+/// names and the digests are looked at as of `verify`, then the image, and last whether there is such an entry: `No`
 /// comes before `NoEntry`, and all this before anything is put. Of `check`, the names, then whether the bytes are
-/// those of a receipt, and then the digests: `Receipt` comes before `Digests`.
+/// those of a receipt of any kind, and then the digests: `Receipt` comes before `Digests`.
 pub fn ledgerd<S: Source, K: Sink, V: Vault, C: Clock, G: Gate, R: Threads + Wait + Sync>(
     rt: &R,
     alloc: Global,
@@ -135,7 +142,7 @@ pub fn ledgerd<S: Source, K: Sink, V: Vault, C: Clock, G: Gate, R: Threads + Wai
         (Rises (K.faults sink.old) (K.faults sink.new) ⊎ Rises (K.stalls sink.old) (K.stalls sink.new)) }
 
     // Where the words say no command, nothing is touched. Only `step` and `run` read the input; these two,
-    // `replay` and `receipt` put files.
+    // `replay`, `receipt` and `join` put files.
     ensures words { command_of (map string_bytes words.now) ≡ None
         → (source.new ≡ source.old) × (vault.new ≡ vault.old) × (sink.new ≡ sink.old) }
     ensures unread { reads_input (command_of (map string_bytes words.now)) ≡ false
@@ -193,27 +200,27 @@ pub fn ledgerd<S: Source, K: Sink, V: Vault, C: Clock, G: Gate, R: Threads + Wai
         (λ journal save. result ≡ Status.Done
         → PutsAccepted sha256 journal save (V.names vault.old) (V.names vault.new)) }
 
-    // `receipt`: what is put and written of the receipt, or the line of a verdict that isn't Yes, by the status; and
-    // the receipt that is put is accepted with the digest of the greatest block.
+    // `receipt` and `join`: what is put and written of the receipt, or the line of a verdict that isn't Yes, by the
+    // status; and the receipt that is put is accepted with the digest of the greatest block, a chain with all.
     ensures receipted { OfReceipt (command_of (map string_bytes words.now))
-        (λ image digests tx save. ReceiptedOrIdle result
-        (Receipted result sha256 image digests tx save
+        (λ image digests wanted save. ReceiptedOrIdle result
+        (Receipted result sha256 image digests wanted save
         (V.names vault.old) (V.names vault.new) (K.taken sink.old) (K.taken sink.new))
         (SaysNo result sha256 image digests
         (V.names vault.old) (V.names vault.new) (K.taken sink.old) (K.taken sink.new))
         ((V.names vault.new ≡ V.names vault.old) × (sink.new ≡ sink.old))) }
     ensures shown { OfReceipt (command_of (map string_bytes words.now))
-        (λ image digests tx save. result ≡ Status.Done
-        → PutsReceipt sha256 image digests tx save (V.names vault.old) (V.names vault.new)) }
+        (λ image digests wanted save. result ≡ Status.Done
+        → PutsReceipt sha256 image digests wanted save (V.names vault.old) (V.names vault.new)) }
 
-    // `check`: the line of what is said of the receipt under the name, by the status; and after `Yes` each image
-    // that is accepted with the digest has the receipt's entry, or SHA-256 has a collision.
+    // `check`: the line of what is said of the receipt under the name, of whatever kind, by the status; and after
+    // `Yes` no image that is accepted with the digest contradicts it, or SHA-256 has a collision.
     ensures checked { OfCheck (command_of (map string_bytes words.now))
         (λ receipt digests. SaidOrIdle result
         (Checks result sha256 receipt digests
         (V.names vault.old) (K.taken sink.old) (K.taken sink.new)) (sink.new ≡ sink.old)) }
     ensures shows { OfCheck (command_of (map string_bytes words.now))
-        (λ receipt digests. result ≡ Status.Done → ShowsEntry sha256 receipt digests (V.names vault.old)) }
+        (λ receipt digests. result ≡ Status.Done → ShowsClaim sha256 receipt digests (V.names vault.old)) }
 
     // The first fault or stall is the last call: nothing is tried again, and nothing is read behind the end.
     ensures reads { OfStep (command_of (map string_bytes words.now))
@@ -265,8 +272,29 @@ pub fn ledgerd<S: Source, K: Sink, V: Vault, C: Clock, G: Gate, R: Threads + Wai
             image,
             digests,
             tx,
+            part,
             save,
-        } => { receipt(alloc, Sha256Hash, image, digests, tx, save, sink, vault) }
+        } => {
+            receipt_of_part(
+                alloc, Sha256Hash, image, digests, tx, part, save, sink, vault,
+            )
+        }
+        Command::Join {
+            image,
+            digests,
+            save,
+        } => {
+            receipt(
+                alloc,
+                Sha256Hash,
+                image,
+                digests,
+                Wanted::Chain,
+                save,
+                sink,
+                vault,
+            )
+        }
         Command::Check { receipt, digests } => {
             check(alloc, Sha256Hash, receipt, digests, sink, vault)
         }

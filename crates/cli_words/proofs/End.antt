@@ -10,7 +10,7 @@ use Rattle.cli_words.specs.Line.{Text, nothing, uses_of}
 use Rattle.cli_words.specs.Shapes.{line_rules, line_shape, operand_rules, full_option, app_for}
 use Rattle.cli_words.specs.Subcommands.{name_of, operands_of, options_of}
 use Rattle.cli_words.specs.declared.subcommand.Subcommand.{Subcommand}
-use Rattle.cli_words.specs.declared.subcommand.Subcommand.TheVariants.{Step, Run, Verify, Extract, Replay, Gen, Receipt, Check}
+use Rattle.cli_words.specs.declared.subcommand.Subcommand.TheVariants.{Step, Run, Verify, Extract, Replay, Gen, Receipt, Join, Check}
 use Rattle.cli_words.proofs.Run.{Tells, All_plain, run}
 
 and_false : (b : Bool) → (b && false) ≡ false
@@ -111,6 +111,10 @@ says Receipt words no_dash =
     let stop = (walk (built (app_for Receipt)).top.rules [] nothing_held (drop 1 words)).stopped in
     let no = no_entry (built (app_for Receipt)) stop refl in
     rw (no.0, no.1) (line_says (name_of Receipt) (options_of Receipt) (operands_of Receipt) (drop 1 words) false no_dash (omega arith))
+says Join words no_dash =
+    let stop = (walk (built (app_for Join)).top.rules [] nothing_held (drop 1 words)).stopped in
+    let no = no_entry (built (app_for Join)) stop refl in
+    rw (no.0, no.1) (line_says (name_of Join) (options_of Join) (operands_of Join) (drop 1 words) false no_dash (omega arith))
 says Check words no_dash =
     let stop = (walk (built (app_for Check)).top.rules [] nothing_held (drop 1 words)).stopped in
     let no = no_entry (built (app_for Check)) stop refl in
@@ -124,4 +128,5 @@ simple Extract = refl
 simple Replay = refl
 simple Gen = refl
 simple Receipt = refl
+simple Join = refl
 simple Check = refl

@@ -7,11 +7,11 @@ use Rattle.clap.specs.Words.{fault_of, matches_of, rows_of, found_of, first_valu
 use Rattle.clap.specs.declared.parser.matches.ArgMatches.{ArgMatches}
 use Rattle.clap.proofs.WalkLemmas.{first_value-rows, list_any-map}
 use Rattle.cli_words.specs.Line.{Text, Use, uses_of, ◌>>=◌}
-use Rattle.cli_words.specs.Commands.{given, has_dashes, settings, meaning_of, arguments_of}
+use Rattle.cli_words.specs.Commands.{given, has_dashes, settings, part, meaning_of, arguments_of}
 use Rattle.cli_words.specs.Shapes.{Matched, Finds, app_for}
 use Rattle.cli_words.specs.Subcommands.{operands_of, options_of}
 use Rattle.cli_words.specs.declared.subcommand.Subcommand.{Subcommand}
-use Rattle.cli_words.specs.declared.subcommand.Subcommand.TheVariants.{Step, Run, Verify, Extract, Replay, Gen, Receipt, Check}
+use Rattle.cli_words.specs.declared.subcommand.Subcommand.TheVariants.{Step, Run, Verify, Extract, Replay, Gen, Receipt, Join, Check}
 use Rattle.cli_words.proofs.Run.{Tells, All_plain, rows_of_uses, row_of_use}
 use Rattle.cli_words.proofs.End.{says}
 
@@ -52,6 +52,10 @@ settings_same : (f g : Text → Option Text) → ((t : Text) → f t ≡ g t) �
 unfolding settings
 settings_same f g h = rw (h (codes "block-size"), h (codes "clock"), h (codes "database")) refl
 
+part_same : (f g : Text → Option Text) → ((t : Text) → f t ≡ g t) → part f ≡ part g
+unfolding part
+part_same f g h = rw (h (codes "table"), h (codes "event")) refl
+
 same : (which : Subcommand) (f g : Text → Option Text) → ((t : Text) → f t ≡ g t) → meaning_of which f ≡ meaning_of which g
 unfolding meaning_of
 same Step f g h = rw (h (codes "save"), settings_same f g h) refl
@@ -60,7 +64,8 @@ same Verify f g h = rw (h (codes "IMAGE"), h (codes "DIGESTS"), h (codes "worker
 same Extract f g h = rw (h (codes "HONEST"), h (codes "SUSPECT"), h (codes "DIGESTS")) refl
 same Replay f g h = rw (h (codes "JOURNAL"), h (codes "save")) refl
 same Gen f g h = rw (h (codes "COUNT")) refl
-same Receipt f g h = rw (h (codes "IMAGE"), h (codes "DIGESTS"), h (codes "TX"), h (codes "save")) refl
+same Receipt f g h = rw (h (codes "IMAGE"), h (codes "DIGESTS"), h (codes "TX"), part_same f g h, h (codes "save")) refl
+same Join f g h = rw (h (codes "IMAGE"), h (codes "DIGESTS"), h (codes "save")) refl
 same Check f g h = rw (h (codes "RECEIPT"), h (codes "DIGESTS")) refl
 
 pub arguments_found : (which : Subcommand) (words : List Text) (m : ArgMatches) → has_dashes words ≡ false

@@ -5,14 +5,16 @@ use Rattle.std.specs.Str.{bytes_eq}
 use Rattle.std.proofs.lemmas.Bool.Decides.{nat_tests}
 use Rattle.base_types.specs.DatabaseName.{is_database_name}
 use Rattle.base_types.specs.declared.moment.TheConstants.{MAX_TICKS}
-use Rattle.cli_words.specs.Commands.{Settings, AreInRange, IsInRange, Command, Step, Run, Verify, Extract, Replay, Gen, Receipt, Check, given, settings, meaning_of, has_dashes, arguments_of, asks_help, alone, help_on, others, behind, command_of}
+use Rattle.cli_words.specs.Commands.{Settings, AreInRange, IsInRange, Command, Step, Run, Verify, Extract, Replay, Gen, Receipt, Join, Check, IsPartInRange, given, settings, part_from, part, meaning_of, has_dashes, arguments_of, asks_help, alone, help_on, others, behind, command_of}
 use Rattle.cli_words.specs.Commands as said
 use Rattle.cli_words.specs.Forms.{is_number, number_from, number_in, database_name, file_name, save_name, or_default, if_given}
 use Rattle.cli_words.specs.Line.{Text, uses_of, ◌>>=◌}
 use Rattle.cli_words.specs.Subcommands.{named, operands_of, options_of}
 use Rattle.cli_words.specs.Views.{command_view}
 use Rattle.cli_words.specs.declared.command.Command as coded
-use Rattle.cli_words.specs.declared.forms.TheConstants.{MAX_TX}
+use Rattle.cli_words.specs.declared.forms.TheConstants.{MAX_TX, MAX_TABLE, MAX_EVENT}
+use Rattle.cli_words.specs.declared.part.Part.{Part}
+use Rattle.cli_words.specs.declared.part.Part.TheVariants as shown
 use Rattle.cli_words.specs.declared.subcommand.Subcommand.{Subcommand}
 use Rattle.cli_words.specs.declared.subcommand.Subcommand.TheVariants as which
 
@@ -59,13 +61,17 @@ or_within : (default low high : ℕ) → Within low high default → (text : Opt
 or_within default low high within None n e = subst (λ k. Within low high k) (inner default n e) within
 or_within default low high within (Some text) n e = number_within low high text n e
 
-given_within : (high : ℕ) (text : Option Text) (o : Option ℕ) → if_given (number_in 0 high) text ≡ Some o → IfSome o (λ n. n ≤ high)
-given_within high None o e = subst (λ k. IfSome k (λ n. n ≤ high)) (inner None o e) tt
-given_within high (Some text) o e = go (number_in 0 high text) refl e
+given_within : (low high : ℕ) (text : Option Text) (o : Option ℕ) → if_given (number_in low high) text ≡ Some o → IfSome o (λ n. Within low high n)
+given_within low high None o e = subst (λ k. IfSome k (λ n. Within low high n)) (inner None o e) tt
+given_within low high (Some text) o e = go (number_in low high text) refl e
   where
-    go : (found : Option ℕ) → number_in 0 high text ≡ found → option_map (λ (a : ℕ). Some a) found ≡ Some o → IfSome o (λ n. n ≤ high)
+    go : (found : Option ℕ) → number_in low high text ≡ found → option_map (λ (a : ℕ). Some a) found ≡ Some o → IfSome o (λ n. Within low high n)
     go None is f = absurd cc
-    go (Some n) is f = subst (λ k. IfSome k (λ n. n ≤ high)) (inner (Some n) o f) (number_within 0 high text n is).most
+    go (Some n) is f = subst (λ k. IfSome k (λ n. Within low high n)) (inner (Some n) o f) (number_within low high text n is)
+
+at_most_of : (low high : ℕ) (o : Option ℕ) → IfSome o (λ n. Within low high n) → IfSome o (λ n. n ≤ high)
+at_most_of low high None within = tt
+at_most_of low high (Some n) within = within.most
 
 default_named : is_database_name (codes "LedgerDB") ≡ true
 unfolding is_database_name
@@ -90,9 +96,24 @@ in_range value how e =
     subst (λ s. AreInRange s) (inner made how c.rest) (record {
       least = size.least;
       most = size.most;
-      clock = given_within MAX_TICKS (value (codes "clock")) b.value b.found;
+      clock = at_most_of 0 MAX_TICKS b.value (given_within 0 MAX_TICKS (value (codes "clock")) b.value b.found);
       database = database_named (value (codes "database")) c.value c.found;
     })
+
+-- ---- what is shown of a transaction
+
+from_range : (table event : Option ℕ) (p : Part) → IfSome table (λ n. Within 1 MAX_TABLE n) → IfSome event (λ n. Within 0 MAX_EVENT n) → part_from table event ≡ Some p → IsPartInRange p
+from_range None None p t e is = subst IsPartInRange (inner shown.Entry p is) tt
+from_range (Some id) None p t e is = subst IsPartInRange (inner (shown.Table id) p is) (t.least, t.most)
+from_range (Some id) (Some number) p t e is = subst IsPartInRange (inner (shown.Event id number) p is) (t.least, t.most, e.most)
+from_range None (Some number) p t e is = absurd cc
+
+part_range : (value : Text → Option Text) (p : Part) → part value ≡ Some p → IsPartInRange p
+unfolding part
+part_range value p e =
+    let a = bound (if_given (number_in 1 MAX_TABLE) (value (codes "table"))) _ p e in
+    let b = bound (if_given (number_in 0 MAX_EVENT) (value (codes "event"))) _ p a.rest in
+    from_range a.value b.value p (given_within 1 MAX_TABLE (value (codes "table")) a.value a.found) (given_within 0 MAX_EVENT (value (codes "event")) b.value b.found) b.rest
 
 -- ---- commands
 
@@ -135,12 +156,18 @@ has_range which.Gen value =
     (λ count is d. let b = bound (value (codes "COUNT")) (number_in 1 10000) count is in
     let within = number_within 1 10000 b.value count b.rest in is_some (Gen count) d (within.least, within.most))
 has_range which.Receipt value =
-    every (value (codes "IMAGE") >>= file_name) (λ image. value (codes "DIGESTS") >>= file_name >>= λ digests. value (codes "TX") >>= number_in 1 MAX_TX >>= λ tx. value (codes "save") >>= save_name >>= λ save. Some (Receipt image digests tx save)) IsInRange
-    (λ image is. every (value (codes "DIGESTS") >>= file_name) (λ digests. value (codes "TX") >>= number_in 1 MAX_TX >>= λ tx. value (codes "save") >>= save_name >>= λ save. Some (Receipt image digests tx save)) IsInRange
-    (λ digests are. every (value (codes "TX") >>= number_in 1 MAX_TX) (λ tx. value (codes "save") >>= save_name >>= λ save. Some (Receipt image digests tx save)) IsInRange
-    (λ tx said. every (value (codes "save") >>= save_name) (λ save. Some (Receipt image digests tx save)) IsInRange
+    every (value (codes "IMAGE") >>= file_name) (λ image. value (codes "DIGESTS") >>= file_name >>= λ digests. value (codes "TX") >>= number_in 1 MAX_TX >>= λ tx. part value >>= λ p. value (codes "save") >>= save_name >>= λ save. Some (Receipt image digests tx p save)) IsInRange
+    (λ image is. every (value (codes "DIGESTS") >>= file_name) (λ digests. value (codes "TX") >>= number_in 1 MAX_TX >>= λ tx. part value >>= λ p. value (codes "save") >>= save_name >>= λ save. Some (Receipt image digests tx p save)) IsInRange
+    (λ digests are. every (value (codes "TX") >>= number_in 1 MAX_TX) (λ tx. part value >>= λ p. value (codes "save") >>= save_name >>= λ save. Some (Receipt image digests tx p save)) IsInRange
+    (λ tx said. every (part value) (λ p. value (codes "save") >>= save_name >>= λ save. Some (Receipt image digests tx p save)) IsInRange
+    (λ p shows. every (value (codes "save") >>= save_name) (λ save. Some (Receipt image digests tx p save)) IsInRange
     (λ save also d. let b = bound (value (codes "TX")) (number_in 1 MAX_TX) tx said in
-    let within = number_within 1 MAX_TX b.value tx b.rest in is_some (Receipt image digests tx save) d (within.least, within.most)))))
+    let within = number_within 1 MAX_TX b.value tx b.rest in is_some (Receipt image digests tx p save) d (within.least, within.most, part_range value p shows))))))
+has_range which.Join value =
+    every (value (codes "IMAGE") >>= file_name) (λ image. value (codes "DIGESTS") >>= file_name >>= λ digests. value (codes "save") >>= save_name >>= λ save. Some (Join image digests save)) IsInRange
+    (λ image is. every (value (codes "DIGESTS") >>= file_name) (λ digests. value (codes "save") >>= save_name >>= λ save. Some (Join image digests save)) IsInRange
+    (λ digests are. every (value (codes "save") >>= save_name) (λ save. Some (Join image digests save)) IsInRange
+    (λ save also d. is_some (Join image digests save) d tt)))
 has_range which.Check value =
     every (value (codes "RECEIPT") >>= file_name) (λ receipt. value (codes "DIGESTS") >>= file_name >>= λ digests. Some (Check receipt digests)) IsInRange
     (λ receipt is. every (value (codes "DIGESTS") >>= file_name) (λ digests. Some (Check receipt digests)) IsInRange

@@ -74,6 +74,7 @@ readable name saved = record {
   digests = longer name (codes ".digests") saved (omega arith) refl;
   journal = longer name (codes ".journal") saved (omega arith) refl;
   receipt = longer name (codes ".receipt") saved (omega arith) refl;
+  chain = longer name (codes ".chain") saved (omega arith) refl;
   part = λ items small.
       let ending = part_ending items small in
       let shape = ap (λ (l : List ℕ). l ++ codes ".img") (append_assoc name (codes "-") (decimal items)) ∙ append_assoc name (codes "-" ++ decimal items) (codes ".img") in

@@ -3,7 +3,9 @@ use Rattle.std.specs.Prelude.{ℕ, ◌≡◌, ◌≤◌, Bool, true, false, ◌|
 use Rattle.std.specs.List.{list_any}
 use Rattle.base_types.specs.DatabaseName.{is_database_name}
 use Rattle.base_types.specs.declared.moment.TheConstants.{MAX_TICKS}
-use Rattle.cli_words.specs.declared.forms.TheConstants.{MAX_TX}
+use Rattle.cli_words.specs.declared.forms.TheConstants.{MAX_TX, MAX_TABLE, MAX_EVENT}
+use Rattle.cli_words.specs.declared.part.Part.{Part}
+use Rattle.cli_words.specs.declared.part.Part.TheVariants as shown
 use Rattle.cli_words.specs.declared.subcommand.Subcommand.{Subcommand}
 use Rattle.cli_words.specs.declared.subcommand.Subcommand.TheVariants as which
 use Rattle.cli_words.specs.Forms.{file_name, save_name, database_name, number_in, or_default, if_given}
@@ -36,13 +38,22 @@ pub data Command : Type 0 where
   -- the name of a journal, and the name that its image is saved under
   Replay : Text → Text → Command
   Gen : ℕ → Command
-  -- the names of an image and of digests, the id of a transaction, and the name its receipt is saved under
-  Receipt : Text → Text → ℕ → Text → Command
+  -- the names of an image and of digests, the id of a transaction, what of it is shown, and the name its receipt is
+  -- saved under
+  Receipt : Text → Text → ℕ → Part → Text → Command
+  -- the names of an image and of digests, and the name that their chain is saved under
+  Join : Text → Text → Text → Command
   -- the names of a receipt and of digests
   Check : Text → Text → Command
   -- help on one command, or on all
   Help : Option Subcommand → Command
   Version : Command
+
+-- so has what of a transaction is shown
+abbrev pub IsPartInRange : Part → Type 0
+IsPartInRange shown.Entry = Unit {0}
+IsPartInRange (shown.Table id) = (1 ≤ id) × (id ≤ MAX_TABLE)
+IsPartInRange (shown.Event id number) = (1 ≤ id) × (id ≤ MAX_TABLE) × (number ≤ MAX_EVENT)
 
 -- its values have their ranges
 abbrev pub IsInRange : Command → Type 0
@@ -50,7 +61,7 @@ IsInRange (Step save how) = AreInRange how
 IsInRange (Run save how) = AreInRange how
 IsInRange (Verify image digests workers) = (1 ≤ workers) × (workers ≤ 16)
 IsInRange (Gen count) = (1 ≤ count) × (count ≤ 10000)
-IsInRange (Receipt image digests tx save) = (1 ≤ tx) × (tx ≤ MAX_TX)
+IsInRange (Receipt image digests tx part save) = (1 ≤ tx) × (tx ≤ MAX_TX) × IsPartInRange part
 IsInRange _ = Unit {0}
 
 -- what was given under a name
@@ -64,6 +75,20 @@ settings value =
     if_given (number_in 0 MAX_TICKS) (value (codes "clock")) >>= λ clock.
     or_default (codes "LedgerDB") database_name (value (codes "database")) >>= λ database.
     Some (record { block_size = size; clock = clock; database = database })
+
+-- an event is shown of a table alone
+abbrev pub part_from : Option ℕ → Option ℕ → Option Part
+part_from None None = Some shown.Entry
+part_from (Some id) None = Some (shown.Table id)
+part_from (Some id) (Some number) = Some (shown.Event id number)
+part_from None (Some number) = None
+
+-- `[--table ID [--event NUMBER]]`
+unfoldable pub part : (Text → Option Text) → Option Part
+part value =
+    if_given (number_in 1 MAX_TABLE) (value (codes "table")) >>= λ table.
+    if_given (number_in 0 MAX_EVENT) (value (codes "event")) >>= λ event.
+    part_from table event
 
 -- what the values under the names of its operands and options say; none where one of them lacks its form
 unfoldable pub meaning_of : Subcommand → (Text → Option Text) → Option Command
@@ -87,8 +112,13 @@ meaning_of which.Gen value = value (codes "COUNT") >>= number_in 1 10000 >>= λ 
 meaning_of which.Receipt value = value (codes "IMAGE") >>= file_name >>= λ image.
     value (codes "DIGESTS") >>= file_name >>= λ digests.
     value (codes "TX") >>= number_in 1 MAX_TX >>= λ tx.
+    part value >>= λ shows.
     value (codes "save") >>= save_name >>= λ save.
-    Some (Receipt image digests tx save)
+    Some (Receipt image digests tx shows save)
+meaning_of which.Join value = value (codes "IMAGE") >>= file_name >>= λ image.
+    value (codes "DIGESTS") >>= file_name >>= λ digests.
+    value (codes "save") >>= save_name >>= λ save.
+    Some (Join image digests save)
 meaning_of which.Check value = value (codes "RECEIPT") >>= file_name >>= λ receipt.
     value (codes "DIGESTS") >>= file_name >>= λ digests.
     Some (Check receipt digests)

@@ -21,6 +21,7 @@ pub record IsReadable (name : List ℕ) : Type 0 where
   pub digests : is_file_name (name ++ codes ".digests") ≡ true
   pub journal : is_file_name (name ++ codes ".journal") ≡ true
   pub receipt : is_file_name (name ++ codes ".receipt") ≡ true
+  pub chain : is_file_name (name ++ codes ".chain") ≡ true
   -- the image of the first `items` items
   pub part : (items : ℕ) → items < 2 ^ 64
       → is_file_name (name ++ codes "-" ++ decimal items ++ codes ".img") ≡ true

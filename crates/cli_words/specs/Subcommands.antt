@@ -1,7 +1,7 @@
 -- The words that name a command, and what may stand behind each.
 use Rattle.std.specs.Prelude.{List, [], ◌∷◌, codes, Option, Some, None, if◌then◌else◌, bytes_eq}
 use Rattle.cli_words.specs.declared.subcommand.Subcommand.{Subcommand}
-use Rattle.cli_words.specs.declared.subcommand.Subcommand.TheVariants.{Step, Run, Verify, Extract, Replay, Gen, Receipt, Check}
+use Rattle.cli_words.specs.declared.subcommand.Subcommand.TheVariants.{Step, Run, Verify, Extract, Replay, Gen, Receipt, Join, Check}
 use Rattle.cli_words.specs.Line.{Text}
 
 abbrev pub name_of : Subcommand → Text
@@ -12,6 +12,7 @@ name_of Extract = codes "extract"
 name_of Replay = codes "replay"
 name_of Gen = codes "gen"
 name_of Receipt = codes "receipt"
+name_of Join = codes "join"
 name_of Check = codes "check"
 
 -- the names of its operands, in their order
@@ -23,6 +24,7 @@ operands_of Extract = codes "HONEST" ∷ codes "SUSPECT" ∷ codes "DIGESTS" ∷
 operands_of Replay = codes "JOURNAL" ∷ []
 operands_of Gen = codes "COUNT" ∷ []
 operands_of Receipt = codes "IMAGE" ∷ codes "DIGESTS" ∷ codes "TX" ∷ []
+operands_of Join = codes "IMAGE" ∷ codes "DIGESTS" ∷ []
 operands_of Check = codes "RECEIPT" ∷ codes "DIGESTS" ∷ []
 
 -- the names of its options
@@ -33,7 +35,8 @@ options_of Verify = codes "workers" ∷ []
 options_of Extract = []
 options_of Replay = codes "save" ∷ []
 options_of Gen = []
-options_of Receipt = codes "save" ∷ []
+options_of Receipt = codes "save" ∷ codes "table" ∷ codes "event" ∷ []
+options_of Join = codes "save" ∷ []
 options_of Check = []
 
 -- the one that the word names
@@ -46,5 +49,6 @@ named word =
     else if bytes_eq word (codes "replay") then Some Replay
     else if bytes_eq word (codes "gen") then Some Gen
     else if bytes_eq word (codes "receipt") then Some Receipt
+    else if bytes_eq word (codes "join") then Some Join
     else if bytes_eq word (codes "check") then Some Check
     else None

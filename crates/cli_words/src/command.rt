@@ -7,10 +7,11 @@ ghost use Rattle.cli_words.specs.Commands as spec;
 ghost use Rattle.cli_words.specs.Views.{settings_view, command_view};
 
 use crate::forms::{
-    MAX_TX, database_or_default, file_name, number_if_given, number_in, number_or, save_name,
-    small_number_in,
+    MAX_EVENT, MAX_TABLE, MAX_TX, database_or_default, file_name, number_if_given, number_in,
+    number_or, save_name, small_number_if_given, small_number_in,
 };
 use crate::line::read_line;
+use crate::part::Part;
 use crate::subcommand::Subcommand;
 use base_types::{MAX_TICKS, Memory};
 use clap::ArgMatches;
@@ -70,7 +71,18 @@ pub enum Command<'a> {
         digests: &'a str,
         /// The transaction's id, 1 to 2^63 - 1.
         tx: u64,
+        /// What of it the receipt shows.
+        part: Part,
         /// The name that the receipt is saved under.
+        save: &'a str,
+    },
+    /// Joins digests by the records of an image and saves the chain.
+    Join {
+        /// The name of the image.
+        image: &'a str,
+        /// The name of the digests that it is held against, and that are joined.
+        digests: &'a str,
+        /// The name that the chain is saved under.
         save: &'a str,
     },
     /// Says whether a receipt holds with digests.
@@ -169,6 +181,26 @@ fn gen_of<'a>(matches: &ArgMatches<'a>) -> Option<Command<'a>>
     Some(Command::Gen { count })
 }
 
+fn part_from(table: Option<u32>, event: Option<u64>) -> Option<Part>
+    ensures { result ≡ spec.part_from table event }
+{
+    match (table, event) {
+        (None, None) => Some(Part::Entry),
+        (Some(table), None) => Some(Part::Table(table)),
+        (Some(table), Some(event)) => Some(Part::Event(table, event)),
+        (None, Some(_)) => None,
+    }
+}
+
+#[tactic(auto, unfolding(crate::specs::Commands::part))]
+fn part_of(matches: &ArgMatches<'_>) -> Option<Part>
+    ensures { result ≡ spec.part (first_value (found_of matches.now)) }
+{
+    let table = small_number_if_given(1, MAX_TABLE, matches.get_str("table"))?;
+    let event = number_if_given(0, MAX_EVENT, matches.get_str("event"))?;
+    part_from(table, event)
+}
+
 #[tactic(auto, unfolding(crate::specs::Commands::meaning_of))]
 fn receipt_of<'a>(matches: &ArgMatches<'a>) -> Option<Command<'a>>
     ensures { option_map command_view result
@@ -177,11 +209,28 @@ fn receipt_of<'a>(matches: &ArgMatches<'a>) -> Option<Command<'a>>
     let image = file_name(matches.get_str("IMAGE")?)?;
     let digests = file_name(matches.get_str("DIGESTS")?)?;
     let tx = number_in(1, MAX_TX, matches.get_str("TX")?)?;
+    let part = part_of(matches)?;
     let save = save_name(matches.get_str("save")?)?;
     Some(Command::Receipt {
         image,
         digests,
         tx,
+        part,
+        save,
+    })
+}
+
+#[tactic(auto, unfolding(crate::specs::Commands::meaning_of))]
+fn join_of<'a>(matches: &ArgMatches<'a>) -> Option<Command<'a>>
+    ensures { option_map command_view result
+        ≡ spec.meaning_of Subcommand.Join (first_value (found_of matches.now)) }
+{
+    let image = file_name(matches.get_str("IMAGE")?)?;
+    let digests = file_name(matches.get_str("DIGESTS")?)?;
+    let save = save_name(matches.get_str("save")?)?;
+    Some(Command::Join {
+        image,
+        digests,
         save,
     })
 }
@@ -209,6 +258,7 @@ fn meaning_of<'a>(which: Subcommand, matches: &ArgMatches<'a>) -> Option<Command
         Subcommand::Replay => replay_of(matches),
         Subcommand::Gen => gen_of(matches),
         Subcommand::Receipt => receipt_of(matches),
+        Subcommand::Join => join_of(matches),
         Subcommand::Check => check_of(matches),
     }
 }

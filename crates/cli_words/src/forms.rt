@@ -11,6 +11,12 @@ use base_types::is_database_name;
 /// The greatest id that a transaction has.
 pub const MAX_TX: u64 = 9_223_372_036_854_775_807;
 
+/// The greatest id that a table has.
+pub const MAX_TABLE: u32 = 4_294_967_295;
+
+/// The greatest number that an event may be asked for by.
+pub const MAX_EVENT: u64 = 9_223_372_036_854_775_807;
+
 fn starts_well(name: &[u8]) -> bool
     ensures { result ≡ starts_as_name name.now }
 {
@@ -155,6 +161,16 @@ pub(crate) fn number_if_given(low: u64, high: u64, text: Option<&str>) -> Option
 {
     match text {
         Some(text) => number_in(low, high, text).map(Some),
+        None => Some(None),
+    }
+}
+
+/// The same of a number of 32 bits.
+pub(crate) fn small_number_if_given(low: u32, high: u32, text: Option<&str>) -> Option<Option<u32>>
+    ensures { result ≡ if_given (number_in low high) (option_copied text.entry) }
+{
+    match text {
+        Some(text) => small_number_in(low, high, text).map(Some),
         None => Some(None),
     }
 }

@@ -10,7 +10,8 @@ pub const USAGE: &str = "usage: ledgerd step --save NAME [--block-size N] [--clo
        ledgerd verify IMAGE DIGESTS [--workers W]
        ledgerd extract HONEST SUSPECT DIGESTS
        ledgerd replay JOURNAL --save NAME
-       ledgerd receipt IMAGE DIGESTS TX --save NAME
+       ledgerd receipt IMAGE DIGESTS TX [--table ID [--event N]] --save NAME
+       ledgerd join IMAGE DIGESTS --save NAME
        ledgerd check RECEIPT DIGESTS
        ledgerd gen COUNT
 `./ledgerd --help` says what each does.
@@ -34,6 +35,8 @@ them.
                                 runs a journal again and saves its image
   ledgerd receipt IMAGE DIGESTS TX --save NAME
                                 makes the receipt of a transaction of an image
+  ledgerd join IMAGE DIGESTS --save NAME
+                                joins digests by the blocks between them
   ledgerd check RECEIPT DIGESTS says whether a receipt holds with digests
   ledgerd gen COUNT             runs and verifies a workload, to measure with
   ledgerd COMMAND --help        says more of one of these, as `ledgerd help
@@ -51,8 +54,8 @@ Limits: 4 MiB and 64 sessions for an input, 256 MiB for an image or a journal,
 
 It ends with one of these statuses, and from 2 on standard error says more:
    0  the work is done; `verify` and `check` said Yes, `extract` said Same
-   1  `verify`, `receipt` or `check` said No; `extract` said it of an image, or
-      shows a collision
+   1  `verify`, `receipt`, `join` or `check` said No; `extract` said it of an
+      image, or shows a collision
    2  the words were refused             3  a limit was exceeded
    4  reading the input failed           5  writing the output failed
    6  a file can't be read or put        7  no such file
@@ -170,17 +173,36 @@ Example, from the top of the repository, behind that of `step`:
 ";
 
 /// Help on `receipt`.
-pub const RECEIPT_HELP: &str = "ledgerd receipt IMAGE DIGESTS TX --save NAME
+pub const RECEIPT_HELP: &str =
+    "ledgerd receipt IMAGE DIGESTS TX [--table ID [--event N]] --save NAME
 
 Verifies the image IMAGE with the digests DIGESTS, and prints the verdict where
 it is No. Else it puts NAME.receipt in the current folder and prints `receipt`
 with the transaction's block and its place there. The receipt shows that the
 transaction with the id TX is one of those that the digest of the greatest block
 covers; `check` says so to whoever holds that digest, without the image.
-TX is a number from 1 on, as `committed` prints it.
+With --table it also shows all that the transaction did in the table ID: each
+row version that it started or ended there, and no other. With --event it shows
+the one of these that is the transaction's event N, from 0.
+TX is a number from 1 on, as `committed` prints it; ID is the table's in
+`SELECT table_id, name FROM sys_ledger_tables`.
 
 Example, from the top of the repository:
   (cd examples && ../ledgerd receipt honest.img honest.digests 2 --save payment)
+";
+
+/// Help on `join`.
+pub const JOIN_HELP: &str = "ledgerd join IMAGE DIGESTS --save NAME
+
+Verifies the image IMAGE with the digests DIGESTS, and prints the verdict where
+it is No. Else it puts NAME.chain in the current folder, the records of the
+blocks from the least to the greatest that a digest is of, and prints `joined`
+with the numbers of these two. Whoever holds the digests sees by `check`,
+without the image, that the one of the greatest block continues the history of
+each other, so that it alone has to be kept.
+
+Example, from the top of the repository:
+  (cd examples && ../ledgerd join honest.img honest.digests --save months)
 ";
 
 /// Help on `check`.
@@ -188,8 +210,11 @@ pub const CHECK_HELP: &str = "ledgerd check RECEIPT DIGESTS
 
 Prints `Yes` where the receipt RECEIPT holds with the first of the digests
 DIGESTS that is of its last block, and ends with status 0: no image that
-verifies with this digest has another transaction at this place. Else it prints
-`No receipt` and ends with status 1.
+verifies with this digest has another transaction at this place, nor, of a
+receipt that `--table` made, other events of it in the table. Else it prints `No
+receipt` and ends with status 1. RECEIPT may also be a chain, as `join` puts it:
+it holds where each of the digests of its blocks is the one of the block's
+record, so that no image that verifies with the last contradicts another.
 Both names are those of files in the current folder. It puts no file.
 
 Example, from the top of the repository, behind that of `receipt`:
@@ -223,6 +248,7 @@ pub fn help_text(which: Option<Subcommand>) -> &'static str
         Some(Subcommand::Replay) => REPLAY_HELP,
         Some(Subcommand::Gen) => GEN_HELP,
         Some(Subcommand::Receipt) => RECEIPT_HELP,
+        Some(Subcommand::Join) => JOIN_HELP,
         Some(Subcommand::Check) => CHECK_HELP,
     }
 }

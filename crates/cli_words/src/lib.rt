@@ -7,6 +7,7 @@ mod help;
 mod law;
 mod line;
 mod names;
+mod part;
 mod refused;
 mod subcommand;
 
@@ -14,5 +15,6 @@ pub use command::{Command, read_command};
 pub use help::{HELP, USAGE, VERSION, help_text};
 pub use law::{saved_files_can_be_read, settings_are_in_range, words_law};
 pub use names::name_read;
+pub use part::Part;
 pub use refused::{Refused, refused_word};
 pub use subcommand::Subcommand;

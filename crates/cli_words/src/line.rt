@@ -1,10 +1,10 @@
 // The words behind a command, as clap reads them.
-ghost use Rattle.std.specs.Prelude.{◌≡◌, IfOk, map, drop, true, false, string_bytes};
+ghost use Rattle.std.specs.Prelude.{◌≡◌, [], IfOk, map, drop, true, false, string_bytes};
 ghost use Rattle.clap.specs.Words.{app_of, is_simple_and_free};
 ghost use Rattle.cli_words.specs.Line.{uses_of};
 ghost use Rattle.cli_words.specs.Commands.{has_dashes};
 ghost use Rattle.cli_words.specs.Shapes.{Matched, Finds, app_with, app_for};
-ghost use Rattle.cli_words.specs.Subcommands.{operands_of, options_of};
+ghost use Rattle.cli_words.specs.Subcommands.{name_of, operands_of, options_of};
 
 use crate::subcommand::Subcommand;
 use base_types::Memory;
@@ -75,18 +75,39 @@ fn gen_command<'a>(alloc: Global) -> Result<Command<'a>, AllocError>
         .arg(count)
 }
 
-fn receipt_command<'a>(alloc: Global) -> Result<Command<'a>, AllocError>
-    ensures { IfOk result (λ c. app_of c ≡ app_for Subcommand.Receipt) }
+fn receipt_operands<'a>(alloc: Global) -> Result<Command<'a>, AllocError>
+    ensures { IfOk result (λ c. app_of c ≡ app_with (name_of Subcommand.Receipt) (operands_of Subcommand.Receipt) []) }
 {
     let image = Arg::new(alloc, "IMAGE");
     let digests = Arg::new(alloc, "DIGESTS");
     let tx = Arg::new(alloc, "TX");
-    let save = Arg::new(alloc, "save").long("save");
     Command::new(alloc, "receipt")
         .disable_help_flag(true)
         .arg(image)?
         .arg(digests)?
-        .arg(tx)?
+        .arg(tx)
+}
+
+fn receipt_command<'a>(alloc: Global) -> Result<Command<'a>, AllocError>
+    ensures { IfOk result (λ c. app_of c ≡ app_for Subcommand.Receipt) }
+{
+    let save = Arg::new(alloc, "save").long("save");
+    let table = Arg::new(alloc, "table").long("table");
+    let event = Arg::new(alloc, "event").long("event");
+    let command = receipt_operands(alloc)?;
+    command.arg(save)?.arg(table)?.arg(event)
+}
+
+fn join_command<'a>(alloc: Global) -> Result<Command<'a>, AllocError>
+    ensures { IfOk result (λ c. app_of c ≡ app_for Subcommand.Join) }
+{
+    let image = Arg::new(alloc, "IMAGE");
+    let digests = Arg::new(alloc, "DIGESTS");
+    let save = Arg::new(alloc, "save").long("save");
+    Command::new(alloc, "join")
+        .disable_help_flag(true)
+        .arg(image)?
+        .arg(digests)?
         .arg(save)
 }
 
@@ -114,6 +135,7 @@ fn command_for<'a>(alloc: Global, which: Subcommand) -> Result<Command<'a>, Allo
         Subcommand::Replay => replay_command(alloc),
         Subcommand::Gen => gen_command(alloc),
         Subcommand::Receipt => receipt_command(alloc),
+        Subcommand::Join => join_command(alloc),
         Subcommand::Check => check_command(alloc),
     }
 }

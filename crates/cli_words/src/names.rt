@@ -18,6 +18,8 @@ pub fn name_read<'a>(command: Command<'a>, number: u8) -> Option<&'a str>
         (Command::Replay { journal, .. }, 1) => Some(journal),
         (Command::Receipt { image, .. }, 1) => Some(image),
         (Command::Receipt { digests, .. }, 2) => Some(digests),
+        (Command::Join { image, .. }, 1) => Some(image),
+        (Command::Join { digests, .. }, 2) => Some(digests),
         (Command::Check { receipt, .. }, 1) => Some(receipt),
         (Command::Check { digests, .. }, 2) => Some(digests),
         _ => None,

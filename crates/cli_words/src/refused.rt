@@ -1,6 +1,6 @@
 // Which word was refused and why, for whoever typed it. `read_command` decides what is refused; of words that it
 // refused this says what is wrong with the first that is at fault.
-use crate::forms::{MAX_TX, database_name, file_name, number_in, save_name};
+use crate::forms::{MAX_EVENT, MAX_TABLE, MAX_TX, database_name, file_name, number_in, save_name};
 use crate::subcommand::Subcommand;
 use base_types::MAX_TICKS;
 use std::fmt;
@@ -62,6 +62,8 @@ fn form_of(name: &str) -> Form {
         "workers" => Form::Number(1, 16),
         "COUNT" => Form::Number(1, 10_000),
         "TX" => Form::Number(1, MAX_TX),
+        "table" => Form::Number(1, MAX_TABLE as u64),
+        "event" => Form::Number(0, MAX_EVENT),
         _ => Form::FileName,
     }
 }
@@ -92,6 +94,8 @@ fn operand_at(which: Subcommand, place: usize) -> Option<&'static str> {
         (Subcommand::Receipt, 0) => Some("IMAGE"),
         (Subcommand::Receipt, 1) => Some("DIGESTS"),
         (Subcommand::Receipt, 2) => Some("TX"),
+        (Subcommand::Join, 0) => Some("IMAGE"),
+        (Subcommand::Join, 1) => Some("DIGESTS"),
         (Subcommand::Check, 0) => Some("RECEIPT"),
         (Subcommand::Check, 1) => Some("DIGESTS"),
         _ => None,
@@ -104,7 +108,8 @@ fn has_option(which: Subcommand, name: &str) -> bool {
             matches!(name, "save" | "block-size" | "clock" | "database")
         }
         Subcommand::Verify => name == "workers",
-        Subcommand::Replay | Subcommand::Receipt => name == "save",
+        Subcommand::Receipt => matches!(name, "save" | "table" | "event"),
+        Subcommand::Replay | Subcommand::Join => name == "save",
         Subcommand::Extract | Subcommand::Gen | Subcommand::Check => false,
     }
 }
@@ -118,6 +123,11 @@ fn gives(word: &str, name: &str) -> bool {
         },
         None => false,
     }
+}
+
+/// Whether one of the words is the option of this name.
+fn is_given(words: &[String], name: &str) -> bool {
+    words.iter().any(|word| gives(word.as_str(), name))
 }
 
 fn of_option<'a>(name: &'a str, fault: Fault) -> Option<Refused<'a>> {
@@ -168,7 +178,7 @@ fn option_fault<'a>(
     if !has_option(which, name) {
         return of_option(name, Fault::NoOption);
     }
-    if before.iter().any(|word| gives(word.as_str(), name)) {
+    if is_given(before, name) {
         return of_option(name, Fault::GivenTwice);
     }
     match value {
@@ -220,8 +230,11 @@ fn missing<'a>(which: Subcommand, words: &[String], scan: &Scan<'a>) -> Option<R
     if let Some(name) = operand_at(which, scan.operands) {
         return of_word(name, Fault::NotGiven);
     }
-    if has_option(which, "save") && !words.iter().any(|word| gives(word.as_str(), "save")) {
+    if has_option(which, "save") && !is_given(words, "save") {
         return of_option("save", Fault::NotGiven);
+    }
+    if is_given(words, "event") && !is_given(words, "table") {
+        return of_option("table", Fault::NotGiven);
     }
     None
 }

@@ -19,6 +19,8 @@ pub enum Subcommand {
     Gen,
     /// Makes the receipt of a transaction.
     Receipt,
+    /// Joins the digests of a list by the records between them.
+    Join,
     /// Says whether a receipt holds with digests.
     Check,
 }
@@ -37,6 +39,7 @@ impl Subcommand {
             "replay" => Some(Subcommand::Replay),
             "gen" => Some(Subcommand::Gen),
             "receipt" => Some(Subcommand::Receipt),
+            "join" => Some(Subcommand::Join),
             "check" => Some(Subcommand::Check),
             _ => None,
         }

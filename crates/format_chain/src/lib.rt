@@ -8,5 +8,5 @@ mod writing;
 
 pub use chain::Chain;
 pub use laws::equal_bytes_are_of_equal_chains;
-pub use reading::{read_chain, records_at};
-pub use writing::{put_records, write_chain};
+pub use reading::read_chain;
+pub use writing::write_chain;

@@ -45,9 +45,9 @@ fn receipt_at(alloc: Global, bytes: &[u8]) -> Result<(Receipt, &[u8]), ReadError
     Ok((receipt, rest))
 }
 
-// The entry behind the length of its bytes.
+/// The entry behind the length of its bytes.
 #[tactic(auto, unfolding(crate::specs::ReceiptReading::entry_behind))]
-fn entry_behind(alloc: Global, bytes: &[u8]) -> Result<(TxEntry, &[u8]), ReadError>
+pub fn entry_behind(alloc: Global, bytes: &[u8]) -> Result<(TxEntry, &[u8]), ReadError>
     ensures { ReadsAs (λ x. (x.0, x.1.now)) result (entry_behind bytes.now) }
 {
     let (own, rest) = long_at(bytes)?;
@@ -57,8 +57,9 @@ fn entry_behind(alloc: Global, bytes: &[u8]) -> Result<(TxEntry, &[u8]), ReadErr
     }
 }
 
+/// At most 17 hashes of a path, behind their count in a byte.
 #[tactic(auto, unfolding(crate::specs::ReceiptReading::path_at))]
-fn path_at(alloc: Global, bytes: &[u8]) -> Result<(Items<[u8; 32]>, &[u8]), ReadError>
+pub fn path_at(alloc: Global, bytes: &[u8]) -> Result<(Items<[u8; 32]>, &[u8]), ReadError>
     ensures { ReadsAs (λ x. (x.0, x.1.now)) result (path_at bytes.now) }
 {
     let (count, rest) = u8_at(bytes)?;
@@ -86,8 +87,9 @@ fn some_hashes(
     Ok((path, rest))
 }
 
+/// One record and more, behind their count in 8 bytes.
 #[tactic(auto, unfolding(crate::specs::ReceiptReading::records_at))]
-fn records_at(alloc: Global, bytes: &[u8]) -> Result<(Items<BlockRecord>, &[u8]), ReadError>
+pub fn records_at(alloc: Global, bytes: &[u8]) -> Result<(Items<BlockRecord>, &[u8]), ReadError>
     ensures { ReadsAs (λ x. (x.0, x.1.now)) result (records_at bytes.now) }
 {
     let (count, rest) = u64_at(bytes)?;

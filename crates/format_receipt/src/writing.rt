@@ -29,7 +29,8 @@ pub fn write_receipt(alloc: Global, r: &Receipt) -> Result<Vec<u8>, Memory>
     Ok(out)
 }
 
-fn put_entry(alloc: Global, entry: &TxEntry, out: &mut Vec<u8>) -> Result<(), Memory>
+/// Adds the bytes of an entry behind their length.
+pub fn put_entry(alloc: Global, entry: &TxEntry, out: &mut Vec<u8>) -> Result<(), Memory>
     requires entry { IsEntry entry.now }
     requires room { length (entry_bytes entry.now) < 2 ^ 32 }
     ensures { OnOk result (out.new.items ≡ out.old.items ++ long_field (entry_bytes entry.now)) }
@@ -39,7 +40,8 @@ fn put_entry(alloc: Global, entry: &TxEntry, out: &mut Vec<u8>) -> Result<(), Me
     put_long(out, &bytes)
 }
 
-fn put_path(path: &[[u8; 32]], out: &mut Vec<u8>) -> Result<(), Memory>
+/// Adds how many hashes a path has, in a byte, and each of them.
+pub fn put_path(path: &[[u8; 32]], out: &mut Vec<u8>) -> Result<(), Memory>
     requires { length path.now < 256 }
     ensures { OnOk result (out.new.items ≡ out.old.items ++ path_bytes path.now) }
 {
@@ -56,7 +58,8 @@ fn put_hashes(path: &[[u8; 32]], out: &mut Vec<u8>) -> Result<(), Memory>
     Ok(())
 }
 
-fn put_records(records: &[BlockRecord], out: &mut Vec<u8>) -> Result<(), Memory>
+/// Adds how many records there are, in 8 bytes, and each of them.
+pub fn put_records(records: &[BlockRecord], out: &mut Vec<u8>) -> Result<(), Memory>
     ensures { OnOk result (out.new.items ≡ out.old.items ++ records_bytes records.now) }
 {
     put_u64(out, records.len() as u64)?;

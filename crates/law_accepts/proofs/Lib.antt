@@ -1,6 +1,7 @@
 pub mod Along
 pub mod Begins
 pub mod Blocks
+pub mod Columns
 pub mod ByNumber
 pub mod Definitions
 pub mod Events

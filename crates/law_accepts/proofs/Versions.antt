@@ -1,25 +1,34 @@
--- Each version in the image of a legal journal fits its table and follows the one before it.
-use Rattle.std.proofs.Common.{◌≡◌, ◌⊎◌, ℕ, inl, inr, refl, ap, sym, subst, ◌∙◌, List, [], ◌∷◌, map, flat_map, Bool, true, false, Option, Some, None, arith, nat_lt}
+-- Each version in the image of a legal journal fits its table as it was when the version started, and follows the
+-- one before it.
+use Rattle.std.proofs.Common.{◌≡◌, ◌≤◌, ◌<◌, ◌⊎◌, ℕ, pos, length, inl, inr, refl, ap, sym, subst, ◌∙◌, List, [], ◌∷◌, map, flat_map, Bool, true, false, Option, Some, None, arith, nat_lt}
 use Rattle.std.specs.Prelude.{◌==◌, ◌&&◌, ◌||◌, not, if◌then◌else◌, IfSome, is_some, is_none}
 use Rattle.std.specs.List.{AllByRecursion, list_any}
-use Rattle.std.proofs.lemmas.Bool.{eq-eqb, eqb-true, lt-ltb, ltb-true}
+use Rattle.std.specs.List.Sorted.{IsPermutation}
+use Rattle.std.proofs.lemmas.Bool.{cases_lt, eq-eqb, eqb-true, le-leb, lt-leb, lt-ltb, ltb-true}
 use Rattle.sql_value.specs.declared.column.ColumnDef.{ColumnDef}
 use Rattle.sql_value.specs.declared.column.TableKind.{TableKind}
 use Rattle.sql_value.specs.declared.column.TableKind.TheVariants.{AppendOnly, Updatable}
 use Rattle.sql_value.specs.declared.sql_type.SqlType.{SqlType}
 use Rattle.sql_types.specs.declared.entry.TxEntry.{TxEntry}
 use Rattle.sql_types.specs.declared.journal.JournalItem.{JournalItem}
+use Rattle.sql_types.specs.declared.table.TableDef.{TableDef}
 use Rattle.sql_types.specs.declared.version.Table.{Table}
 use Rattle.sql_types.specs.declared.version.TypedValue.{TypedValue}
 use Rattle.sql_types.specs.declared.version.Version.{Version}
-use Rattle.spec_model.specs.Catalog.{Tables}
+use Rattle.spec_model.specs.Catalog.{Tables, defs_of, versions_of}
 use Rattle.spec_model.specs.Checks.{is_append_only}
 use Rattle.spec_model.specs.Journals.{serial, IsLegal}
 use Rattle.spec_model.specs.Keys.{Key, same_key, version_key, of_key}
 use Rattle.spec_model.specs.Rows.{EventId, same_event, live}
 use Rattle.spec_model.specs.Script.{Reading}
+use Rattle.spec_model.specs.SystemTables.{columns_columns, columns_id}
 use Rattle.law_frame.proofs.Alls.{all_weaker, all_both, all_append, all_filter, all_pass}
 use Rattle.law_frame.proofs.SameKeys.{and_true}
+use Rattle.law_catalog_rows.specs.Encoded.{EachHasItsRows, IsAmong, about, item_rows, live_rows}
+use Rattle.law_catalog_rows.specs.Formed.{AllFormed, Formed}
+use Rattle.law_catalog_rows.proofs.Journals.{legal_described, legal_rows_each}
+use Rattle.law_catalog_time.specs.AfterColumns.{AllStartAfterColumns, IsKeyOfColumn, StartsAfterColumns, VersionsFollowColumns}
+use Rattle.law_catalog_time.proofs.Journals.{legal_follows}
 use Rattle.law_journal.specs.AppendOnly.{KeepsRows, AllKeepRows}
 use Rattle.law_journal.specs.Fits.{FitsColumn, Fits}
 use Rattle.law_journal.specs.Kept.{IsEarlier, EndedBefore, Apart, AllApart}
@@ -28,10 +37,11 @@ use Rattle.law_journal.proofs.Order.{apart_flip, then_}
 use Rattle.law_journal.proofs.Serials.{legal_tables, legal_keeps_rows}
 use Rattle.spec_ledger.specs.Ledger.{entries_of}
 use Rattle.format_image.specs.Image.{image_of}
-use Rattle.format_image.specs.Rows.{Stored, ended_ones}
+use Rattle.format_image.specs.Rows.{Stored, ended_ones, table_rows}
 use Rattle.spec_verify.specs.Entries.{least_event}
 use Rattle.spec_verify.specs.Order.{position_of, is_before, is_earlier, later_of, latest, ends_before, ends_well, follows, before, is_in_order, shares_key}
-use Rattle.spec_verify.specs.Versions.{same_type, is_of, has_columns, respects_not_null, with_columns, version_holds, bad_versions, version_fault}
+use Rattle.spec_verify.specs.Versions.{same_type, is_of, has_columns, respects_columns, respects_from, respects_not_null, rows_of_columns, with_columns, version_holds, bad_versions, version_fault}
+use Rattle.law_accepts.proofs.Columns.{all_known, respected}
 use Rattle.law_accepts.proofs.Firsts.{both}
 use Rattle.law_accepts.proofs.Ids.{none_left, same_place}
 use Rattle.law_accepts.proofs.Indexes.{own_type}
@@ -66,6 +76,10 @@ values_fit (c ∷ cs) (v ∷ vs) fits = both (there_or_null c v fits.0) (values_
 all_kept : (columns : List ColumnDef) (versions : List Version) → AllByRecursion (λ v. Fits columns v.values) versions → with_columns columns versions ≡ versions
 all_kept columns [] fit = refl
 all_kept columns (v ∷ vs) fit = rw (columns_fit columns v.values fit.0, all_kept columns vs fit.1) refl
+
+-- NULL stands where it may in each version of the table
+abbrev AllRespect : List TxEntry → List Version → Table → Type 0
+AllRespect entries second t = AllByRecursion (λ v. respects_columns entries second t.def v ≡ true) t.versions
 
 -- ---- append-only tables
 
@@ -212,7 +226,7 @@ module _ (items : List JournalItem) (entries : List TxEntry) (same : (id : ℕ) 
 
   -- ---- all versions of a table
 
-  module _ (t : Table) (is : TableOf items t) (keeps : KeepsRows t) where
+  module _ (second : List Version) (t : Table) (is : TableOf items t) (keeps : KeepsRows t) (respect : AllRespect entries second t) where
     abbrev Facts : Version → Type 0
     Facts v = (IsOf items v × Fits t.def.columns v.values) × ((t.def.kind ≡ AppendOnly → v.end ≡ None) × AllByRecursion (OneOrApart place t.def.columns v) t.versions)
 
@@ -231,31 +245,95 @@ module _ (items : List JournalItem) (entries : List TxEntry) (same : (id : ℕ) 
     in_both : (P : Version → Type 0) → AllByRecursion P t.versions → AllByRecursion P (in_parts t).versions
     in_both P all = all_append P (live t.versions) (ended_ones t.versions) (all_filter P _ t.versions all) (all_filter P _ t.versions all)
 
-    one_holds : (v : Version) → Facts v → version_holds entries (in_parts t) v ≡ true
-    one_holds v f =
+    one_holds : (v : Version) → Facts v → respects_columns entries second t.def v ≡ true → version_holds entries second (in_parts t) v ≡ true
+    one_holds v f respects =
         let vs : List Version = (in_parts t).versions in
         let columns : List ColumnDef = t.def.columns in
         let fit : AllByRecursion (λ w. Fits columns w.values) vs = in_both (λ w. Fits columns w.values) is.fit in
         let all : AllByRecursion (Precedes columns v) (before entries columns vs v) = all_precede columns v vs f.0.0 (in_both (OneOrApart place columns v) f.1.1) in
         let shown : with_columns columns vs ≡ vs = all_kept columns vs fit in
-        five columns (columns_fit columns v.values f.0.1) (values_fit columns v.values f.0.1) (no_history t.def.kind v f.1.0)
+        five columns (columns_fit columns v.values f.0.1) respects (no_history t.def.kind v f.1.0)
         (ap (λ (ws : List Version). not (shares_key entries columns ws v)) shown ∙ not_and columns (is_none v.end) _ (none_open columns v (before entries columns vs v) all))
         (ap (λ (ws : List Version). is_in_order entries columns ws v) shown
         ∙ both (after_start v f.0.0) (follows_it columns v (latest entries (before entries columns vs v)) (latest_of columns (Precedes columns v) (before entries columns vs v) all)))
 
-    none_bad : bad_versions entries (in_parts t) ≡ []
+    none_bad : bad_versions entries second (in_parts t) ≡ []
     none_bad =
+        let Good : Version → Type 0 = λ v. Facts v × (respects_columns entries second t.def v ≡ true) in
         ap (map (λ (v : Version). (t.def.id, v.start)))
-        (none_left (λ v. not (version_holds entries (in_parts t) v)) (in_parts t).versions
-        (all_weaker Facts (λ v. not (version_holds entries (in_parts t) v) ≡ false) (λ v f. ap not (one_holds v f)) (in_parts t).versions (in_both Facts facts)))
+        (none_left (λ v. not (version_holds entries second (in_parts t) v)) (in_parts t).versions
+        (all_weaker Good (λ v. not (version_holds entries second (in_parts t) v) ≡ false) (λ v f. ap not (one_holds v f.0 f.1)) (in_parts t).versions
+        (in_both Good (all_both Facts (λ v. respects_columns entries second t.def v ≡ true) t.versions facts respect))))
 
-  no_bad : (T : Tables) → AllByRecursion (TableOf items) T → AllKeepRows T → flat_map (bad_versions entries) (map in_parts T) ≡ []
-  no_bad [] all keep = refl
-  no_bad (t ∷ ts) all keep = rw (none_bad t all.0 keep.0, no_bad ts all.1 keep.1) refl
+  no_bad : (second : List Version) (T : Tables) → AllByRecursion (TableOf items) T → AllKeepRows T → AllByRecursion (AllRespect entries second) T → flat_map (bad_versions entries second) (map in_parts T) ≡ []
+  no_bad second [] all keep respect = refl
+  no_bad second (t ∷ ts) all keep respect = rw (none_bad second t all.0 keep.0 respect.0, no_bad second ts all.1 keep.1 respect.1) refl
+
+  -- ---- NULL where columns took it
+
+  as_defined : (second : List Version) (def : TableDef) (v : Version) → def.id ≤ columns_id → Fits def.columns v.values → respects_columns entries second def v ≡ true
+  as_defined second def v le fits = ap (λ (b : Bool). if b then respects_not_null def.columns v.values else respects_from entries second def.id 1 v.start v.values) (le-leb def.id columns_id le) ∙ values_fit def.columns v.values fits
+
+  as_of_start : (second : List Version) (def : TableDef) (v : Version) → columns_id < def.id → respects_from entries second def.id 1 v.start v.values ≡ true → respects_columns entries second def v ≡ true
+  as_of_start second def v lt e = ap (λ (b : Bool). if b then respects_not_null def.columns v.values else respects_from entries second def.id 1 v.start v.values) (lt-leb def.id columns_id lt) ∙ e
+
+  module _ (all : List Version) (fit : AllByRecursion (λ v. Fits columns_columns v.values) all) where
+    abbrev rows : List Version
+    rows = live all
+
+    rows_fit : AllByRecursion (λ (r : Version). has_columns columns_columns r.values ≡ true) rows
+    rows_fit = all_filter (λ (r : Version). has_columns columns_columns r.values ≡ true) _ all (all_weaker (λ v. Fits columns_columns v.values) (λ (r : Version). has_columns columns_columns r.values ≡ true) (λ v f. columns_fit columns_columns v.values f) all fit)
+
+    respects_rows : (t : Table) → TableOf items t → (2 < t.def.id → (length t.def.columns ≤ 64) × IsPermutation (about (pos t.def.id) (live_rows all)) (item_rows t.def)) → AllStartAfterColumns place all t → AllRespect entries rows t
+    respects_rows t is rows_are after = elim (cases_lt columns_id t.def.id) [
+      | inr le ↦ all_weaker (λ v. Fits t.def.columns v.values) (λ v. respects_columns entries rows t.def v ≡ true) (λ v fits. as_defined rows t.def v le fits) t.versions is.fit
+      | inl lt ↦
+          (let h = rows_are lt in
+          let known = all_known rows rows_fit t.def h.0 h.1 in
+          all_weaker (λ v. Fits t.def.columns v.values × StartsAfterColumns place all t.def.id v) (λ v. respects_columns entries rows t.def v ≡ true)
+          (λ v g. as_of_start rows t.def v lt
+          (respected entries place by_test rows t.def.id v
+          (all_filter (λ w. IsKeyOfColumn t.def.id (version_key columns_columns w) → IsEarlier place w.start v.start) _ all g.1)
+          1 t.def.columns v.values known g.0))
+          t.versions
+          (all_both (λ v. Fits t.def.columns v.values) (StartsAfterColumns place all t.def.id) t.versions is.fit (after lt)))
+    ]
+
+    users_respect : (ts : Tables) → AllByRecursion (TableOf items) ts
+        → ((def : TableDef) → IsAmong def (defs_of ts) → IsPermutation (about (pos def.id) (live_rows all)) (item_rows def))
+        → AllByRecursion (λ (def : TableDef). 2 < def.id → Formed def) (defs_of ts) → AllByRecursion (AllStartAfterColumns place all) ts → AllByRecursion (AllRespect entries rows) ts
+    users_respect [] is each formed after = tt
+    users_respect (t ∷ ts) is each formed after = (
+      respects_rows t is.0 (λ lt. ((formed.0 lt).count, each t.def (inl refl))) after.0,
+      users_respect ts is.1 (λ def among. each def (inr among)) formed.1 after.1,
+    )
+
+  all_respect : (T : Tables) → AllByRecursion (TableOf items) T → EachHasItsRows T → AllFormed (defs_of T) → VersionsFollowColumns place T → AllByRecursion (AllRespect entries (rows_of_columns (map table_rows T))) T
+  unfolding table_rows
+  all_respect [] is each formed after = absurd each
+  all_respect (a ∷ []) is each formed after = absurd each
+  all_respect (a ∷ b ∷ users) is each formed after =
+      let first : a.def.id ≡ 1 = ap (λ (d : TableDef). d.id) formed.system.0 in
+      let second : b.def.id ≡ columns_id = ap (λ (d : TableDef). d.id) formed.system.1 in
+      let all : List Version = b.versions in
+      let found : versions_of (a ∷ b ∷ users) columns_id ≡ all = rw (first, second) refl in
+      let fit : AllByRecursion (λ v. Fits columns_columns v.values) all = subst (λ (d : TableDef). AllByRecursion (λ v. Fits d.columns v.values) all) formed.system.1 is.1.0.fit in
+      let follow : AllByRecursion (AllStartAfterColumns place all) (a ∷ b ∷ users) = subst (λ (vs : List Version). AllByRecursion (AllStartAfterColumns place vs) (a ∷ b ∷ users)) found after in (
+        respects_rows all fit a is.0 (λ lt. absurd (omega (arith, first, lt))) follow.0,
+        (
+          respects_rows all fit b is.1.0 (λ lt. absurd (omega (arith, second, lt))) follow.1.0,
+          users_respect all fit users is.1.1 (λ def among. (each.one def among).items) formed.each.1.1 follow.1.1,
+        ),
+      )
 
 pub versions_hold : (h : List ℕ → List ℕ) (reads : Reading) (database : List ℕ) (items : List JournalItem) → IsLegal reads items → version_fault (image_of h reads database items) ≡ None
 unfolding image_of version_fault
 versions_hold h reads database items legal =
+    let T : Tables = serial reads items in
+    let entries : List TxEntry = entries_of h reads items in
+    let second : List Version = rows_of_columns (map table_rows T) in
+    let each = (legal_tables reads items legal).each in
     ap least_event
-    (ap (λ (T : Tables). flat_map (bad_versions (entries_of h reads items)) T) (tables_shown h reads database items legal)
-    ∙ no_bad items (entries_of h reads items) (same_place h reads items legal) (serial reads items) (legal_tables reads items legal).each (legal_keeps_rows reads items legal))
+    (ap (λ (shown : Tables). flat_map (bad_versions entries second) shown) (tables_shown h reads database items legal)
+    ∙ no_bad items entries (same_place h reads items legal) second T each (legal_keeps_rows reads items legal)
+    (all_respect items entries (same_place h reads items legal) T each (legal_rows_each reads items legal) (legal_described reads items legal).1 (legal_follows reads items legal)))

@@ -1,12 +1,12 @@
 -- The receipts of rows that an image gives.
-use Rattle.std.specs.Prelude.{ℕ, List, length, zip}
+use Rattle.std.specs.Prelude.{ℕ, List}
 use Rattle.sql_types.specs.declared.entry.TxEntry.{TxEntry}
 use Rattle.sql_types.specs.declared.event.Event.{Event}
 use Rattle.sql_types.specs.declared.image.Image.{Image}
 use Rattle.sql_types.specs.declared.version.Table.{Table}
 use Rattle.format_event.specs.Leaf.{event_bytes}
 use Rattle.spec_ledger.specs.Entries.{leaves_of}
-use Rattle.audit_paths.specs.Path.{sides_of, audit_path}
+use Rattle.audit_paths.specs.Path.{audit_steps}
 use Rattle.format_row_receipt.specs.declared.row_receipt.RowReceipt.{RowReceipt}
 use Rattle.format_row_receipt.specs.declared.table_receipt.TableReceipt.{TableReceipt}
 use Rattle.audit_receipt.specs.Made.{receipt_of}
@@ -21,5 +21,5 @@ row_receipt_of h i e t n event b =
     record {
       receipt = receipt_of h i e b;
       leaf = event_bytes event;
-      steps = zip (sides_of n (length (leaves_of e.id t))) (audit_path h n (leaves_of e.id t));
+      steps = audit_steps h n (leaves_of e.id t);
     }

@@ -19,6 +19,7 @@ ghost use Rattle.format_row_receipt.specs.declared.row_receipt.RowReceipt.{RowRe
 ghost use Rattle.format_row_receipt.specs.declared.table_receipt.TableReceipt.{TableReceipt};
 ghost use Rattle.format_row_receipt.specs.RowReceipts.{IsRowReceipt, IsTableReceipt};
 ghost use Rattle.audit_row_receipt.specs.AcceptedRows.{AcceptedRow, AcceptedTable};
+ghost use Rattle.audit_row_receipt.specs.RowsMade.{IsMadeRow, IsMadeTable};
 ghost use Rattle.law_row_receipt.specs.RowsMade.{row_receipt_of, table_receipt_of};
 ghost use Rattle.law_row_receipt.specs.Shown.{HasAll, HasOne};
 
@@ -65,4 +66,15 @@ pub fn made_row_receipts_are_accepted()
         → slice_get i.entries k ≡ Some e → e.block ≤ d.block
         → slice_get (tables_in i) p ≡ Some t → slice_get (events_of e.id t) n ≡ Some event
         → AcceptedRow h (row_receipt_of h i e t n event d.block) d }
+{}
+
+/// What `make_table_receipt` and `make_row_receipt` make of an image under the block of a digest that holds with it is
+/// accepted with the digest, where the image's chain, blocks and roots hold.
+pub fn receipts_made_of_rows_are_accepted()
+    ensures table { (h : List ℕ → List ℕ) (i : Image) (d : HeldDigest) (tx table : ℕ) (r : TableReceipt)
+        → IsImage i → chain_fault h i ≡ None → block_fault h i ≡ None → root_fault h i ≡ None
+        → DigestHolds h i d → IsMadeTable h i tx table d.block r → AcceptedTable h r d }
+    ensures row { (h : List ℕ → List ℕ) (i : Image) (d : HeldDigest) (tx table seq : ℕ) (r : RowReceipt)
+        → IsImage i → chain_fault h i ≡ None → block_fault h i ≡ None → root_fault h i ≡ None
+        → DigestHolds h i d → IsMadeRow h i tx table seq d.block r → AcceptedRow h r d }
 {}

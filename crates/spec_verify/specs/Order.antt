@@ -34,6 +34,15 @@ module _ (entries : List TxEntry) where
   latest [] = None
   latest (v ∷ vs) = later_of v (latest vs)
 
+  abbrev pub later_started : Version → Option Version → Option Version
+  later_started v None = Some v
+  later_started v (Some w) = if is_before w.start v.start then Some v else Some w
+
+  -- the last of some versions to start; of those with one start the one that stands last
+  abbrev pub last_started : List Version → Option Version
+  last_started [] = None
+  last_started (v ∷ vs) = later_started v (last_started vs)
+
   abbrev pub ends_before : Option EventId → EventId → Bool
   ends_before None event = false
   ends_before (Some end) event = is_before end event

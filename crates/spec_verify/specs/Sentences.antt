@@ -1,6 +1,6 @@
 -- What the invariants say of an image, in sentences. That the verdict names their first and least faults is a
 -- law.
-use Rattle.std.specs.Prelude.{ℕ, ℤ, pos, ◌≡◌, ◌≢◌, ◌<◌, ◌≤◌, ◌+◌, ◌⊎◌, ◌==◌, true, List, length, map, flat_map, take, None, IfSome}
+use Rattle.std.specs.Prelude.{ℕ, ℤ, pos, ◌≡◌, ◌≢◌, ◌<◌, ◌≤◌, ◌+◌, ◌⊎◌, ◌==◌, true, List, length, map, flat_map, take, Option, None, IfSome, MatchOption}
 use Rattle.std.specs.List.{AllByRecursion, Any, filter, zip}
 use Rattle.format_entry.specs.Entry.{entry_bytes}
 use Rattle.base_merkle.specs.TreeHash.{tree_hash}
@@ -14,9 +14,11 @@ use Rattle.sql_types.specs.declared.image.TableRows.{TableRows}
 use Rattle.sql_types.specs.declared.table.IndexDef.{IndexDef}
 use Rattle.sql_types.specs.declared.table.TableDef.{TableDef}
 use Rattle.sql_types.specs.declared.version.Table.{Table}
+use Rattle.sql_types.specs.declared.version.TypedValue.{TypedValue}
 use Rattle.sql_types.specs.declared.version.Version.{Version}
 use Rattle.spec_model.specs.Events.{all_events}
 use Rattle.spec_model.specs.Limits.{max_block}
+use Rattle.spec_model.specs.SystemTables.{columns_id}
 use Rattle.spec_ledger.specs.Blocks.{hash_at}
 use Rattle.spec_ledger.specs.Entries.{roots_of}
 use Rattle.format_image.specs.Tables.{tables_in, defs_in}
@@ -29,7 +31,7 @@ use Rattle.spec_verify.specs.Entries.{TableEvent, events_in, root_at}
 use Rattle.spec_verify.specs.Indexes.{index_holds}
 use Rattle.spec_verify.specs.Order.{is_before, latest, ends_before, before}
 use Rattle.spec_verify.specs.Told.{HoldsOfEach, FailsFirst}
-use Rattle.spec_verify.specs.Versions.{has_columns, respects_not_null, with_columns}
+use Rattle.spec_verify.specs.Versions.{column_as_of, has_columns, respects_not_null, rows_of_columns, says_not_null, with_columns}
 
 -- ---- digests and blocks
 
@@ -112,13 +114,23 @@ start_of x = (x.0.def.id, x.1.start)
 abbrev pub earlier_of : Image → TableVersion → List Version
 earlier_of i x = before i.entries x.0.def.columns (with_columns x.0.def.columns x.0.versions) x.1
 
--- The version fits its table: a value for each column, of its type, and NULL where the column takes it. In
+-- column n of the version's table, counted from 1, as of its start: the last row about it that started before
+abbrev pub column_of : Image → TableVersion → ℕ → Option Version
+column_of i x n = column_as_of i.entries (rows_of_columns i.tables) x.0.def.id n x.1.start
+
+-- the value of column n is NULL where there is no such row, and isn't NULL where that row says NOT NULL
+abbrev pub ValueHolds : Image → TableVersion → ℕ → Option TypedValue → Type 0
+ValueHolds i x n v = MatchOption (column_of i x n) (v ≡ None) (λ r. says_not_null r ≡ true → v ≢ None)
+
+-- The version fits its table: a value for each column, of its type, and NULL where the column takes it: in
+-- a table of the system as it is defined, and in another as of the version's start. In
 -- an append-only table it hasn't ended. If it stands, each earlier version of its key has ended. If it has
 -- ended, that was behind its start; and at its start the latest of the earlier ones had ended. Keys are
 -- compared among the versions that have the table's columns.
 pub record VersionHolds (i : Image) (x : TableVersion) : Type 0 where
   pub columns : has_columns x.0.def.columns x.1.values ≡ true
-  pub nulls : respects_not_null x.0.def.columns x.1.values ≡ true
+  pub nulls : x.0.def.id ≤ columns_id → respects_not_null x.0.def.columns x.1.values ≡ true
+  pub nulls_then : columns_id < x.0.def.id → HoldsOfEach (λ k. ValueHolds i x (k + 1)) x.1.values
   pub append_only : x.0.def.kind ≡ AppendOnly → x.1.end ≡ None
   pub key : x.1.end ≡ None → AllByRecursion (λ (w : Version). w.end ≢ None) (earlier_of i x)
   pub ends : IfSome x.1.end (λ end. is_before i.entries x.1.start end ≡ true)

@@ -1,4 +1,5 @@
 pub mod Again
+pub mod Ids
 pub mod StatementResult
 pub mod Machine
 pub mod Order

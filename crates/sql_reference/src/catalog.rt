@@ -1,8 +1,8 @@
 //! What names stand for among the tables.
 
-ghost use Rattle.std.specs.Prelude.{ℕ, ◌≡◌, ◌≤◌, IfSome, option_map};
-ghost use Rattle.spec_model.specs.Agreement.{IdsFrom};
+ghost use Rattle.std.specs.Prelude.{ℕ, ◌≡◌, ◌<◌, IfSome, option_map};
 ghost use Rattle.spec_model.specs.Catalog as spec;
+ghost use Rattle.sql_reference.specs.Ids.{IdsRise};
 
 use base_types::Name;
 use sql_check::{Definitions, part_named};
@@ -13,8 +13,8 @@ use sql_types::{Part, Table};
 pub(crate) fn find<'a>(tables: &'a [Table], name: &Name) -> Option<(&'a Table, Part)>
     ensures part { option_map (λ p. (p.0.now.def, p.1)) result
         ≡ spec.find_part (spec.defs_of tables.now) name.now }
-    ensures versions { (n : ℕ) → IdsFrom n (spec.defs_of tables.now)
-        → IfSome result (λ p. (n ≤ p.0.now.def.id)
+    ensures versions { (last : ℕ) → IdsRise last (spec.defs_of tables.now)
+        → IfSome result (λ p. (last < p.0.now.def.id)
         × (p.0.now.versions ≡ spec.versions_of tables.now p.0.now.def.id)) }
 {
     match tables {

@@ -1,10 +1,10 @@
 //! INSERT, UPDATE and DELETE.
 
 ghost use Rattle.std.specs.Prelude.{◌≡◌, ◌+◌, IfOk};
-ghost use Rattle.spec_model.specs.Agreement.{IdsFrom};
 ghost use Rattle.spec_model.specs.Catalog.{defs_of};
 ghost use Rattle.spec_model.specs.Checks.{row_statement_check};
 ghost use Rattle.spec_model.specs.Effect as spec;
+ghost use Rattle.sql_reference.specs.Ids.{IdsRise};
 ghost use Rattle.sql_reference.specs.StatementResult.{MatchesEffectUnlessOom, IsReady, PlanMatchesUnlessOom, changes_worked_out};
 
 use crate::catalog::find;
@@ -29,7 +29,7 @@ pub(crate) struct PlannedChanges {
 /// Checks a statement and works out its changes; nothing is changed.
 #[tactic(auto, unfolding(spec_model::specs::Checks::row_statement_check))]
 fn change_set(alloc: Global, tables: &[Table], stmt: &RowStmt) -> Result<PlannedChanges, Refusal>
-    requires { IdsFrom 1 (defs_of tables.now) }
+    requires { IdsRise 0 (defs_of tables.now) }
     ensures { PlanMatchesUnlessOom (changes_worked_out tables.now stmt.now) result }
 {
     let Some((table, part)) = find(tables, table_of(stmt)) else {

@@ -13,3 +13,4 @@ mod showing;
 
 pub use laws::{differs_names_the_first, run_agrees_with_legal_items, sound_tables_have_no_event};
 pub use serial_machine::{ReplayAgreement, SerialMachine};
+pub use showing::show;

@@ -1,11 +1,11 @@
 //! SELECT.
 
 ghost use Rattle.std.specs.Prelude.{◌≡◌, IfOk};
-ghost use Rattle.spec_model.specs.Agreement.{IdsFrom};
 ghost use Rattle.spec_model.specs.Catalog.{defs_of};
 ghost use Rattle.spec_model.specs.Parts.{rows_of};
 ghost use Rattle.spec_model.specs.Refusals.{MatchesUnlessOom};
 ghost use Rattle.spec_model.specs.Where.{key_fixed as spec_key_fixed};
+ghost use Rattle.sql_reference.specs.Ids.{IdsRise};
 ghost use Rattle.sql_reference.specs.StatementResult.{rows_shown};
 
 use crate::catalog::find;
@@ -28,10 +28,11 @@ fn rows_read(alloc: Global, table: &Table, part: Part, q: &Select) -> Result<Vec
     part_rows(alloc, &keyed, part, &key, table.versions.as_slice())
 }
 
-/// The rows that a SELECT shows.
+/// The rows that a SELECT shows of these tables, whose ids rise, as an image's do. The refusals are those of
+/// its checks and of its expressions, besides want of memory.
 #[tactic(auto, unfolding(spec_model::specs::Query::query_check, spec_model::specs::Effect::query_rows))]
-pub(crate) fn show(alloc: Global, tables: &[Table], q: &Select) -> Result<Items<Row>, Refusal>
-    requires { IdsFrom 1 (defs_of tables.now) }
+pub fn show(alloc: Global, tables: &[Table], q: &Select) -> Result<Items<Row>, Refusal>
+    requires { IdsRise 0 (defs_of tables.now) }
     ensures { MatchesUnlessOom (rows_shown tables.now q.now) result }
 {
     let Some((table, part)) = find(tables, &q.table) else {

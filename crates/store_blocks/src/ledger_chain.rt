@@ -7,10 +7,10 @@ ghost use Rattle.spec_ledger.specs.Ledger.{empty_ledger, commits, closes};
 ghost use Rattle.store_blocks.specs.LedgerChain.{KeepsHash};
 
 use crate::placing::{place_at, place_from};
-use crate::root::root_of;
 use base_merkle::Hash32;
 use base_types::{Items, Memory};
 use format_entry::block_hash;
+use format_roots::entries_root;
 use sql_types::{BlockRecord, TxEntry};
 use std::alloc::Global;
 use std::marker::Model;
@@ -116,7 +116,7 @@ impl LedgerChain {
         let end = self.closed + count;
         let block = BlockRecord {
             id: self.blocks.len() as u64,
-            root: root_of(alloc, h, &self.entries[self.closed..end])?,
+            root: entries_root(alloc, h, &self.entries[self.closed..end])?,
             size: count as u64,
             previous: self.hash,
         };

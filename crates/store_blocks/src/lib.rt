@@ -3,7 +3,6 @@
 
 mod ledger_chain;
 mod placing;
-mod root;
 
 pub use ledger_chain::LedgerChain;
 pub use sql_types::{BlockRecord, TxEntry};

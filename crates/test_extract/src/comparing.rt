@@ -6,7 +6,7 @@ ghost use Rattle.spec_verify.specs.declared.place.Verdict.TheVariants.{Yes};
 ghost use Rattle.spec_verify.specs.Verdict.{image_verdict};
 
 use crate::fault::Fault;
-use audit_extract::{ImageComparison, extract_each};
+use audit_extract::{Collision, ImageComparison, extract_each};
 use audit_verify::verify_image;
 use base_merkle::Hash32;
 use base_types::Memory;
@@ -15,7 +15,7 @@ use sql_types::{HeldDigest, Image};
 use std::alloc::{AllocError, Global};
 
 /// The verdict on an image that isn't accepted.
-fn refusal<H: Hash32>(
+pub fn refusal<H: Hash32>(
     alloc: Global,
     h: H,
     image: &Image,
@@ -34,12 +34,15 @@ fn refusal<H: Hash32>(
 fn text_of(alloc: Global, found: &ImageComparison) -> Result<String, AllocError> {
     match found {
         ImageComparison::Same => String::from_str(alloc, "Same"),
-        ImageComparison::Collision(collision) => {
-            let first = hex::encode(alloc, collision.first.bytes())?;
-            let second = hex::encode(alloc, collision.second.bytes())?;
-            format!(in alloc; "Collision\n{first}\n{second}")
-        }
+        ImageComparison::Collision(collision) => collision_text(alloc, collision),
     }
+}
+
+/// The lines of a collision.
+pub fn collision_text(alloc: Global, collision: &Collision) -> Result<String, AllocError> {
+    let first = hex::encode(alloc, collision.first.bytes())?;
+    let second = hex::encode(alloc, collision.second.bytes())?;
+    format!(in alloc; "Collision\n{first}\n{second}")
 }
 
 /// The verdict on the first of two images that isn't accepted with the digests, or what they are to each

@@ -1,13 +1,15 @@
 //! Compares the images of two journals, one pair in each line of standard input, over hashes that are weak on
 //! purpose: two images that are accepted with the same digests and differ are then easy to have. A line is
 //! the name of a hash and of three files of the folder: the journal of the image that is gone by, that of
-//! the one that is shown, and the digests. It is printed behind `> `, and then what was found; an empty line
-//! and one that begins with `#` are printed as they are.
+//! the one that is shown, and the digests. Behind `settle` and the id of a transaction the receipts that the two
+//! images give of it are settled instead. A line is printed behind `> `, and then what was found; an empty line and
+//! one that begins with `#` are printed as they are.
 #![tactic(auto)]
 
 mod comparing;
 mod fault;
 mod files;
+mod settling;
 mod weak;
 
 use base_io::{FolderVault, Vault};
@@ -15,6 +17,7 @@ use base_merkle::{Hash32, Sha256Hash};
 use comparing::compared;
 use fault::Fault;
 use files::{digests_of, image_of};
+use settling::settled;
 use std::alloc::Global;
 use std::io;
 use weak::{LengthHash, ZeroHash};
@@ -42,25 +45,44 @@ fn words_of(line: &str) -> Option<(&str, Names<'_>)> {
     ))
 }
 
-/// What is found of a line's images with its hash.
+/// What is found of a line's images with its hash, or of the receipts that they give of a transaction.
 fn found<H: Hash32, V: Vault>(
     alloc: Global,
     h: H,
     vault: &mut V,
     names: Names,
+    tx: Option<u64>,
 ) -> Result<String, Fault> {
     let digests = digests_of(alloc, vault, names.digests)?;
     let honest = image_of(alloc, h, vault, names.honest)?;
     let suspect = image_of(alloc, h, vault, names.suspect)?;
-    compared(alloc, h, &honest, &suspect, digests.as_slice())
+    match tx {
+        Some(tx) => settled(alloc, h, &honest, &suspect, digests.as_slice(), tx),
+        None => compared(alloc, h, &honest, &suspect, digests.as_slice()),
+    }
+}
+
+/// The transaction of whose receipts a line is, and the line behind.
+fn parted(line: &str) -> Option<(Option<u64>, &str)> {
+    match line.strip_prefix("settle ") {
+        Some(rest) => {
+            let (tx, rest) = rest.split_once(' ')?;
+            let tx = tx.parse::<u64>().ok()?;
+            Some((Some(tx), rest))
+        }
+        None => Some((None, line)),
+    }
 }
 
 /// What is found of a line's images.
 fn answer<V: Vault>(alloc: Global, vault: &mut V, line: &str) -> Result<String, Fault> {
-    match words_of(line) {
-        Some(("zeros", names)) => found(alloc, ZeroHash, vault, names),
-        Some(("length", names)) => found(alloc, LengthHash, vault, names),
-        Some(("sha256", names)) => found(alloc, Sha256Hash, vault, names),
+    let Some((tx, rest)) = parted(line) else {
+        return Err(Fault::Form("the line is no case"));
+    };
+    match words_of(rest) {
+        Some(("zeros", names)) => found(alloc, ZeroHash, vault, names, tx),
+        Some(("length", names)) => found(alloc, LengthHash, vault, names, tx),
+        Some(("sha256", names)) => found(alloc, Sha256Hash, vault, names, tx),
         _ => Err(Fault::Form("the line is no case")),
     }
 }

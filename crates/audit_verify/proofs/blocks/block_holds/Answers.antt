@@ -4,8 +4,8 @@ use Rattle.spec_verify.specs.Blocks.{entries_before}
 use Rattle.audit_verify.proofs.Fitting.{entries_fit}
 use Rattle.audit_verify.proofs.blocks.block_holds.Goals as goal
 
-pub root_of-requires-clause-fit : goal.root_of-requires-clause-fit
-root_of-requires-clause-fit g c κs within_lives =
+pub entries_root-requires-after_bounds : goal.entries_root-requires-after_bounds
+entries_root-requires-after_bounds g c κs within_lives =
     let i = c.args.image.now in
     let size = c.args.block.now.size in
     let small : size ≤ max_block = omega (arith, c.if-from-block.false, c.from.ensures) in

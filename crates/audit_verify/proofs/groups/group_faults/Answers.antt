@@ -1,9 +1,7 @@
-use Rattle.std.proofs.Common.{List, sym, ap, ap₂, subst, take, drop, ◌∙◌}
-use Rattle.std.specs.List.{All}
-use Rattle.sql_types.specs.declared.entry.TxEntry.{TxEntry}
+use Rattle.std.proofs.Common.{List, ap, ap₂, take, drop, ◌∙◌}
 use Rattle.audit_verify.specs.declared.shown.ImageTable.{ImageTable}
 use Rattle.audit_verify.specs.Groups.{if_none, version_in, wrong_root}
-use Rattle.audit_verify.specs.Order.{AreStarted}
+use Rattle.spec_verify.specs.Versions.{rows_of_columns}
 use Rattle.audit_verify.proofs.GroupParts.{group_started, group_few, group_indexes}
 use Rattle.audit_verify.proofs.WrongRoots.{within_shown, group_tables, group_spelled, group_rises}
 use Rattle.audit_verify.proofs.groups.group_faults.Goals as goal
@@ -23,9 +21,8 @@ root_in_group-requires-clause-rise g c κs within =
 
 pub version_in_group-requires : goal.version_in_group-requires
 version_in_group-requires g c =
-    subst (λ (es : List TxEntry). All (AreStarted es) c.group_of-group.result.now) (sym c.as_slice-entries.ensures)
-    (group_started _ _ c.args.image.now c.args.from c.args.count c.in_ok-tables.ensures
-    (c.group_of-group.ensures ∙ ap (λ (l : List ImageTable). take c.args.count (drop c.args.from l)) c.deref-2.ensures.value) c.requires.ids)
+    group_started _ _ c.args.image.now c.args.from c.args.count c.in_ok-tables.ensures
+    (c.group_of-group.ensures ∙ ap (λ (l : List ImageTable). take c.args.count (drop c.args.from l)) c.deref-2.ensures.value) c.requires.ids
 
 pub index_in_group-requires : goal.index_in_group-requires
 index_in_group-requires g c =
@@ -43,7 +40,7 @@ returns-clause-root g c =
 pub returns-clause-version : goal.returns-clause-version
 returns-clause-version g c =
     c.in_ok-version.ensures
-    ∙ ap₂ version_in c.as_slice-entries.ensures
+    ∙ ap (version_in c.args.image.now.entries (rows_of_columns c.args.image.now.tables))
     (group_tables _ _ c.args.image.now c.args.from c.args.count c.in_ok-tables.ensures c.requires.image
     (c.group_of-group.ensures ∙ ap (λ (l : List ImageTable). take c.args.count (drop c.args.from l)) c.deref-2.ensures.value))
 

@@ -2,8 +2,9 @@ use Rattle.std.proofs.Common.{List, sym, ap, subst, flat_map, ◌∙◌}
 use Rattle.std.specs.List.{All}
 use Rattle.law_catalog_rows.specs.Least.{least}
 use Rattle.sql_types.specs.declared.entry.TxEntry.{TxEntry}
+use Rattle.sql_types.specs.declared.version.Version.{Version}
 use Rattle.spec_verify.specs.Entries.{table_event_cmp, event_place}
-use Rattle.spec_verify.specs.Versions.{bad_versions}
+use Rattle.spec_verify.specs.Versions.{bad_versions, rows_of_columns}
 use Rattle.audit_verify.specs.declared.shown.ImageTable.{ImageTable}
 use Rattle.audit_verify.specs.Order.{AreStarted}
 use Rattle.audit_verify.specs.ImageTable.{table_of}
@@ -11,12 +12,12 @@ use Rattle.audit_definitions.proofs.Walks.{over_map}
 use Rattle.audit_verify.proofs.groups.version_in_group.Goals as goal
 
 pub least_invalid_version-requires : goal.least_invalid_version-requires
-least_invalid_version-requires c = subst (λ (es : List TxEntry). All (AreStarted es) c.args.tables.now) (sym c.in_ok-positions.ensures) c.requires
+least_invalid_version-requires c = subst (λ (seen : List TxEntry × List Version). All (AreStarted seen.0) c.args.tables.now) (sym c.in_ok-columns.ensures) c.requires
 
 pub returns : goal.returns
 returns c =
     let tables = c.args.tables.now in
     c.event_place.ensures
     ∙ ap event_place (c.in_ok-worst.ensures
-    ∙ ap (least table_event_cmp) (ap (λ (es : List TxEntry). flat_map (λ (t : ImageTable). bad_versions es (table_of t)) tables) c.in_ok-positions.ensures
-    ∙ sym (over_map (bad_versions c.args.entries.now) table_of tables)))
+    ∙ ap (least table_event_cmp) (ap (λ (seen : List TxEntry × List Version). flat_map (λ (t : ImageTable). bad_versions seen.0 seen.1 (table_of t)) tables) c.in_ok-columns.ensures
+    ∙ sym (over_map (bad_versions c.args.image.now.entries (rows_of_columns c.args.image.now.tables)) table_of tables)))

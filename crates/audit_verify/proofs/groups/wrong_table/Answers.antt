@@ -1,19 +1,13 @@
-use Rattle.std.proofs.Common.{◌==◌, List, sym, ap, ap₂, subst, map, ◌∙◌}
-use Rattle.std.specs.List.{All}
+use Rattle.std.proofs.Common.{List, ap, ap₂, map, ◌∙◌}
 use Rattle.std.specs.Ordering.{nat_cmp}
-use Rattle.std.proofs.lemmas.List.Elements.{All-filter}
 use Rattle.law_catalog_rows.specs.Least.{least}
 use Rattle.spec_verify.specs.Entries.{TableRoot}
 use Rattle.audit_verify.specs.declared.marks.Mark.{Mark}
-use Rattle.audit_verify.specs.Marks.{event_of, tx_of, HasValues}
+use Rattle.audit_verify.specs.Marks.{event_of}
 use Rattle.audit_verify.specs.Roots.{roots_in}
 use Rattle.audit_verify.specs.ImageTable.{table_of}
 use Rattle.audit_verify.specs.WrongRoots.{wrong_roots}
 use Rattle.audit_verify.proofs.groups.wrong_table.Goals as goal
-
-pub put_roots-requires-after_bounds : goal.put_roots-requires-after_bounds
-put_roots-requires-after_bounds g c κs within =
-    subst (All HasValues) (sym c.run_of-own.ensures) (All-filter (λ (m : Mark). tx_of m == c.args.entry.now.id) HasValues c.args.marks.now c.requires.values)
 
 pub returns : goal.returns
 returns g c =
@@ -21,4 +15,4 @@ returns g c =
     let ts = map table_of c.args.tables.now in
     c.least_wrong.ensures
     ∙ ap₂ (λ (a b : List TableRoot). least nat_cmp (wrong_roots ts a b)) c.as_slice.ensures
-    (c.deref.ensures.value ∙ c.in_ok-put_roots.ensures ∙ ap (λ (own : List Mark). roots_in h (map event_of own)) c.run_of-own.ensures)
+    (c.deref.ensures.value ∙ c.in_ok-put_roots.ensures ∙ ap (λ (own : List Mark). roots_in h (map event_of own)) c.run_of.ensures.own)

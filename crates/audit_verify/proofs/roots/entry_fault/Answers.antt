@@ -1,27 +1,19 @@
-use Rattle.std.proofs.Common.{◌==◌, List, sym, ap, subst, ◌∙◌}
-use Rattle.std.specs.List.{All}
+use Rattle.std.proofs.Common.{List, sym, ap, ◌∙◌}
 use Rattle.std.specs.Ordering.{nat_cmp}
-use Rattle.std.proofs.lemmas.List.Elements.{All-filter}
 use Rattle.law_catalog_rows.specs.Least.{least}
 use Rattle.spec_verify.specs.Entries.{TableRoot, other_roots, root_place}
-use Rattle.audit_verify.specs.declared.marks.Mark.{Mark}
-use Rattle.audit_verify.specs.Marks.{tx_of, HasValues}
 use Rattle.audit_verify.proofs.EntryRoots.{misnumbered, by_roots}
 use Rattle.audit_verify.proofs.roots.entry_fault.Goals as goal
 
 pub returns-then-not-are_numbered : goal.returns-then-not-are_numbered
 returns-then-not-are_numbered g c =
-    misnumbered (g.H.Hash32.digest c.args.hasher) c.args.entry.now c.args.marks.now c.run_of-own.result.now c.run_of-own.ensures _ c.in_ok-put_numbers.ensures c.if-not-are_numbered.ensures
-
-pub put_roots-requires-after_bounds : goal.put_roots-requires-after_bounds
-put_roots-requires-after_bounds g c κs within =
-    subst (All HasValues) (sym c.run_of-own.ensures) (All-filter (λ (m : Mark). tx_of m == c.args.entry.now.id) HasValues c.args.marks.now c.requires.values)
+    misnumbered (g.H.Hash32.digest c.args.hasher) c.args.entry.now c.args.marks.now c.run_of.result.0.now c.run_of.ensures.own _ c.in_ok-put_numbers.ensures c.if-not-are_numbered.ensures
 
 pub returns-in-Some : goal.returns-in-Some
 returns-in-Some g c =
     let e = c.args.entry.now in
     ap (root_place e.id) (sym c.in-Some.is)
-    ∙ by_roots (g.H.Hash32.digest c.args.hasher) e c.args.marks.now c.run_of-own.result.now c.run_of-own.ensures _ c.in_ok-put_numbers.ensures _ c.least_other.result c.if-not-are_numbered.ensures c.in_ok-put_roots.ensures
+    ∙ by_roots (g.H.Hash32.digest c.args.hasher) e c.args.marks.now c.run_of.result.0.now c.run_of.ensures.own _ c.in_ok-put_numbers.ensures _ c.least_other.result c.if-not-are_numbered.ensures c.in_ok-put_roots.ensures
     (c.least_other.ensures
     ∙ ap (λ (a : List TableRoot). least nat_cmp (other_roots a c.deref.result.now)) c.as_slice.ensures
     ∙ ap (λ (b : List TableRoot). least nat_cmp (other_roots e.roots b)) c.deref.ensures.value)
@@ -30,7 +22,7 @@ pub returns-in-None : goal.returns-in-None
 returns-in-None g c =
     let e = c.args.entry.now in
     ap (root_place e.id) (sym c.in-None.is)
-    ∙ by_roots (g.H.Hash32.digest c.args.hasher) e c.args.marks.now c.run_of-own.result.now c.run_of-own.ensures _ c.in_ok-put_numbers.ensures _ c.least_other.result c.if-not-are_numbered.ensures c.in_ok-put_roots.ensures
+    ∙ by_roots (g.H.Hash32.digest c.args.hasher) e c.args.marks.now c.run_of.result.0.now c.run_of.ensures.own _ c.in_ok-put_numbers.ensures _ c.least_other.result c.if-not-are_numbered.ensures c.in_ok-put_roots.ensures
     (c.least_other.ensures
     ∙ ap (λ (a : List TableRoot). least nat_cmp (other_roots a c.deref.result.now)) c.as_slice.ensures
     ∙ ap (λ (b : List TableRoot). least nat_cmp (other_roots e.roots b)) c.deref.ensures.value)

@@ -7,9 +7,9 @@ use Rattle.audit_definitions.proofs.Walks.{all_at, least_next}
 use Rattle.audit_verify.proofs.versions.least_invalid_version.Goals as goal
 
 pub worst_in-requires : goal.worst_in-requires
-worst_in-requires c = all_at (AreStarted c.args.positions.now) c.args.tables.now c.loop-table.table-index c.table-item.result c.requires c.loop-table-test.true c.table-item.is
+worst_in-requires c = all_at (AreStarted c.args.columns.now.0) c.args.tables.now c.loop-table.table-index c.table-item.result c.requires c.loop-table-test.true c.table-item.is
 
 pub loop-table-preserved : goal.loop-table-preserved
 loop-table-preserved c =
-    least_next table_event_cmp (λ (t : ImageTable). bad_versions c.args.positions.now (table_of t)) c.loop-table.worst c.in_ok-worst.worst _ c.args.tables.now c.loop-table.table-index c.table-item.result
+    least_next table_event_cmp (λ (t : ImageTable). bad_versions c.args.columns.now.0 c.args.columns.now.1 (table_of t)) c.loop-table.worst c.in_ok-worst.worst _ c.args.tables.now c.loop-table.table-index c.table-item.result
     c.loop-table-test.true c.table-item.is c.in_ok-worst.ensures c.loop-table.invariant

@@ -8,5 +8,5 @@ use Rattle.audit_verify.proofs.versions.least_invalid_version.Given as goal
 
 abbrev pub invariant-loop-table : goal.invariant-loop-table
 invariant-loop-table l =
-    let bad = λ (t : ImageTable). bad_versions l.positions (table_of t) in
+    let bad = λ (t : ImageTable). bad_versions l.columns.0 l.columns.1 (table_of t) in
     least_from table_event_cmp l.worst (flat_map bad (drop l.table-index l.tables)) ≡ least_from table_event_cmp None (flat_map bad l.tables)

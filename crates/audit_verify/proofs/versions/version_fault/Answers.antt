@@ -2,6 +2,7 @@ use Rattle.std.proofs.Common.{List, sym, ap, subst, flat_map, ◌∙◌}
 use Rattle.std.specs.List.{All}
 use Rattle.law_catalog_rows.specs.Least.{least}
 use Rattle.sql_types.specs.declared.entry.TxEntry.{TxEntry}
+use Rattle.sql_types.specs.declared.version.Version.{Version}
 use Rattle.spec_verify.specs.Entries.{table_event_cmp, event_place}
 use Rattle.spec_verify.specs.Versions.{version_fault, bad_versions}
 use Rattle.audit_verify.specs.declared.shown.ImageTable.{ImageTable}
@@ -13,7 +14,7 @@ use Rattle.audit_verify.proofs.versions.version_fault.Goals as goal
 
 pub least_invalid_version-requires : goal.least_invalid_version-requires
 least_invalid_version-requires c =
-    subst (λ (es : List TxEntry). All (AreStarted es) c.args.tables.now) (sym (c.in_ok-positions.ensures ∙ c.as_slice.ensures))
+    subst (λ (seen : List TxEntry × List Version). All (AreStarted seen.0) c.args.tables.now) (sym c.in_ok-columns.ensures)
     (are_started c.args.tables.now c.args.image.now c.requires.tables c.requires.ids)
 
 pub returns : goal.returns
@@ -22,4 +23,5 @@ returns c =
     let tables = c.args.tables.now in
     c.event_place.ensures
     ∙ ap event_place (c.in_ok-worst.ensures
-    ∙ ap (least table_event_cmp) (ap (λ (es : List TxEntry). flat_map (λ (t : ImageTable). bad_versions es (table_of t)) tables) (c.in_ok-positions.ensures ∙ c.as_slice.ensures) ∙ sym (bad_of_tables tables c.args.image.now c.requires.tables)))
+    ∙ ap (least table_event_cmp) (ap (λ (seen : List TxEntry × List Version). flat_map (λ (t : ImageTable). bad_versions seen.0 seen.1 (table_of t)) tables) c.in_ok-columns.ensures
+    ∙ sym (bad_of_tables tables c.args.image.now c.requires.tables)))

@@ -18,5 +18,6 @@ returns g c =
       is_suspect = (b.0, b.1);
       honest_accepted = accepts h c.args.digests.now c.args.honest.now c.in-Ok.image a;
       suspect_accepted = accepts h c.args.digests.now c.args.suspect.now c.in-Ok-2.image b;
-      found = c.in_ok-outcome.ensures;
+      found = c.in_ok-outcome.ensures.finds;
+      strings = c.in_ok-outcome.ensures.strings;
     }

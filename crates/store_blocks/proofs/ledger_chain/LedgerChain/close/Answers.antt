@@ -17,7 +17,7 @@ returns-clause-ledger g c =
     c.self.inside.closed c.args.count c.len-2.result c.len-2.ensures c.self.invariant
     (subst (λ (b : HashedLedger). c.args.count ≤ length b.ledger.pending) (sym c.self.view_is) c.requires.count)
     c.place_from.ensures (g.H.Hash32.digest c.args.h) _ c.self.inside.hash _ (omega arith)
-    (rw c.deref.ensures.value at c.in_ok-root_of.ensures)
+    (rw c.deref.ensures.value at c.in_ok-entries_root.ensures)
     (subst (KeepsHash (g.H.Hash32.digest c.args.h)) (sym c.self.view_is) c.requires.hash)
     (rw c.len.ensures at c.in_ok-push.ensures.ok)
     ∙ ap (λ (b : HashedLedger). closes (g.H.Hash32.digest c.args.h) c.args.count b.ledger) c.self.view_is
@@ -28,7 +28,7 @@ returns-clause-hash g c =
     c.self.inside.closed c.args.count c.len-2.result c.len-2.ensures c.self.invariant
     (subst (λ (b : HashedLedger). c.args.count ≤ length b.ledger.pending) (sym c.self.view_is) c.requires.count)
     c.place_from.ensures (g.H.Hash32.digest c.args.h) _ c.self.inside.hash _ (omega arith)
-    (rw c.deref.ensures.value at c.in_ok-root_of.ensures)
+    (rw c.deref.ensures.value at c.in_ok-entries_root.ensures)
     (subst (KeepsHash (g.H.Hash32.digest c.args.h)) (sym c.self.view_is) c.requires.hash)
     (rw c.len.ensures at c.in_ok-push.ensures.ok) c.block_hash-self-inside.result
     (rw c.len.ensures at c.block_hash-self-inside.ensures)

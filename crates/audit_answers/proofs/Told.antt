@@ -1,0 +1,14 @@
+-- What an accepted image tells.
+use Rattle.std.proofs.Common.{◌≡◌, ◌≤◌, ◌<◌, ℕ, List, length, Ok}
+use Rattle.sql_types.specs.declared.digest.HeldDigest.{HeldDigest}
+use Rattle.sql_types.specs.declared.image.Image.{Image}
+use Rattle.spec_asof.specs.DatabaseAt.{database_at}
+use Rattle.audit_answers.specs.Told.{IsTried, IsTooFar, IsWritten, answers_text}
+
+pub are_written : (h : List ℕ → List ℕ) (held : List HeldDigest) (bytes : List ℕ) (n : ℕ) (texts : List (List ℕ)) (written : List ℕ) (i : Image)
+    → IsTried h held bytes (Ok i) → (n ≤ length i.entries) × (written ≡ answers_text (database_at i n) texts) → IsWritten h held bytes n texts written
+are_written h held bytes n texts written i tried is = record { i = i; accepted = tried; within = is.0; is = is.1 }
+
+pub is_far : (h : List ℕ → List ℕ) (held : List HeldDigest) (bytes : List ℕ) (n entries : ℕ) (i : Image)
+    → IsTried h held bytes (Ok i) → (entries ≡ length i.entries) × (entries < n) → IsTooFar h held bytes n entries
+is_far h held bytes n entries i tried is = record { i = i; accepted = tried; count = is.0; far = is.1 }

@@ -1,0 +1,6 @@
+//! An image verified and opened behind its first transactions, and texts answered over it.
+#![tactic(auto)]
+
+mod answering;
+
+pub use answering::{Answers, AnswersErr, answer_texts};

@@ -1,0 +1,4 @@
+pub mod AnyKinds
+pub mod Contradicted
+pub mod Given
+pub mod Held

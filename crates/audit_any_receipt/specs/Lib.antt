@@ -1,0 +1,4 @@
+pub mod Among
+pub mod Kinds
+pub mod Shows
+pub mod Wanted

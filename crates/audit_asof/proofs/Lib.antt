@@ -1,0 +1,5 @@
+mod Found
+pub mod Kept
+pub mod Opened
+mod TellsOn
+mod Users

@@ -1,0 +1,11 @@
+//! A database behind its first transactions, opened from an image of it, and what SELECTs are answered over it.
+#![tactic(auto)]
+
+mod as_of;
+mod definitions;
+mod earlier_txs;
+mod tables;
+mod versions;
+
+pub use as_of::{AsOf, AsOfErr};
+pub use spec_asof::AsOfReply;

@@ -1,0 +1,48 @@
+-- Which leaf is of the event with a number.
+use Rattle.std.proofs.Common.{◌≡◌, ◌≤◌, ◌<◌, ◌+◌, ℕ, Bool, true, false, nat_lt, List, length, Option, Some, None, refl, arith, sym, ◌∙◌, subst}
+use Rattle.std.specs.List.{slice_get}
+use Rattle.std.proofs.lemmas.Bool.{ltb-true, ltb-false}
+use Rattle.std.proofs.lemmas.Option.{slice_get_within}
+use Rattle.audit_row_receipt.specs.RowsMade.{IsLeafOf, HasNoLeaf, IsPlaceOf}
+
+-- none of the first n leaves is
+abbrev pub NoneBefore : ℕ → List (List ℕ) → ℕ → Type 0
+NoneBefore seq leaves n = (k : ℕ) (leaf : List ℕ) → k < n → slice_get leaves k ≡ Some leaf → IsLeafOf seq leaf → ⊥
+
+pub none_first : (seq : ℕ) (leaves : List (List ℕ)) → NoneBefore seq leaves 0
+none_first seq leaves = λ k leaf lt at of. absurd (omega (arith, lt))
+
+pub none_next : (seq n : ℕ) (leaves : List (List ℕ)) (leaf : List ℕ) → NoneBefore seq leaves n → slice_get leaves n ≡ Some leaf → (IsLeafOf seq leaf → ⊥) → NoneBefore seq leaves (n + 1)
+none_next seq n leaves leaf before at other = λ k own lt own_at of. by k own own_at of (nat_lt k n) refl lt
+  where
+    by : (k : ℕ) (own : List ℕ) → slice_get leaves k ≡ Some own → IsLeafOf seq own → (b : Bool) → nat_lt k n ≡ b → k < n + 1 → ⊥
+    by k own own_at of true t lt = before k own (ltb-true k n t) own_at of
+    by k own own_at of false t lt =
+        let ge = ltb-false k n t in
+        let same : k ≡ n = omega (arith, ge, lt) in
+        let both : Some own ≡ Some leaf = sym own_at ∙ subst (λ (j : ℕ). slice_get leaves j ≡ Some leaf) (sym same) at in
+        let is : own ≡ leaf = cc in
+        other (subst (IsLeafOf seq) is of)
+
+pub none_at_all : (seq n : ℕ) (leaves : List (List ℕ)) → length leaves ≤ n → NoneBefore seq leaves n → HasNoLeaf seq leaves
+none_at_all seq n leaves all before = λ k leaf at of. before k leaf (let within = slice_get_within leaves k leaf at in omega (arith, within, all)) at of
+
+-- ---- the place that is found
+
+module _ (seq k : ℕ) (leaves : List (List ℕ)) where
+  is_leaf : (leaf : List ℕ) → IsPlaceOf seq leaves (Some k) → slice_get leaves k ≡ Some leaf → IsLeafOf seq leaf
+  is_leaf leaf place at =
+      let both : Some place.0 ≡ Some leaf = sym place.2 ∙ at in
+      let same : place.0 ≡ leaf = cc in
+      subst (IsLeafOf seq) same place.3
+
+  -- where the place was found in a slice and the leaf read in another, both of these leaves
+  pub leaf_found : (leaf : List ℕ) (one two : List (List ℕ)) (found : Option ℕ) → IsPlaceOf seq one found → found ≡ Some k → one ≡ leaves → slice_get two k ≡ Some leaf → two ≡ leaves
+      → (slice_get leaves k ≡ Some leaf) × IsLeafOf seq leaf
+  leaf_found leaf one two found place is one_is at two_is =
+      let here : slice_get leaves k ≡ Some leaf = subst (λ (l : List (List ℕ)). slice_get l k ≡ Some leaf) two_is at in
+      let there : IsPlaceOf seq leaves (Some k) = subst (IsPlaceOf seq leaves) is (subst (λ (l : List (List ℕ)). IsPlaceOf seq l found) one_is place) in
+      (here, is_leaf leaf there here)
+
+pub none_found : (seq : ℕ) (leaves one : List (List ℕ)) (found : Option ℕ) → IsPlaceOf seq one found → found ≡ None → one ≡ leaves → HasNoLeaf seq leaves
+none_found seq leaves one found place is one_is = subst (IsPlaceOf seq leaves) is (subst (λ (l : List (List ℕ)). IsPlaceOf seq l found) one_is place)

@@ -1,0 +1,98 @@
+//! The hashes of the leaves of starts and ends.
+
+ghost use Rattle.std.specs.Prelude.{All, ◌≡◌, ◌∷◌, [], IfOk, OnOk, map};
+ghost use Rattle.format_event.specs.Leaf.{event_bytes};
+ghost use Rattle.audit_verify.specs.Marks.{event_of, leaf_hash, HasValues};
+
+use crate::marks::{Mark, put_leaf};
+use base_merkle::{Hash32, leaf_hash};
+use base_types::Memory;
+use format_roots::four_leaf_hashes;
+use std::alloc::Global;
+
+/// Four leaves that are hashed together.
+#[derive(Drop)]
+struct Leaves {
+    a: Vec<u8>,
+    b: Vec<u8>,
+    c: Vec<u8>,
+    d: Vec<u8>,
+}
+
+/// Makes the leaf that of the start or the end, whatever it was.
+fn set_leaf(leaf: &mut Vec<u8>, mark: &Mark) -> Result<(), Memory>
+    requires { HasValues mark.now }
+    ensures { OnOk result (leaf.new.items ≡ event_bytes (event_of mark.now)) }
+{
+    leaf.clear();
+    put_leaf(mark, leaf)
+}
+
+fn one_hash<H: Hash32>(hasher: H, leaf: &mut Vec<u8>, mark: &Mark) -> Result<[u8; 32], Memory>
+    requires { HasValues mark.now }
+    ensures { IfOk result (λ hash. hash ≡ leaf_hash (H.digest hasher) mark.now) }
+{
+    set_leaf(leaf, mark)?;
+    Ok(leaf_hash(hasher, leaf))
+}
+
+fn four_hashes<H: Hash32>(
+    hasher: H,
+    leaves: &mut Leaves,
+    a: &Mark,
+    b: &Mark,
+    c: &Mark,
+    d: &Mark,
+) -> Result<[[u8; 32]; 4], Memory>
+    requires first { HasValues a.now }
+    requires second { HasValues b.now }
+    requires third { HasValues c.now }
+    requires fourth { HasValues d.now }
+    ensures { IfOk result (λ hashes. hashes ≡ leaf_hash (H.digest hasher) a.now
+        ∷ leaf_hash (H.digest hasher) b.now ∷ leaf_hash (H.digest hasher) c.now
+        ∷ leaf_hash (H.digest hasher) d.now ∷ []) }
+{
+    set_leaf(&mut leaves.a, a)?;
+    set_leaf(&mut leaves.b, b)?;
+    set_leaf(&mut leaves.c, c)?;
+    set_leaf(&mut leaves.d, d)?;
+    Ok(four_leaf_hashes(hasher, &leaves.a, &leaves.b, &leaves.c, &leaves.d))
+}
+
+/// The hashes of the leaves, in their order. As many as can be are computed four at a time, whatever their
+/// transactions and tables. The only error is want of memory.
+pub fn leaf_hashes<H: Hash32>(
+    alloc: Global,
+    hasher: H,
+    marks: &[Mark],
+) -> Result<Vec<[u8; 32]>, Memory>
+    requires { All HasValues marks.now }
+    ensures { IfOk result (λ hashes. hashes.items ≡ map (leaf_hash (H.digest hasher)) marks.now) }
+{
+    let mut hashes = Vec::with_capacity(alloc, marks.len())?;
+    let mut leaves = Leaves {
+        a: Vec::new(alloc),
+        b: Vec::new(alloc),
+        c: Vec::new(alloc),
+        d: Vec::new(alloc),
+    };
+    let mut done = 0;
+    'fours: while marks.len() - done >= 4 {
+        let four = four_hashes(
+            hasher,
+            &mut leaves,
+            &marks[done],
+            &marks[done + 1],
+            &marks[done + 2],
+            &marks[done + 3],
+        )?;
+        hashes.extend_from_slice(&four)?;
+        done += 4;
+    }
+    'rest: while done < marks.len() {
+        let hash = one_hash(hasher, &mut leaves.a, &marks[done])?;
+        hashes.push(hash)?;
+        done += 1;
+    }
+    Ok(hashes)
+}

@@ -1,0 +1,4 @@
+pub mod Later
+pub mod Shown
+mod Stays
+pub mod Told

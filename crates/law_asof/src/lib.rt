@@ -1,0 +1,6 @@
+//! What the image of a legal journal tells of the database behind its first transactions.
+#![tactic(auto)]
+
+mod laws;
+
+pub use laws::{images_tell_earlier_versions, later_transactions_leave_what_earlier_ones_made};

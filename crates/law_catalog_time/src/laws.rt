@@ -1,0 +1,16 @@
+//! The law on when versions start.
+
+ghost use Rattle.std.specs.Prelude.{ℕ, List};
+ghost use Rattle.sql_types.specs.declared.journal.JournalItem.{JournalItem};
+ghost use Rattle.spec_model.specs.Journals.{serial, IsLegal};
+ghost use Rattle.spec_model.specs.Script.{Reading};
+ghost use Rattle.law_journal.specs.Serial.{place_in};
+ghost use Rattle.law_catalog_time.specs.AfterColumns.{VersionsFollowColumns};
+
+/// In the tables to which a legal journal leads, each version of a user's table starts after the rows of the
+/// table of columns that are about its columns, by the places of their transactions in the journal and then by
+/// number. This holds for any reading of texts.
+pub fn legal_versions_start_after_their_columns()
+    ensures { (reads : Reading) (items : List JournalItem) → IsLegal reads items
+        → VersionsFollowColumns (place_in items) (serial reads items) }
+{}
