@@ -16,7 +16,7 @@ use Rattle.sql_types.specs.declared.table.IndexDef.{IndexDef}
 use Rattle.sql_types.specs.declared.table.TableDef.{TableDef}
 use Rattle.sql_types.specs.declared.version.TypedValue.{TypedValue}
 use Rattle.sql_types.specs.declared.version.Version.{Version}
-use Rattle.spec_model.specs.Keys.{value_at, version_key, key_of, key_places}
+use Rattle.spec_model.specs.Keys.{value_at, version_key, key_at, key_of, key_places}
 use Rattle.spec_model.specs.Lists.{numbered}
 use Rattle.spec_model.specs.Rows.{Row, EventId, number, values_of}
 use Rattle.spec_model.specs.SystemTables.{columns_columns, columns_id, bit, column_row, column_rows, index_row, index_rows}
@@ -204,7 +204,7 @@ module _ (second : List Version) (fit : AllByRecursion (λ (r : Version). has_co
 -- ---- a version that started after those rows
 
 row_key : (id : ℕ) (p : ℕ × ColumnDef) → key_of columns_columns (column_row id p) ≡ number id ∷ number p.0 ∷ number 0 ∷ []
-unfolding key_of key_places
+unfolding key_at key_places
 row_key id p = refl
 
 not_null_is : (id : ℕ) (p : ℕ × ColumnDef) (r : Version) → values_of r ≡ column_row id p → p.1.nullable ≡ true → says_not_null r ≡ false
