@@ -261,6 +261,7 @@ def keeps_rules(it: Definition) -> bool:
     keys = sorted(column.key for column in it.columns if column.key)
     return (
         it.id < FIRST_USER_TABLE + MAX_TABLES
+        and it.nothing_dropped()
         and len(set(names)) == len(names)
         and 1 <= len(columns) <= MAX_COLUMNS
         and len(set(columns)) == len(columns)

@@ -41,6 +41,14 @@ fn has_right_names(def: &TableDef) -> bool
         && has_its_history(def.kind, def.history.bytes())
         && is_proper_name(def.view.bytes())
         && !table_names_repeat(def)
+        && nothing_dropped(def)
+}
+
+/// Whether neither the table nor one of its columns was dropped.
+fn nothing_dropped(def: &TableDef) -> bool
+    ensures { result ≡ spec.nothing_dropped def.now }
+{
+    !def.gone && def.dropped.as_slice().is_empty()
 }
 
 fn has_right_columns(columns: &[ColumnDef], positions: &[u16]) -> bool

@@ -24,8 +24,8 @@ AgreeWithImages = (h : List ℕ → List ℕ) (r : Receipt) (i : Image) (d : Hel
 
 module _ (agree : AgreeWithImages) (h : List ℕ → List ℕ) (sized : (bytes : List ℕ) → length (h bytes) ≡ 32) where
   each_has : (r : Receipt) (d : HeldDigest) → IsReceipt r → Accepted h r d → EachImageHas h r.entry d
-  each_has r d form accepted = λ i digests is among accepts.
-      let f = one_fits h i digests d is accepts among in agree h r i d sized form accepted is f.chain f.blocks f.digest
+  each_has r d form accepted = λ bytes i digests is spelling among accepts.
+      let f = one_fits h i digests d bytes is spelling accepts among in agree h r i d sized form accepted is f.chain f.blocks f.digest
 
   pub shows_entry : (receipt digests : List ℕ) (names : Option Names) → IsChecked h receipt digests names true → ShowsEntry h receipt digests names
   shows_entry receipt digests names checked =

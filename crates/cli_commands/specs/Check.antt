@@ -8,7 +8,7 @@ use Rattle.sql_types.specs.declared.entry.BlockRecord.{BlockRecord}
 use Rattle.sql_types.specs.declared.entry.TxEntry.{TxEntry}
 use Rattle.sql_types.specs.declared.image.Image.{Image}
 use Rattle.format_digest.specs.Reading.{IsRead}
-use Rattle.format_image.specs.ImageBytes.{image_bytes, IsImage}
+use Rattle.format_image.specs.ImageBytes.{IsImage, IsSpellingOf}
 use Rattle.format_receipt.specs.declared.receipt.Receipt.{Receipt}
 use Rattle.format_receipt.specs.Receipts.{receipt_bytes, IsReceipt}
 use Rattle.spec_verify.specs.declared.place.Verdict.TheVariants.{Yes}
@@ -142,8 +142,8 @@ pub record Checks (ended : Status) (h : List ℕ → List ℕ) (receipt digests 
 -- strings of bytes have one hash
 abbrev pub EachImageHas : (List ℕ → List ℕ) → TxEntry → HeldDigest → Type 0
 EachImageHas h e d =
-    (i : Image) (digests : List HeldDigest) → IsImage i → Contains digests d
-    → verdict_of h digests (image_bytes i) ≡ Yes
+    (bytes : List ℕ) (i : Image) (digests : List HeldDigest) → IsImage i → IsSpellingOf bytes i
+    → Contains digests d → verdict_of h digests bytes ≡ Yes
     → (slice_get (part_at i.blocks i.entries e.block) e.ordinal ≡ Some e) ⊎ HasCollision h
 
 -- a receipt stands under the name, and a digest of its last block under the other, such that each image that is

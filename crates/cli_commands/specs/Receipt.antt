@@ -5,7 +5,7 @@ use Rattle.base_io.specs.Store.{Names}
 use Rattle.sql_types.specs.declared.digest.HeldDigest.{HeldDigest}
 use Rattle.sql_types.specs.declared.image.Image.{Image}
 use Rattle.format_digest.specs.Reading.{IsRead}
-use Rattle.format_image.specs.ImageBytes.{image_bytes, IsImage}
+use Rattle.format_image.specs.ImageBytes.{IsImage, IsSpellingOf}
 use Rattle.format_receipt.specs.declared.receipt.Receipt.{Receipt}
 use Rattle.format_receipt.specs.Receipts.{receipt_bytes}
 use Rattle.spec_verify.specs.declared.place.Verdict.{Verdict}
@@ -32,7 +32,7 @@ pub record IsAcceptedImage (h : List ℕ → List ℕ) (bytes file : List ℕ) :
   pub held : List HeldDigest
   pub read : IsRead file (Ok held)
   pub i : Image
-  pub is : IsImage i × (bytes ≡ image_bytes i)
+  pub is : IsImage i × IsSpellingOf bytes i
   pub accepted : verdict_of h held bytes ≡ Yes
 
 -- it is the receipt that the image gives of the transaction under the digest of the greatest block, the first of

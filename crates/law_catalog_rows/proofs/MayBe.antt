@@ -69,6 +69,8 @@ may_be def three f w =
       history_proper def.kind def.history f.history w.history,
       proper def.view w.view f.view,
       f.own_names,
+      f.not_gone,
+      f.none_dropped,
       in_between 1 64 (length def.columns) w.some_columns f.count,
       columns_spelled def.columns f.columns w.columns f.not_ledgers,
       f.column_names,

@@ -47,12 +47,16 @@ is_encodable_index columns i =
     is_proper_name i.name && is_between 1 4 (length i.ordinals) && list_all (is_between 1 columns) i.ordinals
     && not (number_repeats i.ordinals)
 
+-- neither the table nor one of its columns was dropped: no statement drops any, so no row says it
+abbrev pub nothing_dropped : TableDef → Bool
+nothing_dropped def = not def.gone && length def.dropped == 0
+
 -- by itself
 abbrev pub is_encodable_def : TableDef → Bool
 is_encodable_def def =
     is_between 3 34 def.id
     && is_proper_name def.name && has_its_history def.kind def.history && is_proper_name def.view
-    && not (repeats (table_names def))
+    && not (repeats (table_names def)) && nothing_dropped def
     && is_between 1 64 (length def.columns) && list_all is_encodable_column def.columns
     && not (repeats (names_of def.columns))
     && are_key_positions (positions_of def.columns) && not (has_null_key def)

@@ -29,13 +29,13 @@ use Rattle.spec_ledger.specs.Ledger.{Ledger, ledger_of}
 use Rattle.law_blocks.proofs.Staying.{blocks_counted}
 use Rattle.law_blocks.proofs.Counting.{entries_counted}
 use Rattle.spec_ledger.proofs.Parting.{parted, entries_by_size}
-use Rattle.format_image.specs.DefBytes.{IsIndex, IsDef, ids_rise}
+use Rattle.format_image.specs.DefBytes.{IsIndex, IsDef, NothingDropped, ids_rise}
 use Rattle.format_image.specs.Image.{user_defs, image_of}
-use Rattle.format_image.specs.ImageBytes.{IsPlaceless, AreTables, IsImage}
+use Rattle.format_image.specs.ImageBytes.{IsPlaceless, AreTables, IsImage, NothingGone}
 use Rattle.format_image.specs.RowBytes.{IsTable}
 use Rattle.format_image.specs.Rows.{table_rows}
 use Rattle.law_image.specs.Room.{TableFitsFormat, FitsImageFormat}
-use Rattle.law_image.proofs.Defs.{defs_are, they_rise}
+use Rattle.law_image.proofs.Defs.{defs_are, none_dropped, they_rise}
 use Rattle.law_image.proofs.Entries.{records_are, entries_are}
 use Rattle.law_image.proofs.Rows.{KnownTable, table_is}
 
@@ -81,6 +81,11 @@ shown_by items (a ∷ b ∷ ts) s front ids few k =
       tables_are = (of_system items a tables_def front.0 refl k.0, (of_system items b columns_def front.1 refl k.1.0, of_users items ts k.1.1 defs));
     }
 
+none_gone : (T : Tables) → AreEncodedByRows T → AllByRecursion NothingDropped (user_defs T)
+none_gone [] s = absurd s
+none_gone (a ∷ []) s = absurd s
+none_gone (a ∷ b ∷ ts) s = none_dropped (defs_of ts) s.rules
+
 module _ (reads : Reading) (gives : ReadsWritten reads) (items : List JournalItem) (legal : IsLegal reads items) where
   abbrev nothing : Tables → Type 0
   nothing T = Unit {0}
@@ -120,3 +125,7 @@ module _ (reads : Reading) (gives : ReadsWritten reads) (items : List JournalIte
         ids = s.ids;
         tables = s.tables_are;
       }
+
+  pub nothing_is_gone : (h : List ℕ → List ℕ) (database : List ℕ) → NothingGone (image_of h reads database items)
+  unfolding image_of
+  nothing_is_gone h database = none_gone (serial reads items) (legal_encoded reads gives items legal)

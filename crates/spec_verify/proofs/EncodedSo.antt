@@ -20,7 +20,7 @@ use Rattle.spec_model.specs.Rows.{Row, values_of}
 use Rattle.spec_model.specs.SystemTables.{tables_columns, columns_columns, tables_def, columns_def, table_row}
 use Rattle.law_frame.proofs.Alls.{all_filter}
 use Rattle.law_catalog_rows.specs.Differs.{are_rows, table_of, is_encoded}
-use Rattle.law_catalog_rows.specs.IsEncodableDef.{is_proper_name, has_its_history, is_between, are_key_positions, positions_of, is_encodable_column, is_encodable_index, number_repeats, is_encodable_def, has_new_names}
+use Rattle.law_catalog_rows.specs.IsEncodableDef.{is_proper_name, has_its_history, is_between, are_key_positions, positions_of, is_encodable_column, is_encodable_index, number_repeats, nothing_dropped, is_encodable_def, has_new_names}
 use Rattle.law_catalog_rows.specs.Encoded.{item_rows, is_about, about, IsAmong, AreRowsOfOne, RowsEncode}
 use Rattle.law_catalog_rows.proofs.Passing.{encoding_passes}
 use Rattle.format_image.specs.DefBytes.{ids_rise}
@@ -96,7 +96,7 @@ few_parts columns (i ∷ is) e =
 
 few : (def : TableDef) → is_encodable_def def ≡ true → Few def
 few def e =
-    let names : Bool = is_between 3 34 def.id && is_proper_name def.name && has_its_history def.kind def.history && is_proper_name def.view && not (repeats (table_names def)) in
+    let names : Bool = is_between 3 34 def.id && is_proper_name def.name && has_its_history def.kind def.history && is_proper_name def.view && not (repeats (table_names def)) && nothing_dropped def in
     let count : Bool = is_between 1 64 (length def.columns) in
     let columns : Bool = list_all is_encodable_column def.columns in
     let differ : Bool = not (repeats (names_of def.columns)) in

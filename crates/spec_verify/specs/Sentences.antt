@@ -48,7 +48,7 @@ pub record LinkHolds (h : List ℕ → List ℕ) (i : Image) (b : ℕ) (r : Bloc
 pub record BlockHolds (h : List ℕ → List ℕ) (i : Image) (b : ℕ) (r : BlockRecord) : Type 0 where
   pub some : 1 ≤ r.size
   pub few : r.size ≤ max_block
-  pub all_there : entries_before i b + r.size ≤ length i.entries
+  pub nothing_is_dropped : entries_before i b + r.size ≤ length i.entries
   pub root : r.root ≡ tree_hash h (map entry_bytes (entries_in i b r))
 
 -- ---- entries
