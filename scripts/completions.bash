@@ -8,13 +8,13 @@ _ledgerd_options() {
     case $1 in
         step | run) echo --save --block-size --clock --database --help ;;
         verify) echo --workers --help ;;
-        replay | receipt) echo --save --help ;;
+        replay | receipt | upgrade) echo --save --help ;;
         *) echo --help ;;
     esac
 }
 
 _ledgerd() {
-    local commands='step run verify extract replay receipt check gen' word=${COMP_WORDS[COMP_CWORD]}
+    local commands='step run verify extract replay receipt check upgrade gen' word=${COMP_WORDS[COMP_CWORD]}
     if [ "$COMP_CWORD" = 1 ]; then
         case $word in
             -*) mapfile -t COMPREPLY < <(compgen -W '--help --version' -- "$word") ;;

@@ -9,4 +9,5 @@ pub mod ReceiptLemmas
 pub mod ReplayLemmas
 pub mod SavedLemmas
 pub mod TransferLemmas
+pub mod UpgradeLemmas
 mod ReportLemmas

@@ -20,7 +20,7 @@ use Rattle.audit_receipt.specs.Accepted.{Accepted}
 use Rattle.audit_receipt.specs.Made.{IsMade, receipt_of}
 use Rattle.cli_commands.specs.declared.files.File.{File}
 use Rattle.cli_commands.specs.declared.status.Status.{Status}
-use Rattle.cli_commands.specs.declared.status.Status.TheVariants.{Done, No, Words, Limit, SourceFault, SinkFault, VaultFault, Missing, Digests, Journal, Form, Memory, NoEntry, Receipt}
+use Rattle.cli_commands.specs.declared.status.Status.TheVariants.{Done, No, Words, Limit, SourceFault, SinkFault, VaultFault, Missing, Digests, Journal, Form, Memory, NotImage, NoEntry, Receipt}
 use Rattle.cli_commands.specs.Answer.{HasPut, HasWritten, EndsBy}
 use Rattle.cli_commands.specs.Extract.{IsTried}
 use Rattle.cli_commands.specs.Files.{TellsLeft, TellsHeld, FirstArePut, put_held}
@@ -66,6 +66,7 @@ module _ (h : List ℕ → List ℕ) (tx : ℕ) (bytes file : List ℕ) (held sl
         none = subst (λ (l : List HeldDigest). HasNoneUnder i l tx) also lacks;
       }
   lacks_on Memory lacks = tt
+  lacks_on NotImage lacks = absurd lacks
   lacks_on Done lacks = absurd lacks
   lacks_on No lacks = absurd lacks
   lacks_on Words lacks = absurd lacks
@@ -81,7 +82,7 @@ module _ (h : List ℕ → List ℕ) (tx : ℕ) (bytes file : List ℕ) (held sl
 
 -- ---- the receipt was put
 
-one_tells : (file : File) (old new : Option Names) → TellsLeft (put_held file ∷ []) old new → TellsHeld old new file.name file.bytes
+pub one_tells : (file : File) (old new : Option Names) → TellsLeft (put_held file ∷ []) old new → TellsHeld old new file.name file.bytes
 one_tells file None new told = tt
 one_tells file (Some old) None told = absurd told
 one_tells file (Some old) (Some new) told =
@@ -125,6 +126,7 @@ module _ (verdict : Verdict) (sink : Type 0) (taken now : Option (List ℕ)) (sa
   by_refusing P said faulty short (Journal at) ends = absurd ends
   by_refusing P said faulty short (Form line) ends = absurd ends
   by_refusing P said faulty short NoEntry ends = absurd ends
+  by_refusing P said faulty short NotImage ends = absurd ends
   by_refusing P said faulty short Receipt ends = absurd ends
 
   module _ (status : Status) (ends : EndsRefusing status verdict sink taken now same)

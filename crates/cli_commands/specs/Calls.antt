@@ -6,7 +6,7 @@ use Rattle.base_io.specs.declared.failed.Failed.{Failed}
 use Rattle.base_io.specs.declared.vault.VaultErr.{VaultErr}
 use Rattle.base_io.specs.declared.vault.VaultErr.TheVariants as refused
 use Rattle.base_io.specs.History.{EndsAt}
-use Rattle.cli_words.specs.Commands.{Command, Step, Run, Verify, Extract, Replay, Gen, Receipt, Check, Help, Version}
+use Rattle.cli_words.specs.Commands.{Command, Step, Run, Verify, Extract, Replay, Gen, Receipt, Check, Upgrade, Help, Version}
 use Rattle.cli_commands.specs.declared.status.Status.{Status}
 use Rattle.cli_commands.specs.declared.status.Status.TheVariants.{Done, No, Words, Limit, SourceFault, SinkFault, VaultFault, Missing, Memory}
 use Rattle.cli_commands.specs.declared.transfer.ReadErr.{ReadErr}
@@ -89,6 +89,7 @@ AreCalls (Some (Extract honest suspect digests)) status answers = AreGets 3 stat
 AreCalls (Some (Gen count)) status answers = answers ≡ []
 AreCalls (Some (Receipt image digests tx save)) status answers = AreGetsAndPuts 2 status answers
 AreCalls (Some (Check receipt digests)) status answers = AreGets 2 status answers
+AreCalls (Some (Upgrade image save)) status answers = AreGetsAndPuts 1 status answers
 AreCalls (Some (Help which)) status answers = answers ≡ []
 AreCalls (Some Version) status answers = answers ≡ []
 

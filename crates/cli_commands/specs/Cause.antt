@@ -1,7 +1,7 @@
 -- Why the top call ends with a status, by the command that the words say.
 use Rattle.std.specs.Prelude.{◌≡◌, ◌⊎◌, ℕ, List, Option, Some, None}
 use Rattle.base_io.specs.Store.{Names}
-use Rattle.cli_words.specs.Commands.{Command, Step, Run, Verify, Extract, Replay, Gen, Receipt, Check, Help, Version}
+use Rattle.cli_words.specs.Commands.{Command, Step, Run, Verify, Extract, Replay, Gen, Receipt, Check, Upgrade, Help, Version}
 use Rattle.cli_commands.specs.declared.status.Status.{Status}
 use Rattle.cli_commands.specs.declared.status.Status.TheVariants.{Words, Memory}
 use Rattle.cli_commands.specs.Answer.{InputCause}
@@ -11,6 +11,7 @@ use Rattle.cli_commands.specs.Input.{line_form, section_form}
 use Rattle.cli_commands.specs.Receipt.{ReceiptCause}
 use Rattle.cli_commands.specs.Replay.{ReplayCause}
 use Rattle.cli_commands.specs.Tell.{TellCause}
+use Rattle.cli_commands.specs.Upgrade.{UpgradeCause}
 use Rattle.cli_commands.specs.Verify.{VerifyCause}
 
 -- Each command has its causes, by what the input and the vault tell and by whose faults rose in the call.
@@ -34,5 +35,7 @@ HasCause status h (Some (Receipt image digests tx save)) input names source vaul
     ReceiptCause status h image digests tx names vault sink
 HasCause status h (Some (Check receipt digests)) input names source vault sink =
     CheckCause status h receipt digests names vault sink
+HasCause status h (Some (Upgrade image save)) input names source vault sink =
+    UpgradeCause status image names vault sink
 HasCause status h (Some (Help which)) input names source vault sink = TellCause status sink
 HasCause status h (Some Version) input names source vault sink = TellCause status sink

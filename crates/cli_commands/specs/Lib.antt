@@ -14,5 +14,6 @@ pub mod Run
 pub mod Status
 pub mod Tell
 pub mod Transfer
+pub mod Upgrade
 pub mod Verify
 pub mod Words

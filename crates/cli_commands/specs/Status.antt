@@ -2,7 +2,7 @@
 use Rattle.std.specs.Prelude.{ℕ, List, [], ◌++◌, codes, Some}
 use Rattle.std.specs.Fmt.{decimal}
 use Rattle.cli_commands.specs.declared.status.Status.{Status}
-use Rattle.cli_commands.specs.declared.status.Status.TheVariants.{Done, No, Words, Limit, SourceFault, SinkFault, VaultFault, Missing, Digests, Journal, Form, Memory, NoEntry, Receipt}
+use Rattle.cli_commands.specs.declared.status.Status.TheVariants.{Done, No, Words, Limit, SourceFault, SinkFault, VaultFault, Missing, Digests, Journal, Form, NotImage, Memory, NoEntry, Receipt}
 
 abbrev pub code_of : Status → ℕ
 code_of Done = 0
@@ -16,6 +16,7 @@ code_of (Missing which) = 7
 code_of (Digests index) = 8
 code_of (Journal at) = 9
 code_of (Form line) = 10
+code_of NotImage = 11
 code_of Memory = 12
 code_of NoEntry = 14
 code_of Receipt = 15
@@ -32,6 +33,7 @@ text_of (Missing which) = codes "no such name in the vault"
 text_of (Digests index) = codes "the digests were refused"
 text_of (Journal at) = codes "the journal was refused"
 text_of (Form line) = codes "a line has no session"
+text_of NotImage = codes "not an image"
 text_of Memory = codes "out of memory"
 text_of NoEntry = codes "no such entry"
 text_of Receipt = codes "the receipt was refused"

@@ -1,6 +1,6 @@
 -- What is so of the command that words say.
 use Rattle.std.specs.Prelude.{ℕ, Bool, true, false, List, Option, Some}
-use Rattle.cli_words.specs.Commands.{Command, Settings, Step, Run, Verify, Extract, Replay, Gen, Receipt, Check, Help, Version}
+use Rattle.cli_words.specs.Commands.{Command, Settings, Step, Run, Verify, Extract, Replay, Gen, Receipt, Check, Upgrade, Help, Version}
 use Rattle.cli_words.specs.Help.{help_of}
 use Rattle.cli_words.specs.declared.help.TheConstants.{VERSION}
 
@@ -45,6 +45,11 @@ abbrev pub OfCheck : Option Command → (List ℕ → List ℕ → Type 0) → T
 OfCheck (Some (Check receipt digests)) P = P receipt digests
 OfCheck words P = Unit {0}
 
+-- what is so of the names that `upgrade` is given
+abbrev pub OfUpgrade : Option Command → (List ℕ → List ℕ → Type 0) → Type 0
+OfUpgrade (Some (Upgrade image save)) P = P image save
+OfUpgrade words P = Unit {0}
+
 -- what is so of the text that is printed: help, or the version
 abbrev pub OfTell : Option Command → (List ℕ → Type 0) → Type 0
 OfTell (Some (Help which)) P = P (help_of which)
@@ -63,4 +68,5 @@ puts_files (Some (Step save how)) = true
 puts_files (Some (Run save how)) = true
 puts_files (Some (Replay journal save)) = true
 puts_files (Some (Receipt image digests tx save)) = true
+puts_files (Some (Upgrade image save)) = true
 puts_files words = false

@@ -15,6 +15,7 @@ mod step;
 mod tell;
 mod top;
 mod transfer;
+mod upgrade;
 mod verify;
 
 pub use cli_words::USAGE;

@@ -35,6 +35,8 @@ pub enum Status {
     Journal { at: Option<(u64, u64)> },
     /// This line of the input has no session, or isn't UTF-8. It is the first such line, counted from 1.
     Form { line: u64 },
+    /// The bytes are no image's, neither in version 2 nor in version 1.
+    NotImage,
     /// There was no more memory.
     Memory,
     /// The digests are none, or no entry of the blocks up to their greatest is of the transaction.
@@ -60,6 +62,7 @@ impl Status {
             Status::Digests { .. } => 8,
             Status::Journal { .. } => 9,
             Status::Form { .. } => 10,
+            Status::NotImage => 11,
             Status::Memory => 12,
             Status::NoEntry => 14,
             Status::Receipt => 15,
@@ -82,6 +85,7 @@ impl Status {
             Status::Digests { .. } => "the digests were refused",
             Status::Journal { .. } => "the journal was refused",
             Status::Form { .. } => "a line has no session",
+            Status::NotImage => "not an image",
             Status::Memory => "out of memory",
             Status::NoEntry => "no such entry",
             Status::Receipt => "the receipt was refused",

@@ -6,7 +6,7 @@ ghost use Rattle.base_io.specs.Count.{Rises};
 ghost use Rattle.base_io.specs.History.{Since};
 ghost use Rattle.cli_words.specs.Commands.{command_of};
 ghost use Rattle.cli_commands.specs.Words.{OfStep, OfRun, OfVerify, OfReplay, OfExtract, OfGen, OfTell};
-ghost use Rattle.cli_commands.specs.Words.{OfReceipt, OfCheck};
+ghost use Rattle.cli_commands.specs.Words.{OfReceipt, OfCheck, OfUpgrade};
 ghost use Rattle.cli_commands.specs.Words.{reads_input, puts_files};
 ghost use Rattle.cli_commands.specs.Answer.{HasRead, RanAndSaved, RunOutcomeOrIdle, Unfailed};
 ghost use Rattle.cli_commands.specs.Calls.{AreReads, AreCalls, AreWrites};
@@ -19,6 +19,7 @@ ghost use Rattle.cli_commands.specs.Receipt.{Receipted, SaysNo, ReceiptedOrIdle,
 ghost use Rattle.cli_commands.specs.Replay.{SavesReplay, ReplayedOrIdle, PutsAccepted};
 ghost use Rattle.cli_commands.specs.Run.{LinesComeTo, SectionsComeTo};
 ghost use Rattle.cli_commands.specs.Tell.{HasTold};
+ghost use Rattle.cli_commands.specs.Upgrade.{Upgraded, UpgradedOrIdle, PutsTheSame};
 ghost use Rattle.cli_commands.specs.Verify.{SaysVerdict, SaidOrIdle};
 
 use crate::Status;
@@ -30,6 +31,7 @@ use crate::replay::replay;
 use crate::run::run_side_by_side;
 use crate::step::step;
 use crate::tell::tell;
+use crate::upgrade::upgrade;
 use crate::verify::verify;
 use base_io::{Clock, Gate, Sink, Source, Vault};
 use base_merkle::Sha256Hash;
@@ -91,6 +93,10 @@ use std::thread::Threads;
 /// the status is `No`. After `Yes` each image that is accepted with this digest has the receipt's entry at its
 /// place, or SHA-256 has a collision. It puts nothing and reads no input.
 ///
+/// `upgrade IMAGE --save NAME` reads what stands under the name of an image, in version 2 or in version 1, and puts
+/// the same image in version 2 under `NAME.img`, and writes `upgraded`. With every list of digests `verify` says the
+/// same of both. It verifies nothing: where the bytes are an image of neither version, the status is `NotImage`.
+///
 /// `gen COUNT` runs a workload of four sessions side by side, each of which inserts so many rows into a table
 /// of its own and adds 1 to every tenth, and writes five lines: how many transactions there are, rows, versions
 /// that have ended, the sum of the rows' values, and the verdict on the image. However the turns of the threads
@@ -116,7 +122,8 @@ use std::thread::Threads;
 /// those of a journal, and last whether that is legal; all this before anything is put. Of `receipt`, the names
 /// and the digests are looked at as of `verify`, then the image, and last whether there is such an entry: `No`
 /// comes before `NoEntry`, and all this before anything is put. Of `check`, the names, then whether the bytes are
-/// those of a receipt, and then the digests: `Receipt` comes before `Digests`.
+/// those of a receipt, and then the digests: `Receipt` comes before `Digests`. Of `upgrade`, the name, and then
+/// whether the bytes are those of an image; all this before anything is put.
 pub fn ledgerd<S: Source, K: Sink, V: Vault, C: Clock, G: Gate, R: Threads + Wait + Sync>(
     rt: &R,
     alloc: Global,
@@ -135,7 +142,7 @@ pub fn ledgerd<S: Source, K: Sink, V: Vault, C: Clock, G: Gate, R: Threads + Wai
         (Rises (K.faults sink.old) (K.faults sink.new) ⊎ Rises (K.stalls sink.old) (K.stalls sink.new)) }
 
     // Where the words say no command, nothing is touched. Only `step` and `run` read the input; these two,
-    // `replay` and `receipt` put files.
+    // `replay`, `receipt` and `upgrade` put files.
     ensures words { command_of (map string_bytes words.now) ≡ None
         → (source.new ≡ source.old) × (vault.new ≡ vault.old) × (sink.new ≡ sink.old) }
     ensures unread { reads_input (command_of (map string_bytes words.now)) ≡ false
@@ -215,6 +222,17 @@ pub fn ledgerd<S: Source, K: Sink, V: Vault, C: Clock, G: Gate, R: Threads + Wai
     ensures shows { OfCheck (command_of (map string_bytes words.now))
         (λ receipt digests. result ≡ Status.Done → ShowsEntry sha256 receipt digests (V.names vault.old)) }
 
+    // `upgrade`: what is put and written of the image under the name, by the status; and what is put has the
+    // verdict of what was read, with every hash and every list of digests.
+    ensures upgraded { OfUpgrade (command_of (map string_bytes words.now))
+        (λ image save. UpgradedOrIdle result
+        (Upgraded result image save
+        (V.names vault.old) (V.names vault.new) (K.taken sink.old) (K.taken sink.new))
+        ((V.names vault.new ≡ V.names vault.old) × (sink.new ≡ sink.old))) }
+    ensures one_verdict { OfUpgrade (command_of (map string_bytes words.now))
+        (λ image save. result ≡ Status.Done
+        → PutsTheSame image save (V.names vault.old) (V.names vault.new)) }
+
     // The first fault or stall is the last call: nothing is tried again, and nothing is read behind the end.
     ensures reads { OfStep (command_of (map string_bytes words.now))
         (λ save settings. Since (S.history source.old) (S.history source.new) (AreReads result)) }
@@ -270,6 +288,7 @@ pub fn ledgerd<S: Source, K: Sink, V: Vault, C: Clock, G: Gate, R: Threads + Wai
         Command::Check { receipt, digests } => {
             check(alloc, Sha256Hash, receipt, digests, sink, vault)
         }
+        Command::Upgrade { image, save } => upgrade(alloc, image, save, sink, vault),
         Command::Gen { count } => generate(rt, alloc, Sha256Hash, count, sink),
         Command::Help(which) => tell(help_text(which), sink),
         Command::Version => tell(VERSION, sink),

@@ -5,7 +5,7 @@ use Rattle.std.specs.Str.{bytes_eq}
 use Rattle.std.proofs.lemmas.Bool.Decides.{nat_tests}
 use Rattle.base_types.specs.DatabaseName.{is_database_name}
 use Rattle.base_types.specs.declared.moment.TheConstants.{MAX_TICKS}
-use Rattle.cli_words.specs.Commands.{Settings, AreInRange, IsInRange, Command, Step, Run, Verify, Extract, Replay, Gen, Receipt, Check, given, settings, meaning_of, has_dashes, arguments_of, asks_help, alone, help_on, others, behind, command_of}
+use Rattle.cli_words.specs.Commands.{Settings, AreInRange, IsInRange, Command, Step, Run, Verify, Extract, Replay, Gen, Receipt, Check, Upgrade, given, settings, meaning_of, has_dashes, arguments_of, asks_help, alone, help_on, others, behind, command_of}
 use Rattle.cli_words.specs.Commands as said
 use Rattle.cli_words.specs.Forms.{is_number, number_from, number_in, database_name, file_name, save_name, or_default, if_given}
 use Rattle.cli_words.specs.Line.{Text, uses_of, ◌>>=◌}
@@ -145,6 +145,10 @@ has_range which.Check value =
     every (value (codes "RECEIPT") >>= file_name) (λ receipt. value (codes "DIGESTS") >>= file_name >>= λ digests. Some (Check receipt digests)) IsInRange
     (λ receipt is. every (value (codes "DIGESTS") >>= file_name) (λ digests. Some (Check receipt digests)) IsInRange
     (λ digests are d. is_some (Check receipt digests) d tt))
+has_range which.Upgrade value =
+    every (value (codes "IMAGE") >>= file_name) (λ image. value (codes "save") >>= save_name >>= λ save. Some (Upgrade image save)) IsInRange
+    (λ image is. every (value (codes "save") >>= save_name) (λ save. Some (Upgrade image save)) IsInRange
+    (λ save also d. is_some (Upgrade image save) d tt))
 
 arguments_range : (w : Subcommand) (words : List Text) (c : Command) → arguments_of w words ≡ Some c → IsInRange c
 unfolding arguments_of

@@ -40,6 +40,8 @@ pub data Command : Type 0 where
   Receipt : Text → Text → ℕ → Text → Command
   -- the names of a receipt and of digests
   Check : Text → Text → Command
+  -- the name of an image, and the name that it is saved under in the newest version
+  Upgrade : Text → Text → Command
   -- help on one command, or on all
   Help : Option Subcommand → Command
   Version : Command
@@ -92,6 +94,9 @@ meaning_of which.Receipt value = value (codes "IMAGE") >>= file_name >>= λ imag
 meaning_of which.Check value = value (codes "RECEIPT") >>= file_name >>= λ receipt.
     value (codes "DIGESTS") >>= file_name >>= λ digests.
     Some (Check receipt digests)
+meaning_of which.Upgrade value = value (codes "IMAGE") >>= file_name >>= λ image.
+    value (codes "save") >>= save_name >>= λ save.
+    Some (Upgrade image save)
 
 abbrev pub has_dashes : List Text → Bool
 has_dashes words = list_any (λ w. bytes_eq w (codes "--")) words

@@ -1,7 +1,7 @@
 -- The words that name a command, and what may stand behind each.
 use Rattle.std.specs.Prelude.{List, [], ◌∷◌, codes, Option, Some, None, if◌then◌else◌, bytes_eq}
 use Rattle.cli_words.specs.declared.subcommand.Subcommand.{Subcommand}
-use Rattle.cli_words.specs.declared.subcommand.Subcommand.TheVariants.{Step, Run, Verify, Extract, Replay, Gen, Receipt, Check}
+use Rattle.cli_words.specs.declared.subcommand.Subcommand.TheVariants.{Step, Run, Verify, Extract, Replay, Gen, Receipt, Check, Upgrade}
 use Rattle.cli_words.specs.Line.{Text}
 
 abbrev pub name_of : Subcommand → Text
@@ -13,6 +13,7 @@ name_of Replay = codes "replay"
 name_of Gen = codes "gen"
 name_of Receipt = codes "receipt"
 name_of Check = codes "check"
+name_of Upgrade = codes "upgrade"
 
 -- the names of its operands, in their order
 abbrev pub operands_of : Subcommand → List Text
@@ -24,6 +25,7 @@ operands_of Replay = codes "JOURNAL" ∷ []
 operands_of Gen = codes "COUNT" ∷ []
 operands_of Receipt = codes "IMAGE" ∷ codes "DIGESTS" ∷ codes "TX" ∷ []
 operands_of Check = codes "RECEIPT" ∷ codes "DIGESTS" ∷ []
+operands_of Upgrade = codes "IMAGE" ∷ []
 
 -- the names of its options
 abbrev pub options_of : Subcommand → List Text
@@ -35,6 +37,7 @@ options_of Replay = codes "save" ∷ []
 options_of Gen = []
 options_of Receipt = codes "save" ∷ []
 options_of Check = []
+options_of Upgrade = codes "save" ∷ []
 
 -- the one that the word names
 unfoldable pub named : Text → Option Subcommand
@@ -47,4 +50,5 @@ named word =
     else if bytes_eq word (codes "gen") then Some Gen
     else if bytes_eq word (codes "receipt") then Some Receipt
     else if bytes_eq word (codes "check") then Some Check
+    else if bytes_eq word (codes "upgrade") then Some Upgrade
     else None

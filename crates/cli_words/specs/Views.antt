@@ -1,5 +1,5 @@
 -- The types of the code, as the definitions see them.
-use Rattle.cli_words.specs.Commands.{Settings, Command, Step, Run, Verify, Extract, Replay, Gen, Receipt, Check, Help, Version}
+use Rattle.cli_words.specs.Commands.{Settings, Command, Step, Run, Verify, Extract, Replay, Gen, Receipt, Check, Upgrade, Help, Version}
 use Rattle.server_result.specs.declared.settings.Settings as code
 use Rattle.cli_words.specs.declared.command.Command as coded
 use Rattle.cli_words.specs.declared.command.Command.TheVariants as words
@@ -16,5 +16,6 @@ command_view (words.Replay journal save) = Replay journal.now save.now
 command_view (words.Gen count) = Gen count
 command_view (words.Receipt image digests tx save) = Receipt image.now digests.now tx save.now
 command_view (words.Check receipt digests) = Check receipt.now digests.now
+command_view (words.Upgrade image save) = Upgrade image.now save.now
 command_view (words.Help which) = Help which
 command_view words.Version = Version

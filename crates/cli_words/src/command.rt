@@ -80,6 +80,13 @@ pub enum Command<'a> {
         /// The name of the digests that it is held against.
         digests: &'a str,
     },
+    /// Saves an image in the newest version.
+    Upgrade {
+        /// The name of the image.
+        image: &'a str,
+        /// The name that it is saved under.
+        save: &'a str,
+    },
     /// Prints help on one command, or on all.
     Help(Option<Subcommand>),
     /// Prints the program's name and version.
@@ -196,6 +203,16 @@ fn check_of<'a>(matches: &ArgMatches<'a>) -> Option<Command<'a>>
     Some(Command::Check { receipt, digests })
 }
 
+#[tactic(auto, unfolding(crate::specs::Commands::meaning_of))]
+fn upgrade_of<'a>(matches: &ArgMatches<'a>) -> Option<Command<'a>>
+    ensures { option_map command_view result
+        ≡ spec.meaning_of Subcommand.Upgrade (first_value (found_of matches.now)) }
+{
+    let image = file_name(matches.get_str("IMAGE")?)?;
+    let save = save_name(matches.get_str("save")?)?;
+    Some(Command::Upgrade { image, save })
+}
+
 /// What the values say; none where one of them lacks its form, or isn't there and has to be.
 fn meaning_of<'a>(which: Subcommand, matches: &ArgMatches<'a>) -> Option<Command<'a>>
     ensures { option_map command_view result
@@ -210,6 +227,7 @@ fn meaning_of<'a>(which: Subcommand, matches: &ArgMatches<'a>) -> Option<Command
         Subcommand::Gen => gen_of(matches),
         Subcommand::Receipt => receipt_of(matches),
         Subcommand::Check => check_of(matches),
+        Subcommand::Upgrade => upgrade_of(matches),
     }
 }
 

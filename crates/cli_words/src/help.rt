@@ -12,6 +12,7 @@ pub const USAGE: &str = "usage: ledgerd step --save NAME [--block-size N] [--clo
        ledgerd replay JOURNAL --save NAME
        ledgerd receipt IMAGE DIGESTS TX --save NAME
        ledgerd check RECEIPT DIGESTS
+       ledgerd upgrade IMAGE --save NAME
        ledgerd gen COUNT
 `./ledgerd --help` says what each does.
 ";
@@ -35,6 +36,8 @@ them.
   ledgerd receipt IMAGE DIGESTS TX --save NAME
                                 makes the receipt of a transaction of an image
   ledgerd check RECEIPT DIGESTS says whether a receipt holds with digests
+  ledgerd upgrade IMAGE --save NAME
+                                saves an image in the newest version
   ledgerd gen COUNT             runs and verifies a workload, to measure with
   ledgerd COMMAND --help        says more of one of these, as `ledgerd help
                                 COMMAND` and `ledgerd COMMAND -h` do
@@ -57,8 +60,9 @@ It ends with one of these statuses, and from 2 on standard error says more:
    4  reading the input failed           5  writing the output failed
    6  a file can't be read or put        7  no such file
    8  the digests were refused           9  the journal was refused
-  10  a line has no session             12  out of memory
-  14  no such entry                     15  the receipt was refused
+  10  a line has no session             11  not an image
+  12  out of memory                     14  no such entry
+  15  the receipt was refused
 
 Pages, in docs/ of the repository: SQL.md (input, statements and codes),
 AUDIT.md (commands, answers and statuses), FORMATS.md (the bytes of the files).
@@ -196,6 +200,18 @@ Example, from the top of the repository, behind that of `receipt`:
   (cd examples && ../ledgerd check payment.receipt honest.digests)
 ";
 
+/// Help on `upgrade`.
+pub const UPGRADE_HELP: &str = "ledgerd upgrade IMAGE --save NAME
+
+Reads the image IMAGE, of version 1 or 2, puts NAME.img, the same image in
+version 2, in the current folder, and prints `upgraded`. It verifies nothing,
+and `verify` says the same of both with any digests. docs/FORMATS.md has the
+versions.
+
+Example, from the top of the repository:
+  (cd examples && ../ledgerd upgrade honest.img --save newest)
+";
+
 /// Help on `gen`.
 pub const GEN_HELP: &str = "ledgerd gen COUNT
 
@@ -224,5 +240,6 @@ pub fn help_text(which: Option<Subcommand>) -> &'static str
         Some(Subcommand::Gen) => GEN_HELP,
         Some(Subcommand::Receipt) => RECEIPT_HELP,
         Some(Subcommand::Check) => CHECK_HELP,
+        Some(Subcommand::Upgrade) => UPGRADE_HELP,
     }
 }

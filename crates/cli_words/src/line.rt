@@ -101,6 +101,17 @@ fn check_command<'a>(alloc: Global) -> Result<Command<'a>, AllocError>
         .arg(digests)
 }
 
+fn upgrade_command<'a>(alloc: Global) -> Result<Command<'a>, AllocError>
+    ensures { IfOk result (λ c. app_of c ≡ app_for Subcommand.Upgrade) }
+{
+    let image = Arg::new(alloc, "IMAGE");
+    let save = Arg::new(alloc, "save").long("save");
+    Command::new(alloc, "upgrade")
+        .disable_help_flag(true)
+        .arg(image)?
+        .arg(save)
+}
+
 /// The command that clap reads. Help is none of its words, so that it never prints.
 fn command_for<'a>(alloc: Global, which: Subcommand) -> Result<Command<'a>, AllocError>
     ensures app { IfOk result (λ c. app_of c ≡ app_for which) }
@@ -115,6 +126,7 @@ fn command_for<'a>(alloc: Global, which: Subcommand) -> Result<Command<'a>, Allo
         Subcommand::Gen => gen_command(alloc),
         Subcommand::Receipt => receipt_command(alloc),
         Subcommand::Check => check_command(alloc),
+        Subcommand::Upgrade => upgrade_command(alloc),
     }
 }
 

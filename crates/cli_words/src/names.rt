@@ -20,6 +20,7 @@ pub fn name_read<'a>(command: Command<'a>, number: u8) -> Option<&'a str>
         (Command::Receipt { digests, .. }, 2) => Some(digests),
         (Command::Check { receipt, .. }, 1) => Some(receipt),
         (Command::Check { digests, .. }, 2) => Some(digests),
+        (Command::Upgrade { image, .. }, 1) => Some(image),
         _ => None,
     }
 }

@@ -94,6 +94,7 @@ fn operand_at(which: Subcommand, place: usize) -> Option<&'static str> {
         (Subcommand::Receipt, 2) => Some("TX"),
         (Subcommand::Check, 0) => Some("RECEIPT"),
         (Subcommand::Check, 1) => Some("DIGESTS"),
+        (Subcommand::Upgrade, 0) => Some("IMAGE"),
         _ => None,
     }
 }
@@ -104,7 +105,7 @@ fn has_option(which: Subcommand, name: &str) -> bool {
             matches!(name, "save" | "block-size" | "clock" | "database")
         }
         Subcommand::Verify => name == "workers",
-        Subcommand::Replay | Subcommand::Receipt => name == "save",
+        Subcommand::Replay | Subcommand::Receipt | Subcommand::Upgrade => name == "save",
         Subcommand::Extract | Subcommand::Gen | Subcommand::Check => false,
     }
 }

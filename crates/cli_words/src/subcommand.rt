@@ -21,6 +21,8 @@ pub enum Subcommand {
     Receipt,
     /// Says whether a receipt holds with digests.
     Check,
+    /// Saves an image in the newest version.
+    Upgrade,
 }
 
 impl Subcommand {
@@ -38,6 +40,7 @@ impl Subcommand {
             "gen" => Some(Subcommand::Gen),
             "receipt" => Some(Subcommand::Receipt),
             "check" => Some(Subcommand::Check),
+            "upgrade" => Some(Subcommand::Upgrade),
             _ => None,
         }
     }
