@@ -20,6 +20,7 @@ use Rattle.spec_model.specs.Catalog.{Defs, NamedPart, Tables, defs_of, find_part
 use Rattle.spec_model.specs.Checks as checks
 use Rattle.spec_model.specs.Checks.{row_statement_check}
 use Rattle.spec_model.specs.Limits.{max_columns}
+use Rattle.spec_model.specs.Keys.{key_places}
 use Rattle.spec_model.specs.Locks.{whole}
 use Rattle.spec_model.specs.Parts.{columns_of}
 use Rattle.spec_model.specs.ChangeSets.{defined, change_set}
@@ -132,7 +133,7 @@ module _ (v : Server) (cells : List Cell) (seats : List SeatState) {history : Hi
     pub is_table_of : (def old : TableDef) → def.id ≡ c.id → def_at (defs_of T) c.id ≡ Some old → old.columns ≡ def.columns → IsTable c def
     is_table_of def old id e same = record {
       here = id;
-      columns = ⊎_elim (λ (none : c.versions ≡ []). inl none) (λ (cols : c.columns ≡ old.columns). inr (cols ∙ same)) (stands_as old e).columns;
+      key = ⊎_elim (λ (none : c.versions ≡ []). inl none) (λ (k : c.key ≡ key_places old.columns). inr (k ∙ ap key_places same)) (stands_as old e).key;
     }
 
     pub has_fit_of : (def old : TableDef) → def_at (defs_of T) c.id ≡ Some old → old.columns ≡ def.columns → HasFit c def
