@@ -4,6 +4,7 @@ pub mod Blocks
 pub mod ByNumber
 pub mod Definitions
 pub mod Events
+pub mod FilledTables
 pub mod Firsts
 pub mod Ids
 pub mod Indexes

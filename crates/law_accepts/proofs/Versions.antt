@@ -32,6 +32,7 @@ use Rattle.format_image.specs.Rows.{Stored, ended_ones}
 use Rattle.spec_verify.specs.Entries.{least_event}
 use Rattle.spec_verify.specs.Order.{position_of, is_before, is_earlier, later_of, latest, ends_before, ends_well, follows, before, is_in_order, shares_key}
 use Rattle.spec_verify.specs.Versions.{same_type, is_of, has_columns, respects_not_null, with_columns, version_holds, bad_versions, version_fault}
+use Rattle.law_accepts.proofs.FilledTables.{filled_tables, all_fit, keep_rows, tables_filled}
 use Rattle.law_accepts.proofs.Firsts.{both}
 use Rattle.law_accepts.proofs.Ids.{none_left, same_place}
 use Rattle.law_accepts.proofs.Indexes.{own_type}
@@ -212,7 +213,7 @@ module _ (items : List JournalItem) (entries : List TxEntry) (same : (id : ℕ) 
 
   -- ---- all versions of a table
 
-  module _ (t : Table) (is : TableOf items t) (keeps : KeepsRows t) where
+  module _ (t : Table) (is : TableOf items t) (whole : AllByRecursion (λ v. Fits t.def.columns v.values) t.versions) (keeps : KeepsRows t) where
     abbrev Facts : Version → Type 0
     Facts v = (IsOf items v × Fits t.def.columns v.values) × ((t.def.kind ≡ AppendOnly → v.end ≡ None) × AllByRecursion (OneOrApart place t.def.columns v) t.versions)
 
@@ -223,7 +224,7 @@ module _ (items : List JournalItem) (entries : List TxEntry) (same : (id : ℕ) 
     facts : AllByRecursion Facts t.versions
     facts =
         all_both (λ v. IsOf items v × Fits t.def.columns v.values) (λ v. (t.def.kind ≡ AppendOnly → v.end ≡ None) × AllByRecursion (OneOrApart place t.def.columns v) t.versions) t.versions
-        (all_both (IsOf items) (λ v. Fits t.def.columns v.values) t.versions is.ids is.fit)
+        (all_both (IsOf items) (λ v. Fits t.def.columns v.values) t.versions is.ids whole)
         (all_both (λ v. t.def.kind ≡ AppendOnly → v.end ≡ None) (λ v. AllByRecursion (OneOrApart place t.def.columns v) t.versions) t.versions
         (kept_end t.def.kind t.versions keeps) (each_apart place t.def.columns t.versions is.apart))
 
@@ -235,7 +236,7 @@ module _ (items : List JournalItem) (entries : List TxEntry) (same : (id : ℕ) 
     one_holds v f =
         let vs : List Version = (in_parts t).versions in
         let columns : List ColumnDef = t.def.columns in
-        let fit : AllByRecursion (λ w. Fits columns w.values) vs = in_both (λ w. Fits columns w.values) is.fit in
+        let fit : AllByRecursion (λ w. Fits columns w.values) vs = in_both (λ w. Fits columns w.values) whole in
         let all : AllByRecursion (Precedes columns v) (before entries columns vs v) = all_precede columns v vs f.0.0 (in_both (OneOrApart place columns v) f.1.1) in
         let shown : with_columns columns vs ≡ vs = all_kept columns vs fit in
         five columns (columns_fit columns v.values f.0.1) (values_fit columns v.values f.0.1) (no_history t.def.kind v f.1.0)
@@ -249,13 +250,15 @@ module _ (items : List JournalItem) (entries : List TxEntry) (same : (id : ℕ) 
         (none_left (λ v. not (version_holds entries (in_parts t) v)) (in_parts t).versions
         (all_weaker Facts (λ v. not (version_holds entries (in_parts t) v) ≡ false) (λ v f. ap not (one_holds v f)) (in_parts t).versions (in_both Facts facts)))
 
-  no_bad : (T : Tables) → AllByRecursion (TableOf items) T → AllKeepRows T → flat_map (bad_versions entries) (map in_parts T) ≡ []
-  no_bad [] all keep = refl
-  no_bad (t ∷ ts) all keep = rw (none_bad t all.0 keep.0, no_bad ts all.1 keep.1) refl
+  no_bad : (T : Tables) → AllByRecursion (TableOf items) T → AllByRecursion (λ t. AllByRecursion (λ v. Fits t.def.columns v.values) t.versions) T → AllKeepRows T
+      → flat_map (bad_versions entries) (map in_parts T) ≡ []
+  no_bad [] all whole keep = refl
+  no_bad (t ∷ ts) all whole keep = rw (none_bad t all.0 whole.0 keep.0, no_bad ts all.1 whole.1 keep.1) refl
 
 pub versions_hold : (h : List ℕ → List ℕ) (reads : Reading) (database : List ℕ) (items : List JournalItem) → IsLegal reads items → version_fault (image_of h reads database items) ≡ None
 unfolding image_of version_fault
 versions_hold h reads database items legal =
     ap least_event
     (ap (λ (T : Tables). flat_map (bad_versions (entries_of h reads items)) T) (tables_shown h reads database items legal)
-    ∙ no_bad items (entries_of h reads items) (same_place h reads items legal) (serial reads items) (legal_tables reads items legal).each (legal_keeps_rows reads items legal))
+    ∙ no_bad items (entries_of h reads items) (same_place h reads items legal) (filled_tables (serial reads items)) (tables_filled items (serial reads items) (legal_tables reads items legal).each)
+    (all_fit items (serial reads items) (legal_tables reads items legal).each) (keep_rows (serial reads items) (legal_keeps_rows reads items legal)))

@@ -112,7 +112,7 @@ module _ (T U : Tables) (ids : IdsFrom 1 (defs_of T)) where
 
   pub rows_by_requests : (q : Select) (n : NamedPart) (V W : List Version) → (n.1 ≡ System → V ≡ W) → AgreeOnAll n.0.columns (request.query_requests n q) V W → query_rows q n V ≡ query_rows q n W
   unfolding query_rows request.query_requests rows_of
-  rows_by_requests q (def, Base) V W sys h = ap (λ vs. selected (columns_of def Base) (shown_of def Base) q (map base_row vs)) (live_same def.columns (key_fixed def.columns q.cond) V W (reader_agrees def.columns (key_fixed def.columns q.cond) V W h))
+  rows_by_requests q (def, Base) V W sys h = ap (λ vs. selected (columns_of def Base) (shown_of def Base) q (map (base_row def.columns) vs)) (live_same def.columns (key_fixed def.columns q.cond) V W (reader_agrees def.columns (key_fixed def.columns q.cond) V W h))
   rows_by_requests q (def, History) V W sys h = rw (h.0) refl
   rows_by_requests q (def, View) V W sys h = rw (h.0) refl
   rows_by_requests q (def, System) V W sys h = rw (sys refl) refl

@@ -413,7 +413,7 @@ module _ (v : Server) (cells : List Cell) (seats : List SeatState) {history : Hi
   unfolding live_by_key
   is_new cell def none h = record {
     columns = inl h.0;
-    fit = subst (Each (λ w. row_fits.Fits def.columns w.values)) (sym h.0) tt;
+    fit = subst (Each (λ w. row_fits.FitsSoFar def.columns w.values)) (sym h.0) tt;
     in_key_order = h.1 ∙ ap (λ (vs : List Version). map (λ w. w.start) (live_by_key def.columns None vs)) (sym h.0);
     keys_differ = subst (λ (vs : List Version). KeysDiffer def.columns (live vs)) (sym h.0) tt;
     projections = subst (Each (IsSortedProjection def.columns cell.versions)) (sym h.2) tt;
@@ -462,7 +462,7 @@ module _ (v : Server) (cells : List Cell) (seats : List SeatState) {history : Hi
           redefined_here f = subst (StandsAs v c m after cell) (sym (ap (def_at (redef wi (defs_of T))) f ∙ here_redefined wi index_is.old (defs_of T) index_is.at))
               (let h : TableStands v c k seats cell index_is.old = subst (StandsAs v c k seats cell) (ap (def_at (defs_of T)) f ∙ index_is.at) was in record {
                 columns = ⊎_elim (λ (e : cell.versions ≡ []). inl e) (λ (e : cell.columns ≡ index_is.old.columns). inr (e ∙ sym same_columns)) h.columns;
-                fit = subst (λ (cols : List ColumnDef). Each (λ w. row_fits.Fits cols w.values) cell.versions) (sym same_columns) h.fit;
+                fit = subst (λ (cols : List ColumnDef). Each (λ w. row_fits.FitsSoFar cols w.values) cell.versions) (sym same_columns) h.fit;
                 in_key_order = h.in_key_order ∙ ap (λ (cols : List ColumnDef). map (λ w. w.start) (live_by_key cols None cell.versions)) (sym same_columns);
                 keys_differ = subst (λ (cols : List ColumnDef). KeysDiffer cols (live cell.versions)) (sym same_columns) h.keys_differ;
                 projections = subst (λ (cols : List ColumnDef). Each (IsSortedProjection cols cell.versions) cell.indexes) (sym same_columns) h.projections;

@@ -26,7 +26,7 @@ use Rattle.spec_model.specs.Agreement.{columns_at}
 use Rattle.spec_model.specs.ScriptRequests.{text_requests}
 use Rattle.law_frame.proofs.AgreeAfter.{has_table}
 use Rattle.law_frame.proofs.NamedPart.{found_is_listed}
-use Rattle.law_journal.specs.Fits.{Fits}
+use Rattle.law_journal.specs.Fits.{FitsSoFar}
 use Rattle.spec_history.specs.Lists.{Text, Each, In}
 use Rattle.spec_protocol.specs.Server.{Server}
 use Rattle.sql_types.specs.declared.lock.Hold.{Hold}
@@ -247,7 +247,7 @@ module _ (v : Server) (cells : List Cell) (seats : List SeatState) {history : Hi
   -- ---- the table's own form: what is left to be shown is a law on rows alone
 
   module _ (def : TableDef) (defines : def_at (defs_of (tables_now stands_then)) c.id ≡ Some def) (same_columns : def.columns ≡ L.named.0.columns)
-      (fit : Each (λ u. Fits def.columns u.values) cell2.versions) (keys_differ : KeysDiffer def.columns (live cell2.versions)) where
+      (fit : Each (λ u. FitsSoFar def.columns u.values) cell2.versions) (keys_differ : KeysDiffer def.columns (live cell2.versions)) where
     was_so : TableStands v cells1 seats1 stands_then.ledger cell1 def
     was_so = subst (StandsAs v cells1 seats1 stands_then.ledger cell1) defines (stands_then.tables_are_serial.tables i cell1 (ap table_found cell_out))
 
@@ -315,11 +315,11 @@ module _ (v : Server) (cells : List Cell) (seats : List SeatState) {history : Hi
   was : TableStands v cells1 seats1 stands_then.ledger cell1 defines.def
   was = subst (StandsAs v cells1 seats1 stands_then.ledger cell1) defines.is (stands_then.tables_are_serial.tables i cell1 (ap table_found cell_out))
 
-  formed : Each (λ u. Fits defines.def.columns u.values) cell2.versions × KeysDiffer defines.def.columns (live cell2.versions)
+  formed : Each (λ u. FitsSoFar defines.def.columns u.values) cell2.versions × KeysDiffer defines.def.columns (live cell2.versions)
   unfolding columns
-  formed = subst (λ (cols : List ColumnDef). Each (λ u. Fits cols u.values) cell2.versions × KeysDiffer cols (live cell2.versions)) (sym defines.columns)
+  formed = subst (λ (cols : List ColumnDef). Each (λ u. FitsSoFar cols u.values) cell2.versions × KeysDiffer cols (live cell2.versions)) (sym defines.columns)
       (kept_by_key columns cell2.versions c.versions script_rows_after each_key (place_in stands_then.ledger.items) kept_there
-      (subst (λ (cols : List ColumnDef). Each (λ u. Fits cols u.values) c.versions) defines.columns was.fit)
+      (subst (λ (cols : List ColumnDef). Each (λ u. FitsSoFar cols u.values) c.versions) defines.columns was.fit)
       (subst (λ (cols : List ColumnDef). KeysDiffer cols (live c.versions)) defines.columns was.keys_differ))
 
   -- INSERT, UPDATE and DELETE keep cells and seats together

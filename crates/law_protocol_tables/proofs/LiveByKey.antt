@@ -7,7 +7,7 @@ use Rattle.sql_types.specs.declared.version.Version.{Version}
 use Rattle.spec_model.specs.Rows.{live}
 use Rattle.spec_model.specs.Keys.{Key, of_key, same_key, version_key}
 use Rattle.law_frame.proofs.SameKeys.{same_key_as, same_itself}
-use Rattle.law_journal.specs.Fits.{Fits}
+use Rattle.law_journal.specs.Fits.{FitsSoFar}
 use Rattle.law_journal.specs.Kept.{EndedBefore, Apart, AllApart}
 use Rattle.spec_history.specs.Lists.{Each, In}
 use Rattle.spec_protocol.specs.TablesAreSerial.{KeysDiffer}
@@ -39,7 +39,7 @@ apart_differ place columns (v ∷ vs) h = by (is_none v.end) refl (apart_differ 
     by true e rest = (each_apart place columns v e vs h.0, rest)
     by false e rest = rest
 
-pub fit_each : (columns : List ColumnDef) (vs : List Version) → AllByRecursion (λ v. Fits columns v.values) vs → Each (λ v. Fits columns v.values) vs
+pub fit_each : (columns : List ColumnDef) (vs : List Version) → AllByRecursion (λ v. FitsSoFar columns v.values) vs → Each (λ v. FitsSoFar columns v.values) vs
 fit_each columns [] h = tt
 fit_each columns (v ∷ vs) h = (h.0, fit_each columns vs h.1)
 
@@ -97,5 +97,5 @@ module _ (columns : List ColumnDef) (V' V W : List Version) (h : ByKey columns V
   differ_by_key f g = differ_all columns (live V') (λ key. ⊎_elim (λ (e : of_key columns key V' ≡ of_key columns key V). live_here key V e f) (λ (e : of_key columns key V' ≡ of_key columns key W). live_here key W e g) (h key))
 
   -- where the second is of kept rows
-  pub kept_by_key : (place : ℕ → ℕ) → KeptRows place columns W → Each (λ v. Fits columns v.values) V → KeysDiffer columns (live V) → Each (λ v. Fits columns v.values) V' × KeysDiffer columns (live V')
-  kept_by_key place k f g = (each_by_key (λ v. Fits columns v.values) f (fit_each columns W k.fit), differ_by_key g (apart_differ place columns W k.apart))
+  pub kept_by_key : (place : ℕ → ℕ) → KeptRows place columns W → Each (λ v. FitsSoFar columns v.values) V → KeysDiffer columns (live V) → Each (λ v. FitsSoFar columns v.values) V' × KeysDiffer columns (live V')
+  kept_by_key place k f g = (each_by_key (λ v. FitsSoFar columns v.values) f (fit_each columns W k.fit), differ_by_key g (apart_differ place columns W k.apart))

@@ -39,7 +39,7 @@ key_is_fixed row few = rw (tree_of_row row, as_int row few, same_number row) ref
 abbrev pub row_version : ℕ → ℕ → EventId → Version
 row_version row value start = record { values = stored_row columns (row_with row value); start = start; end = None }
 
-taken : (row value : ℕ) (start : EventId) → holds (columns ++ start_columns) (Some (of_row row)) (base_row (row_version row value start)) ≡ Ok true
+taken : (row value : ℕ) (start : EventId) → holds (columns ++ start_columns) (Some (of_row row)) (base_row columns (row_version row value start)) ≡ Ok true
 unfolding holds meaning_of
 taken row value start = rw (tree_of_row row, same_number row) refl
 

@@ -28,7 +28,7 @@ use Rattle.spec_model.specs.Refusals.{Checked, and_then, or_refused}
 use Rattle.spec_model.specs.Runs.{MadeBefore}
 use Rattle.law_frame.proofs.AgreeAfter.{has_table}
 use Rattle.law_frame.proofs.NamedPart.{found_is_listed}
-use Rattle.law_journal.specs.Fits.{Fits}
+use Rattle.law_journal.specs.Fits.{FitsSoFar}
 use Rattle.law_journal.proofs.Serials.{legal_described}
 use Rattle.server_session.specs.Lists.{Text, Each, In}
 use Rattle.server_session.specs.Transactions.{unfixed}
@@ -139,7 +139,7 @@ module _ (v : Server) (cells : List Cell) (seats : List SeatState) {history : Hi
     has_fit_of def old e same = record {
       few = subst (λ (cols : List ColumnDef). length cols ≤ max_columns) same
           (def_like (λ d. length d.columns ≤ max_columns) (defs_of T) c.id old (legal_described v.reads S.ledger.items S.ledger_is_legal.legal).few e);
-      fit = subst (λ (cols : List ColumnDef). Each (λ w. Fits cols w.values) c.versions) same (stands_as old e).fit;
+      fit = subst (λ (cols : List ColumnDef). Each (λ w. FitsSoFar cols w.values) c.versions) same (stands_as old e).fit;
     }
 
     -- the definition that was found by its name

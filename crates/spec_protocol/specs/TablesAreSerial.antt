@@ -12,7 +12,7 @@ use Rattle.spec_model.specs.Keys.{key_cmp, same_key, value_at, version_key, live
 use Rattle.spec_model.specs.Catalog.{Defs, Tables, defs_of, versions_of}
 use Rattle.spec_model.specs.ChangeSets.{change_set, defined}
 use Rattle.spec_model.specs.Reach.{creates}
-use Rattle.law_journal.specs.Fits.{Fits}
+use Rattle.law_journal.specs.Fits.{FitsSoFar}
 use Rattle.spec_history.specs.Lists.{Text, Each, In}
 use Rattle.spec_history.specs.Transactions.{unfixed}
 use Rattle.spec_protocol.specs.Server.{Server}
@@ -122,8 +122,8 @@ pub record TableStands (v : Server) (c : Contents) (k : Known) (seats : List Sea
   -- the cell has the definition's columns
   pub columns : (cell.versions ≡ []) ⊎ (cell.columns ≡ def.columns)
   -- all versions, also those of transactions that aren't in the journal, fit the definition that the journal
-  -- gives
-  pub fit : Each (λ w. Fits def.columns w.values) cell.versions
+  -- gives so far
+  pub fit : Each (λ w. FitsSoFar def.columns w.values) cell.versions
   -- the cell's key order is by that definition's key columns, and no two versions without an end have one key
   pub in_key_order : cell.order ≡ map (λ w. w.start) (live_by_key def.columns None cell.versions)
   pub keys_differ : KeysDiffer def.columns (live cell.versions)

@@ -9,7 +9,7 @@ use Rattle.sql_types.specs.declared.version.Version.{Version}
 use Rattle.spec_model.specs.Changes.{Change, changed_all, row_changes}
 use Rattle.spec_model.specs.Checks.{row_statement_check}
 use Rattle.spec_model.specs.Runs.{MadeBefore, Rising}
-use Rattle.law_journal.specs.Fits.{Fits}
+use Rattle.law_journal.specs.Fits.{FitsSoFar}
 use Rattle.format_event.specs.Leaf.{event_bytes}
 use Rattle.spec_protocol.specs.Doing.{events_from, grown}
 use Rattle.spec_protocol.specs.Moves.{noting}
@@ -24,7 +24,7 @@ use Rattle.store_table.proofs.Keeping.{with_twice}
 use Rattle.store_table.proofs.Noted.{alike, same_leaves}
 use Rattle.store_table.proofs.RowsMade.{row_made}
 
-module _ (def : TableDef) (V : List Version) (rising : Rising V) (fit : AllByRecursion (λ v. Fits def.columns v.values) V) (stmt : RowStmt)
+module _ (def : TableDef) (V : List Version) (rising : Rising V) (fit : AllByRecursion (λ v. FitsSoFar def.columns v.values) V) (stmt : RowStmt)
     (passes : row_statement_check (def ∷ []) stmt ≡ Ok def) where
   pub worked_out : (tx seq count : ℕ) (changes : List Change) (leaves : List (List ℕ)) → row_changes def V stmt ≡ Ok (changes, count) → seq + length changes < 2 ^ 63
       → leaves ≡ map event_bytes (events_made def.id tx seq changes V) → IsWorkedOut def V stmt tx seq changes count leaves
@@ -55,7 +55,7 @@ module _ {H : Type 0} (digest : H → List ℕ → List ℕ) (tx seq : ℕ) (bef
     room = (let e = seq_is may.h may.o may.is in omega (arith, e, room));
   }
 
-  module _ (def : TableDef) (s : Stored) (rising : Rising s.versions) (fit : AllByRecursion (λ v. Fits def.columns v.values) s.versions) (stmt : RowStmt)
+  module _ (def : TableDef) (s : Stored) (rising : Rising s.versions) (fit : AllByRecursion (λ v. FitsSoFar def.columns v.values) s.versions) (stmt : RowStmt)
       (passes : row_statement_check (def ∷ []) stmt ≡ Ok def) (may : MayChange digest before s.versions)
       (count : ℕ) (changes : List Change) (leaves : List (List ℕ)) (worked : IsWorkedOut def s.versions stmt tx seq changes count leaves) where
     abbrev es : List Event

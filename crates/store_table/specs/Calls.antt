@@ -17,7 +17,7 @@ use Rattle.spec_model.specs.Limits.{max_columns}
 use Rattle.spec_model.specs.Rows.{Row}
 use Rattle.spec_model.specs.Runs.{MadeBefore}
 use Rattle.spec_history.specs.Lists.{Each}
-use Rattle.law_journal.specs.Fits.{Fits}
+use Rattle.law_journal.specs.Fits.{FitsSoFar}
 use Rattle.spec_protocol.specs.Cells.{TableCell}
 use Rattle.spec_protocol.specs.Doing.{grown, events_from, Stopped}
 use Rattle.spec_protocol.specs.Moves.{noting}
@@ -39,10 +39,10 @@ pub record IsTable (c : TableCell) (def : TableDef) : Type 0 where
   pub here : def.id ≡ c.id
   pub columns : (c.versions ≡ []) ⊎ (c.columns ≡ def.columns)
 
--- no more columns than a table may have, which the versions fit
+-- no more columns than a table may have, which the versions fit so far
 pub record HasFit (c : TableCell) (def : TableDef) : Type 0 where
   pub few : length def.columns ≤ max_columns
-  pub fit : Each (λ v. Fits def.columns v.values) c.versions
+  pub fit : Each (λ v. FitsSoFar def.columns v.values) c.versions
 
 -- the context is of a transaction whose starts and ends of these versions are numbered below its counter
 pub record MayChange {H : Type 0} (digest : H → List ℕ → List ℕ) (ctx : TxCtx H) (versions : List Version)

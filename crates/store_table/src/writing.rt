@@ -3,7 +3,7 @@
 ghost use Rattle.std.specs.Prelude.{◌≡◌, ◌≢◌, ◌≤◌, ◌⊎◌, ◌∷◌, [], Err, IfErr, IfOk, OnErr, OnOk, Ok, length};
 ghost use Rattle.sql_value.specs.declared.refusal.Refusal.TheVariants.{NoMemory};
 ghost use Rattle.spec_history.specs.Lists.{Each};
-ghost use Rattle.law_journal.specs.Fits.{Fits};
+ghost use Rattle.law_journal.specs.Fits.{FitsSoFar};
 ghost use Rattle.spec_model.specs.Changes.{row_changes};
 ghost use Rattle.spec_model.specs.Checks.{row_statement_check};
 ghost use Rattle.spec_model.specs.Limits.{max_columns};
@@ -34,7 +34,7 @@ pub fn change_rows<H: Hash32>(
 ) -> Result<u64, Refusal>
     requires columns { (store.old.stored.versions ≡ []) ⊎ (store.old.stored.columns ≡ def.now.columns) }
     requires few { length def.now.columns ≤ max_columns }
-    requires fit { Each (λ v. Fits def.now.columns v.values) store.old.stored.versions }
+    requires fit { Each (λ v. FitsSoFar def.now.columns v.values) store.old.stored.versions }
     requires passes { row_statement_check (def.now ∷ []) stmt.now ≡ Ok def.now }
     requires before { MayChange H.digest ctx.old store.old.stored.versions }
     ensures ok { IfOk result (λ count.
