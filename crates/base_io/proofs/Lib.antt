@@ -1,2 +1,3 @@
+mod Answering
 pub mod Moved
 pub mod Places

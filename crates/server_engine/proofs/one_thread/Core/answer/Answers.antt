@@ -37,7 +37,7 @@ returns-clause-stands g c = λ h a m below.
     (midway_near c.args.self.now c.args.session g.H.Hash32.digest r.h r.a r.midway) c.index_mut.ensures.value in
     answer_stands g.H.Hash32.digest h a c.args.session c.args.self.now m y there below
     (midway_at c.args.self.now c.args.session g.H.Hash32.digest r.h r.a r.midway (λ u. IsAnswering u.seat) r.answers y there)
-    c.answer.new.self c.in_ok-answer.ensures _ refl refl refl
+    c.answer.new.self c.in_ok-answer.ensures.answers _ refl refl refl
 
 pub returns-clause-turned : goal.returns-clause-turned
 returns-clause-turned g c =
@@ -47,5 +47,5 @@ returns-clause-turned g c =
       there = index_there c.args.self.now.sessions.items c.args.session c.index_mut.result.now
           (midway_near c.args.self.now c.args.session g.H.Hash32.digest r.h r.a r.midway) c.index_mut.ensures.value;
       are = refl;
-      went = c.in_ok-answer.ensures.between;
+      went = c.in_ok-answer.ensures.answers.between;
     }

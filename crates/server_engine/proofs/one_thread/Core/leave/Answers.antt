@@ -26,7 +26,7 @@ returns-clause-stands g c = λ h a m below phase.
     let there = index_there c.args.self.now.sessions.items c.args.session y
     (midway_near c.args.self.now c.args.session g.H.Hash32.digest r.h r.a r.midway) c.index_mut.ensures.value in
     leave_stands g.H.Hash32.digest h a c.args.session c.args.self.now m y there below phase
-    c.leave.new.self c.in_ok-leave.ensures _ refl refl refl
+    c.leave.new.self c.in_ok-leave.ensures.leaves _ refl refl refl
 
 pub returns-clause-turned : goal.returns-clause-turned
 returns-clause-turned g c =
@@ -36,5 +36,5 @@ returns-clause-turned g c =
       there = index_there c.args.self.now.sessions.items c.args.session c.index_mut.result.now
           (midway_near c.args.self.now c.args.session g.H.Hash32.digest r.h r.a r.midway) c.index_mut.ensures.value;
       are = refl;
-      went = c.in_ok-leave.ensures.over;
+      went = c.in_ok-leave.ensures.leaves.over;
     }

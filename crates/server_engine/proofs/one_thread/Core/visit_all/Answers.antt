@@ -72,4 +72,4 @@ returns-clause-less g c =
     let needs = midway_at c.args.self.now c.args.session g.H.Hash32.digest r.h r.a r.midway
     (λ u. need_of u.seat ≡ need.All) r.needs y there in
     inl (image_less g.H.Hash32.digest r.h r.a c.args.session c.args.self.now r.midway y there c.keep_image.new.self
-    c.keep_image.ensures.comes_on)
+    c.in_ok-keep_image.ensures.comes_on)
