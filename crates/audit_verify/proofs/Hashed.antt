@@ -1,7 +1,7 @@
 -- The hashes of some leaves, in parts of a list.
 use Rattle.std.proofs.Common.{◌≡◌, ◌∙◌, ℕ, List, ◌∷◌, ◌++◌, length, map, take, drop, refl, sym, ap, arith}
 use Rattle.std.proofs.Math.Seq.{take-append_seam}
-use Rattle.std.proofs.lemmas.List.{drop-map, take-map}
+use Rattle.std.proofs.lemmas.List.{drop-map, map-append, take-map}
 use Rattle.std.proofs.lemmas.Simd.{map-map}
 use Rattle.format_event.specs.Leaf.{event_bytes}
 use Rattle.sql_types.specs.declared.event.Event.{Event}
@@ -20,6 +20,16 @@ hashes_of_part h marks rest own hashes part from count n long rest_is own_is par
     ∙ take-map (leaf_hash h) count (drop from marks)
     ∙ ap (λ (l : List Mark). map (leaf_hash h) (take count l)) (sym rest_is)
     ∙ ap (map (leaf_hash h)) (sym own_is)
+
+-- those of two parts
+pub hashes_joined : (h : List ℕ → List ℕ) (marks front back : List Mark) (xs ys all : List (List ℕ)) → marks ≡ front ++ back
+    → xs ≡ map (leaf_hash h) front → ys ≡ map (leaf_hash h) back → all ≡ xs ++ ys → all ≡ map (leaf_hash h) marks
+hashes_joined h marks front back xs ys all parts first second both =
+    both
+    ∙ ap (λ (l : List (List ℕ)). l ++ ys) first
+    ∙ ap (λ (l : List (List ℕ)). map (leaf_hash h) front ++ l) second
+    ∙ sym (map-append (leaf_hash h) front back)
+    ∙ ap (map (leaf_hash h)) (sym parts)
 
 -- they are the hashes of the leaves
 pub hashes_of_leaves : (h : List ℕ → List ℕ) (own : List Mark) (hashes : List (List ℕ)) → hashes ≡ map (leaf_hash h) own

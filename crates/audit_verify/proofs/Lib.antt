@@ -1,4 +1,5 @@
 pub mod Bad
+pub mod BlockParts
 pub mod EntryPlaces
 pub mod EventIds
 pub mod Fitting

@@ -1,3 +1,4 @@
+pub mod BlockParts
 pub mod Entries
 pub mod EventIds
 pub mod Groups

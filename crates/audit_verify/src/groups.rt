@@ -19,7 +19,7 @@ ghost use Rattle.audit_verify.specs.Marks.{HaveEncodableValues, leaf_hash, tx_of
 ghost use Rattle.audit_verify.specs.Order.{AreStarted};
 ghost use Rattle.audit_verify.specs.ImageTable.{IdsRise, table_of};
 
-use crate::hashes::leaf_hashes;
+use crate::hashes::leaf_hashes_by;
 use crate::indexes::fault_among;
 use crate::least::event_place;
 use crate::marks::{Mark, run_of, sorted_marks};
@@ -34,6 +34,7 @@ use spec_verify::Place;
 use sql_system::first_tables;
 use sql_types::TxEntry;
 use std::alloc::Global;
+use std::thread::Threads;
 
 /// What may fail of an entry: the numbers of its events, or its root in a table.
 #[derive(Clone, Copy, Debug, PartialEq, Eq)]
@@ -56,14 +57,16 @@ pub struct GroupFaults {
 }
 
 /// What fails in so many tables of the image, from the one at place `from` on, where no id of an entry
-/// repeats and each start and end has its entry. What groups find of roots merges by the laws below. The only
-/// error is want of memory.
-pub fn group_faults<H: Hash32>(
+/// repeats and each start and end has its entry. What groups find of roots merges by the laws below. So many
+/// threads hash the leaves, and the caller's does the rest. The only error is want of memory.
+pub fn group_faults<H: Hash32, R: Threads + Sync>(
+    rt: &R,
     alloc: Global,
     hasher: H,
     image: &Image,
     from: usize,
     count: usize,
+    workers: u32,
 ) -> Result<GroupFaults, Memory>
     requires image { IsImage image.now }
     requires ids { id_fault image.now ≡ None }
@@ -79,7 +82,7 @@ pub fn group_faults<H: Hash32>(
     let tables = shown_tables(alloc, &system, image)?;
     let group = group_of(&tables, from, count);
     let entries = image.entries.as_slice();
-    let root = root_in_group(alloc, hasher, entries, group)?;
+    let root = root_in_group(rt, alloc, hasher, entries, group, workers)?;
     let version = version_in_group(alloc, entries, group)?;
     let index = index_in_group(alloc, version, group)?;
     Ok(GroupFaults {
@@ -99,11 +102,13 @@ fn group_of<'s, 'a>(tables: &'s [ImageTable<'a>], from: usize, count: usize) -> 
 }
 
 /// The first entry that is wrong in one of these tables, and the least of them.
-fn root_in_group<H: Hash32>(
+fn root_in_group<H: Hash32, R: Threads + Sync>(
+    rt: &R,
     alloc: Global,
     hasher: H,
     entries: &[TxEntry],
     tables: &[ImageTable],
+    workers: u32,
 ) -> Result<Option<(u64, TableId)>, Memory>
     requires spelled { All HaveEncodableValues tables.now }
     requires rise { IdsRise 0 (map table_of tables.now) }
@@ -111,7 +116,7 @@ fn root_in_group<H: Hash32>(
         ≡ spec.wrong_root (H.digest hasher) (map table_of tables.now) entries.now) }
 {
     let marks = sorted_marks(alloc, tables)?;
-    let hashes = leaf_hashes(alloc, hasher, &marks)?;
+    let hashes = leaf_hashes_by(rt, alloc, hasher, &marks, workers)?;
     wrong_root(alloc, hasher, entries, tables, &marks, &hashes)
 }
 

@@ -1,6 +1,7 @@
 //! The hashes of the leaves of starts and ends.
 
-ghost use Rattle.std.specs.Prelude.{All, ◌≡◌, ◌∷◌, [], IfOk, OnOk, map};
+ghost use Rattle.std.specs.Prelude.{All, ◌≡◌, ◌∷◌, ◌++◌, [], IfOk, OnOk, map};
+ghost use Rattle.std.specs.Thread.{IsSend, IsSync};
 ghost use Rattle.format_event.specs.Leaf.{event_bytes};
 ghost use Rattle.audit_verify.specs.Marks.{event_of, leaf_hash, HasValues};
 
@@ -9,6 +10,10 @@ use base_merkle::{Hash32, leaf_hash};
 use base_types::Memory;
 use format_roots::four_leaf_hashes;
 use std::alloc::Global;
+use std::thread::{Threads, join};
+
+/// So few leaves are hashed by one thread.
+const FEW: usize = 1000;
 
 /// Four leaves that are hashed together.
 #[derive(Drop)]
@@ -95,4 +100,55 @@ pub fn leaf_hashes<H: Hash32>(
         done += 1;
     }
     Ok(hashes)
+}
+
+/// The hashes of the leaves, in their order, by so many threads.
+pub fn leaf_hashes_by<H: Hash32, R: Threads + Sync>(
+    rt: &R,
+    alloc: Global,
+    hasher: H,
+    marks: &[Mark],
+    workers: u32,
+) -> Result<Vec<[u8; 32]>, Memory>
+    requires { All HasValues marks.now }
+    ensures { IfOk result (λ hashes. hashes.items ≡ map (leaf_hash (H.digest hasher)) marks.now) }
+{
+    if workers <= 1 || marks.len() < FEW {
+        return leaf_hashes(alloc, hasher, marks);
+    }
+    let fewer = workers / 2;
+    let others = workers - fewer;
+    let each = marks.len() / workers as usize;
+    let (front, back) = halves(marks, each.saturating_mul(fewer as usize));
+    let (first, second) = join(
+        rt,
+        || -> Result<Vec<[u8; 32]>, Memory>
+            requires sync { IsSync R.row × IsSync H.row × IsSend H.row }
+            requires values { All HasValues front.now }
+            ensures { IfOk result (λ hashes. hashes.items ≡ map (leaf_hash (H.digest hasher)) front.entry.now) }
+        { leaf_hashes_by(rt, alloc, hasher, front, fewer) },
+        || -> Result<Vec<[u8; 32]>, Memory>
+            requires sync { IsSync R.row × IsSync H.row × IsSend H.row }
+            requires values { All HasValues back.now }
+            ensures { IfOk result (λ hashes. hashes.items ≡ map (leaf_hash (H.digest hasher)) back.entry.now) }
+        { leaf_hashes_by(rt, alloc, hasher, back, others) },
+    );
+    joined(first?, second?)
+}
+
+/// The first of these, so many if there are, and the others.
+fn halves<'m, 'a>(marks: &'m [Mark<'a>], middle: usize) -> (&'m [Mark<'a>], &'m [Mark<'a>])
+    ensures parts { marks.now ≡ result.0.now ++ result.1.now }
+    ensures front { All HasValues marks.now → All HasValues result.0.now }
+    ensures back { All HasValues marks.now → All HasValues result.1.now }
+{
+    marks.split_at(middle.min(marks.len()))
+}
+
+fn joined(front: Vec<[u8; 32]>, back: Vec<[u8; 32]>) -> Result<Vec<[u8; 32]>, Memory>
+    ensures { IfOk result (λ all. all.items ≡ front.items ++ back.items) }
+{
+    let mut all = front;
+    all.extend_from_slice(&back)?;
+    Ok(all)
 }

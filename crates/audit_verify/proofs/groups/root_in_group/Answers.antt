@@ -9,8 +9,8 @@ use Rattle.audit_definitions.proofs.Verdicts.{same_ok}
 use Rattle.audit_verify.proofs.WrongRoots.{told_is}
 use Rattle.audit_verify.proofs.groups.root_in_group.Goals as goal
 
-pub leaf_hashes-requires-after_bounds : goal.leaf_hashes-requires-after_bounds
-leaf_hashes-requires-after_bounds g c κs within = subst (All HasValues) (sym c.deref.ensures.value) c.in_ok-marks.ensures.values
+pub leaf_hashes_by-requires-after_bounds : goal.leaf_hashes_by-requires-after_bounds
+leaf_hashes_by-requires-after_bounds g c κs within = subst (All HasValues) (sym c.deref.ensures.value) c.in_ok-marks.ensures.values
 
 pub wrong_root-requires-clause-rise : goal.wrong_root-requires-clause-rise
 wrong_root-requires-clause-rise g c κs within = subst (IsNonDecreasingBy tx_of) (sym c.deref-2.ensures.value) c.in_ok-marks.ensures.rise
