@@ -10,12 +10,13 @@ _ledgerd_options() {
         verify) echo --workers --help ;;
         receipt) echo --save --table --event --help ;;
         replay | join) echo --save --help ;;
+        asof) echo --digests --help ;;
         *) echo --help ;;
     esac
 }
 
 _ledgerd() {
-    local commands='step run verify extract replay receipt join check gen' word=${COMP_WORDS[COMP_CWORD]}
+    local commands='step run verify extract replay receipt join check asof gen' word=${COMP_WORDS[COMP_CWORD]}
     if [ "$COMP_CWORD" = 1 ]; then
         case $word in
             -*) mapfile -t COMPREPLY < <(compgen -W '--help --version' -- "$word") ;;

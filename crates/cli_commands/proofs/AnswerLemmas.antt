@@ -8,7 +8,7 @@ use Rattle.base_io.specs.declared.vault.VaultErr.{VaultErr}
 use Rattle.base_io.specs.declared.vault.VaultErr.TheVariants as refused
 use Rattle.cli_commands.specs.declared.files.File.{File}
 use Rattle.cli_commands.specs.declared.status.Status.{Status}
-use Rattle.cli_commands.specs.declared.status.Status.TheVariants.{Done, No, Words, Limit, SourceFault, SinkFault, VaultFault, Missing, Digests, Journal, Form, Memory, NoEntry, Receipt}
+use Rattle.cli_commands.specs.declared.status.Status.TheVariants.{Done, No, Words, Limit, SourceFault, SinkFault, VaultFault, Missing, Digests, Journal, Form, Memory, NoEntry, Receipt, TooFar}
 use Rattle.cli_commands.specs.Files.{StopsBy}
 use Rattle.cli_commands.specs.Input.{InputForm}
 use Rattle.cli_commands.specs.Transfer.{input_limit, IsInputRead}
@@ -30,6 +30,7 @@ module _ {A : Type 0} (form : InputForm A) where
   cause_came (Digests index) source vault sink input rest v bytes came is cause = absurd cause
   cause_came NoEntry source vault sink input rest v bytes came is cause = absurd cause
   cause_came Receipt source vault sink input rest v bytes came is cause = absurd cause
+  cause_came (TooFar entries) source vault sink input rest v bytes came is cause = absurd cause
   cause_came (Journal at) source vault sink input rest v bytes came is cause = absurd cause
   cause_came Limit source vault sink input rest v bytes came is cause = bytes_came input rest v bytes _ came is cause
   cause_came SourceFault source vault sink input rest v bytes came is cause = absurd cause
@@ -48,6 +49,7 @@ module _ {A : Type 0} (form : InputForm A) where
   read_whole (Digests index) bytes vault sink input rest v cause came = absurd cause
   read_whole NoEntry bytes vault sink input rest v cause came = absurd cause
   read_whole Receipt bytes vault sink input rest v cause came = absurd cause
+  read_whole (TooFar entries) bytes vault sink input rest v cause came = absurd cause
   read_whole (Journal at) bytes vault sink input rest v cause came = absurd cause
   read_whole Limit bytes vault sink input rest v cause came = came.2 ∙ ap Some (sym (drop_all (input_limit + 1) input (omega (arith, came.1))))
   read_whole SourceFault bytes vault sink input rest v cause came = absurd cause
@@ -73,6 +75,7 @@ ran_by (Missing which) vault sink ran idle ends r = absurd ends
 ran_by (Digests index) vault sink ran idle ends r = absurd ends
 ran_by NoEntry vault sink ran idle ends r = absurd ends
 ran_by Receipt vault sink ran idle ends r = absurd ends
+ran_by (TooFar entries) vault sink ran idle ends r = absurd ends
 ran_by (Journal at) vault sink ran idle ends r = absurd ends
 ran_by Limit vault sink ran idle ends r = absurd ends
 ran_by SourceFault vault sink ran idle ends r = absurd ends
@@ -91,6 +94,7 @@ ran_within (Missing which) ran ran' idle f r = r
 ran_within (Digests index) ran ran' idle f r = r
 ran_within NoEntry ran ran' idle f r = r
 ran_within Receipt ran ran' idle f r = r
+ran_within (TooFar entries) ran ran' idle f r = r
 ran_within (Journal at) ran ran' idle f r = r
 ran_within Limit ran ran' idle f r = r
 ran_within SourceFault ran ran' idle f r = r

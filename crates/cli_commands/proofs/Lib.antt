@@ -1,4 +1,6 @@
 pub mod AnswerLemmas
+mod AsOfLemmas
+mod StopsAsOf
 pub mod CallLemmas
 pub mod CheckLemmas
 pub mod ExtractLemmas

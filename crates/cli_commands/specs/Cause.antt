@@ -1,10 +1,11 @@
 -- Why the top call ends with a status, by the command that the words say.
 use Rattle.std.specs.Prelude.{◌≡◌, ◌⊎◌, ℕ, List, Option, Some, None}
 use Rattle.base_io.specs.Store.{Names}
-use Rattle.cli_words.specs.Commands.{Command, Step, Run, Verify, Extract, Replay, Gen, Receipt, Join, Check, Help, Version}
+use Rattle.cli_words.specs.Commands.{Command, Step, Run, Verify, Extract, Replay, Gen, Receipt, Join, Check, AsOf, Help, Version}
 use Rattle.cli_commands.specs.declared.status.Status.{Status}
 use Rattle.cli_commands.specs.declared.status.Status.TheVariants.{Words, Memory}
 use Rattle.cli_commands.specs.Answer.{InputCause}
+use Rattle.cli_commands.specs.AsOf.{AsOfCause}
 use Rattle.cli_commands.specs.Check.{CheckCause}
 use Rattle.cli_commands.specs.Extract.{ExtractCause}
 use Rattle.cli_commands.specs.Input.{line_form, section_form}
@@ -38,5 +39,7 @@ HasCause status h (Some (Join image digests save)) input names source vault sink
     ReceiptCause status h image digests wanted.Chain names vault sink
 HasCause status h (Some (Check receipt digests)) input names source vault sink =
     CheckCause status h receipt digests names vault sink
+HasCause status h (Some (AsOf image n digests)) input names source vault sink =
+    AsOfCause status h image n digests input names source vault sink
 HasCause status h (Some (Help which)) input names source vault sink = TellCause status sink
 HasCause status h (Some Version) input names source vault sink = TellCause status sink

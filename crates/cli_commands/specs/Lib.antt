@@ -1,4 +1,5 @@
 pub mod Answer
+pub mod AsOf
 pub mod Calls
 pub mod Cause
 pub mod Check

@@ -2,7 +2,7 @@
 use Rattle.std.specs.Prelude.{ℕ, List, [], ◌++◌, codes, Some}
 use Rattle.std.specs.Fmt.{decimal}
 use Rattle.cli_commands.specs.declared.status.Status.{Status}
-use Rattle.cli_commands.specs.declared.status.Status.TheVariants.{Done, No, Words, Limit, SourceFault, SinkFault, VaultFault, Missing, Digests, Journal, Form, Memory, NoEntry, Receipt}
+use Rattle.cli_commands.specs.declared.status.Status.TheVariants.{Done, No, Words, Limit, SourceFault, SinkFault, VaultFault, Missing, Digests, Journal, Form, Memory, NoEntry, Receipt, TooFar}
 
 abbrev pub code_of : Status → ℕ
 code_of Done = 0
@@ -19,6 +19,7 @@ code_of (Form line) = 10
 code_of Memory = 12
 code_of NoEntry = 14
 code_of Receipt = 15
+code_of (TooFar entries) = 16
 
 abbrev pub text_of : Status → List ℕ
 text_of Done = codes ""
@@ -35,6 +36,7 @@ text_of (Form line) = codes "a line has no session"
 text_of Memory = codes "out of memory"
 text_of NoEntry = codes "no such entry"
 text_of Receipt = codes "the receipt was refused"
+text_of (TooFar entries) = codes "not so many transactions"
 
 -- the place that a status has, as it stands behind its text
 abbrev pub place_of : Status → List ℕ
@@ -43,6 +45,7 @@ place_of (Digests (Some index)) = codes " (digest " ++ decimal index ++ codes ")
 place_of (Journal (Some at)) =
     codes " (item " ++ decimal at.0 ++ codes ", statement " ++ decimal at.1 ++ codes ")"
 place_of (Form line) = codes " (line " ++ decimal line ++ codes ")"
+place_of (TooFar entries) = codes " (entries " ++ decimal entries ++ codes ")"
 place_of _ = []
 
 -- what is said of a status: its text, and its place where it has one

@@ -1,6 +1,6 @@
 -- What is so of the command that words say.
 use Rattle.std.specs.Prelude.{ℕ, Bool, true, false, List, Option, Some}
-use Rattle.cli_words.specs.Commands.{Command, Settings, Step, Run, Verify, Extract, Replay, Gen, Receipt, Join, Check, Help, Version}
+use Rattle.cli_words.specs.Commands.{Command, Settings, Step, Run, Verify, Extract, Replay, Gen, Receipt, Join, Check, AsOf, Help, Version}
 use Rattle.cli_words.specs.Help.{help_of}
 use Rattle.cli_words.specs.declared.help.TheConstants.{VERSION}
 use Rattle.cli_words.specs.declared.part.Part.{Part}
@@ -56,6 +56,11 @@ abbrev pub OfCheck : Option Command → (List ℕ → List ℕ → Type 0) → T
 OfCheck (Some (Check receipt digests)) P = P receipt digests
 OfCheck words P = Unit {0}
 
+-- what is so of what `asof` is given: the name of an image, how many of its transactions count, and the name of digests
+abbrev pub OfAsOf : Option Command → (List ℕ → ℕ → Option (List ℕ) → Type 0) → Type 0
+OfAsOf (Some (AsOf image n digests)) P = P image n digests
+OfAsOf words P = Unit {0}
+
 -- what is so of the text that is printed: help, or the version
 abbrev pub OfTell : Option Command → (List ℕ → Type 0) → Type 0
 OfTell (Some (Help which)) P = P (help_of which)
@@ -66,6 +71,7 @@ OfTell words P = Unit {0}
 abbrev pub reads_input : Option Command → Bool
 reads_input (Some (Step save how)) = true
 reads_input (Some (Run save how)) = true
+reads_input (Some (AsOf image n digests)) = true
 reads_input words = false
 
 -- the command puts files

@@ -42,6 +42,8 @@ pub enum Status {
     NoEntry,
     /// The bytes are no receipt's, of whatever kind.
     Receipt,
+    /// The image has only so many transactions.
+    TooFar { entries: u64 },
 }
 
 impl Status {
@@ -64,6 +66,7 @@ impl Status {
             Status::Memory => 12,
             Status::NoEntry => 14,
             Status::Receipt => 15,
+            Status::TooFar { .. } => 16,
         }
     }
 
@@ -86,6 +89,7 @@ impl Status {
             Status::Memory => "out of memory",
             Status::NoEntry => "no such entry",
             Status::Receipt => "the receipt was refused",
+            Status::TooFar { .. } => "not so many transactions",
         }
     }
 }
@@ -106,6 +110,7 @@ impl fmt::Display for Status {
                 write!(f, "{text} (item {}, statement {})", at.0, at.1)
             }
             Status::Form { line } => write!(f, "{text} (line {line})"),
+            Status::TooFar { entries } => write!(f, "{text} (entries {entries})"),
             _ => f.write_str(text),
         }
     }

@@ -45,6 +45,8 @@ pub data Command : Type 0 where
   Join : Text → Text → Text → Command
   -- the names of a receipt and of digests
   Check : Text → Text → Command
+  -- the name of an image, how many of its transactions count, and the name of digests, where they are given
+  AsOf : Text → ℕ → Option Text → Command
   -- help on one command, or on all
   Help : Option Subcommand → Command
   Version : Command
@@ -62,6 +64,7 @@ IsInRange (Run save how) = AreInRange how
 IsInRange (Verify image digests workers) = (1 ≤ workers) × (workers ≤ 16)
 IsInRange (Gen count) = (1 ≤ count) × (count ≤ 10000)
 IsInRange (Receipt image digests tx part save) = (1 ≤ tx) × (tx ≤ MAX_TX) × IsPartInRange part
+IsInRange (AsOf image n digests) = n ≤ MAX_TX
 IsInRange _ = Unit {0}
 
 -- what was given under a name
@@ -122,6 +125,10 @@ meaning_of which.Join value = value (codes "IMAGE") >>= file_name >>= λ image.
 meaning_of which.Check value = value (codes "RECEIPT") >>= file_name >>= λ receipt.
     value (codes "DIGESTS") >>= file_name >>= λ digests.
     Some (Check receipt digests)
+meaning_of which.AsOf value = value (codes "IMAGE") >>= file_name >>= λ image.
+    value (codes "N") >>= number_in 0 MAX_TX >>= λ n.
+    if_given file_name (value (codes "digests")) >>= λ digests.
+    Some (AsOf image n digests)
 
 abbrev pub has_dashes : List Text → Bool
 has_dashes words = list_any (λ w. bytes_eq w (codes "--")) words

@@ -1,6 +1,6 @@
 -- The names of the files that a command reads.
 use Rattle.std.specs.Prelude.{ℕ, ◌==◌, Option, Some, None, if◌then◌else◌}
-use Rattle.cli_words.specs.Commands.{Command, Verify, Extract, Replay, Receipt, Join, Check}
+use Rattle.cli_words.specs.Commands.{Command, Verify, Extract, Replay, Receipt, Join, Check, AsOf}
 use Rattle.cli_words.specs.Line.{Text}
 
 -- the one with this number, from 1, in the order of the words
@@ -17,4 +17,6 @@ name_read (Join image digests save) number =
     if number == 1 then Some image else if number == 2 then Some digests else None
 name_read (Check receipt digests) number =
     if number == 1 then Some receipt else if number == 2 then Some digests else None
+name_read (AsOf image n digests) number =
+    if number == 1 then Some image else if number == 2 then digests else None
 name_read _ number = None

@@ -13,6 +13,7 @@ pub const USAGE: &str = "usage: ledgerd step --save NAME [--block-size N] [--clo
        ledgerd receipt IMAGE DIGESTS TX [--table ID [--event N]] --save NAME
        ledgerd join IMAGE DIGESTS --save NAME
        ledgerd check RECEIPT DIGESTS
+       ledgerd asof IMAGE N [--digests DIGESTS]
        ledgerd gen COUNT
 `./ledgerd --help` says what each does.
 ";
@@ -38,6 +39,9 @@ them.
   ledgerd join IMAGE DIGESTS --save NAME
                                 joins digests by the blocks between them
   ledgerd check RECEIPT DIGESTS says whether a receipt holds with digests
+  ledgerd asof IMAGE N [--digests DIGESTS]
+                                answers SELECTs over an image behind its first
+                                N transactions
   ledgerd gen COUNT             runs and verifies a workload, to measure with
   ledgerd COMMAND --help        says more of one of these, as `ledgerd help
                                 COMMAND` and `ledgerd COMMAND -h` do
@@ -54,14 +58,15 @@ Limits: 4 MiB and 64 sessions for an input, 256 MiB for an image or a journal,
 
 It ends with one of these statuses, and from 2 on standard error says more:
    0  the work is done; `verify` and `check` said Yes, `extract` said Same
-   1  `verify`, `receipt`, `join` or `check` said No; `extract` said it of an
-      image, or shows a collision
+   1  `verify`, `receipt`, `join`, `check` or `asof` said No; `extract` said it
+      of an image, or shows a collision
    2  the words were refused             3  a limit was exceeded
    4  reading the input failed           5  writing the output failed
    6  a file can't be read or put        7  no such file
    8  the digests were refused           9  the journal was refused
   10  a line has no session             12  out of memory
   14  no such entry                     15  the receipt was refused
+  16  not so many transactions
 
 Pages, in docs/ of the repository: SQL.md (input, statements and codes),
 AUDIT.md (commands, answers and statuses), FORMATS.md (the bytes of the files).
@@ -221,6 +226,28 @@ Example, from the top of the repository, behind that of `receipt`:
   (cd examples && ../ledgerd check payment.receipt honest.digests)
 ";
 
+/// Help on `asof`.
+pub const ASOF_HELP: &str = "ledgerd asof IMAGE N [--digests DIGESTS]
+
+Answers SELECTs over the database as it was behind the first N transactions of
+the image IMAGE, in ledger order: the N of `committed .. at N`. It reads a text
+from each line of standard input, without those that are empty or begin with
+`--`, and prints each with its answer behind it. Rows, histories, ledger views
+and definitions are those of that moment, whatever came later.
+The image is verified first, with the digests DIGESTS where they are given; a No
+is printed and ends it with status 1. Without digests the answers are what the
+image tells, which nothing ties to the ledger that it claims to be.
+N is 0 to 2^63 - 1; where the image has fewer transactions it ends with status
+16. Both names are those of files in the current folder. It puts no file.
+
+A refused text is answered with a code, as `step --help` has them, and
+  E21 a statement that is no SELECT
+
+Example, from the top of the repository:
+  (cd examples && echo 'SELECT * FROM sys_ledger_tables' \\
+    | ../ledgerd asof honest.img 1 --digests honest.digests)
+";
+
 /// Help on `gen`.
 pub const GEN_HELP: &str = "ledgerd gen COUNT
 
@@ -250,5 +277,6 @@ pub fn help_text(which: Option<Subcommand>) -> &'static str
         Some(Subcommand::Receipt) => RECEIPT_HELP,
         Some(Subcommand::Join) => JOIN_HELP,
         Some(Subcommand::Check) => CHECK_HELP,
+        Some(Subcommand::AsOf) => ASOF_HELP,
     }
 }

@@ -122,6 +122,19 @@ fn check_command<'a>(alloc: Global) -> Result<Command<'a>, AllocError>
         .arg(digests)
 }
 
+fn asof_command<'a>(alloc: Global) -> Result<Command<'a>, AllocError>
+    ensures { IfOk result (λ c. app_of c ≡ app_for Subcommand.AsOf) }
+{
+    let image = Arg::new(alloc, "IMAGE");
+    let n = Arg::new(alloc, "N");
+    let digests = Arg::new(alloc, "digests").long("digests");
+    Command::new(alloc, "asof")
+        .disable_help_flag(true)
+        .arg(image)?
+        .arg(n)?
+        .arg(digests)
+}
+
 /// The command that clap reads. Help is none of its words, so that it never prints.
 fn command_for<'a>(alloc: Global, which: Subcommand) -> Result<Command<'a>, AllocError>
     ensures app { IfOk result (λ c. app_of c ≡ app_for which) }
@@ -137,6 +150,7 @@ fn command_for<'a>(alloc: Global, which: Subcommand) -> Result<Command<'a>, Allo
         Subcommand::Receipt => receipt_command(alloc),
         Subcommand::Join => join_command(alloc),
         Subcommand::Check => check_command(alloc),
+        Subcommand::AsOf => asof_command(alloc),
     }
 }
 

@@ -22,6 +22,8 @@ pub fn name_read<'a>(command: Command<'a>, number: u8) -> Option<&'a str>
         (Command::Join { digests, .. }, 2) => Some(digests),
         (Command::Check { receipt, .. }, 1) => Some(receipt),
         (Command::Check { digests, .. }, 2) => Some(digests),
+        (Command::AsOf { image, .. }, 1) => Some(image),
+        (Command::AsOf { digests, .. }, 2) => digests,
         _ => None,
     }
 }

@@ -23,6 +23,8 @@ pub enum Subcommand {
     Join,
     /// Says whether a receipt holds with digests.
     Check,
+    /// Answers SELECTs over an image behind its first transactions.
+    AsOf,
 }
 
 impl Subcommand {
@@ -41,6 +43,7 @@ impl Subcommand {
             "receipt" => Some(Subcommand::Receipt),
             "join" => Some(Subcommand::Join),
             "check" => Some(Subcommand::Check),
+            "asof" => Some(Subcommand::AsOf),
             _ => None,
         }
     }
