@@ -12,8 +12,8 @@ from ledger import (
 
 
 def image_bytes(image: Image) -> bytes:
-    """Section "Image"."""
-    return b"LGIM\1" + short(image.database) + b"".join((
+    """Section "Image", version 2."""
+    return b"LGIM\2" + short(image.database) + b"".join((
         listed(8, [record.bytes() for record in image.blocks]),
         listed(8, [placeless(entry.leaf()) for entry in image.entries]),
         listed(4, [definition_bytes(it) for it in image.definitions]),
@@ -31,10 +31,13 @@ def placeless(leaf: bytes) -> bytes:
 
 
 def definition_bytes(it: Definition) -> bytes:
-    columns = [short(c.name) + type_bytes(c.type) + number(c.nullable, 1) + number(c.key, 1) for c in it.columns]
+    columns = [
+        short(c.name) + type_bytes(c.type) + number(c.nullable, 1) + number(c.key, 1) + number(c.dropped, 1)
+        for c in it.columns
+    ]
     indexes = [short(index.name) + listed(1, [number(n, 2) for n in index.ordinals]) for index in it.indexes]
     names = short(it.name) + short(it.history) + short(it.view)
-    return number(it.id, 4) + number(it.kind, 1) + names + listed(2, columns) + listed(1, indexes)
+    return number(it.id, 4) + number(it.kind, 1) + number(it.gone, 1) + names + listed(2, columns) + listed(1, indexes)
 
 
 def rows_bytes(rows: Rows) -> bytes:
@@ -238,6 +241,7 @@ class Forger:
                 columns[column]._replace(name=name), columns[column]._replace(type=self.pick_type()),
                 columns[column]._replace(nullable=1 - columns[column].nullable),
                 columns[column]._replace(key=self.choice.choice((0, 1, 2, 3, 255))),
+                columns[column]._replace(dropped=1 - columns[column].dropped),
             ))
         elif how == 4:
             columns.insert(self.place_in(columns), Column(name, self.pick_type(), 1, 0))

@@ -1471,7 +1471,7 @@ impl Server {
     }
 
     fn image(&self) -> Vec<u8> {
-        let mut out = b"LGIM\x01".to_vec();
+        let mut out = b"LGIM\x02".to_vec();
         put_short(&self.database, &mut out);
         out.extend_from_slice(&(self.blocks.len() as u64).to_be_bytes());
         for record in &self.blocks {
@@ -1497,7 +1497,7 @@ impl Server {
 
 fn put_def(def: &TableDef, out: &mut Vec<u8>) {
     out.extend_from_slice(&def.id.to_be_bytes());
-    out.push(def.kind);
+    out.extend_from_slice(&[def.kind, 0]);
     put_short(&def.name, out);
     put_short(&def.history, out);
     put_short(&def.view, out);
@@ -1505,7 +1505,7 @@ fn put_def(def: &TableDef, out: &mut Vec<u8>) {
     for c in &def.columns {
         put_short(&c.name, out);
         put_type(c.of, out);
-        out.extend_from_slice(&[c.nullable as u8, c.key]);
+        out.extend_from_slice(&[c.nullable as u8, c.key, 0]);
     }
     out.push(def.indexes.len() as u8);
     for index in &def.indexes {
@@ -1757,11 +1757,13 @@ impl<'a> Bytes<'a> {
         (n > 0 && roots.is_sorted_by(|a, b| a.0 < b.0)).then_some(roots)
     }
     fn def(&mut self) -> Option<TableDef> {
-        let (id, kind) = (self.u32()?, self.u8()?);
+        let (id, kind, _gone) = (self.u32()?, self.u8()?, self.u8()?);
         let (name, history, view) = (self.short()?, self.short()?, self.short()?);
         let n = self.u16()?;
         let column = |b: &mut Self| {
-            Some(Column { name: b.short()?, of: b.of()?, nullable: b.u8()? == 1, key: b.u8()? })
+            let c = Column { name: b.short()?, of: b.of()?, nullable: b.u8()? == 1, key: b.u8()? };
+            let _dropped = b.u8()?;
+            Some(c)
         };
         let columns: Vec<Column> = (0..n).map(|_| column(self)).collect::<Option<_>>()?;
         let n = self.u8()?;
@@ -1791,7 +1793,7 @@ struct Image {
 
 fn read_image(bytes: &[u8]) -> Option<Image> {
     let mut b = Bytes { rest: bytes };
-    (b.take(5)? == b"LGIM\x01").then_some(())?;
+    (b.take(5)? == b"LGIM\x02").then_some(())?;
     let database = b.short()?;
     let blocks = b.all(|b| Some(Record { id: b.u64()?, root: b.hash()?, count: b.u64()?, before: b.hash()? }))?;
     let entries = b.all(|b| Some(Entry { id: b.u64()?, time: b.u64()?, session: b.short()?, roots: b.roots()? }))?;

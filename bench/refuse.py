@@ -10,8 +10,8 @@ by the comment above. With NAMEs those are taken that have one of them in what t
 For each input the calls of malloc and realloc that `step` makes are counted, N of them, and then it is run N times in
 an empty folder, the k-th call being refused. The same is done with `verify` of each image that `step` leaves, with
 `replay` of the journal, and with `extract` of the first and the last image. The lines of `verify`, `replay`,
-`extract`, `receipt`, `join` and `check` of crates/test_commands/stdin whose files lie in data/ come behind. A run may
-end in these ways:
+`upgrade`, `extract`, `receipt`, `join` and `check` of crates/test_commands/stdin whose files lie in data/ come behind.
+A run may end in these ways:
 
     12      out of memory is said and nothing else, and no file was put
     files   the same, but the first of the files were put, each with the bytes of the full run
@@ -23,7 +23,7 @@ end in these ways:
 Any other is unstated; it is told, its folder stays, and the status is 1. A run that takes more than 60 seconds hangs.
 
 --jobs      processes that work side by side (1)
---part      the words to do this for, as step,verify (all six)
+--part      the words to do this for, as step,verify (all)
 --at        refuses this call alone
 
 refuse.c does the refusing; cc compiles it. It replaces functions of the GNU C library in a program that is linked
@@ -47,10 +47,10 @@ import time
 
 HERE = os.path.dirname(os.path.abspath(__file__))
 CRATES = os.path.join(os.path.dirname(HERE), "crates")
-PARTS = ["step", "verify", "replay", "extract", "receipt", "join", "check"]
+PARTS = ["step", "verify", "replay", "upgrade", "extract", "receipt", "join", "check"]
 SHOWN = {"step": ["12", "files", "E30", "full"], "verify": ["12", "full"], "replay": ["12", "files", "full"],
-         "extract": ["12", "full"], "receipt": ["12", "files", "full"], "join": ["12", "files", "full"],
-         "check": ["12", "full"]}
+         "upgrade": ["12", "files", "full"], "extract": ["12", "full"], "receipt": ["12", "files", "full"],
+         "join": ["12", "files", "full"], "check": ["12", "full"]}
 MOST_SECONDS = 60
 CHUNK = 64
 LAST_TICK = 2534023007999999999
@@ -140,7 +140,7 @@ def lines_on_files(most):
         if words[0] not in PARTS[1:] or text != b"" or threads or tuple(words) in seen:
             continue
         seen.add(tuple(words))
-        count = {"verify": 3, "replay": 2, "extract": 4, "receipt": 3, "join": 3, "check": 3}[words[0]]
+        count = {"verify": 3, "replay": 2, "upgrade": 2, "extract": 4, "receipt": 3, "join": 3, "check": 3}[words[0]]
         paths = [os.path.join(CRATES, "test_commands", "data", w) for w in words[1:count]]
         if len(words) >= count and all(short(p, most) for p in paths):
             files = {w: bytes_of("test_commands", "data", w) for w in words[1:count]}
@@ -231,12 +231,14 @@ def images_of(save, files):
 
 
 def files_in_order(words, files):
-    """The names of the files that a `step`, a `replay`, a `receipt` or a `join` puts, in their order."""
+    """The names of the files that a `step`, a `replay`, an `upgrade`, a `receipt` or a `join` puts, in their order."""
     save = save_of(words)
     if not files:
         return []
     if words[0] == "replay":
         return [save + ".img", save + ".journal"]
+    if words[0] == "upgrade":
+        return [save + ".img"]
     if words[0] == "receipt":
         return [save + ".receipt"]
     if words[0] == "join":

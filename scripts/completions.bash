@@ -9,16 +9,22 @@ _ledgerd_options() {
         step | run) echo --save --block-size --clock --database --help ;;
         verify) echo --workers --help ;;
         receipt) echo --save --table --event --help ;;
-        replay | join) echo --save --help ;;
+        replay | upgrade | join) echo --save --help ;;
+        asof) echo --digests --help ;;
         *) echo --help ;;
     esac
 }
 
 _ledgerd() {
-    local commands='step run verify extract replay receipt join check gen' word=${COMP_WORDS[COMP_CWORD]}
+    local commands='step run verify extract replay upgrade receipt join check asof gen' word=${COMP_WORDS[COMP_CWORD]}
+    if [ "${COMP_WORDS[1]}" = --quiet ] && [ "$COMP_CWORD" -gt 1 ]; then
+        # (the words behind it are completed as if it weren't there)
+        COMP_WORDS=("${COMP_WORDS[0]}" "${COMP_WORDS[@]:2}")
+        COMP_CWORD=$((COMP_CWORD - 1))
+    fi
     if [ "$COMP_CWORD" = 1 ]; then
         case $word in
-            -*) mapfile -t COMPREPLY < <(compgen -W '--help --version' -- "$word") ;;
+            -*) mapfile -t COMPREPLY < <(compgen -W '--help --version --quiet' -- "$word") ;;
             *) mapfile -t COMPREPLY < <(compgen -W "$commands help" -- "$word") ;;
         esac
     elif [ "${COMP_WORDS[1]}" = help ]; then

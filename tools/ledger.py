@@ -101,6 +101,7 @@ class Column(NamedTuple):
     type: Type
     nullable: int
     key: int
+    dropped: int = 0
 
 
 class Index(NamedTuple):
@@ -120,6 +121,7 @@ class Definition(NamedTuple):
     view: str
     columns: tuple[Column, ...]
     indexes: tuple[Index, ...] = ()
+    gone: int = 0
 
     def key(self) -> list[int]:
         """The places of the key's columns, by key position."""
@@ -288,13 +290,15 @@ def read_values(source: Reader) -> Values:
 
 def read_image(data: bytes) -> Image:
     source = Reader(data)
-    need(source.take(5) == b"LGIM\1", "not an image")
+    need(source.take(4) == b"LGIM", "not an image")
+    version = source.number(1, 1, 2)
     database = source.text(2, DATABASE)
     blocks = [read_record(source) for _ in range(source.number(8))]
     entries = placed([read_entry(source) for _ in range(source.number(8))], blocks)
     definitions: list[Definition] = []
     for _ in range(source.number(4)):
-        definitions.append(read_definition(source, definitions[-1].id + 1 if definitions else FIRST_USER_TABLE))
+        least = definitions[-1].id + 1 if definitions else FIRST_USER_TABLE
+        definitions.append(read_definition(source, version, least))
     rows = {table: read_rows(source, 0) for table in (TABLES, COLUMNS)}
     rows |= {it.id: read_rows(source, len(it.indexes)) for it in definitions}
     source.close()
@@ -325,19 +329,23 @@ def placed(entries: list[Entry], blocks: list[Record]) -> list[Entry]:
     return found
 
 
-def read_definition(source: Reader, least: int) -> Definition:
-    id, kind = source.number(4, least), source.number(1, APPEND_ONLY, UPDATABLE)
+def read_definition(source: Reader, version: int, least: int) -> Definition:
+    def dropped() -> int:
+        """Whether something was dropped, which version 1 doesn't say."""
+        return source.number(1, 0, 1) if version > 1 else 0
+
+    id, kind, gone = source.number(4, least), source.number(1, APPEND_ONLY, UPDATABLE), dropped()
     name = source.text(2, NAME)
     history, view = source.text(2, NAME if kind == UPDATABLE else NOTHING), source.text(2, NAME)
     columns = tuple(
-        Column(source.text(2, NAME), read_type(source), source.number(1, 0, 1), source.number(1))
+        Column(source.text(2, NAME), read_type(source), source.number(1, 0, 1), source.number(1), dropped())
         for _ in range(source.number(2))
     )
     indexes = tuple(
         Index(source.text(2, NAME), tuple(source.number(2) for _ in range(source.number(1))))
         for _ in range(source.number(1))
     )
-    return Definition(id, kind, name, history, view, columns, indexes)
+    return Definition(id, kind, name, history, view, columns, indexes, gone)
 
 
 def system_definitions() -> list[Definition]:

@@ -92,10 +92,12 @@ def image_lines(image: Image, has_rows: bool) -> Iterator[str]:
 def definition_lines(it: Definition) -> Iterator[str]:
     kind = "append-only" if it.kind == APPEND_ONLY else "updatable"
     others = [f"{what} [{name}]" for what, name in (("history", it.history), ("view", it.view)) if name]
-    yield f"table {it.id} [{it.name}]: " + ", ".join([kind, *others])
+    gone = ["gone"] if it.gone else []
+    yield f"table {it.id} [{it.name}]: " + ", ".join([kind, *others, *gone])
     for ordinal, column in enumerate(it.columns, 1):
-        key = f", key {column.key}" if column.key else ""
-        yield f"  {ordinal} [{column.name}] {type_text(column.type)}{'' if column.nullable else ' NOT NULL'}{key}"
+        told = [*([f"key {column.key}"] if column.key else []), *(["dropped"] if column.dropped else [])]
+        shown = "".join(f", {it}" for it in told)
+        yield f"  {ordinal} [{column.name}] {type_text(column.type)}{'' if column.nullable else ' NOT NULL'}{shown}"
     for place, index in enumerate(it.indexes, 1):
         yield f"  index {place} [{index.name}] on columns {', '.join(map(str, index.ordinals))}"
 

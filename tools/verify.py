@@ -20,6 +20,8 @@ from ledger import (
 
 MAX_IMAGE, MAX_DIGESTS = 256 * 2**20, 32 * 2**20
 MAX_TABLES, MAX_COLUMNS, MAX_PARTS, MAX_INDEXES = 32, 64, 4, 4
+# the items of columns end here; in rows, what a kind has more where the table was dropped, and the key position then
+MAX_COLUMN_ITEM, GONE, DROPPED = 1000, 2, -1
 
 Place = Optional[str]
 # of a column, by table and item: the ranks of rows about it, and whether they say NOT NULL
@@ -241,12 +243,61 @@ def definition_fault(image: Image, _: list[Digest]) -> Place:
         id
         for id in {*tables, *items, *definitions}
         if id not in definitions
-        or Counter(tables.get(id, [])) != Counter([table_row(definitions[id])])
-        or Counter(items.get(id, [])) != Counter(item_rows(definitions[id]))
+        or not encode(definitions[id], tables.get(id, []), items.get(id, []))
         or not keeps_rules(definitions[id])
         or has_old_name(definitions[id], tables)
     ]
     return f"table {min(wrong)}" if wrong else None
+
+
+def encode(it: Definition, tables: list[Values], items: list[Values]) -> bool:
+    """Whether the rows about a table that count say its definition, and all changes keep to their rules."""
+    return (
+        Counter(without_change(row, 0) for row in latest(tables, 0)) == Counter([table_row(it)])
+        and Counter(without_change(row, 1) for row in latest(items, 1)) == Counter(item_rows(it))
+        and changes_are_right(tables, items)
+        and items_follow(items)
+    )
+
+
+def latest(rows: list[Values], place: int) -> list[Values]:
+    """Of the rows with one number at the place those with the greatest change, which stands behind it."""
+    greatest: dict[int, int] = {}
+    for row in rows:
+        thing, change = number_at(row, place), number_at(row, place + 1)
+        greatest[thing] = max(change, greatest.get(thing, change))
+    return [row for row in rows if number_at(row, place + 1) == greatest[number_at(row, place)]]
+
+
+def number_at(row: Values, place: int) -> int:
+    value = row[place]
+    return 0 if value is None else signed(value.data)
+
+
+def without_change(row: Values, place: int) -> Values:
+    return (*row[: place + 1], whole(0), *row[place + 2 :])
+
+
+def changes_are_right(tables: list[Values], items: list[Values]) -> bool:
+    """Whether one row of the table and each row of an index has change 0, and the others have 1 and on, each once."""
+    changes = [number_at(row, 1) for row in tables] + [number_at(row, 2) for row in items]
+    later = sorted(change for change in changes if change)
+    return (
+        [number_at(row, 1) for row in tables].count(0) == 1
+        and not any(number_at(row, 1) > MAX_COLUMN_ITEM and number_at(row, 2) for row in items)
+        and later == list(range(1, len(later) + 1))
+    )
+
+
+def items_follow(items: list[Values]) -> bool:
+    """Whether the rows before one that counts have its type and key position, or none of the key, if it drops a column."""
+    for row in latest(items, 1):
+        before = [it for it in items if number_at(it, 1) == number_at(row, 1) and number_at(it, 2) < number_at(row, 2)]
+        dropped = number_at(row, 8) == DROPPED
+        position = 0 if dropped else number_at(row, 8)
+        if dropped and not before or any((it[4:7], number_at(it, 8)) != (row[4:7], position) for it in before):
+            return False
+    return True
 
 
 def by_table(base: list[Version]) -> dict[int, list[Values]]:
@@ -258,7 +309,7 @@ def by_table(base: list[Version]) -> dict[int, list[Values]]:
 
 
 def whole(value: int) -> Value:
-    return Value(Type(INT), number(value, 4))
+    return Value(Type(INT), (value % 2**32).to_bytes(4, "big"))
 
 
 def bit(value: int) -> Value:
@@ -272,13 +323,15 @@ def text(value: str) -> Value:
 def table_row(it: Definition) -> Values:
     """Section "The system's tables": the row of a table."""
     history = None if it.kind == APPEND_ONLY else text(it.history)
-    return (whole(it.id), whole(0), text(it.name), whole(it.kind), history, text(it.view))
+    kind = it.kind + GONE if it.gone else it.kind
+    return (whole(it.id), whole(0), text(it.name), whole(kind), history, text(it.view))
 
 
 def item_rows(it: Definition) -> list[Values]:
     """Section "The system's tables": the rows of columns and of parts of indexes."""
     items = [
-        (place, column.name, column.type, column.nullable, column.key) for place, column in enumerate(it.columns, 1)
+        (place, column.name, column.type, column.nullable, DROPPED if column.dropped else column.key)
+        for place, column in enumerate(it.columns, 1)
     ] + [
         (1000 * group + part, index.name, Type(0), 0, ordinal)
         for group, index in enumerate(it.indexes, 1)
@@ -297,6 +350,7 @@ def keeps_rules(it: Definition) -> bool:
     keys = sorted(column.key for column in it.columns if column.key)
     return (
         it.id < FIRST_USER_TABLE + MAX_TABLES
+        and not any(column.dropped and column.key for column in it.columns)
         and len(set(names)) == len(names)
         and 1 <= len(columns) <= MAX_COLUMNS
         and len(set(columns)) == len(columns)
@@ -321,11 +375,11 @@ def own_names(it: Definition) -> list[str]:
 
 
 def has_old_name(it: Definition, tables: dict[int, list[Values]]) -> bool:
-    """Whether a name of the table is one of the system's, or stands in a row about a table with a lower id."""
+    """Whether a name of the table is one of the system's, or of a table with a lower id by the row that counts."""
     taken = {text(system.name).data for system in system_definitions()}
     for id, rows in tables.items():
         if id < it.id:
-            taken |= {value.data for row in rows for value in row if value is not None and value.type.code == NVARCHAR}
+            taken |= {value.data for row in latest(rows, 0) for value in row if value is not None and value.type.code == NVARCHAR}
     return any(name.encode() in taken for name in own_names(it))
 
 

@@ -4,7 +4,7 @@ use Rattle.sql_types.specs.declared.digest.HeldDigest.{HeldDigest}
 use Rattle.sql_types.specs.declared.image.Image.{Image}
 use Rattle.spec_model.specs.Catalog.{Tables}
 use Rattle.spec_syntax.specs.Text.{statement_of}
-use Rattle.format_image.specs.ImageBytes.{image_bytes, IsImage}
+use Rattle.format_image.specs.ImageBytes.{IsImage, IsSpellingOf}
 use Rattle.spec_verify.specs.declared.place.Verdict.{Verdict}
 use Rattle.spec_verify.specs.declared.place.Verdict.TheVariants.{Yes}
 use Rattle.spec_verify.specs.Bytes.{verdict_of}
@@ -17,7 +17,7 @@ use Rattle.audit_answers.specs.declared.answering.Answers.TheVariants.{Refused, 
 
 -- the bytes are those of this image, which is accepted with these digests
 abbrev pub IsAccepted : (List ℕ → List ℕ) → List HeldDigest → List ℕ → Image → Type 0
-IsAccepted h held bytes i = IsImage i × (bytes ≡ image_bytes i) × (image_verdict h i held ≡ Yes)
+IsAccepted h held bytes i = IsImage i × IsSpellingOf bytes i × (image_verdict h i held ≡ Yes)
 
 -- the image that some bytes are, which is accepted, or the verdict on them, which isn't Yes
 abbrev pub IsTried : (List ℕ → List ℕ) → List HeldDigest → List ℕ → Result Image Verdict → Type 0

@@ -22,4 +22,4 @@ module _ (h : List ℕ → List ℕ) (sized : (bytes : List ℕ) → length (h b
 
 pub each_shows : (h : List ℕ → List ℕ) (r : AnyReceipt) (d : HeldDigest) (held : List HeldDigest) → ((bytes : List ℕ) → length (h bytes) ≡ 32) → IsAny r → (x : IsAcceptedBy h r d held)
     → EachImageShows h r d held x
-each_shows h r d held sized form x = λ i digests is among accepts. shows_in h sized i is d held (one_fits h i digests d is accepts among) r form x
+each_shows h r d held sized form x = λ bytes i digests is spelling among accepts. shows_in h sized i is d held (one_fits h i digests d bytes is spelling accepts among) r form x

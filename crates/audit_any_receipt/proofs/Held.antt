@@ -3,7 +3,7 @@ use Rattle.std.proofs.Common.{◌≡◌, ◌∙◌, ◌<◌, ℕ, zero, suc, Boo
 use Rattle.std.specs.List.{AllByRecursion, Contains}
 use Rattle.sql_types.specs.declared.digest.HeldDigest.{HeldDigest}
 use Rattle.sql_types.specs.declared.image.Image.{Image}
-use Rattle.format_image.specs.ImageBytes.{image_bytes, IsImage}
+use Rattle.format_image.specs.ImageBytes.{IsImage, IsSpellingOf}
 use Rattle.spec_verify.specs.declared.place.Verdict.TheVariants.{Yes}
 use Rattle.spec_verify.specs.Blocks.{chain_fault, block_fault}
 use Rattle.spec_verify.specs.Bytes.{verdict_of}
@@ -12,7 +12,7 @@ use Rattle.spec_verify.specs.Sentences.{DigestHolds}
 use Rattle.spec_verify.specs.Verdict.{image_verdict}
 use Rattle.spec_verify.proofs.AllHold.{yes_exactly}
 use Rattle.spec_verify.proofs.AllTold.{yes_together}
-use Rattle.spec_verify.proofs.Judged.{of_image}
+use Rattle.spec_verify.proofs.Judged.{of_spelling}
 use Rattle.audit_extract.specs.Each.{last_from, last_of}
 
 -- ---- one of several digests
@@ -57,6 +57,6 @@ all_fit h i digests accepts = let t = (yes_together h i digests).0 accepts in t.
 pub last_fits : (h : List ℕ → List ℕ) (i : Image) (digests : List HeldDigest) (d : HeldDigest) → image_verdict h i digests ≡ Yes → last_of digests ≡ Some d → Fits h i d
 last_fits h i digests d accepts last = fits_by h i digests d accepts (λ all. last_has (DigestHolds h i) digests d all last)
 
-pub one_fits : (h : List ℕ → List ℕ) (i : Image) (digests : List HeldDigest) (d : HeldDigest) → IsImage i → verdict_of h digests (image_bytes i) ≡ Yes → Contains digests d → Fits h i d
-one_fits h i digests d is accepts one =
-    fits_by h i digests d (sym (of_image h digests i is) ∙ accepts) (λ all. one_has (DigestHolds h i) digests d all one)
+pub one_fits : (h : List ℕ → List ℕ) (i : Image) (digests : List HeldDigest) (d : HeldDigest) (bytes : List ℕ) → IsImage i → IsSpellingOf bytes i → verdict_of h digests bytes ≡ Yes → Contains digests d → Fits h i d
+one_fits h i digests d bytes is spelling accepts one =
+    fits_by h i digests d (sym (of_spelling h digests bytes i is spelling) ∙ accepts) (λ all. one_has (DigestHolds h i) digests d all one)

@@ -3,7 +3,7 @@ use Rattle.std.specs.Prelude.{ℕ, ◌≡◌, ◌≤◌, ◌⊎◌, List, Some, 
 use Rattle.std.specs.List.{slice_get}
 use Rattle.sql_types.specs.declared.digest.HeldDigest.{HeldDigest}
 use Rattle.sql_types.specs.declared.image.Image.{Image}
-use Rattle.format_image.specs.ImageBytes.{image_bytes, IsImage}
+use Rattle.format_image.specs.ImageBytes.{IsImage, IsSpellingOf}
 use Rattle.spec_verify.specs.declared.place.Verdict.TheVariants.{Yes}
 use Rattle.spec_verify.specs.Bytes.{verdict_of}
 use Rattle.spec_verify.specs.Sentences.{DigestHolds}
@@ -32,5 +32,5 @@ ShowsIn h (kinds.Chain c) d held x i =
 abbrev pub EachImageShows : (h : List ℕ → List ℕ) (r : AnyReceipt) (d : HeldDigest) (held : List HeldDigest)
     → IsAcceptedBy h r d held → Type 0
 EachImageShows h r d held x =
-    (i : Image) (digests : List HeldDigest) → IsImage i → Contains digests d
-    → verdict_of h digests (image_bytes i) ≡ Yes → ShowsIn h r d held x i
+    (bytes : List ℕ) (i : Image) (digests : List HeldDigest) → IsImage i → IsSpellingOf bytes i
+    → Contains digests d → verdict_of h digests bytes ≡ Yes → ShowsIn h r d held x i

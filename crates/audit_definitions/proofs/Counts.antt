@@ -5,8 +5,8 @@ use Rattle.std.proofs.lemmas.List.{length-map}
 use Rattle.sql_types.specs.declared.table.IndexDef.{IndexDef}
 use Rattle.sql_types.specs.declared.table.TableDef.{TableDef}
 use Rattle.spec_model.specs.Lists.{numbered}
-use Rattle.spec_model.specs.SystemTables.{column_row, column_rows, index_row, index_rows}
-use Rattle.law_catalog_rows.specs.Encoded.{item_rows, rows_of_indexes}
+use Rattle.spec_model.specs.SystemTables.{index_row, index_rows}
+use Rattle.law_catalog_rows.specs.Encoded.{latest_column_row, latest_item_rows, rows_of_indexes}
 use Rattle.audit_definitions.proofs.Walks.{from_here}
 
 length_numbered : {A : Type 0} (n : ℕ) (xs : List A) → length (numbered n xs) ≡ length xs
@@ -17,11 +17,11 @@ parts : (id g : ℕ) (i : IndexDef) → length (index_rows id g i) ≡ length i.
 unfolding index_rows
 parts id g i = length-map (numbered 1 i.ordinals) (index_row id g i.name) ∙ length_numbered 1 i.ordinals
 
-pub items : (def : TableDef) → length (item_rows def) ≡ length def.columns + length (rows_of_indexes def.id 1 def.indexes)
-unfolding item_rows column_rows
+pub items : (def : TableDef) → length (latest_item_rows def) ≡ length def.columns + length (rows_of_indexes def.id 1 def.indexes)
+unfolding latest_item_rows
 items def =
-    length-append (map (column_row def.id) (numbered 1 def.columns)) (rows_of_indexes def.id 1 def.indexes)
-    ∙ ap (λ n. n + length (rows_of_indexes def.id 1 def.indexes)) (length-map (numbered 1 def.columns) (column_row def.id) ∙ length_numbered 1 def.columns)
+    length-append (map (latest_column_row def) (numbered 1 def.columns)) (rows_of_indexes def.id 1 def.indexes)
+    ∙ ap (λ n. n + length (rows_of_indexes def.id 1 def.indexes)) (length-map (numbered 1 def.columns) (latest_column_row def) ∙ length_numbered 1 def.columns)
 
 pub one_index : (id g : ℕ) (i : IndexDef) (is : List IndexDef) → length (rows_of_indexes id g (i ∷ is)) ≡ length i.ordinals + length (rows_of_indexes id (g + 1) is)
 one_index id g i is =

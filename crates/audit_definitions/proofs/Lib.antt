@@ -1,6 +1,9 @@
 pub mod Counts
 pub mod FirstValues
+pub mod LatestDefs
+pub mod LatestRows
 pub mod RuleGroups
 pub mod Encoded
 pub mod Verdicts
 pub mod Walks
+pub mod ZeroAt

@@ -1,7 +1,7 @@
 -- Rows of the tables of the system, as values that are asked for one by one.
-use Rattle.std.specs.Prelude.{ℕ, zero, suc, ℤ, pos, FitsSigned, ◌&&◌, not, Bool, List, [], ◌∷◌, map, IfSome}
+use Rattle.std.specs.Prelude.{ℕ, zero, suc, ℤ, pos, FitsSigned, ◌&&◌, ◌==◌, not, Bool, List, [], ◌∷◌, map, length, Option, Some, None, IfSome}
 use Rattle.std.specs.Borrow.{Bor}
-use Rattle.std.specs.List.{filter, list_any}
+use Rattle.std.specs.List.{filter, list_all, list_any}
 use Rattle.std.specs.Int.{w64}
 use Rattle.std.specs.Ordering.{int_eq}
 use Rattle.sql_value.specs.declared.value.Value.{Value}
@@ -12,9 +12,10 @@ use Rattle.sql_types.specs.declared.version.Version.{Version}
 use Rattle.spec_model.specs.Catalog.{Defs}
 use Rattle.spec_model.specs.Rows.{Row, values_of}
 use Rattle.spec_model.specs.Keys.{same_key}
-use Rattle.spec_model.specs.SystemTables.{table_row}
-use Rattle.law_catalog_rows.specs.Differs.{are_rows, is_encoded, table_of}
-use Rattle.law_catalog_rows.specs.Encoded.{about, item_rows}
+use Rattle.law_catalog_rows.specs.Differs.{encode_def, is_encoded, table_of}
+use Rattle.law_catalog_rows.specs.Encoded.{about, latest_table_row, latest_item_rows}
+use Rattle.law_catalog_rows.specs.Changes.{follows}
+use Rattle.law_catalog_rows.specs.Latest.{without_change}
 use Rattle.audit_definitions.specs.declared.items.ExpectedValue.{ExpectedValue}
 use Rattle.audit_definitions.specs.declared.items.ExpectedValue.TheVariants as wants
 
@@ -28,6 +29,10 @@ rows_in versions = map values_of versions
 
 abbrev pub rows_seen : List (Bor Version) → List Row
 rows_seen versions = map (λ (v : Bor Version). values_of v.now) versions
+
+abbrev pub row_seen : Option (Bor Version) → Option Row
+row_seen None = None
+row_seen (Some v) = Some (values_of v.now)
 
 -- one of these rows is this one
 abbrev pub has_row : List Row → Row → Bool
@@ -43,11 +48,23 @@ base_in [] k = []
 base_in (rows ∷ more) zero = rows.base
 base_in (rows ∷ more) (suc k) = base_in more k
 
--- the rows about its table are those of the definition
-abbrev pub has_its_rows : List Row → List Row → TableDef → Bool
-has_its_rows first second def =
-    are_rows (about (pos def.id) first) (table_row def ∷ [])
-    && are_rows (about (pos def.id) second) (item_rows def)
+-- one of these rows says this, whatever its change, which stands behind the place
+abbrev pub is_said : ℕ → List Row → Row → Bool
+is_said k rows row = list_any (λ r. same_key row (without_change k r)) rows
+
+-- they say these, and no more
+abbrev pub are_said : ℕ → List Row → List Row → Bool
+are_said k rows wanted = length rows == length wanted && list_all (is_said k rows) wanted
+
+-- the latest rows say the definition, and what they say of items follows from the rows before
+abbrev pub say_def : List Row → List Row → List Row → TableDef → Bool
+say_def latest_tables items latest_items def =
+    are_said 0 latest_tables (latest_table_row def ∷ []) && are_said 1 latest_items (latest_item_rows def)
+    && list_all (follows items) latest_items
+
+-- the rows about its table say the definition
+abbrev pub encodes : List Row → List Row → TableDef → Bool
+encodes first second def = encode_def (about (pos def.id) first) (about (pos def.id) second) def
 
 -- the ids of those of these definitions that the rows spell
 abbrev pub ids_encoded : List Row → List Row → Defs → List ℕ

@@ -6,13 +6,13 @@ use Rattle.sql_types.specs.declared.table.TableDef.{TableDef}
 use Rattle.sql_types.specs.declared.table.IndexDef.{IndexDef}
 use Rattle.spec_model.specs.Create.{names_of, table_names}
 use Rattle.spec_model.specs.Lists.{repeats}
-use Rattle.law_catalog_rows.specs.IsEncodableDef.{is_between, is_proper_name, has_its_history, is_encodable_column, are_key_positions, is_encodable_index}
+use Rattle.law_catalog_rows.specs.IsEncodableDef.{is_between, is_proper_name, has_its_history, dropped_are_right, is_encodable_column, are_key_positions, is_encodable_index}
 
 abbrev pub names_are_right : TableDef → Bool
 names_are_right def =
     is_between 3 34 def.id
     && is_proper_name def.name && has_its_history def.kind def.history && is_proper_name def.view
-    && not (repeats (table_names def))
+    && not (repeats (table_names def)) && dropped_are_right def
 
 abbrev pub columns_are_right : List ColumnDef → List ℕ → Bool
 columns_are_right columns positions =

@@ -1,8 +1,10 @@
 //! Whether the rows of the two tables of the system encode the definitions of all others.
 #![tactic(auto)]
 
+mod changes;
 mod first_values;
 mod items;
+mod latest_rows;
 mod names;
 mod rules;
 mod spelling;

@@ -2,6 +2,7 @@
 
 ghost use Rattle.std.specs.Prelude.{◌≡◌, ◌&&◌, ◌∷◌, [], map, filter_map};
 ghost use Rattle.std.specs.List.{list_all, list_any};
+ghost use Rattle.audit_definitions.specs.DefinitionRows.{rows_seen};
 ghost use Rattle.audit_definitions.specs.Numbers.{before_number};
 ghost use Rattle.spec_model.specs.Create as create;
 ghost use Rattle.spec_model.specs.Lists.{repeats, has_name};
@@ -121,10 +122,10 @@ fn has_index(indexes: &[IndexDef], name: &Name) -> bool
 
 /// Whether no name of the table is one of a table of the system,
 /// or stands in one of these rows with a lower id.
-pub fn has_new_names(versions: &[Version], def: &TableDef) -> bool
-    ensures { result ≡ spec.has_new_names (map values_of versions.now) def.now }
+pub fn has_new_names(rows: &[&Version], def: &TableDef) -> bool
+    ensures { result ≡ spec.has_new_names (rows_seen rows.now) def.now }
 {
-    !has_system_name(def) && !has_older_name(versions, def)
+    !has_system_name(def) && !has_older_name(rows, def)
 }
 
 fn has_system_name(def: &TableDef) -> bool
@@ -141,13 +142,13 @@ fn is_system_name(name: &Name) -> bool
     "sys_ledger_tables" == name.as_str() || "sys_ledger_columns" == name.as_str()
 }
 
-fn has_older_name(versions: &[Version], def: &TableDef) -> bool
+fn has_older_name(rows: &[&Version], def: &TableDef) -> bool
     ensures { result ≡ list_any
         (λ row. spec.is_before def.now.id row && spec.share_name (spec.names_in row) def.now)
-        (map values_of versions.now) }
+        (rows_seen rows.now) }
 {
-    for version in versions {
-        if is_before(def.id, version) && shares_name(version, def) {
+    for row in rows {
+        if is_before(def.id, *row) && shares_name(*row, def) {
             return true;
         }
     }

@@ -1,7 +1,8 @@
 //! Whether a definition may be spelled by rows of the two tables of the system.
 
-ghost use Rattle.std.specs.Prelude.{◌≡◌, ◌<◌, ◌^◌, ◌==◌, ◌&&◌, not, IfOk};
+ghost use Rattle.std.specs.Prelude.{◌≡◌, ◌<◌, ◌^◌, ◌==◌, ◌+◌, ◌&&◌, ◌||◌, not, IfOk};
 ghost use Rattle.std.specs.List.{list_all, list_any, range_with_len};
+ghost use Rattle.spec_model.specs.Lists.{numbered};
 ghost use Rattle.law_catalog_rows.specs.IsEncodableDef as spec;
 ghost use Rattle.audit_definitions.specs.Rules.{names_are_right, columns_are_right, indexes_are_right};
 
@@ -41,6 +42,52 @@ fn has_right_names(def: &TableDef) -> bool
         && has_its_history(def.kind, def.history.bytes())
         && is_proper_name(def.view.bytes())
         && !table_names_repeat(def)
+        && are_dropped_right(def)
+}
+
+/// Whether the ordinals of dropped columns rise and are those of columns, of which none is in the key.
+fn are_dropped_right(def: &TableDef) -> bool
+    ensures { result ≡ spec.dropped_are_right def.now }
+{
+    let dropped = def.dropped.as_slice();
+    let columns = def.columns.as_slice();
+    rise_within(columns.len(), dropped) && are_without_key(dropped, columns)
+}
+
+/// Whether they rise from 1 on, and none is above the limit.
+fn rise_within(limit: usize, numbers: &[u16]) -> bool
+    ensures { result ≡ spec.rise_within 0 limit numbers.now }
+{
+    let mut last = 0;
+    for n in numbers {
+        if *n <= last || usize::from(*n) > limit {
+            return false;
+        }
+        last = *n;
+    }
+    true
+}
+
+/// Whether the dropped columns have no key position.
+fn are_without_key(dropped: &[u16], columns: &[ColumnDef]) -> bool
+    ensures { result ≡ list_all (λ c. not (spec.is_among dropped.now c.0) || c.1.key_position == 0)
+        (numbered 1 columns.now) }
+{
+    for (place, column) in columns.iter().enumerate() {
+        if column.key_position != 0 && has_ordinal(dropped, place) {
+            return false;
+        }
+    }
+    true
+}
+
+/// Whether the ordinal of the column at this place, counted from 0, is one of these.
+pub fn has_ordinal(ordinals: &[u16], place: usize) -> bool
+    ensures { result ≡ spec.is_among ordinals.now (place + 1) }
+{
+    ordinals
+        .iter()
+        .any(|n| *n != 0 && usize::from(*n) - 1 == place)
 }
 
 fn has_right_columns(columns: &[ColumnDef], positions: &[u16]) -> bool

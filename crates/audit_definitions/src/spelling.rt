@@ -8,10 +8,13 @@ ghost use Rattle.spec_model.specs.Rows.{values_of};
 ghost use Rattle.law_catalog_rows.specs.Differs as spec;
 ghost use Rattle.law_catalog_rows.specs.Least.{least_from, lesser};
 ghost use Rattle.spec_verify.specs.Definitions as verdict;
-ghost use Rattle.audit_definitions.specs.DefinitionRows.{HasSmallId, base_in, has_its_rows, ids_encoded, is_missing, rows_in};
+ghost use Rattle.audit_definitions.specs.DefinitionRows.{HasSmallId, base_in, encodes, ids_encoded, is_missing, rows_in, rows_seen, say_def};
+ghost use Rattle.audit_definitions.specs.LatestRows.{latest_of};
 
+use crate::changes::{changes_are_right, items_follow};
 use crate::first_values::table_of;
 use crate::items::{has_item_rows, has_table_row, system_rows_of};
+use crate::latest_rows::{latest_rows, latest_table_rows};
 use crate::names::has_new_names;
 use crate::rules::is_encodable_def;
 use base_types::{Memory, TableId};
@@ -67,7 +70,7 @@ fn table_place(id: Option<i64>) -> Option<Place>
 }
 
 /// The ids of the definitions that the rows spell. Takes room for 32 ids at most, since no two definitions of
-/// an image have one id.
+/// an image have one id, and sorts the rows of the first table once.
 fn ids_encoded(
     alloc: Global,
     first: &[Version],
@@ -76,9 +79,10 @@ fn ids_encoded(
 ) -> Result<Vec<TableId>, Memory>
     ensures { IfOk result (λ ids. ids.items ≡ ids_encoded (rows_in first.now) (rows_in second.now) defs.now) }
 {
+    let named = latest_table_rows(alloc, first)?;
     let mut ids = Vec::new(alloc);
     for def in defs {
-        add_if_encoded(alloc, first, second, def, &mut ids)?;
+        add_if_encoded(alloc, first, second, &named, def, &mut ids)?;
     }
     Ok(ids)
 }
@@ -87,21 +91,23 @@ fn add_if_encoded(
     alloc: Global,
     first: &[Version],
     second: &[Version],
+    named: &[&Version],
     def: &TableDef,
     ids: &mut Vec<TableId>,
 ) -> Result<(), Memory>
+    requires { rows_seen named.now ≡ latest_of 0 (rows_in first.now) }
     ensures { OnOk result ((defs : Defs) → ids.new.items ≡ ids.old.items
         ++ map (λ d. d.id)
         (filter (spec.is_encoded (rows_in first.now) (rows_in second.now) defs) (def.now ∷ []))) }
 {
-    if is_encoded(alloc, first, second, def)? {
+    if is_encoded_with(alloc, first, second, named, def)? {
         ids.push(def.id)?;
     }
     Ok(())
 }
 
-/// Whether the rows spell the definition. Its own rules come first: they let through the ids from 3 to 34,
-/// and the rows are gone through for those alone. The only error is want of memory.
+/// Whether the rows spell the definition. The only error is want of memory. Sorts the rows of the first table,
+/// and those about the table of the definition.
 pub fn is_encoded(
     alloc: Global,
     first: &[Version],
@@ -111,25 +117,76 @@ pub fn is_encoded(
     ensures { IfOk result (λ is. (defs : Defs)
         → is ≡ spec.is_encoded (rows_in first.now) (rows_in second.now) defs def.now) }
 {
-    if !is_encodable_def(alloc, def)? {
-        return Ok(false);
-    }
-    let own = has_its_rows(alloc, first, second, def)?;
-    Ok(own && has_new_names(first, def))
+    let named = latest_table_rows(alloc, first)?;
+    is_encoded_with(alloc, first, second, &named, def)
 }
 
-/// Whether the rows about its table are those of the definition.
+/// Whether the rows spell the definition, of which those of the first table that count are known. Its own rules
+/// come first: they let through the ids from 3 to 34, and the rows are gone through for those alone.
+fn is_encoded_with(
+    alloc: Global,
+    first: &[Version],
+    second: &[Version],
+    named: &[&Version],
+    def: &TableDef,
+) -> Result<bool, Memory>
+    requires { rows_seen named.now ≡ latest_of 0 (rows_in first.now) }
+    ensures { IfOk result (λ is. (defs : Defs)
+        → is ≡ spec.is_encoded (rows_in first.now) (rows_in second.now) defs def.now) }
+{
+    let encodable = is_encodable_def(alloc, def)?;
+    if !encodable {
+        return Ok(false);
+    }
+    if !has_new_names(named, def) {
+        return Ok(false);
+    }
+    has_its_rows(alloc, first, second, def)
+}
+
+/// Whether the rows about its table say the definition.
 fn has_its_rows(
     alloc: Global,
     first: &[Version],
     second: &[Version],
     def: &TableDef,
 ) -> Result<bool, Memory>
-    ensures { IfOk result (λ has. has ≡ has_its_rows (rows_in first.now) (rows_in second.now) def.now) }
+    ensures { IfOk result (λ has. has ≡ encodes (rows_in first.now) (rows_in second.now) def.now) }
 {
     let tables = system_rows_of(alloc, first, def.id)?;
     let items = system_rows_of(alloc, second, def.id)?;
-    Ok(has_table_row(&tables, def) && has_item_rows(&items, def))
+    encode_def(alloc, &tables, &items, def)
+}
+
+/// Whether those of these rows that count say the definition, and all changes keep to their rules.
+fn encode_def(
+    alloc: Global,
+    tables: &[&Version],
+    items: &[&Version],
+    def: &TableDef,
+) -> Result<bool, Memory>
+    ensures { IfOk result (λ encode. encode ≡ spec.encode_def (rows_seen tables.now) (rows_seen items.now) def.now) }
+{
+    let latest_tables = latest_rows(alloc, 0, tables)?;
+    let latest_items = latest_rows(alloc, 1, items)?;
+    if !say_def(&latest_tables, items, &latest_items, def) {
+        return Ok(false);
+    }
+    changes_are_right(alloc, tables, items)
+}
+
+/// Whether the latest rows say the definition, and what they say of items follows from the rows before.
+fn say_def(
+    latest_tables: &[&Version],
+    items: &[&Version],
+    latest_items: &[&Version],
+    def: &TableDef,
+) -> bool
+    ensures { result ≡ say_def (rows_seen latest_tables.now) (rows_seen items.now) (rows_seen latest_items.now) def.now }
+{
+    has_table_row(latest_tables, def)
+        && has_item_rows(latest_items, def)
+        && items_follow(items, latest_items)
 }
 
 /// Whether it is none of these ids.

@@ -10,7 +10,7 @@ use Rattle.base_types.specs.declared.memory.Memory.{Memory}
 use Rattle.sql_types.specs.declared.digest.HeldDigest.{HeldDigest}
 use Rattle.sql_types.specs.declared.entry.BlockRecord.{BlockRecord}
 use Rattle.sql_types.specs.declared.image.Image.{Image}
-use Rattle.format_image.specs.ImageBytes.{image_bytes, IsImage}
+use Rattle.format_image.specs.ImageBytes.{IsImage, IsSpellingOf}
 use Rattle.format_image.specs.ImageReading.{image_at}
 use Rattle.format_image.specs.Tables.{tables_in}
 use Rattle.format_image.proofs.ImageExact.{found_of}
@@ -188,7 +188,7 @@ module _ (h : List ℕ → List ℕ) (i j : Image) (is_i : IsImage i) (is_j : Is
 
 record Accepted (h : List ℕ → List ℕ) (digests : List HeldDigest) (bytes : List ℕ) : Type 0 where
   image : Image
-  is : IsImage image × (bytes ≡ image_bytes image)
+  is : IsImage image × IsSpellingOf bytes image
   accepts : image_verdict h image digests ≡ Yes
 
 accepted_by : (h : List ℕ → List ℕ) (digests : List HeldDigest) (bytes : List ℕ) → IsBytes bytes → (found : Option Image) → found ≡ whole image_at bytes → verdict_read h digests found ≡ Yes → Accepted h digests bytes

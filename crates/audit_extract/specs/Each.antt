@@ -3,7 +3,7 @@ use Rattle.std.specs.Prelude.{ℕ, ◌≡◌, ◌⊎◌, nat_lt, if◌then◌els
 use Rattle.std.specs.List.{AllByRecursion}
 use Rattle.sql_types.specs.declared.digest.HeldDigest.{HeldDigest}
 use Rattle.sql_types.specs.declared.image.Image.{Image}
-use Rattle.format_image.specs.ImageBytes.{image_bytes, IsImage}
+use Rattle.format_image.specs.ImageBytes.{IsImage, IsSpellingOf}
 use Rattle.spec_verify.specs.Collision.{Collides}
 use Rattle.spec_verify.specs.Covered.{covered_of}
 
@@ -30,6 +30,6 @@ HasCollision h = (x : List ℕ) × (y : List ℕ) × Collides h x y
 pub record OneHistory (h : List ℕ → List ℕ) (digests : List HeldDigest) (a b : List ℕ) : Type 0 where
   pub first : Image
   pub second : Image
-  pub is_first : IsImage first × (a ≡ image_bytes first)
-  pub is_second : IsImage second × (b ≡ image_bytes second)
+  pub is_first : IsImage first × IsSpellingOf a first
+  pub is_second : IsImage second × IsSpellingOf b second
   pub agree : AgreeOnEach first second digests ⊎ HasCollision h

@@ -3,11 +3,9 @@ use Rattle.std.proofs.Common.{◌≡◌, ℕ, ◌+◌, ◌-◌, ◌≤◌, Bool,
 use Rattle.std.specs.List.{AllByRecursion}
 use Rattle.std.proofs.lemmas.Bool.{and_parts, leb-true}
 use Rattle.std.proofs.lemmas.List.{length-append}
-use Rattle.sql_value.specs.declared.column.ColumnDef.{ColumnDef}
 use Rattle.sql_types.specs.declared.journal.JournalItem.{JournalItem}
 use Rattle.sql_types.specs.declared.journal.JournalItem.TheVariants.{Tx, Close}
 use Rattle.sql_types.specs.declared.version.Table.{Table}
-use Rattle.sql_types.specs.declared.version.TypedValue.{TypedValue}
 use Rattle.sql_types.specs.JournalRules.{Line, ItemRules, TxRules, is_block_size, ids_differ, closes_follow}
 use Rattle.spec_model.specs.Agreement.{IdsFrom}
 use Rattle.spec_model.specs.Catalog.{Tables, defs_of}
@@ -18,10 +16,11 @@ use Rattle.spec_model.specs.SystemTables.{first_tables}
 use Rattle.format_entry.specs.Entry.{IsEntry}
 use Rattle.law_frame.proofs.Alls.{all_weaker, all_both}
 use Rattle.law_frame.proofs.LegalSound.{legal_sound}
-use Rattle.law_journal.specs.Fits.{Fits}
+use Rattle.law_journal.specs.Fits.{FitsSoFar}
 use Rattle.law_journal.specs.Described.{Described}
 use Rattle.law_journal.specs.Serial.{TableOf, TablesOf}
 use Rattle.law_journal.proofs.DefLists.{all_defs}
+use Rattle.law_journal.proofs.SoFar.{few}
 use Rattle.law_journal.proofs.Serials.{legal_tables, legal_described}
 use Rattle.sql_apply.specs.Short.{IsShort, AreShort}
 use Rattle.spec_ledger.specs.Entries.{entry_of}
@@ -97,16 +96,10 @@ last_ones : {B : Type 0} (P : B → Type 0) (xs ys : List B) → AllByRecursion 
 last_ones P [] ys h = h
 last_ones P (x ∷ xs) ys h = last_ones P xs ys h.1
 
-as_long : (columns : List ColumnDef) (values : List (Option TypedValue)) → Fits columns values → length values ≡ length columns
-as_long [] [] f = refl
-as_long [] (v ∷ vs) f = absurd f
-as_long (c ∷ cs) [] f = absurd f
-as_long (c ∷ cs) (v ∷ vs) f = omega (arith, as_long cs vs f.1)
-
 short_table : (J : List JournalItem) (t : Table) → (length t.def.columns ≤ 64) × TableOf J t → AllByRecursion IsShort t.versions
 short_table J t k =
-    all_weaker (λ v. Fits t.def.columns v.values) IsShort
-    (λ v f. omega (arith, as_long t.def.columns v.values f, k.0)) t.versions k.1.fit
+    all_weaker (λ v. FitsSoFar t.def.columns v.values) IsShort
+    (λ v f. omega (arith, few t.def.columns v.values f, k.0)) t.versions k.1.fit
 
 pub are_short : (J : List JournalItem) (T : Tables) → TablesOf J T → Described T → AreShort T
 are_short J T k d =

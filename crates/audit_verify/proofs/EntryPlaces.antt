@@ -13,7 +13,7 @@ use Rattle.sql_types.specs.declared.entry.TxEntry.{TxEntry}
 use Rattle.spec_verify.specs.Entries.{has_id}
 use Rattle.audit_verify.specs.Entries.{Placed, ids_from, behind_one, first_with, place_at_head, AreFound}
 use Rattle.audit_verify.specs.declared.entries.Entries.{Entries}
-use Rattle.audit_verify.proofs.Searches.{none_of, all_taken, all_left, all_map}
+use Rattle.audit_columns.proofs.Searches.{none_of, all_taken, all_left, all_map}
 
 -- ---- sorting by id keeps the order of those of one id
 

@@ -23,7 +23,7 @@ use Rattle.audit_verify.specs.Marks.{events_in}
 use Rattle.audit_verify.specs.ImageTable.{rows_of}
 use Rattle.audit_verify.proofs.EntryRoots.{filter_seen}
 use Rattle.audit_verify.proofs.InRows.{numbered_moved}
-use Rattle.audit_verify.proofs.Sortings.{filter_sorted}
+use Rattle.audit_columns.proofs.Sortings.{filter_sorted}
 
 pub ids_of_parts : (s : ImageTable) → flat_map version_ids (rows_of s).base ++ flat_map version_ids (rows_of s).history ≡ ids_shown s
 ids_of_parts s = sym (flat_map-append version_ids (rows_of s).base (rows_of s).history)

@@ -16,7 +16,7 @@ use Rattle.spec_model.specs.Rows.{EventId}
 use Rattle.audit_verify.specs.Marks.{leaf_cmp, events_in}
 use Rattle.audit_verify.specs.ImageTable.{IdsRise}
 use Rattle.audit_verify.proofs.LeafOrder.{leaf_total}
-use Rattle.audit_verify.proofs.Sortings.{IsBelow, filter_sorted, sorted_parts, sorted_agree}
+use Rattle.audit_columns.proofs.Sortings.{IsBelow, filter_sorted, sorted_parts, sorted_agree}
 use Rattle.audit_definitions.proofs.Walks.{filter_parts}
 
 equal_to_itself : (m : ℕ) → nat_cmp m m ≡ Equal

@@ -45,7 +45,7 @@ named None = refl
 named (Some e) = refl
 
 module _ (from a b : ℕ) where
-  side_by_side : {A : Type 0} (xs : List A) → take (a + b) (drop from xs) ≡ take a (drop from xs) ++ take b (drop (from + a) xs)
+  pub side_by_side : {A : Type 0} (xs : List A) → take (a + b) (drop from xs) ≡ take a (drop from xs) ++ take b (drop (from + a) xs)
   side_by_side xs = taken a b (drop from xs) ∙ ap (λ l. take a (drop from xs) ++ take b l) (drop-drop a from xs)
 
   module _ (i : Image) where
@@ -63,13 +63,13 @@ module _ (from a b : ℕ) where
         ∙ ap event_place (least_split table_event_cmp table_event_total (bad (group_of from a i)) (bad (group_of (from + a) b i)))
         ∙ ap₂ (λ (x y : Option TableEvent). event_place (lesser_of table_event_cmp x y)) (sym (named (least table_event_cmp (bad (group_of from a i))))) (sym (named (least table_event_cmp (bad (group_of (from + a) b i)))))
 
-take_whole : {A : Type 0} (xs : List A) → take (length xs) xs ≡ xs
+pub take_whole : {A : Type 0} (xs : List A) → take (length xs) xs ≡ xs
 take_whole [] = refl
 take_whole (x ∷ xs) = ap (λ l. x ∷ l) (take_whole xs)
 
 -- ---- indexes
 
-or_else_assoc : (o p q : Option Place) → or_else o (or_else p q) ≡ or_else (or_else o p) q
+pub or_else_assoc : {B : Type 0} (o p q : Option B) → or_else o (or_else p q) ≡ or_else (or_else o p) q
 or_else_assoc None p q = refl
 or_else_assoc (Some x) p q = refl
 

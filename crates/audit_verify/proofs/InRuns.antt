@@ -22,12 +22,12 @@ use Rattle.spec_verify.specs.Order as spec
 use Rattle.audit_verify.specs.declared.order.EarlierVersions.{EarlierVersions}
 use Rattle.audit_verify.specs.declared.order.VersionWithRanks.{VersionWithRanks}
 use Rattle.audit_verify.specs.Order.{IsRanked, InRuns, KnowsEarlier, KnowsBefore, version_of, start_cmp, key_order, ranked_cmp, openness, rank_before, is_open, earlier_of, any_open, ends_well, follows, is_ordered_after, is_ordered_among}
-use Rattle.audit_verify.specs.Positions.{Rank, rank_of}
-use Rattle.audit_verify.specs.Runs as runs
-use Rattle.audit_verify.specs.Runs.{Neighbours}
+use Rattle.audit_columns.specs.Positions.{Rank, rank_of}
+use Rattle.audit_columns.specs.Runs as runs
+use Rattle.audit_columns.specs.Runs.{Neighbours}
 use Rattle.audit_verify.proofs.Neighbours.{neighbours, first_is, behind_first}
-use Rattle.audit_verify.proofs.Runs as law
-use Rattle.audit_verify.proofs.Sortings.{all_sorted}
+use Rattle.audit_columns.proofs.Runs as law
+use Rattle.audit_columns.proofs.Sortings.{all_sorted}
 
 -- ---- orders
 

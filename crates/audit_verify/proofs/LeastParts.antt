@@ -8,7 +8,7 @@ use Rattle.std.specs.declared.cmp.Ordering.TheVariants.{Less, Equal, Greater}
 use Rattle.std.specs.Ordering.{is_gt, ordering_reverse}
 use Rattle.law_catalog_rows.specs.Least.{lesser, least_from}
 use Rattle.spec_model.specs.Lists.{sorted}
-use Rattle.audit_verify.proofs.Folds.{sorted_is}
+use Rattle.audit_columns.proofs.Folds.{sorted_is}
 
 -- elements that the order can't tell apart are one
 module _ {E : Type 0} (cmp : E → E → Ordering) (total : IsTotalOrder cmp) (same : (x y : E) → cmp x y ≡ Equal → x ≡ y) where

@@ -1,5 +1,5 @@
 pub mod Bad
-pub mod ColumnRows
+pub mod BlockParts
 pub mod EntryPlaces
 pub mod EventIds
 pub mod Fitting
@@ -10,9 +10,7 @@ pub mod Hashed
 pub mod IdsAt
 pub mod InRows
 pub mod LeafOrder
-pub mod EntryPositions
 pub mod EntryRoots
-pub mod Folds
 pub mod InRuns
 pub mod LeastParts
 pub mod LeftParts
@@ -20,10 +18,7 @@ pub mod MergedFaults
 pub mod Neighbours
 pub mod Owned
 pub mod Places
-pub mod Searches
-pub mod Runs
 pub mod Small
-pub mod Sortings
 pub mod Started
 pub mod StoredRows
 pub mod Strangers

@@ -6,7 +6,7 @@ use Rattle.std.proofs.lemmas.List.Sorted.{ranks_by, sorted_far}
 use Rattle.std.specs.Cmp.{IsTotalOrder}
 use Rattle.std.specs.List.{AllByRecursion}
 use Rattle.std.specs.declared.cmp.Ordering.{Ordering}
-use Rattle.audit_verify.specs.Runs.{Neighbours}
+use Rattle.audit_columns.specs.Runs.{Neighbours}
 
 module _ {A : Type 0} (P : A → Type 0) where
   of_front : (xs : List A) (k : ℕ) (d : A) → ((i : ℕ) → i < k → i < length xs → P (get_or xs i d)) → AllByRecursion P (take k xs)

@@ -18,7 +18,7 @@ use Rattle.audit_verify.specs.Marks.{event_of, StartsOther}
 use Rattle.audit_verify.specs.Roots.{same_first, joined, grouped, group_root, roots_in}
 use Rattle.audit_verify.specs.ImageTable.{IdsRise}
 use Rattle.audit_verify.proofs.Grouped.{append_all, map_all, all_in}
-use Rattle.audit_verify.proofs.Sortings.{all_sorted}
+use Rattle.audit_columns.proofs.Sortings.{all_sorted}
 
 -- the first of these, if there is one, is of another table
 abbrev pub StartsWithOther : ℕ → List Event → Type 0

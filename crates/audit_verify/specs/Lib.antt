@@ -1,4 +1,4 @@
-pub mod ColumnRows
+pub mod BlockParts
 pub mod Entries
 pub mod EventIds
 pub mod Groups
@@ -7,9 +7,7 @@ pub mod Indexes
 pub mod Marks
 pub mod Numbered
 pub mod Order
-pub mod Positions
 pub mod Roots
-pub mod Runs
 pub mod ImageTable
 pub mod Versions
 pub mod WrongRoots

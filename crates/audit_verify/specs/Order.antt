@@ -12,8 +12,8 @@ use Rattle.sql_parts.specs.Places.{by_key}
 use Rattle.spec_verify.specs.Entries.{TableEvent, has_id}
 use Rattle.audit_verify.specs.declared.order.EarlierVersions.{EarlierVersions}
 use Rattle.audit_verify.specs.declared.order.VersionWithRanks.{VersionWithRanks}
-use Rattle.audit_verify.specs.Positions.{Rank, rank_of}
-use Rattle.audit_verify.specs.Runs as runs
+use Rattle.audit_columns.specs.Positions.{Rank, rank_of}
+use Rattle.audit_columns.specs.Runs as runs
 use Rattle.audit_verify.specs.declared.shown.ImageTable.{ImageTable}
 
 -- some entry is of the transaction that started the version

@@ -1,10 +1,13 @@
 //! The digests, the chain of the blocks, and the roots of their entries.
 
-ghost use Rattle.std.specs.Prelude.{◌≡◌, ◌<◌, ◌≤◌, ◌+◌, ◌∷◌, true, length, drop, IfOk};
+ghost use Rattle.std.specs.Prelude.{◌≡◌, ◌<◌, ◌≤◌, ◌+◌, ◌∷◌, ℕ, List, true, length, drop, IfOk, IfSome, None};
+ghost use Rattle.std.specs.Thread.{IsSend, IsSync};
 ghost use Rattle.format_image.specs.ImageBytes.{IsImage};
 ghost use Rattle.spec_ledger.specs.Blocks.{no_hash};
 ghost use Rattle.spec_verify.specs.Blocks as spec;
+ghost use Rattle.audit_verify.specs.BlockParts.{faulty_block};
 
+use crate::merged::first_of_two;
 use base_merkle::Hash32;
 use base_types::Memory;
 use format_entry::block_hash;
@@ -13,6 +16,7 @@ use format_roots::entries_root;
 use spec_verify::Place;
 use sql_types::{BlockRecord, HeldDigest, MAX_BLOCK};
 use std::alloc::Global;
+use std::thread::{Threads, join};
 
 /// The first digest that isn't of a block of the image.
 #[tactic(auto, unfolding(spec_verify::specs::Blocks::digest_fault))]
@@ -67,7 +71,6 @@ fn no_hash() -> [u8; 32]
 
 /// The first block that hasn't the size or the root of its entries.
 /// The entries are hashed in order, each once; those of one block, and its nodes of one level, four at a time.
-#[tactic(auto, unfolding(spec_verify::specs::Blocks::block_fault))]
 pub fn block_fault<H: Hash32>(
     alloc: Global,
     hasher: H,
@@ -76,9 +79,84 @@ pub fn block_fault<H: Hash32>(
     requires { IsImage image.now }
     ensures { IfOk result (λ place. place ≡ spec.block_fault (H.digest hasher) image.now) }
 {
+    block_fault_in(alloc, hasher, image, 0, image.blocks.len())
+}
+
+/// The same by so many threads.
+pub fn block_fault_by<H: Hash32, R: Threads + Sync>(
+    rt: &R,
+    alloc: Global,
+    hasher: H,
+    image: &Image,
+    workers: u32,
+) -> Result<Option<Place>, Memory>
+    requires { IsImage image.now }
+    ensures { IfOk result (λ place. place ≡ spec.block_fault (H.digest hasher) image.now) }
+{
+    fault_by(rt, alloc, hasher, image, 0, image.blocks.len(), workers)
+}
+
+/// The first of so many blocks, from the one at place `from` on, that is at fault, by so many threads.
+fn fault_by<H: Hash32, R: Threads + Sync>(
+    rt: &R,
+    alloc: Global,
+    hasher: H,
+    image: &Image,
+    from: usize,
+    count: usize,
+    workers: u32,
+) -> Result<Option<Place>, Memory>
+    requires image { IsImage image.now }
+    requires within { from + count ≤ length image.now.blocks }
+    ensures { IfOk result (λ place. place ≡ faulty_block (H.digest hasher) image.now from count) }
+{
+    if workers <= 1 || count <= 1 {
+        return block_fault_in(alloc, hasher, image, from, count);
+    }
+    let fewer = workers / 2;
+    let others = workers - fewer;
+    let front = (count / workers as usize)
+        .saturating_mul(fewer as usize)
+        .clamp(1, count - 1);
+    let middle = from + front;
+    let rest = count - front;
+    let (first, second) = join(
+        rt,
+        || -> Result<Option<Place>, Memory>
+            requires sync { IsSync R.row × IsSync H.row × IsSend H.row }
+            requires image { IsImage image.now }
+            requires within { from + front ≤ length image.now.blocks }
+            ensures { IfOk result (λ place. place
+                ≡ faulty_block (H.digest hasher) image.entry.now from front) }
+        { fault_by(rt, alloc, hasher, image, from, front, fewer) },
+        || -> Result<Option<Place>, Memory>
+            requires sync { IsSync R.row × IsSync H.row × IsSend H.row }
+            requires image { IsImage image.now }
+            requires within { middle + rest ≤ length image.now.blocks }
+            ensures { IfOk result (λ place. place
+                ≡ faulty_block (H.digest hasher) image.entry.now middle rest) }
+        { fault_by(rt, alloc, hasher, image, middle, rest, others) },
+    );
+    Ok(first_of_two(first?, second?))
+}
+
+fn block_fault_in<H: Hash32>(
+    alloc: Global,
+    hasher: H,
+    image: &Image,
+    from: usize,
+    count: usize,
+) -> Result<Option<Place>, Memory>
+    requires image { IsImage image.now }
+    requires within { from + count ≤ length image.now.blocks }
+    ensures { IfOk result (λ place. place ≡ faulty_block (H.digest hasher) image.now from count) }
+{
     let blocks = image.blocks.as_slice();
-    let mut before = 0;
-    for b in 0..blocks.len() {
+    let Some(counted) = entries_before(image, from) else {
+        return Ok(first_outgrown(image, from, count));
+    };
+    let mut before = counted;
+    for b in from..from + count {
         let block = block_at(blocks, b);
         if !block_holds(alloc, hasher, image, b, before, block)? {
             return Ok(Some(Place::Block(b as u64)));
@@ -86,6 +164,37 @@ pub fn block_fault<H: Hash32>(
         before += block.size as usize;
     }
     Ok(None)
+}
+
+/// The first of so many blocks, before which more entries are counted than there are.
+fn first_outgrown(image: &Image, from: usize, count: usize) -> Option<Place>
+    requires within { from + count ≤ length image.now.blocks }
+    requires many { length image.now.entries < spec.entries_before image.now from }
+    ensures { (h : List ℕ → List ℕ) → result ≡ faulty_block h image.now from count }
+{
+    if count == 0 {
+        return None;
+    }
+    Some(Place::Block(from as u64))
+}
+
+/// How many entries the blocks before this one count, unless these are more than there are.
+fn entries_before(image: &Image, b: usize) -> Option<usize>
+    requires { b ≤ length image.now.blocks }
+    ensures some { IfSome result (λ n. n ≡ spec.entries_before image.now b) }
+    ensures within { IfSome result (λ n. n ≤ length image.now.entries) }
+    ensures none { result ≡ None → length image.now.entries < spec.entries_before image.now b }
+{
+    let most = image.entries.len();
+    let blocks = &image.blocks.as_slice()[..b];
+    let mut count = 0;
+    for block in blocks {
+        if block.size > (most - count) as u64 {
+            return None;
+        }
+        count += block.size as usize;
+    }
+    Some(count)
 }
 
 // The entries before the block are so many.

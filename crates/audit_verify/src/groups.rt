@@ -20,7 +20,6 @@ ghost use Rattle.audit_verify.specs.Marks.{HaveEncodableValues, leaf_hash, tx_of
 ghost use Rattle.audit_verify.specs.Order.{AreStarted};
 ghost use Rattle.audit_verify.specs.ImageTable.{IdsRise, table_of};
 
-use crate::column_rows::ColumnRows;
 use crate::hashes::leaf_hashes;
 use crate::indexes::fault_among;
 use crate::least::event_place;
@@ -28,6 +27,7 @@ use crate::marks::{Mark, run_of, sorted_marks};
 use crate::roots::{ScratchSpace, TableRoot, least_among, lesser, put_roots, root_at, same_root};
 use crate::shown::{ImageTable, shown_tables};
 use crate::versions::least_invalid_version;
+use audit_columns::ColumnRows;
 use base_merkle::Hash32;
 use base_types::{Memory, TableId};
 use format_image::Image;

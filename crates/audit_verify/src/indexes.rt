@@ -14,8 +14,8 @@ ghost use Rattle.spec_verify.specs.Indexes as spec;
 ghost use Rattle.audit_verify.specs.Indexes.{first_among, HasFewIndexes, row_at};
 ghost use Rattle.audit_verify.specs.ImageTable.{AreImageTables};
 
-use crate::columns::same_type;
 use crate::shown::ImageTable;
+use audit_columns::same_type;
 use base_types::{Memory, first_of};
 use format_image::{Image, IndexRow};
 use spec_verify::Place;

@@ -2,8 +2,6 @@
 #![tactic(auto)]
 
 mod blocks;
-mod column_rows;
-mod columns;
 mod entries;
 mod event_ids;
 mod groups;
@@ -16,7 +14,6 @@ mod marks;
 mod merged;
 mod numbers;
 mod order;
-mod positions;
 mod roots;
 mod shown;
 mod verdict;

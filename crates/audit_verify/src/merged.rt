@@ -33,7 +33,8 @@ pub fn both(first: GroupFaults, second: GroupFaults) -> GroupFaults
     }
 }
 
-fn first_of_two(first: Option<Place>, second: Option<Place>) -> Option<Place>
+/// The first of two places, where there is one.
+pub fn first_of_two(first: Option<Place>, second: Option<Place>) -> Option<Place>
     ensures { result ≡ or_else first second }
 {
     match first {

@@ -13,13 +13,12 @@ ghost use Rattle.law_catalog_rows.specs.Least.{least_from, lesser};
 ghost use Rattle.spec_verify.specs.Entries.{table_event_cmp};
 ghost use Rattle.spec_verify.specs.Versions.{with_columns};
 ghost use Rattle.audit_verify.specs.Order as spec;
-ghost use Rattle.audit_verify.specs.Positions.{rank_of};
-ghost use Rattle.audit_verify.specs.Runs.{Neighbours};
+ghost use Rattle.audit_columns.specs.Positions.{rank_of};
+ghost use Rattle.audit_columns.specs.Runs.{Neighbours};
 ghost use Rattle.audit_verify.specs.declared.order.VersionWithRanks.{VersionWithRanks as RankedVersion};
 
-use crate::columns::has_columns;
 use crate::least::{TableEvent, lesser};
-use crate::positions::{Positions, Rank};
+use audit_columns::{Positions, Rank, has_columns};
 use base_types::Memory;
 use sql_parts::{KeyedTable, compare_by_key, same_key};
 use sql_types::{EventId, TableRows, Version};

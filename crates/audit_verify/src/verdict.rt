@@ -38,7 +38,7 @@ pub fn verify_image<H: Hash32>(
 }
 
 /// The invariants that speak of digests and blocks: Yes where none of them fails.
-pub fn verify_blocks<H: Hash32>(
+fn verify_blocks<H: Hash32>(
     alloc: Global,
     hasher: H,
     image: &Image,

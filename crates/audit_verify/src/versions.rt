@@ -10,11 +10,10 @@ ghost use Rattle.audit_verify.specs.Order.{AreStarted, IsRanked};
 ghost use Rattle.audit_verify.specs.ImageTable.{AreImageTables, table_of};
 ghost use Rattle.audit_verify.specs.Versions.{fits_alone, null_among, unfit_among};
 
-use crate::column_rows::ColumnRows;
-use crate::columns::has_columns;
 use crate::least::{TableEvent, event_place, lesser};
 use crate::order::{VersionWithRanks, least_out_of_order, ranked_versions};
 use crate::shown::ImageTable;
+use audit_columns::{ColumnRows, has_columns};
 use base_types::Memory;
 use format_image::Image;
 use spec_verify::Place;

@@ -10,15 +10,16 @@ ghost use Rattle.spec_verify.specs.Indexes.{index_fault};
 ghost use Rattle.spec_verify.specs.Verdict.{image_verdict};
 ghost use Rattle.spec_verify.specs.Versions.{version_fault};
 ghost use Rattle.audit_verify.specs.Groups as spec;
-ghost use Rattle.audit_verify.specs.Verdict.{rows_tried, tables_tried};
+ghost use Rattle.audit_verify.specs.Verdict.{blocks_tried, rows_tried, tables_tried};
 
+use crate::blocks::{block_fault_by, chain_fault, digest_fault};
 use crate::entries::Entries;
 use crate::groups::{GroupFaults, group_faults};
 use crate::ids::id_fault;
 use crate::leftover::left_over;
 use crate::merged::{both, root_place};
 use crate::shown::shown_tables;
-use crate::verdict::{verify_blocks, verify_image};
+use crate::verdict::verify_image;
 use audit_definitions::definition_fault;
 use base_merkle::Hash32;
 use base_types::Memory;
@@ -33,9 +34,10 @@ use std::thread::{Threads, join};
 /// with its least place. The only error is want of memory; where no thread can be started the caller's does
 /// its work.
 ///
-/// The caller's thread reads the image and goes through blocks, entries, ids and the numbers of events. Then
-/// each worker hashes the leaves and tests the versions and indexes of a group of tables. The groups have
-/// about as many versions, but a table isn't cut: no number of workers is faster than the largest table.
+/// The caller's thread reads the image and goes through the chain of the blocks, ids and the numbers of events.
+/// The workers hash the entries of parts of the blocks. Then each worker hashes the leaves and tests the
+/// versions and indexes of a group of tables. The groups have about as many versions, but a table isn't cut: no
+/// number of workers is faster than the largest table.
 pub fn verify<H: Hash32, R: Threads + Sync>(
     rt: &R,
     alloc: Global,
@@ -67,9 +69,33 @@ pub fn verify_image_with_workers<H: Hash32, R: Threads + Sync>(
     if workers <= 1 {
         return verify_image(alloc, hasher, image, digests);
     }
-    match verify_blocks(alloc, hasher, image, digests)? {
+    match verify_blocks_by(rt, alloc, hasher, image, digests, workers)? {
         Verdict::Yes => verify_groups(rt, alloc, hasher, image, workers),
         no => Ok(no),
+    }
+}
+
+/// The invariants that speak of digests and blocks: Yes where none of them fails.
+fn verify_blocks_by<H: Hash32, R: Threads + Sync>(
+    rt: &R,
+    alloc: Global,
+    hasher: H,
+    image: &Image,
+    digests: &[HeldDigest],
+    workers: u32,
+) -> Result<Verdict, Memory>
+    requires { IsImage image.now }
+    ensures { IfOk result (λ v. v ≡ blocks_tried (H.digest hasher) image.now digests.now) }
+{
+    if let Some(place) = digest_fault(hasher, image, digests) {
+        return Ok(Verdict::No(Invariant::V1, place));
+    }
+    if let Some(place) = chain_fault(hasher, image) {
+        return Ok(Verdict::No(Invariant::V2, place));
+    }
+    match block_fault_by(rt, alloc, hasher, image, workers)? {
+        Some(place) => Ok(Verdict::No(Invariant::V3, place)),
+        None => Ok(Verdict::Yes),
     }
 }
 

@@ -1,8 +1,11 @@
 -- What the fakes tell.
-use Rattle.std.specs.Prelude.{ℕ, ◌-◌, List, Option, Some, drop, length, min}
+use Rattle.std.specs.Prelude.{ℕ, ◌-◌, List, Option, Some, Result, drop, length, min}
 use Rattle.base_io.specs.Store.{Names}
 use Rattle.base_io.specs.FaultSchedule.{FaultSchedule}
 use Rattle.base_io.specs.Entries.{held_in}
+use Rattle.base_io.specs.declared.answer_log.AnswerLog.{AnswerLog}
+use Rattle.base_io.specs.declared.failed.Failed.{Failed}
+use Rattle.base_io.specs.declared.vault.VaultErr.{VaultErr}
 use Rattle.base_io.specs.declared.mem_source.MemSource.{MemSource}
 use Rattle.base_io.specs.declared.mem_sink.MemSink.{MemSink}
 use Rattle.base_io.specs.declared.mem_vault.MemVault.{MemVault}
@@ -14,6 +17,10 @@ left_of m = Some (drop m.at m.bytes.items)
 -- the calls of a source in memory
 abbrev pub source_fault_schedule : MemSource → FaultSchedule
 source_fault_schedule m = m.fault_schedule
+
+-- and what they have answered
+abbrev pub source_answers : MemSource → AnswerLog (Result ℕ Failed)
+source_answers m = m.answered
 
 abbrev pub source_faults : MemSource → ℕ
 source_faults m = m.fault_schedule.failed
@@ -29,6 +36,10 @@ taken_of m = Some m.bytes.items
 -- the calls of a sink in memory
 abbrev pub sink_fault_schedule : MemSink → FaultSchedule
 sink_fault_schedule m = m.fault_schedule
+
+-- and what they have answered
+abbrev pub sink_answers : MemSink → AnswerLog (Result ℕ Failed)
+sink_answers m = m.answered
 
 abbrev pub sink_faults : MemSink → ℕ
 sink_faults m = m.fault_schedule.failed
@@ -47,6 +58,10 @@ names_of m = Some (held_in m.entries.items)
 -- the calls of a vault in memory
 abbrev pub vault_fault_schedule : MemVault → FaultSchedule
 vault_fault_schedule m = m.fault_schedule
+
+-- and what they have answered
+abbrev pub vault_answers : MemVault → AnswerLog (Result (Unit {0}) VaultErr)
+vault_answers m = m.answered
 
 abbrev pub vault_faults : MemVault → ℕ
 vault_faults m = m.fault_schedule.failed

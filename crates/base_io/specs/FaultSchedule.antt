@@ -1,5 +1,5 @@
 -- The calls of a fake: which are to fail, how many were made, how many have failed.
-use Rattle.std.specs.Prelude.{ℕ, List, length, ◌≡◌, ◌-◌, ◌^◌, min}
+use Rattle.std.specs.Prelude.{ℕ, List}
 use Rattle.base_io.specs.Count.{counted}
 
 -- the numbers of the calls that are to fail, counted from 1, and how many were made and have failed
@@ -19,7 +19,3 @@ failed_once p = record { fails = p.fails; calls = p.calls; failed = counted p.fa
 -- the same after a call more
 abbrev pub called : FaultSchedule → FaultSchedule
 called p = record { fails = p.fails; calls = counted p.calls; failed = p.failed }
-
--- as many calls were made as have answered, or as a count of 64 bits can tell
-abbrev pub HasAnswered : {A : Type 0} → FaultSchedule → List A → Type 0
-HasAnswered p answers = p.calls ≡ min (length answers) (2 ^ 64 - 1)

@@ -1,4 +1,5 @@
 pub mod Adapters
+pub mod Answered
 pub mod Count
 pub mod Entries
 pub mod Fakes

@@ -2,6 +2,7 @@
 //! memory and one over the machine for each.
 #![tactic(auto)]
 
+mod answer_log;
 mod clock;
 mod failed;
 mod fault_schedule;

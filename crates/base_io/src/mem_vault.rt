@@ -3,10 +3,12 @@
 ghost use Rattle.std.specs.Prelude.{◌≡◌, ◌≢◌, ◌<◌, ◌≤◌, length, vec_len, bytes_eq, Some, Err, OnOk, OnErr, IfOk, IfSome, IfNone, MatchOption};
 ghost use Rattle.std.specs.List.{position_from};
 ghost use Rattle.base_io.specs.Store.{Absent, Bytes};
-ghost use Rattle.base_io.specs.Outside.{Gets};
+ghost use Rattle.base_io.specs.Outside.{Gets, outcome};
+ghost use Rattle.base_io.specs.Answered.{no_answers};
 ghost use Rattle.base_io.specs.FaultSchedule.{no_calls_yet};
 ghost use Rattle.base_io.specs.Entries.{held_in, shown, HoldsNow, IsPlaceOf};
 
+use crate::answer_log::AnswerLog;
 use crate::fault_schedule::FaultInjector;
 use crate::{Vault, VaultErr};
 use base_types::{Blob, Memory};
@@ -25,36 +27,67 @@ pub struct MemVault {
     entries: Vec<Entry>,
     alloc: Global,
     fault_schedule: FaultInjector,
+    answered: AnswerLog<Result<(), VaultErr>>,
 }
 
 impl MemVault {
-    ghost use Rattle.base_io.specs.Fakes.{names_of, vault_fault_schedule};
+    ghost use Rattle.base_io.specs.Fakes.{names_of, vault_answers, vault_fault_schedule};
 
     /// A vault without names. `fails` has the numbers of the calls of `get` and `put` that are to fail,
     /// counted from 1 over both.
     pub fn new(alloc: Global, fails: Vec<u64>) -> MemVault
         ensures names { names_of result ≡ Some (λ name. Absent) }
         ensures fault_schedule { vault_fault_schedule result ≡ no_calls_yet fails.items }
+        ensures answers { vault_answers result ≡ no_answers }
     {
         MemVault {
             entries: Vec::new(alloc),
             alloc,
             fault_schedule: FaultInjector::new(fails),
+            answered: AnswerLog::new(),
         }
     }
 }
 
 impl Vault for MemVault {
-    ghost use Rattle.base_io.specs.Fakes.{names_of, vault_fault_schedule, vault_faults};
-    ghost use Rattle.base_io.specs.FaultSchedule.{HasAnswered};
+    ghost use Rattle.base_io.specs.Fakes.{names_of, vault_answers, vault_faults};
+    ghost use Rattle.base_io.specs.Answered.{HasAnswered, is_vault_stop};
 
     ghost names = { names_of };
 
-    ghost history = { λ v answers. HasAnswered (vault_fault_schedule v) answers };
+    ghost history = { λ v answers. HasAnswered is_vault_stop (vault_answers v) answers };
 
     ghost faults = { vault_faults };
 
+    #[tactic(auto, using(crate::proofs::Answering::adds))]
     fn get(&mut self, name: &str, limit: usize) -> Result<Vec<u8>, VaultErr> {
+        let answer = self.look(name, limit);
+        let came = outcome(&answer);
+        self.answered.note(came, came.is_err());
+        answer
+    }
+
+    #[tactic(auto, using(crate::proofs::Answering::adds))]
+    fn put(&mut self, name: &str, bytes: &[u8]) -> Result<(), VaultErr> {
+        let answer = self.take(name, bytes);
+        self.answered.note(answer, answer.is_err());
+        answer
+    }
+}
+
+impl MemVault {
+    ghost use Rattle.base_io.specs.Fakes.{names_of, vault_answers, vault_faults};
+    ghost use Rattle.base_io.specs.Outside.{CountsFault, TellsGet, TellsPut};
+
+    // What stands under a name.
+    fn look(&mut self, name: &str, limit: usize) -> Result<Vec<u8>, VaultErr>
+        ensures gives { TellsGet (names_of self.old) name.now limit result }
+        ensures within { IfOk result (λ bytes. vec_len bytes ≤ limit) }
+        ensures same { names_of self.new ≡ names_of self.old }
+        ensures later { vault_faults self.old ≤ vault_faults self.new }
+        ensures counts { CountsFault result (vault_faults self.old) (vault_faults self.new) }
+        ensures answers { vault_answers self.new ≡ vault_answers self.old }
+    {
         if self.fault_schedule.is_next_failing() {
             self.fault_schedule.note_failure();
             return Err(VaultErr::Failed);
@@ -71,7 +104,14 @@ impl Vault for MemVault {
         }
     }
 
-    fn put(&mut self, name: &str, bytes: &[u8]) -> Result<(), VaultErr> {
+    // Keeps bytes under a name.
+    fn take(&mut self, name: &str, bytes: &[u8]) -> Result<(), VaultErr>
+        ensures puts { TellsPut (names_of self.old) (names_of self.new) result name.now bytes.now }
+        ensures known { (result ≡ Err VaultErr.Missing → ⊥) × (result ≡ Err VaultErr.TooLong → ⊥) }
+        ensures later { vault_faults self.old ≤ vault_faults self.new }
+        ensures counts { CountsFault result (vault_faults self.old) (vault_faults self.new) }
+        ensures answers { vault_answers self.new ≡ vault_answers self.old }
+    {
         if self.fault_schedule.is_next_failing() {
             keep(&mut self.entries, self.alloc, name.as_bytes(), None)?;
             self.fault_schedule.note_failure();
@@ -80,6 +120,16 @@ impl Vault for MemVault {
         let copy = Blob::of(self.alloc, bytes)?;
         keep(&mut self.entries, self.alloc, name.as_bytes(), Some(copy))?;
         Ok(())
+    }
+}
+
+// Whether a call gave something, or the error that it answered.
+fn outcome<T>(answer: &Result<T, VaultErr>) -> Result<(), VaultErr>
+    ensures { result ≡ outcome answer.now }
+{
+    match answer {
+        Ok(_) => Ok(()),
+        Err(error) => Err(*error),
     }
 }
 

@@ -8,7 +8,7 @@ use Rattle.base_io.specs.declared.vault.VaultErr.{VaultErr}
 use Rattle.base_io.specs.declared.vault.VaultErr.TheVariants as refused
 use Rattle.cli_commands.specs.declared.files.File.{File}
 use Rattle.cli_commands.specs.declared.status.Status.{Status}
-use Rattle.cli_commands.specs.declared.status.Status.TheVariants.{Done, No, Words, Limit, SourceFault, SinkFault, VaultFault, Missing, Digests, Journal, Form, Memory, NoEntry, Receipt}
+use Rattle.cli_commands.specs.declared.status.Status.TheVariants.{Done, No, Words, Limit, SourceFault, SinkFault, VaultFault, Missing, Digests, Journal, Form, Memory, NotImage, NoEntry, Receipt, TooFar}
 use Rattle.cli_commands.specs.Files.{StopsBy}
 use Rattle.cli_commands.specs.Input.{InputForm}
 use Rattle.cli_commands.specs.Transfer.{input_limit, IsInputRead}
@@ -29,7 +29,9 @@ module _ {A : Type 0} (form : InputForm A) where
   cause_came (Missing which) source vault sink input rest v bytes came is cause = absurd cause
   cause_came (Digests index) source vault sink input rest v bytes came is cause = absurd cause
   cause_came NoEntry source vault sink input rest v bytes came is cause = absurd cause
+  cause_came NotImage source vault sink input rest v bytes came is cause = absurd cause
   cause_came Receipt source vault sink input rest v bytes came is cause = absurd cause
+  cause_came (TooFar entries) source vault sink input rest v bytes came is cause = absurd cause
   cause_came (Journal at) source vault sink input rest v bytes came is cause = absurd cause
   cause_came Limit source vault sink input rest v bytes came is cause = bytes_came input rest v bytes _ came is cause
   cause_came SourceFault source vault sink input rest v bytes came is cause = absurd cause
@@ -47,7 +49,9 @@ module _ {A : Type 0} (form : InputForm A) where
   read_whole (Missing which) bytes vault sink input rest v cause came = absurd cause
   read_whole (Digests index) bytes vault sink input rest v cause came = absurd cause
   read_whole NoEntry bytes vault sink input rest v cause came = absurd cause
+  read_whole NotImage bytes vault sink input rest v cause came = absurd cause
   read_whole Receipt bytes vault sink input rest v cause came = absurd cause
+  read_whole (TooFar entries) bytes vault sink input rest v cause came = absurd cause
   read_whole (Journal at) bytes vault sink input rest v cause came = absurd cause
   read_whole Limit bytes vault sink input rest v cause came = came.2 ∙ ap Some (sym (drop_all (input_limit + 1) input (omega (arith, came.1))))
   read_whole SourceFault bytes vault sink input rest v cause came = absurd cause
@@ -72,7 +76,9 @@ ran_by No vault sink ran idle ends r = absurd ends
 ran_by (Missing which) vault sink ran idle ends r = absurd ends
 ran_by (Digests index) vault sink ran idle ends r = absurd ends
 ran_by NoEntry vault sink ran idle ends r = absurd ends
+ran_by NotImage vault sink ran idle ends r = absurd ends
 ran_by Receipt vault sink ran idle ends r = absurd ends
+ran_by (TooFar entries) vault sink ran idle ends r = absurd ends
 ran_by (Journal at) vault sink ran idle ends r = absurd ends
 ran_by Limit vault sink ran idle ends r = absurd ends
 ran_by SourceFault vault sink ran idle ends r = absurd ends
@@ -90,7 +96,9 @@ ran_within No ran ran' idle f r = r
 ran_within (Missing which) ran ran' idle f r = r
 ran_within (Digests index) ran ran' idle f r = r
 ran_within NoEntry ran ran' idle f r = r
+ran_within NotImage ran ran' idle f r = r
 ran_within Receipt ran ran' idle f r = r
+ran_within (TooFar entries) ran ran' idle f r = r
 ran_within (Journal at) ran ran' idle f r = r
 ran_within Limit ran ran' idle f r = r
 ran_within SourceFault ran ran' idle f r = r

@@ -9,7 +9,7 @@ use Rattle.base_io.specs.declared.vault.VaultErr.{VaultErr}
 use Rattle.base_io.specs.declared.vault.VaultErr.TheVariants as refused
 use Rattle.base_io.specs.History.{Adds, Since, EndsAt}
 use Rattle.cli_commands.specs.declared.status.Status.{Status}
-use Rattle.cli_commands.specs.declared.status.Status.TheVariants.{Done, No, Words, Limit, SourceFault, SinkFault, VaultFault, Missing, Digests, Journal, Form, Memory, NoEntry, Receipt}
+use Rattle.cli_commands.specs.declared.status.Status.TheVariants.{Done, No, Words, Limit, SourceFault, SinkFault, VaultFault, Missing, Digests, Journal, Form, Memory, NotImage, NoEntry, Receipt, TooFar}
 use Rattle.cli_commands.specs.Answer.{InputCause, vault_status}
 use Rattle.cli_commands.specs.Calls.{Moved, KeptFile, ReadsOf, AreReads, ArePuts, AreWrites}
 use Rattle.cli_commands.specs.Input.{InputForm, IsRefused}
@@ -58,7 +58,9 @@ module _ {A : Type 0} (form : InputForm A) where
   read_to_end (Missing which) input vault sink cause answers end = absurd cause
   read_to_end (Digests index) input vault sink cause answers end = absurd cause
   read_to_end NoEntry input vault sink cause answers end = absurd cause
+  read_to_end NotImage input vault sink cause answers end = absurd cause
   read_to_end Receipt input vault sink cause answers end = absurd cause
+  read_to_end (TooFar entries) input vault sink cause answers end = absurd cause
   read_to_end (Journal at) input vault sink cause answers end = absurd cause
   read_to_end Limit input vault sink cause answers end = inr end
   read_to_end SourceFault input vault sink cause answers end = absurd cause
@@ -84,7 +86,9 @@ module _ {A : Type 0} (form : InputForm A) where
   unput (Missing which) bytes is = absurd is
   unput (Digests index) bytes is = absurd is
   unput NoEntry bytes is = absurd is
+  unput NotImage bytes is = absurd is
   unput Receipt bytes is = absurd is
+  unput (TooFar entries) bytes is = absurd is
   unput (Journal at) bytes is = absurd is
   unput SourceFault bytes is = absurd is
   unput SinkFault bytes is = absurd is
@@ -100,7 +104,9 @@ module _ {A : Type 0} (form : InputForm A) where
   unwritten (Missing which) bytes is = absurd is
   unwritten (Digests index) bytes is = absurd is
   unwritten NoEntry bytes is = absurd is
+  unwritten NotImage bytes is = absurd is
   unwritten Receipt bytes is = absurd is
+  unwritten (TooFar entries) bytes is = absurd is
   unwritten (Journal at) bytes is = absurd is
   unwritten SourceFault bytes is = absurd is
   unwritten SinkFault bytes is = absurd is

@@ -1,11 +1,11 @@
 -- What is read and judged for `extract`.
-use Rattle.std.proofs.Common.{◌≡◌, ◌∙◌, ℕ, List, ap, refl, subst, inr, Option, Some, None, IfSome, Ok}
+use Rattle.std.proofs.Common.{◌≡◌, ◌∙◌, ℕ, List, refl, subst, inr, Option, Some, None, IfSome, Ok}
 use Rattle.base_io.specs.Store.{Names}
 use Rattle.sql_types.specs.declared.digest.HeldDigest.{HeldDigest}
 use Rattle.sql_types.specs.declared.image.Image.{Image}
 use Rattle.spec_verify.specs.declared.place.Verdict.TheVariants.{Yes}
 use Rattle.spec_verify.specs.Bytes.{verdict_of}
-use Rattle.spec_verify.proofs.Judged.{of_image}
+use Rattle.spec_verify.proofs.Judged.{of_spelling}
 use Rattle.cli_commands.specs.declared.status.Status.{Status}
 use Rattle.audit_extract.specs.declared.found.ImageComparison.{ImageComparison}
 use Rattle.cli_commands.specs.declared.extract.Finding.{Finding}
@@ -15,7 +15,7 @@ use Rattle.cli_commands.specs.Names.{IsInVault, LacksName, image_limit, digests_
 
 -- the verdict on bytes whose image is accepted
 pub accepts : (h : List ℕ → List ℕ) (held : List HeldDigest) (bytes : List ℕ) (i : Image) → IsTried h held bytes (Ok i) → verdict_of h held bytes ≡ Yes
-accepts h held bytes i t = ap (verdict_of h held) t.1 ∙ of_image h held i t.0 ∙ t.2
+accepts h held bytes i t = of_spelling h held bytes i t.0 t.1 ∙ t.2
 
 both_are_present : (P Q : Names → Type 0) (names : Option Names) → IfSome names P → IfSome names Q → IfSome names (λ n. P n × Q n)
 both_are_present P Q None p q = tt

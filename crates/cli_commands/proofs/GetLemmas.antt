@@ -8,7 +8,7 @@ use Rattle.base_io.specs.declared.vault.VaultErr.TheVariants as refused
 use Rattle.base_io.specs.History.{Adds, Since, EndsAt}
 use Rattle.base_io.specs.Store.{Names}
 use Rattle.cli_commands.specs.declared.status.Status.{Status}
-use Rattle.cli_commands.specs.declared.status.Status.TheVariants.{Done, No, Words, Limit, SourceFault, SinkFault, VaultFault, Missing, Digests, Journal, Form, Memory, NoEntry, Receipt}
+use Rattle.cli_commands.specs.declared.status.Status.TheVariants.{Done, No, Words, Limit, SourceFault, SinkFault, VaultFault, Missing, Digests, Journal, Form, Memory, NotImage, NoEntry, Receipt, TooFar}
 use Rattle.cli_commands.specs.Calls.{GaveFile, Gave, AreGets}
 use Rattle.cli_commands.specs.Names.{LacksName, name_answer}
 use Rattle.cli_commands.proofs.CallLemmas.{adds_more, since_none, since_weaker}
@@ -57,6 +57,8 @@ lacks_next old mid new n k limit SourceFault names name few lacks so_far one = a
 lacks_next old mid new n k limit SinkFault names name few lacks so_far one = absurd lacks
 lacks_next old mid new n k limit (Digests index) names name few lacks so_far one = absurd lacks
 lacks_next old mid new n k limit NoEntry names name few lacks so_far one = absurd lacks
+lacks_next old mid new n k limit NotImage names name few lacks so_far one = absurd lacks
 lacks_next old mid new n k limit Receipt names name few lacks so_far one = absurd lacks
+lacks_next old mid new n k limit (TooFar entries) names name few lacks so_far one = absurd lacks
 lacks_next old mid new n k limit (Journal at) names name few lacks so_far one = absurd lacks
 lacks_next old mid new n k limit (Form line) names name few lacks so_far one = absurd lacks

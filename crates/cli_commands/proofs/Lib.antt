@@ -1,4 +1,5 @@
 pub mod AnswerLemmas
+mod AsOfLemmas
 pub mod CallLemmas
 pub mod CheckLemmas
 pub mod ExtractLemmas
@@ -8,4 +9,5 @@ pub mod ReceiptLemmas
 pub mod ReplayLemmas
 pub mod SavedLemmas
 pub mod TransferLemmas
+pub mod UpgradeLemmas
 mod ReportLemmas

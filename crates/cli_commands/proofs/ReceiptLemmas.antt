@@ -13,7 +13,7 @@ use Rattle.audit_any_receipt.specs.Kinds.{any_bytes}
 use Rattle.audit_any_receipt.specs.Wanted.{HasNoneUnder, IsReceiptUnder}
 use Rattle.cli_commands.specs.declared.files.File.{File}
 use Rattle.cli_commands.specs.declared.status.Status.{Status}
-use Rattle.cli_commands.specs.declared.status.Status.TheVariants.{Done, No, Words, Limit, SourceFault, SinkFault, VaultFault, Missing, Digests, Journal, Form, Memory, NoEntry, Receipt}
+use Rattle.cli_commands.specs.declared.status.Status.TheVariants.{Done, No, Words, Limit, SourceFault, SinkFault, VaultFault, Missing, Digests, Journal, Form, Memory, NotImage, NoEntry, Receipt, TooFar}
 use Rattle.cli_commands.specs.Answer.{HasPut, HasWritten, EndsBy}
 use Rattle.cli_commands.specs.Extract.{IsTried}
 use Rattle.cli_commands.specs.Files.{TellsLeft, TellsHeld, FirstArePut, put_held}
@@ -41,6 +41,7 @@ module _ (h : List ℕ → List ℕ) (w : Wanted) (bytes file : List ℕ) (held 
         none = subst (λ (l : List HeldDigest). HasNoneUnder i l w) also lacks;
       }
   lacks_on Memory lacks = tt
+  lacks_on NotImage lacks = absurd lacks
   lacks_on Done lacks = absurd lacks
   lacks_on No lacks = absurd lacks
   lacks_on Words lacks = absurd lacks
@@ -53,10 +54,11 @@ module _ (h : List ℕ → List ℕ) (w : Wanted) (bytes file : List ℕ) (held 
   lacks_on (Journal at) lacks = absurd lacks
   lacks_on (Form line) lacks = absurd lacks
   lacks_on Receipt lacks = absurd lacks
+  lacks_on (TooFar entries) lacks = absurd lacks
 
 -- ---- the receipt was put
 
-one_tells : (file : File) (old new : Option Names) → TellsLeft (put_held file ∷ []) old new → TellsHeld old new file.name file.bytes
+pub one_tells : (file : File) (old new : Option Names) → TellsLeft (put_held file ∷ []) old new → TellsHeld old new file.name file.bytes
 one_tells file None new told = tt
 one_tells file (Some old) None told = absurd told
 one_tells file (Some old) (Some new) told =
@@ -100,7 +102,9 @@ module _ (verdict : Verdict) (sink : Type 0) (taken now : Option (List ℕ)) (sa
   by_refusing P said faulty short (Journal at) ends = absurd ends
   by_refusing P said faulty short (Form line) ends = absurd ends
   by_refusing P said faulty short NoEntry ends = absurd ends
+  by_refusing P said faulty short NotImage ends = absurd ends
   by_refusing P said faulty short Receipt ends = absurd ends
+  by_refusing P said faulty short (TooFar entries) ends = absurd ends
 
   module _ (status : Status) (ends : EndsRefusing status verdict sink taken now same)
       (h : List ℕ → List ℕ) (image digests : List ℕ) (names : Option Names) (other : verdict ≡ Yes → ⊥) (judged : IsJudged h image digests names verdict) where

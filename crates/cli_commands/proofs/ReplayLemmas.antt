@@ -32,7 +32,7 @@ use Rattle.audit_replay.specs.declared.running.ReplayErr.{ReplayErr}
 use Rattle.audit_replay.specs.declared.running.ReplayErr.TheVariants as errors
 use Rattle.cli_commands.specs.declared.files.File.{File}
 use Rattle.cli_commands.specs.declared.status.Status.{Status}
-use Rattle.cli_commands.specs.declared.status.Status.TheVariants.{Done, No, Words, Limit, SourceFault, SinkFault, VaultFault, Missing, Digests, Journal, Form, Memory, NoEntry, Receipt}
+use Rattle.cli_commands.specs.declared.status.Status.TheVariants.{Done, No, Words, Limit, SourceFault, SinkFault, VaultFault, Missing, Digests, Journal, Form, Memory, NotImage, NoEntry, Receipt, TooFar}
 use Rattle.cli_commands.specs.Answer.{HasPut, HasWritten, EndsBy, Unfailed}
 use Rattle.cli_commands.specs.Calls.{Gave, AreGets, ArePuts, Behind, AreGetsAndPuts, AreWrites}
 use Rattle.cli_commands.specs.Files.{TellsLeft, TellsHeld, FirstArePut, put_held}
@@ -138,7 +138,9 @@ by_end P vault sink done faulty failed short SourceFault ends = absurd ends
 by_end P vault sink done faulty failed short (Missing which) ends = absurd ends
 by_end P vault sink done faulty failed short (Digests index) ends = absurd ends
 by_end P vault sink done faulty failed short NoEntry ends = absurd ends
+by_end P vault sink done faulty failed short NotImage ends = absurd ends
 by_end P vault sink done faulty failed short Receipt ends = absurd ends
+by_end P vault sink done faulty failed short (TooFar entries) ends = absurd ends
 by_end P vault sink done faulty failed short (Journal at) ends = absurd ends
 by_end P vault sink done faulty failed short (Form line) ends = absurd ends
 
@@ -157,7 +159,9 @@ by_image P bytes refused short VaultFault lacks = absurd lacks
 by_image P bytes refused short (Missing which) lacks = absurd lacks
 by_image P bytes refused short (Digests index) lacks = absurd lacks
 by_image P bytes refused short NoEntry lacks = absurd lacks
+by_image P bytes refused short NotImage lacks = absurd lacks
 by_image P bytes refused short Receipt lacks = absurd lacks
+by_image P bytes refused short (TooFar entries) lacks = absurd lacks
 by_image P bytes refused short (Form line) lacks = absurd lacks
 
 -- a name that leads to none
@@ -175,7 +179,9 @@ by_name P name names vault long missing refused failed short SourceFault lacks =
 by_name P name names vault long missing refused failed short SinkFault lacks = absurd lacks
 by_name P name names vault long missing refused failed short (Digests index) lacks = absurd lacks
 by_name P name names vault long missing refused failed short NoEntry lacks = absurd lacks
+by_name P name names vault long missing refused failed short NotImage lacks = absurd lacks
 by_name P name names vault long missing refused failed short Receipt lacks = absurd lacks
+by_name P name names vault long missing refused failed short (TooFar entries) lacks = absurd lacks
 by_name P name names vault long missing refused failed short (Form line) lacks = absurd lacks
 
 -- ---- why there is no image
@@ -194,7 +200,9 @@ lacks_legal VaultFault J bytes spelled illegal = absurd illegal
 lacks_legal (Missing which) J bytes spelled illegal = absurd illegal
 lacks_legal (Digests index) J bytes spelled illegal = absurd illegal
 lacks_legal NoEntry J bytes spelled illegal = absurd illegal
+lacks_legal NotImage J bytes spelled illegal = absurd illegal
 lacks_legal Receipt J bytes spelled illegal = absurd illegal
+lacks_legal (TooFar entries) J bytes spelled illegal = absurd illegal
 lacks_legal (Form line) J bytes spelled illegal = absurd illegal
 
 pub no_image : (result : Result Image Status) (J : JournalOf) (bytes : List ℕ) → IsSpelled J bytes → IfErr result (λ status. IsIllegal status J)
@@ -216,7 +224,9 @@ lacks_journal VaultFault bytes refused = absurd refused
 lacks_journal (Missing which) bytes refused = absurd refused
 lacks_journal (Digests index) bytes refused = absurd refused
 lacks_journal NoEntry bytes refused = absurd refused
+lacks_journal NotImage bytes refused = absurd refused
 lacks_journal Receipt bytes refused = absurd refused
+lacks_journal (TooFar entries) bytes refused = absurd refused
 lacks_journal (Form line) bytes refused = absurd refused
 
 -- ---- why a name leads to none
@@ -234,7 +244,9 @@ lacks_name SourceFault name names vault lacks fault = absurd lacks
 lacks_name SinkFault name names vault lacks fault = absurd lacks
 lacks_name (Digests index) name names vault lacks fault = absurd lacks
 lacks_name NoEntry name names vault lacks fault = absurd lacks
+lacks_name NotImage name names vault lacks fault = absurd lacks
 lacks_name Receipt name names vault lacks fault = absurd lacks
+lacks_name (TooFar entries) name names vault lacks fault = absurd lacks
 lacks_name (Journal at) name names vault lacks fault = absurd lacks
 lacks_name (Form line) name names vault lacks fault = absurd lacks
 

@@ -6,7 +6,7 @@ use Rattle.base_io.specs.declared.failed.Failed.{Failed}
 use Rattle.base_io.specs.declared.vault.VaultErr.{VaultErr}
 use Rattle.base_io.specs.declared.vault.VaultErr.TheVariants as refused
 use Rattle.base_io.specs.History.{EndsAt}
-use Rattle.cli_words.specs.Commands.{Command, Step, Run, Verify, Extract, Replay, Gen, Receipt, Join, Check, Help, Version}
+use Rattle.cli_words.specs.Commands.{Command, Step, Run, Verify, Extract, Replay, Upgrade, Gen, Receipt, Join, Check, AsOf, Help, Version}
 use Rattle.cli_commands.specs.declared.status.Status.{Status}
 use Rattle.cli_commands.specs.declared.status.Status.TheVariants.{Done, No, Words, Limit, SourceFault, SinkFault, VaultFault, Missing, Memory}
 use Rattle.cli_commands.specs.declared.transfer.ReadErr.{ReadErr}
@@ -78,6 +78,16 @@ AreGetsAndPuts k VaultFault answers = AreGets k VaultFault answers ⊎ Behind k 
 AreGetsAndPuts k Memory answers = AreGets k Memory answers ⊎ Behind k (ArePuts Memory) answers
 AreGetsAndPuts k status answers = AreGets k status answers
 
+-- what the vault answered where k names are read, and then the input
+abbrev pub AreGetsBefore : ℕ → Status → List (Result ⊤ VaultErr) → Type 0
+AreGetsBefore k Limit answers = AreGets k Limit answers ⊎ Gave k answers
+AreGetsBefore k status answers = AreGets k status answers
+
+-- how many names `asof` is given, of an image and perhaps of digests
+abbrev pub name_count : Option (List ℕ) → ℕ
+name_count None = 1
+name_count (Some digests) = 2
+
 -- what the vault answered, by the command
 abbrev pub AreCalls : Option Command → Status → List (Result ⊤ VaultErr) → Type 0
 AreCalls None status answers = answers ≡ []
@@ -85,11 +95,13 @@ AreCalls (Some (Step save how)) status answers = ArePuts status answers
 AreCalls (Some (Run save how)) status answers = ArePuts status answers
 AreCalls (Some (Verify image digests workers)) status answers = AreGets 2 status answers
 AreCalls (Some (Replay journal save)) status answers = AreGetsAndPuts 1 status answers
+AreCalls (Some (Upgrade image save)) status answers = AreGetsAndPuts 1 status answers
 AreCalls (Some (Extract honest suspect digests)) status answers = AreGets 3 status answers
 AreCalls (Some (Gen count)) status answers = answers ≡ []
 AreCalls (Some (Receipt image digests tx part save)) status answers = AreGetsAndPuts 2 status answers
 AreCalls (Some (Join image digests save)) status answers = AreGetsAndPuts 2 status answers
 AreCalls (Some (Check receipt digests)) status answers = AreGets 2 status answers
+AreCalls (Some (AsOf image n digests)) status answers = AreGetsBefore (name_count digests) status answers
 AreCalls (Some (Help which)) status answers = answers ≡ []
 AreCalls (Some Version) status answers = answers ≡ []
 

@@ -1,16 +1,18 @@
 -- Why the top call ends with a status, by the command that the words say.
 use Rattle.std.specs.Prelude.{◌≡◌, ◌⊎◌, ℕ, List, Option, Some, None}
 use Rattle.base_io.specs.Store.{Names}
-use Rattle.cli_words.specs.Commands.{Command, Step, Run, Verify, Extract, Replay, Gen, Receipt, Join, Check, Help, Version}
+use Rattle.cli_words.specs.Commands.{Command, Step, Run, Verify, Extract, Replay, Upgrade, Gen, Receipt, Join, Check, AsOf, Help, Version}
 use Rattle.cli_commands.specs.declared.status.Status.{Status}
 use Rattle.cli_commands.specs.declared.status.Status.TheVariants.{Words, Memory}
 use Rattle.cli_commands.specs.Answer.{InputCause}
+use Rattle.cli_commands.specs.AsOf.{AsOfCause}
 use Rattle.cli_commands.specs.Check.{CheckCause}
 use Rattle.cli_commands.specs.Extract.{ExtractCause}
 use Rattle.cli_commands.specs.Input.{line_form, section_form}
 use Rattle.cli_commands.specs.Receipt.{ReceiptCause}
 use Rattle.cli_commands.specs.Replay.{ReplayCause}
 use Rattle.cli_commands.specs.Tell.{TellCause}
+use Rattle.cli_commands.specs.Upgrade.{UpgradeCause}
 use Rattle.cli_commands.specs.Verify.{VerifyCause}
 use Rattle.cli_commands.specs.Words.{wanted_of}
 use Rattle.audit_any_receipt.specs.declared.make.Wanted.TheVariants as wanted
@@ -29,6 +31,8 @@ HasCause status h (Some (Verify image digests workers)) input names source vault
     VerifyCause status h image digests names vault sink
 HasCause status h (Some (Replay journal save)) input names source vault sink =
     ReplayCause status journal names vault sink
+HasCause status h (Some (Upgrade image save)) input names source vault sink =
+    UpgradeCause status image names vault sink
 HasCause status h (Some (Extract honest suspect digests)) input names source vault sink =
     ExtractCause status h honest suspect digests names vault sink
 HasCause status h (Some (Gen count)) input names source vault sink = TellCause status sink
@@ -38,5 +42,7 @@ HasCause status h (Some (Join image digests save)) input names source vault sink
     ReceiptCause status h image digests wanted.Chain names vault sink
 HasCause status h (Some (Check receipt digests)) input names source vault sink =
     CheckCause status h receipt digests names vault sink
+HasCause status h (Some (AsOf image n digests)) input names source vault sink =
+    AsOfCause status h image n digests input names source vault sink
 HasCause status h (Some (Help which)) input names source vault sink = TellCause status sink
 HasCause status h (Some Version) input names source vault sink = TellCause status sink

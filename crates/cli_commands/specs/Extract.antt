@@ -6,7 +6,7 @@ use Rattle.base_io.specs.Store.{Names}
 use Rattle.sql_types.specs.declared.digest.HeldDigest.{HeldDigest}
 use Rattle.sql_types.specs.declared.image.Image.{Image}
 use Rattle.format_digest.specs.Reading.{IsRead}
-use Rattle.format_image.specs.ImageBytes.{image_bytes, IsImage}
+use Rattle.format_image.specs.ImageBytes.{IsImage, IsSpellingOf}
 use Rattle.spec_verify.specs.declared.place.Verdict.{Verdict}
 use Rattle.spec_verify.specs.declared.place.Verdict.TheVariants.{Yes}
 use Rattle.spec_verify.specs.Bytes.{verdict_of}
@@ -47,7 +47,7 @@ LacksExhibits status honest suspect digests names =
 
 -- the image that some bytes are, which is accepted, or the verdict on them, which isn't Yes
 abbrev pub IsTried : (List ℕ → List ℕ) → List HeldDigest → List ℕ → Result Image Verdict → Type 0
-IsTried h held bytes (Ok i) = IsImage i × (bytes ≡ image_bytes i) × (image_verdict h i held ≡ Yes)
+IsTried h held bytes (Ok i) = IsImage i × IsSpellingOf bytes i × (image_verdict h i held ≡ Yes)
 IsTried h held bytes (Err verdict) = (verdict ≡ Yes → ⊥) × (verdict ≡ verdict_of h held bytes)
 
 -- both are accepted: of the images that they are, this is what the extractor answers with all the digests
@@ -55,8 +55,8 @@ pub record AreCompared (h : List ℕ → List ℕ) (held : List HeldDigest) (a b
     (outcome : ImageComparison) : Type 0 where
   pub honest : Image
   pub suspect : Image
-  pub is_honest : IsImage honest × (a ≡ image_bytes honest)
-  pub is_suspect : IsImage suspect × (b ≡ image_bytes suspect)
+  pub is_honest : IsImage honest × IsSpellingOf a honest
+  pub is_suspect : IsImage suspect × IsSpellingOf b suspect
   pub honest_accepted : verdict_of h held a ≡ Yes
   pub suspect_accepted : verdict_of h held b ≡ Yes
   pub found : Finds h (AgreeOnEach honest suspect held) outcome

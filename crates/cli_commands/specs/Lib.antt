@@ -1,4 +1,5 @@
 pub mod Answer
+pub mod AsOf
 pub mod Calls
 pub mod Cause
 pub mod Check
@@ -14,5 +15,6 @@ pub mod Run
 pub mod Status
 pub mod Tell
 pub mod Transfer
+pub mod Upgrade
 pub mod Verify
 pub mod Words

@@ -7,7 +7,7 @@ use Rattle.sql_types.specs.declared.entry.BlockRecord.{BlockRecord}
 use Rattle.sql_types.specs.declared.entry.TxEntry.{TxEntry}
 use Rattle.sql_types.specs.declared.image.Image.{Image}
 use Rattle.format_digest.specs.Reading.{IsRead}
-use Rattle.format_image.specs.ImageBytes.{image_bytes, IsImage}
+use Rattle.format_image.specs.ImageBytes.{IsImage, IsSpellingOf}
 use Rattle.spec_verify.specs.declared.place.Verdict.{Verdict}
 use Rattle.spec_verify.specs.declared.place.Verdict.TheVariants.{Yes}
 use Rattle.spec_verify.specs.Bytes.{verdict_of}
@@ -36,7 +36,7 @@ pub record IsAcceptedImage (h : List ℕ → List ℕ) (bytes file : List ℕ) :
   pub held : List HeldDigest
   pub read : IsRead file (Ok held)
   pub i : Image
-  pub is : IsImage i × (bytes ≡ image_bytes i)
+  pub is : IsImage i × IsSpellingOf bytes i
   pub accepted : verdict_of h held bytes ≡ Yes
 
 -- why the image gives none

@@ -1,6 +1,6 @@
 -- What is so of the command that words say.
 use Rattle.std.specs.Prelude.{ℕ, Bool, true, false, List, Option, Some}
-use Rattle.cli_words.specs.Commands.{Command, Settings, Step, Run, Verify, Extract, Replay, Gen, Receipt, Join, Check, Help, Version}
+use Rattle.cli_words.specs.Commands.{Command, Settings, Step, Run, Verify, Extract, Replay, Upgrade, Gen, Receipt, Join, Check, AsOf, Help, Version}
 use Rattle.cli_words.specs.Help.{help_of}
 use Rattle.cli_words.specs.declared.help.TheConstants.{VERSION}
 use Rattle.cli_words.specs.declared.part.Part.{Part}
@@ -27,6 +27,11 @@ OfVerify words P = Unit {0}
 abbrev pub OfReplay : Option Command → (List ℕ → List ℕ → Type 0) → Type 0
 OfReplay (Some (Replay journal save)) P = P journal save
 OfReplay words P = Unit {0}
+
+-- what is so of the names that `upgrade` is given
+abbrev pub OfUpgrade : Option Command → (List ℕ → List ℕ → Type 0) → Type 0
+OfUpgrade (Some (Upgrade image save)) P = P image save
+OfUpgrade words P = Unit {0}
 
 -- what is so of the names that `extract` is given
 abbrev pub OfExtract : Option Command → (List ℕ → List ℕ → List ℕ → Type 0) → Type 0
@@ -56,6 +61,11 @@ abbrev pub OfCheck : Option Command → (List ℕ → List ℕ → Type 0) → T
 OfCheck (Some (Check receipt digests)) P = P receipt digests
 OfCheck words P = Unit {0}
 
+-- what is so of what `asof` is given: the name of an image, how many of its transactions count, and the name of digests
+abbrev pub OfAsOf : Option Command → (List ℕ → ℕ → Option (List ℕ) → Type 0) → Type 0
+OfAsOf (Some (AsOf image n digests)) P = P image n digests
+OfAsOf words P = Unit {0}
+
 -- what is so of the text that is printed: help, or the version
 abbrev pub OfTell : Option Command → (List ℕ → Type 0) → Type 0
 OfTell (Some (Help which)) P = P (help_of which)
@@ -66,6 +76,7 @@ OfTell words P = Unit {0}
 abbrev pub reads_input : Option Command → Bool
 reads_input (Some (Step save how)) = true
 reads_input (Some (Run save how)) = true
+reads_input (Some (AsOf image n digests)) = true
 reads_input words = false
 
 -- the command puts files
@@ -73,6 +84,7 @@ abbrev pub puts_files : Option Command → Bool
 puts_files (Some (Step save how)) = true
 puts_files (Some (Run save how)) = true
 puts_files (Some (Replay journal save)) = true
+puts_files (Some (Upgrade image save)) = true
 puts_files (Some (Receipt image digests tx part save)) = true
 puts_files (Some (Join image digests save)) = true
 puts_files words = false

@@ -1,6 +1,7 @@
 //! The top call of the server: words and bytes that come in, files and texts that go out.
 #![tactic(auto)]
 
+mod asof;
 mod check;
 mod extract;
 mod files;
@@ -15,6 +16,7 @@ mod step;
 mod tell;
 mod top;
 mod transfer;
+mod upgrade;
 mod verify;
 
 pub use cli_words::USAGE;

@@ -204,7 +204,7 @@ fn save_receipt<K: Sink, V: Vault>(
 }
 
 /// Says a verdict that isn't Yes.
-fn refuse<K: Sink>(alloc: Global, verdict: &Verdict, sink: &mut K) -> Status
+pub(crate) fn refuse<K: Sink>(alloc: Global, verdict: &Verdict, sink: &mut K) -> Status
     requires { verdict.now ≡ Verdict.Yes → ⊥ }
     ensures ends { EndsRefusing result verdict.now
         (Rises (K.faults sink.old) (K.faults sink.new) ⊎ Rises (K.stalls sink.old) (K.stalls sink.new))

@@ -46,7 +46,7 @@ fn cut_file(alloc: Global, save: &str, image: (u64, Blob)) -> Result<File, Memor
     })
 }
 
-fn image_file(alloc: Global, save: &str, bytes: Blob) -> Result<File, Memory>
+pub(crate) fn image_file(alloc: Global, save: &str, bytes: Blob) -> Result<File, Memory>
     ensures { IfOk result (λ file. file ≡ image_file save.now bytes) }
 {
     file(alloc, save, ".img", bytes)

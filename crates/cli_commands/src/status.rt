@@ -35,6 +35,8 @@ pub enum Status {
     Journal { at: Option<(u64, u64)> },
     /// This line of the input has no session, or isn't UTF-8. It is the first such line, counted from 1.
     Form { line: u64 },
+    /// The bytes are no image's, neither in version 2 nor in version 1.
+    NotImage,
     /// There was no more memory.
     Memory,
     /// The digests are none, or no entry of the blocks up to their greatest is of the transaction, or it has no such
@@ -42,6 +44,8 @@ pub enum Status {
     NoEntry,
     /// The bytes are no receipt's, of whatever kind.
     Receipt,
+    /// The image has only so many transactions.
+    TooFar { entries: u64 },
 }
 
 impl Status {
@@ -61,9 +65,11 @@ impl Status {
             Status::Digests { .. } => 8,
             Status::Journal { .. } => 9,
             Status::Form { .. } => 10,
+            Status::NotImage => 11,
             Status::Memory => 12,
             Status::NoEntry => 14,
             Status::Receipt => 15,
+            Status::TooFar { .. } => 16,
         }
     }
 
@@ -83,9 +89,11 @@ impl Status {
             Status::Digests { .. } => "the digests were refused",
             Status::Journal { .. } => "the journal was refused",
             Status::Form { .. } => "a line has no session",
+            Status::NotImage => "not an image",
             Status::Memory => "out of memory",
             Status::NoEntry => "no such entry",
             Status::Receipt => "the receipt was refused",
+            Status::TooFar { .. } => "not so many transactions",
         }
     }
 }
@@ -106,6 +114,7 @@ impl fmt::Display for Status {
                 write!(f, "{text} (item {}, statement {})", at.0, at.1)
             }
             Status::Form { line } => write!(f, "{text} (line {line})"),
+            Status::TooFar { entries } => write!(f, "{text} (entries {entries})"),
             _ => f.write_str(text),
         }
     }

@@ -5,8 +5,9 @@ ghost use Rattle.sha2.specs.Sha256.{sha256};
 ghost use Rattle.base_io.specs.Count.{Rises};
 ghost use Rattle.base_io.specs.History.{Since};
 ghost use Rattle.cli_words.specs.Commands.{command_of};
-ghost use Rattle.cli_commands.specs.Words.{OfStep, OfRun, OfVerify, OfReplay, OfExtract, OfGen, OfTell};
-ghost use Rattle.cli_commands.specs.Words.{OfReceipt, OfCheck};
+ghost use Rattle.cli_commands.specs.Words.{OfStep, OfRun, OfVerify, OfReplay, OfUpgrade, OfExtract, OfGen, OfTell};
+ghost use Rattle.cli_commands.specs.Words.{OfReceipt, OfCheck, OfAsOf};
+ghost use Rattle.cli_commands.specs.AsOf.{AreReadsBehind, HasReadBehind, SaysAnswers};
 ghost use Rattle.cli_commands.specs.Words.{reads_input, puts_files};
 ghost use Rattle.cli_commands.specs.Answer.{HasRead, RanAndSaved, RunOutcomeOrIdle, Unfailed};
 ghost use Rattle.cli_commands.specs.Calls.{AreReads, AreCalls, AreWrites};
@@ -19,9 +20,11 @@ ghost use Rattle.cli_commands.specs.Receipt.{Receipted, SaysNo, ReceiptedOrIdle,
 ghost use Rattle.cli_commands.specs.Replay.{SavesReplay, ReplayedOrIdle, PutsAccepted};
 ghost use Rattle.cli_commands.specs.Run.{LinesComeTo, SectionsComeTo};
 ghost use Rattle.cli_commands.specs.Tell.{HasTold};
+ghost use Rattle.cli_commands.specs.Upgrade.{Upgraded, UpgradedOrIdle, PutsTheSame};
 ghost use Rattle.cli_commands.specs.Verify.{SaysVerdict, SaidOrIdle};
 
 use crate::Status;
+use crate::asof::answer_as_of;
 use crate::check::check;
 use crate::extract::extract;
 use crate::generate::generate;
@@ -30,6 +33,7 @@ use crate::replay::replay;
 use crate::run::run_side_by_side;
 use crate::step::step;
 use crate::tell::tell;
+use crate::upgrade::upgrade;
 use crate::verify::verify;
 use audit_any_receipt::Wanted;
 use base_io::{Clock, Gate, Sink, Source, Vault};
@@ -73,6 +77,10 @@ use std::thread::Threads;
 /// number of its transactions is written. Whoever has digests of blocks that the journal closed gets `Yes`
 /// for that image.
 ///
+/// `upgrade IMAGE --save NAME` reads what stands under the name of an image, in version 2 or in version 1, and puts
+/// the same image in version 2 under `NAME.img`, and writes `upgraded`. With every list of digests `verify` says the
+/// same of both. It verifies nothing: where the bytes are an image of neither version, the status is `NotImage`.
+///
 /// `extract HONEST SUSPECT DIGESTS` reads what stands under the three names and verifies both images with the
 /// digests. Where the honest one isn't accepted it writes `honest: ` and the line of the verdict, and else
 /// `suspect: ` where the suspect one isn't; the status is `No`. Where both are, all that any of the digests
@@ -98,6 +106,14 @@ use std::thread::Threads;
 /// the table that a receipt has all of, the event that one has, and the block of each digest that a chain joins; or
 /// SHA-256 has a collision. It puts nothing and reads no input.
 ///
+/// `asof IMAGE N` reads what stands under the name and verifies the image, with the digests under another name where
+/// `--digests DIGESTS` is given, and with none where it isn't. Where the verdict is No it writes the line of the verdict,
+/// and the status is `No`. Else it answers each text of the input, one for each line that isn't empty and doesn't begin
+/// with `--`, over the database behind the image's first N transactions in ledger order, whatever came later: a SELECT by
+/// the meaning of statements, E01 for a text outside the grammar, and E21 for any other statement. It writes each text,
+/// and behind it the lines of its answer, each behind two blanks. Where the image has fewer entries, the status is
+/// `TooFar`. It puts nothing.
+///
 /// `gen COUNT` runs a workload of four sessions side by side, each of which inserts so many rows into a table
 /// of its own and adds 1 to every tenth, and writes five lines: how many transactions there are, rows, versions
 /// that have ended, the sum of the rows' values, and the verdict on the image. However the turns of the threads
@@ -119,11 +135,14 @@ use std::thread::Threads;
 /// name is open, and nothing was written; after `Memory` the first of the files may stand. After `SinkFault`
 /// all files stand and a first part of the text was written. Of `verify` and `extract`, the names are looked
 /// at in the order of the words, each whether it is there and then how long, then the digests, and last the
-/// images: `Digests` comes before `No`. Of `replay`, the name is looked at so, then whether the bytes are
+/// images: `Digests` comes before `No`. Of `upgrade`, the name is looked at so, and then whether the bytes are those
+/// of an image, before anything is put. Of `replay`, the name is looked at so, then whether the bytes are
 /// those of a journal, and last whether that is legal; all this before anything is put. Of `receipt` and `join`, the
 /// names and the digests are looked at as of `verify`, then the image, and last whether there is such an entry: `No`
 /// comes before `NoEntry`, and all this before anything is put. Of `check`, the names, then whether the bytes are
-/// those of a receipt of any kind, and then the digests: `Receipt` comes before `Digests`.
+/// those of a receipt of any kind, and then the digests: `Receipt` comes before `Digests`. Of `asof`, the
+/// names are looked at as of `verify`, then the size of the input and whether its lines are UTF-8, then the digests, then
+/// the image, and last how many entries it has: `Form` comes before `Digests`, and `No` before `TooFar`.
 pub fn ledgerd<S: Source, K: Sink, V: Vault, C: Clock, G: Gate, R: Threads + Wait + Sync>(
     rt: &R,
     alloc: Global,
@@ -141,8 +160,8 @@ pub fn ledgerd<S: Source, K: Sink, V: Vault, C: Clock, G: Gate, R: Threads + Wai
         (Rises (V.faults vault.old) (V.faults vault.new))
         (Rises (K.faults sink.old) (K.faults sink.new) ⊎ Rises (K.stalls sink.old) (K.stalls sink.new)) }
 
-    // Where the words say no command, nothing is touched. Only `step` and `run` read the input; these two,
-    // `replay`, `receipt` and `join` put files.
+    // Where the words say no command, nothing is touched. Only `step`, `run` and `asof` read the input; the first two,
+    // `replay`, `upgrade`, `receipt` and `join` put files.
     ensures words { command_of (map string_bytes words.now) ≡ None
         → (source.new ≡ source.old) × (vault.new ≡ vault.old) × (sink.new ≡ sink.old) }
     ensures unread { reads_input (command_of (map string_bytes words.now)) ≡ false
@@ -200,6 +219,17 @@ pub fn ledgerd<S: Source, K: Sink, V: Vault, C: Clock, G: Gate, R: Threads + Wai
         (λ journal save. result ≡ Status.Done
         → PutsAccepted sha256 journal save (V.names vault.old) (V.names vault.new)) }
 
+    // `upgrade`: what is put and written of the image under the name, by the status; and what is put has the
+    // verdict of what was read, with every hash and every list of digests.
+    ensures upgraded { OfUpgrade (command_of (map string_bytes words.now))
+        (λ image save. UpgradedOrIdle result
+        (Upgraded result image save
+        (V.names vault.old) (V.names vault.new) (K.taken sink.old) (K.taken sink.new))
+        ((V.names vault.new ≡ V.names vault.old) × (sink.new ≡ sink.old))) }
+    ensures one_verdict { OfUpgrade (command_of (map string_bytes words.now))
+        (λ image save. result ≡ Status.Done
+        → PutsTheSame image save (V.names vault.old) (V.names vault.new)) }
+
     // `receipt` and `join`: what is put and written of the receipt, or the line of a verdict that isn't Yes, by the
     // status; and the receipt that is put is accepted with the digest of the greatest block, a chain with all.
     ensures receipted { OfReceipt (command_of (map string_bytes words.now))
@@ -222,11 +252,23 @@ pub fn ledgerd<S: Source, K: Sink, V: Vault, C: Clock, G: Gate, R: Threads + Wai
     ensures shows { OfCheck (command_of (map string_bytes words.now))
         (λ receipt digests. result ≡ Status.Done → ShowsClaim sha256 receipt digests (V.names vault.old)) }
 
+    // `asof`: what is read behind the names, by the status; and what is told of the image under the name, by the texts
+    // of the input.
+    ensures read_texts { OfAsOf (command_of (map string_bytes words.now))
+        (λ image n digests. IfSome (S.left source.old)
+        (λ input. HasReadBehind result input (S.left source.new))) }
+    ensures answered { OfAsOf (command_of (map string_bytes words.now))
+        (λ image n digests. SaidOrIdle result
+        (SaysAnswers result sha256 image n digests (S.left source.old)
+        (V.names vault.old) (K.taken sink.old) (K.taken sink.new)) (sink.new ≡ sink.old)) }
+
     // The first fault or stall is the last call: nothing is tried again, and nothing is read behind the end.
     ensures reads { OfStep (command_of (map string_bytes words.now))
         (λ save settings. Since (S.history source.old) (S.history source.new) (AreReads result)) }
     ensures reads_sections { OfRun (command_of (map string_bytes words.now))
         (λ save settings. Since (S.history source.old) (S.history source.new) (AreReads result)) }
+    ensures reads_texts { OfAsOf (command_of (map string_bytes words.now))
+        (λ image n digests. Since (S.history source.old) (S.history source.new) (AreReadsBehind result)) }
     ensures calls { Since (V.history vault.old) (V.history vault.new)
         (AreCalls (command_of (map string_bytes words.now)) result) }
     ensures writes { Since (K.history sink.old) (K.history sink.new) (AreWrites result) }
@@ -268,6 +310,7 @@ pub fn ledgerd<S: Source, K: Sink, V: Vault, C: Clock, G: Gate, R: Threads + Wai
         Command::Replay { journal, save } => {
             replay(alloc, Sha256Hash, journal, save, sink, vault)
         }
+        Command::Upgrade { image, save } => upgrade(alloc, image, save, sink, vault),
         Command::Receipt {
             image,
             digests,
@@ -297,6 +340,9 @@ pub fn ledgerd<S: Source, K: Sink, V: Vault, C: Clock, G: Gate, R: Threads + Wai
         }
         Command::Check { receipt, digests } => {
             check(alloc, Sha256Hash, receipt, digests, sink, vault)
+        }
+        Command::AsOf { image, n, digests } => {
+            answer_as_of(alloc, Sha256Hash, image, n, digests, source, sink, vault)
         }
         Command::Gen { count } => generate(rt, alloc, Sha256Hash, count, sink),
         Command::Help(which) => tell(help_text(which), sink),

@@ -10,7 +10,7 @@ use Rattle.cli_words.specs.Line.{Text, nothing, uses_of}
 use Rattle.cli_words.specs.Shapes.{line_rules, line_shape, operand_rules, full_option, app_for}
 use Rattle.cli_words.specs.Subcommands.{name_of, operands_of, options_of}
 use Rattle.cli_words.specs.declared.subcommand.Subcommand.{Subcommand}
-use Rattle.cli_words.specs.declared.subcommand.Subcommand.TheVariants.{Step, Run, Verify, Extract, Replay, Gen, Receipt, Join, Check}
+use Rattle.cli_words.specs.declared.subcommand.Subcommand.TheVariants.{Step, Run, Verify, Extract, Replay, Upgrade, Gen, Receipt, Join, Check, AsOf}
 use Rattle.cli_words.proofs.Run.{Tells, All_plain, run}
 
 and_false : (b : Bool) → (b && false) ≡ false
@@ -103,6 +103,10 @@ says Replay words no_dash =
     let stop = (walk (built (app_for Replay)).top.rules [] nothing_held (drop 1 words)).stopped in
     let no = no_entry (built (app_for Replay)) stop refl in
     rw (no.0, no.1) (line_says (name_of Replay) (options_of Replay) (operands_of Replay) (drop 1 words) false no_dash (omega arith))
+says Upgrade words no_dash =
+    let stop = (walk (built (app_for Upgrade)).top.rules [] nothing_held (drop 1 words)).stopped in
+    let no = no_entry (built (app_for Upgrade)) stop refl in
+    rw (no.0, no.1) (line_says (name_of Upgrade) (options_of Upgrade) (operands_of Upgrade) (drop 1 words) false no_dash (omega arith))
 says Gen words no_dash =
     let stop = (walk (built (app_for Gen)).top.rules [] nothing_held (drop 1 words)).stopped in
     let no = no_entry (built (app_for Gen)) stop refl in
@@ -119,6 +123,10 @@ says Check words no_dash =
     let stop = (walk (built (app_for Check)).top.rules [] nothing_held (drop 1 words)).stopped in
     let no = no_entry (built (app_for Check)) stop refl in
     rw (no.0, no.1) (line_says (name_of Check) (options_of Check) (operands_of Check) (drop 1 words) false no_dash (omega arith))
+says AsOf words no_dash =
+    let stop = (walk (built (app_for AsOf)).top.rules [] nothing_held (drop 1 words)).stopped in
+    let no = no_entry (built (app_for AsOf)) stop refl in
+    rw (no.0, no.1) (line_says (name_of AsOf) (options_of AsOf) (operands_of AsOf) (drop 1 words) false no_dash (omega arith))
 
 pub simple : (which : Subcommand) → is_simple_and_free (app_for which) ≡ true
 simple Step = refl
@@ -126,7 +134,9 @@ simple Run = refl
 simple Verify = refl
 simple Extract = refl
 simple Replay = refl
+simple Upgrade = refl
 simple Gen = refl
 simple Receipt = refl
 simple Join = refl
 simple Check = refl
+simple AsOf = refl

@@ -11,7 +11,7 @@ use Rattle.cli_words.specs.Commands.{given, has_dashes, settings, part, meaning_
 use Rattle.cli_words.specs.Shapes.{Matched, Finds, app_for}
 use Rattle.cli_words.specs.Subcommands.{operands_of, options_of}
 use Rattle.cli_words.specs.declared.subcommand.Subcommand.{Subcommand}
-use Rattle.cli_words.specs.declared.subcommand.Subcommand.TheVariants.{Step, Run, Verify, Extract, Replay, Gen, Receipt, Join, Check}
+use Rattle.cli_words.specs.declared.subcommand.Subcommand.TheVariants.{Step, Run, Verify, Extract, Replay, Upgrade, Gen, Receipt, Join, Check, AsOf}
 use Rattle.cli_words.proofs.Run.{Tells, All_plain, rows_of_uses, row_of_use}
 use Rattle.cli_words.proofs.End.{says}
 
@@ -63,10 +63,12 @@ same Run f g h = rw (h (codes "save"), settings_same f g h) refl
 same Verify f g h = rw (h (codes "IMAGE"), h (codes "DIGESTS"), h (codes "workers")) refl
 same Extract f g h = rw (h (codes "HONEST"), h (codes "SUSPECT"), h (codes "DIGESTS")) refl
 same Replay f g h = rw (h (codes "JOURNAL"), h (codes "save")) refl
+same Upgrade f g h = rw (h (codes "IMAGE"), h (codes "save")) refl
 same Gen f g h = rw (h (codes "COUNT")) refl
 same Receipt f g h = rw (h (codes "IMAGE"), h (codes "DIGESTS"), h (codes "TX"), part_same f g h, h (codes "save")) refl
 same Join f g h = rw (h (codes "IMAGE"), h (codes "DIGESTS"), h (codes "save")) refl
 same Check f g h = rw (h (codes "RECEIPT"), h (codes "DIGESTS")) refl
+same AsOf f g h = rw (h (codes "IMAGE"), h (codes "N"), h (codes "digests")) refl
 
 pub arguments_found : (which : Subcommand) (words : List Text) (m : ArgMatches) → has_dashes words ≡ false
     → Finds (uses_of (options_of which) (operands_of which) words) (Some m) → meaning_of which (first_value (found_of m)) ≡ arguments_of which words

@@ -5,7 +5,7 @@ use Rattle.std.specs.Str.{bytes_eq}
 use Rattle.std.proofs.lemmas.Bool.Decides.{nat_tests}
 use Rattle.base_types.specs.DatabaseName.{is_database_name}
 use Rattle.base_types.specs.declared.moment.TheConstants.{MAX_TICKS}
-use Rattle.cli_words.specs.Commands.{Settings, AreInRange, IsInRange, Command, Step, Run, Verify, Extract, Replay, Gen, Receipt, Join, Check, IsPartInRange, given, settings, part_from, part, meaning_of, has_dashes, arguments_of, asks_help, alone, help_on, others, behind, command_of}
+use Rattle.cli_words.specs.Commands.{Settings, AreInRange, IsInRange, Command, Step, Run, Verify, Extract, Replay, Upgrade, Gen, Receipt, Join, Check, AsOf, IsPartInRange, given, settings, part_from, part, meaning_of, has_dashes, arguments_of, asks_help, alone, help_on, others, behind, command_of}
 use Rattle.cli_words.specs.Commands as said
 use Rattle.cli_words.specs.Forms.{is_number, number_from, number_in, database_name, file_name, save_name, or_default, if_given}
 use Rattle.cli_words.specs.Line.{Text, uses_of, ◌>>=◌}
@@ -151,6 +151,10 @@ has_range which.Replay value =
     every (value (codes "JOURNAL") >>= file_name) (λ journal. value (codes "save") >>= save_name >>= λ save. Some (Replay journal save)) IsInRange
     (λ journal is. every (value (codes "save") >>= save_name) (λ save. Some (Replay journal save)) IsInRange
     (λ save also d. is_some (Replay journal save) d tt))
+has_range which.Upgrade value =
+    every (value (codes "IMAGE") >>= file_name) (λ image. value (codes "save") >>= save_name >>= λ save. Some (Upgrade image save)) IsInRange
+    (λ image is. every (value (codes "save") >>= save_name) (λ save. Some (Upgrade image save)) IsInRange
+    (λ save also d. is_some (Upgrade image save) d tt))
 has_range which.Gen value =
     every (value (codes "COUNT") >>= number_in 1 10000) (λ count. Some (Gen count)) IsInRange
     (λ count is d. let b = bound (value (codes "COUNT")) (number_in 1 10000) count is in
@@ -172,6 +176,12 @@ has_range which.Check value =
     every (value (codes "RECEIPT") >>= file_name) (λ receipt. value (codes "DIGESTS") >>= file_name >>= λ digests. Some (Check receipt digests)) IsInRange
     (λ receipt is. every (value (codes "DIGESTS") >>= file_name) (λ digests. Some (Check receipt digests)) IsInRange
     (λ digests are d. is_some (Check receipt digests) d tt))
+has_range which.AsOf value =
+    every (value (codes "IMAGE") >>= file_name) (λ image. value (codes "N") >>= number_in 0 MAX_TX >>= λ n. if_given file_name (value (codes "digests")) >>= λ digests. Some (AsOf image n digests)) IsInRange
+    (λ image is. every (value (codes "N") >>= number_in 0 MAX_TX) (λ n. if_given file_name (value (codes "digests")) >>= λ digests. Some (AsOf image n digests)) IsInRange
+    (λ n said. every (if_given file_name (value (codes "digests"))) (λ digests. Some (AsOf image n digests)) IsInRange
+    (λ digests are d. let b = bound (value (codes "N")) (number_in 0 MAX_TX) n said in
+    let within = number_within 0 MAX_TX b.value n b.rest in is_some (AsOf image n digests) d within.most)))
 
 arguments_range : (w : Subcommand) (words : List Text) (c : Command) → arguments_of w words ≡ Some c → IsInRange c
 unfolding arguments_of

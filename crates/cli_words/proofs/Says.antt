@@ -5,7 +5,7 @@ use Rattle.cli_words.specs.Commands.{Command, given, has_dashes, meaning_of, arg
 use Rattle.cli_words.specs.Line.{Text, Use, nothing, is_among, uses_of, ◌>>=◌}
 use Rattle.cli_words.specs.Subcommands.{operands_of, options_of}
 use Rattle.cli_words.specs.declared.subcommand.Subcommand.{Subcommand}
-use Rattle.cli_words.specs.declared.subcommand.Subcommand.TheVariants.{Step, Run, Verify, Extract, Replay, Gen, Receipt, Join, Check}
+use Rattle.cli_words.specs.declared.subcommand.Subcommand.TheVariants.{Step, Run, Verify, Extract, Replay, Upgrade, Gen, Receipt, Join, Check, AsOf}
 use Rattle.cli_words.proofs.Spelled.{AreNames, IsOptionName, each_name, complete, sound}
 
 option_names : (which : Subcommand) → AreNames (options_of which)
@@ -14,10 +14,12 @@ option_names Run = ((omega arith, refl), ((omega arith, refl), ((omega arith, re
 option_names Verify = ((omega arith, refl), tt)
 option_names Extract = tt
 option_names Replay = ((omega arith, refl), tt)
+option_names Upgrade = ((omega arith, refl), tt)
 option_names Gen = tt
 option_names Receipt = ((omega arith, refl), ((omega arith, refl), ((omega arith, refl), tt)))
 option_names Join = ((omega arith, refl), tt)
 option_names Check = tt
+option_names AsOf = ((omega arith, refl), tt)
 
 names : (which : Subcommand) (n : Text) → is_among (options_of which) n ≡ true → IsOptionName n
 names which = each_name (options_of which) (option_names which)

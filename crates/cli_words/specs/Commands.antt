@@ -37,6 +37,8 @@ pub data Command : Type 0 where
   Extract : Text → Text → Text → Command
   -- the name of a journal, and the name that its image is saved under
   Replay : Text → Text → Command
+  -- the name of an image, and the name that it is saved under in the newest version
+  Upgrade : Text → Text → Command
   Gen : ℕ → Command
   -- the names of an image and of digests, the id of a transaction, what of it is shown, and the name its receipt is
   -- saved under
@@ -45,6 +47,8 @@ pub data Command : Type 0 where
   Join : Text → Text → Text → Command
   -- the names of a receipt and of digests
   Check : Text → Text → Command
+  -- the name of an image, how many of its transactions count, and the name of digests, where they are given
+  AsOf : Text → ℕ → Option Text → Command
   -- help on one command, or on all
   Help : Option Subcommand → Command
   Version : Command
@@ -62,6 +66,7 @@ IsInRange (Run save how) = AreInRange how
 IsInRange (Verify image digests workers) = (1 ≤ workers) × (workers ≤ 16)
 IsInRange (Gen count) = (1 ≤ count) × (count ≤ 10000)
 IsInRange (Receipt image digests tx part save) = (1 ≤ tx) × (tx ≤ MAX_TX) × IsPartInRange part
+IsInRange (AsOf image n digests) = n ≤ MAX_TX
 IsInRange _ = Unit {0}
 
 -- what was given under a name
@@ -107,6 +112,9 @@ meaning_of which.Extract value = value (codes "HONEST") >>= file_name >>= λ hon
 meaning_of which.Replay value = value (codes "JOURNAL") >>= file_name >>= λ journal.
     value (codes "save") >>= save_name >>= λ save.
     Some (Replay journal save)
+meaning_of which.Upgrade value = value (codes "IMAGE") >>= file_name >>= λ image.
+    value (codes "save") >>= save_name >>= λ save.
+    Some (Upgrade image save)
 meaning_of which.Gen value = value (codes "COUNT") >>= number_in 1 10000 >>= λ count.
     Some (Gen count)
 meaning_of which.Receipt value = value (codes "IMAGE") >>= file_name >>= λ image.
@@ -122,6 +130,10 @@ meaning_of which.Join value = value (codes "IMAGE") >>= file_name >>= λ image.
 meaning_of which.Check value = value (codes "RECEIPT") >>= file_name >>= λ receipt.
     value (codes "DIGESTS") >>= file_name >>= λ digests.
     Some (Check receipt digests)
+meaning_of which.AsOf value = value (codes "IMAGE") >>= file_name >>= λ image.
+    value (codes "N") >>= number_in 0 MAX_TX >>= λ n.
+    if_given file_name (value (codes "digests")) >>= λ digests.
+    Some (AsOf image n digests)
 
 abbrev pub has_dashes : List Text → Bool
 has_dashes words = list_any (λ w. bytes_eq w (codes "--")) words

@@ -7,8 +7,8 @@ ghost use Rattle.cli_words.specs.Commands as spec;
 ghost use Rattle.cli_words.specs.Views.{settings_view, command_view};
 
 use crate::forms::{
-    MAX_EVENT, MAX_TABLE, MAX_TX, database_or_default, file_name, number_if_given, number_in,
-    number_or, save_name, small_number_if_given, small_number_in,
+    MAX_EVENT, MAX_TABLE, MAX_TX, database_or_default, file_name, file_name_if_given,
+    number_if_given, number_in, number_or, save_name, small_number_if_given, small_number_in,
 };
 use crate::line::read_line;
 use crate::part::Part;
@@ -58,6 +58,13 @@ pub enum Command<'a> {
         /// The name that the files are saved under.
         save: &'a str,
     },
+    /// Saves an image in the newest version.
+    Upgrade {
+        /// The name of the image.
+        image: &'a str,
+        /// The name that it is saved under.
+        save: &'a str,
+    },
     /// Runs and verifies a workload.
     Gen {
         /// How many rows each of its tables has, 1 to 10,000.
@@ -91,6 +98,15 @@ pub enum Command<'a> {
         receipt: &'a str,
         /// The name of the digests that it is held against.
         digests: &'a str,
+    },
+    /// Answers SELECTs over an image behind its first transactions.
+    AsOf {
+        /// The name of the image.
+        image: &'a str,
+        /// How many of its transactions count, in ledger order, 0 to 2^63 - 1.
+        n: u64,
+        /// The name of the digests that it is held against, where some are given.
+        digests: Option<&'a str>,
     },
     /// Prints help on one command, or on all.
     Help(Option<Subcommand>),
@@ -173,6 +189,16 @@ fn replay_of<'a>(matches: &ArgMatches<'a>) -> Option<Command<'a>>
 }
 
 #[tactic(auto, unfolding(crate::specs::Commands::meaning_of))]
+fn upgrade_of<'a>(matches: &ArgMatches<'a>) -> Option<Command<'a>>
+    ensures { option_map command_view result
+        ≡ spec.meaning_of Subcommand.Upgrade (first_value (found_of matches.now)) }
+{
+    let image = file_name(matches.get_str("IMAGE")?)?;
+    let save = save_name(matches.get_str("save")?)?;
+    Some(Command::Upgrade { image, save })
+}
+
+#[tactic(auto, unfolding(crate::specs::Commands::meaning_of))]
 fn gen_of<'a>(matches: &ArgMatches<'a>) -> Option<Command<'a>>
     ensures { option_map command_view result
         ≡ spec.meaning_of Subcommand.Gen (first_value (found_of matches.now)) }
@@ -245,6 +271,17 @@ fn check_of<'a>(matches: &ArgMatches<'a>) -> Option<Command<'a>>
     Some(Command::Check { receipt, digests })
 }
 
+#[tactic(auto, unfolding(crate::specs::Commands::meaning_of))]
+fn as_of<'a>(matches: &ArgMatches<'a>) -> Option<Command<'a>>
+    ensures { option_map command_view result
+        ≡ spec.meaning_of Subcommand.AsOf (first_value (found_of matches.now)) }
+{
+    let image = file_name(matches.get_str("IMAGE")?)?;
+    let n = number_in(0, MAX_TX, matches.get_str("N")?)?;
+    let digests = file_name_if_given(matches.get_str("digests"))?;
+    Some(Command::AsOf { image, n, digests })
+}
+
 /// What the values say; none where one of them lacks its form, or isn't there and has to be.
 fn meaning_of<'a>(which: Subcommand, matches: &ArgMatches<'a>) -> Option<Command<'a>>
     ensures { option_map command_view result
@@ -256,10 +293,12 @@ fn meaning_of<'a>(which: Subcommand, matches: &ArgMatches<'a>) -> Option<Command
         Subcommand::Verify => verify_of(matches),
         Subcommand::Extract => extract_of(matches),
         Subcommand::Replay => replay_of(matches),
+        Subcommand::Upgrade => upgrade_of(matches),
         Subcommand::Gen => gen_of(matches),
         Subcommand::Receipt => receipt_of(matches),
         Subcommand::Join => join_of(matches),
         Subcommand::Check => check_of(matches),
+        Subcommand::AsOf => as_of(matches),
     }
 }
 

@@ -1,5 +1,5 @@
 // The forms of values.
-ghost use Rattle.std.specs.Prelude.{◌≡◌, ◌≤◌, codes, length, true, option_copied, IfSome};
+ghost use Rattle.std.specs.Prelude.{◌≡◌, ◌≤◌, codes, length, true, option_copied, option_map, IfSome};
 ghost use Rattle.std.specs.List.{list_all};
 ghost use Rattle.std.specs.Char.{is_ascii_digit};
 ghost use Rattle.base_types.specs.DatabaseName.{is_database_byte, starts_as_name};
@@ -54,6 +54,16 @@ pub(crate) fn file_name(text: &str) -> Option<&str>
         Some(text)
     } else {
         None
+    }
+}
+
+/// The name of a file, where one is given.
+pub(crate) fn file_name_if_given<'a>(text: Option<&'a str>) -> Option<Option<&'a str>>
+    ensures { option_map option_copied result ≡ if_given file_name (option_copied text.entry) }
+{
+    match text {
+        Some(text) => file_name(text).map(Some),
+        None => Some(None),
     }
 }
 

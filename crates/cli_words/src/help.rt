@@ -10,9 +10,11 @@ pub const USAGE: &str = "usage: ledgerd step --save NAME [--block-size N] [--clo
        ledgerd verify IMAGE DIGESTS [--workers W]
        ledgerd extract HONEST SUSPECT DIGESTS
        ledgerd replay JOURNAL --save NAME
+       ledgerd upgrade IMAGE --save NAME
        ledgerd receipt IMAGE DIGESTS TX [--table ID [--event N]] --save NAME
        ledgerd join IMAGE DIGESTS --save NAME
        ledgerd check RECEIPT DIGESTS
+       ledgerd asof IMAGE N [--digests DIGESTS]
        ledgerd gen COUNT
 `./ledgerd --help` says what each does.
 ";
@@ -33,16 +35,24 @@ them.
                                 says what two images are to each other
   ledgerd replay JOURNAL --save NAME
                                 runs a journal again and saves its image
+  ledgerd upgrade IMAGE --save NAME
+                                saves an image in the newest version
   ledgerd receipt IMAGE DIGESTS TX --save NAME
                                 makes the receipt of a transaction of an image
   ledgerd join IMAGE DIGESTS --save NAME
                                 joins digests by the blocks between them
   ledgerd check RECEIPT DIGESTS says whether a receipt holds with digests
+  ledgerd asof IMAGE N [--digests DIGESTS]
+                                answers SELECTs over an image behind its first
+                                N transactions
   ledgerd gen COUNT             runs and verifies a workload, to measure with
   ledgerd COMMAND --help        says more of one of these, as `ledgerd help
                                 COMMAND` and `ledgerd COMMAND -h` do
   ledgerd --help, -h or help    prints this text
   ledgerd --version or -V       prints the version
+
+On a terminal a command that takes long says for how many seconds it has been at
+work; with `--quiet` before the command it doesn't.
 
 Names are those of files in the current folder: letters, digits, `_`, `-` or
 `.`, the first a letter or a digit; 1 to 100 of them in NAME, which files are
@@ -54,14 +64,15 @@ Limits: 4 MiB and 64 sessions for an input, 256 MiB for an image or a journal,
 
 It ends with one of these statuses, and from 2 on standard error says more:
    0  the work is done; `verify` and `check` said Yes, `extract` said Same
-   1  `verify`, `receipt`, `join` or `check` said No; `extract` said it of an
-      image, or shows a collision
+   1  `verify`, `receipt`, `join`, `check` or `asof` said No; `extract` said it
+      of an image, or shows a collision
    2  the words were refused             3  a limit was exceeded
    4  reading the input failed           5  writing the output failed
    6  a file can't be read or put        7  no such file
    8  the digests were refused           9  the journal was refused
-  10  a line has no session             12  out of memory
-  14  no such entry                     15  the receipt was refused
+  10  a line has no session             11  not an image
+  12  out of memory                     14  no such entry
+  15  the receipt was refused           16  not so many transactions
 
 Pages, in docs/ of the repository: SQL.md (input, statements and codes),
 AUDIT.md (commands, answers and statuses), FORMATS.md (the bytes of the files).
@@ -172,6 +183,18 @@ Example, from the top of the repository, behind that of `step`:
   ./ledgerd replay shop.journal --save again
 ";
 
+/// Help on `upgrade`.
+pub const UPGRADE_HELP: &str = "ledgerd upgrade IMAGE --save NAME
+
+Reads the image IMAGE, of version 1 or 2, puts NAME.img, the same image in
+version 2, in the current folder, and prints `upgraded`. It verifies nothing,
+and `verify` says the same of both with any digests. docs/FORMATS.md has the
+versions.
+
+Example, from the top of the repository:
+  (cd examples && ../ledgerd upgrade honest.img --save newest)
+";
+
 /// Help on `receipt`.
 pub const RECEIPT_HELP: &str =
     "ledgerd receipt IMAGE DIGESTS TX [--table ID [--event N]] --save NAME
@@ -221,6 +244,28 @@ Example, from the top of the repository, behind that of `receipt`:
   (cd examples && ../ledgerd check payment.receipt honest.digests)
 ";
 
+/// Help on `asof`.
+pub const ASOF_HELP: &str = "ledgerd asof IMAGE N [--digests DIGESTS]
+
+Answers SELECTs over the database as it was behind the first N transactions of
+the image IMAGE, in ledger order: the N of `committed .. at N`. It reads a text
+from each line of standard input, without those that are empty or begin with
+`--`, and prints each with its answer behind it. Rows, histories, ledger views
+and definitions are those of that moment, whatever came later.
+The image is verified first, with the digests DIGESTS where they are given; a No
+is printed and ends it with status 1. Without digests the answers are what the
+image tells, which nothing ties to the ledger that it claims to be.
+N is 0 to 2^63 - 1; where the image has fewer transactions it ends with status
+16. Both names are those of files in the current folder. It puts no file.
+
+A refused text is answered with a code, as `step --help` has them, and
+  E21 a statement that is no SELECT
+
+Example, from the top of the repository:
+  (cd examples && echo 'SELECT * FROM sys_ledger_tables' \\
+    | ../ledgerd asof honest.img 1 --digests honest.digests)
+";
+
 /// Help on `gen`.
 pub const GEN_HELP: &str = "ledgerd gen COUNT
 
@@ -246,9 +291,11 @@ pub fn help_text(which: Option<Subcommand>) -> &'static str
         Some(Subcommand::Verify) => VERIFY_HELP,
         Some(Subcommand::Extract) => EXTRACT_HELP,
         Some(Subcommand::Replay) => REPLAY_HELP,
+        Some(Subcommand::Upgrade) => UPGRADE_HELP,
         Some(Subcommand::Gen) => GEN_HELP,
         Some(Subcommand::Receipt) => RECEIPT_HELP,
         Some(Subcommand::Join) => JOIN_HELP,
         Some(Subcommand::Check) => CHECK_HELP,
+        Some(Subcommand::AsOf) => ASOF_HELP,
     }
 }

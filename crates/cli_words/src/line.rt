@@ -66,6 +66,17 @@ fn replay_command<'a>(alloc: Global) -> Result<Command<'a>, AllocError>
         .arg(save)
 }
 
+fn upgrade_command<'a>(alloc: Global) -> Result<Command<'a>, AllocError>
+    ensures { IfOk result (λ c. app_of c ≡ app_for Subcommand.Upgrade) }
+{
+    let image = Arg::new(alloc, "IMAGE");
+    let save = Arg::new(alloc, "save").long("save");
+    Command::new(alloc, "upgrade")
+        .disable_help_flag(true)
+        .arg(image)?
+        .arg(save)
+}
+
 fn gen_command<'a>(alloc: Global) -> Result<Command<'a>, AllocError>
     ensures { IfOk result (λ c. app_of c ≡ app_for Subcommand.Gen) }
 {
@@ -122,6 +133,19 @@ fn check_command<'a>(alloc: Global) -> Result<Command<'a>, AllocError>
         .arg(digests)
 }
 
+fn asof_command<'a>(alloc: Global) -> Result<Command<'a>, AllocError>
+    ensures { IfOk result (λ c. app_of c ≡ app_for Subcommand.AsOf) }
+{
+    let image = Arg::new(alloc, "IMAGE");
+    let n = Arg::new(alloc, "N");
+    let digests = Arg::new(alloc, "digests").long("digests");
+    Command::new(alloc, "asof")
+        .disable_help_flag(true)
+        .arg(image)?
+        .arg(n)?
+        .arg(digests)
+}
+
 /// The command that clap reads. Help is none of its words, so that it never prints.
 fn command_for<'a>(alloc: Global, which: Subcommand) -> Result<Command<'a>, AllocError>
     ensures app { IfOk result (λ c. app_of c ≡ app_for which) }
@@ -133,10 +157,12 @@ fn command_for<'a>(alloc: Global, which: Subcommand) -> Result<Command<'a>, Allo
         Subcommand::Verify => verify_command(alloc),
         Subcommand::Extract => extract_command(alloc),
         Subcommand::Replay => replay_command(alloc),
+        Subcommand::Upgrade => upgrade_command(alloc),
         Subcommand::Gen => gen_command(alloc),
         Subcommand::Receipt => receipt_command(alloc),
         Subcommand::Join => join_command(alloc),
         Subcommand::Check => check_command(alloc),
+        Subcommand::AsOf => asof_command(alloc),
     }
 }
 

@@ -16,12 +16,15 @@ pub fn name_read<'a>(command: Command<'a>, number: u8) -> Option<&'a str>
         (Command::Extract { suspect, .. }, 2) => Some(suspect),
         (Command::Extract { digests, .. }, 3) => Some(digests),
         (Command::Replay { journal, .. }, 1) => Some(journal),
+        (Command::Upgrade { image, .. }, 1) => Some(image),
         (Command::Receipt { image, .. }, 1) => Some(image),
         (Command::Receipt { digests, .. }, 2) => Some(digests),
         (Command::Join { image, .. }, 1) => Some(image),
         (Command::Join { digests, .. }, 2) => Some(digests),
         (Command::Check { receipt, .. }, 1) => Some(receipt),
         (Command::Check { digests, .. }, 2) => Some(digests),
+        (Command::AsOf { image, .. }, 1) => Some(image),
+        (Command::AsOf { digests, .. }, 2) => digests,
         _ => None,
     }
 }

@@ -64,6 +64,7 @@ fn form_of(name: &str) -> Form {
         "TX" => Form::Number(1, MAX_TX),
         "table" => Form::Number(1, MAX_TABLE as u64),
         "event" => Form::Number(0, MAX_EVENT),
+        "N" => Form::Number(0, MAX_TX),
         _ => Form::FileName,
     }
 }
@@ -90,6 +91,7 @@ fn operand_at(which: Subcommand, place: usize) -> Option<&'static str> {
         (Subcommand::Extract, 1) => Some("SUSPECT"),
         (Subcommand::Extract, 2) => Some("DIGESTS"),
         (Subcommand::Replay, 0) => Some("JOURNAL"),
+        (Subcommand::Upgrade, 0) => Some("IMAGE"),
         (Subcommand::Gen, 0) => Some("COUNT"),
         (Subcommand::Receipt, 0) => Some("IMAGE"),
         (Subcommand::Receipt, 1) => Some("DIGESTS"),
@@ -98,6 +100,8 @@ fn operand_at(which: Subcommand, place: usize) -> Option<&'static str> {
         (Subcommand::Join, 1) => Some("DIGESTS"),
         (Subcommand::Check, 0) => Some("RECEIPT"),
         (Subcommand::Check, 1) => Some("DIGESTS"),
+        (Subcommand::AsOf, 0) => Some("IMAGE"),
+        (Subcommand::AsOf, 1) => Some("N"),
         _ => None,
     }
 }
@@ -109,7 +113,8 @@ fn has_option(which: Subcommand, name: &str) -> bool {
         }
         Subcommand::Verify => name == "workers",
         Subcommand::Receipt => matches!(name, "save" | "table" | "event"),
-        Subcommand::Replay | Subcommand::Join => name == "save",
+        Subcommand::Replay | Subcommand::Upgrade | Subcommand::Join => name == "save",
+        Subcommand::AsOf => name == "digests",
         Subcommand::Extract | Subcommand::Gen | Subcommand::Check => false,
     }
 }

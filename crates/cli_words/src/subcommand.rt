@@ -15,6 +15,8 @@ pub enum Subcommand {
     Extract,
     /// Runs a journal again.
     Replay,
+    /// Saves an image in the newest version.
+    Upgrade,
     /// Runs and verifies a workload.
     Gen,
     /// Makes the receipt of a transaction.
@@ -23,6 +25,8 @@ pub enum Subcommand {
     Join,
     /// Says whether a receipt holds with digests.
     Check,
+    /// Answers SELECTs over an image behind its first transactions.
+    AsOf,
 }
 
 impl Subcommand {
@@ -37,10 +41,12 @@ impl Subcommand {
             "verify" => Some(Subcommand::Verify),
             "extract" => Some(Subcommand::Extract),
             "replay" => Some(Subcommand::Replay),
+            "upgrade" => Some(Subcommand::Upgrade),
             "gen" => Some(Subcommand::Gen),
             "receipt" => Some(Subcommand::Receipt),
             "join" => Some(Subcommand::Join),
             "check" => Some(Subcommand::Check),
+            "asof" => Some(Subcommand::AsOf),
             _ => None,
         }
     }

@@ -1,13 +1,14 @@
 -- Definitions are read exactly as they are written.
-use Rattle.std.proofs.Common.{◌≡◌, ◌<◌, ◌^◌, ℕ, Bool, true, false, cond, leb, List, ◌++◌, length, Some, None, refl, ap, arith}
+use Rattle.std.proofs.Common.{◌≡◌, ◌<◌, ◌^◌, ◌+◌, ℕ, suc, Bool, true, false, cond, leb, List, [], ◌∷◌, ◌++◌, length, Option, Some, None, refl, sym, ap, subst, ◌∙◌, arith}
 use Rattle.std.specs.Prelude.{◌&&◌, ◌==◌, not, flat_map}
 use Rattle.std.specs.List.{AllByRecursion, list_all}
 use Rattle.std.proofs.lemmas.Bool.{eqb-true}
 use Rattle.std.proofs.lemmas.Bool.Decides.{nat_tests}
+use Rattle.std.proofs.lemmas.List.{length-map}
 use Rattle.base_fields.specs.Fields.{u8_field, u16_field, u32_field, short_field}
 use Rattle.base_fields.specs.Readers.{u8_at, u16_at, u32_at, short_at, both, listed}
-use Rattle.base_fields.specs.Exact.{Exact}
-use Rattle.base_fields.proofs.Written.{u8_exact, u16_exact, u32_exact, short_exact}
+use Rattle.base_fields.specs.Exact.{IsBytes, Exact, Taken}
+use Rattle.base_fields.proofs.Written.{u8_exact, u16_exact, u32_exact, short_exact, some_is}
 use Rattle.base_fields.proofs.Parts.{both_exact, mapped_exact, decoded_exact, where_exact, listed_exact}
 use Rattle.sql_value.specs.declared.column.ColumnDef.{ColumnDef}
 use Rattle.sql_value.specs.declared.column.TableKind.{TableKind}
@@ -23,8 +24,11 @@ use Rattle.spec_model.specs.Catalog.{Defs}
 use Rattle.spec_model.specs.Create.{is_long}
 use Rattle.spec_model.specs.SystemTables.{kind_code}
 use Rattle.spec_model.specs.ProperNames.{is_name_byte, is_proper_name, has_its_history}
-use Rattle.format_image.specs.DefBytes.{flag, column_bytes, IsColumn, index_bytes, IsIndex, columns_bytes, indexes_bytes, def_bytes, IsDef, defs_bytes}
-use Rattle.format_image.specs.ImageReading.{flag_of, flag_at, name_at, column_type_at, column_of, column_at, index_of, index_at, kind_of, kind_at, TableHeading, is_named, named_at, def_of, def_at, ids_are_users, defs_at}
+use Rattle.format_image.specs.declared.version.ImageVersion.{ImageVersion}
+use Rattle.format_image.specs.declared.version.ImageVersion.TheVariants.{First, Second}
+use Rattle.format_image.specs.DefBytes.{flag, dropped_bytes, MarkedColumn, column_bytes, IsColumn, marked, rise_within, index_bytes, IsIndex, indexes_bytes, names_bytes, def_bytes, IsDef, Says, IsDefIn, defs_bytes}
+use Rattle.format_image.specs.ImageReading.{flag_of, flag_at, dropped_at, name_at, column_type_at, column_of, column_at, without_marks, dropped_among, index_of, index_at, kind_of, kind_at, TableHeading, is_named, named_at, def_of, def_at, ids_are_users, defs_at}
+use Rattle.format_image.proofs.Marks.{without_marked, length-marked, dropped_marked, dropped_rise, marks_back}
 
 abbrev Any : {A : Type 0} → A → Type 0
 Any x = Unit {0}
@@ -56,6 +60,22 @@ flag_exact = decoded_exact (λ (n : ℕ). n < 256) Any u8_field (λ b. u8_field 
       back = λ n b bytes fits e. (tt, ap u8_field (flag_back_by n (n == 0) (n == 1) b refl refl e));
     })
     u8_exact
+
+-- what a version says of something that was dropped
+abbrev FitDropped : ImageVersion → Bool → Type 0
+FitDropped First b = b ≡ false
+FitDropped Second b = Unit {0}
+
+dropped_exact : (version : ImageVersion) → Exact (FitDropped version) (dropped_bytes version) (dropped_at version)
+unfolding dropped_at
+dropped_exact First = record {
+  takes = λ bytes b rest fits e.
+      let made : Taken (FitDropped First) (dropped_bytes First) bytes false bytes = record { parts = refl; rest_fits = fits; fits = refl } in
+      let P : Bool × List ℕ → Type 0 = λ q. Taken (FitDropped First) (dropped_bytes First) bytes q.0 q.1 in
+      subst P (some_is (false, bytes) (b, rest) e) made;
+  again = λ b rest fits. ap (λ (c : Bool). let o : Option (Bool × List ℕ) = Some (c, rest) in o) (sym fits);
+}
+dropped_exact Second = flag_exact
 
 kind_there : (k : TableKind) → kind_of (kind_code k) ≡ Some k
 kind_there AppendOnly = refl
@@ -124,30 +144,34 @@ unfolding column_type_at
 column_type_exact = where_exact FitsFields type_bytes is_in_range type_at type_exact
 
 abbrev ColumnParts : Type 0
-ColumnParts = List ℕ × (SqlType × (Bool × ℕ))
+ColumnParts = List ℕ × (SqlType × (Bool × (ℕ × Bool)))
 
-abbrev column_parts : ColumnDef → ColumnParts
-column_parts c = (c.name, (c.ty, (c.nullable, c.key_position)))
+abbrev column_parts : MarkedColumn → ColumnParts
+column_parts m = (m.0.name, (m.0.ty, (m.0.nullable, (m.0.key_position, m.1))))
 
-abbrev FitColumn : ColumnParts → Type 0
-FitColumn x = FitName x.0 × (FitType x.1.0 × (Any x.1.1.0 × (x.1.1.1 < 256)))
+abbrev IsMarked : ImageVersion → MarkedColumn → Type 0
+IsMarked version m = IsColumn m.0 × FitDropped version m.1
 
-abbrev encode_column : ColumnParts → List ℕ
-encode_column x = short_field x.0 ++ (type_bytes x.1.0 ++ (u8_field (flag x.1.1.0) ++ u8_field x.1.1.1))
+abbrev FitColumn : ImageVersion → ColumnParts → Type 0
+FitColumn version x = FitName x.0 × (FitType x.1.0 × (Any x.1.1.0 × ((x.1.1.1.0 < 256) × FitDropped version x.1.1.1.1)))
 
-column_exact : Exact IsColumn column_bytes column_at
+abbrev encode_column : ImageVersion → ColumnParts → List ℕ
+encode_column version x = short_field x.0 ++ (type_bytes x.1.0 ++ (u8_field (flag x.1.1.0) ++ (u8_field x.1.1.1.0 ++ dropped_bytes version x.1.1.1.1)))
+
+column_exact : (version : ImageVersion) → Exact (IsMarked version) (column_bytes version) (column_at version)
 unfolding column_at
-column_exact = mapped_exact FitColumn IsColumn encode_column column_bytes column_of column_parts (both name_at (both column_type_at (both flag_at u8_at)))
+column_exact version = mapped_exact (FitColumn version) (IsMarked version) (encode_column version) (column_bytes version) column_of column_parts (both name_at (both column_type_at (both flag_at (both u8_at (dropped_at version)))))
     (record {
-      there = λ c. refl;
+      there = λ m. refl;
       encoded = λ x. refl;
-      fit = λ x f. record { name = f.0.1; ty = f.1.0.1; key_position = f.1.1.1 };
-      fit_back = λ c f. (fit_name c.name f.name, ((in_range_fits c.ty f.ty, f.ty), (tt, f.key_position)));
+      fit = λ x f. (record { name = f.0.1; ty = f.1.0.1; key_position = f.1.1.1.0 }, f.1.1.1.1);
+      fit_back = λ m f. (fit_name m.0.name f.0.name, ((in_range_fits m.0.ty f.0.ty, f.0.ty), (tt, (f.0.key_position, f.1))));
     })
-    (both_exact FitName (λ (x : SqlType × (Bool × ℕ)). FitType x.0 × (Any x.1.0 × (x.1.1 < 256))) short_field (λ (x : SqlType × (Bool × ℕ)). type_bytes x.0 ++ (u8_field (flag x.1.0) ++ u8_field x.1.1))
-    name_at (both column_type_at (both flag_at u8_at)) name_exact
-    (both_exact FitType (λ (x : Bool × ℕ). Any x.0 × (x.1 < 256)) type_bytes (λ (x : Bool × ℕ). u8_field (flag x.0) ++ u8_field x.1) column_type_at (both flag_at u8_at) column_type_exact
-    (both_exact Any (λ (n : ℕ). n < 256) (λ b. u8_field (flag b)) u8_field flag_at u8_at flag_exact u8_exact)))
+    (both_exact FitName (λ (x : SqlType × (Bool × (ℕ × Bool))). FitType x.0 × (Any x.1.0 × ((x.1.1.0 < 256) × FitDropped version x.1.1.1))) short_field (λ (x : SqlType × (Bool × (ℕ × Bool))). type_bytes x.0 ++ (u8_field (flag x.1.0) ++ (u8_field x.1.1.0 ++ dropped_bytes version x.1.1.1)))
+    name_at (both column_type_at (both flag_at (both u8_at (dropped_at version)))) name_exact
+    (both_exact FitType (λ (x : Bool × (ℕ × Bool)). Any x.0 × ((x.1.0 < 256) × FitDropped version x.1.1)) type_bytes (λ (x : Bool × (ℕ × Bool)). u8_field (flag x.0) ++ (u8_field x.1.0 ++ dropped_bytes version x.1.1)) column_type_at (both flag_at (both u8_at (dropped_at version))) column_type_exact
+    (both_exact Any (λ (x : ℕ × Bool). (x.0 < 256) × FitDropped version x.1) (λ b. u8_field (flag b)) (λ (x : ℕ × Bool). u8_field x.0 ++ dropped_bytes version x.1) flag_at (both u8_at (dropped_at version)) flag_exact
+    (both_exact (λ (n : ℕ). n < 256) (FitDropped version) u8_field (dropped_bytes version) u8_at (dropped_at version) u8_exact (dropped_exact version)))))
 
 -- ---- indexes
 
@@ -174,82 +198,162 @@ index_exact = mapped_exact (λ (x : List ℕ × List ℕ). FitName x.0 × FitOrd
 
 -- ---- kind and names
 
-abbrev FitNamed : TableHeading → Type 0
-FitNamed x = (Any x.0 × (FitName x.1.0 × ((length x.1.1.0 < 2 ^ 16) × FitName x.1.1.1))) × (is_named x ≡ true)
+abbrev Names : Type 0
+Names = List ℕ × (List ℕ × List ℕ)
 
-abbrev encode_named : TableHeading → List ℕ
-encode_named x = u8_field (kind_code x.0) ++ (short_field x.1.0 ++ (short_field x.1.1.0 ++ short_field x.1.1.1))
+abbrev FitNames : Names → Type 0
+FitNames x = FitName x.0 × ((length x.1.0 < 2 ^ 16) × FitName x.1.1)
 
-named_exact : Exact FitNamed encode_named named_at
+abbrev encode_names : Names → List ℕ
+encode_names x = short_field x.0 ++ (short_field x.1.0 ++ short_field x.1.1)
+
+names_exact : Exact FitNames encode_names (both name_at (both short_at name_at))
+names_exact = both_exact FitName (λ (x : List ℕ × List ℕ). (length x.0 < 2 ^ 16) × FitName x.1) short_field (λ (x : List ℕ × List ℕ). short_field x.0 ++ short_field x.1) name_at (both short_at name_at) name_exact
+    (both_exact (λ (name : List ℕ). length name < 2 ^ 16) FitName short_field short_field short_at name_at short_exact name_exact)
+
+abbrev FitHeading : ImageVersion → TableHeading → Type 0
+FitHeading version x = Any x.0 × (FitDropped version x.1.0 × FitNames x.1.1)
+
+abbrev FitNamed : ImageVersion → TableHeading → Type 0
+FitNamed version x = FitHeading version x × (is_named x ≡ true)
+
+abbrev encode_named : ImageVersion → TableHeading → List ℕ
+encode_named version x = u8_field (kind_code x.0) ++ (dropped_bytes version x.1.0 ++ encode_names x.1.1)
+
+named_exact : (version : ImageVersion) → Exact (FitNamed version) (encode_named version) (named_at version)
 unfolding named_at
-named_exact = where_exact (λ (x : TableHeading). Any x.0 × (FitName x.1.0 × ((length x.1.1.0 < 2 ^ 16) × FitName x.1.1.1))) encode_named is_named (both kind_at (both name_at (both short_at name_at)))
-    (both_exact Any (λ (x : List ℕ × (List ℕ × List ℕ)). FitName x.0 × ((length x.1.0 < 2 ^ 16) × FitName x.1.1)) (λ k. u8_field (kind_code k)) (λ (x : List ℕ × (List ℕ × List ℕ)). short_field x.0 ++ (short_field x.1.0 ++ short_field x.1.1))
-    kind_at (both name_at (both short_at name_at)) kind_exact
-    (both_exact FitName (λ (x : List ℕ × List ℕ). (length x.0 < 2 ^ 16) × FitName x.1) short_field (λ (x : List ℕ × List ℕ). short_field x.0 ++ short_field x.1) name_at (both short_at name_at) name_exact
-    (both_exact (λ (name : List ℕ). length name < 2 ^ 16) FitName short_field short_field short_at name_at short_exact name_exact)))
+named_exact version = where_exact (FitHeading version) (encode_named version) is_named (both kind_at (both (dropped_at version) (both name_at (both short_at name_at))))
+    (both_exact Any (λ (x : Bool × Names). FitDropped version x.0 × FitNames x.1) (λ k. u8_field (kind_code k)) (λ (x : Bool × Names). dropped_bytes version x.0 ++ encode_names x.1)
+    kind_at (both (dropped_at version) (both name_at (both short_at name_at))) kind_exact
+    (both_exact (FitDropped version) FitNames (dropped_bytes version) encode_names (dropped_at version) (both name_at (both short_at name_at)) (dropped_exact version) names_exact))
+
+-- ---- marks
+
+first_marks : (n : ℕ) (cs : List ColumnDef) → AllByRecursion IsColumn cs → AllByRecursion (IsMarked First) (marked [] n cs)
+first_marks n [] all = tt
+first_marks n (c ∷ cs) all = ((all.0, refl), first_marks (suc n) cs all.1)
+
+second_marks : (ds : List ℕ) (n : ℕ) (cs : List ColumnDef) → AllByRecursion IsColumn cs → AllByRecursion (IsMarked Second) (marked ds n cs)
+second_marks ds n [] all = tt
+second_marks ds n (c ∷ cs) all = ((all.0, tt), second_marks ds (suc n) cs all.1)
+
+marks_fit : (version : ImageVersion) (def : TableDef) → IsDefIn version def → AllByRecursion (IsMarked version) (marked def.dropped 1 def.columns)
+marks_fit First def f = subst (λ (ds : List ℕ). AllByRecursion (IsMarked First) (marked ds 1 def.columns)) (sym f.1.dropped) (first_marks 1 def.columns f.0.columns)
+marks_fit Second def f = second_marks def.dropped 1 def.columns f.0.columns
+
+gone_fits : (version : ImageVersion) (def : TableDef) → Says version def → FitDropped version def.gone
+gone_fits First def s = s.gone
+gone_fits Second def s = tt
+
+columns_fit : (version : ImageVersion) (ms : List MarkedColumn) → AllByRecursion (IsMarked version) ms → AllByRecursion IsColumn (without_marks ms)
+columns_fit version [] all = tt
+columns_fit version (m ∷ ms) all = (all.0.0, columns_fit version ms all.1)
+
+none_marked : (n : ℕ) (ms : List MarkedColumn) → AllByRecursion (IsMarked First) ms → dropped_among n ms ≡ []
+none_marked n [] all = refl
+none_marked n (m ∷ ms) all = let unmarked : m.1 ≡ false = all.0.1 in rw unmarked (none_marked (suc n) ms all.1)
 
 -- ---- definitions
 
 abbrev Lists : Type 0
-Lists = List ColumnDef × List IndexDef
+Lists = List MarkedColumn × List IndexDef
 
-abbrev FitLists : Lists → Type 0
-FitLists x = ((length x.0 < 2 ^ 16) × AllByRecursion IsColumn x.0) × ((length x.1 < 256) × AllByRecursion IsIndex x.1)
+abbrev FitLists : ImageVersion → Lists → Type 0
+FitLists version x = ((length x.0 < 2 ^ 16) × AllByRecursion (IsMarked version) x.0) × ((length x.1 < 256) × AllByRecursion IsIndex x.1)
 
-abbrev encode_lists : Lists → List ℕ
-encode_lists x = columns_bytes x.0 ++ indexes_bytes x.1
+abbrev encode_columns : ImageVersion → List MarkedColumn → List ℕ
+encode_columns version ms = u16_field (length ms) ++ flat_map (column_bytes version) ms
 
-lists_exact : Exact FitLists encode_lists (both (listed u16_at column_at) (listed u8_at index_at))
-lists_exact = both_exact (λ (cs : List ColumnDef). (length cs < 2 ^ 16) × AllByRecursion IsColumn cs) (λ (is : List IndexDef). (length is < 256) × AllByRecursion IsIndex is) columns_bytes indexes_bytes (listed u16_at column_at) (listed u8_at index_at)
-    (listed_exact IsColumn column_bytes column_at column_exact (2 ^ 16) u16_field u16_at u16_exact)
+abbrev encode_lists : ImageVersion → Lists → List ℕ
+encode_lists version x = encode_columns version x.0 ++ indexes_bytes x.1
+
+lists_exact : (version : ImageVersion) → Exact (FitLists version) (encode_lists version) (both (listed u16_at (column_at version)) (listed u8_at index_at))
+lists_exact version = both_exact (λ (ms : List MarkedColumn). (length ms < 2 ^ 16) × AllByRecursion (IsMarked version) ms) (λ (is : List IndexDef). (length is < 256) × AllByRecursion IsIndex is) (encode_columns version) indexes_bytes (listed u16_at (column_at version)) (listed u8_at index_at)
+    (listed_exact (IsMarked version) (column_bytes version) (column_at version) (column_exact version) (2 ^ 16) u16_field u16_at u16_exact)
     (listed_exact IsIndex index_bytes index_at index_exact 256 u8_field u8_at u8_exact)
 
 abbrev DefParts : Type 0
 DefParts = ℕ × (TableHeading × Lists)
 
 abbrev def_parts : TableDef → DefParts
-def_parts def = (def.id, ((def.kind, (def.name, (def.history, def.view))), (def.columns, def.indexes)))
+def_parts def = (def.id, ((def.kind, (def.gone, (def.name, (def.history, def.view)))), (marked def.dropped 1 def.columns, def.indexes)))
 
-abbrev FitDef : DefParts → Type 0
-FitDef x = (x.0 < 2 ^ 32) × (FitNamed x.1.0 × FitLists x.1.1)
+abbrev FitDef : ImageVersion → DefParts → Type 0
+FitDef version x = (x.0 < 2 ^ 32) × (FitNamed version x.1.0 × FitLists version x.1.1)
 
-abbrev encode_def : DefParts → List ℕ
-encode_def x = u32_field x.0 ++ (encode_named x.1.0 ++ encode_lists x.1.1)
+abbrev encode_def : ImageVersion → DefParts → List ℕ
+encode_def version x = u32_field x.0 ++ (encode_named version x.1.0 ++ encode_lists version x.1.1)
 
-fit_def : (def : TableDef) → IsDef def → FitDef (def_parts def)
-fit_def def f = (
-  f.id,
-  (
-    ((tt, (fit_name def.name f.name, (history_short def.kind def.history f.history, fit_name def.view f.view))), f.history),
-    ((f.column_count, f.columns), (f.index_count, f.indexes)),
-  ),
-)
+-- the definition with these columns, of which these are dropped
+abbrev with_columns : TableDef → List ColumnDef → List ℕ → Option TableDef
+with_columns def columns dropped =
+    Some (record { id = def.id; name = def.name; kind = def.kind; gone = def.gone; history = def.history; view = def.view; columns = columns; dropped = dropped; indexes = def.indexes })
 
-def_exact : Exact IsDef def_bytes def_at
+def_there : (version : ImageVersion) (def : TableDef) → IsDefIn version def → def_of (def_parts def) ≡ Some def
+def_there version def f =
+    ap (λ (cs : List ColumnDef). with_columns def cs (dropped_among 1 (marked def.dropped 1 def.columns))) (without_marked def.dropped 1 def.columns)
+    ∙ ap (with_columns def def.columns) (dropped_marked def.columns 0 def.dropped within)
+  where
+    counted : length def.columns ≡ 0 + length def.columns
+    counted = omega arith
+
+    within : rise_within 0 (0 + length def.columns) def.dropped ≡ true
+    within = subst (λ (n : ℕ). rise_within 0 n def.dropped ≡ true) counted f.0.dropped
+
+def_encoded : (version : ImageVersion) (def : TableDef) → def_bytes version def ≡ encode_def version (def_parts def)
+def_encoded version def =
+    ap (λ (n : ℕ). u32_field def.id ++ (names_bytes version def ++ ((u16_field n ++ flat_map (column_bytes version) (marked def.dropped 1 def.columns)) ++ indexes_bytes def.indexes)))
+    (sym (length-marked def.dropped 1 def.columns))
+
+fit_def : (version : ImageVersion) (def : TableDef) → IsDefIn version def → FitDef version (def_parts def)
+fit_def version def both_fit =
+    let f = both_fit.0 in
+    let count : length (marked def.dropped 1 def.columns) < 2 ^ 16 = subst (λ (n : ℕ). n < 2 ^ 16) (sym (length-marked def.dropped 1 def.columns)) f.column_count in (
+      f.id,
+      (
+        ((tt, (gone_fits version def both_fit.1, (fit_name def.name f.name, (history_short def.kind def.history f.history, fit_name def.view f.view)))), f.history),
+        ((count, marks_fit version def both_fit), (f.index_count, f.indexes)),
+      ),
+    )
+
+says_so : (version : ImageVersion) (def : TableDef) (ms : List MarkedColumn) → FitDropped version def.gone → AllByRecursion (IsMarked version) ms → def.dropped ≡ dropped_among 1 ms → Says version def
+says_so First def ms gone all is = record { gone = gone; dropped = is ∙ none_marked 1 ms all }
+says_so Second def ms gone all is = tt
+
+def_back : (version : ImageVersion) (x : DefParts) (def : TableDef) → IsBytes (encode_def version x) → FitDef version x → def_of x ≡ Some def → IsDefIn version def × (encode_def version x ≡ def_bytes version def)
+def_back version x def bytes f e =
+    let ms : List MarkedColumn = x.1.1.0 in
+    let made : TableDef = record { id = x.0; kind = x.1.0.0; gone = x.1.0.1.0; name = x.1.0.1.1.0; history = x.1.0.1.1.1.0; view = x.1.0.1.1.1.1; columns = without_marks ms; dropped = dropped_among 1 ms; indexes = x.1.1.1 } in
+    let counted : length (without_marks ms) ≡ length ms = length-map ms (λ (m : MarkedColumn). m.0) in
+    let fits : IsDef made = record {
+      id = f.0;
+      name = f.1.0.0.1.1.0.1;
+      history = f.1.0.1;
+      view = f.1.0.0.1.1.1.1.1;
+      column_count = subst (λ (n : ℕ). n < 2 ^ 16) (sym counted) f.1.1.0.0;
+      columns = columns_fit version ms f.1.1.0.1;
+      dropped = dropped_rise ms 0 (length (without_marks ms)) (omega (arith, counted));
+      index_count = f.1.1.1.0;
+      indexes = f.1.1.1.1;
+    } in
+    let same : encode_def version x ≡ def_bytes version made =
+    ap (λ (n : ℕ). u32_field x.0 ++ (encode_named version x.1.0 ++ ((u16_field n ++ flat_map (column_bytes version) ms) ++ indexes_bytes x.1.1.1))) (sym counted)
+    ∙ ap (λ (l : List MarkedColumn). u32_field x.0 ++ (encode_named version x.1.0 ++ ((u16_field (length (without_marks ms)) ++ flat_map (column_bytes version) l) ++ indexes_bytes x.1.1.1))) (sym (marks_back ms 0)) in
+    let is : IsDefIn version made × (encode_def version x ≡ def_bytes version made) = ((fits, says_so version made ms f.1.0.0.1.0 f.1.1.0.1 refl), same) in
+    let P : TableDef → Type 0 = λ w. IsDefIn version w × (encode_def version x ≡ def_bytes version w) in
+    subst P (some_is made def e) is
+
+def_exact : (version : ImageVersion) → Exact (IsDefIn version) (def_bytes version) (def_at version)
 unfolding def_at
-def_exact = mapped_exact FitDef IsDef encode_def def_bytes def_of def_parts (both u32_at (both named_at (both (listed u16_at column_at) (listed u8_at index_at))))
-    (record {
-      there = λ def. refl;
-      encoded = λ x. refl;
-      fit = λ x f. record {
-        id = f.0;
-        name = f.1.0.0.1.0.1;
-        history = f.1.0.1;
-        view = f.1.0.0.1.1.1.1;
-        column_count = f.1.1.0.0;
-        columns = f.1.1.0.1;
-        index_count = f.1.1.1.0;
-        indexes = f.1.1.1.1;
-      };
-      fit_back = fit_def;
-    })
-    (both_exact (λ (n : ℕ). n < 2 ^ 32) (λ (x : TableHeading × Lists). FitNamed x.0 × FitLists x.1) u32_field (λ (x : TableHeading × Lists). encode_named x.0 ++ encode_lists x.1) u32_at (both named_at (both (listed u16_at column_at) (listed u8_at index_at))) u32_exact
-    (both_exact FitNamed FitLists encode_named encode_lists named_at (both (listed u16_at column_at) (listed u8_at index_at)) named_exact lists_exact))
+def_exact version = decoded_exact (FitDef version) (IsDefIn version) (encode_def version) (def_bytes version) def_of def_parts (both u32_at (both (named_at version) (both (listed u16_at (column_at version)) (listed u8_at index_at))))
+    (record { there = def_there version; encoded = λ def f. def_encoded version def; fit_back = fit_def version; back = def_back version })
+    (both_exact (λ (n : ℕ). n < 2 ^ 32) (λ (x : TableHeading × Lists). FitNamed version x.0 × FitLists version x.1) u32_field (λ (x : TableHeading × Lists). encode_named version x.0 ++ encode_lists version x.1) u32_at (both (named_at version) (both (listed u16_at (column_at version)) (listed u8_at index_at))) u32_exact
+    (both_exact (FitNamed version) (FitLists version) (encode_named version) (encode_lists version) (named_at version) (both (listed u16_at (column_at version)) (listed u8_at index_at)) (named_exact version) (lists_exact version)))
 
-abbrev pub FitDefs : Defs → Type 0
-FitDefs defs = ((length defs < 2 ^ 32) × AllByRecursion IsDef defs) × (ids_are_users defs ≡ true)
+abbrev pub FitDefs : ImageVersion → Defs → Type 0
+FitDefs version defs = ((length defs < 2 ^ 32) × AllByRecursion (IsDefIn version) defs) × (ids_are_users defs ≡ true)
 
-pub defs_exact : Exact FitDefs defs_bytes defs_at
+pub defs_exact : (version : ImageVersion) → Exact (FitDefs version) (defs_bytes version) (defs_at version)
 unfolding defs_at
-defs_exact = where_exact (λ (defs : Defs). (length defs < 2 ^ 32) × AllByRecursion IsDef defs) defs_bytes ids_are_users (listed u32_at def_at)
-    (listed_exact IsDef def_bytes def_at def_exact (2 ^ 32) u32_field u32_at u32_exact)
+defs_exact version = where_exact (λ (defs : Defs). (length defs < 2 ^ 32) × AllByRecursion (IsDefIn version) defs) (defs_bytes version) ids_are_users (listed u32_at (def_at version))
+    (listed_exact (IsDefIn version) (def_bytes version) (def_at version) (def_exact version) (2 ^ 32) u32_field u32_at u32_exact)

@@ -1,7 +1,8 @@
 -- Images are read exactly as they are written.
-use Rattle.std.proofs.Common.{◌≡◌, ◌<◌, ◌^◌, ℕ, true, List, [], ◌∷◌, ◌++◌, length, map, Option, Some, None, refl, sym, ap, subst, ◌∙◌, codes}
-use Rattle.std.specs.Prelude.{IfSome, flat_map}
+use Rattle.std.proofs.Common.{◌≡◌, ◌<◌, ◌^◌, ℕ, Bool, true, false, cond, List, [], ◌∷◌, ◌++◌, length, map, Option, Some, None, refl, sym, ap, subst, ◌∙◌, codes, inl, inr, arith}
+use Rattle.std.specs.Prelude.{IfSome, flat_map, ◌==◌}
 use Rattle.std.specs.List.{AllByRecursion}
+use Rattle.std.proofs.lemmas.Bool.{eqb-true}
 use Rattle.std.proofs.lemmas.List.{append-nil, length-map}
 use Rattle.base_types.specs.DatabaseName.{is_database_name}
 use Rattle.base_types.specs.Ids.{is_tx_id}
@@ -9,10 +10,10 @@ use Rattle.base_types.specs.Moment.{is_moment}
 use Rattle.base_types.specs.SessionName.{is_session_name}
 use Rattle.base_fields.specs.Fields.{u8_field, u64_field, short_field}
 use Rattle.base_fields.specs.Forms.{tx_id_at, moment_at, session_at, database_at}
-use Rattle.base_fields.specs.Readers.{Reader, ◌>>=◌, u64_at, after, both, decoded, depends, listed, whole}
+use Rattle.base_fields.specs.Readers.{Reader, ◌>>=◌, u8_at, u64_at, after, both, decoded, depends, listed, whole}
 use Rattle.base_fields.specs.Exact.{IsBytes, Exact}
 use Rattle.base_fields.proofs.FormsExact.{tx_id_exact, moment_exact, session_exact, database_exact}
-use Rattle.base_fields.proofs.Written.{u64_exact, some_is}
+use Rattle.base_fields.proofs.Written.{u8_exact, u64_exact, some_is}
 use Rattle.base_fields.proofs.Parts.{after_exact, both_exact, depends_exact, mapped_exact, decoded_exact, listed_exact, each_exact, encode_each, FitEach, one_value, whole_sound, whole_complete}
 use Rattle.format_entry.specs.Entry.{TableRoot}
 use Rattle.format_entry.specs.EntryReading.{roots_at}
@@ -26,10 +27,12 @@ use Rattle.sql_types.specs.declared.image.TableRows.{TableRows}
 use Rattle.spec_model.specs.Catalog.{Defs}
 use Rattle.spec_model.specs.SystemTables.{tables_def, columns_def}
 use Rattle.spec_ledger.specs.Parts.{by_sizes}
-use Rattle.format_image.specs.DefBytes.{defs_bytes}
+use Rattle.format_image.specs.declared.version.ImageVersion.{ImageVersion}
+use Rattle.format_image.specs.declared.version.ImageVersion.TheVariants.{First, Second}
+use Rattle.format_image.specs.DefBytes.{version_code, defs_bytes, IsDef, Says, IsDefIn}
 use Rattle.format_image.specs.RowBytes.{table_bytes, IsTable}
-use Rattle.format_image.specs.ImageBytes.{blocks_bytes, placeless_bytes, entries_bytes, IsPlaceless, sizes_of, tables_bytes, AreTables, image_bytes, IsImage}
-use Rattle.format_image.specs.ImageReading.{defs_at, table_at, tables_at, blocks_at, placeless_of, placeless_at, Ledgers, entries_at, ledger_at, image_from, image_at}
+use Rattle.format_image.specs.ImageBytes.{blocks_bytes, placeless_bytes, entries_bytes, IsPlaceless, sizes_of, tables_bytes, AreTables, image_bytes, image_bytes_1, IsImage, IsSpellingOf}
+use Rattle.format_image.specs.ImageReading.{defs_at, table_at, tables_at, blocks_at, placeless_of, placeless_at, Ledgers, entries_at, ledger_at, image_from, image_in, version_of, version_at, either_at, image_alone, image_at}
 use Rattle.format_image.specs.Tables.{defs_in}
 use Rattle.format_image.proofs.DefExact.{FitDefs, defs_exact}
 use Rattle.format_image.proofs.RowExact.{table_exact}
@@ -220,11 +223,11 @@ tables_fit (d ∷ ds) (r ∷ rs) fits = (fits.0, tables_fit ds rs fits.1)
 abbrev StoredTables : Type 0
 StoredTables = Defs × List TableRows
 
-abbrev FitStoredTables : StoredTables → Type 0
-FitStoredTables x = FitDefs x.0 × FitEach IsTable (all_defs x.0) x.1
+abbrev FitStoredTables : ImageVersion → StoredTables → Type 0
+FitStoredTables version x = FitDefs version x.0 × FitEach IsTable (all_defs x.0) x.1
 
-abbrev spell_stored_tables : StoredTables → List ℕ
-spell_stored_tables x = defs_bytes x.0 ++ encode_each table_bytes (all_defs x.0) x.1
+abbrev spell_stored_tables : ImageVersion → StoredTables → List ℕ
+spell_stored_tables version x = defs_bytes version x.0 ++ encode_each table_bytes (all_defs x.0) x.1
 
 abbrev Parts : Type 0
 Parts = List ℕ × (Ledgers × StoredTables)
@@ -235,77 +238,193 @@ parts_of i = (i.database, ((i.blocks, i.entries), (i.defs, i.tables)))
 abbrev FitDatabase : List ℕ → Type 0
 FitDatabase name = is_database_name name ≡ true
 
-abbrev FitParts : Parts → Type 0
-FitParts x = FitDatabase x.0 × (FitLedger x.1.0 × FitStoredTables x.1.1)
+abbrev FitParts : ImageVersion → Parts → Type 0
+FitParts version x = FitDatabase x.0 × (FitLedger x.1.0 × FitStoredTables version x.1.1)
 
-abbrev encode_parts : Parts → List ℕ
-encode_parts x = short_field x.0 ++ (encode_ledger x.1.0 ++ spell_stored_tables x.1.1)
+abbrev encode_parts : ImageVersion → Parts → List ℕ
+encode_parts version x = short_field x.0 ++ (encode_ledger x.1.0 ++ spell_stored_tables version x.1.1)
 
-abbrev head : List ℕ → List ℕ
-head bytes = codes "LGIM" ++ (u8_field 1 ++ bytes)
+-- an image that has a spelling in this version
+abbrev IsImageIn : ImageVersion → Image → Type 0
+IsImageIn version i = IsImage i × AllByRecursion (Says version) i.defs
 
-abbrev encoded : Image → List ℕ
-encoded i = head (short_field i.database ++ ((blocks_bytes i.blocks ++ entries_bytes i.entries) ++ (defs_bytes i.defs ++ tables_bytes (defs_in i) i.tables)))
+-- what comes behind the number of the version
+abbrev encoded_behind : ImageVersion → Image → List ℕ
+encoded_behind version i = short_field i.database ++ ((blocks_bytes i.blocks ++ entries_bytes i.entries) ++ (defs_bytes version i.defs ++ tables_bytes (defs_in i) i.tables))
 
-image_is : (x : Parts) → FitParts x → IsImage (image_from x)
-image_is x f =
+are_defs : (version : ImageVersion) (defs : Defs) → AllByRecursion (IsDefIn version) defs → AllByRecursion IsDef defs
+are_defs version [] all = tt
+are_defs version (d ∷ ds) all = (all.0.0, are_defs version ds all.1)
+
+say_so : (version : ImageVersion) (defs : Defs) → AllByRecursion (IsDefIn version) defs → AllByRecursion (Says version) defs
+say_so version [] all = tt
+say_so version (d ∷ ds) all = (all.0.1, say_so version ds all.1)
+
+defs_in_version : (version : ImageVersion) (defs : Defs) → AllByRecursion IsDef defs → AllByRecursion (Says version) defs → AllByRecursion (IsDefIn version) defs
+defs_in_version version [] are say = tt
+defs_in_version version (d ∷ ds) are say = ((are.0, say.0), defs_in_version version ds are.1 say.1)
+
+image_is : (version : ImageVersion) (x : Parts) → FitParts version x → IsImageIn version (image_from x)
+image_is version x f =
     let l = f.1.0 in
-    let s = f.1.1 in
-    record {
-      database = f.0;
-      block_count = l.blocks.0;
-      blocks = l.blocks.1;
-      entry_count = l.count;
-      entries = l.entries;
-      places = l.places;
-      def_count = s.0.0.0;
-      defs = s.0.0.1;
-      ids = s.0.1;
-      tables = fit_tables (all_defs x.1.1.0) x.1.1.1 s.1;
-    }
+    let s = f.1.1 in (
+      record {
+        database = f.0;
+        block_count = l.blocks.0;
+        blocks = l.blocks.1;
+        entry_count = l.count;
+        entries = l.entries;
+        places = l.places;
+        def_count = s.0.0.0;
+        defs = are_defs version x.1.1.0 s.0.0.1;
+        ids = s.0.1;
+        tables = fit_tables (all_defs x.1.1.0) x.1.1.1 s.1;
+      },
+      say_so version x.1.1.0 s.0.0.1,
+    )
 
-is_image : (i : Image) → IsImage i → FitParts (parts_of i)
-is_image i f = (
-  f.database,
-  (
-    record { blocks = (f.block_count, f.blocks); count = f.entry_count; entries = f.entries; places = f.places },
-    (((f.def_count, f.defs), f.ids), tables_fit (all_defs i.defs) i.tables f.tables),
-  ),
-)
+is_image : (version : ImageVersion) (i : Image) → IsImageIn version i → FitParts version (parts_of i)
+is_image version i is =
+    let f = is.0 in (
+      f.database,
+      (
+        record { blocks = (f.block_count, f.blocks); count = f.entry_count; entries = f.entries; places = f.places },
+        (((f.def_count, defs_in_version version i.defs f.defs is.1), f.ids), tables_fit (all_defs i.defs) i.tables f.tables),
+      ),
+    )
 
-image_exact : Exact IsImage encoded image_at
-unfolding image_at
-image_exact = mapped_exact FitParts IsImage (λ (x : Parts). head (encode_parts x)) encoded image_from parts_of (after (codes "LGIM") (after (u8_field 1) (both database_at (both ledger_at (depends defs_at tables_at)))))
+image_in_exact : (version : ImageVersion) → Exact (IsImageIn version) (encoded_behind version) (image_in version)
+unfolding image_in
+image_in_exact version = mapped_exact (FitParts version) (IsImageIn version) (encode_parts version) (encoded_behind version) image_from parts_of (both database_at (both ledger_at (depends (defs_at version) tables_at)))
     (record {
       there = λ i. refl;
-      encoded = λ x. ap (λ (bytes : List ℕ). head (short_field x.0 ++ (encode_ledger x.1.0 ++ (defs_bytes x.1.1.0 ++ bytes)))) (sym (each_table (all_defs x.1.1.0) x.1.1.1));
-      fit = image_is;
-      fit_back = is_image;
+      encoded = λ x. ap (λ (bytes : List ℕ). short_field x.0 ++ (encode_ledger x.1.0 ++ (defs_bytes version x.1.1.0 ++ bytes))) (sym (each_table (all_defs x.1.1.0) x.1.1.1));
+      fit = image_is version;
+      fit_back = is_image version;
     })
-    (after_exact (codes "LGIM") FitParts (λ (x : Parts). u8_field 1 ++ encode_parts x) (after (u8_field 1) (both database_at (both ledger_at (depends defs_at tables_at))))
-    (after_exact (u8_field 1) FitParts encode_parts (both database_at (both ledger_at (depends defs_at tables_at)))
-    (both_exact FitDatabase (λ (x : Ledgers × StoredTables). FitLedger x.0 × FitStoredTables x.1) short_field (λ (x : Ledgers × StoredTables). encode_ledger x.0 ++ spell_stored_tables x.1) database_at (both ledger_at (depends defs_at tables_at)) database_exact
-    (both_exact FitLedger FitStoredTables encode_ledger spell_stored_tables ledger_at (depends defs_at tables_at) ledger_exact
-    (depends_exact FitDefs (λ (defs : Defs) (rows : List TableRows). FitEach IsTable (all_defs defs) rows) defs_bytes (λ (defs : Defs) (rows : List TableRows). encode_each table_bytes (all_defs defs) rows) defs_at tables_at defs_exact tables_exact)))))
+    (both_exact FitDatabase (λ (x : Ledgers × StoredTables). FitLedger x.0 × FitStoredTables version x.1) short_field (λ (x : Ledgers × StoredTables). encode_ledger x.0 ++ spell_stored_tables version x.1) database_at (both ledger_at (depends (defs_at version) tables_at)) database_exact
+    (both_exact FitLedger (FitStoredTables version) encode_ledger (spell_stored_tables version) ledger_at (depends (defs_at version) tables_at) ledger_exact
+    (depends_exact (FitDefs version) (λ (defs : Defs) (rows : List TableRows). FitEach IsTable (all_defs defs) rows) (defs_bytes version) (λ (defs : Defs) (rows : List TableRows). encode_each table_bytes (all_defs defs) rows) (defs_at version) tables_at (defs_exact version) tables_exact)))
+
+-- ---- the version
+
+abbrev encode_version : ImageVersion → List ℕ
+encode_version version = u8_field (version_code version)
+
+version_there : (v : ImageVersion) → version_of (version_code v) ≡ Some v
+version_there First = refl
+version_there Second = refl
+
+version_small : (v : ImageVersion) → version_code v < 256
+version_small First = omega arith
+version_small Second = omega arith
+
+version_back_by : (n : ℕ) (a b : Bool) (v : ImageVersion) → (n == 1) ≡ a → (n == 2) ≡ b → cond a (Some First) (cond b (Some Second) None) ≡ Some v → n ≡ version_code v
+version_back_by n true b First one two e = eqb-true _ _ one
+version_back_by n true b Second one two e = cc
+version_back_by n false true First one two e = cc
+version_back_by n false true Second one two e = eqb-true _ _ two
+version_back_by n false false v one two e = absurd cc
+
+abbrev Any : ImageVersion → Type 0
+Any version = Unit {0}
+
+version_exact : Exact Any encode_version version_at
+unfolding version_at
+version_exact = decoded_exact (λ (n : ℕ). n < 256) Any u8_field encode_version version_of version_code u8_at
+    (record {
+      there = λ v fits. version_there v;
+      encoded = λ v fits. refl;
+      fit_back = λ v fits. version_small v;
+      back = λ n v bytes fits e. (tt, ap u8_field (version_back_by n (n == 1) (n == 2) v refl refl e));
+    })
+    u8_exact
+
+-- ---- an image of either version
+
+abbrev Either : Type 0
+Either = ImageVersion × Image
+
+abbrev FitEither : Either → Type 0
+FitEither x = Any x.0 × IsImageIn x.0 x.1
+
+abbrev encode_either : Either → List ℕ
+encode_either x = codes "LGIM" ++ (encode_version x.0 ++ encoded_behind x.0 x.1)
+
+either_exact : Exact FitEither encode_either either_at
+unfolding either_at
+either_exact = after_exact (codes "LGIM") FitEither (λ (x : Either). encode_version x.0 ++ encoded_behind x.0 x.1) (depends version_at image_in)
+    (depends_exact Any IsImageIn encode_version encoded_behind version_at image_in version_exact image_in_exact)
 
 -- ---- the bytes
 
-image_bytes-is : (i : Image) → image_bytes i ≡ encoded i
-unfolding image_bytes
-image_bytes-is i = refl
+-- a spelling is that of a version
+record InVersion (bytes : List ℕ) (i : Image) : Type 0 where
+  version : ImageVersion
+  fits : FitEither (version, i)
+  same : bytes ≡ encode_either (version, i)
 
-pub found_of : (bytes : List ℕ) (found : Option Image) → IsBytes bytes → found ≡ whole image_at bytes → IfSome found (λ i. IsImage i × (bytes ≡ image_bytes i))
-found_of bytes None fits read = tt
-found_of bytes (Some i) fits read =
-    let t = whole_sound IsImage encoded image_at image_exact bytes i fits (sym read) in
-    (t.0, t.1 ∙ sym (image_bytes-is i))
+all_said : (defs : Defs) → AllByRecursion (Says Second) defs
+all_said [] = tt
+all_said (d ∷ ds) = (tt, all_said ds)
 
-pub only_of : (bytes : List ℕ) (i : Image) → IsImage i → bytes ≡ image_bytes i → whole image_at bytes ≡ Some i
-only_of bytes i is same = ap (whole image_at) (same ∙ image_bytes-is i) ∙ whole_complete IsImage encoded image_at image_exact i is
+in_version : (bytes : List ℕ) (i : Image) → IsImage i → IsSpellingOf bytes i → InVersion bytes i
+unfolding image_bytes image_bytes_1
+in_version bytes i is (inl same) = record { version = Second; fits = (tt, (is, all_said i.defs)); same = same }
+in_version bytes i is (inr first) = record { version = First; fits = (tt, (is, first.0)); same = first.1 }
 
-pub one_image : (i j : Image) (rest : List ℕ) → IsImage i → IsImage j → image_bytes i ≡ image_bytes j ++ rest → (i ≡ j) × (rest ≡ [])
-unfolding image_bytes
-one_image i j rest ii ij same = one_value IsImage encoded image_at image_exact i j rest ii ij same
+spelling : (bytes : List ℕ) (version : ImageVersion) (i : Image) → FitEither (version, i) → bytes ≡ encode_either (version, i) → IsImage i × IsSpellingOf bytes i
+unfolding image_bytes image_bytes_1
+spelling bytes First i fits same = (fits.1.0, inr (fits.1.1, same))
+spelling bytes Second i fits same = (fits.1.0, inl same)
 
-pub equal_images : (i j : Image) → IsImage i → IsImage j → image_bytes i ≡ image_bytes j → i ≡ j
-equal_images i j ii ij same = (one_image i j [] ii ij (same ∙ sym (append-nil (image_bytes j)))).0
+-- the whole of the bytes, without the version
+abbrev then_alone : Option Either → Option Image
+then_alone read = read >>= λ x. Some (image_alone x)
+
+alone_of : (read : Option (Either × List ℕ))
+    → ((read >>= λ x. Some (image_alone x.0, x.1)) >>= λ (y : Image × List ℕ). cond (length y.1 == 0) (Some y.0) None)
+    ≡ then_alone (read >>= λ x. cond (length x.1 == 0) (Some x.0) None)
+alone_of None = refl
+alone_of (Some x) = by (length x.1 == 0)
+  where
+    by : (b : Bool) → cond b (Some (image_alone x.0)) None ≡ then_alone (cond b (Some x.0) None)
+    by true = refl
+    by false = refl
+
+whole_alone : (bytes : List ℕ) → whole image_at bytes ≡ then_alone (whole either_at bytes)
+unfolding image_at
+whole_alone bytes = alone_of (either_at bytes)
+
+abbrev IsFound : List ℕ → Option Image → Type 0
+IsFound bytes found = IfSome found (λ i. IsImage i × IsSpellingOf bytes i)
+
+found_by : (bytes : List ℕ) (read : Option Either) → IsBytes bytes → whole either_at bytes ≡ read → IsFound bytes (then_alone read)
+found_by bytes None fits e = tt
+found_by bytes (Some x) fits e =
+    let t = whole_sound FitEither encode_either either_at either_exact bytes x fits e in
+    spelling bytes x.0 x.1 t.0 t.1
+
+pub found_of : (bytes : List ℕ) (found : Option Image) → IsBytes bytes → found ≡ whole image_at bytes → IfSome found (λ i. IsImage i × IsSpellingOf bytes i)
+found_of bytes found fits read =
+    subst (IsFound bytes) (sym (read ∙ whole_alone bytes)) (found_by bytes (whole either_at bytes) fits refl)
+
+pub only_of : (bytes : List ℕ) (i : Image) → IsImage i → IsSpellingOf bytes i → whole image_at bytes ≡ Some i
+only_of bytes i is s =
+    let v = in_version bytes i is s in
+    whole_alone bytes ∙ ap (λ (b : List ℕ). then_alone (whole either_at b)) v.same
+    ∙ ap then_alone (whole_complete FitEither encode_either either_at either_exact (v.version, i) v.fits)
+
+one_image : (a b : List ℕ) (i j : Image) (rest : List ℕ) → IsImage i → IsImage j → IsSpellingOf a i → IsSpellingOf b j → a ≡ b ++ rest → (i ≡ j) × (rest ≡ [])
+one_image a b i j rest ii ij si sj same =
+    let v = in_version a i ii si in
+    let w = in_version b j ij sj in
+    let one = one_value FitEither encode_either either_at either_exact (v.version, i) (w.version, j) rest v.fits w.fits
+    (sym v.same ∙ same ∙ ap (λ (bytes : List ℕ). bytes ++ rest) w.same) in
+    (ap (λ (x : Either). x.1) one.0, one.1)
+
+pub one_prefix : (a b : List ℕ) (i j : Image) (rest : List ℕ) → IsImage i → IsImage j → IsSpellingOf a i → IsSpellingOf b j → a ≡ b ++ rest → rest ≡ []
+one_prefix a b i j rest ii ij si sj same = (one_image a b i j rest ii ij si sj same).1
+
+pub equal_images : (bytes : List ℕ) (i j : Image) → IsImage i → IsImage j → IsSpellingOf bytes i → IsSpellingOf bytes j → i ≡ j
+equal_images bytes i j ii ij si sj = (one_image bytes bytes i j [] ii ij si sj (sym (append-nil bytes))).0

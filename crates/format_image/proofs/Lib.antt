@@ -1,7 +1,9 @@
 pub mod AnyRows
+pub mod ColumnsRead
 pub mod DefExact
 pub mod Each
 pub mod ImageExact
+pub mod Marks
 pub mod Places
 pub mod ProperNames
 pub mod RowExact

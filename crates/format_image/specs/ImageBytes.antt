@@ -1,5 +1,5 @@
--- An image: its one spelling in bytes.
-use Rattle.std.specs.Prelude.{ℕ, ◌≡◌, ◌<◌, ◌^◌, true, List, [], ◌∷◌, ◌++◌, length, map, flat_map, codes}
+-- An image: its spelling in bytes, one in version 2 and at most one in version 1.
+use Rattle.std.specs.Prelude.{ℕ, ◌≡◌, ◌<◌, ◌^◌, ◌⊎◌, true, List, [], ◌∷◌, ◌++◌, length, map, flat_map, codes}
 use Rattle.std.specs.List.{AllByRecursion}
 use Rattle.base_types.specs.DatabaseName.{is_database_name}
 use Rattle.base_types.specs.Ids.{is_tx_id}
@@ -14,7 +14,9 @@ use Rattle.sql_types.specs.declared.image.Image.{Image}
 use Rattle.sql_types.specs.declared.image.TableRows.{TableRows}
 use Rattle.spec_model.specs.Catalog.{Defs}
 use Rattle.spec_ledger.specs.Parts.{by_sizes}
-use Rattle.format_image.specs.DefBytes.{defs_bytes, IsDef, ids_rise}
+use Rattle.format_image.specs.declared.version.ImageVersion.{ImageVersion}
+use Rattle.format_image.specs.declared.version.ImageVersion.TheVariants.{First, Second}
+use Rattle.format_image.specs.DefBytes.{version_code, defs_bytes, IsDef, NothingDropped, ids_rise}
 use Rattle.format_image.specs.RowBytes.{table_bytes, IsTable}
 use Rattle.format_image.specs.Tables.{defs_in}
 
@@ -58,15 +60,23 @@ AreTables _ _ = ⊥
 
 -- ---- the image
 
--- `LGIM`, the number of the format, the database, the blocks, the entries, the definitions, and the rows
+-- `LGIM`, the number of the version, the database, the blocks, the entries, the definitions, and the rows
 -- of the two tables of the system and of each definition
-unfoldable pub image_bytes : Image → List ℕ
-image_bytes i =
+abbrev pub bytes_in : ImageVersion → Image → List ℕ
+bytes_in version i =
     codes "LGIM"
-    ++ (u8_field 1
+    ++ (u8_field (version_code version)
     ++ (short_field i.database
     ++ ((blocks_bytes i.blocks ++ entries_bytes i.entries)
-    ++ (defs_bytes i.defs ++ tables_bytes (defs_in i) i.tables))))
+    ++ (defs_bytes version i.defs ++ tables_bytes (defs_in i) i.tables))))
+
+-- in version 2
+unfoldable pub image_bytes : Image → List ℕ
+image_bytes i = bytes_in Second i
+
+-- in version 1, which can't say that something was dropped
+unfoldable pub image_bytes_1 : Image → List ℕ
+image_bytes_1 i = bytes_in First i
 
 -- an image that has a spelling; its entries stand at the places that the sizes of the blocks give them
 pub record IsImage (i : Image) : Type 0 where
@@ -80,3 +90,15 @@ pub record IsImage (i : Image) : Type 0 where
   pub defs : AllByRecursion IsDef i.defs
   pub ids : ids_rise 2 i.defs ≡ true
   pub tables : AreTables (defs_in i) i.tables
+
+-- neither a table nor a column was dropped
+abbrev pub NothingGone : Image → Type 0
+NothingGone i = AllByRecursion NothingDropped i.defs
+
+-- an image that has a spelling in version 1 too
+abbrev pub IsImage1 : Image → Type 0
+IsImage1 i = IsImage i × NothingGone i
+
+-- a spelling of an image: the one of version 2, or the one of version 1 where it has that
+abbrev pub IsSpellingOf : List ℕ → Image → Type 0
+IsSpellingOf bytes i = (bytes ≡ image_bytes i) ⊎ (NothingGone i × (bytes ≡ image_bytes_1 i))

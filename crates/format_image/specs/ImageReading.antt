@@ -1,5 +1,5 @@
 -- Reading an image from left to right.
-use Rattle.std.specs.Prelude.{ℕ, ◌+◌, ◌==◌, Bool, true, false, List, ◌∷◌, ◌++◌, Option, Some, None, codes, if◌then◌else◌}
+use Rattle.std.specs.Prelude.{ℕ, suc, ◌+◌, ◌==◌, Bool, true, false, List, [], ◌∷◌, ◌++◌, map, Option, Some, None, codes, if◌then◌else◌}
 use Rattle.base_fields.specs.Fields.{u8_field}
 use Rattle.base_fields.specs.Forms.{tx_id_at, moment_at, session_at, database_at}
 use Rattle.base_fields.specs.Readers.{Reader, ◌>>=◌, u8_at, u16_at, u32_at, u64_at, short_at, after, both, depends, mapped, decoded, where_, listed, times, for_each}
@@ -26,7 +26,9 @@ use Rattle.spec_model.specs.Rows.{EventId}
 use Rattle.spec_model.specs.SystemTables.{tables_def, columns_def}
 use Rattle.spec_model.specs.ProperNames.{is_proper_name, has_its_history}
 use Rattle.spec_ledger.specs.Parts.{by_sizes}
-use Rattle.format_image.specs.DefBytes.{ids_rise}
+use Rattle.format_image.specs.declared.version.ImageVersion.{ImageVersion}
+use Rattle.format_image.specs.declared.version.ImageVersion.TheVariants.{First, Second}
+use Rattle.format_image.specs.DefBytes.{MarkedColumn, ids_rise}
 use Rattle.format_image.specs.ImageBytes.{sizes_of}
 use Rattle.format_image.specs.RowBytes.{starts_rise}
 use Rattle.format_image.specs.Rows.{Stored}
@@ -47,11 +49,33 @@ name_at = where_ is_proper_name short_at
 unfoldable pub column_type_at : Reader SqlType
 column_type_at = where_ is_in_range type_at
 
-abbrev pub column_of : List ℕ × (SqlType × (Bool × ℕ)) → ColumnDef
-column_of x = record { name = x.0; ty = x.1.0; nullable = x.1.1.0; key_position = x.1.1.1 }
+-- whether something was dropped; in version 1 nothing was
+unfoldable pub dropped_at : ImageVersion → Reader Bool
+dropped_at First bytes = Some (false, bytes)
+dropped_at Second bytes = flag_at bytes
 
-unfoldable pub column_at : Reader ColumnDef
-column_at = mapped column_of (both name_at (both column_type_at (both flag_at u8_at)))
+abbrev pub column_of : List ℕ × (SqlType × (Bool × (ℕ × Bool))) → MarkedColumn
+column_of x =
+    (record { name = x.0; ty = x.1.0; nullable = x.1.1.0; key_position = x.1.1.1.0 }, x.1.1.1.1)
+
+unfoldable pub column_at : ImageVersion → Reader MarkedColumn
+column_at version =
+    mapped column_of (both name_at (both column_type_at (both flag_at (both u8_at (dropped_at version)))))
+
+abbrev pub without_marks : List MarkedColumn → List ColumnDef
+without_marks columns = map (λ m. m.0) columns
+
+-- the ordinals of the dropped columns among these, the first of which has this ordinal
+abbrev pub dropped_among : ℕ → List MarkedColumn → List ℕ
+dropped_among n [] = []
+dropped_among n (m ∷ ms) = if m.1 then n ∷ dropped_among (suc n) ms else dropped_among (suc n) ms
+
+-- columns, and the ordinals of those that were dropped
+abbrev pub Columns : Type 0
+Columns = List ColumnDef × List ℕ
+
+abbrev pub columns_of : List MarkedColumn → Columns
+columns_of columns = (without_marks columns, dropped_among 1 columns)
 
 abbrev pub index_of : List ℕ × List ℕ → IndexDef
 index_of x = record { name = x.0; ordinals = x.1 }
@@ -66,38 +90,43 @@ kind_of n = if n == 1 then Some AppendOnly else (if n == 2 then Some Updatable e
 unfoldable pub kind_at : Reader TableKind
 kind_at = decoded kind_of u8_at
 
--- the kind, the name, the name of the history, and the name of the view
+-- the kind, whether the table was dropped, the name, the name of the history, and the name of the view
 abbrev pub TableHeading : Type 0
-TableHeading = TableKind × (List ℕ × (List ℕ × List ℕ))
+TableHeading = TableKind × (Bool × (List ℕ × (List ℕ × List ℕ)))
 
 -- an append-only table alone has no history
 abbrev pub is_named : TableHeading → Bool
-is_named x = has_its_history x.0 x.1.1.0
+is_named x = has_its_history x.0 x.1.1.1.0
 
-unfoldable pub named_at : Reader TableHeading
-named_at = where_ is_named (both kind_at (both name_at (both short_at name_at)))
+unfoldable pub named_at : ImageVersion → Reader TableHeading
+named_at version =
+    where_ is_named (both kind_at (both (dropped_at version) (both name_at (both short_at name_at))))
 
-abbrev pub def_of : ℕ × (TableHeading × (List ColumnDef × List IndexDef)) → TableDef
+abbrev pub def_of : ℕ × (TableHeading × (List MarkedColumn × List IndexDef)) → Option TableDef
 def_of x =
-    record {
+    Some (record {
       id = x.0;
       kind = x.1.0.0;
-      name = x.1.0.1.0;
-      history = x.1.0.1.1.0;
-      view = x.1.0.1.1.1;
-      columns = x.1.1.0;
+      gone = x.1.0.1.0;
+      name = x.1.0.1.1.0;
+      history = x.1.0.1.1.1.0;
+      view = x.1.0.1.1.1.1;
+      columns = without_marks x.1.1.0;
+      dropped = dropped_among 1 x.1.1.0;
       indexes = x.1.1.1;
-    }
+    })
 
-unfoldable pub def_at : Reader TableDef
-def_at = mapped def_of (both u32_at (both named_at (both (listed u16_at column_at) (listed u8_at index_at))))
+unfoldable pub def_at : ImageVersion → Reader TableDef
+def_at version =
+    decoded def_of
+    (both u32_at (both (named_at version) (both (listed u16_at (column_at version)) (listed u8_at index_at))))
 
 -- from 3 on
 abbrev pub ids_are_users : Defs → Bool
 ids_are_users defs = ids_rise 2 defs
 
-unfoldable pub defs_at : Reader Defs
-defs_at = where_ ids_are_users (listed u32_at def_at)
+unfoldable pub defs_at : ImageVersion → Reader Defs
+defs_at version = where_ ids_are_users (listed u32_at (def_at version))
 
 -- ---- rows
 
@@ -196,8 +225,25 @@ abbrev pub image_from : List ℕ × (Ledgers × (Defs × List TableRows)) → Im
 image_from x =
     record { database = x.0; blocks = x.1.0.0; entries = x.1.0.1; defs = x.1.1.0; tables = x.1.1.1 }
 
+-- an image of this version, behind the number of the version
+unfoldable pub image_in : ImageVersion → Reader Image
+image_in version =
+    mapped image_from (both database_at (both ledger_at (depends (defs_at version) tables_at)))
+
+-- the version with this number, if there is one
+abbrev pub version_of : ℕ → Option ImageVersion
+version_of n = if n == 1 then Some First else (if n == 2 then Some Second else None)
+
+unfoldable pub version_at : Reader ImageVersion
+version_at = decoded version_of u8_at
+
+-- an image of either version, and which it is
+unfoldable pub either_at : Reader (ImageVersion × Image)
+either_at = after (codes "LGIM") (depends version_at image_in)
+
+abbrev pub image_alone : ImageVersion × Image → Image
+image_alone x = x.1
+
+-- an image of either version
 unfoldable pub image_at : Reader Image
-image_at =
-    mapped image_from
-    (after (codes "LGIM")
-    (after (u8_field 1) (both database_at (both ledger_at (depends defs_at tables_at)))))
+image_at = mapped image_alone either_at

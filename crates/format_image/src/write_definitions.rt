@@ -1,52 +1,54 @@
 //! Writing the definitions of tables.
 
-ghost use Rattle.std.specs.Prelude.{All, ◌≡◌, ◌<◌, ◌^◌, ◌++◌, OnOk, flat_map, length};
+ghost use Rattle.std.specs.Prelude.{All, ◌≡◌, ◌<◌, ◌^◌, ◌++◌, OnOk, flat_map, length, true};
 ghost use Rattle.base_fields.specs.Fields.{u16_field};
 ghost use Rattle.spec_model.specs.SystemTables.{kind_code};
-ghost use Rattle.format_image.specs.DefBytes.{flag, column_bytes, IsColumn, index_bytes, IsIndex, columns_bytes, indexes_bytes, names_bytes, def_bytes, IsDef, defs_bytes};
+ghost use Rattle.format_image.specs.DefBytes.{flag, dropped_bytes, column_bytes, IsColumn, marked, begins_with, rise_within, index_bytes, IsIndex, columns_bytes, indexes_bytes, names_bytes, def_bytes, IsDef, defs_bytes};
 
+use crate::version::ImageVersion;
 use base_fields::{put_short, put_u8, put_u16, put_u32};
-use base_types::Memory;
+use base_types::{Memory, first_of};
 use format_event::put_type;
 use sql_types::{IndexDef, TableDef};
 use sql_value::{ColumnDef, TableKind};
 
 /// Appends how many definitions there are, and these.
-pub fn put_defs(defs: &[TableDef], out: &mut Vec<u8>) -> Result<(), Memory>
+pub fn put_defs(version: ImageVersion, defs: &[TableDef], out: &mut Vec<u8>) -> Result<(), Memory>
     requires count { length defs.now < 2 ^ 32 }
     requires each { All IsDef defs.now }
-    ensures { OnOk result (out.new.items ≡ out.old.items ++ defs_bytes defs.now) }
+    ensures { OnOk result (out.new.items ≡ out.old.items ++ defs_bytes version defs.now) }
 {
     put_u32(out, defs.len() as u32)?;
-    put_each_def(defs, out)
+    put_each_def(version, defs, out)
 }
 
-fn put_each_def(defs: &[TableDef], out: &mut Vec<u8>) -> Result<(), Memory>
+fn put_each_def(version: ImageVersion, defs: &[TableDef], out: &mut Vec<u8>) -> Result<(), Memory>
     requires { All IsDef defs.now }
-    ensures { OnOk result (out.new.items ≡ out.old.items ++ flat_map def_bytes defs.now) }
+    ensures { OnOk result (out.new.items ≡ out.old.items ++ flat_map (def_bytes version) defs.now) }
 {
     for def in defs {
-        put_def(def, out)?;
+        put_def(version, def, out)?;
     }
     Ok(())
 }
 
-fn put_def(def: &TableDef, out: &mut Vec<u8>) -> Result<(), Memory>
+fn put_def(version: ImageVersion, def: &TableDef, out: &mut Vec<u8>) -> Result<(), Memory>
     requires { IsDef def.now }
-    ensures { OnOk result (out.new.items ≡ out.old.items ++ def_bytes def.now) }
+    ensures { OnOk result (out.new.items ≡ out.old.items ++ def_bytes version def.now) }
 {
     put_u32(out, def.id)?;
-    put_names(def, out)?;
-    put_columns(def.columns.as_slice(), out)?;
+    put_names(version, def, out)?;
+    put_columns(version, def.dropped.as_slice(), def.columns.as_slice(), out)?;
     put_indexes(def.indexes.as_slice(), out)
 }
 
-// The kind, and the names of table, history and view.
-fn put_names(def: &TableDef, out: &mut Vec<u8>) -> Result<(), Memory>
+// The kind, whether the table was dropped, and the names of table, history and view.
+fn put_names(version: ImageVersion, def: &TableDef, out: &mut Vec<u8>) -> Result<(), Memory>
     requires { IsDef def.now }
-    ensures { OnOk result (out.new.items ≡ out.old.items ++ names_bytes def.now) }
+    ensures { OnOk result (out.new.items ≡ out.old.items ++ names_bytes version def.now) }
 {
     put_u8(out, kind_code(def.kind))?;
+    put_dropped(version, def.gone, out)?;
     put_short(out, def.name.bytes())?;
     put_short(out, def.history.bytes())?;
     put_short(out, def.view.bytes())
@@ -61,33 +63,82 @@ fn kind_code(kind: TableKind) -> u8
     }
 }
 
-fn put_columns(columns: &[ColumnDef], out: &mut Vec<u8>) -> Result<(), Memory>
-    requires count { length columns.now < 2 ^ 16 }
-    requires each { All IsColumn columns.now }
-    ensures { OnOk result (out.new.items ≡ out.old.items ++ columns_bytes columns.now) }
+// Whether something was dropped, which version 1 doesn't say.
+fn put_dropped(version: ImageVersion, dropped: bool, out: &mut Vec<u8>) -> Result<(), Memory>
+    ensures { OnOk result (out.new.items ≡ out.old.items ++ dropped_bytes version dropped) }
 {
-    put_u16(out, columns.len() as u16)?;
-    put_each_column(columns, out)
+    match version {
+        ImageVersion::First => Ok(()),
+        ImageVersion::Second => put_u8(out, flag(dropped)),
+    }
 }
 
-fn put_each_column(columns: &[ColumnDef], out: &mut Vec<u8>) -> Result<(), Memory>
-    requires { All IsColumn columns.now }
-    ensures { OnOk result (out.new.items ≡ out.old.items ++ flat_map column_bytes columns.now) }
+fn put_columns(
+    version: ImageVersion,
+    dropped: &[u16],
+    columns: &[ColumnDef],
+    out: &mut Vec<u8>,
+) -> Result<(), Memory>
+    requires count { length columns.now < 2 ^ 16 }
+    requires each { All IsColumn columns.now }
+    requires rise { rise_within 0 (length columns.now) dropped.now ≡ true }
+    ensures { OnOk result (out.new.items ≡ out.old.items ++ columns_bytes version dropped.now columns.now) }
 {
-    for column in columns {
-        put_column(column, out)?;
+    put_u16(out, columns.len() as u16)?;
+    put_each_column(version, dropped, columns, out)
+}
+
+// Each column with whether its ordinal is among these, which rise.
+#[tactic(auto, using(crate::proofs::Marks::few_before))]
+fn put_each_column(
+    version: ImageVersion,
+    dropped: &[u16],
+    columns: &[ColumnDef],
+    out: &mut Vec<u8>,
+) -> Result<(), Memory>
+    requires count { length columns.now < 2 ^ 16 }
+    requires each { All IsColumn columns.now }
+    requires rise { rise_within 0 (length columns.now) dropped.now ≡ true }
+    ensures { OnOk result
+        (out.new.items ≡ out.old.items ++ flat_map (column_bytes version) (marked dropped.now 1 columns.now)) }
+{
+    let mut rest = columns;
+    let mut left = dropped;
+    let mut before = 0;
+    'each: while let Some((column, more)) = first_of(rest) {
+        let (is_dropped, later) = begins_with(before + 1, left);
+        put_column(version, column, is_dropped, out)?;
+        rest = more;
+        left = later;
+        before += 1;
     }
     Ok(())
 }
 
-fn put_column(column: &ColumnDef, out: &mut Vec<u8>) -> Result<(), Memory>
+// Whether the first of these is this one, and those behind it.
+fn begins_with(n: u32, numbers: &[u16]) -> (bool, &[u16])
+    ensures { (result.0, result.1.now) ≡ begins_with n numbers.now }
+{
+    match numbers {
+        [first, rest @ ..] if u32::from(*first) == n => (true, rest),
+        _ => (false, numbers),
+    }
+}
+
+fn put_column(
+    version: ImageVersion,
+    column: &ColumnDef,
+    dropped: bool,
+    out: &mut Vec<u8>,
+) -> Result<(), Memory>
     requires { IsColumn column.now }
-    ensures { OnOk result (out.new.items ≡ out.old.items ++ column_bytes column.now) }
+    ensures { OnOk result (out.new.items ≡ out.old.items ++ column_bytes version (column.now, dropped)) }
 {
     put_short(out, column.name.bytes())?;
     put_type(column.ty, out)?;
     put_u8(out, flag(column.nullable))?;
-    put_u8(out, column.key_position)
+    put_u8(out, column.key_position)?;
+    put_dropped(version, dropped, out)
 }
 
 fn flag(set: bool) -> u8

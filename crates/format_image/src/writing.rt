@@ -2,9 +2,10 @@
 
 ghost use Rattle.std.specs.Prelude.{All, ◌≡◌, ◌++◌, IfOk, OnOk, flat_map};
 ghost use Rattle.format_entry.specs.Record.{record_bytes};
-ghost use Rattle.format_image.specs.ImageBytes.{blocks_bytes, placeless_bytes, entries_bytes, IsPlaceless, tables_bytes, image_bytes, IsImage};
+ghost use Rattle.format_image.specs.ImageBytes.{blocks_bytes, placeless_bytes, entries_bytes, IsPlaceless, tables_bytes, bytes_in, image_bytes, image_bytes_1, IsImage, IsImage1};
 ghost use Rattle.format_image.specs.Tables.{defs_in};
 
+use crate::version::{ImageVersion, version_code};
 use crate::write_definitions::put_defs;
 use crate::write_rows::put_tables;
 use base_fields::{put_short, put_u8, put_u64};
@@ -13,20 +14,37 @@ use format_entry::{put_roots, record_bytes};
 use sql_types::{BlockRecord, Image, TxEntry};
 use std::alloc::Global;
 
-/// The bytes of an image that has a spelling (`docs/FORMATS.md`). The only error is want of memory. Takes
-/// time in proportion to the bytes.
+/// The bytes of an image that has a spelling (`docs/FORMATS.md`), in version 2. The only error is want of
+/// memory. Takes time in proportion to the bytes.
 #[tactic(auto, unfolding(crate::specs::ImageBytes::image_bytes))]
 pub fn write_image(alloc: Global, image: &Image) -> Result<Vec<u8>, Memory>
     requires { IsImage image.now }
     ensures { IfOk result (λ v. v.items ≡ image_bytes image.now) }
 {
+    write_in(alloc, ImageVersion::Second, image)
+}
+
+/// The bytes of such an image in version 1, where neither a table nor a column was dropped. The only error is
+/// want of memory. Takes time in proportion to the bytes.
+#[tactic(auto, unfolding(crate::specs::ImageBytes::image_bytes_1))]
+pub fn write_image_1(alloc: Global, image: &Image) -> Result<Vec<u8>, Memory>
+    requires { IsImage1 image.now }
+    ensures { IfOk result (λ v. v.items ≡ image_bytes_1 image.now) }
+{
+    write_in(alloc, ImageVersion::First, image)
+}
+
+fn write_in(alloc: Global, version: ImageVersion, image: &Image) -> Result<Vec<u8>, Memory>
+    requires { IsImage image.now }
+    ensures { IfOk result (λ v. v.items ≡ bytes_in version image.now) }
+{
     let mut out = Vec::new(alloc);
     out.extend_from_slice(b"LGIM")?;
-    put_u8(&mut out, 1)?;
+    put_u8(&mut out, version_code(version))?;
     put_short(&mut out, image.database.bytes())?;
     put_blocks(image.blocks.as_slice(), &mut out)?;
     put_entries(image.entries.as_slice(), &mut out)?;
-    put_defs(image.defs.as_slice(), &mut out)?;
+    put_defs(version, image.defs.as_slice(), &mut out)?;
     put_image_rows(image, &mut out)?;
     Ok(out)
 }

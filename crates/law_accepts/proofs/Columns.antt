@@ -1,31 +1,29 @@
 -- Versions in the image of a legal journal have NULL only where their columns took it when they started.
-use Rattle.std.proofs.Common.{◌≡◌, ◌≢◌, ◌≤◌, ◌<◌, ◌+◌, ◌*◌, ◌⊎◌, inl, inr, ℕ, pos, refl, sym, ap, ap₂, subst, ◌∙◌, arith, Bool, true, false, true≢false, List, [], ◌∷◌, ◌++◌, map, length, filter, Option, Some, None}
+use Rattle.std.proofs.Common.{◌≡◌, ◌≢◌, ◌≤◌, ◌<◌, ◌+◌, ◌*◌, ℕ, pos, refl, sym, ap, ◌∙◌, arith, Bool, true, false, true≢false, List, [], ◌∷◌, ◌++◌, map, length, filter, Option, Some, None}
 use Rattle.std.proofs.lemmas.Bool.Decides.{Decides-int_eq}
 use Rattle.std.proofs.lemmas.List.Elements.{All-from_recursion, recursion_from_All}
 use Rattle.std.proofs.lemmas.List.Sorted.{All-permutation, IsPermutation-sym, list_any-IsPermutation}
-use Rattle.std.specs.Bool.{Decides}
 use Rattle.std.specs.List.{All, AllByRecursion, list_any}
 use Rattle.std.specs.List.Sorted.{IsPermutation}
 use Rattle.std.specs.Ordering.{int_eq}
-use Rattle.std.specs.Prelude.{◌&&◌, ◌||◌, not, if◌then◌else◌, IfSome, is_some, is_none}
+use Rattle.std.specs.Prelude.{◌&&◌, ◌||◌, not, if◌then◌else◌, IfSome, is_some}
 use Rattle.sql_value.specs.declared.column.ColumnDef.{ColumnDef}
-use Rattle.sql_value.specs.declared.value.Value.{Value}
 use Rattle.sql_value.specs.declared.value.Value.TheVariants.{Null, Num, Text, Bytes, Date}
 use Rattle.sql_types.specs.declared.entry.TxEntry.{TxEntry}
 use Rattle.sql_types.specs.declared.table.IndexDef.{IndexDef}
 use Rattle.sql_types.specs.declared.table.TableDef.{TableDef}
 use Rattle.sql_types.specs.declared.version.TypedValue.{TypedValue}
 use Rattle.sql_types.specs.declared.version.Version.{Version}
-use Rattle.spec_model.specs.Keys.{value_at, version_key, key_of, key_places}
+use Rattle.spec_model.specs.Keys.{value_at, version_key, key_at, key_of, key_places}
 use Rattle.spec_model.specs.Lists.{numbered}
 use Rattle.spec_model.specs.Rows.{Row, EventId, number, values_of}
-use Rattle.spec_model.specs.SystemTables.{columns_columns, columns_id, bit, column_row, column_rows, index_row, index_rows}
+use Rattle.spec_model.specs.SystemTables.{columns_columns, bit, column_row, column_rows, index_row, index_rows}
 use Rattle.law_frame.proofs.Alls.{all_weaker, all_both, all_append}
 use Rattle.law_frame.proofs.SameKeys.{and_true}
 use Rattle.law_catalog_rows.specs.Encoded.{rows_of_indexes, item_rows, is_about, about}
 use Rattle.law_journal.specs.Fits.{FitsColumn, Fits}
 use Rattle.law_journal.specs.Kept.{IsEarlier}
-use Rattle.law_catalog_time.specs.AfterColumns.{IsKeyOfColumn, StartsAfterColumns}
+use Rattle.law_catalog_time.specs.AfterColumns.{IsKeyOfColumn}
 use Rattle.format_image.specs.Rows.{Stored}
 use Rattle.spec_verify.specs.Order.{is_before, later_started, last_started}
 use Rattle.spec_verify.specs.Versions.{has_columns, is_number, is_about_column, says_not_null, takes, column_as_of, respects_from}
@@ -204,7 +202,7 @@ module _ (second : List Version) (fit : AllByRecursion (λ (r : Version). has_co
 -- ---- a version that started after those rows
 
 row_key : (id : ℕ) (p : ℕ × ColumnDef) → key_of columns_columns (column_row id p) ≡ number id ∷ number p.0 ∷ number 0 ∷ []
-unfolding key_of key_places
+unfolding key_at key_places
 row_key id p = refl
 
 not_null_is : (id : ℕ) (p : ℕ × ColumnDef) (r : Version) → values_of r ≡ column_row id p → p.1.nullable ≡ true → says_not_null r ≡ false

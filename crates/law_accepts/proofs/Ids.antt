@@ -33,6 +33,7 @@ use Rattle.spec_verify.specs.Entries.{has_id, TableEvent, least_event, events_in
 use Rattle.spec_verify.specs.Order.{position_of}
 use Rattle.law_accepts.proofs.Along.{along}
 use Rattle.law_accepts.proofs.Firsts.{passes, neither}
+use Rattle.law_accepts.proofs.FilledTables.{filled_tables, tables_filled}
 use Rattle.law_accepts.proofs.Shown.{in_parts, tables_shown}
 
 -- ---- the ids of the entries
@@ -190,7 +191,7 @@ module _ (h : List ℕ → List ℕ) (reads : Reading) (database : List ℕ) (it
       none_left (λ (e : TableEvent). not (has_id (entries_of h reads items) e.1.0)) (flat_map events_in (tables_in (image_of h reads database items)))
       (all_weaker (λ (e : TableEvent). HasTx items e.1.0) (λ (e : TableEvent). not (has_id (entries_of h reads items) e.1.0) ≡ false) (λ e has. ap not (known e.1.0 has)) _
       (subst (λ (T : Tables). AllByRecursion (λ (e : TableEvent). HasTx items e.1.0) (flat_map events_in T)) (sym (tables_shown h reads database items legal))
-      (all_of_tx items (serial reads items) (legal_tables reads items legal).each)))
+      (all_of_tx items (filled_tables (serial reads items)) (tables_filled items (serial reads items) (legal_tables reads items legal).each))))
 
   pub ids_hold : id_fault (image_of h reads database items) ≡ None
   unfolding image_of id_fault

@@ -18,7 +18,7 @@ use Rattle.spec_model.specs.Journals.{serial, IsLegal}
 use Rattle.spec_model.specs.Rows.{live}
 use Rattle.spec_model.specs.Script.{Reading}
 use Rattle.format_image.specs.Image.{image_of}
-use Rattle.format_image.specs.Rows.{Stored, index_rows, table_rows}
+use Rattle.format_image.specs.Rows.{Stored, filled_table, index_rows, rows_by_part, table_rows}
 use Rattle.spec_verify.specs.declared.place.Place.TheVariants as at
 use Rattle.spec_verify.specs.First.{unless, first_from}
 use Rattle.spec_verify.specs.Indexes.{same_value, same_row, same_rows, index_holds, table_fault, first_table, index_fault}
@@ -62,30 +62,29 @@ longer (y ∷ ys) x rest = ap (λ zs. y ∷ zs) (longer ys x rest)
 
 module _ (t : Table) where
   rows_there : (before : List IndexDef) (x : IndexDef) (rest : List IndexDef) → t.def.indexes ≡ before ++ x ∷ rest
-      → get_or (table_rows t).indexes (length before) [] ≡ index_rows t.def (live t.versions) x
-  unfolding table_rows
+      → get_or (rows_by_part t).indexes (length before) [] ≡ index_rows t.def (live t.versions) x
   rows_there before x rest e =
       ap (λ (is : List IndexDef). get_or (map (index_rows t.def (live t.versions)) is) (length before) []) e ∙ there (index_rows t.def (live t.versions)) before x rest
 
-  index_there : (before : List IndexDef) (x : IndexDef) (rest : List IndexDef) → t.def.indexes ≡ before ++ x ∷ rest → index_holds t.def (table_rows t) (length before) x ≡ true
-  unfolding table_rows
+  index_there : (before : List IndexDef) (x : IndexDef) (rest : List IndexDef) → t.def.indexes ≡ before ++ x ∷ rest → index_holds t.def (rows_by_part t) (length before) x ≡ true
   index_there before x rest e =
       ap (λ (rows : List Stored). same_rows rows (index_rows t.def (live t.versions) x)) (rows_there before x rest e) ∙ own_rows (index_rows t.def (live t.versions) x)
 
   each_there : (n : ℕ) (before rest : List IndexDef) → t.def.indexes ≡ before ++ rest → n ≡ length before
-      → first_from (λ g index. unless (index_holds t.def (table_rows t) g index) (at.Index t.def.id (g + 1))) n rest ≡ None
+      → first_from (λ g index. unless (index_holds t.def (rows_by_part t) g index) (at.Index t.def.id (g + 1))) n rest ≡ None
   each_there n before [] e count = refl
   each_there n before (x ∷ rest) e count =
       neither _ _
-      (passes (index_holds t.def (table_rows t) n x) (at.Index t.def.id (n + 1)) (ap (λ (g : ℕ). index_holds t.def (table_rows t) g x) count ∙ index_there before x rest e))
+      (passes (index_holds t.def (rows_by_part t) n x) (at.Index t.def.id (n + 1)) (ap (λ (g : ℕ). index_holds t.def (rows_by_part t) g x) count ∙ index_there before x rest e))
       (each_there (n + 1) (before ++ x ∷ []) rest (e ∙ longer before x rest) (omega (arith, count, length-append before (x ∷ []))))
 
-  table_holds : table_fault t.def (table_rows t) ≡ None
+  table_holds : table_fault t.def (rows_by_part t) ≡ None
   table_holds = each_there 0 [] t.def.indexes refl refl
 
 tables_hold : (T : Tables) → first_table (defs_of T) (map table_rows T) ≡ None
+unfolding table_rows
 tables_hold [] = refl
-tables_hold (t ∷ ts) = neither _ _ (table_holds t) (tables_hold ts)
+tables_hold (t ∷ ts) = neither _ _ (table_holds (filled_table t)) (tables_hold ts)
 
 pub indexes_hold : (h : List ℕ → List ℕ) (reads : Reading) (database : List ℕ) (items : List JournalItem) → IsLegal reads items → index_fault (image_of h reads database items) ≡ None
 unfolding image_of index_fault

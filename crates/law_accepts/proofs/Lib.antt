@@ -5,6 +5,7 @@ pub mod Columns
 pub mod ByNumber
 pub mod Definitions
 pub mod Events
+pub mod FilledTables
 pub mod Firsts
 pub mod Ids
 pub mod Indexes

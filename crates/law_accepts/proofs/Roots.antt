@@ -31,6 +31,7 @@ use Rattle.law_accepts.proofs.Along.{along}
 use Rattle.law_accepts.proofs.Begins.{begins}
 use Rattle.law_accepts.proofs.ByNumber.{are_all_numbered}
 use Rattle.law_accepts.proofs.Events.{same_events, numbered}
+use Rattle.law_accepts.proofs.FilledTables.{filled_tables, numbered_filled, roots_filled}
 use Rattle.law_accepts.proofs.Firsts.{same_bytes, passes, neither, nothing_first}
 use Rattle.law_accepts.proofs.Ids.{entry_ids, other_ids, same_ids, none_left}
 use Rattle.law_accepts.proofs.Shown.{in_parts, tables_shown}
@@ -155,11 +156,12 @@ module _ (h : List ℕ → List ℕ) (reads : Reading) (database : List ℕ) (it
       let S : Tables = serial reads items in
       let tables : TablesOf items S = legal_tables reads items legal in
       let k : ℕ = (tables.numbered e.id).0 in
-      let numbers : IsNumbered e.id k S = (tables.numbered e.id).1 in
-      let shown : tables_in (image_of h reads database items) ≡ map in_parts S = tables_shown h reads database items legal in
-      let same : roots_of h e.id (tables_in (image_of h reads database items)) ≡ e.roots = ap (roots_of h e.id) shown ∙ roots_shown e.id k h S numbers ∙ sym rooted_so in
+      let U : Tables = filled_tables S in
+      let numbers : IsNumbered e.id k U = numbered_filled e.id k S (tables.numbered e.id).1 in
+      let shown : tables_in (image_of h reads database items) ≡ map in_parts U = tables_shown h reads database items legal in
+      let same : roots_of h e.id (tables_in (image_of h reads database items)) ≡ e.roots = ap (roots_of h e.id) shown ∙ roots_shown e.id k h U numbers ∙ roots_filled e.id h S ∙ sym rooted_so in
       neither _ _
-      (passes _ (at.Numbers e.id) (ap (λ (U : Tables). are_numbered (map (λ (x : Event). x.seq) (all_events e.id U))) shown ∙ numbers_hold e.id k S numbers))
+      (passes _ (at.Numbers e.id) (ap (λ (V : Tables). are_numbered (map (λ (x : Event). x.seq) (all_events e.id V))) shown ∙ numbers_hold e.id k U numbers))
       (ap (λ (rs : List TableRoot). root_place e.id (least nat_cmp (other_roots e.roots rs))) same ∙ ap (λ (ts : List ℕ). root_place e.id (least nat_cmp ts)) (no_other e.roots))
 
   entries_hold : AllByRecursion (λ e. (k : ℕ) → entry_fault h (image_of h reads database items) e ≡ None) (image_of h reads database items).entries

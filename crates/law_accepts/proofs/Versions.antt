@@ -37,11 +37,13 @@ use Rattle.law_journal.proofs.Order.{apart_flip, then_}
 use Rattle.law_journal.proofs.Serials.{legal_tables, legal_keeps_rows}
 use Rattle.spec_ledger.specs.Ledger.{entries_of}
 use Rattle.format_image.specs.Image.{image_of}
-use Rattle.format_image.specs.Rows.{Stored, ended_ones, table_rows}
+use Rattle.format_image.specs.Rows.{Stored, ended_ones, filled_table, filled_version, table_rows}
 use Rattle.spec_verify.specs.Entries.{least_event}
 use Rattle.spec_verify.specs.Order.{position_of, is_before, is_earlier, later_of, latest, ends_before, ends_well, follows, before, is_in_order, shares_key}
 use Rattle.spec_verify.specs.Versions.{same_type, is_of, has_columns, respects_columns, respects_from, respects_not_null, rows_of_columns, with_columns, version_holds, bad_versions, version_fault}
 use Rattle.law_accepts.proofs.Columns.{all_known, respected}
+use Rattle.law_accepts.proofs.Definitions.{second_whole}
+use Rattle.law_accepts.proofs.FilledTables.{filled_tables, all_filled, all_fit, filled_fits, keep_rows, tables_filled}
 use Rattle.law_accepts.proofs.Firsts.{both}
 use Rattle.law_accepts.proofs.Ids.{none_left, same_place}
 use Rattle.law_accepts.proofs.Indexes.{own_type}
@@ -76,6 +78,10 @@ values_fit (c ∷ cs) (v ∷ vs) fits = both (there_or_null c v fits.0) (values_
 all_kept : (columns : List ColumnDef) (versions : List Version) → AllByRecursion (λ v. Fits columns v.values) versions → with_columns columns versions ≡ versions
 all_kept columns [] fit = refl
 all_kept columns (v ∷ vs) fit = rw (columns_fit columns v.values fit.0, all_kept columns vs fit.1) refl
+
+-- each version of the table has a value for each column
+abbrev AllFit : Table → Type 0
+AllFit t = AllByRecursion (λ v. Fits t.def.columns v.values) t.versions
 
 -- NULL stands where it may in each version of the table
 abbrev AllRespect : List TxEntry → List Version → Table → Type 0
@@ -226,7 +232,7 @@ module _ (items : List JournalItem) (entries : List TxEntry) (same : (id : ℕ) 
 
   -- ---- all versions of a table
 
-  module _ (second : List Version) (t : Table) (is : TableOf items t) (keeps : KeepsRows t) (respect : AllRespect entries second t) where
+  module _ (second : List Version) (t : Table) (is : TableOf items t) (whole : AllFit t) (keeps : KeepsRows t) (respect : AllRespect entries second t) where
     abbrev Facts : Version → Type 0
     Facts v = (IsOf items v × Fits t.def.columns v.values) × ((t.def.kind ≡ AppendOnly → v.end ≡ None) × AllByRecursion (OneOrApart place t.def.columns v) t.versions)
 
@@ -237,7 +243,7 @@ module _ (items : List JournalItem) (entries : List TxEntry) (same : (id : ℕ) 
     facts : AllByRecursion Facts t.versions
     facts =
         all_both (λ v. IsOf items v × Fits t.def.columns v.values) (λ v. (t.def.kind ≡ AppendOnly → v.end ≡ None) × AllByRecursion (OneOrApart place t.def.columns v) t.versions) t.versions
-        (all_both (IsOf items) (λ v. Fits t.def.columns v.values) t.versions is.ids is.fit)
+        (all_both (IsOf items) (λ v. Fits t.def.columns v.values) t.versions is.ids whole)
         (all_both (λ v. t.def.kind ≡ AppendOnly → v.end ≡ None) (λ v. AllByRecursion (OneOrApart place t.def.columns v) t.versions) t.versions
         (kept_end t.def.kind t.versions keeps) (each_apart place t.def.columns t.versions is.apart))
 
@@ -249,7 +255,7 @@ module _ (items : List JournalItem) (entries : List TxEntry) (same : (id : ℕ) 
     one_holds v f respects =
         let vs : List Version = (in_parts t).versions in
         let columns : List ColumnDef = t.def.columns in
-        let fit : AllByRecursion (λ w. Fits columns w.values) vs = in_both (λ w. Fits columns w.values) is.fit in
+        let fit : AllByRecursion (λ w. Fits columns w.values) vs = in_both (λ w. Fits columns w.values) whole in
         let all : AllByRecursion (Precedes columns v) (before entries columns vs v) = all_precede columns v vs f.0.0 (in_both (OneOrApart place columns v) f.1.1) in
         let shown : with_columns columns vs ≡ vs = all_kept columns vs fit in
         five columns (columns_fit columns v.values f.0.1) respects (no_history t.def.kind v f.1.0)
@@ -265,9 +271,10 @@ module _ (items : List JournalItem) (entries : List TxEntry) (same : (id : ℕ) 
         (all_weaker Good (λ v. not (version_holds entries second (in_parts t) v) ≡ false) (λ v f. ap not (one_holds v f.0 f.1)) (in_parts t).versions
         (in_both Good (all_both Facts (λ v. respects_columns entries second t.def v ≡ true) t.versions facts respect))))
 
-  no_bad : (second : List Version) (T : Tables) → AllByRecursion (TableOf items) T → AllKeepRows T → AllByRecursion (AllRespect entries second) T → flat_map (bad_versions entries second) (map in_parts T) ≡ []
-  no_bad second [] all keep respect = refl
-  no_bad second (t ∷ ts) all keep respect = rw (none_bad second t all.0 keep.0 respect.0, no_bad second ts all.1 keep.1 respect.1) refl
+  no_bad : (second : List Version) (T : Tables) → AllByRecursion (TableOf items) T → AllByRecursion AllFit T → AllKeepRows T → AllByRecursion (AllRespect entries second) T
+      → flat_map (bad_versions entries second) (map in_parts T) ≡ []
+  no_bad second [] all whole keep respect = refl
+  no_bad second (t ∷ ts) all whole keep respect = rw (none_bad second t all.0 whole.0 keep.0 respect.0, no_bad second ts all.1 whole.1 keep.1 respect.1) refl
 
   -- ---- NULL where columns took it
 
@@ -284,9 +291,9 @@ module _ (items : List JournalItem) (entries : List TxEntry) (same : (id : ℕ) 
     rows_fit : AllByRecursion (λ (r : Version). has_columns columns_columns r.values ≡ true) rows
     rows_fit = all_filter (λ (r : Version). has_columns columns_columns r.values ≡ true) _ all (all_weaker (λ v. Fits columns_columns v.values) (λ (r : Version). has_columns columns_columns r.values ≡ true) (λ v f. columns_fit columns_columns v.values f) all fit)
 
-    respects_rows : (t : Table) → TableOf items t → (2 < t.def.id → (length t.def.columns ≤ 64) × IsPermutation (about (pos t.def.id) (live_rows all)) (item_rows t.def)) → AllStartAfterColumns place all t → AllRespect entries rows t
-    respects_rows t is rows_are after = elim (cases_lt columns_id t.def.id) [
-      | inr le ↦ all_weaker (λ v. Fits t.def.columns v.values) (λ v. respects_columns entries rows t.def v ≡ true) (λ v fits. as_defined rows t.def v le fits) t.versions is.fit
+    respects_rows : (t : Table) → AllFit t → (2 < t.def.id → (length t.def.columns ≤ 64) × IsPermutation (about (pos t.def.id) (live_rows all)) (item_rows t.def)) → AllStartAfterColumns place all t → AllRespect entries rows t
+    respects_rows t whole rows_are after = elim (cases_lt columns_id t.def.id) [
+      | inr le ↦ all_weaker (λ v. Fits t.def.columns v.values) (λ v. respects_columns entries rows t.def v ≡ true) (λ v fits. as_defined rows t.def v le fits) t.versions whole
       | inl lt ↦
           (let h = rows_are lt in
           let known = all_known rows rows_fit t.def h.0 h.1 in
@@ -296,19 +303,27 @@ module _ (items : List JournalItem) (entries : List TxEntry) (same : (id : ℕ) 
           (all_filter (λ w. IsKeyOfColumn t.def.id (version_key columns_columns w) → IsEarlier place w.start v.start) _ all g.1)
           1 t.def.columns v.values known g.0))
           t.versions
-          (all_both (λ v. Fits t.def.columns v.values) (StartsAfterColumns place all t.def.id) t.versions is.fit (after lt)))
+          (all_both (λ v. Fits t.def.columns v.values) (StartsAfterColumns place all t.def.id) t.versions whole (after lt)))
     ]
+
+    -- so do the versions of a table when they are filled, which start where they did
+    filled_respects : (t : Table) → TableOf items t → (2 < t.def.id → (length t.def.columns ≤ 64) × IsPermutation (about (pos t.def.id) (live_rows all)) (item_rows t.def)) → AllStartAfterColumns place all t
+        → AllRespect entries rows (filled_table t)
+    filled_respects t is rows_are after =
+        respects_rows (filled_table t) (filled_fits t.def.columns t.versions is.fit) rows_are
+        (λ lt. all_filled t.def.columns (StartsAfterColumns place all t.def.id) (StartsAfterColumns place all t.def.id) (λ v s. s) t.versions (after lt))
 
     users_respect : (ts : Tables) → AllByRecursion (TableOf items) ts
         → ((def : TableDef) → IsAmong def (defs_of ts) → IsPermutation (about (pos def.id) (live_rows all)) (item_rows def))
-        → AllByRecursion (λ (def : TableDef). 2 < def.id → Formed def) (defs_of ts) → AllByRecursion (AllStartAfterColumns place all) ts → AllByRecursion (AllRespect entries rows) ts
+        → AllByRecursion (λ (def : TableDef). 2 < def.id → Formed def) (defs_of ts) → AllByRecursion (AllStartAfterColumns place all) ts → AllByRecursion (AllRespect entries rows) (filled_tables ts)
     users_respect [] is each formed after = tt
     users_respect (t ∷ ts) is each formed after = (
-      respects_rows t is.0 (λ lt. ((formed.0 lt).count, each t.def (inl refl))) after.0,
+      filled_respects t is.0 (λ lt. ((formed.0 lt).count, each t.def (inl refl))) after.0,
       users_respect ts is.1 (λ def among. each def (inr among)) formed.1 after.1,
     )
 
-  all_respect : (T : Tables) → AllByRecursion (TableOf items) T → EachHasItsRows T → AllFormed (defs_of T) → VersionsFollowColumns place T → AllByRecursion (AllRespect entries (rows_of_columns (map table_rows T))) T
+  all_respect : (T : Tables) → AllByRecursion (TableOf items) T → EachHasItsRows T → AllFormed (defs_of T) → VersionsFollowColumns place T
+      → AllByRecursion (AllRespect entries (rows_of_columns (map table_rows T))) (filled_tables T)
   unfolding table_rows
   all_respect [] is each formed after = absurd each
   all_respect (a ∷ []) is each formed after = absurd each
@@ -316,12 +331,15 @@ module _ (items : List JournalItem) (entries : List TxEntry) (same : (id : ℕ) 
       let first : a.def.id ≡ 1 = ap (λ (d : TableDef). d.id) formed.system.0 in
       let second : b.def.id ≡ columns_id = ap (λ (d : TableDef). d.id) formed.system.1 in
       let all : List Version = b.versions in
+      let full : map (filled_version b.def.columns) all ≡ all = second_whole items b formed.system.1 is.1.0 in
       let found : versions_of (a ∷ b ∷ users) columns_id ≡ all = rw (first, second) refl in
-      let fit : AllByRecursion (λ v. Fits columns_columns v.values) all = subst (λ (d : TableDef). AllByRecursion (λ v. Fits d.columns v.values) all) formed.system.1 is.1.0.fit in
-      let follow : AllByRecursion (AllStartAfterColumns place all) (a ∷ b ∷ users) = subst (λ (vs : List Version). AllByRecursion (AllStartAfterColumns place vs) (a ∷ b ∷ users)) found after in (
-        respects_rows all fit a is.0 (λ lt. absurd (omega (arith, first, lt))) follow.0,
+      let own : AllByRecursion (λ v. Fits b.def.columns v.values) all = subst (λ (vs : List Version). AllByRecursion (λ v. Fits b.def.columns v.values) vs) full (filled_fits b.def.columns all is.1.0.fit) in
+      let fit : AllByRecursion (λ v. Fits columns_columns v.values) all = subst (λ (d : TableDef). AllByRecursion (λ v. Fits d.columns v.values) all) formed.system.1 own in
+      let follow : AllByRecursion (AllStartAfterColumns place all) (a ∷ b ∷ users) = subst (λ (vs : List Version). AllByRecursion (AllStartAfterColumns place vs) (a ∷ b ∷ users)) found after in
+      subst (λ (vs : List Version). AllByRecursion (AllRespect entries (live vs)) (filled_tables (a ∷ b ∷ users))) (sym full) (
+        filled_respects all fit a is.0 (λ lt. absurd (omega (arith, first, lt))) follow.0,
         (
-          respects_rows all fit b is.1.0 (λ lt. absurd (omega (arith, second, lt))) follow.1.0,
+          filled_respects all fit b is.1.0 (λ lt. absurd (omega (arith, second, lt))) follow.1.0,
           users_respect all fit users is.1.1 (λ def among. (each.one def among).items) formed.each.1.1 follow.1.1,
         ),
       )
@@ -335,5 +353,5 @@ versions_hold h reads database items legal =
     let each = (legal_tables reads items legal).each in
     ap least_event
     (ap (λ (shown : Tables). flat_map (bad_versions entries second) shown) (tables_shown h reads database items legal)
-    ∙ no_bad items entries (same_place h reads items legal) second T each (legal_keeps_rows reads items legal)
+    ∙ no_bad items entries (same_place h reads items legal) second (filled_tables T) (tables_filled items T each) (all_fit items T each) (keep_rows T (legal_keeps_rows reads items legal))
     (all_respect items entries (same_place h reads items legal) T each (legal_rows_each reads items legal) (legal_described reads items legal).1 (legal_follows reads items legal)))

@@ -1,5 +1,5 @@
 -- The image of a legal journal holds as a whole, and so the verdict on its bytes is Yes.
-use Rattle.std.proofs.Common.{◌≡◌, ◌<◌, ℕ, refl, sym, ap, ◌∙◌, List, take, drop}
+use Rattle.std.proofs.Common.{◌≡◌, ◌<◌, ℕ, refl, sym, ap, ◌∙◌, List, take, drop, inl, inr}
 use Rattle.std.proofs.lemmas.List.{take-append-drop}
 use Rattle.sql_types.specs.declared.digest.HeldDigest.{HeldDigest}
 use Rattle.sql_types.specs.declared.image.Image.{Image}
@@ -17,12 +17,12 @@ use Rattle.law_blocks.specs.Digests.{digest_of}
 use Rattle.spec_ledger.specs.Ledger.{block_hash}
 use Rattle.law_blocks.proofs.Staying.{hash_stays}
 use Rattle.format_image.specs.Image.{image_of, image_of_cut}
-use Rattle.format_image.specs.ImageBytes.{image_bytes, IsImage}
+use Rattle.format_image.specs.ImageBytes.{image_bytes, image_bytes_1, IsImage, NothingGone}
 use Rattle.spec_verify.specs.declared.place.Verdict.TheVariants.{Yes}
 use Rattle.spec_verify.specs.Bytes.{verdict_of}
 use Rattle.spec_verify.specs.Verdict.{AllHold}
 use Rattle.spec_verify.proofs.AllHold.{yes_exactly}
-use Rattle.spec_verify.proofs.Judged.{of_image}
+use Rattle.spec_verify.proofs.Judged.{of_image, of_two_spellings}
 use Rattle.law_accepts.specs.Held.{held, IsHeld, AllHeld}
 use Rattle.law_accepts.proofs.Blocks.{digests_hold, chain_holds}
 use Rattle.law_accepts.proofs.Definitions.{definitions_hold}
@@ -73,3 +73,11 @@ module _ (h : List ℕ → List ℕ) (reads : Reading) where
       let i : Image = image_of_cut h reads j.database j.items m in
       of_image h digests i is_image
       ∙ (yes_exactly h i digests).1 (all_hold j.database (cut j.items m) digests written (cut_legal reads j.items m legal.legal) all_held)
+
+  pub verifies_1 : (j : Journal) (m : ℕ) (digests : List HeldDigest) → ReadsWritten reads → IsLegalJournal reads j → AllHeld h reads j.database (cut j.items m) digests
+      → IsImage (image_of_cut h reads j.database j.items m) → NothingGone (image_of_cut h reads j.database j.items m)
+      → verdict_of h digests (image_bytes_1 (image_of_cut h reads j.database j.items m)) ≡ Yes
+  verifies_1 j m digests written legal all_held is_image nothing_gone =
+      let i : Image = image_of_cut h reads j.database j.items m in
+      of_two_spellings h digests (image_bytes_1 i) (image_bytes i) i is_image (inr (nothing_gone, refl)) (inl refl)
+      ∙ verifies j m digests written legal all_held is_image

@@ -1,17 +1,19 @@
--- What is left of base and history of a table, sorted together, is what is left of its versions.
-use Rattle.std.proofs.Common.{◌≡◌, ℕ, refl, ap, sym, ◌∙◌, Bool, true, false, not, List, [], ◌∷◌, ◌++◌, Option, Some, None}
+-- What is left of base and history of a table, sorted together, is what is left of its versions, filled.
+use Rattle.std.proofs.Common.{◌≡◌, ℕ, refl, ap, sym, ◌∙◌, Bool, true, false, not, List, [], ◌∷◌, ◌++◌, map, Option, Some, None}
 use Rattle.std.specs.Prelude.{if◌then◌else◌, is_none, is_some}
 use Rattle.std.specs.List.{AllByRecursion, filter}
 use Rattle.std.specs.declared.cmp.Ordering.{Ordering}
 use Rattle.std.specs.declared.cmp.Ordering.TheVariants.{Less, Equal, Greater}
 use Rattle.std.specs.Ordering.{is_gt, ordering_reverse}
 use Rattle.std.specs.Cmp.{IsTotalOrder, on_total, then_total, nat_cmp_total}
+use Rattle.sql_value.specs.declared.column.ColumnDef.{ColumnDef}
 use Rattle.sql_types.specs.declared.version.Version.{Version}
 use Rattle.sql_types.specs.declared.version.Table.{Table}
 use Rattle.spec_model.specs.Lists.{inserted, sorted}
 use Rattle.spec_model.specs.Rows.{EventId, start_cmp, live}
 use Rattle.spec_model.specs.Runs.{Rising}
-use Rattle.format_image.specs.Rows.{ended_ones, table_rows}
+use Rattle.format_image.specs.Rows.{ended_ones, filled_version, table_rows}
+use Rattle.law_accepts.proofs.FilledTables.{all_filled}
 use Rattle.spec_asof.specs.DatabaseAt.{left_of, versions_at, with_end_at}
 
 start_total : IsTotalOrder start_cmp
@@ -125,6 +127,25 @@ module _ (has : ℕ → Bool) where
       (behind v (live vs) (each_filtered (λ x. start_cmp v x ≡ Less) (λ w. is_none w.end) vs rising.0)) (behind v vs rising.0) (both_left vs rising.1)
       ∙ sym (first_left v vs (has v.start.0) refl)
 
-  pub told_versions : (t : Table) → Rising t.versions → versions_at has (table_rows t) ≡ left_of has t.versions
+  -- versions are filled where they stand: they start and end as before
+  module _ (columns : List ColumnDef) where
+    abbrev full : Version → Version
+    full v = filled_version columns v
+
+    full_rising : (vs : List Version) → Rising vs → Rising (map full vs)
+    full_rising [] rising = tt
+    full_rising (v ∷ vs) rising = (all_filled columns (λ w. start_cmp v w ≡ Less) (λ w. start_cmp (full v) w ≡ Less) (λ w e. e) vs rising.0, full_rising vs rising.1)
+
+    full_left_by : (v : Version) (vs : List Version) (b : Bool) → has v.start.0 ≡ b → left_of has (map full vs) ≡ map full (left_of has vs) → left_of has (map full (v ∷ vs)) ≡ map full (left_of has (v ∷ vs))
+    full_left_by v vs true e ih = rw e (ap (λ (l : List Version). full (with_end_at has v) ∷ l) ih)
+    full_left_by v vs false e ih = rw e ih
+
+    full_left : (vs : List Version) → left_of has (map full vs) ≡ map full (left_of has vs)
+    full_left [] = refl
+    full_left (v ∷ vs) = full_left_by v vs (has v.start.0) refl (full_left vs)
+
+  pub told_versions : (t : Table) → Rising t.versions → versions_at has (table_rows t) ≡ map (filled_version t.def.columns) (left_of has t.versions)
   unfolding versions_at table_rows
-  told_versions t rising = ap (sorted start_cmp) (of_two (live t.versions) (ended_ones t.versions)) ∙ both_left t.versions rising
+  told_versions t rising =
+      let vs : List Version = map (filled_version t.def.columns) t.versions in
+      ap (sorted start_cmp) (of_two (live vs) (ended_ones vs)) ∙ both_left vs (full_rising t.def.columns t.versions rising) ∙ full_left t.def.columns t.versions

@@ -1,11 +1,12 @@
 -- What the image of a legal journal tells of the versions behind its first transactions.
-use Rattle.std.proofs.Common.{◌≡◌, ◌≤◌, ℕ, Bool, zero, suc, ◌+◌, refl, sym, ap, ◌∙◌, List, [], ◌∷◌, take, arith}
+use Rattle.std.proofs.Common.{◌≡◌, ◌≤◌, ℕ, Bool, zero, suc, ◌+◌, refl, sym, ap, ◌∙◌, List, [], ◌∷◌, map, take, arith}
 use Rattle.std.specs.List.{AllByRecursion}
 use Rattle.std.proofs.lemmas.List.{take-map}
 use Rattle.sql_types.specs.declared.entry.TxEntry.{TxEntry}
 use Rattle.sql_types.specs.declared.journal.JournalItem.{JournalItem}
 use Rattle.sql_types.specs.declared.journal.JournalItem.TheVariants.{Tx, Close}
 use Rattle.sql_types.specs.declared.version.Table.{Table}
+use Rattle.sql_types.specs.declared.version.Version.{Version}
 use Rattle.spec_model.specs.Catalog.{versions_of}
 use Rattle.spec_model.specs.Journals.{upto, serial, IsOther, IsLegal}
 use Rattle.spec_model.specs.Runs.{SoundTable, Sound}
@@ -16,7 +17,7 @@ use Rattle.law_frame.proofs.LegalSound.{legal_sound}
 use Rattle.law_frame.proofs.UndoneTables.{own_versions}
 use Rattle.law_catalog_rows.specs.IsEncodableDef.{is_among}
 use Rattle.format_image.specs.Image.{image_of}
-use Rattle.format_image.specs.Rows.{table_rows}
+use Rattle.format_image.specs.Rows.{filled_version, table_rows}
 use Rattle.law_accepts.proofs.Ids.{same_ids}
 use Rattle.spec_asof.specs.DatabaseAt.{first_ids, left_of, versions_at}
 use Rattle.law_asof.proofs.Later.{upto_stays}
@@ -54,16 +55,15 @@ module _ (reads : Reading) (items : List JournalItem) (legal : IsLegal reads ite
   sound : Sound (above items) 0 (serial reads items)
   sound = legal_sound reads items (above items) legal (all_other (above items) items (omega arith))
 
-  -- each table's versions stand in the image as the first transactions left them
+  -- each table's versions stand in the image as the first transactions left them, filled
   module _ (n : ℕ) where
     abbrev AreLeft : (ℕ → Bool) → Table → Type 0
-    AreLeft has t = versions_at has (table_rows t) ≡ versions_of (serial reads (upto items n)) t.def.id
+    AreLeft has t = versions_at has (table_rows t) ≡ map (filled_version t.def.columns) (versions_of (serial reads (upto items n)) t.def.id)
 
     one_left : (t : Table) → (versions_of (serial reads items) t.def.id ≡ t.versions) × SoundTable (above items) 0 t → AreLeft (is_among (ids_of (upto items n))) t
     one_left t k =
         told_versions (is_among (ids_of (upto items n))) t k.1.rising
-        ∙ ap (left_of (is_among (ids_of (upto items n)))) (sym k.0)
-        ∙ upto_stays reads items n t.def.id legal
+        ∙ ap (λ (vs : List Version). map (filled_version t.def.columns) vs) (ap (left_of (is_among (ids_of (upto items n)))) (sym k.0) ∙ upto_stays reads items n t.def.id legal)
 
     pub all_left : AllByRecursion (AreLeft (is_among (ids_of (upto items n)))) (serial reads items)
     all_left =

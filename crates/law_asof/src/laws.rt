@@ -1,6 +1,6 @@
 //! Laws of earlier states.
 
-ghost use Rattle.std.specs.Prelude.{ℕ, ◌≡◌, List};
+ghost use Rattle.std.specs.Prelude.{ℕ, ◌≡◌, List, map};
 ghost use Rattle.std.specs.List.{AllByRecursion};
 ghost use Rattle.sql_types.specs.declared.journal.JournalItem.{JournalItem};
 ghost use Rattle.spec_history.specs.Journals.{ids_of};
@@ -9,7 +9,7 @@ ghost use Rattle.spec_model.specs.Journals.{cut, upto, serial, IsLegal};
 ghost use Rattle.spec_model.specs.Script.{Reading};
 ghost use Rattle.law_catalog_rows.specs.IsEncodableDef.{is_among};
 ghost use Rattle.format_image.specs.Image.{image_of};
-ghost use Rattle.format_image.specs.Rows.{table_rows};
+ghost use Rattle.format_image.specs.Rows.{filled_version, table_rows};
 ghost use Rattle.spec_asof.specs.DatabaseAt.{first_ids, left_of, versions_at};
 
 /// The versions of each table to which a legal journal leads, without starts and ends of transactions behind its
@@ -25,10 +25,11 @@ pub fn later_transactions_leave_what_earlier_ones_made()
 {}
 
 /// Of each table, the image of a legal journal tells the versions behind its first `n` transactions: base and history,
-/// with the starts and ends of the first `n` entries alone, are the versions to which the first `n` transactions lead.
+/// with the starts and ends of the first `n` entries alone, are the versions to which the first `n` transactions lead,
+/// with a value for each column of the table.
 pub fn images_tell_earlier_versions()
     ensures { (h : List ℕ → List ℕ) (reads : Reading) (database : List ℕ) (items : List JournalItem) (n : ℕ)
         → IsLegal reads items
         → AllByRecursion (λ t. versions_at (is_among (first_ids (image_of h reads database items).entries n)) (table_rows t)
-        ≡ versions_of (serial reads (upto items n)) t.def.id) (serial reads items) }
+        ≡ map (filled_version t.def.columns) (versions_of (serial reads (upto items n)) t.def.id)) (serial reads items) }
 {}

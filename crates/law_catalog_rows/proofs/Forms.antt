@@ -118,6 +118,8 @@ made defs c def e =
         history = history_formed c.kind (next_id defs) c.history k.history;
         view = k.view;
         own_names = n.first;
+        not_gone = refl;
+        none_dropped = refl;
         count = k.count;
         columns = all_weaker _ FormedColumn (λ x small. record { name = small.name; ty = small.ty }) d.columns k.columns;
         column_names = n.third;
@@ -230,6 +232,8 @@ index_formed ds x i new f = record {
   history = f.history;
   view = f.view;
   own_names = f.own_names;
+  not_gone = f.not_gone;
+  none_dropped = f.none_dropped;
   count = f.count;
   columns = f.columns;
   column_names = f.column_names;

@@ -13,5 +13,6 @@ pub mod Orders
 pub mod Ordinals
 pub mod Passing
 pub mod RowsAfter
+pub mod Unchanged
 pub mod ChangedTables
 pub mod WrittenAfter

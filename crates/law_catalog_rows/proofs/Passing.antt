@@ -14,11 +14,11 @@ use Rattle.sql_value.specs.declared.value.Value.TheVariants.{Null, Num, Text, By
 use Rattle.spec_model.specs.Rows.{Row}
 use Rattle.spec_model.specs.Keys.{same_key}
 use Rattle.spec_model.specs.Catalog.{Defs}
-use Rattle.spec_model.specs.SystemTables.{table_row}
 use Rattle.law_frame.proofs.Alls.{all_append}
 use Rattle.law_frame.proofs.SameKeys.{same_itself}
 use Rattle.law_catalog_rows.specs.Least.{least}
-use Rattle.law_catalog_rows.specs.Encoded.{item_rows, is_about, about, IsAmong, AreRowsOfOne, AreRowsOfEach, RowsEncode}
+use Rattle.law_catalog_rows.specs.Encoded.{latest_table_row, latest_item_rows, is_about, about, IsAmong, EncodeDef, RowsEncode}
+use Rattle.law_catalog_rows.specs.Latest.{latest, latest_said}
 use Rattle.law_catalog_rows.specs.IsEncodableDef.{is_encodable_def, has_new_names}
 use Rattle.law_catalog_rows.specs.Differs.{are_rows, table_of, is_encoded, is_wrong, all_ids, encoding_fault}
 
@@ -127,28 +127,33 @@ module _ (first second : List Row) (defs : Defs) (all : AllByRecursion (λ d. is
   none_wrong [] h = refl
   none_wrong (i ∷ is) h = rw (h.0, none_wrong is h.1) refl
 
-  pub nothing : AreRowsOfEach first second defs → encoding_fault first second defs ≡ None
+  abbrev NoOthers : Type 0
+  NoOthers = (id : ℤ) → ((def : TableDef) → IsAmong def defs → pos def.id ≢ id) → (about id first ≡ []) × (about id second ≡ [])
+
+  nothing : NoOthers → encoding_fault first second defs ≡ None
   unfolding encoding_fault
   nothing h =
       let P : ℤ → Type 0 = λ id. is_wrong first second defs id ≡ false in
       ap (least int_cmp) (none_wrong (all_ids first second defs)
       (all_append P (filter_map table_of first) (filter_map table_of second ++ map (λ (d : TableDef). pos d.id) defs)
-      (rows_right first (λ id e. about_none id first (h.others id (no_def defs id e)).0))
+      (rows_right first (λ id e. about_none id first (h id (no_def defs id e)).0))
       (all_append P (filter_map table_of second) (map (λ (d : TableDef). pos d.id) defs)
-      (rows_right second (λ id e. about_none id second (h.others id (no_def defs id e)).1))
+      (rows_right second (λ id e. about_none id second (h id (no_def defs id e)).1))
       (defs_right defs (λ id e. e)))))
 
 -- ---- each is spelled
 
-all_spelled : (first second : List Row) (defs ds : Defs) → ((def : TableDef) → IsAmong def ds → AreRowsOfOne first second def) → AllByRecursion (λ d. is_encodable_def d ≡ true) ds → AllByRecursion (λ d. has_new_names first d ≡ true) ds
+all_spelled : (first second : List Row) (defs ds : Defs) → ((def : TableDef) → IsAmong def ds → EncodeDef first second def) → AllByRecursion (λ d. is_encodable_def d ≡ true) ds → AllByRecursion (λ d. has_new_names (latest 0 first) d ≡ true) ds
     → AllByRecursion (λ d. is_encoded first second defs d ≡ true) ds
 all_spelled first second defs [] one may new = tt
 all_spelled first second defs (d ∷ ds) one may new =
-    let s : AreRowsOfOne first second d = one d (inl refl) in
-    (four (are_those (about (pos d.id) first) (table_row d ∷ []) s.table) (are_those (about (pos d.id) second) (item_rows d) s.items) may.0 new.0, all_spelled first second defs ds (λ def a. one def (inr a)) may.1 new.1)
+    let s : EncodeDef first second d = one d (inl refl) in (
+      six (are_those (latest_said 0 (about (pos d.id) first)) (latest_table_row d ∷ []) s.table) (are_those (latest_said 1 (about (pos d.id) second)) (latest_item_rows d) s.items) s.changes s.follow may.0 new.0,
+      all_spelled first second defs ds (λ def a. one def (inr a)) may.1 new.1,
+    )
   where
-    four : {a b c e : Bool} → a ≡ true → b ≡ true → c ≡ true → e ≡ true → (a && b && c && e) ≡ true
-    four p q r t = rw (p, q, r, t) refl
+    six : {a b c e f g : Bool} → a ≡ true → b ≡ true → c ≡ true → e ≡ true → f ≡ true → g ≡ true → ((a && b && c && e) && f && g) ≡ true
+    six p q r t u v = rw (p, q, r, t, u, v) refl
 
 pub encoding_passes : (first second : List Row) (defs : Defs) → RowsEncode first second defs → encoding_fault first second defs ≡ None
-encoding_passes first second defs h = nothing first second defs (all_spelled first second defs defs h.rows.one h.rules h.names) h.rows
+encoding_passes first second defs h = nothing first second defs (all_spelled first second defs defs h.one h.rules h.names) h.others

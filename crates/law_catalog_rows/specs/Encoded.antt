@@ -1,16 +1,21 @@
 -- Which definitions the rows of the two system tables spell.
-use Rattle.std.specs.Prelude.{ℕ, ℤ, pos, ◌+◌, ◌≡◌, ◌≢◌, ◌⊎◌, Bool, true, false, List, [], ◌∷◌, ◌++◌, map, flat_map}
+use Rattle.std.specs.Prelude.{ℕ, ℤ, pos, negsuc, ◌+◌, ◌≡◌, ◌≢◌, ◌⊎◌, Bool, true, false, if◌then◌else◌, List, [], ◌∷◌, ◌++◌, map, flat_map}
 use Rattle.std.specs.List.{AllByRecursion, filter}
 use Rattle.std.specs.List.Sorted.{IsPermutation}
 use Rattle.std.specs.Ordering.{int_eq}
-use Rattle.sql_value.specs.declared.value.Value.TheVariants.{Num}
+use Rattle.sql_value.specs.declared.value.Value.TheVariants.{Num, Text}
+use Rattle.sql_value.specs.declared.column.ColumnDef.{ColumnDef}
+use Rattle.sql_value.specs.TypeCodes.{type_code, first_parameter, second_parameter}
 use Rattle.sql_types.specs.declared.table.TableDef.{TableDef}
 use Rattle.sql_types.specs.declared.table.IndexDef.{IndexDef}
 use Rattle.sql_types.specs.declared.version.Version.{Version}
-use Rattle.spec_model.specs.Rows.{Row, values_of, live}
+use Rattle.spec_model.specs.Lists.{numbered}
+use Rattle.spec_model.specs.Rows.{Row, number, values_of, live}
 use Rattle.spec_model.specs.Catalog.{Defs, Tables, defs_of}
-use Rattle.spec_model.specs.SystemTables.{table_row, column_rows, index_rows}
-use Rattle.law_catalog_rows.specs.IsEncodableDef.{is_encodable_def, has_new_names}
+use Rattle.spec_model.specs.SystemTables.{kind_code, history_value, bit, table_row, column_rows, index_rows}
+use Rattle.law_catalog_rows.specs.IsEncodableDef.{is_among, is_encodable_def, has_new_names}
+use Rattle.law_catalog_rows.specs.Latest.{latest, latest_said}
+use Rattle.law_catalog_rows.specs.Changes.{changes_are_right, items_follow}
 
 -- ---- the rows of definitions
 
@@ -26,6 +31,35 @@ rows_of_indexes id g (i ∷ is) = index_rows id g i ++ rows_of_indexes id (g + 1
 -- the rows of a definition in the second system table: one for each column and for each part of each index
 unfoldable pub item_rows : TableDef → List Row
 item_rows def = column_rows def ++ rows_of_indexes def.id 1 def.indexes
+
+-- the kind in the row of a table: 3 or 4 where it was dropped
+abbrev pub kind_in_row : TableDef → ℕ
+kind_in_row def = if def.gone then kind_code def.kind + 2 else kind_code def.kind
+
+-- what the row of a table says that counts
+unfoldable pub latest_table_row : TableDef → Row
+latest_table_row def =
+    number def.id ∷ number 0 ∷ Text def.name ∷ number (kind_in_row def)
+    ∷ history_value def.kind def.history ∷ Text def.view ∷ []
+
+-- the key position in the row of a column: -1 where it was dropped
+abbrev pub position_in_row : TableDef → ℕ × ColumnDef → ℤ
+position_in_row def c = if is_among def.dropped c.0 then negsuc 0 else pos c.1.key_position
+
+-- the row of a column with this key position
+abbrev pub column_row_at : ℕ → ℕ × ColumnDef → ℤ → Row
+column_row_at id c position =
+    number id ∷ number c.0 ∷ number 0 ∷ Text c.1.name ∷ number (type_code c.1.ty)
+    ∷ number (first_parameter c.1.ty)
+    ∷ number (second_parameter c.1.ty) ∷ number (bit c.1.nullable) ∷ Num 0 position ∷ []
+
+-- what the row of a column says that counts
+abbrev pub latest_column_row : TableDef → ℕ × ColumnDef → Row
+latest_column_row def c = column_row_at def.id c (position_in_row def c)
+
+-- what the rows of columns and of parts of indexes say that count
+unfoldable pub latest_item_rows : TableDef → List Row
+latest_item_rows def = map (latest_column_row def) (numbered 1 def.columns) ++ rows_of_indexes def.id 1 def.indexes
 
 -- the rows of the two system tables are those of these definitions, and no more, in any order
 pub record AreRowsOf (first second : List Row) (defs : Defs) : Type 0 where
@@ -60,12 +94,22 @@ pub record AreRowsOfEach (first second : List Row) (defs : Defs) : Type 0 where
 
 -- ---- by the rules
 
--- the rows spell these definitions and no more: they are theirs, each definition keeps to the rules, and no
--- name of a table is taken
+-- of the rows about this table those that count say its definition, whatever changes led there, and all changes
+-- keep to their rules
+pub record EncodeDef (first second : List Row) (def : TableDef) : Type 0 where
+  pub table : IsPermutation (latest_said 0 (about (pos def.id) first)) (latest_table_row def ∷ [])
+  pub items : IsPermutation (latest_said 1 (about (pos def.id) second)) (latest_item_rows def)
+  pub changes : changes_are_right (about (pos def.id) first) (about (pos def.id) second) ≡ true
+  pub follow : items_follow (about (pos def.id) second) ≡ true
+
+-- the rows spell these definitions and no more: those about each table spell its definition, and there are rows
+-- about no other table; each definition keeps to the rules, and no name of a table is taken
 pub record RowsEncode (first second : List Row) (defs : Defs) : Type 0 where
-  pub rows : AreRowsOfEach first second defs
+  pub one : (def : TableDef) → IsAmong def defs → EncodeDef first second def
+  pub others : (id : ℤ) → ((def : TableDef) → IsAmong def defs → pos def.id ≢ id)
+      → (about id first ≡ []) × (about id second ≡ [])
   pub rules : AllByRecursion (λ def. is_encodable_def def ≡ true) defs
-  pub names : AllByRecursion (λ def. has_new_names first def ≡ true) defs
+  pub names : AllByRecursion (λ def. has_new_names (latest 0 first) def ≡ true) defs
 
 -- ---- tables
 

@@ -43,6 +43,9 @@ pub record Formed (def : TableDef) : Type 0 where
   pub view : length def.view ≤ 128
   -- no two of its names are one
   pub own_names : repeats (table_names def) ≡ false
+  -- no statement drops a table or a column
+  pub not_gone : def.gone ≡ false
+  pub none_dropped : def.dropped ≡ []
   pub count : length def.columns ≤ 64
   pub columns : AllByRecursion FormedColumn def.columns
   pub column_names : repeats (names_of def.columns) ≡ false

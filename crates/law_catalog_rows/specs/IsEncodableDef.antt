@@ -1,5 +1,5 @@
 -- Definitions that may be spelled by rows of the two system tables.
-use Rattle.std.specs.Prelude.{ℕ, pos, ◌==◌, ◌&&◌, not, nat_le, Bool, true, false, if◌then◌else◌, List, [], ◌∷◌, map, length, Option, Some, None}
+use Rattle.std.specs.Prelude.{ℕ, pos, ◌==◌, ◌&&◌, ◌||◌, not, nat_lt, nat_le, Bool, true, false, if◌then◌else◌, List, [], ◌∷◌, map, length, Option, Some, None}
 use Rattle.std.specs.List.{list_any, list_all, filter, filter_map, range_with_len}
 use Rattle.std.specs.Ordering.{int_cmp, is_lt}
 use Rattle.sql_value.specs.declared.value.Value.{Value}
@@ -8,7 +8,7 @@ use Rattle.sql_value.specs.declared.column.ColumnDef.{ColumnDef}
 use Rattle.sql_value.specs.Stored.{is_in_range}
 use Rattle.sql_types.specs.declared.table.TableDef.{TableDef}
 use Rattle.sql_types.specs.declared.table.IndexDef.{IndexDef}
-use Rattle.spec_model.specs.Lists.{has_name, repeats}
+use Rattle.spec_model.specs.Lists.{has_name, numbered, repeats}
 use Rattle.spec_model.specs.Rows.{Row}
 use Rattle.spec_model.specs.SystemTables.{tables_def, columns_def}
 use Rattle.spec_model.specs.Create.{names_of, table_names, all_names, is_ledger_name, has_null_key}
@@ -47,12 +47,23 @@ is_encodable_index columns i =
     is_proper_name i.name && is_between 1 4 (length i.ordinals) && list_all (is_between 1 columns) i.ordinals
     && not (number_repeats i.ordinals)
 
+-- the numbers are above this one, rise strictly, and none is above the limit
+abbrev pub rise_within : ℕ → ℕ → List ℕ → Bool
+rise_within last limit [] = true
+rise_within last limit (n ∷ ns) = nat_lt last n && nat_le n limit && rise_within n limit ns
+
+-- ordinals of columns, each once, of which none is in the key
+abbrev pub dropped_are_right : TableDef → Bool
+dropped_are_right def =
+    rise_within 0 (length def.columns) def.dropped
+    && list_all (λ c. not (is_among def.dropped c.0) || c.1.key_position == 0) (numbered 1 def.columns)
+
 -- by itself
 abbrev pub is_encodable_def : TableDef → Bool
 is_encodable_def def =
     is_between 3 34 def.id
     && is_proper_name def.name && has_its_history def.kind def.history && is_proper_name def.view
-    && not (repeats (table_names def))
+    && not (repeats (table_names def)) && dropped_are_right def
     && is_between 1 64 (length def.columns) && list_all is_encodable_column def.columns
     && not (repeats (names_of def.columns))
     && are_key_positions (positions_of def.columns) && not (has_null_key def)
@@ -78,8 +89,9 @@ is_before id _ = false
 abbrev pub share_name : List (List ℕ) → TableDef → Bool
 share_name names def = list_any (has_name names) (table_names def)
 
--- no name of the table is one of a system table, or stands in a row of the first system table with a lower id
+-- no name of the table is one of a system table, or stands in one of these rows of the first system table with a
+-- lower id
 abbrev pub has_new_names : List Row → TableDef → Bool
-has_new_names first def =
+has_new_names rows def =
     not (share_name (all_names (tables_def ∷ columns_def ∷ [])) def)
-    && not (list_any (λ row. is_before def.id row && share_name (names_in row) def) first)
+    && not (list_any (λ row. is_before def.id row && share_name (names_in row) def) rows)

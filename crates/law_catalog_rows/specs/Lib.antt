@@ -1,5 +1,7 @@
+pub mod Changes
 pub mod Differs
 pub mod Formed
+pub mod Latest
 pub mod Least
 pub mod IsEncodableDef
 pub mod Samples

@@ -1,14 +1,15 @@
 -- Small definitions, for worked examples.
-use Rattle.std.specs.Prelude.{ℕ, ℤ, Bool, true, false, List, [], ◌∷◌, codes, Some, None}
+use Rattle.std.specs.Prelude.{ℕ, ℤ, negsuc, ◌+◌, Bool, true, false, List, [], ◌∷◌, set, codes, Some, None}
 use Rattle.sql_value.specs.declared.value.Value.TheVariants.{Num}
 use Rattle.sql_value.specs.declared.column.ColumnDef.{ColumnDef}
 use Rattle.sql_value.specs.declared.column.TableKind.TheVariants.{Updatable}
 use Rattle.sql_value.specs.declared.sql_type.SqlType.TheVariants.{Int, Decimal}
 use Rattle.sql_types.specs.declared.statement.CreateTable.{CreateTable}
 use Rattle.sql_types.specs.declared.table.TableDef.{TableDef}
-use Rattle.spec_model.specs.Rows.{Row}
+use Rattle.spec_model.specs.Rows.{Row, number}
 use Rattle.spec_model.specs.SystemTables.{a_column}
 use Rattle.spec_model.specs.Create.{table_def, with_index}
+use Rattle.law_catalog_rows.specs.Encoded.{column_row_at}
 
 -- a table with a history, whose key is the column `id`
 abbrev pub create : List ℕ → List ℕ → List ColumnDef → CreateTable
@@ -46,3 +47,21 @@ odd_def id columns = table_def id (create (codes "t") (codes "h") columns)
 -- a row that has no more than the id of a table
 abbrev pub stray : ℤ → Row
 stray id = Num 0 id ∷ []
+
+-- ---- changes
+
+-- the row as a later change wrote it, where the thing is named at k
+abbrev pub with_change : ℕ → ℕ → Row → Row
+with_change k n row = set row (k + 1) (number n)
+
+-- the table as it is left when it is dropped, and when its second column is
+abbrev pub gone_4 : TableDef
+gone_4 = record (def_4 (codes "t")) { gone = true }
+
+abbrev pub less_4 : TableDef
+less_4 = record (def_4 (codes "t")) { dropped = 2 ∷ [] }
+
+-- the row of its second column with this change, and with the key position of a column that was dropped
+abbrev pub less_row : ℕ → Row
+less_row change =
+    with_change 1 change (column_row_at 4 (2, a_column (codes "v") (Decimal 10 2) true 0) (negsuc 0))

@@ -42,8 +42,8 @@ pub fn legal_journals_have_their_rows()
 {}
 
 /// Where each statement that is read is one that the grammar may have written, the rows that stand in the
-/// system tables of a legal journal, at each cut, spell exactly the definitions of all other tables: they are
-/// their rows, and each definition keeps to the rules. So no fault is found in the spelling.
+/// system tables of a legal journal, at each cut, spell exactly the definitions of all other tables: those that
+/// count are their rows, and each definition keeps to the rules. So no fault is found in the spelling.
 pub fn legal_journals_encode_definitions()
     ensures written { (reads : Reading) (items : List JournalItem) (m : ℕ)
         → ReadsWritten reads → IsLegal reads items → AllWritten (defs_of (serial reads (cut items m))) }

@@ -7,4 +7,7 @@ mod samples;
 pub use laws::{
     legal_journals_encode_definitions, legal_journals_have_their_rows, statements_keep_definitions,
 };
-pub use samples::{encoding_is_found_out, odd_definitions_are_not_encoded};
+pub use samples::{
+    dropped_things_have_their_rows, encoding_is_found_out, odd_definitions_are_not_encoded,
+    the_greatest_change_counts,
+};

@@ -1,28 +1,26 @@
 -- In the tables to which a legal journal leads versions start after the rows about their columns.
-use Rattle.std.proofs.Common.{◌≡◌, ◌<◌, ℕ, zero, suc, ◌+◌, ◌⊎◌, inl, inr, refl, sym, ap, subst, ◌∙◌, Bool, true, false, List, [], ◌∷◌, ◌++◌, map, take, Option, Some, None, arith}
-use Rattle.std.proofs.lemmas.Bool.{eqb-true, eq-eqb, ne_eqb}
-use Rattle.std.proofs.lemmas.List.Sums.{sum_by-cons}
+use Rattle.std.proofs.Common.{◌≡◌, ◌<◌, ℕ, suc, ◌+◌, inl, inr, refl, sym, ap, subst, ◌∙◌, Bool, true, false, List, [], ◌∷◌, ◌++◌, map, Option, Some, None, arith}
+use Rattle.std.proofs.lemmas.Bool.{eq-eqb, ne_eqb}
 use Rattle.std.specs.Prelude.{◌==◌, if◌then◌else◌, IfSome}
 use Rattle.std.specs.List.{AllByRecursion}
 use Rattle.sql_types.specs.declared.journal.JournalItem.{JournalItem}
 use Rattle.sql_types.specs.declared.journal.JournalItem.TheVariants.{Tx, Close}
 use Rattle.sql_types.specs.declared.version.Table.{Table}
 use Rattle.sql_types.specs.declared.version.Version.{Version}
-use Rattle.spec_model.specs.Rows.{EventId, same_event}
+use Rattle.spec_model.specs.Rows.{EventId}
 use Rattle.spec_model.specs.Catalog.{Tables}
 use Rattle.spec_model.specs.SystemTables.{first_tables}
-use Rattle.spec_model.specs.Runs.{IsBefore, EndsBefore, MadeBefore, SoundTable, Sound}
+use Rattle.spec_model.specs.Runs.{Sound}
 use Rattle.spec_model.specs.Script.{Reading, script}
-use Rattle.spec_model.specs.Journals.{cut, tx_count, IsOther, after_item, serial_from, serial, IsNext, IsLegalFrom, IsLegal}
+use Rattle.spec_model.specs.Journals.{tx_count, IsOther, after_item, serial_from, serial, IsNext, IsLegalFrom, IsLegal}
 use Rattle.law_frame.proofs.Alls.{all_weaker}
 use Rattle.law_frame.proofs.OtherTransactions.{others_sound}
 use Rattle.law_frame.proofs.SoundStatements.{first_sound}
-use Rattle.law_journal.specs.Fits.{Fits}
-use Rattle.law_journal.specs.Kept.{is_it, ends_with, count_in, count, count_all, IsNumbered, IsEarlier, AllApart, IsPast, KeptTable, Kept}
+use Rattle.law_journal.specs.Fits.{FitsSoFar}
+use Rattle.law_journal.specs.Kept.{IsNumbered, IsEarlier, AllApart, IsPast, KeptTable, Kept}
 use Rattle.law_journal.specs.Described.{Described}
-use Rattle.law_journal.specs.Serial.{place_in, HasTx, IsOf, TableOf, TablesOf}
+use Rattle.law_journal.specs.Serial.{place_in}
 use Rattle.law_journal.proofs.Keeping.{first_kept, first_described}
-use Rattle.law_frame.proofs.StepByStep.{Throughout}
 use Rattle.law_frame.proofs.WholeScripts.{whole_script}
 use Rattle.sql_types.specs.declared.statement.Stmt.{Stmt}
 use Rattle.spec_model.specs.Effect.{effect}
@@ -54,7 +52,7 @@ module _ (place : ℕ → ℕ) where
   pub record SettledTable (m : ℕ) (t : Table) : Type 0 where
     pub settled : AllByRecursion (Settled m) t.versions
     pub apart : AllApart place t.def.columns t.versions
-    pub fit : AllByRecursion (λ v. Fits t.def.columns v.values) t.versions
+    pub fit : AllByRecursion (λ v. FitsSoFar t.def.columns v.values) t.versions
 
   before_next : (m id seq : ℕ) (a : EventId) → place id ≡ m → IsEarlier place a (id, seq) → place a.0 < suc m
   before_next m id seq a is b = elim b [ inl lt ↦ omega (arith, is, lt) | inr p ↦ omega (arith, is, p.0) ]

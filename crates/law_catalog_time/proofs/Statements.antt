@@ -1,11 +1,10 @@
 -- Each statement keeps that versions start after the rows about their columns.
-use Rattle.std.proofs.Common.{◌≡◌, ◌≢◌, ◌≤◌, ◌<◌, ℕ, ◌+◌, ◌*◌, ◌⊎◌, inl, inr, refl, sym, ap, subst, ◌∙◌, ⊎_elim, Bool, true, false, List, [], ◌∷◌, ◌++◌, map, length, Ok, Err, arith}
-use Rattle.std.proofs.lemmas.Bool.{eqb-true, ne_eqb}
+use Rattle.std.proofs.Common.{◌≡◌, ◌≤◌, ◌<◌, ℕ, ◌+◌, ◌*◌, refl, sym, ap, subst, ◌∙◌, ⊎_elim, Bool, true, false, List, [], ◌∷◌, ◌++◌, map, length, Ok, Err, arith}
+use Rattle.std.proofs.lemmas.Bool.{eqb-true}
 use Rattle.std.specs.Prelude.{◌==◌, if◌then◌else◌}
 use Rattle.std.specs.List.{AllByRecursion}
 use Rattle.sql_value.specs.declared.column.ColumnDef.{ColumnDef}
 use Rattle.sql_types.specs.declared.statement.CreateTable.{CreateTable}
-use Rattle.sql_types.specs.declared.statement.CreateIndex.{CreateIndex}
 use Rattle.sql_types.specs.declared.statement.RowStmt.{RowStmt}
 use Rattle.sql_types.specs.declared.statement.Select.{Select}
 use Rattle.sql_types.specs.declared.statement.Stmt.{Stmt}
@@ -13,25 +12,24 @@ use Rattle.sql_types.specs.declared.statement.Stmt.TheVariants as s
 use Rattle.sql_types.specs.declared.table.IndexDef.{IndexDef}
 use Rattle.sql_types.specs.declared.table.TableDef.{TableDef}
 use Rattle.sql_types.specs.declared.version.Table.{Table}
-use Rattle.sql_types.specs.declared.version.TypedValue.{TypedValue}
 use Rattle.sql_types.specs.declared.version.Version.{Version}
 use Rattle.spec_model.specs.Refusals.{Checked}
 use Rattle.spec_model.specs.Lists.{numbered}
 use Rattle.spec_model.specs.Rows.{Row, EventId, number, same_event, start_cmp, started, stored_row, with_end, ended}
-use Rattle.spec_model.specs.Keys.{Key, same_key, version_key}
+use Rattle.spec_model.specs.Keys.{same_key, version_key}
 use Rattle.spec_model.specs.Changes.{Change, Changes, Starts, Ends, changed, row_changes}
-use Rattle.spec_model.specs.Catalog.{Defs, NamedPart, Tables, defs_of, versions_of, with_versions, changed_table}
+use Rattle.spec_model.specs.Catalog.{Defs, NamedPart, Tables, defs_of, versions_of, with_versions}
 use Rattle.spec_model.specs.Checks.{row_statement_check}
 use Rattle.spec_model.specs.Query.{query_check}
 use Rattle.spec_model.specs.SystemTables.{tables_id, columns_id, columns_columns, column_row, column_rows, index_row, index_rows}
-use Rattle.spec_model.specs.Create.{create_check, index_check, with_index}
-use Rattle.spec_model.specs.Effect.{Effect, effect, query_rows, table_start, column_starts, index_starts, with_def, redefined}
+use Rattle.spec_model.specs.Create.{create_check, index_check}
+use Rattle.spec_model.specs.Effect.{Effect, effect, query_rows, table_start, column_starts, with_def, redefined}
 use Rattle.spec_model.specs.ChangeSets.{TableChange, in_table, changed_in, changed_from, Definition, as_before, new, in_place, defined, ChangeSet, row_change_set, row_stmt_change_set, select_change_set, query_change_set, create_table_change_set, create_index_change_set, change_set}
 use Rattle.spec_model.specs.Agreement.{IdsFrom}
 use Rattle.law_frame.proofs.Alls.{all_weaker, all_both, all_append, all_map, all_inserted}
 use Rattle.law_frame.proofs.AtTable.{changed_at, new_table, redefined_table}
 use Rattle.law_frame.proofs.BaseTables.{users_table}
-use Rattle.law_frame.proofs.Definitions.{same_defs, changes_keep_defs}
+use Rattle.law_frame.proofs.Definitions.{same_defs}
 use Rattle.law_frame.proofs.ChangeSets.{carries_change_set_out}
 use Rattle.law_frame.proofs.SameKeys.{same_itself}
 use Rattle.law_journal.specs.Fine.{key_in, AllFine}

@@ -10,7 +10,7 @@ use Rattle.spec_verify.specs.Bytes.{verdict_of}
 use Rattle.audit_extract.specs.declared.found.ImageComparison.{ImageComparison}
 use Rattle.audit_extract.specs.declared.found.ImageComparison.TheVariants.{Same, Collision}
 use Rattle.cli_commands.specs.declared.status.Status.{Status}
-use Rattle.cli_commands.specs.declared.status.Status.TheVariants.{Done, No, Words, Limit, SourceFault, SinkFault, VaultFault, Missing, Digests, Journal, Form, Memory, NoEntry, Receipt}
+use Rattle.cli_commands.specs.declared.status.Status.TheVariants.{Done, No, Words, Limit, SourceFault, SinkFault, VaultFault, Missing, Digests, Journal, Form, Memory, NotImage, NoEntry, Receipt, TooFar}
 use Rattle.cli_commands.specs.Extract.{AreCompared, ExtractCause, Extracts, HoldsNoDigests, IsFoundWith, LacksExhibits, finding_status, finding_text}
 use Rattle.cli_commands.specs.Names.{digests_limit, image_limit}
 use Rattle.cli_commands.specs.Transfer.{TellsPart}
@@ -112,7 +112,9 @@ module _ (h : List ℕ → List ℕ) (names : Names) (honest suspect digests byt
   says_which (Journal at) f old new cause s = cause
   says_which (Form line) f old new cause s = cause
   says_which NoEntry f old new cause s = cause
+  says_which NotImage f old new cause s = cause
   says_which Receipt f old new cause s = cause
+  says_which (TooFar entries) f old new cause s = cause
 
 pub extract_says : (h : List ℕ → List ℕ) (names : Names) (honest suspect digests bytes other : List ℕ) (held : List HeldDigest) → IsExhibit h names honest digests bytes held
     → HoldsImage names suspect other → verdict_of h held other ≡ Yes

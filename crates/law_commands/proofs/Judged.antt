@@ -9,7 +9,7 @@ use Rattle.spec_verify.specs.declared.place.Verdict.{Verdict}
 use Rattle.spec_verify.specs.declared.place.Verdict.TheVariants.{Yes}
 use Rattle.spec_verify.specs.Bytes.{verdict_of}
 use Rattle.cli_commands.specs.declared.status.Status.{Status}
-use Rattle.cli_commands.specs.declared.status.Status.TheVariants.{Done, No, Words, Limit, SourceFault, SinkFault, VaultFault, Missing, Digests, Journal, Form, Memory, NoEntry, Receipt}
+use Rattle.cli_commands.specs.declared.status.Status.TheVariants.{Done, No, Words, Limit, SourceFault, SinkFault, VaultFault, Missing, Digests, Journal, Form, Memory, NotImage, NoEntry, Receipt, TooFar}
 use Rattle.cli_commands.specs.Names.{digests_limit, image_limit}
 use Rattle.cli_commands.specs.Transfer.{TellsPart}
 use Rattle.cli_commands.specs.Verify.{AreRefused, HoldsNone, IsJudged, LacksEvidence, SaidOrIdle, SaysVerdict, VerifyCause, verdict_text}
@@ -63,7 +63,9 @@ module _ (h : List ℕ → List ℕ) (names : Names) (image digests bytes : List
   says_yes (Journal at) f old new cause s = cause
   says_yes (Form line) f old new cause s = cause
   says_yes NoEntry f old new cause s = cause
+  says_yes NotImage f old new cause s = cause
   says_yes Receipt f old new cause s = cause
+  says_yes (TooFar entries) f old new cause s = cause
 
 pub verify_says : (h : List ℕ → List ℕ) (names : Names) (image digests bytes : List ℕ) (held : List HeldDigest) → IsExhibit h names image digests bytes held
     → (status : Status) (f : Faults) (old new : Option (List ℕ)) (told : Option Names) → told ≡ Some names → EndsVerify h image digests told f status old new

@@ -1,5 +1,5 @@
 -- The events of versions that fit their tables have leaves, where their numbers have room and their texts are UTF-8.
-use Rattle.std.proofs.Common.{◌≡◌, ◌≢◌, ◌≤◌, ℕ, suc, ◌+◌, refl, sym, ap, subst, true, List, [], ◌∷◌, length, flat_map, Option, Some, None, arith}
+use Rattle.std.proofs.Common.{◌≡◌, ◌≢◌, ◌≤◌, ℕ, ◌+◌, refl, sym, subst, true, List, [], ◌∷◌, length, flat_map, Option, Some, None, arith}
 use Rattle.std.specs.Prelude.{◌==◌}
 use Rattle.std.specs.List.{AllByRecursion, filter}
 use Rattle.std.specs.Ordering.{nat_cmp}
@@ -17,10 +17,11 @@ use Rattle.spec_model.specs.Catalog.{Tables}
 use Rattle.spec_model.specs.Events.{fields_at, end_events, version_events, events_of, all_events}
 use Rattle.law_frame.proofs.Alls.{all_both, all_filter, all_sorted}
 use Rattle.law_frame.proofs.LeftRows.{all_flat_map}
-use Rattle.law_journal.specs.Fits.{Fits, FitsColumn}
+use Rattle.law_journal.specs.Fits.{FitsColumn, FitsSoFar}
 use Rattle.law_journal.specs.Serial.{TableOf, TablesOf}
 use Rattle.law_journal.specs.Described.{Described}
 use Rattle.law_journal.proofs.DefLists.{all_defs}
+use Rattle.law_journal.proofs.SoFar as so_far
 use Rattle.sql_types.specs.declared.journal.JournalItem.{JournalItem}
 use Rattle.format_event.specs.EventRef.{event_with}
 use Rattle.format_event.specs.Leaf.{is_told}
@@ -41,23 +42,17 @@ value_is : (c : ColumnDef) (v : Option TypedValue) → FitsColumn c v → IsUtf8
 value_is c None fits text = tt
 value_is c (Some t) fits text = record { told = is_not_null t.value fits.1; stored = subst (λ (ty : SqlType). is_stored t.value ty ≡ true) (sym fits.0) fits.2; text = text }
 
-each_is : (columns : List ColumnDef) (values : List (Option TypedValue)) → Fits columns values → AllByRecursion IsUtf8Text values → AllByRecursion IsValue values
+each_is : (columns : List ColumnDef) (values : List (Option TypedValue)) → FitsSoFar columns values → AllByRecursion IsUtf8Text values → AllByRecursion IsValue values
 each_is [] [] fits texts = tt
 each_is [] (v ∷ vs) fits texts = absurd fits
-each_is (c ∷ cs) [] fits texts = absurd fits
+each_is (c ∷ cs) [] fits texts = tt
 each_is (c ∷ cs) (v ∷ vs) fits texts = (value_is c v fits.0 texts.0, each_is cs vs fits.1 texts.1)
 
-as_many : (columns : List ColumnDef) (values : List (Option TypedValue)) → Fits columns values → length values ≡ length columns
-as_many [] [] fits = refl
-as_many [] (v ∷ vs) fits = absurd fits
-as_many (c ∷ cs) [] fits = absurd fits
-as_many (c ∷ cs) (v ∷ vs) fits = ap suc (as_many cs vs fits.1)
-
--- values that fit have a spelling
-pub are_values : (columns : List ColumnDef) (values : List (Option TypedValue)) → length columns ≤ 64 → Fits columns values → AllByRecursion IsUtf8Text values → AreValues values
+-- values that fit so far have a spelling
+pub are_values : (columns : List ColumnDef) (values : List (Option TypedValue)) → length columns ≤ 64 → FitsSoFar columns values → AllByRecursion IsUtf8Text values → AreValues values
 are_values columns values few fits texts =
-    let many = as_many columns values fits in
-    (omega (arith, many, few), each_is columns values fits texts)
+    let some = so_far.few columns values fits in
+    (omega (arith, some, few), each_is columns values fits texts)
 
 texts_of : (n : ℕ) (values : List (Option TypedValue)) → AreTexts (flat_map fields_at (numbered n values)) → AllByRecursion IsUtf8Text values
 texts_of n [] texts = tt
@@ -68,9 +63,9 @@ texts_of n (Some t ∷ vs) texts = (texts.0, texts_of (n + 1) vs texts.1)
 
 module _ (columns : List ColumnDef) (few : length columns ≤ 64) where
   abbrev Suits : Version → Type 0
-  Suits v = Fits columns v.values
+  Suits v = FitsSoFar columns v.values
 
-  leaf_of : (table : ℕ) (id : EventId) (ends : Option EventId) (values : List (Option TypedValue)) → Fits columns values → FitsLeaf (event_with table id ends values)
+  leaf_of : (table : ℕ) (id : EventId) (ends : Option EventId) (values : List (Option TypedValue)) → FitsSoFar columns values → FitsLeaf (event_with table id ends values)
   leaf_of table id ends values fits room =
       has_leaf table id ends values room.table (room.tx, room.seq) room.start (are_values columns values few fits (texts_of 1 values room.texts))
 
@@ -91,7 +86,7 @@ table_leaves items tx t h =
     all_sorted FitsLeaf (λ a b. nat_cmp a.seq b.seq)
     (filter (λ e. e.tx == tx) (flat_map (version_events t.def.id) t.versions))
     (all_filter FitsLeaf (λ e. e.tx == tx) (flat_map (version_events t.def.id) t.versions)
-    (all_flat_map (λ v. Fits t.def.columns v.values) FitsLeaf (version_events t.def.id)
+    (all_flat_map (λ v. FitsSoFar t.def.columns v.values) FitsLeaf (version_events t.def.id)
     (version_leaf t.def.columns h.0 t.def.id) t.versions h.1.fit))
 
 pub all_leaves : (items : List JournalItem) (tx : ℕ) (T : Tables) → TablesOf items T → Described T

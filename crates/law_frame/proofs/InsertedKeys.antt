@@ -10,7 +10,7 @@ use Rattle.sql_value.specs.Conversion.{Converted, conversion_of}
 use Rattle.spec_model.specs.Refusals.{Checked, and_then}
 use Rattle.spec_model.specs.Lists.{checked_map, all_some}
 use Rattle.spec_model.specs.Rows.{Row}
-use Rattle.spec_model.specs.Keys.{Key, key_places, value_at, key_of}
+use Rattle.spec_model.specs.Keys.{Key, key_places, value_at, key_of, key_at}
 use Rattle.spec_model.specs.Changes.{or_its_refusal, kept, kept_row, arranged}
 use Rattle.spec_model.specs.Locks.{key_value, key_inserted}
 use Rattle.law_frame.proofs.KeyPlaces.{HasColumn, key_places_have}
@@ -80,5 +80,5 @@ at_places columns row out (p ∷ ps) key e has h =
 -- where a row is kept and its key is wanted, that is its key
 pub inserted_key : (columns : List ColumnDef) (names : Option (List (List ℕ))) (row out : Row) (key : Key) → kept_row columns (arranged columns names row) ≡ Ok out
     → key_inserted columns names row ≡ Some key → key_of columns out ≡ key
-unfolding kept_row key_inserted key_of
+unfolding kept_row key_inserted key_at
 inserted_key columns names row out key e h = at_places columns (arranged columns names row) out (key_places columns) key e (key_places_have columns) h

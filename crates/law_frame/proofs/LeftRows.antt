@@ -13,7 +13,7 @@ use Rattle.sql_types.specs.declared.version.Version.{Version}
 use Rattle.spec_model.specs.Refusals.{Checked, and_then}
 use Rattle.spec_model.specs.Lists.{checked_map, all_some, repeats}
 use Rattle.spec_model.specs.Rows.{Row, same_event, live, stored_row}
-use Rattle.spec_model.specs.Keys.{Key, key_cmp, same_key, version_key, of_key, live_by_key}
+use Rattle.spec_model.specs.Keys.{Key, key_cmp, same_key, version_key, of_key, live_by_key, live_by_key_at}
 use Rattle.spec_model.specs.Where.{key_fixed}
 use Rattle.spec_model.specs.Changes.{Starts, Ends, Changes, inserted_rows, versions_matched, row_after_set, replaced, insertion, replacement, deletion, row_changes}
 use Rattle.spec_model.specs.Create.{names_of}
@@ -63,7 +63,7 @@ module _ (columns : List ColumnDef) (key : Key) (V : List Version) where
       (all_pass (λ v. same_key (version_key columns v) k) V))
 
   live_apart : (o : Option Key) → Rising V → list_any (lets_change key) (request.by_key_or_whole IX X o) ≡ false → AllByRecursion Apart (live_by_key columns o V)
-  unfolding live_by_key
+  unfolding live_by_key_at
   live_apart (Some k) r h =
       all_sorted Apart (λ v w. key_cmp (version_key columns v) (version_key columns w)) (live (of_key columns k V))
       (all_filter Apart (λ v. is_none v.end) (of_key columns k V) (all_apart k r (or_false (same_key k key) false h).0))

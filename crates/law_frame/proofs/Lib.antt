@@ -9,6 +9,7 @@ pub mod ByTest
 pub mod ChangesMade
 pub mod Checked
 pub mod Definitions
+pub mod Filled
 pub mod InsertedKeys
 mod KeyPlaces
 pub mod LeftAlone

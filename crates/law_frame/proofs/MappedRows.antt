@@ -8,7 +8,7 @@ use Rattle.sql_value.specs.declared.column.ColumnDef.{ColumnDef}
 use Rattle.spec_model.specs.Refusals.{Checked, and_then}
 use Rattle.spec_model.specs.Lists.{checked_map}
 use Rattle.spec_model.specs.Rows.{Row, stored_value, stored_row, value_or_null}
-use Rattle.spec_model.specs.Keys.{key_places, value_at, key_of}
+use Rattle.spec_model.specs.Keys.{key_places, value_at, key_of, key_at}
 use Rattle.law_frame.proofs.Checked.{Led, led}
 use Rattle.law_frame.proofs.KeyPlaces.{HasKeyColumn, key_place_columns}
 
@@ -66,5 +66,5 @@ module _ (f : ColumnDef → Value → Checked Value) where
   pub key_kept : (columns : List ColumnDef) (row out : Row) → checked_map mapped (zip columns row) ≡ Ok out
       → ((place : ℕ) (c : ColumnDef) → slice_get columns place ≡ Some c → c.key_position ≢ 0 → (v w : Value) → f c v ≡ Ok w → w ≡ v)
       → key_of columns out ≡ key_of columns row
-  unfolding key_of
+  unfolding key_at
   key_kept columns row out e h = at_places columns row out (key_places columns) e (key_place_columns columns) h

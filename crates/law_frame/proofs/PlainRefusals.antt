@@ -47,7 +47,7 @@ use Rattle.spec_model.specs.Evaluation as me
 use Rattle.spec_model.specs.Numbers.{in_38_digits, combined, sum_of, difference_of, product_of, negative_of}
 use Rattle.spec_model.specs.Query.{select_check, query_check, value_in, added_up, total, agg_value, apply_select_list, selected}
 use Rattle.spec_model.specs.Parts.{columns_of, base_row}
-use Rattle.spec_model.specs.Rows.{Row, values_of}
+use Rattle.spec_model.specs.Rows.{Row, row_of}
 use Rattle.spec_model.specs.Where.{is_true, holds}
 
 -- the codes of checks and of evaluation
@@ -317,7 +317,7 @@ set_value columns row c v (Some e) = goes_on _ _ (expression _ row e) (λ o. goe
 
 set_row : (columns : List ColumnDef) (sets : List (List ℕ × Expr)) (v : Version) → IsPlainly (row_after_set columns sets v)
 unfolding row_after_set
-set_row columns sets v = each (λ (p : ColumnDef × Value). value_set columns (base_row v) p.0 p.1 (expr_set sets p.0.name)) (λ p. set_value columns (base_row v) p.0 p.1 (expr_set sets p.0.name)) (zip columns (values_of v))
+set_row columns sets v = each (λ (p : ColumnDef × Value). value_set columns (base_row columns v) p.0 p.1 (expr_set sets p.0.name)) (λ p. set_value columns (base_row columns v) p.0 p.1 (expr_set sets p.0.name)) (zip columns (row_of columns v))
 
 changes : (def : TableDef) (versions : List Version) (stmt : RowStmt) → IsPlainly (row_changes def versions stmt)
 unfolding row_changes

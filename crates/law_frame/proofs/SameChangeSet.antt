@@ -16,7 +16,7 @@ use Rattle.sql_types.specs.declared.version.Version.{Version}
 use Rattle.spec_model.specs.Refusals.{Checked, and_then}
 use Rattle.spec_model.specs.Lists.{checked_fold, all_some}
 use Rattle.spec_model.specs.Rows.{Row}
-use Rattle.spec_model.specs.Keys.{Key, key_of, same_key, of_key, part_read, has_live_row, live_by_key}
+use Rattle.spec_model.specs.Keys.{Key, key_of, same_key, of_key, part_read, live_by_key, live_by_key_at, has_live_row_at}
 use Rattle.spec_model.specs.Parts.{columns_of, shown_of, base_row, rows_of}
 use Rattle.spec_model.specs.Where.{key_fixed}
 use Rattle.spec_model.specs.Changes.{kept_row, arranged, is_duplicate, one_more, inserted_rows, versions_matched, insertion, row_changes}
@@ -44,7 +44,7 @@ module _ (columns : List ColumnDef) (names : Option (List (List ℕ))) (V W : Li
       × KeysAgree rs
 
   one_more_same : (before : List Row) (row : Row) → of_key columns (key_of columns row) V ≡ of_key columns (key_of columns row) W → one_more columns V before row ≡ one_more columns W before row
-  unfolding is_duplicate has_live_row
+  unfolding is_duplicate has_live_row_at
   one_more_same before row e = ap (λ (vs : List Version). if list_any (λ v. is_none v.end) vs || list_any (λ r. same_key (key_of columns r) (key_of columns row)) before then Err DuplicateKey else Ok (before ++ row ∷ [])) e
 
   abbrev next_row : List Version → List Row → Row → Checked (List Row)
@@ -87,7 +87,7 @@ reader_agrees columns (Some key) V W h = h.1.0
 reader_agrees columns None V W h = h.0
 
 live_same : (columns : List ColumnDef) (key : Option Key) (V W : List Version) → part_read columns key V ≡ part_read columns key W → live_by_key columns key V ≡ live_by_key columns key W
-unfolding live_by_key
+unfolding live_by_key_at
 live_same columns key V W e = rw e refl
 
 -- ---- INSERT, UPDATE and DELETE
@@ -112,7 +112,7 @@ module _ (T U : Tables) (ids : IdsFrom 1 (defs_of T)) where
 
   pub rows_by_requests : (q : Select) (n : NamedPart) (V W : List Version) → (n.1 ≡ System → V ≡ W) → AgreeOnAll n.0.columns (request.query_requests n q) V W → query_rows q n V ≡ query_rows q n W
   unfolding query_rows request.query_requests rows_of
-  rows_by_requests q (def, Base) V W sys h = ap (λ vs. selected (columns_of def Base) (shown_of def Base) q (map base_row vs)) (live_same def.columns (key_fixed def.columns q.cond) V W (reader_agrees def.columns (key_fixed def.columns q.cond) V W h))
+  rows_by_requests q (def, Base) V W sys h = ap (λ vs. selected (columns_of def Base) (shown_of def Base) q (map (base_row def.columns) vs)) (live_same def.columns (key_fixed def.columns q.cond) V W (reader_agrees def.columns (key_fixed def.columns q.cond) V W h))
   rows_by_requests q (def, History) V W sys h = rw (h.0) refl
   rows_by_requests q (def, View) V W sys h = rw (h.0) refl
   rows_by_requests q (def, System) V W sys h = rw (sys refl) refl

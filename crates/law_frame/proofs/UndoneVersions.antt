@@ -14,7 +14,7 @@ use Rattle.sql_types.specs.declared.version.Version.{Version}
 use Rattle.spec_model.specs.Refusals.{and_then}
 use Rattle.spec_model.specs.Lists.{inserted, checked_map}
 use Rattle.spec_model.specs.Rows.{Row, EventId, same_event, start_cmp, started, with_end, ended, live, stored_row}
-use Rattle.spec_model.specs.Keys.{Key, key_cmp, same_key, version_key, part_read, live_by_key}
+use Rattle.spec_model.specs.Keys.{Key, key_cmp, same_key, version_key, part_read, live_by_key, live_by_key_at}
 use Rattle.spec_model.specs.Where.{key_fixed}
 use Rattle.spec_model.specs.Changes.{Change, Starts, Ends, Changes, changed, inserted_rows, versions_matched, row_after_set, replaced, insertion, replacement, deletion, row_changes}
 use Rattle.spec_model.specs.Undo.{is_undone, end_left, end_undone, versions_undone}
@@ -132,7 +132,7 @@ module _ (tx n : ℕ) where
     part_alone (Some key) = all_filter (IsAlone V) (λ v. same_key (version_key columns v) key) V (each_alone V rising)
 
     undone_live : (o : Option Key) → AllByRecursion Undone (live_by_key columns o V)
-    unfolding live_by_key
+    unfolding live_by_key_at
     undone_live o =
         all_sorted Undone (λ v w. key_cmp (version_key columns v) (version_key columns w)) (live (part_read columns o V))
         (all_weaker (λ v. IsAlone V v × (is_none v.end ≡ true)) Undone live_undone (live (part_read columns o V))

@@ -18,7 +18,7 @@ use Rattle.sql_types.specs.declared.version.Version.{Version}
 use Rattle.spec_model.specs.Refusals.{Checked}
 use Rattle.spec_model.specs.Columns.{place_of}
 use Rattle.spec_model.specs.Lists.{has_name, repeats}
-use Rattle.spec_model.specs.Rows.{Row, values_of, stored_row, value_or_null}
+use Rattle.spec_model.specs.Rows.{Row, values_of, row_of, stored_row, value_or_null}
 use Rattle.sql_types.specs.declared.table.Part.TheVariants.{Base}
 use Rattle.spec_model.specs.Parts.{base_row, columns_of}
 use Rattle.spec_model.specs.Keys.{key_of, version_key}
@@ -26,6 +26,7 @@ use Rattle.spec_model.specs.Changes.{expr_set, value_set, row_after_set}
 use Rattle.spec_model.specs.Create.{names_of}
 use Rattle.spec_model.specs.Checks.{is_key_column, is_in_key, sets_check, update_check}
 use Rattle.law_frame.proofs.Checked.{was_passed, not_refused}
+use Rattle.law_frame.proofs.Filled.{filled_key}
 use Rattle.law_frame.proofs.SameKeys.{or_false}
 use Rattle.law_frame.proofs.MappedRows.{stored_mapped, key_kept}
 
@@ -112,12 +113,13 @@ pub update_keeps_key : (columns : List ColumnDef) (sets : List (List ℕ × Expr
     → key_of columns (map value_or_null (stored_row columns row)) ≡ version_key columns v
 unfolding row_after_set
 update_keeps_key columns sets v row r none e =
-    ap (key_of columns) (stored_mapped set columns (values_of v) row e)
-    ∙ key_kept set columns (values_of v) row e
-    (λ p c at k x w s. keeps_value columns (base_row v) c (expr_set sets c.name) x w (not_set columns sets c none (key_column columns p c r at k)) s)
+    ap (key_of columns) (stored_mapped set columns (row_of columns v) row e)
+    ∙ key_kept set columns (row_of columns v) row e
+    (λ p c at k x w s. keeps_value columns (base_row columns v) c (expr_set sets c.name) x w (not_set columns sets c none (key_column columns p c r at k)) s)
+    ∙ filled_key columns columns (values_of v)
   where
     set : ColumnDef → Value → Checked Value
-    set c x = value_set columns (base_row v) c x (expr_set sets c.name)
+    set c x = value_set columns (base_row columns v) c x (expr_set sets c.name)
 
 -- KeyNotUpdatable
 sets_passed : (declared columns : List ColumnDef) (sets : List (List ℕ × Expr)) (cond : Option Expr) → sets_check declared columns sets cond ≡ Ok tt → list_any (λ s. is_in_key declared s.0) sets ≡ false

@@ -1,10 +1,11 @@
 //! Laws of statements and scripts: what they read and what they leave alone, what agreeing
-//! states give, and undo.
+//! states give, undo, and rows that are shorter than their columns.
 #![tactic(auto)]
 
 mod agreement;
 mod catalog;
 mod journals;
+mod rows;
 mod runs;
 mod scripts;
 mod undo;
@@ -18,6 +19,7 @@ pub use catalog::{
     creates_request_the_catalog_alone, explicit_scripts_leave_definitions, no_texts_do_nothing,
 };
 pub use journals::legal_journals_keep_the_rules;
+pub use rows::{filled_rows_say_the_same, rows_are_filled};
 pub use runs::{
     explicit_scripts_keep_tables_sound, legal_journals_lead_to_sound_tables,
     scripts_keep_tables_sound_for_others, statements_keep_tables_sound,

@@ -1,5 +1,5 @@
 -- What is accepted with the digests with which an image is accepted.
-use Rattle.std.proofs.Common.{◌≡◌, ℕ, List, length, sym, ap, ◌∙◌}
+use Rattle.std.proofs.Common.{◌≡◌, ℕ, List, length, sym, ◌∙◌}
 use Rattle.sql_types.specs.declared.digest.HeldDigest.{HeldDigest}
 use Rattle.sql_types.specs.declared.image.Image.{Image}
 use Rattle.sql_types.specs.declared.journal.Journal.{Journal}
@@ -14,7 +14,7 @@ use Rattle.format_image.specs.Image.{image_of}
 use Rattle.format_image.specs.ImageBytes.{image_bytes, IsImage}
 use Rattle.spec_verify.specs.declared.place.Verdict.TheVariants.{Yes}
 use Rattle.spec_verify.specs.Bytes.{verdict_of}
-use Rattle.spec_verify.proofs.Judged.{of_image}
+use Rattle.spec_verify.proofs.Judged.{of_spelling, of_image}
 use Rattle.audit_extract.proofs.Agreeing.{Injective}
 use Rattle.audit_extract.proofs.EachDigest.{agree_or_collide, one_history_of_bytes}
 use Rattle.law_image.specs.Room.{FitsImageFormat}
@@ -36,7 +36,7 @@ are_bound one h i digests sized is accepted = record {
         is = p.is_first;
         same = agree_or_collide h i p.first is p.is_first.0 one sized digests
             (sym (of_image h digests i is) ∙ accepted)
-            (sym (of_image h digests p.first p.is_first.0) ∙ sym (ap (verdict_of h digests) p.is_first.1) ∙ accepts);
+            (sym (of_spelling h digests bytes p.first p.is_first.0 p.is_first.1) ∙ accepts);
       };
 }
 

@@ -16,7 +16,7 @@ use Rattle.spec_history.specs.Meaning.{Meaning}
 use Rattle.spec_history.specs.Transcripts.{Transcript}
 use Rattle.spec_syntax.specs.Text.{statement_of}
 use Rattle.format_image.specs.Image.{image_of, image_of_cut}
-use Rattle.format_image.specs.ImageBytes.{image_bytes, IsImage}
+use Rattle.format_image.specs.ImageBytes.{image_bytes, IsImage, IsSpellingOf}
 use Rattle.spec_protocol.specs.Seats.{KeptImage}
 use Rattle.spec_verify.specs.declared.place.Verdict.TheVariants.{Yes}
 use Rattle.spec_verify.specs.Bytes.{verdict_of}
@@ -33,7 +33,7 @@ use Rattle.law_headline.specs.Shown.{AreShown}
 pub record IsSameUnder (h : List ℕ → List ℕ) (image : Image) (digests : List HeldDigest) (bytes : List ℕ)
     : Type 0 where
   pub other : Image
-  pub is : IsImage other × (bytes ≡ image_bytes other)
+  pub is : IsImage other × IsSpellingOf bytes other
   pub same : AgreeOnEach image other digests ⊎ HasCollision h
 
 -- `verify` says Yes of the bytes of this image with these digests; and whatever it says Yes of with them has

@@ -1,9 +1,9 @@
 -- A definition that rows may spell has a spelling in bytes.
-use Rattle.std.proofs.Common.{◌≡◌, ◌<◌, ◌≤◌, ◌+◌, ◌^◌, ℕ, refl, Bool, true, false, List, [], ◌∷◌, length, map, arith}
+use Rattle.std.proofs.Common.{◌≡◌, ◌<◌, ◌≤◌, ◌+◌, ◌^◌, ◌∙◌, ℕ, refl, sym, ap, Bool, true, false, List, [], ◌∷◌, length, map, arith}
 use Rattle.std.proofs.lemmas.Bool.{lt-ltb}
 use Rattle.std.proofs.lemmas.Bool.Decides.{nat_tests, Decides-eqb}
 use Rattle.std.specs.Bool.{Decides}
-use Rattle.std.specs.Prelude.{◌&&◌, ◌==◌, not, nat_le, if◌then◌else◌}
+use Rattle.std.specs.Prelude.{◌&&◌, ◌||◌, ◌==◌, not, nat_lt, nat_le, if◌then◌else◌}
 use Rattle.std.specs.List.{AllByRecursion, list_all, range_with_len}
 use Rattle.sql_value.specs.Stored.{is_in_range}
 use Rattle.sql_value.specs.declared.column.ColumnDef.{ColumnDef}
@@ -12,9 +12,11 @@ use Rattle.sql_types.specs.declared.table.TableDef.{TableDef}
 use Rattle.spec_model.specs.Agreement.{IdsFrom}
 use Rattle.spec_model.specs.Catalog.{Defs}
 use Rattle.spec_model.specs.Create.{names_of, table_names, is_ledger_name, has_null_key}
-use Rattle.spec_model.specs.Lists.{repeats}
-use Rattle.law_catalog_rows.specs.IsEncodableDef.{is_proper_name, has_its_history, is_between, greatest, is_among, number_repeats, are_key_positions, positions_of, is_encodable_column, is_encodable_index, is_encodable_def}
-use Rattle.format_image.specs.DefBytes.{IsColumn, IsIndex, IsDef, ids_rise}
+use Rattle.spec_model.specs.Lists.{numbered, repeats}
+use Rattle.law_catalog_rows.specs.Formed.{Formed}
+use Rattle.law_catalog_rows.specs.IsEncodableDef as law
+use Rattle.law_catalog_rows.specs.IsEncodableDef.{is_proper_name, has_its_history, dropped_are_right, is_between, greatest, is_among, number_repeats, are_key_positions, positions_of, is_encodable_column, is_encodable_index, is_encodable_def}
+use Rattle.format_image.specs.DefBytes.{IsColumn, IsIndex, rise_within, IsDef, NothingDropped, ids_rise}
 
 -- ---- tests
 
@@ -99,6 +101,7 @@ pub record Said (def : TableDef) : Type 0 where
   pub name : is_proper_name def.name ≡ true
   pub history : has_its_history def.kind def.history ≡ true
   pub view : is_proper_name def.view ≡ true
+  pub dropped : dropped_are_right def ≡ true
   pub column_count : is_between 1 64 (length def.columns) ≡ true
   pub columns : list_all is_encodable_column def.columns ≡ true
   pub positions : are_key_positions (positions_of def.columns) ≡ true
@@ -112,6 +115,7 @@ said def e =
     let history : Bool = has_its_history def.kind def.history in
     let view : Bool = is_proper_name def.view in
     let own : Bool = not (repeats (table_names def)) in
+    let all : Bool = dropped_are_right def in
     let count : Bool = is_between 1 64 (length def.columns) in
     let columns : Bool = list_all is_encodable_column def.columns in
     let names : Bool = not (repeats (names_of def.columns)) in
@@ -119,15 +123,16 @@ said def e =
     let null : Bool = not (has_null_key def) in
     let few : Bool = nat_le (length def.indexes) 4 in
     let indexes : Bool = list_all (is_encodable_index (length def.columns)) def.indexes in
-    let e12 = front (id && name && history && view && own && count && columns && names && positions && null && few && indexes) (not (repeats (map (λ (i : IndexDef). i.name) def.indexes))) e in
-    let e11 = front (id && name && history && view && own && count && columns && names && positions && null && few) indexes e12 in
-    let e10 = front (id && name && history && view && own && count && columns && names && positions && null) few e11 in
-    let e9 = front (id && name && history && view && own && count && columns && names && positions) null e10 in
-    let e8 = front (id && name && history && view && own && count && columns && names) positions e9 in
-    let e7 = front (id && name && history && view && own && count && columns) names e8 in
-    let e6 = front (id && name && history && view && own && count) columns e7 in
-    let e5 = front (id && name && history && view && own) count e6 in
-    let e4 = front (id && name && history && view) own e5 in
+    let e12 = front (id && name && history && view && own && all && count && columns && names && positions && null && few && indexes) (not (repeats (map (λ (i : IndexDef). i.name) def.indexes))) e in
+    let e11 = front (id && name && history && view && own && all && count && columns && names && positions && null && few) indexes e12 in
+    let e10 = front (id && name && history && view && own && all && count && columns && names && positions && null) few e11 in
+    let e9 = front (id && name && history && view && own && all && count && columns && names && positions) null e10 in
+    let e8 = front (id && name && history && view && own && all && count && columns && names) positions e9 in
+    let e7 = front (id && name && history && view && own && all && count && columns) names e8 in
+    let e6 = front (id && name && history && view && own && all && count) columns e7 in
+    let e5 = front (id && name && history && view && own && all) count e6 in
+    let e45 = front (id && name && history && view && own) all e5 in
+    let e4 = front (id && name && history && view) own e45 in
     let e3 = front (id && name && history) view e4 in
     let e2 = front (id && name) history e3 in
     record {
@@ -135,11 +140,12 @@ said def e =
       name = last id name e2;
       history = last (id && name) history e3;
       view = last (id && name && history) view e4;
-      column_count = last (id && name && history && view && own) count e6;
-      columns = last (id && name && history && view && own && count) columns e7;
-      positions = last (id && name && history && view && own && count && columns && names) positions e9;
-      index_count = last (id && name && history && view && own && count && columns && names && positions && null) few e11;
-      indexes = last (id && name && history && view && own && count && columns && names && positions && null && few) indexes e12;
+      dropped = last (id && name && history && view && own) all e5;
+      column_count = last (id && name && history && view && own && all) count e6;
+      columns = last (id && name && history && view && own && all && count) columns e7;
+      positions = last (id && name && history && view && own && all && count && columns && names) positions e9;
+      index_count = last (id && name && history && view && own && all && count && columns && names && positions && null) few e11;
+      indexes = last (id && name && history && view && own && all && count && columns && names && positions && null && few) indexes e12;
     }
 
 few_keys : (ps : List ℕ) → are_key_positions ps ≡ true → greatest ps ≤ 4
@@ -147,6 +153,16 @@ few_keys ps e =
     let within : Bool = is_between 1 4 (greatest ps) in
     let all : Bool = list_all (is_among ps) (range_with_len 1 (greatest ps)) in
     upper 1 4 (greatest ps) (front within all (front (within && all) (not (number_repeats ps)) e))
+
+-- the ordinals of dropped columns rise, as the bytes want it
+same_rise : (least limit : ℕ) (ns : List ℕ) → law.rise_within least limit ns ≡ rise_within least limit ns
+same_rise least limit [] = refl
+same_rise least limit (n ∷ ns) = ap (λ (b : Bool). nat_lt least n && nat_le n limit && b) (same_rise n limit ns)
+
+they_rise_within : (def : TableDef) → dropped_are_right def ≡ true → rise_within 0 (length def.columns) def.dropped ≡ true
+they_rise_within def e =
+    sym (same_rise 0 (length def.columns) def.dropped)
+    ∙ front (law.rise_within 0 (length def.columns) def.dropped) (list_all (λ c. not (is_among def.dropped c.0) || c.1.key_position == 0) (numbered 1 def.columns)) e
 
 pub def_is : (def : TableDef) → is_encodable_def def ≡ true → IsDef def
 def_is def e =
@@ -161,6 +177,7 @@ def_is def e =
       view = s.view;
       column_count = omega (arith, columns);
       columns = columns_are def.columns s.columns (few_positions def.columns (few_keys (positions_of def.columns) s.positions));
+      dropped = they_rise_within def s.dropped;
       index_count = omega (arith, indexes);
       indexes = indexes_are (length def.columns) def.indexes columns s.indexes;
     }
@@ -168,6 +185,13 @@ def_is def e =
 pub defs_are : (defs : Defs) → AllByRecursion (λ (d : TableDef). is_encodable_def d ≡ true) defs → AllByRecursion IsDef defs
 defs_are [] h = tt
 defs_are (d ∷ ds) h = (def_is d h.0, defs_are ds h.1)
+
+-- no statement drops anything, so they have a spelling in the first version too
+pub none_dropped : (n : ℕ) (defs : Defs) → 3 ≤ n → IdsFrom n defs → AllByRecursion (λ (d : TableDef). 2 < d.id → Formed d) defs → AllByRecursion NothingDropped defs
+none_dropped n [] le ids f = tt
+none_dropped n (d ∷ ds) le ids f =
+    let formed : Formed d = f.0 (omega (arith, ids.0, le)) in
+    (record { gone = formed.not_gone; dropped = formed.none_dropped }, none_dropped (n + 1) ds (omega (arith, le)) ids.1 f.1)
 
 pub they_rise : (n below : ℕ) (defs : Defs) → below < n → IdsFrom n defs → ids_rise below defs ≡ true
 they_rise n below [] lt ids = refl

@@ -19,7 +19,7 @@ use Rattle.law_frame.proofs.Alls.{all_append}
 use Rattle.law_frame.proofs.StepByStep.{Any}
 use Rattle.law_journal.specs.Serial.{TableOf}
 use Rattle.law_journal.proofs.Serials.{legal_tables, legal_described}
-use Rattle.law_catalog_rows.specs.Formed.{AreInFront}
+use Rattle.law_catalog_rows.specs.Formed.{AreInFront, AllFormed}
 use Rattle.law_catalog_rows.specs.Encoded.{AreEncodedByRows}
 use Rattle.law_catalog_rows.specs.Written.{ReadsWritten}
 use Rattle.law_catalog_rows.proofs.Journals.{legal_described as legal_formed, legal_ids, legal_encoded}
@@ -29,13 +29,13 @@ use Rattle.spec_ledger.specs.Ledger.{Ledger, ledger_of}
 use Rattle.law_blocks.proofs.Staying.{blocks_counted}
 use Rattle.law_blocks.proofs.Counting.{entries_counted}
 use Rattle.spec_ledger.proofs.Parting.{parted, entries_by_size}
-use Rattle.format_image.specs.DefBytes.{IsIndex, IsDef, ids_rise}
+use Rattle.format_image.specs.DefBytes.{IsIndex, IsDef, NothingDropped, ids_rise}
 use Rattle.format_image.specs.Image.{user_defs, image_of}
-use Rattle.format_image.specs.ImageBytes.{IsPlaceless, AreTables, IsImage}
+use Rattle.format_image.specs.ImageBytes.{IsPlaceless, AreTables, IsImage, NothingGone}
 use Rattle.format_image.specs.RowBytes.{IsTable}
 use Rattle.format_image.specs.Rows.{table_rows}
 use Rattle.law_image.specs.Room.{TableFitsFormat, FitsImageFormat}
-use Rattle.law_image.proofs.Defs.{defs_are, they_rise}
+use Rattle.law_image.proofs.Defs.{defs_are, none_dropped, they_rise}
 use Rattle.law_image.proofs.Entries.{records_are, entries_are}
 use Rattle.law_image.proofs.Rows.{KnownTable, table_is}
 
@@ -81,6 +81,11 @@ shown_by items (a ∷ b ∷ ts) s front ids few k =
       tables_are = (of_system items a tables_def front.0 refl k.0, (of_system items b columns_def front.1 refl k.1.0, of_users items ts k.1.1 defs));
     }
 
+none_gone : (T : Tables) → IdsFrom 1 (defs_of T) → AllFormed (defs_of T) → AllByRecursion NothingDropped (user_defs T)
+none_gone [] ids f = absurd f.system
+none_gone (a ∷ []) ids f = absurd f.system
+none_gone (a ∷ b ∷ ts) ids f = none_dropped 3 (defs_of ts) (omega arith) ids.1.1 f.each.1.1
+
 module _ (reads : Reading) (gives : ReadsWritten reads) (items : List JournalItem) (legal : IsLegal reads items) where
   abbrev nothing : Tables → Type 0
   nothing T = Unit {0}
@@ -120,3 +125,7 @@ module _ (reads : Reading) (gives : ReadsWritten reads) (items : List JournalIte
         ids = s.ids;
         tables = s.tables_are;
       }
+
+  pub nothing_is_gone : (h : List ℕ → List ℕ) (database : List ℕ) → NothingGone (image_of h reads database items)
+  unfolding image_of
+  nothing_is_gone h database = none_gone (serial reads items) (legal_ids reads items legal) (legal_formed reads items legal).1

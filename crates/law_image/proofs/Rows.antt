@@ -23,14 +23,15 @@ use Rattle.sql_types.specs.declared.version.TypedValue.{TypedValue}
 use Rattle.sql_types.specs.declared.version.Version.{Version}
 use Rattle.spec_model.specs.Keys.{key_places, position_cmp}
 use Rattle.spec_model.specs.Lists.{inserted, sorted, numbered}
-use Rattle.spec_model.specs.Rows.{EventId, event_cmp, start_cmp, live}
+use Rattle.spec_model.specs.Rows.{EventId, event_cmp, start_cmp, live, filled_stored}
 use Rattle.spec_model.specs.Runs.{Rising}
 use Rattle.law_frame.proofs.Alls.{all_filter, all_pass, all_both, all_weaker, all_map, all_sorted}
-use Rattle.law_journal.specs.Fits.{FitsColumn, Fits}
+use Rattle.law_journal.specs.Fits.{FitsColumn, Fits, FitsSoFar}
 use Rattle.law_journal.specs.Kept.{IsEarlier}
 use Rattle.law_journal.specs.Serial.{place_in, HasTx, IsOf}
+use Rattle.law_journal.proofs.SoFar.{as_many, filled_fit}
 use Rattle.format_image.specs.RowBytes.{IsValue, AreValues, IsPair, IsBaseRow, IsEnd, IsHistoryRow, comes_after, rise_after, starts_rise, AreBaseRows, AreHistoryRows, AreIndexRows, AreIndexes, IsTable}
-use Rattle.format_image.specs.Rows.{Stored, stored_at, index_ordinals, index_row, stored_cmp, index_rows, ended_ones, table_rows}
+use Rattle.format_image.specs.Rows.{Stored, stored_at, index_ordinals, index_row, stored_cmp, index_rows, ended_ones, filled_version, table_rows}
 use Rattle.law_image.specs.Room.{VersionFitsFormat, TableFitsFormat}
 use Rattle.law_image.proofs.Defs.{last}
 use Rattle.law_image.proofs.Entries.{few_filtered, length_mapped}
@@ -53,12 +54,6 @@ values_are [] [] f u = tt
 values_are [] (v ∷ vs) f u = absurd f
 values_are (c ∷ cs) [] f u = absurd f
 values_are (c ∷ cs) (v ∷ vs) f u = (value_is c v f.0 u.0, values_are cs vs f.1 u.1)
-
-as_many : (cs : List ColumnDef) (row : Stored) → Fits cs row → length row ≡ length cs
-as_many [] [] f = refl
-as_many [] (v ∷ vs) f = absurd f
-as_many (c ∷ cs) [] f = absurd f
-as_many (c ∷ cs) (v ∷ vs) f = ap suc (as_many cs vs f.1)
 
 -- ---- order
 
@@ -85,6 +80,15 @@ rises (v ∷ vs) r = behind v vs r.0 r.1
     behind : (last : Version) (ws : List Version) → AllByRecursion (λ w. start_cmp last w ≡ Less) ws → Rising ws → rise_after last.start ws ≡ true
     behind last [] a q = refl
     behind last (w ∷ ws) a q = rw (less_after last.start w.start a.0) (behind w ws q.0 q.1)
+
+-- filled versions have their starts
+before_filled : (columns : List ColumnDef) (v : Version) (ws : List Version) → AllByRecursion (λ w. start_cmp v w ≡ Less) ws → AllByRecursion (λ w. start_cmp v w ≡ Less) (map (filled_version columns) ws)
+before_filled columns v [] h = tt
+before_filled columns v (w ∷ ws) h = (h.0, before_filled columns v ws h.1)
+
+rising_filled : (columns : List ColumnDef) (vs : List Version) → Rising vs → Rising (map (filled_version columns) vs)
+rising_filled columns [] r = tt
+rising_filled columns (v ∷ vs) r = (before_filled columns v vs r.0, rising_filled columns vs r.1)
 
 rising_filtered : (test : Version → Bool) (vs : List Version) → Rising vs → Rising (filter test vs)
 rising_filtered test [] r = tt
@@ -228,7 +232,7 @@ pub record KnownTable (items : List JournalItem) (t : Table) : Type 0 where
   pub ids : AllByRecursion (IsOf items) t.versions
   pub few : length t.def.columns ≤ 64
   pub rising : Rising t.versions
-  pub fit : AllByRecursion (λ v. Fits t.def.columns v.values) t.versions
+  pub fit : AllByRecursion (λ v. FitsSoFar t.def.columns v.values) t.versions
   pub room : TableFitsFormat t
 
 -- the id of a transaction of the journal
@@ -252,14 +256,20 @@ module _ (items : List JournalItem) (rules : AllByRecursion ItemRules items) whe
   end_is place start None of room = tt
   end_is place start (Some e) of room = (is_small items e.0 rules of.0, room)
 
-  known_of : (columns : List ColumnDef) (vs : List Version) → AllByRecursion (IsOf items) vs → AllByRecursion (λ v. Fits columns v.values) vs → AllByRecursion VersionFitsFormat vs → AllByRecursion (Known columns) vs
+  texts_filled : (cs : List ColumnDef) (values : Stored) → AllByRecursion IsUtf8Text values → AllByRecursion IsUtf8Text (filled_stored cs values)
+  texts_filled [] values h = h
+  texts_filled (c ∷ cs) [] h = (tt, texts_filled cs [] tt)
+  texts_filled (c ∷ cs) (v ∷ vs) h = (h.0, texts_filled cs vs h.1)
+
+  known_of : (columns : List ColumnDef) (vs : List Version) → AllByRecursion (IsOf items) vs → AllByRecursion (λ v. FitsSoFar columns v.values) vs → AllByRecursion VersionFitsFormat vs
+      → AllByRecursion (Known columns) (map (filled_version columns) vs)
   known_of columns [] of f r = tt
   known_of columns (v ∷ vs) of f r = (
     record {
-      fits = f.0;
+      fits = filled_fit columns v.values f.0;
       start = (is_small items v.start.0 rules of.0.start, r.0.start);
       end = end_is (place_in items) v.start v.end of.0.end r.0.end;
-      texts = r.0.texts;
+      texts = texts_filled columns v.values r.0.texts;
     },
     known_of columns vs of.1 f.1 r.1,
   )
@@ -268,13 +278,16 @@ pub table_is : (items : List JournalItem) (t : Table) → KnownTable items t →
 unfolding table_rows
 table_is items t k less =
     let columns = t.def.columns in
-    let vs = t.versions in
-    let known : AllByRecursion (Known columns) vs = known_of items k.rules columns vs k.ids k.fit k.room.each in
+    let vs = map (filled_version columns) t.versions in
+    let known : AllByRecursion (Known columns) vs = known_of items k.rules columns t.versions k.ids k.fit k.room.each in
+    let rising : Rising vs = rising_filled columns t.versions k.rising in
+    let as_before : length vs ≡ length t.versions = length_mapped (filled_version columns) t.versions in
+    let room = k.room.count in
     let test : Version → Bool = λ v. is_none v.end in
     let kept : length (filter test vs) ≤ length vs = few_filtered test vs in
-    let all : length vs < 2 ^ 64 = k.room.count in
+    let all : length vs < 2 ^ 64 = omega (arith, as_before, room) in
     record {
-      base = base columns k.few vs k.room.count k.rising known;
-      history = history columns k.few vs k.room.count k.rising known;
+      base = base columns k.few vs all rising known;
+      history = history columns k.few vs all rising known;
       indexes = each_index columns k.few t.def (live vs) t.def.indexes refl less (omega (arith, kept, all)) (all_filter (Known columns) test vs known);
     }

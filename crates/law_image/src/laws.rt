@@ -9,7 +9,7 @@ ghost use Rattle.law_catalog_rows.specs.IsEncodableDef.{is_encodable_def};
 ghost use Rattle.law_catalog_rows.specs.Written.{ReadsWritten};
 ghost use Rattle.format_image.specs.DefBytes.{IsDef};
 ghost use Rattle.format_image.specs.Image.{image_of};
-ghost use Rattle.format_image.specs.ImageBytes.{IsImage};
+ghost use Rattle.format_image.specs.ImageBytes.{IsImage, NothingGone};
 ghost use Rattle.law_image.specs.Room.{FitsImageFormat};
 
 /// Each definition that rows may spell has a spelling in bytes.
@@ -23,4 +23,11 @@ pub fn legal_images_are_encodable()
     ensures { (h : List ℕ → List ℕ) (reads : Reading) (database : List ℕ) (items : List JournalItem)
         → ReadsWritten reads → IsLegal reads items → FitsImageFormat h reads database items
         → IsImage (image_of h reads database items) }
+{}
+
+/// No statement drops a table or a column, so an image of a legal journal that has a spelling has one in
+/// version 1 too.
+pub fn legal_images_have_nothing_gone()
+    ensures { (h : List ℕ → List ℕ) (reads : Reading) (database : List ℕ) (items : List JournalItem)
+        → ReadsWritten reads → IsLegal reads items → NothingGone (image_of h reads database items) }
 {}

@@ -3,4 +3,6 @@
 
 mod laws;
 
-pub use laws::{encoded_definitions_are_encodable, legal_images_are_encodable};
+pub use laws::{
+    encoded_definitions_are_encodable, legal_images_are_encodable, legal_images_have_nothing_gone,
+};

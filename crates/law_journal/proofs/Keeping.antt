@@ -34,7 +34,7 @@ use Rattle.law_frame.proofs.Definitions.{same_defs, changes_keep_defs}
 use Rattle.law_frame.proofs.ChangeSets.{carries_change_set_out, in_one_table, in_turn}
 use Rattle.law_frame.proofs.SoundStatements.{statement_sound, first_sound}
 use Rattle.law_journal.specs.Fine.{OfTable}
-use Rattle.law_journal.specs.Fits.{Fits}
+use Rattle.law_journal.specs.Fits.{FitsSoFar}
 use Rattle.law_journal.specs.Kept.{count_all, AllApart, KeptTable, Kept}
 use Rattle.law_journal.specs.Described.{items_below, IsTableKey, IsColumnKey, Described}
 use Rattle.law_journal.proofs.Created.{Created, created, Indexed, indexed}
@@ -66,7 +66,7 @@ module _ (place : ℕ → ℕ) (tx n : ℕ) where
       record {
         past = h.1.past;
         apart = subst (λ (cs : List ColumnDef). AllApart place cs t.versions) c h.1.apart;
-        fit = subst (λ (cs : List ColumnDef). AllByRecursion (λ v. Fits cs v.values) t.versions) c h.1.fit;
+        fit = subst (λ (cs : List ColumnDef). AllByRecursion (λ v. FitsSoFar cs v.values) t.versions) c h.1.fit;
       }
   redefined_kept def false t e h = h.1
 

@@ -13,6 +13,7 @@ pub mod RowChanges
 pub mod Scripts
 pub mod Serials
 pub mod Statements
+pub mod SoFar
 pub mod SystemKeys
 pub mod SystemRows
 pub mod Tables

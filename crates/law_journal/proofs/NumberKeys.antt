@@ -14,7 +14,7 @@ use Rattle.sql_value.specs.Order.{value_cmp}
 use Rattle.sql_types.specs.declared.table.TableDef.{TableDef}
 use Rattle.sql_value.specs.declared.column.ColumnDef.{ColumnDef}
 use Rattle.spec_model.specs.Rows.{number, stored_row}
-use Rattle.spec_model.specs.Keys.{Key, key_places, key_of, key_cmp, same_key}
+use Rattle.spec_model.specs.Keys.{Key, key_places, key_cmp, same_key, key_at}
 use Rattle.spec_model.specs.SystemTables.{tables_columns, columns_columns, table_row, column_row, index_row}
 use Rattle.law_journal.specs.Fine.{key_in}
 
@@ -58,13 +58,13 @@ same_first a b x y h = let p = both_equal (value_cmp (number a) (number b)) (key
 -- ---- system rows
 
 pub table_key : (def : TableDef) → key_in tables_columns (stored_row tables_columns (table_row def)) ≡ number def.id ∷ number 0 ∷ []
-unfolding key_of key_places table_row
+unfolding key_at key_places table_row
 table_key def = refl
 
 pub column_key : (id : ℕ) (c : ℕ × ColumnDef) → key_in columns_columns (stored_row columns_columns (column_row id c)) ≡ number id ∷ number c.0 ∷ number 0 ∷ []
-unfolding key_of key_places
+unfolding key_at key_places
 column_key id c = refl
 
 pub index_key : (id g : ℕ) (name : List ℕ) (part : ℕ × ℕ) → key_in columns_columns (stored_row columns_columns (index_row id g name part)) ≡ number id ∷ number (1000 * g + part.0) ∷ number 0 ∷ []
-unfolding key_of key_places
+unfolding key_at key_places
 index_key id g name part = refl

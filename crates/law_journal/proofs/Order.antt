@@ -9,11 +9,12 @@ use Rattle.sql_types.specs.declared.version.TypedValue.{TypedValue}
 use Rattle.sql_types.specs.declared.version.Version.{Version}
 use Rattle.spec_model.specs.Lists.{inserted}
 use Rattle.spec_model.specs.Rows.{EventId, same_event, start_cmp, started, with_end, ended}
-use Rattle.spec_model.specs.Keys.{Key, same_key, version_key, has_live_row}
+use Rattle.spec_model.specs.Keys.{Key, same_key, version_key, has_live_row, has_live_row_at}
 use Rattle.spec_model.specs.Changes.{Change, Starts, Ends, changed}
 use Rattle.law_frame.proofs.Alls.{all_weaker, all_inserted}
 use Rattle.law_frame.proofs.SameKeys.{or_false, same_key_as, same_itself}
-use Rattle.law_journal.specs.Fits.{Fits}
+use Rattle.law_journal.specs.Fits.{FitsSoFar}
+use Rattle.law_journal.proofs.SoFar.{so_far}
 use Rattle.law_journal.specs.Fine.{key_in, HasLive, IsFine}
 use Rattle.law_journal.specs.Kept.{is_it, ends_with, count_in, count, IsEarlier, EndedBefore, Apart, AllApart, IsPast}
 use Rattle.law_journal.proofs.Counts.{same_parts, hit, ended_cons, missed, one_less}
@@ -36,7 +37,7 @@ of_if P true v vs e = let p = or_false (P v) (list_any P vs) e in ((λ t. p.0), 
 of_if P false v vs e = ((λ t. cc), e)
 
 pub none_is_live : (columns : List ColumnDef) (key : Key) (vs : List Version) → has_live_row columns key vs ≡ false → NoneLive columns key vs
-unfolding has_live_row
+unfolding has_live_row_at
 none_is_live columns key [] e = tt
 none_is_live columns key (v ∷ vs) e =
     let p = of_if (λ (w : Version). is_none w.end) (same_key (version_key columns v) key) v (filter (λ w. same_key (version_key columns w) key) vs) e in
@@ -51,7 +52,7 @@ if_of P true v vs h e = rw (h refl) e
 if_of P false v vs h e = e
 
 pub has_no_live_row : (columns : List ColumnDef) (key : Key) (vs : List Version) → NoneLive columns key vs → has_live_row columns key vs ≡ false
-unfolding has_live_row
+unfolding has_live_row_at
 has_no_live_row columns key [] h = refl
 has_no_live_row columns key (v ∷ vs) h =
     if_of (λ (w : Version). is_none w.end) (same_key (version_key columns v) key) v (filter (λ w. same_key (version_key columns w) key) vs) (λ e. not_none v.end (h.0 e)) (has_no_live_row columns key vs h.1)
@@ -197,7 +198,7 @@ module _ (place : ℕ → ℕ) where
           apart_inserted columns (new_version (tx, seq) values) vs (new_apart columns (tx, seq) values vs past (none_is_live columns (key_in columns values) vs fine.1)) apart
       apart_changed (Ends start) vs once past fine apart = apart_ended (tx, seq) start vs (once start) fine apart
 
-      pub fit_changed : (c : Change) (vs : List Version) → ((start : EventId) → count start vs ≤ 1) → IsFine columns c vs → AllByRecursion (λ v. Fits columns v.values) vs → AllByRecursion (λ v. Fits columns v.values) (changed (tx, seq) c vs)
+      pub fit_changed : (c : Change) (vs : List Version) → ((start : EventId) → count start vs ≤ 1) → IsFine columns c vs → AllByRecursion (λ v. FitsSoFar columns v.values) vs → AllByRecursion (λ v. FitsSoFar columns v.values) (changed (tx, seq) c vs)
       unfolding started
-      fit_changed (Starts values) vs once fine fit = all_inserted (λ v. Fits columns v.values) start_cmp (new_version (tx, seq) values) vs fine.0 fit
-      fit_changed (Ends start) vs once fine fit = all_ended (λ v. Fits columns v.values) (tx, seq) start vs (once start) fine (λ w none p. p) fit
+      fit_changed (Starts values) vs once fine fit = all_inserted (λ v. FitsSoFar columns v.values) start_cmp (new_version (tx, seq) values) vs (so_far columns values fine.0) fit
+      fit_changed (Ends start) vs once fine fit = all_ended (λ v. FitsSoFar columns v.values) (tx, seq) start vs (once start) fine (λ w none p. p) fit

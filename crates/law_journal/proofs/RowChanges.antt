@@ -19,7 +19,7 @@ use Rattle.law_frame.proofs.Checked.{Led, led}
 use Rattle.law_frame.proofs.Alls.{all_weaker}
 use Rattle.law_frame.proofs.LeftRows.{zipped}
 use Rattle.law_frame.proofs.UpdateKeys.{update_keeps_key, sets_no_key}
-use Rattle.law_journal.specs.Fits.{Fits}
+use Rattle.law_journal.specs.Fits.{FitsSoFar}
 use Rattle.law_journal.proofs.Values.{row_set_fits}
 use Rattle.law_journal.proofs.NewRows.{rows_have_all, inserted_new}
 use Rattle.law_journal.proofs.Taken.{OpenAnd, taken_open, taken_distinct, distinct_zip}
@@ -31,10 +31,10 @@ module _ (place : ℕ → ℕ) (tx seq : ℕ) where
     pub names : repeats (names_of columns) ≡ false
     pub rising : Rising V
     pub here : Here place columns (tx, seq) V
-    pub fit : AllByRecursion (λ v. Fits columns v.values) V
+    pub fit : AllByRecursion (λ v. FitsSoFar columns v.values) V
 
   abbrev FitOf : List ColumnDef → Version → Type 0
-  FitOf columns v = Fits columns v.values
+  FitOf columns v = FitsSoFar columns v.values
 
   replaced_fine : (columns : List ColumnDef) (V : List Version) (sets : List (List ℕ × Expr)) (taken : List Version) (rows : List Row) → Ready columns V → list_any (λ s. is_in_key columns s.0) sets ≡ false
       → AllByRecursion (OpenAnd columns (FitOf columns) V) taken → AllDistinct taken → checked_map (row_after_set columns sets) taken ≡ Ok rows → AllHere columns tx seq (replacement columns (zip taken rows)).0 V

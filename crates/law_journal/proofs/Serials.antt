@@ -17,7 +17,7 @@ use Rattle.spec_model.specs.Journals.{cut, tx_count, IsOther, after_item, serial
 use Rattle.law_frame.proofs.Alls.{all_weaker}
 use Rattle.law_frame.proofs.OtherTransactions.{others_sound}
 use Rattle.law_frame.proofs.SoundStatements.{first_sound}
-use Rattle.law_journal.specs.Fits.{Fits}
+use Rattle.law_journal.specs.Fits.{FitsSoFar}
 use Rattle.law_journal.specs.Kept.{is_it, ends_with, count_in, count, count_all, IsNumbered, IsEarlier, AllApart, IsPast, KeptTable, Kept}
 use Rattle.law_journal.specs.AppendOnly.{AllKeepRows}
 use Rattle.law_journal.specs.Described.{Described}
@@ -91,7 +91,7 @@ module _ (place : ℕ → ℕ) where
   pub record SettledTable (m : ℕ) (t : Table) : Type 0 where
     pub settled : AllByRecursion (Settled m) t.versions
     pub apart : AllApart place t.def.columns t.versions
-    pub fit : AllByRecursion (λ v. Fits t.def.columns v.values) t.versions
+    pub fit : AllByRecursion (λ v. FitsSoFar t.def.columns v.values) t.versions
 
   before_next : (m id seq : ℕ) (a : EventId) → place id ≡ m → IsEarlier place a (id, seq) → place a.0 < suc m
   before_next m id seq a is b = elim b [ inl lt ↦ omega (arith, is, lt) | inr p ↦ omega (arith, is, p.0) ]

@@ -11,7 +11,7 @@ use Rattle.sql_types.specs.declared.version.Version.{Version}
 use Rattle.spec_model.specs.Refusals.{Checked, and_then}
 use Rattle.spec_model.specs.Lists.{inserted, sorted, checked_filter}
 use Rattle.spec_model.specs.Rows.{Row, EventId, event_cmp, same_event, start_cmp, live}
-use Rattle.spec_model.specs.Keys.{Key, key_cmp, same_key, version_key, part_read, live_by_key}
+use Rattle.spec_model.specs.Keys.{Key, key_cmp, same_key, version_key, part_read, live_by_key, live_by_key_at}
 use Rattle.spec_model.specs.Where.{key_fixed}
 use Rattle.spec_model.specs.Changes.{versions_matched}
 use Rattle.spec_model.specs.Runs.{Rising}
@@ -97,7 +97,7 @@ module _ (columns : List ColumnDef) (P : Version → Type 0) (V : List Version) 
   part_distinct (Some key) d = distinct_filter (λ v. same_key (version_key columns v) key) V d
 
   live_are_open : (o : Option Key) → AllByRecursion P V → AllByRecursion OpenAnd (live_by_key columns o V)
-  unfolding live_by_key
+  unfolding live_by_key_at
   live_are_open o h =
       all_sorted OpenAnd (λ v w. key_cmp (version_key columns v) (version_key columns w)) (live (part_read columns o V))
       (all_weaker (λ u. (OpenIf V u × P u) × (is_none u.end ≡ true)) OpenAnd (λ u k. (k.0.0 (no_end u.end k.1), k.0.1)) (live (part_read columns o V))
@@ -106,7 +106,7 @@ module _ (columns : List ColumnDef) (P : Version → Type 0) (V : List Version) 
       (all_pass (λ v. is_none v.end) (part_read columns o V))))
 
   live_are_distinct : (o : Option Key) → AllDistinct V → AllDistinct (live_by_key columns o V)
-  unfolding live_by_key
+  unfolding live_by_key_at
   live_are_distinct o d =
       distinct_sorted (λ v w. key_cmp (version_key columns v) (version_key columns w)) (live (part_read columns o V)) (distinct_filter (λ v. is_none v.end) (part_read columns o V) (part_distinct o d))
 

@@ -1,5 +1,5 @@
 -- What INSERT and UPDATE keep of a row fits the columns.
-use Rattle.std.proofs.Common.{◌≡◌, ◌≢◌, ℕ, ℤ, suc, refl, ap, subst, ◌∙◌, Bool, true, false, List, [], ◌∷◌, map, length, Option, Some, None, Ok, Err}
+use Rattle.std.proofs.Common.{◌≡◌, ◌≢◌, ℕ, ℤ, suc, refl, sym, ap, subst, ◌∙◌, Bool, true, false, List, [], ◌∷◌, map, length, Option, Some, None, Ok, Err}
 use Rattle.std.specs.Prelude.{if◌then◌else◌, ◌==◌}
 use Rattle.std.specs.List.{zip}
 use Rattle.sql_value.specs.declared.value.Value.{Value}
@@ -19,12 +19,14 @@ use Rattle.sql_types.specs.declared.version.TypedValue.{TypedValue}
 use Rattle.sql_types.specs.declared.version.Version.{Version}
 use Rattle.spec_model.specs.Refusals.{Checked, and_then}
 use Rattle.spec_model.specs.Lists.{checked_map}
-use Rattle.spec_model.specs.Rows.{Row, stored_value, stored_row, value_or_null}
+use Rattle.spec_model.specs.Rows.{Row, stored_value, stored_row, value_or_null, filled_stored}
 use Rattle.spec_model.specs.Evaluation.{meaning_of}
 use Rattle.spec_model.specs.Parts.{base_row}
 use Rattle.spec_model.specs.Changes.{or_its_refusal, kept, kept_row, expr_set, as_value, value_set, row_after_set}
 use Rattle.law_frame.proofs.Checked.{Led, led}
-use Rattle.law_journal.specs.Fits.{FitsColumn, Fits}
+use Rattle.law_frame.proofs.Filled.{filled_values}
+use Rattle.law_journal.specs.Fits.{FitsColumn, Fits, FitsSoFar}
+use Rattle.law_journal.proofs.SoFar.{filled_fit}
 
 -- ---- conversion makes no NULL
 
@@ -176,6 +178,8 @@ module _ (columns : List ColumnDef) (sets : List (List ℕ × Expr)) (row : Row)
       let is : l.value ∷ k.value ≡ out = cc in
       subst (λ (r : Row). Fits (c ∷ cs) (stored_row (c ∷ cs) r)) is (set_fits columns row c o l.value (expr_set sets c.name) h.0 l.was, sets_fit cs os k.value h.1 k.was)
 
-pub row_set_fits : (columns : List ColumnDef) (sets : List (List ℕ × Expr)) (v : Version) (out : Row) → Fits columns v.values → row_after_set columns sets v ≡ Ok out → Fits columns (stored_row columns out)
+pub row_set_fits : (columns : List ColumnDef) (sets : List (List ℕ × Expr)) (v : Version) (out : Row) → FitsSoFar columns v.values → row_after_set columns sets v ≡ Ok out → Fits columns (stored_row columns out)
 unfolding row_after_set
-row_set_fits columns sets v out h e = sets_fit columns sets (base_row v) columns v.values out h e
+row_set_fits columns sets v out h e =
+    sets_fit columns sets (base_row columns v) columns (filled_stored columns v.values) out (filled_fit columns v.values h)
+    (subst (λ (r : Row). checked_map (set_at columns sets (base_row columns v)) (zip columns r) ≡ Ok out) (sym (filled_values columns v.values)) e)

@@ -15,3 +15,10 @@ abbrev pub Fits : List ColumnDef → List (Option TypedValue) → Type 0
 Fits [] [] = Unit {0}
 Fits (c ∷ cs) (v ∷ vs) = FitsColumn c v × Fits cs vs
 Fits _ _ = ⊥
+
+-- as far as it has values, and the columns behind these may be NULL
+abbrev pub FitsSoFar : List ColumnDef → List (Option TypedValue) → Type 0
+FitsSoFar [] [] = Unit {0}
+FitsSoFar [] (v ∷ vs) = ⊥
+FitsSoFar (c ∷ cs) [] = (c.nullable ≡ true) × FitsSoFar cs []
+FitsSoFar (c ∷ cs) (v ∷ vs) = FitsColumn c v × FitsSoFar cs vs

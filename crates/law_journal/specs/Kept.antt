@@ -10,7 +10,7 @@ use Rattle.spec_model.specs.Rows.{EventId, same_event}
 use Rattle.spec_model.specs.Keys.{same_key, version_key}
 use Rattle.spec_model.specs.Catalog.{Tables}
 use Rattle.spec_model.specs.Runs.{Sound}
-use Rattle.law_journal.specs.Fits.{Fits}
+use Rattle.law_journal.specs.Fits.{FitsSoFar}
 
 -- ---- how many starts and ends are this event
 
@@ -62,7 +62,7 @@ module _ (place : ℕ → ℕ) where
   pub record KeptTable (now : EventId) (t : Table) : Type 0 where
     pub past : AllByRecursion (IsPast now) t.versions
     pub apart : AllApart t.def.columns t.versions
-    pub fit : AllByRecursion (λ v. Fits t.def.columns v.values) t.versions
+    pub fit : AllByRecursion (λ v. FitsSoFar t.def.columns v.values) t.versions
 
   -- tables before the event of transaction tx with the number seq
   pub record Kept (tx seq : ℕ) (tables : Tables) : Type 0 where

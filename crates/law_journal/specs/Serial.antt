@@ -6,7 +6,7 @@ use Rattle.sql_types.specs.declared.journal.JournalItem.TheVariants.{Tx, Close}
 use Rattle.sql_types.specs.declared.version.Table.{Table}
 use Rattle.sql_types.specs.declared.version.Version.{Version}
 use Rattle.spec_model.specs.Catalog.{Tables}
-use Rattle.law_journal.specs.Fits.{Fits}
+use Rattle.law_journal.specs.Fits.{FitsSoFar}
 use Rattle.law_journal.specs.Kept.{IsNumbered, IsEarlier, AllApart}
 
 -- how many transactions the journal has before the one with this id
@@ -30,7 +30,7 @@ pub record TableOf (items : List JournalItem) (t : Table) : Type 0 where
   pub ids : AllByRecursion (IsOf items) t.versions
   -- of two versions of one key one ends before the other starts
   pub apart : AllApart (place_in items) t.def.columns t.versions
-  pub fit : AllByRecursion (λ v. Fits t.def.columns v.values) t.versions
+  pub fit : AllByRecursion (λ v. FitsSoFar t.def.columns v.values) t.versions
 
 pub record TablesOf (items : List JournalItem) (tables : Tables) : Type 0 where
   -- the events of each transaction have the numbers from 0 on, without a gap, and each stands once

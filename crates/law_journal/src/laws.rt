@@ -29,7 +29,8 @@ pub fn changes_are_fine()
 
 /// Each such change, as the next event of its transaction, keeps what is kept: the numbers of the transaction
 /// are those below its counter, each once; each other event stands once; ends come after their starts and
-/// before now; of two versions of one key one ends before the other starts; and every version fits its table.
+/// before now; of two versions of one key one ends before the other starts; and every version fits its table,
+/// as far as it has values.
 pub fn fine_changes_keep()
     ensures { (place : ℕ → ℕ) (T : Tables) (tx seq : ℕ) (c : TableChange) → Kept place tx seq T → IsFineIn c T
         → Kept place tx (seq + 1) (changed_in (tx, seq) c T) }
@@ -71,9 +72,9 @@ pub fn refusals_leave_everything()
 
 /// In the tables to which a legal journal leads each start and each end stands once, its id is that of a
 /// transaction of the journal, the events of a transaction are numbered from 0 without a gap, an end comes
-/// after its start, every version fits its table, and of two versions of one key one ends before the other
-/// starts, in the order of the journal. The system tables have their columns, and no keys from those on that
-/// the next table or index gets.
+/// after its start, every version fits its table, as far as it has values, and of two versions of one key one
+/// ends before the other starts, in the order of the journal. The system tables have their columns, and no
+/// keys from those on that the next table or index gets.
 pub fn legal_journals_keep()
     ensures tables { (reads : Reading) (items : List JournalItem) → IsLegal reads items
         → TablesOf items (serial reads items) }

@@ -33,7 +33,7 @@ use Rattle.spec_ledger.specs.Ledger.{ledger_from}
 -- ---- cells
 
 abbrev empty_cell : ℕ → TableCell
-empty_cell id = record { id = id; columns = []; versions = []; order = []; indexes = []; holds = [] }
+empty_cell id = record { id = id; key = []; versions = []; order = []; indexes = []; holds = [] }
 
 -- what is found there, if anything, is the empty cell of this table
 abbrev IsEmpty : ℕ → mathlib.Core.Option.Option Cell → Type 0

@@ -22,7 +22,7 @@ use Rattle.sql_types.specs.declared.statement.RowStmt.{RowStmt}
 use Rattle.sql_types.specs.declared.table.TableDef.{TableDef}
 use Rattle.sql_types.specs.declared.version.Version.{Version}
 use Rattle.spec_model.specs.Rows.{EventId}
-use Rattle.spec_model.specs.Keys.{Key, of_key, same_key, version_key}
+use Rattle.spec_model.specs.Keys.{Key, key_places, of_key, same_key, version_key}
 use Rattle.spec_model.specs.Catalog.{Defs, NamedPart, Tables, defs_of, versions_of}
 use Rattle.spec_model.specs.Changes.{Change}
 use Rattle.spec_model.specs.Checks.{row_statement_check}
@@ -521,15 +521,15 @@ module _ (v : Server) (cells : List Cell) (seats : List SeatState) {history : Hi
   creator_then : (k : Creator) → S.catalog.creator ≡ Some k → GoesBack v C' S.ledger k
   creator_then k e = let was = S.tables_are_serial.goes_back k e in record { exclusive = subst (In _) (sym (held_same catalog_at)) was.exclusive; before = was.before }
 
-  ordinals_kept : (cols : List ColumnDef) (vs : List Version) (xs : List Index) → map (λ q. q.ordinals) (map (reordered cols vs) xs) ≡ map (λ q. q.ordinals) xs
-  ordinals_kept cols vs [] = refl
-  ordinals_kept cols vs (x ∷ xs) = ap (λ (l : List (List ℕ)). x.ordinals ∷ l) (ordinals_kept cols vs xs)
+  ordinals_kept : (key : List ℕ) (vs : List Version) (xs : List Index) → map (λ q. q.ordinals) (map (reordered key vs) xs) ≡ map (λ q. q.ordinals) xs
+  ordinals_kept key vs [] = refl
+  ordinals_kept key vs (x ∷ xs) = ap (λ (l : List (List ℕ)). x.ordinals ∷ l) (ordinals_kept key vs xs)
 
   indexed_else : (place : SessionStatus) → IsIndexed cells place → IsIndexed C' place
   indexed_else (inside at (made def true)) h = λ n cell f m. let e = table_there (get_elem? C' n) cell f in ⊎_elim
       (λ (q : n ≡ i). let found_it : some (Rows (ch.cell_then v cells seats S j s x o text named fresh i c row changes count K)) ≡ some (Rows cell) = sym (set_here cells i (Rows c) _ K.out) ∙ ap (get_elem? C') (sym q) ∙ e in
       let same : ch.cell_then v cells seats S j s x o text named fresh i c row changes count K ≡ cell = cc in
-      subst (λ (d : TableCell). d.id ≡ def.id → map (λ q. q.ordinals) d.indexes ≡ ordinals_of def.indexes) same (λ k. ordinals_kept named.0.columns V' c.indexes ∙ h i c (ap table_found K.out) k) m)
+      subst (λ (d : TableCell). d.id ≡ def.id → map (λ q. q.ordinals) d.indexes ≡ ordinals_of def.indexes) same (λ k. ordinals_kept (key_places named.0.columns) V' c.indexes ∙ h i c (ap table_found K.out) k) m)
       (λ (ne : n ≢ i). h n cell (ap table_found (sym (set_else cells i n _ ne) ∙ e)) m)
       (cases_eq n i)
   indexed_else (inside at (made def false)) h = tt
@@ -546,7 +546,7 @@ module _ (v : Server) (cells : List Cell) (seats : List SeatState) {history : Hi
 
   stands_else : (cell : TableCell) (def : Option TableDef) → StandsAs v cells seats S.ledger cell def → StandsAs v C' seats' S.ledger cell def
   stands_else cell None h = h
-  stands_else cell (Some def) h = record { columns = h.columns; fit = h.fit; in_key_order = h.in_key_order; keys_differ = h.keys_differ; projections = h.projections; indexes = indexes_then def (map (λ q. q.ordinals) cell.indexes) h.indexes }
+  stands_else cell (Some def) h = record { key = h.key; fit = h.fit; in_key_order = h.in_key_order; keys_differ = h.keys_differ; projections = h.projections; indexes = indexes_then def (map (λ q. q.ordinals) cell.indexes) h.indexes }
 
   -- what is left to be shown: that the table's cell stands as its definition says, and what is known of the trees
   module _ (stands : StandsAs v C' seats' S.ledger (ch.cell_then v cells seats S j s x o text named fresh i c row changes count K) (def_at D c.id)) (trees : (n : ℕ) (z : Session) (r : OpenTransaction) → HasOpen seats' n z r → r.end ≡ unfixed → HasItsTrees v C' S.ledger z r) where

@@ -11,7 +11,7 @@ use Rattle.sql_types.specs.declared.reply.Reply.TheVariants as reply
 use Rattle.sql_types.specs.declared.statement.Stmt.TheVariants as stmt
 use Rattle.sql_types.specs.declared.statement.RowStmt.{RowStmt}
 use Rattle.sql_types.specs.declared.version.Version.{Version}
-use Rattle.spec_model.specs.Keys.{Key, of_key}
+use Rattle.spec_model.specs.Keys.{Key, key_places, of_key}
 use Rattle.spec_model.specs.Catalog.{Defs, NamedPart, Tables, defs_of, versions_of, changed_table}
 use Rattle.spec_model.specs.Changes.{Change, changed_all, row_changes}
 use Rattle.spec_model.specs.Checks.{row_statement_check}
@@ -93,7 +93,7 @@ module _ (v : Server) (cells : List Cell) (seats : List SeatState) {history : Hi
   rows_then = changed_all o.id o.seq changes c.versions
 
   abbrev pub cell_then : TableCell
-  cell_then = with_versions named.0.columns rows_then c
+  cell_then = with_versions (key_places named.0.columns) rows_then c
 
   abbrev pub cells_then : List Cell
   cells_then = set cells i (Rows cell_then)

@@ -643,7 +643,7 @@ module _ (v : Server) (cells : List Cell) (seats : List SeatState) {history : Hi
 
   stands_then : (cell : TableCell) (def : Option TableDef) → StandsAs v cells seats S.ledger cell def → StandsAs v C' seats' S.ledger cell def
   stands_then cell None h = h
-  stands_then cell (Some def) h = record { columns = h.columns; fit = h.fit; in_key_order = h.in_key_order; keys_differ = h.keys_differ; projections = h.projections; indexes = indexes_then def (map (λ q. q.ordinals) cell.indexes) h.indexes }
+  stands_then cell (Some def) h = record { key = h.key; fit = h.fit; in_key_order = h.in_key_order; keys_differ = h.keys_differ; projections = h.projections; indexes = indexes_then def (map (λ q. q.ordinals) cell.indexes) h.indexes }
 
   table_was : (n : ℕ) (cell : TableCell) → table_found (get_elem? C' n) ≡ some cell → table_found (get_elem? cells n) ≡ some cell
   table_was n cell f = let e = table_there (get_elem? C' n) cell f in ⊎_elim

@@ -79,7 +79,7 @@ use Rattle.spec_protocol.specs.TablesAreSerial.{IsUnderWay}
 use Rattle.spec_protocol.specs.LocksAgree.{SeatHas}
 use Rattle.spec_protocol.specs.LocksCover.{RequestsNone}
 use Rattle.sql_types.specs.declared.lock.Hold.{Hold}
-use Rattle.spec_model.specs.Keys.{Key, of_key, live_by_key}
+use Rattle.spec_model.specs.Keys.{Key, key_places, of_key, live_by_key, live_by_key_at}
 use Rattle.sql_types.specs.declared.lock.Mode.{Mode}
 use Rattle.sql_types.specs.declared.lock.LockRequest.{LockRequest}
 use Rattle.law_protocol_steps.proofs.CatalogAlone.{alone}
@@ -396,7 +396,7 @@ module _ (v : Server) (cells : List Cell) (seats : List SeatState) {history : Hi
 
   stays : (cell : TableCell) (def : TableDef) → ((a : Adds def.id) → ⊥) → TableStands v c k seats cell def → TableStands v c m after cell def
   stays cell def none h = record {
-    columns = h.columns;
+    key = h.key;
     fit = h.fit;
     in_key_order = h.in_key_order;
     keys_differ = h.keys_differ;
@@ -410,13 +410,13 @@ module _ (v : Server) (cells : List Cell) (seats : List SeatState) {history : Hi
 
   -- a new table's cell is empty
   is_new : (cell : TableCell) (def : TableDef) → def.indexes ≡ [] → StandsAs v c k seats cell None → TableStands v c m after cell def
-  unfolding live_by_key
+  unfolding live_by_key_at
   is_new cell def none h = record {
-    columns = inl h.0;
-    fit = subst (Each (λ w. row_fits.Fits def.columns w.values)) (sym h.0) tt;
+    key = inl h.0;
+    fit = subst (Each (λ w. row_fits.FitsSoFar def.columns w.values)) (sym h.0) tt;
     in_key_order = h.1 ∙ ap (λ (vs : List Version). map (λ w. w.start) (live_by_key def.columns None vs)) (sym h.0);
-    keys_differ = subst (λ (vs : List Version). KeysDiffer def.columns (live vs)) (sym h.0) tt;
-    projections = subst (Each (IsSortedProjection def.columns cell.versions)) (sym h.2) tt;
+    keys_differ = subst (λ (vs : List Version). KeysDiffer (key_places def.columns) (live vs)) (sym h.0) tt;
+    projections = subst (Each (IsSortedProjection (key_places def.columns) cell.versions)) (sym h.2) tt;
     indexes = inl (no_indexes cell.indexes h.2 ∙ ap ordinals_of (sym none));
   }
 
@@ -461,11 +461,11 @@ module _ (v : Server) (cells : List Cell) (seats : List SeatState) {history : Hi
           redefined_here : cell.id ≡ wi.id → StandsAs v c m after cell (def_at (redef wi (defs_of T)) cell.id)
           redefined_here f = subst (StandsAs v c m after cell) (sym (ap (def_at (redef wi (defs_of T))) f ∙ here_redefined wi index_is.old (defs_of T) index_is.at))
               (let h : TableStands v c k seats cell index_is.old = subst (StandsAs v c k seats cell) (ap (def_at (defs_of T)) f ∙ index_is.at) was in record {
-                columns = ⊎_elim (λ (e : cell.versions ≡ []). inl e) (λ (e : cell.columns ≡ index_is.old.columns). inr (e ∙ sym same_columns)) h.columns;
-                fit = subst (λ (cols : List ColumnDef). Each (λ w. row_fits.Fits cols w.values) cell.versions) (sym same_columns) h.fit;
+                key = ⊎_elim (λ (e : cell.versions ≡ []). inl e) (λ (e : cell.key ≡ key_places index_is.old.columns). inr (e ∙ ap key_places (sym same_columns))) h.key;
+                fit = subst (λ (cols : List ColumnDef). Each (λ w. row_fits.FitsSoFar cols w.values) cell.versions) (sym same_columns) h.fit;
                 in_key_order = h.in_key_order ∙ ap (λ (cols : List ColumnDef). map (λ w. w.start) (live_by_key cols None cell.versions)) (sym same_columns);
-                keys_differ = subst (λ (cols : List ColumnDef). KeysDiffer cols (live cell.versions)) (sym same_columns) h.keys_differ;
-                projections = subst (λ (cols : List ColumnDef). Each (IsSortedProjection cols cell.versions) cell.indexes) (sym same_columns) h.projections;
+                keys_differ = subst (λ (cols : List ColumnDef). KeysDiffer (key_places cols) (live cell.versions)) (sym same_columns) h.keys_differ;
+                projections = subst (λ (cols : List ColumnDef). Each (IsSortedProjection (key_places cols) cell.versions) cell.indexes) (sym same_columns) h.projections;
                 indexes = inl (has_them f);
               })
 

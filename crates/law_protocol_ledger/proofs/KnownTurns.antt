@@ -43,7 +43,7 @@ module _ (v : Server) (c : Contents) (k m : Known) (seats : List SeatState) (mor
 
   stands_as : (cell : TableCell) (def : Option TableDef) → StandsAs v c k seats cell def → StandsAs v c m seats cell def
   stands_as cell None h = h
-  stands_as cell (Some def) h = record { columns = h.columns; fit = h.fit; in_key_order = h.in_key_order; keys_differ = h.keys_differ; projections = h.projections; indexes = indexes_same def _ h.indexes }
+  stands_as cell (Some def) h = record { key = h.key; fit = h.fit; in_key_order = h.in_key_order; keys_differ = h.keys_differ; projections = h.projections; indexes = indexes_same def _ h.indexes }
 
   pub tables_more : (defs : Defs) (creator : Option Creator) → TablesAreSerial v c k defs creator seats → TablesAreSerial v c m defs creator seats
   tables_more defs creator h = record {

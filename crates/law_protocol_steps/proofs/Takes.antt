@@ -404,7 +404,7 @@ module _ (v : Server) (cells : List Cell) (seats : List SeatState) {history : Hi
 
   pub stands_after : (was : TableCell) (holds : List Hold) (def : Option TableDef) → StandsAs v cells seats S.ledger was def → StandsAs v cells_then seats_then S.ledger (with_holds holds was) def
   stands_after was holds None h = h
-  stands_after was holds (Some def) h = record { columns = h.columns; fit = h.fit; in_key_order = h.in_key_order; keys_differ = h.keys_differ; projections = h.projections; indexes = indexes_after def (map (λ i. i.ordinals) was.indexes) h.indexes }
+  stands_after was holds (Some def) h = record { key = h.key; fit = h.fit; in_key_order = h.in_key_order; keys_differ = h.keys_differ; projections = h.projections; indexes = indexes_after def (map (λ i. i.ordinals) was.indexes) h.indexes }
 
   -- a cell of a table that was there, with these locks
   abbrev pub WasTable : ℕ → TableCell → Type 0

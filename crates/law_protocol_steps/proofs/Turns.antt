@@ -116,7 +116,7 @@ module _ (v : Server) (c d : Contents) (k : Known) (seats after : List SeatState
 
   pub stands_as : (cell : TableCell) (def : Option TableDef) → StandsAs v c k seats cell def → StandsAs v d k after cell def
   stands_as cell Option.None h = h
-  stands_as cell (Some def) h = record { columns = h.columns; fit = h.fit; in_key_order = h.in_key_order; keys_differ = h.keys_differ; projections = h.projections; indexes = indexes_stand def _ h.indexes }
+  stands_as cell (Some def) h = record { key = h.key; fit = h.fit; in_key_order = h.in_key_order; keys_differ = h.keys_differ; projections = h.projections; indexes = indexes_stand def _ h.indexes }
 
   pub definitions_stand : (defs : Defs) (creator : Option Creator) → AreDefinitions v c k seats defs creator → AreDefinitions v d k after defs creator
   definitions_stand defs creator h = ⊎_elim (λ e. inl e)

@@ -11,6 +11,7 @@ use Rattle.sql_types.specs.declared.statement.Stmt.{Stmt}
 use Rattle.sql_types.specs.declared.table.TableDef.{TableDef}
 use Rattle.sql_types.specs.declared.table.IndexDef.{IndexDef}
 use Rattle.sql_types.specs.declared.version.Version.{Version}
+use Rattle.spec_model.specs.Keys.{key_places}
 use Rattle.spec_model.specs.Catalog.{Tables, defs_of}
 use Rattle.spec_model.specs.Locks.{whole}
 use Rattle.spec_model.specs.ChangeSets.{change_set, defined}
@@ -46,13 +47,13 @@ use Rattle.law_protocol_steps.proofs.VisitActs.{stage_act}
 use Rattle.spec_model.specs.Holds.{holds_after}
 use Rattle.law_protocol_steps.proofs.Taken.{taken}
 
-new_ordinals : (cols : List ColumnDef) (vs : List Version) (is : List IndexDef) → map (λ q. q.ordinals) (map (new_index cols vs) is) ≡ ordinals_of is
-new_ordinals cols vs [] = refl
-new_ordinals cols vs (x ∷ is) = ap (λ (l : List (List ℕ)). x.ordinals ∷ l) (new_ordinals cols vs is)
+new_ordinals : (key : List ℕ) (vs : List Version) (is : List IndexDef) → map (λ q. q.ordinals) (map (new_index key vs) is) ≡ ordinals_of is
+new_ordinals key vs [] = refl
+new_ordinals key vs (x ∷ is) = ap (λ (l : List (List ℕ)). x.ordinals ∷ l) (new_ordinals key vs is)
 
-new_sorted : (cols : List ColumnDef) (vs : List Version) (is : List IndexDef) → Each (IsSortedProjection cols vs) (map (new_index cols vs) is)
-new_sorted cols vs [] = tt
-new_sorted cols vs (x ∷ is) = (refl, new_sorted cols vs is)
+new_sorted : (key : List ℕ) (vs : List Version) (is : List IndexDef) → Each (IsSortedProjection key vs) (map (new_index key vs) is)
+new_sorted key vs [] = tt
+new_sorted key vs (x ∷ is) = (refl, new_sorted key vs is)
 
 module _ (v : Server) (cells : List Cell) (seats : List SeatState) {history : History} (S : Stands v history cells seats) (j : ℕ) (s : SeatState) (there : get_elem? seats j ≡ some s) (i : ℕ) (c d : TableCell) (t : SeatState) (out : get_elem? cells i ≡ some (Rows c)) (L : AddsIndex v c s d t) where
   abbrev T : Tables
@@ -197,17 +198,17 @@ module _ (v : Server) (cells : List Cell) (seats : List SeatState) {history : Hi
   stands_here : TableStands v C' seats' S.ledger e made_so.old
   unfolding it_creates
   stands_here = let h : TableStands v cells seats S.ledger c made_so.old = subst (StandsAs v cells seats S.ledger c) old_here (S.tables_are_serial.tables i c (ap table_found out)) in record {
-    columns = h.columns;
+    key = h.key;
     fit = h.fit;
     in_key_order = h.in_key_order;
     keys_differ = h.keys_differ;
-    projections = subst (λ (cols : List ColumnDef). Each (IsSortedProjection cols c.versions) (map (new_index def.columns c.versions) def.indexes)) same_columns (new_sorted def.columns c.versions def.indexes);
-    indexes = inr (y, L.at.stands.stmt, def, it_creates, ap (def_at (defs_of (defined (change_set T L.at.stands.stmt).definition T))) old_id ∙ made_so.then_at, new_ordinals def.columns c.versions def.indexes, adding);
+    projections = subst (λ (cols : List ColumnDef). Each (IsSortedProjection (key_places cols) c.versions) (map (new_index (key_places def.columns) c.versions) def.indexes)) same_columns (new_sorted (key_places def.columns) c.versions def.indexes);
+    indexes = inr (y, L.at.stands.stmt, def, it_creates, ap (def_at (defs_of (defined (change_set T L.at.stands.stmt).definition T))) old_id ∙ made_so.then_at, new_ordinals (key_places def.columns) c.versions def.indexes, adding);
   }
 
   stands_else : (cell : TableCell) (q : Option TableDef) → StandsAs v cells seats S.ledger cell q → StandsAs v C' seats' S.ledger cell q
   stands_else cell None h = h
-  stands_else cell (Some q) h = record { columns = h.columns; fit = h.fit; in_key_order = h.in_key_order; keys_differ = h.keys_differ; projections = h.projections; indexes = indexes_after v cells seats S j (sits s y) x o y p i (Rows c) (Rows e) [] text takes q (map (λ q. q.ordinals) cell.indexes) h.indexes }
+  stands_else cell (Some q) h = record { key = h.key; fit = h.fit; in_key_order = h.in_key_order; keys_differ = h.keys_differ; projections = h.projections; indexes = indexes_after v cells seats S j (sits s y) x o y p i (Rows c) (Rows e) [] text takes q (map (λ q. q.ordinals) cell.indexes) h.indexes }
 
   at_cells : (n : ℕ) (cell : TableCell) → table_found (get_elem? C' n) ≡ some cell → StandsAs v C' seats' S.ledger cell (def_at (defs_of T) cell.id)
   at_cells n cell h = let f = table_there (get_elem? C' n) cell h in ⊎_elim
@@ -224,7 +225,7 @@ module _ (v : Server) (cells : List Cell) (seats : List SeatState) {history : Hi
   has_indexes : HasIndexes (contents C') def true
   has_indexes n cell h q = let f = table_there (get_elem? C' n) cell h in ⊎_elim
       (λ (m : n ≡ i). let found_it : some (Rows e) ≡ some (Rows cell) = sym (set_here cells i (Rows c) (Rows e) out) ∙ ap (get_elem? C') (sym m) ∙ f in
-      let same : e ≡ cell = cc in subst (λ (u : TableCell). map (λ r. r.ordinals) u.indexes ≡ ordinals_of def.indexes) same (new_ordinals def.columns c.versions def.indexes))
+      let same : e ≡ cell = cc in subst (λ (u : TableCell). map (λ r. r.ordinals) u.indexes ≡ ordinals_of def.indexes) same (new_ordinals (key_places def.columns) c.versions def.indexes))
       (λ (ne : n ≢ i). absurd (ne (one_cell n cell (sym (set_else cells i n (Rows e) ne) ∙ f) (q ∙ L.here))))
       (cases_eq n i)
 

@@ -15,7 +15,7 @@ use Rattle.sql_types.specs.declared.statement.Stmt.TheVariants as stmt
 use Rattle.sql_types.specs.declared.statement.RowStmt.{RowStmt}
 use Rattle.sql_types.specs.declared.statement.RowStmt.TheVariants.{Insert, Update, Delete}
 use Rattle.sql_types.specs.declared.table.TableDef.{TableDef}
-use Rattle.spec_model.specs.Keys.{Key, live_by_key}
+use Rattle.spec_model.specs.Keys.{Key, key_places, live_by_key}
 use Rattle.spec_model.specs.Catalog.{Defs, defs_of, find_part}
 use Rattle.spec_model.specs.Checks.{table_of, row_statement_check}
 use Rattle.spec_model.specs.Lists.{all_some}
@@ -26,7 +26,7 @@ use Rattle.spec_model.specs.Agreement.{columns_at}
 use Rattle.spec_model.specs.ScriptRequests.{text_requests}
 use Rattle.law_frame.proofs.AgreeAfter.{has_table}
 use Rattle.law_frame.proofs.NamedPart.{found_is_listed}
-use Rattle.law_journal.specs.Fits.{Fits}
+use Rattle.law_journal.specs.Fits.{FitsSoFar}
 use Rattle.spec_history.specs.Lists.{Text, Each, In}
 use Rattle.spec_protocol.specs.Server.{Server}
 use Rattle.sql_types.specs.declared.lock.Hold.{Hold}
@@ -247,21 +247,21 @@ module _ (v : Server) (cells : List Cell) (seats : List SeatState) {history : Hi
   -- ---- the table's own form: what is left to be shown is a law on rows alone
 
   module _ (def : TableDef) (defines : def_at (defs_of (tables_now stands_then)) c.id ≡ Some def) (same_columns : def.columns ≡ L.named.0.columns)
-      (fit : Each (λ u. Fits def.columns u.values) cell2.versions) (keys_differ : KeysDiffer def.columns (live cell2.versions)) where
+      (fit : Each (λ u. FitsSoFar def.columns u.values) cell2.versions) (keys_differ : KeysDiffer (key_places def.columns) (live cell2.versions)) where
     was_so : TableStands v cells1 seats1 stands_then.ledger cell1 def
     was_so = subst (StandsAs v cells1 seats1 stands_then.ledger cell1) defines (stands_then.tables_are_serial.tables i cell1 (ap table_found cell_out))
 
-    sorted_so : (xs : List Index) → Each (IsSortedProjection def.columns cell2.versions) (map (reordered L.named.0.columns cell2.versions) xs)
+    sorted_so : (xs : List Index) → Each (IsSortedProjection (key_places def.columns) cell2.versions) (map (reordered (key_places L.named.0.columns) cell2.versions) xs)
     sorted_so [] = tt
-    sorted_so (x ∷ xs) = (ap (λ (cols : List ColumnDef). index_order cols x.ordinals cell2.versions) (sym same_columns), sorted_so xs)
+    sorted_so (x ∷ xs) = (ap (λ (cols : List ColumnDef). index_order (key_places cols) x.ordinals cell2.versions) (sym same_columns), sorted_so xs)
 
-    same_ordinals : (xs : List Index) → map (λ q. q.ordinals) (map (reordered L.named.0.columns cell2.versions) xs) ≡ map (λ q. q.ordinals) xs
+    same_ordinals : (xs : List Index) → map (λ q. q.ordinals) (map (reordered (key_places L.named.0.columns) cell2.versions) xs) ≡ map (λ q. q.ordinals) xs
     same_ordinals [] = refl
     same_ordinals (x ∷ xs) = ap (λ (l : List (List ℕ)). x.ordinals ∷ l) (same_ordinals xs)
 
     stands_so : TableStandsThen
     stands_so = subst (StandsAs v cells2 seats2 stands_then.ledger cell2) (sym defines) (record {
-      columns = inr (sym same_columns);
+      key = inr (ap key_places (sym same_columns));
       fit = fit;
       in_key_order = ap (λ (cols : List ColumnDef). map (λ w. w.start) (live_by_key cols None cell2.versions)) (sym same_columns);
       keys_differ = keys_differ;
@@ -315,12 +315,12 @@ module _ (v : Server) (cells : List Cell) (seats : List SeatState) {history : Hi
   was : TableStands v cells1 seats1 stands_then.ledger cell1 defines.def
   was = subst (StandsAs v cells1 seats1 stands_then.ledger cell1) defines.is (stands_then.tables_are_serial.tables i cell1 (ap table_found cell_out))
 
-  formed : Each (λ u. Fits defines.def.columns u.values) cell2.versions × KeysDiffer defines.def.columns (live cell2.versions)
+  formed : Each (λ u. FitsSoFar defines.def.columns u.values) cell2.versions × KeysDiffer (key_places defines.def.columns) (live cell2.versions)
   unfolding columns
-  formed = subst (λ (cols : List ColumnDef). Each (λ u. Fits cols u.values) cell2.versions × KeysDiffer cols (live cell2.versions)) (sym defines.columns)
+  formed = subst (λ (cols : List ColumnDef). Each (λ u. FitsSoFar cols u.values) cell2.versions × KeysDiffer (key_places cols) (live cell2.versions)) (sym defines.columns)
       (kept_by_key columns cell2.versions c.versions script_rows_after each_key (place_in stands_then.ledger.items) kept_there
-      (subst (λ (cols : List ColumnDef). Each (λ u. Fits cols u.values) c.versions) defines.columns was.fit)
-      (subst (λ (cols : List ColumnDef). KeysDiffer cols (live c.versions)) defines.columns was.keys_differ))
+      (subst (λ (cols : List ColumnDef). Each (λ u. FitsSoFar cols u.values) c.versions) defines.columns was.fit)
+      (subst (λ (cols : List ColumnDef). KeysDiffer (key_places cols) (live c.versions)) defines.columns was.keys_differ))
 
   -- INSERT, UPDATE and DELETE keep cells and seats together
   pub changes_stand : StandsBy v j history o.id o.explicit (done_acts o.explicit text true (reply.Changed L.count)) (set cells i (Rows d)) (set seats j t)

@@ -321,7 +321,7 @@ module _ (v : Server) (cells : List Cell) (seats : List SeatState) {history : Hi
 
   stands_then : (cell : TableCell) (def : Option TableDef) → StandsAs v cells seats S.ledger cell def → StandsAs v C' seats' S.ledger cell def
   stands_then cell None h = h
-  stands_then cell (Some def) h = record { columns = h.columns; fit = h.fit; in_key_order = h.in_key_order; keys_differ = h.keys_differ; projections = h.projections; indexes = indexes_then def (map (λ q. q.ordinals) cell.indexes) h.indexes }
+  stands_then cell (Some def) h = record { key = h.key; fit = h.fit; in_key_order = h.in_key_order; keys_differ = h.keys_differ; projections = h.projections; indexes = indexes_then def (map (λ q. q.ordinals) cell.indexes) h.indexes }
 
   carried_then : (left : Tables) → IsCarried S.catalog.defs T left → IsCarried d.defs T left
   carried_then left h = ⊎_elim (λ (e : S.catalog.defs ≡ defs_of left). inl (ap (λ (q : CatalogCell). q.defs) L.cell ∙ ap (λ (q : CatalogCell). q.defs) is_catalog ∙ e)) (λ (e : defs_of left ≡ defs_of T). inr e) h

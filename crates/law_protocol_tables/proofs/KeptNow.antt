@@ -15,7 +15,7 @@ use Rattle.spec_model.specs.Journals.{IsLegal, IsOther, tx_count, serial}
 use Rattle.spec_model.specs.Script.{Reading, script}
 use Rattle.law_frame.proofs.Alls.{all_weaker}
 use Rattle.law_frame.proofs.LegalSound.{legal_sound}
-use Rattle.law_journal.specs.Fits.{Fits}
+use Rattle.law_journal.specs.Fits.{FitsSoFar}
 use Rattle.law_journal.specs.Kept.{IsEarlier, AllApart, IsPast, KeptTable, Kept}
 use Rattle.law_journal.specs.Serial.{place_in, HasTx, IsOf, TableOf}
 use Rattle.law_journal.proofs.Serials.{no_number, legal_tables, legal_described}
@@ -41,7 +41,7 @@ behind_all (Close k ∷ is) id h = behind_all is id h.1
 
 pub record KeptRows (place : ℕ → ℕ) (columns : List ColumnDef) (vs : List Version) : Type 0 where
   pub apart : AllApart place columns vs
-  pub fit : AllByRecursion (λ v. Fits columns v.values) vs
+  pub fit : AllByRecursion (λ v. FitsSoFar columns v.values) vs
 
 kept_at : (place : ℕ → ℕ) (now : EventId) (id : ℕ) (T : Tables) → AllByRecursion (KeptTable place now) T → KeptRows place (columns_at (defs_of T) id) (versions_of T id)
 kept_at place now id [] h = record { apart = tt; fit = tt }

@@ -5,9 +5,9 @@ use Rattle.std.specs.List.{AllByRecursion}
 use Rattle.sql_value.specs.declared.column.ColumnDef.{ColumnDef}
 use Rattle.sql_types.specs.declared.version.Version.{Version}
 use Rattle.spec_model.specs.Rows.{live}
-use Rattle.spec_model.specs.Keys.{Key, of_key, same_key, version_key}
+use Rattle.spec_model.specs.Keys.{Key, key_places, of_key, same_key, version_key}
 use Rattle.law_frame.proofs.SameKeys.{same_key_as, same_itself}
-use Rattle.law_journal.specs.Fits.{Fits}
+use Rattle.law_journal.specs.Fits.{FitsSoFar}
 use Rattle.law_journal.specs.Kept.{EndedBefore, Apart, AllApart}
 use Rattle.spec_history.specs.Lists.{Each, In}
 use Rattle.spec_protocol.specs.TablesAreSerial.{KeysDiffer}
@@ -31,15 +31,15 @@ each_apart place columns v n (w ∷ ws) h = by (is_none w.end) refl (each_apart 
     by false e rest = rest
 
 -- of versions of one key, one has ended: so keys of those that stand differ
-pub apart_differ : (place : ℕ → ℕ) (columns : List ColumnDef) (vs : List Version) → AllApart place columns vs → KeysDiffer columns (live vs)
+pub apart_differ : (place : ℕ → ℕ) (columns : List ColumnDef) (vs : List Version) → AllApart place columns vs → KeysDiffer (key_places columns) (live vs)
 apart_differ place columns [] h = tt
 apart_differ place columns (v ∷ vs) h = by (is_none v.end) refl (apart_differ place columns vs h.1)
   where
-    by : (b : Bool) → is_none v.end ≡ b → KeysDiffer columns (live vs) → KeysDiffer columns (if b then v ∷ live vs else live vs)
+    by : (b : Bool) → is_none v.end ≡ b → KeysDiffer (key_places columns) (live vs) → KeysDiffer (key_places columns) (if b then v ∷ live vs else live vs)
     by true e rest = (each_apart place columns v e vs h.0, rest)
     by false e rest = rest
 
-pub fit_each : (columns : List ColumnDef) (vs : List Version) → AllByRecursion (λ v. Fits columns v.values) vs → Each (λ v. Fits columns v.values) vs
+pub fit_each : (columns : List ColumnDef) (vs : List Version) → AllByRecursion (λ v. FitsSoFar columns v.values) vs → Each (λ v. FitsSoFar columns v.values) vs
 fit_each columns [] h = tt
 fit_each columns (v ∷ vs) h = (h.0, fit_each columns vs h.1)
 
@@ -49,11 +49,11 @@ turned : (a b : Key) → same_key a b ≡ true → same_key b a ≡ true
 turned a b e = sym (same_key_as a b a e) ∙ same_itself a
 
 -- of the versions of one key
-differ_here : (columns : List ColumnDef) (key : Key) (vs : List Version) → KeysDiffer columns vs → KeysDiffer columns (of_key columns key vs)
+differ_here : (columns : List ColumnDef) (key : Key) (vs : List Version) → KeysDiffer (key_places columns) vs → KeysDiffer (key_places columns) (of_key columns key vs)
 differ_here columns key [] h = tt
 differ_here columns key (v ∷ vs) h = by (same_key (version_key columns v) key) (differ_here columns key vs h.1)
   where
-    by : (b : Bool) → KeysDiffer columns (of_key columns key vs) → KeysDiffer columns (if b then v ∷ of_key columns key vs else of_key columns key vs)
+    by : (b : Bool) → KeysDiffer (key_places columns) (of_key columns key vs) → KeysDiffer (key_places columns) (if b then v ∷ of_key columns key vs else of_key columns key vs)
     by true rest = (
       all_at (λ w. same_key (version_key columns v) (version_key columns w) ≢ true) (of_key columns key vs)
           (λ w i. each_at (λ u. same_key (version_key columns v) (version_key columns u) ≢ true) vs w h.0 (was_in (λ u. same_key (version_key columns u) key) w vs i)),
@@ -62,18 +62,18 @@ differ_here columns key (v ∷ vs) h = by (same_key (version_key columns v) key)
     by false rest = rest
 
 -- and of all
-differ_all : (columns : List ColumnDef) (vs : List Version) → ((key : Key) → KeysDiffer columns (of_key columns key vs)) → KeysDiffer columns vs
+differ_all : (columns : List ColumnDef) (vs : List Version) → ((key : Key) → KeysDiffer (key_places columns) (of_key columns key vs)) → KeysDiffer (key_places columns) vs
 differ_all columns [] h = tt
 differ_all columns (v ∷ vs) h = (all_at (λ w. same_key (version_key columns v) (version_key columns w) ≢ true) vs first, differ_all columns vs (λ key. by key (same_key (version_key columns v) key) (h key)))
   where
-    here : KeysDiffer columns (v ∷ of_key columns (version_key columns v) vs)
-    here = subst (λ (b : Bool). KeysDiffer columns (if b then v ∷ of_key columns (version_key columns v) vs else of_key columns (version_key columns v) vs)) (same_itself (version_key columns v)) (h (version_key columns v))
+    here : KeysDiffer (key_places columns) (v ∷ of_key columns (version_key columns v) vs)
+    here = subst (λ (b : Bool). KeysDiffer (key_places columns) (if b then v ∷ of_key columns (version_key columns v) vs else of_key columns (version_key columns v) vs)) (same_itself (version_key columns v)) (h (version_key columns v))
 
     first : (w : Version) → In w vs → same_key (version_key columns v) (version_key columns w) ≡ true → ⊥
     first w i e = each_at (λ u. same_key (version_key columns v) (version_key columns u) ≢ true) (of_key columns (version_key columns v) vs) w here.0
         (in_passed (λ u. same_key (version_key columns u) (version_key columns v)) w vs i (turned (version_key columns v) (version_key columns w) e)) e
 
-    by : (key : Key) (b : Bool) → KeysDiffer columns (if b then v ∷ of_key columns key vs else of_key columns key vs) → KeysDiffer columns (of_key columns key vs)
+    by : (key : Key) (b : Bool) → KeysDiffer (key_places columns) (if b then v ∷ of_key columns key vs else of_key columns key vs) → KeysDiffer (key_places columns) (of_key columns key vs)
     by key true k = k.1
     by key false k = k
 
@@ -88,14 +88,14 @@ module _ (columns : List ColumnDef) (V' V W : List Version) (h : ByKey columns V
       (λ (e : of_key columns (version_key columns w) V' ≡ of_key columns (version_key columns w) W). each_at P W w g (was_in (λ u. same_key (version_key columns u) (version_key columns w)) w W (subst (In w) e (of_its_key columns w V' i))))
       (h (version_key columns w)))
 
-  live_here : (key : Key) (U : List Version) → of_key columns key V' ≡ of_key columns key U → KeysDiffer columns (live U) → KeysDiffer columns (of_key columns key (live V'))
-  live_here key U e k = subst (KeysDiffer columns)
+  live_here : (key : Key) (U : List Version) → of_key columns key V' ≡ of_key columns key U → KeysDiffer (key_places columns) (live U) → KeysDiffer (key_places columns) (of_key columns key (live V'))
+  live_here key U e k = subst (KeysDiffer (key_places columns))
       (sym (filters_turned (λ u. same_key (version_key columns u) key) (λ u. is_none u.end) V' ∙ ap live e ∙ sym (filters_turned (λ u. same_key (version_key columns u) key) (λ u. is_none u.end) U)))
       (differ_here columns key (live U) k)
 
-  pub differ_by_key : KeysDiffer columns (live V) → KeysDiffer columns (live W) → KeysDiffer columns (live V')
+  pub differ_by_key : KeysDiffer (key_places columns) (live V) → KeysDiffer (key_places columns) (live W) → KeysDiffer (key_places columns) (live V')
   differ_by_key f g = differ_all columns (live V') (λ key. ⊎_elim (λ (e : of_key columns key V' ≡ of_key columns key V). live_here key V e f) (λ (e : of_key columns key V' ≡ of_key columns key W). live_here key W e g) (h key))
 
   -- where the second is of kept rows
-  pub kept_by_key : (place : ℕ → ℕ) → KeptRows place columns W → Each (λ v. Fits columns v.values) V → KeysDiffer columns (live V) → Each (λ v. Fits columns v.values) V' × KeysDiffer columns (live V')
-  kept_by_key place k f g = (each_by_key (λ v. Fits columns v.values) f (fit_each columns W k.fit), differ_by_key g (apart_differ place columns W k.apart))
+  pub kept_by_key : (place : ℕ → ℕ) → KeptRows place columns W → Each (λ v. FitsSoFar columns v.values) V → KeysDiffer (key_places columns) (live V) → Each (λ v. FitsSoFar columns v.values) V' × KeysDiffer (key_places columns) (live V')
+  kept_by_key place k f g = (each_by_key (λ v. FitsSoFar columns v.values) f (fit_each columns W k.fit), differ_by_key g (apart_differ place columns W k.apart))

@@ -625,7 +625,7 @@ module _ (v : Server) (cells : List Cell) (seats : List SeatState) {history : Hi
 
   stands_then : (n : ℕ) (cell : TableCell) → table_found (get_elem? cells n) ≡ some cell → (def : Option TableDef) → def_at (defs_of T) cell.id ≡ def → StandsAs v cells seats S.ledger cell def → StandsAs v C' seats' S.ledger cell def
   stands_then n cell f None e h = h
-  stands_then n cell f (Some def) e h = record { columns = h.columns; fit = h.fit; in_key_order = h.in_key_order; keys_differ = h.keys_differ; projections = h.projections; indexes = indexes_then def (map (λ q. q.ordinals) cell.indexes) user h.indexes }
+  stands_then n cell f (Some def) e h = record { key = h.key; fit = h.fit; in_key_order = h.in_key_order; keys_differ = h.keys_differ; projections = h.projections; indexes = indexes_then def (map (λ q. q.ordinals) cell.indexes) user h.indexes }
     where
       user : cell_of def.id ≢ catalog_at
       user q = let a = table_place cells S.catalog S.ledger n cell S.are_cells (table_there (get_elem? cells n) cell f) in let z : n ≡ 0 = sym (cell_at n cell a) ∙ ap cell_of (sym (found_id (defs_of T) cell.id def e)) ∙ q in let w = a.is in omega arith

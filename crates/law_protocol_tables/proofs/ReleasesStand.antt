@@ -16,7 +16,7 @@ use Rattle.sql_types.specs.declared.table.TableDef.{TableDef}
 use Rattle.sql_types.specs.declared.table.IndexDef.{IndexDef}
 use Rattle.sql_types.specs.declared.version.Version.{Version}
 use Rattle.spec_model.specs.Rows.{EventId, value_or_null}
-use Rattle.spec_model.specs.Keys.{Key, key_of, of_key}
+use Rattle.spec_model.specs.Keys.{Key, key_of, key_places, of_key}
 use Rattle.spec_model.specs.Catalog.{Tables, defs_of, versions_of}
 use Rattle.spec_model.specs.Journals.{Line, serial, upto}
 use Rattle.spec_model.specs.Locks.{whole, same_item, conflict, requests_conflict}
@@ -163,7 +163,7 @@ module _ (v : Server) (cells : List Cell) (seats : List SeatState) {history : Hi
   left = left_unless o.end o.id c
 
   -- what holds of the cell with and without its last index holds of what is left
-  left_as : (P : TableCell → Type 0) → P undone_cell → ((xs : List Index) → P (record { id = undone_cell.id; columns = undone_cell.columns; versions = undone_cell.versions; order = undone_cell.order; indexes = xs; holds = undone_cell.holds })) → P (index_dropped (refused_def x.place) undone_cell)
+  left_as : (P : TableCell → Type 0) → P undone_cell → ((xs : List Index) → P (record { id = undone_cell.id; key = undone_cell.key; versions = undone_cell.versions; order = undone_cell.order; indexes = xs; holds = undone_cell.holds })) → P (index_dropped (refused_def x.place) undone_cell)
   left_as P h k = dropped_as P undone_cell h (k _) (refused_def x.place)
 
   versions_left : d.versions ≡ left_by placed o.id c.versions
@@ -707,10 +707,10 @@ module _ (v : Server) (cells : List Cell) (seats : List SeatState) {history : Hi
 
   formed_left : (cols : List ColumnDef) → Formed cols c.versions c → Formed cols d.versions d
   formed_left cols f = subst (λ (u : TableCell). Formed cols u.versions u) (sym R.cell) (unlock (dropped_as (λ (u : TableCell). Formed cols u.versions u) undone_cell (left.formed cols f)
-      (let g = left.formed cols f in record { columns = g.columns; order = g.order; projections = sorted_less cols undone_cell.versions undone_cell.indexes g.projections }) (refused_def x.place)))
+      (let g = left.formed cols f in record { key = g.key; order = g.order; projections = sorted_less (key_places cols) undone_cell.versions undone_cell.indexes g.projections }) (refused_def x.place)))
     where
       unlock : Formed cols (index_dropped (refused_def x.place) undone_cell).versions (index_dropped (refused_def x.place) undone_cell) → Formed cols (unlocked o.id (index_dropped (refused_def x.place) undone_cell)).versions (unlocked o.id (index_dropped (refused_def x.place) undone_cell))
-      unlock g = record { columns = g.columns; order = g.order; projections = g.projections }
+      unlock g = record { key = g.key; order = g.order; projections = g.projections }
 
   nothing_left : (c.versions ≡ []) × (c.order ≡ []) × (c.indexes ≡ []) → (d.versions ≡ []) × (d.order ≡ []) × (d.indexes ≡ [])
   nothing_left h = subst (λ (u : TableCell). (u.versions ≡ []) × (u.order ≡ []) × (u.indexes ≡ [])) (sym R.cell)
@@ -719,15 +719,15 @@ module _ (v : Server) (cells : List Cell) (seats : List SeatState) {history : Hi
   stands_here : (def : Option TableDef) → def_at (defs_of T) c.id ≡ def → StandsAs v cells seats S.ledger c def → StandsAs v C' seats' S.ledger d def
   stands_here None e h = nothing_left h
   stands_here (Some def) e h =
-      let f = formed_left def.columns (record { columns = h.columns; order = h.in_key_order; projections = h.projections }) in
+      let f = formed_left def.columns (record { key = h.key; order = h.in_key_order; projections = h.projections }) in
       let cols : columns ≡ def.columns = found_columns (defs_of T) c.id def e in
       let k = kept_by_key def.columns d.versions c.versions (versions_of T c.id) (subst (λ (q : List ColumnDef). ByKey q d.versions c.versions (versions_of T c.id)) cols by_keys) (place_in S.ledger.items)
       (subst (λ (q : List ColumnDef). KeptRows (place_in S.ledger.items) q (versions_of T c.id)) cols (kept_serial v.reads S.ledger.items S.ledger_is_legal.legal c.id)) h.fit h.keys_differ in
-      record { columns = f.columns; fit = k.0; in_key_order = f.order; keys_differ = k.1; projections = f.projections; indexes = indexes_left def e h.indexes }
+      record { key = f.key; fit = k.0; in_key_order = f.order; keys_differ = k.1; projections = f.projections; indexes = indexes_left def e h.indexes }
 
   stands_else : (n : ℕ) (cell : TableCell) → n ≢ i → get_elem? cells n ≡ some (Rows cell) → (def : Option TableDef) → def_at (defs_of T) cell.id ≡ def → StandsAs v cells seats S.ledger cell def → StandsAs v C' seats' S.ledger cell def
   stands_else n cell ne out None e h = h
-  stands_else n cell ne out (Some def) e h = record { columns = h.columns; fit = h.fit; in_key_order = h.in_key_order; keys_differ = h.keys_differ; projections = h.projections; indexes = indexes_after def (map (λ q. q.ordinals) cell.indexes) (λ after k. inl (λ q. ne (sym (cell_at n cell (table_place cells S.catalog S.ledger n cell S.are_cells out)) ∙ ap cell_of (sym (found_id (defs_of T) cell.id def e)) ∙ q))) h.indexes }
+  stands_else n cell ne out (Some def) e h = record { key = h.key; fit = h.fit; in_key_order = h.in_key_order; keys_differ = h.keys_differ; projections = h.projections; indexes = indexes_after def (map (λ q. q.ordinals) cell.indexes) (λ after k. inl (λ q. ne (sym (cell_at n cell (table_place cells S.catalog S.ledger n cell S.are_cells out)) ∙ ap cell_of (sym (found_id (defs_of T) cell.id def e)) ∙ q))) h.indexes }
 
   at_cells : (n : ℕ) (cell : TableCell) → get_elem? C' n ≡ some (Rows cell) → StandsAs v C' seats' S.ledger cell (def_at (defs_of T) cell.id)
   at_cells n cell e = ⊎_elim

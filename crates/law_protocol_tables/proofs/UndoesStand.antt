@@ -503,7 +503,7 @@ module _ (v : Server) (cells : List Cell) (seats : List SeatState) {history : Hi
   Ordinals e = map (λ q. q.ordinals) e.indexes
 
   ordinals_left : Ordinals d ≡ Ordinals c
-  ordinals_left = ap Ordinals R.cell ∙ same_ordinals c.columns (versions_undone o.id seq c.versions) c.indexes
+  ordinals_left = ap Ordinals R.cell ∙ same_ordinals c.key (versions_undone o.id seq c.versions) c.indexes
 
   indexed_else : (place : SessionStatus) → IsIndexed cells place → IsIndexed C' place
   indexed_else (inside at (made def true)) was = λ m cell t k. let f = table_there (get_elem? C' m) cell t in ⊎_elim
@@ -521,15 +521,15 @@ module _ (v : Server) (cells : List Cell) (seats : List SeatState) {history : Hi
   stands_here : (def : Option TableDef) → def_at (defs_of T) c.id ≡ def → StandsAs v cells seats S.ledger c def → StandsAs v C' seats' S.ledger d def
   stands_here None e h = subst (λ (u : TableCell). (u.versions ≡ []) × (u.order ≡ []) × (u.indexes ≡ [])) (sym R.cell) (nothing_undone_to o.id seq c h)
   stands_here (Some def) e h =
-      let f : Formed def.columns d.versions d = subst (λ (u : TableCell). Formed def.columns u.versions u) (sym R.cell) (formed_undone def.columns o.id seq c (record { columns = h.columns; order = h.in_key_order; projections = h.projections })) in
+      let f : Formed def.columns d.versions d = subst (λ (u : TableCell). Formed def.columns u.versions u) (sym R.cell) (formed_undone def.columns o.id seq c (record { key = h.key; order = h.in_key_order; projections = h.projections })) in
       let cols : columns ≡ def.columns = found_columns (defs_of T) c.id def e in
       let k = kept_by_key def.columns d.versions c.versions W (subst (λ (q : List ColumnDef). ByKey q d.versions c.versions W) cols by_keys) (place_in S.ledger.items)
       (subst (λ (q : List ColumnDef). KeptRows (place_in S.ledger.items) q W) cols kept_there) h.fit h.keys_differ in
-      record { columns = f.columns; fit = k.0; in_key_order = f.order; keys_differ = k.1; projections = f.projections; indexes = subst (AreIndexes v C' seats' S.ledger def) (sym ordinals_left) (indexes_after def (Ordinals c) h.indexes) }
+      record { key = f.key; fit = k.0; in_key_order = f.order; keys_differ = k.1; projections = f.projections; indexes = subst (AreIndexes v C' seats' S.ledger def) (sym ordinals_left) (indexes_after def (Ordinals c) h.indexes) }
 
   stands_else : (cell : TableCell) (def : Option TableDef) → StandsAs v cells seats S.ledger cell def → StandsAs v C' seats' S.ledger cell def
   stands_else cell None h = h
-  stands_else cell (Some def) h = record { columns = h.columns; fit = h.fit; in_key_order = h.in_key_order; keys_differ = h.keys_differ; projections = h.projections; indexes = indexes_after def (map (λ q. q.ordinals) cell.indexes) h.indexes }
+  stands_else cell (Some def) h = record { key = h.key; fit = h.fit; in_key_order = h.in_key_order; keys_differ = h.keys_differ; projections = h.projections; indexes = indexes_after def (map (λ q. q.ordinals) cell.indexes) h.indexes }
 
   at_cells : (n : ℕ) (cell : TableCell) → get_elem? C' n ≡ some (Rows cell) → StandsAs v C' seats' S.ledger cell (def_at (defs_of T) cell.id)
   at_cells n cell e = ⊎_elim

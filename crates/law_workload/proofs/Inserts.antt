@@ -8,7 +8,7 @@ use Rattle.sql_value.specs.Stored.{is_in_range}
 use Rattle.sql_types.specs.declared.table.TableDef.{TableDef}
 use Rattle.sql_types.specs.declared.version.Version.{Version}
 use Rattle.spec_model.specs.Changes.{Starts, kept, kept_row, arranged, is_duplicate, inserted_rows, row_changes}
-use Rattle.spec_model.specs.Keys.{key_of, key_places, has_live_row}
+use Rattle.spec_model.specs.Keys.{key_of, key_places, has_live_row, key_at}
 use Rattle.spec_model.specs.Rows.{number, stored_row}
 use Rattle.law_workload.specs.Statements.{row_with, new_row}
 
@@ -31,7 +31,7 @@ unfolding kept_row kept
 row_kept row value few also = rw (as_int row few, as_bigint value also) refl
 
 pub key_is : (row value : ℕ) → key_of columns (row_with row value) ≡ number row ∷ []
-unfolding key_of key_places
+unfolding key_at key_places
 key_is row value = refl
 
 not_there : (V : List Version) (row value : ℕ) → has_live_row columns (number row ∷ []) V ≡ false → is_duplicate columns V [] (key_of columns (row_with row value)) ≡ false

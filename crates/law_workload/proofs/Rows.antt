@@ -12,7 +12,7 @@ use Rattle.sql_value.specs.Order.{value_cmp}
 use Rattle.sql_value.proofs.Numbers.{raised_none}
 use Rattle.sql_scalar.proofs.OrderLaws as order
 use Rattle.sql_types.specs.declared.version.Version.{Version}
-use Rattle.spec_model.specs.Keys.{same_key, key_cmp, version_key, of_key, has_live_row}
+use Rattle.spec_model.specs.Keys.{same_key, key_cmp, version_key, of_key, has_live_row, has_live_row_at}
 use Rattle.spec_model.specs.Lists.{inserted}
 use Rattle.spec_model.specs.Rows.{EventId, same_event, start_cmp, with_end, number, stored_row, values_of}
 use Rattle.spec_model.specs.Runs.{MadeBefore}
@@ -76,7 +76,7 @@ no_key n [] all = refl
 no_key n (v ∷ V) all = rw (other_key n v all.0) (no_key n V all.1)
 
 pub none_is_live : (n : ℕ) (V : List Version) → AllByRecursion (IsBelow n) V → has_live_row columns (number n ∷ []) V ≡ false
-unfolding has_live_row
+unfolding has_live_row_at
 none_is_live n V all = rw (no_key n V all) refl
 
 -- ---- events of a new transaction

@@ -14,7 +14,7 @@ use Rattle.sql_types.specs.declared.table.TableDef.{TableDef}
 use Rattle.sql_types.specs.declared.version.Version.{Version}
 use Rattle.spec_model.specs.Changes.{Starts, Ends, kept, row_after_set, versions_matched, row_changes}
 use Rattle.spec_model.specs.Evaluation.{meaning_of}
-use Rattle.spec_model.specs.Keys.{key_places, of_key, live_by_key}
+use Rattle.spec_model.specs.Keys.{key_places, of_key, live_by_key_at}
 use Rattle.spec_model.specs.Numbers.{sum_of}
 use Rattle.spec_model.specs.Parts.{start_columns, base_row}
 use Rattle.spec_model.specs.Rows.{EventId, number, stored_row}
@@ -39,13 +39,13 @@ key_is_fixed row few = rw (tree_of_row row, as_int row few, same_number row) ref
 abbrev pub row_version : ℕ → ℕ → EventId → Version
 row_version row value start = record { values = stored_row columns (row_with row value); start = start; end = None }
 
-taken : (row value : ℕ) (start : EventId) → holds (columns ++ start_columns) (Some (of_row row)) (base_row (row_version row value start)) ≡ Ok true
+taken : (row value : ℕ) (start : EventId) → holds (columns ++ start_columns) (Some (of_row row)) (base_row columns (row_version row value start)) ≡ Ok true
 unfolding holds meaning_of
 taken row value start = rw (tree_of_row row, same_number row) refl
 
 one_matched : (V : List Version) (row value : ℕ) (start : EventId) → row < 2 ^ 31 → of_key columns (number row ∷ []) V ≡ row_version row value start ∷ []
     → versions_matched columns (Some (of_row row)) V ≡ Ok (row_version row value start ∷ [])
-unfolding versions_matched live_by_key
+unfolding versions_matched live_by_key_at
 one_matched V row value start few one = rw (key_is_fixed row few, one, taken row value start) refl
 
 one_added : (value : ℕ) → value < 2 ^ 62 → sum_of (pos value) 0 (pos 1) 0 ≡ Ok (number (value + 1))

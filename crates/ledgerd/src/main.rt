@@ -6,8 +6,9 @@ mod messages;
 use crate::messages::{Outside, tell, warn};
 use base_io::{FolderVault, MachineClock, OpenGate, StdinSource, StdoutSink};
 use cli_commands::{Status, ledgerd};
-use cli_report::WatchedSource;
+use cli_report::{WatchedSource, with_progress};
 use std::env::Env;
+use std::io::IsTerminal;
 use std::process::ExitCode;
 use std::{env, io};
 
@@ -18,6 +19,26 @@ fn words(rt: &(impl Env + AllocGlobal)) -> io::Result<Vec<String>> {
         words.push(word)?;
     }
     Ok(words)
+}
+
+// The words without a first `--quiet`, and whether there is none.
+fn without_quiet(words: &[String]) -> (&[String], bool) {
+    match words.split_first() {
+        Some((first, rest)) if first.as_str() == "--quiet" => (rest, false),
+        _ => (words, true),
+    }
+}
+
+// The command of which standard error may tell that it is at work: none that reads standard input, whose lines may
+// be typed meanwhile.
+fn told_command(words: &[String]) -> Option<&str> {
+    let command = words.first()?.as_str();
+    match command {
+        "verify" | "extract" | "replay" | "upgrade" | "receipt" | "join" | "check" | "gen" => {
+            Some(command)
+        }
+        _ => None,
+    }
 }
 
 // Where the words can't be had there is no call.
@@ -36,27 +57,36 @@ fn main(rt: HostRuntime) -> ExitCode {
         Ok(words) => words,
         Err(error) => return without_words(&rt, error),
     };
+    let (words, is_told) = without_quiet(words.as_slice());
+    let command = if is_told && rt.stderr().is_terminal() {
+        told_command(words)
+    } else {
+        None
+    };
     let mut source = WatchedSource::new(StdinSource::new(rt.reader()));
     let mut sink = StdoutSink::new(io::writer(&rt));
     let mut vault = FolderVault::new(rt);
     let clock = MachineClock::new(rt);
-    let status = ledgerd(
-        &rt,
-        rt.alloc(),
-        &words,
-        &mut source,
-        &mut sink,
-        &mut vault,
-        &clock,
-        &OpenGate,
-    );
+    let call = || {
+        ledgerd(
+            &rt,
+            rt.alloc(),
+            words,
+            &mut source,
+            &mut sink,
+            &mut vault,
+            &clock,
+            &OpenGate,
+        )
+    };
+    let status = with_progress(&rt, command, call);
     let outside = Outside {
         bytes: source.watch().bytes(),
         source: source.source().failure(),
         sink: sink.failure(),
         vault: vault.failure(),
     };
-    let _ = warn(&rt, &words, source.watch());
-    let _ = tell(&rt, &words, status, &outside);
+    let _ = warn(&rt, words, source.watch());
+    let _ = tell(&rt, words, status, &outside);
     ExitCode::from(status.code())
 }

@@ -1,5 +1,5 @@
 -- What the calls of a core ask of each other.
-use Rattle.std.proofs.Common.{◌≡◌, ◌≢◌, ◌⊎◌, ◌<◌, ℕ, zero, suc, Bool, true, false, MatchBool, List, [], ◌∷◌, ◌++◌, Option, Some, None, length, refl, sym, ap, subst, ◌∙◌, inr, ⊎_elim, arith}
+use Rattle.std.proofs.Common.{◌≡◌, ◌≢◌, ◌⊎◌, ◌<◌, ℕ, zero, suc, Bool, true, false, MatchBool, List, [], ◌∷◌, ◌++◌, Option, Some, None, Result, Ok, Err, OnErr, length, refl, sym, ap, subst, ◌∙◌, inr, ⊎_elim, arith}
 use mathlib.Core.Option.{some, some-injective, some-ne-none}
 use lib.ListN.{get_elem?}
 use Rattle.spec_history.specs.Lists.{Text}
@@ -140,3 +140,9 @@ when_true P Q false e p = absurd (let f : false ≡ true = e in cc)
 pub when_false : (P Q : Type 0) (b : Bool) → b ≡ false → MatchBool b P Q → Q
 when_false P Q true e p = absurd (let f : true ≡ false = e in cc)
 when_false P Q false e p = p
+
+-- ---- want of memory
+
+pub when_err : {T E P : Type 0} (r : Result T E) → P → OnErr r P
+when_err (Ok x) p = tt
+when_err (Err e) p = p

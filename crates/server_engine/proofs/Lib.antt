@@ -10,6 +10,7 @@ pub mod Pairs
 pub mod Pending
 pub mod Texts
 pub mod Turns
+pub mod Unchanged
 pub mod Within
 pub use Rattle.law_sequential.proofs.SameNames
 pub use Rattle.law_sequential.proofs.SessionOutput

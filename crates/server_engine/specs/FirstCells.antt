@@ -10,7 +10,7 @@ use Rattle.server_visits.specs.LedgerSeen.{ledger_seen}
 abbrev pub empty_kept : ℕ → KeptCell
 empty_kept id = rows_seen (record {
   id = id;
-  columns = [];
+  key = [];
   versions = [];
   order = [];
   indexes = [];

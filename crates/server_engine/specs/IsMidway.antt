@@ -78,6 +78,12 @@ pub record MayCloseBlock {H : Type 0} (digest : H → List ℕ → List ℕ) (c 
 
 -- ---- how it goes on
 
+-- its hasher, its cells and its sessions are as they were
+pub record IsUnchanged {H : Type 0} (c d : Core H) : Type 0 where
+  pub hasher : d.hasher ≡ c.hasher
+  pub cells : d.cells.items ≡ c.cells.items
+  pub sessions : d.sessions.items ≡ c.sessions.items
+
 -- the session alone changed, and its seat so
 pub record ChangesSession {H : Type 0} (P : Seat H → Seat H → Type 0) (j : ℕ) (c d : Core H) : Type 0 where
   pub y : Session H

@@ -3,9 +3,11 @@ use Rattle.std.specs.Prelude.{ℕ, ◌≡◌, ◌++◌, List, Option, map}
 use Rattle.spec_history.specs.Lists.{Text}
 use Rattle.spec_history.specs.Transcripts.{Entry}
 use Rattle.format_transcript.specs.TranscriptText.{entry_text}
+use Rattle.spec_protocol.specs.Seats.{KeptImage}
 use Rattle.server_session.specs.KeptCell.{KeptCell}
 use Rattle.server_session.specs.ControlPoints.{IsBetween, IsOver, KeepsStatement}
 use Rattle.server_session.specs.Steps.{EndsSession, IsAnsweredBy, KeepsImage, end_of, entries_at, image_in, images_kept, items_in, last_entries}
+use Rattle.server_session.specs.declared.seat.Seat.{Seat}
 use Rattle.server_engine.specs.declared.session.Session.{Session}
 
 -- it gains the texts of these entries
@@ -30,7 +32,15 @@ pub record LeavesSession {H : Type 0} (digest : H → List ℕ → List ℕ) (y 
   pub gained : Gained (last_entries (end_of y.seat.running)) y z
   pub images : z.images ≡ y.images
 
--- an image was kept, or there was no memory for one
+-- an image was kept behind these, or there was no memory for one
+pub record KeepsBehind {H : Type 0} (digest : H → List ℕ → List ℕ) (all : List KeptCell) (y z : Seat H)
+    (before after : List KeptImage) : Type 0 where
+  pub image : Option Text
+  pub keeps : KeepsImage digest y all image z
+  pub stays : KeepsStatement y z
+  pub images : after ≡ before ++ images_kept (image_in (items_in all) image)
+
+-- the session kept one, or there was no memory for it
 pub record KeepsSessionImage {H : Type 0} (digest : H → List ℕ → List ℕ) (all : List KeptCell)
     (y z : Session H) : Type 0 where
   pub image : Option Text

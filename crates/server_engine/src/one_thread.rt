@@ -1,6 +1,6 @@
 //! The core of one thread.
 
-ghost use Rattle.std.specs.Prelude.{ℕ, ◌≡◌, ◌<◌, ◌≤◌, List, true, length, IfOk, OnOk};
+ghost use Rattle.std.specs.Prelude.{ℕ, ◌≡◌, ◌<◌, ◌≤◌, List, true, length, IfOk, OnErr, OnOk};
 ghost use mathlib.Core.Option.{some};
 ghost use lib.ListN.{get_elem?};
 ghost use Rattle.base_types.specs.Moment.{is_moment};
@@ -8,7 +8,7 @@ ghost use Rattle.base_types.specs.SessionName.{is_session_name};
 ghost use Rattle.sql_types.specs.declared.journal.TheConstants.{MAX_BLOCK};
 ghost use Rattle.law_sequential.specs.EndsLast.{running, ending};
 ghost use Rattle.server_engine.specs.CoreInput.{CoreInput, nothing_asked, with_session, with_line, at_end};
-ghost use Rattle.server_engine.specs.IsMidway.{IsAtSessionEnd, IsBelow, IsBetweenThen, IsOverThen, MayAnswer, MayLeave, IsMidway, TookUp, ChangesSession};
+ghost use Rattle.server_engine.specs.IsMidway.{IsAtSessionEnd, IsBelow, IsBetweenThen, IsOverThen, IsUnchanged, IsWithin, MayAnswer, MayLeave, IsMidway, TookUp, ChangesSession};
 ghost use Rattle.server_engine.specs.Parts.{HasLeft, IsDone};
 ghost use Rattle.server_engine.specs.Standing.{IsEnded, IsOpen, IsStanding, MayTakeStatement, OthersStay, Stands};
 
@@ -22,7 +22,7 @@ use server_visits::{Cell, image_bytes_of};
 use std::alloc::Global;
 
 /// The cells of a database, and sessions that run over them one statement after another. After want of memory
-/// it is to be dropped.
+/// in `step` or `end_session` the session stays where it came to, and nothing more is to be asked of it.
 #[derive(Drop)]
 pub struct Core<H: Hash32> {
     pub(crate) hasher: H,
@@ -47,7 +47,7 @@ impl<H: Hash32> Core<H> {
         })
     }
 
-    /// A session begins. Its number is that of the sessions before it.
+    /// A session begins. Its number is that of the sessions before it. For want of memory nothing changes.
     pub fn open_session(&mut self, alloc: Global, name: Name) -> Result<usize, Memory>
         requires standing { IsStanding H.digest self.old }
         requires name { is_session_name name ≡ true }
@@ -57,6 +57,7 @@ impl<H: Hash32> Core<H> {
             → IfOk result (λ session. session ≡ length a.names) }
         ensures open { IfOk result (λ session. IsOpen self.new session) }
         ensures others { IfOk result (λ session. OthersStay session self.old self.new) }
+        ensures err { OnErr result (IsUnchanged self.old self.new) }
     {
         let number = self.sessions.len();
         self.sessions.push(new_session(alloc, self.hasher, name))?;
@@ -66,6 +67,9 @@ impl<H: Hash32> Core<H> {
     /// Runs a statement of a session at this moment to its answer, which stands in the session's transcript
     /// then. A block that is full is closed. It costs what the statement's visits do, and time in proportion
     /// to the text and the reply.
+    ///
+    /// For want of memory the statement isn't answered: the session stays inside it, with what its visits did
+    /// so far, as if they were made and the others were still to come. A block may be full then.
     pub fn step(
         &mut self,
         alloc: Global,
@@ -80,7 +84,12 @@ impl<H: Hash32> Core<H> {
             → a.phase ≡ running → get_elem? a.names session ≡ some name
             → OnOk result (Stands H.digest h self.new (with_line name text now a)) }
         ensures open { OnOk result (IsOpen self.new session) }
+        ensures stays { (h : H) (a : CoreInput) (name : List ℕ) → Stands H.digest h self.old a
+            → a.phase ≡ running → get_elem? a.names session ≡ some name
+            → OnErr result (IsMidway H.digest h self.new (with_line name text now a) session
+            × IsWithin self.new (with_line name text now a)) }
         ensures others { OnOk result (OthersStay session self.old self.new) }
+        ensures others_then { OnErr result (OthersStay session self.old self.new) }
     {
         self.start(alloc, session, text, now);
         self.visit_needed(alloc, session)?;
@@ -102,12 +111,13 @@ impl<H: Hash32> Core<H> {
         self.sessions[session].seat.start(alloc, text, now);
     }
 
-    // The answer of a session's statement is written down.
+    // The answer of a session's statement is written down. For want of memory nothing changes.
     fn answer(&mut self, alloc: Global, session: usize) -> Result<(), Memory>
         requires { MayAnswer H.digest self.old session }
         ensures stands { (h : H) (a : CoreInput) → IsMidway H.digest h self.old a session → IsBelow self.old a
             → OnOk result (Stands H.digest h self.new a) }
         ensures turned { OnOk result (ChangesSession IsBetweenThen session self.old self.new) }
+        ensures err { OnErr result (IsUnchanged self.old self.new) }
     {
         self.sessions[session].answer(alloc)?;
         Ok(())
@@ -115,13 +125,19 @@ impl<H: Hash32> Core<H> {
 
     /// A session ends, and with it the transaction that it has open, of which its transcript tells then.
     /// Behind it no statement is to be run any more.
+    ///
+    /// Memory is taken for that line of the transcript, and for a block that is full. For want of it the
+    /// session stays at its end, with what its visits released so far.
     pub fn end_session(&mut self, alloc: Global, session: usize) -> Result<(), Memory>
         requires standing { IsStanding H.digest self.old }
         requires open { IsOpen self.old session }
         ensures stands { (h : H) (a : CoreInput) → Stands H.digest h self.old a
             → OnOk result (Stands H.digest h self.new (at_end a)) }
         ensures ended { OnOk result (IsEnded self.new session) }
+        ensures stays { (h : H) (a : CoreInput) → Stands H.digest h self.old a
+            → OnErr result (IsMidway H.digest h self.new (at_end a) session × IsWithin self.new (at_end a)) }
         ensures others { OnOk result (OthersStay session self.old self.new) }
+        ensures others_then { OnErr result (OthersStay session self.old self.new) }
     {
         self.finish(session);
         self.visit_needed(alloc, session)?;
@@ -140,18 +156,20 @@ impl<H: Hash32> Core<H> {
         self.sessions[session].seat.finish();
     }
 
-    // The last entry of a session is written down, and it is over.
+    // The last entry of a session is written down, and it is over. For want of memory nothing changes.
     fn leave(&mut self, alloc: Global, session: usize) -> Result<(), Memory>
         requires { MayLeave H.digest self.old session }
         ensures stands { (h : H) (a : CoreInput) → IsMidway H.digest h self.old a session → IsBelow self.old a
             → a.phase ≡ ending → OnOk result (Stands H.digest h self.new a) }
         ensures turned { OnOk result (ChangesSession IsOverThen session self.old self.new) }
+        ensures err { OnErr result (IsUnchanged self.old self.new) }
     {
         self.sessions[session].leave(alloc)?;
         Ok(())
     }
 
-    /// What it leaves, once all its sessions are over, with the image of its journal.
+    /// What it leaves, once all its sessions are over, with the image of its journal. For want of memory all
+    /// that it had is gone.
     pub fn into_parts(self, alloc: Global) -> Result<Parts<H>, Memory>
         requires { IsDone H.digest self }
         ensures { (h : H) (a : CoreInput) → Stands H.digest h self a

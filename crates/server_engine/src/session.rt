@@ -1,6 +1,6 @@
 //! A session of a core.
 
-ghost use Rattle.std.specs.Prelude.{◌≡◌, ◌<◌, OnOk, true, []};
+ghost use Rattle.std.specs.Prelude.{◌≡◌, ◌<◌, OnErr, OnOk, true, []};
 ghost use Rattle.base_types.specs.SessionName.{is_session_name};
 ghost use Rattle.spec_protocol.specs.Seats.{idle, SeatState};
 ghost use Rattle.spec_protocol.specs.Server.{Server};
@@ -9,7 +9,7 @@ ghost use Rattle.server_session.specs.ControlPoints.{IsAnswering, IsBetween};
 ghost use Rattle.server_session.specs.Rest.{MayEndSession};
 ghost use Rattle.server_session.specs.Steps.{AmongAll, Begins, items_in};
 ghost use Rattle.server_session.specs.declared.need.NextVisit.TheVariants.{Done};
-ghost use Rattle.server_engine.specs.Written.{AnswersStatement, KeepsSessionImage, LeavesSession};
+ghost use Rattle.server_engine.specs.Written.{AnswersStatement, KeepsBehind, KeepsSessionImage, LeavesSession};
 
 use base_merkle::Hash32;
 use base_types::{Blob, Items, Memory, Name, Text};
@@ -17,6 +17,7 @@ use format_transcript::{push_end, push_statement};
 use server_session::{Answer, Seat};
 use server_visits::{Cell, visit_all};
 use std::alloc::Global;
+use std::mem;
 
 /// A session with what it has shown.
 #[derive(Drop)]
@@ -46,11 +47,12 @@ pub fn new_session<H: Hash32>(alloc: Global, hasher: H, name: Name) -> Session<H
 }
 
 impl<H: Hash32> Session<H> {
-    /// The statement is answered.
+    /// The statement is answered. For want of memory nothing changes.
     pub fn answer(&mut self, alloc: Global) -> Result<(), Memory>
         requires answers { IsAnswering self.old.seat }
         requires done { need_of self.old.seat ≡ Done }
-        ensures { OnOk result (AnswersStatement H.digest self.old self.new) }
+        ensures answers { OnOk result (AnswersStatement H.digest self.old self.new) }
+        ensures err { OnErr result (self.new ≡ self.old) }
     {
         let Answer { text, reply, end } = self.seat.answer();
         let name = self.seat.name().as_str();
@@ -61,10 +63,12 @@ impl<H: Hash32> Session<H> {
         Ok(())
     }
 
-    /// The session is over.
+    /// The session is over. Only its last line takes memory; where there is none for it nothing changes, and
+    /// the session may still end.
     pub fn leave(&mut self, alloc: Global) -> Result<(), Memory>
         requires { MayEndSession self.old.seat }
-        ensures { OnOk result (LeavesSession H.digest self.old self.new) }
+        ensures leaves { OnOk result (LeavesSession H.digest self.old self.new) }
+        ensures err { OnErr result (self.new ≡ self.old) }
     {
         if let Some(end) = self.seat.last_line() {
             let name = self.seat.name().as_str();
@@ -76,7 +80,8 @@ impl<H: Hash32> Session<H> {
         Ok(())
     }
 
-    /// Keeps an image of all cells, if there is memory for one, with the number of the journal's items.
+    /// Keeps an image of all cells, if there is memory for one, with the number of the journal's items. Where
+    /// there is no room for it among the images nothing changes.
     pub(crate) fn keep_image(
         &mut self,
         alloc: Global,
@@ -86,11 +91,37 @@ impl<H: Hash32> Session<H> {
         requires among { AmongAll H.digest self.old.seat cells.now }
         requires items { items ≡ items_in cells.now }
         ensures kept { OnOk result (KeepsSessionImage H.digest cells.now self.old self.new) }
-        ensures comes_on { visits_left self.new.seat < visits_left self.old.seat }
+        ensures comes_on { OnOk result (visits_left self.new.seat < visits_left self.old.seat) }
+        ensures err { OnErr result (self.new ≡ self.old) }
     {
-        if let Some(bytes) = visit_all(&mut self.seat, alloc, cells) {
-            self.images.push((items, bytes))?;
-        }
+        let mut images = mem::replace(&mut self.images, Items::new(alloc)).into_vec();
+        let kept = keep_behind(&mut images, &mut self.seat, alloc, items, cells);
+        self.images = Items::from_vec(images);
+        kept?;
         Ok(())
     }
+}
+
+// Keeps an image of all cells behind these, if there is memory for one. Its place is made before the visit;
+// for want of memory for that nothing changes.
+fn keep_behind<H: Hash32>(
+    images: &mut Vec<(u64, Blob)>,
+    seat: &mut Seat<H>,
+    alloc: Global,
+    items: u64,
+    cells: &[Cell],
+) -> Result<(), Memory>
+    requires among { AmongAll H.digest seat.old cells.now }
+    requires items { items ≡ items_in cells.now }
+    ensures kept { OnOk result
+        (KeepsBehind H.digest cells.now seat.old seat.new images.old.items images.new.items) }
+    ensures comes_on { OnOk result (visits_left seat.new < visits_left seat.old) }
+    ensures seat { OnErr result (seat.new ≡ seat.old) }
+    ensures images { OnErr result (images.new.items ≡ images.old.items) }
+{
+    images.reserve(1)?;
+    if let Some(bytes) = visit_all(seat, alloc, cells) {
+        images.push_reserved((items, bytes));
+    }
+    Ok(())
 }

@@ -18,6 +18,7 @@ use Rattle.spec_model.specs.Changes.{Change, changed_all, row_changes}
 use Rattle.spec_model.specs.Checks.{row_statement_check}
 use Rattle.spec_model.specs.Holds.{holds_after}
 use Rattle.spec_model.specs.InTheWay.{first_conflict}
+use Rattle.spec_model.specs.Keys.{key_places}
 use Rattle.spec_model.specs.Locks.{query_requests, row_requests}
 use Rattle.spec_model.specs.Query.{query_check}
 use Rattle.spec_model.specs.Effect.{query_rows}
@@ -264,7 +265,7 @@ module _ {H : Type 0} (digest : H → List ℕ → List ℕ) (y : Seat H) (r : R
     trees_grown d = grown c.id (events_from o.id o.seq c.id d.versions) o.trees
 
     abbrev changes_rows : (row : RowStmt) (st : y.stmt ≡ Some (stmt.Change row)) (cs : List Change) (count : ℕ) (d : TableCell) → first_conflict c.holds o.id (row_requests def row) ≡ None → row_changes def c.versions row ≡ Ok (cs, count)
-        → d ≡ with_holds (holds_after c.holds o.id (row_requests def row)) (with_versions def.columns (changed_all o.id o.seq cs c.versions) c)
+        → d ≡ with_holds (holds_after c.holds o.id (row_requests def row)) (with_versions (key_places def.columns) (changed_all o.id o.seq cs c.versions) c)
         → ChangesRows a.v c a.s d (t2 (stmt.Change row) st q d kept (o.seq + length cs) (trees_grown d) (reply.Changed count))
     changes_rows row st cs count d no_conflict changed cell = record {
       o = o;

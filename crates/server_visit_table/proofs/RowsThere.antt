@@ -20,6 +20,7 @@ use Rattle.spec_model.specs.Catalog.{Defs, NamedPart, Tables, defs_of, find_part
 use Rattle.spec_model.specs.Checks as checks
 use Rattle.spec_model.specs.Checks.{row_statement_check}
 use Rattle.spec_model.specs.Limits.{max_columns}
+use Rattle.spec_model.specs.Keys.{key_places}
 use Rattle.spec_model.specs.Locks.{whole}
 use Rattle.spec_model.specs.Parts.{columns_of}
 use Rattle.spec_model.specs.ChangeSets.{defined, change_set}
@@ -28,7 +29,7 @@ use Rattle.spec_model.specs.Refusals.{Checked, and_then, or_refused}
 use Rattle.spec_model.specs.Runs.{MadeBefore}
 use Rattle.law_frame.proofs.AgreeAfter.{has_table}
 use Rattle.law_frame.proofs.NamedPart.{found_is_listed}
-use Rattle.law_journal.specs.Fits.{Fits}
+use Rattle.law_journal.specs.Fits.{FitsSoFar}
 use Rattle.law_journal.proofs.Serials.{legal_described}
 use Rattle.server_session.specs.Lists.{Text, Each, In}
 use Rattle.server_session.specs.Transactions.{unfixed}
@@ -132,14 +133,14 @@ module _ (v : Server) (cells : List Cell) (seats : List SeatState) {history : Hi
     pub is_table_of : (def old : TableDef) → def.id ≡ c.id → def_at (defs_of T) c.id ≡ Some old → old.columns ≡ def.columns → IsTable c def
     is_table_of def old id e same = record {
       here = id;
-      columns = ⊎_elim (λ (none : c.versions ≡ []). inl none) (λ (cols : c.columns ≡ old.columns). inr (cols ∙ same)) (stands_as old e).columns;
+      key = ⊎_elim (λ (none : c.versions ≡ []). inl none) (λ (k : c.key ≡ key_places old.columns). inr (k ∙ ap key_places same)) (stands_as old e).key;
     }
 
     pub has_fit_of : (def old : TableDef) → def_at (defs_of T) c.id ≡ Some old → old.columns ≡ def.columns → HasFit c def
     has_fit_of def old e same = record {
       few = subst (λ (cols : List ColumnDef). length cols ≤ max_columns) same
           (def_like (λ d. length d.columns ≤ max_columns) (defs_of T) c.id old (legal_described v.reads S.ledger.items S.ledger_is_legal.legal).few e);
-      fit = subst (λ (cols : List ColumnDef). Each (λ w. Fits cols w.values) c.versions) same (stands_as old e).fit;
+      fit = subst (λ (cols : List ColumnDef). Each (λ w. FitsSoFar cols w.values) c.versions) same (stands_as old e).fit;
     }
 
     -- the definition that was found by its name

@@ -13,6 +13,7 @@ use Rattle.spec_model.specs.Changes.{Change, changed_all, row_changes}
 use Rattle.spec_model.specs.Effect.{query_rows}
 use Rattle.spec_model.specs.Holds.{holds_after}
 use Rattle.spec_model.specs.InTheWay.{first_conflict}
+use Rattle.spec_model.specs.Keys.{key_places}
 use Rattle.spec_model.specs.Locks.{query_requests, row_requests}
 use Rattle.spec_model.specs.Rows.{Row}
 use Rattle.server_session.specs.Cells.{TableCell}
@@ -95,7 +96,7 @@ pub data RunsInTable (c : TableCell) (o : OpenTransaction) (named : NamedPart) :
       → first_conflict c.holds o.id (row_requests named.0 row) ≡ None
       → row_changes named.0 c.versions row ≡ Ok (changes, count)
       → d ≡ with_holds (holds_after c.holds o.id (row_requests named.0 row))
-      (with_versions named.0.columns (changed_all o.id o.seq changes c.versions) c)
+      (with_versions (key_places named.0.columns) (changed_all o.id o.seq changes c.versions) c)
       → RunsInTable c o named (stmt.Change row) (Ok (reply.Changed count)) d
       (noting (o.seq + length changes) (grown c.id (events_from o.id o.seq c.id d.versions) o.trees) o)
   refuses : (row : RowStmt) (e : Refusal) (d : TableCell) → row_changes named.0 c.versions row ≡ Err e

@@ -21,7 +21,7 @@ use Rattle.sql_types.specs.declared.table.TableDef.{TableDef}
 use Rattle.spec_model.specs.Refusals.{Checked, and_then}
 use Rattle.spec_model.specs.Evaluation.{meaning_of}
 use Rattle.spec_model.specs.Lists.{checked_map, checked_filter, checked_fold}
-use Rattle.spec_model.specs.Rows.{Row, EventId, stored_row, values_of, started, ended}
+use Rattle.spec_model.specs.Rows.{Row, EventId, stored_row, row_of, started, ended}
 use Rattle.spec_model.specs.Keys.{Key, key_of, same_key, has_live_row, live_by_key}
 use Rattle.spec_model.specs.Parts.{start_columns, base_row}
 use Rattle.spec_model.specs.Where.{holds, key_fixed}
@@ -85,7 +85,7 @@ module _ (columns : List ColumnDef) (versions : List Version) where
 -- the versions that a condition takes, in key order
 unfoldable pub versions_matched : List ColumnDef → Option Expr → List Version → Checked (List Version)
 versions_matched columns cond versions =
-    checked_filter (λ v. holds (columns ++ start_columns) cond (base_row v))
+    checked_filter (λ v. holds (columns ++ start_columns) cond (base_row columns v))
     (live_by_key columns (key_fixed columns cond) versions)
 
 abbrev pub expr_set : List (List ℕ × Expr) → List ℕ → Option Expr
@@ -105,8 +105,8 @@ value_set columns row c v (Some e) =
 -- a version's row after SET, column by column
 unfoldable pub row_after_set : List ColumnDef → List (List ℕ × Expr) → Version → Checked Row
 row_after_set columns sets v =
-    checked_map (λ p. value_set columns (base_row v) p.0 p.1 (expr_set sets p.0.name))
-    (zip columns (values_of v))
+    checked_map (λ p. value_set columns (base_row columns v) p.0 p.1 (expr_set sets p.0.name))
+    (zip columns (row_of columns v))
 
 abbrev pub replaced : List ColumnDef → Version → Row → List Change
 replaced columns v row = Ends v.start ∷ Starts (stored_row columns row) ∷ []

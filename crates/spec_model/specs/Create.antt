@@ -75,9 +75,11 @@ table_def id c =
       id = id;
       name = c.name;
       kind = c.kind;
+      gone = false;
       history = history_of c.kind id c.history;
       view = view_of c.name c.view;
       columns = map (keyed c.key) c.columns;
+      dropped = [];
       indexes = [];
     }
 
@@ -129,9 +131,11 @@ with_index def index =
       id = def.id;
       name = def.name;
       kind = def.kind;
+      gone = def.gone;
       history = def.history;
       view = def.view;
       columns = def.columns;
+      dropped = def.dropped;
       indexes = def.indexes ++ index ∷ [];
     }
 

@@ -34,9 +34,11 @@ value_at row place = get_or row place Null
 abbrev pub Key : Type 0
 Key = List Value
 
+-- ---- by the places of the key's columns
+
 -- the key of a row
-unfoldable pub key_of : List ColumnDef → Row → Key
-key_of columns row = map (value_at row) (key_places columns)
+unfoldable pub key_at : List ℕ → Row → Key
+key_at places row = map (value_at row) places
 
 -- keys are ordered by their first value, then by the second, and so on
 unfoldable pub key_cmp : Key → Key → Ordering
@@ -45,24 +47,44 @@ key_cmp = slice_cmp value_cmp
 unfoldable pub same_key : Key → Key → Bool
 same_key a b = is_eq (key_cmp a b)
 
+abbrev pub version_key_at : List ℕ → Version → Key
+version_key_at places v = key_at places (values_of v)
+
+-- the versions of one key
+abbrev pub of_key_at : List ℕ → Key → List Version → List Version
+of_key_at places key versions = filter (λ v. same_key (version_key_at places v) key) versions
+
+-- what a statement reads of the versions of a base table: those of one key, or all
+abbrev pub part_read_at : List ℕ → Option Key → List Version → List Version
+part_read_at places None versions = versions
+part_read_at places (Some key) versions = of_key_at places key versions
+
+-- a row of this key stands
+unfoldable pub has_live_row_at : List ℕ → Key → List Version → Bool
+has_live_row_at places key versions = list_any (λ v. is_none v.end) (part_read_at places (Some key) versions)
+
+-- the rows that stand, in key order: those of one key, or all
+unfoldable pub live_by_key_at : List ℕ → Option Key → List Version → List Version
+live_by_key_at places key versions =
+    sorted (λ v w. key_cmp (version_key_at places v) (version_key_at places w))
+    (live (part_read_at places key versions))
+
+-- ---- by the columns of a table, which say the places
+
+abbrev pub key_of : List ColumnDef → Row → Key
+key_of columns row = key_at (key_places columns) row
+
 abbrev pub version_key : List ColumnDef → Version → Key
 version_key columns v = key_of columns (values_of v)
 
--- the versions of one key
 abbrev pub of_key : List ColumnDef → Key → List Version → List Version
-of_key columns key versions = filter (λ v. same_key (version_key columns v) key) versions
+of_key columns key versions = of_key_at (key_places columns) key versions
 
--- what a statement reads of the versions of a base table: those of one key, or all
 abbrev pub part_read : List ColumnDef → Option Key → List Version → List Version
-part_read columns None versions = versions
-part_read columns (Some key) versions = of_key columns key versions
+part_read columns key versions = part_read_at (key_places columns) key versions
 
--- a row of this key stands
-unfoldable pub has_live_row : List ColumnDef → Key → List Version → Bool
-has_live_row columns key versions = list_any (λ v. is_none v.end) (part_read columns (Some key) versions)
+abbrev pub has_live_row : List ColumnDef → Key → List Version → Bool
+has_live_row columns key versions = has_live_row_at (key_places columns) key versions
 
--- the rows that stand, in key order: those of one key, or all
-unfoldable pub live_by_key : List ColumnDef → Option Key → List Version → List Version
-live_by_key columns key versions =
-    sorted (λ v w. key_cmp (version_key columns v) (version_key columns w))
-    (live (part_read columns key versions))
+abbrev pub live_by_key : List ColumnDef → Option Key → List Version → List Version
+live_by_key columns key versions = live_by_key_at (key_places columns) key versions

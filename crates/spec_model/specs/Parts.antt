@@ -9,7 +9,7 @@ use Rattle.sql_types.specs.declared.table.Part.{Part}
 use Rattle.sql_types.specs.declared.table.Part.TheVariants.{Base, History, View, System}
 use Rattle.sql_types.specs.declared.version.Version.{Version}
 use Rattle.spec_model.specs.Lists.{sorted}
-use Rattle.spec_model.specs.Rows.{Row, EventId, event_cmp, values_of, number}
+use Rattle.spec_model.specs.Rows.{Row, EventId, event_cmp, number, row_of}
 use Rattle.spec_model.specs.Keys.{Key, live_by_key}
 
 -- ---- columns
@@ -61,43 +61,45 @@ shown_of def System = length def.columns
 -- ---- rows
 
 -- a version that stands, with its start
-abbrev pub base_row : Version → Row
-base_row v = values_of v ++ number v.start.0 ∷ number v.start.1 ∷ []
+abbrev pub base_row : List ColumnDef → Version → Row
+base_row columns v = row_of columns v ++ number v.start.0 ∷ number v.start.1 ∷ []
 
 -- a version that ended, with its start and its end
-abbrev pub history_row : Version → EventId → Row
-history_row v end = values_of v ++ number v.start.0 ∷ number end.0 ∷ number v.start.1 ∷ number end.1 ∷ []
+abbrev pub history_row : List ColumnDef → Version → EventId → Row
+history_row columns v end =
+    row_of columns v ++ number v.start.0 ∷ number end.0 ∷ number v.start.1 ∷ number end.1 ∷ []
 
-abbrev pub history_rows_of : Version → Option EventId → List Row
-history_rows_of v (Some end) = history_row v end ∷ []
-history_rows_of v None = []
+abbrev pub history_rows_of : List ColumnDef → Version → Option EventId → List Row
+history_rows_of columns v (Some end) = history_row columns v end ∷ []
+history_rows_of columns v None = []
 
 -- the versions that ended, by their start
-abbrev pub history_rows : List Version → List Row
-history_rows versions = flat_map (λ v. history_rows_of v v.end) versions
+abbrev pub history_rows : List ColumnDef → List Version → List Row
+history_rows columns versions = flat_map (λ v. history_rows_of columns v v.end) versions
 
 -- an event with the row that the view shows of it
 abbrev pub ViewRow : Type 0
 ViewRow = EventId × Row
 
-abbrev pub view_row_of_start : Version → ViewRow
-view_row_of_start v =
-    (v.start, values_of v ++ number v.start.0 ∷ number v.start.1 ∷ number 1 ∷ Text (codes "INSERT") ∷ [])
+abbrev pub view_row_of_start : List ColumnDef → Version → ViewRow
+view_row_of_start columns v =
+    (v.start, row_of columns v ++ number v.start.0 ∷ number v.start.1 ∷ number 1 ∷ Text (codes "INSERT") ∷ [])
 
-abbrev pub view_row_of_end : Version → Option EventId → List ViewRow
-view_row_of_end v (Some end) =
-    (end, values_of v ++ number end.0 ∷ number end.1 ∷ number 2 ∷ Text (codes "DELETE") ∷ []) ∷ []
-view_row_of_end v None = []
+abbrev pub view_row_of_end : List ColumnDef → Version → Option EventId → List ViewRow
+view_row_of_end columns v (Some end) =
+    (end, row_of columns v ++ number end.0 ∷ number end.1 ∷ number 2 ∷ Text (codes "DELETE") ∷ []) ∷ []
+view_row_of_end columns v None = []
 
 -- one row for each start and each end, by transaction and number
-abbrev pub view_rows : List Version → List Row
-view_rows versions =
+abbrev pub view_rows : List ColumnDef → List Version → List Row
+view_rows columns versions =
     map (λ s. s.1)
-    (sorted (λ a b. event_cmp a.0 b.0) (flat_map (λ v. view_row_of_start v ∷ view_row_of_end v v.end) versions))
+    (sorted (λ a b. event_cmp a.0 b.0)
+    (flat_map (λ v. view_row_of_start columns v ∷ view_row_of_end columns v v.end) versions))
 
 -- the rows of a part, in its order. Where a base table's key is fixed, the one row with that key.
 unfoldable pub rows_of : TableDef → Part → Option Key → List Version → List Row
-rows_of def Base key versions = map base_row (live_by_key def.columns key versions)
-rows_of def History key versions = history_rows versions
-rows_of def View key versions = view_rows versions
-rows_of def System key versions = map base_row (live_by_key def.columns None versions)
+rows_of def Base key versions = map (base_row def.columns) (live_by_key def.columns key versions)
+rows_of def History key versions = history_rows def.columns versions
+rows_of def View key versions = view_rows def.columns versions
+rows_of def System key versions = map (base_row def.columns) (live_by_key def.columns None versions)

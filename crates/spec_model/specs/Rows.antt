@@ -34,6 +34,24 @@ value_or_null None = Null
 abbrev pub values_of : Version → Row
 values_of v = map value_or_null v.values
 
+-- ---- rows that are shorter than their columns
+
+-- a row with a value for each column: NULL behind its last value
+abbrev pub filled : List ColumnDef → Row → Row
+filled [] row = row
+filled (c ∷ cs) [] = Null ∷ filled cs []
+filled (c ∷ cs) (v ∷ vs) = v ∷ filled cs vs
+
+-- and so as it is stored
+abbrev pub filled_stored : List ColumnDef → List (Option TypedValue) → List (Option TypedValue)
+filled_stored [] values = values
+filled_stored (c ∷ cs) [] = None ∷ filled_stored cs []
+filled_stored (c ∷ cs) (v ∷ vs) = v ∷ filled_stored cs vs
+
+-- the row that a version is under these columns; what is missing is NULL
+abbrev pub row_of : List ColumnDef → Version → Row
+row_of columns v = filled columns (values_of v)
+
 -- a whole number as a value
 abbrev pub number : ℕ → Value
 number n = Num 0 (pos n)

@@ -52,9 +52,11 @@ system_def id name columns =
       id = id;
       name = name;
       kind = AppendOnly;
+      gone = false;
       history = [];
       view = [];
       columns = columns;
+      dropped = [];
       indexes = [];
     }
 

@@ -5,7 +5,6 @@ use mathlib.Core.Option.{Option, some, none}
 use lib.ListN.{get_elem?}
 use Rattle.sql_types.specs.declared.journal.JournalItem.{JournalItem}
 use Rattle.sql_types.specs.declared.version.Version.{Version}
-use Rattle.sql_value.specs.declared.column.ColumnDef.{ColumnDef}
 use Rattle.spec_model.specs.Rows.{EventId}
 use Rattle.spec_model.specs.Catalog.{Defs, Tables}
 use Rattle.spec_model.specs.SystemTables.{tables_id, columns_id, tables_def, columns_def}
@@ -54,8 +53,8 @@ pub record Index : Type 0 where
 -- a table's versions, its locks and its indexes
 pub record TableCell : Type 0 where
   pub id : ℕ
-  -- of its definition, where it has versions
-  pub columns : List ColumnDef
+  -- the places of the key's columns, by key position, where it has versions
+  pub key : List ℕ
   pub versions : List Version
   -- the starts of the versions that stand, in key order
   pub order : List EventId
@@ -143,7 +142,7 @@ abbrev pub empty_cells : ℕ → ℕ → List Cell
 empty_cells zero id = []
 empty_cells (suc n) id = Rows (record {
   id = id;
-  columns = [];
+  key = [];
   versions = [];
   order = [];
   indexes = [];

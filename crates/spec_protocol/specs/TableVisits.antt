@@ -1,6 +1,5 @@
 -- Visits of a table's cell: its rows are changed or read, an index is added.
 use Rattle.std.specs.Prelude.{ℕ, ◌≡◌, ◌+◌, Bool, true, false, List, [], ◌∷◌, map, length, Some, None, Ok, Err}
-use Rattle.sql_value.specs.declared.column.ColumnDef.{ColumnDef}
 use Rattle.sql_value.specs.declared.refusal.Refusal.{Refusal}
 use Rattle.sql_types.specs.declared.lock.Hold.{Hold}
 use Rattle.sql_types.specs.declared.lock.LockRequest.{LockRequest}
@@ -13,7 +12,7 @@ use Rattle.sql_types.specs.declared.statement.Select.{Select}
 use Rattle.sql_types.specs.declared.table.TableDef.{TableDef}
 use Rattle.sql_types.specs.declared.table.IndexDef.{IndexDef}
 use Rattle.sql_types.specs.declared.version.Version.{Version}
-use Rattle.spec_model.specs.Keys.{live_by_key}
+use Rattle.spec_model.specs.Keys.{key_places, live_by_key_at}
 use Rattle.spec_model.specs.Catalog.{NamedPart}
 use Rattle.spec_model.specs.Changes.{Change, changed_all, row_changes}
 use Rattle.spec_model.specs.Checks.{row_statement_check}
@@ -32,48 +31,48 @@ use Rattle.spec_protocol.specs.Doing.{grown, events_from, done, rows_reply, stag
 
 -- ---- a cell with other rows
 
-abbrev pub reordered : List ColumnDef → List Version → Index → Index
-reordered columns versions index = record {
+abbrev pub reordered : List ℕ → List Version → Index → Index
+reordered key versions index = record {
   ordinals = index.ordinals;
-  order = index_order columns index.ordinals versions;
+  order = index_order key index.ordinals versions;
 }
 
--- key order and indexes follow the versions, which are of these columns
-abbrev pub with_versions : List ColumnDef → List Version → TableCell → TableCell
-with_versions columns versions c =
+-- key order and indexes follow the versions, whose key is at these places
+abbrev pub with_versions : List ℕ → List Version → TableCell → TableCell
+with_versions key versions c =
     record {
       id = c.id;
-      columns = columns;
+      key = key;
       versions = versions;
-      order = map (λ v. v.start) (live_by_key columns None versions);
-      indexes = map (reordered columns versions) c.indexes;
+      order = map (λ v. v.start) (live_by_key_at key None versions);
+      indexes = map (reordered key versions) c.indexes;
       holds = c.holds;
     }
 
 abbrev pub with_holds : List Hold → TableCell → TableCell
 with_holds holds c = record {
   id = c.id;
-  columns = c.columns;
+  key = c.key;
   versions = c.versions;
   order = c.order;
   indexes = c.indexes;
   holds = holds;
 }
 
-abbrev pub new_index : List ColumnDef → List Version → IndexDef → Index
-new_index columns versions index = record {
+abbrev pub new_index : List ℕ → List Version → IndexDef → Index
+new_index key versions index = record {
   ordinals = index.ordinals;
-  order = index_order columns index.ordinals versions;
+  order = index_order key index.ordinals versions;
 }
 
 -- the indexes of this definition
 abbrev pub with_indexes : TableDef → TableCell → TableCell
 with_indexes def c = record {
   id = c.id;
-  columns = c.columns;
+  key = c.key;
   versions = c.versions;
   order = c.order;
-  indexes = map (new_index def.columns c.versions) def.indexes;
+  indexes = map (new_index (key_places def.columns) c.versions) def.indexes;
   holds = c.holds;
 }
 
@@ -101,7 +100,7 @@ pub record ChangesRows (v : Server) (c : TableCell) (s : SeatState) (d : TableCe
   pub count : ℕ
   pub changed : row_changes named.0 c.versions row ≡ Ok (changes, count)
   pub cell : d ≡ with_holds (holds_after c.holds o.id (row_requests named.0 row)) (with_versions
-      named.0.columns (changed_all o.id o.seq changes c.versions) c)
+      (key_places named.0.columns) (changed_all o.id o.seq changes c.versions) c)
   pub seat : t ≡ done s at.at.stands (noting (o.seq + length changes)
       (grown c.id (events_from o.id o.seq c.id d.versions) o.trees) (visiting (cell_of c.id) o))
       (reply.Changed count)

@@ -1,18 +1,17 @@
 -- The tables are serial.
 use Rattle.std.specs.Prelude.{ℕ, ◌≡◌, ◌⊎◌, ◌≢◌, ◌==◌, ◌++◌, ◌-◌, ◌≤◌, Bool, true, false, if◌then◌else◌, List, [], ◌∷◌, map, Option, Some, None}
 use mathlib.Core.Option.{some}
-use Rattle.sql_value.specs.declared.column.ColumnDef.{ColumnDef}
 use Rattle.sql_types.specs.declared.statement.Stmt.{Stmt}
 use Rattle.sql_types.specs.declared.table.TableDef.{TableDef}
 use Rattle.sql_types.specs.declared.table.IndexDef.{IndexDef}
 use Rattle.sql_types.specs.declared.version.Version.{Version}
 use Rattle.spec_model.specs.Lists.{sorted}
 use Rattle.spec_model.specs.Rows.{Row, EventId, values_of, live}
-use Rattle.spec_model.specs.Keys.{key_cmp, same_key, value_at, version_key, live_by_key}
+use Rattle.spec_model.specs.Keys.{key_cmp, key_places, live_by_key, same_key, value_at, version_key_at}
 use Rattle.spec_model.specs.Catalog.{Defs, Tables, defs_of, versions_of}
 use Rattle.spec_model.specs.ChangeSets.{change_set, defined}
 use Rattle.spec_model.specs.Reach.{creates}
-use Rattle.law_journal.specs.Fits.{Fits}
+use Rattle.law_journal.specs.Fits.{FitsSoFar}
 use Rattle.spec_history.specs.Lists.{Text, Each, In}
 use Rattle.spec_history.specs.Transactions.{unfixed}
 use Rattle.spec_protocol.specs.Server.{Server}
@@ -74,23 +73,23 @@ def_at [] id = None
 def_at (def ∷ defs) id = if def.id == id then Some def else def_at defs id
 
 -- of two versions without an end, the keys differ
-abbrev pub KeysDiffer : List ColumnDef → List Version → Type 0
-KeysDiffer columns [] = Unit {0}
-KeysDiffer columns (v ∷ vs) = Each (λ w. same_key (version_key columns v) (version_key columns w) ≢ true) vs
-    × KeysDiffer columns vs
+abbrev pub KeysDiffer : List ℕ → List Version → Type 0
+KeysDiffer key [] = Unit {0}
+KeysDiffer key (v ∷ vs) = Each (λ w. same_key (version_key_at key v) (version_key_at key w) ≢ true) vs
+    × KeysDiffer key vs
 
--- a row of an index: the values of its columns, and then the key
-abbrev pub projected : List ColumnDef → List ℕ → Version → Row
-projected columns ordinals v = map (λ n. value_at (values_of v) (n - 1)) ordinals ++ version_key columns v
+-- a row of an index: the values of its columns, and then the key, which is at these places
+abbrev pub projected : List ℕ → List ℕ → Version → Row
+projected key ordinals v = map (λ n. value_at (values_of v) (n - 1)) ordinals ++ version_key_at key v
 
 -- the starts of the versions without an end, sorted by what the index has of them
-abbrev pub index_order : List ColumnDef → List ℕ → List Version → List EventId
-index_order columns ordinals versions =
-    map (λ v. v.start) (sorted (λ v w. key_cmp (projected columns ordinals v) (projected columns ordinals w))
+abbrev pub index_order : List ℕ → List ℕ → List Version → List EventId
+index_order key ordinals versions =
+    map (λ v. v.start) (sorted (λ v w. key_cmp (projected key ordinals v) (projected key ordinals w))
     (live versions))
 
-abbrev pub IsSortedProjection : List ColumnDef → List Version → Index → Type 0
-IsSortedProjection columns versions index = index.order ≡ index_order columns index.ordinals versions
+abbrev pub IsSortedProjection : List ℕ → List Version → Index → Type 0
+IsSortedProjection key versions index = index.order ≡ index_order key index.ordinals versions
 
 abbrev pub ordinals_of : List IndexDef → List (List ℕ)
 ordinals_of indexes = map (λ i. i.ordinals) indexes
@@ -119,16 +118,16 @@ AreIndexes v c k seats def indexes =
 
 pub record TableStands (v : Server) (c : Contents) (k : Known) (seats : List SeatState) (cell : TableCell)
     (def : TableDef) : Type 0 where
-  -- the cell has the definition's columns
-  pub columns : (cell.versions ≡ []) ⊎ (cell.columns ≡ def.columns)
+  -- the cell has the places of the definition's key
+  pub key : (cell.versions ≡ []) ⊎ (cell.key ≡ key_places def.columns)
   -- all versions, also those of transactions that aren't in the journal, fit the definition that the journal
-  -- gives
-  pub fit : Each (λ w. Fits def.columns w.values) cell.versions
+  -- gives so far
+  pub fit : Each (λ w. FitsSoFar def.columns w.values) cell.versions
   -- the cell's key order is by that definition's key columns, and no two versions without an end have one key
   pub in_key_order : cell.order ≡ map (λ w. w.start) (live_by_key def.columns None cell.versions)
-  pub keys_differ : KeysDiffer def.columns (live cell.versions)
+  pub keys_differ : KeysDiffer (key_places def.columns) (live cell.versions)
   -- each index is the sorted projection of the cell's base rows
-  pub projections : Each (IsSortedProjection def.columns cell.versions) cell.indexes
+  pub projections : Each (IsSortedProjection (key_places def.columns) cell.versions) cell.indexes
   -- the cell has the indexes that the journal gives its definition, in order, and at most one more
   pub indexes : AreIndexes v c k seats def (map (λ i. i.ordinals) cell.indexes)
 

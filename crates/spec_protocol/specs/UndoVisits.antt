@@ -12,9 +12,9 @@ use Rattle.spec_protocol.specs.Seats.{OpenTransaction, going_back, answering, Se
 use Rattle.spec_protocol.specs.TableVisits.{with_versions}
 use Rattle.spec_protocol.specs.Moves.{releasing, at_place, sits, InOpenTransaction, then_at}
 
--- key order and indexes follow the versions, by the columns that the cell has
+-- key order and indexes follow the versions, by the key that the cell has
 abbrev pub undone_to : ℕ → ℕ → TableCell → TableCell
-undone_to tx seq c = with_versions c.columns (versions_undone tx seq c.versions) c
+undone_to tx seq c = with_versions c.key (versions_undone tx seq c.versions) c
 
 -- on the way back to a savepoint: the transaction's starts and ends with its number or above are dropped in
 -- the next cell
@@ -65,7 +65,7 @@ index_dropped (Some def) c =
     else (if nat_lt (length c.indexes) (length def.indexes) then c
     else record {
       id = c.id;
-      columns = c.columns;
+      key = c.key;
       versions = c.versions;
       order = c.order;
       indexes = without_last c.indexes;
@@ -75,7 +75,7 @@ index_dropped (Some def) c =
 abbrev pub unlocked : ℕ → TableCell → TableCell
 unlocked tx c = record {
   id = c.id;
-  columns = c.columns;
+  key = c.key;
   versions = c.versions;
   order = c.order;
   indexes = c.indexes;

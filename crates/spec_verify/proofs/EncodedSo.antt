@@ -17,11 +17,13 @@ use Rattle.spec_model.specs.Create.{names_of, table_names, has_null_key}
 use Rattle.spec_model.specs.Keys.{same_key}
 use Rattle.spec_model.specs.Lists.{repeats}
 use Rattle.spec_model.specs.Rows.{Row, values_of}
-use Rattle.spec_model.specs.SystemTables.{tables_columns, columns_columns, tables_def, columns_def, table_row}
+use Rattle.spec_model.specs.SystemTables.{tables_columns, columns_columns, tables_def, columns_def}
 use Rattle.law_frame.proofs.Alls.{all_filter}
+use Rattle.law_catalog_rows.specs.Changes.{changes_are_right, items_follow}
 use Rattle.law_catalog_rows.specs.Differs.{are_rows, table_of, is_encoded}
-use Rattle.law_catalog_rows.specs.IsEncodableDef.{is_proper_name, has_its_history, is_between, are_key_positions, positions_of, is_encodable_column, is_encodable_index, number_repeats, is_encodable_def, has_new_names}
-use Rattle.law_catalog_rows.specs.Encoded.{item_rows, is_about, about, IsAmong, AreRowsOfOne, RowsEncode}
+use Rattle.law_catalog_rows.specs.IsEncodableDef.{is_proper_name, has_its_history, is_between, are_key_positions, positions_of, is_encodable_column, is_encodable_index, number_repeats, dropped_are_right, is_encodable_def, has_new_names}
+use Rattle.law_catalog_rows.specs.Encoded.{latest_table_row, latest_item_rows, is_about, about, IsAmong, EncodeDef, RowsEncode}
+use Rattle.law_catalog_rows.specs.Latest.{latest, latest_said}
 use Rattle.law_catalog_rows.proofs.Passing.{encoding_passes}
 use Rattle.format_image.specs.DefBytes.{ids_rise}
 use Rattle.format_image.specs.Tables.{tables_with}
@@ -33,7 +35,7 @@ use Rattle.spec_verify.specs.Versions.{version_fault}
 use Rattle.spec_verify.proofs.AllTold.{all_hold}
 use Rattle.spec_verify.proofs.Deciding.{one_of, none_of}
 use Rattle.spec_verify.proofs.SameRows.{front, rest}
-use Rattle.spec_verify.proofs.SystemRows.{Scaled, stored_scaled, table_scaled, items_scaled, items_differ, those_rows}
+use Rattle.spec_verify.proofs.SystemRows.{Scaled, stored_scaled, table_scaled, items_scaled, tables_said, items_said, items_differ, those_rows}
 use Rattle.spec_verify.proofs.ToldTables.{definitions_told}
 use Rattle.spec_verify.proofs.ToldVersions.{versions_told}
 
@@ -96,7 +98,7 @@ few_parts columns (i ∷ is) e =
 
 few : (def : TableDef) → is_encodable_def def ≡ true → Few def
 few def e =
-    let names : Bool = is_between 3 34 def.id && is_proper_name def.name && has_its_history def.kind def.history && is_proper_name def.view && not (repeats (table_names def)) in
+    let names : Bool = is_between 3 34 def.id && is_proper_name def.name && has_its_history def.kind def.history && is_proper_name def.view && not (repeats (table_names def)) && dropped_are_right def in
     let count : Bool = is_between 1 64 (length def.columns) in
     let columns : Bool = list_all is_encodable_column def.columns in
     let differ : Bool = not (repeats (names_of def.columns)) in
@@ -124,34 +126,52 @@ each_there : (rows wanted : List Row) → are_rows rows wanted ≡ true → list
 each_there rows wanted e = rest (length rows == length wanted) (list_all (λ w. list_any (same_key w) rows) wanted) e
 
 module _ (first second : List Row) (defs : Defs) where
+  abbrev tables_about : TableDef → List Row
+  tables_about def = about (pos def.id) first
+
+  abbrev items_about : TableDef → List Row
+  items_about def = about (pos def.id) second
+
   record Said (def : TableDef) : Type 0 where
-    table : are_rows (about (pos def.id) first) (table_row def ∷ []) ≡ true
-    items : are_rows (about (pos def.id) second) (item_rows def) ≡ true
+    table : are_rows (latest_said 0 (tables_about def)) (latest_table_row def ∷ []) ≡ true
+    items : are_rows (latest_said 1 (items_about def)) (latest_item_rows def) ≡ true
+    changes : changes_are_right (tables_about def) (items_about def) ≡ true
+    follow : items_follow (items_about def) ≡ true
     rules : is_encodable_def def ≡ true
-    names : has_new_names first def ≡ true
+    names : has_new_names (latest 0 first) def ≡ true
 
   said : (def : TableDef) → is_encoded first second defs def ≡ true → Said def
   said def e =
-      let table : Bool = are_rows (about (pos def.id) first) (table_row def ∷ []) in
-      let items : Bool = are_rows (about (pos def.id) second) (item_rows def) in
+      let table : Bool = are_rows (latest_said 0 (tables_about def)) (latest_table_row def ∷ []) in
+      let items : Bool = are_rows (latest_said 1 (items_about def)) (latest_item_rows def) in
+      let changes : Bool = changes_are_right (tables_about def) (items_about def) in
+      let follow : Bool = items_follow (items_about def) in
       let rules : Bool = is_encodable_def def in
-      let three = front (table && items && rules) (has_new_names first def) e in
-      let two = front (table && items) rules three in
+      let names : Bool = has_new_names (latest 0 first) def in
+      let two = front ((table && items && changes && follow) && rules) names e in
+      let four = front (table && items && changes && follow) rules two in
+      let three = front (table && items && changes) follow four in
       record {
-        table = front table items two;
-        items = rest table items two;
-        rules = rest (table && items) rules three;
-        names = rest (table && items && rules) (has_new_names first def) e;
+        table = front table items (front (table && items) changes three);
+        items = rest table items (front (table && items) changes three);
+        changes = rest (table && items) changes three;
+        follow = rest (table && items && changes) follow four;
+        rules = rest (table && items && changes && follow) rules two;
+        names = rest ((table && items && changes && follow) && rules) names e;
       }
 
-  its_rows : AllByRecursion (Scaled tables_columns) first → AllByRecursion (Scaled columns_columns) second → (def : TableDef) → Said def → AreRowsOfOne first second def
+  its_rows : AllByRecursion (Scaled tables_columns) first → AllByRecursion (Scaled columns_columns) second → (def : TableDef) → Said def → EncodeDef first second def
   its_rows a b def s =
       let f = few def s.rules in
-      let tables : List Row = about (pos def.id) first in
-      let items : List Row = about (pos def.id) second in
+      let tables : List Row = latest_said 0 (tables_about def) in
+      let items : List Row = latest_said 1 (items_about def) in
+      let scaled_tables = tables_said (tables_about def) (all_filter (Scaled tables_columns) (is_about (pos def.id)) first a) in
+      let scaled_items = items_said (items_about def) (all_filter (Scaled columns_columns) (is_about (pos def.id)) second b) in
       record {
-        table = those_rows tables_columns (table_row def ∷ []) tables (table_scaled def, tt) (all_filter (Scaled tables_columns) (is_about (pos def.id)) first a) (tt, tt) (same_count tables (table_row def ∷ []) s.table) (each_there tables (table_row def ∷ []) s.table);
-        items = those_rows columns_columns (item_rows def) items (items_scaled def) (all_filter (Scaled columns_columns) (is_about (pos def.id)) second b) (items_differ def f.columns f.parts) (same_count items (item_rows def) s.items) (each_there items (item_rows def) s.items);
+        table = those_rows tables_columns (latest_table_row def ∷ []) tables (table_scaled def, tt) scaled_tables (tt, tt) (same_count tables (latest_table_row def ∷ []) s.table) (each_there tables (latest_table_row def ∷ []) s.table);
+        items = those_rows columns_columns (latest_item_rows def) items (items_scaled def) scaled_items (items_differ def f.columns f.parts) (same_count items (latest_item_rows def) s.items) (each_there items (latest_item_rows def) s.items);
+        changes = s.changes;
+        follow = s.follow;
       }
 
 -- ---- one definition an id
@@ -262,12 +282,10 @@ module _ (i : Image) (rise : ids_rise 2 i.defs ≡ true) (versions : version_fau
       let each : (def : TableDef) → IsAmong def i.defs → Said first second i.defs def =
       λ def among. said first second i.defs def (its_own Encoded 2 i.defs def rise among (found (pos def.id) (at_id (IsEncodedAt i) i.defs of_defs def among))) in
       record {
-        rows = record {
-          one = λ def among. its_rows first second i.defs (first_scaled i i.tables hold) (second_scaled i i.tables hold) def (each def among);
-          others = λ id other. (none_about (IsEncodedAt i) id first (λ a. not_among Encoded i.defs id other (found id a)) in_first, none_about (IsEncodedAt i) id second (λ a. not_among Encoded i.defs id other (found id a)) in_second);
-        };
+        one = λ def among. its_rows first second i.defs (first_scaled i i.tables hold) (second_scaled i i.tables hold) def (each def among);
+        others = λ id other. (none_about (IsEncodedAt i) id first (λ a. not_among Encoded i.defs id other (found id a)) in_first, none_about (IsEncodedAt i) id second (λ a. not_among Encoded i.defs id other (found id a)) in_second);
         rules = all_among (λ def. is_encodable_def def ≡ true) i.defs (λ def among. (each def among).rules);
-        names = all_among (λ def. has_new_names first def ≡ true) i.defs (λ def among. (each def among).names);
+        names = all_among (λ def. has_new_names (latest 0 first) def ≡ true) i.defs (λ def among. (each def among).names);
       }
 
   nothing_wrong : RowsEncode first second i.defs → definition_fault i ≡ None

@@ -20,9 +20,10 @@ use Rattle.sql_types.specs.declared.table.TableDef.{TableDef}
 use Rattle.spec_model.specs.Keys.{key_cmp, same_key}
 use Rattle.spec_model.specs.Lists.{numbered}
 use Rattle.spec_model.specs.Rows.{Row, value_or_null}
-use Rattle.spec_model.specs.SystemTables.{name_type, tables_columns, columns_columns, history_value, table_row, column_row, column_rows, index_row, index_rows}
-use Rattle.law_frame.proofs.Alls.{all_append}
-use Rattle.law_catalog_rows.specs.Encoded.{rows_of_indexes, item_rows}
+use Rattle.spec_model.specs.SystemTables.{name_type, tables_columns, columns_columns, history_value, index_row, index_rows}
+use Rattle.law_frame.proofs.Alls.{all_append, all_filter, all_map}
+use Rattle.law_catalog_rows.specs.Encoded.{rows_of_indexes, latest_table_row, latest_column_row, latest_item_rows}
+use Rattle.law_catalog_rows.specs.Latest.{is_latest, latest, without_change, latest_said}
 use Rattle.format_image.specs.Rows.{Stored}
 use Rattle.spec_verify.specs.Versions.{same_type, is_of, has_columns}
 use Rattle.spec_verify.proofs.SameRows.{front, rest, scale_of, AtScale, at_scale, stored_scale, eq_equal, one_value}
@@ -68,13 +69,13 @@ history_scaled : (kind : TableKind) (name : List ℕ) → AtScale name_type (his
 history_scaled AppendOnly name = (tt, tt)
 history_scaled Updatable name = (tt, tt)
 
-pub table_scaled : (def : TableDef) → Scaled tables_columns (table_row def)
-unfolding table_row scale_of
+pub table_scaled : (def : TableDef) → Scaled tables_columns (latest_table_row def)
+unfolding latest_table_row scale_of
 table_scaled def = ((refl, omega arith), ((refl, omega arith), ((tt, tt), ((refl, omega arith), (history_scaled def.kind def.history, ((tt, tt), tt))))))
 
-column_scaled : (id : ℕ) (c : ℕ × ColumnDef) → Scaled columns_columns (column_row id c)
+column_scaled : (def : TableDef) (c : ℕ × ColumnDef) → Scaled columns_columns (latest_column_row def c)
 unfolding scale_of
-column_scaled id c = ((refl, omega arith), ((refl, omega arith), ((refl, omega arith), ((tt, tt), ((refl, omega arith), ((refl, omega arith), ((refl, omega arith), ((refl, omega arith), ((refl, omega arith), tt)))))))))
+column_scaled def c = ((refl, omega arith), ((refl, omega arith), ((refl, omega arith), ((tt, tt), ((refl, omega arith), ((refl, omega arith), ((refl, omega arith), ((refl, omega arith), ((refl, omega arith), tt)))))))))
 
 part_scaled : (id g : ℕ) (name : List ℕ) (part : ℕ × ℕ) → Scaled columns_columns (index_row id g name part)
 unfolding scale_of
@@ -89,9 +90,30 @@ unfolding index_rows
 indexes_scaled id g [] = tt
 indexes_scaled id g (i ∷ is) = all_append (Scaled columns_columns) (index_rows id g i) (rows_of_indexes id (g + 1) is) (each_scaled (index_row id g i.name) (part_scaled id g i.name) (numbered 1 i.ordinals)) (indexes_scaled id (g + 1) is)
 
-pub items_scaled : (def : TableDef) → AllByRecursion (Scaled columns_columns) (item_rows def)
-unfolding item_rows column_rows
-items_scaled def = all_append (Scaled columns_columns) (column_rows def) (rows_of_indexes def.id 1 def.indexes) (each_scaled (column_row def.id) (column_scaled def.id) (numbered 1 def.columns)) (indexes_scaled def.id 1 def.indexes)
+pub items_scaled : (def : TableDef) → AllByRecursion (Scaled columns_columns) (latest_item_rows def)
+unfolding latest_item_rows
+items_scaled def = all_append (Scaled columns_columns) (map (latest_column_row def) (numbered 1 def.columns)) (rows_of_indexes def.id 1 def.indexes) (each_scaled (latest_column_row def) (column_scaled def) (numbered 1 def.columns)) (indexes_scaled def.id 1 def.indexes)
+
+-- ---- and whatever their change is, rows that are stored
+
+table_said : (row : Row) → Scaled tables_columns row → Scaled tables_columns (without_change 0 row)
+unfolding scale_of
+table_said [] h = absurd h
+table_said (a ∷ []) h = absurd h.1
+table_said (a ∷ b ∷ more) h = (h.0, ((refl, omega arith), h.1.1))
+
+item_said : (row : Row) → Scaled columns_columns row → Scaled columns_columns (without_change 1 row)
+unfolding scale_of
+item_said [] h = absurd h
+item_said (a ∷ []) h = absurd h.1
+item_said (a ∷ b ∷ []) h = absurd h.1.1
+item_said (a ∷ b ∷ c ∷ more) h = (h.0, (h.1.0, ((refl, omega arith), h.1.1.1)))
+
+pub tables_said : (rows : List Row) → AllByRecursion (Scaled tables_columns) rows → AllByRecursion (Scaled tables_columns) (latest_said 0 rows)
+tables_said rows h = all_map (Scaled tables_columns) (Scaled tables_columns) (without_change 0) table_said (latest 0 rows) (all_filter (Scaled tables_columns) (is_latest 0 rows) rows h)
+
+pub items_said : (rows : List Row) → AllByRecursion (Scaled columns_columns) rows → AllByRecursion (Scaled columns_columns) (latest_said 1 rows)
+items_said rows h = all_map (Scaled columns_columns) (Scaled columns_columns) (without_change 1) item_said (latest 1 rows) (all_filter (Scaled columns_columns) (is_latest 1 rows) rows h)
 
 -- ---- their items rise
 
@@ -107,10 +129,10 @@ from_less : (n m : ℕ) (rs : List Row) → m ≤ n → RiseFrom n rs → RiseFr
 from_less n m [] le h = tt
 from_less n m (r ∷ rs) le h = let more : n ≤ item_of r = h.0 in (omega (arith, le, more), h.1)
 
-columns_rise : (id k : ℕ) (cs : List ColumnDef) (rs : List Row) → RiseFrom (k + length cs) rs → RiseFrom k (map (column_row id) (numbered k cs) ++ rs)
-columns_rise id k [] rs h = from_less (k + 0) k rs (omega arith) h
-columns_rise id k (c ∷ cs) rs h =
-    (omega arith, from_less (k + 1) (suc k) (map (column_row id) (numbered (k + 1) cs) ++ rs) (omega arith) (columns_rise id (k + 1) cs rs (from_less (k + length (c ∷ cs)) ((k + 1) + length cs) rs (omega arith) h)))
+columns_rise : (def : TableDef) (k : ℕ) (cs : List ColumnDef) (rs : List Row) → RiseFrom (k + length cs) rs → RiseFrom k (map (latest_column_row def) (numbered k cs) ++ rs)
+columns_rise def k [] rs h = from_less (k + 0) k rs (omega arith) h
+columns_rise def k (c ∷ cs) rs h =
+    (omega arith, from_less (k + 1) (suc k) (map (latest_column_row def) (numbered (k + 1) cs) ++ rs) (omega arith) (columns_rise def (k + 1) cs rs (from_less (k + length (c ∷ cs)) ((k + 1) + length cs) rs (omega arith) h)))
 
 parts_rise : (id g : ℕ) (name : List ℕ) (k : ℕ) (os : List ℕ) (rs : List Row) → RiseFrom (1000 * g + (k + length os)) rs → RiseFrom (1000 * g + k) (map (index_row id g name) (numbered k os) ++ rs)
 parts_rise id g name k [] rs h = from_less (1000 * g + (k + 0)) (1000 * g + k) rs (omega arith) h
@@ -128,10 +150,10 @@ indexes_rise id g (i ∷ is) few =
     parts_rise id g i.name 1 i.ordinals (rows_of_indexes id (g + 1) is)
     (from_less (1000 * (g + 1) + 1) (1000 * g + (1 + length i.ordinals)) (rows_of_indexes id (g + 1) is) (omega (arith, least)) (indexes_rise id (g + 1) is few.1))
 
-items_rise : (def : TableDef) → length def.columns ≤ 64 → AllByRecursion (λ (i : IndexDef). length i.ordinals ≤ 4) def.indexes → RiseFrom 1 (item_rows def)
-unfolding item_rows column_rows
+items_rise : (def : TableDef) → length def.columns ≤ 64 → AllByRecursion (λ (i : IndexDef). length i.ordinals ≤ 4) def.indexes → RiseFrom 1 (latest_item_rows def)
+unfolding latest_item_rows
 items_rise def few parts =
-    columns_rise def.id 1 def.columns (rows_of_indexes def.id 1 def.indexes)
+    columns_rise def 1 def.columns (rows_of_indexes def.id 1 def.indexes)
     (from_less (1000 * 1 + 1) (1 + length def.columns) (rows_of_indexes def.id 1 def.indexes) (omega (arith, few)) (indexes_rise def.id 1 def.indexes parts))
 
 -- ---- so they differ
@@ -154,8 +176,8 @@ all_apart : (cs : List ColumnDef) (n : ℕ) (vs : List Row) → AllByRecursion (
 all_apart cs n [] all h = tt
 all_apart cs n (v ∷ vs) all h = (apart cs v (suc (item_of v)) vs all.0 all.1 (omega arith) h.1, all_apart cs (suc (item_of v)) vs all.1 h.1)
 
-pub items_differ : (def : TableDef) → length def.columns ≤ 64 → AllByRecursion (λ (i : IndexDef). length i.ordinals ≤ 4) def.indexes → Differ (item_rows def)
-items_differ def few parts = all_apart columns_columns 1 (item_rows def) (items_scaled def) (items_rise def few parts)
+pub items_differ : (def : TableDef) → length def.columns ≤ 64 → AllByRecursion (λ (i : IndexDef). length i.ordinals ≤ 4) def.indexes → Differ (latest_item_rows def)
+items_differ def few parts = all_apart columns_columns 1 (latest_item_rows def) (items_scaled def) (items_rise def few parts)
 
 -- ---- as many rows, and each of those that are wanted
 

@@ -19,11 +19,11 @@ use Rattle.spec_model.specs.Create.{table_def, create_check, index_check}
 use Rattle.spec_model.specs.Effect.{effect}
 use Rattle.spec_model.specs.Events.{events_of, all_events}
 use Rattle.spec_model.specs.Journals.{serial_from}
-use Rattle.spec_model.specs.Keys.{key_places, key_of, key_cmp, same_key, has_live_row, live_by_key}
+use Rattle.spec_model.specs.Keys.{key_places, key_cmp, same_key, live_by_key_at, has_live_row_at, key_at}
 use Rattle.spec_model.specs.Rows.{started, ended}
 use Rattle.spec_model.specs.Script.{saves, rolls_back_to, text_step, script_from}
 use Rattle.spec_model.specs.SystemTables.{first_tables, table_row, column_rows, index_rows}
-use Rattle.law_catalog_rows.specs.Encoded.{item_rows}
+use Rattle.law_catalog_rows.specs.Encoded.{item_rows, latest_table_row, latest_item_rows}
 use Rattle.law_catalog_rows.specs.Differs.{encoding_fault}
 use Rattle.spec_ledger.specs.Entries.{roots_of}
 use Rattle.spec_ledger.specs.Blocks.{no_hash, block_of}
@@ -50,7 +50,7 @@ use Rattle.spec_verify.specs.Covered.{CoveredEntry, covered_of}
 use Rattle.spec_verify.specs.Samples.{summed, honest, digest_of, statements, items, with_rows_of, with_blocks, two_blocks, one_pending, ids_fall, older_block, index_left, key_twice, ended_early, misnamed, id_again, of_nobody, misnumbered, of_another, root_more, rootless, with_values, typed_as, appended_and_ended, two_rows, index_t, start_t}
 
 pub honest_image : image_of summed (read_in statements) (codes "d") items ≡ honest
-unfolding image_of serial_from ledger_from script_from text_step saves rolls_back_to effect create_check index_check table_def row_statement_check insert_check values_check listed_check row_changes inserted_rows is_duplicate arranged kept kept_row changed_all find_part chars key_places key_of key_cmp same_key has_live_row live_by_key started ended first_tables table_row column_rows index_rows value_cmp raised is_in_range is_stored utf16_units conversion_of digits events_of all_events roots_of block_of event_bytes entry_bytes record_bytes table_rows rows.index_rows index_ordinals stored_cmp u16_field u32_field u64_field signed_field i128_field
+unfolding image_of serial_from ledger_from script_from text_step saves rolls_back_to effect create_check index_check table_def row_statement_check insert_check values_check listed_check row_changes inserted_rows is_duplicate arranged kept kept_row changed_all find_part chars key_places key_at key_cmp same_key has_live_row_at live_by_key_at started ended first_tables table_row column_rows index_rows value_cmp raised is_in_range is_stored utf16_units conversion_of digits events_of all_events roots_of block_of event_bytes entry_bytes record_bytes table_rows rows.index_rows index_ordinals stored_cmp u16_field u32_field u64_field signed_field i128_field
 honest_image = refl
 
 pub holds :
@@ -58,7 +58,7 @@ pub holds :
     × (image_verdict summed two_blocks (digest_of two_blocks ∷ []) ≡ Yes)
     × (image_verdict summed one_pending (digest_of one_pending ∷ []) ≡ Yes)
     × (image_verdict summed ids_fall (digest_of ids_fall ∷ []) ≡ Yes)
-unfolding image_verdict digest_fault chain_fault block_fault id_fault root_fault version_fault definition_fault index_fault roots_of block_of events_of all_events event_bytes entry_bytes record_bytes key_places key_of key_cmp same_key value_cmp raised is_in_range is_stored utf16_units chars table_row column_rows index_rows item_rows encoding_fault rows.index_rows index_ordinals stored_cmp u16_field u32_field u64_field signed_field i128_field
+unfolding image_verdict digest_fault chain_fault block_fault id_fault root_fault version_fault definition_fault index_fault roots_of block_of events_of all_events event_bytes entry_bytes record_bytes key_places key_at key_cmp same_key value_cmp raised is_in_range is_stored utf16_units chars table_row column_rows index_rows item_rows latest_table_row latest_item_rows encoding_fault rows.index_rows index_ordinals stored_cmp u16_field u32_field u64_field signed_field i128_field
 holds = (refl, refl, refl, refl)
 
 pub damage :
@@ -74,14 +74,14 @@ pub damage :
     × (image_verdict summed (with_blocks (block_of summed 0 [] no_hash ∷ [])) [] ≡ No V3 (at.Block 0))
     × (image_verdict summed older_block (digest_of older_block ∷ []) ≡ No V3 (at.Block 0))
     × (image_verdict summed honest (digest_of honest ∷ digest_of index_left ∷ []) ≡ No V1 (at.Digest 1))
-unfolding image_verdict digest_fault chain_fault block_fault id_fault root_fault version_fault definition_fault index_fault roots_of block_of events_of all_events event_bytes entry_bytes record_bytes key_places key_of key_cmp same_key value_cmp raised is_in_range is_stored utf16_units chars table_row column_rows index_rows item_rows encoding_fault rows.index_rows index_ordinals stored_cmp u16_field u32_field u64_field signed_field i128_field
+unfolding image_verdict digest_fault chain_fault block_fault id_fault root_fault version_fault definition_fault index_fault roots_of block_of events_of all_events event_bytes entry_bytes record_bytes key_places key_at key_cmp same_key value_cmp raised is_in_range is_stored utf16_units chars table_row column_rows index_rows item_rows latest_table_row latest_item_rows encoding_fault rows.index_rows index_ordinals stored_cmp u16_field u32_field u64_field signed_field i128_field
 damage = (refl, refl, refl, refl, refl, refl, refl, refl, refl, refl, refl, refl)
 
 pub others :
     (image_verdict summed honest (of_another (digest_of honest) ∷ []) ≡ No V1 (at.Digest 0))
     × (let image = root_more ((9, no_hash) ∷ []) in image_verdict summed image (digest_of image ∷ []) ≡ No V5 (at.Root 3 9))
     × (image_verdict summed rootless (digest_of rootless ∷ []) ≡ No V5 (at.Root 1 2))
-unfolding image_verdict digest_fault chain_fault block_fault id_fault root_fault version_fault definition_fault index_fault roots_of block_of events_of all_events event_bytes entry_bytes record_bytes key_places key_of key_cmp same_key value_cmp raised is_in_range is_stored utf16_units chars table_row column_rows index_rows item_rows encoding_fault rows.index_rows index_ordinals stored_cmp u16_field u32_field u64_field signed_field i128_field
+unfolding image_verdict digest_fault chain_fault block_fault id_fault root_fault version_fault definition_fault index_fault roots_of block_of events_of all_events event_bytes entry_bytes record_bytes key_places key_at key_cmp same_key value_cmp raised is_in_range is_stored utf16_units chars table_row column_rows index_rows item_rows latest_table_row latest_item_rows encoding_fault rows.index_rows index_ordinals stored_cmp u16_field u32_field u64_field signed_field i128_field
 others = (refl, refl, refl)
 
 pub rules :
@@ -92,7 +92,7 @@ pub rules :
     × (let image = two_rows (index_t 2 10 ∷ []) in image_verdict summed image (digest_of image ∷ []) ≡ No V8 (at.Index 3 1))
     × (let image = two_rows (index_t 1 20 ∷ index_t 2 10 ∷ []) in image_verdict summed image (digest_of image ∷ []) ≡ No V8 (at.Index 3 1))
     × (let image = two_rows (index_t 2 10 ∷ index_t 1 20 ∷ []) in image_verdict summed image (digest_of image ∷ []) ≡ Yes)
-unfolding image_verdict digest_fault chain_fault block_fault id_fault root_fault version_fault definition_fault index_fault roots_of block_of events_of all_events event_bytes entry_bytes record_bytes key_places key_of key_cmp same_key value_cmp raised is_in_range is_stored utf16_units chars table_row column_rows index_rows item_rows encoding_fault rows.index_rows index_ordinals stored_cmp u16_field u32_field u64_field signed_field i128_field
+unfolding image_verdict digest_fault chain_fault block_fault id_fault root_fault version_fault definition_fault index_fault roots_of block_of events_of all_events event_bytes entry_bytes record_bytes key_places key_at key_cmp same_key value_cmp raised is_in_range is_stored utf16_units chars table_row column_rows index_rows item_rows latest_table_row latest_item_rows encoding_fault rows.index_rows index_ordinals stored_cmp u16_field u32_field u64_field signed_field i128_field
 rules = (refl, refl, refl, refl, refl, refl, refl)
 
 pub covered :
@@ -100,7 +100,7 @@ pub covered :
     × (map (λ e. e.tables) (covered_of two_blocks 1) ≡ map (λ e. e.tables) (covered_of two_blocks 0) ++ ((3, start_t 1 10 ∷ []) ∷ []) ∷ [])
     × (map {B = ℕ × ℕ × ℕ} (λ e. (e.block, e.ordinal, e.id)) (covered_of two_blocks 0) ≡ (0, 0, 1) ∷ (0, 1, 2) ∷ [])
     × (covered_of (with_rows_of two_blocks index_left) 0 ≡ covered_of two_blocks 0)
-unfolding covered_of digest_fault chain_fault block_fault id_fault root_fault version_fault definition_fault index_fault roots_of block_of events_of all_events event_bytes entry_bytes record_bytes key_places key_of key_cmp same_key value_cmp raised is_in_range is_stored utf16_units chars table_row column_rows index_rows item_rows encoding_fault rows.index_rows index_ordinals stored_cmp u16_field u32_field u64_field signed_field i128_field
+unfolding covered_of digest_fault chain_fault block_fault id_fault root_fault version_fault definition_fault index_fault roots_of block_of events_of all_events event_bytes entry_bytes record_bytes key_places key_at key_cmp same_key value_cmp raised is_in_range is_stored utf16_units chars table_row column_rows index_rows item_rows latest_table_row latest_item_rows encoding_fault rows.index_rows index_ordinals stored_cmp u16_field u32_field u64_field signed_field i128_field
 covered = (refl, refl, refl, refl)
 
 abbrev tables_of_third : List CoveredEntry → List Event
@@ -120,11 +120,11 @@ value_of (e ∷ more) = second_number e.columns
 value_of [] = 0
 
 value_left : value_of (tables_of_third (covered_of (with_rows_of honest index_left) 0)) ≡ 11
-unfolding covered_of digest_fault chain_fault block_fault id_fault root_fault version_fault definition_fault index_fault roots_of block_of events_of all_events event_bytes entry_bytes record_bytes key_places key_of key_cmp same_key value_cmp raised is_in_range is_stored utf16_units chars table_row column_rows index_rows item_rows encoding_fault rows.index_rows index_ordinals stored_cmp u16_field u32_field u64_field signed_field i128_field
+unfolding covered_of digest_fault chain_fault block_fault id_fault root_fault version_fault definition_fault index_fault roots_of block_of events_of all_events event_bytes entry_bytes record_bytes key_places key_at key_cmp same_key value_cmp raised is_in_range is_stored utf16_units chars table_row column_rows index_rows item_rows latest_table_row latest_item_rows encoding_fault rows.index_rows index_ordinals stored_cmp u16_field u32_field u64_field signed_field i128_field
 value_left = refl
 
 value_honest : value_of (tables_of_third (covered_of honest 0)) ≡ 10
-unfolding covered_of digest_fault chain_fault block_fault id_fault root_fault version_fault definition_fault index_fault roots_of block_of events_of all_events event_bytes entry_bytes record_bytes key_places key_of key_cmp same_key value_cmp raised is_in_range is_stored utf16_units chars table_row column_rows index_rows item_rows encoding_fault rows.index_rows index_ordinals stored_cmp u16_field u32_field u64_field signed_field i128_field
+unfolding covered_of digest_fault chain_fault block_fault id_fault root_fault version_fault definition_fault index_fault roots_of block_of events_of all_events event_bytes entry_bytes record_bytes key_places key_at key_cmp same_key value_cmp raised is_in_range is_stored utf16_units chars table_row column_rows index_rows item_rows latest_table_row latest_item_rows encoding_fault rows.index_rows index_ordinals stored_cmp u16_field u32_field u64_field signed_field i128_field
 value_honest = refl
 
 pub changed : covered_of (with_rows_of honest index_left) 0 ≢ covered_of honest 0

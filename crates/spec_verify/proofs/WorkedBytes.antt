@@ -1,5 +1,5 @@
 -- A small image has a spelling.
-use Rattle.std.proofs.Common.{◌≡◌, ◌∙◌, ℕ, refl, arith, true, List, [], ◌∷◌, codes, None}
+use Rattle.std.proofs.Common.{◌≡◌, ◌∙◌, ℕ, refl, arith, true, List, [], ◌∷◌, codes, None, inr}
 use Rattle.std.proofs.lemmas.Bool.Decides.{nat_tests}
 use Rattle.std.proofs.lemmas.Str.{IsUtf8-from_ascii, is_utf8-from_IsUtf8}
 use Rattle.std.proofs.lemmas.Str.Ascii.{IsAscii-nil, IsAscii-cons}
@@ -19,7 +19,7 @@ use Rattle.spec_model.specs.SystemTables.{name_type, tables_def, columns_def, ta
 use Rattle.spec_ledger.specs.Blocks.{block_of}
 use Rattle.spec_ledger.specs.Entries.{roots_of}
 use Rattle.format_image.specs.DefBytes.{IsDef}
-use Rattle.format_image.specs.ImageBytes.{image_bytes, IsPlaceless, IsImage}
+use Rattle.format_image.specs.ImageBytes.{image_bytes, image_bytes_1, IsPlaceless, IsImage, NothingGone}
 use Rattle.format_image.specs.RowBytes.{IsTable}
 use Rattle.spec_verify.specs.Bytes.{verdict_of}
 use Rattle.spec_verify.specs.declared.place.Verdict.TheVariants.{Yes}
@@ -29,7 +29,7 @@ use Rattle.sql_value.specs.declared.sql_type.SqlType.TheVariants.{Int, Bit}
 use Rattle.sql_value.specs.declared.value.Value.TheVariants.{Text}
 use Rattle.test_samples.specs.Samples.{num, version}
 use Rattle.spec_verify.proofs.SameRows.{front, rest}
-use Rattle.spec_verify.proofs.Judged.{of_image}
+use Rattle.spec_verify.proofs.Judged.{of_spelling, of_image}
 use Rattle.spec_verify.proofs.Worked.{holds}
 
 def_is : IsDef def_iv
@@ -42,6 +42,7 @@ def_is =
       view = refl;
       column_count = omega arith;
       columns = (record { name = refl; ty = refl; key_position = omega arith }, (record { name = refl; ty = refl; key_position = omega arith }, tt));
+      dropped = refl;
       index_count = omega arith;
       indexes = (record { name = refl; count = omega arith; ordinals = (omega arith, tt) }, tt);
     }
@@ -146,5 +147,12 @@ honest_is =
       tables = (tables_are, (columns_are, (rows_are, tt)));
     }
 
+pub nothing_gone : NothingGone honest
+unfolding table_def
+nothing_gone = (record { gone = refl; dropped = refl }, tt)
+
 pub holds_in_bytes : verdict_of summed (digest_of honest ∷ []) (image_bytes honest) ≡ Yes
 holds_in_bytes = of_image summed (digest_of honest ∷ []) honest honest_is ∙ holds.0
+
+pub holds_in_bytes_1 : verdict_of summed (digest_of honest ∷ []) (image_bytes_1 honest) ≡ Yes
+holds_in_bytes_1 = of_spelling summed (digest_of honest ∷ []) (image_bytes_1 honest) honest honest_is (inr (nothing_gone, refl)) ∙ holds.0

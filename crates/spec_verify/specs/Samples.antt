@@ -54,9 +54,11 @@ named_u def =
       id = def.id;
       name = codes "u";
       kind = def.kind;
+      gone = def.gone;
       history = def.history;
       view = def.view;
       columns = def.columns;
+      dropped = def.dropped;
       indexes = def.indexes;
     }
 
@@ -255,9 +257,11 @@ appended_and_ended =
       id = def_iv.id;
       name = def_iv.name;
       kind = AppendOnly;
+      gone = false;
       history = [];
       view = def_iv.view;
       columns = def_iv.columns;
+      dropped = [];
       indexes = def_iv.indexes;
     })
     (rows_t [] (version 1 10 (3, 0) (Some (4, 0)) ∷ []) [])

@@ -1,8 +1,10 @@
 //! Laws of the verdict.
 
-ghost use Rattle.std.specs.Prelude.{ℕ, ◌≡◌, ◌≢◌, ◌↔◌, ◌+◌, ◌<◌, ◌≤◌, List, length, Some, None};
+ghost use Rattle.std.specs.Prelude.{ℕ, ◌≡◌, ◌↔◌, ◌+◌, ◌<◌, ◌≤◌, List, length, Some, None};
 ghost use Rattle.base_fields.specs.Exact.{IsBytes};
-ghost use Rattle.format_image.specs.ImageBytes.{image_bytes, IsImage};
+ghost use Rattle.base_fields.specs.Readers.{whole};
+ghost use Rattle.format_image.specs.ImageBytes.{IsImage, IsSpellingOf};
+ghost use Rattle.format_image.specs.ImageReading.{image_at};
 ghost use Rattle.sql_types.specs.declared.digest.HeldDigest.{HeldDigest};
 ghost use Rattle.sql_types.specs.declared.entry.BlockRecord.{BlockRecord};
 ghost use Rattle.sql_types.specs.declared.entry.TxEntry.{TxEntry};
@@ -61,11 +63,20 @@ pub fn yes_is_said_of_what_holds()
 
 /// The verdict on bytes is that on the image that they are, and `No V0` where they are none.
 pub fn bytes_are_judged_by_their_image()
-    ensures image { (h : List ℕ → List ℕ) (digests : List HeldDigest) (i : Image)
-        → IsImage i → verdict_of h digests (image_bytes i) ≡ image_verdict h i digests }
+    ensures image { (h : List ℕ → List ℕ) (digests : List HeldDigest) (bytes : List ℕ) (i : Image)
+        → IsImage i → IsSpellingOf bytes i → verdict_of h digests bytes ≡ image_verdict h i digests }
     ensures none { (h : List ℕ → List ℕ) (digests : List HeldDigest) (bytes : List ℕ)
-        → IsBytes bytes → ((i : Image) → IsImage i → bytes ≢ image_bytes i)
+        → IsBytes bytes → ((i : Image) → IsImage i → IsSpellingOf bytes i → ⊥)
         → verdict_of h digests bytes ≡ No V0 Whole }
+{}
+
+/// Two byte strings that are read to one image have one verdict with every list of digests: so have its bytes
+/// in version 1 and those in version 2.
+pub fn spellings_of_one_image_have_one_verdict()
+    ensures read { (h : List ℕ → List ℕ) (digests : List HeldDigest) (a b : List ℕ)
+        → whole image_at a ≡ whole image_at b → verdict_of h digests a ≡ verdict_of h digests b }
+    ensures spelled { (h : List ℕ → List ℕ) (digests : List HeldDigest) (a b : List ℕ) (i : Image)
+        → IsImage i → IsSpellingOf a i → IsSpellingOf b i → verdict_of h digests a ≡ verdict_of h digests b }
 {}
 
 /// What a digest covers is the same of two images exactly where the entries of its block and of those before

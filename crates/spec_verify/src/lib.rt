@@ -10,8 +10,8 @@ mod sentences;
 pub use groups::{firsts_of_groups_merge, leasts_of_groups_merge};
 pub use laws::{
     bytes_are_judged_by_their_image, entries_and_their_events_are_covered,
-    only_blocks_up_to_its_own_are_covered, the_first_invariant_that_fails_is_named,
-    yes_is_said_of_what_holds,
+    only_blocks_up_to_its_own_are_covered, spellings_of_one_image_have_one_verdict,
+    the_first_invariant_that_fails_is_named, yes_is_said_of_what_holds,
 };
 pub use place::{Invariant, Place, Verdict};
 pub use samples::{

@@ -3,7 +3,7 @@
 ghost use Rattle.std.specs.Prelude.{ℕ, ◌≡◌, ◌≢◌, ◌∷◌, ◌++◌, [], pos, codes, map, None};
 ghost use Rattle.sql_value.specs.declared.sql_type.SqlType.TheVariants.{BigInt, Int};
 ghost use Rattle.format_image.specs.Image.{image_of};
-ghost use Rattle.format_image.specs.ImageBytes.{image_bytes, IsImage};
+ghost use Rattle.format_image.specs.ImageBytes.{image_bytes, image_bytes_1, IsImage1};
 ghost use Rattle.test_samples.specs.Samples.{read_in, typed};
 ghost use Rattle.spec_verify.specs.declared.place.Invariant.TheVariants.{V1, V2, V3, V4, V5, V6, V7, V8};
 ghost use Rattle.spec_verify.specs.declared.place.Place.TheVariants as at;
@@ -28,10 +28,12 @@ pub fn an_honest_image_holds()
     ensures falling { image_verdict summed ids_fall (digest_of ids_fall ∷ []) ≡ Yes }
 {}
 
-/// That image has a spelling, and the verdict on its bytes with the digest of its block is Yes.
+/// That image has a spelling, and the verdict on its bytes with the digest of its block is Yes, in version 2
+/// and in version 1.
 pub fn an_honest_image_holds_in_bytes()
-    ensures spelled { IsImage honest }
+    ensures spelled { IsImage1 honest }
     ensures verdict { verdict_of summed (digest_of honest ∷ []) (image_bytes honest) ≡ Yes }
+    ensures first { verdict_of summed (digest_of honest ∷ []) (image_bytes_1 honest) ≡ Yes }
 {}
 
 /// A value that was changed shows in the roots, and where these are made anew in the index that was left.

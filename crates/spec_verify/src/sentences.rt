@@ -87,8 +87,9 @@ pub fn the_least_wrong_definition_is_named()
 {}
 
 /// Of an image whose definitions rise by id, and of which no version is at fault, no definition is named
-/// exactly where the base rows of the system's two tables spell the definitions: they are the rows of these
-/// and no others, in any order, each definition keeps to the rules, and no name of a table is taken.
+/// exactly where the base rows of the system's two tables spell the definitions: those that count are the rows
+/// of these and no others, in any order, all changes and each definition keep to the rules, and no name of a
+/// table is taken.
 pub fn definitions_hold_where_rows_encode_them()
     ensures { (i : Image) → ids_rise 2 i.defs ≡ true → version_fault i ≡ None
         → (definition_fault i ≡ None) ↔ RowsEncode (base_rows i.tables 0) (base_rows i.tables 1) i.defs }

@@ -1,5 +1,5 @@
 -- Versions stay by rising start, change after change.
-use Rattle.std.proofs.Common.{◌≡◌, ◌+◌, ℕ, refl, sym, ap, subst, ◌∙◌, List, [], ◌∷◌, length, arith}
+use Rattle.std.proofs.Common.{◌≡◌, ◌+◌, ℕ, refl, sym, ap, subst, ◌∙◌, List, [], ◌∷◌, length, false, arith}
 use Rattle.std.specs.List.{AllByRecursion}
 use Rattle.sql_value.specs.declared.column.TableKind.TheVariants.{AppendOnly}
 use Rattle.sql_types.specs.declared.change.Change.{Change}
@@ -16,7 +16,7 @@ pub record AreBefore (tx seq : ℕ) (vs : List Version) : Type 0 where
 
 -- a table that has them
 abbrev with_them : List Version → Table
-with_them vs = record { def = record { id = 1; name = []; kind = AppendOnly; history = []; view = []; columns = []; indexes = [] }; versions = vs }
+with_them vs = record { def = record { id = 1; name = []; kind = AppendOnly; gone = false; history = []; view = []; columns = []; dropped = []; indexes = [] }; versions = vs }
 
 changed_are_before : (tx seq : ℕ) (c : Change) (vs : List Version) → AreBefore tx seq vs → AreBefore tx (seq + 1) (changed (tx, seq) c vs)
 changed_are_before tx seq c vs h =

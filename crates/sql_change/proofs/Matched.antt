@@ -11,8 +11,8 @@ use Rattle.spec_model.specs.Lists.{checked_filter}
 use Rattle.spec_model.specs.Parts.{base_row, columns_of}
 use Rattle.spec_model.specs.Where.{holds, key_fixed}
 
-pub matched_is : (def : TableDef) (cond : Option Expr) (versions : List Version) (columns : List ColumnDef) (found : List Version)
-    → columns ≡ columns_of def Base → found ≡ live_by_key def.columns (key_fixed def.columns cond) versions
-    → checked_filter (λ v. holds columns cond (base_row v)) found ≡ versions_matched def.columns cond versions
+pub matched_is : (def : TableDef) (cond : Option Expr) (versions : List Version) (declared columns : List ColumnDef) (found : List Version)
+    → declared ≡ def.columns → columns ≡ columns_of def Base → found ≡ live_by_key def.columns (key_fixed def.columns cond) versions
+    → checked_filter (λ v. holds columns cond (base_row declared v)) found ≡ versions_matched def.columns cond versions
 unfolding versions_matched
-matched_is def cond versions columns found is same = λ i. checked_filter (λ v. holds (is i) cond (base_row v)) (same i)
+matched_is def cond versions declared columns found of is same = λ i. checked_filter (λ v. holds (is i) cond (base_row (of i) v)) (same i)

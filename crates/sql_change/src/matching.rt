@@ -10,7 +10,7 @@ ghost use Rattle.spec_model.specs.Where as conditions;
 use sql_expr::{RowRef, holds};
 use sql_parts::{Columns, KeyedTable, LiveVersions, key_fixed};
 use sql_types::{Part, Version};
-use sql_value::{Expr, Refusal};
+use sql_value::{ColumnDef, Expr, Refusal};
 use std::alloc::Global;
 
 /// The versions that stand and that the condition takes, in key order. None is copied.
@@ -32,6 +32,7 @@ pub fn versions_matched<'a, R: LiveVersions>(
     let live_by_key = versions.in_key_order(alloc, table, &key)?;
     matched(
         alloc,
+        table.columns(),
         &Columns::of(table.def(), Part::Base),
         cond,
         &live_by_key,
@@ -41,20 +42,21 @@ pub fn versions_matched<'a, R: LiveVersions>(
 #[tactic(auto, using(sql_parts::proofs::InTurn::filter_after_none))]
 fn matched<'a>(
     alloc: Global,
+    declared: &[ColumnDef],
     columns: &Columns,
     cond: &Option<Expr>,
     live_by_key: &[&'a Version],
 ) -> Result<Vec<&'a Version>, Refusal>
     ensures ok { IfOk result
-        (λ taken. checked_filter (λ v. conditions.holds columns.now cond.now (base_row v))
+        (λ taken. checked_filter (λ v. conditions.holds columns.now cond.now (base_row declared.now v))
         (map (λ v. v.now) live_by_key.now) ≡ Ok (map (λ v. v.now) taken.items)) }
     ensures err { IfErr result (λ e. e ≢ NoMemory →
-        checked_filter (λ v. conditions.holds columns.now cond.now (base_row v))
+        checked_filter (λ v. conditions.holds columns.now cond.now (base_row declared.now v))
         (map (λ v. v.now) live_by_key.now) ≡ Err e) }
 {
     let mut taken = Vec::new(alloc);
     for version in live_by_key {
-        if holds(columns, cond, &RowRef::of_version(*version))? {
+        if holds(columns, cond, &RowRef::of_version(declared, *version))? {
             taken.push(*version)?;
         }
     }

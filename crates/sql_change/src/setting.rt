@@ -5,7 +5,7 @@ ghost use Rattle.std.specs.List.{zip};
 ghost use Rattle.std.specs.Option.{option_copied};
 ghost use Rattle.spec_model.specs.Refusals.{MatchesUnlessOom, and_then};
 ghost use Rattle.spec_model.specs.Lists.{checked_map};
-ghost use Rattle.spec_model.specs.Rows.{value_or_null as spec_value_or_null, values_of};
+ghost use Rattle.spec_model.specs.Rows.{row_of as spec_row_of};
 ghost use Rattle.spec_model.specs.Parts.{base_row, start_columns};
 ghost use Rattle.spec_model.specs.Evaluation.{meaning_of};
 ghost use Rattle.spec_model.specs.Changes as spec;
@@ -13,8 +13,8 @@ ghost use Rattle.spec_model.specs.Changes as spec;
 use crate::keeping::kept;
 use base_types::{Items, Memory, Name};
 use sql_expr::{Outcome, RowRef, eval};
-use sql_parts::{Columns, stored_row, value_or_null};
-use sql_types::{Change, Part, Row, TableDef, TypedValue, Version};
+use sql_parts::{Columns, row_of, stored_row};
+use sql_types::{Change, Part, Row, TableDef, Version};
 use sql_value::{ColumnDef, Expr, Refusal, Value};
 use std::alloc::Global;
 
@@ -51,11 +51,12 @@ fn value_given(
     column: &ColumnDef,
     e: &Expr,
 ) -> Result<Value, Refusal>
-    ensures { MatchesUnlessOom (and_then (meaning_of (def.now.columns ++ start_columns) (base_row version.now) e.now)
+    ensures { MatchesUnlessOom (and_then (meaning_of (def.now.columns ++ start_columns) (base_row def.now.columns version.now) e.now)
         (λ o. and_then (spec.as_value o) (spec.kept column.now))) result }
 {
     let columns = Columns::of(def, Part::Base);
-    let value = as_value(eval(e, &columns, &RowRef::of_version(version))?)?;
+    let row = RowRef::of_version(def.columns.as_slice(), version);
+    let value = as_value(eval(e, &columns, &row)?)?;
     kept(column, value)
 }
 
@@ -64,15 +65,15 @@ fn value_set(
     def: &TableDef,
     version: &Version,
     column: &ColumnDef,
-    value: &Option<TypedValue>,
+    value: Value,
     e: Option<&Expr>,
 ) -> Result<Value, Refusal>
-    ensures { MatchesUnlessOom (spec.value_set def.now.columns (base_row version.now) column.now
-        (spec_value_or_null value.now) (option_copied e.entry)) result }
+    ensures { MatchesUnlessOom (spec.value_set def.now.columns (base_row def.now.columns version.now) column.now
+        value (option_copied e.entry)) result }
 {
     match e {
         Some(e) => value_given(def, version, column, e),
-        None => Ok(value_or_null(value)?),
+        None => Ok(value),
     }
 }
 
@@ -97,13 +98,15 @@ fn values_set(
     version: &Version,
 ) -> Result<Row, Refusal>
     ensures { MatchesUnlessOom
-        (checked_map (λ p. spec.value_set def.now.columns (base_row version.now) p.0 p.1
-        (spec.expr_set sets.now p.0.name)) (zip def.now.columns (values_of version.now))) result }
+        (checked_map (λ p. spec.value_set def.now.columns (base_row def.now.columns version.now) p.0 p.1
+        (spec.expr_set sets.now p.0.name)) (zip def.now.columns (spec_row_of def.now.columns version.now))) result }
 {
-    let mut values = Vec::with_capacity(alloc, version.values.len())?;
-    for (column, stored) in def.columns.as_slice().iter().zip(version.values.as_slice()) {
+    let columns = def.columns.as_slice();
+    let row = row_of(alloc, columns, version)?;
+    let mut values = Vec::with_capacity(alloc, columns.len())?;
+    for (column, value) in columns.iter().zip(row.into_vec()) {
         let e = expr_set(sets, &column.name);
-        values.push(value_set(def, version, column, stored, e)?)?;
+        values.push(value_set(def, version, column, value, e)?)?;
     }
     Ok(Items::from_vec(values))
 }

@@ -286,8 +286,8 @@ module _ (defs : Defs) (c : CreateTable) (count : ℕ) (h v : List ℕ) (counted
   refused_gives e r is_err is = gives_itself (create_check defs c) r (refused e is ∙ sym is_err)
 
   pub made : (u : Unit {0}) → new.new_check defs c h v ≡ Ok u
-      → create_check defs c ≡ Ok (record { id = count + 1; name = c.name; kind = c.kind; history = h; view = v; columns = map (keyed c.key) c.columns; indexes = [] })
+      → create_check defs c ≡ Ok (record { id = count + 1; name = c.name; kind = c.kind; gone = false; history = h; view = v; columns = map (keyed c.key) c.columns; dropped = []; indexes = [] })
   unfolding table_def
   made u is =
       by_check ∙ ap (λ r. and_then r (λ x. Ok (table_def (count + 1) c))) is
-      ∙ (λ i. Ok (record { id = count + 1; name = c.name; kind = c.kind; history = sym is_history i; view = sym is_view i; columns = map (keyed c.key) c.columns; indexes = [] }))
+      ∙ (λ i. Ok (record { id = count + 1; name = c.name; kind = c.kind; gone = false; history = sym is_history i; view = sym is_view i; columns = map (keyed c.key) c.columns; dropped = []; indexes = [] }))

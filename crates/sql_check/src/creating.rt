@@ -264,9 +264,11 @@ pub fn new_table<D: Definitions>(
         id,
         name: c.name.copy()?,
         kind: c.kind,
+        gone: false,
         history,
         view,
         columns: keyed(alloc, c.columns.as_slice(), c.key.as_slice())?,
+        dropped: Items::new(alloc),
         indexes: Items::new(alloc),
     })
 }

@@ -1,15 +1,15 @@
 //! Rows whose values stay where they lie.
 
-ghost use Rattle.std.specs.Prelude.{◌≡◌, ◌-◌, [], ◌∷◌, length, option_map, slice_get};
+ghost use Rattle.std.specs.Prelude.{◌≡◌, ◌-◌, [], ◌∷◌, None, length, option_map, slice_get};
 ghost use Rattle.std.specs.Option.{option_copied};
 ghost use Rattle.sql_types.specs.declared.outcome.Outcome.TheVariants as out;
 ghost use Rattle.spec_model.specs.Parts.{base_row};
-ghost use Rattle.spec_model.specs.Rows.{number, value_or_null};
+ghost use Rattle.spec_model.specs.Rows.{number, row_of, value_or_null};
 ghost use Rattle.sql_expr.specs.OutcomeRef.{outcome_of};
 
 use crate::seen::{OutcomeRef, value_ref};
 use sql_types::{EventId, TypedValue, Version};
-use sql_value::Value;
+use sql_value::{ColumnDef, Value};
 use std::marker::Model;
 
 /// A row in which expressions are evaluated, which contracts see as the list of its values. Nothing is
@@ -23,8 +23,8 @@ pub struct RowRef<'a> {
 #[derive(Debug, Drop)]
 enum RowSource<'a> {
     Values(&'a [Value]),
-    /// The row of the base part.
-    LiveRow(&'a Version),
+    /// The row of the base part, under these declared columns.
+    LiveRow(&'a [ColumnDef], &'a Version),
 }
 
 impl<'a> Model for RowRef<'a> {
@@ -47,12 +47,13 @@ impl<'a> RowRef<'a> {
         }
     }
 
-    /// The row of the base part that a version is: its values, and then its start.
-    pub fn of_version(version: &'a Version) -> RowRef<'a>
-        ensures { result ≡ base_row version.now }
+    /// The row of the base part that a version is under the declared columns: its values, NULL for each column
+    /// behind them, and then its start.
+    pub fn of_version(declared: &'a [ColumnDef], version: &'a Version) -> RowRef<'a>
+        ensures { result ≡ base_row declared.now version.now }
     {
         RowRef {
-            place: RowSource::LiveRow(version),
+            place: RowSource::LiveRow(declared, version),
         }
     }
 
@@ -62,7 +63,7 @@ impl<'a> RowRef<'a> {
     {
         match self.place {
             RowSource::Values(values) => seen_in(values, place),
-            RowSource::LiveRow(version) => seen_in_version(version, place),
+            RowSource::LiveRow(declared, version) => seen_in_version(declared, version, place),
         }
     }
 }
@@ -76,13 +77,35 @@ fn seen_in(values: &[Value], place: usize) -> Option<OutcomeRef<'_>>
     }
 }
 
-fn seen_in_version(version: &Version, place: usize) -> Option<OutcomeRef<'_>>
-    ensures { option_map outcome_of result ≡ option_map out.Value (slice_get (base_row version.now) place) }
+fn seen_in_version<'a>(
+    declared: &[ColumnDef],
+    version: &'a Version,
+    place: usize,
+) -> Option<OutcomeRef<'a>>
+    ensures { option_map outcome_of result
+        ≡ option_map out.Value (slice_get (base_row declared.now version.now) place) }
 {
     match stored_at(version, place) {
         Some(stored) => Some(seen_stored(stored)),
-        None => seen_start(version.start, behind_values(version, place)),
+        None => seen_behind(declared, version, place),
     }
+}
+
+/// The value at a place behind the stored ones: NULL for each column that has none, and then the start.
+#[tactic(auto, using(crate::proofs::Rows::null_in, crate::proofs::Rows::start_in))]
+fn seen_behind<'a>(
+    declared: &[ColumnDef],
+    version: &Version,
+    place: usize,
+) -> Option<OutcomeRef<'a>>
+    requires { slice_get version.now.values place ≡ None }
+    ensures { option_map outcome_of result
+        ≡ option_map out.Value (slice_get (base_row declared.now version.now) place) }
+{
+    if place < declared.len() {
+        return Some(OutcomeRef::Null);
+    }
+    seen_start(version.start, behind_values(declared, version, place))
 }
 
 fn stored_at(version: &Version, place: usize) -> Option<&Option<TypedValue>>
@@ -91,11 +114,12 @@ fn stored_at(version: &Version, place: usize) -> Option<&Option<TypedValue>>
     version.values.get(place)
 }
 
-/// How far a place lies behind the values.
-fn behind_values(version: &Version, place: usize) -> usize
-    ensures { result ≡ place - length version.now.values }
+/// How far a place lies behind the values of the row.
+#[tactic(auto, using(crate::proofs::Rows::width))]
+fn behind_values(declared: &[ColumnDef], version: &Version, place: usize) -> usize
+    ensures { result ≡ place - length (row_of declared.now version.now) }
 {
-    place.saturating_sub(version.values.len())
+    place.saturating_sub(version.values.len().max(declared.len()))
 }
 
 fn seen_stored(stored: &Option<TypedValue>) -> OutcomeRef<'_>

@@ -1,18 +1,14 @@
--- Keys by the places of their columns.
-use Rattle.std.specs.Prelude.{ℕ, List, map}
+-- Keys and places.
+use Rattle.std.specs.Prelude.{ℕ, List}
 use Rattle.std.specs.declared.cmp.Ordering.{Ordering}
 use Rattle.sql_value.specs.declared.column.ColumnDef.{ColumnDef}
 use Rattle.sql_types.specs.declared.version.Version.{Version}
 use Rattle.spec_model.specs.Rows.{Row}
-use Rattle.spec_model.specs.Keys.{Key, Placed, key_cmp, value_at, version_key}
+use Rattle.spec_model.specs.Keys.{Placed, key_cmp, version_key}
 use Rattle.spec_model.specs.Parts.{ViewRow}
 
 abbrev pub place_in : Placed → ℕ
 place_in p = p.0
-
--- the values of a row at these places
-unfoldable pub key_at : List ℕ → Row → Key
-key_at places row = map (value_at row) places
 
 -- versions by their keys
 abbrev pub by_key : List ColumnDef → Version → Version → Ordering

@@ -68,7 +68,7 @@ impl<'a> LiveVersions for &'a [Version] {
 }
 
 /// Whether a version of the row's key stands.
-#[tactic(auto, unfolding(spec_model::specs::Keys::has_live_row))]
+#[tactic(auto, unfolding(spec_model::specs::Keys::has_live_row_at))]
 fn has_live_row(table: &KeyedTable, versions: &[Version], row: &Row) -> bool
     ensures { result ≡ spec.has_live_row table.now.columns (spec.key_of table.now.columns row.now) versions.now }
 {

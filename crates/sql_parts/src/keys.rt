@@ -7,7 +7,8 @@ ghost use Rattle.sql_value.specs.declared.value.Value.TheVariants.{Null};
 ghost use Rattle.sql_value.specs.Order.{value_cmp};
 ghost use Rattle.spec_model.specs.Lists.{numbered};
 ghost use Rattle.spec_model.specs.Keys as spec;
-ghost use Rattle.sql_parts.specs.Places.{key_at, place_in};
+ghost use Rattle.spec_model.specs.Keys.{key_at};
+ghost use Rattle.sql_parts.specs.Places.{place_in};
 
 use crate::keyed::KeyedTable;
 use crate::order::sort_by_position;
@@ -87,7 +88,7 @@ fn columns_at<'a>(
 }
 
 /// The key of a row of the table, copied.
-#[tactic(auto, unfolding(spec_model::specs::Keys::key_of))]
+#[tactic(auto, unfolding(spec_model::specs::Keys::key_at))]
 pub fn key_of(alloc: Global, table: &KeyedTable, row: &Row) -> Result<Key, Memory>
     ensures { IfOk result (λ key. key ≡ spec.key_of table.now.columns row.now) }
 {
@@ -114,7 +115,6 @@ pub fn compare_values(a: Option<&Value>, b: Option<&Value>) -> Ordering
 }
 
 /// The order of the keys of two rows or versions of the table, which stay where they are.
-#[tactic(auto, unfolding(crate::specs::Places::key_at, spec_model::specs::Keys::key_of))]
 pub fn compare_by_key<A: Valued, B: Valued>(table: &KeyedTable, a: &A, b: &B) -> Ordering
     ensures { result ≡ spec.key_cmp (spec.key_of table.now.columns (A.values a.now))
         (spec.key_of table.now.columns (B.values b.now)) }
@@ -123,7 +123,7 @@ pub fn compare_by_key<A: Valued, B: Valued>(table: &KeyedTable, a: &A, b: &B) ->
 }
 
 /// The order of the values that two rows or versions have at these places, the first that differ.
-#[tactic(auto, unfolding(crate::specs::Places::key_at, spec_model::specs::Keys::key_cmp))]
+#[tactic(auto, unfolding(spec_model::specs::Keys::key_at, spec_model::specs::Keys::key_cmp))]
 pub fn compare_at<A: Valued, B: Valued>(places: &[usize], a: &A, b: &B) -> Ordering
     ensures { result ≡ spec.key_cmp (key_at places.now (A.values a.now))
         (key_at places.now (B.values b.now)) }
@@ -138,7 +138,7 @@ pub fn compare_at<A: Valued, B: Valued>(places: &[usize], a: &A, b: &B) -> Order
 }
 
 /// The order of the values of a row or a version at these places, and a key.
-#[tactic(auto, unfolding(crate::specs::Places::key_at, spec_model::specs::Keys::key_cmp))]
+#[tactic(auto, unfolding(spec_model::specs::Keys::key_at, spec_model::specs::Keys::key_cmp))]
 pub fn compare_to_key<A: Valued>(places: &[usize], a: &A, key: &[Value]) -> Ordering
     ensures { result ≡ spec.key_cmp (key_at places.now (A.values a.now)) key.now }
 {
@@ -170,7 +170,7 @@ pub fn same_key<A: Valued, B: Valued>(table: &KeyedTable, a: &A, b: &B) -> bool
 }
 
 /// Whether a row or a version of the table has this key.
-#[tactic(auto, unfolding(crate::specs::Places::key_at, spec_model::specs::Keys::key_of, spec_model::specs::Keys::same_key))]
+#[tactic(auto, unfolding(spec_model::specs::Keys::same_key))]
 pub fn has_key<A: Valued>(table: &KeyedTable, a: &A, key: &[Value]) -> bool
     ensures { result ≡ spec.same_key (spec.key_of table.now.columns (A.values a.now)) key.now }
 {

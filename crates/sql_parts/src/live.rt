@@ -13,7 +13,7 @@ use sql_value::Value;
 use std::alloc::Global;
 
 /// The versions without an end, in key order: those of one key, or all. Looks at each version once.
-#[tactic(auto, unfolding(spec_model::specs::Keys::live_by_key))]
+#[tactic(auto, unfolding(spec_model::specs::Keys::live_by_key_at))]
 pub fn live_by_key<'a>(
     alloc: Global,
     table: &KeyedTable,

@@ -2,7 +2,7 @@
 
 ghost use Rattle.std.specs.Prelude.{◌≡◌, ◌++◌, [], ◌∷◌, IfOk, OnOk, Some, map};
 ghost use Rattle.sql_value.specs.declared.value.Value.TheVariants.{Text as TextOf};
-ghost use Rattle.spec_model.specs.Rows.{values_of, number as number_of};
+ghost use Rattle.spec_model.specs.Rows.{row_of, number as number_of};
 ghost use Rattle.spec_model.specs.Parts as spec;
 ghost use Rattle.spec_model.specs.Keys as keys;
 ghost use Rattle.sql_parts.specs.Places.{row_in};
@@ -13,7 +13,7 @@ use crate::order::sort_by_event;
 use crate::values::{add_values, number};
 use base_types::{Items, Memory, Text};
 use sql_types::{EventId, Key, Part, Row, Version};
-use sql_value::Value;
+use sql_value::{ColumnDef, Value};
 use std::alloc::Global;
 
 /// The rows of a part of a table: the versions that stand by key, those that ended as they are listed, and
@@ -31,29 +31,34 @@ pub fn part_rows(
 {
     match part {
         Part::Base => live_rows_by_key(alloc, table, key, versions),
-        Part::History => history_rows(alloc, versions),
-        Part::View => view_rows(alloc, versions),
+        Part::History => history_rows(alloc, table.columns(), versions),
+        Part::View => view_rows(alloc, table.columns(), versions),
         Part::System => live_rows_by_key(alloc, table, &None, versions),
     }
 }
 
-/// The values of a version, with its start.
-pub fn base_row(alloc: Global, version: &Version) -> Result<Row, Memory>
-    ensures { IfOk result (λ row. row ≡ spec.base_row version.now) }
+/// The values of a version, one for each of the declared columns, with its start.
+pub fn base_row(alloc: Global, declared: &[ColumnDef], version: &Version) -> Result<Row, Memory>
+    ensures { IfOk result (λ row. row ≡ spec.base_row declared.now version.now) }
 {
     let mut row = Vec::new(alloc);
-    add_values(version, &mut row)?;
+    add_values(declared, version, &mut row)?;
     row.push(number(version.start.0))?;
     row.push(number(version.start.1))?;
     Ok(Items::from_vec(row))
 }
 
-/// The values of a version, with its start and this end.
-pub fn history_row(alloc: Global, version: &Version, end: EventId) -> Result<Row, Memory>
-    ensures { IfOk result (λ row. row ≡ spec.history_row version.now end) }
+/// The values of a version, one for each of the declared columns, with its start and this end.
+pub fn history_row(
+    alloc: Global,
+    declared: &[ColumnDef],
+    version: &Version,
+    end: EventId,
+) -> Result<Row, Memory>
+    ensures { IfOk result (λ row. row ≡ spec.history_row declared.now version.now end) }
 {
     let mut row = Vec::new(alloc);
-    add_values(version, &mut row)?;
+    add_values(declared, version, &mut row)?;
     row.push(number(version.start.0))?;
     row.push(number(end.0))?;
     row.push(number(version.start.1))?;
@@ -61,19 +66,20 @@ pub fn history_row(alloc: Global, version: &Version, end: EventId) -> Result<Row
     Ok(Items::from_vec(row))
 }
 
-/// The values of a version, with an event of it and what that did.
+/// The values of a version, one for each of the declared columns, with an event of it and what that did.
 fn view_row(
     alloc: Global,
+    declared: &[ColumnDef],
     version: &Version,
     event: EventId,
     operation: u64,
     name: &str,
 ) -> Result<Row, Memory>
-    ensures { IfOk result (λ row. row ≡ values_of version.now ++ number_of event.0 ∷ number_of event.1
+    ensures { IfOk result (λ row. row ≡ row_of declared.now version.now ++ number_of event.0 ∷ number_of event.1
         ∷ number_of operation ∷ TextOf name.now ∷ []) }
 {
     let mut row = Vec::new(alloc);
-    add_values(version, &mut row)?;
+    add_values(declared, version, &mut row)?;
     row.push(number(event.0))?;
     row.push(number(event.1))?;
     row.push(number(operation))?;
@@ -88,41 +94,55 @@ fn live_rows_by_key(
     versions: &[Version],
 ) -> Result<Vec<Row>, Memory>
     ensures { IfOk result (λ rows. rows.items
-        ≡ map spec.base_row (keys.live_by_key table.now.columns key.now versions.now)) }
+        ≡ map (spec.base_row table.now.columns)
+        (keys.live_by_key table.now.columns key.now versions.now)) }
 {
     let live_by_key = live_by_key(alloc, table, key, versions)?;
-    base_rows(alloc, &live_by_key)
+    base_rows(alloc, table.columns(), &live_by_key)
 }
 
-fn base_rows(alloc: Global, versions: &[&Version]) -> Result<Vec<Row>, Memory>
-    ensures { IfOk result (λ rows. rows.items ≡ map spec.base_row (map (λ v. v.now) versions.now)) }
+fn base_rows(
+    alloc: Global,
+    declared: &[ColumnDef],
+    versions: &[&Version],
+) -> Result<Vec<Row>, Memory>
+    ensures { IfOk result (λ rows. rows.items
+        ≡ map (spec.base_row declared.now) (map (λ v. v.now) versions.now)) }
 {
     let mut rows = Vec::with_capacity(alloc, versions.len())?;
     for version in versions {
-        rows.push(base_row(alloc, *version)?)?;
+        rows.push(base_row(alloc, declared, *version)?)?;
     }
     Ok(rows)
 }
 
-fn history_rows(alloc: Global, versions: &[Version]) -> Result<Vec<Row>, Memory>
-    ensures { IfOk result (λ rows. rows.items ≡ spec.history_rows versions.now) }
+fn history_rows(
+    alloc: Global,
+    declared: &[ColumnDef],
+    versions: &[Version],
+) -> Result<Vec<Row>, Memory>
+    ensures { IfOk result (λ rows. rows.items ≡ spec.history_rows declared.now versions.now) }
 {
     let mut rows = Vec::new(alloc);
     for version in versions {
         if let Some(end) = version.end {
-            rows.push(history_row(alloc, version, end)?)?;
+            rows.push(history_row(alloc, declared, version, end)?)?;
         }
     }
     Ok(rows)
 }
 
-fn view_rows(alloc: Global, versions: &[Version]) -> Result<Vec<Row>, Memory>
-    ensures { IfOk result (λ rows. rows.items ≡ spec.view_rows versions.now) }
+fn view_rows(
+    alloc: Global,
+    declared: &[ColumnDef],
+    versions: &[Version],
+) -> Result<Vec<Row>, Memory>
+    ensures { IfOk result (λ rows. rows.items ≡ spec.view_rows declared.now versions.now) }
 {
     let mut shown = Vec::new(alloc);
     for version in versions {
-        show_start(alloc, version, &mut shown)?;
-        show_end(alloc, version, &mut shown)?;
+        show_start(alloc, declared, version, &mut shown)?;
+        show_end(alloc, declared, version, &mut shown)?;
     }
     sort_by_event(&mut shown)?;
     rows_in(alloc, shown)
@@ -130,29 +150,42 @@ fn view_rows(alloc: Global, versions: &[Version]) -> Result<Vec<Row>, Memory>
 
 fn show_start(
     alloc: Global,
+    declared: &[ColumnDef],
     version: &Version,
     shown: &mut Vec<(EventId, Row)>,
 ) -> Result<(), Memory>
-    ensures { OnOk result (shown.new.items ≡ shown.old.items ++ spec.view_row_of_start version.now ∷ []) }
+    ensures { OnOk result
+        (shown.new.items ≡ shown.old.items ++ spec.view_row_of_start declared.now version.now ∷ []) }
 {
     let start = version.start;
-    let row = view_row(alloc, version, start, 1, "INSERT")?;
+    let row = view_row(alloc, declared, version, start, 1, "INSERT")?;
     shown.push((start, row))?;
     Ok(())
 }
 
-fn view_row_of_end(alloc: Global, version: &Version, end: EventId) -> Result<(EventId, Row), Memory>
-    ensures { IfOk result (λ shown. shown ∷ [] ≡ spec.view_row_of_end version.now (Some end)) }
+fn view_row_of_end(
+    alloc: Global,
+    declared: &[ColumnDef],
+    version: &Version,
+    end: EventId,
+) -> Result<(EventId, Row), Memory>
+    ensures { IfOk result (λ shown. shown ∷ [] ≡ spec.view_row_of_end declared.now version.now (Some end)) }
 {
-    let row = view_row(alloc, version, end, 2, "DELETE")?;
+    let row = view_row(alloc, declared, version, end, 2, "DELETE")?;
     Ok((end, row))
 }
 
-fn show_end(alloc: Global, version: &Version, shown: &mut Vec<(EventId, Row)>) -> Result<(), Memory>
-    ensures { OnOk result (shown.new.items ≡ shown.old.items ++ spec.view_row_of_end version.now version.now.end) }
+fn show_end(
+    alloc: Global,
+    declared: &[ColumnDef],
+    version: &Version,
+    shown: &mut Vec<(EventId, Row)>,
+) -> Result<(), Memory>
+    ensures { OnOk result (shown.new.items
+        ≡ shown.old.items ++ spec.view_row_of_end declared.now version.now version.now.end) }
 {
     if let Some(end) = version.end {
-        shown.push(view_row_of_end(alloc, version, end)?)?;
+        shown.push(view_row_of_end(alloc, declared, version, end)?)?;
     }
     Ok(())
 }

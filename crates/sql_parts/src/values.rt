@@ -1,6 +1,6 @@
 //! The values of rows, and of their versions.
 
-ghost use Rattle.std.specs.Prelude.{◌≡◌, ◌++◌, List, IfOk, OnOk, unwrap_or};
+ghost use Rattle.std.specs.Prelude.{◌≡◌, ◌-◌, ◌++◌, List, IfOk, OnOk, length, replicate, unwrap_or};
 ghost use Rattle.std.specs.Option.{option_copied};
 ghost use Rattle.sql_value.specs.declared.value.Value.{Value as AnyValue};
 ghost use Rattle.sql_value.specs.declared.value.Value.TheVariants.{Null};
@@ -54,7 +54,7 @@ fn value_in(stored: &Option<TypedValue>) -> Option<&Value>
 }
 
 /// A copy of the value that is stored; NULL is none.
-pub fn value_or_null(value: &Option<TypedValue>) -> Result<Value, Memory>
+fn value_or_null(value: &Option<TypedValue>) -> Result<Value, Memory>
     ensures { IfOk result (λ v. v ≡ spec.value_or_null value.now) }
 {
     match value {
@@ -73,8 +73,36 @@ pub fn copy_or_null(value: Option<&Value>) -> Result<Value, Memory>
     }
 }
 
-/// Adds copies of a version's values to a row.
-pub fn add_values(version: &Version, row: &mut Vec<Value>) -> Result<(), Memory>
+/// Adds copies of a version's values to a row, and behind them NULL for each column that has none.
+pub fn add_values(
+    columns: &[ColumnDef],
+    version: &Version,
+    row: &mut Vec<Value>,
+) -> Result<(), Memory>
+    ensures { OnOk result (row.new.items ≡ row.old.items ++ spec.row_of columns.now version.now) }
+{
+    add_stored(version, row)?;
+    add_nulls(missing(columns, version), row)?;
+    Ok(())
+}
+
+/// How many columns have no value in a version.
+fn missing(columns: &[ColumnDef], version: &Version) -> usize
+    ensures { result ≡ length columns.now - length version.now.values }
+{
+    columns.len().saturating_sub(version.values.len())
+}
+
+/// The row that a version is under these columns, copied: its values, and NULL for each column behind them.
+pub fn row_of(alloc: Global, columns: &[ColumnDef], version: &Version) -> Result<Row, Memory>
+    ensures { IfOk result (λ row. row ≡ spec.row_of columns.now version.now) }
+{
+    let mut row = Vec::with_capacity(alloc, columns.len())?;
+    add_values(columns, version, &mut row)?;
+    Ok(Items::from_vec(row))
+}
+
+fn add_stored(version: &Version, row: &mut Vec<Value>) -> Result<(), Memory>
     ensures { OnOk result (row.new.items ≡ row.old.items ++ spec.values_of version.now) }
 {
     for value in version.values.as_slice() {
@@ -83,13 +111,13 @@ pub fn add_values(version: &Version, row: &mut Vec<Value>) -> Result<(), Memory>
     Ok(())
 }
 
-/// The values of a version, copied.
-pub fn values_of(alloc: Global, version: &Version) -> Result<Row, Memory>
-    ensures { IfOk result (λ row. row ≡ spec.values_of version.now) }
+fn add_nulls(count: usize, row: &mut Vec<Value>) -> Result<(), Memory>
+    ensures { OnOk result (row.new.items ≡ row.old.items ++ replicate count Null) }
 {
-    let mut row = Vec::with_capacity(alloc, version.values.len())?;
-    add_values(version, &mut row)?;
-    Ok(Items::from_vec(row))
+    for _ in 0..count {
+        row.push(Value::Null)?;
+    }
+    Ok(())
 }
 
 fn stored_value(column: &ColumnDef, value: Value) -> Option<TypedValue>

@@ -2,8 +2,6 @@
 use Rattle.std.proofs.Common.{◌≡◌, ◌≤◌, ◌<◌, ℕ, refl, List, [], ◌∷◌, length, Option, Some, None, arith}
 use Rattle.std.specs.Prelude.{◌-◌, ◌^◌}
 use Rattle.std.specs.List.{AllByRecursion}
-use Rattle.sql_value.specs.declared.column.ColumnDef.{ColumnDef}
-use Rattle.sql_types.specs.declared.version.TypedValue.{TypedValue}
 use Rattle.sql_types.specs.declared.version.Table.{Table}
 use Rattle.sql_types.specs.declared.table.TableDef.{TableDef}
 use Rattle.spec_model.specs.Catalog.{Tables, defs_of}
@@ -11,9 +9,10 @@ use Rattle.spec_model.specs.SystemTables.{first_tables}
 use Rattle.spec_model.specs.Agreement.{IdsFrom}
 use Rattle.spec_model.specs.Runs.{MadeBefore, SoundTable, Sound}
 use Rattle.law_frame.proofs.Alls.{all_weaker, all_both}
-use Rattle.law_journal.specs.Fits.{Fits}
+use Rattle.law_journal.specs.Fits.{FitsSoFar}
 use Rattle.law_journal.specs.Kept.{KeptTable}
 use Rattle.law_journal.proofs.DefLists.{all_defs}
+use Rattle.law_journal.proofs.SoFar.{few}
 use Rattle.law_journal.proofs.Keeping.{first_kept, first_described}
 use Rattle.sql_apply.specs.Short.{IsShort, AreShort}
 use Rattle.sql_reference.specs.declared.begun.RunningScript.{RunningScript}
@@ -58,14 +57,8 @@ module _ (tx seq : ℕ) (T : Tables) (h : IsReady tx seq T) where
   pub ready_columns : AllByRecursion (λ (def : TableDef). length def.columns < 2 ^ 16 - 1) (defs_of T)
   ready_columns = all_weaker (λ (def : TableDef). length def.columns ≤ 64) (λ (def : TableDef). length def.columns < 2 ^ 16 - 1) (λ def le. omega (arith, le)) (defs_of T) h.1.few
 
-  as_long : (columns : List ColumnDef) (values : List (Option TypedValue)) → Fits columns values → length values ≡ length columns
-  as_long [] [] f = refl
-  as_long [] (v ∷ vs) f = absurd f
-  as_long (c ∷ cs) [] f = absurd f
-  as_long (c ∷ cs) (v ∷ vs) f = omega (arith, as_long cs vs f.1)
-
   short_table : (t : Table) → (length t.def.columns ≤ 64) × KeptTable h.0.0 (tx, seq) t → AllByRecursion IsShort t.versions
-  short_table t k = all_weaker (λ v. Fits t.def.columns v.values) IsShort (λ v f. omega (arith, as_long t.def.columns v.values f, k.0)) t.versions k.1.fit
+  short_table t k = all_weaker (λ v. FitsSoFar t.def.columns v.values) IsShort (λ v f. omega (arith, few t.def.columns v.values f, k.0)) t.versions k.1.fit
 
   pub ready_short : AreShort T
   ready_short =

@@ -11,7 +11,7 @@ use base_types::Memory;
 use sql_expr::{RowRef, holds};
 use sql_parts::{Columns, base_row};
 use sql_types::{Row, Version};
-use sql_value::{Expr, Refusal};
+use sql_value::{ColumnDef, Expr, Refusal};
 use std::alloc::Global;
 
 /// The rows that a condition takes; all of them without one.
@@ -49,31 +49,33 @@ fn those_taken(
 /// The rows of the versions that a condition takes. Only these are copied.
 pub fn matching_rows(
     alloc: Global,
+    declared: &[ColumnDef],
     columns: &Columns,
     cond: &Option<Expr>,
     versions: &[&Version],
 ) -> Result<Vec<Row>, Refusal>
     ensures { ItemsMatchUnlessOom
         (checked_filter (spec.holds columns.now cond.now)
-        (map parts.base_row (map (λ v. v.now) versions.now))) result }
+        (map (parts.base_row declared.now) (map (λ v. v.now) versions.now))) result }
 {
-    each_taken(alloc, columns, cond, versions)
+    each_taken(alloc, declared, columns, cond, versions)
 }
 
 fn each_taken(
     alloc: Global,
+    declared: &[ColumnDef],
     columns: &Columns,
     cond: &Option<Expr>,
     versions: &[&Version],
 ) -> Result<Vec<Row>, Refusal>
     ensures { ItemsMatchUnlessOom
         (filter_after (spec.holds columns.now cond.now) []
-        (map parts.base_row (map (λ v. v.now) versions.now))) result }
+        (map (parts.base_row declared.now) (map (λ v. v.now) versions.now))) result }
 {
     let mut taken = Vec::new(alloc);
     for version in versions {
-        if holds(columns, cond, &RowRef::of_version(*version))? {
-            taken.push(base_row(alloc, *version)?)?;
+        if holds(columns, cond, &RowRef::of_version(declared, *version))? {
+            taken.push(base_row(alloc, declared, *version)?)?;
         }
     }
     Ok(taken)

@@ -71,10 +71,11 @@ fn live_rows_taken<R: LiveVersions>(
     requires { R.are_of versions.now table.now }
     ensures { ItemsMatchUnlessOom
         (checked_filter (holds columns.now cond.now)
-        (map base_row (live_by_key table.now.columns key.now (R.versions versions.now)))) result }
+        (map (base_row table.now.columns)
+        (live_by_key table.now.columns key.now (R.versions versions.now)))) result }
 {
     let live_by_key = versions.in_key_order(alloc, table, key)?;
-    matching_rows(alloc, columns, cond, &live_by_key)
+    matching_rows(alloc, table.columns(), columns, cond, &live_by_key)
 }
 
 /// The rows of a part of a table that a condition takes. All rows of the part are copied.

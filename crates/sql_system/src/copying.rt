@@ -15,9 +15,11 @@ pub fn copy_def(alloc: Global, def: &TableDef) -> Result<TableDef, Memory>
         id: def.id,
         name: def.name.copy()?,
         kind: def.kind,
+        gone: def.gone,
         history: def.history.copy()?,
         view: def.view.copy()?,
         columns: copy_columns(alloc, def.columns.as_slice())?,
+        dropped: Items::from_vec(Vec::from_clones(alloc, def.dropped.as_slice())?),
         indexes: copy_indexes(alloc, def.indexes.as_slice())?,
     })
 }

@@ -79,9 +79,11 @@ fn system_table(
         id,
         name: Name::of_str(alloc, name)?,
         kind: TableKind::AppendOnly,
+        gone: false,
         history: Name::of_str(alloc, "")?,
         view: Name::of_str(alloc, "")?,
         columns,
+        dropped: Items::new(alloc),
         indexes: Items::new(alloc),
     };
     Ok(Table {

@@ -8,12 +8,16 @@ pub struct TableDef {
     pub id: TableId,
     pub name: Name,
     pub kind: TableKind,
+    /// Whether the table was dropped: its rows stay, under other names.
+    pub gone: bool,
     /// The name of the history part, empty for an append-only table.
     pub history: Name,
     /// The name of the ledger view, empty for a system table.
     pub view: Name,
     /// The declared columns. The ordinal of a column is its place, counted from 1.
     pub columns: Items<ColumnDef>,
+    /// The ordinals of the columns that were dropped, rising. Their values stay, under other names.
+    pub dropped: Items<u16>,
     pub indexes: Items<IndexDef>,
 }
 

@@ -4,11 +4,10 @@ use Rattle.std.specs.Prelude.{is_none, not, ◌&&◌, if◌then◌else◌}
 use Rattle.std.specs.List.{AllByRecursion, filter, filter_map, prefix_len}
 use Rattle.std.specs.Cmp.{on_total}
 use Rattle.std.specs.declared.cmp.Ordering.{Ordering}
-use Rattle.sql_value.specs.declared.column.ColumnDef.{ColumnDef}
 use Rattle.sql_types.specs.declared.version.Version.{Version}
 use Rattle.spec_model.specs.Lists.{sorted}
 use Rattle.spec_model.specs.Rows.{live}
-use Rattle.spec_model.specs.Keys.{Key, key_cmp, key_places, same_key, version_key, part_read, live_by_key}
+use Rattle.spec_model.specs.Keys.{Key, key_cmp, live_by_key_at, part_read_at, same_key, version_key_at}
 use Rattle.spec_model.specs.Runs.{Rising}
 use Rattle.sql_parts.proofs.Orders.{key_total}
 use Rattle.law_frame.proofs.Alls.{all_filter, all_sorted}
@@ -27,23 +26,23 @@ filters_turn p q (x ∷ xs) = by (p x) (q x) refl refl (filters_turn p q xs)
     by false true e f rest = rw e rest
     by false false e f rest = rest
 
-module _ (columns : List ColumnDef) (vs : List Version) (r : Rising vs) where
+module _ (places : List ℕ) (vs : List Version) (r : Rising vs) where
   abbrev by_key : Version → Version → Ordering
-  by_key v w = key_cmp (version_key columns v) (version_key columns w)
+  by_key v w = key_cmp (version_key_at places v) (version_key_at places w)
 
-  sorted_by_key : sorted by_key (live vs) ≡ in_order [] (key_places columns) vs
-  sorted_by_key = (λ i. sorted (λ v w. row_is columns [] v w i) (live vs)) ∙ rows_in_order [] (key_places columns) vs r
+  sorted_by_key : sorted by_key (live vs) ≡ in_order [] places vs
+  sorted_by_key = (λ i. sorted (λ v w. row_is places [] v w i) (live vs)) ∙ rows_in_order [] places vs r
 
-  pub all_in_order : live_by_key columns None vs ≡ in_order [] (key_places columns) vs
-  unfolding live_by_key
+  pub all_in_order : live_by_key_at places None vs ≡ in_order [] places vs
+  unfolding live_by_key_at
   all_in_order = sorted_by_key
 
-  pub one_in_order : (k : Key) → live_by_key columns (Some k) vs ≡ filter (λ v. same_key (version_key columns v) k) (in_order [] (key_places columns) vs)
-  unfolding live_by_key
+  pub one_in_order : (k : Key) → live_by_key_at places (Some k) vs ≡ filter (λ v. same_key (version_key_at places v) k) (in_order [] places vs)
+  unfolding live_by_key_at
   one_in_order k =
-      ap (sorted by_key) (filters_turn (λ v. is_none v.end) (λ v. same_key (version_key columns v) k) vs)
-      ∙ sym (sorted_passing by_key (on_total (version_key columns) key_total) (λ v. same_key (version_key columns v) k) (live vs))
-      ∙ ap (filter (λ v. same_key (version_key columns v) k)) sorted_by_key
+      ap (sorted by_key) (filters_turn (λ v. is_none v.end) (λ v. same_key (version_key_at places v) k) vs)
+      ∙ sym (sorted_passing by_key (on_total (version_key_at places) key_total) (λ v. same_key (version_key_at places v) k) (live vs))
+      ∙ ap (filter (λ v. same_key (version_key_at places v) k)) sorted_by_key
 
 -- ---- found by their starts
 
@@ -52,16 +51,16 @@ starts_found vs [] h = refl
 starts_found vs (u ∷ us) h = rw h.0 (ap (λ l. u ∷ l) (starts_found vs us h.1))
 
 -- the versions that stand, of a key or all, are found by their starts
-pub live_of_key_found : (columns : List ColumnDef) (key : Option Key) (vs : List Version) → Rising vs
-    → filter_map (λ s. version_at s vs) (starts_of (live_by_key columns key vs)) ≡ live_by_key columns key vs
-unfolding live_by_key
-live_of_key_found columns key vs r =
-    starts_found vs _ (all_sorted (λ w. version_at w.start vs ≡ Some w) (λ v w. key_cmp (version_key columns v) (version_key columns w)) (live (part_read columns key vs))
-    (all_filter (λ w. version_at w.start vs ≡ Some w) (λ w. is_none w.end) (part_read columns key vs) (part key)))
+pub live_of_key_found : (places : List ℕ) (key : Option Key) (vs : List Version) → Rising vs
+    → filter_map (λ s. version_at s vs) (starts_of (live_by_key_at places key vs)) ≡ live_by_key_at places key vs
+unfolding live_by_key_at
+live_of_key_found places key vs r =
+    starts_found vs _ (all_sorted (λ w. version_at w.start vs ≡ Some w) (λ v w. key_cmp (version_key_at places v) (version_key_at places w)) (live (part_read_at places key vs))
+    (all_filter (λ w. version_at w.start vs ≡ Some w) (λ w. is_none w.end) (part_read_at places key vs) (part key)))
   where
-    part : (o : Option Key) → AllByRecursion (λ w. version_at w.start vs ≡ Some w) (part_read columns o vs)
+    part : (o : Option Key) → AllByRecursion (λ w. version_at w.start vs ≡ Some w) (part_read_at places o vs)
     part None = find_own vs r
-    part (Some k) = all_filter (λ w. version_at w.start vs ≡ Some w) (λ v. same_key (version_key columns v) k) vs (find_own vs r)
+    part (Some k) = all_filter (λ w. version_at w.start vs ≡ Some w) (λ v. same_key (version_key_at places v) k) vs (find_own vs r)
 
 -- ---- a key's part of a list in which what is below it comes first, and then what is up to it
 

@@ -10,14 +10,14 @@ use Rattle.store_table.proofs.Keeping.{follows_on}
 
 -- so far, with these changes left
 pub record Carrying (tx seq number : ℕ) (changes rest : List Change) (was now : ReservedTable) : Type 0 where
-  pub stored : now.stored ≡ with_versions was.stored.columns now.stored.versions was.stored
+  pub stored : now.stored ≡ with_versions was.stored.key now.stored.versions was.stored
   pub left : changed_all tx number rest now.stored.versions ≡ changed_all tx seq changes was.stored.versions
   pub before : AllByRecursion (MadeBefore tx number) now.stored.versions
   pub numbers : number + length rest < 2 ^ 64
   pub few : length changes ≤ was.room
   pub room : was.room + length rest ≤ now.room + length changes
 
-pub carrying_first : (tx seq : ℕ) (changes : List Change) (was : ReservedTable) → was.stored ≡ with_versions was.stored.columns was.stored.versions was.stored
+pub carrying_first : (tx seq : ℕ) (changes : List Change) (was : ReservedTable) → was.stored ≡ with_versions was.stored.key was.stored.versions was.stored
     → AllByRecursion (MadeBefore tx seq) was.stored.versions → seq + length changes < 2 ^ 64 → length changes ≤ was.room
     → Carrying tx seq seq changes changes was was
 carrying_first tx seq changes was follows before numbers room = record { stored = follows; left = refl; before = before; numbers = numbers; few = room; room = omega arith }
@@ -32,7 +32,7 @@ module _ (tx seq number : ℕ) (changes left rest : List Change) (c : Change) (w
   pub some_number : number + 1 < 2 ^ 64
   some_number = let r = h.numbers in omega (arith, longer, r)
 
-  pub carrying_one : (new : ReservedTable) → new.stored ≡ with_versions now.stored.columns (changed (tx, number) c now.stored.versions) now.stored → now.room ≤ new.room + 1
+  pub carrying_one : (new : ReservedTable) → new.stored ≡ with_versions now.stored.key (changed (tx, number) c now.stored.versions) now.stored → now.room ≤ new.room + 1
       → Carrying tx seq (number + 1) changes rest was new
   unfolding changed_all
   carrying_one new stored room =
@@ -54,9 +54,9 @@ none_left tx number [] vs e = refl
 none_left tx number (c ∷ cs) vs e = absurd (omega (arith, e))
 
 pub carried : (tx seq number : ℕ) (changes rest : List Change) (was now : ReservedTable) → length rest ≡ 0 → Carrying tx seq number changes rest was now
-    → now.stored ≡ with_versions was.stored.columns (changed_all tx seq changes was.stored.versions) was.stored
+    → now.stored ≡ with_versions was.stored.key (changed_all tx seq changes was.stored.versions) was.stored
 carried tx seq number changes rest was now none h =
-    h.stored ∙ ap (λ (l : List Version). with_versions was.stored.columns l was.stored) (none_left tx number rest now.stored.versions none ∙ h.left)
+    h.stored ∙ ap (λ (l : List Version). with_versions was.stored.key l was.stored) (none_left tx number rest now.stored.versions none ∙ h.left)
 
 pub room_left : (tx seq number : ℕ) (changes rest : List Change) (was now : ReservedTable) → length rest ≡ 0 → Carrying tx seq number changes rest was now
     → was.room ≤ now.room + length changes

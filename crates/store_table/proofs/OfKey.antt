@@ -9,14 +9,12 @@ use Rattle.std.specs.declared.cmp.Ordering.{Ordering}
 use Rattle.std.specs.declared.cmp.Ordering.TheVariants.{Less, Equal, Greater}
 use Rattle.std.proofs.lemmas.Bool.{true≢false}
 use Rattle.std.proofs.lemmas.List.{drop-take}
-use Rattle.sql_value.specs.declared.column.ColumnDef.{ColumnDef}
 use Rattle.sql_types.specs.declared.version.Version.{Version}
 use Rattle.spec_model.specs.Lists.{inserted, sorted}
 use Rattle.spec_model.specs.Rows.{Row, EventId, start_cmp, live}
-use Rattle.spec_model.specs.Keys.{Key, key_cmp, key_of, key_places, same_key, has_live_row, live_by_key}
+use Rattle.spec_model.specs.Keys.{Key, key_at, key_cmp, has_live_row_at, live_by_key_at, same_key}
 use Rattle.spec_model.specs.Runs.{Rising}
 use Rattle.sql_parts.proofs.Orders.{key_total}
-use Rattle.sql_parts.specs.Places.{key_at}
 use Rattle.store_table.specs.Orders.{key_values, order_cmp, in_order, starts_of, version_at, passes, is_below, is_up_to, is_of_key, has_row_below, row_cmp}
 use Rattle.store_table.proofs.OneMore.{IsDownward, before_is_downward, parted}
 use Rattle.store_table.proofs.InOrder.{order_total, row_total, find_own}
@@ -246,40 +244,39 @@ any_sorted : {A : Type 0} (cmp : A → A → Ordering) (q : A → Bool) (xs : Li
 any_sorted cmp q [] = refl
 any_sorted cmp q (x ∷ xs) = any_inserted cmp q x (sorted cmp xs) ∙ ap (λ (c : Bool). q x || c) (any_sorted cmp q xs)
 
-pub has_live_row_is : (columns : List ColumnDef) (row : Row) (vs : List Version)
-    → has_live_row columns (key_of columns row) vs ≡ list_any (is_of_key (key_places columns) (key_at (key_places columns) row)) (in_order [] (key_places columns) vs)
-unfolding has_live_row same_key key_of key_at
-has_live_row_is columns row vs =
-    let places = key_places columns in
+pub has_live_row_is : (places : List ℕ) (row : Row) (vs : List Version)
+    → has_live_row_at places (key_at places row) vs ≡ list_any (is_of_key places (key_at places row)) (in_order [] places vs)
+unfolding has_live_row_at same_key key_at
+has_live_row_is places row vs =
     let has = is_of_key places (key_at places row) in
     any_of_kept (λ (v : Version). is_none v.end) has vs ∙ sym (any_sorted (order_cmp [] places) has (live vs))
 
-pub live_starts_of_key : (columns : List ColumnDef) (k : Key) (vs : List Version) → Rising vs
-    → starts_of (filter (is_of_key (key_places columns) k) (in_order [] (key_places columns) vs)) ≡ starts_of (live_by_key columns (Some k) vs)
-unfolding same_key key_of
-live_starts_of_key columns k vs r = ap starts_of (sym (one_in_order columns vs r k))
+pub live_starts_of_key : (places : List ℕ) (k : Key) (vs : List Version) → Rising vs
+    → starts_of (filter (is_of_key places k) (in_order [] places vs)) ≡ starts_of (live_by_key_at places (Some k) vs)
+unfolding same_key key_at
+live_starts_of_key places k vs r = ap starts_of (sym (one_in_order places vs r k))
 
--- ---- another table of the same columns
+-- ---- another table of the same key
 
-pub no_live_row : (columns : List ColumnDef) (k : Key) → has_live_row columns k [] ≡ false
-unfolding has_live_row
-no_live_row columns k = refl
+pub no_live_row : (places : List ℕ) (k : Key) → has_live_row_at places k [] ≡ false
+unfolding has_live_row_at
+no_live_row places k = refl
 
-pub no_live_by_key : (columns : List ColumnDef) (key : Option Key) → live_by_key columns key [] ≡ []
-unfolding live_by_key
-no_live_by_key columns None = refl
-no_live_by_key columns (Some k) = refl
+pub no_live_by_key : (places : List ℕ) (key : Option Key) → live_by_key_at places key [] ≡ []
+unfolding live_by_key_at
+no_live_by_key places None = refl
+no_live_by_key places (Some k) = refl
 
-pub same_has_live_row : (columns cols : List ColumnDef) (row : Row) (vs : List Version) → (vs ≡ []) ⊎ (columns ≡ cols) → has_live_row columns (key_of columns row) vs ≡ has_live_row cols (key_of cols row) vs
-same_has_live_row columns cols row vs which = elim which [
-  | inl none ↦ ap (has_live_row columns (key_of columns row)) none ∙ no_live_row columns (key_of columns row) ∙ sym (no_live_row cols (key_of cols row)) ∙ ap (has_live_row cols (key_of cols row)) (sym none)
-  | inr same ↦ ap (λ (cs : List ColumnDef). has_live_row cs (key_of cs row) vs) same
+pub same_has_live_row : (a b : List ℕ) (row : Row) (vs : List Version) → (vs ≡ []) ⊎ (a ≡ b) → has_live_row_at a (key_at a row) vs ≡ has_live_row_at b (key_at b row) vs
+same_has_live_row a b row vs which = elim which [
+  | inl none ↦ ap (has_live_row_at a (key_at a row)) none ∙ no_live_row a (key_at a row) ∙ sym (no_live_row b (key_at b row)) ∙ ap (has_live_row_at b (key_at b row)) (sym none)
+  | inr same ↦ ap (λ (ps : List ℕ). has_live_row_at ps (key_at ps row) vs) same
 ]
 
-pub same_live_by_key : (columns cols : List ColumnDef) (key : Option Key) (vs : List Version) → (vs ≡ []) ⊎ (columns ≡ cols) → live_by_key columns key vs ≡ live_by_key cols key vs
-same_live_by_key columns cols key vs which = elim which [
-  | inl none ↦ ap (live_by_key columns key) none ∙ no_live_by_key columns key ∙ sym (no_live_by_key cols key) ∙ ap (live_by_key cols key) (sym none)
-  | inr same ↦ ap (λ (cs : List ColumnDef). live_by_key cs key vs) same
+pub same_live_by_key : (a b : List ℕ) (key : Option Key) (vs : List Version) → (vs ≡ []) ⊎ (a ≡ b) → live_by_key_at a key vs ≡ live_by_key_at b key vs
+same_live_by_key a b key vs which = elim which [
+  | inl none ↦ ap (live_by_key_at a key) none ∙ no_live_by_key a key ∙ sym (no_live_by_key b key) ∙ ap (live_by_key_at b key) (sym none)
+  | inr same ↦ ap (λ (ps : List ℕ). live_by_key_at ps key vs) same
 ]
 
 -- ---- the rows of an index below that of a version
@@ -332,14 +329,12 @@ count_sorted cmp p (x ∷ xs) = count_inserted cmp p x (sorted cmp xs) ∙ more 
     more false us ws e = e
 
 -- so many versions that stand have a row below that of the version
-pub place_counts : (columns : List ColumnDef) (ordinals : List ℕ) (v : Version) (vs : List Version)
-    → prefix_len (has_row_below ordinals (key_places columns) v) (in_order ordinals (key_places columns) vs) ≡ rows_below columns ordinals v vs
-place_counts columns ordinals v vs =
-    let key = key_places columns in
+pub place_counts : (key ordinals : List ℕ) (v : Version) (vs : List Version) → prefix_len (has_row_below ordinals key v) (in_order ordinals key vs) ≡ rows_below key ordinals v vs
+place_counts key ordinals v vs =
     let test = has_row_below ordinals key v in
     front_count test (in_order ordinals key vs) (front test (in_order ordinals key vs) (parted (order_cmp ordinals key) (order_total ordinals key) test (row_below_down ordinals key v) (live vs)))
     ∙ count_sorted (order_cmp ordinals key) test (live vs)
-    ∙ sym (λ i. length (filter (λ w. is_lt (row_is columns ordinals w v i)) (live vs)))
+    ∙ sym (λ i. length (filter (λ w. is_lt (row_is key ordinals w v i)) (live vs)))
 
 same_some : {A : Type 0} (x y : A) → (let o : Option A = Some x in let p : Option A = Some y in o ≡ p) → x ≡ y
 same_some x y e = cc
@@ -350,14 +345,13 @@ seen_at (y ∷ ys) zero x i at is = ap index_seen at ∙ same_some (index_seen y
 seen_at (y ∷ ys) (suc n) x i at is = seen_at ys n x i at is
 
 -- that is so for the index at a place and for the version of a start
-pub counted_of : (columns : List ColumnDef) (key : List ℕ) (vs : List Version) (xs : List Index) (n : ℕ) (x : Index) (w : Version) (start : EventId) (count : ℕ)
-    → key ≡ key_places columns → x ≡ get_or xs n x → version_at start vs ≡ Some w → count ≡ prefix_len (has_row_below x.ordinals key w) (in_order x.ordinals key vs)
-    → (i : stored.Index) (v : Version) → slice_get (map index_seen xs) n ≡ Some i → version_at start vs ≡ Some v → count ≡ rows_below columns i.ordinals v vs
-counted_of columns key vs xs n x w start count key_is at found counts i v is there =
+pub counted_of : (key : List ℕ) (vs : List Version) (xs : List Index) (n : ℕ) (x : Index) (w : Version) (start : EventId) (count : ℕ)
+    → x ≡ get_or xs n x → version_at start vs ≡ Some w → count ≡ prefix_len (has_row_below x.ordinals key w) (in_order x.ordinals key vs)
+    → (i : stored.Index) (v : Version) → slice_get (map index_seen xs) n ≡ Some i → version_at start vs ≡ Some v → count ≡ rows_below key i.ordinals v vs
+counted_of key vs xs n x w start count at found counts i v is there =
     let seen : index_seen x ≡ i = seen_at xs n x i at is in
     let one : w ≡ v = same_some w v (sym found ∙ there) in
     counts
-    ∙ ap (λ (k : List ℕ). prefix_len (has_row_below x.ordinals k w) (in_order x.ordinals k vs)) key_is
-    ∙ place_counts columns x.ordinals w vs
-    ∙ ap (λ (j : stored.Index). rows_below columns j.ordinals w vs) seen
-    ∙ ap (λ (u : Version). rows_below columns i.ordinals u vs) one
+    ∙ place_counts key x.ordinals w vs
+    ∙ ap (λ (j : stored.Index). rows_below key j.ordinals w vs) seen
+    ∙ ap (λ (u : Version). rows_below key i.ordinals u vs) one

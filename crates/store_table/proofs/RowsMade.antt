@@ -19,7 +19,7 @@ use Rattle.spec_model.specs.Rows.{Row, same_event, stored_row}
 use Rattle.spec_model.specs.Runs.{Rising}
 use Rattle.law_frame.proofs.Checked.{Led, led}
 use Rattle.law_frame.proofs.LeftRows.{all_flat_map, zipped}
-use Rattle.law_journal.specs.Fits.{Fits}
+use Rattle.law_journal.specs.Fits.{FitsSoFar}
 use Rattle.law_journal.proofs.Here.{AllNew, Open, Distinct, AllDistinct}
 use Rattle.law_journal.proofs.NewRows.{rows_have_all, inserted_new}
 use Rattle.law_journal.proofs.Taken.{OpenAnd, taken_open, taken_distinct, distinct_zip}
@@ -41,7 +41,7 @@ module _ (V : List Version) where
 
 module _ (columns : List ColumnDef) (V : List Version) (rising : Rising V) where
   abbrev FitOf : Version → Type 0
-  FitOf v = Fits columns v.values
+  FitOf v = FitsSoFar columns v.values
 
   live_fits : (u : Version) → OpenAnd columns FitOf V u → LiveFits columns u.start V
   live_fits u h = let p = open_found V u V (find_own V rising) h.0 in record { version = u; found = p.0; is_live = p.1; fits = h.1 }
@@ -101,7 +101,7 @@ pub record AreMade (columns : List ColumnDef) (V : List Version) (cs : List Chan
   pub made : AllByRecursion (IsMade columns V) cs
   pub apart : AllApart columns cs
 
-module _ (def : TableDef) (V : List Version) (rising : Rising V) (fit : AllByRecursion (λ v. Fits def.columns v.values) V) where
+module _ (def : TableDef) (V : List Version) (rising : Rising V) (fit : AllByRecursion (λ v. FitsSoFar def.columns v.values) V) where
   changes_made : (part : Part) (stmt : RowStmt) (c : Changes) → row_check stmt def part ≡ Ok tt → row_changes def V stmt ≡ Ok c → AreMade def.columns V c.0
   unfolding row_changes
   changes_made part (Insert table names rows) c check e =

@@ -4,7 +4,6 @@ use Rattle.std.specs.Prelude.{slice_set, Vec}
 use Rattle.std.specs.List.{AllByRecursion, insert, remove}
 use Rattle.std.specs.declared.alloc.Global.{Global}
 use Rattle.std.proofs.lemmas.List.{map-append}
-use Rattle.sql_value.specs.declared.column.ColumnDef.{ColumnDef}
 use Rattle.sql_types.specs.declared.version.TypedValue.{TypedValue}
 use Rattle.sql_types.specs.declared.version.Version.{Version}
 use Rattle.spec_model.specs.Changes.{Starts}
@@ -18,7 +17,7 @@ use Rattle.sql_apply.proofs.Places.{started_at}
 use Rattle.store_table.specs.declared.index.Index.{Index}
 use Rattle.store_table.specs.declared.orders.Orders.{Orders}
 use Rattle.store_table.specs.Ends.{ending, ending_cmp, endings_in}
-use Rattle.spec_model.specs.Keys.{key_places, live_by_key}
+use Rattle.spec_model.specs.Keys.{live_by_key_at}
 use Rattle.store_table.specs.Kept.{HasCapacity, HaveCapacity, IsOf, IndexesAreWith, AreOf, IsKept, SeenAlike, index_seen, ordinals_of}
 use Rattle.store_table.specs.Stored as stored
 use Rattle.store_table.specs.Stored.{Stored, reordered, with_versions, with_index, without_last, without_last_index}
@@ -31,27 +30,25 @@ use Rattle.store_table.proofs.Splits.{cut_at}
 abbrev pub new_version : EventId → List (Option TypedValue) → Version
 new_version at values = record { values = values; start = at; end = None }
 
-pub started_kept : (columns : List ColumnDef) (key : List ℕ) (at : EventId) (values : List (Option TypedValue)) (vs : List Version) (o p : Orders)
-    → IsKept columns key vs o → AllByRecursion (MadeBefore at.0 at.1) vs → IndexesAreWith key (new_version at values) vs p → p.ends.items ≡ o.ends.items
-    → IsKept columns key (insert vs (place at vs) (new_version at values)) p
-started_kept columns key at values vs o p kept before are_indexed ends =
+pub started_kept : (key : List ℕ) (at : EventId) (values : List (Option TypedValue)) (vs : List Version) (o p : Orders)
+    → IsKept key vs o → AllByRecursion (MadeBefore at.0 at.1) vs → IndexesAreWith key (new_version at values) vs p → p.ends.items ≡ o.ends.items
+    → IsKept key (insert vs (place at vs) (new_version at values)) p
+started_kept key at values vs o p kept before are_indexed ends =
     let n = place at vs in
     let rising : Rising (insert vs n (new_version at values)) =
     subst Rising (started_at at values vs) (rising_changed at.0 at.1 (Starts values) vs before kept.rising) in
     record {
-      key_is = kept.key_is;
       rising = rising;
       are = are_started vs (take n vs) (new_version at values) (drop n vs) (cut_at vs n) rising refl key p are_indexed (ends ∙ kept.are.ends);
     }
 
-module _ (columns : List ColumnDef) (key : List ℕ) (vs : List Version) (n : ℕ) (v : Version) (inside : n < length vs) (is : v ≡ get_or vs n v) (o : Orders) (kept : IsKept columns key vs o) where
-  pub withdrawn_kept : (p : Orders) → AreOf key (remove vs n) p → IsKept columns key (remove vs n) p
-  withdrawn_kept p are = record { key_is = kept.key_is; rising = rising_removed vs n v inside is kept.rising; are = are }
+module _ (key : List ℕ) (vs : List Version) (n : ℕ) (v : Version) (inside : n < length vs) (is : v ≡ get_or vs n v) (o : Orders) (kept : IsKept key vs o) where
+  pub withdrawn_kept : (p : Orders) → AreOf key (remove vs n) p → IsKept key (remove vs n) p
+  withdrawn_kept p are = record { rising = rising_removed vs n v inside is kept.rising; are = are }
 
   pub ended_kept : (at : EventId) (p q : Orders) → AreOf key (remove vs n) p → q.key_order ≡ p.key_order → q.indexes ≡ p.indexes → q.ends.items ≡ inserted ending_cmp (ending at v.start) p.ends.items
-      → IsKept columns key (slice_set vs n (with_end at v)) q
+      → IsKept key (slice_set vs n (with_end at v)) q
   ended_kept at p q are keys indexes ends = record {
-    key_is = kept.key_is;
     rising = rising_set vs n v inside is (with_end at v) refl kept.rising;
     are = record {
       are_indexed = indexes_ended vs n v inside is (with_end at v) refl kept.rising key at q refl (record {
@@ -64,9 +61,8 @@ module _ (columns : List ColumnDef) (key : List ℕ) (vs : List Version) (n : �
   }
 
   pub reopened_kept : (end : EventId) (p q : Orders) → v.end ≡ Some end → AreOf key (remove vs n) p → IndexesAreWith key v vs q → q.ends.items ≡ p.ends.items
-      → IsKept columns key (slice_set vs n (without_end v)) q
+      → IsKept key (slice_set vs n (without_end v)) q
   reopened_kept end p q ended are are_indexed ends = record {
-    key_is = kept.key_is;
     rising = rising_set vs n v inside is (without_end v) refl kept.rising;
     are = record {
       are_indexed = indexes_reopened vs n v inside is (without_end v) refl kept.rising key end q ended refl refl are_indexed;
@@ -75,61 +71,59 @@ module _ (columns : List ColumnDef) (key : List ℕ) (vs : List Version) (n : �
   }
 
 -- what contracts see of a store
-abbrev pub stored_of : List ColumnDef → List Version → Orders → Stored
-stored_of columns vs o = record { columns = columns; versions = vs; order = o.key_order.order.list; indexes = map index_seen o.indexes.items }
+abbrev pub stored_of : List ℕ → List Version → Orders → Stored
+stored_of key vs o = record { key = key; versions = vs; order = o.key_order.order.list; indexes = map index_seen o.indexes.items }
 
 -- key order and indexes follow the versions
-pub follows : (columns : List ColumnDef) (key : List ℕ) (vs : List Version) (o : Orders) → IsKept columns key vs o → stored_of columns vs o ≡ with_versions columns vs (stored_of columns vs o)
-follows columns key vs o kept = seen_with columns key vs o o vs o.key_order.order.list kept.key_is kept.rising kept.are.are_indexed refl
+pub follows : (key : List ℕ) (vs : List Version) (o : Orders) → IsKept key vs o → stored_of key vs o ≡ with_versions key vs (stored_of key vs o)
+follows key vs o kept = seen_with key vs o o vs o.key_order.order.list kept.rising kept.are.are_indexed refl
 
 -- they follow other versions too
-pub follow : (columns : List ColumnDef) (key : List ℕ) (vs ws : List Version) (o p : Orders) → IsKept columns key ws p → ordinals_of p.indexes.items ≡ ordinals_of o.indexes.items
-    → stored_of columns ws p ≡ with_versions columns ws (stored_of columns vs o)
-follow columns key vs ws o p kept same = seen_with columns key ws p o vs o.key_order.order.list kept.key_is kept.rising kept.are.are_indexed same
+pub follow : (key : List ℕ) (vs ws : List Version) (o p : Orders) → IsKept key ws p → ordinals_of p.indexes.items ≡ ordinals_of o.indexes.items
+    → stored_of key ws p ≡ with_versions key ws (stored_of key vs o)
+follow key vs ws o p kept same = seen_with key ws p o vs o.key_order.order.list kept.rising kept.are.are_indexed same
 
 -- ---- without versions
 
-none_reordered : (columns : List ColumnDef) (key : List ℕ) (is : List Index) → AllByRecursion (IsOf key []) is → map index_seen is ≡ map (reordered columns []) (map index_seen is)
-none_reordered columns key [] h = refl
-none_reordered columns key (i ∷ is) h =
-    ap₂ (λ (l : List EventId) (r : List stored.Index). record { ordinals = i.ordinals; order = l } ∷ r) h.0 (none_reordered columns key is h.1)
+none_reordered : (key places : List ℕ) (is : List Index) → AllByRecursion (IsOf key []) is → map index_seen is ≡ map (reordered places []) (map index_seen is)
+none_reordered key places [] h = refl
+none_reordered key places (i ∷ is) h =
+    ap₂ (λ (l : List EventId) (r : List stored.Index). record { ordinals = i.ordinals; order = l } ∷ r) h.0 (none_reordered key places is h.1)
 
-none_live_first : (columns : List ColumnDef) → map (λ v. v.start) (live_by_key columns None []) ≡ []
-unfolding live_by_key
-none_live_first columns = refl
+none_live_first : (places : List ℕ) → map (λ v. v.start) (live_by_key_at places None []) ≡ []
+unfolding live_by_key_at
+none_live_first places = refl
 
--- the columns may be others then
-pub other_columns : (columns others : List ColumnDef) (key places : List ℕ) (vs : List Version) (o : Orders) → vs ≡ [] → places ≡ key_places others → IsKept columns key vs o
-    → IsKept others places vs o × (stored_of others vs o ≡ with_versions others vs (stored_of columns vs o))
-other_columns columns others key places vs o none is kept = by vs none kept
+-- the key may be another then
+pub other_key : (key places : List ℕ) (vs : List Version) (o : Orders) → vs ≡ [] → IsKept key vs o → IsKept places vs o × (stored_of places vs o ≡ with_versions places vs (stored_of key vs o))
+other_key key places vs o none kept = by vs none kept
   where
-    by : (vs : List Version) → vs ≡ [] → IsKept columns key vs o → IsKept others places vs o × (stored_of others vs o ≡ with_versions others vs (stored_of columns vs o))
+    by : (vs : List Version) → vs ≡ [] → IsKept key vs o → IsKept places vs o × (stored_of places vs o ≡ with_versions places vs (stored_of key vs o))
     by (v ∷ vs) none kept = cc
     by [] none kept = (
       record {
-        key_is = is;
         rising = tt;
         are = record {
           are_indexed = record { no_ordinals = kept.are.are_indexed.no_ordinals; in_key_order = kept.are.are_indexed.in_key_order; indexed = kept.are.are_indexed.indexed };
           ends = kept.are.ends;
         };
       },
-      ap₂ (λ (l : List EventId) (r : List stored.Index). record { columns = others; versions = []; order = l; indexes = r })
-          (kept.are.are_indexed.in_key_order ∙ sym (none_live_first others)) (none_reordered others key o.indexes.items kept.are.are_indexed.indexed),
+      ap₂ (λ (l : List EventId) (r : List stored.Index). record { key = places; versions = []; order = l; indexes = r })
+          (kept.are.are_indexed.in_key_order ∙ sym (none_live_first places)) (none_reordered key places o.indexes.items kept.are.are_indexed.indexed),
     )
 
 -- ---- what a call leaves
 
-pub told : (columns : List ColumnDef) (key : List ℕ) (vs ws : List Version) (o p : Orders) (old : Stored) → stored_of columns vs o ≡ old → IsKept columns key ws p
+pub told : (key : List ℕ) (vs ws : List Version) (o p : Orders) (old : Stored) → stored_of key vs o ≡ old → IsKept key ws p
     → ordinals_of p.indexes.items ≡ ordinals_of o.indexes.items → (f : List Version → List Version) → ws ≡ f vs
-    → stored_of columns ws p ≡ with_versions old.columns (f old.versions) old
-told columns key vs ws o p old seen kept same f is =
-    subst (λ (t : Stored). stored_of columns ws p ≡ with_versions t.columns (f t.versions) t) seen
-    (follow columns key vs ws o p kept same ∙ ap (λ (l : List Version). with_versions columns l (stored_of columns vs o)) is)
+    → stored_of key ws p ≡ with_versions old.key (f old.versions) old
+told key vs ws o p old seen kept same f is =
+    subst (λ (t : Stored). stored_of key ws p ≡ with_versions t.key (f t.versions) t) seen
+    (follow key vs ws o p kept same ∙ ap (λ (l : List Version). with_versions key l (stored_of key vs o)) is)
 
-pub followed : (columns : List ColumnDef) (key : List ℕ) (vs : List Version) (o : Orders) (old : Stored) → stored_of columns vs o ≡ old → IsKept columns key vs o
-    → old ≡ with_versions old.columns old.versions old
-followed columns key vs o old seen kept = subst (λ (t : Stored). t ≡ with_versions t.columns t.versions t) seen (follows columns key vs o kept)
+pub followed : (key : List ℕ) (vs : List Version) (o : Orders) (old : Stored) → stored_of key vs o ≡ old → IsKept key vs o
+    → old ≡ with_versions old.key old.versions old
+followed key vs o old seen kept = subst (λ (t : Stored). t ≡ with_versions t.key t.versions t) seen (follows key vs o kept)
 
 pub empty_is : {A : Type 0} (xs : List A) → length xs ≤ 0 → xs ≡ []
 empty_is [] le = refl
@@ -137,10 +131,9 @@ empty_is (x ∷ xs) le = absurd (omega (arith, le))
 
 -- ---- other indexes
 
-kept_with : (columns : List ColumnDef) (key : List ℕ) (vs : List Version) (o : Orders) (is : Vec Index Global) → IsKept columns key vs o → AllByRecursion (IsOf key vs) is.items
-    → IsKept columns key vs (record { key_order = o.key_order; ends = o.ends; indexes = is })
-kept_with columns key vs o is kept h = record {
-  key_is = kept.key_is;
+kept_with : (key : List ℕ) (vs : List Version) (o : Orders) (is : Vec Index Global) → IsKept key vs o → AllByRecursion (IsOf key vs) is.items
+    → IsKept key vs (record { key_order = o.key_order; ends = o.ends; indexes = is })
+kept_with key vs o is kept h = record {
   rising = kept.rising;
   are = record {
     are_indexed = record { no_ordinals = kept.are.are_indexed.no_ordinals; in_key_order = kept.are.are_indexed.in_key_order; indexed = h };
@@ -151,23 +144,23 @@ kept_with columns key vs o is kept h = record {
 room_with : (n : ℕ) (o : Orders) (is : Vec Index Global) → HaveCapacity n o → AllByRecursion (HasCapacity n) is.items → HaveCapacity n (record { key_order = o.key_order; ends = o.ends; indexes = is })
 room_with n o is h k = record { for_keys = h.for_keys; for_ends = h.for_ends; for_indexes = k }
 
-pub other_indexes : (columns : List ColumnDef) (key : List ℕ) (vs : List Version) (o : Orders) (is : Vec Index Global) (n : ℕ) → is.items ≡ o.indexes.items → IsKept columns key vs o → HaveCapacity n o
-    → IsKept columns key vs (record { key_order = o.key_order; ends = o.ends; indexes = is }) × HaveCapacity n (record { key_order = o.key_order; ends = o.ends; indexes = is })
-other_indexes columns key vs o is n same kept room = (
-  kept_with columns key vs o is kept (subst (AllByRecursion (IsOf key vs)) (sym same) kept.are.are_indexed.indexed),
+pub other_indexes : (key : List ℕ) (vs : List Version) (o : Orders) (is : Vec Index Global) (n : ℕ) → is.items ≡ o.indexes.items → IsKept key vs o → HaveCapacity n o
+    → IsKept key vs (record { key_order = o.key_order; ends = o.ends; indexes = is }) × HaveCapacity n (record { key_order = o.key_order; ends = o.ends; indexes = is })
+other_indexes key vs o is n same kept room = (
+  kept_with key vs o is kept (subst (AllByRecursion (IsOf key vs)) (sym same) kept.are.are_indexed.indexed),
   room_with n o is room (subst (AllByRecursion (HasCapacity n)) (sym same) room.for_indexes),
 )
 
-pub one_index : (columns : List ColumnDef) (key : List ℕ) (vs : List Version) (o : Orders) (is : Vec Index Global) (i : Index) (ordinals : List ℕ) → is.items ≡ o.indexes.items ++ i ∷ [] → IsKept columns key vs o
+pub one_index : (key : List ℕ) (vs : List Version) (o : Orders) (is : Vec Index Global) (i : Index) (ordinals : List ℕ) → is.items ≡ o.indexes.items ++ i ∷ [] → IsKept key vs o
     → IsOf key vs i → i.ordinals ≡ ordinals
-    → stored_of columns vs (record { key_order = o.key_order; ends = o.ends; indexes = is }) ≡ with_index ordinals (stored_of columns vs o)
-one_index columns key vs o is i ordinals more kept of same =
-    ap (λ (l : List stored.Index). record { columns = columns; versions = vs; order = o.key_order.order.list; indexes = l })
+    → stored_of key vs (record { key_order = o.key_order; ends = o.ends; indexes = is }) ≡ with_index ordinals (stored_of key vs o)
+one_index key vs o is i ordinals more kept of same =
+    ap (λ (l : List stored.Index). record { key = key; versions = vs; order = o.key_order.order.list; indexes = l })
     (ap (map index_seen) more
     ∙ map-append index_seen o.indexes.items (i ∷ [])
     ∙ ap (λ (x : stored.Index). map index_seen o.indexes.items ++ x ∷ [])
     (ap₂ (λ (ns : List ℕ) (l : List EventId). record { ordinals = ns; order = l }) same
-    (of ∙ ap (λ (ns : List ℕ). starts_of (in_order ns key vs)) same ∙ sym (index_order_is columns key ordinals vs kept.key_is kept.rising))))
+    (of ∙ ap (λ (ns : List ℕ). starts_of (in_order ns key vs)) same ∙ sym (index_order_is key ordinals vs kept.rising))))
 
 all_take : {A : Type 0} (P : A → Type 0) (n : ℕ) (xs : List A) → AllByRecursion P xs → AllByRecursion P (take n xs)
 all_take P zero xs h = tt
@@ -185,13 +178,13 @@ last_of : (is : List Index) → map index_seen (take (length is - 1) is) ≡ wit
 last_of [] = refl
 last_of (i ∷ is) = last_left (i ∷ is) (length (i ∷ is) - 1) (omega arith)
 
-pub last_off : (columns : List ColumnDef) (key : List ℕ) (vs : List Version) (o : Orders) (is : Vec Index Global) (n : ℕ) → is.items ≡ take (length o.indexes.items - 1) o.indexes.items → IsKept columns key vs o → HaveCapacity n o
-    → IsKept columns key vs (record { key_order = o.key_order; ends = o.ends; indexes = is }) × HaveCapacity n (record { key_order = o.key_order; ends = o.ends; indexes = is })
-    × (stored_of columns vs (record { key_order = o.key_order; ends = o.ends; indexes = is }) ≡ without_last_index (stored_of columns vs o))
-last_off columns key vs o is n less kept room = (
-  kept_with columns key vs o is kept (subst (AllByRecursion (IsOf key vs)) (sym less) (all_take (IsOf key vs) (length o.indexes.items - 1) o.indexes.items kept.are.are_indexed.indexed)),
+pub last_off : (key : List ℕ) (vs : List Version) (o : Orders) (is : Vec Index Global) (n : ℕ) → is.items ≡ take (length o.indexes.items - 1) o.indexes.items → IsKept key vs o → HaveCapacity n o
+    → IsKept key vs (record { key_order = o.key_order; ends = o.ends; indexes = is }) × HaveCapacity n (record { key_order = o.key_order; ends = o.ends; indexes = is })
+    × (stored_of key vs (record { key_order = o.key_order; ends = o.ends; indexes = is }) ≡ without_last_index (stored_of key vs o))
+last_off key vs o is n less kept room = (
+  kept_with key vs o is kept (subst (AllByRecursion (IsOf key vs)) (sym less) (all_take (IsOf key vs) (length o.indexes.items - 1) o.indexes.items kept.are.are_indexed.indexed)),
   room_with n o is room (subst (AllByRecursion (HasCapacity n)) (sym less) (all_take (HasCapacity n) (length o.indexes.items - 1) o.indexes.items room.for_indexes)),
-  ap (λ (l : List stored.Index). record { columns = columns; versions = vs; order = o.key_order.order.list; indexes = l }) (ap (map index_seen) less ∙ last_of o.indexes.items),
+  ap (λ (l : List stored.Index). record { key = key; versions = vs; order = o.key_order.order.list; indexes = l }) (ap (map index_seen) less ∙ last_of o.indexes.items),
 )
 
 -- ---- orders that contracts see alike
@@ -208,9 +201,8 @@ indexes_alike key vs (i ∷ is) (j ∷ js) same h =
     let rest : map index_seen js ≡ map index_seen is = cc in
     (index_alike key vs i j one h.0, indexes_alike key vs is js rest h.1)
 
-pub alike_kept : (columns : List ColumnDef) (key : List ℕ) (vs : List Version) (o p : Orders) → SeenAlike o p → IsKept columns key vs o → IsKept columns key vs p
-alike_kept columns key vs o p same kept = record {
-  key_is = kept.key_is;
+pub alike_kept : (key : List ℕ) (vs : List Version) (o p : Orders) → SeenAlike o p → IsKept key vs o → IsKept key vs p
+alike_kept key vs o p same kept = record {
   rising = kept.rising;
   are = record {
     are_indexed = record {
@@ -224,14 +216,8 @@ alike_kept columns key vs o p same kept = record {
 
 -- ---- nothing
 
-none_placed : key_places [] ≡ []
-unfolding key_places
-none_placed = refl
-
-pub nothing_kept : (columns : List ColumnDef) (key : List ℕ) (vs : List Version) (o : Orders) → columns ≡ [] → key ≡ [] → vs ≡ [] → o.key_order.ordinals ≡ [] → o.key_order.order.list ≡ []
-    → o.ends.items ≡ [] → o.indexes.items ≡ [] → IsKept columns key vs o
-nothing_kept columns key vs o no_columns no_key no_versions no_ordinals no_order no_ends no_indexes = record {
-  key_is = no_key ∙ sym none_placed ∙ ap key_places (sym no_columns);
+pub nothing_kept : (key : List ℕ) (vs : List Version) (o : Orders) → vs ≡ [] → o.key_order.ordinals ≡ [] → o.key_order.order.list ≡ [] → o.ends.items ≡ [] → o.indexes.items ≡ [] → IsKept key vs o
+nothing_kept key vs o no_versions no_ordinals no_order no_ends no_indexes = record {
   rising = subst Rising (sym no_versions) tt;
   are = record {
     are_indexed = record {

@@ -3,7 +3,6 @@ use Rattle.std.proofs.Common.{◌≡◌, ◌<◌, ◌+◌, ℕ, zero, suc, refl,
 use Rattle.std.specs.Prelude.{slice_set}
 use Rattle.std.specs.List.{HoldsAt, remove}
 use Rattle.std.proofs.lemmas.List.Edits.{length-remove}
-use Rattle.sql_value.specs.declared.column.ColumnDef.{ColumnDef}
 use Rattle.sql_types.specs.declared.version.Version.{Version}
 use Rattle.spec_model.specs.Rows.{EventId}
 use Rattle.spec_model.specs.Undo.{versions_undone}
@@ -19,11 +18,11 @@ no_version = record { values = []; start = (0, 0); end = None }
 
 -- what is to be undone is the same
 pub record Undoing (tx seq : ℕ) (was now : ReservedTable) : Type 0 where
-  pub stored : now.stored ≡ with_versions was.stored.columns now.stored.versions was.stored
+  pub stored : now.stored ≡ with_versions was.stored.key now.stored.versions was.stored
   pub left : versions_undone tx seq now.stored.versions ≡ versions_undone tx seq was.stored.versions
   pub room : now.room ≡ was.room
 
-pub undoing_first : (tx seq : ℕ) (was : ReservedTable) → was.stored ≡ with_versions was.stored.columns was.stored.versions was.stored → Undoing tx seq was was
+pub undoing_first : (tx seq : ℕ) (was : ReservedTable) → was.stored ≡ with_versions was.stored.key was.stored.versions was.stored → Undoing tx seq was was
 undoing_first tx seq was follows = record { stored = follows; left = refl; room = refl }
 
 own_more : (o : Option EventId) (start : EventId) (es fs : List Ending) → length es + 1 ≡ length fs → length (own_ending o start ++ es) + 1 ≡ length (own_ending o start ++ fs)
@@ -39,7 +38,7 @@ one_end_less (v ∷ vs) (suc p) end d inside ended =
 
 module _ (tx seq : ℕ) (was now new : ReservedTable) (p : ℕ) (h : Undoing tx seq was now) (room : new.room ≡ now.room) where
   module _ (one : EndsUndone tx seq now.stored.versions p)
-      (stored : (d : Version) → new.stored ≡ with_versions now.stored.columns (slice_set now.stored.versions p (without_end (get_or now.stored.versions p d))) now.stored) where
+      (stored : (d : Version) → new.stored ≡ with_versions now.stored.key (slice_set now.stored.versions p (without_end (get_or now.stored.versions p d))) now.stored) where
     versions_without : new.stored.versions ≡ slice_set now.stored.versions p (without_end (get_or now.stored.versions p no_version))
     versions_without = ap (λ (s : Stored). s.versions) (stored no_version)
 
@@ -58,7 +57,7 @@ module _ (tx seq : ℕ) (was now new : ReservedTable) (p : ℕ) (h : Undoing tx 
         let here = ap (λ l. length (endings_of l)) versions_without in
         omega (arith, less, here)
 
-  module _ (one : StartsUndone tx seq now.stored.versions p) (stored : new.stored ≡ with_versions now.stored.columns (remove now.stored.versions p) now.stored) where
+  module _ (one : StartsUndone tx seq now.stored.versions p) (stored : new.stored ≡ with_versions now.stored.key (remove now.stored.versions p) now.stored) where
     versions_gone : new.stored.versions ≡ remove now.stored.versions p
     versions_gone = ap (λ (s : Stored). s.versions) stored
 
@@ -85,15 +84,15 @@ module _ (tx seq : ℕ) (was now new : ReservedTable) (p : ℕ) (h : Undoing tx 
         all_removed (v ∷ vs) (suc p) h = (h.0, all_removed vs p h.1)
 
 pub undone_all : (tx seq : ℕ) (was now : ReservedTable) → Undoing tx seq was now → NoEndUndone tx seq now.stored.versions → NoStartUndone tx seq now.stored.versions
-    → now.stored ≡ with_versions was.stored.columns (versions_undone tx seq was.stored.versions) was.stored
+    → now.stored ≡ with_versions was.stored.key (versions_undone tx seq was.stored.versions) was.stored
 undone_all tx seq was now h ends starts =
-    h.stored ∙ ap (λ (l : List Version). with_versions was.stored.columns l was.stored) (sym (none_left tx seq now.stored.versions ends starts) ∙ h.left)
+    h.stored ∙ ap (λ (l : List Version). with_versions was.stored.key l was.stored) (sym (none_left tx seq now.stored.versions ends starts) ∙ h.left)
 
-pub undone_both : (tx seq : ℕ) (was mid now : Stored) → mid ≡ with_versions was.columns mid.versions was → versions_undone tx seq mid.versions ≡ versions_undone tx seq was.versions
-    → now ≡ with_versions mid.columns (versions_undone tx seq mid.versions) mid → now ≡ with_versions was.columns (versions_undone tx seq was.versions) was
+pub undone_both : (tx seq : ℕ) (was mid now : Stored) → mid ≡ with_versions was.key mid.versions was → versions_undone tx seq mid.versions ≡ versions_undone tx seq was.versions
+    → now ≡ with_versions mid.key (versions_undone tx seq mid.versions) mid → now ≡ with_versions was.key (versions_undone tx seq was.versions) was
 undone_both tx seq was mid now first left next =
     next
-    ∙ ap (λ (c : List ColumnDef). with_versions c (versions_undone tx seq mid.versions) mid) (ap (λ (s : Stored). s.columns) first)
-    ∙ ap (λ (l : List Version). with_versions was.columns l mid) left
-    ∙ ap (with_versions was.columns (versions_undone tx seq was.versions)) first
-    ∙ with_twice was.columns (versions_undone tx seq was.versions) mid.versions was
+    ∙ ap (λ (k : List ℕ). with_versions k (versions_undone tx seq mid.versions) mid) (ap (λ (s : Stored). s.key) first)
+    ∙ ap (λ (l : List Version). with_versions was.key l mid) left
+    ∙ ap (with_versions was.key (versions_undone tx seq was.versions)) first
+    ∙ with_twice was.key (versions_undone tx seq was.versions) mid.versions was

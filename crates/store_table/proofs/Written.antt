@@ -8,8 +8,9 @@ use Rattle.sql_types.specs.declared.table.TableDef.{TableDef}
 use Rattle.sql_types.specs.declared.version.Version.{Version}
 use Rattle.spec_model.specs.Changes.{Change, changed_all, row_changes}
 use Rattle.spec_model.specs.Checks.{row_statement_check}
+use Rattle.spec_model.specs.Keys.{key_places}
 use Rattle.spec_model.specs.Runs.{MadeBefore, Rising}
-use Rattle.law_journal.specs.Fits.{Fits}
+use Rattle.law_journal.specs.Fits.{FitsSoFar}
 use Rattle.format_event.specs.Leaf.{event_bytes}
 use Rattle.spec_protocol.specs.Doing.{events_from, grown}
 use Rattle.spec_protocol.specs.Moves.{noting}
@@ -24,7 +25,7 @@ use Rattle.store_table.proofs.Keeping.{with_twice}
 use Rattle.store_table.proofs.Noted.{alike, same_leaves}
 use Rattle.store_table.proofs.RowsMade.{row_made}
 
-module _ (def : TableDef) (V : List Version) (rising : Rising V) (fit : AllByRecursion (λ v. Fits def.columns v.values) V) (stmt : RowStmt)
+module _ (def : TableDef) (V : List Version) (rising : Rising V) (fit : AllByRecursion (λ v. FitsSoFar def.columns v.values) V) (stmt : RowStmt)
     (passes : row_statement_check (def ∷ []) stmt ≡ Ok def) where
   pub worked_out : (tx seq count : ℕ) (changes : List Change) (leaves : List (List ℕ)) → row_changes def V stmt ≡ Ok (changes, count) → seq + length changes < 2 ^ 63
       → leaves ≡ map event_bytes (events_made def.id tx seq changes V) → IsWorkedOut def V stmt tx seq changes count leaves
@@ -55,7 +56,7 @@ module _ {H : Type 0} (digest : H → List ℕ → List ℕ) (tx seq : ℕ) (bef
     room = (let e = seq_is may.h may.o may.is in omega (arith, e, room));
   }
 
-  module _ (def : TableDef) (s : Stored) (rising : Rising s.versions) (fit : AllByRecursion (λ v. Fits def.columns v.values) s.versions) (stmt : RowStmt)
+  module _ (def : TableDef) (s : Stored) (rising : Rising s.versions) (fit : AllByRecursion (λ v. FitsSoFar def.columns v.values) s.versions) (stmt : RowStmt)
       (passes : row_statement_check (def ∷ []) stmt ≡ Ok def) (may : MayChange digest before s.versions)
       (count : ℕ) (changes : List Change) (leaves : List (List ℕ)) (worked : IsWorkedOut def s.versions stmt tx seq changes count leaves) where
     abbrev es : List Event
@@ -69,21 +70,21 @@ module _ {H : Type 0} (digest : H → List ℕ → List ℕ) (tx seq : ℕ) (bef
     pub leaves_count : length leaves ≡ length changes
     leaves_count = ap length worked.leaves_are ∙ length-map es event_bytes ∙ made_long tx def.id def.columns seq changes s.versions worked.made
 
-    carried : (roomy t : Stored) → roomy ≡ with_versions def.columns s.versions s → t ≡ with_versions roomy.columns (changed_all tx seq changes roomy.versions) roomy
-        → t ≡ with_versions def.columns (changed_all tx seq changes s.versions) s
+    carried : (roomy t : Stored) → roomy ≡ with_versions (key_places def.columns) s.versions s → t ≡ with_versions roomy.key (changed_all tx seq changes roomy.versions) roomy
+        → t ≡ with_versions (key_places def.columns) (changed_all tx seq changes s.versions) s
     carried roomy t made_room out =
-        out ∙ ap (λ (x : Stored). with_versions x.columns (changed_all tx seq changes x.versions) x) made_room
-        ∙ with_twice def.columns (changed_all tx seq changes s.versions) s.versions s
+        out ∙ ap (λ (x : Stored). with_versions x.key (changed_all tx seq changes x.versions) x) made_room
+        ∙ with_twice (key_places def.columns) (changed_all tx seq changes s.versions) s.versions s
 
-    has_written : (mid after : TxCtx H) (t : Stored) → t ≡ with_versions def.columns (changed_all tx seq changes s.versions) s
+    has_written : (mid after : TxCtx H) (t : Stored) → t ≡ with_versions (key_places def.columns) (changed_all tx seq changes s.versions) s
         → (h : H) (o : OpenTransaction) → Represents digest h before o
         → Represents digest h after (noting (o.seq + length leaves) (with_leaves def.id leaves o.trees) o)
         → HasWritten digest h s def changes o t after
     has_written mid after t is h o r noted =
         let mine : tx ≡ o.id = id_is h o r in
         let from : seq ≡ o.seq = seq_is h o r in
-        let there : t ≡ with_versions def.columns (changed_all o.id o.seq changes s.versions) s =
-        is ∙ ap₂ (λ (n m : ℕ). with_versions def.columns (changed_all n m changes s.versions) s) mine from in
+        let there : t ≡ with_versions (key_places def.columns) (changed_all o.id o.seq changes s.versions) s =
+        is ∙ ap₂ (λ (n m : ℕ). with_versions (key_places def.columns) (changed_all n m changes s.versions) s) mine from in
         let events : es ≡ events_from o.id o.seq def.id t.versions =
         sym new_events ∙ ap₂ (λ (n m : ℕ). events_from n m def.id (changed_all n m changes s.versions)) mine from
         ∙ ap (λ (x : Stored). events_from o.id o.seq def.id x.versions) (sym there) in
@@ -97,7 +98,7 @@ module _ {H : Type 0} (digest : H → List ℕ → List ℕ) (tx seq : ℕ) (bef
         }
 
     pub rows_written : (mid after : TxCtx H) (roomy t : Stored) → ((h : H) (o : OpenTransaction) → Represents digest h before o → Represents digest h mid o)
-        → roomy ≡ with_versions def.columns s.versions s → t ≡ with_versions roomy.columns (changed_all tx seq changes roomy.versions) roomy
+        → roomy ≡ with_versions (key_places def.columns) s.versions s → t ≡ with_versions roomy.key (changed_all tx seq changes roomy.versions) roomy
         → ((h : H) (o : OpenTransaction) → Represents digest h mid o → Represents digest h after (noting (o.seq + length leaves) (with_leaves def.id leaves o.trees) o))
         → RowsWritten digest s before def stmt count t after
     rows_written mid after roomy t still made_room out noted = record {

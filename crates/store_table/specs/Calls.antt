@@ -13,11 +13,12 @@ use Rattle.spec_model.specs.Changes.{Change, changed_all, row_changes}
 use Rattle.spec_model.specs.Effect.{query_rows}
 use Rattle.spec_model.specs.Holds.{holds_after}
 use Rattle.spec_model.specs.InTheWay.{first_conflict}
+use Rattle.spec_model.specs.Keys.{key_places}
 use Rattle.spec_model.specs.Limits.{max_columns}
 use Rattle.spec_model.specs.Rows.{Row}
 use Rattle.spec_model.specs.Runs.{MadeBefore}
 use Rattle.spec_history.specs.Lists.{Each}
-use Rattle.law_journal.specs.Fits.{Fits}
+use Rattle.law_journal.specs.Fits.{FitsSoFar}
 use Rattle.spec_protocol.specs.Cells.{TableCell}
 use Rattle.spec_protocol.specs.Doing.{grown, events_from, Stopped}
 use Rattle.spec_protocol.specs.Moves.{noting}
@@ -34,15 +35,15 @@ use Rattle.store_table.specs.declared.stop.TableErr.TheVariants.{Refused, Locked
 
 -- ---- what a call relies on
 
--- the definition is of the cell's table, and has the columns of its versions
+-- the definition is of the cell's table, and has the key of its versions
 pub record IsTable (c : TableCell) (def : TableDef) : Type 0 where
   pub here : def.id ≡ c.id
-  pub columns : (c.versions ≡ []) ⊎ (c.columns ≡ def.columns)
+  pub key : (c.versions ≡ []) ⊎ (c.key ≡ key_places def.columns)
 
--- no more columns than a table may have, which the versions fit
+-- no more columns than a table may have, which the versions fit so far
 pub record HasFit (c : TableCell) (def : TableDef) : Type 0 where
   pub few : length def.columns ≤ max_columns
-  pub fit : Each (λ v. Fits def.columns v.values) c.versions
+  pub fit : Each (λ v. FitsSoFar def.columns v.values) c.versions
 
 -- the context is of a transaction whose starts and ends of these versions are numbered below its counter
 pub record MayChange {H : Type 0} (digest : H → List ℕ → List ℕ) (ctx : TxCtx H) (versions : List Version)
@@ -83,7 +84,7 @@ IsLeft c held e stop d =
 -- the changes are in the store, and the context has their leaves
 pub record HasWritten {H : Type 0} (digest : H → List ℕ → List ℕ) (h : H) (s : Stored) (def : TableDef)
     (changes : List Change) (o : OpenTransaction) (t : Stored) (ctx : TxCtx H) : Type 0 where
-  pub stored : t ≡ stored.with_versions def.columns (changed_all o.id o.seq changes s.versions) s
+  pub stored : t ≡ stored.with_versions (key_places def.columns) (changed_all o.id o.seq changes s.versions) s
   pub context : Represents digest h ctx (noting (o.seq + length changes)
       (grown def.id (events_from o.id o.seq def.id t.versions) o.trees) o)
 
@@ -102,7 +103,7 @@ pub record HasChanges {H : Type 0} (digest : H → List ℕ → List ℕ) (h : H
     : Type 0 where
   pub free : first_conflict c.holds o.id requests ≡ None
   pub cell : d ≡ with_holds (holds_after c.holds o.id requests)
-      (with_versions def.columns (changed_all o.id o.seq changes c.versions) c)
+      (with_versions (key_places def.columns) (changed_all o.id o.seq changes c.versions) c)
   pub context : Represents digest h ctx (noting (o.seq + length changes)
       (grown c.id (events_from o.id o.seq c.id d.versions) o.trees) o)
 
@@ -140,4 +141,4 @@ NoneRead c tx requests named q stop d =
 -- the index with this number has so many rows below that of the version which this event started
 abbrev pub IsPlace : TableCell → ℕ → ℕ × ℕ → ℕ → Type 0
 IsPlace c index start place = (i : Index) (v : Version) → slice_get c.indexes index ≡ Some i
-    → version_at start c.versions ≡ Some v → place ≡ rows_below c.columns i.ordinals v c.versions
+    → version_at start c.versions ≡ Some v → place ≡ rows_below c.key i.ordinals v c.versions

@@ -1,10 +1,8 @@
 -- What holds of the orders that are kept beside a table's versions.
 use Rattle.std.specs.Prelude.{ℕ, ◌≡◌, ◌≤◌, List, [], map, vec_capacity}
 use Rattle.std.specs.List.{AllByRecursion}
-use Rattle.sql_value.specs.declared.column.ColumnDef.{ColumnDef}
 use Rattle.sql_types.specs.declared.version.Version.{Version}
 use Rattle.spec_model.specs.Lists.{inserted}
-use Rattle.spec_model.specs.Keys.{key_places}
 use Rattle.spec_model.specs.Runs.{Rising}
 use Rattle.store_table.specs.Ends.{endings_in}
 use Rattle.store_table.specs.Orders.{in_order, order_cmp, starts_of}
@@ -57,9 +55,7 @@ pub record HaveCapacity (count : ℕ) (o : Orders) : Type 0 where
   pub for_indexes : AllByRecursion (HasCapacity count) o.indexes.items
 
 -- versions by rising start, with the places of the key's columns
-pub record IsKept (columns : List ColumnDef) (key : List ℕ) (versions : List Version)
-    (o : Orders) : Type 0 where
-  pub key_is : key ≡ key_places columns
+pub record IsKept (key : List ℕ) (versions : List Version) (o : Orders) : Type 0 where
   pub rising : Rising versions
   pub are : AreOf key versions o
 

@@ -10,7 +10,7 @@ use Rattle.sql_types.specs.declared.version.Version.{Version}
 use Rattle.spec_model.specs.Changes.{Change, Starts, Ends, row_changes}
 use Rattle.spec_model.specs.Events.{start_event, end_event}
 use Rattle.spec_model.specs.Rows.{EventId}
-use Rattle.law_journal.specs.Fits.{Fits}
+use Rattle.law_journal.specs.Fits.{Fits, FitsSoFar}
 use Rattle.format_event.specs.Leaf.{event_bytes}
 use Rattle.spec_protocol.specs.Seats.{OpenTransaction, Tree}
 use Rattle.store_tx.specs.Leaves.{with_leaf}
@@ -40,12 +40,12 @@ events_made table tx seq (c ∷ cs) versions =
 
 -- ---- which changes there are
 
--- this version stands, and fits its columns
+-- this version stands, and fits its columns so far
 pub record LiveFits (columns : List ColumnDef) (start : EventId) (versions : List Version) : Type 0 where
   pub version : Version
   pub found : version_at start versions ≡ Some version
   pub is_live : version.end ≡ None
-  pub fits : Fits columns version.values
+  pub fits : FitsSoFar columns version.values
 
 -- a row that fits starts, or a version ends that stands
 abbrev pub IsMade : List ColumnDef → List Version → Change → Type 0

@@ -2,29 +2,29 @@
 use Rattle.std.specs.Prelude.{ℕ, ◌++◌, List, [], ◌∷◌, length, map, None}
 use Rattle.std.specs.List.{filter}
 use Rattle.std.specs.Ordering.{is_lt}
-use Rattle.sql_value.specs.declared.column.ColumnDef.{ColumnDef}
 use Rattle.sql_types.specs.declared.version.Version.{Version}
 use Rattle.spec_model.specs.Rows.{EventId, live}
-use Rattle.spec_model.specs.Keys.{key_cmp, live_by_key}
+use Rattle.spec_model.specs.Keys.{key_cmp, live_by_key_at}
 pub use Rattle.spec_protocol.specs.Cells.{Index}
 pub use Rattle.spec_protocol.specs.TablesAreSerial.{projected, index_order}
 pub use Rattle.spec_protocol.specs.TableVisits.{reordered}
 pub use Rattle.spec_protocol.specs.UndoVisits.{without_last}
 
 pub record Stored : Type 0 where
-  pub columns : List ColumnDef
+  -- the places of the key's columns, where there are versions
+  pub key : List ℕ
   pub versions : List Version
   -- the starts of the versions that stand, in key order
   pub order : List EventId
   pub indexes : List Index
 
--- key order and indexes follow the versions, which are of these columns
-abbrev pub with_versions : List ColumnDef → List Version → Stored → Stored
-with_versions columns versions s = record {
-  columns = columns;
+-- key order and indexes follow the versions, whose key is at these places
+abbrev pub with_versions : List ℕ → List Version → Stored → Stored
+with_versions key versions s = record {
+  key = key;
   versions = versions;
-  order = map (λ v. v.start) (live_by_key columns None versions);
-  indexes = map (reordered columns versions) s.indexes;
+  order = map (λ v. v.start) (live_by_key_at key None versions);
+  indexes = map (reordered key versions) s.indexes;
 }
 
 -- a table's versions, and room for so many more starts
@@ -35,23 +35,23 @@ pub record ReservedTable : Type 0 where
 -- one index more, of the columns with these ordinals
 abbrev pub with_index : List ℕ → Stored → Stored
 with_index ordinals s = record {
-  columns = s.columns;
+  key = s.key;
   versions = s.versions;
   order = s.order;
   indexes = s.indexes
-      ++ record { ordinals = ordinals; order = index_order s.columns ordinals s.versions } ∷ [];
+      ++ record { ordinals = ordinals; order = index_order s.key ordinals s.versions } ∷ [];
 }
 
 abbrev pub without_last_index : Stored → Stored
 without_last_index s = record {
-  columns = s.columns;
+  key = s.key;
   versions = s.versions;
   order = s.order;
   indexes = without_last s.indexes;
 }
 
 -- how many versions that stand have a row in the index with these ordinals below that of this version
-abbrev pub rows_below : List ColumnDef → List ℕ → Version → List Version → ℕ
-rows_below columns ordinals v versions =
-    length (filter (λ w. is_lt (key_cmp (projected columns ordinals w) (projected columns ordinals v)))
+abbrev pub rows_below : List ℕ → List ℕ → Version → List Version → ℕ
+rows_below key ordinals v versions =
+    length (filter (λ w. is_lt (key_cmp (projected key ordinals w) (projected key ordinals v)))
     (live versions))

@@ -3,7 +3,7 @@
 ghost use Rattle.std.specs.Prelude.{◌≡◌, ◌≤◌, [], length, slice_range};
 ghost use Rattle.std.specs.List.{filter, list_any, prefix_len};
 ghost use Rattle.spec_model.specs.Runs.{Rising};
-ghost use Rattle.sql_parts.specs.Places.{key_at};
+ghost use Rattle.spec_model.specs.Keys.{key_at};
 ghost use Rattle.store_table.specs.Orders as spec;
 ghost use Rattle.store_table.specs.Orders.{in_order, passes, starts_of};
 
@@ -16,7 +16,7 @@ use sql_value::Value;
 use store_order::Starts;
 
 // Whether the key of the version of this start comes before this one.
-#[tactic(auto, unfolding(sql_parts::specs::Places::key_at))]
+#[tactic(auto, unfolding(spec_model::specs::Keys::key_at))]
 fn is_below(places: &[usize], versions: &[Version], start: EventId, key: &[Value]) -> bool
     requires { Rising versions.now }
     ensures { result ≡ passes (spec.is_below places.now key.now) (spec.version_at start versions.now) }
@@ -28,7 +28,7 @@ fn is_below(places: &[usize], versions: &[Version], start: EventId, key: &[Value
 }
 
 // Whether it doesn't come behind this one.
-#[tactic(auto, unfolding(sql_parts::specs::Places::key_at))]
+#[tactic(auto, unfolding(spec_model::specs::Keys::key_at))]
 fn is_up_to(places: &[usize], versions: &[Version], start: EventId, key: &[Value]) -> bool
     requires { Rising versions.now }
     ensures { result ≡ passes (spec.is_up_to places.now key.now) (spec.version_at start versions.now) }
@@ -81,7 +81,7 @@ pub fn key_range(
 }
 
 // Whether the key of the version of this start comes before that of the row.
-#[tactic(auto, unfolding(sql_parts::specs::Places::key_at))]
+#[tactic(auto, unfolding(spec_model::specs::Keys::key_at))]
 fn is_below_row(places: &[usize], versions: &[Version], start: EventId, row: &Row) -> bool
     requires { Rising versions.now }
     ensures { result ≡ passes (spec.is_below places.now (key_at places.now row.now))
@@ -94,7 +94,7 @@ fn is_below_row(places: &[usize], versions: &[Version], start: EventId, row: &Ro
 }
 
 // Whether the version of this start has the key of the row.
-#[tactic(auto, unfolding(sql_parts::specs::Places::key_at))]
+#[tactic(auto, unfolding(spec_model::specs::Keys::key_at))]
 fn has_key_of(places: &[usize], versions: &[Version], start: EventId, row: &Row) -> bool
     requires { Rising versions.now }
     ensures { result ≡ passes (spec.is_of_key places.now (key_at places.now row.now))

@@ -39,7 +39,7 @@ impl Model for TableCell {
 
     ghost view = { λ c. record {
       id = c.id;
-      columns = c.store.stored.columns;
+      key = c.store.stored.key;
       versions = c.store.stored.versions;
       order = c.store.stored.order;
       indexes = c.store.stored.indexes;
@@ -52,7 +52,7 @@ impl TableCell {
     pub fn new(alloc: Global, id: TableId) -> TableCell
         ensures { result ≡ record {
           id = id;
-          columns = [];
+          key = [];
           versions = [];
           order = [];
           indexes = [];

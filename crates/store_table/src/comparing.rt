@@ -25,7 +25,7 @@ fn compare_columns(ordinals: &[u16], a: &Version, b: &Version) -> Ordering
 }
 
 /// The order of two versions by the key whose columns stand at these places.
-#[tactic(auto, unfolding(sql_parts::specs::Places::key_at))]
+#[tactic(auto, unfolding(spec_model::specs::Keys::key_at))]
 fn compare_keys(key: &[usize], a: &Version, b: &Version) -> Ordering
     ensures { result ≡ key_cmp (key_values key.now a.now) (key_values key.now b.now) }
 {

@@ -16,6 +16,7 @@ ghost use Rattle.spec_model.specs.Catalog.{NamedPart};
 ghost use Rattle.spec_model.specs.Changes.{Change, changed_all, row_changes};
 ghost use Rattle.spec_model.specs.Checks.{row_statement_check};
 ghost use Rattle.spec_model.specs.Effect.{query_rows};
+ghost use Rattle.spec_model.specs.Keys.{key_places};
 ghost use Rattle.spec_model.specs.Locks.{query_requests, row_requests};
 ghost use Rattle.spec_model.specs.Query.{query_check};
 ghost use Rattle.spec_model.specs.Rows.{Row};
@@ -41,7 +42,7 @@ pub fn changing_is_a_visit()
         → first_conflict c.holds o.id (row_requests named.0 row) ≡ None
         → row_changes named.0 c.versions row ≡ Ok (changes, count)
         → d ≡ with_holds (holds_after c.holds o.id (row_requests named.0 row))
-        (with_versions named.0.columns (changed_all o.id o.seq changes c.versions) c)
+        (with_versions (key_places named.0.columns) (changed_all o.id o.seq changes c.versions) c)
         → t ≡ done s at.at.stands (noting (o.seq + length changes)
         (grown c.id (events_from o.id o.seq c.id d.versions) o.trees) (visiting (cell_of c.id) o))
         (reply.Changed count)

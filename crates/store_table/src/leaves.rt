@@ -3,7 +3,7 @@
 ghost use Rattle.std.specs.Prelude.{◌≡◌, ◌≤◌, ◌<◌, ◌+◌, ◌^◌, ◌∷◌, [], IfOk, List, length, map};
 ghost use Rattle.std.specs.List.{AllByRecursion};
 ghost use Rattle.sql_value.specs.declared.column.ColumnDef.{ColumnDef};
-ghost use Rattle.law_journal.specs.Fits.{Fits};
+ghost use Rattle.law_journal.specs.Fits.{Fits, FitsSoFar};
 ghost use Rattle.spec_model.specs.Limits.{max_columns};
 ghost use Rattle.spec_model.specs.Runs.{Rising};
 ghost use Rattle.format_event.specs.EventRef as views;
@@ -20,6 +20,14 @@ use std::alloc::Global;
 /// The leaf of an event of a row that fits its table.
 pub fn leaf_of(alloc: Global, event: &EventRef) -> Result<Blob, Memory>
     requires { (columns : List ColumnDef) × (length columns ≤ max_columns) × Fits columns event.now.values.now }
+    ensures { IfOk result (λ leaf. leaf ≡ event_bytes (views.event_of event.now)) }
+{
+    leaf_of_version(alloc, event)
+}
+
+// The leaf of an event of a row that fits its table so far.
+fn leaf_of_version(alloc: Global, event: &EventRef) -> Result<Blob, Memory>
+    requires { (columns : List ColumnDef) × (length columns ≤ max_columns) × FitsSoFar columns event.now.values.now }
     ensures { IfOk result (λ leaf. leaf ≡ event_bytes (views.event_of event.now)) }
 {
     are_utf8_texts(event.values);
@@ -59,7 +67,7 @@ fn leaf_of_change(
                 values: version.values.as_slice(),
                 table,
             };
-            leaf_of(alloc, &end)
+            leaf_of_version(alloc, &end)
         }
     }
 }

@@ -4,7 +4,6 @@
 mod building;
 mod by_key;
 mod cell;
-mod columns;
 mod comparing;
 mod ending;
 mod guessing;

@@ -1,6 +1,7 @@
 //! How a statement finds the versions of a table that stand.
 
 ghost use Rattle.std.specs.Prelude.{◌≡◌, ◌⊎◌, []};
+ghost use Rattle.spec_model.specs.Keys.{key_places};
 
 use crate::version_store::VersionStore;
 use base_types::Memory;
@@ -12,7 +13,7 @@ use std::alloc::Global;
 impl LiveVersions for VersionStore {
     ghost versions = { λ s. s.stored.versions };
 
-    ghost are_of = { λ s table. (s.stored.versions ≡ []) ⊎ (s.stored.columns ≡ table.columns) };
+    ghost are_of = { λ s table. (s.stored.versions ≡ []) ⊎ (s.stored.key ≡ key_places table.columns) };
 
     fn all(&self) -> &[Version] {
         self.versions()

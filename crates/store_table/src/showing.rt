@@ -2,6 +2,7 @@
 
 ghost use Rattle.std.specs.Prelude.{◌≡◌, ◌⊎◌, []};
 ghost use Rattle.spec_model.specs.Effect as spec;
+ghost use Rattle.spec_model.specs.Keys as keys;
 ghost use Rattle.spec_model.specs.Refusals.{MatchesUnlessOom};
 
 use crate::version_store::VersionStore;
@@ -20,7 +21,7 @@ pub fn read_rows(
     part: Part,
     q: &Select,
 ) -> Result<Items<Row>, Refusal>
-    requires { (store.now.stored.versions ≡ []) ⊎ (store.now.stored.columns ≡ def.now.columns) }
+    requires { (store.now.stored.versions ≡ []) ⊎ (store.now.stored.key ≡ keys.key_places def.now.columns) }
     ensures { MatchesUnlessOom (spec.query_rows q.now (def.now, part) store.now.stored.versions) result }
 {
     if store.versions().is_empty() {
@@ -43,7 +44,7 @@ fn read_keyed(
     part: Part,
     q: &Select,
 ) -> Result<Items<Row>, Refusal>
-    requires { (store.now.stored.versions ≡ []) ⊎ (store.now.stored.columns ≡ table.now.columns) }
+    requires { (store.now.stored.versions ≡ []) ⊎ (store.now.stored.key ≡ keys.key_places table.now.columns) }
     ensures { MatchesUnlessOom (spec.query_rows q.now (table.now, part) store.now.stored.versions) result }
 {
     let rows = query_rows(alloc, q, table, part, store)?;

@@ -19,7 +19,6 @@ ghost use Rattle.store_table.specs.Undoing.{EndsUndone, NoEndUndone, NoStartUndo
 
 use crate::building::new_index;
 use crate::by_key::{key_exists, key_range};
-use crate::columns::copy_columns;
 use crate::ending::{Ending, add_ending, last_ending};
 use crate::index::{Index, rows_below};
 use crate::leaves::leaves_of;
@@ -38,8 +37,7 @@ use store_order::Starts;
 /// Contracts see them as lists, and the room that is reserved.
 #[derive(Drop)]
 pub struct VersionStore {
-    columns: Items<ColumnDef>,
-    // The places of the key's columns.
+    // The places of the key's columns, where there are versions.
     key: Vec<usize>,
     versions: Vec<Version>,
     orders: Orders,
@@ -58,7 +56,7 @@ impl Model for VersionStore {
 
     ghost view = { λ s. record {
       stored = record {
-        columns = s.columns;
+        key = s.key.items;
         versions = s.versions.items;
         order = s.orders.key_order.order.list;
         indexes = map index_seen s.orders.indexes.items;
@@ -66,7 +64,7 @@ impl Model for VersionStore {
       room = s.room;
     } };
 
-    ghost invariant = { λ s. IsKept s.columns s.key.items s.versions.items s.orders
+    ghost invariant = { λ s. IsKept s.key.items s.versions.items s.orders
         × (length s.versions.items + s.room ≤ vec_capacity s.versions)
         × HaveCapacity (length s.versions.items + s.room) s.orders };
 }
@@ -75,12 +73,11 @@ impl VersionStore {
     /// A table without versions and indexes, and without room. Takes no memory.
     pub fn new(alloc: Global) -> VersionStore
         ensures { result ≡ record {
-          stored = record { columns = []; versions = []; order = []; indexes = [] };
+          stored = record { key = []; versions = []; order = []; indexes = [] };
           room = 0;
         } }
     {
         VersionStore {
-            columns: Items::new(alloc),
             key: Vec::new(alloc),
             versions: Vec::new(alloc),
             orders: Orders {
@@ -96,9 +93,9 @@ impl VersionStore {
         }
     }
 
-    /// The places of the key's columns among the columns.
+    /// The places of the key's columns among the columns, where there are versions.
     pub fn key_places(&self) -> &[usize]
-        ensures { result.now ≡ keys.key_places self.now.stored.columns }
+        ensures { result.now ≡ self.now.stored.key }
     {
         &self.key
     }
@@ -110,21 +107,19 @@ impl VersionStore {
         &self.versions
     }
 
-    /// The columns of the table are these, where there are no versions yet. Where there are they have to be
-    /// the same. For want of memory nothing changes.
-    pub fn set_columns(&mut self, alloc: Global, columns: &[ColumnDef]) -> Result<(), Memory>
-        requires { (self.old.stored.versions ≡ []) ⊎ (self.old.stored.columns ≡ columns.now) }
+    /// The key of the table is that of these columns, where there are no versions yet. Where there are it has
+    /// to be the same. For want of memory nothing changes.
+    pub fn set_key(&mut self, alloc: Global, columns: &[ColumnDef]) -> Result<(), Memory>
+        requires { (self.old.stored.versions ≡ []) ⊎ (self.old.stored.key ≡ keys.key_places columns.now) }
         ensures ok { OnOk result (self.new.stored
-            ≡ with_versions columns.now self.old.stored.versions self.old.stored) }
+            ≡ with_versions (keys.key_places columns.now) self.old.stored.versions self.old.stored) }
         ensures room { self.new.room ≡ self.old.room }
         ensures err { OnErr result (self.new ≡ self.old) }
     {
         if self.versions.len() > 0 {
             return Ok(());
         }
-        let key = key_places(alloc, columns)?;
-        self.columns = copy_columns(alloc, columns)?;
-        self.key = key;
+        self.key = key_places(alloc, columns)?;
         Ok(())
     }
 
@@ -146,7 +141,7 @@ impl VersionStore {
         requires room { 1 ≤ self.old.room }
         requires before { AllByRecursion (MadeBefore at.0 at.1) self.old.stored.versions }
         ensures stored { self.new.stored
-            ≡ with_versions self.old.stored.columns (started at values self.old.stored.versions)
+            ≡ with_versions self.old.stored.key (started at values self.old.stored.versions)
             self.old.stored }
         ensures room { self.new.room + 1 ≡ self.old.room }
     {
@@ -166,7 +161,7 @@ impl VersionStore {
     /// by halving. Takes no memory.
     pub fn end(&mut self, at: EventId, start: EventId)
         ensures stored { self.new.stored
-            ≡ with_versions self.old.stored.columns (ended at start self.old.stored.versions)
+            ≡ with_versions self.old.stored.key (ended at start self.old.stored.versions)
             self.old.stored }
         ensures room { self.new.room ≡ self.old.room }
     {
@@ -179,7 +174,7 @@ impl VersionStore {
     // Ends the version at this place.
     fn end_at(&mut self, place: usize, at: EventId)
         requires { place < length self.old.stored.versions }
-        ensures stored { (d : SpecVersion) → self.new.stored ≡ with_versions self.old.stored.columns
+        ensures stored { (d : SpecVersion) → self.new.stored ≡ with_versions self.old.stored.key
             (slice_set self.old.stored.versions place (with_end at (get_or self.old.stored.versions place d)))
             self.old.stored }
         ensures room { self.new.room ≡ self.old.room }
@@ -193,7 +188,7 @@ impl VersionStore {
     /// Takes back the starts and ends of the transaction that have the number `seq` or above. It finds them
     /// by halving, one after another from the last one on, and looks at no other version. Takes no memory.
     pub fn undo(&mut self, tx: TxId, seq: u64)
-        ensures stored { self.new.stored ≡ with_versions self.old.stored.columns
+        ensures stored { self.new.stored ≡ with_versions self.old.stored.key
             (versions_undone tx seq self.old.stored.versions) self.old.stored }
         ensures room { self.new.room ≡ self.old.room }
     {
@@ -203,7 +198,7 @@ impl VersionStore {
 
     fn undo_ends(&mut self, tx: TxId, seq: u64)
         ensures stored { self.new.stored
-            ≡ with_versions self.old.stored.columns self.new.stored.versions self.old.stored }
+            ≡ with_versions self.old.stored.key self.new.stored.versions self.old.stored }
         ensures left { versions_undone tx seq self.new.stored.versions
             ≡ versions_undone tx seq self.old.stored.versions }
         ensures none { NoEndUndone tx seq self.new.stored.versions }
@@ -217,7 +212,7 @@ impl VersionStore {
 
     fn undo_starts(&mut self, tx: TxId, seq: u64)
         requires { NoEndUndone tx seq self.old.stored.versions }
-        ensures stored { self.new.stored ≡ with_versions self.old.stored.columns
+        ensures stored { self.new.stored ≡ with_versions self.old.stored.key
             (versions_undone tx seq self.old.stored.versions) self.old.stored }
         ensures room { self.new.room ≡ self.old.room }
     {
@@ -230,9 +225,9 @@ impl VersionStore {
     /// Key order and indexes follow the versions.
     pub fn orders_follow(&self)
         ensures { self.now.stored
-            ≡ with_versions self.now.stored.columns self.now.stored.versions self.now.stored }
+            ≡ with_versions self.now.stored.key self.now.stored.versions self.now.stored }
     {
-        let _ = &self.columns;
+        let _ = &self.key;
     }
 
     /// The versions rise by their starts.
@@ -266,7 +261,7 @@ impl VersionStore {
         requires within { place < length self.old.stored.versions }
         requires ended { (end : SpecEventId)
             × HoldsAt (λ v. v.end ≡ Some end) self.old.stored.versions place }
-        ensures stored { (d : SpecVersion) → self.new.stored ≡ with_versions self.old.stored.columns
+        ensures stored { (d : SpecVersion) → self.new.stored ≡ with_versions self.old.stored.key
             (slice_set self.old.stored.versions place (without_end (get_or self.old.stored.versions place d)))
             self.old.stored }
         ensures room { self.new.room ≡ self.old.room }
@@ -284,7 +279,7 @@ impl VersionStore {
     // Takes back the start of the version at this place.
     fn withdraw(&mut self, place: usize)
         requires { place < length self.old.stored.versions }
-        ensures stored { self.new.stored ≡ with_versions self.old.stored.columns
+        ensures stored { self.new.stored ≡ with_versions self.old.stored.key
             (remove self.old.stored.versions place) self.old.stored }
         ensures room { self.new.room ≡ self.old.room }
     {
@@ -327,7 +322,7 @@ impl VersionStore {
         requires room { length changes ≤ self.old.room }
         requires numbers { seq + length changes < 2 ^ 64 }
         requires before { AllByRecursion (MadeBefore tx seq) self.old.stored.versions }
-        ensures stored { self.new.stored ≡ with_versions self.old.stored.columns
+        ensures stored { self.new.stored ≡ with_versions self.old.stored.key
             (changed_all tx seq changes self.old.stored.versions) self.old.stored }
         ensures room { self.old.room ≤ self.new.room + length changes }
     {
@@ -342,7 +337,7 @@ impl VersionStore {
     fn carry_out_one(&mut self, at: EventId, change: Change)
         requires room { 1 ≤ self.old.room }
         requires before { AllByRecursion (MadeBefore at.0 at.1) self.old.stored.versions }
-        ensures stored { self.new.stored ≡ with_versions self.old.stored.columns
+        ensures stored { self.new.stored ≡ with_versions self.old.stored.key
             (changed at change self.old.stored.versions) self.old.stored }
         ensures room { self.old.room ≤ self.new.room + 1 }
     {
@@ -373,7 +368,7 @@ impl VersionStore {
 
     /// Whether a version with the key of the row stands, by halving.
     pub fn has_key_of_row(&self, row: &Row) -> bool
-        ensures { result ≡ keys.has_live_row self.now.stored.columns (keys.key_of self.now.stored.columns row.now)
+        ensures { result ≡ keys.has_live_row_at self.now.stored.key (keys.key_at self.now.stored.key row.now)
             self.now.stored.versions }
     {
         key_exists(&self.key, &self.versions, &self.orders.key_order.order, row)
@@ -383,7 +378,7 @@ impl VersionStore {
     /// halving, each version by a guess and halving, and none is copied.
     pub fn live_by_key(&self, alloc: Global, key: &Option<Key>) -> Result<Vec<&Version>, Memory>
         ensures { IfOk result (λ found. map (λ v. v.now) found.items
-            ≡ keys.live_by_key self.now.stored.columns key.now self.now.stored.versions) }
+            ≡ keys.live_by_key_at self.now.stored.key key.now self.now.stored.versions) }
     {
         let stretch = self.live_stretch(key);
         let order = &self.orders.key_order.order;
@@ -394,7 +389,7 @@ impl VersionStore {
     // Where their starts stand in the key order.
     fn live_stretch(&self, key: &Option<Key>) -> OrderRange
         ensures { slice_range self.now.stored.order result.first result.behind ≡ orders.starts_of
-            (keys.live_by_key self.now.stored.columns key.now self.now.stored.versions) }
+            (keys.live_by_key_at self.now.stored.key key.now self.now.stored.versions) }
     {
         let order = &self.orders.key_order.order;
         match key {
@@ -413,7 +408,7 @@ impl VersionStore {
         requires version { (v : SpecVersion) × (orders.version_at start self.now.stored.versions ≡ Some v) }
         ensures { (i : SpecIndex) (v : SpecVersion) → slice_get self.now.stored.indexes index ≡ Some i
             → orders.version_at start self.now.stored.versions ≡ Some v
-            → result ≡ rows_below self.now.stored.columns i.ordinals v self.now.stored.versions }
+            → result ≡ rows_below self.now.stored.key i.ordinals v self.now.stored.versions }
     {
         let version = version_at(&self.versions, start).unwrap();
         rows_below(

@@ -3,9 +3,10 @@
 ghost use Rattle.std.specs.Prelude.{◌≡◌, ◌≢◌, ◌≤◌, ◌⊎◌, ◌∷◌, [], IfErr, IfOk, Err, Ok, length};
 ghost use Rattle.sql_value.specs.declared.refusal.Refusal.TheVariants.{NoMemory};
 ghost use Rattle.spec_history.specs.Lists.{Each};
-ghost use Rattle.law_journal.specs.Fits.{Fits};
+ghost use Rattle.law_journal.specs.Fits.{FitsSoFar};
 ghost use Rattle.spec_model.specs.Changes as spec;
 ghost use Rattle.spec_model.specs.Checks.{row_statement_check};
+ghost use Rattle.spec_model.specs.Keys as keys;
 ghost use Rattle.spec_model.specs.Limits.{max_columns};
 ghost use Rattle.store_table.specs.Made.{IsWorkedOut};
 
@@ -39,9 +40,9 @@ pub fn work_out(
     def: &TableDef,
     stmt: &RowStmt,
 ) -> Result<StatementChanges, Refusal>
-    requires columns { (store.now.stored.versions ≡ []) ⊎ (store.now.stored.columns ≡ def.now.columns) }
+    requires key { (store.now.stored.versions ≡ []) ⊎ (store.now.stored.key ≡ keys.key_places def.now.columns) }
     requires few { length def.now.columns ≤ max_columns }
-    requires fit { Each (λ v. Fits def.now.columns v.values) store.now.stored.versions }
+    requires fit { Each (λ v. FitsSoFar def.now.columns v.values) store.now.stored.versions }
     requires passes { row_statement_check (def.now ∷ []) stmt.now ≡ Ok def.now }
     ensures ok { IfOk result (λ worked. IsWorkedOut def.now store.now.stored.versions stmt.now tx seq
         worked.changes worked.count worked.leaves.items) }
@@ -65,9 +66,9 @@ fn work_out_keyed(
     table: &KeyedTable,
     stmt: &RowStmt,
 ) -> Result<StatementChanges, Refusal>
-    requires columns { (store.now.stored.versions ≡ []) ⊎ (store.now.stored.columns ≡ table.now.columns) }
+    requires key { (store.now.stored.versions ≡ []) ⊎ (store.now.stored.key ≡ keys.key_places table.now.columns) }
     requires few { length table.now.columns ≤ max_columns }
-    requires fit { Each (λ v. Fits table.now.columns v.values) store.now.stored.versions }
+    requires fit { Each (λ v. FitsSoFar table.now.columns v.values) store.now.stored.versions }
     requires passes { row_statement_check (table.now ∷ []) stmt.now ≡ Ok table.now }
     ensures ok { IfOk result (λ worked. IsWorkedOut table.now store.now.stored.versions stmt.now tx seq
         worked.changes worked.count worked.leaves.items) }

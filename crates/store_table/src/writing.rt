@@ -3,9 +3,10 @@
 ghost use Rattle.std.specs.Prelude.{◌≡◌, ◌≢◌, ◌≤◌, ◌⊎◌, ◌∷◌, [], Err, IfErr, IfOk, OnErr, OnOk, Ok, length};
 ghost use Rattle.sql_value.specs.declared.refusal.Refusal.TheVariants.{NoMemory};
 ghost use Rattle.spec_history.specs.Lists.{Each};
-ghost use Rattle.law_journal.specs.Fits.{Fits};
+ghost use Rattle.law_journal.specs.Fits.{FitsSoFar};
 ghost use Rattle.spec_model.specs.Changes.{row_changes};
 ghost use Rattle.spec_model.specs.Checks.{row_statement_check};
+ghost use Rattle.spec_model.specs.Keys.{key_places};
 ghost use Rattle.spec_model.specs.Limits.{max_columns};
 ghost use Rattle.spec_protocol.specs.Seats.{OpenTransaction};
 ghost use Rattle.store_tx.specs.Represents.{IsOpen, Represents};
@@ -32,9 +33,9 @@ pub fn change_rows<H: Hash32>(
     def: &TableDef,
     stmt: &RowStmt,
 ) -> Result<u64, Refusal>
-    requires columns { (store.old.stored.versions ≡ []) ⊎ (store.old.stored.columns ≡ def.now.columns) }
+    requires key { (store.old.stored.versions ≡ []) ⊎ (store.old.stored.key ≡ key_places def.now.columns) }
     requires few { length def.now.columns ≤ max_columns }
-    requires fit { Each (λ v. Fits def.now.columns v.values) store.old.stored.versions }
+    requires fit { Each (λ v. FitsSoFar def.now.columns v.values) store.old.stored.versions }
     requires passes { row_statement_check (def.now ∷ []) stmt.now ≡ Ok def.now }
     requires before { MayChange H.digest ctx.old store.old.stored.versions }
     ensures ok { IfOk result (λ count.
@@ -55,7 +56,7 @@ pub fn change_rows<H: Hash32>(
     Ok(worked.count)
 }
 
-// Makes room for so many starts, opens the tree of the table, and sets the columns. After want of memory the
+// Makes room for so many starts, opens the tree of the table, and sets the key. After want of memory the
 // versions are as they were.
 fn make_room<H: Hash32>(
     alloc: Global,
@@ -64,9 +65,9 @@ fn make_room<H: Hash32>(
     def: &TableDef,
     count: usize,
 ) -> Result<(), Memory>
-    requires { (store.old.stored.versions ≡ []) ⊎ (store.old.stored.columns ≡ def.now.columns) }
+    requires { (store.old.stored.versions ≡ []) ⊎ (store.old.stored.key ≡ key_places def.now.columns) }
     ensures stored { OnOk result (store.new.stored
-        ≡ with_versions def.now.columns store.old.stored.versions store.old.stored) }
+        ≡ with_versions (key_places def.now.columns) store.old.stored.versions store.old.stored) }
     ensures room { OnOk result (store.new.room ≡ count) }
     ensures open { OnOk result (IsOpen def.now.id ctx.new) }
     ensures err { OnErr result (store.new.stored ≡ store.old.stored) }
@@ -75,5 +76,5 @@ fn make_room<H: Hash32>(
 {
     store.reserve(count)?;
     ctx.open_tree(def.id)?;
-    store.set_columns(alloc, def.columns.as_slice())
+    store.set_key(alloc, def.columns.as_slice())
 }

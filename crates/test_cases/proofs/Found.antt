@@ -5,7 +5,7 @@ use Rattle.sql_types.specs.declared.event.Event.{Event}
 use Rattle.sql_types.specs.declared.image.Image.{Image}
 use Rattle.sql_types.specs.declared.journal.Journal.{Journal}
 use Rattle.format_entry.specs.Entry.{IsEntry, entry_bytes}
-use Rattle.format_image.specs.ImageBytes.{IsImage, image_bytes}
+use Rattle.format_image.specs.ImageBytes.{IsImage, IsSpellingOf}
 use Rattle.format_journal.specs.Journal.{journal_bytes}
 use Rattle.format_journal.specs.Rules.{IsJournal}
 use Rattle.format_event.specs.Leaf.{IsEvent, HasLeaf, event_bytes}
@@ -26,7 +26,7 @@ pub is_journal : (bytes : List ℕ) (found : Option Journal)
 is_journal bytes None _ = tt
 is_journal bytes (Some j) is = is.0
 
-pub is_image : (bytes : List ℕ) (found : Option Image) → IfSome found (λ i. IsImage i × (bytes ≡ image_bytes i))
+pub is_image : (bytes : List ℕ) (found : Option Image) → IfSome found (λ i. IsImage i × IsSpellingOf bytes i)
     → IfSome found (λ i. IsImage i)
 is_image bytes None _ = tt
 is_image bytes (Some i) is = is.0

@@ -22,9 +22,11 @@ fn bare_def(alloc: Global, name: Name, kind: TableKind) -> Result<TableDef, Faul
         id: 3,
         name,
         kind,
+        gone: false,
         history,
         view,
         columns: Items::new(alloc),
+        dropped: Items::new(alloc),
         indexes: Items::new(alloc),
     })
 }

@@ -36,7 +36,7 @@ use Rattle.sql_value.specs.Number.{rounded_size}
 use Rattle.sql_value.specs.Day.{day_of, written_date}
 use Rattle.spec_model.specs.Catalog.{defs_of, find_part}
 use Rattle.spec_model.specs.Rows.{started, ended}
-use Rattle.spec_model.specs.Keys.{key_places, key_of, key_cmp, same_key, has_live_row, live_by_key}
+use Rattle.spec_model.specs.Keys.{key_places, key_cmp, same_key, live_by_key_at, has_live_row_at, key_at}
 use Rattle.spec_model.specs.Parts.{rows_of, columns_of}
 use Rattle.spec_model.specs.Where.{holds, key_fixed}
 use Rattle.spec_model.specs.Changes.{changed_all, Starts, Ends, kept, kept_row, arranged, is_duplicate, inserted_rows, versions_matched, row_after_set, row_changes}
@@ -65,7 +65,7 @@ of_binary o a b = ap tree (sym (rolls-Bin o a b)) ∙ fold-roll-Expr Tree tree_s
 pub system_columns : answers first_tables 1 (create_t ∷ insert (codes "t") ((num 1 ∷ num 10 ∷ []) ∷ []) ∷ all_of (codes "sys_ledger_columns") ∷ [])
     ≡ (codes "made" ∷ []) ∷ (codes "1 rows" ∷ [])
     ∷ (codes "3|1|0|N'id'|2|0|0|0|1" ∷ codes "3|2|0|N'v'|2|0|0|1|0" ∷ codes "2 rows" ∷ []) ∷ []
-unfolding chars digits value_cmp raised utf16_units pointed printed is_in_range conversion_of find_part started ended key_places key_of key_cmp same_key has_live_row live_by_key rows_of holds key_fixed changed_all kept kept_row arranged is_duplicate inserted_rows versions_matched row_after_set row_changes insert_check values_check listed_check update_check sets_check delete_check row_statement_check select_check query_check total agg_value selected first_tables table_row column_rows index_rows table_def create_check index_check query_rows effect reply_lines reply_text
+unfolding chars digits value_cmp raised utf16_units pointed printed is_in_range conversion_of find_part started ended key_places key_at key_cmp same_key has_live_row_at live_by_key_at rows_of holds key_fixed changed_all kept kept_row arranged is_duplicate inserted_rows versions_matched row_after_set row_changes insert_check values_check listed_check update_check sets_check delete_check row_statement_check select_check query_check total agg_value selected first_tables table_row column_rows index_rows table_def create_check index_check query_rows effect reply_lines reply_text
 system_columns = refl
 
 abbrev plus_one_tree : Tree
@@ -76,17 +76,17 @@ is_plus_one = of_binary op.Add (Col (codes "v")) (Lit (num 1)) ∙ ap (λ x. bin
     ∙ ap (λ x. binary op.Add (t.column (codes "v")) x) (of_literal (num 1))
 
 pub update_checked : row_statement_check (defs_of first_tables ++ def_t ∷ []) (Update (codes "t") ((codes "v", plus_one) ∷ []) None) ≡ Ok def_t
-unfolding first_tables meaning_of sum_of value_cmp raised is_in_range conversion_of find_part key_places key_of key_cmp same_key has_live_row live_by_key holds key_fixed kept kept_row versions_matched row_after_set row_changes update_check sets_check row_statement_check table_def
+unfolding first_tables meaning_of sum_of value_cmp raised is_in_range conversion_of find_part key_places key_at key_cmp same_key has_live_row_at live_by_key_at holds key_fixed kept kept_row versions_matched row_after_set row_changes update_check sets_check row_statement_check table_def
 update_checked = rw is_plus_one refl
 
 update_changes : row_changes def_t (version 1 10 (2, 0) None ∷ version 2 20 (2, 1) None ∷ []) (Update (codes "t") ((codes "v", plus_one) ∷ []) None)
     ≡ Ok (Ends (2, 0) ∷ Starts (typed 1 ∷ typed 11 ∷ []) ∷ Ends (2, 1) ∷ Starts (typed 2 ∷ typed 21 ∷ []) ∷ [], 2)
-unfolding first_tables meaning_of sum_of value_cmp raised is_in_range conversion_of find_part key_places key_of key_cmp same_key has_live_row live_by_key holds key_fixed kept kept_row versions_matched row_after_set row_changes update_check sets_check row_statement_check table_def
+unfolding first_tables meaning_of sum_of value_cmp raised is_in_range conversion_of find_part key_places key_at key_cmp same_key has_live_row_at live_by_key_at holds key_fixed kept kept_row versions_matched row_after_set row_changes update_check sets_check row_statement_check table_def
 update_changes = rw is_plus_one refl
 
 pub starts : effect (with_t []) 2 0 (insert (codes "t") ((num 1 ∷ num 10 ∷ []) ∷ (num 2 ∷ num 20 ∷ []) ∷ []))
     ≡ record { tables = with_t (version 1 10 (2, 0) None ∷ version 2 20 (2, 1) None ∷ []); seq = 2; reply = r.Changed 2 }
-unfolding first_tables effect started changed_all is_duplicate inserted_rows arranged insert_check values_check listed_check value_cmp raised is_in_range conversion_of find_part key_places key_of key_cmp same_key has_live_row kept kept_row row_changes row_statement_check
+unfolding first_tables effect started changed_all is_duplicate inserted_rows arranged insert_check values_check listed_check value_cmp raised is_in_range conversion_of find_part key_places key_at key_cmp same_key has_live_row_at kept kept_row row_changes row_statement_check
 starts = refl
 
 pub ends_and_starts : effect (with_t (version 1 10 (2, 0) None ∷ version 2 20 (2, 1) None ∷ [])) 3 0 update_t
@@ -152,16 +152,16 @@ hidden_not_listed = refl
 
 -- row by row: VALUES (1,1),(1,1),(2,2147483648), and (1,1),(1,2147483648)
 pub key_before_range : (effect (with_t []) 2 0 (insert (codes "t") ((num 1 ∷ num 1 ∷ []) ∷ (num 1 ∷ num 1 ∷ []) ∷ (num 2 ∷ num 2147483648 ∷ []) ∷ []))).reply ≡ r.Refused DuplicateKey
-unfolding first_tables effect is_duplicate inserted_rows arranged insert_check values_check listed_check value_cmp raised is_in_range conversion_of find_part key_places key_of key_cmp same_key has_live_row kept kept_row row_changes row_statement_check
+unfolding first_tables effect is_duplicate inserted_rows arranged insert_check values_check listed_check value_cmp raised is_in_range conversion_of find_part key_places key_at key_cmp same_key has_live_row_at kept kept_row row_changes row_statement_check
 key_before_range = refl
 
 pub range_before_key : (effect (with_t []) 2 0 (insert (codes "t") ((num 1 ∷ num 1 ∷ []) ∷ (num 1 ∷ num 2147483648 ∷ []) ∷ []))).reply ≡ r.Refused NumberOutOfRange
-unfolding first_tables effect is_duplicate inserted_rows arranged insert_check values_check listed_check value_cmp raised is_in_range conversion_of find_part key_places key_of key_cmp same_key has_live_row kept kept_row row_changes row_statement_check
+unfolding first_tables effect is_duplicate inserted_rows arranged insert_check values_check listed_check value_cmp raised is_in_range conversion_of find_part key_places key_at key_cmp same_key has_live_row_at kept kept_row row_changes row_statement_check
 range_before_key = refl
 
 -- a key that isn't listed is NULL
 pub key_absent : (effect (with_t []) 2 0 (listed (codes "v" ∷ []) ((num 1 ∷ []) ∷ []))).reply ≡ r.Refused NullNotAllowed
-unfolding first_tables effect is_duplicate inserted_rows arranged insert_check values_check listed_check value_cmp raised is_in_range conversion_of find_part key_places key_of key_cmp same_key has_live_row kept kept_row row_changes row_statement_check
+unfolding first_tables effect is_duplicate inserted_rows arranged insert_check values_check listed_check value_cmp raised is_in_range conversion_of find_part key_places key_at key_cmp same_key has_live_row_at kept kept_row row_changes row_statement_check
 key_absent = refl
 
 of_lit_id : tree (Lit (num 2)) ≡ literal (num 2)
@@ -194,40 +194,40 @@ name_too_long = refl
 
 -- sorted by v: NULL is least, and equal values keep the order of the key
 pub ascending : answer four (select (codes "t") All ((codes "v", false) ∷ [])) ≡ codes "2|NULL" ∷ codes "3|5" ∷ codes "1|7" ∷ codes "4|7" ∷ codes "4 rows" ∷ []
-unfolding chars meaning_of sum_of digits value_cmp raised utf16_units pointed printed is_in_range conversion_of find_part started ended key_places key_of key_cmp same_key has_live_row live_by_key rows_of holds key_fixed changed_all kept kept_row arranged is_duplicate inserted_rows versions_matched row_after_set row_changes insert_check values_check listed_check update_check sets_check delete_check row_statement_check select_check query_check total agg_value selected first_tables table_row column_rows index_rows table_def create_check index_check query_rows effect reply_lines reply_text
+unfolding chars meaning_of sum_of digits value_cmp raised utf16_units pointed printed is_in_range conversion_of find_part started ended key_places key_at key_cmp same_key has_live_row_at live_by_key_at rows_of holds key_fixed changed_all kept kept_row arranged is_duplicate inserted_rows versions_matched row_after_set row_changes insert_check values_check listed_check update_check sets_check delete_check row_statement_check select_check query_check total agg_value selected first_tables table_row column_rows index_rows table_def create_check index_check query_rows effect reply_lines reply_text
 ascending = refl
 
 pub descending : answer four (select (codes "t") All ((codes "v", true) ∷ [])) ≡ codes "1|7" ∷ codes "4|7" ∷ codes "3|5" ∷ codes "2|NULL" ∷ codes "4 rows" ∷ []
-unfolding chars meaning_of sum_of digits value_cmp raised utf16_units pointed printed is_in_range conversion_of find_part started ended key_places key_of key_cmp same_key has_live_row live_by_key rows_of holds key_fixed changed_all kept kept_row arranged is_duplicate inserted_rows versions_matched row_after_set row_changes insert_check values_check listed_check update_check sets_check delete_check row_statement_check select_check query_check total agg_value selected first_tables table_row column_rows index_rows table_def create_check index_check query_rows effect reply_lines reply_text
+unfolding chars meaning_of sum_of digits value_cmp raised utf16_units pointed printed is_in_range conversion_of find_part started ended key_places key_at key_cmp same_key has_live_row_at live_by_key_at rows_of holds key_fixed changed_all kept kept_row arranged is_duplicate inserted_rows versions_matched row_after_set row_changes insert_check values_check listed_check update_check sets_check delete_check row_statement_check select_check query_check total agg_value selected first_tables table_row column_rows index_rows table_def create_check index_check query_rows effect reply_lines reply_text
 descending = refl
 
 pub sums : answer four (select (codes "t") (Aggs (Count ∷ Sum (codes "v") ∷ Sum (codes "id") ∷ [])) []) ≡ codes "4|19|10" ∷ codes "1 rows" ∷ []
-unfolding chars meaning_of sum_of digits value_cmp raised utf16_units pointed printed is_in_range conversion_of find_part started ended key_places key_of key_cmp same_key has_live_row live_by_key rows_of holds key_fixed changed_all kept kept_row arranged is_duplicate inserted_rows versions_matched row_after_set row_changes insert_check values_check listed_check update_check sets_check delete_check row_statement_check select_check query_check total agg_value selected first_tables table_row column_rows index_rows table_def create_check index_check query_rows effect reply_lines reply_text
+unfolding chars meaning_of sum_of digits value_cmp raised utf16_units pointed printed is_in_range conversion_of find_part started ended key_places key_at key_cmp same_key has_live_row_at live_by_key_at rows_of holds key_fixed changed_all kept kept_row arranged is_duplicate inserted_rows versions_matched row_after_set row_changes insert_check values_check listed_check update_check sets_check delete_check row_statement_check select_check query_check total agg_value selected first_tables table_row column_rows index_rows table_def create_check index_check query_rows effect reply_lines reply_text
 sums = refl
 
 pub sums_of_none : answer (with_t []) (select (codes "t") (Aggs (Count ∷ Sum (codes "v") ∷ [])) []) ≡ codes "0|NULL" ∷ codes "1 rows" ∷ []
-unfolding chars meaning_of sum_of digits value_cmp raised utf16_units pointed printed is_in_range conversion_of find_part started ended key_places key_of key_cmp same_key has_live_row live_by_key rows_of holds key_fixed changed_all kept kept_row arranged is_duplicate inserted_rows versions_matched row_after_set row_changes insert_check values_check listed_check update_check sets_check delete_check row_statement_check select_check query_check total agg_value selected first_tables table_row column_rows index_rows table_def create_check index_check query_rows effect reply_lines reply_text
+unfolding chars meaning_of sum_of digits value_cmp raised utf16_units pointed printed is_in_range conversion_of find_part started ended key_places key_at key_cmp same_key has_live_row_at live_by_key_at rows_of holds key_fixed changed_all kept kept_row arranged is_duplicate inserted_rows versions_matched row_after_set row_changes insert_check values_check listed_check update_check sets_check delete_check row_statement_check select_check query_check total agg_value selected first_tables table_row column_rows index_rows table_def create_check index_check query_rows effect reply_lines reply_text
 sums_of_none = refl
 
 -- hidden columns are shown where they are named
 pub hidden_named : answer four (select (codes "t") (Columns (codes "ledger_start_sequence_number" ∷ codes "id" ∷ [])) []) ≡ codes "0|1" ∷ codes "1|2" ∷ codes "3|3" ∷ codes "2|4" ∷ codes "4 rows" ∷ []
-unfolding chars meaning_of sum_of digits value_cmp raised utf16_units pointed printed is_in_range conversion_of find_part started ended key_places key_of key_cmp same_key has_live_row live_by_key rows_of holds key_fixed changed_all kept kept_row arranged is_duplicate inserted_rows versions_matched row_after_set row_changes insert_check values_check listed_check update_check sets_check delete_check row_statement_check select_check query_check total agg_value selected first_tables table_row column_rows index_rows table_def create_check index_check query_rows effect reply_lines reply_text
+unfolding chars meaning_of sum_of digits value_cmp raised utf16_units pointed printed is_in_range conversion_of find_part started ended key_places key_at key_cmp same_key has_live_row_at live_by_key_at rows_of holds key_fixed changed_all kept kept_row arranged is_duplicate inserted_rows versions_matched row_after_set row_changes insert_check values_check listed_check update_check sets_check delete_check row_statement_check select_check query_check total agg_value selected first_tables table_row column_rows index_rows table_def create_check index_check query_rows effect reply_lines reply_text
 hidden_named = refl
 
 pub no_hidden_end : answer four (select (codes "t") (Columns (codes "ledger_end_sequence_number" ∷ [])) []) ≡ codes "E04" ∷ []
-unfolding chars meaning_of sum_of digits value_cmp raised utf16_units pointed printed is_in_range conversion_of find_part started ended key_places key_of key_cmp same_key has_live_row live_by_key rows_of holds key_fixed changed_all kept kept_row arranged is_duplicate inserted_rows versions_matched row_after_set row_changes insert_check values_check listed_check update_check sets_check delete_check row_statement_check select_check query_check total agg_value selected first_tables table_row column_rows index_rows table_def create_check index_check query_rows effect reply_lines reply_text
+unfolding chars meaning_of sum_of digits value_cmp raised utf16_units pointed printed is_in_range conversion_of find_part started ended key_places key_at key_cmp same_key has_live_row_at live_by_key_at rows_of holds key_fixed changed_all kept kept_row arranged is_duplicate inserted_rows versions_matched row_after_set row_changes insert_check values_check listed_check update_check sets_check delete_check row_statement_check select_check query_check total agg_value selected first_tables table_row column_rows index_rows table_def create_check index_check query_rows effect reply_lines reply_text
 no_hidden_end = refl
 
 -- the history rises by the start, not by the end
 pub history_order : answer (with_t (version 1 10 (2, 0) (Some (5, 0)) ∷ version 2 20 (2, 1) (Some (3, 0)) ∷ [])) (all_of (codes "MSSQL_LedgerHistoryFor_3"))
     ≡ codes "1|10|2|5|0|0" ∷ codes "2|20|2|3|1|0" ∷ codes "2 rows" ∷ []
-unfolding chars meaning_of sum_of digits value_cmp raised utf16_units pointed printed is_in_range conversion_of find_part started ended key_places key_of key_cmp same_key has_live_row live_by_key rows_of holds key_fixed changed_all kept kept_row arranged is_duplicate inserted_rows versions_matched row_after_set row_changes insert_check values_check listed_check update_check sets_check delete_check row_statement_check select_check query_check total agg_value selected first_tables table_row column_rows index_rows table_def create_check index_check query_rows effect reply_lines reply_text
+unfolding chars meaning_of sum_of digits value_cmp raised utf16_units pointed printed is_in_range conversion_of find_part started ended key_places key_at key_cmp same_key has_live_row_at live_by_key_at rows_of holds key_fixed changed_all kept kept_row arranged is_duplicate inserted_rows versions_matched row_after_set row_changes insert_check values_check listed_check update_check sets_check delete_check row_statement_check select_check query_check total agg_value selected first_tables table_row column_rows index_rows table_def create_check index_check query_rows effect reply_lines reply_text
 history_order = refl
 
 pub index_rows_made : answers (with_t []) 4 (index_on (codes "iv") (codes "t") (codes "v" ∷ codes "id" ∷ []) ∷ index_on (codes "iv") (codes "t_Ledger") (codes "v" ∷ [])
     ∷ index_on (codes "iw") (codes "t_Ledger") (codes "v" ∷ []) ∷ all_of (codes "sys_ledger_columns") ∷ [])
     ≡ (codes "made" ∷ []) ∷ (codes "E03" ∷ []) ∷ (codes "E11" ∷ []) ∷ (codes "3|1001|0|N'iv'|0|0|0|0|2" ∷ codes "3|1002|0|N'iv'|0|0|0|0|1" ∷ codes "2 rows" ∷ []) ∷ []
-unfolding chars meaning_of sum_of digits value_cmp raised utf16_units pointed printed is_in_range conversion_of find_part started ended key_places key_of key_cmp same_key has_live_row live_by_key rows_of holds key_fixed changed_all kept kept_row arranged is_duplicate inserted_rows versions_matched row_after_set row_changes insert_check values_check listed_check update_check sets_check delete_check row_statement_check select_check query_check total agg_value selected first_tables table_row column_rows index_rows table_def create_check index_check query_rows effect reply_lines reply_text
+unfolding chars meaning_of sum_of digits value_cmp raised utf16_units pointed printed is_in_range conversion_of find_part started ended key_places key_at key_cmp same_key has_live_row_at live_by_key_at rows_of holds key_fixed changed_all kept kept_row arranged is_duplicate inserted_rows versions_matched row_after_set row_changes insert_check values_check listed_check update_check sets_check delete_check row_statement_check select_check query_check total agg_value selected first_tables table_row column_rows index_rows table_def create_check index_check query_rows effect reply_lines reply_text
 index_rows_made = refl
 
 pub no_leap_day : conversion_of (Text (codes "2023-02-29")) Date ≡ Err Mismatch
@@ -235,11 +235,11 @@ unfolding conversion_of is_in_range day_of written_date
 no_leap_day = refl
 
 pub tables_32 : (effect (made_tables (3 ∷ 4 ∷ 5 ∷ 6 ∷ 7 ∷ 8 ∷ 9 ∷ 10 ∷ 11 ∷ 12 ∷ 13 ∷ 14 ∷ 15 ∷ 16 ∷ 17 ∷ 18 ∷ 19 ∷ 20 ∷ 21 ∷ 22 ∷ 23 ∷ 24 ∷ 25 ∷ 26 ∷ 27 ∷ 28 ∷ 29 ∷ 30 ∷ 31 ∷ 32 ∷ 33 ∷ [])) 40 0 create_t).reply ≡ r.Made
-unfolding chars meaning_of sum_of digits value_cmp raised utf16_units pointed printed is_in_range conversion_of find_part started ended key_places key_of key_cmp same_key has_live_row live_by_key rows_of holds key_fixed changed_all kept kept_row arranged is_duplicate inserted_rows versions_matched row_after_set row_changes insert_check values_check listed_check update_check sets_check delete_check row_statement_check select_check query_check total agg_value selected first_tables table_row column_rows index_rows table_def create_check index_check query_rows effect reply_lines reply_text
+unfolding chars meaning_of sum_of digits value_cmp raised utf16_units pointed printed is_in_range conversion_of find_part started ended key_places key_at key_cmp same_key has_live_row_at live_by_key_at rows_of holds key_fixed changed_all kept kept_row arranged is_duplicate inserted_rows versions_matched row_after_set row_changes insert_check values_check listed_check update_check sets_check delete_check row_statement_check select_check query_check total agg_value selected first_tables table_row column_rows index_rows table_def create_check index_check query_rows effect reply_lines reply_text
 tables_32 = refl
 
 pub tables_33 : (effect (made_tables (3 ∷ 4 ∷ 5 ∷ 6 ∷ 7 ∷ 8 ∷ 9 ∷ 10 ∷ 11 ∷ 12 ∷ 13 ∷ 14 ∷ 15 ∷ 16 ∷ 17 ∷ 18 ∷ 19 ∷ 20 ∷ 21 ∷ 22 ∷ 23 ∷ 24 ∷ 25 ∷ 26 ∷ 27 ∷ 28 ∷ 29 ∷ 30 ∷ 31 ∷ 32 ∷ 33 ∷ 34 ∷ [])) 40 0 create_t).reply ≡ r.Refused LimitExceeded
-unfolding chars meaning_of sum_of digits value_cmp raised utf16_units pointed printed is_in_range conversion_of find_part started ended key_places key_of key_cmp same_key has_live_row live_by_key rows_of holds key_fixed changed_all kept kept_row arranged is_duplicate inserted_rows versions_matched row_after_set row_changes insert_check values_check listed_check update_check sets_check delete_check row_statement_check select_check query_check total agg_value selected first_tables table_row column_rows index_rows table_def create_check index_check query_rows effect reply_lines reply_text
+unfolding chars meaning_of sum_of digits value_cmp raised utf16_units pointed printed is_in_range conversion_of find_part started ended key_places key_at key_cmp same_key has_live_row_at live_by_key_at rows_of holds key_fixed changed_all kept kept_row arranged is_duplicate inserted_rows versions_matched row_after_set row_changes insert_check values_check listed_check update_check sets_check delete_check row_statement_check select_check query_check total agg_value selected first_tables table_row column_rows index_rows table_def create_check index_check query_rows effect reply_lines reply_text
 tables_33 = refl
 
 delete_checked : row_statement_check (defs_of first_tables ++ def_t ∷ []) (Delete (codes "t") (Some (id_is (num 1)))) ≡ Ok def_t
@@ -247,7 +247,7 @@ unfolding first_tables value_cmp is_in_range find_part delete_check row_statemen
 delete_checked = rw (is_literal_beside (codes "id") (num 1)) refl
 
 delete_changes : row_changes def_t (version 1 1 (2, 0) None ∷ []) (Delete (codes "t") (Some (id_is (num 1)))) ≡ Ok (Ends (2, 0) ∷ [], 1)
-unfolding meaning_of value_cmp raised is_in_range conversion_of key_places key_of key_cmp same_key live_by_key holds key_fixed versions_matched row_changes
+unfolding meaning_of value_cmp raised is_in_range conversion_of key_places key_at key_cmp same_key live_by_key_at holds key_fixed versions_matched row_changes
 delete_changes = rw (is_literal_beside (codes "id") (num 1)) refl
 
 pub started_and_ended : effect (with_t (version 1 1 (2, 0) None ∷ [])) 2 1 delete_1 ≡ record { tables = with_t (version 1 1 (2, 0) (Some (2, 1)) ∷ []); seq = 2; reply = r.Changed 1 }
@@ -256,7 +256,7 @@ started_and_ended = rw (delete_checked, delete_changes) refl
 
 -- its history row, and its two events
 pub its_history : answer (with_t (version 1 1 (2, 0) (Some (2, 1)) ∷ [])) (all_of (codes "MSSQL_LedgerHistoryFor_3")) ≡ codes "1|1|2|2|0|1" ∷ codes "1 rows" ∷ []
-unfolding chars meaning_of sum_of digits value_cmp raised utf16_units pointed printed is_in_range conversion_of find_part started ended key_places key_of key_cmp same_key has_live_row live_by_key rows_of holds key_fixed changed_all kept kept_row arranged is_duplicate inserted_rows versions_matched row_after_set row_changes insert_check values_check listed_check update_check sets_check delete_check row_statement_check select_check query_check total agg_value selected first_tables table_row column_rows index_rows table_def create_check index_check query_rows effect reply_lines reply_text
+unfolding chars meaning_of sum_of digits value_cmp raised utf16_units pointed printed is_in_range conversion_of find_part started ended key_places key_at key_cmp same_key has_live_row_at live_by_key_at rows_of holds key_fixed changed_all kept kept_row arranged is_duplicate inserted_rows versions_matched row_after_set row_changes insert_check values_check listed_check update_check sets_check delete_check row_statement_check select_check query_check total agg_value selected first_tables table_row column_rows index_rows table_def create_check index_check query_rows effect reply_lines reply_text
 its_history = refl
 
 pub its_events : map {B = ℕ × ℕ} (λ (e : Event). (e.op, e.seq)) (all_events 2 (with_t (version 1 1 (2, 0) (Some (2, 1)) ∷ []))) ≡ (1, 0) ∷ (2, 1) ∷ []
@@ -264,12 +264,12 @@ unfolding first_tables all_events events_of
 its_events = refl
 
 pub written_names : defs_of (effect first_tables 1 0 create_balance).tables ≡ defs_of first_tables ++ def_balance ∷ []
-unfolding chars meaning_of sum_of digits value_cmp raised utf16_units pointed printed is_in_range conversion_of find_part started ended key_places key_of key_cmp same_key has_live_row live_by_key rows_of holds key_fixed changed_all kept kept_row arranged is_duplicate inserted_rows versions_matched row_after_set row_changes insert_check values_check listed_check update_check sets_check delete_check row_statement_check select_check query_check total agg_value selected first_tables table_row column_rows index_rows table_def create_check index_check query_rows effect reply_lines reply_text
+unfolding chars meaning_of sum_of digits value_cmp raised utf16_units pointed printed is_in_range conversion_of find_part started ended key_places key_at key_cmp same_key has_live_row_at live_by_key_at rows_of holds key_fixed changed_all kept kept_row arranged is_duplicate inserted_rows versions_matched row_after_set row_changes insert_check values_check listed_check update_check sets_check delete_check row_statement_check select_check query_check total agg_value selected first_tables table_row column_rows index_rows table_def create_check index_check query_rows effect reply_lines reply_text
 written_names = refl
 
 pub units_kept : effect (balance []) 2 0 (insert (codes "Balance") ((num 1 ∷ Text (codes "Jones") ∷ Text (codes "Nick") ∷ num 50 ∷ []) ∷ []))
     ≡ record { tables = balance (record { values = of_nick 5000; start = (2, 0); end = None } ∷ []); seq = 1; reply = r.Changed 1 }
-unfolding rounded_size chars meaning_of sum_of digits value_cmp raised utf16_units pointed printed is_in_range conversion_of find_part started ended key_places key_of key_cmp same_key has_live_row live_by_key rows_of holds key_fixed changed_all kept kept_row arranged is_duplicate inserted_rows versions_matched row_after_set row_changes insert_check values_check listed_check update_check sets_check delete_check row_statement_check select_check query_check total agg_value selected first_tables table_row column_rows index_rows table_def create_check index_check query_rows effect reply_lines reply_text
+unfolding rounded_size chars meaning_of sum_of digits value_cmp raised utf16_units pointed printed is_in_range conversion_of find_part started ended key_places key_at key_cmp same_key has_live_row_at live_by_key_at rows_of holds key_fixed changed_all kept kept_row arranged is_duplicate inserted_rows versions_matched row_after_set row_changes insert_check values_check listed_check update_check sets_check delete_check row_statement_check select_check query_check total agg_value selected first_tables table_row column_rows index_rows table_def create_check index_check query_rows effect reply_lines reply_text
 units_kept = refl
 
 balance_checked : row_statement_check (defs_of first_tables ++ def_balance ∷ []) set_100 ≡ Ok def_balance
@@ -278,7 +278,7 @@ balance_checked = rw (is_literal_beside (codes "CustomerID") (num 1), of_literal
 
 balance_changes : row_changes def_balance (record { values = of_nick 5000; start = (2, 0); end = None } ∷ []) set_100
     ≡ Ok (Ends (2, 0) ∷ Starts (of_nick 10000) ∷ [], 1)
-unfolding meaning_of rounded_size value_cmp raised is_in_range conversion_of key_places key_of key_cmp same_key live_by_key holds key_fixed kept kept_row row_after_set versions_matched row_changes
+unfolding meaning_of rounded_size value_cmp raised is_in_range conversion_of key_places key_at key_cmp same_key live_by_key_at holds key_fixed kept kept_row row_after_set versions_matched row_changes
 balance_changes = rw (is_literal_beside (codes "CustomerID") (num 1), of_literal (num 100)) refl
 
 pub units_set : effect (balance (record { values = of_nick 5000; start = (2, 0); end = None } ∷ [])) 3 0 (s.Change set_100)
@@ -292,7 +292,7 @@ units_set = rw (balance_checked, balance_changes) refl
 
 pub written_history : answer (balance (record { values = of_nick 5000; start = (2, 0); end = Some (3, 0) } ∷ record { values = of_nick 10000; start = (3, 1); end = None } ∷ []))
     (all_of (codes "BalanceHistory")) ≡ codes "1|N'Jones'|N'Nick'|50.00|2|3|0|0" ∷ codes "1 rows" ∷ []
-unfolding chars meaning_of sum_of digits value_cmp raised utf16_units pointed printed is_in_range conversion_of find_part started ended key_places key_of key_cmp same_key has_live_row live_by_key rows_of holds key_fixed changed_all kept kept_row arranged is_duplicate inserted_rows versions_matched row_after_set row_changes insert_check values_check listed_check update_check sets_check delete_check row_statement_check select_check query_check total agg_value selected first_tables table_row column_rows index_rows table_def create_check index_check query_rows effect reply_lines reply_text
+unfolding chars meaning_of sum_of digits value_cmp raised utf16_units pointed printed is_in_range conversion_of find_part started ended key_places key_at key_cmp same_key has_live_row_at live_by_key_at rows_of holds key_fixed changed_all kept kept_row arranged is_duplicate inserted_rows versions_matched row_after_set row_changes insert_check values_check listed_check update_check sets_check delete_check row_statement_check select_check query_check total agg_value selected first_tables table_row column_rows index_rows table_def create_check index_check query_rows effect reply_lines reply_text
 written_history = refl
 
 select_5_checked : query_check (defs_of first_tables ++ def_t ∷ []) select_5 ≡ Ok (def_t, Base)
@@ -324,7 +324,7 @@ pub ends_of_bigint : answers first_tables 1 (create (codes "b") (column (codes "
     ∷ insert (codes "b") ((Num 0 (negsuc 9223372036854775807) ∷ []) ∷ (num 9223372036854775807 ∷ []) ∷ [])
     ∷ insert (codes "b") ((num 9223372036854775808 ∷ []) ∷ []) ∷ [])
     ≡ (codes "made" ∷ []) ∷ (codes "2 rows" ∷ []) ∷ (codes "E08" ∷ []) ∷ []
-unfolding chars meaning_of sum_of digits value_cmp raised utf16_units pointed printed is_in_range conversion_of find_part started ended key_places key_of key_cmp same_key has_live_row live_by_key rows_of holds key_fixed changed_all kept kept_row arranged is_duplicate inserted_rows versions_matched row_after_set row_changes insert_check values_check listed_check update_check sets_check delete_check row_statement_check select_check query_check total agg_value selected first_tables table_row column_rows index_rows table_def create_check index_check query_rows effect reply_lines reply_text
+unfolding chars meaning_of sum_of digits value_cmp raised utf16_units pointed printed is_in_range conversion_of find_part started ended key_places key_at key_cmp same_key has_live_row_at live_by_key_at rows_of holds key_fixed changed_all kept kept_row arranged is_duplicate inserted_rows versions_matched row_after_set row_changes insert_check values_check listed_check update_check sets_check delete_check row_statement_check select_check query_check total agg_value selected first_tables table_row column_rows index_rows table_def create_check index_check query_rows effect reply_lines reply_text
 ends_of_bigint = refl
 
 -- a text of the one character U+1F600 is two UTF-16 units
@@ -332,33 +332,33 @@ pub units_of_text : answers first_tables 1 (create (codes "n") (column (codes "i
     ∷ insert (codes "n") ((num 1 ∷ Text (240 ∷ 159 ∷ 152 ∷ 128 ∷ []) ∷ []) ∷ [])
     ∷ insert (codes "n") ((num 2 ∷ Text (240 ∷ 159 ∷ 152 ∷ 128 ∷ 97 ∷ []) ∷ []) ∷ []) ∷ [])
     ≡ (codes "made" ∷ []) ∷ (codes "1 rows" ∷ []) ∷ (codes "E09" ∷ []) ∷ []
-unfolding chars meaning_of sum_of digits value_cmp raised utf16_units pointed printed is_in_range conversion_of find_part started ended key_places key_of key_cmp same_key has_live_row live_by_key rows_of holds key_fixed changed_all kept kept_row arranged is_duplicate inserted_rows versions_matched row_after_set row_changes insert_check values_check listed_check update_check sets_check delete_check row_statement_check select_check query_check total agg_value selected first_tables table_row column_rows index_rows table_def create_check index_check query_rows effect reply_lines reply_text
+unfolding chars meaning_of sum_of digits value_cmp raised utf16_units pointed printed is_in_range conversion_of find_part started ended key_places key_at key_cmp same_key has_live_row_at live_by_key_at rows_of holds key_fixed changed_all kept kept_row arranged is_duplicate inserted_rows versions_matched row_after_set row_changes insert_check values_check listed_check update_check sets_check delete_check row_statement_check select_check query_check total agg_value selected first_tables table_row column_rows index_rows table_def create_check index_check query_rows effect reply_lines reply_text
 units_of_text = refl
 
 pub append_only : answers first_tables 1 (create (codes "log") (column (codes "id") Int false ∷ []) AppendOnly None
     ∷ insert (codes "log") ((num 7 ∷ []) ∷ []) ∷ s.Change (Delete (codes "log") None) ∷ all_of (codes "log") ∷ [])
     ≡ (codes "made" ∷ []) ∷ (codes "1 rows" ∷ []) ∷ (codes "E10" ∷ []) ∷ (codes "7" ∷ codes "1 rows" ∷ []) ∷ []
-unfolding chars meaning_of sum_of digits value_cmp raised utf16_units pointed printed is_in_range conversion_of find_part started ended key_places key_of key_cmp same_key has_live_row live_by_key rows_of holds key_fixed changed_all kept kept_row arranged is_duplicate inserted_rows versions_matched row_after_set row_changes insert_check values_check listed_check update_check sets_check delete_check row_statement_check select_check query_check total agg_value selected first_tables table_row column_rows index_rows table_def create_check index_check query_rows effect reply_lines reply_text
+unfolding chars meaning_of sum_of digits value_cmp raised utf16_units pointed printed is_in_range conversion_of find_part started ended key_places key_at key_cmp same_key has_live_row_at live_by_key_at rows_of holds key_fixed changed_all kept kept_row arranged is_duplicate inserted_rows versions_matched row_after_set row_changes insert_check values_check listed_check update_check sets_check delete_check row_statement_check select_check query_check total agg_value selected first_tables table_row column_rows index_rows table_def create_check index_check query_rows effect reply_lines reply_text
 append_only = refl
 
 pub savepoints : map reply_lines (script (read_in in_script) true (effect first_tables 1 0 create_t).tables 2 (texts (0 ∷ 3 ∷ 1 ∷ 3 ∷ 2 ∷ 4 ∷ 5 ∷ 6 ∷ []))).replies
     ≡ (codes "1 rows" ∷ []) ∷ (codes "saved" ∷ []) ∷ (codes "1 rows" ∷ []) ∷ (codes "saved" ∷ []) ∷ (codes "1 rows" ∷ []) ∷ (codes "back" ∷ [])
     ∷ (codes "E15" ∷ []) ∷ (codes "1|1|2|0|1|N'INSERT'" ∷ codes "2|2|2|1|1|N'INSERT'" ∷ codes "2 rows" ∷ []) ∷ []
-unfolding chars text_step script_from saves rolls_back_to meaning_of sum_of digits value_cmp raised utf16_units pointed printed is_in_range conversion_of find_part started ended key_places key_of key_cmp same_key has_live_row live_by_key rows_of holds key_fixed changed_all kept kept_row arranged is_duplicate inserted_rows versions_matched row_after_set row_changes insert_check values_check listed_check update_check sets_check delete_check row_statement_check select_check query_check total agg_value selected first_tables table_row column_rows index_rows table_def create_check index_check query_rows effect reply_lines reply_text
+unfolding chars text_step script_from saves rolls_back_to meaning_of sum_of digits value_cmp raised utf16_units pointed printed is_in_range conversion_of find_part started ended key_places key_at key_cmp same_key has_live_row_at live_by_key_at rows_of holds key_fixed changed_all kept kept_row arranged is_duplicate inserted_rows versions_matched row_after_set row_changes insert_check values_check listed_check update_check sets_check delete_check row_statement_check select_check query_check total agg_value selected first_tables table_row column_rows index_rows table_def create_check index_check query_rows effect reply_lines reply_text
 savepoints = refl
 
 -- the 65th savepoint
 pub savepoint_65 : (script (read_in in_script) true first_tables 1 (replicate 65 (3 ∷ []))).replies ≡ replicate 64 r.Saved ++ r.Refused LimitExceeded ∷ []
-unfolding chars text_step script_from saves rolls_back_to meaning_of sum_of digits value_cmp raised utf16_units pointed printed is_in_range conversion_of find_part started ended key_places key_of key_cmp same_key has_live_row live_by_key rows_of holds key_fixed changed_all kept kept_row arranged is_duplicate inserted_rows versions_matched row_after_set row_changes insert_check values_check listed_check update_check sets_check delete_check row_statement_check select_check query_check total agg_value selected first_tables table_row column_rows index_rows table_def create_check index_check query_rows effect reply_lines reply_text
+unfolding chars text_step script_from saves rolls_back_to meaning_of sum_of digits value_cmp raised utf16_units pointed printed is_in_range conversion_of find_part started ended key_places key_at key_cmp same_key has_live_row_at live_by_key_at rows_of holds key_fixed changed_all kept kept_row arranged is_duplicate inserted_rows versions_matched row_after_set row_changes insert_check values_check listed_check update_check sets_check delete_check row_statement_check select_check query_check total agg_value selected first_tables table_row column_rows index_rows table_def create_check index_check query_rows effect reply_lines reply_text
 savepoint_65 = refl
 
 pub alone : map (each_alone (effect first_tables 1 0 create_t).tables by_themselves) (0 ∷ 1 ∷ 9 ∷ 2 ∷ 3 ∷ [])
     ≡ ((codes "0 rows" ∷ []) ∷ []) ∷ ((codes "E13" ∷ []) ∷ []) ∷ ((codes "E01" ∷ []) ∷ []) ∷ ((codes "E18" ∷ []) ∷ []) ∷ ((codes "E02" ∷ []) ∷ []) ∷ []
-unfolding chars text_step script_from saves rolls_back_to meaning_of sum_of digits value_cmp raised utf16_units pointed printed is_in_range conversion_of find_part started ended key_places key_of key_cmp same_key has_live_row live_by_key rows_of holds key_fixed changed_all kept kept_row arranged is_duplicate inserted_rows versions_matched row_after_set row_changes insert_check values_check listed_check update_check sets_check delete_check row_statement_check select_check query_check total agg_value selected first_tables table_row column_rows index_rows table_def create_check index_check query_rows effect reply_lines reply_text
+unfolding chars text_step script_from saves rolls_back_to meaning_of sum_of digits value_cmp raised utf16_units pointed printed is_in_range conversion_of find_part started ended key_places key_at key_cmp same_key has_live_row_at live_by_key_at rows_of holds key_fixed changed_all kept kept_row arranged is_duplicate inserted_rows versions_matched row_after_set row_changes insert_check values_check listed_check update_check sets_check delete_check row_statement_check select_check query_check total agg_value selected first_tables table_row column_rows index_rows table_def create_check index_check query_rows effect reply_lines reply_text
 alone = refl
 
 pub legal : IsLegal (read_in in_journal) (journal 2)
-unfolding chars text_step script_from saves rolls_back_to meaning_of sum_of digits value_cmp raised utf16_units pointed printed is_in_range conversion_of find_part started ended key_places key_of key_cmp same_key has_live_row live_by_key rows_of holds key_fixed changed_all kept kept_row arranged is_duplicate inserted_rows versions_matched row_after_set row_changes insert_check values_check listed_check update_check sets_check delete_check row_statement_check select_check query_check total agg_value selected first_tables table_row column_rows index_rows table_def create_check index_check query_rows effect reply_lines reply_text all_events events_of
+unfolding chars text_step script_from saves rolls_back_to meaning_of sum_of digits value_cmp raised utf16_units pointed printed is_in_range conversion_of find_part started ended key_places key_at key_cmp same_key has_live_row_at live_by_key_at rows_of holds key_fixed changed_all kept kept_row arranged is_duplicate inserted_rows versions_matched row_after_set row_changes insert_check values_check listed_check update_check sets_check delete_check row_statement_check select_check query_check total agg_value selected first_tables table_row column_rows index_rows table_def create_check index_check query_rows effect reply_lines reply_text all_events events_of
 legal =
     ((record { replies = refl; events = λ e. cc }, tt), ((record { replies = refl; events = λ e. cc }, (λ e. omega arith, tt)), ((omega arith, omega arith, omega arith), tt)))
 
@@ -402,16 +402,16 @@ fails_wide_2 = rw (wide_where_tree op.Lt) refl
 
 -- WHERE id = 1 AND d + d > 0 looks at row 1 alone, WHERE id < 1 AND d + d > 0 at each, also where id < 1 is false
 pub key_hides : query_rows (wide_select op.Eq) (wide_def, Base) (wide 1 (pos 1) 0 ∷ wide 2 (pos nines) 1 ∷ []) ≡ Ok ((num 1 ∷ num 1 ∷ []) ∷ [])
-unfolding query_rows rows_of selected live_by_key key_places key_of key_cmp same_key value_cmp raised
+unfolding query_rows rows_of selected live_by_key_at key_places key_at key_cmp same_key value_cmp raised
 key_hides = rw (fixed_wide, holds_wide) refl
 
 pub all_are_evaluated : query_rows (wide_select op.Lt) (wide_def, Base) (wide 1 (pos 1) 0 ∷ wide 2 (pos nines) 1 ∷ []) ≡ Err NumberOutOfRange
-unfolding query_rows rows_of selected live_by_key key_places key_of key_cmp same_key value_cmp raised
+unfolding query_rows rows_of selected live_by_key_at key_places key_at key_cmp same_key value_cmp raised
 all_are_evaluated = rw (not_fixed_wide, fails_wide_1, fails_wide_2) refl
 
 -- a sum that leaves the range on its way
 pub sum_on_the_way : answer wide_tables (select (codes "w") (Aggs (Sum (codes "d") ∷ [])) []) ≡ codes "E08" ∷ []
-unfolding sum_of chars digits value_cmp raised utf16_units pointed printed is_in_range conversion_of find_part started ended key_places key_of key_cmp same_key has_live_row live_by_key rows_of holds key_fixed changed_all kept kept_row arranged is_duplicate inserted_rows versions_matched row_after_set row_changes insert_check values_check listed_check update_check sets_check delete_check row_statement_check select_check query_check total agg_value selected first_tables table_row column_rows index_rows table_def create_check index_check query_rows effect reply_lines reply_text
+unfolding sum_of chars digits value_cmp raised utf16_units pointed printed is_in_range conversion_of find_part started ended key_places key_at key_cmp same_key has_live_row_at live_by_key_at rows_of holds key_fixed changed_all kept kept_row arranged is_duplicate inserted_rows versions_matched row_after_set row_changes insert_check values_check listed_check update_check sets_check delete_check row_statement_check select_check query_check total agg_value selected first_tables table_row column_rows index_rows table_def create_check index_check query_rows effect reply_lines reply_text
 sum_on_the_way = refl
 
 pub key_before_class : row_statement_check (defs_of wide_tables) (Update (codes "w") ((codes "id", Col (codes "d")) ∷ []) None) ≡ Err KeyNotUpdatable
@@ -420,7 +420,7 @@ key_before_class = rw (of_column (codes "d")) refl
 
 -- rows go by b and then by a, and the key is in this order
 pub key_order : answer pairs (all_of (codes "p")) ≡ codes "1|3" ∷ codes "2|3" ∷ codes "1|9" ∷ codes "3 rows" ∷ []
-unfolding chars digits value_cmp raised utf16_units pointed printed is_in_range conversion_of find_part started ended key_places key_of key_cmp same_key has_live_row live_by_key rows_of holds key_fixed changed_all kept kept_row arranged is_duplicate inserted_rows versions_matched row_after_set row_changes insert_check values_check listed_check update_check sets_check delete_check row_statement_check select_check query_check total agg_value selected first_tables table_row column_rows index_rows table_def create_check index_check query_rows effect reply_lines reply_text
+unfolding chars digits value_cmp raised utf16_units pointed printed is_in_range conversion_of find_part started ended key_places key_at key_cmp same_key has_live_row_at live_by_key_at rows_of holds key_fixed changed_all kept kept_row arranged is_duplicate inserted_rows versions_matched row_after_set row_changes insert_check values_check listed_check update_check sets_check delete_check row_statement_check select_check query_check total agg_value selected first_tables table_row column_rows index_rows table_def create_check index_check query_rows effect reply_lines reply_text
 key_order = refl
 
 pub key_locked : cell_requests (defs_of pairs) (s.Change (Insert (codes "p") (Some (codes "a" ∷ codes "b" ∷ [])) ((num 1 ∷ num 2 ∷ []) ∷ [])))
@@ -433,5 +433,5 @@ pub back_twice : map reply_lines (script (read_in in_script) true (effect first_
     ≡ (codes "1 rows" ∷ []) ∷ (codes "saved" ∷ []) ∷ (codes "1 rows" ∷ []) ∷ (codes "back" ∷ []) ∷ (codes "1 rows" ∷ []) ∷ (codes "back" ∷ [])
     ∷ (codes "1|1|2|0|1|N'INSERT'" ∷ codes "1 rows" ∷ []) ∷ (codes "1 rows" ∷ [])
     ∷ (codes "1|1|2|0|1|N'INSERT'" ∷ codes "3|3|2|1|1|N'INSERT'" ∷ codes "2 rows" ∷ []) ∷ []
-unfolding chars text_step script_from saves rolls_back_to meaning_of sum_of digits value_cmp raised utf16_units pointed printed is_in_range conversion_of find_part started ended key_places key_of key_cmp same_key has_live_row live_by_key rows_of holds key_fixed changed_all kept kept_row arranged is_duplicate inserted_rows versions_matched row_after_set row_changes insert_check values_check listed_check update_check sets_check delete_check row_statement_check select_check query_check total agg_value selected first_tables table_row column_rows index_rows table_def create_check index_check query_rows effect reply_lines reply_text
+unfolding chars text_step script_from saves rolls_back_to meaning_of sum_of digits value_cmp raised utf16_units pointed printed is_in_range conversion_of find_part started ended key_places key_at key_cmp same_key has_live_row_at live_by_key_at rows_of holds key_fixed changed_all kept kept_row arranged is_duplicate inserted_rows versions_matched row_after_set row_changes insert_check values_check listed_check update_check sets_check delete_check row_statement_check select_check query_check total agg_value selected first_tables table_row column_rows index_rows table_def create_check index_check query_rows effect reply_lines reply_text
 back_twice = refl

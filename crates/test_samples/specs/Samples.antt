@@ -83,9 +83,11 @@ def_t = record {
   id = 3;
   name = codes "t";
   kind = Updatable;
+  gone = false;
   history = codes "MSSQL_LedgerHistoryFor_3";
   view = codes "t_Ledger";
   columns = key_column (codes "id") Int ∷ column (codes "v") Int true ∷ [];
+  dropped = [];
   indexes = [];
 }
 
@@ -159,11 +161,13 @@ def_balance = record {
   id = 3;
   name = codes "Balance";
   kind = Updatable;
+  gone = false;
   history = codes "BalanceHistory";
   view = codes "Balance_Ledger";
   columns =
       key_column (codes "CustomerID") Int ∷ name_column (codes "LastName") ∷ name_column (codes "FirstName")
       ∷ column (codes "Balance") (Decimal 10 2) false ∷ [];
+  dropped = [];
   indexes = [];
 }
 
@@ -228,9 +232,11 @@ wide_def = record {
   id = 3;
   name = codes "w";
   kind = Updatable;
+  gone = false;
   history = codes "h";
   view = codes "w_Ledger";
   columns = key_column (codes "id") Int ∷ column (codes "d") (Decimal 38 0) true ∷ [];
+  dropped = [];
   indexes = [];
 }
 
@@ -268,11 +274,13 @@ pair_def = record {
   id = 3;
   name = codes "p";
   kind = Updatable;
+  gone = false;
   history = codes "h";
   view = codes "p_Ledger";
   columns =
       record { name = codes "a"; ty = Int; nullable = false; key_position = 2 }
       ∷ record { name = codes "b"; ty = Int; nullable = false; key_position = 1 } ∷ [];
+  dropped = [];
   indexes = [];
 }
 

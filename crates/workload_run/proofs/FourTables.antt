@@ -1,14 +1,16 @@
 -- What is counted of the workload's tables.
 use Rattle.std.proofs.Common.{◌≡◌, ◌∙◌, ◌≤◌, ◌+◌, ◌*◌, ◌/◌, ℕ, List, [], ◌∷◌, drop, length, map, refl, sym, ap, arith}
+use Rattle.sql_value.specs.declared.column.ColumnDef.{ColumnDef}
 use Rattle.sql_types.specs.declared.version.Table.{Table}
 use Rattle.sql_types.specs.declared.version.Version.{Version}
 use Rattle.spec_model.specs.Catalog.{Tables, versions_of}
 use Rattle.spec_model.specs.Rows.{live}
-use Rattle.format_image.specs.Rows.{table_rows}
+use Rattle.format_image.specs.Rows.{filled_version, table_rows}
 use Rattle.law_workload.specs.Tables.{Shows, history, total}
 use Rattle.law_workload.specs.Turns.{inserted_total}
 use Rattle.workload_run.specs.Figures.{amount, history_count, row_count}
 use Rattle.workload_run.specs.Reports.{inserted_in_all}
+use Rattle.workload_run.proofs.FilledRows.{as_many_ended, as_many_live, same_total}
 
 ids_of : Tables → List ℕ
 ids_of T = map (λ (t : Table). t.def.id) T
@@ -36,21 +38,21 @@ module _ (s c v w x y : Table) (n : ℕ) (s_is : s.def.id ≡ 1) (c_is : c.def.i
   sixth = rw (s_is, c_is, v_is, w_is, x_is, y_is) refl
 
   module _ (shows : (table : ℕ) → 1 ≤ table → table ≤ 4 → Shows T table n (n / 10) (inserted_total table n + n / 10)) where
-    rows_at : (table : ℕ) (V : List Version) → versions_of T (table + 2) ≡ V → 1 ≤ table → table ≤ 4 → length (live V) ≡ n
-    rows_at table V is some four = ap (λ (U : List Version). length (live U)) (sym is) ∙ (shows table some four).rows_are
+    rows_at : (table : ℕ) (cs : List ColumnDef) (V : List Version) → versions_of T (table + 2) ≡ V → 1 ≤ table → table ≤ 4 → length (live (map (filled_version cs) V)) ≡ n
+    rows_at table cs V is some four = as_many_live cs V ∙ ap (λ (U : List Version). length (live U)) (sym is) ∙ (shows table some four).rows_are
 
-    changed_at : (table : ℕ) (V : List Version) → versions_of T (table + 2) ≡ V → 1 ≤ table → table ≤ 4 → length (history V) ≡ n / 10
-    changed_at table V is some four = ap (λ (U : List Version). length (history U)) (sym is) ∙ (shows table some four).history_is
+    changed_at : (table : ℕ) (cs : List ColumnDef) (V : List Version) → versions_of T (table + 2) ≡ V → 1 ≤ table → table ≤ 4 → length (history (map (filled_version cs) V)) ≡ n / 10
+    changed_at table cs V is some four = as_many_ended cs V ∙ ap (λ (U : List Version). length (history U)) (sym is) ∙ (shows table some four).history_is
 
-    sum_at : (table : ℕ) (V : List Version) → versions_of T (table + 2) ≡ V → 1 ≤ table → table ≤ 4 → total (live V) ≡ inserted_total table n + n / 10
-    sum_at table V is some four = ap (λ (U : List Version). total (live U)) (sym is) ∙ (shows table some four).sum_is
+    sum_at : (table : ℕ) (cs : List ColumnDef) (V : List Version) → versions_of T (table + 2) ≡ V → 1 ≤ table → table ≤ 4 → total (live (map (filled_version cs) V)) ≡ inserted_total table n + n / 10
+    sum_at table cs V is some four = same_total cs V ∙ ap (λ (U : List Version). total (live U)) (sym is) ∙ (shows table some four).sum_is
 
     all_four : Are T n
     unfolding table_rows
     all_four = record {
-      rows = omega (arith, rows_at 1 v.versions third (omega arith) (omega arith), rows_at 2 w.versions fourth (omega arith) (omega arith), rows_at 3 x.versions fifth (omega arith) (omega arith), rows_at 4 y.versions sixth (omega arith) (omega arith));
-      changed = omega (arith, changed_at 1 v.versions third (omega arith) (omega arith), changed_at 2 w.versions fourth (omega arith) (omega arith), changed_at 3 x.versions fifth (omega arith) (omega arith), changed_at 4 y.versions sixth (omega arith) (omega arith));
-      sum_is = omega (arith, sum_at 1 v.versions third (omega arith) (omega arith), sum_at 2 w.versions fourth (omega arith) (omega arith), sum_at 3 x.versions fifth (omega arith) (omega arith), sum_at 4 y.versions sixth (omega arith) (omega arith));
+      rows = omega (arith, rows_at 1 v.def.columns v.versions third (omega arith) (omega arith), rows_at 2 w.def.columns w.versions fourth (omega arith) (omega arith), rows_at 3 x.def.columns x.versions fifth (omega arith) (omega arith), rows_at 4 y.def.columns y.versions sixth (omega arith) (omega arith));
+      changed = omega (arith, changed_at 1 v.def.columns v.versions third (omega arith) (omega arith), changed_at 2 w.def.columns w.versions fourth (omega arith) (omega arith), changed_at 3 x.def.columns x.versions fifth (omega arith) (omega arith), changed_at 4 y.def.columns y.versions sixth (omega arith) (omega arith));
+      sum_is = omega (arith, sum_at 1 v.def.columns v.versions third (omega arith) (omega arith), sum_at 2 w.def.columns w.versions fourth (omega arith) (omega arith), sum_at 3 x.def.columns x.versions fifth (omega arith) (omega arith), sum_at 4 y.def.columns y.versions sixth (omega arith) (omega arith));
     }
 
 pub counted_are : (T : Tables) (n : ℕ) → map (λ (t : Table). t.def.id) T ≡ 1 ∷ 2 ∷ 3 ∷ 4 ∷ 5 ∷ 6 ∷ []

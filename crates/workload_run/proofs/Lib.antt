@@ -1,4 +1,5 @@
 mod Seconds
+mod FilledRows
 mod FourTables
 mod Telling
 mod RunSectionsFit

@@ -1,5 +1,5 @@
 -- A run of the workload in which each statement is committed tells what is expected.
-use Rattle.std.proofs.Common.{◌≡◌, ◌∙◌, ◌≤◌, ◌+◌, ◌++◌, ◌*◌, ◌/◌, ℕ, List, [], ◌∷◌, codes, length, map, Some, refl, sym, ap, subst, arith}
+use Rattle.std.proofs.Common.{◌≡◌, ◌∙◌, ◌≤◌, ◌+◌, ◌++◌, ◌*◌, ◌/◌, ℕ, List, [], ◌∷◌, codes, length, map, Some, inl, refl, sym, ap, subst, arith}
 use Rattle.std.specs.List.{AllByRecursion}
 use Rattle.sql_types.specs.declared.digest.Digest.{Digest}
 use Rattle.sql_types.specs.declared.image.Image.{Image}
@@ -18,7 +18,7 @@ use Rattle.spec_syntax.specs.Text.{statement_of}
 use Rattle.law_catalog_rows.specs.Written.{ReadsWritten}
 use Rattle.law_blocks.proofs.Counting.{entries_counted}
 use Rattle.format_image.specs.Image.{image_of}
-use Rattle.format_image.specs.ImageBytes.{image_bytes, IsImage}
+use Rattle.format_image.specs.ImageBytes.{IsImage, IsSpellingOf}
 use Rattle.format_image.proofs.ImageExact.{only_of}
 use Rattle.law_image.specs.Room.{FitsImageFormat}
 use Rattle.spec_verify.specs.declared.place.Verdict.{Verdict}
@@ -73,8 +73,8 @@ same_report a b t r h s v =
     ∙ ap (λ (x : Verdict). record { transactions = b.transactions; rows = b.rows; history = b.history; sum = b.sum; verdict = x }) v
 
 -- bytes are those of one image alone
-bytes_of_one : (i j : Image) → IsImage i → IsImage j → image_bytes i ≡ image_bytes j → i ≡ j
-bytes_of_one i j a b e = some_same i j (sym (only_of (image_bytes j) i a (sym e)) ∙ only_of (image_bytes j) j b refl)
+bytes_of_one : (bytes : List ℕ) (i j : Image) → IsImage i → IsImage j → IsSpellingOf bytes i → IsSpellingOf bytes j → i ≡ j
+bytes_of_one bytes i j a b s t = some_same i j (sym (only_of bytes i a s) ∙ only_of bytes j b t)
   where
     some_same : (x y : Image) → Some x ≡ Some y → x ≡ y
     some_same x y f = cc
@@ -110,7 +110,7 @@ module _ (laws : Laws) (written : ReadsWritten statement_of)
     (h : List ℕ → List ℕ) (rows : ℕ) (few : rows ≤ 1000000) (is_said : ℕ → Type 0) (left : RunResult) (came : CameTo h (codes "LedgerDB") 100 is_said (workload_input rows) left)
     (more : List Digest) (yes : verdict_of h (map held (left.G ++ more)) (last_image_bytes h left.J) ≡ Yes)
     (room : FitsImageFormat h statement_of left.J.database left.J.items)
-    (bytes : List ℕ) (is : bytes ≡ last_image_bytes h left.J) (image : Image) (is_image : IsImage image) (read : bytes ≡ image_bytes image)
+    (bytes : List ℕ) (is : bytes ≡ last_image_bytes h left.J) (image : Image) (is_image : IsImage image) (read : IsSpellingOf bytes image)
     (r : Report) (tells : TellsOfImage h image (map held (left.G ++ more)) r) (all : r.transactions ≡ (expected rows).transactions) where
   J : Journal
   J = left.J
@@ -119,7 +119,7 @@ module _ (laws : Laws) (written : ReadsWritten statement_of)
   its_image = spelled h statement_of left.J.database left.J.items written came.legal.legal room
 
   same : image ≡ image_in h left.J
-  same = bytes_of_one image (image_in h left.J) is_image its_image (sym read ∙ is)
+  same = bytes_of_one bytes image (image_in h left.J) is_image its_image read (inl is)
 
   here : TellsOfImage h (image_in h left.J) (map held (left.G ++ more)) r
   here = subst (λ (i : Image). TellsOfImage h i (map held (left.G ++ more)) r) same tells

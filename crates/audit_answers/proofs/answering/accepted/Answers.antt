@@ -1,6 +1,5 @@
-use Rattle.std.proofs.Common.{sym, ap, ◌∙◌, arith}
-use Rattle.spec_verify.specs.Bytes.{verdict_of}
-use Rattle.spec_verify.proofs.Judged.{of_image, of_none}
+use Rattle.std.proofs.Common.{sym, ◌∙◌, arith}
+use Rattle.spec_verify.proofs.Judged.{of_spelling, of_none}
 use Rattle.audit_answers.proofs.answering.accepted.Goals as goal
 
 pub returns-in_default : goal.returns-in_default
@@ -14,5 +13,5 @@ returns-in-No g c =
     let h = g.H.Hash32.digest c.args.h in
     let found = rw c.in-Some.is at c.in_ok-image.ensures.found in (
       (λ e. absurd cc),
-      sym c.in-No.is ∙ c.in_ok-verdict.ensures ∙ sym (ap (verdict_of h c.args.digests.now) found.1 ∙ of_image h c.args.digests.now c.in-Some.image found.0),
+      sym c.in-No.is ∙ c.in_ok-verdict.ensures ∙ sym (of_spelling h c.args.digests.now c.args.bytes.now c.in-Some.image found.0 found.1),
     )

@@ -1,7 +1,7 @@
 use Rattle.std.proofs.Common.{rules, of_calls, ltb, leb}
 use Rattle.std.proofs.lemmas.List.Sorted.{IsPartitionPoint-from_clause, IsPartitionedBy-ltb}
 use Rattle.audit_verify.specs.EventIds.{tx_in}
-use Rattle.audit_verify.proofs.Searches.{run_is, up_to}
+use Rattle.audit_columns.proofs.Searches.{run_is, up_to}
 use Rattle.audit_verify.proofs.event_ids.ids_of.Goals as goal
 
 pub returns : goal.returns

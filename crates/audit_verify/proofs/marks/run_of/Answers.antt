@@ -2,7 +2,7 @@ use Rattle.std.proofs.Common.{rules, of_calls, ltb, leb, refl}
 use Rattle.std.proofs.lemmas.List.Sorted.{IsPartitionPoint-from_clause, IsPartitionedBy-ltb}
 use Rattle.audit_verify.specs.Marks.{tx_of}
 use Rattle.audit_verify.proofs.Hashed.{hashes_of_part}
-use Rattle.audit_verify.proofs.Searches.{run_is, up_to}
+use Rattle.audit_columns.proofs.Searches.{run_is, up_to}
 use Rattle.audit_verify.proofs.marks.run_of.Goals as goal
 
 pub returns-clause-own : goal.returns-clause-own

@@ -1,6 +1,5 @@
-use Rattle.std.proofs.Common.{sym, ap, ◌∙◌, arith}
-use Rattle.spec_verify.specs.Bytes.{verdict_of}
-use Rattle.spec_verify.proofs.Judged.{of_image, of_none}
+use Rattle.std.proofs.Common.{sym, arith}
+use Rattle.spec_verify.proofs.Judged.{of_spelling, of_none}
 use Rattle.audit_definitions.proofs.Verdicts.{same_ok}
 use Rattle.audit_verify.proofs.workers.verify.Goals as goal
 
@@ -9,7 +8,7 @@ returns-in-Some g c =
     let h = g.H.Hash32.digest c.args.hasher in
     let ds = c.args.digests.now in
     let found = rw c.in-Some.is at c.in_ok-image.ensures.found in
-    same_ok _ _ _ (sym (ap (verdict_of h ds) found.1 ∙ of_image h ds c.in-Some.image found.0)) c.verify_image_with_workers.ensures
+    same_ok _ _ _ (sym (of_spelling h ds c.args.bytes.now c.in-Some.image found.0 found.1)) c.verify_image_with_workers.ensures
 
 pub returns-in-None : goal.returns-in-None
 returns-in-None g c =

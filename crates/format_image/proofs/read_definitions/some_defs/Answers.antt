@@ -6,4 +6,4 @@ use Rattle.format_image.proofs.read_definitions.some_defs.Goals as goal
 pub loop-preserved : goal.loop-preserved
 loop-preserved c =
     let lt = c.loop-test.true in
-    rw c.in_ok-push.ensures.ok (goes_on def_at c.loop.defs c.args.count c.loop.counter c.loop.rest.now c.in_ok-def.def c.in_ok-def.after.now _ (omega arith) c.in_ok-def.ensures c.loop.invariant)
+    rw c.in_ok-push.ensures.ok (goes_on (def_at c.args.version) c.loop.defs c.args.count c.loop.counter c.loop.rest.now c.in_ok-def.def c.in_ok-def.after.now _ (omega arith) c.in_ok-def.ensures c.loop.invariant)

@@ -2,7 +2,7 @@ use Rattle.spec_model.specs.Journals.{cut}
 use Rattle.spec_syntax.specs.Text.{statement_of}
 use Rattle.law_journal.proofs.Serials.{cut_legal}
 use Rattle.law_accepts.proofs.RoomOfCuts.{room_of_cut}
-use Rattle.law_accepts.proofs.Whole.{verifies}
+use Rattle.law_accepts.proofs.Whole.{verifies, verifies_1}
 use Rattle.law_accepts.proofs.laws.images_of_legal_journals_verify.Goals as goal
 
 pub returns : goal.returns
@@ -21,4 +21,7 @@ returns c =
           (cut_legal statement_of j.items m legal.legal)
           (room_of_cut h statement_of j.database j.items m legal.legal room));
       written = verifies;
+      first = λ h reads j m digests written legal all_held is_image.
+          verifies_1 h reads j m digests written legal all_held is_image
+          (c.legal_images_have_nothing_gone.ensures h reads j.database (cut j.items m) written (cut_legal reads j.items m legal.legal));
     }

@@ -1,7 +1,6 @@
 use Rattle.std.proofs.Common.{arith, ap, sym, ◌∙◌, inl, inr, Ok}
-use Rattle.spec_model.specs.Rows.{value_or_null}
 use Rattle.sql_parts.proofs.InTurn.{map_after_done}
-use Rattle.sql_parts.proofs.Zipped.{first_ended, seconds_ended}
+use Rattle.sql_parts.proofs.Zipped.{first_ended, second_ended}
 use Rattle.sql_change.proofs.setting.values_set.Goals as goal
 
 pub returns : goal.returns
@@ -9,8 +8,8 @@ returns c =
     let left = c.loop-column.column-iterator in
     map_after_done _ _ _ _
     (elim c.in-None.ensures.steps [
-      | inl ended ↦ first_ended left.a.rest.now _ (omega (arith, ended.1.0))
-      | inr ended ↦ seconds_ended value_or_null left.a.rest.now left.b.rest.now (omega (arith, ended.1.0))
+      | inl ended ↦ first_ended left.a.rest.now left.b.rest.items (omega (arith, ended.1.0))
+      | inr ended ↦ second_ended left.a.rest.now left.b.rest.items (omega (arith, ended.1.0, left.b.rest.ok.0))
     ])
     c.loop-column.invariant
     ∙ ap Ok (sym c.from_vec.ensures)

@@ -1,6 +1,5 @@
 use Rattle.std.proofs.Common.{◌≡◌, drop}
-use Rattle.spec_model.specs.Keys.{key_cmp}
-use Rattle.sql_parts.specs.Places.{key_at}
+use Rattle.spec_model.specs.Keys.{key_at, key_cmp}
 use Rattle.sql_parts.proofs.keys.compare_at.Given as goal
 
 abbrev pub invariant-loop-place : goal.invariant-loop-place

@@ -4,5 +4,5 @@ use Rattle.sql_parts.proofs.rows.view_rows.Given as goal
 
 abbrev pub invariant-loop-version : goal.invariant-loop-version
 invariant-loop-version l =
-    l.shown.items ++ flat_map (λ v. view_row_of_start v ∷ view_row_of_end v v.end) (drop l.version-index l.versions)
-    ≡ flat_map (λ v. view_row_of_start v ∷ view_row_of_end v v.end) l.versions
+    l.shown.items ++ flat_map (λ v. view_row_of_start l.declared v ∷ view_row_of_end l.declared v v.end) (drop l.version-index l.versions)
+    ≡ flat_map (λ v. view_row_of_start l.declared v ∷ view_row_of_end l.declared v v.end) l.versions

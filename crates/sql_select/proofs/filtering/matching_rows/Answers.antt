@@ -8,4 +8,4 @@ use Rattle.sql_select.proofs.filtering.matching_rows.Goals as goal
 pub returns : goal.returns
 returns c =
     let test = holds c.args.columns.now c.args.cond.now in
-    subst (λ meant. ItemsMatchUnlessOom meant c.each_taken.result) (filter_after_none test (map base_row (map (λ v. v.now) c.args.versions.now))) c.each_taken.ensures
+    subst (λ meant. ItemsMatchUnlessOom meant c.each_taken.result) (filter_after_none test (map (base_row c.args.declared.now) (map (λ v. v.now) c.args.versions.now))) c.each_taken.ensures

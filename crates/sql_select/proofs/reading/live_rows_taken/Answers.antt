@@ -1,4 +1,4 @@
-use Rattle.std.proofs.Common.{Bor, ap, map, subst, ◌∙◌}
+use Rattle.std.proofs.Common.{Bor, ap, ap₂, map, subst, ◌∙◌}
 use Rattle.sql_types.specs.declared.version.Version.{Version}
 use Rattle.spec_model.specs.Lists.{checked_filter}
 use Rattle.spec_model.specs.Parts.{base_row}
@@ -11,5 +11,5 @@ seen v = v.now
 
 pub returns : goal.returns
 returns g c =
-    subst (λ vs. ItemsMatchUnlessOom (checked_filter (holds c.args.columns.now c.args.cond.now) (map base_row vs)) c.matching_rows.result)
-    (ap (map seen) c.deref.ensures.value ∙ c.in_ok-live_by_key.ensures) c.matching_rows.ensures
+    subst (λ rows. ItemsMatchUnlessOom (checked_filter (holds c.args.columns.now c.args.cond.now) rows) c.matching_rows.result)
+    (ap₂ (λ cs vs. map (base_row cs) vs) c.columns.ensures (ap (map seen) c.deref.ensures.value ∙ c.in_ok-live_by_key.ensures)) c.matching_rows.ensures

@@ -1,6 +1,6 @@
 use Rattle.std.proofs.Common.{rules, []}
 use Rattle.std.proofs.lemmas.List.Sorted.{IsPartitionPoint-from_clause}
-use Rattle.sql_parts.specs.Places.{key_at}
+use Rattle.spec_model.specs.Keys.{key_at}
 use Rattle.store_table.specs.Orders.{is_below, passes, version_at}
 use Rattle.store_table.proofs.InOrder.{order_parted, order_place}
 use Rattle.store_table.proofs.OfKey.{below_down}

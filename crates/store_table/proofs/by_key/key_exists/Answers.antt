@@ -1,5 +1,5 @@
 use Rattle.std.proofs.Common.{◌∙◌, sym}
-use Rattle.sql_parts.specs.Places.{key_at}
+use Rattle.spec_model.specs.Keys.{key_at}
 use Rattle.store_table.proofs.OfKey.{row_there, row_nowhere}
 use Rattle.store_table.proofs.Stretches.{start_there, start_nowhere}
 use Rattle.store_table.proofs.by_key.key_exists.Goals as goal

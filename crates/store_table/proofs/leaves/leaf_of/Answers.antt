@@ -1,5 +1,5 @@
-use Rattle.law_events.proofs.Leaves.{are_values}
+use Rattle.law_journal.proofs.SoFar.{so_far}
 use Rattle.store_table.proofs.leaves.leaf_of.Goals as goal
 
-pub write_leaf-requires : goal.write_leaf-requires
-write_leaf-requires c = are_values c.requires.0 c.args.event.now.values.now c.requires.1 c.requires.2 c.are_utf8_texts.ensures
+pub leaf_of_version-requires : goal.leaf_of_version-requires
+leaf_of_version-requires c = (c.requires.0, c.requires.1, so_far c.requires.0 c.args.event.now.values.now c.requires.2)

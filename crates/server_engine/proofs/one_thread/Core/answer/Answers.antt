@@ -2,9 +2,10 @@ use Rattle.std.proofs.Common.{◌≡◌, refl, arith}
 use Rattle.server_session.specs.Needs.{need_of}
 use Rattle.server_session.specs.ControlPoints.{IsAnswering}
 use Rattle.server_session.specs.declared.need.NextVisit.TheVariants.{Done}
-use Rattle.server_engine.proofs.Calls.{midway_near, midway_at}
+use Rattle.server_engine.proofs.Calls.{midway_near, midway_at, when_err}
 use Rattle.server_engine.proofs.Pairs.{index_there}
 use Rattle.server_engine.proofs.Turns.{answer_stands}
+use Rattle.server_engine.proofs.Unchanged.{lent_back}
 use Rattle.server_engine.proofs.one_thread.Core.answer.Goals as goal
 
 pub index_mut-requires : goal.index_mut-requires
@@ -37,7 +38,7 @@ returns-clause-stands g c = λ h a m below.
     (midway_near c.args.self.now c.args.session g.H.Hash32.digest r.h r.a r.midway) c.index_mut.ensures.value in
     answer_stands g.H.Hash32.digest h a c.args.session c.args.self.now m y there below
     (midway_at c.args.self.now c.args.session g.H.Hash32.digest r.h r.a r.midway (λ u. IsAnswering u.seat) r.answers y there)
-    c.answer.new.self c.in_ok-answer.ensures _ refl refl refl
+    c.answer.new.self c.in_ok-answer.ensures.answers _ refl refl refl
 
 pub returns-clause-turned : goal.returns-clause-turned
 returns-clause-turned g c =
@@ -47,5 +48,15 @@ returns-clause-turned g c =
       there = index_there c.args.self.now.sessions.items c.args.session c.index_mut.result.now
           (midway_near c.args.self.now c.args.session g.H.Hash32.digest r.h r.a r.midway) c.index_mut.ensures.value;
       are = refl;
-      went = c.in_ok-answer.ensures.between;
+      went = c.in_ok-answer.ensures.answers.between;
     }
+
+pub returns-in_err-answer-clause-err : goal.returns-in_err-answer-clause-err
+returns-in_err-answer-clause-err g c =
+    let r = c.requires in
+    let there = index_there c.args.self.now.sessions.items c.args.session c.index_mut.result.now
+    (midway_near c.args.self.now c.args.session g.H.Hash32.digest r.h r.a r.midway) c.index_mut.ensures.value in when_err c.from_residual.result (record {
+      hasher = refl;
+      cells = refl;
+      sessions = lent_back c.args.self.now.sessions.items c.args.session c.index_mut.result.now c.answer.new.self there c.in_err-answer.ensures.err;
+    })

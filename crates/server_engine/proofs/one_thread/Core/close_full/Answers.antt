@@ -2,8 +2,10 @@ use Rattle.std.proofs.Common.{refl, sym, subst, arith}
 use Rattle.spec_protocol.specs.Cells.{ledger_at}
 use Rattle.server_visits.specs.Full.{ClosesFull}
 use Rattle.server_session.specs.KeptCell.{Keeps}
+use Rattle.server_engine.proofs.Calls.{when_err}
 use Rattle.server_engine.proofs.Midways.{ledger_near, keeps_hash, close_midway, close_less}
 use Rattle.server_engine.proofs.Pairs.{index_there}
+use Rattle.server_engine.proofs.Unchanged.{lent_back}
 use Rattle.server_engine.proofs.one_thread.Core.close_full.Goals as goal
 
 pub index_mut-requires : goal.index_mut-requires
@@ -39,3 +41,13 @@ returns-clause-pending g c =
     (ledger_near g.H.Hash32.digest r.h r.a r.j c.args.self.now r.midway) c.index_mut.ensures.value in
     close_less g.H.Hash32.digest r.h r.a r.j c.args.self.now r.midway x here r.within then_x
     (subst (λ k. ClosesFull (g.H.Hash32.digest k) x.cell then_x.cell) r.midway.hasher c.in_ok-close_full.ensures.closes)
+
+pub returns-in_err-close_full-clause-err : goal.returns-in_err-close_full-clause-err
+returns-in_err-close_full-clause-err g c =
+    let r = c.requires in
+    let there = index_there c.args.self.now.cells.items ledger_at c.index_mut.result.now
+    (ledger_near g.H.Hash32.digest r.h r.a r.j c.args.self.now r.midway) c.index_mut.ensures.value in when_err c.from_residual.result (record {
+      hasher = refl;
+      cells = lent_back c.args.self.now.cells.items ledger_at c.index_mut.result.now c.close_full.new.self there c.in_err-close_full.ensures.err;
+      sessions = refl;
+    })

@@ -1,8 +1,9 @@
 use Rattle.std.proofs.Common.{refl}
 use Rattle.server_session.specs.ControlPoints.{IsOver}
 use Rattle.server_engine.specs.CoreInput.{at_end}
-use Rattle.server_engine.specs.IsMidway.{IsAtSessionEnd, IsOverThen, WentToEnd}
-use Rattle.server_engine.proofs.Calls.{leave_ready, others_on, turned_found, turned_others}
+use Rattle.server_engine.specs.IsMidway.{IsAtSessionEnd, IsOverThen, WentOn, WentToEnd}
+use Rattle.server_engine.proofs.Calls.{leave_ready, others_on, turned_found, turned_others, when_err}
+use Rattle.server_engine.proofs.Unchanged.{below_within, unchanged_midway, unchanged_others, unchanged_within}
 use Rattle.server_engine.proofs.one_thread.Core.end_session.Goals as goal
 
 pub visit_needed-requires-after_bounds : goal.visit_needed-requires-after_bounds
@@ -43,3 +44,31 @@ returns-clause-others g c = others_on c.args.session c.args.self.now c.visit_nee
     (turned_others c.args.self.now c.args.session c.finish.new.self IsAtSessionEnd c.finish.ensures.turned)
     (turned_others c.finish.new.self c.args.session c.visit_needed.new.self WentToEnd c.in_ok-visit_needed.ensures.turned))
     (turned_others c.visit_needed.new.self c.args.session c.leave.new.self IsOverThen c.in_ok-leave.ensures.turned)
+
+pub returns-in_err-visit_needed-clause-stays : goal.returns-in_err-visit_needed-clause-stays
+returns-in_err-visit_needed-clause-stays g c = λ h a m.
+    let p = c.finish.ensures.midway h a m in
+    when_err c.from_residual.result (c.in_err-visit_needed.ensures.stays h (at_end a) p.0 p.1)
+
+pub returns-in_err-visit_needed-clause-others_then : goal.returns-in_err-visit_needed-clause-others_then
+returns-in_err-visit_needed-clause-others_then g c = when_err c.from_residual.result
+    (others_on c.args.session c.args.self.now c.finish.new.self c.visit_needed.new.self
+    (turned_others c.args.self.now c.args.session c.finish.new.self IsAtSessionEnd c.finish.ensures.turned)
+    (turned_others c.finish.new.self c.args.session c.visit_needed.new.self WentOn c.in_err-visit_needed.ensures.went))
+
+pub returns-in_err-leave-clause-stays : goal.returns-in_err-leave-clause-stays
+returns-in_err-leave-clause-stays g c = λ h a m.
+    let p = c.finish.ensures.midway h a m in
+    let q = c.in_ok-visit_needed.ensures.midway h (at_end a) p.0 p.1 in
+    let u = c.in_err-leave.ensures.err in when_err c.from_residual-in_err-leave.result (
+      unchanged_midway c.visit_needed.new.self c.leave.new.self u g.H.Hash32.digest h (at_end a) c.args.session q.0,
+      unchanged_within c.visit_needed.new.self c.leave.new.self u (at_end a) (below_within c.visit_needed.new.self (at_end a) q.1),
+    )
+
+pub returns-in_err-leave-clause-others_then : goal.returns-in_err-leave-clause-others_then
+returns-in_err-leave-clause-others_then g c = when_err c.from_residual-in_err-leave.result
+    (others_on c.args.session c.args.self.now c.visit_needed.new.self c.leave.new.self
+    (others_on c.args.session c.args.self.now c.finish.new.self c.visit_needed.new.self
+    (turned_others c.args.self.now c.args.session c.finish.new.self IsAtSessionEnd c.finish.ensures.turned)
+    (turned_others c.finish.new.self c.args.session c.visit_needed.new.self WentToEnd c.in_ok-visit_needed.ensures.turned))
+    (unchanged_others c.visit_needed.new.self c.leave.new.self c.in_err-leave.ensures.err c.args.session))

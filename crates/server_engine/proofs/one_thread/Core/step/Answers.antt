@@ -1,7 +1,8 @@
 use Rattle.server_session.specs.ControlPoints.{IsBetween}
 use Rattle.server_engine.specs.CoreInput.{with_line}
-use Rattle.server_engine.specs.IsMidway.{IsBetweenThen, TookUp, WentToEnd}
-use Rattle.server_engine.proofs.Calls.{answer_ready, name_there, open_near, others_on, turned_found, turned_others}
+use Rattle.server_engine.specs.IsMidway.{IsBetweenThen, TookUp, WentOn, WentToEnd}
+use Rattle.server_engine.proofs.Calls.{answer_ready, name_there, open_near, others_on, turned_found, turned_others, when_err}
+use Rattle.server_engine.proofs.Unchanged.{below_within, unchanged_midway, unchanged_others, unchanged_within}
 use Rattle.server_engine.proofs.one_thread.Core.step.Goals as goal
 
 pub visit_needed-requires-after_bounds : goal.visit_needed-requires-after_bounds
@@ -48,3 +49,32 @@ returns-clause-others g c = others_on c.args.session c.args.self.now c.visit_nee
     (turned_others c.args.self.now c.args.session c.start.new.self TookUp c.start.ensures.turned)
     (turned_others c.start.new.self c.args.session c.visit_needed.new.self WentToEnd c.in_ok-visit_needed.ensures.turned))
     (turned_others c.visit_needed.new.self c.args.session c.answer.new.self IsBetweenThen c.in_ok-answer.ensures.turned)
+
+pub returns-in_err-visit_needed-clause-stays : goal.returns-in_err-visit_needed-clause-stays
+returns-in_err-visit_needed-clause-stays g c = λ h a name m phase named.
+    let p = c.start.ensures.midway h a name m phase named in
+    when_err c.from_residual.result (c.in_err-visit_needed.ensures.stays h (with_line name c.args.text c.args.now a) p.0 p.1)
+
+pub returns-in_err-visit_needed-clause-others_then : goal.returns-in_err-visit_needed-clause-others_then
+returns-in_err-visit_needed-clause-others_then g c = when_err c.from_residual.result
+    (others_on c.args.session c.args.self.now c.start.new.self c.visit_needed.new.self
+    (turned_others c.args.self.now c.args.session c.start.new.self TookUp c.start.ensures.turned)
+    (turned_others c.start.new.self c.args.session c.visit_needed.new.self WentOn c.in_err-visit_needed.ensures.went))
+
+pub returns-in_err-answer-clause-stays : goal.returns-in_err-answer-clause-stays
+returns-in_err-answer-clause-stays g c = λ h a name m phase named.
+    let b = with_line name c.args.text c.args.now a in
+    let p = c.start.ensures.midway h a name m phase named in
+    let q = c.in_ok-visit_needed.ensures.midway h b p.0 p.1 in
+    let u = c.in_err-answer.ensures.err in when_err c.from_residual-in_err-answer.result (
+      unchanged_midway c.visit_needed.new.self c.answer.new.self u g.H.Hash32.digest h b c.args.session q.0,
+      unchanged_within c.visit_needed.new.self c.answer.new.self u b (below_within c.visit_needed.new.self b q.1),
+    )
+
+pub returns-in_err-answer-clause-others_then : goal.returns-in_err-answer-clause-others_then
+returns-in_err-answer-clause-others_then g c = when_err c.from_residual-in_err-answer.result
+    (others_on c.args.session c.args.self.now c.visit_needed.new.self c.answer.new.self
+    (others_on c.args.session c.args.self.now c.start.new.self c.visit_needed.new.self
+    (turned_others c.args.self.now c.args.session c.start.new.self TookUp c.start.ensures.turned)
+    (turned_others c.start.new.self c.args.session c.visit_needed.new.self WentToEnd c.in_ok-visit_needed.ensures.turned))
+    (unchanged_others c.visit_needed.new.self c.answer.new.self c.in_err-answer.ensures.err c.args.session))

@@ -4,9 +4,10 @@ use Rattle.server_session.specs.Steps.{AmongAll, image_in, items_in}
 use Rattle.server_session.specs.declared.need.NextVisit.TheVariants as need
 use Rattle.spec_protocol.specs.Cells.{ledger_at}
 use Rattle.server_engine.specs.Written.{KeepsSessionImage}
-use Rattle.server_engine.proofs.Calls.{midway_near, midway_at, items_there}
+use Rattle.server_engine.proofs.Calls.{midway_near, midway_at, items_there, when_err}
 use Rattle.server_engine.proofs.Midways.{among_cells, image_midway, image_less, ledger_near}
 use Rattle.server_engine.proofs.Pairs.{index_there}
+use Rattle.server_engine.proofs.Unchanged.{lent_back}
 use Rattle.server_engine.proofs.one_thread.Core.visit_all.Goals as goal
 
 pub index-requires : goal.index-requires
@@ -72,4 +73,14 @@ returns-clause-less g c =
     let needs = midway_at c.args.self.now c.args.session g.H.Hash32.digest r.h r.a r.midway
     (λ u. need_of u.seat ≡ need.All) r.needs y there in
     inl (image_less g.H.Hash32.digest r.h r.a c.args.session c.args.self.now r.midway y there c.keep_image.new.self
-    c.keep_image.ensures.comes_on)
+    c.in_ok-keep_image.ensures.comes_on)
+
+pub returns-in_err-keep_image-clause-err : goal.returns-in_err-keep_image-clause-err
+returns-in_err-keep_image-clause-err g c =
+    let r = c.requires in
+    let there = index_there c.args.self.now.sessions.items c.args.session c.index_mut.result.now
+    (midway_near c.args.self.now c.args.session g.H.Hash32.digest r.h r.a r.midway) c.index_mut.ensures.value in when_err c.from_residual.result (record {
+      hasher = refl;
+      cells = refl;
+      sessions = lent_back c.args.self.now.sessions.items c.args.session c.index_mut.result.now c.keep_image.new.self there c.in_err-keep_image.ensures.err;
+    })

@@ -1,7 +1,8 @@
 use Rattle.std.proofs.Common.{sym, subst, inl, refl}
 use Rattle.server_engine.specs.IsMidway.{IsBelow, IsMidway, WentOn, WentToEnd}
-use Rattle.server_engine.proofs.Calls.{when_true, when_false}
+use Rattle.server_engine.proofs.Calls.{when_err, when_true, when_false}
 use Rattle.server_engine.proofs.Midways.{turned_none, turned_on, turned_same, went_further, work_falls}
+use Rattle.server_engine.proofs.Unchanged.{below_within, turned_unchanged, unchanged_midway, unchanged_within}
 use Rattle.server_engine.proofs.one_thread.Core.visit_needed.Goals as goal
 
 pub loop-self-init : goal.loop-self-init
@@ -67,3 +68,33 @@ returns-clause-turned g c =
     let next = when_false _ _ c.in_ok-visit_next.field-0 c.if-branch.false c.in_ok-visit_next.ensures.next in
     turned_on c.args.session c.args.self.now c.loop-self.self c.visit_next.new.self WentOn WentToEnd WentToEnd
     (λ x y z p q. (went_further x y z p q.0, q.1)) c.loop-self.invariant.1 next.1
+
+pub returns-in_err-visit_next-clause-stays : goal.returns-in_err-visit_next-clause-stays
+returns-in_err-visit_next-clause-stays g c = λ h a m b.
+    let u = c.in_err-visit_next.ensures.err in
+    let k = c.loop-self.invariant.0 h a m b in when_err c.from_residual.result (
+      unchanged_midway c.loop-self.self c.visit_next.new.self u g.H.Hash32.digest h a c.args.session k.0,
+      unchanged_within c.loop-self.self c.visit_next.new.self u a (below_within c.loop-self.self a k.1),
+    )
+
+pub returns-in_err-visit_next-clause-went : goal.returns-in_err-visit_next-clause-went
+returns-in_err-visit_next-clause-went g c = when_err c.from_residual.result
+    (turned_unchanged c.args.session c.args.self.now c.loop-self.self c.visit_next.new.self WentOn c.in_err-visit_next.ensures.err
+    c.loop-self.invariant.1)
+
+pub returns-in_err-close_full-clause-stays : goal.returns-in_err-close_full-clause-stays
+returns-in_err-close_full-clause-stays g c = λ h a m b.
+    let u = c.in_err-close_full.ensures.err in
+    let k = c.loop-self.invariant.0 h a m b in
+    let n = c.in_ok-visit_next.ensures.midway h a k.0 k.1 in when_err c.from_residual-in_err-close_full.result (
+      unchanged_midway c.visit_next.new.self c.close_full.new.self u g.H.Hash32.digest h a c.args.session n.0,
+      unchanged_within c.visit_next.new.self c.close_full.new.self u a n.1,
+    )
+
+pub returns-in_err-close_full-clause-went : goal.returns-in_err-close_full-clause-went
+returns-in_err-close_full-clause-went g c =
+    let next = when_true _ _ c.in_ok-visit_next.field-0 c.if-branch.true c.in_ok-visit_next.ensures.next in
+    when_err c.from_residual-in_err-close_full.result
+    (turned_unchanged c.args.session c.args.self.now c.visit_next.new.self c.close_full.new.self WentOn c.in_err-close_full.ensures.err
+    (turned_on c.args.session c.args.self.now c.loop-self.self c.visit_next.new.self WentOn WentOn WentOn
+    (λ x y z p q. went_further x y z p q) c.loop-self.invariant.1 next.0))

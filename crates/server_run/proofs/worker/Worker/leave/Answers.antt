@@ -7,4 +7,4 @@ returns-clause-left g c = on_ok_weaker c.leave.result (λ left. λ v s serves ah
     let z = c.args.self.now in
     let r = c.requires in
     leaves_ahead g.H.Hash32.digest g.C.Clock.says z.job v serves z.session c.leave.new.self z.taken z.image r.image s ahead r.ends
-    r.all left) c.leave.ensures
+    r.all left) c.leave.ensures.leaves

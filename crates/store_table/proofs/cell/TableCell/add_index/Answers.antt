@@ -18,6 +18,6 @@ returns-in-Some-clause-ok c =
     last_index defs front c.requires.indexes.0 c.in-Some.index.now c.requires.indexes.1 got ∙ sym c.as_slice-in-Some.ensures in
     on_ok_weaker c.add_index.result
     (λ is. ap (λ (t : Stored). seen c.self.inside.id t c.self.inside.locks) is
-    ∙ index_added c.self.inside.id c.self.inside.store.stored c.self.inside.locks cell c.args.def.now c.as_slice-in-Some.result.now c.orders_follow.ensures c.self.view_is c.requires.table.columns
+    ∙ index_added c.self.inside.id c.self.inside.store.stored c.self.inside.locks cell c.args.def.now c.as_slice-in-Some.result.now c.orders_follow.ensures c.self.view_is c.requires.table.key
     (subst (λ (l : List ℕ). front ++ l ∷ [] ≡ ordinals_of defs) same c.requires.indexes.1))
     c.add_index.ensures.ok

@@ -1,6 +1,7 @@
 use Rattle.std.proofs.Common.{◌∙◌, Bor}
 use Rattle.std.proofs.lemmas.Result.{IfOk-weaker}
 use Rattle.sql_types.specs.declared.version.Version.{Version}
+use Rattle.spec_model.specs.Keys.{key_places}
 use Rattle.store_table.proofs.OfKey.{same_live_by_key}
 use Rattle.store_table.proofs.live_by_key.VersionStoreLiveVersions.in_key_order.Goals as goal
 
@@ -10,5 +11,5 @@ seen v = v.now
 pub returns : goal.returns
 returns c =
     IfOk-weaker c.live_by_key.result _ _
-    (λ found e. e ∙ same_live_by_key c.args.self.now.stored.columns c.args.table.now.columns c.args.key.now c.args.self.now.stored.versions c.requires)
+    (λ found e. e ∙ same_live_by_key c.args.self.now.stored.key (key_places c.args.table.now.columns) c.args.key.now c.args.self.now.stored.versions c.requires)
     c.live_by_key.ensures

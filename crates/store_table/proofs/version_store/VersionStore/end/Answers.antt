@@ -20,7 +20,7 @@ returns-then-eq-clause-stored c =
     let inside : n < length vs = omega (arith, c.if-place-len.true, c.len.ensures, c.self.inside.versions.ok.0) in
     let one = one_ends c.args.at c.args.start vs n c.self.invariant.0.rising here d (get_or vs n d) inside c.index.ensures (get_or_default vs n d (get_or vs n d) inside) (sym c.eq.ensures ∙ c.if-eq.true) in
     c.end_at.ensures.stored d
-    ∙ ap (λ (l : List Version). with_versions old.columns l old)
+    ∙ ap (λ (l : List Version). with_versions old.key l old)
     (subst (λ (t : ReservedTable). slice_set t.stored.versions n (with_end c.args.at (get_or t.stored.versions n d)) ≡ ended c.args.at c.args.start t.stored.versions) c.self.view_is one)
 
 pub returns-else-place-len-clause-stored : goal.returns-else-place-len-clause-stored
@@ -36,6 +36,6 @@ returns-else-place-len-clause-stored c =
       | else-place-len-via-else-place-len w ↦
           all_before c.args.at c.args.start vs n c.self.invariant.0.rising here (omega (arith, w.if-place-len.false, c.len.ensures, s.versions.ok.0))
     ] in
-    followed s.columns s.key.items vs s.orders old (ap (λ (t : ReservedTable). t.stored) c.self.view_is) c.self.invariant.0
-    ∙ ap (λ (l : List Version). with_versions old.columns l old)
+    followed s.key.items vs s.orders old (ap (λ (t : ReservedTable). t.stored) c.self.view_is) c.self.invariant.0
+    ∙ ap (λ (l : List Version). with_versions old.key l old)
     (subst (λ (t : ReservedTable). t.stored.versions ≡ ended c.args.at c.args.start t.stored.versions) c.self.view_is same)

@@ -40,7 +40,7 @@ invariant_of-self c =
     let one : c.index.result.now ≡ r = c.index.ensures ∙ get_or_default vs c.args.place c.index.result.now r inside ∙ sym is in
     let q : Orders = record { key_order = p.key_order; ends = c.add_ending.new.ends; indexes = p.indexes } in
     let ends = c.add_ending.ensures.items ∙ ap (λ (w : Version). inserted ending_cmp (ending c.args.at w.start) p.ends.items) one in
-    let kept = ended_kept s.columns s.key.items vs c.args.place r inside is s.orders c.self.invariant.0 c.args.at p q are refl refl ends in
+    let kept = ended_kept s.key.items vs c.args.place r inside is s.orders c.self.invariant.0 c.args.at p q are refl refl ends in
     let len = length-set vs c.args.place (with_end c.args.at r) in
     let room = c.take_version.ensures.room (length vs + s.room) c.self.invariant.2 in (
       kept,
@@ -62,7 +62,7 @@ returns-clause-stored c = λ d.
     let one : c.index.result.now ≡ r = c.index.ensures ∙ get_or_default vs c.args.place c.index.result.now r inside ∙ sym is in
     let q : Orders = record { key_order = p.key_order; ends = c.add_ending.new.ends; indexes = p.indexes } in
     let ends = c.add_ending.ensures.items ∙ ap (λ (w : Version). inserted ending_cmp (ending c.args.at w.start) p.ends.items) one in
-    let kept = ended_kept s.columns s.key.items vs c.args.place r inside is s.orders c.self.invariant.0 c.args.at p q are refl refl ends in
-    told s.columns s.key.items vs (slice_set vs c.args.place (with_end c.args.at r)) s.orders q c.args.self.now.stored (ap (λ (t : ReservedTable). t.stored) c.self.view_is)
+    let kept = ended_kept s.key.items vs c.args.place r inside is s.orders c.self.invariant.0 c.args.at p q are refl refl ends in
+    told s.key.items vs (slice_set vs c.args.place (with_end c.args.at r)) s.orders q c.args.self.now.stored (ap (λ (t : ReservedTable). t.stored) c.self.view_is)
     kept c.take_version.ensures.ordinals (λ (l : List Version). slice_set l c.args.place (with_end c.args.at (get_or l c.args.place d)))
     (ap (λ (w : Version). slice_set vs c.args.place (with_end c.args.at w)) (is ∙ get_or_default vs c.args.place r d inside))

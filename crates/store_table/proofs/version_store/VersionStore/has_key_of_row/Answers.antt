@@ -1,8 +1,7 @@
 use Rattle.std.proofs.Common.{ap, ap₂, sym, ◌∙◌, List, [], ℕ}
 use Rattle.std.specs.List.{list_any}
 use Rattle.sql_types.specs.declared.version.Version.{Version}
-use Rattle.spec_model.specs.Keys.{key_of, has_live_row}
-use Rattle.sql_parts.specs.Places.{key_at}
+use Rattle.spec_model.specs.Keys.{has_live_row_at, key_at}
 use Rattle.store_table.specs.Orders.{in_order, is_of_key, starts_of}
 use Rattle.store_table.specs.Stored.{ReservedTable}
 use Rattle.store_table.proofs.OfKey.{has_live_row_is}
@@ -22,6 +21,6 @@ returns c =
     let kept = c.self.invariant.0 in
     let row = c.args.row.now in
     c.key_exists.ensures
-    ∙ ap₂ (λ (k : List ℕ) (l : List Version). list_any (is_of_key k (key_at k row)) (in_order [] k l)) (c.deref.ensures.value ∙ kept.key_is) c.deref-2.ensures.value
-    ∙ sym (has_live_row_is s.columns row s.versions.items)
-    ∙ ap (λ (t : ReservedTable). has_live_row t.stored.columns (key_of t.stored.columns row) t.stored.versions) c.self.view_is
+    ∙ ap₂ (λ (k : List ℕ) (l : List Version). list_any (is_of_key k (key_at k row)) (in_order [] k l)) c.deref.ensures.value c.deref-2.ensures.value
+    ∙ sym (has_live_row_is s.key.items row s.versions.items)
+    ∙ ap (λ (t : ReservedTable). has_live_row_at t.stored.key (key_at t.stored.key row) t.stored.versions) c.self.view_is

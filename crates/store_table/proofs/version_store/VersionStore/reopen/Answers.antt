@@ -68,8 +68,8 @@ invariant_of-self c =
     let are_indexed : IndexesAreWith s.key.items v vs q =
     subst (λ (k : List ℕ). IndexesAreWith k v vs q) c.deref-3.ensures.value
     (subst (λ (l : List Version). IndexesAreWith c.deref-3.result.now v l q) c.deref-4.ensures.value c.add_live.ensures.are_indexed) in
-    let kept_v = reopened_kept s.columns s.key.items vs c.args.place v inside is s.orders c.self.invariant.0 end p q ended are are_indexed (ap (λ e. e.items) c.add_live.ensures.ends) in
-    let kept = subst (λ (w : Version). IsKept s.columns s.key.items (slice_set vs c.args.place (without_end w)) q) one kept_v in
+    let kept_v = reopened_kept s.key.items vs c.args.place v inside is s.orders c.self.invariant.0 end p q ended are are_indexed (ap (λ e. e.items) c.add_live.ensures.ends) in
+    let kept = subst (λ (w : Version). IsKept s.key.items (slice_set vs c.args.place (without_end w)) q) one kept_v in
     let len = length-set vs c.args.place (without_end r) in (
       kept,
       omega (arith, len, c.self.invariant.1),
@@ -96,8 +96,8 @@ returns-clause-stored c = λ d.
     let are_indexed : IndexesAreWith s.key.items v vs q =
     subst (λ (k : List ℕ). IndexesAreWith k v vs q) c.deref-3.ensures.value
     (subst (λ (l : List Version). IndexesAreWith c.deref-3.result.now v l q) c.deref-4.ensures.value c.add_live.ensures.are_indexed) in
-    let kept_v = reopened_kept s.columns s.key.items vs c.args.place v inside is s.orders c.self.invariant.0 end p q ended are are_indexed (ap (λ e. e.items) c.add_live.ensures.ends) in
-    let kept = subst (λ (w : Version). IsKept s.columns s.key.items (slice_set vs c.args.place (without_end w)) q) one kept_v in
-    told s.columns s.key.items vs (slice_set vs c.args.place (without_end r)) s.orders q c.args.self.now.stored (ap (λ (t : ReservedTable). t.stored) c.self.view_is)
+    let kept_v = reopened_kept s.key.items vs c.args.place v inside is s.orders c.self.invariant.0 end p q ended are are_indexed (ap (λ e. e.items) c.add_live.ensures.ends) in
+    let kept = subst (λ (w : Version). IsKept s.key.items (slice_set vs c.args.place (without_end w)) q) one kept_v in
+    told s.key.items vs (slice_set vs c.args.place (without_end r)) s.orders q c.args.self.now.stored (ap (λ (t : ReservedTable). t.stored) c.self.view_is)
     kept (c.add_live.ensures.ordinals ∙ c.take_version.ensures.ordinals) (λ (l : List Version). slice_set l c.args.place (without_end (get_or l c.args.place d)))
     (ap (λ (w : Version). slice_set vs c.args.place (without_end w)) (c.index_mut.ensures.value ∙ get_or_default vs c.args.place r d inside))

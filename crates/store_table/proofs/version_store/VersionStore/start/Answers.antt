@@ -37,9 +37,9 @@ invariant_of-self c =
     subst (λ (k : List ℕ). IndexesAreWith k v vs p) c.deref.ensures.value
     (subst (λ (l : List Version). IndexesAreWith c.deref.result.now v l p) c.deref-2.ensures.value c.add_live.ensures.are_indexed) in
     let items = c.insert.ensures.items ∙ if_ok c.insert.result _ _ ok ∙ ap (λ n. insert vs n v) (c.place_of_start-place.ensures.value ∙ ap (place c.args.at) c.deref-3.ensures.value) in
-    let kept = started_kept s.columns s.key.items c.args.at c.args.values vs s.orders p c.self.invariant.0 before are_indexed (ap (λ e. e.items) c.add_live.ensures.ends) in
+    let kept = started_kept s.key.items c.args.at c.args.values vs s.orders p c.self.invariant.0 before are_indexed (ap (λ e. e.items) c.add_live.ensures.ends) in
     let len = c.insert.ensures.len ∙ if_ok c.insert.result _ _ ok in (
-      subst (λ (l : List Version). IsKept s.columns s.key.items l p) (sym items) kept,
+      subst (λ (l : List Version). IsKept s.key.items l p) (sym items) kept,
       omega (arith, len, c.insert.new.self.ok.0, s.versions.ok.0, c.insert.ensures.capacity, c.self.invariant.1, room, c.requires.room),
       less_room _ _ p (omega (arith, len, c.insert.new.self.ok.0, s.versions.ok.0, room, c.requires.room)) (c.add_live.ensures.room (length vs + s.room) c.self.invariant.2),
     )
@@ -57,7 +57,7 @@ returns-clause-stored c =
     subst (λ (k : List ℕ). IndexesAreWith k v vs p) c.deref.ensures.value
     (subst (λ (l : List Version). IndexesAreWith c.deref.result.now v l p) c.deref-2.ensures.value c.add_live.ensures.are_indexed) in
     let items = c.insert.ensures.items ∙ if_ok c.insert.result _ _ ok ∙ ap (λ n. insert vs n v) (c.place_of_start-place.ensures.value ∙ ap (place c.args.at) c.deref-3.ensures.value) in
-    let kept = started_kept s.columns s.key.items c.args.at c.args.values vs s.orders p c.self.invariant.0 before are_indexed (ap (λ e. e.items) c.add_live.ensures.ends) in
-    told s.columns s.key.items vs c.insert.new.self.items s.orders p c.args.self.now.stored (ap (λ (t : ReservedTable). t.stored) c.self.view_is)
-    (subst (λ (l : List Version). IsKept s.columns s.key.items l p) (sym items) kept) c.add_live.ensures.ordinals
+    let kept = started_kept s.key.items c.args.at c.args.values vs s.orders p c.self.invariant.0 before are_indexed (ap (λ e. e.items) c.add_live.ensures.ends) in
+    told s.key.items vs c.insert.new.self.items s.orders p c.args.self.now.stored (ap (λ (t : ReservedTable). t.stored) c.self.view_is)
+    (subst (λ (l : List Version). IsKept s.key.items l p) (sym items) kept) c.add_live.ensures.ordinals
     (started c.args.at c.args.values) (items ∙ sym (started_at c.args.at c.args.values vs))

@@ -16,8 +16,8 @@ invariant_of-self c =
     let are : AreOf s.key.items (remove vs c.args.place) p =
     subst (λ (k : List ℕ). AreOf k (remove vs c.args.place) p) c.deref.ensures.value
     (subst (λ (l : List Version). AreOf c.deref.result.now (remove l c.args.place) p) c.deref-2.ensures.value c.take_version.ensures.are) in
-    let kept = subst (λ (l : List Version). IsKept s.columns s.key.items l p) (sym c.remove.ensures.items)
-    (withdrawn_kept s.columns s.key.items vs c.args.place c.remove.result inside c.remove.ensures.value s.orders c.self.invariant.0 p are) in (
+    let kept = subst (λ (l : List Version). IsKept s.key.items l p) (sym c.remove.ensures.items)
+    (withdrawn_kept s.key.items vs c.args.place c.remove.result inside c.remove.ensures.value s.orders c.self.invariant.0 p are) in (
       kept,
       omega (arith, c.remove.ensures.len, c.remove.ensures.capacity, c.remove.new.self.ok.0, s.versions.ok.0, c.self.invariant.1),
       less_room _ (length vs + s.room) p (omega (arith, c.remove.ensures.len, c.remove.new.self.ok.0, s.versions.ok.0)) (c.take_version.ensures.room (length vs + s.room) c.self.invariant.2),
@@ -32,7 +32,7 @@ returns-clause-stored c =
     let are : AreOf s.key.items (remove vs c.args.place) p =
     subst (λ (k : List ℕ). AreOf k (remove vs c.args.place) p) c.deref.ensures.value
     (subst (λ (l : List Version). AreOf c.deref.result.now (remove l c.args.place) p) c.deref-2.ensures.value c.take_version.ensures.are) in
-    let kept = subst (λ (l : List Version). IsKept s.columns s.key.items l p) (sym c.remove.ensures.items)
-    (withdrawn_kept s.columns s.key.items vs c.args.place c.remove.result inside c.remove.ensures.value s.orders c.self.invariant.0 p are) in
-    told s.columns s.key.items vs c.remove.new.self.items s.orders p c.args.self.now.stored (ap (λ (t : ReservedTable). t.stored) c.self.view_is)
+    let kept = subst (λ (l : List Version). IsKept s.key.items l p) (sym c.remove.ensures.items)
+    (withdrawn_kept s.key.items vs c.args.place c.remove.result inside c.remove.ensures.value s.orders c.self.invariant.0 p are) in
+    told s.key.items vs c.remove.new.self.items s.orders p c.args.self.now.stored (ap (λ (t : ReservedTable). t.stored) c.self.view_is)
     kept c.take_version.ensures.ordinals (λ (l : List Version). remove l c.args.place) c.remove.ensures.items

@@ -1,0 +1,147 @@
+#!/usr/bin/env python3
+"""Tries `asof` at each moment of random scripts.
+
+    moments.py PROGRAM [SCRIPTS [SEED]]   SCRIPTS random scripts (1) from SEED (3) on, of some 60 transactions each, whose ids
+                                          don't follow the order of their commits, with later tables and indexes, rows that
+                                          end in their own transaction and savepoints that are taken back. At each number n
+                                          of transactions `asof` of the last image has to answer what `asof` answers of the
+                                          image to which `replay` of the first n transactions leads
+
+Folders are made below the system's for temporary files; that of a script that fails stays.
+"""
+import os
+import random
+import shutil
+import subprocess
+import sys
+import tempfile
+
+sys.path.insert(0, os.path.join(os.path.dirname(os.path.abspath(__file__)), "..", "tools"))
+from ledger import Reader, Transaction, read_journal, short, number  # noqa: E402
+
+
+def call(program, folder, *words, lines=None):
+    """The exit status and the output of a call in a folder."""
+    text = None if lines is None else "".join(line + "\n" for line in lines)
+    ended = subprocess.run([program, *words], cwd=folder, input=text, capture_output=True, text=True, timeout=120)
+    return ended.returncode, ended.stdout
+
+
+def script(choice):
+    """The lines of an input of `step`, and how many tables it makes at most."""
+    yield "a: CREATE TABLE t0 (id INT PRIMARY KEY, v NVARCHAR(9))"
+    names = 1
+    for i in range(45):
+        kind, table = choice.random(), choice.randrange(names)
+        if kind < .1 and names < 8:
+            options = choice.choice(["", " WITH (LEDGER = ON (APPEND_ONLY = ON))"])
+            yield f"a: CREATE TABLE t{names} (id INT PRIMARY KEY, v NVARCHAR(9)){options}"
+            names += 1
+        elif kind < .2:
+            yield f"a: CREATE INDEX x{i} ON t{table} (v{choice.choice(['', ', id'])})"
+        elif kind < .5:
+            yield f"a: INSERT INTO t{table} VALUES ({i}, 'x{i}'), ({i + 100}, NULL)"
+        elif kind < .7:
+            yield f"b: UPDATE t{table} SET v = 'y{i}' WHERE id < {i}"
+        elif kind < .8:
+            yield f"b: DELETE FROM t{table} WHERE id < {choice.randrange(30)}"
+        elif kind < .9:
+            yield "c: BEGIN TRANSACTION"
+            yield f"c: INSERT INTO t0 VALUES ({1000 + i}, N'a')"
+            yield "b: BEGIN TRANSACTION"
+            yield f"b: INSERT INTO t{table} VALUES ({2000 + i}, N'b')"
+            yield "c: SAVE TRANSACTION s"
+            yield f"c: UPDATE t0 SET v = NULL WHERE id = {1000 + i}"
+            yield "c: ROLLBACK TRANSACTION s"
+            yield f"c: DELETE FROM t0 WHERE id = {1000 + i}"
+            yield "b: COMMIT"
+            yield "c: COMMIT"
+        else:
+            yield "a: EXECUTE sp_generate_database_ledger_digest"
+
+
+def texts():
+    """What is asked at each moment."""
+    yield "SELECT * FROM sys_ledger_tables"
+    yield "SELECT * FROM sys_ledger_columns"
+    for n in range(9):
+        yield f"SELECT * FROM t{n}"
+        yield f"SELECT * FROM t{n}_Ledger"
+        yield f"SELECT * FROM MSSQL_LedgerHistoryFor_{n + 3}"
+        yield f"SELECT v, id FROM t{n} WHERE v IS NOT NULL ORDER BY v DESC"
+        yield f"SELECT COUNT(*) FROM t{n} WHERE id = 5"
+
+
+def items_of(data):
+    """The bytes before the items of a journal, and the bytes of each item with whether it is a transaction."""
+    database, items = read_journal(data)
+    at = 5 + len(short(database)) + 8
+    pieces = []
+    for item in items:
+        source = Reader(data[at:])
+        if isinstance(item, Transaction):
+            source.number(1), source.number(8), source.text(2), source.number(8), source.number(1)
+            for _ in range(source.number(8)):
+                source.text(8), source.text(8)
+        else:
+            source.number(1), source.number(4)
+        pieces.append((isinstance(item, Transaction), data[at:at + source.at]))
+        at += source.at
+    return data[:5] + short(database), pieces
+
+
+def upto(head, pieces, n):
+    """The journal of the first n transactions, which ends with the last of them."""
+    kept, left = [], n
+    for is_transaction, piece in pieces:
+        if left == 0:
+            break
+        kept.append(piece)
+        left -= is_transaction
+    return head + number(len(kept), 8) + b"".join(kept)
+
+
+def fault_of(program, folder, seed):
+    """What is wrong with one script, if anything is, and how many moments were tried."""
+    lines, asked = list(script(random.Random(seed))), list(texts())
+    status, _ = call(program, folder, "step", "--save", "all", "--clock", "0", "--block-size", "9", lines=lines)
+    if status != 0:
+        return f"step ended with {status}", 0
+    with open(f"{folder}/all.journal", "rb") as file:
+        head, pieces = items_of(file.read())
+    count = sum(is_transaction for is_transaction, _ in pieces)
+    for n in range(count + 1):
+        with open(f"{folder}/first.journal", "wb") as file:
+            file.write(upto(head, pieces, n))
+        if call(program, folder, "replay", "first.journal", "--save", "then") != (0, f"replayed {n}\n"):
+            return f"the first {n} transactions aren't replayed", n
+        found = call(program, folder, "asof", "all.img", str(n), lines=asked)
+        wanted = call(program, folder, "asof", "then.img", str(n), lines=asked)
+        if found != wanted or found[0] != 0:
+            return f"asof {n} answers otherwise", n
+    if call(program, folder, "asof", "all.img", str(count + 1), lines=[])[0] != 16:
+        return "one transaction more isn't refused", count
+    return None, count + 1
+
+
+def main(words):
+    program = os.path.abspath(words[0])
+    scripts = int(words[1]) if len(words) > 1 else 1
+    first = int(words[2]) if len(words) > 2 else 3
+    moments = 0
+    for seed in range(first, first + scripts):
+        folder = tempfile.mkdtemp(prefix="moments-")
+        fault, tried = fault_of(program, folder, seed)
+        if fault:
+            print(f"seed {seed}: {fault}; its files are in {folder}")
+            return 1
+        moments += tried
+        shutil.rmtree(folder)
+    print(f"{scripts} scripts, {moments} moments: asof answers what was answered then")
+    return 0
+
+
+if __name__ == "__main__":
+    if len(sys.argv) not in (2, 3, 4):
+        sys.exit(__doc__)
+    sys.exit(main(sys.argv[1:]))

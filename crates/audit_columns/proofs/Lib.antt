@@ -1,0 +1,6 @@
+pub mod LastRows
+pub mod EntryPositions
+pub mod Folds
+pub mod Runs
+pub mod Searches
+pub mod Sortings

@@ -1,0 +1,3 @@
+pub mod ColumnRows
+pub mod Positions
+pub mod Runs

@@ -1,0 +1,52 @@
+-- Rows that fit so far: filled they fit, also with one column more, and where the last column may not be NULL they are whole.
+use Rattle.std.proofs.Common.{◌≡◌, ◌≤◌, suc, refl, ap, true, false, List, [], ◌∷◌, ◌++◌, length, take, Option, arith}
+use Rattle.sql_value.specs.declared.column.ColumnDef.{ColumnDef}
+use Rattle.sql_types.specs.declared.version.TypedValue.{TypedValue}
+use Rattle.spec_model.specs.Rows.{filled_stored}
+use Rattle.law_journal.specs.Fits.{Fits, FitsSoFar}
+
+pub so_far : (cs : List ColumnDef) (values : List (Option TypedValue)) → Fits cs values → FitsSoFar cs values
+so_far [] [] h = tt
+so_far [] (v ∷ vs) h = absurd h
+so_far (c ∷ cs) [] h = absurd h
+so_far (c ∷ cs) (v ∷ vs) h = (h.0, so_far cs vs h.1)
+
+pub filled_fit : (cs : List ColumnDef) (values : List (Option TypedValue)) → FitsSoFar cs values → Fits cs (filled_stored cs values)
+filled_fit [] [] h = tt
+filled_fit [] (v ∷ vs) h = absurd h
+filled_fit (c ∷ cs) [] h = (h.0, filled_fit cs [] h.1)
+filled_fit (c ∷ cs) (v ∷ vs) h = (h.0, filled_fit cs vs h.1)
+
+pub one_more_fits : (cs : List ColumnDef) (c : ColumnDef) (values : List (Option TypedValue)) → FitsSoFar cs values → c.nullable ≡ true → FitsSoFar (cs ++ c ∷ []) values
+one_more_fits [] c [] h e = (e, tt)
+one_more_fits [] c (v ∷ vs) h e = absurd h
+one_more_fits (d ∷ cs) c [] h e = (h.0, one_more_fits cs c [] h.1 e)
+one_more_fits (d ∷ cs) c (v ∷ vs) h e = (h.0, one_more_fits cs c vs h.1 e)
+
+pub few : (cs : List ColumnDef) (values : List (Option TypedValue)) → FitsSoFar cs values → length values ≤ length cs
+few [] [] h = omega arith
+few [] (v ∷ vs) h = absurd h
+few (c ∷ cs) [] h = omega arith
+few (c ∷ cs) (v ∷ vs) h = omega (arith, few cs vs h.1)
+
+pub fit_taken : (cs : List ColumnDef) (values : List (Option TypedValue)) → FitsSoFar cs values → Fits (take (length values) cs) values
+fit_taken [] [] h = tt
+fit_taken [] (v ∷ vs) h = absurd h
+fit_taken (c ∷ cs) [] h = tt
+fit_taken (c ∷ cs) (v ∷ vs) h = (h.0, fit_taken cs vs h.1)
+
+pub as_many : (cs : List ColumnDef) (values : List (Option TypedValue)) → Fits cs values → length values ≡ length cs
+as_many [] [] h = refl
+as_many [] (v ∷ vs) h = absurd h
+as_many (c ∷ cs) [] h = absurd h
+as_many (c ∷ cs) (v ∷ vs) h = ap suc (as_many cs vs h.1)
+
+wanted : (cs : List ColumnDef) (c : ColumnDef) → c.nullable ≡ false → FitsSoFar (cs ++ c ∷ []) [] → ⊥
+wanted [] c e h = (let no : c.nullable ≡ true = h.0 in cc)
+wanted (d ∷ cs) c e h = wanted cs c e h.1
+
+pub whole : (cs : List ColumnDef) (c : ColumnDef) (values : List (Option TypedValue)) → c.nullable ≡ false → FitsSoFar (cs ++ c ∷ []) values → Fits (cs ++ c ∷ []) values
+whole cs c [] e h = absurd (wanted cs c e h)
+whole [] c (v ∷ []) e h = h
+whole [] c (v ∷ w ∷ vs) e h = absurd h.1
+whole (d ∷ cs) c (v ∷ vs) e h = (h.0, whole cs c vs e h.1)
