@@ -11,8 +11,9 @@ use Rattle.spec_ledger.specs.Blocks.{no_hash, record_hash, first_or_no_hash, las
 use Rattle.format_image.specs.ImageBytes.{IsImage}
 use Rattle.spec_verify.specs.Blocks.{chain_fault, block_fault}
 use Rattle.spec_verify.specs.Sentences.{DigestHolds}
-use Rattle.audit_extract.specs.Each.{HasCollision}
+use Rattle.audit_extract.specs.Collisions.{HasCollisionBetween, IsHashedIn, IsRecordAmong}
 use Rattle.audit_extract.specs.Parts.{blocks_to}
+use Rattle.audit_extract.proofs.Collisions.{left_record, or_wider}
 use Rattle.audit_extract.proofs.Lists.{all_left}
 use Rattle.format_chain.specs.declared.chain.Chain.{Chain}
 use Rattle.format_chain.specs.Chains.{IsChain}
@@ -91,10 +92,13 @@ module _ (h : List ℕ → List ℕ) where
 
   module _ (i : Image) (is : IsImage i) (chain : chain_fault h i ≡ None) (blocks : block_fault h i ≡ None) where
     pub each_holds : (c : Chain) (newest older : HeldDigest) (digests : List HeldDigest) → IsChain c → Continues h c newest digests → DigestHolds h i newest → Contains digests older
-        → first_block c.records ≤ older.block → older.block ≤ newest.block → DigestHolds h i older ⊎ HasCollision h
+        → first_block c.records ≤ older.block → older.block ≤ newest.block
+        → DigestHolds h i older ⊎ HasCollisionBetween h (IsRecordAmong c.records) (IsHashedIn h i)
     each_holds c newest older digests fc x holds among from to =
-        older_holds h i is chain blocks (rest_of c older) older newest (rest_is c newest older x.chain from to fc)
-        (rest_joins c newest older x.chain from to x.database (one_kept c digests older x.kept among)) holds
+        or_wider h (IsRecordAmong (rest_of c older).records) (IsHashedIn h i) (IsRecordAmong c.records) (IsHashedIn h i)
+        (left_record (older.block - first_block c.records) c.records) (λ z in_image. in_image)
+        (older_holds h i is chain blocks (rest_of c older) older newest (rest_is c newest older x.chain from to fc)
+        (rest_joins c newest older x.chain from to x.database (one_kept c digests older x.kept among)) holds)
 
     -- ---- what an image gives
 

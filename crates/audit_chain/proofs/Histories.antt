@@ -9,15 +9,16 @@ use Rattle.spec_ledger.specs.Blocks.{no_hash, first_or_no_hash}
 use Rattle.format_image.specs.ImageBytes.{IsImage}
 use Rattle.spec_verify.specs.Blocks.{chain_fault, block_fault}
 use Rattle.spec_verify.specs.Sentences.{DigestHolds}
-use Rattle.audit_extract.specs.Each.{HasCollision}
+use Rattle.audit_extract.specs.Collisions.{HasCollisionBetween, IsHashedIn, IsRecordAmong}
 use Rattle.audit_extract.specs.Parts.{blocks_to}
+use Rattle.audit_extract.proofs.Collisions.{or_wider}
 use Rattle.audit_extract.proofs.Lists.{all_left, all_taken}
 use Rattle.audit_extract.proofs.Unbroken.{so_far}
 use Rattle.format_chain.specs.declared.chain.Chain.{Chain}
 use Rattle.format_chain.specs.Chains.{IsChain}
-use Rattle.audit_receipt.specs.Accepted.{LeadTo}
-use Rattle.audit_receipt.proofs.Chains.{same_links}
+use Rattle.audit_receipt.proofs.Chains.{same_chain}
 use Rattle.audit_receipt.proofs.Found.{HasBlock, block_at, all_heads}
+use Rattle.audit_receipt.proofs.Imaged.{records_hashed}
 use Rattle.audit_receipt.proofs.Made.{first_taken, parts_lead}
 use Rattle.audit_chain.specs.Joins.{Joins, chain_of}
 
@@ -57,17 +58,17 @@ module _ (h : List ℕ → List ℕ) (i : Image) (is : IsImage i) (chain : chain
 
   -- ---- one history
 
-  same_chain : (n : ℕ) (rs ss : List BlockRecord) (d : HeldDigest) → AllByRecursion IsRecord rs → AllByRecursion IsRecord ss → LeadTo h n rs d → LeadTo h n ss d → (rs ≡ ss) ⊎ HasCollision h
-  same_chain n rs ss d fr fs x y = same_links h n no_hash no_hash rs ss x.linked y.linked (omega (arith, x.reach, y.reach)) fr fs (x.hash ∙ sym y.hash)
-
-  pub older_holds : (c : Chain) (older newer : HeldDigest) → IsChain c → Joins h c older newer → DigestHolds h i newer → DigestHolds h i older ⊎ HasCollision h
+  pub older_holds : (c : Chain) (older newer : HeldDigest) → IsChain c → Joins h c older newer → DigestHolds h i newer
+      → DigestHolds h i older ⊎ HasCollisionBetween h (IsRecordAmong c.records) (IsHashedIn h i)
   older_holds c older newer fc j holds =
-      so_far found (same_chain older.block c.records (drop older.block (blocks_to i newer.block)) newer fc.records (records_fit i is newer.block older.block) j.chain (parts_lead h i is chain blocks newer older.block holds le))
+      so_far found
+      (or_wider h (IsRecordAmong c.records) (IsRecordAmong (drop older.block (blocks_to i newer.block))) (IsRecordAmong c.records) (IsHashedIn h i) (λ x among. among) (records_hashed h i older.block newer.block)
+      (same_chain h older.block c.records (drop older.block (blocks_to i newer.block)) newer fc.records (records_fit i is newer.block older.block) j.chain (parts_lead h i is chain blocks newer older.block holds le)))
     where
       le : older.block ≤ newer.block
       le = let some = fc.some in let reach = j.chain.reach in omega (arith, some, reach)
 
-      found : c.records ≡ drop older.block (blocks_to i newer.block) → DigestHolds h i older ⊎ HasCollision h
+      found : c.records ≡ drop older.block (blocks_to i newer.block) → DigestHolds h i older ⊎ HasCollisionBetween h (IsRecordAmong c.records) (IsHashedIn h i)
       found same =
           let within = holds.block in
           inl (record {

@@ -7,7 +7,7 @@ ghost use Rattle.sql_types.specs.declared.image.Image.{Image};
 ghost use Rattle.format_image.specs.ImageBytes.{IsImage};
 ghost use Rattle.spec_verify.specs.Blocks.{block_fault, chain_fault};
 ghost use Rattle.spec_verify.specs.Sentences.{DigestHolds};
-ghost use Rattle.audit_extract.specs.Each.{HasCollision};
+ghost use Rattle.audit_extract.specs.Collisions.{HasCollisionBetween, IsHashedIn, IsRecordAmong};
 ghost use Rattle.format_chain.specs.declared.chain.Chain.{Chain};
 ghost use Rattle.format_chain.specs.Chains.{IsChain};
 ghost use Rattle.audit_chain.specs.Continues.{Continues, first_block};
@@ -23,13 +23,14 @@ pub fn made_chains_join()
 {}
 
 /// Where a chain joins two digests, each image that holds with the newer one, and whose chain and blocks hold,
-/// holds with the older one; or two different byte strings have one hash. So nobody can show, under the newer
-/// digest, a history that isn't the older one's: the newest digest alone is enough to keep.
+/// holds with the older one; or two different byte strings have one hash, of which one is a record of the chain and
+/// the other is hashed where the image is verified. So nobody can show, under the newer digest, a history that isn't
+/// the older one's: the newest digest alone is enough to keep.
 pub fn accepted_chains_tell_one_history()
     ensures { (h : List ℕ → List ℕ) (c : Chain) (older newer : HeldDigest) (i : Image)
         → IsChain c → Joins h c older newer
         → IsImage i → chain_fault h i ≡ None → block_fault h i ≡ None → DigestHolds h i newer
-        → DigestHolds h i older ⊎ HasCollision h }
+        → DigestHolds h i older ⊎ HasCollisionBetween h (IsRecordAmong c.records) (IsHashedIn h i) }
 {}
 
 /// The chain that an image gives from a block to that of the newest digest shows that this one continues the histories
@@ -43,11 +44,12 @@ pub fn made_chains_continue()
 
 /// Where a chain shows that the newest digest continues the histories of others, each image that holds with the newest
 /// one, and whose chain and blocks hold, holds with each of the others that is of a block from the chain's first to the
-/// newest digest's; or two different byte strings have one hash.
+/// newest digest's; or two different byte strings have one hash, of which one is a record of the chain and the other is
+/// hashed where the image is verified.
 pub fn newest_digests_tell_all_histories()
     ensures { (h : List ℕ → List ℕ) (c : Chain) (newest older : HeldDigest) (digests : List HeldDigest) (i : Image)
         → IsChain c → Continues h c newest digests
         → IsImage i → chain_fault h i ≡ None → block_fault h i ≡ None → DigestHolds h i newest
         → Contains digests older → first_block c.records ≤ older.block → older.block ≤ newest.block
-        → DigestHolds h i older ⊎ HasCollision h }
+        → DigestHolds h i older ⊎ HasCollisionBetween h (IsRecordAmong c.records) (IsHashedIn h i) }
 {}

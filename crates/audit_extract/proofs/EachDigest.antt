@@ -21,10 +21,11 @@ use Rattle.spec_verify.specs.Covered.{covered_entry, covered_of}
 use Rattle.spec_verify.specs.Verdict.{image_verdict}
 use Rattle.audit_extract.specs.declared.found.ImageComparison.{ImageComparison}
 use Rattle.audit_extract.specs.declared.found.ImageComparison.TheVariants as found
-use Rattle.audit_extract.specs.Each.{AgreeOnEach, HasCollision, OneHistory, last_from, last_of}
+use Rattle.audit_extract.specs.Each.{AgreeOnEach, OneHistory, last_from, last_of}
 use Rattle.audit_extract.specs.Finds.{Finds}
 use Rattle.audit_extract.specs.Meets.{Meets}
 use Rattle.audit_extract.specs.Parts.{blocks_to}
+use Rattle.audit_extract.specs.Strings.{HasCollisionIn}
 use Rattle.audit_extract.proofs.Accepted.{accepted}
 use Rattle.audit_extract.proofs.Agreeing.{Injective}
 use Rattle.audit_extract.proofs.Covering.{blocks_same}
@@ -163,7 +164,7 @@ module _ (h : List ℕ → List ℕ) (i j : Image) (is_i : IsImage i) (is_j : Is
 
   -- ---- one history or a collision
 
-  each_agrees : Injective → ((bytes : List ℕ) → length (h bytes) ≡ 32) → (ds : List HeldDigest) → AllByRecursion (λ (d : HeldDigest). Meets h i d × Meets h j d) ds → AgreeOnEach i j ds ⊎ HasCollision h
+  each_agrees : Injective → ((bytes : List ℕ) → length (h bytes) ≡ 32) → (ds : List HeldDigest) → AllByRecursion (λ (d : HeldDigest). Meets h i d × Meets h j d) ds → AgreeOnEach i j ds ⊎ HasCollisionIn h i j
   each_agrees one sized [] all = inl tt
   each_agrees one sized (d ∷ ds) all = both_so (one_history h sized one i j d all.0.0 all.0.1) (each_agrees one sized ds all.1)
 
@@ -181,7 +182,7 @@ module _ (h : List ℕ → List ℕ) (i j : Image) (is_i : IsImage i) (is_j : Is
       next (suc n) [] e = cc
       next (suc n) (x ∷ xs) e = let shift : suc n + 1 ≡ suc (n + 1) = omega arith in ap (λ (m : ℕ). drop m (x ∷ xs)) shift ∙ next n xs e
 
-  pub agree_or_collide : Injective → ((bytes : List ℕ) → length (h bytes) ≡ 32) → (digests : List HeldDigest) → image_verdict h i digests ≡ Yes → image_verdict h j digests ≡ Yes → AgreeOnEach i j digests ⊎ HasCollision h
+  pub agree_or_collide : Injective → ((bytes : List ℕ) → length (h bytes) ≡ 32) → (digests : List HeldDigest) → image_verdict h i digests ≡ Yes → image_verdict h j digests ≡ Yes → AgreeOnEach i j digests ⊎ HasCollisionIn h i j
   agree_or_collide one sized digests yes_i yes_j = each_agrees one sized digests (all_meet digests yes_i yes_j 0 digests refl)
 
 -- ---- of bytes

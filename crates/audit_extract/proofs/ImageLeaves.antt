@@ -100,6 +100,35 @@ each_table tx n (t ∷ ts) above = (
       ts (each_table tx t.def.id ts above.1) (all_above t.def.id ts above.1),
 )
 
+-- a table of an image is found by its id
+abbrev pub IsPicked : ℕ → Tables → Table → Type 0
+IsPicked tx ts t = leaves_in ts tx t.def.id ≡ leaves_of tx t
+
+picked_first : (tx : ℕ) (t : Table) (ts : Tables) → IsPicked tx (t ∷ ts) t
+picked_first tx t ts = by (t.def.id == t.def.id) (eq-eqb t.def.id t.def.id refl)
+  where
+    by : (b : Bool) → b ≡ true → cond b (leaves_of tx t) (leaves_in ts tx t.def.id) ≡ leaves_of tx t
+    by true e = refl
+    by false e = absurd cc
+
+picked_later : (tx : ℕ) (t : Table) (ts : Tables) (s : Table) → t.def.id < s.def.id → IsPicked tx ts s → IsPicked tx (t ∷ ts) s
+picked_later tx t ts s lt is = by (t.def.id == s.def.id) (ne_eqb t.def.id s.def.id (λ e. absurd (omega (arith, lt, e))))
+  where
+    by : (b : Bool) → b ≡ false → cond b (leaves_of tx t) (leaves_in ts tx s.def.id) ≡ leaves_of tx s
+    by true e = absurd cc
+    by false e = is
+
+each_picked : (tx n : ℕ) (ts : Tables) → Above n ts → AllByRecursion (IsPicked tx ts) ts
+each_picked tx n [] above = tt
+each_picked tx n (t ∷ ts) above = (
+  picked_first tx t ts,
+  all_two (IsPicked tx ts) (λ (s : Table). t.def.id < s.def.id) (IsPicked tx (t ∷ ts))
+      (λ s here lt. picked_later tx t ts s lt here) ts (each_picked tx t.def.id ts above.1) (all_above t.def.id ts above.1),
+)
+
+pub all_picked : (tx : ℕ) (i : Image) → IsImage i → AllByRecursion (IsPicked tx (tables_in i)) (tables_in i)
+all_picked tx i is = each_picked tx 0 (tables_in i) (tables_above i.defs i.tables is.ids)
+
 bytes_map : (es : List Event) → bytes_of (map leaf_of es) ≡ map event_bytes es
 bytes_map [] = refl
 bytes_map (e ∷ es) = ap (λ (l : List (List ℕ)). event_bytes e ∷ l) (bytes_map es)

@@ -1,5 +1,6 @@
 pub mod Accepted
 pub mod Agreeing
+pub mod Collisions
 pub mod Covering
 pub mod EachDigest
 pub mod Groups

@@ -4,8 +4,8 @@ use Rattle.std.specs.List.{AllByRecursion}
 use Rattle.sql_types.specs.declared.digest.HeldDigest.{HeldDigest}
 use Rattle.sql_types.specs.declared.image.Image.{Image}
 use Rattle.format_image.specs.ImageBytes.{IsImage, IsSpellingOf}
-use Rattle.spec_verify.specs.Collision.{Collides}
 use Rattle.spec_verify.specs.Covered.{covered_of}
+use Rattle.audit_extract.specs.Strings.{HasCollisionIn}
 
 -- all that each of the digests covers is the same in both
 abbrev pub AgreeOnEach : Image → Image → List HeldDigest → Type 0
@@ -21,15 +21,11 @@ abbrev pub last_of : List HeldDigest → Option HeldDigest
 last_of [] = None
 last_of (d ∷ ds) = Some (last_from d ds)
 
--- two different strings of bytes have one hash
-abbrev pub HasCollision : (List ℕ → List ℕ) → Type 0
-HasCollision h = (x : List ℕ) × (y : List ℕ) × Collides h x y
-
 -- two strings of bytes are those of images in which all that each of the digests covers is the same,
--- or two different strings of bytes have one hash
+-- or two different strings of bytes, hashed at one place of the two images, have one hash
 pub record OneHistory (h : List ℕ → List ℕ) (digests : List HeldDigest) (a b : List ℕ) : Type 0 where
   pub first : Image
   pub second : Image
   pub is_first : IsImage first × IsSpellingOf a first
   pub is_second : IsImage second × IsSpellingOf b second
-  pub agree : AgreeOnEach first second digests ⊎ HasCollision h
+  pub agree : AgreeOnEach first second digests ⊎ HasCollisionIn h first second

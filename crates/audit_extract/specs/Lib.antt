@@ -1,3 +1,4 @@
+pub mod Collisions
 pub mod Each
 pub mod Finds
 pub mod Hashed

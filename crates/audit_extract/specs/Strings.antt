@@ -6,6 +6,7 @@ use Rattle.format_image.specs.Tables.{tables_in}
 use Rattle.sql_types.specs.declared.entry.BlockRecord.{BlockRecord}
 use Rattle.sql_types.specs.declared.image.Image.{Image}
 use Rattle.spec_verify.specs.Blocks.{entries_in}
+use Rattle.spec_verify.specs.Collision.{Collides}
 use Rattle.audit_extract.specs.Hashed.{hashed, under}
 use Rattle.audit_extract.specs.Leaves.{leaves_in}
 use Rattle.audit_extract.specs.declared.found.Collision.{Collision}
@@ -50,3 +51,7 @@ pub record AreOfEvents (h : List ℕ → List ℕ) (i j : Image) (c : Collision)
 -- the first string was hashed in the one image, and the second at the same place of the other
 abbrev pub AreHashed : (List ℕ → List ℕ) → Image → Image → Collision → Type 0
 AreHashed h i j c = AreRecords i j c ⊎ (AreOfEntries h i j c ⊎ AreOfEvents h i j c)
+
+-- two different strings of bytes, hashed at one place of the two images, have one hash
+abbrev pub HasCollisionIn : (List ℕ → List ℕ) → Image → Image → Type 0
+HasCollisionIn h i j = (c : Collision) × Collides h c.first c.second × AreHashed h i j c

@@ -31,8 +31,8 @@ pub fn later_digests_cover_more()
 {}
 
 /// Any two strings of bytes that are accepted with the same digests are those of images with the same covered
-/// transactions and row versions, for each of the digests, or two different strings of bytes have one hash,
-/// whatever hash of 32 bytes it is. `extract_each` finds the two.
+/// transactions and row versions, for each of the digests, or two different strings of bytes, hashed at one place
+/// of the two images, have one hash, whatever hash of 32 bytes it is. `extract_each` finds the two.
 pub fn accepted_bytes_have_one_history_or_a_collision()
     ensures { (h : List ℕ → List ℕ) (digests : List HeldDigest) (a b : List ℕ)
         → ((bytes : List ℕ) → length (h bytes) ≡ 32) → IsBytes a → IsBytes b

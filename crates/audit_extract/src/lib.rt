@@ -1,5 +1,6 @@
 //! Two images under one digest:
-//! either all that it covers is the same in both, or two byte strings have one hash.
+//! either all that it covers is the same in both, or two byte strings, hashed at one place of both, have one
+//! hash.
 #![tactic(auto)]
 
 mod blocks;

@@ -1,5 +1,5 @@
 -- The path of a place leads to the tree hash.
-use Rattle.std.proofs.Common.{◌≡◌, ◌≤◌, ◌<◌, ◌+◌, ◌-◌, ◌^◌, ℕ, zero, suc, Bool, true, false, nat_lt, List, [], ◌∷◌, ◌++◌, length, take, drop, Some, refl, arith, sym, ◌∙◌, ap, subst, lit<, length-take, length-drop, length-append}
+use Rattle.std.proofs.Common.{◌≡◌, ◌≤◌, ◌<◌, ◌+◌, ◌-◌, ◌^◌, ℕ, zero, suc, Bool, true, false, nat_lt, List, [], ◌∷◌, ◌++◌, length, take, drop, Some, refl, arith, sym, ◌∙◌, ap, ap₂, subst, lit<, length-take, length-drop, length-append}
 use Rattle.std.specs.Prelude.{if◌then◌else◌, zip}
 use Rattle.std.specs.List.{slice_get}
 use Rattle.std.proofs.lemmas.Bool.{eq-eqb, lt-ltb, le-ltb, ltb-true, ltb-false}
@@ -7,11 +7,14 @@ use Rattle.std.proofs.Math.Nat.{one-le-pow}
 use Rattle.base_merkle.specs.TreeHash.{split_of, tree_hash}
 use Rattle.base_merkle.proofs.Trees.{tree_hash_two}
 use Rattle.base_merkle.proofs.Split.{split_is}
+use Rattle.audit_extract.specs.Collisions.{IsAtNode}
+use Rattle.audit_extract.specs.Hashed.{half, hashed}
 use Rattle.audit_extract.proofs.Halves.{hash_of_hashed}
-use Rattle.audit_extract.specs.Hashed.{hashed}
 use Rattle.audit_paths.specs.declared.side.Side.{Side}
 use Rattle.audit_paths.specs.declared.side.Side.TheVariants as other
-use Rattle.audit_paths.specs.Path.{path_within, audit_path, sides_within, sides_of, Step, node_of, climbed, root_under, AreHashes}
+use Rattle.audit_paths.specs.Hashed.{IsHashedOver, IsHashedUnder}
+use Rattle.audit_paths.specs.Path.{path_within, audit_path, sides_within, sides_of, Step, node_of, climbed, root_over, root_under, AreHashes}
+use Rattle.audit_paths.proofs.Ways.{hashed_two, leaf_alone, node_above}
 
 -- ---- lists
 
@@ -54,6 +57,7 @@ module _ (h : List ℕ → List ℕ) where
   pub record Leads (depth m n : ℕ) (leaves : List (List ℕ)) (leaf : List ℕ) : Type 0 where
     pub lengths : length (path_within h depth m leaves) ≡ length (sides_within depth m n)
     pub root : climbed h (h (0 ∷ leaf)) (zip (sides_within depth m n) (path_within h depth m leaves)) ≡ tree_hash h leaves
+    pub nodes : (x : List ℕ) → IsHashedOver h leaf (zip (sides_within depth m n) (path_within h depth m leaves)) x → IsAtNode h leaves x
 
   -- ---- the equations of one split
 
@@ -76,13 +80,15 @@ module _ (h : List ℕ → List ℕ) where
   alone depth m n (x ∷ y ∷ leaves) leaf l few e = absurd (omega (arith, l, few))
   alone zero zero n (x ∷ []) leaf l few e =
       let same : x ≡ leaf = cc in
-      record { lengths = refl; root = ap (λ (y : List ℕ). h (0 ∷ y)) (sym same) }
+      record { lengths = refl; root = ap (λ (y : List ℕ). h (0 ∷ y)) (sym same); nodes = leaf_alone h leaf (x ∷ []) (ap (λ (y : List ℕ). y ∷ []) (sym same)) }
   alone (suc depth) zero n (x ∷ []) leaf l few e =
       let same : x ≡ leaf = cc in
       let few_sides : sides_within (suc depth) zero n ≡ [] = rw (lt-ltb n 2 few) refl in
       record {
         lengths = ap length (sym few_sides);
         root = ap (λ (ss : List Side). climbed h (h (0 ∷ leaf)) (zip ss [])) few_sides ∙ ap (λ (y : List ℕ). h (0 ∷ y)) (sym same);
+        nodes = λ y on. leaf_alone h leaf (x ∷ []) (ap (λ (z : List ℕ). z ∷ []) (sym same)) y
+            (subst (λ (ss : List Side). IsHashedOver h leaf (zip ss (path_within h (suc depth) zero (x ∷ []))) y) few_sides on);
       }
 
   -- ---- one split more
@@ -96,17 +102,24 @@ module _ (h : List ℕ → List ℕ) where
       subst (λ (j : ℕ). path_within h (suc depth) m leaves ≡ path_within h depth m (take j leaves) ++ tree_hash h (drop j leaves) ∷ []) at
       (path_left depth m leaves (omega (arith, l, more)) (subst (λ (j : ℕ). m < j) (sym at) lt)) in
       let sides = sides_left depth m n more lt in
+      let steps : zip (sides_within (suc depth) m n) (path_within h (suc depth) m leaves) ≡ zip (sides_within depth m k) (path_within h depth m (take k leaves)) ++ (other.Right, tree_hash h (drop k leaves)) ∷ [] =
+      ap₂ (λ (ss : List Side) (ps : List (List ℕ)). zip ss ps) sides path
+      ∙ zip_one_more (sides_within depth m k) (path_within h depth m (take k leaves)) other.Right (tree_hash h (drop k leaves)) (sym before.lengths) in
       let two : tree_hash h leaves ≡ h (1 ∷ tree_hash h (take k leaves) ++ tree_hash h (drop k leaves)) =
       subst (λ (j : ℕ). tree_hash h leaves ≡ h (1 ∷ tree_hash h (take j leaves) ++ tree_hash h (drop j leaves))) at (tree_hash_two h leaves (omega (arith, l, more))) in
       record {
         lengths = ap length path ∙ one_longer (path_within h depth m (take k leaves)) (sides_within depth m k) (tree_hash h (drop k leaves)) other.Right before.lengths ∙ sym (ap length sides);
         root =
-            ap (λ (ss : List Side). climbed h (h (0 ∷ leaf)) (zip ss (path_within h (suc depth) m leaves))) sides
-            ∙ ap (λ (ps : List (List ℕ)). climbed h (h (0 ∷ leaf)) (zip (sides_within depth m k ++ other.Right ∷ []) ps)) path
-            ∙ ap (climbed h (h (0 ∷ leaf))) (zip_one_more (sides_within depth m k) (path_within h depth m (take k leaves)) other.Right (tree_hash h (drop k leaves)) (sym before.lengths))
+            ap (climbed h (h (0 ∷ leaf))) steps
             ∙ climbed_one_more h (h (0 ∷ leaf)) (zip (sides_within depth m k) (path_within h depth m (take k leaves))) (other.Right, tree_hash h (drop k leaves))
             ∙ ap (λ (x : List ℕ). h (1 ∷ x ++ tree_hash h (drop k leaves))) before.root
             ∙ sym two;
+        nodes = node_above h true leaf (zip (sides_within depth m k) (path_within h depth m (take k leaves))) (zip (sides_within (suc depth) m n) (path_within h (suc depth) m leaves)) (other.Right, tree_hash h (drop k leaves))
+            (take k leaves) leaves (ap (λ (j : ℕ). take j leaves) (sym at)) steps
+            (ap (λ (x : List ℕ). 1 ∷ x ++ tree_hash h (drop k leaves)) before.root
+            ∙ ap (λ (j : ℕ). 1 ∷ tree_hash h (take j leaves) ++ tree_hash h (drop j leaves)) (sym at)
+            ∙ sym (hashed_two h leaves (omega (arith, l, more))))
+            before.nodes;
       }
 
   up_right : (depth m n : ℕ) (leaves : List (List ℕ)) (leaf : List ℕ) → length leaves ≡ n → 2 ≤ n → split_of n ≤ m
@@ -118,17 +131,24 @@ module _ (h : List ℕ → List ℕ) where
       subst (λ (j : ℕ). path_within h (suc depth) m leaves ≡ path_within h depth (m - j) (drop j leaves) ++ tree_hash h (take j leaves) ∷ []) at
       (path_right depth m leaves (omega (arith, l, more)) (subst (λ (j : ℕ). j ≤ m) (sym at) le)) in
       let sides = sides_right depth m n more le in
+      let steps : zip (sides_within (suc depth) m n) (path_within h (suc depth) m leaves) ≡ zip (sides_within depth (m - k) (n - k)) (path_within h depth (m - k) (drop k leaves)) ++ (other.Left, tree_hash h (take k leaves)) ∷ [] =
+      ap₂ (λ (ss : List Side) (ps : List (List ℕ)). zip ss ps) sides path
+      ∙ zip_one_more (sides_within depth (m - k) (n - k)) (path_within h depth (m - k) (drop k leaves)) other.Left (tree_hash h (take k leaves)) (sym before.lengths) in
       let two : tree_hash h leaves ≡ h (1 ∷ tree_hash h (take k leaves) ++ tree_hash h (drop k leaves)) =
       subst (λ (j : ℕ). tree_hash h leaves ≡ h (1 ∷ tree_hash h (take j leaves) ++ tree_hash h (drop j leaves))) at (tree_hash_two h leaves (omega (arith, l, more))) in
       record {
         lengths = ap length path ∙ one_longer (path_within h depth (m - k) (drop k leaves)) (sides_within depth (m - k) (n - k)) (tree_hash h (take k leaves)) other.Left before.lengths ∙ sym (ap length sides);
         root =
-            ap (λ (ss : List Side). climbed h (h (0 ∷ leaf)) (zip ss (path_within h (suc depth) m leaves))) sides
-            ∙ ap (λ (ps : List (List ℕ)). climbed h (h (0 ∷ leaf)) (zip (sides_within depth (m - k) (n - k) ++ other.Left ∷ []) ps)) path
-            ∙ ap (climbed h (h (0 ∷ leaf))) (zip_one_more (sides_within depth (m - k) (n - k)) (path_within h depth (m - k) (drop k leaves)) other.Left (tree_hash h (take k leaves)) (sym before.lengths))
+            ap (climbed h (h (0 ∷ leaf))) steps
             ∙ climbed_one_more h (h (0 ∷ leaf)) (zip (sides_within depth (m - k) (n - k)) (path_within h depth (m - k) (drop k leaves))) (other.Left, tree_hash h (take k leaves))
             ∙ ap (λ (x : List ℕ). h (1 ∷ tree_hash h (take k leaves) ++ x)) before.root
             ∙ sym two;
+        nodes = node_above h false leaf (zip (sides_within depth (m - k) (n - k)) (path_within h depth (m - k) (drop k leaves))) (zip (sides_within (suc depth) m n) (path_within h (suc depth) m leaves)) (other.Left, tree_hash h (take k leaves))
+            (drop k leaves) leaves (ap (λ (j : ℕ). drop j leaves) (sym at)) steps
+            (ap (λ (x : List ℕ). 1 ∷ tree_hash h (take k leaves) ++ x) before.root
+            ∙ ap (λ (j : ℕ). 1 ∷ tree_hash h (take j leaves) ++ tree_hash h (drop j leaves)) (sym at)
+            ∙ sym (hashed_two h leaves (omega (arith, l, more))))
+            before.nodes;
       }
 
   -- ---- all splits
@@ -165,6 +185,10 @@ module _ (h : List ℕ → List ℕ) where
   path_leads leaves m leaf e =
       let it = leads (length leaves) m (length leaves) leaves leaf refl (omega arith) e in
       rw (eq-eqb (length (audit_path h m leaves)) (length (sides_of m (length leaves))) it.lengths) (ap Some it.root)
+
+  -- what is hashed on the way is hashed at nodes of the tree
+  pub path_nodes : (leaves : List (List ℕ)) (m : ℕ) (leaf : List ℕ) → slice_get leaves m ≡ Some leaf → (x : List ℕ) → IsHashedUnder h (audit_path h m leaves) m (length leaves) leaf x → IsAtNode h leaves x
+  path_nodes leaves m leaf e = let it = leads (length leaves) m (length leaves) leaves leaf refl (omega arith) e in it.nodes
 
   -- ---- hashes of 32 bytes
 

@@ -1,17 +1,20 @@
 -- Steps that lead from a leaf to a tree hash lead from one of its leaves.
-use Rattle.std.proofs.Common.{◌≡◌, ◌≤◌, ◌+◌, ◌⊎◌, ℕ, zero, suc, List, [], ◌∷◌, ◌++◌, length, take, drop, Some, refl, arith, sym, ◌∙◌, ap, subst, inl, inr, length-append}
+use Rattle.std.proofs.Common.{◌≡◌, ◌≤◌, ◌+◌, ◌⊎◌, ℕ, zero, suc, Bool, true, false, List, [], ◌∷◌, ◌++◌, length, take, drop, Some, refl, arith, sym, ◌∙◌, ap, subst, inl, inr, length-append}
 use Rattle.std.specs.List.{slice_get}
 use Rattle.base_fields.proofs.Fronts.{fronts}
 use Rattle.base_merkle.specs.TreeHash.{split_of, tree_hash}
-use Rattle.audit_extract.specs.Each.{HasCollision}
-use Rattle.audit_extract.specs.Hashed.{hashed}
+use Rattle.audit_extract.specs.Collisions.{HasCollisionBetween, IsAtNode}
+use Rattle.audit_extract.specs.Hashed.{half, hashed}
+use Rattle.audit_extract.proofs.Collisions.{equal_or, node_of_half, or_wider, top_node}
 use Rattle.audit_extract.proofs.Halves.{hash_of_hashed}
-use Rattle.audit_extract.proofs.Unbroken.{same_bytes, so_far}
+use Rattle.audit_extract.proofs.Unbroken.{so_far}
 use Rattle.audit_paths.specs.declared.side.Side.{Side}
 use Rattle.audit_paths.specs.declared.side.Side.TheVariants as other
+use Rattle.audit_paths.specs.Hashed.{IsOnWay, IsHashedOver}
 use Rattle.audit_paths.specs.Path.{Step, node_of, climbed, root_over, AreSteps}
 use Rattle.audit_paths.proofs.Climbing.{behind_first}
 use Rattle.audit_paths.proofs.Leading.{climbed_one_more}
+use Rattle.audit_paths.proofs.Ways.{on_shorter, on_last}
 
 -- ---- lists
 
@@ -68,12 +71,12 @@ module _ (h : List ℕ → List ℕ) (sized : (bytes : List ℕ) → length (h b
   -- ---- one step
 
   -- the bytes of a node are those of a list of two leaves and more, parted
-  record Parted (a b : List ℕ) (leaves : List (List ℕ)) : Type 0 where
+  pub record Parted (a b : List ℕ) (leaves : List (List ℕ)) : Type 0 where
     pub more : 2 ≤ length leaves
     pub front : a ≡ tree_hash h (take (split_of (length leaves)) leaves)
     pub back : b ≡ tree_hash h (drop (split_of (length leaves)) leaves)
 
-  parted : (a b : List ℕ) (leaves : List (List ℕ)) → length a ≡ 32 → 1 ∷ a ++ b ≡ hashed h leaves → Parted a b leaves
+  pub parted : (a b : List ℕ) (leaves : List (List ℕ)) → length a ≡ 32 → 1 ∷ a ++ b ≡ hashed h leaves → Parted a b leaves
   parted a b [] la e = cc
   parted a b (x ∷ []) la e = cc
   parted a b (x ∷ y ∷ ls) la e =
@@ -85,27 +88,44 @@ module _ (h : List ℕ → List ℕ) (sized : (bytes : List ℕ) → length (h b
 
   -- ---- all steps, the last first
 
-  abbrev Answers : List ℕ → ℕ → Type 0
-  Answers leaf m = (ss : List Step) (leaves : List (List ℕ)) → length ss ≤ m → AreSteps ss → root_over h leaf ss ≡ tree_hash h leaves → IsAmong leaf leaves ⊎ HasCollision h
+  -- a leaf is one of some leaves, or what is hashed on a way from it collides with what is hashed at a node of these
+  abbrev AmongOr : List ℕ → List Step → List (List ℕ) → Type 0
+  AmongOr leaf steps leaves = IsAmong leaf leaves ⊎ HasCollisionBetween h (IsHashedOver h leaf steps) (IsAtNode h leaves)
 
-  alone : (leaf : List ℕ) (steps : List Step) (leaves : List (List ℕ)) → steps ≡ [] → root_over h leaf steps ≡ tree_hash h leaves → IsAmong leaf leaves ⊎ HasCollision h
+  -- a way has what a shorter one has
+  longer : {P : Type 0} (leaf : List ℕ) (ss steps : List Step) (s : Step) (leaves : List (List ℕ)) → steps ≡ ss ++ s ∷ []
+      → P ⊎ HasCollisionBetween h (IsHashedOver h leaf ss) (IsAtNode h leaves) → P ⊎ HasCollisionBetween h (IsHashedOver h leaf steps) (IsAtNode h leaves)
+  longer leaf ss steps s leaves is =
+      or_wider h (IsHashedOver h leaf ss) (IsAtNode h leaves) (IsHashedOver h leaf steps) (IsAtNode h leaves)
+      (λ x on. subst (λ (ts : List Step). IsHashedOver h leaf ts x) (sym is) (on_shorter h leaf ss s x on)) (λ x at. at)
+
+  in_half : (side : Bool) (leaf : List ℕ) (steps : List Step) (leaves : List (List ℕ)) → (IsAmong leaf (half side leaves) → IsAmong leaf leaves)
+      → AmongOr leaf steps (half side leaves) → AmongOr leaf steps leaves
+  in_half side leaf steps leaves among found =
+      so_far (λ (a : IsAmong leaf (half side leaves)). inl (among a))
+      (or_wider h (IsHashedOver h leaf steps) (IsAtNode h (half side leaves)) (IsHashedOver h leaf steps) (IsAtNode h leaves) (λ x on. on) (node_of_half h side leaves) found)
+
+  abbrev Answers : List ℕ → ℕ → Type 0
+  Answers leaf m = (ss : List Step) (leaves : List (List ℕ)) → length ss ≤ m → AreSteps ss → root_over h leaf ss ≡ tree_hash h leaves → AmongOr leaf ss leaves
+
+  alone : (leaf : List ℕ) (steps : List Step) (leaves : List (List ℕ)) → steps ≡ [] → root_over h leaf steps ≡ tree_hash h leaves → AmongOr leaf steps leaves
   alone leaf steps leaves none e =
       so_far (λ (same : 0 ∷ leaf ≡ hashed h leaves). inl (itself leaf leaves same))
-      (same_bytes h (0 ∷ leaf) (hashed h leaves) (ap (λ (ss : List Step). root_over h leaf ss) (sym none) ∙ e ∙ hash_of_hashed h leaves))
+      (equal_or h (IsHashedOver h leaf steps) (IsAtNode h leaves) (0 ∷ leaf) (hashed h leaves) (inl refl) (top_node h leaves) (ap (λ (ss : List Step). root_over h leaf ss) (sym none) ∙ e ∙ hash_of_hashed h leaves))
 
   by_side : (leaf : List ℕ) (m : ℕ) → Answers leaf m → (leaves : List (List ℕ)) (ss : List Step) (s : Side) (p : List ℕ) → length ss ≤ m → AreSteps ss → length p ≡ 32
-      → node_of (s, p) (root_over h leaf ss) ≡ hashed h leaves → IsAmong leaf leaves ⊎ HasCollision h
+      → node_of (s, p) (root_over h leaf ss) ≡ hashed h leaves → AmongOr leaf ss leaves
   by_side leaf m before leaves ss other.Right p l fits lp same =
       let r = parted (root_over h leaf ss) p leaves (climbed_sized leaf ss) same in
-      so_far (λ (x : IsAmong leaf (take (split_of (length leaves)) leaves)). inl (x.0, among_taken (split_of (length leaves)) x.0 leaf leaves x.1))
+      in_half true leaf ss leaves (λ x. (x.0, among_taken (split_of (length leaves)) x.0 leaf leaves x.1))
       (before ss (take (split_of (length leaves)) leaves) l fits r.front)
   by_side leaf m before leaves ss other.Left p l fits lp same =
       let r = parted p (root_over h leaf ss) leaves lp same in
-      so_far (λ (x : IsAmong leaf (drop (split_of (length leaves)) leaves)). inl (split_of (length leaves) + x.0, among_left (split_of (length leaves)) x.0 leaf leaves x.1))
+      in_half false leaf ss leaves (λ x. (split_of (length leaves) + x.0, among_left (split_of (length leaves)) x.0 leaf leaves x.1))
       (before ss (drop (split_of (length leaves)) leaves) l fits r.back)
 
   by_end : (leaf : List ℕ) (m : ℕ) → Answers leaf m → (steps : List Step) (leaves : List (List ℕ)) → Ends steps → length steps ≤ suc m → AreSteps steps → root_over h leaf steps ≡ tree_hash h leaves
-      → IsAmong leaf leaves ⊎ HasCollision h
+      → AmongOr leaf steps leaves
   by_end leaf m before steps leaves (inl none) le fit e = alone leaf steps leaves none e
   by_end leaf m before steps leaves (inr r) le fit e =
       let l = length-append r.0 (r.1 ∷ []) in
@@ -113,13 +133,15 @@ module _ (h : List ℕ → List ℕ) (sized : (bytes : List ℕ) → length (h b
       let fits = front_steps r.0 r.1 (subst AreSteps r.2 fit) in
       let top : h (node_of r.1 (root_over h leaf r.0)) ≡ h (hashed h leaves) =
       sym (climbed_one_more h (h (0 ∷ leaf)) r.0 r.1) ∙ ap (λ (ss : List Step). root_over h leaf ss) (sym r.2) ∙ e ∙ hash_of_hashed h leaves in
-      so_far (λ (same : node_of r.1 (root_over h leaf r.0) ≡ hashed h leaves). by_side leaf m before leaves r.0 r.1.0 r.1.1 short fits.0 fits.1 same)
-      (same_bytes h (node_of r.1 (root_over h leaf r.0)) (hashed h leaves) top)
+      let last : IsHashedOver h leaf steps (node_of r.1 (root_over h leaf r.0)) = subst (λ (ts : List Step). IsHashedOver h leaf ts (node_of r.1 (root_over h leaf r.0))) (sym r.2) (on_last h leaf r.0 r.1) in
+      so_far (λ (same : node_of r.1 (root_over h leaf r.0) ≡ hashed h leaves).
+      longer leaf r.0 steps r.1 leaves r.2 (by_side leaf m before leaves r.0 r.1.0 r.1.1 short fits.0 fits.1 same))
+      (equal_or h (IsHashedOver h leaf steps) (IsAtNode h leaves) (node_of r.1 (root_over h leaf r.0)) (hashed h leaves) last (top_node h leaves) top)
 
   none_left : (steps : List Step) → length steps ≤ 0 → steps ≡ []
   none_left [] le = refl
   none_left (s ∷ steps) le = absurd (omega (arith, le))
 
-  pub member : (n : ℕ) (leaf : List ℕ) (steps : List Step) (leaves : List (List ℕ)) → length steps ≤ n → AreSteps steps → root_over h leaf steps ≡ tree_hash h leaves → IsAmong leaf leaves ⊎ HasCollision h
+  pub member : (n : ℕ) (leaf : List ℕ) (steps : List Step) (leaves : List (List ℕ)) → length steps ≤ n → AreSteps steps → root_over h leaf steps ≡ tree_hash h leaves → AmongOr leaf steps leaves
   member zero leaf steps leaves few fit e = alone leaf steps leaves (none_left steps few) e
   member (suc m) leaf steps leaves few fit e = by_end leaf m (λ ss ls l fits same. member m leaf ss ls l fits same) steps leaves (ends_of steps) few fit e

@@ -4,32 +4,45 @@ use Rattle.std.specs.List.{AllByRecursion}
 use Rattle.std.proofs.lemmas.List.{drop-take, drop-drop}
 use Rattle.format_entry.specs.Record.{record_bytes, IsRecord}
 use Rattle.format_entry.proofs.RecordExact.{equal_records}
+use Rattle.sql_types.specs.declared.digest.HeldDigest.{HeldDigest}
 use Rattle.sql_types.specs.declared.entry.BlockRecord.{BlockRecord}
-use Rattle.spec_ledger.specs.Blocks.{record_hash, first_or_no_hash, last_hash}
-use Rattle.audit_extract.specs.Each.{HasCollision}
+use Rattle.spec_ledger.specs.Blocks.{no_hash, record_hash, first_or_no_hash, last_hash}
+use Rattle.audit_extract.specs.Collisions.{HasCollisionBetween, IsRecordAmong}
+use Rattle.audit_extract.proofs.Collisions.{equal_or, first_record, later_record, or_wider}
 use Rattle.audit_extract.proofs.Lists.{cons_is}
-use Rattle.audit_extract.proofs.Unbroken.{same_bytes, so_far}
-use Rattle.audit_receipt.specs.Accepted.{KeepsHashOf, AreLinked}
+use Rattle.audit_extract.proofs.Unbroken.{so_far}
+use Rattle.audit_receipt.specs.Accepted.{KeepsHashOf, AreLinked, LeadTo}
 
 module _ (h : List ℕ → List ℕ) where
+  -- two things are one, or a record of the one list and one of the other collide
+  abbrev OneOr : Type 0 → List BlockRecord → List BlockRecord → Type 0
+  OneOr P rs ss = P ⊎ HasCollisionBetween h (IsRecordAmong rs) (IsRecordAmong ss)
+
   -- records with one hash are one
-  same_record : (r s : BlockRecord) → IsRecord r → IsRecord s → record_hash h r ≡ record_hash h s → (r ≡ s) ⊎ HasCollision h
-  same_record r s fr fs e = so_far (λ (b : record_bytes r ≡ record_bytes s). inl (equal_records r s fr fs b)) (same_bytes h (record_bytes r) (record_bytes s) e)
+  same_record : (r s : BlockRecord) (rs ss : List BlockRecord) → IsRecord r → IsRecord s → record_hash h r ≡ record_hash h s → OneOr (r ≡ s) (r ∷ rs) (s ∷ ss)
+  same_record r s rs ss fr fs e =
+      so_far (λ (b : record_bytes r ≡ record_bytes s). inl (equal_records r s fr fs b))
+      (equal_or h (IsRecordAmong (r ∷ rs)) (IsRecordAmong (s ∷ ss)) (record_bytes r) (record_bytes s) (first_record r rs) (first_record s ss) e)
 
   -- linked records of one length with one last hash are one list
-  pub same_links : (n : ℕ) (p q : List ℕ) (rs ss : List BlockRecord) → AreLinked h n rs → AreLinked h n ss → length rs ≡ length ss
-      → AllByRecursion IsRecord rs → AllByRecursion IsRecord ss → last_hash h p rs ≡ last_hash h q ss → (rs ≡ ss) ⊎ HasCollision h
+  same_links : (n : ℕ) (p q : List ℕ) (rs ss : List BlockRecord) → AreLinked h n rs → AreLinked h n ss → length rs ≡ length ss
+      → AllByRecursion IsRecord rs → AllByRecursion IsRecord ss → last_hash h p rs ≡ last_hash h q ss → OneOr (rs ≡ ss) rs ss
   same_links n p q [] [] lr ls l fr fs e = inl refl
   same_links n p q [] (s ∷ ss) lr ls l fr fs e = absurd (omega (arith, l))
   same_links n p q (r ∷ rs) [] lr ls l fr fs e = absurd (omega (arith, l))
-  same_links n p q (r ∷ []) (s ∷ []) lr ls l fr fs e = so_far (λ (same : r ≡ s). inl (ap (λ (x : BlockRecord). x ∷ []) same)) (same_record r s fr.0 fs.0 e)
+  same_links n p q (r ∷ []) (s ∷ []) lr ls l fr fs e = so_far (λ (same : r ≡ s). inl (ap (λ (x : BlockRecord). x ∷ []) same)) (same_record r s [] [] fr.0 fs.0 e)
   same_links n p q (r ∷ []) (s ∷ t ∷ ss) lr ls l fr fs e = absurd (omega (arith, l))
   same_links n p q (r ∷ t ∷ rs) (s ∷ []) lr ls l fr fs e = absurd (omega (arith, l))
   same_links n p q (r ∷ r2 ∷ rs) (s ∷ s2 ∷ ss) lr ls l fr fs e =
       so_far (λ (tails : r2 ∷ rs ≡ s2 ∷ ss).
       so_far (λ (head : r ≡ s). inl (ap (λ (x : BlockRecord). x ∷ r2 ∷ rs) head ∙ ap (λ (xs : List BlockRecord). s ∷ xs) tails))
-      (same_record r s fr.0 fs.0 (sym lr.1 ∙ ap (λ (x : BlockRecord). x.previous) (cons_is r2 s2 rs ss tails).0 ∙ ls.1)))
-      (same_links (n + 1) (record_hash h r) (record_hash h s) (r2 ∷ rs) (s2 ∷ ss) lr.2 ls.2 (omega (arith, l)) fr.1 fs.1 e)
+      (same_record r s (r2 ∷ rs) (s2 ∷ ss) fr.0 fs.0 (sym lr.1 ∙ ap (λ (x : BlockRecord). x.previous) (cons_is r2 s2 rs ss tails).0 ∙ ls.1)))
+      (or_wider h (IsRecordAmong (r2 ∷ rs)) (IsRecordAmong (s2 ∷ ss)) (IsRecordAmong (r ∷ r2 ∷ rs)) (IsRecordAmong (s ∷ s2 ∷ ss)) (later_record r (r2 ∷ rs)) (later_record s (s2 ∷ ss))
+      (same_links (n + 1) (record_hash h r) (record_hash h s) (r2 ∷ rs) (s2 ∷ ss) lr.2 ls.2 (omega (arith, l)) fr.1 fs.1 e))
+
+  -- records that lead from one block to one digest are one list
+  pub same_chain : (n : ℕ) (rs ss : List BlockRecord) (d : HeldDigest) → AllByRecursion IsRecord rs → AllByRecursion IsRecord ss → LeadTo h n rs d → LeadTo h n ss d → OneOr (rs ≡ ss) rs ss
+  same_chain n rs ss d fr fs x y = same_links n no_hash no_hash rs ss x.linked y.linked (omega (arith, x.reach, y.reach)) fr fs (x.hash ∙ sym y.hash)
 
   -- ---- parts of linked records
 

@@ -31,6 +31,10 @@ first_taken j m rs r more lt e =
     let n : m ≡ j + suc (m - j - 1) = omega (arith, lt) in
     ap (λ (q : ℕ). drop j (take q rs)) n ∙ drop-take j (suc (m - j - 1)) rs ∙ ap (take (suc (m - j - 1))) e
 
+-- the leaf of an entry at its place in the block
+pub leaf_at : (part : List TxEntry) (k : ℕ) (e : TxEntry) → slice_get part k ≡ Some e → slice_get (map entry_bytes part) k ≡ Some (entry_bytes e)
+leaf_at part k e at = slice_get-map entry_bytes part k ∙ ap (option_map entry_bytes) at
+
 module _ (h : List ℕ → List ℕ) (i : Image) (is : IsImage i) (chain : chain_fault h i ≡ None) (blocks : block_fault h i ≡ None) where
   -- the records from a block to that of a digest lead to it
   pub parts_lead : (d : HeldDigest) (j : ℕ) → DigestHolds h i d → j ≤ d.block → LeadTo h j (drop j (blocks_to i d.block)) d
@@ -47,10 +51,6 @@ module _ (h : List ℕ → List ℕ) (i : Image) (is : IsImage i) (chain : chain
         reach = omega (arith, le, within, t, l);
         hash = last_of_part h j d.block no_hash i.blocks le within ∙ sym holds.hash;
       }
-
-  -- the leaf of an entry at its place in the block
-  leaf_at : (part : List TxEntry) (k : ℕ) (e : TxEntry) → slice_get part k ≡ Some e → slice_get (map entry_bytes part) k ≡ Some (entry_bytes e)
-  leaf_at part k e at = slice_get-map entry_bytes part k ∙ ap (option_map entry_bytes) at
 
   -- the path of a place in a block leads to its root
   pub path_shows : (j k : ℕ) (e : TxEntry) → (b : HasBlock h i.blocks i.entries j) → slice_get (part_at i.blocks i.entries j) k ≡ Some e

@@ -1,4 +1,5 @@
 pub mod Accepted
+pub mod Hashed
 pub mod Made
 pub mod Settles
 pub mod Tests

@@ -1,2 +1,3 @@
 pub mod AcceptedRows
+pub mod Hashed
 pub mod RowsMade

@@ -100,7 +100,8 @@ pub record Checks (ended : Status) (h : List ℕ → List ℕ) (receipt digests 
 -- ---- what Yes shows
 
 -- the receipt under the name is accepted with a digest under the other, and no image that `verify` accepts with this
--- digest contradicts what it shows, or two different strings of bytes have one hash
+-- digest contradicts what it shows, or two different strings of bytes have one hash, of which the first is hashed where
+-- the receipt is checked and the second where the image is verified
 pub record ShowsClaim (h : List ℕ → List ℕ) (receipt digests : List ℕ) (names : Option Names) : Type 0 where
   pub checked : IsChecked h receipt digests names true
   pub each : EachImageShows h checked.such.r checked.such.is.d checked.such.held checked.such.is.accepted

@@ -75,11 +75,12 @@ use std::thread::Threads;
 /// with the reply that the journal keeps, and each transaction leaves a start or an end of a version, the
 /// journal is legal: then its image goes under `NAME.img`, its own bytes under `NAME.journal`, and the
 /// number of its transactions is written. Whoever has digests of blocks that the journal closed gets `Yes`
-/// for that image.
+/// for that image, where it has at most 256 MiB.
 ///
 /// `upgrade IMAGE --save NAME` reads what stands under the name of an image, in version 2 or in version 1, and puts
 /// the same image in version 2 under `NAME.img`, and writes `upgraded`. With every list of digests `verify` says the
-/// same of both. It verifies nothing: where the bytes are an image of neither version, the status is `NotImage`.
+/// same of both, where the new one too has at most 256 MiB: version 2 may be longer. It verifies nothing: where the
+/// bytes are an image of neither version, the status is `NotImage`.
 ///
 /// `extract HONEST SUSPECT DIGESTS` reads what stands under the three names and verifies both images with the
 /// digests. Where the honest one isn't accepted it writes `honest: ` and the line of the verdict, and else
@@ -104,7 +105,8 @@ use std::thread::Threads;
 /// status is `Done`; else `No receipt`, and the status is `No`. A chain is held against the other digests too. After
 /// `Yes` each image that is accepted with this digest has the receipt's entry at its place, just the events of it in
 /// the table that a receipt has all of, the event that one has, and the block of each digest that a chain joins; or
-/// SHA-256 has a collision. It puts nothing and reads no input.
+/// SHA-256 has a collision of a string of bytes that is hashed where the receipt is checked with one that is hashed
+/// where the image is verified. It puts nothing and reads no input.
 ///
 /// `asof IMAGE N` reads what stands under the name and verifies the image, with the digests under another name where
 /// `--digests DIGESTS` is given, and with none where it isn't. Where the verdict is No it writes the line of the verdict,
@@ -244,7 +246,8 @@ pub fn ledgerd<S: Source, K: Sink, V: Vault, C: Clock, G: Gate, R: Threads + Wai
         → PutsReceipt sha256 image digests wanted save (V.names vault.old) (V.names vault.new)) }
 
     // `check`: the line of what is said of the receipt under the name, of whatever kind, by the status; and after
-    // `Yes` no image that is accepted with the digest contradicts it, or SHA-256 has a collision.
+    // `Yes` no image that is accepted with the digest contradicts it, or SHA-256 has a collision of what is hashed
+    // of the receipt and of the image.
     ensures checked { OfCheck (command_of (map string_bytes words.now))
         (λ receipt digests. SaidOrIdle result
         (Checks result sha256 receipt digests

@@ -5,17 +5,18 @@ ghost use Rattle.cli_words.specs.Help.{help_of};
 use crate::subcommand::Subcommand;
 
 /// What stands on standard error where the words were refused.
-pub const USAGE: &str = "usage: ledgerd step --save NAME [--block-size N] [--clock T] [--database D]
-       ledgerd run --save NAME [--block-size N] [--clock T] [--database D]
-       ledgerd verify IMAGE DIGESTS [--workers W]
-       ledgerd extract HONEST SUSPECT DIGESTS
-       ledgerd replay JOURNAL --save NAME
-       ledgerd upgrade IMAGE --save NAME
-       ledgerd receipt IMAGE DIGESTS TX [--table ID [--event N]] --save NAME
-       ledgerd join IMAGE DIGESTS --save NAME
-       ledgerd check RECEIPT DIGESTS
-       ledgerd asof IMAGE N [--digests DIGESTS]
-       ledgerd gen COUNT
+pub const USAGE: &str = "usage: ledgerd [--quiet] COMMAND, which is one of these:
+       step --save NAME [--block-size N] [--clock T] [--database D]
+       run --save NAME [--block-size N] [--clock T] [--database D]
+       verify IMAGE DIGESTS [--workers W]
+       extract HONEST SUSPECT DIGESTS
+       replay JOURNAL --save NAME
+       upgrade IMAGE --save NAME
+       receipt IMAGE DIGESTS TX [--table ID [--event N]] --save NAME
+       join IMAGE DIGESTS --save NAME
+       check RECEIPT DIGESTS
+       asof IMAGE N [--digests DIGESTS]
+       gen COUNT
 `./ledgerd --help` says what each does.
 ";
 
@@ -27,6 +28,7 @@ pub const VERSION: &str = "ledgerd 0.1.0 (logic dac8208d650f15bf)
 pub const HELP: &str = "ledgerd runs statements over ledger tables in memory, and verifies images of
 them.
 
+  ledgerd [--quiet] COMMAND     does one of these, with what it is given:
   ledgerd step --save NAME      runs statements of sessions, one after another,
                                 and saves what is left
   ledgerd run --save NAME       runs sessions side by side, and saves the same
@@ -82,7 +84,8 @@ Example, from the top of the repository:
 ";
 
 /// Help on `step`.
-pub const STEP_HELP: &str = "ledgerd step --save NAME [--block-size N] [--clock T] [--database D]
+pub const STEP_HELP: &str =
+    "ledgerd [--quiet] step --save NAME [--block-size N] [--clock T] [--database D]
 
 Runs the statements of standard input, `session: statement` on each line, one
 after another, and prints what each was answered. It puts in the current folder
@@ -114,7 +117,8 @@ Example, from the top of the repository:
 ";
 
 /// Help on `run`.
-pub const RUN_HELP: &str = "ledgerd run --save NAME [--block-size N] [--clock T] [--database D]
+pub const RUN_HELP: &str =
+    "ledgerd [--quiet] run --save NAME [--block-size N] [--clock T] [--database D]
 
 Runs the sections of standard input and prints what their statements were
 answered. The lines behind `-- setup`, the first section, are run first, in
@@ -145,7 +149,7 @@ seats.journal:
 ";
 
 /// Help on `verify`.
-pub const VERIFY_HELP: &str = "ledgerd verify IMAGE DIGESTS [--workers W]
+pub const VERIFY_HELP: &str = "ledgerd [--quiet] verify IMAGE DIGESTS [--workers W]
 
 Prints `Yes` where the image IMAGE and the digests DIGESTS hold together, and
 ends with status 0. Where they don't it prints `No`, the first invariant that
@@ -159,7 +163,7 @@ Example, from the top of the repository:
 ";
 
 /// Help on `extract`.
-pub const EXTRACT_HELP: &str = "ledgerd extract HONEST SUSPECT DIGESTS
+pub const EXTRACT_HELP: &str = "ledgerd [--quiet] extract HONEST SUSPECT DIGESTS
 
 Verifies the images HONEST and SUSPECT with the digests DIGESTS, and prints the
 verdict on the first of them that isn't accepted. Where both are, it prints
@@ -172,7 +176,7 @@ Example, from the top of the repository:
 ";
 
 /// Help on `replay`.
-pub const REPLAY_HELP: &str = "ledgerd replay JOURNAL --save NAME
+pub const REPLAY_HELP: &str = "ledgerd [--quiet] replay JOURNAL --save NAME
 
 Runs the journal in the file JOURNAL again, as `step` and `run` save one, and
 prints how many transactions it has. Where each statement is answered as the
@@ -184,7 +188,7 @@ Example, from the top of the repository, behind that of `step`:
 ";
 
 /// Help on `upgrade`.
-pub const UPGRADE_HELP: &str = "ledgerd upgrade IMAGE --save NAME
+pub const UPGRADE_HELP: &str = "ledgerd [--quiet] upgrade IMAGE --save NAME
 
 Reads the image IMAGE, of version 1 or 2, puts NAME.img, the same image in
 version 2, in the current folder, and prints `upgraded`. It verifies nothing,
@@ -197,7 +201,7 @@ Example, from the top of the repository:
 
 /// Help on `receipt`.
 pub const RECEIPT_HELP: &str =
-    "ledgerd receipt IMAGE DIGESTS TX [--table ID [--event N]] --save NAME
+    "ledgerd [--quiet] receipt IMAGE DIGESTS TX [--table ID [--event N]] --save NAME
 
 Verifies the image IMAGE with the digests DIGESTS, and prints the verdict where
 it is No. Else it puts NAME.receipt in the current folder and prints `receipt`
@@ -215,7 +219,7 @@ Example, from the top of the repository:
 ";
 
 /// Help on `join`.
-pub const JOIN_HELP: &str = "ledgerd join IMAGE DIGESTS --save NAME
+pub const JOIN_HELP: &str = "ledgerd [--quiet] join IMAGE DIGESTS --save NAME
 
 Verifies the image IMAGE with the digests DIGESTS, and prints the verdict where
 it is No. Else it puts NAME.chain in the current folder, the records of the
@@ -229,7 +233,7 @@ Example, from the top of the repository:
 ";
 
 /// Help on `check`.
-pub const CHECK_HELP: &str = "ledgerd check RECEIPT DIGESTS
+pub const CHECK_HELP: &str = "ledgerd [--quiet] check RECEIPT DIGESTS
 
 Prints `Yes` where the receipt RECEIPT holds with the first of the digests
 DIGESTS that is of its last block, and ends with status 0: no image that
@@ -245,7 +249,7 @@ Example, from the top of the repository, behind that of `receipt`:
 ";
 
 /// Help on `asof`.
-pub const ASOF_HELP: &str = "ledgerd asof IMAGE N [--digests DIGESTS]
+pub const ASOF_HELP: &str = "ledgerd [--quiet] asof IMAGE N [--digests DIGESTS]
 
 Answers SELECTs over the database as it was behind the first N transactions of
 the image IMAGE, in ledger order: the N of `committed .. at N`. It reads a text
@@ -267,7 +271,7 @@ Example, from the top of the repository:
 ";
 
 /// Help on `gen`.
-pub const GEN_HELP: &str = "ledgerd gen COUNT
+pub const GEN_HELP: &str = "ledgerd [--quiet] gen COUNT
 
 Runs four sessions side by side, each of which inserts COUNT rows into a table
 of its own and changes every tenth; then closes the ledger, issues a digest and

@@ -24,6 +24,8 @@ enum Fault {
     NotGiven,
     NoCommand,
     NoOption,
+    /// It stands before a command, if anywhere.
+    BeforeCommand,
     NoValue,
     GivenTwice,
     TooMany,
@@ -169,6 +171,15 @@ fn value_fault<'a>(option: Option<&'a str>, name: &str, word: &'a str) -> Option
     })
 }
 
+/// Why a command has no option of this name.
+fn no_option(name: &str) -> Fault {
+    if name == "quiet" {
+        Fault::BeforeCommand
+    } else {
+        Fault::NoOption
+    }
+}
+
 /// What is wrong with an option, whose text stands behind its two hyphens, and which these words stand before.
 fn option_fault<'a>(
     which: Subcommand,
@@ -181,7 +192,7 @@ fn option_fault<'a>(
         None => (text, None),
     };
     if !has_option(which, name) {
-        return of_option(name, Fault::NoOption);
+        return of_option(name, no_option(name));
     }
     if is_given(before, name) {
         return of_option(name, Fault::GivenTwice);
@@ -303,6 +314,7 @@ impl fmt::Display for Fault {
             Fault::NotGiven => f.write_str("not given"),
             Fault::NoCommand => f.write_str("no command; `ledgerd help` has them"),
             Fault::NoOption => f.write_str("no option of this command"),
+            Fault::BeforeCommand => f.write_str("stands before the command"),
             Fault::NoValue => f.write_str("no value behind it"),
             Fault::GivenTwice => f.write_str("given twice"),
             Fault::TooMany => f.write_str("one word too many"),

@@ -21,9 +21,10 @@ use Rattle.sql_types.specs.declared.journal.Journal.{Journal}
 use Rattle.sql_types.specs.declared.journal.JournalItem.{JournalItem}
 use Rattle.sql_types.specs.declared.journal.JournalItem.TheVariants.{Tx, Close}
 use Rattle.format_journal.specs.Journal.{statement_bytes, script_bytes, explicit_bytes, item_bytes, items_bytes, journal_bytes}
+use Rattle.sql_types.specs.Versions.{is_version}
 use Rattle.sql_types.specs.JournalRules.{Line, is_block_size, ids_differ, closes_follow}
 use Rattle.format_journal.specs.Rules.{IsStatement, IsItem, IsJournal}
-use Rattle.format_journal.specs.JournalReading.{text_at, statement_at, script_at, explicit_of, opened_at, Run, is_run, run_at, TxParts, tx_from, tx_at, close_from, close_at, item_behind, item_at, are_consistent, items_at, journal_from, journal_at}
+use Rattle.format_journal.specs.JournalReading.{text_at, statement_at, script_at, explicit_of, opened_at, Run, is_run, run_at, TxParts, tx_from, tx_at, close_from, close_at, item_behind, item_at, are_consistent, items_at, version_at, JournalParts, journal_from, journal_at}
 
 -- ---- statements
 
@@ -214,17 +215,30 @@ items_exact = where_exact (λ (items : List JournalItem). (length items < 2 ^ 64
 abbrev FitDatabase : List ℕ → Type 0
 FitDatabase name = is_database_name name ≡ true
 
-abbrev Parts : Type 0
-Parts = List ℕ × List JournalItem
+abbrev FitVersion : ℕ → Type 0
+FitVersion n = (n < 256) × (is_version n ≡ true)
 
-abbrev parts_of : Journal → Parts
-parts_of j = (j.database, j.items)
+abbrev parts_of : Journal → JournalParts
+parts_of j = (j.version, (j.database, j.items))
 
-abbrev FitParts : Parts → Type 0
-FitParts x = FitDatabase x.0 × FitItems x.1
+abbrev FitRest : List ℕ × List JournalItem → Type 0
+FitRest x = FitDatabase x.0 × FitItems x.1
 
-abbrev encode_parts : Parts → List ℕ
-encode_parts x = short_field x.0 ++ items_bytes x.1
+abbrev FitParts : JournalParts → Type 0
+FitParts x = FitVersion x.0 × FitRest x.1
+
+abbrev encode_rest : List ℕ × List JournalItem → List ℕ
+encode_rest x = short_field x.0 ++ items_bytes x.1
+
+abbrev encode_parts : JournalParts → List ℕ
+encode_parts x = u8_field x.0 ++ encode_rest x.1
+
+version_exact : Exact FitVersion u8_field version_at
+unfolding version_at
+version_exact = where_exact (λ (n : ℕ). n < 256) u8_field is_version u8_at u8_exact
+
+small_version : (n : ℕ) → is_version n ≡ true → n < 256
+small_version n e = let same : n ≡ 1 = eqb-true n 1 e in omega (arith, same)
 
 together : (items : List JournalItem) → ids_differ [] items ≡ true → closes_follow 0 items ≡ true
     → are_consistent items ≡ true
@@ -234,25 +248,25 @@ apart : (items : List JournalItem) → are_consistent items ≡ true
     → (ids_differ [] items ≡ true) × (closes_follow 0 items ≡ true)
 apart items e = and_parts (ids_differ [] items) (closes_follow 0 items) e
 
-journal_is : (x : Parts) → FitParts x → IsJournal (journal_from x)
+journal_is : (x : JournalParts) → FitParts x → IsJournal (journal_from x)
 journal_is x f =
-    let a = apart x.1 f.1.1 in
-    record { database = f.0; count = f.1.0.0; items = f.1.0.1; ids = a.0; closes = a.1 }
+    let a = apart x.1.1 f.1.1.1 in
+    record { version = f.0.1; database = f.1.0; count = f.1.1.0.0; items = f.1.1.0.1; ids = a.0; closes = a.1 }
 
 abbrev encoded : Journal → List ℕ
-encoded j = codes "LGJN" ++ (u8_field 1 ++ (short_field j.database ++ items_bytes j.items))
+encoded j = codes "LGJN" ++ (u8_field j.version ++ (short_field j.database ++ items_bytes j.items))
 
 journal_exact : Exact IsJournal encoded journal_at
 unfolding journal_at
-journal_exact = mapped_exact FitParts IsJournal (λ (x : Parts). codes "LGJN" ++ (u8_field 1 ++ encode_parts x)) encoded journal_from parts_of (after (codes "LGJN") (after (u8_field 1) (both database_at items_at)))
+journal_exact = mapped_exact FitParts IsJournal (λ (x : JournalParts). codes "LGJN" ++ encode_parts x) encoded journal_from parts_of (after (codes "LGJN") (both version_at (both database_at items_at)))
     (record {
       there = λ j. refl;
       encoded = λ x. refl;
       fit = journal_is;
-      fit_back = λ j f. (f.database, ((f.count, f.items), together j.items f.ids f.closes));
+      fit_back = λ j f. ((small_version j.version f.version, f.version), (f.database, ((f.count, f.items), together j.items f.ids f.closes)));
     })
-    (after_exact (codes "LGJN") FitParts (λ (x : Parts). u8_field 1 ++ encode_parts x) (after (u8_field 1) (both database_at items_at))
-    (after_exact (u8_field 1) FitParts encode_parts (both database_at items_at)
+    (after_exact (codes "LGJN") FitParts encode_parts (both version_at (both database_at items_at))
+    (both_exact FitVersion FitRest u8_field encode_rest version_at (both database_at items_at) version_exact
     (both_exact FitDatabase FitItems short_field items_bytes database_at items_at database_exact items_exact)))
 
 -- ---- the bytes

@@ -30,6 +30,6 @@ item_bytes (Close k) = u8_field 2 ++ u32_field k
 abbrev pub items_bytes : List JournalItem → List ℕ
 items_bytes items = u64_field (length items) ++ flat_map item_bytes items
 
--- `LGJN`, the number of the format, the database, and the items
+-- `LGJN`, the version, the database, and the items
 unfoldable pub journal_bytes : Journal → List ℕ
-journal_bytes j = codes "LGJN" ++ (u8_field 1 ++ (short_field j.database ++ items_bytes j.items))
+journal_bytes j = codes "LGJN" ++ (u8_field j.version ++ (short_field j.database ++ items_bytes j.items))

@@ -1,12 +1,12 @@
 -- Reading a journal from left to right.
 use Rattle.std.specs.Prelude.{ℕ, Bool, true, false, ◌&&◌, ◌==◌, List, [], Option, Some, None, codes, if◌then◌else◌}
 use Rattle.std.specs.Str.{is_utf8}
-use Rattle.base_fields.specs.Fields.{u8_field}
 use Rattle.base_fields.specs.Forms.{tx_id_at, moment_at, session_at, database_at}
 use Rattle.base_fields.specs.Readers.{Reader, ◌>>=◌, u8_at, u32_at, u64_at, wide_at, after, both, mapped, decoded, where_, listed}
 use Rattle.sql_types.specs.declared.journal.Journal.{Journal}
 use Rattle.sql_types.specs.declared.journal.JournalItem.{JournalItem}
 use Rattle.sql_types.specs.declared.journal.JournalItem.TheVariants.{Tx, Close}
+use Rattle.sql_types.specs.Versions.{is_version}
 use Rattle.sql_types.specs.JournalRules.{Line, is_alone, is_block_size, ids_differ, closes_follow}
 
 -- the text of a statement or of a reply, if it is UTF-8
@@ -83,10 +83,18 @@ items_at = where_ are_consistent (listed u64_at item_at)
 
 -- ---- the journal
 
--- the journal of a database and its items
-abbrev pub journal_from : List ℕ × List JournalItem → Journal
-journal_from x = record { database = x.0; items = x.1 }
+-- the version in a byte, if there is such a version
+unfoldable pub version_at : Reader ℕ
+version_at = where_ is_version u8_at
+
+-- version, database and items
+abbrev pub JournalParts : Type 0
+JournalParts = ℕ × (List ℕ × List JournalItem)
+
+-- the journal of these parts
+abbrev pub journal_from : JournalParts → Journal
+journal_from x = record { version = x.0; database = x.1.0; items = x.1.1 }
 
 -- the head and the items
 unfoldable pub journal_at : Reader Journal
-journal_at = mapped journal_from (after (codes "LGJN") (after (u8_field 1) (both database_at items_at)))
+journal_at = mapped journal_from (after (codes "LGJN") (both version_at (both database_at items_at)))

@@ -6,6 +6,7 @@ use Rattle.base_types.specs.DatabaseName.{is_database_name}
 use Rattle.sql_types.specs.declared.journal.Journal.{Journal}
 use Rattle.sql_types.specs.declared.journal.JournalItem.{JournalItem}
 use Rattle.sql_types.specs.declared.journal.JournalItem.TheVariants.{Tx, Close}
+use Rattle.sql_types.specs.Versions.{is_version}
 use Rattle.sql_types.specs.JournalRules.{Line, TxRules, is_block_size, ids_differ, closes_follow}
 
 -- UTF-8, as long as 8 bytes can tell
@@ -40,6 +41,7 @@ IsItem (Close k) = is_block_size k ≡ true
 
 -- a journal that has a spelling
 pub record IsJournal (j : Journal) : Type 0 where
+  pub version : is_version j.version ≡ true
   pub database : is_database_name j.database ≡ true
   pub count : length j.items < 2 ^ 64
   pub items : AllByRecursion IsItem j.items

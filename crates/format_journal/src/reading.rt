@@ -6,7 +6,7 @@ ghost use Rattle.base_fields.specs.Reading.{Finds, ReadsAs};
 ghost use Rattle.sql_types.specs.declared.journal.Journal.{Journal};
 ghost use Rattle.format_journal.specs.Journal.{journal_bytes};
 ghost use Rattle.format_journal.specs.Rules.{IsJournal};
-ghost use Rattle.format_journal.specs.JournalReading.{journal_at, items_at, item_at, item_behind, tx_at, close_at, run_at, opened_at, script_at, statement_at, text_at};
+ghost use Rattle.format_journal.specs.JournalReading.{journal_at, version_at, items_at, item_at, item_behind, tx_at, close_at, run_at, opened_at, script_at, statement_at, text_at};
 
 use crate::rules::{closes_follow, ids_differ};
 use base_fields::{
@@ -14,7 +14,7 @@ use base_fields::{
     wide_at,
 };
 use base_types::{Items, Memory, Text};
-use sql_types::{Journal, JournalItem, MAX_BLOCK, Script};
+use sql_types::{JOURNAL_VERSION, Journal, JournalItem, MAX_BLOCK, Script};
 use std::alloc::Global;
 
 /// The journal whose bytes these are, all of them, or None exactly where they are those of no journal that
@@ -34,10 +34,26 @@ fn journal_at(alloc: Global, bytes: &[u8]) -> Result<(Journal, &[u8]), ReadError
     ensures { ReadsAs (λ x. (x.0, x.1.now)) result (journal_at bytes.now) }
 {
     let rest = literal(b"LGJN", bytes)?;
-    let rest = literal(&[1], rest)?;
+    let (version, rest) = version_at(rest)?;
     let (database, rest) = database_at(alloc, rest)?;
     let (items, rest) = items_at(alloc, rest)?;
-    Ok((Journal { database, items }, rest))
+    let journal = Journal {
+        version,
+        database,
+        items,
+    };
+    Ok((journal, rest))
+}
+
+#[tactic(auto, unfolding(crate::specs::JournalReading::version_at))]
+fn version_at(bytes: &[u8]) -> Result<(u8, &[u8]), ReadError>
+    ensures { Finds (λ x. (x.0, x.1.now)) result (version_at bytes.now) }
+{
+    let (version, rest) = u8_at(bytes)?;
+    if version != JOURNAL_VERSION {
+        return Err(ReadError::Malformed);
+    }
+    Ok((version, rest))
 }
 
 #[tactic(auto, unfolding(crate::specs::JournalReading::items_at))]

@@ -18,7 +18,7 @@ pub fn write_journal(alloc: Global, journal: &Journal) -> Result<Vec<u8>, Memory
 {
     let mut out = Vec::new(alloc);
     out.extend_from_slice(b"LGJN")?;
-    put_u8(&mut out, 1)?;
+    put_u8(&mut out, journal.version)?;
     put_short(&mut out, journal.database.bytes())?;
     put_items(journal.items.as_slice(), &mut out)?;
     Ok(out)

@@ -44,6 +44,8 @@ module _ (tx seq : ℕ) (T : Tables) (ids : IdsFrom 1 (defs_of T)) (h : AllForme
   creating stmt false e = subst AllFormed (sym (defs_after T tx seq stmt e)) h
   creating (s.Create c) true e = table_formed c (create_check (defs_of T) c) refl
   creating (s.Index c) true e = index_formed c (index_check (defs_of T) c) refl
+  creating (s.Alter altered) true e = cc
+  creating (s.Drop name) true e = cc
   creating (s.Change stmt) true e = cc
   creating (s.Select q) true e = cc
   creating s.Begin true e = cc

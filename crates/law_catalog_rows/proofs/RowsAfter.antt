@@ -200,6 +200,8 @@ module _ (tx seq : ℕ) (a b : Table) (ts : Tables) (ids : IdsFrom 1 (defs_of (a
   unfolding effect
   each_keeps_rows (s.Create c) = table_keeps_rows c (create_check (defs_of T) c) refl
   each_keeps_rows (s.Index c) = index_keeps_rows c (index_check (defs_of T) c) refl
+  each_keeps_rows (s.Alter altered) = h
+  each_keeps_rows (s.Drop name) = h
   each_keeps_rows (s.Change stmt) = rows_keeps_rows stmt (row_statement_check (defs_of T) stmt) refl
   each_keeps_rows (s.Select q) = query_keeps_rows q (query_check (defs_of T) q)
   each_keeps_rows s.Begin = h

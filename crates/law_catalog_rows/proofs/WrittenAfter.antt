@@ -151,6 +151,8 @@ module _ (tx seq : ℕ) (T : Tables) (ids : IdsFrom 1 (defs_of T)) (h : AllWritt
   creating stmt false e w = subst AllWritten (sym (defs_after T tx seq stmt e)) h
   creating (s.Create c) true e w = table_written c (create_check (defs_of T) c) refl w
   creating (s.Index c) true e w = indexed_written c (index_check (defs_of T) c) refl w
+  creating (s.Alter altered) true e w = cc
+  creating (s.Drop name) true e w = cc
   creating (s.Change stmt) true e w = cc
   creating (s.Select q) true e w = cc
   creating s.Begin true e w = cc

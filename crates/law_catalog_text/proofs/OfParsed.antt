@@ -42,6 +42,8 @@ parsed_written (s.Create c) p = record {
   view = if_written c.view p.4;
 }
 parsed_written (s.Index c) p = record { name = name_written c.name p.0; some_columns = some IsName c.columns p.2 }
+parsed_written (s.Alter altered) p = tt
+parsed_written (s.Drop name) p = tt
 parsed_written (s.Change x) p = tt
 parsed_written (s.Select q) p = tt
 parsed_written s.Begin p = tt

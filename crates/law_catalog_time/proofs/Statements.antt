@@ -236,6 +236,8 @@ change_set_elsewhere : (T : Tables) (stmt : Stmt) → IdsFrom 1 (defs_of T) → 
 unfolding change_set
 change_set_elsewhere T (s.Create c) ids = table_elsewhere T c (create_check (defs_of T) c) ids refl
 change_set_elsewhere T (s.Index c) ids = index_elsewhere T (index_check (defs_of T) c)
+change_set_elsewhere T (s.Alter altered) ids = tt
+change_set_elsewhere T (s.Drop name) ids = tt
 change_set_elsewhere T (s.Change stmt) ids = change_elsewhere T stmt (row_statement_check (defs_of T) stmt) refl
 change_set_elsewhere T (s.Select q) ids = query_elsewhere T q (query_check (defs_of T) q)
 change_set_elsewhere T s.Begin ids = tt

@@ -134,6 +134,8 @@ module _ (reads : Reading) (T : Tables) (tx : ℕ) (texts : List (List ℕ)) (so
     unfolding request.cell_requests
     in_cell (s.Create c) e = tt
     in_cell (s.Index c) e = tt
+    in_cell (s.Alter altered) e = tt
+    in_cell (s.Drop name) e = tt
     in_cell (s.Change stmt) e = in_row_cell stmt (row_statement_check (defs_of T) stmt) e
     in_cell (s.Select q) e = in_query_cell q (query_check (defs_of T) q) e
     in_cell s.Begin e = tt

@@ -134,6 +134,8 @@ pub carries_change_set_out : (T : Tables) (tx seq : ℕ) (stmt : Stmt) → effec
 unfolding effect change_set
 carries_change_set_out T tx seq (s.Create c) = table_carried_out T tx seq (create_check (defs_of T) c)
 carries_change_set_out T tx seq (s.Index c) = index_carried_out T tx seq (index_check (defs_of T) c)
+carries_change_set_out T tx seq (s.Alter altered) = unchanged T seq _
+carries_change_set_out T tx seq (s.Drop name) = unchanged T seq _
 carries_change_set_out T tx seq (s.Change stmt) = change_carried_out T tx seq stmt (row_statement_check (defs_of T) stmt)
 carries_change_set_out T tx seq (s.Select q) = query_carried_out T tx seq q (query_check (defs_of T) q)
 carries_change_set_out T tx seq s.Begin = unchanged T seq _

@@ -104,6 +104,8 @@ module _ (tx : ℕ) (T : Tables) where
   unfolding rolls_back_to
   by_explicit x cs (s.Create c) h = unmoved x cs h
   by_explicit x cs (s.Index c) h = unmoved x cs h
+  by_explicit x cs (s.Alter altered) h = unmoved x cs h
+  by_explicit x cs (s.Drop name) h = unmoved x cs h
   by_explicit x cs (s.Change stmt) h = changed x cs (s.Change stmt) refl h
   by_explicit x cs (s.Select q) h = changed x cs (s.Select q) refl h
   by_explicit x cs s.Begin h = unmoved x cs h

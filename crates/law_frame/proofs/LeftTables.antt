@@ -143,6 +143,8 @@ module _ (tx seq : ℕ) (T : Tables) (id : ℕ) where
   unfolding change_set request.cell_requests
   by_change_set (s.Create c) h = table_left id tx seq T (create_check (defs_of T) c) (or_false (catalog_reaches id (Some X)) false h).0
   by_change_set (s.Index c) h = index_left id tx seq T (index_check (defs_of T) c) (or_false (catalog_reaches id (Some X)) false h).0
+  by_change_set (s.Alter altered) h = refl
+  by_change_set (s.Drop name) h = refl
   by_change_set (s.Change stmt) h = ap (λ (U : Tables). versions_of U id) (change_definition stmt (row_statement_check (defs_of T) stmt)) ∙ change_left stmt (row_statement_check (defs_of T) stmt) h
   by_change_set (s.Select q) h = query_left id tx seq T q (query_check (defs_of T) q)
   by_change_set s.Begin h = refl
@@ -193,6 +195,8 @@ module _ (tx seq : ℕ) (T : Tables) (id : ℕ) where
     unfolding change_set request.cell_requests
     by_change_set_key (s.Create c) h = ap (of_key (columns_at (defs_of T) id) key) (table_left id tx seq T (create_check (defs_of T) c) (or_false (catalog_reaches id (Some X)) false h).0)
     by_change_set_key (s.Index c) h = ap (of_key (columns_at (defs_of T) id) key) (index_left id tx seq T (index_check (defs_of T) c) (or_false (catalog_reaches id (Some X)) false h).0)
+    by_change_set_key (s.Alter altered) h = refl
+    by_change_set_key (s.Drop name) h = refl
     by_change_set_key (s.Change stmt) h = subst Left (sym (change_definition stmt (row_statement_check (defs_of T) stmt))) (change_key stmt (row_statement_check (defs_of T) stmt) refl h)
     by_change_set_key (s.Select q) h = ap (of_key (columns_at (defs_of T) id) key) (query_left id tx seq T q (query_check (defs_of T) q))
     by_change_set_key s.Begin h = refl

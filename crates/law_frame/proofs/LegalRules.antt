@@ -67,6 +67,7 @@ module _ (reads : Reading) where
 
   pub legal_rules : (j : Journal) → IsLegalJournal reads j → JournalRules j
   legal_rules j h = record {
+    version = h.version;
     database = h.database;
     items = h.items;
     ids = legal_ids j.items h.legal;

@@ -157,6 +157,8 @@ or_no false c e f = f
 no_catalog : (id : ℕ) (b : Stmt) → catalog_reaches id (request.catalog_request true b) ≡ false
 no_catalog id (s.Create c) = refl
 no_catalog id (s.Index c) = refl
+no_catalog id (s.Alter altered) = refl
+no_catalog id (s.Drop name) = refl
 no_catalog id (s.Change stmt) = refl
 no_catalog id (s.Select q) = refl
 no_catalog id s.Begin = refl
@@ -184,6 +186,8 @@ module _ (defs : Defs) (id : ℕ) where
   unfolding request.cell_requests
   system_cell (s.Create c) le = refl
   system_cell (s.Index c) le = refl
+  system_cell (s.Alter altered) le = refl
+  system_cell (s.Drop name) le = refl
   system_cell (s.Change stmt) le = system_row stmt (row_statement_check defs stmt) refl le
   system_cell (s.Select q) le = query_table q (query_check defs q)
   system_cell s.Begin le = refl
@@ -222,6 +226,8 @@ module _ (defs : Defs) (id : ℕ) where
       unfolding request.cell_requests
       key_cell (s.Create c) h = refl
       key_cell (s.Index c) h = refl
+      key_cell (s.Alter altered) h = refl
+      key_cell (s.Drop name) h = refl
       key_cell (s.Change stmt) h = key_row stmt (row_statement_check defs stmt) h
       key_cell (s.Select q) h = key_query q (query_check defs q)
       key_cell s.Begin h = refl
@@ -254,6 +260,8 @@ module _ (defs : Defs) (id : ℕ) where
       unfolding request.cell_requests
       whole_cell (s.Create c) h = refl
       whole_cell (s.Index c) h = refl
+      whole_cell (s.Alter altered) h = refl
+      whole_cell (s.Drop name) h = refl
       whole_cell (s.Change stmt) h = whole_row stmt (row_statement_check defs stmt) h
       whole_cell (s.Select q) h = query_table q (query_check defs q)
       whole_cell s.Begin h = refl

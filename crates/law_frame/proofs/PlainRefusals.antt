@@ -453,6 +453,8 @@ module _ (T : Tables) (tx seq : ℕ) where
   unfolding effect
   effect_reply (s.Create c) = table_reply (create_check (defs_of T) c) (creation (defs_of T) c)
   effect_reply (s.Index c) = index_reply (index_check (defs_of T) c) (indexing (defs_of T) c)
+  effect_reply (s.Alter altered) = tt
+  effect_reply (s.Drop name) = tt
   effect_reply (s.Change stmt) = row_reply stmt (row_statement_check (defs_of T) stmt) (row_statement (defs_of T) stmt)
   effect_reply (s.Select q) = query_reply q (query_check (defs_of T) q) (query (defs_of T) q)
   effect_reply s.Begin = tt

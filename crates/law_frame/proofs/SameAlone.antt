@@ -80,6 +80,8 @@ module _ (T U : Tables) (tx : ℕ) (sound : Sound tx 0 T) (sound_too : Sound tx 
   alone_end : (stmt : Stmt) → AgreeFor T U (requests_of (defs_of T) false stmt) → SameEnd (alone tx (start T) stmt) (alone tx (start U) stmt)
   alone_end (s.Create c) a = effect_end (s.Create c) a
   alone_end (s.Index c) a = effect_end (s.Index c) a
+  alone_end (s.Alter altered) a = record { reply = refl; seq = refl }
+  alone_end (s.Drop name) a = record { reply = refl; seq = refl }
   alone_end (s.Change stmt) a = effect_end (s.Change stmt) a
   alone_end (s.Select q) a = effect_end (s.Select q) a
   alone_end s.Begin a = record { reply = refl; seq = refl }
@@ -97,6 +99,8 @@ module _ (T U : Tables) (tx : ℕ) (sound : Sound tx 0 T) (sound_too : Sound tx 
   own_changes None a = refl
   own_changes (Some (s.Create c)) a = ap (λ (p : ChangeSet). p.changes) (same_change_set T U sound.ids (s.Create c) a)
   own_changes (Some (s.Index c)) a = ap (λ (p : ChangeSet). p.changes) (same_change_set T U sound.ids (s.Index c) a)
+  own_changes (Some (s.Alter altered)) a = refl
+  own_changes (Some (s.Drop name)) a = refl
   own_changes (Some (s.Change stmt)) a = ap (λ (p : ChangeSet). p.changes) (same_change_set T U sound.ids (s.Change stmt) a)
   own_changes (Some (s.Select q)) a = ap (λ (p : ChangeSet). p.changes) (same_change_set T U sound.ids (s.Select q) a)
   own_changes (Some s.Begin) a = refl
@@ -129,6 +133,8 @@ module _ (T U : Tables) (tx : ℕ) (sound : Sound tx 0 T) (sound_too : Sound tx 
   unfolding cell_requests
   own_versions reads (s.Create c) a = λ id. system_or_not (s.Create c) (same_catalog (s.Create c) a.catalog a) id (id == tables_id) (id == columns_id) refl refl (λ D. refl)
   own_versions reads (s.Index c) a = λ id. system_or_not (s.Index c) (same_catalog (s.Index c) a.catalog a) id (id == tables_id) (id == columns_id) refl refl (λ D. refl)
+  own_versions reads (s.Alter altered) a = none_yet
+  own_versions reads (s.Drop name) a = none_yet
   own_versions reads (s.Change x) a = only_change (s.Change x) reads refl a.catalog a
   own_versions reads (s.Select q) a = only_change (s.Select q) reads refl a.catalog a
   own_versions reads s.Begin a = none_yet
@@ -147,6 +153,8 @@ module _ (T U : Tables) (tx : ℕ) (sound : Sound tx 0 T) (sound_too : Sound tx 
   none_saved V None = refl
   none_saved V (Some (s.Create c)) = refl
   none_saved V (Some (s.Index c)) = refl
+  none_saved V (Some (s.Alter altered)) = refl
+  none_saved V (Some (s.Drop name)) = refl
   none_saved V (Some (s.Change x)) = refl
   none_saved V (Some (s.Select q)) = refl
   none_saved V (Some s.Begin) = refl
@@ -188,6 +196,8 @@ module _ (T U : Tables) (tx : ℕ) (sound : Sound tx 0 T) (sound_too : Sound tx 
         created : (x : Stmt) → creates x ≡ true → AgreeFor T U (requests_of (defs_of T) false x) → SameCatalog (alone tx (start T) x).0.tables (alone tx (start U) x).0.tables
         created (s.Create c) i b = same_catalog (s.Create c) b.catalog b
         created (s.Index c) i b = same_catalog (s.Index c) b.catalog b
+        created (s.Alter altered) i b = cc
+        created (s.Drop name) i b = cc
         created (s.Change y) i b = cc
         created (s.Select q) i b = cc
         created s.Begin i b = cc
@@ -205,6 +215,8 @@ module _ (T U : Tables) (tx : ℕ) (sound : Sound tx 0 T) (sound_too : Sound tx 
       kept_agree : (stmt : Stmt) → creates stmt ≡ false → AgreeFor T U (requests_of (defs_of T) false stmt) → AllByRecursion (AgreeFor (alone tx (start T) stmt).0.tables (alone tx (start U) stmt).0.tables) ws
       kept_agree (s.Create c) k a = cc
       kept_agree (s.Index c) k a = cc
+      kept_agree (s.Alter altered) k a = agree
+      kept_agree (s.Drop name) k a = agree
       kept_agree (s.Change x) k a = (effects reads tx (defs_of T) ws 0 T U (s.Change x) refl a.catalog alike a).tables.agree
       kept_agree (s.Select q) k a = (effects reads tx (defs_of T) ws 0 T U (s.Select q) refl a.catalog alike a).tables.agree
       kept_agree s.Begin k a = agree

@@ -139,6 +139,8 @@ module _ (T U : Tables) (ids : IdsFrom 1 (defs_of T)) where
   unfolding change_set request.cell_requests
   same_change_set (s.Create c) a = ap (λ defs. create_table_change_set (create_check defs c)) a.catalog.definitions
   same_change_set (s.Index c) a = ap (λ defs. create_index_change_set (index_check defs c)) a.catalog.definitions
+  same_change_set (s.Alter altered) a = refl
+  same_change_set (s.Drop name) a = refl
   same_change_set (s.Change stmt) a =
       by_check stmt (row_statement_check (defs_of T) stmt) refl a.cell
       ∙ ap (λ defs. row_stmt_change_set U stmt (row_statement_check defs stmt)) a.catalog.definitions

@@ -156,6 +156,8 @@ module _ (reads : Reading) (tx : ℕ) (D : Defs) (ws : List LockRequests) where
   unfolding rolls_back_to
   opened_both x y (s.Create c) h a = same_step x y _ h
   opened_both x y (s.Index c) h a = same_step x y _ h
+  opened_both x y (s.Alter altered) h a = same_step x y _ h
+  opened_both x y (s.Drop name) h a = same_step x y _ h
   opened_both x y (s.Change stmt) h a = changes_both x y (s.Change stmt) refl a.catalog h (record { catalog = a.catalog; cell = a.cell })
   opened_both x y (s.Select q) h a = changes_both x y (s.Select q) refl a.catalog h (record { catalog = a.catalog; cell = a.cell })
   opened_both x y s.Begin h a = same_step x y _ h
@@ -177,6 +179,8 @@ module _ (reads : Reading) (tx : ℕ) (D : Defs) (ws : List LockRequests) where
   same_changes x y None h a = refl
   same_changes x y (Some (s.Create c)) h a = refl
   same_changes x y (Some (s.Index c)) h a = refl
+  same_changes x y (Some (s.Alter altered)) h a = refl
+  same_changes x y (Some (s.Drop name)) h a = refl
   same_changes x y (Some (s.Change stmt)) h a = ap (λ (p : ChangeSet). p.changes) (own_change_set x y (s.Change stmt) h (record { catalog = a.catalog; cell = a.cell }))
   same_changes x y (Some (s.Select q)) h a = ap (λ (p : ChangeSet). p.changes) (own_change_set x y (s.Select q) h (record { catalog = a.catalog; cell = a.cell }))
   same_changes x y (Some s.Begin) h a = refl

@@ -131,6 +131,8 @@ module _ (tx : ℕ) where
   by_create false seq T stmt e h = kept_sound seq T stmt e h
   by_create true seq T (s.Create c) e h = subst (λ (x : Effect). Sound tx x.seq x.tables) (sym (carries_change_set_out T tx seq (s.Create c))) (table_sound seq T c (create_check (defs_of T) c) refl h)
   by_create true seq T (s.Index c) e h = subst (λ (x : Effect). Sound tx x.seq x.tables) (sym (carries_change_set_out T tx seq (s.Index c))) (index_sound seq T c (index_check (defs_of T) c) refl h)
+  by_create true seq T (s.Alter altered) e h = cc
+  by_create true seq T (s.Drop name) e h = cc
   by_create true seq T (s.Change stmt) e h = cc
   by_create true seq T (s.Select q) e h = cc
   by_create true seq T s.Begin e h = cc

@@ -20,24 +20,26 @@ use Rattle.format_image.specs.ImageBytes.{image_bytes, IsImage, IsSpellingOf}
 use Rattle.spec_protocol.specs.Seats.{KeptImage}
 use Rattle.spec_verify.specs.declared.place.Verdict.TheVariants.{Yes}
 use Rattle.spec_verify.specs.Bytes.{verdict_of}
-use Rattle.audit_extract.specs.Each.{AgreeOnEach, HasCollision}
+use Rattle.audit_extract.specs.Each.{AgreeOnEach}
+use Rattle.audit_extract.specs.Strings.{HasCollisionIn}
 use Rattle.law_kept_images.specs.Accepted.{IsOfCut}
 use Rattle.law_kept_images.specs.Held.{held}
 use Rattle.law_kept_images.specs.LastImage.{last_image}
 use Rattle.law_kept_images.specs.SessionOutput.{IsImageOf, IsMeaning}
-use Rattle.law_headline.specs.Before.{ComesBefore}
+use Rattle.law_headline.specs.Before.{ComesBefore, IsEarlier}
 use Rattle.law_headline.specs.Shown.{AreShown}
 
 -- The bytes are those of an image that has the same covered transactions and row versions as this one, under
--- each of the digests; or two different strings of bytes have one hash.
+-- each of the digests; or two different strings of bytes, hashed at one place of the two images, have one hash.
 pub record IsSameUnder (h : List ℕ → List ℕ) (image : Image) (digests : List HeldDigest) (bytes : List ℕ)
     : Type 0 where
   pub other : Image
   pub is : IsImage other × IsSpellingOf bytes other
-  pub same : AgreeOnEach image other digests ⊎ HasCollision h
+  pub same : AgreeOnEach image other digests ⊎ HasCollisionIn h image other
 
 -- `verify` says Yes of the bytes of this image with these digests; and whatever it says Yes of with them has
--- the same covered transactions and row versions, or two different strings of bytes have one hash.
+-- the same covered transactions and row versions, or two different strings of bytes, hashed at one place of the two
+-- images, have one hash.
 pub record IsBoundBy (h : List ℕ → List ℕ) (image : Image) (digests : List HeldDigest) : Type 0 where
   pub yes : verdict_of h digests (image_bytes image) ≡ Yes
   pub alone : (bytes : List ℕ) → IsBytes bytes → verdict_of h digests bytes ≡ Yes
@@ -65,9 +67,9 @@ pub record Saved : Type 0 where
 
 -- Every saved image is that of its committed transactions run by one thread in ledger order with the replies
 -- given, and `verify` says Yes of it with every digest issued before; and whatever `verify` says Yes of with
--- those digests has the same covered transactions and row versions, or two different strings of bytes have one
--- hash. The input has these sessions, one of which may be a setup; the order is that in which the facts of all
--- transcripts were shown.
+-- those digests has the same covered transactions and row versions, or two different strings of bytes, hashed at one
+-- place of the two images, have one hash. The input has these sessions, one of which may be a setup; the order is
+-- that in which the facts of all transcripts were shown.
 pub record Headline (h : List ℕ → List ℕ) (input : List InputSession) (setup : Option ℕ)
     (InOrder : Meaning → List Fact → Type 0) (s : Saved) : Type 0 where
   -- the journal has the transactions that the transcripts show as committed, with the replies given
@@ -87,3 +89,7 @@ pub record Headline (h : List ℕ → List ℕ) (input : List InputSession) (set
   pub issued_before : (q : Meaning) → IsMeaning h statement_of q → (facts : List Fact) → InOrder q facts
       → (d : Digest) → In d s.G → (items : ℕ) → ComesBefore d.block items facts
       → d.block < blocks (cut s.J.items items)
+  -- so `verify` says Yes of the bytes of each image with any digests that came before it
+  pub yes_with_earlier : (q : Meaning) → IsMeaning h statement_of q → (facts : List Fact) → InOrder q facts
+      → (k : KeptImage) → In k s.images → (digests : List Digest) → Each (IsEarlier s.G k.0 facts) digests
+      → verdict_of h (map held digests) k.1 ≡ Yes

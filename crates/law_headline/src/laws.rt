@@ -32,8 +32,8 @@ use law_kept_images::{images_of_legal_journals_verify, kept_images_are_accepted}
 use law_sequential::digests_before_an_image_are_closed_in_it;
 
 /// Whatever is accepted with digests with which an image is accepted has the same covered transactions and row
-/// versions under each of them, or two different strings of bytes have one hash, whatever hash of 32 bytes it
-/// is.
+/// versions under each of them, or two different strings of bytes, hashed at one place of the two images, have
+/// one hash, whatever hash of 32 bytes it is.
 pub fn accepted_images_are_bound()
     ensures { (h : List ℕ → List ℕ) (i : Image) (digests : List HeldDigest)
         → ((bytes : List ℕ) → length (h bytes) ≡ 32) → IsImage i
@@ -59,9 +59,10 @@ pub fn images_of_legal_journals_are_bound()
 
 /// Every saved image is that of its committed transactions run by one thread in ledger order with the replies
 /// given, and `verify` says Yes of it with every digest issued before; and whatever `verify` says Yes of with
-/// those digests has the same covered transactions and row versions, or two different strings of bytes have one
-/// hash. So it is of a run of lines on one thread, and of sessions side by side, however the turns of sessions
-/// and builder fell, where the image of the whole journal has room in its format.
+/// those digests has the same covered transactions and row versions, or two different strings of bytes, hashed
+/// at one place of the two images, have one hash. So it is of a run of lines on one thread, and of sessions side
+/// by side, however the turns of sessions and builder fell, where the image of the whole journal has room in its
+/// format.
 pub fn saved_images_are_serial_and_tamper_evident<C: Clock>()
     ensures one_thread { (h : List ℕ → List ℕ) (size : ℕ) (names : List Text) (lines : List InputLine)
         (X : List Transcript) (kept : List (List KeptImage)) (images : List KeptImage) (J : Journal)

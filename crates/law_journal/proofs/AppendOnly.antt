@@ -175,6 +175,8 @@ module _ (T : Tables) (tx seq : ℕ) (ids : IdsFrom 1 (defs_of T)) (h : AllKeepR
   unfolding effect
   statement_keeps_rows (s.Create c) = table_keeps (create_check (defs_of T) c)
   statement_keeps_rows (s.Index c) = index_keeps c (index_check (defs_of T) c) refl
+  statement_keeps_rows (s.Alter altered) = h
+  statement_keeps_rows (s.Drop name) = h
   statement_keeps_rows (s.Change stmt) = row_keeps stmt (row_statement_check (defs_of T) stmt) refl
   statement_keeps_rows (s.Select q) = query_keeps q (query_check (defs_of T) q)
   statement_keeps_rows s.Begin = h

@@ -118,6 +118,8 @@ module _ (place : ℕ → ℕ) (tx : ℕ) where
   unfolding change_set
   suits T U (s.Create c) e ids = table_suits U (create_check (defs_of T) c)
   suits T U (s.Index c) e ids = index_suits T U c (index_check (defs_of T) c) e ids refl
+  suits T U (s.Alter altered) e ids = tt
+  suits T U (s.Drop name) e ids = tt
   suits T U (s.Change stmt) e ids = change_suits T U stmt (row_statement_check (defs_of T) stmt)
   suits T U (s.Select q) e ids = query_suits T U q (query_check (defs_of T) q)
   suits T U s.Begin e ids = tt
@@ -273,6 +275,8 @@ module _ (place : ℕ → ℕ) (tx : ℕ) where
   unfolding change_set
   change_set_described seq T (s.Create c) ids d = table_described seq T c (create_check (defs_of T) c) ids refl d
   change_set_described seq T (s.Index c) ids d = index_described seq T c (index_check (defs_of T) c) ids refl d
+  change_set_described seq T (s.Alter altered) ids d = d
+  change_set_described seq T (s.Drop name) ids d = d
   change_set_described seq T (s.Change stmt) ids d = change_described seq T stmt (row_statement_check (defs_of T) stmt) refl d
   change_set_described seq T (s.Select q) ids d = query_described seq T q (query_check (defs_of T) q) d
   change_set_described seq T s.Begin ids d = d

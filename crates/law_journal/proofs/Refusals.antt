@@ -89,6 +89,8 @@ module _ (tx : ℕ) (x : State) (e : Refusal) where
   opened_leaves : (stmt : Stmt) → Leaves x e (in_transaction tx x stmt)
   opened_leaves (s.Create c) is = refl
   opened_leaves (s.Index c) is = refl
+  opened_leaves (s.Alter altered) is = refl
+  opened_leaves (s.Drop name) is = refl
   opened_leaves (s.Change stmt) is = by_change stmt is
   opened_leaves (s.Select q) is = by_select q is
   opened_leaves s.Begin is = refl
@@ -102,6 +104,8 @@ module _ (tx : ℕ) (x : State) (e : Refusal) where
   alone_leaves : (stmt : Stmt) → Leaves x e (alone tx x stmt)
   alone_leaves (s.Create c) is = by_create c is
   alone_leaves (s.Index c) is = by_create_index c is
+  alone_leaves (s.Alter altered) is = refl
+  alone_leaves (s.Drop name) is = refl
   alone_leaves (s.Change stmt) is = by_change stmt is
   alone_leaves (s.Select q) is = by_select q is
   alone_leaves s.Begin is = refl

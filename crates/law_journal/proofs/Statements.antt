@@ -152,6 +152,8 @@ module _ (place : ℕ → ℕ) (tx : ℕ) where
   unfolding change_set
   change_set_fine seq T (s.Create c) k d = table_fine seq T c (create_check (defs_of T) c) k d refl
   change_set_fine seq T (s.Index c) k d = index_fine seq T c (index_check (defs_of T) c) k d refl
+  change_set_fine seq T (s.Alter altered) k d = tt
+  change_set_fine seq T (s.Drop name) k d = tt
   change_set_fine seq T (s.Change stmt) k d = change_fine place tx seq T stmt (row_statement_check (defs_of T) stmt) k refl
   change_set_fine seq T (s.Select q) k d = query_changes_nothing seq T T q (query_check (defs_of T) q)
   change_set_fine seq T s.Begin k d = tt

@@ -1,5 +1,6 @@
 -- The image of a whole journal.
 use Rattle.std.specs.Prelude.{ℕ, List, length}
+use Rattle.sql_types.specs.declared.journal.TheConstants.{JOURNAL_VERSION}
 use Rattle.sql_types.specs.declared.journal.Journal.{Journal}
 use Rattle.sql_types.specs.declared.journal.JournalItem.{JournalItem}
 use Rattle.spec_history.specs.Lists.{Text}
@@ -10,7 +11,7 @@ use Rattle.spec_protocol.specs.Seats.{KeptImage}
 
 -- the journal of a database with these items
 abbrev pub journal_of : Text → List JournalItem → Journal
-journal_of database items = record { database = database; items = items }
+journal_of database items = record { version = JOURNAL_VERSION; database = database; items = items }
 
 -- the bytes of the image to which a journal leads
 abbrev pub last_image_bytes : (List ℕ → List ℕ) → Journal → List ℕ

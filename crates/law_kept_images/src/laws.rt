@@ -1,6 +1,7 @@
 //! Laws of the images that were kept.
 
 ghost use Rattle.std.specs.Prelude.{ℕ, ◌≡◌, List, length, map};
+ghost use Rattle.sql_types.specs.declared.journal.TheConstants.{JOURNAL_VERSION};
 ghost use Rattle.sql_types.specs.declared.digest.Digest.{Digest};
 ghost use Rattle.sql_types.specs.declared.journal.JournalItem.{JournalItem};
 ghost use Rattle.spec_model.specs.LegalJournals.{IsLegalJournal};
@@ -31,27 +32,27 @@ pub fn kept_images_are_accepted()
         (lines : List InputLine) (X : List Transcript) (images : List (List KeptImage))
         (J : List JournalItem) (G : List Digest)
         → RunAgrees h statement_of database size names lines X images J G
-        → IsLegalJournal statement_of (record { database = database; items = J })
+        → IsLegalJournal statement_of (record { version = JOURNAL_VERSION; database = database; items = J })
         → Each (λ kept. Each (IsAcceptedIfEncodable h database J G) kept) images }
     ensures room { (h : List ℕ → List ℕ) (database : Text) (size : ℕ) (names : List Text)
         (lines : List InputLine) (X : List Transcript) (images : List (List KeptImage))
         (J : List JournalItem) (G : List Digest)
         → RunAgrees h statement_of database size names lines X images J G
-        → IsLegalJournal statement_of (record { database = database; items = J })
+        → IsLegalJournal statement_of (record { version = JOURNAL_VERSION; database = database; items = J })
         → FitsImageFormat h statement_of database J
         → Each (λ kept. Each (IsAccepted h database J G) kept) images }
     ensures whole { (h : List ℕ → List ℕ) (database : Text) (size : ℕ) (names : List Text)
         (lines : List InputLine) (X : List Transcript) (images : List (List KeptImage))
         (J : List JournalItem) (G : List Digest)
         → RunAgrees h statement_of database size names lines X images J G
-        → IsLegalJournal statement_of (record { database = database; items = J })
+        → IsLegalJournal statement_of (record { version = JOURNAL_VERSION; database = database; items = J })
         → FitsImageFormat h statement_of database J
         → IsAccepted h database J G (length J, image_bytes (image_of h statement_of database J)) }
     ensures all { (h : List ℕ → List ℕ) (database : Text) (size : ℕ) (names : List Text)
         (lines : List InputLine) (X : List Transcript) (images : List (List KeptImage))
         (J : List JournalItem) (G : List Digest)
         → RunAgrees h statement_of database size names lines X images J G
-        → IsLegalJournal statement_of (record { database = database; items = J })
+        → IsLegalJournal statement_of (record { version = JOURNAL_VERSION; database = database; items = J })
         → FitsImageFormat h statement_of database J
         → verdict_of h (map held G) (image_bytes (image_of h statement_of database J)) ≡ Yes }
 {

@@ -7,7 +7,7 @@ use Rattle.sql_lex.specs.Cut.{is_blank, begins_comment, Scan, scan, with_front, 
 use Rattle.spec_syntax.specs.Tags.{tag_of}
 use Rattle.spec_syntax.specs.Input.{Sym}
 use Rattle.spec_syntax.specs.Stmt.{statement_of_tokens}
-use Rattle.spec_syntax.specs.Text.{sym_of, of_scan, statement_of}
+use Rattle.spec_syntax.specs.Text.{sym_of, of_scan, grammar_statement_of}
 
 abbrev pub prepend : List Sym → Option (List Sym) → Option (List Sym)
 prepend us (Some ss) = Some (us ++ ss)
@@ -91,6 +91,6 @@ of_same text (Ok ts) o h = ap (option_and_then statement_of_tokens) (sym h)
 of_same text (Err at) o h = ap (option_and_then statement_of_tokens) (sym h)
 
 -- the statement that a text is, by its tokens without places
-pub statement_of_cut : (text : List ℕ) → statement_of text ≡ option_and_then statement_of_tokens (cut 0 text)
-unfolding statement_of
+pub statement_of_cut : (text : List ℕ) → grammar_statement_of text ≡ option_and_then statement_of_tokens (cut 0 text)
+unfolding grammar_statement_of
 statement_of_cut text = of_same text (tokens_of text) (cut 0 text) (same [] text 0)

@@ -15,13 +15,14 @@ use Rattle.spec_syntax.specs.Select.{select}
 use Rattle.spec_syntax.specs.Table as b
 use Rattle.spec_syntax.specs.Stmt as y
 use Rattle.spec_syntax.specs.Stmt.{statement, statement_of_tokens}
-use Rattle.spec_syntax.specs.Text.{statement_of}
-use Rattle.spec_syntax.specs.Parsed.{IsName, IsChange, IsSelect, IsTable, IsIndex, IsParsed, Maybe}
+use Rattle.spec_syntax.specs.Text.{grammar_statement_of}
+use Rattle.spec_syntax.specs.Parsed.{IsName, IsChange, IsSelect, IsTable, IsIndex, IsAlter, IsParsed, Maybe}
 use Rattle.law_printing.proofs.Cut.{cut, statement_of_cut}
 use Rattle.law_printing.proofs.Kept.{AreSyms, Holds, Always, then_keeps, map_keeps, required_keeps, next_ok, after_ok, expect_keeps, if_keeps, name_keeps, Literal}
 use Rattle.law_printing.proofs.KeptTokens.{AllSyms, cut_syms}
 use Rattle.law_printing.proofs.KeptStmts.{call_keeps, insert_keeps, update_keeps, delete_keeps, select_keeps, index_keeps}
 use Rattle.law_printing.proofs.KeptTables.{table_keeps}
+use Rattle.law_printing.proofs.KeptAlters.{alter_keeps, drop_keeps}
 
 index_is : (i : Input) → AreSyms i.rest → Holds IsParsed (and_then (b.create_index i) (λ x j. Some (stmt.Index x, j)))
 index_is i ok = map_keeps IsIndex IsParsed stmt.Index (b.create_index i) (index_keeps i ok) (λ x is. is)
@@ -99,6 +100,8 @@ execute_keeps i ok = then_keeps Always IsParsed (λ x. _) (call_word i) (call_ke
 
 body_by_keeps : Literal → (g : Tag) (i : Input) → AreSyms i.rest → Holds IsParsed (y.body_by g i)
 body_by_keeps read t.Create i ok = create_keeps (next i) (next_ok i ok)
+body_by_keeps read t.Alter i ok = map_keeps IsAlter IsParsed stmt.Alter (b.alter_table (next i)) (alter_keeps (next i) (next_ok i ok)) (λ x is. is)
+body_by_keeps read t.Drop i ok = map_keeps IsName IsParsed stmt.Drop (b.drop_table (next i)) (drop_keeps (next i) (next_ok i ok)) (λ x is. is)
 body_by_keeps read t.Insert i ok = map_keeps IsChange IsParsed stmt.Change (r.insert (next i)) (insert_keeps read (next i) (next_ok i ok)) (λ x is. is)
 body_by_keeps read t.Update i ok = map_keeps IsChange IsParsed stmt.Change (r.update (next i)) (update_keeps read (next i) (next_ok i ok)) (λ x is. is)
 body_by_keeps read t.Delete i ok = map_keeps IsChange IsParsed stmt.Change (r.delete (next i)) (delete_keeps read (next i) (next_ok i ok)) (λ x is. is)
@@ -133,5 +136,5 @@ cut_given read x None k e = absurd (cc)
 cut_given read x (Some ts) k e = given_by x (statement (start ts)) (statement_keeps read (start ts) k) e
 
 -- each statement that a text is keeps to it
-pub parsed : Literal → (text : List ℕ) (x : Stmt) → statement_of text ≡ Some x → IsParsed x
+pub parsed : Literal → (text : List ℕ) (x : Stmt) → grammar_statement_of text ≡ Some x → IsParsed x
 parsed read text x e = cut_given read x (cut 0 text) (cut_syms 0 text) (sym (statement_of_cut text) ∙ e)

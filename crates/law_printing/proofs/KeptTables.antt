@@ -115,7 +115,7 @@ type_word_keeps : (i : Input) → AreSyms i.rest → Holds Always (type_word i)
 unfolding type_word
 type_word_keeps i ok = then_keeps IsName Always (λ x. _) (name i) (name_keeps i ok) (λ n named j more. required_keeps Always (w.type_name n) (always (w.type_name n)) j more)
 
-type_keeps : (i : Input) → AreSyms i.rest → Holds IsType (b.sql_type i)
+pub type_keeps : (i : Input) → AreSyms i.rest → Holds IsType (b.sql_type i)
 unfolding b.sql_type
 type_keeps i ok = then_keeps Always IsType (λ x. _) (type_word i) (type_word_keeps i ok) (λ ty is j more. type_by_keeps ty j more)
 

@@ -17,6 +17,8 @@ use Rattle.sql_types.specs.declared.statement.Stmt.{Stmt}
 use Rattle.sql_types.specs.declared.statement.Stmt.TheVariants as stmt
 use Rattle.sql_types.specs.declared.statement.CreateTable.{CreateTable}
 use Rattle.sql_types.specs.declared.statement.CreateIndex.{CreateIndex}
+use Rattle.sql_types.specs.declared.statement.Alter.{Alter}
+use Rattle.sql_types.specs.declared.statement.Alter.TheVariants.{Add, DropColumn}
 use Rattle.sql_types.specs.declared.statement.RowStmt.{RowStmt}
 use Rattle.sql_types.specs.declared.statement.RowStmt.TheVariants.{Insert, Update, Delete}
 use Rattle.sql_types.specs.declared.statement.Select.{Select}
@@ -27,12 +29,12 @@ use Rattle.sql_types.specs.declared.statement.Agg.TheVariants as aggregate
 use Rattle.spec_syntax.specs.declared.tag.Tag.TheVariants as t
 use Rattle.spec_syntax.specs.Tags.{tag_of}
 use Rattle.spec_syntax.specs.Input.{Sym}
-use Rattle.spec_syntax.specs.Text.{statement_of}
+use Rattle.spec_syntax.specs.Text.{grammar_statement_of}
 use Rattle.spec_syntax.specs.Stmt.{statement_of_tokens}
 use Rattle.spec_syntax.specs.Printed as p
 use Rattle.spec_syntax.specs.Printed.{key, word, enclosed, listed, rest_listed}
 use Rattle.spec_syntax.specs.PrintedStmt as s
-use Rattle.spec_syntax.specs.Parsed.{IsName, IsTree, IsExpr, IsType, IsColumn, IsHistory, IsTable, IsIndex, IsAssignment, IsChange, IsAgg, IsWhat, IsSort, IsOrder, IsSelect, IsParsed, Each, OneOrMore, Maybe}
+use Rattle.spec_syntax.specs.Parsed.{IsName, IsTree, IsExpr, IsType, IsColumn, IsHistory, IsTable, IsIndex, IsAlter, IsAssignment, IsChange, IsAgg, IsWhat, IsSort, IsOrder, IsSelect, IsParsed, Each, OneOrMore, Maybe}
 use Rattle.law_printing.proofs.Cut.{statement_of_cut}
 use Rattle.law_printing.proofs.Lexed.{One, Lexed, none, more, joined, spelled_cut}
 use Rattle.law_printing.proofs.Tokens as k
@@ -100,7 +102,7 @@ lex_filter : (cond : Option Expr) → Maybe IsExpr cond → Lexed (s.filter cond
 lex_filter None is = none
 lex_filter (Some x) is = then_ k.where_ (lex_expr (tree x) is.0)
 
--- ---- CREATE TABLE and CREATE INDEX
+-- ---- CREATE TABLE, CREATE INDEX, ALTER TABLE and DROP TABLE
 
 lex_type : (ty : SqlType) → IsType ty → Lexed (s.sql_type ty) (s.sql_type ty)
 unfolding s.sql_type tag_of
@@ -170,6 +172,15 @@ lex_create c is =
 lex_index : (c : CreateIndex) → IsIndex c → Lexed (s.create_index c) (s.create_index c)
 unfolding s.create_index
 lex_index c is = then_ k.create_ (then_ k.index_ (then_ (one_name c.name is.0) (then_ k.on_ (then_ (one_name c.table is.1) (lex_names c.columns is.2)))))
+
+lex_alter : (a : Alter) → IsAlter a → Lexed (s.alter_table a) (s.alter_table a)
+unfolding s.alter_table
+lex_alter (Add table d) is = then_ k.alter_ (then_ k.table_ (then_ (one_name table is.0) (then_ k.add_ (lex_column d is.1))))
+lex_alter (DropColumn table n) is = then_ k.alter_ (then_ k.table_ (then_ (one_name table is.0) (then_ k.drop_ (then_ k.column_ (lone (one_name n is.1))))))
+
+lex_drop : (n : List ℕ) → IsName n → Lexed (s.drop_table n) (s.drop_table n)
+unfolding s.drop_table
+lex_drop n is = then_ k.drop_ (then_ k.table_ (lone (one_name n is)))
 
 -- ---- INSERT, UPDATE and DELETE
 
@@ -251,6 +262,8 @@ lex_stmt : (x : Stmt) → IsParsed x → Lexed (s.tokens x) (stmt_syms x)
 unfolding s.tokens
 lex_stmt (stmt.Create c) is = lex_create c is
 lex_stmt (stmt.Index c) is = lex_index c is
+lex_stmt (stmt.Alter a) is = lex_alter a is
+lex_stmt (stmt.Drop n) is = lex_drop n is
 lex_stmt (stmt.Change c) is = lex_change c is
 lex_stmt (stmt.Select c) is = lex_select c is
 lex_stmt stmt.Begin is = then_ k.begin_ (lone k.transaction_)
@@ -261,7 +274,7 @@ lex_stmt stmt.Digest is = then_ k.execute_ (lone lex_digest)
 lex_stmt stmt.Image is = then_ k.save_ (lone lex_image)
 
 -- the text of a printed statement is the statement
-pub printed_read : Written → Untreed → (x : Stmt) → IsParsed x → statement_of (s.printed x) ≡ Some x
+pub printed_read : Written → Untreed → (x : Stmt) → IsParsed x → grammar_statement_of (s.printed x) ≡ Some x
 unfolding s.printed
 printed_read written untreed x is =
     statement_of_cut (s.printed x) ∙ ap (option_and_then statement_of_tokens) (spelled_cut (lex_stmt x is)) ∙ syms_read written untreed x is

@@ -17,6 +17,7 @@ mod ReadSelects
 mod Sizes
 mod ReadTables
 mod ReadCreates
+mod ReadAlters
 mod ReadStmts
 mod LexStmts
 mod Kept
@@ -25,4 +26,5 @@ mod KeptTokens
 pub mod KeptExprs
 mod KeptStmts
 mod KeptTables
+mod KeptAlters
 mod KeptBodies

@@ -5,6 +5,8 @@ use Rattle.sql_types.specs.declared.statement.Stmt.{Stmt}
 use Rattle.sql_types.specs.declared.statement.Stmt.TheVariants as stmt
 use Rattle.sql_types.specs.declared.statement.CreateTable.{CreateTable}
 use Rattle.sql_types.specs.declared.statement.CreateIndex.{CreateIndex}
+use Rattle.sql_types.specs.declared.statement.Alter.{Alter}
+use Rattle.sql_types.specs.declared.statement.Alter.TheVariants.{Add, DropColumn}
 use Rattle.sql_types.specs.declared.statement.Select.{Select}
 use Rattle.sql_types.specs.declared.statement.RowStmt.{RowStmt}
 use Rattle.sql_types.specs.declared.statement.RowStmt.TheVariants.{Insert, Update, Delete}
@@ -20,7 +22,7 @@ use Rattle.spec_syntax.specs.Stmt.{statement, statement_of_tokens}
 use Rattle.spec_syntax.specs.Printed as p
 use Rattle.spec_syntax.specs.Printed.{key}
 use Rattle.spec_syntax.specs.PrintedStmt as s
-use Rattle.spec_syntax.specs.Parsed.{IsChange, IsSelect, IsTable, IsIndex, IsParsed}
+use Rattle.spec_syntax.specs.Parsed.{IsChange, IsSelect, IsTable, IsIndex, IsAlter, IsParsed}
 use Rattle.law_printing.proofs.Repeats.{at_}
 use Rattle.law_printing.proofs.ReadTrees.{Written, name_read}
 use Rattle.law_printing.proofs.Gets.{Gets, then_gets, map_gets}
@@ -28,6 +30,7 @@ use Rattle.law_printing.proofs.ReadParts.{Untreed}
 use Rattle.law_printing.proofs.ReadRows.{change_syms, behind_columns, update_gets, delete_gets}
 use Rattle.law_printing.proofs.ReadSelects.{select_gets, index_gets}
 use Rattle.law_printing.proofs.ReadCreates.{table_gets}
+use Rattle.law_printing.proofs.ReadAlters.{behind_alter, alter_gets, drop_gets}
 
 -- the tokens of a printed statement, of which the signs of values are some
 abbrev pub stmt_syms : Stmt → List Sym
@@ -42,6 +45,15 @@ create_gets x n is =
 create_index_gets : (x : CreateIndex) (n : ℕ) → IsIndex x → Gets (y.body (at_ (s.create_index x) n)) (stmt.Index x) []
 unfolding y.body y.create s.create_index tag next
 create_index_gets x n is = map_gets stmt.Index x [] (b.create_index (at_ (p.name x.name ∷ key t.On ∷ p.name x.table ∷ s.names x.columns) n)) (index_gets x n is)
+
+alter_table_gets : (x : Alter) (n : ℕ) → IsAlter x → Gets (y.body (at_ (s.alter_table x) n)) (stmt.Alter x) []
+unfolding y.body s.alter_table tag next
+alter_table_gets (Add table d) n is = map_gets stmt.Alter (Add table d) [] (b.alter_table (at_ (behind_alter (Add table d)) n)) (alter_gets (Add table d) n is)
+alter_table_gets (DropColumn table c) n is = map_gets stmt.Alter (DropColumn table c) [] (b.alter_table (at_ (behind_alter (DropColumn table c)) n)) (alter_gets (DropColumn table c) n is)
+
+drop_table_gets : (c : List ℕ) (n : ℕ) → Gets (y.body (at_ (s.drop_table c) n)) (stmt.Drop c) []
+unfolding y.body s.drop_table tag next
+drop_table_gets c n = map_gets stmt.Drop c [] (b.drop_table (at_ (key t.Table ∷ p.name c ∷ []) n)) (drop_gets c n)
 
 change_gets : Written → Untreed → (x : RowStmt) (n : ℕ) → IsChange x → Gets (y.body (at_ (change_syms x) n)) (stmt.Change x) []
 unfolding y.body s.change tag next
@@ -86,6 +98,8 @@ body_gets : Written → Untreed → (x : Stmt) (n : ℕ) → IsParsed x → Gets
 unfolding s.tokens
 body_gets written untreed (stmt.Create c) n is = create_gets c n is
 body_gets written untreed (stmt.Index c) n is = create_index_gets c n is
+body_gets written untreed (stmt.Alter a) n is = alter_table_gets a n is
+body_gets written untreed (stmt.Drop c) n is = drop_table_gets c n
 body_gets written untreed (stmt.Change c) n is = change_gets written untreed c n is
 body_gets written untreed (stmt.Select c) n is = choose_gets written untreed c n is
 body_gets written untreed stmt.Begin n is = begin_gets n

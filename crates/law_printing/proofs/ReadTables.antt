@@ -46,7 +46,7 @@ decimal_at : (m z : ℕ) (rest : List Sym) (n : ℕ) → IsSize m → IsSize z �
 unfolding b.decimal b.scale expect sees after next same_tag
 decimal_at m z rest n small few = rw (digits_read m (key t.Comma ∷ digits z ∷ key t.Close ∷ rest) n small) (rw (digits_read z (key t.Close ∷ rest) n few) refl)
 
-sql_read : (ty : SqlType) (rest : List Sym) (n : ℕ) → IsType ty → b.sql_type (at_ (s.sql_type ty ++ rest) n) ≡ Some (ty, at_ rest n)
+pub sql_read : (ty : SqlType) (rest : List Sym) (n : ℕ) → IsType ty → b.sql_type (at_ (s.sql_type ty ++ rest) n) ≡ Some (ty, at_ rest n)
 unfolding b.sql_type s.sql_type type_word type_name name tag text next
 sql_read sql.Bit rest n is = refl
 sql_read sql.Int rest n is = refl

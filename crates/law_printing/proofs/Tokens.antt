@@ -140,6 +140,14 @@ pub where_ : One (key t.Where) (key t.Where ∷ [])
 unfolding spelling tag_of
 where_ = one_word 87 (codes "HERE") t.Where refl refl refl refl refl
 
+pub add_ : One (key t.Add) (key t.Add ∷ [])
+unfolding spelling tag_of
+add_ = one_word 65 (codes "DD") t.Add refl refl refl refl refl
+
+pub alter_ : One (key t.Alter) (key t.Alter ∷ [])
+unfolding spelling tag_of
+alter_ = one_word 65 (codes "LTER") t.Alter refl refl refl refl refl
+
 pub and_ : One (key t.And) (key t.And ∷ [])
 unfolding spelling tag_of
 and_ = one_word 65 (codes "ND") t.And refl refl refl refl refl
@@ -156,6 +164,10 @@ pub by_ : One (key t.By) (key t.By ∷ [])
 unfolding spelling tag_of
 by_ = one_word 66 (codes "Y") t.By refl refl refl refl refl
 
+pub column_ : One (key t.Column) (key t.Column ∷ [])
+unfolding spelling tag_of
+column_ = one_word 67 (codes "OLUMN") t.Column refl refl refl refl refl
+
 pub commit_ : One (key t.Commit) (key t.Commit ∷ [])
 unfolding spelling tag_of
 commit_ = one_word 67 (codes "OMMIT") t.Commit refl refl refl refl refl
@@ -171,6 +183,10 @@ delete_ = one_word 68 (codes "ELETE") t.Delete refl refl refl refl refl
 pub desc_ : One (key t.Desc) (key t.Desc ∷ [])
 unfolding spelling tag_of
 desc_ = one_word 68 (codes "ESC") t.Desc refl refl refl refl refl
+
+pub drop_ : One (key t.Drop) (key t.Drop ∷ [])
+unfolding spelling tag_of
+drop_ = one_word 68 (codes "ROP") t.Drop refl refl refl refl refl
 
 pub execute_ : One (key t.Execute) (key t.Execute ∷ [])
 unfolding spelling tag_of

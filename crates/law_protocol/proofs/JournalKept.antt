@@ -147,6 +147,7 @@ module _ (v : Server) (history : History) (cells : List Cell) (seats : List Seat
 
   pub legal_journal : IsLegalJournal v.reads (journal_in s.ledger)
   legal_journal = record {
+    version = refl;
     database = forms.database;
     items = each_rule s.ledger.items (of_ledger (HasItsName history) (all_named v.meaning s.ledger.database history agree.good)) agree.times (of_ledger IsSingle (singles v.meaning s.ledger.database first history agree.good (λ u. tt) tt))
         (all_have v.reads s.ledger.items s.ledger_is_legal.legal) (of_ledger Fits (closings_fit 0 W.items (closings_run v.meaning s.ledger.database first history agree.good tt)));

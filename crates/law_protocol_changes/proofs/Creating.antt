@@ -105,6 +105,8 @@ keeps_defs : (tx : ℕ) (T : Tables) (q : Option Stmt) → (creates_it : (stmt :
 keeps_defs tx T None h = refl
 keeps_defs tx T (Some (st.Create c)) h = let z = h (st.Create c) refl in cc
 keeps_defs tx T (Some (st.Index c)) h = let z = h (st.Index c) refl in cc
+keeps_defs tx T (Some (st.Alter altered)) h = refl
+keeps_defs tx T (Some (st.Drop name)) h = refl
 keeps_defs tx T (Some (st.Change row)) h = defs_after T tx 0 (st.Change row) refl
 keeps_defs tx T (Some (st.Select q)) h = defs_after T tx 0 (st.Select q) refl
 keeps_defs tx T (Some st.Begin) h = refl

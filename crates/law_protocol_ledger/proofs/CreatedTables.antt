@@ -90,6 +90,8 @@ no_request : (defs : Defs) (o : Bool) (stmt : Stmt) â†’ catalog_request o stmt â
 unfolding cell_requests
 no_request defs o (st.Create c) e = refl
 no_request defs o (st.Index c) e = refl
+no_request defs o (st.Alter altered) e = refl
+no_request defs o (st.Drop name) e = refl
 no_request defs true (st.Change row) e = cc
 no_request defs false (st.Change row) e = cc
 no_request defs true (st.Select q) e = cc

@@ -13,10 +13,11 @@ ghost use Rattle.format_image.specs.ImageBytes.{IsImage};
 ghost use Rattle.spec_verify.specs.Blocks.{block_fault, chain_fault};
 ghost use Rattle.spec_verify.specs.Sentences.{DigestHolds};
 ghost use Rattle.law_accepts.specs.Held.{IsHeld};
-ghost use Rattle.audit_extract.specs.Each.{HasCollision};
+ghost use Rattle.audit_extract.specs.Collisions.{HasCollisionBetween, IsHashedIn};
 ghost use Rattle.format_receipt.specs.declared.receipt.Receipt.{Receipt};
 ghost use Rattle.format_receipt.specs.Receipts.{IsReceipt};
 ghost use Rattle.audit_receipt.specs.Accepted.{Accepted};
+ghost use Rattle.audit_receipt.specs.Hashed.{IsHashedOf};
 ghost use Rattle.audit_receipt.specs.Made.{receipt_of, part_at};
 
 /// The receipt that an image gives of an entry is accepted with each digest that holds with the image and whose
@@ -29,24 +30,25 @@ pub fn made_receipts_are_accepted()
 {}
 
 /// Two receipts of one place that are accepted with one digest have one entry, or two different byte strings
-/// have one hash.
+/// have one hash, of which one is hashed where the one receipt is checked and the other where the other is.
 pub fn accepted_receipts_of_one_place_are_one()
     ensures { (h : List ℕ → List ℕ) (a b : Receipt) (d : HeldDigest)
         → ((bytes : List ℕ) → length (h bytes) ≡ 32) → IsReceipt a → IsReceipt b
         → Accepted h a d → Accepted h b d
         → a.entry.block ≡ b.entry.block → a.entry.ordinal ≡ b.entry.ordinal
-        → (a.entry ≡ b.entry) ⊎ HasCollision h }
+        → (a.entry ≡ b.entry) ⊎ HasCollisionBetween h (IsHashedOf h a) (IsHashedOf h b) }
 {}
 
 /// A receipt that is accepted with a digest has the very entry that each image has at its place with which the
 /// digest holds and whose chain and blocks hold, as with each image that is accepted with the digest; or two
-/// different byte strings have one hash. So no such image can contradict it.
+/// different byte strings have one hash, of which one is hashed where the receipt is checked and the other where the
+/// image is verified. So no such image can contradict it.
 pub fn accepted_receipts_agree_with_images()
     ensures { (h : List ℕ → List ℕ) (r : Receipt) (i : Image) (d : HeldDigest)
         → ((bytes : List ℕ) → length (h bytes) ≡ 32) → IsReceipt r → Accepted h r d
         → IsImage i → chain_fault h i ≡ None → block_fault h i ≡ None → DigestHolds h i d
         → (slice_get (part_at i.blocks i.entries r.entry.block) r.entry.ordinal ≡ Some r.entry)
-        ⊎ HasCollision h }
+        ⊎ HasCollisionBetween h (IsHashedOf h r) (IsHashedIn h i) }
 {}
 
 /// The receipt of an entry that a legal journal's image gives is accepted with each digest of a block that is

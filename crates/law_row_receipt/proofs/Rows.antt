@@ -1,5 +1,5 @@
 -- Receipts of rows agree with images.
-use Rattle.std.proofs.Common.{◌≡◌, ◌⊎◌, ℕ, zero, suc, Bool, true, false, List, [], ◌∷◌, length, map, filter, drop, Option, Some, None, refl, arith, sym, ◌∙◌, ap, inl}
+use Rattle.std.proofs.Common.{◌≡◌, ◌⊎◌, ℕ, zero, suc, Bool, true, false, List, [], ◌∷◌, length, map, filter, drop, Option, Some, None, refl, arith, sym, ◌∙◌, ap, inl, inr}
 use Rattle.std.specs.Prelude.{◌==◌, if◌then◌else◌}
 use Rattle.std.specs.Option.{option_map}
 use Rattle.std.specs.List.{AllByRecursion, slice_get}
@@ -21,23 +21,29 @@ use Rattle.format_image.specs.Tables.{tables_in}
 use Rattle.spec_verify.specs.Blocks.{chain_fault, block_fault}
 use Rattle.spec_verify.specs.Entries.{TableRoot, root_at, root_fault}
 use Rattle.spec_verify.specs.Sentences.{DigestHolds}
-use Rattle.audit_extract.specs.Each.{HasCollision}
+use Rattle.audit_extract.specs.Collisions.{HasCollisionBetween, IsAtNode, IsHashedIn}
+use Rattle.audit_extract.proofs.Collisions.{or_wider}
 use Rattle.audit_extract.proofs.Lists.{all_taken, all_left}
 use Rattle.audit_extract.proofs.Rooted.{all_rooted}
-use Rattle.audit_extract.proofs.Unbroken.{so_far, same_leaves}
+use Rattle.audit_extract.proofs.Unbroken.{so_far}
+use Rattle.audit_paths.specs.Hashed.{IsHashedOver}
 use Rattle.audit_paths.specs.Path.{root_over}
 use Rattle.audit_paths.proofs.Members.{IsAmong, member}
+use Rattle.audit_paths.proofs.Trees.{same_tree}
 use Rattle.format_receipt.specs.declared.receipt.Receipt.{Receipt}
 use Rattle.format_receipt.specs.Receipts.{IsReceipt}
 use Rattle.format_row_receipt.specs.declared.row_receipt.RowReceipt.{RowReceipt}
 use Rattle.format_row_receipt.specs.declared.table_receipt.TableReceipt.{TableReceipt}
 use Rattle.format_row_receipt.specs.RowReceipts.{IsRowReceipt, IsTableReceipt}
 use Rattle.audit_receipt.specs.Accepted.{Accepted}
+use Rattle.audit_receipt.specs.Hashed.{IsHashedOf}
 use Rattle.audit_receipt.specs.Made.{part_at}
 use Rattle.audit_receipt.proofs.Found.{each_at}
 use Rattle.audit_row_receipt.specs.AcceptedRows.{AcceptedRow, AcceptedTable}
+use Rattle.audit_row_receipt.specs.Hashed.{IsHashedOfRow, IsHashedOfTable}
 use Rattle.law_receipt.proofs.Agreeing.{agrees_with_image}
 use Rattle.law_row_receipt.specs.Shown.{HasTable, HasAll, HasOne}
+use Rattle.law_row_receipt.proofs.Picked.{events_hashed}
 
 -- ---- lists
 
@@ -105,14 +111,15 @@ module _ (h : List ℕ → List ℕ) (sized : (bytes : List ℕ) → length (h b
     (roots : root_fault h i ≡ None) where
   -- a root of an accepted entry is that of the leaves of its transaction in a table
   rooted : (r : Receipt) (d : HeldDigest) (table : ℕ) (root : List ℕ) → IsReceipt r → Accepted h r d → DigestHolds h i d → root_at r.entry.roots table ≡ Some root
-      → HasRoot h r.entry.id (filter (has_events r.entry.id) (tables_in i)) table root ⊎ HasCollision h
+      → HasRoot h r.entry.id (filter (has_events r.entry.id) (tables_in i)) table root ⊎ HasCollisionBetween h (IsHashedOf h r) (IsHashedIn h i)
   unfolding roots_of
   rooted r d table root fr x holds at_root = so_far found (agrees_with_image h sized i is chain blocks r d fr x holds)
     where
       e : TxEntry
       e = r.entry
 
-      found : slice_get (part_at i.blocks i.entries e.block) e.ordinal ≡ Some e → HasRoot h e.id (filter (has_events e.id) (tables_in i)) table root ⊎ HasCollision h
+      found : slice_get (part_at i.blocks i.entries e.block) e.ordinal ≡ Some e
+          → HasRoot h e.id (filter (has_events e.id) (tables_in i)) table root ⊎ HasCollisionBetween h (IsHashedOf h r) (IsHashedIn h i)
       found at =
           let own : e.roots ≡ roots_of h e.id (tables_in i) =
           each_at (λ (f : TxEntry). f.roots ≡ roots_of h f.id (tables_in i)) (part_at i.blocks i.entries e.block) e.ordinal e
@@ -124,27 +131,45 @@ module _ (h : List ℕ → List ℕ) (sized : (bytes : List ℕ) → length (h b
       let t = among_filter (has_events tx) (tables_in i) r.place r.it r.there in
       record { place = t.place; it = r.it; there = t.there; of = r.of }
 
-  pub all_shown : (r : TableReceipt) (d : HeldDigest) → IsTableReceipt r → (x : AcceptedTable h r d) → DigestHolds h i d → HasAll i r.receipt.entry.id x.table r.leaves ⊎ HasCollision h
-  all_shown r d fr x holds = so_far found (rooted r.receipt d x.table (tree_hash h r.leaves) fr.receipt x.receipt holds x.root)
+  root_hashed : (tx table : ℕ) (root : List ℕ) (r : HasRoot h tx (filter (has_events tx) (tables_in i)) table root) (x : List ℕ) → IsAtNode h (leaves_of tx r.it) x → IsHashedIn h i x
+  root_hashed tx table root r x node =
+      let t = among_filter (has_events tx) (tables_in i) r.place r.it r.there in
+      events_hashed h i is tx t.place r.it t.there x node
+
+  pub all_shown : (r : TableReceipt) (d : HeldDigest) → IsTableReceipt r → (x : AcceptedTable h r d) → DigestHolds h i d
+      → HasAll i r.receipt.entry.id x.table r.leaves ⊎ HasCollisionBetween h (IsHashedOfTable h r) (IsHashedIn h i)
+  all_shown r d fr x holds =
+      so_far found
+      (or_wider h (IsHashedOf h r.receipt) (IsHashedIn h i) (IsHashedOfTable h r) (IsHashedIn h i) (λ y of. inl of) (λ y in_image. in_image)
+      (rooted r.receipt d x.table (tree_hash h r.leaves) fr.receipt x.receipt holds x.root))
     where
       tx : ℕ
       tx = r.receipt.entry.id
 
-      found : HasRoot h tx (filter (has_events tx) (tables_in i)) x.table (tree_hash h r.leaves) → HasAll i tx x.table r.leaves ⊎ HasCollision h
+      found : HasRoot h tx (filter (has_events tx) (tables_in i)) x.table (tree_hash h r.leaves) → HasAll i tx x.table r.leaves ⊎ HasCollisionBetween h (IsHashedOfTable h r) (IsHashedIn h i)
       found root =
           so_far (λ (all : r.leaves ≡ leaves_of tx root.it). inl (record { table_there = table_is tx x.table (tree_hash h r.leaves) root; all = all }))
-          (same_leaves h sized (length r.leaves) r.leaves (leaves_of tx root.it) (omega arith) root.root_is)
+          (or_wider h (IsAtNode h r.leaves) (IsAtNode h (leaves_of tx root.it)) (IsHashedOfTable h r) (IsHashedIn h i) (λ y node. inr node) (root_hashed tx x.table (tree_hash h r.leaves) root)
+          (same_tree h sized (length r.leaves) r.leaves (leaves_of tx root.it) (omega arith) root.root_is))
 
-  pub one_shown : (r : RowReceipt) (d : HeldDigest) → IsRowReceipt r → (x : AcceptedRow h r d) → DigestHolds h i d → HasOne i r.receipt.entry.id x.table r.leaf ⊎ HasCollision h
-  one_shown r d fr x holds = so_far found (rooted r.receipt d x.table (root_over h r.leaf r.steps) fr.receipt x.receipt holds x.root)
+  pub one_shown : (r : RowReceipt) (d : HeldDigest) → IsRowReceipt r → (x : AcceptedRow h r d) → DigestHolds h i d
+      → HasOne i r.receipt.entry.id x.table r.leaf ⊎ HasCollisionBetween h (IsHashedOfRow h r) (IsHashedIn h i)
+  one_shown r d fr x holds =
+      so_far found
+      (or_wider h (IsHashedOf h r.receipt) (IsHashedIn h i) (IsHashedOfRow h r) (IsHashedIn h i) (λ y of. inl of) (λ y in_image. in_image)
+      (rooted r.receipt d x.table (root_over h r.leaf r.steps) fr.receipt x.receipt holds x.root))
     where
       tx : ℕ
       tx = r.receipt.entry.id
 
-      among : (root : HasRoot h tx (filter (has_events tx) (tables_in i)) x.table (root_over h r.leaf r.steps)) → IsAmong r.leaf (leaves_of tx root.it) → HasOne i tx x.table r.leaf ⊎ HasCollision h
+      among : (root : HasRoot h tx (filter (has_events tx) (tables_in i)) x.table (root_over h r.leaf r.steps)) → IsAmong r.leaf (leaves_of tx root.it)
+          → HasOne i tx x.table r.leaf ⊎ HasCollisionBetween h (IsHashedOfRow h r) (IsHashedIn h i)
       among root a =
           let l = leaf_of (events_of tx root.it) a.0 r.leaf a.1 in
           inl (record { table_there = table_is tx x.table (root_over h r.leaf r.steps) root; number = a.0; event = l.it; among = l.there; is = sym l.is })
 
-      found : HasRoot h tx (filter (has_events tx) (tables_in i)) x.table (root_over h r.leaf r.steps) → HasOne i tx x.table r.leaf ⊎ HasCollision h
-      found root = so_far (among root) (member h sized (length r.steps) r.leaf r.steps (leaves_of tx root.it) (omega arith) fr.steps root.root_is)
+      found : HasRoot h tx (filter (has_events tx) (tables_in i)) x.table (root_over h r.leaf r.steps) → HasOne i tx x.table r.leaf ⊎ HasCollisionBetween h (IsHashedOfRow h r) (IsHashedIn h i)
+      found root =
+          so_far (among root)
+          (or_wider h (IsHashedOver h r.leaf r.steps) (IsAtNode h (leaves_of tx root.it)) (IsHashedOfRow h r) (IsHashedIn h i) (λ y on. inr on) (root_hashed tx x.table (root_over h r.leaf r.steps) root)
+          (member h sized (length r.steps) r.leaf r.steps (leaves_of tx root.it) (omega arith) fr.steps root.root_is))

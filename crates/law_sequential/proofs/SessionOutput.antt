@@ -5,6 +5,7 @@ use lib.ListN.{get_elem?}
 use Rattle.base_types.specs.DatabaseName.{is_database_name}
 use Rattle.base_types.specs.Moment.{is_moment}
 use Rattle.base_types.specs.SessionName.{is_session_name}
+use Rattle.sql_types.specs.declared.journal.TheConstants.{JOURNAL_VERSION}
 use Rattle.sql_types.specs.declared.digest.Digest.{Digest}
 use Rattle.sql_types.specs.declared.journal.Journal.{Journal}
 use Rattle.sql_types.specs.declared.journal.JournalItem.{JournalItem}
@@ -200,7 +201,7 @@ module _ {v : Server} {database : Text} {size : ℕ} {names : List Text} {lines 
   made_are = subst (λ (H : List Digest). Each (λ d. IsTime d.made) H) (ap (λ (c : LedgerCell). c.issued) (sym (ledger_is e.sequential_run)) ∙ e.issued) (each_weaker (λ d. IsMoment e.seats d.made) (λ d. IsTime d.made) (λ d m. is_time d.made m) st.ledger.issued st.transcripts_agree.made)
 
   pub is_legal : (reads : Reading) → v.reads ≡ reads → names_in X ≡ names → is_database_name database ≡ true → Each (λ name. is_session_name name ≡ true) names → Each (λ time. is_moment time ≡ true) moments
-      → IsLegalJournal reads (record { database = database; items = J })
+      → IsLegalJournal reads (record { version = JOURNAL_VERSION; database = database; items = J })
   is_legal reads reading named db good time = subst₂ (λ (rd : Reading) (j : Journal). IsLegalJournal rd j) reading same_journal (legal_journal v (since e.sequential_run).later.history e.cells e.seats st (record {
     database = subst (λ (d : Text). is_database_name d ≡ true) (sym (since e.sequential_run).same_database) db;
     ids = subst (λ (c : LedgerCell). c.next ≤ 2 ^ 63) (ledger_is e.sequential_run) e.ids;
@@ -210,5 +211,5 @@ module _ {v : Server} {database : Text} {size : ℕ} {names : List Text} {lines 
     moments = λ j s there. each_weaker IsTime (λ t. is_moment t ≡ true) (λ t i. each_in (λ m. is_moment m ≡ true) moments t time i) (moments_of s) (its_moments j s there);
   }))
     where
-      same_journal : journal_in st.ledger ≡ record { database = database; items = J }
-      same_journal = ap₂ (λ (d : Text) (K : List JournalItem). record { database = d; items = K }) (since e.sequential_run).same_database (ap (λ (c : LedgerCell). c.items) (sym (ledger_is e.sequential_run)) ∙ e.items)
+      same_journal : journal_in st.ledger ≡ record { version = JOURNAL_VERSION; database = database; items = J }
+      same_journal = ap₂ (λ (d : Text) (K : List JournalItem). record { version = JOURNAL_VERSION; database = d; items = K }) (since e.sequential_run).same_database (ap (λ (c : LedgerCell). c.items) (sym (ledger_is e.sequential_run)) ∙ e.items)

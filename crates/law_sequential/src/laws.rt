@@ -6,6 +6,7 @@ ghost use lib.ListN.{get_elem?};
 ghost use Rattle.base_types.specs.DatabaseName.{is_database_name};
 ghost use Rattle.base_types.specs.Moment.{is_moment};
 ghost use Rattle.base_types.specs.SessionName.{is_session_name};
+ghost use Rattle.sql_types.specs.declared.journal.TheConstants.{JOURNAL_VERSION};
 ghost use Rattle.sql_types.specs.declared.digest.Digest.{Digest};
 ghost use Rattle.sql_types.specs.declared.journal.JournalItem.{JournalItem};
 ghost use Rattle.spec_model.specs.LegalJournals.{IsLegalJournal};
@@ -159,7 +160,7 @@ pub fn journals_of_sequential_runs_are_legal()
         → map (λ x. x.session) X ≡ names → is_database_name database ≡ true
         → Each (λ name. is_session_name name ≡ true) names
         → Each (λ time. is_moment time ≡ true) moments
-        → IsLegalJournal v.reads (record { database = database; items = J }) }
+        → IsLegalJournal v.reads (record { version = JOURNAL_VERSION; database = database; items = J }) }
 {}
 
 /// Each time in its journal, and each moment at which a digest was made, is one of the moments of its

@@ -7,6 +7,7 @@ mod ExprSound
 mod RowSound
 mod TableSound
 mod LedgerSound
+mod AlterSound
 mod StmtSound
 mod ExprFalls
 mod ExprComplete
@@ -14,4 +15,6 @@ mod ParsesTo
 mod RowComplete
 mod TableComplete
 mod LedgerComplete
+mod AlterComplete
+mod VersionsRead
 pub mod StmtComplete

@@ -61,6 +61,11 @@ unfolding sees
 unseen g [] n h = refl
 unseen g (s ∷ rest) n h = h
 
+-- the token is taken
+pub next_at : (g : Tag) (v : List ℕ) (rest : List Sym) (n : ℕ) → next (at_ ((g, v) ∷ rest) n) ≡ at_ rest n
+unfolding next
+next_at g v rest n = refl
+
 -- one way where the token comes
 pub either_one : {A : Type 0} {g : Tag} {a : Lexemes} (p q : Parser A) (x : A) (rest end : List Sym) (n : ℕ) → One g a → ParsesTo (p (at_ rest n)) x end → ParsesTo ((eat g >>= (λ b. if b then p else q)) (at_ (syms a ++ rest) n)) x end
 either_one {g = g} {a = a} p q x rest end n k h =

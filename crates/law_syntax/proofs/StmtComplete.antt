@@ -6,6 +6,7 @@ use Rattle.sql_types.specs.declared.statement.RowStmt.{RowStmt}
 use Rattle.sql_types.specs.declared.statement.Select.{Select}
 use Rattle.sql_types.specs.declared.statement.CreateTable.{CreateTable}
 use Rattle.sql_types.specs.declared.statement.CreateIndex.{CreateIndex}
+use Rattle.sql_types.specs.declared.statement.Alter.{Alter}
 use Rattle.sql_types.specs.declared.statement.Stmt.{Stmt}
 use Rattle.sql_types.specs.declared.statement.Stmt.TheVariants as stmt
 use Rattle.spec_grammar.specs.Tokens.{Lexemes, Word, Sign, IsName, OptionalPart, left_out, written as given}
@@ -26,24 +27,21 @@ use Rattle.spec_syntax.specs.Row as r
 use Rattle.spec_syntax.specs.Select.{select}
 use Rattle.spec_syntax.specs.Table as b
 use Rattle.spec_syntax.specs.Stmt as y
-use Rattle.spec_syntax.specs.Text.{of_scan, statement_of}
+use Rattle.spec_syntax.specs.Text.{of_scan, grammar_statement_of}
 use Rattle.law_printing.proofs.Repeats.{at_}
 use Rattle.law_syntax.proofs.Terminals as w
 use Rattle.law_syntax.proofs.Steps.{the_same}
 use Rattle.law_syntax.proofs.ExprComplete.{syms, syms_join, One, one, name_token}
-use Rattle.law_syntax.proofs.ParsesTo.{ParsesTo, then_parses, flow, give_at, go, pure_parses, expects_parses, either_one, either_none, sees_one, after_one, unseen, name_parses, one_other}
+use Rattle.law_syntax.proofs.ParsesTo.{ParsesTo, then_parses, flow, give_at, go, pure_parses, expects_parses, next_at, either_one, either_none, sees_one, after_one, unseen, name_parses, one_other}
 use Rattle.law_syntax.proofs.RowComplete.{ends, Behind, call_token, call_parses, insert_parses, update_parses, delete_parses, select_parses}
 use Rattle.law_syntax.proofs.LedgerComplete.{create_table_read, create_index_read}
+use Rattle.law_syntax.proofs.AlterComplete.{add_column_read, column_dropped_read, drop_table_read}
 use Rattle.law_syntax.proofs.StmtSound.{text_sound, map_written}
 
 -- a form behind its first word
 body_at : (gt : Tag) (v : List ℕ) (rest : List Sym) (n : ℕ) → y.body (at_ ((gt, v) ∷ rest) n) ≡ y.body_by gt (at_ ((gt, v) ∷ rest) n)
 unfolding y.body tag
 body_at gt v rest n = refl
-
-next_at : (gt : Tag) (v : List ℕ) (rest : List Sym) (n : ℕ) → next (at_ ((gt, v) ∷ rest) n) ≡ at_ rest n
-unfolding next
-next_at gt v rest n = refl
 
 -- the first word is taken, and the form behind it is read
 headed : (gt : Tag) (p : Parser Stmt) → ((i : Input) → y.body_by gt i ≡ p (next i)) → (a e : Lexemes) (x : Stmt) (end : List Sym) (n : ℕ) → One gt a → ParsesTo (p (at_ (syms e ++ end) n)) x end → ParsesTo (y.body (at_ (syms (a ++ e) ++ end) n)) x end
@@ -82,6 +80,21 @@ index_given (table.create_index {a = a} {c = c} {e = e} {f = f} {g = k} {h = h} 
     (created t.Nonclustered (expect t.Index >> stmt.Index <$> b.create_index) (λ i. refl) d (c ++ (e ++ (f ++ (k ++ h)))) (stmt.Index _) rest n (one w.nonclustered_ d nonclustered_)
     (go (expect t.Index) (λ _. stmt.Index <$> b.create_index) c (e ++ (f ++ (k ++ h))) rest rest n (expects_parses (one w.index_ c index_) (syms (e ++ (f ++ (k ++ h))) ++ rest) n)
     (λ m. then_parses (λ z. pure (stmt.Index z)) (create_index_read e f k h v of columns named (one w.on_ f on) of_ names_ rest m) (λ m. pure_parses (stmt.Index _) rest m))))
+
+-- ---- ALTER TABLE and DROP TABLE
+
+alter_given : {a : Lexemes} {x : Alter} → table.IsAlter a x → (rest : List Sym) (n : ℕ) → ends (tag_at rest) ≡ true → ParsesTo (y.body (at_ (syms a ++ rest) n)) (stmt.Alter x) rest
+alter_given (table.add {a = a} {b = e} {c = c} {e = d} {f = f} {g = k} {h = h} {table = of} {n = v} {ty = ty} alter_ table_ of_ add_ named is null_) rest n fits =
+    headed t.Alter (stmt.Alter <$> b.alter_table) (λ i. refl) a (e ++ (c ++ (d ++ (f ++ (k ++ h))))) (stmt.Alter _) rest n (one w.alter_ a alter_)
+    (then_parses (λ z. pure (stmt.Alter z)) (add_column_read e c d f k h of v ty table_ of_ add_ named is null_ rest n fits) (λ m. pure_parses (stmt.Alter _) rest m))
+alter_given (table.drop_column {a = a} {b = e} {c = c} {e = d} {f = f} {g = k} {table = of} {n = v} alter_ table_ of_ drop_ column_ named) rest n fits =
+    headed t.Alter (stmt.Alter <$> b.alter_table) (λ i. refl) a (e ++ (c ++ (d ++ (f ++ k)))) (stmt.Alter _) rest n (one w.alter_ a alter_)
+    (then_parses (λ z. pure (stmt.Alter z)) (column_dropped_read e c d f k of v table_ of_ drop_ column_ named rest n) (λ m. pure_parses (stmt.Alter _) rest m))
+
+drop_given : {a : Lexemes} {v : List ℕ} → table.IsDrop a v → (rest : List Sym) (n : ℕ) → ParsesTo (y.body (at_ (syms a ++ rest) n)) (stmt.Drop v) rest
+drop_given (table.drop_table {a = a} {b = e} {c = c} {table = v} drop_ table_ named) rest n =
+    headed t.Drop (stmt.Drop <$> b.drop_table) (λ i. refl) a (e ++ c) (stmt.Drop v) rest n (one w.drop_ a drop_)
+    (then_parses (λ z. pure (stmt.Drop z)) (drop_table_read e c v table_ named rest n) (λ m. pure_parses (stmt.Drop v) rest m))
 
 -- ---- rows
 
@@ -203,6 +216,8 @@ digest_read _ e (given (g.sys {a = a} {b = f} sys_ dot)) is rest n =
 body_given : {a : Lexemes} {x : Stmt} → IsBody a x → (rest : List Sym) (n : ℕ) → ends (tag_at rest) ≡ true → ParsesTo (y.body (at_ (syms a ++ rest) n)) x rest
 body_given (g.create is) rest n fits = create_given is rest n fits
 body_given (g.index is) rest n fits = index_given is rest n
+body_given (g.alter is) rest n fits = alter_given is rest n fits
+body_given (g.drop is) rest n fits = drop_given is rest n
 body_given (g.insert is) rest n fits = changed t.Insert w.insert_ r.insert (λ i. refl) (insert_parses is) rest n fits
 body_given (g.update is) rest n fits = changed t.Update w.update_ r.update (λ i. refl) (update_parses is) rest n fits
 body_given (g.delete is) rest n fits = changed t.Delete w.delete_ r.delete (λ i. refl) (delete_parses is) rest n fits
@@ -251,8 +266,8 @@ of_tokens : (a : Lexemes) (x : Stmt) → IsStmt a x → y.statement_of_tokens (s
 of_tokens a x is = let k = statement_given is 0 in ap (λ q. option_map (λ p. p.0) q) k.1
 
 -- what a text is by the grammar, the parser reads
-pub text_complete : (text_ : List ℕ) (x : Stmt) → IsStatement text_ x → statement_of text_ ≡ Some x
-unfolding statement_of
+pub text_complete : (text_ : List ℕ) (x : Stmt) → IsStatement text_ x → grammar_statement_of text_ ≡ Some x
+unfolding grammar_statement_of
 text_complete text_ x k = ap (of_scan text_) k.cut ∙ ap y.statement_of_tokens (sym (map_written text_ k.tokens)) ∙ of_tokens (map (written text_) k.tokens) x k.is
 
 -- a text is one statement at most
@@ -261,11 +276,11 @@ text_unique text_ x z a b_ = the_same (sym (text_complete text_ x a) ∙ text_co
 
 -- ---- what parsing promises
 
-pub found_is : (text_ : List ℕ) (o : Result Stmt ParseErr) → input.ConvertsUnlessOom (statement_of text_) o → IfOk o (λ x. IsStatement text_ x)
+pub found_is : (text_ : List ℕ) (o : Result Stmt ParseErr) → input.ConvertsUnlessOom (grammar_statement_of text_) o → IfOk o (λ x. IsStatement text_ x)
 found_is text_ (Ok x) h = text_sound text_ x h
 found_is text_ (Err e) h = tt
 
-pub refused_is : (text_ : List ℕ) (o : Result Stmt ParseErr) → input.ConvertsUnlessOom (statement_of text_) o → o ≡ Err Syntax → (x : Stmt) → IsStatement text_ x → ⊥
+pub refused_is : (text_ : List ℕ) (o : Result Stmt ParseErr) → input.ConvertsUnlessOom (grammar_statement_of text_) o → o ≡ Err Syntax → (x : Stmt) → IsStatement text_ x → ⊥
 refused_is text_ (Ok z) h is x k = absurd (cc)
 refused_is text_ (Err Memory) h is x k = absurd (cc)
 refused_is text_ (Err Syntax) h is x k = let no : None ≡ Some x = sym h ∙ text_complete text_ x k in absurd (cc)

@@ -24,7 +24,7 @@ use Rattle.spec_syntax.specs.Row as r
 use Rattle.spec_syntax.specs.Select.{select}
 use Rattle.spec_syntax.specs.Table as b
 use Rattle.spec_syntax.specs.Stmt as y
-use Rattle.spec_syntax.specs.Text.{sym_of, of_scan, statement_of}
+use Rattle.spec_syntax.specs.Text.{sym_of, of_scan, grammar_statement_of}
 use Rattle.law_syntax.proofs.Terminals as w
 use Rattle.law_syntax.proofs.Terminals.{from, tagged}
 use Rattle.law_syntax.proofs.Steps.{the_same, Follows, Part, moved, Seen, step, joins, built, may, expects, eats, name_follows}
@@ -32,6 +32,7 @@ use Rattle.law_syntax.proofs.ExprSound.{Behind, eaten_or}
 use Rattle.law_syntax.proofs.RowSound.{After, IsCall, call_follows, insert_follows, update_follows, delete_follows, select_follows}
 use Rattle.law_syntax.proofs.TableSound.{required_built}
 use Rattle.law_syntax.proofs.LedgerSound.{create_table_follows, create_index_follows}
+use Rattle.law_syntax.proofs.AlterSound.{alter_table_follows, drop_table_follows}
 
 -- ---- CREATE
 
@@ -221,6 +222,12 @@ changes p follows k v a n x j is h =
 body_by_tag : (k : Kind) (v : List ℕ) (a : Lexemes) (n : ℕ) (x : Stmt) (j : Input) (g_ : Tag) → tag_of k v ≡ g_ → y.body_by g_ (from ((k, v) ∷ a) n) ≡ Some (x, j) → Part IsBody ((k, v) ∷ a) j x
 unfolding next
 body_by_tag k v a n x j t.Create is h = ahead k v a x j (λ b_ m. m ((k, v) ∷ []) (w.create_.gives k v is)) (create_follows a n x j h)
+body_by_tag k v a n x j t.Alter is h =
+    let s0 = step b.alter_table alter_table_follows (λ z. pure (stmt.Alter z)) a n x j h in
+    built IsBody ((k, v) ∷ s0.tokens) s0.rest s0.left (ap (λ z. (k, v) ∷ z) s0.cut) (g.alter (s0.is ((k, v) ∷ []) (w.alter_.gives k v is))) s0.then_
+body_by_tag k v a n x j t.Drop is h =
+    let s0 = step b.drop_table drop_table_follows (λ z. pure (stmt.Drop z)) a n x j h in
+    built IsBody ((k, v) ∷ s0.tokens) s0.rest s0.left (ap (λ z. (k, v) ∷ z) s0.cut) (g.drop (s0.is ((k, v) ∷ []) (w.drop_.gives k v is))) s0.then_
 body_by_tag k v a n x j t.Insert is h = changes r.insert insert_follows k v a n x j (λ b_ z m. g.insert (m ((k, v) ∷ []) (w.insert_.gives k v is))) h
 body_by_tag k v a n x j t.Update is h = changes r.update update_follows k v a n x j (λ b_ z m. g.update (m ((k, v) ∷ []) (w.update_.gives k v is))) h
 body_by_tag k v a n x j t.Delete is h = changes r.delete delete_follows k v a n x j (λ b_ z m. g.delete (m ((k, v) ∷ []) (w.delete_.gives k v is))) h
@@ -278,6 +285,6 @@ scanned text_ x (Ok ts) cut h =
     record { tokens = ts; cut = cut; is = statement_sound (map (written text_) ts) 0 x k.0 k.1 }
 
 -- what the parser reads of a text is the statement that the text is
-pub text_sound : (text_ : List ℕ) (x : Stmt) → statement_of text_ ≡ Some x → IsStatement text_ x
-unfolding statement_of
+pub text_sound : (text_ : List ℕ) (x : Stmt) → grammar_statement_of text_ ≡ Some x → IsStatement text_ x
+unfolding grammar_statement_of
 text_sound text_ x h = scanned text_ x (tokens_of text_) refl h

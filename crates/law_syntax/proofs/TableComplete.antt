@@ -128,13 +128,15 @@ precision_parses (g.scaled {a = a} {b = e} {c = f} {p = x} {s = s} ds comma othe
     (give_at b.scale m (flow e f (syms c ++ rest)) (either_one b.digits (pure 0) s (syms f ++ (syms c ++ rest)) (syms c ++ rest) m (one w.comma_ e comma) (digits_give others (syms c ++ rest) m)))
     (λ m. then_parses (λ _. pure (sql.Decimal x s)) (expects_parses close rest m) (λ m. pure_parses (sql.Decimal x s) rest m)))
 
-abbrev after_type : Tag → Bool
+-- what may stand behind a type
+abbrev pub after_type : Tag → Bool
 after_type t.Null = true
 after_type t.Not = true
 after_type t.Primary = true
 after_type t.Comma = true
 after_type t.Close = true
 after_type t.End = true
+after_type t.Semi = true
 after_type _ = false
 
 type_no_open : (h : Tag) → after_type h ≡ true → same_tag h t.Open ≡ false
@@ -145,6 +147,7 @@ type_no_open t.Primary e = refl
 type_no_open t.Comma e = refl
 type_no_open t.Close e = refl
 type_no_open t.End e = refl
+type_no_open t.Semi e = refl
 type_no_open _ e = absurd (cc)
 
 plain_type : (c : TypeName) (ty : SqlType) {a : Lexemes} → Known (spelled_type c) a → (rest : List Sym) → ((m : ℕ) → ParsesTo (b.type_by c (at_ rest m)) ty rest) → (n : ℕ) → ParsesTo (b.sql_type (at_ (syms a ++ rest) n)) ty rest
@@ -169,7 +172,7 @@ decimal_some {x = x} {s = s} (enclosed {a = a} {b = e} {c = f} open_ is close_) 
     (either_one open_decimal (pure (sql.Decimal 18 0)) (sql.Decimal x s) (syms (e ++ f) ++ rest) rest m (one w.open_ a open_)
     (give_at open_decimal m (flow e f rest) (precision_parses is f (one w.close_ f close_) rest m)))
 
-type_if : ReadsIf after_type b.sql_type IsType
+pub type_if : ReadsIf after_type b.sql_type IsType
 type_if _ _ (g.bit is) rest n fits = plain_type type_name.Bit sql.Bit is rest (λ m. pure_parses sql.Bit rest m) n
 type_if _ _ (g.int is) rest n fits = plain_type type_name.Int sql.Int is rest (λ m. pure_parses sql.Int rest m) n
 type_if _ _ (g.bigint is) rest n fits = plain_type type_name.BigInt sql.BigInt is rest (λ m. pure_parses sql.BigInt rest m) n

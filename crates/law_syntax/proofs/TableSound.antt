@@ -184,7 +184,7 @@ type_by_follows type_name.VarBinary a n x j h =
     let s0 = step b.size size_follows (λ m. pure (sql.VarBinary m)) a n x j h in
     built (BehindType type_name.VarBinary) s0.tokens s0.rest s0.left s0.cut (λ c first. g.varbinary first s0.is) s0.then_
 
-type_follows : Follows b.sql_type IsType
+pub type_follows : Follows b.sql_type IsType
 unfolding b.sql_type
 type_follows a n x j h =
     let s0 = step type_word type_word_follows b.type_by a n x j h in

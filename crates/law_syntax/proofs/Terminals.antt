@@ -103,15 +103,19 @@ module _ (spelled : Tag → Option (List ℕ)) where
 -- ---- words
 
 abbrev pub spelled_word : Tag → Option (List ℕ)
+spelled_word t.Add = Some (codes "ADD")
+spelled_word t.Alter = Some (codes "ALTER")
 spelled_word t.And = Some (codes "AND")
 spelled_word t.Asc = Some (codes "ASC")
 spelled_word t.Begin = Some (codes "BEGIN")
 spelled_word t.By = Some (codes "BY")
 spelled_word t.Clustered = Some (codes "CLUSTERED")
+spelled_word t.Column = Some (codes "COLUMN")
 spelled_word t.Commit = Some (codes "COMMIT")
 spelled_word t.Create = Some (codes "CREATE")
 spelled_word t.Delete = Some (codes "DELETE")
 spelled_word t.Desc = Some (codes "DESC")
+spelled_word t.Drop = Some (codes "DROP")
 spelled_word t.Exec = Some (codes "EXEC")
 spelled_word t.Execute = Some (codes "EXECUTE")
 spelled_word t.From = Some (codes "FROM")
@@ -217,6 +221,14 @@ a_sign g s spells small is = record { takes = sign_takes g s is; gives = sign_gi
 
 -- ---- each of them
 
+pub add_ : Terminal t.Add (Word (codes "ADD"))
+unfolding tag_of
+add_ = reserved_word t.Add (codes "ADD") refl refl
+
+pub alter_ : Terminal t.Alter (Word (codes "ALTER"))
+unfolding tag_of
+alter_ = reserved_word t.Alter (codes "ALTER") refl refl
+
 pub and_ : Terminal t.And (Word (codes "AND"))
 unfolding tag_of
 and_ = reserved_word t.And (codes "AND") refl refl
@@ -237,6 +249,10 @@ pub clustered_ : Terminal t.Clustered (Word (codes "CLUSTERED"))
 unfolding tag_of
 clustered_ = reserved_word t.Clustered (codes "CLUSTERED") refl refl
 
+pub column_ : Terminal t.Column (Word (codes "COLUMN"))
+unfolding tag_of
+column_ = reserved_word t.Column (codes "COLUMN") refl refl
+
 pub commit_ : Terminal t.Commit (Word (codes "COMMIT"))
 unfolding tag_of
 commit_ = reserved_word t.Commit (codes "COMMIT") refl refl
@@ -252,6 +268,10 @@ delete_ = reserved_word t.Delete (codes "DELETE") refl refl
 pub desc_ : Terminal t.Desc (Word (codes "DESC"))
 unfolding tag_of
 desc_ = reserved_word t.Desc (codes "DESC") refl refl
+
+pub drop_ : Terminal t.Drop (Word (codes "DROP"))
+unfolding tag_of
+drop_ = reserved_word t.Drop (codes "DROP") refl refl
 
 pub exec_ : Terminal t.Exec (Word (codes "EXEC"))
 unfolding tag_of

@@ -3,4 +3,4 @@
 
 mod grammar;
 
-pub use grammar::parsing_keeps_to_the_grammar;
+pub use grammar::{parsing_keeps_to_the_grammar, versions_keep_to_the_grammar};

@@ -4,7 +4,7 @@ ghost use Rattle.workload_generator.specs.Workload.{create_text, insert_text, up
 ghost use Rattle.spec_syntax.specs.Text.{statement_of};
 ghost use Rattle.law_workload.specs.Statements.{create_statement, insert_statement, update_statement};
 
-use law_syntax::parsing_keeps_to_the_grammar;
+use law_syntax::versions_keep_to_the_grammar;
 use sql_scalar::literals_are_read_back;
 
 /// Each text of the workload is the statement that it looks like: one that makes a table, one that inserts a
@@ -18,5 +18,5 @@ pub fn texts_are_read()
         → statement_of (update_text table row) ≡ Some (update_statement table row) }
 {
     literals_are_read_back();
-    parsing_keeps_to_the_grammar();
+    versions_keep_to_the_grammar();
 }

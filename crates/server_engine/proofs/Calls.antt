@@ -16,7 +16,7 @@ use Rattle.server_session.specs.declared.seat.Seat.{Seat}
 use Rattle.server_session.specs.declared.stage.ControlPoint.{ControlPoint}
 use Rattle.server_session.specs.declared.stage.ControlPoint.TheVariants.{Between, Inside, Leaving, Over}
 use Rattle.server_engine.specs.CoreInput.{CoreInput}
-use Rattle.server_engine.specs.IsMidway.{IsAtSessionEnd, IsMidway, TookUp, ChangesSession, WentOn, WentToEnd}
+use Rattle.server_engine.specs.IsMidway.{IsAtSessionEnd, IsEnding, IsInStatement, IsMidway, TookUp, ChangesSession, WentOn, WentToEnd}
 use Rattle.server_engine.specs.Standing.{Found, IsOpen, OthersStay, Stands}
 use Rattle.server_engine.specs.declared.one_thread.Core.{Core}
 use Rattle.server_engine.specs.declared.session.Session.{Session}
@@ -121,6 +121,17 @@ module _ {H : Type 0} (digest : H → List ℕ → List ℕ) (h : H) (a : CoreIn
       let there = turned_there j b d IsDoneAtEnd u in
       same_at d.sessions.items j m.y (λ (y : Session H). MayEndSession y.seat) m.there u.z there
       (⊎_elim (λ (e : MayEndSession u.z.seat). e) (λ l. turns.may_leave digest h a j d m u.z there l u.went.1) u.went.0)
+
+module _ {H : Type 0} (j : ℕ) (b c d : Core H) (Q : Seat H → Seat H → Type 0) (on : (y z : Seat H) → Q y z → WentOn y z) where
+  -- who took up a statement and went on is in it
+  pub inside_on : ChangesSession TookUp j b c → ChangesSession Q j c d → IsInStatement d j
+  inside_on s t = turned_found b j d (λ x z. IsInside z) (λ y. IsInside y.seat) (λ y z p. p)
+      (turned_on j b c d TookUp Q (λ x z. IsInside z) (λ x y z p q. (turns.still_inside y z p (on y z q)).0) s t)
+
+  -- who came to its end and went on is there
+  pub ending_on : ChangesSession IsAtSessionEnd j b c → ChangesSession Q j c d → IsEnding d j
+  ending_on s t = turned_found b j d (λ x z. MayEndSession z ⊎ IsLeaving z) (λ y. MayEndSession y.seat ⊎ IsLeaving y.seat) (λ y z p. p)
+      (turned_on j b c d IsAtSessionEnd Q (λ x z. MayEndSession z ⊎ IsLeaving z) (λ x y z p q. still_ending y z p (on y z q)) s t)
 
 -- the name of an open session
 pub name_there : {H : Type 0} (digest : H → List ℕ → List ℕ) (h : H) (a : CoreInput) (c : Core H) → Stands digest h c a → (j : ℕ) → j < length c.sessions.items → (name : Text) × (get_elem? a.names j ≡ some name)

@@ -3,6 +3,7 @@ use Rattle.std.proofs.Common.{◌≡◌, ◌<◌, ◌≤◌, ◌^◌, ℕ, true,
 use Rattle.std.proofs.lemmas.List.{length-map}
 use mathlib.Core.Option.{some, some-injective}
 use lib.ListN.{get_elem?}
+use Rattle.sql_types.specs.declared.journal.TheConstants.{JOURNAL_VERSION}
 use Rattle.sql_types.specs.declared.digest.Digest.{Digest}
 use Rattle.sql_types.specs.declared.journal.JournalItem.{JournalItem}
 use Rattle.spec_model.specs.Limits.{max_block}
@@ -173,9 +174,9 @@ module _ {H : Type 0} (digest : H → List ℕ → List ℕ) (h : H) (a : CoreIn
         one_ledger : (x y : LedgerCell) → Ledger x ≡ Ledger y → x ≡ y
         one_ledger x y e = cc
 
-    pub has_left : (v : Server) → Serves (digest h) statement_of v → (p : Parts H) → p.journal.database ≡ l.database → p.journal.items ≡ l.items → p.digests ≡ l.issued → p.sessions.items ≡ c.sessions.items
+    pub has_left : (v : Server) → Serves (digest h) statement_of v → (p : Parts H) → p.journal.version ≡ JOURNAL_VERSION → p.journal.database ≡ l.database → p.journal.items ≡ l.items → p.digests ≡ l.issued → p.sessions.items ≡ c.sessions.items
         → p.image ≡ image_bytes (image_of (digest h) statement_of a.database l.items) → FitsImageFormat (digest h) statement_of a.database l.items → HasLeft (digest h) a p
-    has_left some_v some_serves p database items issued sessions_are image room = record {
+    has_left some_v some_serves p version database items issued sessions_are image room = record {
       image = image ∙ ap (λ (J : List JournalItem). image_bytes (image_of (digest h) statement_of a.database J)) (sym items);
       room = subst (λ (J : List JournalItem). FitsImageFormat (digest h) statement_of a.database J) (sym items) room;
       transcripts = map (λ k. k.transcript) told;
@@ -183,6 +184,7 @@ module _ {H : Type 0} (digest : H → List ℕ → List ℕ) (h : H) (a : CoreIn
           ∙ same_seen Shows (λ (y : Session H). y.entries) (λ (k : SessionOutput). entry_texts k.transcript) (λ y k s. s.entries) c.sessions.items told m.holds.shown
           ∙ sym (map_twice (λ (k : SessionOutput). k.transcript) entry_texts told);
       names = map_twice (λ (k : SessionOutput). k.transcript) (λ (x : Transcript). x.session) told ∙ m.holds.names;
+      version = version;
       database = database ∙ database_is some_v some_serves;
       ended = λ v serves. subst₂ (λ (J : List JournalItem) (G : List Digest). HasEnded v a.database a.size a.names a.lines a.moments (map (λ k. k.transcript) told) (map (λ y. y.images) p.sessions.items) J G) (sym items) (sym issued)
           (subst (λ (images : List (List KeptImage)). HasEnded v a.database a.size a.names a.lines a.moments (map (λ k. k.transcript) told) images l.items l.issued) (sym images_are) (ended_on v serves));

@@ -5,14 +5,14 @@ use lib.ListN.{get_elem?}
 use Rattle.spec_history.specs.Lists.{In}
 use Rattle.spec_protocol.specs.Cells.{Cell, ledger_at}
 use Rattle.server_session.specs.Needs.{need_of, visits_left}
-use Rattle.server_session.specs.ControlPoints.{IsAnswering, IsBetween, IsLeaving, IsOver, IsUnderWay, KeepsStatement}
+use Rattle.server_session.specs.ControlPoints.{IsAnswering, IsBetween, IsInside, IsLeaving, IsOver, IsUnderWay, KeepsStatement}
 use Rattle.server_session.specs.Rest.{MayEndSession}
 use Rattle.server_session.specs.SessionOutput.{size_of}
 use Rattle.server_session.specs.declared.need.NextVisit.{NextVisit}
 use Rattle.server_session.specs.declared.need.NextVisit.TheVariants.{Done}
 use Rattle.server_session.specs.declared.seat.Seat.{Seat}
 use Rattle.server_engine.specs.CoreInput.{CoreInput}
-use Rattle.server_engine.specs.Standing.{cells_seen, seats_seen, pending_at, Holds, IsInactive}
+use Rattle.server_engine.specs.Standing.{cells_seen, seats_seen, pending_at, Found, Holds, IsInactive}
 use Rattle.server_engine.specs.declared.one_thread.Core.{Core}
 use Rattle.server_engine.specs.declared.session.Session.{Session}
 
@@ -107,6 +107,14 @@ TookUp y z = IsUnderWay z
 -- it comes to its end
 abbrev pub IsAtSessionEnd : {H : Type 0} → Seat H → Seat H → Type 0
 IsAtSessionEnd y z = MayEndSession z ⊎ IsLeaving z
+
+-- the session is in a statement, which isn't answered yet
+abbrev pub IsInStatement : {H : Type 0} → Core H → ℕ → Type 0
+IsInStatement c j = Found (λ y. IsInside y.seat) (get_elem? c.sessions.items j)
+
+-- the session is at its end, which isn't written down yet
+abbrev pub IsEnding : {H : Type 0} → Core H → ℕ → Type 0
+IsEnding c j = Found (λ y. MayEndSession y.seat ⊎ IsLeaving y.seat) (get_elem? c.sessions.items j)
 
 -- it is between statements, or over
 abbrev pub IsBetweenThen : {H : Type 0} → Seat H → Seat H → Type 0

@@ -1,4 +1,5 @@
 -- What a core leaves once all its sessions are over.
+use Rattle.sql_types.specs.declared.journal.TheConstants.{JOURNAL_VERSION}
 use Rattle.std.specs.Prelude.{ℕ, ◌≡◌, ◌<◌, List, length, map}
 use Rattle.spec_history.specs.Transcripts.{Transcript}
 use Rattle.format_image.specs.Image.{image_of}
@@ -19,6 +20,7 @@ pub record HasLeft {H : Type 0} (h : List ℕ → List ℕ) (a : CoreInput) (p :
   pub transcripts : List Transcript
   pub texts : map (λ y. y.entries) p.sessions.items ≡ map entry_texts transcripts
   pub names : map (λ x. x.session) transcripts ≡ a.names
+  pub version : p.journal.version ≡ JOURNAL_VERSION
   pub database : p.journal.database ≡ a.database
   pub ended : (v : Server) → Serves h statement_of v
       → HasEnded v a.database a.size a.names a.lines a.moments transcripts

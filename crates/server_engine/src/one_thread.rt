@@ -8,7 +8,7 @@ ghost use Rattle.base_types.specs.SessionName.{is_session_name};
 ghost use Rattle.sql_types.specs.declared.journal.TheConstants.{MAX_BLOCK};
 ghost use Rattle.law_sequential.specs.EndsLast.{running, ending};
 ghost use Rattle.server_engine.specs.CoreInput.{CoreInput, nothing_asked, with_session, with_line, at_end};
-ghost use Rattle.server_engine.specs.IsMidway.{IsAtSessionEnd, IsBelow, IsBetweenThen, IsOverThen, IsUnchanged, IsWithin, MayAnswer, MayLeave, IsMidway, TookUp, ChangesSession};
+ghost use Rattle.server_engine.specs.IsMidway.{IsAtSessionEnd, IsBelow, IsBetweenThen, IsEnding, IsInStatement, IsOverThen, IsUnchanged, IsWithin, MayAnswer, MayLeave, IsMidway, TookUp, ChangesSession};
 ghost use Rattle.server_engine.specs.Parts.{HasLeft, IsDone};
 ghost use Rattle.server_engine.specs.Standing.{IsEnded, IsOpen, IsStanding, MayTakeStatement, OthersStay, Stands};
 
@@ -88,6 +88,7 @@ impl<H: Hash32> Core<H> {
             → a.phase ≡ running → get_elem? a.names session ≡ some name
             → OnErr result (IsMidway H.digest h self.new (with_line name text now a) session
             × IsWithin self.new (with_line name text now a)) }
+        ensures inside { OnErr result (IsInStatement self.new session) }
         ensures others { OnOk result (OthersStay session self.old self.new) }
         ensures others_then { OnErr result (OthersStay session self.old self.new) }
     {
@@ -136,6 +137,7 @@ impl<H: Hash32> Core<H> {
         ensures ended { OnOk result (IsEnded self.new session) }
         ensures stays { (h : H) (a : CoreInput) → Stands H.digest h self.old a
             → OnErr result (IsMidway H.digest h self.new (at_end a) session × IsWithin self.new (at_end a)) }
+        ensures ending { OnErr result (IsEnding self.new session) }
         ensures others { OnOk result (OthersStay session self.old self.new) }
         ensures others_then { OnErr result (OthersStay session self.old self.new) }
     {

@@ -17,6 +17,7 @@ each_item (i ∷ items) rules texts = (one_item i rules.0 texts.0, each_item ite
 
 pub journal_is_encodable : (j : Journal) → JournalRules j → AllByRecursion HasTexts j.items → length j.items < 2 ^ 64 → IsJournal j
 journal_is_encodable j rules texts few = record {
+  version = rules.version;
   database = rules.database;
   count = few;
   items = each_item j.items rules.items texts;

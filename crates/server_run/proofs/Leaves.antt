@@ -150,7 +150,8 @@ module _ (h : List ℕ → List ℕ) (sized : (bytes : List ℕ) → length (h b
     of = fin.stands.of l saved.there
 
     the_journal : r.journal ≡ journal_in l
-    the_journal = ap₂ (λ (name : Text) (items : List JournalItem). record { database = name; items = items }) saved.database saved.items
+    the_journal = ap₂ (λ (name : Text) (items : List JournalItem). record { version = r.journal.version; database = name; items = items }) saved.database saved.items
+        ∙ ap (λ (version : ℕ). record { version = version; database = l.database; items = l.items }) saved.version
 
     room : FitsImageFormat h statement_of database l.items
     unfolding cells_stand

@@ -1,5 +1,6 @@
 -- What is saved of a run, and with the digest that is issued behind it.
 use Rattle.std.proofs.Common.{◌≡◌, ◌≤◌, ◌^◌, ◌++◌, ◌∙◌, ℕ, List, append-nil, refl, sym, ap, subst, ⊎_elim}
+use Rattle.sql_types.specs.declared.journal.TheConstants.{JOURNAL_VERSION}
 use Rattle.sql_types.specs.declared.digest.Digest.{Digest}
 use Rattle.spec_protocol.specs.Cells.{LedgerCell, ledger_at, pending_in}
 use Rattle.spec_protocol.specs.LedgerVisits.{with_digest}
@@ -38,6 +39,7 @@ module _ (f : FinishedRun) (l : OutcomeParts) (is : IsLeaving f l) where
     ledger = l.ledger.cell;
     there = seen_at (λ (k : KeptCell). k.cell) f.cells.items ledger_at (ledger_seen l.ledger) is.there;
     ids = next;
+    version = refl;
     database = refl;
     items = refl;
     digests = refl;
@@ -58,6 +60,6 @@ module _ (f : FinishedRun) (l : OutcomeParts) (is : IsLeaving f l) where
       more = more;
       after = after.cell;
       issued = issued;
-      is = ap (λ (c : LedgerCell). record { transcript = l.transcript; images = l.images; image = l.image; journal = record { database = c.database; items = c.items }; digests = c.issued })
+      is = ap (λ (c : LedgerCell). record { transcript = l.transcript; images = l.images; image = l.image; journal = record { version = JOURNAL_VERSION; database = c.database; items = c.items }; digests = c.issued })
           (after_is h made l.ledger.cell none_there more after.cell issued);
     }

@@ -2,6 +2,7 @@
 use Rattle.std.specs.Prelude.{ℕ, ◌≡◌, ◌≤◌, ◌^◌, ◌++◌, List, ◌∷◌, map}
 use mathlib.Core.Option.{some}
 use lib.ListN.{get_elem?}
+use Rattle.sql_types.specs.declared.journal.TheConstants.{JOURNAL_VERSION}
 use Rattle.sql_types.specs.declared.digest.Digest.{Digest}
 use Rattle.server_engine.specs.Images.{AreImageBytes, CellsStand, JournalFitsFormat}
 use Rattle.server_engine.specs.LedgerSeen.{ledger_seen}
@@ -23,6 +24,7 @@ pub record HasSaved (f : FinishedRun) (r : RunOutcome) : Type 0 where
   pub ledger : LedgerCell
   pub there : get_elem? (map (λ c. c.cell) f.cells.items) ledger_at ≡ some (Ledger ledger)
   pub ids : ledger.next ≤ 2 ^ 63
+  pub version : r.journal.version ≡ JOURNAL_VERSION
   pub database : r.journal.database ≡ ledger.database
   pub items : r.journal.items ≡ ledger.items
   pub digests : r.digests ≡ ledger.issued
@@ -34,7 +36,11 @@ run_outcome_of l = record {
   transcript = l.transcript;
   images = l.images;
   image = l.image;
-  journal = record { database = l.ledger.cell.database; items = l.ledger.cell.items };
+  journal = record {
+    version = JOURNAL_VERSION;
+    database = l.ledger.cell.database;
+    items = l.ledger.cell.items;
+  };
   digests = l.ledger.cell.issued;
 }
 

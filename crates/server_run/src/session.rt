@@ -37,7 +37,7 @@ fn run_statement<'a, K: Serving, H: Hash32, C: Clock, G: Gate, R: Wait>(
     requires between { IsBetween worker.old.session.seat }
     requires more { worker.old.taken < length worker.old.job.statements.now }
     requires image { worker.old.image ≡ None }
-    ensures place { OnOk result (IsFreed place.old place.new) }
+    ensures place { IsFreed place.old place.new }
     ensures ahead { OnOk result
         (IsAhead H.digest C.says K.database.server worker.new (seat_state place.new)) }
     ensures known { OnOk result (HasSameKnowledge (seat_state place.old) (seat_state place.new)) }
@@ -68,7 +68,7 @@ fn run_statements<'a, K: Serving, H: Hash32, C: Clock, G: Gate, R: Wait>(
     requires first { worker.old.taken ≡ 0 }
     requires few { length worker.old.job.statements.now < 2 ^ 32 }
     requires image { worker.old.image ≡ None }
-    ensures place { OnOk result (IsFreed place.old place.new) }
+    ensures place { IsFreed place.old place.new }
     ensures ahead { OnOk result
         (IsAhead H.digest C.says K.database.server worker.new (seat_state place.new)) }
     ensures known { OnOk result (HasSameKnowledge (seat_state place.old) (seat_state place.new)) }
@@ -99,7 +99,7 @@ fn end_session<'a, K: Serving, H: Hash32, C: Clock, G: Gate, R: Wait>(
     requires between { IsBetween worker.old.session.seat }
     requires all { worker.old.taken ≡ length worker.old.job.statements.now }
     requires image { worker.old.image ≡ None }
-    ensures place { OnOk result (IsFreed place.old place.new) }
+    ensures place { IsFreed place.old place.new }
     ensures wrote { OnOk result (HasWritten (says_in C.says worker.old.job) worker.old.job.name.now
         (texts_in worker.old.job.statements.now) (left_of worker.new) (known_by (seat_state place.old))
         (seat_state place.old).written (seat_state place.new)) }
@@ -128,7 +128,7 @@ fn carry_out<'a, K: Serving, H: Hash32, C: Clock, G: Gate, R: Wait>(
     requires first { worker.old.taken ≡ 0 }
     requires few { length worker.old.job.statements.now < 2 ^ 32 }
     requires image { worker.old.image ≡ None }
-    ensures place { OnOk result (IsFreed place.old place.new) }
+    ensures place { IsFreed place.old place.new }
     ensures wrote { OnOk result (HasWritten (says_in C.says worker.old.job) worker.old.job.name.now
         (texts_in worker.old.job.statements.now) (left_of worker.new) (known_by (seat_state place.old))
         (seat_state place.old).written (seat_state place.new)) }
@@ -153,7 +153,8 @@ fn end_of<H: Hash32, C: Clock>(worker: Worker<'_, H, C>) -> SessionEnd
 }
 
 /// Runs the session of a job to its end at an idle seat. The gate is passed behind each of its statements, and
-/// once more at its end; `number` is the session's there. After want of memory the seat is to be dropped.
+/// once more at its end; `number` is the session's there. After want of memory too it leaves the seat with its
+/// parts and with no cell out, so nobody waits for one; its session may not be over then.
 pub(crate) fn session_job<'a, K: Serving, H: Hash32, C: Clock, G: Gate, R: Wait>(
     rt: &R,
     alloc: Global,
@@ -168,7 +169,7 @@ pub(crate) fn session_job<'a, K: Serving, H: Hash32, C: Clock, G: Gate, R: Wait>
     requires serves { Serves (H.digest job.hasher) statement_of K.database.server }
     requires name { is_session_name job.name.now ≡ true }
     requires few { length job.statements.now < 2 ^ 32 }
-    ensures place { OnOk result (IsFreed place.old place.new) }
+    ensures place { IsFreed place.old place.new }
     ensures wrote { IfOk result (λ end. HasWritten (says_in C.says job.entry) job.entry.name.now
         (texts_in job.entry.statements.now) end (known_by (seat_state place.old))
         (seat_state place.old).written (seat_state place.new)) }

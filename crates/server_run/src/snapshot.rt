@@ -45,7 +45,7 @@ pub(crate) fn visit_all<'a, K: Serving, H: Hash32, C: Clock, R: Wait>(
     requires ahead { IsAhead H.digest C.says K.database.server worker.old (seat_state place.old) }
     requires needs { need_of worker.old.session.seat ≡ need.All }
     requires image { worker.old.image ≡ None }
-    ensures place { OnOk result (IsFreed place.old place.new) }
+    ensures place { IsFreed place.old place.new }
     ensures ahead { OnOk result
         (IsAhead H.digest C.says K.database.server worker.new (seat_state place.new)) }
     ensures known { OnOk result (HasSameKnowledge (seat_state place.old) (seat_state place.new)) }

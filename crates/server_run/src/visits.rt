@@ -65,7 +65,7 @@ fn visit_next<'a, K: Serving, H: Hash32, C: Clock, G: Gate, R: Wait>(
     requires serves { Serves (H.digest worker.old.job.hasher) statement_of K.database.server }
     requires ahead { IsAhead H.digest C.says K.database.server worker.old (seat_state place.old) }
     requires image { worker.old.image ≡ None }
-    ensures place { OnOk result (IsFreed place.old place.new) }
+    ensures place { IsFreed place.old place.new }
     ensures ahead { OnOk result
         (IsAhead H.digest C.says K.database.server worker.new (seat_state place.new)) }
     ensures known { OnOk result (HasSameKnowledge (seat_state place.old) (seat_state place.new)) }
@@ -102,7 +102,7 @@ pub(crate) fn visit_needed<'a, K: Serving, H: Hash32, C: Clock, G: Gate, R: Wait
     requires serves { Serves (H.digest worker.old.job.hasher) statement_of K.database.server }
     requires ahead { IsAhead H.digest C.says K.database.server worker.old (seat_state place.old) }
     requires image { worker.old.image ≡ None }
-    ensures place { OnOk result (IsFreed place.old place.new) }
+    ensures place { IsFreed place.old place.new }
     ensures ahead { OnOk result
         (IsAhead H.digest C.says K.database.server worker.new (seat_state place.new)) }
     ensures known { OnOk result (HasSameKnowledge (seat_state place.old) (seat_state place.new)) }

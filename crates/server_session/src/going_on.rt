@@ -55,6 +55,7 @@ fn refused_inside(stmt: &Stmt) -> Option<Refusal>
         Stmt::Create(_) | Stmt::Index(_) | Stmt::Digest | Stmt::Image => Some(
             Refusal::ForbiddenInTransaction,
         ),
+        Stmt::Alter(_) | Stmt::Drop(_) => Some(Refusal::SyntaxError),
         Stmt::Begin => Some(Refusal::AlreadyInTransaction),
         _ => None,
     }
@@ -65,6 +66,7 @@ fn refused_outside(stmt: &Stmt, images: usize) -> Option<Refusal>
     ensures { result ≡ answering.refused_outside images (Some stmt.now) }
 {
     match stmt {
+        Stmt::Alter(_) | Stmt::Drop(_) => Some(Refusal::SyntaxError),
         Stmt::Commit | Stmt::Save(_) | Stmt::Rollback(_) => Some(Refusal::NoTransaction),
         Stmt::Image => if images == MOST_IMAGES {
             Some(Refusal::LimitExceeded)

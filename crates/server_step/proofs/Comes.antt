@@ -1,10 +1,11 @@
 -- What a core left is a run of the statements that were asked of it.
-use Rattle.std.proofs.Common.{◌≡◌, ℕ, true, List, [], ◌∷◌, map, length, refl, sym, ap, ◌∙◌, subst}
+use Rattle.std.proofs.Common.{◌≡◌, ℕ, true, List, [], ◌∷◌, map, length, refl, sym, ap, ap₂, ◌∙◌, subst}
 use Rattle.std.specs.List.{list_any, IsDistinct, AllByRecursion, All}
 use Rattle.std.specs.Str.{bytes_eq}
 use Rattle.base_types.specs.DatabaseName.{is_database_name}
 use Rattle.base_types.specs.Moment.{is_moment}
 use Rattle.base_types.specs.SessionName.{is_session_name}
+use Rattle.sql_types.specs.declared.journal.TheConstants.{JOURNAL_VERSION}
 use Rattle.sql_types.specs.declared.digest.Digest.{Digest}
 use Rattle.sql_types.specs.declared.journal.Journal.{Journal}
 use Rattle.sql_types.specs.declared.journal.JournalItem.{JournalItem}
@@ -34,7 +35,7 @@ use Rattle.server_engine.specs.SessionOutput.{HasEnded, IsImageOf, RunAgrees}
 use Rattle.server_engine.proofs.SessionOutput.{some_meaning}
 use Rattle.law_kept_images.specs.Accepted.{IsAccepted}
 use Rattle.server_engine.specs.declared.parts.Parts.{Parts}
-use Rattle.law_kept_images.specs.LastImage.{journal_of, last_image, last_image_bytes}
+use Rattle.law_kept_images.specs.LastImage.{last_image, last_image_bytes}
 use Rattle.law_kept_images.proofs.Accepts.{each_in}
 use Rattle.server_result.specs.Images.{with_each}
 use Rattle.server_result.specs.Moments.{IsMoment}
@@ -60,7 +61,7 @@ SequentialRunsAgree = (h : List ℕ → List ℕ) (reads : Reading) (database : 
 abbrev pub JournalsAreLegal : Type 0
 JournalsAreLegal = (v : Server) (database : Text) (size : ℕ) (names : List Text) (lines : List InputLine) (moments : List ℕ) (X : List Transcript) (images : List (List KeptImage)) (J : List JournalItem) (G : List Digest)
     → HasEnded v database size names lines moments X images J G → map (λ x. x.session) X ≡ names → is_database_name database ≡ true
-    → Each (λ name. is_session_name name ≡ true) names → Each (λ time. is_moment time ≡ true) moments → IsLegalJournal v.reads (record { database = database; items = J })
+    → Each (λ name. is_session_name name ≡ true) names → Each (λ time. is_moment time ≡ true) moments → IsLegalJournal v.reads (record { version = JOURNAL_VERSION; database = database; items = J })
 
 abbrev pub TimesAreTheirs : Type 0
 TimesAreTheirs = (v : Server) (database : Text) (size : ℕ) (names : List Text) (lines : List InputLine) (moments : List ℕ) (X : List Transcript) (images : List (List KeptImage)) (J : List JournalItem) (G : List Digest)
@@ -68,17 +69,17 @@ TimesAreTheirs = (v : Server) (database : Text) (size : ℕ) (names : List Text)
 
 abbrev pub KeptAreAccepted : Type 0
 KeptAreAccepted = (h : List ℕ → List ℕ) (database : Text) (size : ℕ) (names : List Text) (lines : List InputLine) (X : List Transcript) (images : List (List KeptImage)) (J : List JournalItem) (G : List Digest)
-    → RunAgrees h statement_of database size names lines X images J G → IsLegalJournal statement_of (record { database = database; items = J }) → FitsImageFormat h statement_of database J
+    → RunAgrees h statement_of database size names lines X images J G → IsLegalJournal statement_of (record { version = JOURNAL_VERSION; database = database; items = J }) → FitsImageFormat h statement_of database J
     → Each (λ kept. Each (IsAccepted h database J G) kept) images
 
 abbrev pub WholeIsAccepted : Type 0
 WholeIsAccepted = (h : List ℕ → List ℕ) (database : Text) (size : ℕ) (names : List Text) (lines : List InputLine) (X : List Transcript) (images : List (List KeptImage)) (J : List JournalItem) (G : List Digest)
-    → RunAgrees h statement_of database size names lines X images J G → IsLegalJournal statement_of (record { database = database; items = J }) → FitsImageFormat h statement_of database J
+    → RunAgrees h statement_of database size names lines X images J G → IsLegalJournal statement_of (record { version = JOURNAL_VERSION; database = database; items = J }) → FitsImageFormat h statement_of database J
     → IsAccepted h database J G (length J, image_bytes (image_of h statement_of database J))
 
 abbrev pub AllAreAccepted : Type 0
 AllAreAccepted = (h : List ℕ → List ℕ) (database : Text) (size : ℕ) (names : List Text) (lines : List InputLine) (X : List Transcript) (images : List (List KeptImage)) (J : List JournalItem) (G : List Digest)
-    → RunAgrees h statement_of database size names lines X images J G → IsLegalJournal statement_of (record { database = database; items = J }) → FitsImageFormat h statement_of database J
+    → RunAgrees h statement_of database size names lines X images J G → IsLegalJournal statement_of (record { version = JOURNAL_VERSION; database = database; items = J }) → FitsImageFormat h statement_of database J
     → verdict_of h (map held G) (image_bytes (image_of h statement_of database J)) ≡ Yes
 
 abbrev pub IsServed : Type 0
@@ -125,13 +126,13 @@ module _ {H : Type 0} (agree : SequentialRunsAgree) (legal : JournalsAreLegal) (
     they_agree : RunAgrees h statement_of database size names (lines_of statements) X images J p.digests
     they_agree = agree h statement_of database size names (lines_of statements) x.times X images J p.digests x.left.names (names_apart names (differ statements)) x.left.ended
 
-    is_legal : IsLegalJournal statement_of (record { database = database; items = J })
-    is_legal = subst (λ (reads : Reading). IsLegalJournal reads (record { database = database; items = J })) serves.reading
+    is_legal : IsLegalJournal statement_of (record { version = JOURNAL_VERSION; database = database; items = J })
+    is_legal = subst (λ (reads : Reading). IsLegalJournal reads (record { version = JOURNAL_VERSION; database = database; items = J })) serves.reading
         (legal v database size names (lines_of statements) x.times X images J p.digests (x.left.ended v serves) x.left.names x.database_is_named x.sessions_are_named
         (each_weaker (IsMoment says) (λ time. is_moment time ≡ true) (moment_is says) x.times x.moments))
 
-    the_journal : record { database = database; items = J } ≡ p.journal
-    the_journal = ap (λ (d : Text). journal_of d J) (sym x.left.database)
+    the_journal : record { version = JOURNAL_VERSION; database = database; items = J } ≡ p.journal
+    the_journal = ap₂ (λ (v : ℕ) (d : Text). record { version = v; database = d; items = J }) (sym x.left.version) (sym x.left.database)
 
     in_time : Each (λ time. In time x.times) (journals.times J) × Each (λ d. In d.made x.times) p.digests
     in_time = theirs v database size names (lines_of statements) x.times X images J p.digests (x.left.ended v serves)

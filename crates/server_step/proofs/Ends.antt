@@ -24,6 +24,7 @@ module _ {H : Type 0} (digest : H → List ℕ → List ℕ) (h : H) where
     transcripts = left.transcripts;
     texts = left.texts;
     names = left.names;
+    version = left.version;
     database = left.database;
     ended = left.ended;
     image = left.image;

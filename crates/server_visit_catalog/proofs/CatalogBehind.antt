@@ -67,6 +67,8 @@ module _ {H : Type 0} (digest : H → List ℕ → List ℕ) (r : Running H) (c 
       (λ (w : Creates digest (IndexFails create) (λ l p e at. IsIndex digest create r l p e at) r c q d stage).
       ⊎_elim (λ (f : (e : Refusal) × (e ≢ NoMemory → IndexFails create w.locked e) × IsRefused digest e r w.locked q d stage). blocked_behind w.locked f.0 f.2) (λ (m : IsIndex digest create r w.locked q d stage). subst IsBehind (sym m.3) (λ b. b)) w.how)
       k
+  looked_behind (st.Alter altered) k = up_behind (st.Alter altered) k
+  looked_behind (st.Drop name) k = up_behind (st.Drop name) k
   looked_behind (st.Change row) k = up_behind (st.Change row) k
   looked_behind (st.Select s) k = up_behind (st.Select s) k
   looked_behind st.Begin k = up_behind st.Begin k

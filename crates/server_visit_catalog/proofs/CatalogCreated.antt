@@ -127,7 +127,11 @@ module _ {H : Type 0} (digest : H → List ℕ → List ℕ) (y : Seat H) (c : C
       by false (st.Rollback name) e = absurd cc
       by true st.Digest e = absurd cc
       by false st.Digest e = absurd cc
+      by true (st.Alter altered) e = absurd cc
+      by true (st.Drop name) e = absurd cc
       by true st.Image e = absurd cc
+      by false (st.Alter altered) e = absurd cc
+      by false (st.Drop name) e = absurd cc
       by false st.Image e = absurd cc
 
   pub may_look_for : MayLookFor digest i.stmt i.r c
@@ -287,6 +291,8 @@ module _ {H : Type 0} (digest : H → List ℕ → List ℕ) (y : Seat H) (c d :
       by : (s : Stmt) → CreateRefused l s e → CreateRefused c s e
       by (st.Create create) f = ap (λ (x : CatalogCell). create_check x.defs create) (sym k.cell) ∙ f
       by (st.Index create) f = ap (λ (x : CatalogCell). index_check x.defs create) (sym k.cell) ∙ f
+      by (st.Alter altered) f = absurd f
+      by (st.Drop name) f = absurd f
       by (st.Change row) f = absurd f
       by (st.Select s) f = absurd f
       by st.Begin f = absurd f

@@ -74,6 +74,8 @@ module _ {H : Type 0} (digest : H → List ℕ → List ℕ) (y : Seat H) (c d :
       (λ (w : IsStopped digest mode.X i.r c q d stage). stopped_so mode.X (ap (catalog_request i.o.explicit) is ∙ creates_requests i.o.explicit (own_by_index digest y c a i create is) (st.Index create) refl) w)
       (λ (w : Creates digest (IndexFails create) (λ l p e at. IsIndex digest create i.r l p e at) i.r c q d stage). index_so digest y c d a i q stage create is w)
       k
+  by_stmt (st.Alter altered) is k may = absurd may
+  by_stmt (st.Drop name) is k may = absurd may
   by_stmt (st.Change row) is k may = looks_up (subst IsOfRows (sym is) tt) (subst (λ (s : Stmt). LooksUp digest s i.r c q d stage) (sym is) k)
   by_stmt (st.Select s) is k may = looks_up (subst IsOfRows (sym is) tt) (subst (λ (s : Stmt). LooksUp digest s i.r c q d stage) (sym is) k)
   by_stmt st.Begin is k may = absurd may
@@ -104,6 +106,8 @@ module _ {H : Type 0} (digest : H → List ℕ → List ℕ) (r : Running H) (c 
       (λ (w : Creates digest (IndexFails create) (λ l p e at. IsIndex digest create r l p e at) r c q d stage).
       ⊎_elim (λ (f : (e : Refusal) × (e ≢ NoMemory → IndexFails create w.locked e) × IsRefused digest e r w.locked q d stage). refused_fewer digest r q w.locked d stage f.0 f.2) (λ (m : IsIndex digest create r w.locked q d stage). index_fewer digest r q w.locked d stage create m) w.how)
       k
+  fewer_by (st.Alter altered) k = up_fewer (st.Alter altered) k
+  fewer_by (st.Drop name) k = up_fewer (st.Drop name) k
   fewer_by (st.Change row) k = up_fewer (st.Change row) k
   fewer_by (st.Select s) k = up_fewer (st.Select s) k
   fewer_by st.Begin k = up_fewer st.Begin k

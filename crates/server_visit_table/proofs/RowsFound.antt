@@ -153,6 +153,8 @@ module _ {H : Type 0} (digest : H → List ℕ → List ℕ) (y : Seat H) (r : R
         by (stmt.Select q) f g n = is_here
         by (stmt.Create q) f g n = absurd g.0
         by (stmt.Index q) f g n = absurd g.0
+        by (stmt.Alter altered) f g n = absurd g.0
+        by (stmt.Drop name) f g n = absurd g.0
         by stmt.Begin f g n = absurd g.0
         by stmt.Commit f g n = absurd g.0
         by (stmt.Save name) f g n = absurd g.0

@@ -4,13 +4,14 @@ use Rattle.sql_lex.specs.declared.token.Token.{Token}
 use Rattle.sql_lex.specs.Cut.{tokens_of}
 use Rattle.sql_types.specs.declared.statement.CreateTable.{CreateTable}
 use Rattle.sql_types.specs.declared.statement.CreateIndex.{CreateIndex}
+use Rattle.sql_types.specs.declared.statement.Alter.{Alter}
 use Rattle.sql_types.specs.declared.statement.RowStmt.{RowStmt}
 use Rattle.sql_types.specs.declared.statement.Select.{Select}
 use Rattle.sql_types.specs.declared.statement.Stmt.{Stmt}
 use Rattle.sql_types.specs.declared.statement.Stmt.TheVariants as stmt
 use Rattle.spec_grammar.specs.Tokens.{Lexeme, Lexemes, Word, Sign, IsName, OptionalPart}
 use Rattle.spec_grammar.specs.Rows.{IsInsert, IsUpdate, IsDelete, IsSelect}
-use Rattle.spec_grammar.specs.Tables.{IsCreateTable, IsCreateIndex}
+use Rattle.spec_grammar.specs.Tables.{IsCreateTable, IsCreateIndex, IsAlter, IsDrop}
 
 -- tran := TRAN | TRANSACTION
 pub data IsTran : Lexemes → Type 0 where
@@ -26,12 +27,14 @@ pub data IsExec : Lexemes → Type 0 where
 pub data IsSys : Lexemes → Type 0 where
   sys : {a b : Lexemes} → Word (codes "sys") a → Sign (codes ".") b → IsSys (a ++ b)
 
--- body := create | index | insert | update | delete | select
+-- body := create | index | alter | drop | insert | update | delete | select
 --       | BEGIN tran | COMMIT [tran] | SAVE tran name | ROLLBACK [tran [name]]
 --       | (EXEC | EXECUTE) [sys '.'] sp_generate_database_ledger_digest | SAVE IMAGE
 pub data IsBody : Lexemes → Stmt → Type 0 where
   create : {a : Lexemes} {x : CreateTable} → IsCreateTable a x → IsBody a (stmt.Create x)
   index : {a : Lexemes} {x : CreateIndex} → IsCreateIndex a x → IsBody a (stmt.Index x)
+  alter : {a : Lexemes} {x : Alter} → IsAlter a x → IsBody a (stmt.Alter x)
+  drop : {a : Lexemes} {n : List ℕ} → IsDrop a n → IsBody a (stmt.Drop n)
   insert : {a : Lexemes} {x : RowStmt} → IsInsert a x → IsBody a (stmt.Change x)
   update : {a : Lexemes} {x : RowStmt} → IsUpdate a x → IsBody a (stmt.Change x)
   delete : {a : Lexemes} {x : RowStmt} → IsDelete a x → IsBody a (stmt.Change x)

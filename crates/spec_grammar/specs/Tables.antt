@@ -1,4 +1,4 @@
--- CREATE TABLE and CREATE INDEX, production by production.
+-- The statements that make, change and drop tables, production by production.
 use Rattle.std.specs.Prelude.{◌≡◌, ◌<◌, ◌≤◌, ℕ, zero, suc, ◌+◌, Bool, true, false, not, List, [], ◌∷◌, ◌++◌, length, flat_map, bytes_eq, codes, Option, Some, None}
 use Rattle.std.specs.List.{list_any}
 use Rattle.sql_lex.specs.declared.token.Kind.TheVariants as kind
@@ -10,6 +10,8 @@ use Rattle.sql_value.specs.declared.column.TableKind.{TableKind}
 use Rattle.sql_value.specs.declared.column.TableKind.TheVariants.{AppendOnly, Updatable}
 use Rattle.sql_types.specs.declared.statement.CreateTable.{CreateTable}
 use Rattle.sql_types.specs.declared.statement.CreateIndex.{CreateIndex}
+use Rattle.sql_types.specs.declared.statement.Alter.{Alter}
+use Rattle.sql_types.specs.declared.statement.Alter.TheVariants.{Add, DropColumn}
 use Rattle.spec_grammar.specs.Tokens.{Lexemes, Word, Sign, IsName, Known, OptionalPart, Optional, Listed, Enclosed}
 use Rattle.spec_grammar.specs.Rows.{AreNames}
 
@@ -226,3 +228,24 @@ pub data IsCreateIndex : Lexemes → CreateIndex → Type 0 where
       → Word (codes "ON") f → IsName g table → Enclosed AreNames h columns
       → IsCreateIndex (a ++ (b ++ (c ++ (e ++ (f ++ (g ++ h))))))
       (record { name = n; table = table; columns = columns })
+
+-- a column that is added may be NULL and is in no key
+abbrev pub added_column : List ℕ → SqlType → ColumnDef
+added_column n ty = record { name = n; ty = ty; nullable = true; key_position = 0 }
+
+-- alter := ALTER TABLE name ADD name type [NULL] | ALTER TABLE name DROP COLUMN name
+pub data IsAlter : Lexemes → Alter → Type 0 where
+  add : {a b c e f g h : Lexemes} {table n : List ℕ} {ty : SqlType}
+      → Word (codes "ALTER") a → Word (codes "TABLE") b → IsName c table → Word (codes "ADD") e
+      → IsName f n → IsType g ty → OptionalPart (Word (codes "NULL")) h
+      → IsAlter (a ++ (b ++ (c ++ (e ++ (f ++ (g ++ h)))))) (Add table (added_column n ty))
+  drop_column : {a b c e f g : Lexemes} {table n : List ℕ}
+      → Word (codes "ALTER") a → Word (codes "TABLE") b → IsName c table → Word (codes "DROP") e
+      → Word (codes "COLUMN") f → IsName g n
+      → IsAlter (a ++ (b ++ (c ++ (e ++ (f ++ g))))) (DropColumn table n)
+
+-- drop := DROP TABLE name
+pub data IsDrop : Lexemes → List ℕ → Type 0 where
+  drop_table : {a b c : Lexemes} {table : List ℕ}
+      → Word (codes "DROP") a → Word (codes "TABLE") b → IsName c table
+      → IsDrop (a ++ (b ++ c)) table

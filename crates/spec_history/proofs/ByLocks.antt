@@ -233,7 +233,11 @@ module _ (q : Meaning) (J : List JournalItem) (held : List HeldStatement) where
   none_of D id false (Some (stmt.Rollback (Some name))) h = refl
   none_of D id true (Some stmt.Digest) h = refl
   none_of D id false (Some stmt.Digest) h = refl
+  none_of D id true (Some (stmt.Alter altered)) h = refl
+  none_of D id true (Some (stmt.Drop name)) h = refl
   none_of D id true (Some stmt.Image) h = refl
+  none_of D id false (Some (stmt.Alter altered)) h = refl
+  none_of D id false (Some (stmt.Drop name)) h = refl
   none_of D id false (Some stmt.Image) h = refl
 
   none_requested : (c id : ℕ) (explicit : Bool) (text : Text) (kind : Kind) → kind_of (q.reads text) ≡ kind → IsOther kind → way c id explicit text ≡ None

@@ -55,6 +55,8 @@ abbrev pub kind_of : Option Stmt → Kind
 kind_of None = unread
 kind_of (Some (stmt.Create x)) = create
 kind_of (Some (stmt.Index x)) = create
+kind_of (Some (stmt.Alter x)) = unread
+kind_of (Some (stmt.Drop name)) = unread
 kind_of (Some (stmt.Change x)) = rows
 kind_of (Some (stmt.Select x)) = rows
 kind_of (Some stmt.Begin) = begin

@@ -5,6 +5,7 @@ use lib.ListN.{get_elem?}
 use Rattle.base_types.specs.DatabaseName.{is_database_name}
 use Rattle.base_types.specs.Moment.{is_moment}
 use Rattle.base_types.specs.SessionName.{is_session_name}
+use Rattle.sql_types.specs.declared.journal.TheConstants.{JOURNAL_VERSION}
 use Rattle.sql_types.specs.declared.journal.Journal.{Journal}
 use Rattle.spec_history.specs.Lists.{Each}
 use Rattle.spec_protocol.specs.Cells.{LedgerCell}
@@ -24,4 +25,4 @@ pub record HaveForms (ledger : LedgerCell) (seats : List SeatState) : Type 0 whe
 
 -- the journal of the ledger's cell
 abbrev pub journal_in : LedgerCell → Journal
-journal_in ledger = record { database = ledger.database; items = ledger.items }
+journal_in ledger = record { version = JOURNAL_VERSION; database = ledger.database; items = ledger.items }

@@ -15,6 +15,8 @@ use Rattle.sql_types.specs.declared.statement.Stmt.{Stmt}
 use Rattle.sql_types.specs.declared.statement.Stmt.TheVariants as stmt
 use Rattle.sql_types.specs.declared.statement.CreateTable.{CreateTable}
 use Rattle.sql_types.specs.declared.statement.CreateIndex.{CreateIndex}
+use Rattle.sql_types.specs.declared.statement.Alter.{Alter}
+use Rattle.sql_types.specs.declared.statement.Alter.TheVariants.{Add, DropColumn}
 use Rattle.sql_types.specs.declared.statement.RowStmt.{RowStmt}
 use Rattle.sql_types.specs.declared.statement.RowStmt.TheVariants.{Insert, Update, Delete}
 use Rattle.sql_types.specs.declared.statement.Select.{Select}
@@ -97,6 +99,11 @@ IsTable c =
 abbrev pub IsIndex : CreateIndex → Type 0
 IsIndex c = IsName c.name × IsName c.table × OneOrMore IsName c.columns
 
+-- an added column may be NULL
+abbrev pub IsAlter : Alter → Type 0
+IsAlter (Add table d) = IsName table × IsColumn d × (d.nullable ≡ true)
+IsAlter (DropColumn table n) = IsName table × IsName n
+
 abbrev pub IsAssignment : List ℕ × Expr → Type 0
 IsAssignment p = IsName p.0 × IsExpr p.1
 
@@ -129,6 +136,8 @@ IsSelect s = IsName s.table × IsWhat s.what × Maybe IsExpr s.cond × IsOrder s
 abbrev pub IsParsed : Stmt → Type 0
 IsParsed (stmt.Create c) = IsTable c
 IsParsed (stmt.Index c) = IsIndex c
+IsParsed (stmt.Alter a) = IsAlter a
+IsParsed (stmt.Drop n) = IsName n
 IsParsed (stmt.Change c) = IsChange c
 IsParsed (stmt.Select s) = IsSelect s
 IsParsed (stmt.Save n) = IsName n

@@ -12,6 +12,8 @@ use Rattle.sql_types.specs.declared.statement.Stmt.{Stmt}
 use Rattle.sql_types.specs.declared.statement.Stmt.TheVariants as stmt
 use Rattle.sql_types.specs.declared.statement.CreateTable.{CreateTable}
 use Rattle.sql_types.specs.declared.statement.CreateIndex.{CreateIndex}
+use Rattle.sql_types.specs.declared.statement.Alter.{Alter}
+use Rattle.sql_types.specs.declared.statement.Alter.TheVariants.{Add, DropColumn}
 use Rattle.sql_types.specs.declared.statement.RowStmt.{RowStmt}
 use Rattle.sql_types.specs.declared.statement.RowStmt.TheVariants.{Insert, Update, Delete}
 use Rattle.sql_types.specs.declared.statement.Select.{Select}
@@ -30,7 +32,7 @@ one_name n = name n ∷ []
 abbrev pub names : List (List ℕ) → List Sym
 names ns = enclosed (listed one_name ns)
 
--- ---- CREATE TABLE and CREATE INDEX
+-- ---- CREATE TABLE, CREATE INDEX, ALTER TABLE and DROP TABLE
 
 unfoldable pub sql_type : SqlType → List Sym
 sql_type sql.Bit = word (codes "BIT") ∷ []
@@ -95,6 +97,14 @@ create_table c =
 unfoldable pub create_index : CreateIndex → List Sym
 create_index c = key t.Create ∷ key t.Index ∷ name c.name ∷ key t.On ∷ name c.table ∷ names c.columns
 
+unfoldable pub alter_table : Alter → List Sym
+alter_table (Add table d) = key t.Alter ∷ key t.Table ∷ name table ∷ key t.Add ∷ column d
+alter_table (DropColumn table n) =
+    key t.Alter ∷ key t.Table ∷ name table ∷ key t.Drop ∷ key t.Column ∷ name n ∷ []
+
+unfoldable pub drop_table : List ℕ → List Sym
+drop_table n = key t.Drop ∷ key t.Table ∷ name n ∷ []
+
 -- ---- INSERT, UPDATE and DELETE
 
 abbrev pub literal : Value → List Sym
@@ -154,6 +164,8 @@ rollback to = key t.Rollback ∷ key t.Transaction ∷ savepoint to
 unfoldable pub tokens : Stmt → List Sym
 tokens (stmt.Create c) = create_table c
 tokens (stmt.Index c) = create_index c
+tokens (stmt.Alter a) = alter_table a
+tokens (stmt.Drop n) = drop_table n
 tokens (stmt.Change c) = change c
 tokens (stmt.Select s) = select s
 tokens stmt.Begin = key t.Begin ∷ key t.Transaction ∷ []

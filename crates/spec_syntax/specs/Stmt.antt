@@ -11,7 +11,7 @@ use Rattle.spec_syntax.specs.Expr.{name}
 use Rattle.spec_syntax.specs.Words.{call_word}
 use Rattle.spec_syntax.specs.Row.{insert, update, delete}
 use Rattle.spec_syntax.specs.Select.{select}
-use Rattle.spec_syntax.specs.Table.{create_table, create_index}
+use Rattle.spec_syntax.specs.Table.{create_table, create_index, alter_table, drop_table}
 
 abbrev pub create_by : Tag → Parser Stmt
 create_by t.Table = take_text >> stmt.Create <$> create_table
@@ -74,6 +74,8 @@ execute = call_word >>= call_of
 
 abbrev pub body_by : Tag → Parser Stmt
 body_by t.Create = take_text >> create
+body_by t.Alter = take_text >> stmt.Alter <$> alter_table
+body_by t.Drop = take_text >> stmt.Drop <$> drop_table
 body_by t.Insert = take_text >> stmt.Change <$> insert
 body_by t.Update = take_text >> stmt.Change <$> update
 body_by t.Delete = take_text >> stmt.Change <$> delete

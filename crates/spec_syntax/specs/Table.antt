@@ -1,4 +1,4 @@
--- CREATE TABLE and CREATE INDEX: a rule of the grammar for each definition.
+-- CREATE TABLE, CREATE INDEX, ALTER TABLE and DROP TABLE: a rule of the grammar for each definition.
 use Rattle.std.specs.Prelude.{ℕ, Bool, true, false, not, if◌then◌else◌, nat_le, List, [], ◌∷◌, ◌++◌, length, map, bytes_eq, Option, Some, None}
 use Rattle.sql_value.specs.Literal.{digits_after}
 use Rattle.sql_value.specs.declared.sql_type.SqlType.{SqlType}
@@ -6,6 +6,8 @@ use Rattle.sql_value.specs.declared.sql_type.SqlType.TheVariants as sql
 use Rattle.sql_value.specs.declared.column.ColumnDef.{ColumnDef}
 use Rattle.sql_types.specs.declared.statement.CreateTable.{CreateTable}
 use Rattle.sql_types.specs.declared.statement.CreateIndex.{CreateIndex}
+use Rattle.sql_types.specs.declared.statement.Alter.{Alter}
+use Rattle.sql_types.specs.declared.statement.Alter.TheVariants.{Add, DropColumn}
 use Rattle.spec_syntax.specs.declared.tag.Tag.{Tag}
 use Rattle.spec_syntax.specs.declared.tag.Tag.TheVariants as t
 use Rattle.spec_syntax.specs.declared.word.TypeName.{TypeName}
@@ -178,3 +180,36 @@ create_index = do
   of ← name
   names ← name_list
   pure (record { name = n; table = of; columns = names })
+
+-- a column that is added may be NULL and is in no key
+abbrev pub added_column : List ℕ → SqlType → ColumnDef
+added_column n ty = record { name = n; ty = ty; nullable = true; key_position = 0 }
+
+-- name type [NULL]
+unfoldable pub add : List ℕ → Parser Alter
+add table = do
+  n ← name
+  ty ← sql_type
+  eat t.Null
+  pure (Add table (added_column n ty))
+
+-- COLUMN name
+unfoldable pub drop_column : List ℕ → Parser Alter
+drop_column table = expect t.Column >> DropColumn table <$> name
+
+abbrev pub alter_by : List ℕ → Tag → Parser Alter
+alter_by table t.Add = take_text >> add table
+alter_by table t.Drop = take_text >> drop_column table
+alter_by table _ = refuse
+
+-- TABLE name (ADD .. | DROP COLUMN ..)
+unfoldable pub alter_table : Parser Alter
+alter_table = do
+  expect t.Table
+  table ← name
+  tag ← peek
+  alter_by table tag
+
+-- TABLE name
+unfoldable pub drop_table : Parser (List ℕ)
+drop_table = expect t.Table >> name

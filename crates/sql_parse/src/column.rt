@@ -83,7 +83,7 @@ fn decimal(c: &mut Cursor<'_>) -> Result<SqlType, ParseErr>
 }
 
 #[tactic(auto, unfolding(spec_syntax::specs::Table::sql_type))]
-fn sql_type(c: &mut Cursor<'_>) -> Result<SqlType, ParseErr>
+pub fn sql_type(c: &mut Cursor<'_>) -> Result<SqlType, ParseErr>
     ensures { ParsesUnlessOom (spec.sql_type c.old) result c.new }
 {
     match type_word(c)? {

@@ -1,6 +1,7 @@
 //! Reads and prints the text of a statement.
 #![tactic(auto)]
 
+mod alter;
 mod column;
 mod cursor;
 mod expr;
@@ -18,5 +19,5 @@ mod word;
 
 pub use print_stmt::print;
 pub use spec_syntax::ParseErr;
-pub use sql_types::{Agg, CreateIndex, CreateTable, RowStmt, Select, SelectList, Stmt};
-pub use text::parse;
+pub use sql_types::{Agg, Alter, CreateIndex, CreateTable, RowStmt, Select, SelectList, Stmt};
+pub use text::{parse, parse_any, parse_in};

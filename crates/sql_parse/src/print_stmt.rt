@@ -9,7 +9,7 @@ use crate::page::Page;
 use crate::print_part::{Print, put_enclosed, put_expr, put_list};
 use base_types::{Items, Memory, Name};
 use spec_syntax::Tag;
-use sql_types::{CreateIndex, CreateTable, RowStmt, Select, SelectList, Stmt};
+use sql_types::{Alter, CreateIndex, CreateTable, RowStmt, Select, SelectList, Stmt};
 use sql_value::{Expr, TableKind};
 use std::alloc::Global;
 
@@ -152,6 +152,36 @@ fn put_create_index(page: &mut Page, index: &CreateIndex) -> Result<(), Memory>
     put_enclosed(page, index.columns.as_slice())
 }
 
+#[tactic(auto, unfolding(spec_syntax::specs::PrintedStmt::alter_table), using(crate::proofs::Pages::write_append))]
+fn put_alter_table(page: &mut Page, alter: &Alter) -> Result<(), Memory>
+    ensures { OnOk result (page.new ≡ write page.old (spec.alter_table alter.now)) }
+{
+    page.key(Tag::Alter)?;
+    page.key(Tag::Table)?;
+    match alter {
+        Alter::Add { table, column } => {
+            page.name(table)?;
+            page.key(Tag::Add)?;
+            column.print(page)
+        }
+        Alter::DropColumn { table, column } => {
+            page.name(table)?;
+            page.key(Tag::Drop)?;
+            page.key(Tag::Column)?;
+            page.name(column)
+        }
+    }
+}
+
+#[tactic(auto, unfolding(spec_syntax::specs::PrintedStmt::drop_table))]
+fn put_drop_table(page: &mut Page, table: &Name) -> Result<(), Memory>
+    ensures { OnOk result (page.new ≡ write page.old (spec.drop_table table.now)) }
+{
+    page.key(Tag::Drop)?;
+    page.key(Tag::Table)?;
+    page.name(table)
+}
+
 /// WHERE and its condition, if there is one.
 fn put_filter(page: &mut Page, cond: &Option<Expr>) -> Result<(), Memory>
     ensures { OnOk result (page.new ≡ write page.old (spec.filter cond.now)) }
@@ -259,6 +289,8 @@ fn put_stmt(page: &mut Page, s: &Stmt) -> Result<(), Memory>
     match s {
         Stmt::Create(table) => put_create_table(page, table),
         Stmt::Index(index) => put_create_index(page, index),
+        Stmt::Alter(alter) => put_alter_table(page, alter),
+        Stmt::Drop(table) => put_drop_table(page, table),
         Stmt::Change(change) => put_change(page, change),
         Stmt::Select(select) => put_select(page, select),
         Stmt::Begin => {

@@ -4,6 +4,7 @@ ghost use Rattle.std.specs.Prelude.{◌≡◌};
 ghost use Rattle.spec_syntax.specs.Input.{ParsesUnlessOom, ConvertsUnlessOom};
 ghost use Rattle.spec_syntax.specs.Stmt as spec;
 
+use crate::alter::{alter_table, drop_table};
 use crate::cursor::Cursor;
 use crate::name::name;
 use crate::row::{delete, insert, update};
@@ -122,6 +123,14 @@ fn body(alloc: Global, c: &mut Cursor<'_>) -> Result<Stmt, ParseErr>
         Tag::Create => {
             c.take();
             create(alloc, c)
+        }
+        Tag::Alter => {
+            c.take();
+            Ok(Stmt::Alter(alter_table(alloc, c)?))
+        }
+        Tag::Drop => {
+            c.take();
+            Ok(Stmt::Drop(drop_table(alloc, c)?))
         }
         Tag::Insert => {
             c.take();

@@ -121,6 +121,8 @@ module _ (tx n : ℕ) where
   unfolding change_set
   create_undoes T (s.Create c) e = table_undoes T (create_check (defs_of T) c)
   create_undoes T (s.Index c) e = index_undoes T (index_check (defs_of T) c)
+  create_undoes T (s.Alter altered) e = cc
+  create_undoes T (s.Drop name) e = cc
   create_undoes T (s.Change stmt) e = cc
   create_undoes T (s.Select q) e = cc
   create_undoes T s.Begin e = cc

@@ -118,6 +118,7 @@ impl RunningScript {
             Stmt::Create(_) | Stmt::Index(_) | Stmt::Digest | Stmt::Image => Err(
                 Refusal::ForbiddenInTransaction,
             ),
+            Stmt::Alter(_) | Stmt::Drop(_) => Err(Refusal::SyntaxError),
             Stmt::Change(_) | Stmt::Select(_) => self.change(alloc, tables, stmt),
             Stmt::Begin => Err(Refusal::AlreadyInTransaction),
             Stmt::Save(name) => self.save(name),
@@ -142,6 +143,7 @@ impl RunningScript {
     {
         match stmt {
             Stmt::Create(_) | Stmt::Index(_) => self.create(alloc, tables, stmt),
+            Stmt::Alter(_) | Stmt::Drop(_) => Err(Refusal::SyntaxError),
             Stmt::Change(_) | Stmt::Select(_) => self.change(alloc, tables, stmt),
             Stmt::Begin | Stmt::Digest | Stmt::Image => Ok(Reply::NoOutput),
             Stmt::Commit | Stmt::Save(_) | Stmt::Rollback(_) => Err(Refusal::NoTransaction),

@@ -10,6 +10,7 @@ use Rattle.sql_types.specs.declared.journal.TheConstants.{MAX_BLOCK}
 use Rattle.sql_types.specs.declared.journal.Journal.{Journal}
 use Rattle.sql_types.specs.declared.journal.JournalItem.{JournalItem}
 use Rattle.sql_types.specs.declared.journal.JournalItem.TheVariants.{Tx, Close}
+use Rattle.sql_types.specs.Versions.{is_version}
 
 -- a statement's text and the text of its reply
 abbrev pub Line : Type 0
@@ -58,6 +59,7 @@ closes_follow pending (Close k ∷ items) = nat_le k pending && closes_follow (p
 -- ---- the journal
 
 pub record JournalRules (j : Journal) : Type 0 where
+  pub version : is_version j.version ≡ true
   pub database : is_database_name j.database ≡ true
   pub items : AllByRecursion ItemRules j.items
   pub ids : ids_differ [] j.items ≡ true

@@ -5,6 +5,9 @@ use sql_value::{Items, Name, Text, TxId};
 /// The statements of a transaction in order, each with the text of its reply.
 pub type Script = Items<(Text, Text)>;
 
+/// The version of the journal of a running server.
+pub const JOURNAL_VERSION: u8 = 1;
+
 /// The greatest number of transactions in a block.
 pub const MAX_BLOCK: u32 = 100_000;
 
@@ -28,6 +31,8 @@ pub enum JournalItem {
 /// The transactions of a database in the order of their commits, and the closings of blocks between them.
 #[derive(Debug, Drop)]
 pub struct Journal {
+    /// Which statements its scripts may have, and what number its bytes bear.
+    pub version: u8,
     pub database: Name,
     pub items: Items<JournalItem>,
 }

@@ -9,6 +9,10 @@ pub enum Stmt {
     Create(CreateTable),
     /// `CREATE INDEX`.
     Index(CreateIndex),
+    /// `ALTER TABLE`.
+    Alter(Alter),
+    /// `DROP TABLE` with the table's name.
+    Drop(Name),
     /// `INSERT`, `UPDATE` or `DELETE`.
     Change(RowStmt),
     Select(Select),
@@ -46,6 +50,15 @@ pub struct CreateIndex {
     pub name: Name,
     pub table: Name,
     pub columns: Items<Name>,
+}
+
+/// A statement that changes the columns of a table.
+#[derive(Debug, Drop)]
+pub enum Alter {
+    /// `ADD`, of a column that may be NULL and is in no key.
+    Add { table: Name, column: ColumnDef },
+    /// `DROP COLUMN`.
+    DropColumn { table: Name, column: Name },
 }
 
 /// A statement that changes rows.

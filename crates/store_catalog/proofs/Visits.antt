@@ -12,6 +12,8 @@ use Rattle.spec_protocol.specs.UndoVisits.{creator_left}
 pub same_refused : (holds : List Hold) (c : CatalogCell) (stmt : Stmt) (e : Refusal) → CreateRefused (with_holds holds c) stmt e → CreateRefused c stmt e
 same_refused holds c (s.Create create) e h = h
 same_refused holds c (s.Index create) e h = h
+same_refused holds c (s.Alter altered) e h = absurd h
+same_refused holds c (s.Drop name) e h = absurd h
 same_refused holds c (s.Change stmt) e h = absurd h
 same_refused holds c (s.Select q) e h = absurd h
 same_refused holds c s.Begin e h = absurd h

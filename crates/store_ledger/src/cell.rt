@@ -2,6 +2,7 @@
 
 ghost use Rattle.std.specs.Prelude.{◌≡◌, ◌↔◌, ◌+◌, ◌≤◌, ◌^◌, ◌++◌, ◌∷◌, [], ℕ, List, true, Err, length};
 ghost use Rattle.std.specs.Prelude.{IfOk, IfErr, OnOk, OnErr};
+ghost use Rattle.sql_types.specs.declared.journal.TheConstants.{JOURNAL_VERSION};
 ghost use Rattle.sql_types.specs.declared.journal.JournalItem.TheVariants.{Close, Tx};
 ghost use Rattle.sql_types.specs.declared.journal.TheConstants.{MAX_BLOCK};
 ghost use Rattle.base_types.specs.Ids.{is_tx_id};
@@ -20,7 +21,7 @@ ghost use Rattle.store_ledger.specs.Issues.{IsOfNewest, IsIssued};
 use crate::{CommitErr, DigestErr};
 use base_merkle::Hash32;
 use base_types::{Items, Memory, Name, TableId, TxId};
-use sql_types::{BlockRecord, Digest, Journal, JournalItem, Script, TxEntry};
+use sql_types::{BlockRecord, Digest, JOURNAL_VERSION, Journal, JournalItem, Script, TxEntry};
 use std::alloc::Global;
 use std::marker::Model;
 use store_blocks::LedgerChain;
@@ -330,6 +331,7 @@ impl LedgerCell {
 
     /// The journal, and the digests in the order of issue. Takes no memory.
     pub fn into_parts(self) -> (Journal, Items<Digest>)
+        ensures version { result.0.version ≡ JOURNAL_VERSION }
         ensures database { result.0.database ≡ self.cell.database }
         ensures items { result.0.items ≡ self.cell.items }
         ensures digests { result.1 ≡ self.cell.issued }
@@ -342,6 +344,7 @@ impl LedgerCell {
             ..
         } = self;
         let journal = Journal {
+            version: JOURNAL_VERSION,
             database,
             items: Items::from_vec(items),
         };

@@ -7,8 +7,8 @@ use base_types::Boxed;
 use format_lines::{InputErr, Line, read_lines, session_names};
 use spec_syntax::ParseErr;
 use sql_lex::{Kind, LexErr, Token, tokens};
-use sql_parse::{parse, print};
-use sql_types::{RowStmt, Select, SelectList, Stmt};
+use sql_parse::{parse_any, print};
+use sql_types::{Alter, RowStmt, Select, SelectList, Stmt};
 use std::alloc::Global;
 
 fn letter(kind: Kind) -> &'static str {
@@ -82,7 +82,7 @@ fn boxed(alloc: Global, statement: Stmt) -> Result<Found, Fault> {
 
 /// What a text is as a statement.
 pub fn statement(alloc: Global, text: &str) -> Result<Found, Fault> {
-    match parse(alloc, text) {
+    match parse_any(alloc, text) {
         Ok(statement) => boxed(alloc, statement),
         Err(ParseErr::Syntax) => Ok(Found { statement: None }),
         Err(ParseErr::Memory) => Err(Fault::Memory),
@@ -181,6 +181,9 @@ fn form_of(statement: &Stmt) -> &'static str {
     match statement {
         Stmt::Create(_) => "table",
         Stmt::Index(_) => "index",
+        Stmt::Alter(Alter::Add { .. }) => "add",
+        Stmt::Alter(Alter::DropColumn { .. }) => "drop column",
+        Stmt::Drop(_) => "drop table",
         Stmt::Change(RowStmt::Insert { .. }) => "insert",
         Stmt::Change(RowStmt::Update { .. }) => "update",
         Stmt::Change(RowStmt::Delete { .. }) => "delete",

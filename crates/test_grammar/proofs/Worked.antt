@@ -14,7 +14,7 @@ use Rattle.sql_value.specs.declared.expr.Expr.TheVariants.{Col, Not, IsNull, Bin
 use Rattle.sql_value.specs.Literal.{literal_of, signed, unsigned, sized}
 use Rattle.sql_value.specs.Tree.{tree}
 use Rattle.sql_value.proofs.Trees.{of_column, of_not, of_is_null, of_binary}
-use Rattle.test_grammar.specs.Samples.{delete_all, any_of, no_rest, delete_where, insert_row, create_ledger, back_to_s}
+use Rattle.test_grammar.specs.Samples.{delete_all, any_of, no_rest, delete_where, insert_row, create_ledger, back_to_s, add_w, drop_v, drop_t}
 use Rattle.spec_grammar.specs.Tokens.{Lexemes, word, sign, IsName, bare, bracketed, number, null, named, left_out, written as given, absent, present, last, more, enclosed}
 use Rattle.spec_grammar.specs.Expressions as e
 use Rattle.spec_grammar.specs.Expressions.{Derives, Cmp', Prod', parts}
@@ -168,3 +168,31 @@ append_only =
       cut = refl;
       is = s.statement (s.create (b.create_table (word (codes "CREATE") refl) (word (codes "TABLE") refl) (bare (codes "t") refl) (enclosed sign (last item) sign) part refl (omega arith))) left_out;
     }
+
+-- ---- a table that is changed
+
+pub add : IsStatement (codes "ALTER TABLE t ADD w NVARCHAR(5)") add_w
+unfolding longest kind_of
+add =
+    let type_ = b.nvarchar (named (bare (codes "NVARCHAR") refl) refl) (enclosed sign (b.digits (codes "5") (omega arith) refl) sign) in
+    record {
+      tokens = at 0 5 kind.Word ∷ at 6 11 kind.Word ∷ at 12 13 kind.Word ∷ at 14 17 kind.Word ∷ at 18 19 kind.Word ∷ at 20 28 kind.Word ∷ at 28 29 kind.Sign ∷ at 29 30 kind.Number ∷ at 30 31 kind.Sign ∷ [];
+      cut = refl;
+      is = s.statement (s.alter (b.add (word (codes "ALTER") refl) (word (codes "TABLE") refl) (bare (codes "t") refl) (word (codes "ADD") refl) (bare (codes "w") refl) type_ left_out)) left_out;
+    }
+
+pub drop_column : IsStatement (codes "alter table [t] drop column v;") drop_v
+unfolding longest kind_of
+drop_column = record {
+  tokens = at 0 5 kind.Word ∷ at 6 11 kind.Word ∷ at 12 15 kind.Bracketed ∷ at 16 20 kind.Word ∷ at 21 27 kind.Word ∷ at 28 29 kind.Word ∷ at 29 30 kind.Sign ∷ [];
+  cut = refl;
+  is = s.statement (s.alter (b.drop_column (word (codes "alter") refl) (word (codes "table") refl) (bracketed (codes "t")) (word (codes "drop") refl) (word (codes "column") refl) (bare (codes "v") refl))) (given sign);
+}
+
+pub drop_table : IsStatement (codes "DROP TABLE t") drop_t
+unfolding longest kind_of
+drop_table = record {
+  tokens = at 0 4 kind.Word ∷ at 5 10 kind.Word ∷ at 11 12 kind.Word ∷ [];
+  cut = refl;
+  is = s.statement (s.drop (b.drop_table (word (codes "DROP") refl) (word (codes "TABLE") refl) (bare (codes "t") refl))) left_out;
+}

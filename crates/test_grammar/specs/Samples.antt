@@ -1,11 +1,12 @@
 -- The statements of the worked examples.
-use Rattle.std.specs.Prelude.{neg_ℤ, pos, false, [], ◌∷◌, codes, Some, None}
+use Rattle.std.specs.Prelude.{neg_ℤ, pos, true, false, [], ◌∷◌, codes, Some, None}
 use Rattle.sql_value.specs.declared.value.Value.TheVariants as value
 use Rattle.sql_value.specs.declared.expr.Op.TheVariants as op
 use Rattle.sql_value.specs.declared.expr.Expr.{Expr}
 use Rattle.sql_value.specs.declared.expr.Expr.TheVariants.{Col, Not, IsNull, Bin}
 use Rattle.sql_value.specs.declared.sql_type.SqlType.TheVariants as sql
 use Rattle.sql_value.specs.declared.column.TableKind.TheVariants.{AppendOnly}
+use Rattle.sql_types.specs.declared.statement.Alter.TheVariants.{Add, DropColumn}
 use Rattle.sql_types.specs.declared.statement.CreateTable.{CreateTable}
 use Rattle.sql_types.specs.declared.statement.RowStmt.TheVariants.{Insert, Delete}
 use Rattle.sql_types.specs.declared.statement.Stmt.{Stmt}
@@ -47,3 +48,19 @@ create_ledger = stmt.Create ledger_table
 
 abbrev pub back_to_s : Stmt
 back_to_s = stmt.Rollback (Some (codes "s"))
+
+-- a column that may be NULL
+abbrev pub add_w : Stmt
+add_w =
+    stmt.Alter (Add (codes "t") (record {
+      name = codes "w";
+      ty = sql.NVarChar 5;
+      nullable = true;
+      key_position = 0;
+    }))
+
+abbrev pub drop_v : Stmt
+drop_v = stmt.Alter (DropColumn (codes "t") (codes "v"))
+
+abbrev pub drop_t : Stmt
+drop_t = stmt.Drop (codes "t")

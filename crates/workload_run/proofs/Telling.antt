@@ -1,5 +1,5 @@
 -- A run of the workload in which each statement is committed tells what is expected.
-use Rattle.std.proofs.Common.{◌≡◌, ◌∙◌, ◌≤◌, ◌+◌, ◌++◌, ◌*◌, ◌/◌, ℕ, List, [], ◌∷◌, codes, length, map, Some, inl, refl, sym, ap, subst, arith}
+use Rattle.std.proofs.Common.{◌≡◌, ◌∙◌, ◌≤◌, ◌+◌, ◌++◌, ◌*◌, ◌/◌, ℕ, List, [], ◌∷◌, codes, map, Some, inl, refl, sym, ap, subst}
 use Rattle.std.specs.List.{AllByRecursion}
 use Rattle.sql_types.specs.declared.digest.Digest.{Digest}
 use Rattle.sql_types.specs.declared.image.Image.{Image}
@@ -37,10 +37,6 @@ use Rattle.workload_run.specs.Figures.{amount, history_count, row_count, user_ta
 use Rattle.workload_run.specs.Reports.{expected, image_in, inserted_in_all, TellsOf, TellsOfImage}
 use Rattle.workload_run.specs.declared.report.Report.{Report}
 use Rattle.workload_run.proofs.FourTables.{Are, counted_are}
-
-pub none_left : {A : Type 0} (xs : List A) → length xs ≡ 0 → xs ≡ []
-none_left [] e = refl
-none_left (x ∷ xs) e = absurd (omega (arith, e))
 
 -- the laws on the workload
 pub record Laws : Type 0 where

@@ -7,9 +7,11 @@ use Rattle.sql_types.specs.declared.journal.Journal.{Journal}
 use Rattle.spec_model.specs.Journals.{tx_count}
 use Rattle.spec_syntax.specs.Text.{statement_of}
 use Rattle.format_image.specs.Image.{image_of}
+use Rattle.format_image.specs.ImageBytes.{IsImage, IsSpellingOf}
 use Rattle.spec_verify.specs.declared.place.Verdict.TheVariants.{Yes}
 use Rattle.spec_verify.specs.Bytes.{verdict_of}
 use Rattle.spec_verify.specs.Verdict.{image_verdict}
+use Rattle.server_result.specs.declared.ran.RunOutcome.{RunOutcome}
 use Rattle.server_run.specs.Held.{held}
 use Rattle.server_run.specs.Agreed.{last_image_bytes}
 use Rattle.law_workload.specs.Turns.{inserted_total}
@@ -36,6 +38,17 @@ pub record TellsOfImage (h : List ℕ → List ℕ) (image : Image) (digests : L
   pub history : r.history ≡ history_count (user_tables image)
   pub sum : r.sum ≡ amount (user_tables image)
   pub verdict : r.verdict ≡ image_verdict h image digests
+
+-- it tells of the image whose bytes a run left, and of the verdict on it with all digests of the run
+pub record Counts (h : List ℕ → List ℕ) (ran : RunOutcome) (r : Report) : Type 0 where
+  pub image : Image
+  pub is_image : IsImage image
+  pub bytes : IsSpellingOf ran.image image
+  pub tells : TellsOfImage h image (map held ran.digests) r
+
+-- what a run left as its image is the bytes of none
+abbrev pub HasNoImage : RunOutcome → Type 0
+HasNoImage ran = (image : Image) → IsImage image → IsSpellingOf ran.image image → ⊥
 
 -- the sum of what the rows of all four tables were inserted with
 abbrev pub inserted_in_all : ℕ → ℕ

@@ -5,6 +5,6 @@ mod counting;
 mod report;
 mod running;
 
-pub use report::Report;
-pub use running::run_workload;
+pub use report::{CountedRun, Report};
+pub use running::{count_run, run_and_count, run_workload};
 pub use server_run::run_all;

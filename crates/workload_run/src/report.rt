@@ -1,5 +1,6 @@
 //! What is told of a run of the workload.
 
+use server_result::RunOutcome;
 use spec_verify::Verdict;
 
 /// What a run of the workload came to.
@@ -15,4 +16,11 @@ pub struct Report {
     pub sum: u128,
     /// The verdict on the image.
     pub verdict: Verdict,
+}
+
+/// What a run of the workload left, and what is counted of it.
+#[derive(Drop)]
+pub struct CountedRun {
+    pub ran: RunOutcome,
+    pub report: Report,
 }

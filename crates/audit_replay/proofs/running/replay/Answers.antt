@@ -56,6 +56,7 @@ returns-clause-legal g c =
     let all : take c.loop-place.place items ≡ items =
     take_all c.loop-place.place items (omega (arith, ap length c.as_slice-items.ensures, c.loop-place-test.false)) in
     record {
+      version = c.requires.version;
       database = c.requires.database;
       items = (rules_of c.args.journal.now c.requires).each;
       legal = subst (IsLegal statement_of) all c.loop-place.invariant.legal;

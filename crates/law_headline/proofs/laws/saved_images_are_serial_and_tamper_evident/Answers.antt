@@ -1,10 +1,13 @@
-use Rattle.std.specs.Prelude.{◌<◌, List, length, None, Some}
+use Rattle.std.specs.Prelude.{ℕ, ◌<◌, List, [], ◌∷◌, ◌++◌, length, None, Some}
 use Rattle.std.proofs.Common.{refl, subst, sym, arith}
 use Rattle.std.proofs.lemmas.List.{take_all}
+use Rattle.sql_types.specs.declared.digest.Digest.{Digest}
 use Rattle.sql_types.specs.declared.journal.JournalItem.{JournalItem}
+use Rattle.spec_model.specs.Journals.{cut}
 use Rattle.spec_history.specs.Agree.{Agree}
+use Rattle.spec_history.specs.Facts.{Fact}
 use Rattle.spec_history.specs.Journals.{blocks}
-use Rattle.spec_history.specs.Lists.{Text, Each}
+use Rattle.spec_history.specs.Lists.{Text, Each, In}
 use Rattle.spec_history.specs.Meaning.{Meaning}
 use Rattle.spec_history.specs.StepOrder.{rows_facts}
 use Rattle.law_order.specs.OneOrder.{facts_in_order}
@@ -13,51 +16,71 @@ use Rattle.law_kept_images.specs.Accepted.{IsAccepted, IsOfCut}
 use Rattle.law_kept_images.specs.SessionOutput.{IsImageOf, IsMeaning}
 use Rattle.law_kept_images.specs.LastImage.{last_image}
 use Rattle.law_kept_images.proofs.Accepts.{all_closed, each_in}
+use Rattle.law_headline.specs.Before.{ComesBefore, InOneOrder, InOrderOfLines}
+use Rattle.law_headline.specs.Headline.{IsSaved}
 use Rattle.law_headline.proofs.Before.{closed_in_one_order, closed_in_order_of_lines}
-use Rattle.law_headline.proofs.Saved.{all_saved, whole_bound}
+use Rattle.law_headline.proofs.Saved.{all_saved, in_this_version, whole_bound, with_earlier}
 use Rattle.law_headline.proofs.Shown.{all_are_shown}
 use Rattle.law_headline.proofs.laws.saved_images_are_serial_and_tamper_evident.Goals as goal
 
-pub returns : goal.returns
-returns g c =
+pub returns-clause-one_thread : goal.returns-clause-one_thread
+returns-clause-one_thread g c =
     let read = c.readings_of_the_grammar_give_written.ensures in
     let written = read.written statement_of read.parser in
     let bound = c.accepted_images_are_bound.ensures in
     let encodable = c.legal_images_are_encodable.ensures in
     let accepted = c.kept_images_are_accepted.ensures in
+    λ h size names lines X kept images J G run legal room are.
+    let now = in_this_version J legal in
+    let every : Each (IsSaved h J G) (images ++ last_image h J ∷ []) =
+    all_saved bound encodable written h J G legal room kept images are run.are_images
+    (accepted.room h J.database size names lines X kept J.items G run now room)
+    (accepted.whole h J.database size names lines X kept J.items G run now room) in
+    let closed_before : (q : Meaning) → IsMeaning h statement_of q → (facts : List Fact) → InOrderOfLines size lines X J.items q facts
+    → (d : Digest) → In d G → (items : ℕ) → ComesBefore d.block items facts → d.block < blocks (cut J.items items) =
+    λ q real facts order d is items comes.
+    let closed = each_in (IsOfCut J.items (length J.items) G) G d (all_closed h J.database size names lines X kept J.items G run) is in
+    closed_in_order_of_lines c.digests_before_an_image_are_closed_in_it.ensures q size lines X J.items (run.agree q real).journal_is_theirs.legal
+    facts order d.block items comes
+    (subst (λ (K : List JournalItem). d.block < blocks K) (take_all (length J.items) J.items (omega arith)) closed.1) in
     record {
-      one_thread = λ h size names lines X kept images J G run legal room are. record {
-        replies_given = run.agree;
-        by_one_thread = legal;
-        shown = λ q real. all_are_shown q X kept images (run.shown q real) are;
-        every_image = all_saved bound encodable written h J G legal room kept images are run.are_images
-            (accepted.room h J.database size names lines X kept J.items G run legal room)
-            (accepted.whole h J.database size names lines X kept J.items G run legal room);
-        all_digests = whole_bound bound encodable written h J G legal room (accepted.all h J.database size names lines X kept J.items G run legal room);
-        in_order = λ q real. let o = run.in_order q real in (rows_facts q (λ s. None) o.rows, record { rows = o.rows; order = o.order; are = refl });
-        issued_before = λ q real facts order d is items comes.
-            let closed = each_in (IsOfCut J.items (length J.items) G) G d (all_closed h J.database size names lines X kept J.items G run) is in
-            closed_in_order_of_lines c.digests_before_an_image_are_closed_in_it.ensures q size lines X J.items (run.agree q real).journal_is_theirs.legal
-            facts order d.block items comes
-            (subst (λ (K : List JournalItem). d.block < blocks K) (take_all (length J.items) J.items (omega arith)) closed.1);
-      };
-      side_by_side = λ h database size given clock input left images came room are.
-          let J = left.J in
-          let G = left.G in
-          let named = sym came.of_database in
-          let agree : (q : Meaning) → IsMeaning h statement_of q → Agree q J.database input (Some 0) left.X J.items G =
-          λ q real. subst (λ (D : Text). Agree q D input (Some 0) left.X J.items G) named (came.agree q real) in
-          record {
-            replies_given = agree;
-            by_one_thread = came.legal;
-            shown = λ q real. all_are_shown q left.X left.kept images (came.shown q real) are;
-            every_image = all_saved bound encodable written h J G came.legal room left.kept images are
-                (subst (λ (D : Text). Each (λ ks. Each (IsImageOf h statement_of D J.items) ks) left.kept) named came.are_images)
-                (subst (λ (D : Text). Each (λ ks. Each (IsAccepted h D J.items G) ks) left.kept) named came.accepted)
-                (subst (λ (D : Text). IsAccepted h D J.items G (last_image h J)) named came.last_accepted);
-            all_digests = whole_bound bound encodable written h J G came.legal room came.all_accepted;
-            in_order = λ q real. let o = came.in_order q real in (facts_in_order o.order, record { order = o.order; is = o.is; are = refl });
-            issued_before = λ q real facts order d is items comes.
-                closed_in_one_order J.items q left.X facts order d.block items comes;
-          };
+      replies_given = run.agree;
+      by_one_thread = legal;
+      shown = λ q real. all_are_shown q X kept images (run.shown q real) are;
+      every_image = every;
+      all_digests = whole_bound bound encodable written h J G legal room (accepted.all h J.database size names lines X kept J.items G run now room);
+      in_order = λ q real. let o = run.in_order q real in (rows_facts q (λ s. None) o.rows, record { rows = o.rows; order = o.order; are = refl });
+      issued_before = closed_before;
+      yes_with_earlier = λ q real facts order. with_earlier h J G images every facts (closed_before q real facts order);
+    }
+
+pub returns-clause-side_by_side : goal.returns-clause-side_by_side
+returns-clause-side_by_side g c =
+    let read = c.readings_of_the_grammar_give_written.ensures in
+    let written = read.written statement_of read.parser in
+    let bound = c.accepted_images_are_bound.ensures in
+    let encodable = c.legal_images_are_encodable.ensures in
+    λ h database size given clock input left images came room are.
+    let J = left.J in
+    let G = left.G in
+    let named = sym came.of_database in
+    let agree : (q : Meaning) → IsMeaning h statement_of q → Agree q J.database input (Some 0) left.X J.items G =
+    λ q real. subst (λ (D : Text). Agree q D input (Some 0) left.X J.items G) named (came.agree q real) in
+    let every : Each (IsSaved h J G) (images ++ last_image h J ∷ []) =
+    all_saved bound encodable written h J G came.legal room left.kept images are
+    (subst (λ (D : Text). Each (λ ks. Each (IsImageOf h statement_of D J.items) ks) left.kept) named came.are_images)
+    (subst (λ (D : Text). Each (λ ks. Each (IsAccepted h D J.items G) ks) left.kept) named came.accepted)
+    (subst (λ (D : Text). IsAccepted h D J.items G (last_image h J)) named came.last_accepted) in
+    let closed_before : (q : Meaning) → IsMeaning h statement_of q → (facts : List Fact) → InOneOrder left.X J.items q facts
+    → (d : Digest) → In d G → (items : ℕ) → ComesBefore d.block items facts → d.block < blocks (cut J.items items) =
+    λ q real facts order d is items comes. closed_in_one_order J.items q left.X facts order d.block items comes in
+    record {
+      replies_given = agree;
+      by_one_thread = came.legal;
+      shown = λ q real. all_are_shown q left.X left.kept images (came.shown q real) are;
+      every_image = every;
+      all_digests = whole_bound bound encodable written h J G came.legal room came.all_accepted;
+      in_order = λ q real. let o = came.in_order q real in (facts_in_order o.order, record { order = o.order; is = o.is; are = refl });
+      issued_before = closed_before;
+      yes_with_earlier = λ q real facts order. with_earlier h J G images every facts (closed_before q real facts order);
     }

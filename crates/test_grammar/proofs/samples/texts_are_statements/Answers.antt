@@ -1,4 +1,4 @@
-use Rattle.test_grammar.proofs.Worked.{short, long, levels, grouping, signs, savepoint, append_only}
+use Rattle.test_grammar.proofs.Worked.{short, long, levels, grouping, signs, savepoint, append_only, add, drop_column, drop_table}
 use Rattle.test_grammar.proofs.samples.texts_are_statements.Goals as goal
 
 pub returns-clause-short : goal.returns-clause-short
@@ -21,3 +21,12 @@ returns-clause-savepoint c = savepoint
 
 pub returns-clause-table : goal.returns-clause-table
 returns-clause-table c = append_only
+
+pub returns-clause-add : goal.returns-clause-add
+returns-clause-add c = add
+
+pub returns-clause-drop_column : goal.returns-clause-drop_column
+returns-clause-drop_column c = drop_column
+
+pub returns-clause-drop_table : goal.returns-clause-drop_table
+returns-clause-drop_table c = drop_table

@@ -2,8 +2,8 @@ use Rattle.std.proofs.Common.{refl}
 use Rattle.server_session.specs.ControlPoints.{IsOver}
 use Rattle.server_engine.specs.CoreInput.{at_end}
 use Rattle.server_engine.specs.IsMidway.{IsAtSessionEnd, IsOverThen, WentOn, WentToEnd}
-use Rattle.server_engine.proofs.Calls.{leave_ready, others_on, turned_found, turned_others, when_err}
-use Rattle.server_engine.proofs.Unchanged.{below_within, unchanged_midway, unchanged_others, unchanged_within}
+use Rattle.server_engine.proofs.Calls.{ending_on, leave_ready, others_on, turned_found, turned_others, when_err}
+use Rattle.server_engine.proofs.Unchanged.{below_within, turned_unchanged, unchanged_midway, unchanged_others, unchanged_within}
 use Rattle.server_engine.proofs.one_thread.Core.end_session.Goals as goal
 
 pub visit_needed-requires-after_bounds : goal.visit_needed-requires-after_bounds
@@ -50,6 +50,11 @@ returns-in_err-visit_needed-clause-stays g c = λ h a m.
     let p = c.finish.ensures.midway h a m in
     when_err c.from_residual.result (c.in_err-visit_needed.ensures.stays h (at_end a) p.0 p.1)
 
+pub returns-in_err-visit_needed-clause-ending : goal.returns-in_err-visit_needed-clause-ending
+returns-in_err-visit_needed-clause-ending g c = when_err c.from_residual.result
+    (ending_on c.args.session c.args.self.now c.finish.new.self c.visit_needed.new.self WentOn (λ y z w. w)
+    c.finish.ensures.turned c.in_err-visit_needed.ensures.went)
+
 pub returns-in_err-visit_needed-clause-others_then : goal.returns-in_err-visit_needed-clause-others_then
 returns-in_err-visit_needed-clause-others_then g c = when_err c.from_residual.result
     (others_on c.args.session c.args.self.now c.finish.new.self c.visit_needed.new.self
@@ -64,6 +69,13 @@ returns-in_err-leave-clause-stays g c = λ h a m.
       unchanged_midway c.visit_needed.new.self c.leave.new.self u g.H.Hash32.digest h (at_end a) c.args.session q.0,
       unchanged_within c.visit_needed.new.self c.leave.new.self u (at_end a) (below_within c.visit_needed.new.self (at_end a) q.1),
     )
+
+pub returns-in_err-leave-clause-ending : goal.returns-in_err-leave-clause-ending
+returns-in_err-leave-clause-ending g c = when_err c.from_residual-in_err-leave.result
+    (ending_on c.args.session c.args.self.now c.finish.new.self c.leave.new.self WentToEnd (λ y z w. w.0)
+    c.finish.ensures.turned
+    (turned_unchanged c.args.session c.finish.new.self c.visit_needed.new.self c.leave.new.self WentToEnd
+    c.in_err-leave.ensures.err c.in_ok-visit_needed.ensures.turned))
 
 pub returns-in_err-leave-clause-others_then : goal.returns-in_err-leave-clause-others_then
 returns-in_err-leave-clause-others_then g c = when_err c.from_residual-in_err-leave.result

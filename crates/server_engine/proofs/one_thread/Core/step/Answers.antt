@@ -1,8 +1,8 @@
 use Rattle.server_session.specs.ControlPoints.{IsBetween}
 use Rattle.server_engine.specs.CoreInput.{with_line}
 use Rattle.server_engine.specs.IsMidway.{IsBetweenThen, TookUp, WentOn, WentToEnd}
-use Rattle.server_engine.proofs.Calls.{answer_ready, name_there, open_near, others_on, turned_found, turned_others, when_err}
-use Rattle.server_engine.proofs.Unchanged.{below_within, unchanged_midway, unchanged_others, unchanged_within}
+use Rattle.server_engine.proofs.Calls.{answer_ready, inside_on, name_there, open_near, others_on, turned_found, turned_others, when_err}
+use Rattle.server_engine.proofs.Unchanged.{below_within, turned_unchanged, unchanged_midway, unchanged_others, unchanged_within}
 use Rattle.server_engine.proofs.one_thread.Core.step.Goals as goal
 
 pub visit_needed-requires-after_bounds : goal.visit_needed-requires-after_bounds
@@ -55,6 +55,11 @@ returns-in_err-visit_needed-clause-stays g c = λ h a name m phase named.
     let p = c.start.ensures.midway h a name m phase named in
     when_err c.from_residual.result (c.in_err-visit_needed.ensures.stays h (with_line name c.args.text c.args.now a) p.0 p.1)
 
+pub returns-in_err-visit_needed-clause-inside : goal.returns-in_err-visit_needed-clause-inside
+returns-in_err-visit_needed-clause-inside g c = when_err c.from_residual.result
+    (inside_on c.args.session c.args.self.now c.start.new.self c.visit_needed.new.self WentOn (λ y z w. w)
+    c.start.ensures.turned c.in_err-visit_needed.ensures.went)
+
 pub returns-in_err-visit_needed-clause-others_then : goal.returns-in_err-visit_needed-clause-others_then
 returns-in_err-visit_needed-clause-others_then g c = when_err c.from_residual.result
     (others_on c.args.session c.args.self.now c.start.new.self c.visit_needed.new.self
@@ -70,6 +75,13 @@ returns-in_err-answer-clause-stays g c = λ h a name m phase named.
       unchanged_midway c.visit_needed.new.self c.answer.new.self u g.H.Hash32.digest h b c.args.session q.0,
       unchanged_within c.visit_needed.new.self c.answer.new.self u b (below_within c.visit_needed.new.self b q.1),
     )
+
+pub returns-in_err-answer-clause-inside : goal.returns-in_err-answer-clause-inside
+returns-in_err-answer-clause-inside g c = when_err c.from_residual-in_err-answer.result
+    (inside_on c.args.session c.args.self.now c.start.new.self c.answer.new.self WentToEnd (λ y z w. w.0)
+    c.start.ensures.turned
+    (turned_unchanged c.args.session c.start.new.self c.visit_needed.new.self c.answer.new.self WentToEnd
+    c.in_err-answer.ensures.err c.in_ok-visit_needed.ensures.turned))
 
 pub returns-in_err-answer-clause-others_then : goal.returns-in_err-answer-clause-others_then
 returns-in_err-answer-clause-others_then g c = when_err c.from_residual-in_err-answer.result
