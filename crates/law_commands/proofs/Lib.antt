@@ -1,4 +1,5 @@
 mod Compared
+mod Fits
 mod Judged
 mod Lists
 mod Put

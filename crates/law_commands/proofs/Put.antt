@@ -1,6 +1,6 @@
 -- What a run saved stands in the vault, and is accepted.
-use Rattle.std.proofs.Common.{◌≡◌, ◌∙◌, ℕ, List, [], ◌∷◌, map, Option, Some, ap, refl, sym, subst}
-use Rattle.std.specs.Prelude.{Ok}
+use Rattle.std.proofs.Common.{◌≡◌, ◌∙◌, ◌≤◌, ℕ, List, [], ◌∷◌, length, map, Option, None, Some, ap, refl, sym, subst}
+use Rattle.std.specs.Prelude.{IfNone, OnSome, Ok}
 use Rattle.base_io.specs.Store.{Names, Bytes}
 use Rattle.sql_types.specs.declared.digest.Digest.{Digest}
 use Rattle.sql_types.specs.declared.journal.Journal.{Journal}
@@ -22,7 +22,7 @@ use Rattle.law_headline.specs.Headline.{Headline, IsSaved}
 use Rattle.cli_commands.specs.declared.files.File.{File}
 use Rattle.cli_commands.specs.Replay.{SavesReplay, replayed_files}
 use Rattle.cli_commands.specs.Run.{cut_file, digests_file, image_file, image_name, journal_file, journal_name, saved_files}
-use Rattle.cli_commands.specs.Names.{image_limit}
+use Rattle.cli_commands.specs.Names.{digests_limit, image_limit}
 use Rattle.cli_commands.specs.declared.status.Status.TheVariants.{Done}
 use Rattle.cli_commands.proofs.ReplayLemmas.{image_is_present}
 use Rattle.law_commands.specs.Exhibits.{AreExhibits}
@@ -44,22 +44,27 @@ moved h input setup Order X images J G o same_images same_journal same_digests x
 -- ---- what stands
 
 module _ (h : List ℕ → List ℕ) (input : List InputSession) (setup : Option ℕ) (Order : Meaning → List Fact → Type 0) (X : List Transcript) (o : Output)
-    (x : Headline h input setup Order (saved_of X o)) (names : Names) (save file : List ℕ) where
+    (x : Headline h input setup Order (saved_of X o)) (names : Names) (save : List ℕ) (told : Option (List ℕ)) (file : List ℕ) where
   abbrev Stands : File → Type 0
   Stands f = names f.name ≡ Bytes f.bytes
 
   abbrev last_files : List File
   last_files = image_file save o.image ∷ digests_file save file ∷ journal_file save o.journal ∷ []
 
+  within : (input : Option (List ℕ)) → OnSome input (length file ≤ digests_limit) → IfNone input (length file ≤ digests_limit) → length file ≤ digests_limit
+  within None told_fits fits = fits
+  within (Some bytes) told_fits fits = told_fits
+
   pub exhibits : o.image ≡ last_image_bytes h o.journal → Each Stands (saved_files save o file) → IsRead file (Ok (map held o.digests)) → IsJournal o.journal
-      → AreExhibits h names save o file
-  exhibits image stand read spelling =
+      → OnSome told (length file ≤ digests_limit) → AreExhibits h names save told o file
+  exhibits image stand read spelling told_fits =
       let first : Each Stands (map (cut_file save) o.images) = each_front Stands (map (cut_file save) o.images) last_files stand in
       let last : Each Stands last_files = each_back Stands (map (cut_file save) o.images) last_files stand in
       record {
+        fits = told_fits;
         whole = λ image_fits file_fits. record {
           image_is = record { there = last.0; fits = image_fits };
-          digests_are = record { file = file; there = last.1.0; fits = file_fits; read = read };
+          digests_are = record { file = file; there = last.1.0; fits = within told told_fits file_fits; read = read };
           accepted = ap (verdict_of h (map held o.digests)) image ∙ x.all_digests.yes;
         };
         kept = λ k is fits name digests holds closed.
@@ -77,10 +82,10 @@ module _ (h : List ℕ → List ℕ) (input : List InputSession) (setup : Option
 -- ---- what is made of the journal again
 
 pub same_image : ((i j : Journal) → IsJournal i → IsJournal j → journal_bytes i ≡ journal_bytes j → i ≡ j)
-    → (h : List ℕ → List ℕ) (save again : List ℕ) (o : Output) (file : List ℕ) (names after : Names) (taken_old taken_new : Option (List ℕ))
-    → AreExhibits h names save o file → SavesReplay Done h (journal_name save) again (Some names) (Some after) taken_old taken_new
+    → (h : List ℕ → List ℕ) (save again : List ℕ) (input : Option (List ℕ)) (o : Output) (file : List ℕ) (names after : Names) (taken_old taken_new : Option (List ℕ))
+    → AreExhibits h names save input o file → SavesReplay Done h (journal_name save) again (Some names) (Some after) taken_old taken_new
     → after (image_name again) ≡ Bytes o.image
-same_image equal h save again o file names after taken_old taken_new x s =
+same_image equal h save again input o file names after taken_old taken_new x s =
     let J = s.read.J in
     let found = found_in names (journal_name save) (journal_bytes o.journal) image_limit s.read.bytes x.journal.there s.read.is_in_vault in
     let same = equal J o.journal s.read.spelled.0 x.journal.spelling (sym s.read.spelled.1 ∙ found) in

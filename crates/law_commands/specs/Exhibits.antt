@@ -1,5 +1,5 @@
 -- Images and digests that stand in a vault.
-use Rattle.std.specs.Prelude.{ℕ, ◌≡◌, ◌≤◌, List, length, map, Ok}
+use Rattle.std.specs.Prelude.{ℕ, ◌≡◌, ◌≤◌, List, length, map, IfNone, OnSome, Option, Ok}
 use Rattle.base_io.specs.Store.{Names, Bytes}
 use Rattle.sql_types.specs.declared.digest.Digest.{Digest}
 use Rattle.sql_types.specs.declared.digest.HeldDigest.{HeldDigest}
@@ -42,12 +42,14 @@ pub record HoldsJournal (names : Names) (name : List ℕ) (J : Journal) : Type 0
   pub there : names name ≡ Bytes (journal_bytes J)
   pub spelling : IsJournal J
 
--- What a run saved, where this is its file of digests, stands in the vault: the image of the whole journal is
--- accepted with all digests that were issued, which are in that file; and each that was kept with any digests of
--- its blocks. They are within the limits of what is read. And so does the journal.
-pub record AreExhibits (h : List ℕ → List ℕ) (names : Names) (save : List ℕ) (o : Output) (file : List ℕ)
-    : Type 0 where
-  pub whole : length o.image ≤ image_limit → length file ≤ digests_limit
+-- What the run of an input saved, where this is its file of digests, stands in the vault: the image of the whole
+-- journal is accepted with all digests that were issued, which are in that file; and each that was kept with any
+-- digests of its blocks. They are within the limits of what is read, to which the file of digests keeps where it
+-- is told of what input it is. And so does the journal.
+pub record AreExhibits (h : List ℕ → List ℕ) (names : Names) (save : List ℕ) (input : Option (List ℕ))
+    (o : Output) (file : List ℕ) : Type 0 where
+  pub fits : OnSome input (length file ≤ digests_limit)
+  pub whole : length o.image ≤ image_limit → IfNone input (length file ≤ digests_limit)
       → IsExhibit h names (image_name save) (digests_name save) o.image (map held o.digests)
   pub kept : (k : KeptImage) → In k o.images → length k.1 ≤ image_limit
       → (name : List ℕ) (digests : List Digest) → HoldsDigests names name (map held digests)

@@ -19,6 +19,7 @@ ghost use Rattle.cli_commands.specs.declared.status.Status.TheVariants.{Done};
 ghost use Rattle.law_commands.specs.Calls.{EndsVerify, EndsExtract, SaysYes, SaysSameOrCollision, faults_in};
 ghost use Rattle.law_commands.specs.Exhibits.{AreExhibits, HoldsDigests, HoldsImage, IsExhibit};
 
+use crate::digests::digests_that_were_put_can_be_read;
 use crate::values::saved_files_keep_the_headline;
 use base_io::{Clock, Sink, Vault};
 use format_journal::equal_bytes_are_of_equal_journals;
@@ -28,31 +29,31 @@ use format_journal::equal_bytes_are_of_equal_journals;
 /// `extract` with any other image that is accepted is `Same`, or `Collision` with two different strings of bytes
 /// that have one hash; unless a fault or want of memory comes first.
 ///
-/// What was put has to be within the limits of what is read. With NAME.img goes NAME.digests, which has all
-/// digests that were issued; with NAME-m.img any file of digests of blocks that are closed in it; and with the
-/// image of `replay` any file of digests of blocks that its journal closed. Of the journal that a run saved it
-/// makes the image that the run saved.
+/// What was put has to be within the limits of what is read; the file of digests of a run is, where the input is
+/// told. With NAME.img goes NAME.digests, which has all digests that were issued; with NAME-m.img any file of
+/// digests of blocks that are closed in it; and with the image of `replay` any file of digests of blocks that its
+/// journal closed. Of the journal that a run saved it makes the image that the run saved.
 pub fn what_was_saved_is_accepted<K: Sink, V: Vault, C: Clock>()
     // the first call
     ensures step { (h : List ℕ → List ℕ) (how : Settings) (clock : C) (save : List ℕ) (input : Option (List ℕ))
         (old new : Names) (taken_old taken_new : Option (List ℕ))
         → (ran : RanAndSaved Done line_form (LinesComeTo h how (C.says clock)) save input
         (Some old) (Some new) taken_old taken_new)
-        → AreExhibits h new save ran.output ran.saved.digests }
+        → AreExhibits h new save input ran.output ran.saved.digests }
     ensures run { (h : List ℕ → List ℕ) (how : Settings) (clock : C) (save : List ℕ) (input : Option (List ℕ))
         (old new : Names) (taken_old taken_new : Option (List ℕ))
         → (ran : RanAndSaved Done section_form (SectionsComeTo h how (C.says clock)) save input
         (Some old) (Some new) taken_old taken_new)
-        → AreExhibits h new save ran.output ran.saved.digests }
+        → AreExhibits h new save input ran.output ran.saved.digests }
     ensures replay { (h : List ℕ → List ℕ) (journal save : List ℕ) (old new : Names)
         → (puts : PutsAccepted h journal save (Some old) (Some new)) → length puts.image ≤ image_limit
         → (name : List ℕ) (digests : List HeldDigest) → HoldsDigests new name digests
         → AllHeld h statement_of puts.read.J.database puts.read.J.items digests
         → IsExhibit h new (image_name save) name puts.image digests }
     // `replay` of the journal that a run saved
-    ensures same_image { (h : List ℕ → List ℕ) (save again : List ℕ) (o : Output) (file : List ℕ)
-        (names after : Names) (taken_old taken_new : Option (List ℕ))
-        → AreExhibits h names save o file
+    ensures same_image { (h : List ℕ → List ℕ) (save again : List ℕ) (input : Option (List ℕ)) (o : Output)
+        (file : List ℕ) (names after : Names) (taken_old taken_new : Option (List ℕ))
+        → AreExhibits h names save input o file
         → SavesReplay Done h (journal_name save) again (Some names) (Some after) taken_old taken_new
         → after (image_name again) ≡ Bytes o.image }
     // the second call
@@ -77,5 +78,6 @@ pub fn what_was_saved_is_accepted<K: Sink, V: Vault, C: Clock>()
         (K.stalls sink) (K.stalls sink_then) (sink_then ≡ sink)) (K.taken sink) (K.taken sink_then) }
 {
     saved_files_keep_the_headline::<C>();
+    digests_that_were_put_can_be_read::<C>();
     equal_bytes_are_of_equal_journals();
 }

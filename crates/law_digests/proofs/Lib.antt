@@ -1,1 +1,8 @@
+mod Answered
+mod Below
+mod Issued
+mod Lines
+mod ReadBack
+mod Sections
 mod Sizes
+mod Words

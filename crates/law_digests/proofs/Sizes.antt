@@ -1,8 +1,7 @@
 -- How long the file of some digests is at most.
-use Rattle.std.proofs.Common.{zero, suc, ℕ, ◌≡◌, ◌≤◌, ◌<◌, ◌+◌, ◌*◌, ◌/◌, ◌%◌, ◌^◌, ◌==◌, arith, ℤ, Bool, true, false, List, [], ◌∷◌, ◌++◌, length, length-append, map, Some, refl, sym, ◌∙◌, ap, subst, codes, inl, inr, slice_index}
+use Rattle.std.proofs.Common.{zero, suc, ℕ, ◌≡◌, ◌≤◌, ◌<◌, ◌+◌, ◌*◌, ◌/◌, ◌%◌, ◌==◌, arith, ℤ, Bool, true, false, List, [], ◌∷◌, ◌++◌, length, length-append, map, Some, refl, sym, ◌∙◌, ap, subst, codes, inl, inr, slice_index}
 use Rattle.std.specs.Prelude.{◌&&◌, ◌||◌, ◌⊎◌, nat_le, nat_lt, pos, negsuc, neg_ℤ, ◌≤ℤ◌, decimal}
 use Rattle.std.specs.List.{AllByRecursion, list_all}
-use Rattle.std.specs.Str.{byte}
 use Rattle.std.specs.Char.{is_ascii_alphanumeric}
 use Rattle.std.specs.Int.{is_in_range}
 use Rattle.std.proofs.lemmas.Bool.{and_parts}
@@ -13,16 +12,14 @@ use Rattle.hex.proofs.HexLemmas.{length-encode_with}
 use Rattle.json.specs.Print.{escape, escape_byte, quoted}
 use Rattle.jiff_core.specs.declared.civil.date.Date.{Date}
 use Rattle.jiff_core.specs.declared.civil.time.Time.{Time}
-use Rattle.jiff_core.specs.declared.civil.datetime.DateTime.{DateTime}
-use Rattle.jiff_core.specs.Calendar.{days_in_month}
 use Rattle.jiff_core.proofs.SignedLemmas.{signed_arith}
 use Rattle.jiff_core.proofs.CalendarLemmas.{days_in_month_bounds}
-use Rattle.jiff_fmt.specs.Text.{pad2, pad4, places, year_text, date_text, time_text, datetime_text}
+use Rattle.jiff_fmt.specs.Text.{pad2, pad4, places, year_text, date_text, time_text}
 use Rattle.base_types.specs.DatabaseName.{is_database_name, is_database_byte, starts_as_name}
 use Rattle.sql_types.specs.declared.digest.Digest.{Digest}
 use Rattle.format_digest.specs.Moment.{IsMomentText}
 use Rattle.law_digests.specs.Size.{IsIssued, FitsWhatIsRead}
-use Rattle.format_digest.specs.Writing.{DigestWithTimes, joined, hash_text, digest_text, digest_texts, file_text, IsShown, AreShown, IsHash, IsFile}
+use Rattle.format_digest.specs.Writing.{DigestWithTimes, joined, hash_text, digest_text, digest_texts, file_text, IsShown, AreShown, IsHash}
 
 -- ---- bytes that stand for themselves in a string of JSON
 

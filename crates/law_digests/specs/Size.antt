@@ -18,12 +18,13 @@ input_limit = 4194304
 abbrev pub digests_limit : ℕ
 digests_limit = 33554432
 
--- the fewest bytes of a statement that issues a digest, `EXEC sp_generate_database_ledger_digest`
-abbrev pub least_statement : ℕ
-least_statement = 39
+-- no line that issues a digest has fewer bytes with its line feed: `EXEC` and
+-- `sp_generate_database_ledger_digest` alone have 38
+abbrev pub least_line : ℕ
+least_line = 39
 
--- The file of digests that the statements of one input asked for can be read.
+-- The file of the digests that the statements of one input asked for can be read.
 abbrev pub FitsWhatIsRead : List Digest → List ℕ → Type 0
 FitsWhatIsRead list bytes =
-    IsFile list bytes → AllByRecursion IsIssued list → length list * least_statement ≤ input_limit
+    IsFile list bytes → AllByRecursion IsIssued list → length list * least_line ≤ input_limit
     → length bytes ≤ digests_limit
