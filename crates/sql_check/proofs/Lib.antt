@@ -1,2 +1,3 @@
+pub mod Alterations
 pub mod Lists
 pub mod NewTables

@@ -18,7 +18,7 @@ use sql_value::{ColumnDef, Refusal, TableKind};
 use std::alloc::Global;
 
 /// The most columns of a table.
-const MOST_COLUMNS: usize = 64;
+pub const MOST_COLUMNS: usize = 64;
 
 /// The most columns of a primary key.
 const MOST_KEY_COLUMNS: usize = 4;
@@ -79,7 +79,7 @@ fn view_name(alloc: Global, table: &Name, written: &Option<Name>) -> Result<Name
 }
 
 /// Whether the name begins as those of added columns do, in any case.
-fn is_ledger_name(name: &Name) -> bool
+pub fn is_ledger_name(name: &Name) -> bool
     ensures { result ≡ spec.is_ledger_name name.now }
 {
     let bytes = name.bytes();
@@ -96,7 +96,7 @@ pub fn is_long(name: &Name) -> bool
 
 /// Whether two of a table's names are one.
 #[tactic(auto, unfolding(crate::specs::NewTable::names_repeat))]
-fn names_repeat(name: &Name, history: &Name, view: &Name) -> bool
+pub fn names_repeat(name: &Name, history: &Name, view: &Name) -> bool
     ensures { result ≡ new.names_repeat name.now history.now view.now }
 {
     is_named(history, name) || is_named(view, name) || is_named(view, history)
@@ -104,14 +104,15 @@ fn names_repeat(name: &Name, history: &Name, view: &Name) -> bool
 
 /// Whether one of a table's names stands for something already.
 #[tactic(auto, unfolding(crate::specs::NewTable::names_used))]
-fn names_used<D: Definitions>(defs: &D, name: &Name, history: &Name, view: &Name) -> bool
+pub fn names_used<D: Definitions>(defs: &D, name: &Name, history: &Name, view: &Name) -> bool
     ensures { result ≡ new.names_used (D.defs defs.now) name.now history.now view.now }
 {
     defs.is_used(name) || defs.is_used(history) || defs.is_used(view)
 }
 
+/// Whether one of a table's names is too long.
 #[tactic(auto, unfolding(crate::specs::NewTable::names_long))]
-fn names_long(name: &Name, history: &Name, view: &Name) -> bool
+pub fn names_long(name: &Name, history: &Name, view: &Name) -> bool
     ensures { result ≡ new.names_long name.now history.now view.now }
 {
     is_long(name) || is_long(history) || is_long(view)

@@ -8,9 +8,9 @@ ghost use Rattle.spec_model.specs.Create as spec;
 
 use crate::creating::is_long;
 use crate::names::{Named, has_name, repeats};
-use crate::rows::{are_declared, refuse_if};
+use crate::rows::{are_live, is_standing, refuse_if};
 use base_types::{Items, Memory, Name};
-use sql_parts::place_of as column_place;
+use sql_parts::{LiveColumns, place_of as column_place};
 use sql_types::{CreateIndex, IndexDef, Part, TableDef};
 use sql_value::{ColumnDef, Refusal};
 use std::alloc::Global;
@@ -83,9 +83,9 @@ pub fn new_index(
     let columns = def.columns.as_slice();
     refuse_if(has_taken_name(def, c), Refusal::NameConflict)?;
     refuse_if(is_over(def, c), Refusal::LimitExceeded)?;
-    refuse_if(part != Part::Base, Refusal::ReadOnlyTable)?;
+    refuse_if(!is_standing(def, part), Refusal::ReadOnlyTable)?;
     refuse_if(
-        !are_declared(columns, c.columns.as_slice()),
+        !are_live(&LiveColumns::of(def), c.columns.as_slice()),
         Refusal::NoSuchColumn,
     )?;
     Ok(IndexDef {

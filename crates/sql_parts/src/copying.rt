@@ -24,7 +24,8 @@ pub fn copy_def(alloc: Global, def: &TableDef) -> Result<TableDef, Memory>
     })
 }
 
-fn copy_columns(alloc: Global, columns: &[ColumnDef]) -> Result<Items<ColumnDef>, Memory>
+/// Copies of columns.
+pub fn copy_columns(alloc: Global, columns: &[ColumnDef]) -> Result<Items<ColumnDef>, Memory>
     ensures { IfOk result (λ copy. copy ≡ columns.now) }
 {
     let mut copy = Vec::with_capacity(alloc, columns.len())?;
@@ -34,7 +35,8 @@ fn copy_columns(alloc: Global, columns: &[ColumnDef]) -> Result<Items<ColumnDef>
     Ok(Items::from_vec(copy))
 }
 
-fn copy_indexes(alloc: Global, indexes: &[IndexDef]) -> Result<Items<IndexDef>, Memory>
+/// Copies of the definitions of indexes.
+pub fn copy_indexes(alloc: Global, indexes: &[IndexDef]) -> Result<Items<IndexDef>, Memory>
     ensures { IfOk result (λ copy. copy ≡ indexes.now) }
 {
     let mut copy = Vec::with_capacity(alloc, indexes.len())?;
