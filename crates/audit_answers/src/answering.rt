@@ -33,8 +33,9 @@ pub enum AnswersErr {
     Memory,
 }
 
-/// The image that some bytes are, where it is accepted with the digests, and else the verdict on them.
-fn accepted<H: Hash32>(
+/// The image that some bytes are, where it is accepted with the digests, and else the verdict on them. The only
+/// error is want of memory.
+pub fn accepted<H: Hash32>(
     alloc: Global,
     h: H,
     bytes: &[u8],

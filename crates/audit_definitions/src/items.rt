@@ -263,18 +263,7 @@ fn column_row_at(
 fn column_row(id: TableId, place: usize, column: &ColumnDef) -> [ExpectedValue<'_>; 9]
     ensures { map value_of result ≡ system.column_row id (place + 1, column.now) }
 {
-    let (code, first, second) = type_parts(column.ty);
-    [
-        ExpectedValue::Number(id.into()),
-        ExpectedValue::Number(place as i128 + 1),
-        ExpectedValue::Number(0),
-        ExpectedValue::Name(&column.name),
-        ExpectedValue::Number(code.into()),
-        ExpectedValue::Number(first.into()),
-        ExpectedValue::Number(second.into()),
-        ExpectedValue::Number(bit(column.nullable)),
-        ExpectedValue::Number(column.key_position.into()),
-    ]
+    column_row_at(id, place, column, column.key_position.into())
 }
 
 /// Whether one of the rows is that of the column at this place, counted from 0.

@@ -2,7 +2,7 @@
 
 ghost use Rattle.std.specs.Prelude.{◌≡◌, ◌<◌, ◌^◌, ◌==◌, ◌+◌, ◌&&◌, ◌||◌, not, IfOk};
 ghost use Rattle.std.specs.List.{list_all, list_any, range_with_len};
-ghost use Rattle.spec_model.specs.Lists.{numbered};
+ghost use Rattle.spec_model.specs.Lists.{numbered, rise_within};
 ghost use Rattle.law_catalog_rows.specs.IsEncodableDef as spec;
 ghost use Rattle.audit_definitions.specs.Rules.{names_are_right, columns_are_right, indexes_are_right};
 
@@ -56,7 +56,7 @@ fn are_dropped_right(def: &TableDef) -> bool
 
 /// Whether they rise from 1 on, and none is above the limit.
 fn rise_within(limit: usize, numbers: &[u16]) -> bool
-    ensures { result ≡ spec.rise_within 0 limit numbers.now }
+    ensures { result ≡ rise_within 0 limit numbers.now }
 {
     let mut last = 0;
     for n in numbers {

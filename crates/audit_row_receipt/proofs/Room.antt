@@ -1,5 +1,5 @@
 -- The bytes of an event are few.
-use Rattle.std.proofs.Common.{◌≡◌, ◌<◌, ◌^◌, ◌+◌, ◌-◌, ◌*◌, ◌/◌, ◌%◌, ◌≤◌, ℕ, ℤ, Bool, true, false, cond, leb, ltb, List, [], ◌∷◌, ◌++◌, length, flat_map, Option, Some, None, refl, ap, arith, length-append}
+use Rattle.std.proofs.Common.{◌≡◌, ◌<◌, ◌^◌, ◌+◌, ◌-◌, ◌*◌, ◌/◌, ◌%◌, ◌≤◌, ℕ, Bool, true, false, cond, leb, ltb, List, [], ◌∷◌, ◌++◌, length, flat_map, Option, Some, None, refl, ap, arith, length-append}
 use Rattle.std.specs.Prelude.{sum_by, ◌&&◌}
 use Rattle.std.specs.List.{AllByRecursion}
 use Rattle.std.specs.Str.{is_utf8, chars, encode_utf8_all}
@@ -8,7 +8,7 @@ use Rattle.std.proofs.Math.Utf8.{encode}
 use Rattle.std.proofs.lemmas.Bool.{leb-true}
 use Rattle.std.proofs.lemmas.List.Sums.{sum_by-cons}
 use Rattle.std.proofs.lemmas.Str.{encodes-chars, length-encode, IsUtf8-from_is_utf8}
-use Rattle.base_fields.specs.Fields.{u8_field, u16_field, u32_field, u64_field, signed_field, i128_field, long_field}
+use Rattle.base_fields.specs.Fields.{u8_field, u16_field, u32_field, u64_field, long_field}
 use Rattle.base_fields.proofs.Worth.{length-bytes_high_first}
 use Rattle.sql_value.specs.declared.sql_type.SqlType.{SqlType}
 use Rattle.sql_value.specs.declared.sql_type.SqlType.TheVariants as types
@@ -18,8 +18,9 @@ use Rattle.sql_value.specs.Text.{utf16_units}
 use Rattle.sql_value.specs.Stored.{is_in_range, is_stored, text_stored, bytes_stored}
 use Rattle.sql_types.specs.declared.event.Event.{Event}
 use Rattle.sql_types.specs.declared.event.EventField.{EventField}
-use Rattle.format_event.specs.Leaf.{value_bytes, number_bytes, is_text, type_bytes, type_code, first_parameter, second_parameter, column_bytes, columns_bytes, start_bytes, head_bytes, encoded, event_bytes, without_nulls, IsField, HasLeaf}
+use Rattle.format_event.specs.Leaf.{value_bytes, is_text, type_bytes, type_code, first_parameter, second_parameter, column_bytes, columns_bytes, start_bytes, head_bytes, encoded, event_bytes, without_nulls, IsField, HasLeaf}
 use Rattle.format_event.proofs.TypeLaws.{and_parts}
+use Rattle.format_event.proofs.Sizes.{bytes_of_type, number_small}
 
 -- ---- a value that a type stores has at most 16,000 bytes
 
@@ -49,16 +50,6 @@ text_small x utf8 =
     let few = characters_small (chars x) in
     omega (arith, ap length is, few, units_of (chars x))
 
-number_small : (ty : SqlType) (v : ℤ) → length (number_bytes ty v) ≤ 16
-unfolding signed_field i128_field
-number_small types.Bit v = omega arith
-number_small types.Int v = omega arith
-number_small types.BigInt v = omega arith
-number_small (types.Decimal p s) v = omega arith
-number_small (types.NVarChar n) v = omega arith
-number_small (types.VarBinary n) v = omega arith
-number_small types.Date v = omega arith
-
 text_of_type : (ty : SqlType) (x : List ℕ) → is_in_range ty ≡ true → text_stored ty x ≡ true → is_utf8 x ≡ true → length x ≤ 16000
 unfolding is_in_range
 text_of_type types.Bit x r e u = absurd cc
@@ -70,18 +61,6 @@ text_of_type (types.NVarChar n) x r e u =
     omega (arith, leb-true _ _ b.1, leb-true _ _ e, text_small x u)
 text_of_type (types.VarBinary n) x r e u = absurd cc
 text_of_type types.Date x r e u = absurd cc
-
-bytes_of_type : (ty : SqlType) (x : List ℕ) → is_in_range ty ≡ true → bytes_stored ty x ≡ true → length x ≤ 16000
-unfolding is_in_range
-bytes_of_type types.Bit x r e = absurd cc
-bytes_of_type types.Int x r e = absurd cc
-bytes_of_type types.BigInt x r e = absurd cc
-bytes_of_type (types.Decimal p s) x r e = absurd cc
-bytes_of_type (types.NVarChar n) x r e = absurd cc
-bytes_of_type (types.VarBinary n) x r e =
-    let b = and_parts (leb 1 n) (leb n 8000) r in
-    omega (arith, leb-true _ _ b.1, leb-true _ _ e)
-bytes_of_type types.Date x r e = absurd cc
 
 value_short : (ty : SqlType) (v : Value) → is_stored v ty ≡ true → is_text v ≡ true → length (value_bytes ty v) ≤ 16000
 unfolding is_stored u32_field

@@ -6,7 +6,6 @@ use Rattle.std.proofs.lemmas.List.{get_or_default}
 use Rattle.std.specs.Prelude.{◌&&◌, ◌||◌, ◌==◌, not, is_none, is_some, option_map, IfSome}
 use Rattle.std.specs.Cmp.{IsTotalOrder, on_total, then_total, nat_cmp_total}
 use Rattle.std.specs.List.{AllByRecursion, list_any}
-use Rattle.std.specs.declared.cmp.Ordering.{Ordering}
 use Rattle.std.specs.declared.cmp.Ordering.TheVariants.{Less, Equal, Greater}
 use Rattle.std.specs.Ordering.{is_eq, nat_cmp, ordering_then}
 use Rattle.sql_value.specs.declared.column.ColumnDef.{ColumnDef}
@@ -28,6 +27,7 @@ use Rattle.audit_columns.specs.Runs.{Neighbours}
 use Rattle.audit_verify.proofs.Neighbours.{neighbours, first_is, behind_first}
 use Rattle.audit_columns.proofs.Runs as law
 use Rattle.audit_columns.proofs.Sortings.{all_sorted}
+use Rattle.spec_verify.proofs.SystemRows.{then_equal as then_both}
 
 -- ---- orders
 
@@ -39,11 +39,6 @@ keys_total columns = on_total (λ (r : VersionWithRanks). version_key columns r.
 
 pub ranked_total : (columns : List ColumnDef) → IsTotalOrder (ranked_cmp columns)
 ranked_total columns = then_total (keys_total columns) starts_total
-
-then_both : (r s : Ordering) → ordering_then r s ≡ Equal → (r ≡ Equal) × (s ≡ Equal)
-then_both Less s e = cc
-then_both Equal s e = (refl, e)
-then_both Greater s e = cc
 
 open_by : (a b : Option Rank) → nat_cmp (openness a) (openness b) ≡ Equal → is_none a ≡ is_none b
 open_by None None e = refl

@@ -44,7 +44,7 @@ text_small x utf8 =
     let few = characters_small (chars x) in
     omega (arith, ap length is, few, units_of (chars x))
 
-number_small : (ty : SqlType) (v : ℤ) → length (number_bytes ty v) ≤ 16
+pub number_small : (ty : SqlType) (v : ℤ) → length (number_bytes ty v) ≤ 16
 unfolding signed_field i128_field
 number_small types.Bit v = omega arith
 number_small types.Int v = omega arith
@@ -66,7 +66,7 @@ text_of_type (types.NVarChar n) x r e u =
 text_of_type (types.VarBinary n) x r e u = absurd cc
 text_of_type types.Date x r e u = absurd cc
 
-bytes_of_type : (ty : SqlType) (x : List ℕ) → is_in_range ty ≡ true → bytes_stored ty x ≡ true → length x ≤ 16000
+pub bytes_of_type : (ty : SqlType) (x : List ℕ) → is_in_range ty ≡ true → bytes_stored ty x ≡ true → length x ≤ 16000
 unfolding is_in_range
 bytes_of_type types.Bit x r e = absurd cc
 bytes_of_type types.Int x r e = absurd cc

@@ -39,20 +39,14 @@ use Rattle.law_image.specs.Room.{VersionFitsFormat, TableFitsFormat, FitsImageFo
 use Rattle.law_accepts.proofs.Along.{more_legal}
 use Rattle.law_accepts.proofs.Begins.{begins}
 use Rattle.law_accepts.proofs.Stay.{Few, few_each}
+use Rattle.law_frame.proofs.UndoneTables.{first_few as all_cut}
+use Rattle.spec_verify.proofs.EncodedSo.{all_rest as rest_of, all_front as front_of}
 
 abbrev AllRoom : List Version → Type 0
 AllRoom versions = AllByRecursion VersionFitsFormat versions
 
 abbrev TablesFitFormat : Tables → Type 0
 TablesFitFormat T = AllByRecursion TableFitsFormat T
-
-front_of : {A : Type 0} (P : A → Type 0) (xs ys : List A) → AllByRecursion P (xs ++ ys) → AllByRecursion P xs
-front_of P [] ys h = tt
-front_of P (x ∷ xs) ys h = (h.0, front_of P xs ys h.1)
-
-rest_of : {A : Type 0} (P : A → Type 0) (xs ys : List A) → AllByRecursion P (xs ++ ys) → AllByRecursion P ys
-rest_of P [] ys h = h
-rest_of P (x ∷ xs) ys h = rest_of P xs ys h.1
 
 -- ---- versions
 
@@ -188,11 +182,6 @@ module _ (reads : Reading) where
       (subst (λ (J : List JournalItem). TablesFitFormat (serial reads J)) (sym parts) r)
 
 -- ---- counts
-
-all_cut : {A : Type 0} (P : A → Type 0) (m : ℕ) (xs : List A) → AllByRecursion P xs → AllByRecursion P (take m xs)
-all_cut P zero xs h = tt
-all_cut P (suc m) [] h = tt
-all_cut P (suc m) (x ∷ xs) h = (h.0, all_cut P m xs h.1)
 
 blocks_cut : (items : List JournalItem) (m : ℕ) → blocks (take m items) ≤ blocks items
 blocks_cut items zero = omega arith

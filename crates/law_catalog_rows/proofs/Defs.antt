@@ -17,12 +17,9 @@ use Rattle.spec_model.specs.Agreement.{IdsFrom}
 use Rattle.law_journal.specs.Fine.{OfTable}
 use Rattle.law_journal.proofs.DefLists.{redef}
 use Rattle.law_catalog_rows.specs.Encoded.{rows_of_indexes, item_rows}
+use Rattle.law_journal.proofs.Serials.{no_more}
 
 -- ---- one definition
-
-no_more : (xs : List Row) → xs ++ [] ≡ xs
-no_more [] = refl
-no_more (x ∷ xs) = ap (λ (ys : List Row). x ∷ ys) (no_more xs)
 
 indexes_more : (id g : ℕ) (is : List IndexDef) (i : IndexDef) → rows_of_indexes id g (is ++ i ∷ []) ≡ rows_of_indexes id g is ++ index_rows id (length is + g) i
 indexes_more id g [] i =

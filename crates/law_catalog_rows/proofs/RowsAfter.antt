@@ -1,7 +1,6 @@
 -- Each statement keeps that the rows of the system tables are those of the definitions.
-use Rattle.std.proofs.Common.{◌≡◌, ◌<◌, ℕ, ◌+◌, inl, inr, refl, sym, ap, subst, Bool, true, false, List, [], ◌∷◌, ◌++◌, map, flat_map, length, Some, Ok, Err, arith}
+use Rattle.std.proofs.Common.{◌≡◌, ◌<◌, ℕ, ◌+◌, inl, inr, refl, sym, ap, subst, Bool, false, List, [], ◌∷◌, ◌++◌, map, flat_map, length, Some, Ok, Err, arith}
 use Rattle.std.proofs.lemmas.Bool.{ne_eqb}
-use Rattle.std.proofs.lemmas.Grind.{common_steps}
 use Rattle.std.proofs.lemmas.List.Sorted.{IsPermutation-refl, IsPermutation-sym, IsPermutation-trans, IsPermutation-append_right}
 use Rattle.std.specs.Prelude.{nat_le, not, if◌then◌else◌}
 use Rattle.std.specs.List.{AllByRecursion}
@@ -20,8 +19,7 @@ use Rattle.sql_types.specs.declared.statement.CreateIndex.{CreateIndex}
 use Rattle.sql_types.specs.declared.statement.Select.{Select}
 use Rattle.sql_types.specs.declared.table.TableDef.{TableDef}
 use Rattle.sql_types.specs.declared.table.IndexDef.{IndexDef}
-use Rattle.sql_types.specs.declared.table.Part.{Part}
-use Rattle.sql_types.specs.declared.table.Part.TheVariants.{Base, History, View, System}
+use Rattle.sql_types.specs.declared.table.Part.TheVariants.{Base}
 use Rattle.sql_types.specs.declared.version.Table.{Table}
 use Rattle.sql_types.specs.declared.version.Version.{Version}
 use Rattle.spec_model.specs.Refusals.{Checked, or_refused}
@@ -35,7 +33,7 @@ use Rattle.spec_model.specs.SystemTables.{tables_columns, columns_columns, kind_
 use Rattle.spec_model.specs.Create.{create_check, index_def, index_check_in, index_check, with_index}
 use Rattle.spec_model.specs.Effect.{effect, done, row_effect, shown, query_rows, query_effect, table_start, column_starts, table_effect, redefined, index_starts, index_effect}
 use Rattle.spec_model.specs.Agreement.{IdsFrom}
-use Rattle.law_frame.proofs.BaseTables.{users_table}
+use Rattle.law_frame.proofs.BaseTables.{users_table, base_alone, own_is_users}
 use Rattle.law_frame.proofs.Checked.{Led, led, was_passed, not_refused}
 use Rattle.law_frame.proofs.Definitions.{same_defs}
 use Rattle.law_frame.proofs.NamedPart.{named_part, was_found}
@@ -47,6 +45,7 @@ use Rattle.law_catalog_rows.specs.Encoded.{live_rows, item_rows, AreRowsOf, Have
 use Rattle.law_catalog_rows.proofs.Defs.{tables_after, items_after, Redefined, redefined_rows}
 use Rattle.law_catalog_rows.proofs.LiveRows.{IsWhole, starts_rows}
 use Rattle.law_catalog_rows.proofs.ChangedTables.{system_changed, users_changed}
+use Rattle.law_frame.proofs.SoundStatements.{four_passed}
 
 -- ---- rows are kept as they are
 
@@ -72,29 +71,12 @@ parts_whole id g n name (o ∷ os) = (refl, parts_whole id g (n + 1) name os)
 abbrev IsUsers : NamedPart → Type 0
 IsUsers n = n.1 ≡ Base → 2 < n.0.id
 
-own_is_users : (def : TableDef) (b : Bool) → nat_le def.id 2 ≡ b → (if b then System else Base) ≡ Base → 2 < def.id
-own_is_users def true e h = cc
-own_is_users def false e h = grind (arith, common_steps)
-
 found_is_users : (defs : Defs) (name : List ℕ) (found : NamedPart) → find_part defs name ≡ Some found → IsUsers found
 unfolding find_part
 found_is_users [] name found e = cc
 found_is_users (d ∷ defs) name found e =
     named_part d (own_part d) (is_named d.name name) (is_named d.history name) (is_named d.view name) (find_part defs name) found IsUsers e
     (λ h. own_is_users d (nat_le d.id 2) refl h) (λ h. cc) (λ h. cc) (λ h. found_is_users defs name found h)
-
-base_alone : (p : Part) → not (is_base p) ≡ false → p ≡ Base
-base_alone Base e = refl
-base_alone History e = cc
-base_alone View e = cc
-base_alone System e = cc
-
-four_passed : {A : Type 0} (a b c d : Bool) (e f g h : Refusal) (y x : A) → refused_if a e (refused_if b f (refused_if c g (refused_if d h (Ok y)))) ≡ Ok x → x ≡ y
-four_passed true b c d e f g h y x k = cc
-four_passed false true c d e f g h y x k = cc
-four_passed false false true d e f g h y x k = cc
-four_passed false false false true e f g h y x k = cc
-four_passed false false false false e f g h y x k = cc
 
 third_passed : {A : Type 0} (a b c d : Bool) (e f g h : Refusal) (y x : A) → refused_if a e (refused_if b f (refused_if c g (refused_if d h (Ok y)))) ≡ Ok x → c ≡ false
 third_passed a b c d e f g h y x k = was_passed c g (refused_if d h (Ok y)) x (not_refused b f _ x (not_refused a e _ x k))

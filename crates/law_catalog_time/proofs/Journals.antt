@@ -1,7 +1,7 @@
 -- In the tables to which a legal journal leads versions start after the rows about their columns.
-use Rattle.std.proofs.Common.{◌≡◌, ◌<◌, ℕ, suc, ◌+◌, inl, inr, refl, sym, ap, subst, ◌∙◌, Bool, true, false, List, [], ◌∷◌, ◌++◌, map, Option, Some, None, arith}
-use Rattle.std.proofs.lemmas.Bool.{eq-eqb, ne_eqb}
-use Rattle.std.specs.Prelude.{◌==◌, if◌then◌else◌, IfSome}
+use Rattle.std.proofs.Common.{◌≡◌, ◌<◌, ℕ, suc, ◌+◌, inl, inr, refl, sym, ap, subst, ◌∙◌, List, [], ◌∷◌, ◌++◌, map, Option, Some, None, arith}
+use Rattle.std.proofs.lemmas.Bool.{eq-eqb}
+use Rattle.std.specs.Prelude.{if◌then◌else◌, IfSome}
 use Rattle.std.specs.List.{AllByRecursion}
 use Rattle.sql_types.specs.declared.journal.JournalItem.{JournalItem}
 use Rattle.sql_types.specs.declared.journal.JournalItem.TheVariants.{Tx, Close}
@@ -25,21 +25,11 @@ use Rattle.law_frame.proofs.WholeScripts.{whole_script}
 use Rattle.sql_types.specs.declared.statement.Stmt.{Stmt}
 use Rattle.spec_model.specs.Effect.{effect}
 use Rattle.law_journal.proofs.Keeping.{statement_kept, statement_described}
-use Rattle.law_journal.proofs.Serials.{no_number}
+use Rattle.law_journal.proofs.Serials.{no_number, place_of_item, no_more, own_place, one_tx}
 use Rattle.law_catalog_time.specs.AfterColumns.{VersionsFollowColumns}
 use Rattle.law_catalog_time.proofs.Statements.{statement_follows}
 
 -- ---- places
-
-own_place : (id : ℕ) (before : List JournalItem) (item : JournalItem) (rest : List JournalItem) → AllByRecursion (IsOther id) before → place_in (item ∷ rest) id ≡ 0 → place_in (before ++ item ∷ rest) id ≡ tx_count before
-own_place id [] item rest h e = e
-own_place id (Tx other session time opened lines ∷ is) item rest h e = rw (ne_eqb other id h.0) (ap suc (own_place id is item rest h.1 e))
-own_place id (Close k ∷ is) item rest h e = own_place id is item rest h.1 e
-
-one_tx : (before : List JournalItem) (item : JournalItem) → tx_count (before ++ item ∷ []) ≡ tx_count before + tx_count (item ∷ [])
-one_tx [] item = omega arith
-one_tx (Tx other session time opened lines ∷ is) item = omega (arith, one_tx is item)
-one_tx (Close k ∷ is) item = one_tx is item
 
 -- ---- between transactions
 
@@ -133,18 +123,6 @@ module _ (place : ℕ → ℕ) where
 append_one : (xs : List JournalItem) (y : JournalItem) (ys : List JournalItem) → xs ++ y ∷ ys ≡ (xs ++ y ∷ []) ++ ys
 append_one [] y ys = refl
 append_one (x ∷ xs) y ys = ap (λ (zs : List JournalItem). x ∷ zs) (append_one xs y ys)
-
-no_more : (xs : List JournalItem) → xs ++ [] ≡ xs
-no_more [] = refl
-no_more (x ∷ xs) = ap (λ (zs : List JournalItem). x ∷ zs) (no_more xs)
-
-place_of_item : (id : ℕ) (item : JournalItem) (rest : List JournalItem) → place_in (item ∷ []) id ≡ 0 → tx_count (item ∷ []) ≡ 1 → place_in (item ∷ rest) id ≡ 0
-place_of_item id (Tx other session time opened lines) rest e one = here (other == id) e
-  where
-    here : (b : Bool) → (let n : ℕ = if b then 0 else suc 0 in n ≡ 0) → (let n : ℕ = if b then 0 else suc (place_in rest id) in n ≡ 0)
-    here true h = refl
-    here false h = absurd (omega (arith, h))
-place_of_item id (Close k) rest e one = absurd (omega (arith, one))
 
 module _ (reads : Reading) (all : List JournalItem) where
   after_all : (before : List JournalItem) (T : Tables) (items : List JournalItem) → all ≡ before ++ items → IsLegalFrom reads before T items → Between (place_in all) reads before T → Between (place_in all) reads all (serial_from reads T items)

@@ -17,7 +17,7 @@ use Rattle.law_frame.proofs.NamedPart.{named_part, Passed, passed}
 abbrev IsUsers : NamedPart → Type 0
 IsUsers n = n.1 ≡ Base → 2 < n.0.id
 
-own_is_users : (def : TableDef) (b : Bool) → nat_le def.id 2 ≡ b → (if b then System else Base) ≡ Base → 2 < def.id
+pub own_is_users : (def : TableDef) (b : Bool) → nat_le def.id 2 ≡ b → (if b then System else Base) ≡ Base → 2 < def.id
 own_is_users def true e h = cc
 own_is_users def false e h = grind (arith, common_steps)
 
@@ -28,7 +28,7 @@ found_is_users (d ∷ defs) name found e =
     named_part d (own_part d) (is_named d.name name) (is_named d.history name) (is_named d.view name) (find_part defs name) found IsUsers e
     (λ h. own_is_users d (nat_le d.id 2) refl h) (λ h. cc) (λ h. cc) (λ h. found_is_users defs name found h)
 
-base_alone : (p : Part) → not (is_base p) ≡ false → p ≡ Base
+pub base_alone : (p : Part) → not (is_base p) ≡ false → p ≡ Base
 base_alone Base e = refl
 base_alone History e = cc
 base_alone View e = cc

@@ -26,13 +26,9 @@ use Rattle.spec_ledger.specs.Parts.{AreBlocksOf}
 use Rattle.spec_ledger.proofs.Adding.{serial_more}
 use Rattle.law_blocks.proofs.Roots.{legal_ids, roots_rise}
 use Rattle.format_image.specs.ImageBytes.{IsPlaceless}
+use Rattle.law_frame.proofs.UndoneTables.{first_few as all_take}
 
 -- ---- parts of lists
-
-all_take : {A : Type 0} (P : A → Type 0) (k : ℕ) (xs : List A) → AllByRecursion P xs → AllByRecursion P (take k xs)
-all_take P zero xs h = tt
-all_take P (suc k) [] h = tt
-all_take P (suc k) (x ∷ xs) h = (h.0, all_take P k xs h.1)
 
 all_drop : {A : Type 0} (P : A → Type 0) (k : ℕ) (xs : List A) → AllByRecursion P xs → AllByRecursion P (drop k xs)
 all_drop P zero xs h = h

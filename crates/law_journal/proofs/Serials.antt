@@ -61,12 +61,12 @@ no_number id T h n = none_in_all id n T h.each ∙ none_below n
 
 -- ---- places
 
-own_place : (id : ℕ) (before : List JournalItem) (item : JournalItem) (rest : List JournalItem) → AllByRecursion (IsOther id) before → place_in (item ∷ rest) id ≡ 0 → place_in (before ++ item ∷ rest) id ≡ tx_count before
+pub own_place : (id : ℕ) (before : List JournalItem) (item : JournalItem) (rest : List JournalItem) → AllByRecursion (IsOther id) before → place_in (item ∷ rest) id ≡ 0 → place_in (before ++ item ∷ rest) id ≡ tx_count before
 own_place id [] item rest h e = e
 own_place id (Tx other session time explicit lines ∷ is) item rest h e = rw (ne_eqb other id h.0) (ap suc (own_place id is item rest h.1 e))
 own_place id (Close k ∷ is) item rest h e = own_place id is item rest h.1 e
 
-one_tx : (before : List JournalItem) (item : JournalItem) → tx_count (before ++ item ∷ []) ≡ tx_count before + tx_count (item ∷ [])
+pub one_tx : (before : List JournalItem) (item : JournalItem) → tx_count (before ++ item ∷ []) ≡ tx_count before + tx_count (item ∷ [])
 one_tx [] item = omega arith
 one_tx (Tx other session time explicit lines ∷ is) item = omega (arith, one_tx is item)
 one_tx (Close k ∷ is) item = one_tx is item
@@ -165,11 +165,11 @@ append_one : (xs : List JournalItem) (y : JournalItem) (ys : List JournalItem) �
 append_one [] y ys = refl
 append_one (x ∷ xs) y ys = ap (λ (zs : List JournalItem). x ∷ zs) (append_one xs y ys)
 
-no_more : (xs : List JournalItem) → xs ++ [] ≡ xs
+pub no_more : (xs : List JournalItem) → xs ++ [] ≡ xs
 no_more [] = refl
 no_more (x ∷ xs) = ap (λ (zs : List JournalItem). x ∷ zs) (no_more xs)
 
-place_of_item : (id : ℕ) (item : JournalItem) (rest : List JournalItem) → place_in (item ∷ []) id ≡ 0 → tx_count (item ∷ []) ≡ 1 → place_in (item ∷ rest) id ≡ 0
+pub place_of_item : (id : ℕ) (item : JournalItem) (rest : List JournalItem) → place_in (item ∷ []) id ≡ 0 → tx_count (item ∷ []) ≡ 1 → place_in (item ∷ rest) id ≡ 0
 place_of_item id (Tx other session time explicit lines) rest e one = here (other == id) e
   where
     here : (b : Bool) → (let n : ℕ = if b then 0 else suc 0 in n ≡ 0) → (let n : ℕ = if b then 0 else suc (place_in rest id) in n ≡ 0)

@@ -7,7 +7,6 @@ use Rattle.std.specs.Prelude.{◌==◌}
 use mathlib.Core.Option.{some, some-injective}
 use lib.ListN.{get_elem?}
 use Rattle.sql_types.specs.declared.journal.JournalItem.{JournalItem}
-use Rattle.sql_types.specs.declared.journal.JournalItem.TheVariants.{Tx, Close}
 use Rattle.spec_model.specs.Journals.{tx_count, cut}
 use Rattle.spec_history.specs.Lists.{Text, Each, In}
 use Rattle.spec_history.specs.Journals.{times}
@@ -32,6 +31,7 @@ use Rattle.spec_protocol.specs.Parts.{Numbers, all_of, IsNow, BeganAfter, IsOver
 use Rattle.spec_protocol.specs.TranscriptsAgree.{moments_of, IsMoment, image_of, IsImage, AreImages, ImagesOfPast, ImagesNow, MarksWithin, SeatAgrees, TranscriptsAgree}
 use Rattle.law_protocol_steps.proofs.Ids.{each_in}
 use Rattle.spec_protocol.proofs.Places.{at_set, set_here, set_else}
+use Rattle.spec_history.proofs.Grows.{times_append}
 
 -- ---- histories
 
@@ -183,11 +183,6 @@ module _ (q : Meaning) (db : Text) (h : List Act) (good : Good q db first h) (n 
     }
 
 -- ---- the whole
-
-pub times_append : (J K : List JournalItem) → times (J ++ K) ≡ times J ++ times K
-times_append [] K = refl
-times_append (Tx id name time explicit script ∷ is) K = ap (λ (l : List ℕ). time ∷ l) (times_append is K)
-times_append (Close k ∷ is) K = times_append is K
 
 pub differ_front : (ns : List ℕ) (n : ℕ) → Differ (ns ++ n ∷ []) → Each (λ m. m ≢ n) ns
 differ_front [] n d = tt

@@ -36,7 +36,8 @@ use Rattle.law_sequential.specs.EndsLast.{Phase, running, ending, CameSo, InPhas
 use Rattle.law_sequential.specs.InStep.{InStep, due_in, Waits}
 use Rattle.law_sequential.proofs.Calm.{Still, alone_still, alones_still, still_in_step}
 use Rattle.law_sequential.proofs.Closes.{in_step_append}
-use Rattle.law_sequential.proofs.VisitInStep.{LedgerAfter, visit_in_step, visit_plain}
+use Rattle.law_protocol.proofs.FollowsSteps.{visit_plain}
+use Rattle.law_sequential.proofs.VisitInStep.{LedgerAfter, visit_in_step}
 
 -- ---- what more deeds add
 

@@ -32,6 +32,8 @@ use Rattle.server_session.specs.declared.stage.ControlPoint.{ControlPoint}
 use Rattle.server_session.specs.declared.stage.ControlPoint.TheVariants.{Between, Inside, Leaving, Over}
 use Rattle.server_session.specs.declared.stage.Stage.{Stage}
 use Rattle.server_session.specs.declared.stage.Stage.TheVariants.{Begun, AssigningId, Committing, RollingBack, Issuing, Keeping, Looking, Found, Made, LacksIndex, GoingBack, Replied, GivingBack, Answering as Answered}
+use Rattle.spec_history.proofs.Refused.{each_left, each_right}
+use Rattle.spec_history.proofs.Trace.{each_append as each_both}
 
 -- ---- seats
 
@@ -159,18 +161,6 @@ adds_both s t u a b = let e : b.x ≡ a.y = ap (session_in a.y) (sym b.before �
 }
 
 -- ---- steps one after another
-
-pub each_both : {A : Type 0} (P : A → Type 0) (xs ys : List A) → Each P xs → Each P ys → Each P (xs ++ ys)
-each_both P [] ys a b = b
-each_both P (x ∷ xs) ys a b = (a.0, each_both P xs ys a.1 b)
-
-each_left : {A : Type 0} (P : A → Type 0) (xs ys : List A) → Each P (xs ++ ys) → Each P xs
-each_left P [] ys a = tt
-each_left P (x ∷ xs) ys a = (a.0, each_left P xs ys a.1)
-
-each_right : {A : Type 0} (P : A → Type 0) (xs ys : List A) → Each P (xs ++ ys) → Each P ys
-each_right P [] ys a = a
-each_right P (x ∷ xs) ys a = each_right P xs ys a.1
 
 module _ (v : Server) where
   pub both : (s t u : SeatState) → Alones v s t → Alones v t u → Alones v s u

@@ -32,7 +32,8 @@ use Rattle.server_session.specs.declared.stage.Answering.{Answering}
 use Rattle.server_session.specs.declared.stage.ControlPoint.{ControlPoint}
 use Rattle.server_session.specs.declared.stage.ControlPoint.TheVariants.{Between, Inside, Leaving, Over}
 use Rattle.server_session.specs.declared.stage.Stage.TheVariants.{Answering as Answered}
-use Rattle.server_session.proofs.Alone.{then_seat, between_is, placed, holds_at_point, scripted, sits_then, script_same, adds_at, adds_none, one_step, each_both}
+use Rattle.spec_history.proofs.Trace.{each_append as each_both}
+use Rattle.server_session.proofs.Alone.{then_seat, between_is, placed, holds_at_point, scripted, sits_then, script_same, adds_at, adds_none, one_step}
 
 -- ---- what was released
 

@@ -1,6 +1,7 @@
 //! Seats, which are sessions as their threads have them, and what they do alone between visits of cells.
 #![tactic(auto)]
 
+mod done;
 mod going_on;
 mod need;
 mod needing;
@@ -13,6 +14,8 @@ mod stage;
 mod starting;
 mod visited;
 
+pub use base_shared::Shared;
+pub use done::stage_done;
 pub use need::NextVisit;
 pub use needing::{CATALOG, LEDGER, cell_of, not_catalog};
 pub use running::Running;

@@ -18,6 +18,7 @@ use Rattle.server_step.specs.Numbers.{number_of}
 use Rattle.server_step.specs.Woven.{first_at, rest_of, without_first, in_turn, woven, woven_text}
 use Rattle.server_step.specs.Written.{SessionsRise, AreWritten, name_at, rows_text}
 use Rattle.server_step.proofs.Places.{number_here, number_behind, any_behind, named_at}
+use Rattle.spec_history.proofs.Trace.{each_append}
 
 -- ---- each list is what its rows are
 
@@ -203,10 +204,6 @@ left_over : (es : List Entry) → EndIsLast es → statements es ≡ [] → (es 
 left_over [] last none = inl refl
 left_over (statement t r e ∷ es) last none = absurd cc
 left_over (end_of_session e ∷ es) last none = inr (e, ap (λ l. end_of_session e ∷ l) last)
-
-each_append : {A : Type 0} (P : A → Type 0) (xs ys : List A) → Each P xs → Each P ys → Each P (xs ++ ys)
-each_append P [] ys p q = q
-each_append P (x ∷ xs) ys p q = (p.0, each_append P xs ys p.1 q)
 
 module _ (X : List Transcript) where
   ends_of : (i : ℕ) (x : Transcript) → At X i x → (es : List Entry) → EndIsLast es → statements es ≡ [] → Each (EndsOne X) (map (λ e. (i, e)) es)

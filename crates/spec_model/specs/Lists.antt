@@ -1,5 +1,5 @@
--- Words on lists: sorting, going through one item after another until one is refused, names.
-use Rattle.std.specs.Prelude.{ℕ, ◌+◌, ◌||◌, Bool, false, if◌then◌else◌, List, [], ◌∷◌, Option, Some, None, Ok}
+-- Words on lists: sorting, going through one item after another until one is refused, names, numbers.
+use Rattle.std.specs.Prelude.{ℕ, ◌+◌, ◌&&◌, ◌||◌, nat_lt, nat_le, Bool, true, false, if◌then◌else◌, List, [], ◌∷◌, Option, Some, None, Ok}
 use Rattle.std.specs.List.{list_any}
 use Rattle.std.specs.Str.{bytes_eq}
 use Rattle.std.specs.declared.cmp.Ordering.{Ordering}
@@ -67,3 +67,10 @@ repeats (n ∷ ns) = has_name ns n || repeats ns
 abbrev pub numbered : {A : Type 0} → ℕ → List A → List (ℕ × A)
 numbered n [] = []
 numbered n (x ∷ xs) = (n, x) ∷ numbered (n + 1) xs
+
+-- ---- numbers
+
+-- the numbers are above this one, rise strictly, and none is above the limit
+abbrev pub rise_within : ℕ → ℕ → List ℕ → Bool
+rise_within last limit [] = true
+rise_within last limit (n ∷ ns) = nat_lt last n && nat_le n limit && rise_within n limit ns

@@ -1,5 +1,5 @@
 -- The rows of a new table and of a new index fit the tables of the system.
-use Rattle.std.proofs.Common.{◌≡◌, ◌≤◌, ◌<◌, ℕ, suc, ◌+◌, ◌*◌, refl, subst, ap, ◌∙◌, List, [], ◌∷◌, map, length, Ok, arith}
+use Rattle.std.proofs.Common.{◌≡◌, ◌≤◌, ◌<◌, ℕ, ◌+◌, ◌*◌, subst, ◌∙◌, List, [], ◌∷◌, map, length, Ok, arith}
 use Rattle.std.proofs.lemmas.List.{length-map}
 use Rattle.std.specs.List.{AllByRecursion}
 use Rattle.sql_value.specs.declared.column.ColumnDef.{ColumnDef}
@@ -18,6 +18,7 @@ use Rattle.law_journal.proofs.SystemRows.{IsSmall, column_row_fits, index_row_fi
 use Rattle.store_catalog.specs.Definitions.{AreFormed}
 use Rattle.store_catalog.specs.Rows.{IsRow}
 use Rattle.store_catalog.proofs.DefsKept.{found_all, found_is_listed, IsListedAt}
+use Rattle.law_frame.proofs.ChangeSets.{length-numbered as length_numbered}
 
 columns_fit : (id n : ℕ) (cs : List ColumnDef) → id < 2147483648 → n + length cs < 2147483648 → AllByRecursion IsSmall cs → AllByRecursion (λ r. Fits columns_columns (stored_row columns_columns r)) (map (column_row id) (numbered n cs))
 columns_fit id n [] small lt h = tt
@@ -69,10 +70,6 @@ of_index defs c def index formed e =
     low few (o ∷ os) h = (omega (arith, h.0, few), low few os h.1)
 
 -- ---- how many there are
-
-length_numbered : {A : Type 0} (n : ℕ) (xs : List A) → length (numbered n xs) ≡ length xs
-length_numbered n [] = refl
-length_numbered n (x ∷ xs) = ap suc (length_numbered (n + 1) xs)
 
 pub length_columns : (def : TableDef) → length (column_starts (column_rows def)) ≡ length def.columns
 unfolding column_rows

@@ -27,6 +27,7 @@ use crate::noting::{note_all, note_both, open_both};
 use crate::reading::show;
 use crate::rows::carry_out;
 use base_merkle::Hash32;
+use base_shared::Shared;
 use base_types::{Items, Memory, Name, TableId, TxId};
 use sql_system::first_tables;
 use sql_types::{CreateIndex, CreateTable, Part, Row, Select, TableDef, Version};
@@ -91,8 +92,8 @@ impl CatalogCell {
         let columns = system.pop().unwrap();
         let tables = system.pop().unwrap();
         let mut defs = NamedDefs::new(alloc);
-        defs.push(alloc, tables.def)?;
-        defs.push(alloc, columns.def)?;
+        defs.push(alloc, Shared::new(alloc, tables.def)?)?;
+        defs.push(alloc, Shared::new(alloc, columns.def)?)?;
         Ok(CatalogCell {
             defs,
             creator: None,
@@ -114,7 +115,7 @@ impl CatalogCell {
     }
 
     /// The table, and the part of it, that a name stands for. Nothing is copied.
-    pub fn look(&self, name: &Name) -> Option<(&TableDef, Part)>
+    pub fn look(&self, name: &Name) -> Option<(&Shared<TableDef>, Part)>
         ensures { option_map (λ p. (p.0.now, p.1)) result ≡ find_part self.now.defs name.now }
     {
         self.defs.find(name)
@@ -131,6 +132,7 @@ impl CatalogCell {
         let Some((def, part)) = self.look(&q.table) else {
             return Err(Refusal::NoSuchTable);
         };
+        let def = def.get();
         show(alloc, def, part, self.versions_of(def.id), q)
     }
 
@@ -210,7 +212,7 @@ impl CatalogCell {
         alloc: Global,
         ctx: &mut TxCtx<H>,
         create: &CreateIndex,
-    ) -> Result<TableDef, Refusal>
+    ) -> Result<Shared<TableDef>, Refusal>
         requires { MayCreate H.digest ctx.old self.old }
         ensures ok { IfOk result (λ now.
             IndexMade H.digest self.old ctx.old create.now now self.new ctx.new) }

@@ -6,6 +6,7 @@ ghost use Rattle.spec_protocol.specs.UndoVisits.{creator_left, defs_before};
 ghost use Rattle.store_catalog.specs.Definitions.{before, creator_seen, is_creator, AreFormed, IsPlace, MayTakeBack};
 
 use crate::named_defs::NamedDefs;
+use base_shared::Shared;
 use base_types::{Memory, TxId};
 use sql_system::copy_def;
 use sql_types::TableDef;
@@ -15,7 +16,7 @@ use std::alloc::Global;
 #[derive(Drop)]
 pub(crate) struct ReplacedDef {
     pub place: usize,
-    pub def: TableDef,
+    pub def: Shared<TableDef>,
 }
 
 /// The transaction that changed the definitions and hasn't released the catalog. It replaced a definition,
@@ -27,12 +28,12 @@ pub(crate) struct Creator {
 }
 
 /// Copies of the definitions.
-pub(crate) fn copy_defs(alloc: Global, defs: &[TableDef]) -> Result<Vec<TableDef>, Memory>
+pub(crate) fn copy_defs(alloc: Global, defs: &[Shared<TableDef>]) -> Result<Vec<TableDef>, Memory>
     ensures { IfOk result (λ copies. copies.items ≡ defs.now) }
 {
     let mut copies = Vec::with_capacity(alloc, defs.len())?;
     for def in defs {
-        copies.push(copy_def(alloc, def)?)?;
+        copies.push(copy_def(alloc, def.get())?)?;
     }
     Ok(copies)
 }
@@ -41,7 +42,7 @@ pub(crate) fn copy_defs(alloc: Global, defs: &[TableDef]) -> Result<Vec<TableDef
 /// another.
 pub(crate) fn copy_before(
     alloc: Global,
-    defs: &[TableDef],
+    defs: &[Shared<TableDef>],
     replaced: &Option<ReplacedDef>,
 ) -> Result<Vec<TableDef>, Memory>
     requires { IsPlace defs.now replaced.now }
@@ -49,7 +50,7 @@ pub(crate) fn copy_before(
 {
     let mut copies = copy_defs(alloc, defs)?;
     match replaced {
-        Some(ReplacedDef { place, def }) => copies[*place] = copy_def(alloc, def)?,
+        Some(ReplacedDef { place, def }) => copies[*place] = copy_def(alloc, def.get())?,
         None => {
             copies.pop();
         }

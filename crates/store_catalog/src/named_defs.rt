@@ -7,6 +7,7 @@ ghost use Rattle.sql_types.specs.declared.table.Part.{Part as SpecPart};
 ghost use Rattle.spec_model.specs.Catalog.{find_part};
 ghost use Rattle.store_catalog.specs.Names.{leading, names_at, HasNewNames, MayReplace};
 
+use base_shared::Shared;
 use base_types::{Memory, Name};
 use indexmap::IndexMap;
 use sql_check::{Definitions, own_part};
@@ -26,7 +27,7 @@ pub(crate) struct NamedPlace {
 /// Contracts see the list of the definitions.
 #[derive(Drop)]
 pub(crate) struct NamedDefs {
-    defs: Vec<TableDef>,
+    defs: Vec<Shared<TableDef>>,
     names: IndexMap<Name, NamedPlace>,
 }
 
@@ -100,27 +101,37 @@ impl NamedDefs {
     }
 
     /// The definitions, in the order in which their tables were made.
-    pub(crate) fn as_slice(&self) -> &[TableDef]
+    pub(crate) fn as_slice(&self) -> &[Shared<TableDef>]
         ensures { result.now ≡ self.now }
     {
         &self.defs
     }
 
     /// The table, and the part of it, that a name stands for. The map leads there, and nothing is copied.
-    pub(crate) fn find(&self, name: &Name) -> Option<(&TableDef, Part)>
+    pub(crate) fn find(&self, name: &Name) -> Option<(&Shared<TableDef>, Part)>
         ensures { option_map (λ p. (p.0.now, p.1)) result ≡ find_part self.now name.now }
     {
         let named = self.names.get(name)?;
         Some((&self.defs[named.place], named.part))
     }
 
+    /// The same, without a share in the definition.
+    pub(crate) fn find_def(&self, name: &Name) -> Option<(&TableDef, Part)>
+        ensures { option_map (λ p. (p.0.now, p.1)) result ≡ find_part self.now name.now }
+    {
+        match self.find(name) {
+            Some((def, part)) => Some((def.get(), part)),
+            None => None,
+        }
+    }
+
     /// Adds the definition of a new table behind the others. For want of memory nothing changes.
-    pub(crate) fn push(&mut self, alloc: Global, def: TableDef) -> Result<(), Memory>
+    pub(crate) fn push(&mut self, alloc: Global, def: Shared<TableDef>) -> Result<(), Memory>
         requires { HasNewNames self.old def }
         ensures ok { OnOk result (self.new ≡ self.old ++ def ∷ []) }
         ensures err { OnErr result (self.new ≡ self.old) }
     {
-        let mut names = names_of(alloc, self.defs.len(), &def)?;
+        let mut names = names_of(alloc, self.defs.len(), def.get())?;
         self.defs.reserve(1)?;
         self.names.append(&mut names)?;
         self.defs.push_reserved(def);
@@ -132,12 +143,13 @@ impl NamedDefs {
         ensures { self.new ≡ take (length self.old - 1) self.old }
     {
         if let Some(def) = self.defs.pop() {
-            self.names.truncate(self.names.len() - count_names(&def));
+            self.names
+                .truncate(self.names.len() - count_names(def.get()));
         }
     }
 
     /// Puts a definition in the place of one with the same names, which it gives. Takes no memory.
-    pub(crate) fn replace(&mut self, place: usize, def: TableDef) -> TableDef
+    pub(crate) fn replace(&mut self, place: usize, def: Shared<TableDef>) -> Shared<TableDef>
         requires { MayReplace self.old place def }
         ensures after { self.new ≡ slice_set self.old place def }
         ensures before { result ≡ get_or self.old place result }
