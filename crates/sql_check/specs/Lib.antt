@@ -1,1 +1,2 @@
+pub mod NameSet
 pub mod NewTable

@@ -125,10 +125,10 @@ fn any_ledger_name(columns: &[ColumnDef]) -> bool
 
 /// Whether a column or a column of the key stands twice, or has a name that the ledger adds.
 #[tactic(auto, unfolding(crate::specs::NewTable::columns_bad))]
-fn columns_bad(columns: &[ColumnDef], key: &[Name]) -> bool
-    ensures { result ≡ new.columns_bad columns.now key.now }
+fn columns_bad(alloc: Global, columns: &[ColumnDef], key: &[Name]) -> Result<bool, Memory>
+    ensures { IfOk result (λ bad. bad ≡ new.columns_bad columns.now key.now) }
 {
-    repeats(columns) || repeats(key) || any_ledger_name(columns)
+    Ok(repeats(alloc, columns)? || repeats(alloc, key)? || any_ledger_name(columns))
 }
 
 #[tactic(auto, unfolding(crate::specs::NewTable::columns_long))]
@@ -207,15 +207,19 @@ fn keyed(alloc: Global, columns: &[ColumnDef], key: &[Name]) -> Result<Items<Col
 /// The checks of a new table with this history and this view.
 #[tactic(auto, unfolding(crate::specs::NewTable::new_check))]
 fn check_new<D: Definitions>(
+    alloc: Global,
     defs: &D,
     c: &CreateTable,
     history: &Name,
     view: &Name,
 ) -> Result<(), Refusal>
-    ensures { result ≡ new.new_check (D.defs defs.now) c.now history.now view.now }
+    ensures { MatchesUnlessOom (new.new_check (D.defs defs.now) c.now history.now view.now) result }
 {
     let (columns, key) = (c.columns.as_slice(), c.key.as_slice());
-    refuse_if(has_bad_name(defs, c, history, view), Refusal::NameConflict)?;
+    refuse_if(
+        has_bad_name(alloc, defs, c, history, view)?,
+        Refusal::NameConflict,
+    )?;
     refuse_if(
         exceeds_limit(defs, c, history, view),
         Refusal::LimitExceeded,
@@ -224,15 +228,21 @@ fn check_new<D: Definitions>(
     refuse_if(key_null(columns, key), Refusal::NullNotAllowed)
 }
 
-fn has_bad_name<D: Definitions>(defs: &D, c: &CreateTable, history: &Name, view: &Name) -> bool
-    ensures { result
+fn has_bad_name<D: Definitions>(
+    alloc: Global,
+    defs: &D,
+    c: &CreateTable,
+    history: &Name,
+    view: &Name,
+) -> Result<bool, Memory>
+    ensures { IfOk result (λ bad. bad
         ≡ ((new.names_repeat c.now.name history.now view.now
         || new.names_used (D.defs defs.now) c.now.name history.now view.now)
-        || new.columns_bad c.now.columns c.now.key) }
+        || new.columns_bad c.now.columns c.now.key)) }
 {
-    names_repeat(&c.name, history, view)
+    Ok(names_repeat(&c.name, history, view)
         || names_used(defs, &c.name, history, view)
-        || columns_bad(c.columns.as_slice(), c.key.as_slice())
+        || columns_bad(alloc, c.columns.as_slice(), c.key.as_slice())?)
 }
 
 fn exceeds_limit<D: Definitions>(defs: &D, c: &CreateTable, history: &Name, view: &Name) -> bool
@@ -259,7 +269,7 @@ pub fn new_table<D: Definitions>(
     let id = (defs.count() + 1) as TableId;
     let history = history_name(alloc, c.kind, id, &c.history)?;
     let view = view_name(alloc, &c.name, &c.view)?;
-    check_new(defs, c, &history, &view)?;
+    check_new(alloc, defs, c, &history, &view)?;
     Ok(TableDef {
         id,
         name: c.name.copy()?,

@@ -61,7 +61,7 @@ pub fn check_stmt(alloc: Global, stmt: &RowStmt, def: &TableDef, part: Part) -> 
             table: _,
             sets,
             cond,
-        } => { check_update(def, part, sets.as_slice(), cond) }
+        } => { check_update(alloc, def, part, sets.as_slice(), cond) }
         RowStmt::Delete { table: _, cond } => check_delete(def, part, cond),
     }
 }
@@ -191,7 +191,7 @@ fn check_insert(
 ) -> Result<(), Refusal>
     ensures { MatchesUnlessOom (spec.insert_check def.now part names.now rows.now) result }
 {
-    refuse_if(repeats(names_listed(names)), Refusal::NameConflict)?;
+    refuse_if(repeats(alloc, names_listed(names))?, Refusal::NameConflict)?;
     refuse_if(rows.len() > MOST_ROWS, Refusal::LimitExceeded)?;
     refuse_if(part != Part::Base, Refusal::ReadOnlyTable)?;
     check_values(alloc, def.columns.as_slice(), names, rows)
@@ -298,14 +298,15 @@ fn check_sets(
 
 #[tactic(auto, unfolding(spec_model::specs::Checks::update_check))]
 fn check_update(
+    alloc: Global,
     def: &TableDef,
     part: Part,
     sets: &[(Name, Expr)],
     cond: &Option<Expr>,
 ) -> Result<(), Refusal>
-    ensures { result ≡ spec.update_check def.now part sets.now cond.now }
+    ensures { MatchesUnlessOom (spec.update_check def.now part sets.now cond.now) result }
 {
-    refuse_if(repeats(sets), Refusal::NameConflict)?;
+    refuse_if(repeats(alloc, sets)?, Refusal::NameConflict)?;
     refuse_if(part != Part::Base, Refusal::ReadOnlyTable)?;
     refuse_if(def.kind == TableKind::AppendOnly, Refusal::AppendOnlyTable)?;
     check_sets(def, &Columns::of(def, Part::Base), sets, cond)

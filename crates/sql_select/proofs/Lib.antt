@@ -1,3 +1,4 @@
 pub mod FromTaken
 pub mod Projections
+pub mod RepeatedKeys
 pub mod SortKeys
